@@ -1,0 +1,5 @@
+-- What the types stand for, and what a machine is.
+pub mod Ids
+pub mod Keys
+pub mod Valid
+pub mod Plain

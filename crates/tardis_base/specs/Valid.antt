@@ -1,0 +1,61 @@
+-- Which ids, keys, values, writes and records there are.
+use Rattle.std.specs.Prelude.{ℕ, Bool, true, ◌==◌, ◌&&◌, ◌||◌, ◌^◌, not, length, List, nat_lt, nat_le}
+use Rattle.std.specs.List.{list_all}
+use Rattle.tardis_base.specs.declared.ids.StateId.{StateId}
+use Rattle.tardis_base.specs.declared.records.Write.{Write}
+use Rattle.tardis_base.specs.declared.records.Write.TheVariants.{Put, Delete}
+use Rattle.tardis_base.specs.declared.records.Record.{Record}
+use Rattle.tardis_base.specs.declared.records.Limits.{Limits}
+use Rattle.tardis_base.specs.Ids.{root, same_id, are_ascending}
+use Rattle.tardis_base.specs.Keys.{KeyWrite, keys_of, are_ascending_keys}
+
+-- the number fits 16 bits
+abbrev pub is_u16 : ℕ → Bool
+is_u16 n = nat_lt n (2 ^ 16)
+
+abbrev pub is_u32 : ℕ → Bool
+is_u32 n = nat_lt n (2 ^ 32)
+
+abbrev pub is_u64 : ℕ → Bool
+is_u64 n = nat_lt n (2 ^ 64)
+
+-- each is a byte
+abbrev pub are_bytes : List ℕ → Bool
+are_bytes bs = list_all (λ b. nat_lt b 256) bs
+
+-- the number is one of these and those between
+abbrev pub is_within : ℕ → ℕ → ℕ → Bool
+is_within least most n = nat_le least n && nat_le n most
+
+-- the root's id, or site and sequence are both above 0
+abbrev pub is_id : StateId → Bool
+is_id x = is_u16 x.site && is_u32 x.sequence && (same_id x root || nat_le 1 x.site && nat_le 1 x.sequence)
+
+-- 1 to 128 bytes
+abbrev pub is_key : List ℕ → Bool
+is_key k = is_within 1 128 (length k) && are_bytes k
+
+-- 0 to 4,096 bytes
+abbrev pub is_value : List ℕ → Bool
+is_value v = nat_le (length v) 4096 && are_bytes v
+
+abbrev pub is_write : Write → Bool
+is_write (Put value) = is_value value
+is_write Delete = true
+
+-- at most 64 writes, with ascending keys
+abbrev pub are_writes : List KeyWrite → Bool
+are_writes ws = nat_le (length ws) 64 && list_all (λ w. is_key w.0 && is_write w.1) ws && are_ascending_keys (keys_of ws)
+
+-- 1 to 8 ids, ascending
+abbrev pub are_parents : List StateId → Bool
+are_parents xs = is_within 1 8 (length xs) && list_all is_id xs && are_ascending xs
+
+-- the record of a state other than the root
+abbrev pub is_record : Record → Bool
+is_record r = is_id r.id && not (same_id r.id root) && are_parents r.parents && are_writes r.writes
+
+-- the limits that a site may have
+abbrev pub are_limits : Limits → Bool
+are_limits l =
+    is_within 1 16 l.sites && is_within 1 16384 l.max_kept && is_within 1 4096 l.max_path && is_within 1 256 l.max_sessions && nat_le l.max_trail 1073741824

@@ -1,0 +1,37 @@
+//! Why a call could not do what was asked.
+
+use crate::ids::StateId;
+
+/// There was no memory. The object is as before, unless the call says otherwise.
+#[derive(Clone, Copy, Debug, PartialEq, Eq)]
+pub struct NoMemory;
+
+/// The site has no next number: its last one was given out.
+#[derive(Clone, Copy, Debug, PartialEq, Eq)]
+pub struct SeqEnd;
+
+/// Why bytes are no key or no value.
+#[derive(Clone, Copy, Debug, PartialEq, Eq)]
+pub enum BytesFault {
+    /// There are too few or too many of them.
+    Length,
+    NoMemory,
+}
+
+/// Why bytes were not read.
+#[derive(Clone, Copy, Debug, PartialEq, Eq)]
+pub enum ReadFault {
+    /// They spell no thing of the kind.
+    Malformed,
+    NoMemory,
+}
+
+/// Why a record was not added.
+#[derive(Clone, Copy, Debug, PartialEq, Eq)]
+pub enum AddFault {
+    /// As many states are kept as may be.
+    Full { kept: u32 },
+    /// The fork path of this state would be too long, with so many pairs.
+    PathFull { state: StateId, pairs: u32 },
+    NoMemory,
+}

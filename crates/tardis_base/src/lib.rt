@@ -1,0 +1,23 @@
+//! The types that every layer speaks, and the machine that a site is.
+#![tactic(auto)]
+
+mod byte_types;
+mod faults;
+mod ids;
+mod lists;
+mod readings;
+mod records;
+mod replies;
+mod requests;
+
+pub use byte_types::{Key, Value};
+pub use faults::{AddFault, BytesFault, NoMemory, ReadFault, SeqEnd};
+pub use ids::{Slot, StateId};
+pub use lists::{
+    ByteList, ConsentList, CountList, KeyList, KeySet, ListOf, PathList, RecordList, StateList,
+    WriteSet,
+};
+pub use readings::{Found, Over};
+pub use records::{Batch, Consent, Item, Limits, Record, Write};
+pub use replies::{Refusal, Reply, SiteLine, SiteLines};
+pub use requests::{Begin, EndFlags, MergeOf, Request};

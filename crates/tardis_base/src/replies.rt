@@ -1,0 +1,189 @@
+//! What a site answers.
+
+use crate::byte_types::{Key, Value};
+use crate::ids::StateId;
+use crate::lists::{KeyList, PathList, StateList};
+use crate::records::Batch;
+use std::marker::Model;
+
+/// What one site knows of another, or of itself: how many of its states, its floor, and the number of its consent.
+#[derive(Clone, Copy, Debug, PartialEq, Eq)]
+pub struct SiteLine {
+    pub count: u32,
+    pub floor: StateId,
+    pub number: u32,
+}
+
+/// At most 16 site lines, in place.
+#[derive(Drop)]
+pub struct SiteLines {
+    lines: [SiteLine; 16],
+    len: usize,
+}
+
+impl Model for SiteLines {
+    ghost use Rattle.std.specs.Prelude.{List, take, ◌≤◌};
+    ghost use Rattle.tardis_base.specs.declared.replies.SiteLine.{SiteLine};
+
+    ghost Value = { List SiteLine };
+
+    ghost view = { λ s. take s.len s.lines };
+
+    ghost invariant = { λ s. s.len ≤ 16 };
+}
+
+/// Why a request was refused.
+#[derive(Drop)]
+pub enum Refusal {
+    Malformed,
+    NotOpen,
+    AlreadyOpen,
+    SessionsFull {
+        n: u16,
+    },
+    TxnOpen,
+    NoTxn,
+    WrongMode,
+    TooMany {
+        what: u8,
+        n: u32,
+    },
+    Unknown {
+        state: StateId,
+    },
+    Below {
+        state: StateId,
+        ceiling: StateId,
+    },
+    Comparable {
+        a: StateId,
+        b: StateId,
+    },
+    NotRead {
+        state: StateId,
+    },
+    ConflictKey {
+        key: Key,
+    },
+    OpenConflict {
+        key: Key,
+    },
+    Branches {
+        constraint: u8,
+        state: StateId,
+        children: u32,
+    },
+    CeilingBack {
+        ceiling: StateId,
+    },
+    FloorBack {
+        floor: StateId,
+    },
+    Held {
+        session: u16,
+        ceiling: StateId,
+    },
+    Collected {
+        state: StateId,
+    },
+    Full {
+        kept: u32,
+    },
+    PathFull {
+        state: StateId,
+        pairs: u32,
+    },
+    SeqEnd,
+    BadSite {
+        site: u16,
+    },
+    ClosedParent {
+        state: StateId,
+    },
+    OwnItem {
+        site: u16,
+        number: u32,
+    },
+    TrailFull {
+        bytes: u64,
+    },
+    Unsupported {
+        op: u8,
+    },
+    NoSuchItem {
+        batches: u32,
+    },
+    BagFull {
+        batches: u32,
+    },
+}
+
+/// The answer to a request.
+#[derive(Drop)]
+pub enum Reply {
+    Opened {
+        ceiling: StateId,
+    },
+    Begun {
+        state: StateId,
+    },
+    Merging {
+        states: StateList,
+    },
+    Value {
+        writer: StateId,
+        value: Value,
+    },
+    Deleted {
+        writer: StateId,
+    },
+    Absent,
+    Done,
+    Committed {
+        id: StateId,
+        parents: StateList,
+    },
+    Ended {
+        state: StateId,
+    },
+    States {
+        total: u32,
+        first: StateList,
+    },
+    Keys {
+        total: u32,
+        first: KeyList,
+    },
+    Raised {
+        floor: StateId,
+        number: u32,
+    },
+    Tidied {
+        collected: u32,
+    },
+    Stat {
+        known: u64,
+        kept: u32,
+        leaves: u32,
+        sessions: u16,
+        sites: SiteLines,
+    },
+    Shown {
+        arrival: u64,
+        children: StateList,
+        path: PathList,
+    },
+    Batch {
+        batch: Batch,
+    },
+    Applied,
+    Known,
+    Early {
+        have: u32,
+    },
+    Closed,
+    Refused {
+        refusal: Refusal,
+    },
+    NoMemory,
+}
