@@ -5,9 +5,11 @@ mod byte_types;
 mod faults;
 mod ids;
 mod lists;
+mod machines;
 mod readings;
 mod records;
 mod replies;
+mod reply_bufs;
 mod requests;
 
 pub use byte_types::{Key, Value};
@@ -17,7 +19,9 @@ pub use lists::{
     ByteList, ConsentList, CountList, KeyList, KeySet, ListOf, PathList, RecordList, StateList,
     WriteSet,
 };
+pub use machines::Machine;
 pub use readings::{Found, Over};
 pub use records::{Batch, Consent, Item, Limits, Record, Write};
 pub use replies::{Refusal, Reply, SiteLine, SiteLines};
+pub use reply_bufs::{ROOM, ReplyBuf};
 pub use requests::{Begin, EndFlags, MergeOf, Request};
