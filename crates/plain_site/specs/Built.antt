@@ -1,5 +1,5 @@
 -- Which part of a site is built. What isn't is answered Unsupported.
-use Rattle.std.specs.Prelude.{ℕ, Bool, true, false, ◌==◌, ◌&&◌, List, [], ◌∷◌}
+use Rattle.std.specs.Prelude.{ℕ, Bool, true, false, ◌==◌, ◌&&◌, [], ◌∷◌}
 use Rattle.std.specs.List.{list_any}
 use Rattle.tardis_base.specs.declared.requests.Begin.{Begin}
 use Rattle.tardis_base.specs.declared.requests.Begin.TheVariants.{Any}

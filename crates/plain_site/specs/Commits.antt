@@ -1,9 +1,8 @@
 -- Transactions end.
-use Rattle.std.specs.Prelude.{ℕ, Bool, ◌==◌, not, List, [], ◌∷◌, ◌++◌, length, Option}
+use Rattle.std.specs.Prelude.{ℕ, ◌==◌, not, List, [], ◌∷◌, ◌++◌, length, Option}
 use Rattle.tardis_base.specs.declared.ids.StateId.{StateId}
 use Rattle.tardis_base.specs.declared.records.Record.{Record}
 use Rattle.tardis_base.specs.declared.requests.EndFlags.{EndFlags}
-use Rattle.tardis_base.specs.declared.replies.Refusal.{Refusal}
 use Rattle.tardis_base.specs.declared.replies.Refusal.TheVariants.{WrongMode, OpenConflict, Branches, SeqEnd}
 use Rattle.tardis_base.specs.declared.replies.Reply.{Reply}
 use Rattle.tardis_base.specs.declared.replies.Reply.TheVariants.{Done, Committed, Ended}
@@ -35,12 +34,14 @@ growth_refusals built site r = refuse_found (λ f. f) (growth_refusal built.path
 
 -- the next state of the site, which the session committed
 abbrev pub committed : Site → ℕ → Record → Answer
-committed site n r =
-    (record site {
-      dag = r ∷ site.dag;
-      sessions = changed n (after_commit (r ∷ site.dag) r.id) site.sessions;
-      txns = without_entry n site.txns;
-    }, Committed r.id r.parents)
+committed site n r = (
+  record site {
+    dag = r ∷ site.dag;
+    sessions = changed n (after_commit (r ∷ site.dag) r.id) site.sessions;
+    txns = without_entry n site.txns;
+  },
+  Committed r.id r.parents,
+)
 
 -- the next state of the site joins below these parents, after the refusals that go before
 abbrev pub commit_below : Built → Site → ℕ → List StateId → List KeyWrite → List (Option Reply) → Answer

@@ -1,12 +1,12 @@
 -- Floors are raised, and closed states are collected.
-use Rattle.std.specs.Prelude.{ℕ, Bool, ◌==◌, ◌+◌, ◌-◌, not, List, [], ◌∷◌, ◌++◌, length, Option}
+use Rattle.std.specs.Prelude.{ℕ, ◌==◌, ◌+◌, ◌-◌, not, List, [], ◌∷◌, ◌++◌, length, Option}
 use Rattle.tardis_base.specs.declared.ids.StateId.{StateId}
 use Rattle.tardis_base.specs.declared.replies.Refusal.TheVariants.{Unknown, FloorBack, Held, SeqEnd}
 use Rattle.tardis_base.specs.declared.replies.Reply.{Reply}
 use Rattle.tardis_base.specs.declared.replies.Reply.TheVariants.{Raised, Tidied}
 use Rattle.plain_dag.specs.States.{is_known}
 use Rattle.plain_dag.specs.Above.{is_above}
-use Rattle.plain_dag.specs.Floors.{Floor, with_floor, holding_session, automatic_floor}
+use Rattle.plain_dag.specs.Floors.{with_floor, holding_session, automatic_floor}
 use Rattle.plain_dag.specs.Collection.{tidied}
 use Rattle.plain_site.specs.Site.{Site, own_floor, own_count}
 use Rattle.plain_site.specs.Answers.{Answer, refuse, refuse_found, unless}

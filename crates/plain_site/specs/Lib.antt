@@ -10,3 +10,5 @@ pub mod FloorSteps
 pub mod Shows
 pub mod Exchange
 pub mod Step
+pub mod Sound
+pub mod Laws

@@ -1,11 +1,11 @@
 -- Transactions read and write.
-use Rattle.std.specs.Prelude.{ℕ, Bool, ◌==◌, ◌&&◌, not, List, [], ◌∷◌, length}
+use Rattle.std.specs.Prelude.{ℕ, ◌==◌, ◌&&◌, not, List, [], ◌∷◌, length}
 use Rattle.tardis_base.specs.declared.records.Write.{Write}
 use Rattle.tardis_base.specs.declared.ids.StateId.{StateId}
 use Rattle.tardis_base.specs.declared.replies.Refusal.TheVariants.{TooMany, ConflictKey, NotRead, WrongMode}
 use Rattle.tardis_base.specs.declared.replies.Reply.TheVariants.{Done}
 use Rattle.tardis_base.specs.Ids.{root, is_among}
-use Rattle.tardis_base.specs.Keys.{KeyWrite, is_key_among, with_key, has_key, write_of, with_write}
+use Rattle.tardis_base.specs.Keys.{is_key_among, with_key, has_key, write_of, with_write}
 use Rattle.plain_dag.specs.Writers.{read}
 use Rattle.plain_dag.specs.Conflicts.{is_conflict_key, value_over}
 use Rattle.plain_site.specs.Site.{Site, SingleTxn, MergeTxn, Txn, Single, Merge, writes_of, with_txn_changed}

@@ -1,5 +1,5 @@
 -- Sessions open, begin and close.
-use Rattle.std.specs.Prelude.{ℕ, Bool, ◌==◌, not, List, [], ◌∷◌, length, is_some}
+use Rattle.std.specs.Prelude.{ℕ, Bool, ◌==◌, not, [], ◌∷◌, length, is_some}
 use Rattle.tardis_base.specs.declared.requests.Begin.{Begin}
 use Rattle.tardis_base.specs.declared.replies.Refusal.TheVariants.{AlreadyOpen, SessionsFull, Unknown, Below, CeilingBack}
 use Rattle.tardis_base.specs.declared.replies.Reply.TheVariants.{Opened, Begun, Done, Closed}

@@ -6,7 +6,7 @@ use Rattle.tardis_base.specs.declared.records.Limits.{Limits}
 use Rattle.tardis_base.specs.Keys.{KeyWrite}
 use Rattle.plain_dag.specs.States.{root_record, count_of_site}
 use Rattle.plain_dag.specs.Entries.{changed}
-use Rattle.plain_dag.specs.Floors.{Floor, Session, Sessions, opening_floor, floor_of}
+use Rattle.plain_dag.specs.Floors.{Floor, Sessions, opening_floor, floor_of}
 
 -- a transaction with one read state: it keeps the keys that it read
 pub record SingleTxn : Type 0 where

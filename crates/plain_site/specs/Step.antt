@@ -1,16 +1,15 @@
 -- The plain step: what each request does, over things and over bytes.
-use Rattle.std.specs.Prelude.{ℕ, Bool, true, false, ◌&&◌, not, List, [], ◌∷◌, Option, Some, None}
+use Rattle.std.specs.Prelude.{ℕ, Bool, true, false, ◌&&◌, not, [], ◌∷◌}
 use Rattle.std.specs.Option.{option_map_or}
 use Rattle.tardis_base.specs.declared.records.Write.TheVariants.{Put as Value, Delete as Deletion}
 use Rattle.tardis_base.specs.declared.requests.Request.{Request}
 use Rattle.tardis_base.specs.declared.requests.Request.TheVariants.{Open, Begin, Get, Put, Delete, Commit, Abort, BeginMerge, ForkPoints, Conflicts, GetFor, Ceiling, Raise, RaiseAuto, Tidy, Stat, Show, Leaves, Pull, Deliver, Close}
 use Rattle.tardis_base.specs.declared.replies.Refusal.TheVariants.{Malformed, Unsupported}
-use Rattle.tardis_base.specs.declared.replies.Reply.{Reply}
 use Rattle.tardis_base.specs.Plain.{Event, PlainMachine}
 use Rattle.tardis_base.specs.Valid.{is_within}
 use Rattle.wire_talk.specs.Codes.{code_of}
 use Rattle.wire_talk.specs.Spellings.{reply_spelling}
-use Rattle.wire_talk.specs.Readings.{request_of}
+use Rattle.wire_talk.specs.RequestReadings.{request_of}
 use Rattle.plain_site.specs.Site.{Site}
 use Rattle.plain_site.specs.Built.{Built, is_built}
 use Rattle.plain_site.specs.Answers.{Answer, refused, refuse, unless, given, with_session, with_txn, without_txn}
