@@ -1,0 +1,4 @@
+-- What follows from the definitions of a history.
+pub mod Ids
+pub mod Histories
+pub mod Order
