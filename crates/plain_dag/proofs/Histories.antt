@@ -10,7 +10,7 @@ use Rattle.plain_dag.specs.States.{root_record, states, is_known, parents_of, ar
 use Rattle.plain_dag.specs.Above.{are_apart}
 use Rattle.plain_dag.specs.Conflicts.{is_conflict_key}
 use Rattle.plain_dag.specs.Dag.{IsNext, IsDag}
-use Rattle.plain_dag.proofs.Ids.{not-both, same-id-true, same-id-reflexive, among-differs, all-at}
+use Rattle.plain_dag.proofs.Ids.{not-both, same_id-true, same_id_self, among-differs, all-at}
 
 -- ===== Records that fit
 
@@ -46,7 +46,7 @@ next-is-dag (s ∷ rs) r dag n = (n, dag)
 -- ===== Known states
 
 pub newest-is-known : (rs : List Record) (r : Record) → IsTrue (is_known (r ∷ rs) r.id)
-newest-is-known rs r = or_left (same_id r.id r.id) (is_known rs r.id) (same-id-reflexive r.id)
+newest-is-known rs r = or_left (same_id r.id r.id) (is_known rs r.id) (same_id_self r.id)
 
 pub known-stays : (rs : List Record) (r : Record) (x : StateId) → IsTrue (is_known rs x) → IsTrue (is_known (r ∷ rs) x)
 known-stays rs r x h = or_right (same_id x r.id) (is_known rs x) h
@@ -54,7 +54,7 @@ known-stays rs r x h = or_right (same_id x r.id) (is_known rs x) h
 -- a known state is the newest or was known before
 pub known-cases : (rs : List Record) (r : Record) (x : StateId) → IsTrue (is_known (r ∷ rs) x) → (x ≡ r.id) ⊎ IsTrue (is_known rs x)
 known-cases rs r x h = elim (or_cases (same_id x r.id) (is_known rs x) h) [
-  | inl t ↦ inl (same-id-true x r.id t)
+  | inl t ↦ inl (same_id-true x r.id t)
   | inr m ↦ inr m
 ]
 
@@ -80,13 +80,13 @@ arrival-newest rs r x t = cond-true (same_id x r.id) (length rs) (arrival rs x) 
 pub arrival-before : (rs : List Record) (r : Record) (x : StateId) → IsFalse (same_id x r.id) → arrival (r ∷ rs) x ≡ arrival rs x
 arrival-before rs r x f = cond-false (same_id x r.id) (length rs) (arrival rs x) f
 
-pub arrival-below-length : (rs : List Record) (x : StateId) → IsTrue (is_known rs x) → arrival rs x < length rs
-arrival-below-length [] x h = not-both true refl (sym h)
-arrival-below-length (r ∷ rs) x h = elim (cases_Bool (same_id x r.id)) [
+pub arrival_is_below : (rs : List Record) (x : StateId) → IsTrue (is_known rs x) → arrival rs x < length rs
+arrival_is_below [] x h = not-both true refl (sym h)
+arrival_is_below (r ∷ rs) x h = elim (cases_Bool (same_id x r.id)) [
   | inl t ↦ let e = arrival-newest rs r x t in omega arith
   | inr f ↦
       let e = arrival-before rs r x f in
-      let l = arrival-below-length rs x (known-before rs r x h f) in
+      let l = arrival_is_below rs x (known-before rs r x h f) in
       omega arith
 ]
 

@@ -22,28 +22,28 @@ not-both b t f = absurd (both_ways b f t)
 
 -- ===== One state
 
-pub same-id-true : (x y : StateId) → IsTrue (same_id x y) → x ≡ y
-same-id-true x y e =
+pub same_id-true : (x y : StateId) → IsTrue (same_id x y) → x ≡ y
+same_id-true x y e =
     let named : ℕ → ℕ → StateId = λ site sequence. record { site = site; sequence = sequence } in
     let p = and_parts (eqb x.site y.site) (eqb x.sequence y.sequence) e in
     ap₂ named (eqb-true x.site y.site p.0) (eqb-true x.sequence y.sequence p.1)
 
-pub same-id-reflexive : (x : StateId) → IsTrue (same_id x x)
-same-id-reflexive x = and_from (eqb x.site x.site) (eqb x.sequence x.sequence) (eq-eqb x.site x.site refl) (eq-eqb x.sequence x.sequence refl)
+pub same_id_self : (x : StateId) → IsTrue (same_id x x)
+same_id_self x = and_from (eqb x.site x.site) (eqb x.sequence x.sequence) (eq-eqb x.site x.site refl) (eq-eqb x.sequence x.sequence refl)
 
-pub same-id-from : (x y : StateId) → x ≡ y → IsTrue (same_id x y)
-same-id-from x y e = subst (λ z. IsTrue (same_id x z)) e (same-id-reflexive x)
+pub same_id_from : (x y : StateId) → x ≡ y → IsTrue (same_id x y)
+same_id_from x y e = subst (λ z. IsTrue (same_id x z)) e (same_id_self x)
 
-pub same-id-symmetric : (x y : StateId) → IsTrue (same_id x y) → IsTrue (same_id y x)
-same-id-symmetric x y e = same-id-from y x (sym (same-id-true x y e))
+pub same_id_symmetric : (x y : StateId) → IsTrue (same_id x y) → IsTrue (same_id y x)
+same_id_symmetric x y e = same_id_from y x (sym (same_id-true x y e))
 
-pub same-id-turns : (x y : StateId) → same_id x y ≡ same_id y x
-same-id-turns x y = same_test (same_id x y) (same_id y x) (same-id-symmetric x y) (same-id-symmetric y x)
+pub same_id_turns : (x y : StateId) → same_id x y ≡ same_id y x
+same_id_turns x y = same_test (same_id x y) (same_id y x) (same_id_symmetric x y) (same_id_symmetric y x)
 
 -- ===== Several states
 
 pub among-first : (x : StateId) (ys : List StateId) → IsTrue (is_among x (x ∷ ys))
-among-first x ys = or_left (same_id x x) (is_among x ys) (same-id-reflexive x)
+among-first x ys = or_left (same_id x x) (is_among x ys) (same_id_self x)
 
 pub among-later : (x y : StateId) (ys : List StateId) → IsTrue (is_among x ys) → IsTrue (is_among x (y ∷ ys))
 among-later x y ys h = or_right (same_id x y) (is_among x ys) h
@@ -51,7 +51,7 @@ among-later x y ys h = or_right (same_id x y) (is_among x ys) h
 -- one of x and these: x, or one of these
 pub among-cases : (z x : StateId) (ys : List StateId) → IsTrue (is_among z (x ∷ ys)) → (z ≡ x) ⊎ IsTrue (is_among z ys)
 among-cases z x ys h = elim (or_cases (same_id z x) (is_among z ys) h) [
-  | inl e ↦ inl (same-id-true z x e)
+  | inl e ↦ inl (same_id-true z x e)
   | inr m ↦ inr m
 ]
 
@@ -66,7 +66,7 @@ among-append z (x ∷ xs) ys = ap (λ b. same_id z x || b) (among-append z xs ys
 -- what is one of these differs from what is none of them
 pub among-differs : (x y : StateId) (zs : List StateId) → IsTrue (is_among x zs) → IsFalse (is_among y zs) → IsFalse (same_id x y)
 among-differs x y zs h n =
-    false_from_ne_true (same_id x y) (λ t. both_ways (is_among y zs) n (subst (λ z. IsTrue (is_among z zs)) (same-id-true x y t) h))
+    false_from_ne_true (same_id x y) (λ t. both_ways (is_among y zs) n (subst (λ z. IsTrue (is_among z zs)) (same_id-true x y t) h))
 
 module _ (p : StateId → Bool) where
   -- where the test is true of one of these, it is true of a state that is among them

@@ -2,3 +2,4 @@
 pub mod Ids
 pub mod Histories
 pub mod Order
+pub mod States

@@ -10,8 +10,8 @@ use Rattle.plain_dag.specs.Above.{is_above, are_comparable, comparable_pair, are
 use Rattle.plain_dag.specs.Way.{AtOrAbove}
 use Rattle.plain_dag.specs.Dag.{IsDag}
 use Rattle.plain_dag.specs.Laws.{AboveIsReflexive, AboveIsTransitive, AboveIsAntisymmetric, AncestorsArriveEarlier, AncestorsAreKnown, ArrivalsDiffer, ApartMeansIncomparable, AboveGoesAlongEdges, AboveIsTheWay}
-use Rattle.plain_dag.proofs.Ids.{or-false, not-both, same-id-true, same-id-reflexive, any-witness, any-from, none-found, any-agrees}
-use Rattle.plain_dag.proofs.Histories.{Fits, Grows, dag-grows, known-stays, known-before, known-isnt-newest, parent-is-known, arrival-newest, arrival-before, arrival-below-length, parents-newest, parents-before, has-parent-is-known, parents-are-known}
+use Rattle.plain_dag.proofs.Ids.{or-false, not-both, same_id-true, same_id_self, any-witness, any-from, none-found, any-agrees}
+use Rattle.plain_dag.proofs.Histories.{Fits, Grows, dag-grows, known-stays, known-before, known-isnt-newest, parent-is-known, arrival-newest, arrival-before, arrival_is_below, parents-newest, parents-before, has-parent-is-known, parents-are-known}
 
 -- ===== One more record
 
@@ -29,7 +29,7 @@ pub above-newest-cases : (rs : List Record) (r : Record) (x y : StateId) → IsT
     (x ≡ y) ⊎ ((p : StateId) × IsTrue (is_among p r.parents) × IsTrue (is_above rs x p))
 above-newest-cases rs r x y t h =
     elim (or_cases (same_id x y) (list_any (is_above rs x) r.parents) (sym (above-newest rs r x y t) ∙ h)) [
-      | inl e ↦ inl (same-id-true x y e)
+      | inl e ↦ inl (same_id-true x y e)
       | inr m ↦ inr (any-witness (is_above rs x) r.parents m)
     ]
 
@@ -43,9 +43,9 @@ above-by-parent rs r x p y t h a =
 -- ===== Reflexive
 
 pub above-reflexive : (rs : List Record) → AboveIsReflexive rs
-above-reflexive [] x = same-id-reflexive x
+above-reflexive [] x = same_id_self x
 above-reflexive (r ∷ rs) x = elim (cases_Bool (same_id x r.id)) [
-  | inl t ↦ above-newest rs r x x t ∙ or_left (same_id x x) (list_any (is_above rs x) r.parents) (same-id-reflexive x)
+  | inl t ↦ above-newest rs r x x t ∙ or_left (same_id x x) (list_any (is_above rs x) r.parents) (same_id_self x)
   | inr f ↦ above-before rs r x x f ∙ above-reflexive rs x
 ]
 
@@ -75,7 +75,7 @@ unknown-above (r ∷ rs) x y n =
 pub above-isnt-newest : (rs : List Record) (r : Record) → Fits rs r → Grows rs → (x y : StateId) → IsFalse (same_id y r.id) → IsTrue (is_above rs x y) → IsFalse (same_id x r.id)
 above-isnt-newest rs r f g x y n h = elim (cases_Bool (is_known rs y)) [
   | inl k ↦ known-isnt-newest rs r x f (known-above rs g x y k h)
-  | inr u ↦ subst (λ z. IsFalse (same_id z r.id)) (sym (same-id-true x y (sym (unknown-above rs x y u) ∙ h))) n
+  | inr u ↦ subst (λ z. IsFalse (same_id z r.id)) (sym (same_id-true x y (sym (unknown-above rs x y u) ∙ h))) n
 ]
 
 -- what is at or above a parent of the newest state was known before
@@ -85,7 +85,7 @@ known-above-parent rs r f g x p m h = known-above rs g x p (parent-is-known rs r
 -- ===== Transitive
 
 pub above-through : (rs : List Record) → Grows rs → AboveIsTransitive rs
-above-through [] g x y z h i = subst (λ w. IsTrue (same_id x w)) (same-id-true y z i) h
+above-through [] g x y z h i = subst (λ w. IsTrue (same_id x w)) (same_id-true y z i) h
 above-through (r ∷ rs) g x y z h i = elim (cases_Bool (same_id z r.id)) [
   | inl t ↦ elim (above-newest-cases rs r y z t i) [
     | inl e ↦ subst (λ w. IsTrue (is_above (r ∷ rs) x w)) e h
@@ -102,13 +102,13 @@ above-through (r ∷ rs) g x y z h i = elim (cases_Bool (same_id z r.id)) [
 -- ===== Arrival
 
 pub above-arrives-earlier : (rs : List Record) → Grows rs → AncestorsArriveEarlier rs
-above-arrives-earlier [] g x y h = inl (same-id-true x y h)
+above-arrives-earlier [] g x y h = inl (same_id-true x y h)
 above-arrives-earlier (r ∷ rs) g x y h = elim (cases_Bool (same_id y r.id)) [
   | inl t ↦ elim (above-newest-cases rs r x y t h) [
     | inl e ↦ inl e
     | inr w ↦
         let k = known-above-parent rs r g.0 g.1 x w.0 w.1 w.2 in
-        let l = arrival-below-length rs x k in
+        let l = arrival_is_below rs x k in
         let a = arrival-before rs r x (known-isnt-newest rs r x g.0 k) in
         let b = arrival-newest rs r y t in
         inr (omega arith)
@@ -128,18 +128,18 @@ pub arrival-tells : (rs : List Record) → ArrivalsDiffer rs
 arrival-tells [] x y k l e = not-both true refl (sym k)
 arrival-tells (r ∷ rs) x y k l e = elim (cases_Bool (same_id x r.id)) [
   | inl t ↦ elim (cases_Bool (same_id y r.id)) [
-    | inl u ↦ same-id-true x r.id t ∙ sym (same-id-true y r.id u)
+    | inl u ↦ same_id-true x r.id t ∙ sym (same_id-true y r.id u)
     | inr f ↦
         let a = arrival-newest rs r x t in
         let b = arrival-before rs r y f in
-        let c = arrival-below-length rs y (known-before rs r y l f) in
+        let c = arrival_is_below rs y (known-before rs r y l f) in
         absurd (omega arith)
   ]
   | inr f ↦ elim (cases_Bool (same_id y r.id)) [
     | inl u ↦
         let a = arrival-newest rs r y u in
         let b = arrival-before rs r x f in
-        let c = arrival-below-length rs x (known-before rs r x k f) in
+        let c = arrival_is_below rs x (known-before rs r x k f) in
         absurd (omega arith)
     | inr n ↦
         arrival-tells rs x y (known-before rs r x k f) (known-before rs r y l n)
@@ -175,7 +175,7 @@ way-stays rs r f _ _ (AtOrAbove.through x p y h w) =
     AtOrAbove.through x p y (subst (λ ps. IsTrue (is_among p ps)) (sym (parents-before rs r y n)) h) (way-stays rs r f x p w)
 
 pub way-from-above : (rs : List Record) → Grows rs → (x y : StateId) → IsTrue (is_above rs x y) → AtOrAbove rs x y
-way-from-above [] g x y h = subst (λ z. AtOrAbove [] x z) (same-id-true x y h) (AtOrAbove.same x)
+way-from-above [] g x y h = subst (λ z. AtOrAbove [] x z) (same_id-true x y h) (AtOrAbove.same x)
 way-from-above (r ∷ rs) g x y h = elim (cases_Bool (same_id y r.id)) [
   | inl t ↦ elim (above-newest-cases rs r x y t h) [
     | inl e ↦ subst (λ z. AtOrAbove (r ∷ rs) x z) e (AtOrAbove.same x)
