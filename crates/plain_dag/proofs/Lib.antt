@@ -1,0 +1,5 @@
+-- What follows from the definitions of a history.
+pub mod Ids
+pub mod Histories
+pub mod Order
+pub mod States
