@@ -6,3 +6,4 @@ pub mod States
 pub mod Searches
 pub mod Growth
 pub mod LatestWriter
+pub mod Leaves
