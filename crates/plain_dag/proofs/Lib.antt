@@ -7,3 +7,4 @@ pub mod Searches
 pub mod Growth
 pub mod LatestWriter
 pub mod Leaves
+pub mod Landing
