@@ -8,3 +8,4 @@ pub mod Growth
 pub mod LatestWriter
 pub mod Leaves
 pub mod Landing
+pub mod StandIns
