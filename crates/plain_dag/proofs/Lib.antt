@@ -9,3 +9,4 @@ pub mod LatestWriter
 pub mod Leaves
 pub mod Landing
 pub mod StandIns
+pub mod Collected
