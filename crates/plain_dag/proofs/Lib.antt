@@ -10,3 +10,4 @@ pub mod Leaves
 pub mod Landing
 pub mod StandIns
 pub mod Collected
+pub mod Paths
