@@ -14,17 +14,15 @@ pub fn above_is_an_order()
     ensures antisymmetric { (rs : List Record) → IsDag rs → AboveIsAntisymmetric rs }
     ensures arrival { (rs : List Record) → IsDag rs → AncestorsArriveEarlier rs }
     ensures known { (rs : List Record) → IsDag rs → AncestorsAreKnown rs }
-    ensures one_by_one { (rs : List Record) → IsDag rs → ArrivalsDiffer rs }
+    ensures one_by_one { (rs : List Record) → ArrivalsDiffer rs }
     ensures apart { (rs : List Record) → ApartMeansIncomparable rs }
-{
-}
+{}
 
 /// The test of "at or above" is what it stands for: there is a way along edges from the one state to the other.
 pub fn above_is_the_way()
     ensures edges { (rs : List Record) → IsDag rs → AboveGoesAlongEdges rs }
     ensures way { (rs : List Record) → IsDag rs → AboveIsTheWay rs }
-{
-}
+{}
 
 /// A record that arrives changes nothing between old states, and no read at one of them. Its state is below what its
 /// parents are at or below, and above no old state.
@@ -32,12 +30,20 @@ pub fn a_new_record_changes_nothing_old()
     ensures order { (rs : List Record) (r : Record) → IsDag rs → IsNext rs r → OldStatesStay rs r }
     ensures reads { (rs : List Record) (r : Record) → IsDag rs → IsNext rs r → OldReadsStay rs r }
     ensures place { (rs : List Record) (r : Record) → IsDag rs → IsNext rs r → NewStateIsBelowParents rs r }
-{
-}
+{}
 
 /// At every state, each key that is written at or above it has exactly one latest writer: the one that all its writers
 /// there are at or above, which also arrived last of them. So a read has one answer.
 pub fn one_latest_writer()
     ensures one { (rs : List Record) → IsDag rs → WritersHaveOneLatest rs }
-{
-}
+{}
+
+/// A state whose parents are all at or above another state writes each conflict key of the two.
+pub fn next_state_writes_conflicts()
+    ensures written { (rs : List Record) → IsDag rs → NextWritesConflicts rs }
+{}
+
+/// The list of conflict keys of any states ascends, and has each of their conflict keys and no other.
+pub fn conflict_keys_are_listed()
+    ensures listed { (rs : List Record) (xs : List StateId) → ListsConflictKeys rs xs }
+{}

@@ -1,4 +1,4 @@
-use Rattle.plain_dag.proofs.Order.{above-reflexive, above-transitive, above-antisymmetric, ancestors-arrive-earlier, ancestors-are-known, arrivals-differ, apart-means-incomparable}
+use Rattle.plain_dag.proofs.Order.{above-reflexive, above-transitive, above-antisymmetric, ancestors-arrive-earlier, ancestors-are-known, arrival-tells, apart-means-incomparable}
 use Rattle.plain_dag.proofs.orders.above_is_an_order.Goals as goal
 
 pub returns-clause-reflexive : goal.returns-clause-reflexive
@@ -17,7 +17,7 @@ pub returns-clause-known : goal.returns-clause-known
 returns-clause-known c = ancestors-are-known
 
 pub returns-clause-one_by_one : goal.returns-clause-one_by_one
-returns-clause-one_by_one c = arrivals-differ
+returns-clause-one_by_one c = arrival-tells
 
 pub returns-clause-apart : goal.returns-clause-apart
 returns-clause-apart c = apart-means-incomparable
