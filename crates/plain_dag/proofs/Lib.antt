@@ -6,6 +6,8 @@ pub mod States
 pub mod Searches
 pub mod Growth
 pub mod LatestWriter
+pub mod Keys
+pub mod ConflictKeys
 pub mod Leaves
 pub mod Landing
 pub mod StandIns

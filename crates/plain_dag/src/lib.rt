@@ -3,3 +3,4 @@
 #![tactic(auto)]
 
 pub mod landings;
+pub mod orders;
