@@ -7,7 +7,8 @@ ghost use Rattle.plain_dag.specs.Dag.{IsNext, IsDag};
 ghost use Rattle.plain_dag.specs.Laws.{AboveIsReflexive, AboveIsTransitive, AboveIsAntisymmetric, AncestorsArriveEarlier, AncestorsAreKnown, ArrivalsDiffer, ApartMeansIncomparable, AboveGoesAlongEdges, AboveIsTheWay, OldStatesStay, OldReadsStay, NewStateIsBelowParents, WritersHaveOneLatest, NextWritesConflicts, ListsConflictKeys};
 
 /// "At or above" is an order of the states, and arrival goes with it: what is at or above a known state is known, and
-/// arrived earlier unless the two are one. Two states are comparable wherever they stand in a list.
+/// arrived earlier unless the two are one. Known states that arrived together are one. States are apart where no two of
+/// them are comparable, whatever their places.
 pub fn above_is_an_order()
     ensures reflexive { (rs : List Record) → AboveIsReflexive rs }
     ensures transitive { (rs : List Record) → IsDag rs → AboveIsTransitive rs }
