@@ -9,3 +9,7 @@ pub mod SoundArrivals
 pub mod SoundOpening
 pub mod SoundCommits
 pub mod SoundRequests
+pub mod SoundFloors
+pub mod SoundTidies
+pub mod SoundMerges
+pub mod SoundDeliveries

@@ -138,7 +138,7 @@ commit_below-keeps built site n parents writes refusals sound joins =
 
 -- ===== States that aren't closed
 
-all-at_index : {A : Type 0} (p : A → Bool) (xs : List A) → IsTrue (list_all p xs) → (i : ℕ) → i < length xs → (d : A) → IsTrue (p (get_or xs i d))
+pub all-at_index : {A : Type 0} (p : A → Bool) (xs : List A) → IsTrue (list_all p xs) → (i : ℕ) → i < length xs → (d : A) → IsTrue (p (get_or xs i d))
 all-at_index p [] h i l d = absurd (omega arith)
 all-at_index p (x ∷ xs) h ℕ.zero l d = (and_parts (p x) (list_all p xs) h).0
 all-at_index p (x ∷ xs) h (suc i) l d = all-at_index p xs (and_parts (p x) (list_all p xs) h).1 i (omega arith) d

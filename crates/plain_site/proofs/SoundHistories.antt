@@ -1,8 +1,9 @@
 -- Ids, counts and lists of a history, as far as a step needs them.
-use Rattle.std.proofs.Common.{◌≡◌, ℕ, suc, ◌+◌, ◌<◌, ◌≤◌, Bool, true, not, List, [], ◌∷◌, ◌++◌, length, filter, find, is_none, None, IsTrue, IsFalse, inl, inr, refl, sym, ap, subst, ◌∙◌, arith, length-append}
+use Rattle.std.proofs.Common.{◌≡◌, ℕ, suc, ◌+◌, ◌<◌, ◌≤◌, Bool, true, not, List, [], ◌∷◌, length, filter, find, is_none, None, IsTrue, IsFalse, inl, inr, refl, sym, ap, subst, ◌∙◌, arith, length-append}
 use Rattle.std.specs.Prelude.{◌==◌, ◌&&◌, ◌||◌, ◌^◌, nat_le}
 use Rattle.std.specs.List.{list_any}
 use Rattle.std.proofs.lemmas.Bool.{and_parts, and_from, or_left, or_right, cases_Bool, cond_both, cond-true, false_from_ne_true, not-true, not_from_false, eqb-true, ltb-true}
+use Rattle.std.proofs.lemmas.List.Elements.{filter-append}
 use Rattle.tardis_base.specs.declared.ids.StateId.{StateId}
 use Rattle.tardis_base.specs.declared.records.Record.{Record}
 use Rattle.tardis_base.specs.Ids.{root, same_id, is_among}
@@ -125,18 +126,11 @@ kept-is_listed rs ks x h =
     let parts = and_parts (is_known rs x) (not (is_among x ks)) h in
     among-filter (λ z. not (is_among z ks)) (arrived rs) x (known-is_arrived rs x parts.0) parts.1
 
-filter-last : (p : StateId → Bool) (xs : List StateId) (y : StateId) → filter p (xs ++ y ∷ []) ≡ filter p xs ++ filter p (y ∷ [])
-filter-last p [] y = refl
-filter-last p (x ∷ xs) y = elim (cases_Bool (p x)) [
-  | inl t ↦ rw t (ap (λ (ys : List StateId). x ∷ ys) (filter-last p xs y))
-  | inr f ↦ rw f (filter-last p xs y)
-]
-
 kept-length : (rs : List Record) (ks : List StateId) (r : Record) →
     length (kept_states (r ∷ rs) ks) ≡ length (kept_states rs ks) + length (filter (λ x. not (is_among x ks)) (r.id ∷ []))
 kept-length rs ks r =
     let keep : StateId → Bool = λ x. not (is_among x ks) in
-    ap length (filter-last keep (arrived rs) r.id) ∙ length-append (kept_states rs ks) (filter keep (r.id ∷ []))
+    ap length (filter-append keep (arrived rs) (r.id ∷ [])) ∙ length-append (kept_states rs ks) (filter keep (r.id ∷ []))
 
 -- one record more makes at most one kept state more
 pub kept-grows : (rs : List Record) (ks : List StateId) (r : Record) → length (kept_states (r ∷ rs) ks) ≤ suc (length (kept_states rs ks))
