@@ -1,5 +1,5 @@
 -- Which ids, keys, values, writes and records there are.
-use Rattle.std.specs.Prelude.{ℕ, Bool, true, ◌==◌, ◌&&◌, ◌||◌, ◌^◌, not, length, List, nat_lt, nat_le}
+use Rattle.std.specs.Prelude.{ℕ, Bool, true, ◌&&◌, ◌||◌, ◌^◌, not, length, List, nat_lt, nat_le}
 use Rattle.std.specs.List.{list_all}
 use Rattle.tardis_base.specs.declared.ids.StateId.{StateId}
 use Rattle.tardis_base.specs.declared.records.Write.{Write}

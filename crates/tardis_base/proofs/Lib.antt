@@ -1,0 +1,1 @@
+-- Lemmas on keys, writes and lists.
