@@ -1,1 +1,5 @@
--- Lemmas on keys, writes and lists.
+-- Laws of keys in order, and of the sets of keys and of writes.
+pub mod KeyOrder
+pub mod KeySets
+pub mod WriteSets
+pub mod Searches
