@@ -1,6 +1,7 @@
 //! The types that every layer speaks, and the machine that a site is.
 #![tactic(auto)]
 
+mod aboves;
 mod byte_types;
 mod faults;
 mod ids;
@@ -12,6 +13,7 @@ mod replies;
 mod reply_bufs;
 mod requests;
 
+pub use aboves::Above;
 pub use byte_types::{Key, Value};
 pub use faults::{AddFault, BytesFault, NoMemory, ReadFault, SeqEnd};
 pub use ids::{Slot, StateId};
