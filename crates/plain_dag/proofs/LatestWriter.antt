@@ -12,11 +12,9 @@ use Rattle.plain_dag.specs.Conflicts.{latest_writers, is_split, is_conflict_key}
 use Rattle.plain_dag.specs.Dag.{IsDag}
 use Rattle.plain_dag.specs.Laws.{IsLatestWriter, WritersHaveOneLatest}
 use Rattle.plain_dag.proofs.Ids.{not-both, among-first, all-at, all-from}
-use Rattle.plain_dag.proofs.Histories.{Fits, Grows, dag-grows, known-before, parent-is-known}
-use Rattle.plain_dag.proofs.Order.{above-newest-cases, above-by-parent, above-reflexive, above-through, above-antisymmetric, ancestors-arrive-earlier}
+use Rattle.plain_dag.proofs.Histories.{Fits, Grows, dag-grows, known-before, known-isnt-newest, parent-is-known}
+use Rattle.plain_dag.proofs.Order.{known-above, above-newest-cases, above-by-parent, above-reflexive, above-through, above-antisymmetric, ancestors-arrive-earlier}
 use Rattle.plain_dag.proofs.Growth.{writer-is-known, writes-before, writes-newest, above-stays, writer-stays}
-use Rattle.plain_dag.proofs.Histories.{known-isnt-newest}
-use Rattle.plain_dag.proofs.Order.{known-above}
 use Rattle.plain_dag.proofs.Searches.{found-passes, finds-passing, among-filter, filtered-passes, among-mapped, mapped-from, option-cases}
 
 -- ===== The lowest of several

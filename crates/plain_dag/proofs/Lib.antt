@@ -6,3 +6,5 @@ pub mod States
 pub mod Searches
 pub mod Growth
 pub mod LatestWriter
+pub mod Keys
+pub mod ConflictKeys

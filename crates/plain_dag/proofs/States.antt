@@ -59,16 +59,16 @@ child_is_known (r ∷ rs) x c h = elim (child-cases rs r x c h) [
   | inr old ↦ known-stays rs r c (child_is_known rs x c old)
 ]
 
-has-child-is-known : (rs : List Record) → Grows rs → (x c : StateId) → IsTrue (is_among c (children rs x)) → IsTrue (is_known rs x)
-has-child-is-known [] g x c h = not-both true refl (sym h)
-has-child-is-known (r ∷ rs) g x c h = elim (child-cases rs r x c h) [
+known-by-child : (rs : List Record) → Grows rs → (x c : StateId) → IsTrue (is_among c (children rs x)) → IsTrue (is_known rs x)
+known-by-child [] g x c h = not-both true refl (sym h)
+known-by-child (r ∷ rs) g x c h = elim (child-cases rs r x c h) [
   | inl new ↦ known-stays rs r x (parent-is-known rs r x g.0 new.1)
-  | inr old ↦ known-stays rs r x (has-child-is-known rs g.1 x c old)
+  | inr old ↦ known-stays rs r x (known-by-child rs g.1 x c old)
 ]
 
 -- what has a child is known
 pub has_child_is_known : (rs : List Record) → IsDag rs → (x c : StateId) → IsTrue (is_among c (children rs x)) → IsTrue (is_known rs x)
-has_child_is_known rs dag = has-child-is-known rs (dag-grows rs dag)
+has_child_is_known rs dag = known-by-child rs (dag-grows rs dag)
 
 later : (rs : List Record) → Grows rs → (x c : StateId) → IsTrue (is_among c (children rs x)) → arrival rs x < arrival rs c
 later [] g x c h = not-both true refl (sym h)
@@ -81,7 +81,7 @@ later (r ∷ rs) g x c h = elim (child-cases rs r x c h) [
       omega arith
   | inr old ↦
       let l = later rs g.1 x c old in
-      let a = arrival-before rs r x (known-isnt-newest rs r x g.0 (has-child-is-known rs g.1 x c old)) in
+      let a = arrival-before rs r x (known-isnt-newest rs r x g.0 (known-by-child rs g.1 x c old)) in
       let b = arrival-before rs r c (known-isnt-newest rs r c g.0 (child_is_known rs x c old)) in
       omega arith
 ]
