@@ -123,6 +123,8 @@ fn a_record_is_copied(rt: HostRuntime) -> Result<(), Fail> {
     assert_eq!(rt; copy, record);
     assert_eq!(rt; copy.writes.len(), 3);
     assert_eq!(rt; copy.parents.as_slice(), [root].as_slice());
+    let item = Item::State(record);
+    assert_eq!(rt; item.copy()?, item);
     Ok(())
 }
 
