@@ -12,3 +12,5 @@ pub mod Exchange
 pub mod Step
 pub mod Sound
 pub mod Laws
+pub mod RowWords
+pub mod RowsOfCommits
