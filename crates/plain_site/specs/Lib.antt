@@ -14,3 +14,4 @@ pub mod Sound
 pub mod Laws
 pub mod RowWords
 pub mod RowsOfCommits
+pub mod RowsOfMerges
