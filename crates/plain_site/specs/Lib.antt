@@ -15,3 +15,8 @@ pub mod Laws
 pub mod RowWords
 pub mod RowsOfCommits
 pub mod RowsOfMerges
+pub mod RowsOfFloors
+pub mod RowByteWords
+pub mod RowsOfBytes
+pub mod RowsOfExchange
+pub mod RowsOfLimits

@@ -1,10 +1,11 @@
 -- Worked rows: merges.
-use Rattle.std.specs.Prelude.{List, [], ◌∷◌, ◌++◌, codes}
+use Rattle.std.specs.Prelude.{flat_map, List, [], ◌∷◌, ◌++◌, codes}
+use Rattle.std.specs.List.{range_with_len}
 use Rattle.tardis_base.specs.declared.requests.Request.TheVariants.{Show, Abort, ForkPoints}
-use Rattle.tardis_base.specs.declared.replies.Refusal.TheVariants.{OpenConflict, WrongMode, ConflictKey, NotRead, Comparable, Unknown}
+use Rattle.tardis_base.specs.declared.replies.Refusal.TheVariants.{OpenConflict, WrongMode, ConflictKey, NotRead, Comparable, Unknown, TooMany}
 use Rattle.tardis_base.specs.declared.replies.Reply.TheVariants.{Opened, Begun, Merging, Absent, Done, Committed, States, Shown, Refused}
 use Rattle.plain_site.specs.Built.{everything}
-use Rattle.plain_site.specs.RowWords.{Line, Talk, lone_site, ◌·◌, ◌asks◌=>◌, opens, begin_any, get, put, none, ser, commit, merge_leaves, merge, conflicts, get_for, value, one_key}
+use Rattle.plain_site.specs.RowWords.{Line, Talk, lone_site, ◌·◌, ◌asks◌=>◌, opens, begin_any, get, put, none, ser, commit, merge_leaves, merge, conflicts, get_for, value, one_key, of_states}
 
 -- two branches: 1.1 and 1.2 both write x, and 1.2 writes y
 abbrev pub branched : List Line
@@ -73,4 +74,14 @@ MergesNeedStatesApart =
     ∷ 1 asks merge (1 · 1 ∷ 1 · 3 ∷ []) => Refused (Comparable (1 · 1) (1 · 3))
     ∷ 1 asks merge (1 · 3 ∷ 1 · 3 ∷ []) => Refused (Comparable (1 · 3) (1 · 3))
     ∷ 1 asks merge (1 · 1 ∷ 5 · 1 ∷ []) => Refused (Unknown (5 · 1))
+    ∷ [])
+
+-- nine branches are too many for one merge
+abbrev pub NineLeavesAreTooMany : Type 0
+NineLeavesAreTooMany =
+    let nine = range_with_len 1 9 in
+    Talk everything lone_site
+    (flat_map (λ n. n asks opens => Opened (0 · 0) ∷ n asks begin_any => Begun (0 · 0) ∷ []) nine
+    ++ flat_map (λ n. n asks get "x" => Absent ∷ n asks put "x" "1" => Done ∷ n asks commit ser => Committed (1 · n) (0 · 0 ∷ []) ∷ []) nine
+    ++ 1 asks merge_leaves => Refused (TooMany of_states 9)
     ∷ [])

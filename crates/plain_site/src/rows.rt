@@ -1,7 +1,11 @@
 //! Worked rows: what the plain site replies to these requests, line by line.
 
 ghost use Rattle.plain_site.specs.RowsOfCommits.{WriteSkewForks, WriteSkewPassesUnderSnapshots, NoBranchRefusesTheFork, OldReadForks, AnyBeginsAtTheFork, CommitRipplesDown, BranchesAreCounted, BeginsFollowTheLastCommit, ReadingMakesNoState};
-ghost use Rattle.plain_site.specs.RowsOfMerges.{MergeJoinsBranches, TwoMergesConflict, MergesNeedStatesApart};
+ghost use Rattle.plain_site.specs.RowsOfMerges.{MergeJoinsBranches, TwoMergesConflict, MergesNeedStatesApart, NineLeavesAreTooMany};
+ghost use Rattle.plain_site.specs.RowsOfFloors.{CeilingsHoldReadsAndFloors, FloorsHoldTheSite, CollectionKeepsReads};
+ghost use Rattle.plain_site.specs.RowsOfExchange.{RecordsComeInOrder, ConsentsCloseStates, LyingPeersAreRefused};
+ghost use Rattle.plain_site.specs.RowsOfLimits.{WritesAreLimited, ReadsAreLimited, FullSiteRefuses, SecondSessionIsRefused, LongPathIsRefused};
+ghost use Rattle.plain_site.specs.RowsOfBytes.{WriteIsReadBack, WriteIsReadBackByTheWhole, UnbuiltIsUnsupported, UnbuiltOperationIsTold, BuiltIsNotOpen, OtherBytesAreMalformed, OtherBytesStayMalformed, LongestKeyAndValueArePut, LongerOnesAreMalformed};
 
 /// Where transactions begin, and where they commit.
 pub fn commits_answer_as_told()
@@ -21,4 +25,41 @@ pub fn merges_answer_as_told()
     ensures joined { MergeJoinsBranches }
     ensures two_merges { TwoMergesConflict }
     ensures apart { MergesNeedStatesApart }
+    ensures nine_leaves { NineLeavesAreTooMany }
+{}
+
+/// Ceilings, floors and collection.
+pub fn floors_answer_as_told()
+    ensures ceilings { CeilingsHoldReadsAndFloors }
+    ensures floors { FloorsHoldTheSite }
+    ensures collection { CollectionKeepsReads }
+{}
+
+/// What other sites deliver.
+pub fn exchange_answers_as_told()
+    ensures records { RecordsComeInOrder }
+    ensures consents { ConsentsCloseStates }
+    ensures lies { LyingPeersAreRefused }
+{}
+
+/// Limits of transactions and of the site.
+pub fn limits_answer_as_told()
+    ensures writes { WritesAreLimited }
+    ensures reads { ReadsAreLimited }
+    ensures full { FullSiteRefuses }
+    ensures sessions { SecondSessionIsRefused }
+    ensures paths { LongPathIsRefused }
+{}
+
+/// Requests and replies in bytes, as far as the program is built and whole.
+pub fn bytes_answer_as_told()
+    ensures read_back { WriteIsReadBack }
+    ensures read_back_by_the_whole { WriteIsReadBackByTheWhole }
+    ensures unsupported { UnbuiltIsUnsupported }
+    ensures unsupported_operation { UnbuiltOperationIsTold }
+    ensures not_open { BuiltIsNotOpen }
+    ensures malformed { OtherBytesAreMalformed }
+    ensures malformed_by_the_whole { OtherBytesStayMalformed }
+    ensures longest { LongestKeyAndValueArePut }
+    ensures longer { LongerOnesAreMalformed }
 {}
