@@ -20,3 +20,4 @@ pub mod RowByteWords
 pub mod RowsOfBytes
 pub mod RowsOfExchange
 pub mod RowsOfLimits
+pub mod RowsOfChoices

@@ -7,7 +7,6 @@ use Rattle.plain_site.specs.Built.{Built}
 use Rattle.plain_site.specs.Step.{step_over_bytes}
 
 infix 80 ◌sends◌=>◌
-
 -- the number that the code of a hexadecimal digit tells: 0 to 9 are 48 to 57, a to f are 97 to 102
 abbrev pub digit : ℕ → ℕ
 digit code = if nat_lt code 58 then code - 48 else code - 87

@@ -15,7 +15,6 @@ use Rattle.plain_site.specs.Step.{step}
 
 infix 90 ◌·◌
 infix 80 ◌asks◌=>◌
-
 -- ===== Lines
 
 -- the state of a site with this sequence

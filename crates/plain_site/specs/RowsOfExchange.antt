@@ -3,7 +3,7 @@ use Rattle.std.specs.Prelude.{ℕ, List, [], ◌∷◌, ◌++◌}
 use Prim.Native.String.{String}
 use Rattle.tardis_base.specs.declared.requests.Request.{Request}
 use Rattle.tardis_base.specs.declared.requests.Request.TheVariants.{Pull, Raise}
-use Rattle.tardis_base.specs.declared.replies.Refusal.TheVariants.{BadSite, OwnItem, ClosedParent, Comparable, OpenConflict, FloorBack}
+use Rattle.tardis_base.specs.declared.replies.Refusal.TheVariants.{BadSite, OwnItem, ClosedParent, Comparable, OpenConflict, FloorBack, Unknown}
 use Rattle.tardis_base.specs.declared.replies.Reply.{Reply}
 use Rattle.tardis_base.specs.declared.replies.Reply.TheVariants.{Early, Applied, Known, Raised, Refused}
 use Rattle.wire_talk.specs.Spellings.{request_spelling, reply_spelling}
@@ -77,4 +77,12 @@ LyingPeersAreRefused =
     ∷ 0 sends deliver "02 0002 00000002 0002 00000001 00000002" => told (Refused (FloorBack (2 · 2)))
     -- a consent in the name of this site
     ∷ 0 sends deliver "02 0001 00000001 0000 00000000 00000000" => told (Refused (OwnItem 1 1))
+    ∷ [])
+
+-- an id may name a site that there can't be; that site is none of these
+abbrev pub SitesPastTheLimitAreBad : Type 0
+SitesPastTheLimitAreBad =
+    TalkInBytes everything first_of_two
+    (0 sends deliver "01 0011 00000001 01 0000 00000000 00" => told (Refused (BadSite 17))
+    ∷ 0 sends asked (Raise (17 · 1)) => told (Refused (Unknown (17 · 1)))
     ∷ [])

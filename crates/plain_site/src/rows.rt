@@ -3,9 +3,10 @@
 ghost use Rattle.plain_site.specs.RowsOfCommits.{WriteSkewForks, WriteSkewPassesUnderSnapshots, NoBranchRefusesTheFork, OldReadForks, AnyBeginsAtTheFork, CommitRipplesDown, BranchesAreCounted, BeginsFollowTheLastCommit, ReadingMakesNoState};
 ghost use Rattle.plain_site.specs.RowsOfMerges.{MergeJoinsBranches, TwoMergesConflict, MergesNeedStatesApart, NineLeavesAreTooMany};
 ghost use Rattle.plain_site.specs.RowsOfFloors.{CeilingsHoldReadsAndFloors, FloorsHoldTheSite, CollectionKeepsReads};
-ghost use Rattle.plain_site.specs.RowsOfExchange.{RecordsComeInOrder, ConsentsCloseStates, LyingPeersAreRefused};
+ghost use Rattle.plain_site.specs.RowsOfExchange.{RecordsComeInOrder, ConsentsCloseStates, LyingPeersAreRefused, SitesPastTheLimitAreBad};
 ghost use Rattle.plain_site.specs.RowsOfLimits.{WritesAreLimited, ReadsAreLimited, FullSiteRefuses, SecondSessionIsRefused, LongPathIsRefused};
 ghost use Rattle.plain_site.specs.RowsOfBytes.{WriteIsReadBack, WriteIsReadBackByTheWhole, UnbuiltIsUnsupported, UnbuiltOperationIsTold, BuiltIsNotOpen, OtherBytesAreMalformed, OtherBytesStayMalformed, LongestKeyAndValueArePut, LongerOnesAreMalformed};
+ghost use Rattle.plain_site.specs.RowsOfChoices.{NoBranchIsNamedFirst, OwnWritesAreNotRead, MergesBringNews, ValueIsTheLowestWriters, MergeTriesOneThingAtATime, CeilingStaysOnItsBranch, TidyTakesTheLastArrived, CollectsMergedBranches, LongPathOfAKeptStateIsNamed, OwnRecordIsKnown, ClosedParentIsNamedFirst};
 
 /// Where transactions begin, and where they commit.
 pub fn commits_answer_as_told()
@@ -40,6 +41,7 @@ pub fn exchange_answers_as_told()
     ensures records { RecordsComeInOrder }
     ensures consents { ConsentsCloseStates }
     ensures lies { LyingPeersAreRefused }
+    ensures bad_sites { SitesPastTheLimitAreBad }
 {}
 
 /// Limits of transactions and of the site.
@@ -62,4 +64,19 @@ pub fn bytes_answer_as_told()
     ensures malformed_by_the_whole { OtherBytesStayMalformed }
     ensures longest { LongestKeyAndValueArePut }
     ensures longer { LongerOnesAreMalformed }
+{}
+
+/// What the other rows leave open.
+pub fn choices_are_made()
+    ensures no_branch_first { NoBranchIsNamedFirst }
+    ensures own_writes { OwnWritesAreNotRead }
+    ensures news { MergesBringNews }
+    ensures lowest { ValueIsTheLowestWriters }
+    ensures merge_refusals { MergeTriesOneThingAtATime }
+    ensures apart_ceiling { CeilingStaysOnItsBranch }
+    ensures tidy_order { TidyTakesTheLastArrived }
+    ensures merged_branches { CollectsMergedBranches }
+    ensures kept_paths { LongPathOfAKeptStateIsNamed }
+    ensures own_record { OwnRecordIsKnown }
+    ensures closed_parent_first { ClosedParentIsNamedFirst }
 {}
