@@ -1,6 +1,5 @@
 -- Worked rows: limits of transactions and of the site.
-use Rattle.std.specs.Prelude.{ℕ, List, [], ◌∷◌, ◌++◌, map}
-use Rattle.std.specs.List.{range_with_len}
+use Rattle.std.specs.Prelude.{ℕ, List, [], ◌∷◌, ◌++◌}
 use Rattle.tardis_base.specs.declared.requests.Request.TheVariants.{Get, Put, Abort}
 use Rattle.tardis_base.specs.declared.replies.Refusal.TheVariants.{TooMany, Full, SessionsFull, PathFull}
 use Rattle.tardis_base.specs.declared.replies.Reply.TheVariants.{Opened, Begun, Absent, Done, Committed, Refused}
@@ -16,11 +15,13 @@ begun =
 
 -- puts to this many keys of one byte, each done
 abbrev pub puts : ℕ → List Line
-puts many = map (λ n. 1 asks Put (n ∷ []) [] => Done) (range_with_len 0 many)
+puts ℕ.zero = []
+puts (ℕ.suc n) = 1 asks Put (n ∷ []) [] => Done ∷ puts n
 
--- gets of this many keys of two bytes that begin with this one, each absent
-abbrev pub gets : ℕ → ℕ → List Line
-gets first many = map (λ n. 1 asks Get (first ∷ n ∷ []) => Absent) (range_with_len 0 many)
+-- gets of this many keys of one byte, each absent
+abbrev pub gets : ℕ → List Line
+gets ℕ.zero = []
+gets (ℕ.suc n) = 1 asks Get (n ∷ []) => Absent ∷ gets n
 
 -- the 65th written key is one too many, and a written key is none
 abbrev pub WritesAreLimited : Type 0
@@ -37,9 +38,9 @@ abbrev pub ReadsAreLimited : Type 0
 ReadsAreLimited =
     Talk everything lone_site
     (begun
-    ++ gets 0 256
-    ++ 1 asks Get (1 ∷ []) => Refused (TooMany of_reads 257)
-    ∷ 1 asks Get (0 ∷ 255 ∷ []) => Absent
+    ++ gets 256
+    ++ 1 asks Get (1 ∷ 0 ∷ []) => Refused (TooMany of_reads 257)
+    ∷ 1 asks Get (255 ∷ []) => Absent
     ∷ [])
 
 -- ===== Sites with other limits
