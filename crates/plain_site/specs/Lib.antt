@@ -21,3 +21,5 @@ pub mod RowsOfBytes
 pub mod RowsOfExchange
 pub mod RowsOfLimits
 pub mod RowsOfChoices
+pub mod RowsOfLandings
+pub mod RowsOfOperations

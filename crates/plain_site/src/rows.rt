@@ -7,6 +7,8 @@ ghost use Rattle.plain_site.specs.RowsOfExchange.{RecordsComeInOrder, ConsentsCl
 ghost use Rattle.plain_site.specs.RowsOfLimits.{WritesAreLimited, ReadsAreLimited, FullSiteRefuses, SecondSessionIsRefused, LongPathIsRefused};
 ghost use Rattle.plain_site.specs.RowsOfBytes.{WriteIsReadBack, WriteIsReadBackByTheWhole, UnbuiltIsUnsupported, UnbuiltOperationIsTold, BuiltIsNotOpen, OtherBytesAreMalformed, OtherBytesStayMalformed, LongestKeyAndValueArePut, LongerOnesAreMalformed};
 ghost use Rattle.plain_site.specs.RowsOfChoices.{NoBranchIsNamedFirst, OwnWritesAreNotRead, MergesBringNews, ValueIsTheLowestWriters, MergeTriesOneThingAtATime, CeilingStaysOnItsBranch, TidyTakesTheLastArrived, CollectsMergedBranches, LongPathOfAKeptStateIsNamed, OwnRecordIsKnown, ClosedParentIsNamedFirst};
+ghost use Rattle.plain_site.specs.RowsOfLandings.{SnapshotsForkOnWrites, SerializableForksOnReads, BothForkOnEither, WithoutConstraintsNothingForks, FirstPassingChildIsTaken, AncestorKeepsToItsBranch, AbortedWritesAreGone};
+ghost use Rattle.plain_site.specs.RowsOfOperations.{DeletionsAreRead, ClosedSessionsAreGone, OpenSessionIsToldFirst, ConflictsComeInPages, SingleTransactionsShowNoBranches, LeavesAreShown, UnknownStatesAreToldFirst, AutomaticFloorStaysAboveCeilings, NumbersRunOut, RoomIsLookedAtBetween, BatchesHaveTheNews, BatchesStopWhereTheyAreFull, ConsentsWaitForBoth};
 
 /// Where transactions begin, and where they commit.
 pub fn commits_answer_as_told()
@@ -79,4 +81,32 @@ pub fn choices_are_made()
     ensures kept_paths { LongPathOfAKeptStateIsNamed }
     ensures own_record { OwnRecordIsKnown }
     ensures closed_parent_first { ClosedParentIsNamedFirst }
+{}
+
+/// Where transactions begin and commit among branches.
+pub fn landings_answer_as_told()
+    ensures si { SnapshotsForkOnWrites }
+    ensures ser { SerializableForksOnReads }
+    ensures both { BothForkOnEither }
+    ensures neither { WithoutConstraintsNothingForks }
+    ensures first_passing { FirstPassingChildIsTaken }
+    ensures ancestor { AncestorKeepsToItsBranch }
+    ensures aborted { AbortedWritesAreGone }
+{}
+
+/// Each operation.
+pub fn operations_answer_as_told()
+    ensures deletions { DeletionsAreRead }
+    ensures closed_sessions { ClosedSessionsAreGone }
+    ensures open_session { OpenSessionIsToldFirst }
+    ensures conflicts { ConflictsComeInPages }
+    ensures single { SingleTransactionsShowNoBranches }
+    ensures leaves { LeavesAreShown }
+    ensures unknown { UnknownStatesAreToldFirst }
+    ensures automatic_floor { AutomaticFloorStaysAboveCeilings }
+    ensures numbers { NumbersRunOut }
+    ensures room { RoomIsLookedAtBetween }
+    ensures news { BatchesHaveTheNews }
+    ensures full_batch { BatchesStopWhereTheyAreFull }
+    ensures early_consents { ConsentsWaitForBoth }
 {}
