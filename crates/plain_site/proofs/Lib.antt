@@ -1,0 +1,3 @@
+-- What follows from the plain site's definitions.
+pub mod RepliesSite
+pub mod RepliesMemory
