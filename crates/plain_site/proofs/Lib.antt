@@ -1,3 +1,6 @@
 -- What follows from the plain site's definitions.
 pub mod RepliesSite
 pub mod RepliesMemory
+pub mod RepliesLengths
+pub mod RepliesLists
+pub mod RepliesHistory
