@@ -4,3 +4,4 @@ pub mod RepliesMemory
 pub mod RepliesLengths
 pub mod RepliesLists
 pub mod RepliesHistory
+pub mod RepliesGrowth
