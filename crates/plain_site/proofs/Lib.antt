@@ -5,3 +5,5 @@ pub mod RepliesLengths
 pub mod RepliesLists
 pub mod RepliesHistory
 pub mod RepliesGrowth
+pub mod RepliesFrame
+pub mod RepliesSound
