@@ -7,3 +7,4 @@ pub mod RepliesHistory
 pub mod RepliesGrowth
 pub mod RepliesFrame
 pub mod RepliesSound
+pub mod RepliesOfSessions

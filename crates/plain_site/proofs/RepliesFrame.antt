@@ -59,7 +59,7 @@ pub fit-found : {A : Type 0} (refusal : A → Refusal) (o : Option A) (more : Li
 fit-found refusal None more h m = record { each = m.each }
 fit-found refusal (Some a) more h m = record { each = λ site answer i. h a refl }
 
-pub unless-append : (site : Site) (replies more : List (Option Reply)) (answer : Answer) → unless site (replies ++ more) answer ≡ unless site replies (unless site more answer)
+unless-append : (site : Site) (replies more : List (Option Reply)) (answer : Answer) → unless site (replies ++ more) answer ≡ unless site replies (unless site more answer)
 unless-append site [] more answer = refl
 unless-append site (None ∷ replies) more answer = unless-append site replies more answer
 unless-append site (Some reply ∷ replies) more answer = refl
@@ -95,3 +95,5 @@ pub no-txn-fits : (site : Site) (n : ℕ) (go : Session → Answer) → ((s : Se
 no-txn-fits site n go f =
     session-fits site n (λ s. given (entry_of n site.txns) (go s) (λ t. refused site TxnOpen))
     (λ s e. given-fits (entry_of n site.txns) (go s) (λ t. refused site TxnOpen) (λ d. f s e) (λ t d. refuses site TxnOpen refl))
+
+pub ruleset fitting_replies = (unless-fits, fit-none, fit-when, fit-found, refusal-fits, reply-fits, answer-fits, and_from)
