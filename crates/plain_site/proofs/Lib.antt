@@ -8,3 +8,4 @@ pub mod RepliesGrowth
 pub mod RepliesFrame
 pub mod RepliesSound
 pub mod RepliesOfSessions
+pub mod RepliesOfReads
