@@ -1,4 +1,4 @@
--- What follows from the plain step.
+-- What follows from the plain site's definitions.
 pub mod SoundEntries
 pub mod SoundKeys
 pub mod SoundAnswers
@@ -13,3 +13,13 @@ pub mod SoundFloors
 pub mod SoundTidies
 pub mod SoundMerges
 pub mod SoundDeliveries
+pub mod RepliesSite
+pub mod RepliesMemory
+pub mod RepliesLengths
+pub mod RepliesLists
+pub mod RepliesHistory
+pub mod RepliesGrowth
+pub mod RepliesFrame
+pub mod RepliesSound
+pub mod RepliesOfSessions
+pub mod RepliesOfReads
