@@ -1,0 +1,7 @@
+-- The laws of spellings, and what they rest on.
+pub mod Fronts
+pub mod Ways
+pub mod Numbers
+pub mod Things
+pub mod Laws
+pub mod Lengths
