@@ -5,3 +5,5 @@ pub mod Numbers
 pub mod Things
 pub mod Laws
 pub mod Lengths
+pub mod Takings
+pub mod Lists

@@ -5,4 +5,5 @@ pub mod Spelled
 pub mod Lengths
 pub mod Fronts
 pub mod Readings
+pub mod Takings
 pub mod Laws
