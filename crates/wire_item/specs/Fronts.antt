@@ -55,10 +55,11 @@ by_code rows (code ∷ bytes) = front_of_code code rows bytes
 abbrev pub number_front : Width → Front ℕ
 number_front w = made (from_be_bytes w) (bytes_front (byte_len w))
 
+-- the thing, where no bytes are left
+abbrev pub alone : {A : Type 0} → A → List ℕ → Option A
+alone a [] = Some a
+alone a (byte ∷ rest) = None
+
 -- what all of the bytes are
 abbrev pub whole : {A : Type 0} → Front A → List ℕ → Option A
-whole front bytes = option_and_then (λ read. without_rest read.0 read.1) (front bytes)
-  where
-    without_rest : {A : Type 0} → A → List ℕ → Option A
-    without_rest a [] = Some a
-    without_rest a (byte ∷ rest) = None
+whole front bytes = option_and_then (λ read. alone read.0 read.1) (front bytes)

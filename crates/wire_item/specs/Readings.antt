@@ -1,5 +1,5 @@
 -- How ids, keys, values, writes, records, consents, items and batches are read back from bytes.
-use Rattle.std.specs.Prelude.{◌≡◌, ℕ, Bool, not, List, [], ◌∷◌, Option, nat_le, ◌&&◌, IsTrue}
+use Rattle.std.specs.Prelude.{ℕ, not, ◌&&◌, List, [], ◌∷◌, Option, nat_le}
 use Rattle.std.specs.Int.{w8, w16, w32, w64}
 use Rattle.tardis_base.specs.declared.ids.StateId.{StateId}
 use Rattle.tardis_base.specs.declared.records.Write.{Write}
@@ -11,9 +11,8 @@ use Rattle.tardis_base.specs.declared.records.Item.TheVariants.{State, Promise}
 use Rattle.tardis_base.specs.declared.records.Batch.{Batch}
 use Rattle.tardis_base.specs.Ids.{root, same_id}
 use Rattle.tardis_base.specs.Keys.{KeyWrite}
-use Rattle.tardis_base.specs.Valid.{is_id, is_key, is_value, are_parents, are_writes, is_record}
-use Rattle.wire_item.specs.Spellings.{record_spelling, consent_spelling, item_spelling, batch_spelling}
-use Rattle.wire_item.specs.Valid.{are_consents, is_consent, is_item, is_batch}
+use Rattle.tardis_base.specs.Valid.{is_id, is_key, is_value, are_parents, are_writes}
+use Rattle.wire_item.specs.Valid.{are_consents}
 use Rattle.wire_item.specs.Fronts.{Front, nothing_but, bytes_front, made, only_if, both, times, counted, by_code, number_front, whole}
 
 abbrev pub u8_front : Front ℕ
@@ -37,8 +36,12 @@ key_front = only_if is_key (counted u8_front bytes_front)
 abbrev pub value_front : Front (List ℕ)
 value_front = only_if is_value (counted u16_front bytes_front)
 
+-- what stands behind each kind of write
+abbrev pub write_rows : List (ℕ × Front Write)
+write_rows = (0, nothing_but Delete) ∷ (1, made Put value_front) ∷ []
+
 abbrev pub write_front : Front Write
-write_front = by_code ((0, nothing_but Delete) ∷ (1, made Put value_front) ∷ [])
+write_front = by_code write_rows
 
 abbrev pub parents_front : Front (List StateId)
 parents_front = only_if are_parents (counted u8_front (times id_front))
@@ -60,8 +63,12 @@ consent_front =
     (λ p. record { site = p.0.0.0; number = p.0.0.1; floor = p.0.1; count = p.1 })
     (both (both (both u16_front u32_front) id_front) u32_front))
 
+-- what stands behind each kind of item
+abbrev pub item_rows : List (ℕ × Front Item)
+item_rows = (1, made State record_front) ∷ (2, made Promise consent_front) ∷ []
+
 abbrev pub item_front : Front Item
-item_front = by_code ((1, made State record_front) ∷ (2, made Promise consent_front) ∷ [])
+item_front = by_code item_rows
 
 abbrev pub records_front : Front (List Record)
 records_front = counted u16_front (times record_front)
@@ -87,19 +94,3 @@ item_of = whole item_front
 -- the batch that the bytes spell
 abbrev pub batch_of : List ℕ → Option Batch
 batch_of = whole batch_front
-
--- the bytes are the one spelling of this thing
-abbrev pub Spells : {A : Type 0} → (A → Bool) → (A → List ℕ) → List ℕ → A → Type 0
-Spells valid spelling bytes a = IsTrue (valid a) × (bytes ≡ spelling a)
-
-abbrev pub SpellsRecord : List ℕ → Record → Type 0
-SpellsRecord = Spells is_record record_spelling
-
-abbrev pub SpellsConsent : List ℕ → Consent → Type 0
-SpellsConsent = Spells is_consent consent_spelling
-
-abbrev pub SpellsItem : List ℕ → Item → Type 0
-SpellsItem = Spells is_item item_spelling
-
-abbrev pub SpellsBatch : List ℕ → Batch → Type 0
-SpellsBatch = Spells is_batch batch_spelling

@@ -2,6 +2,8 @@
 pub mod Codes
 pub mod Spellings
 pub mod Valid
+pub mod Spelled
 pub mod RequestReadings
 pub mod ReplyReadings
+pub mod Laws
 pub mod Rows

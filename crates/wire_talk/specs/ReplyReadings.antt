@@ -7,14 +7,13 @@ use Rattle.tardis_base.specs.declared.replies.Refusal.TheVariants.{Malformed, No
 use Rattle.tardis_base.specs.declared.replies.Reply.{Reply}
 use Rattle.tardis_base.specs.declared.replies.Reply.TheVariants.{Opened, Begun, Merging, Value, Deleted, Absent, Done, Committed, Ended, States, Keys, Raised, Tidied, Stat as Statistics, Shown, Batch, Applied, Known, Early, Closed, Refused, NoMemory}
 use Rattle.wire_item.specs.Fronts.{Front, nothing_but, made, only_if, both, times, counted, by_code, whole}
-use Rattle.wire_item.specs.Readings.{u8_front, u16_front, u32_front, u64_front, id_front, key_front, value_front, parents_front, batch_front, Spells}
-use Rattle.wire_talk.specs.Spellings.{reply_spelling}
-use Rattle.wire_talk.specs.Valid.{is_what, is_constraint, are_first_ids, are_first_keys, are_site_lines, is_reply}
+use Rattle.wire_item.specs.Readings.{u8_front, u16_front, u32_front, u64_front, id_front, key_front, value_front, parents_front, batch_front}
+use Rattle.wire_talk.specs.Valid.{is_what, is_constraint, are_first_ids, are_first_keys, are_site_lines}
 
 -- each refusal's front beside its code
-abbrev pub refusal_front : Front Refusal
-refusal_front = by_code
-    ((1, nothing_but Malformed) ∷
+abbrev pub refusal_rows : List (ℕ × Front Refusal)
+refusal_rows =
+    (1, nothing_but Malformed) ∷
     (2, nothing_but NotOpen) ∷
     (3, nothing_but AlreadyOpen) ∷
     (4, made SessionsFull u16_front) ∷
@@ -42,7 +41,10 @@ refusal_front = by_code
     (26, made TrailFull u64_front) ∷
     (27, made Unsupported u8_front) ∷
     (28, made NoSuchItem u32_front) ∷
-    (29, made BagFull u32_front) ∷ [])
+    (29, made BagFull u32_front) ∷ []
+
+abbrev pub refusal_front : Front Refusal
+refusal_front = by_code refusal_rows
 
 abbrev pub first_ids_front : Front (ℕ × List StateId)
 first_ids_front = only_if (λ p. are_first_ids p.0 p.1) (both u32_front (counted u16_front (times id_front)))
@@ -63,9 +65,9 @@ abbrev pub path_front : Front (List (StateId × ℕ))
 path_front = counted u32_front (times (both id_front u32_front))
 
 -- each reply's front beside its code
-abbrev pub reply_front : Front Reply
-reply_front = by_code
-    ((1, made Opened id_front) ∷
+abbrev pub reply_rows : List (ℕ × Front Reply)
+reply_rows =
+    (1, made Opened id_front) ∷
     (2, made Begun id_front) ∷
     (3, made Merging parents_front) ∷
     (4, made (λ p. Value p.0 p.1) (both id_front value_front)) ∷
@@ -86,11 +88,11 @@ reply_front = by_code
     (19, made Early u32_front) ∷
     (20, nothing_but Closed) ∷
     (21, made Refused refusal_front) ∷
-    (22, nothing_but NoMemory) ∷ [])
+    (22, nothing_but NoMemory) ∷ []
+
+abbrev pub reply_front : Front Reply
+reply_front = by_code reply_rows
 
 -- the reply that the bytes spell
 abbrev pub reply_of : List ℕ → Option Reply
 reply_of = whole reply_front
-
-abbrev pub SpellsReply : List ℕ → Reply → Type 0
-SpellsReply = Spells is_reply reply_spelling

@@ -8,15 +8,20 @@ use Rattle.tardis_base.specs.declared.requests.MergeOf.TheVariants.{Leaves as Al
 use Rattle.tardis_base.specs.declared.requests.Request.{Request}
 use Rattle.tardis_base.specs.declared.requests.Request.TheVariants.{Open, Begin as BeginAt, Get, Put, Delete, Commit, Abort, BeginMerge, ForkPoints, Conflicts, GetFor, Ceiling, Raise, RaiseAuto, Tidy, Stat, Show, Leaves, Pull, Deliver, Close}
 use Rattle.wire_item.specs.Fronts.{Front, nothing_but, bytes_front, made, only_if, both, times, counted, by_code, whole}
-use Rattle.wire_item.specs.Readings.{u8_front, u16_front, u32_front, id_front, key_front, value_front, item_front, Spells}
-use Rattle.wire_talk.specs.Spellings.{request_spelling}
-use Rattle.wire_talk.specs.Valid.{is_commit, is_after, are_counts, is_request}
+use Rattle.wire_item.specs.Readings.{u8_front, u16_front, u32_front, id_front, key_front, value_front, item_front}
+use Rattle.wire_talk.specs.Valid.{is_commit, is_after, are_counts}
+
+abbrev pub flag_rows : List (ℕ × Front Bool)
+flag_rows = (0, nothing_but false) ∷ (1, nothing_but true) ∷ []
 
 abbrev pub flag_front : Front Bool
-flag_front = by_code ((0, nothing_but false) ∷ (1, nothing_but true) ∷ [])
+flag_front = by_code flag_rows
+
+abbrev pub begin_rows : List (ℕ × Front Begin)
+begin_rows = (0, nothing_but Any) ∷ (1, nothing_but Ancestor) ∷ (2, nothing_but Parent) ∷ (3, made At id_front) ∷ []
 
 abbrev pub begin_front : Front Begin
-begin_front = by_code ((0, nothing_but Any) ∷ (1, nothing_but Ancestor) ∷ (2, nothing_but Parent) ∷ (3, made At id_front) ∷ [])
+begin_front = by_code begin_rows
 
 -- these states, or the leaves where none is named
 abbrev pub merge_of : List StateId → MergeOf
@@ -36,9 +41,9 @@ abbrev pub commit_front : Front (ℕ × ℕ)
 commit_front = only_if (λ p. is_commit (record { 0 = p.0 }) p.1) (both u8_front u16_front)
 
 -- each request's front beside its code
-abbrev pub request_front : Front Request
-request_front = by_code
-    ((1, made Open flag_front) ∷
+abbrev pub request_rows : List (ℕ × Front Request)
+request_rows =
+    (1, made Open flag_front) ∷
     (2, made BeginAt begin_front) ∷
     (3, made Get key_front) ∷
     (4, made (λ p. Put p.0 p.1) (both key_front value_front)) ∷
@@ -58,11 +63,11 @@ request_front = by_code
     (18, nothing_but Leaves) ∷
     (19, made Pull counts_front) ∷
     (20, made Deliver item_front) ∷
-    (21, nothing_but Close) ∷ [])
+    (21, nothing_but Close) ∷ []
+
+abbrev pub request_front : Front Request
+request_front = by_code request_rows
 
 -- the request that the bytes spell
 abbrev pub request_of : List ℕ → Option Request
 request_of = whole request_front
-
-abbrev pub SpellsRequest : List ℕ → Request → Type 0
-SpellsRequest = Spells is_request request_spelling

@@ -1,0 +1,9 @@
+-- The laws of spellings, and what they rest on.
+pub mod Fronts
+pub mod Ways
+pub mod Numbers
+pub mod Things
+pub mod Laws
+pub mod Lengths
+pub mod Takings
+pub mod Lists

@@ -1,0 +1,73 @@
+-- What a taking gives, when things are taken one after another.
+use Rattle.std.proofs.Common.{ap₂, ◌≡◌, ℕ, Bool, true, false, ◌&&◌, IsTrue, List, [], ◌∷◌, ◌++◌, length, take, drop, nat_le, nat_lt, ◌<◌, ◌≤◌, Option, Some, None, ap, sym, ◌∙◌, subst, refl, arith, le-leb, take-append-drop}
+use Rattle.std.proofs.lemmas.Bool.{and_left, and_from, and_parts, lt-leb}
+use Rattle.std.proofs.lemmas.List.Folds.{list_all-append}
+use Rattle.std.specs.Prelude.{option_map, option_and_then, Result, IfOk}
+use Rattle.std.specs.Bool.{then_some}
+use Rattle.tardis_base.specs.declared.faults.NoMemory.{NoMemory}
+use Rattle.tardis_base.specs.Valid.{are_bytes}
+use Rattle.wire_item.specs.Fronts.{Front, bytes_front, made, only_if, after, both, times, counted, by_code, front_of_code}
+use Rattle.wire_item.specs.Takings.{Takes, Makes}
+use Rattle.wire_item.proofs.Fronts.{made-read, made-source, only_if-read, only_if-source, After, after-read}
+
+-- a taking, as an equation, and back
+pub taken : {A : Type 0} (front : Front A) (old new : List ℕ) (a : A) → Takes front old (Some a) new → front old ≡ Some (a, new)
+unfolding Takes
+taken front old new a h = h
+
+pub untaken : {A : Type 0} (front : Front A) (old new : List ℕ) → Takes front old None new → front old ≡ None
+unfolding Takes
+untaken front old new h = h
+
+pub takes : {A : Type 0} (front : Front A) (old new : List ℕ) (a : A) → front old ≡ Some (a, new) → Takes front old (Some a) new
+unfolding Takes
+takes front old new a h = h
+
+-- an answer that is None
+pub takes-none : {A : Type 0} (front : Front A) (old new : List ℕ) (result : Option A) → result ≡ None → front old ≡ None → Takes front old result new
+unfolding Takes
+takes-none front old new result e h = subst (λ r. Takes front old r new) (sym e) h
+
+-- where nothing is read, nothing is made
+pub made-none : {A B : Type 0} (f : A → B) (front : Front A) (bytes : List ℕ) → front bytes ≡ None → made f front bytes ≡ None
+made-none f front bytes e = ap (option_map (λ read. (f read.0, read.1))) e
+
+pub only_if-none : {A : Type 0} (test : A → Bool) (front : Front A) (bytes : List ℕ) → front bytes ≡ None → only_if test front bytes ≡ None
+only_if-none test front bytes e = ap (option_and_then (λ read. then_some (test read.0) read)) e
+
+pub only_if-fails : {A : Type 0} (test : A → Bool) (front : Front A) (bytes : List ℕ) (a : A) (rest : List ℕ) → front bytes ≡ Some (a, rest) → test a ≡ false → only_if test front bytes ≡ None
+only_if-fails test front bytes a rest e fails =
+    ap (option_and_then (λ read. then_some (test read.0) read)) e ∙ ap (λ t. then_some t (a, rest)) fails
+
+pub after-none : {A B : Type 0} (first : Front A) (second : A → Front B) (bytes : List ℕ) → first bytes ≡ None → after first second bytes ≡ None
+after-none first second bytes e = ap (option_and_then (λ read. made (λ b. (read.0, b)) (second read.0) read.1)) e
+
+pub after-then_none : {A B : Type 0} (first : Front A) (second : A → Front B) (bytes : List ℕ) (a : A) (rest : List ℕ) → first bytes ≡ Some (a, rest) → second a rest ≡ None → after first second bytes ≡ None
+after-then_none first second bytes a rest e n =
+    ap (option_and_then (λ read. made (λ b. (read.0, b)) (second read.0) read.1)) e ∙ made-none (λ b. (a, b)) (second a) rest n
+
+pub after-then : {A B : Type 0} (first : Front A) (second : A → Front B) (bytes : List ℕ) (a : A) (between : List ℕ) (b : B) (rest : List ℕ)
+    → first bytes ≡ Some (a, between) → second a between ≡ Some (b, rest) → after first second bytes ≡ Some ((a, b), rest)
+after-then first second bytes a between b rest e f = after-read first second bytes (a, b) rest (record { between = between; before = e; then = f })
+
+pub bytes-short : (n : ℕ) (bytes : List ℕ) → length bytes < n → bytes_front n bytes ≡ None
+bytes-short n bytes h =
+    let short : (nat_le n (length bytes) && are_bytes (take n bytes)) ≡ false = and_left (nat_le n (length bytes)) (are_bytes (take n bytes)) (lt-leb n (length bytes) h) in
+    ap (λ t. then_some {T = List ℕ × List ℕ} t (take n bytes, drop n bytes)) short
+
+bytes_take : (n : ℕ) (bytes : List ℕ) → IsTrue (are_bytes bytes) → IsTrue (are_bytes (take n bytes))
+bytes_take n bytes h =
+    (and_parts (are_bytes (take n bytes)) (are_bytes (drop n bytes))
+    (sym (list_all-append (λ b. nat_lt b 256) (take n bytes) (drop n bytes)) ∙ ap are_bytes (take-append-drop n bytes) ∙ h)).0
+
+pub bytes-taken : (n : ℕ) (bytes : List ℕ) → n ≤ length bytes → IsTrue (are_bytes bytes) → bytes_front n bytes ≡ Some (take n bytes, drop n bytes)
+bytes-taken n bytes h each =
+    ap (λ t. then_some {T = List ℕ × List ℕ} t (take n bytes, drop n bytes)) (and_from (nat_le n (length bytes)) (are_bytes (take n bytes)) (le-leb n (length bytes) h) (bytes_take n bytes each))
+
+-- bytes that were split
+pub bytes-split : (n : ℕ) (old bytes front back : List ℕ) → bytes ≡ old → n ≤ length bytes → IsTrue (are_bytes bytes) → front ≡ take n bytes → back ≡ drop n bytes → bytes_front n old ≡ Some (front, back)
+bytes-split n old bytes front back same enough each f b =
+    ap (bytes_front n) (sym same) ∙ bytes-taken n bytes enough each ∙ ap₂ (λ x y. found x y) (sym f) (sym b)
+  where
+    found : List ℕ → List ℕ → Option (List ℕ × List ℕ)
+    found x y = Some (x, y)

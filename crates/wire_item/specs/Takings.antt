@@ -1,0 +1,14 @@
+-- What a reader that is lent takes from the front of its bytes.
+use Rattle.std.specs.Prelude.{◌≡◌, ℕ, List, Option, Some, None, Result, IfOk}
+use Rattle.tardis_base.specs.declared.faults.NoMemory.{NoMemory}
+use Rattle.wire_item.specs.Fronts.{Front}
+
+-- the thing that stands at the front, and the bytes behind it are left; None where none stands there
+unfoldable pub Takes : {A : Type 0} → Front A → List ℕ → Option A → List ℕ → Type 0
+Takes front old None new = front old ≡ None
+Takes front old (Some a) new = front old ≡ Some (a, new)
+
+-- the same where memory may be wanting for the thing; the bytes behind it are left all the same
+unfoldable pub Makes : {A : Type 0} → Front A → List ℕ → Option (Result A NoMemory) → List ℕ → Type 0
+Makes front old None new = front old ≡ None
+Makes {A} front old (Some result) new = (a : A) × (front old ≡ Some (a, new)) × IfOk result (λ b. b ≡ a)

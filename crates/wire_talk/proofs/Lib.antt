@@ -1,0 +1,4 @@
+-- The laws of the spellings of requests and replies, and what they rest on.
+pub mod Requests
+pub mod Replies
+pub mod Laws
