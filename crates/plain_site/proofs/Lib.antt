@@ -13,6 +13,7 @@ pub mod SoundFloors
 pub mod SoundTidies
 pub mod SoundMerges
 pub mod SoundDeliveries
+pub mod SoundRuns
 pub mod RepliesSite
 pub mod RepliesMemory
 pub mod RepliesLengths

@@ -1,16 +1,17 @@
 -- What follows from the plain step, as statements. The functions of this crate have them as contracts.
-use Rattle.std.specs.Prelude.{ℕ, ◌≤◌, ◌≡◌, ◌≢◌, length, IsTrue}
+use Rattle.std.specs.Prelude.{ℕ, ◌≤◌, ◌≡◌, ◌≢◌, List, length, IsTrue}
+use Rattle.std.specs.List.{list_all}
 use Rattle.tardis_base.specs.declared.records.Limits.{Limits}
 use Rattle.tardis_base.specs.declared.requests.Request.{Request}
 use Rattle.tardis_base.specs.declared.replies.Reply.TheVariants.{NoMemory}
-use Rattle.tardis_base.specs.Plain.{Event, no_memory}
+use Rattle.tardis_base.specs.Plain.{Event, no_memory, state_after}
 use Rattle.tardis_base.specs.Valid.{is_u16, is_within, are_limits}
 use Rattle.wire_talk.specs.Valid.{is_request, is_reply}
 use Rattle.wire_talk.specs.Spellings.{reply_spelling}
 use Rattle.plain_site.specs.Site.{Site, opening}
 use Rattle.plain_site.specs.Built.{Built}
 use Rattle.plain_site.specs.Answers.{leaves_site}
-use Rattle.plain_site.specs.Step.{step, step_over_bytes}
+use Rattle.plain_site.specs.Step.{step, step_over_bytes, site_machine}
 use Rattle.plain_site.specs.Sound.{IsSound}
 
 -- a site that opens is sound
@@ -20,6 +21,15 @@ OpeningIsSound built = (limits : Limits) (own : ℕ) → IsTrue (are_limits limi
 -- the request keeps each sound site sound
 abbrev pub KeepsSound : Built → Request → Type 0
 KeepsSound built q = (site : Site) (n : ℕ) → IsTrue (is_u16 n) → IsTrue (is_request q) → IsSound built site → IsSound built (step built site n q).0
+
+-- so do the bytes that an actor sends, whatever they spell
+abbrev pub BytesKeepSound : Built → Type 0
+BytesKeepSound built = (site : Site) (event : Event) → IsTrue (is_u16 event.0) → IsSound built site → IsSound built (step_over_bytes built site event).0
+
+-- and however many of them
+abbrev pub RunsKeepSound : Built → Type 0
+RunsKeepSound built = (site : Site) (events : List Event) → IsTrue (list_all (λ event. is_u16 event.0) events) → IsSound built site →
+    IsSound built (state_after (site_machine built) site events)
 
 -- a refusal, Known and Early leave the site as it was, an open transaction included
 abbrev pub RefusalsLeaveSite : Built → Type 0

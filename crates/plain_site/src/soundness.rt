@@ -2,7 +2,9 @@
 
 ghost use Rattle.tardis_base.specs.declared.requests.Request.{Request};
 ghost use Rattle.plain_site.specs.Built.{Built};
-ghost use Rattle.plain_site.specs.Laws.{KeepsSound, OpeningIsSound};
+ghost use Rattle.plain_site.specs.Laws.{BytesKeepSound, KeepsSound, OpeningIsSound, RunsKeepSound};
+
+use wire_talk::talk_has_one_spelling;
 
 /// A site that opens is sound, where its limits are such as a site may have and its number is that of one of the sites.
 pub fn opening_is_sound()
@@ -16,3 +18,12 @@ pub fn opening_is_sound()
 pub fn every_request_keeps_sound()
     ensures { (built : Built) (q : Request) → KeepsSound built q }
 {}
+
+/// Whatever bytes actors send, a sound site stays sound: bytes that spell no request change nothing, and what is read from
+/// them is a request. So every site that events lead to from a sound one is sound.
+pub fn every_run_keeps_sound()
+    ensures bytes { (built : Built) → BytesKeepSound built }
+    ensures runs { (built : Built) → RunsKeepSound built }
+{
+    talk_has_one_spelling();
+}
