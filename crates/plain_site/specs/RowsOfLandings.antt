@@ -1,4 +1,4 @@
--- Rows of our own: begins and end constraints where the history has branches.
+-- Worked rows: begins and end constraints where the history has branches.
 use Rattle.std.specs.Prelude.{◌+◌, List, [], ◌∷◌, ◌++◌}
 use Rattle.tardis_base.specs.declared.requests.Request.TheVariants.{Abort}
 use Rattle.tardis_base.specs.declared.replies.Refusal.TheVariants.{Unknown, TxnOpen}

@@ -1,4 +1,4 @@
--- Rows of our own: what each operation does beyond the other rows.
+-- Worked rows: what each operation does beyond the other rows.
 use Rattle.std.specs.Prelude.{◌≡◌, ℕ, ◌+◌, List, [], ◌∷◌, ◌++◌, codes, replicate, map, flat_map}
 use Rattle.std.specs.List.{range_with_len}
 use Rattle.tardis_base.specs.declared.records.Record.{Record}
@@ -178,7 +178,7 @@ AutomaticFloorStaysAboveCeilings =
     ∷ 0 asks RaiseAuto => Raised (1 · 1) 1
     ∷ [])
 
--- that the own floor isn't above a state is told before which session holds it
+-- that the own floor isn't above a state is told before which session holds it; the automatic floor doesn't leave its branch
 abbrev pub FloorIsToldBeforeSessions : Type 0
 FloorIsToldBeforeSessions =
     Talk everything lone_site
@@ -187,6 +187,9 @@ FloorIsToldBeforeSessions =
     ∷ 2 asks Ceiling (1 · 1) => Done
     ∷ 0 asks Raise (1 · 1) => Raised (1 · 1) 1
     ∷ 0 asks Raise (1 · 2) => Refused (FloorBack (1 · 1))
+    ∷ 1 asks Close => Closed
+    ∷ 2 asks Close => Closed
+    ∷ 0 asks RaiseAuto => Raised (1 · 1) 2
     ∷ [])
 
 -- after so many moves of the floor that there is no next number

@@ -9,6 +9,7 @@ ghost use Rattle.plain_site.specs.RowsOfBytes.{WriteIsReadBack, WriteIsReadBackB
 ghost use Rattle.plain_site.specs.RowsOfChoices.{NoBranchIsNamedFirst, OwnWritesAreNotRead, MergesBringNews, ValueIsTheLowestWriters, MergeTriesOneThingAtATime, CeilingStaysOnItsBranch, TidyTakesTheLastArrived, FloorIsKept, CollectsMergedBranches, LongPathOfAKeptStateIsNamed, OwnRecordIsKnown, ClosedParentIsNamedFirst};
 ghost use Rattle.plain_site.specs.RowsOfLandings.{SnapshotsForkOnWrites, SerializableForksOnReads, BothForkOnEither, WithoutConstraintsNothingForks, FirstPassingChildIsTaken, OldWritesAreNoNews, ReadersAlwaysEnd, AncestorKeepsToItsBranch, AbortedWritesAreGone};
 ghost use Rattle.plain_site.specs.RowsOfOperations.{DeletionsAreRead, ClosedSessionsAreGone, OpenSessionIsToldFirst, ConflictsComeInPages, EightStatesAreMerged, PagesHaveTheFirst, SingleTransactionsShowNoBranches, LeavesAreShown, UnknownStatesAreToldFirst, AutomaticFloorStaysAboveCeilings, FloorIsToldBeforeSessions, NumbersRunOut, RoomIsLookedAtBetween, BatchesHaveTheNews, BatchesLeaveOutWhatAllHave, OneFloorClosesNothing, BatchesStopWhereTheyAreFull, ConsentsWaitForBoth};
+ghost use Rattle.plain_site.specs.RowsOfWideMerges.{WideBranchesAreMade, WideMergeIsRefused, WideBranchesAreJoinedInSteps};
 
 /// Where transactions begin, and where they commit.
 pub fn commits_answer_as_told()
@@ -117,4 +118,11 @@ pub fn operations_answer_as_told()
     ensures one_floor { OneFloorClosesNothing }
     ensures full_batch { BatchesStopWhereTheyAreFull }
     ensures early_consents { ConsentsWaitForBoth }
+{}
+
+/// Branches with more conflict keys than one transaction may write.
+pub fn wide_merges_answer_as_told()
+    ensures made { WideBranchesAreMade }
+    ensures refused { WideMergeIsRefused }
+    ensures in_steps { WideBranchesAreJoinedInSteps }
 {}
