@@ -23,3 +23,4 @@ pub mod RowsOfLimits
 pub mod RowsOfChoices
 pub mod RowsOfLandings
 pub mod RowsOfOperations
+pub mod RowsOfWideMerges

@@ -126,6 +126,18 @@ TidyTakesTheLastArrived =
     ∷ 0 asks Show (0 · 0) => Shown 0 (1 · 1 ∷ []) []
     ∷ [])
 
+-- the floor isn't collected, whatever is below it
+abbrev pub FloorIsKept : Type 0
+FloorIsKept =
+    Talk everything lone_site
+    (raised_chain
+    ++ 1 asks begin_any => Begun (1 · 5)
+    ∷ 1 asks put "x" "6" => Done
+    ∷ 1 asks commit ser => Committed (1 · 6) (1 · 5 ∷ [])
+    ∷ 0 asks Tidy 255 => Tidied 5
+    ∷ 0 asks Show (1 · 5) => Shown 5 (1 · 6 ∷ []) []
+    ∷ [])
+
 -- a site of which 1.1, 1.2 and their merge 1.3 are collected, and the root and 1.4 are kept
 abbrev pub merged_and_tidied : List Line
 merged_and_tidied =
@@ -172,7 +184,7 @@ OwnRecordIsKnown =
     ∷ 0 asks deliver_bare (1 · 2) (1 · 1 ∷ []) => Refused (OwnItem 1 2)
     ∷ [])
 
--- a closed parent is named before a comparable pair
+-- a closed parent is named before a comparable pair; the floor itself isn't closed
 abbrev pub ClosedParentIsNamedFirst : Type 0
 ClosedParentIsNamedFirst =
     Talk everything first_of_two
@@ -181,4 +193,5 @@ ClosedParentIsNamedFirst =
     ∷ 0 asks Deliver (Promise (record { site = 2; number = 1; floor = 2 · 2; count = 2 })) => Applied
     ∷ 0 asks Raise (2 · 2) => Raised (2 · 2) 1
     ∷ 0 asks deliver_bare (2 · 3) (2 · 1 ∷ 2 · 2 ∷ []) => Refused (ClosedParent (2 · 1))
+    ∷ 0 asks deliver_bare (2 · 3) (2 · 2 ∷ []) => Applied
     ∷ [])

@@ -1,10 +1,10 @@
--- Rows of our own: begins and end constraints where the history has branches.
+-- Worked rows: begins and end constraints where the history has branches.
 use Rattle.std.specs.Prelude.{◌+◌, List, [], ◌∷◌, ◌++◌}
 use Rattle.tardis_base.specs.declared.requests.Request.TheVariants.{Abort}
 use Rattle.tardis_base.specs.declared.replies.Refusal.TheVariants.{Unknown, TxnOpen}
-use Rattle.tardis_base.specs.declared.replies.Reply.TheVariants.{Opened, Begun, Absent, Done, Committed, Refused}
+use Rattle.tardis_base.specs.declared.replies.Reply.TheVariants.{Opened, Begun, Absent, Done, Committed, Ended, Refused}
 use Rattle.plain_site.specs.Built.{everything}
-use Rattle.plain_site.specs.RowWords.{Line, Talk, lone_site, ◌·◌, ◌asks◌=>◌, opens, begin_any, begin_ancestor, begin_at, get, put, none, ser, si, commit, merge_leaves}
+use Rattle.plain_site.specs.RowWords.{Line, Talk, lone_site, ◌·◌, ◌asks◌=>◌, opens, begin_any, begin_ancestor, begin_at, get, put, none, ser, si, nb, commit, merge_leaves, value}
 use Rattle.plain_site.specs.RowsOfCommits.{two_open, skewed}
 
 -- sessions 2 and 3 begin; 2 reads a and writes b, 3 reads b and writes c; then session 1 writes b in 1.1
@@ -62,6 +62,36 @@ FirstPassingChildIsTaken =
     ++ 2 asks commit ser => Committed (1 · 2) (0 · 0 ∷ [])
     ∷ 3 asks commit ser => Committed (1 · 3) (1 · 1 ∷ [])
     ∷ 4 asks commit ser => Committed (1 · 4) (1 · 2 ∷ [])
+    ∷ [])
+
+-- what was written at or above the read state is no news, and a commit goes past those that write other keys
+abbrev pub OldWritesAreNoNews : Type 0
+OldWritesAreNoNews =
+    Talk everything lone_site
+    (two_open
+    ++ 1 asks begin_any => Begun (0 · 0)
+    ∷ 1 asks put "x" "1" => Done
+    ∷ 1 asks commit ser => Committed (1 · 1) (0 · 0 ∷ [])
+    ∷ 1 asks begin_any => Begun (1 · 1)
+    ∷ 2 asks begin_any => Begun (1 · 1)
+    ∷ 2 asks get "x" => value (1 · 1) "1"
+    ∷ 2 asks put "y" "2" => Done
+    ∷ 1 asks put "z" "3" => Done
+    ∷ 1 asks commit ser => Committed (1 · 2) (1 · 1 ∷ [])
+    ∷ 2 asks commit ser => Committed (1 · 3) (1 · 2 ∷ [])
+    ∷ [])
+
+-- a transaction without writes ends whatever its end constraints say
+abbrev pub ReadersAlwaysEnd : Type 0
+ReadersAlwaysEnd =
+    Talk everything lone_site
+    (two_open
+    ++ 1 asks begin_any => Begun (0 · 0)
+    ∷ 2 asks begin_any => Begun (0 · 0)
+    ∷ 2 asks get "x" => Absent
+    ∷ 1 asks put "x" "1" => Done
+    ∷ 1 asks commit ser => Committed (1 · 1) (0 · 0 ∷ [])
+    ∷ 2 asks commit (ser + nb) => Ended (0 · 0)
     ∷ [])
 
 -- Ancestor begins below the last commit of the session, and not at a branch that arrived later

@@ -6,9 +6,10 @@ ghost use Rattle.plain_site.specs.RowsOfFloors.{CeilingsHoldReadsAndFloors, Floo
 ghost use Rattle.plain_site.specs.RowsOfExchange.{RecordsComeInOrder, ConsentsCloseStates, LyingPeersAreRefused, SitesPastTheLimitAreBad};
 ghost use Rattle.plain_site.specs.RowsOfLimits.{WritesAreLimited, ReadsAreLimited, FullSiteRefuses, SecondSessionIsRefused, LongPathIsRefused};
 ghost use Rattle.plain_site.specs.RowsOfBytes.{WriteIsReadBack, WriteIsReadBackByTheWhole, UnbuiltIsUnsupported, UnbuiltOperationIsTold, BuiltIsNotOpen, OtherBytesAreMalformed, OtherBytesStayMalformed, LongestKeyAndValueArePut, LongerOnesAreMalformed};
-ghost use Rattle.plain_site.specs.RowsOfChoices.{NoBranchIsNamedFirst, OwnWritesAreNotRead, MergesBringNews, ValueIsTheLowestWriters, MergeTriesOneThingAtATime, CeilingStaysOnItsBranch, TidyTakesTheLastArrived, CollectsMergedBranches, LongPathOfAKeptStateIsNamed, OwnRecordIsKnown, ClosedParentIsNamedFirst};
-ghost use Rattle.plain_site.specs.RowsOfLandings.{SnapshotsForkOnWrites, SerializableForksOnReads, BothForkOnEither, WithoutConstraintsNothingForks, FirstPassingChildIsTaken, AncestorKeepsToItsBranch, AbortedWritesAreGone};
-ghost use Rattle.plain_site.specs.RowsOfOperations.{DeletionsAreRead, ClosedSessionsAreGone, OpenSessionIsToldFirst, ConflictsComeInPages, SingleTransactionsShowNoBranches, LeavesAreShown, UnknownStatesAreToldFirst, AutomaticFloorStaysAboveCeilings, NumbersRunOut, RoomIsLookedAtBetween, BatchesHaveTheNews, BatchesStopWhereTheyAreFull, ConsentsWaitForBoth};
+ghost use Rattle.plain_site.specs.RowsOfChoices.{NoBranchIsNamedFirst, OwnWritesAreNotRead, MergesBringNews, ValueIsTheLowestWriters, MergeTriesOneThingAtATime, CeilingStaysOnItsBranch, TidyTakesTheLastArrived, FloorIsKept, CollectsMergedBranches, LongPathOfAKeptStateIsNamed, OwnRecordIsKnown, ClosedParentIsNamedFirst};
+ghost use Rattle.plain_site.specs.RowsOfLandings.{SnapshotsForkOnWrites, SerializableForksOnReads, BothForkOnEither, WithoutConstraintsNothingForks, FirstPassingChildIsTaken, OldWritesAreNoNews, ReadersAlwaysEnd, AncestorKeepsToItsBranch, AbortedWritesAreGone};
+ghost use Rattle.plain_site.specs.RowsOfOperations.{DeletionsAreRead, ClosedSessionsAreGone, OpenSessionIsToldFirst, ConflictsComeInPages, EightStatesAreMerged, PagesHaveTheFirst, SingleTransactionsShowNoBranches, LeavesAreShown, UnknownStatesAreToldFirst, AutomaticFloorStaysAboveCeilings, FloorIsToldBeforeSessions, NumbersRunOut, RoomIsLookedAtBetween, BatchesHaveTheNews, BatchesLeaveOutWhatAllHave, OneFloorClosesNothing, BatchesStopWhereTheyAreFull, ConsentsWaitForBoth};
+ghost use Rattle.plain_site.specs.RowsOfWideMerges.{WideBranchesAreMade, WideMergeIsRefused, WideBranchesAreJoinedInSteps};
 
 /// Where transactions begin, and where they commit.
 pub fn commits_answer_as_told()
@@ -77,6 +78,7 @@ pub fn choices_are_made()
     ensures merge_refusals { MergeTriesOneThingAtATime }
     ensures apart_ceiling { CeilingStaysOnItsBranch }
     ensures tidy_order { TidyTakesTheLastArrived }
+    ensures kept_floor { FloorIsKept }
     ensures merged_branches { CollectsMergedBranches }
     ensures kept_paths { LongPathOfAKeptStateIsNamed }
     ensures own_record { OwnRecordIsKnown }
@@ -90,6 +92,8 @@ pub fn landings_answer_as_told()
     ensures both { BothForkOnEither }
     ensures neither { WithoutConstraintsNothingForks }
     ensures first_passing { FirstPassingChildIsTaken }
+    ensures old_writes { OldWritesAreNoNews }
+    ensures readers { ReadersAlwaysEnd }
     ensures ancestor { AncestorKeepsToItsBranch }
     ensures aborted { AbortedWritesAreGone }
 {}
@@ -100,13 +104,25 @@ pub fn operations_answer_as_told()
     ensures closed_sessions { ClosedSessionsAreGone }
     ensures open_session { OpenSessionIsToldFirst }
     ensures conflicts { ConflictsComeInPages }
+    ensures eight_states { EightStatesAreMerged }
+    ensures pages { PagesHaveTheFirst }
     ensures single { SingleTransactionsShowNoBranches }
     ensures leaves { LeavesAreShown }
     ensures unknown { UnknownStatesAreToldFirst }
     ensures automatic_floor { AutomaticFloorStaysAboveCeilings }
+    ensures floor_first { FloorIsToldBeforeSessions }
     ensures numbers { NumbersRunOut }
     ensures room { RoomIsLookedAtBetween }
     ensures news { BatchesHaveTheNews }
+    ensures what_all_have { BatchesLeaveOutWhatAllHave }
+    ensures one_floor { OneFloorClosesNothing }
     ensures full_batch { BatchesStopWhereTheyAreFull }
     ensures early_consents { ConsentsWaitForBoth }
+{}
+
+/// Branches with more conflict keys than one transaction may write.
+pub fn wide_merges_answer_as_told()
+    ensures made { WideBranchesAreMade }
+    ensures refused { WideMergeIsRefused }
+    ensures in_steps { WideBranchesAreJoinedInSteps }
 {}
