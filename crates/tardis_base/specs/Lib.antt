@@ -1,5 +1,6 @@
 -- What the types stand for, and what a machine is.
 pub mod Ids
 pub mod Keys
+pub mod Bytes
 pub mod Valid
 pub mod Plain

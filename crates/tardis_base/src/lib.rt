@@ -1,15 +1,19 @@
 //! The types that every layer speaks, and the machine that a site is.
 #![tactic(auto)]
 
+mod aboves;
 mod byte_types;
 mod faults;
 mod ids;
 mod lists;
+mod machines;
 mod readings;
 mod records;
 mod replies;
+mod reply_bufs;
 mod requests;
 
+pub use aboves::Above;
 pub use byte_types::{Key, Value};
 pub use faults::{AddFault, BytesFault, NoMemory, ReadFault, SeqEnd};
 pub use ids::{Slot, StateId};
@@ -17,7 +21,9 @@ pub use lists::{
     ByteList, ConsentList, CountList, KeyList, KeySet, ListOf, PathList, RecordList, StateList,
     WriteSet,
 };
+pub use machines::Machine;
 pub use readings::{Found, Over};
 pub use records::{Batch, Consent, Item, Limits, Record, Write};
 pub use replies::{Refusal, Reply, SiteLine, SiteLines};
+pub use reply_bufs::{ROOM, ReplyBuf};
 pub use requests::{Begin, EndFlags, MergeOf, Request};

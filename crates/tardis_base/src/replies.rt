@@ -1,5 +1,7 @@
 //! What a site answers.
 
+ghost use Rattle.std.specs.Prelude.{◌≡◌, ◌<◌, ◌≤◌, ◌==◌, Some, [], ◌∷◌, ◌++◌, length, slice_get};
+
 use crate::byte_types::{Key, Value};
 use crate::ids::StateId;
 use crate::lists::{KeyList, PathList, StateList};
@@ -30,6 +32,57 @@ impl Model for SiteLines {
     ghost view = { λ s. take s.len s.lines };
 
     ghost invariant = { λ s. s.len ≤ 16 };
+}
+
+impl SiteLines {
+    /// No lines. They never take memory.
+    pub fn new() -> SiteLines
+        ensures { result ≡ [] }
+    {
+        let root = StateId {
+            site: 0,
+            sequence: 0,
+        };
+        let line = SiteLine {
+            count: 0,
+            floor: root,
+            number: 0,
+        };
+        SiteLines {
+            lines: [line; 16],
+            len: 0,
+        }
+    }
+
+    pub fn len(&self) -> usize
+        ensures count { result ≡ length self.now }
+        ensures room { length self.now ≤ 16 }
+    {
+        self.len
+    }
+
+    pub fn is_empty(&self) -> bool
+        ensures { result ≡ (length self.now == 0) }
+    {
+        self.len == 0
+    }
+
+    /// The line at this place, counted from 0.
+    pub fn at(&self, place: usize) -> &SiteLine
+        requires { place < length self.now }
+        ensures { slice_get self.now place ≡ Some result.now }
+    {
+        &self.lines[place]
+    }
+
+    /// Puts the line at the end.
+    pub fn push(&mut self, line: SiteLine)
+        requires { length self.old < 16 }
+        ensures { self.new ≡ self.old ++ line ∷ [] }
+    {
+        self.lines[self.len] = line;
+        self.len += 1;
+    }
 }
 
 /// Why a request was refused.

@@ -1,0 +1,103 @@
+-- Sites give each other their news, and take it.
+use Rattle.std.specs.Prelude.{ℕ, Bool, ◌==◌, ◌+◌, ◌-◌, ◌&&◌, ◌||◌, not, nat_lt, nat_le, List, [], ◌∷◌, ◌++◌, length, filter, find, unwrap_or, slice_get, Option, if◌then◌else◌}
+use Rattle.std.specs.List.{list_all}
+use Rattle.tardis_base.specs.declared.records.Record.{Record}
+use Rattle.tardis_base.specs.declared.records.Consent.{Consent}
+use Rattle.tardis_base.specs.declared.records.Batch.{Batch}
+use Rattle.tardis_base.specs.declared.records.Item.{Item}
+use Rattle.tardis_base.specs.declared.records.Item.TheVariants.{State, Promise}
+use Rattle.tardis_base.specs.declared.replies.Refusal.TheVariants.{BadSite, OwnItem, ClosedParent, Comparable, OpenConflict, FloorBack}
+use Rattle.tardis_base.specs.declared.replies.Reply.{Reply}
+use Rattle.tardis_base.specs.declared.replies.Reply.TheVariants.{Batch as BatchIs, Known, Early, Applied}
+use Rattle.wire_item.specs.Spellings.{record_spelling}
+use Rattle.plain_dag.specs.States.{is_known, count_of_site}
+use Rattle.plain_dag.specs.Above.{is_above, comparable_pair}
+use Rattle.plain_dag.specs.Conflicts.{open_conflict}
+use Rattle.plain_dag.specs.Floors.{Floor, floor_of, with_floor, is_closed, is_above_floors}
+use Rattle.plain_site.specs.Site.{Site}
+use Rattle.plain_site.specs.Built.{Built}
+use Rattle.plain_site.specs.Answers.{Answer, when, refuse, refuse_found, unless}
+use Rattle.plain_site.specs.Commits.{with_record, growth_refusals}
+
+-- ===== A batch
+
+-- the records, newest last, in front of the first that would bring their spellings above so many bytes in all
+abbrev pub fitting : ℕ → List Record → List Record
+fitting room [] = []
+fitting room (r ∷ rs) =
+    let size = length (record_spelling r) in
+    let rest = fitting (room - size) rs in
+    if nat_le size room then r ∷ rest else []
+
+-- the record is news for whoever has these counts: its sequence is above its site's count, and it isn't at or above every
+-- floor
+abbrev pub is_news_for : Site → List ℕ → Record → Bool
+is_news_for site counts r = nat_lt (unwrap_or (slice_get counts (r.id.site - 1)) 0) r.id.sequence && not (is_above_floors site.dag site.floors r.id)
+
+-- the records in arrival order
+abbrev pub in_arrival_order : List Record → List Record
+in_arrival_order [] = []
+in_arrival_order (r ∷ rs) = in_arrival_order rs ++ r ∷ []
+
+-- the consents with a number above 0, of this site and those after it
+abbrev pub consents_from : ℕ → List Floor → List Consent
+consents_from n [] = []
+consents_from n (f ∷ fs) =
+    let rest = consents_from (n + 1) fs in
+    if f.number == 0 then rest else record { site = n; number = f.number; floor = f.state; count = f.stated } ∷ rest
+
+-- the batch for these counts: the news as far as it fits, and all consents
+abbrev pub batch_for : Site → List ℕ → Batch
+batch_for site counts =
+    record {
+      records = fitting 786432 (filter (is_news_for site counts) (in_arrival_order site.dag));
+      consents = consents_from 1 site.floors;
+    }
+
+-- as many counts as sites
+abbrev pub pull : Site → List ℕ → Answer
+pull site counts =
+    unless site (refuse (not (length counts == site.limits.sites)) (BadSite (length counts)) ∷ []) (site, BatchIs (batch_for site counts))
+
+-- ===== What is delivered
+
+-- the record comes before others that it needs: it isn't its site's next, or a parent isn't known
+abbrev pub is_early : Site → Record → Bool
+is_early site r = not (r.id.sequence == count_of_site site.dag r.id.site + 1 && list_all (is_known site.dag) r.parents)
+
+-- how a record is judged, as far as it doesn't concern room
+abbrev pub judgements : Site → Record → List (Option Reply)
+judgements site r =
+    refuse (nat_lt site.limits.sites r.id.site) (BadSite r.id.site)
+    ∷ when (nat_le r.id.sequence (count_of_site site.dag r.id.site)) Known
+    ∷ refuse (r.id.site == site.own) (OwnItem r.id.site r.id.sequence)
+    ∷ when (is_early site r) (Early (count_of_site site.dag r.id.site))
+    ∷ refuse_found ClosedParent (find (is_closed site.dag site.floors) r.parents)
+    ∷ refuse_found (λ pair. Comparable pair.0 pair.1) (comparable_pair site.dag r.parents)
+    ∷ refuse_found OpenConflict (open_conflict site.dag r.parents r.writes)
+    ∷ []
+
+-- a record of another site arrives, where nothing speaks against it
+abbrev pub deliver_record : Built → Site → Record → Answer
+deliver_record built site r = unless site (judgements site r ++ growth_refusals built site r) (with_record r site, Applied)
+
+-- how a consent is judged
+abbrev pub consent_judgements : Site → Consent → List (Option Reply)
+consent_judgements site c =
+    let f = floor_of site.floors c.site in
+    refuse (nat_lt site.limits.sites c.site) (BadSite c.site)
+    ∷ when (nat_le c.number f.number) Known
+    ∷ refuse (c.site == site.own) (OwnItem c.site c.number)
+    ∷ when (nat_lt (count_of_site site.dag c.site) c.count || not (is_known site.dag c.floor)) (Early (count_of_site site.dag c.site))
+    ∷ refuse (not (is_above site.dag f.state c.floor)) (FloorBack f.state)
+    ∷ []
+
+-- a consent of another site is taken: its floor, its number and its count
+abbrev pub deliver_consent : Site → Consent → Answer
+deliver_consent site c =
+    unless site (consent_judgements site c)
+    (record site { floors = with_floor site.floors c.site (record { state = c.floor; number = c.number; stated = c.count }) }, Applied)
+
+abbrev pub deliver : Built → Site → Item → Answer
+deliver built site (State r) = deliver_record built site r
+deliver built site (Promise c) = deliver_consent site c

@@ -1,0 +1,44 @@
+-- What follows from the plain step, as statements. The functions of this crate have them as contracts.
+use Rattle.std.specs.Prelude.{ℕ, ◌≤◌, ◌≡◌, ◌≢◌, length, IsTrue}
+use Rattle.tardis_base.specs.declared.records.Limits.{Limits}
+use Rattle.tardis_base.specs.declared.requests.Request.{Request}
+use Rattle.tardis_base.specs.declared.replies.Reply.TheVariants.{NoMemory}
+use Rattle.tardis_base.specs.Plain.{Event, no_memory}
+use Rattle.tardis_base.specs.Valid.{is_u16, is_within, are_limits}
+use Rattle.wire_talk.specs.Valid.{is_request, is_reply}
+use Rattle.wire_talk.specs.Spellings.{reply_spelling}
+use Rattle.plain_site.specs.Site.{Site, opening}
+use Rattle.plain_site.specs.Built.{Built}
+use Rattle.plain_site.specs.Answers.{leaves_site}
+use Rattle.plain_site.specs.Step.{step, step_over_bytes}
+use Rattle.plain_site.specs.Sound.{IsSound}
+
+-- a site that opens is sound
+abbrev pub OpeningIsSound : Built → Type 0
+OpeningIsSound built = (limits : Limits) (own : ℕ) → IsTrue (are_limits limits) → IsTrue (is_within 1 limits.sites own) → IsSound built (opening limits own)
+
+-- the request keeps each sound site sound
+abbrev pub KeepsSound : Built → Request → Type 0
+KeepsSound built q = (site : Site) (n : ℕ) → IsTrue (is_u16 n) → IsTrue (is_request q) → IsSound built site → IsSound built (step built site n q).0
+
+-- a refusal, Known and Early leave the site as it was, an open transaction included
+abbrev pub RefusalsLeaveSite : Built → Type 0
+RefusalsLeaveSite built = (site : Site) (n : ℕ) (q : Request) → IsTrue (leaves_site (step built site n q).1) → (step built site n q).0 ≡ site
+
+-- the same over bytes
+abbrev pub RefusedBytesLeaveSite : Built → Type 0
+RefusedBytesLeaveSite built = (site : Site) (event : Event) → IsTrue (leaves_site (step_over_bytes built site event).1) → (step_over_bytes built site event).0 ≡ site
+
+-- no reply says that memory is wanting, and none is spelled so
+pub record NeverWantsMemory (built : Built) : Type 0 where
+  pub reply : (site : Site) (n : ℕ) (q : Request) → (step built site n q).1 ≢ NoMemory
+  pub spelled : (site : Site) (event : Event) → reply_spelling (step_over_bytes built site event).1 ≢ no_memory
+
+-- what shows fork paths is built only with their limits
+abbrev pub ShowsShortPaths : Built → Type 0
+ShowsShortPaths built = IsTrue (built.operation 17) → IsTrue built.path_limits
+
+-- each reply of a sound site is one that can be spelled, and fits a frame
+pub record RepliesFit (built : Built) : Type 0 where
+  pub valid : (site : Site) (n : ℕ) (q : Request) → IsTrue (is_u16 n) → IsTrue (is_request q) → IsSound built site → IsTrue (is_reply (step built site n q).1)
+  pub short : (site : Site) (n : ℕ) (q : Request) → IsTrue (is_u16 n) → IsTrue (is_request q) → IsSound built site → length (reply_spelling (step built site n q).1) ≤ 1048576

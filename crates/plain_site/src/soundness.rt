@@ -1,0 +1,1 @@
+//! Every step keeps a sound site sound.

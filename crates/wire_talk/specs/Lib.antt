@@ -1,0 +1,7 @@
+-- How requests, refusals and replies are spelled in bytes, and how they are read back.
+pub mod Codes
+pub mod Spellings
+pub mod Valid
+pub mod RequestReadings
+pub mod ReplyReadings
+pub mod Rows

@@ -1,0 +1,68 @@
+-- How requests are read back from bytes.
+use Rattle.std.specs.Prelude.{ℕ, Bool, true, false, List, [], ◌∷◌, Option}
+use Rattle.tardis_base.specs.declared.ids.StateId.{StateId}
+use Rattle.tardis_base.specs.declared.requests.Begin.{Begin}
+use Rattle.tardis_base.specs.declared.requests.Begin.TheVariants.{Any, Ancestor, Parent, At}
+use Rattle.tardis_base.specs.declared.requests.MergeOf.{MergeOf}
+use Rattle.tardis_base.specs.declared.requests.MergeOf.TheVariants.{Leaves as AllLeaves, States as TheseStates}
+use Rattle.tardis_base.specs.declared.requests.Request.{Request}
+use Rattle.tardis_base.specs.declared.requests.Request.TheVariants.{Open, Begin as BeginAt, Get, Put, Delete, Commit, Abort, BeginMerge, ForkPoints, Conflicts, GetFor, Ceiling, Raise, RaiseAuto, Tidy, Stat, Show, Leaves, Pull, Deliver, Close}
+use Rattle.wire_item.specs.Fronts.{Front, nothing_but, bytes_front, made, only_if, both, times, counted, by_code, whole}
+use Rattle.wire_item.specs.Readings.{u8_front, u16_front, u32_front, id_front, key_front, value_front, item_front, Spells}
+use Rattle.wire_talk.specs.Spellings.{request_spelling}
+use Rattle.wire_talk.specs.Valid.{is_commit, is_after, are_counts, is_request}
+
+abbrev pub flag_front : Front Bool
+flag_front = by_code ((0, nothing_but false) ∷ (1, nothing_but true) ∷ [])
+
+abbrev pub begin_front : Front Begin
+begin_front = by_code ((0, nothing_but Any) ∷ (1, nothing_but Ancestor) ∷ (2, nothing_but Parent) ∷ (3, made At id_front) ∷ [])
+
+-- these states, or the leaves where none is named
+abbrev pub merge_of : List StateId → MergeOf
+merge_of [] = AllLeaves
+merge_of (x ∷ xs) = TheseStates (x ∷ xs)
+
+abbrev pub merge_of_front : Front MergeOf
+merge_of_front = made merge_of (counted u8_front (times id_front))
+
+abbrev pub after_front : Front (List ℕ)
+after_front = only_if is_after (counted u8_front bytes_front)
+
+abbrev pub counts_front : Front (List ℕ)
+counts_front = only_if are_counts (counted u8_front (times u32_front))
+
+abbrev pub commit_front : Front (ℕ × ℕ)
+commit_front = only_if (λ p. is_commit (record { 0 = p.0 }) p.1) (both u8_front u16_front)
+
+-- each request's front beside its code
+abbrev pub request_front : Front Request
+request_front = by_code
+    ((1, made Open flag_front) ∷
+    (2, made BeginAt begin_front) ∷
+    (3, made Get key_front) ∷
+    (4, made (λ p. Put p.0 p.1) (both key_front value_front)) ∷
+    (5, made Delete key_front) ∷
+    (6, made (λ p. Commit (record { 0 = p.0 }) p.1) commit_front) ∷
+    (7, nothing_but Abort) ∷
+    (8, made BeginMerge merge_of_front) ∷
+    (9, nothing_but ForkPoints) ∷
+    (10, made Conflicts after_front) ∷
+    (11, made (λ p. GetFor p.0 p.1) (both key_front id_front)) ∷
+    (12, made Ceiling id_front) ∷
+    (13, made Raise id_front) ∷
+    (14, nothing_but RaiseAuto) ∷
+    (15, made Tidy u16_front) ∷
+    (16, nothing_but Stat) ∷
+    (17, made Show id_front) ∷
+    (18, nothing_but Leaves) ∷
+    (19, made Pull counts_front) ∷
+    (20, made Deliver item_front) ∷
+    (21, nothing_but Close) ∷ [])
+
+-- the request that the bytes spell
+abbrev pub request_of : List ℕ → Option Request
+request_of = whole request_front
+
+abbrev pub SpellsRequest : List ℕ → Request → Type 0
+SpellsRequest = Spells is_request request_spelling
