@@ -1,0 +1,5 @@
+-- Lemmas on frames and their cut.
+mod Words
+mod Lent
+pub mod Joins
+pub mod OneCut

@@ -1,0 +1,3 @@
+-- Lemmas.
+pub mod Told
+mod Fronts

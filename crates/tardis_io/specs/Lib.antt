@@ -1,0 +1,5 @@
+-- What is told of bytes in and out, and how faults are counted.
+pub mod Faults
+pub mod Told
+pub mod Statuses
+pub mod Memory

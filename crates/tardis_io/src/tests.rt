@@ -1,0 +1,185 @@
+ghost use Rattle.std.specs.Prelude.{◌≤◌, IfOk};
+
+use crate::{
+    CountSink, Failed, MemorySink, MemorySource, ReaderSource, Sink, Source, Status, StdIn, StdOut,
+    SteadySource, WriteFault, WriterSink, write_all,
+};
+use std::io;
+use std::io::{Error, ErrorKind, Read, Write};
+use std::test::Fail;
+use tardis_base::StateId;
+
+#[test]
+fn numbers_and_lines_of_the_statuses(rt: HostRuntime) -> Result<(), Fail> {
+    let state = StateId {
+        site: 3,
+        sequence: 70,
+    };
+    let statuses = [
+        (Status::Ok, 0, ""),
+        (Status::Usage, 1, "usage: tardis COMMAND OPTIONS"),
+        (Status::ReadFault, 2, "tardis: read fault"),
+        (Status::WriteFault, 3, "tardis: write fault"),
+        (Status::Cut, 4, "tardis: input ends inside a frame"),
+        (
+            Status::LongFrame { len: 1_048_577 },
+            5,
+            "tardis: frame too long: 1048577",
+        ),
+        (Status::NoMemory, 6, "tardis: out of memory"),
+        (Status::GateFault, 7, "tardis: gate fault"),
+        (Status::DialFault, 8, "tardis: dial fault"),
+        (Status::Spent, 9, "tardis: input too large"),
+        (Status::DiskFault, 10, "tardis: disk fault"),
+        (Status::BadExport, 11, "tardis: not an export"),
+        (Status::NoState { state }, 12, "tardis: no such state 3.70"),
+    ];
+    for (status, number, want) in statuses {
+        let line = format!(in rt.alloc(); "{status}")?;
+        assert_eq!(rt; line.as_str(), want);
+        assert_eq!(rt; status.number(), number);
+    }
+    Ok(())
+}
+
+#[test]
+fn a_source_in_memory_fails_at_the_listed_calls(rt: HostRuntime) -> Result<(), Fail> {
+    let mut source = MemorySource::new(rt.alloc(), b"abcde", 2, &[2, 4])?;
+    let takes = [
+        (Ok(2), "cde"),
+        (Err(Failed), "cde"),
+        (Ok(2), "e"),
+        (Err(Failed), "e"),
+        (Ok(1), ""),
+        (Ok(0), ""),
+    ];
+    let mut buf = [0u8; 16];
+    for (want, left) in takes {
+        assert!(rt; source.take(&mut buf) == want);
+        assert!(rt; source.left() == left.as_bytes());
+    }
+    Ok(())
+}
+
+#[test]
+fn a_sink_in_memory_fails_at_the_listed_calls_and_when_it_is_full(
+    rt: HostRuntime,
+) -> Result<(), Fail> {
+    let mut sink = MemorySink::new(rt.alloc(), 5, 3, &[1])?;
+    let gives = [
+        (Err(Failed), ""),
+        (Ok(3), "abc"),
+        (Ok(2), "abcab"),
+        (Err(Failed), "abcab"),
+    ];
+    for (want, given) in gives {
+        assert!(rt; sink.give(b"abcd") == want);
+        assert!(rt; sink.bytes() == given.as_bytes());
+    }
+    Ok(())
+}
+
+#[test]
+fn a_steady_source_gives_all(rt: HostRuntime) -> Result<(), Fail> {
+    let mut source = SteadySource::new(rt.alloc(), b"abc")?;
+    let mut buf = [0u8; 2];
+    for want in [2, 1, 0] {
+        assert!(rt; source.take(&mut buf) == Ok(want));
+    }
+    Ok(())
+}
+
+#[test]
+fn all_bytes_are_written_or_a_fault_is_answered(rt: HostRuntime) -> Result<(), Fail> {
+    let mut count = CountSink::new();
+    assert!(rt; write_all(&mut count, b"abcde") == Ok(()));
+    assert_eq!(rt; count.bytes, 5);
+    let mut whole = MemorySink::new(rt.alloc(), 5, 2, &[])?;
+    assert!(rt; write_all(&mut whole, b"abcde") == Ok(()));
+    assert!(rt; whole.bytes() == b"abcde".as_slice());
+    let mut short = MemorySink::new(rt.alloc(), 3, 2, &[])?;
+    assert!(rt; write_all(&mut short, b"abcde") == Err(WriteFault));
+    assert!(rt; short.bytes() == b"abc".as_slice());
+    Ok(())
+}
+
+/// A device that answers its calls in turn: an error, an interruption, nothing, and then each byte.
+#[derive(Drop)]
+struct Unsteady {
+    calls: u8,
+    flushes: u8,
+}
+
+impl Unsteady {
+    fn answer(&mut self) -> io::Result<usize>
+        ensures { IfOk result (λ n. n ≤ 1) }
+    {
+        self.calls = self.calls.saturating_add(1);
+        match self.calls {
+            1 => Err(Error::from(ErrorKind::Other)),
+            2 => Err(Error::from(ErrorKind::Interrupted)),
+            3 => Ok(0),
+            _ => Ok(1),
+        }
+    }
+}
+
+impl Read for Unsteady {
+    fn read(&mut self, buf: &mut [u8]) -> io::Result<usize> {
+        let count = self.answer()?;
+        Ok(count.min(buf.len()))
+    }
+}
+
+impl Write for Unsteady {
+    fn write(&mut self, buf: &[u8]) -> io::Result<usize> {
+        let count = self.answer()?;
+        Ok(count.min(buf.len()))
+    }
+
+    fn flush(&mut self) -> io::Result<()> {
+        self.flushes = self.flushes.saturating_add(1);
+        if self.flushes < 2 {
+            Ok(())
+        } else {
+            Err(Error::from(ErrorKind::Other))
+        }
+    }
+}
+
+fn new_device() -> Unsteady {
+    Unsteady {
+        calls: 0,
+        flushes: 0,
+    }
+}
+
+#[test]
+fn a_reader_counts_each_error(rt: HostRuntime) {
+    let mut source = ReaderSource::new(new_device());
+    let mut buf = [0u8; 4];
+    for (want, faults) in [(Err(Failed), 1), (Ok(0), 2), (Ok(1), 2)] {
+        assert!(rt; source.take(&mut buf) == want);
+        assert_eq!(rt; source.faults(), faults);
+    }
+    let mut input = StdIn::new(rt.stdin());
+    assert!(rt; input.take(&mut buf) == Ok(0));
+    assert_eq!(rt; input.faults(), 0);
+}
+
+#[test]
+fn a_writer_counts_each_error_and_each_write_of_nothing(rt: HostRuntime) {
+    let mut sink = WriterSink::new(new_device());
+    for (want, faults) in [
+        (Err(Failed), 1),
+        (Err(Failed), 3),
+        (Ok(1), 3),
+        (Err(Failed), 4),
+    ] {
+        assert!(rt; sink.give(b"ab") == want);
+        assert_eq!(rt; sink.faults(), faults);
+    }
+    let mut output = StdOut::new(rt.stdout());
+    assert!(rt; output.give(b"\n") == Ok(1));
+    assert_eq!(rt; output.faults(), 0);
+}
