@@ -9,3 +9,4 @@ pub mod RepliesFrame
 pub mod RepliesSound
 pub mod RepliesOfSessions
 pub mod RepliesOfReads
+pub mod RepliesOfCommits
