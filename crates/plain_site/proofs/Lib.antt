@@ -10,3 +10,5 @@ pub mod RepliesSound
 pub mod RepliesOfSessions
 pub mod RepliesOfReads
 pub mod RepliesOfCommits
+pub mod RepliesOfShows
+pub mod RepliesOfFloors

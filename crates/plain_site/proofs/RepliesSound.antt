@@ -47,7 +47,7 @@ limits-within l h =
 -- ===== Floors
 
 -- the floor's id and its numbers are in range
-abbrev is_ranged_floor : Floor → Bool
+abbrev pub is_ranged_floor : Floor → Bool
 is_ranged_floor f = is_id f.state && is_u32 f.stated && is_u32 f.number
 
 floors-ranged : (rs : List Record) (n : ℕ) (fs : List Floor) → IsTrue (list_all is_stored rs) → ((m : ℕ) → count_of_site rs m < 2 ^ 32) → IsTrue (are_sound_floors rs n fs) → IsTrue (list_all is_ranged_floor fs)
@@ -71,7 +71,7 @@ pub record IsOpen (rs : List Record) (s : Session) : Type 0 where
   pub ceiling_id : IsTrue (is_id s.ceiling)
   pub last_id : IsTrue (is_id s.last)
 
-session-open : (rs : List Record) (s : ℕ × Session) → IsTrue (list_all is_stored rs) → IsTrue (is_sound_session rs s) → IsOpen rs s.1
+pub session-open : (rs : List Record) (s : ℕ × Session) → IsTrue (list_all is_stored rs) → IsTrue (is_sound_session rs s) → IsOpen rs s.1
 session-open rs s stored h =
     let a = and_parts (is_u16 s.0 && is_known rs s.1.ceiling) (is_known rs s.1.last) h in
     let b = and_parts (is_u16 s.0) (is_known rs s.1.ceiling) a.0 in
