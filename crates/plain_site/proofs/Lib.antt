@@ -12,3 +12,5 @@ pub mod RepliesOfReads
 pub mod RepliesOfCommits
 pub mod RepliesOfShows
 pub mod RepliesOfFloors
+pub mod RepliesOrder
+pub mod RepliesOfMerges
