@@ -14,3 +14,5 @@ pub mod RepliesOfShows
 pub mod RepliesOfFloors
 pub mod RepliesOrder
 pub mod RepliesOfMerges
+pub mod RepliesOfExchange
+pub mod RepliesFit

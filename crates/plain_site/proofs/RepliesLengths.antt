@@ -1,5 +1,5 @@
 -- How many bytes replies are spelled in.
-use Rattle.std.proofs.Common.{◌≡◌, ℕ, ◌+◌, ◌*◌, ◌≤◌, Bool, true, false, ◌&&◌, ◌==◌, List, [], ◌∷◌, ◌++◌, length, nat_le, IsTrue, refl, arith, leb-true, eqb-true, length-append}
+use Rattle.std.proofs.Common.{◌≡◌, ℕ, ◌*◌, ◌≤◌, Bool, true, false, ◌&&◌, List, [], ◌∷◌, length, nat_le, IsTrue, refl, arith, leb-true, eqb-true, length-append}
 use Rattle.std.proofs.lemmas.Bool.{and_parts}
 use Rattle.std.specs.Prelude.{flat_map, min}
 use Rattle.std.specs.List.{list_all}
@@ -15,7 +15,7 @@ use Rattle.tardis_base.specs.Keys.{are_ascending_keys}
 use Rattle.tardis_base.specs.Valid.{is_u32, is_u64, is_u16, is_within, are_bytes, is_id, is_key, is_value, are_parents}
 use Rattle.wire_item.specs.Spellings.{id_spelling, key_spelling, consent_spelling}
 use Rattle.wire_talk.specs.Spellings.{refusal_spelling, reply_spelling, site_line_spelling, pair_spelling}
-use Rattle.wire_talk.specs.Valid.{is_refusal, is_reply, is_site_line, are_site_lines, are_first_ids, are_first_keys, is_first_of}
+use Rattle.wire_talk.specs.Valid.{is_refusal, is_reply, is_site_line, are_site_lines, is_first_of}
 
 -- ===== Parts
 
@@ -51,6 +51,11 @@ parents-length xs h =
     let front = (and_parts (is_within 1 8 (length xs) && list_all is_id xs) (are_ascending xs) h).0 in
     let within = (and_parts (is_within 1 8 (length xs)) (list_all is_id xs) front).0 in
     leb-true (length xs) 8 (and_parts (nat_le 1 (length xs)) (nat_le (length xs) 8) within).1
+
+pub parents-some : (xs : List StateId) → IsTrue (are_parents xs) → 1 ≤ length xs
+parents-some xs h =
+    let within = (and_parts (is_within 1 8 (length xs)) (list_all is_id xs) (and_parts (is_within 1 8 (length xs) && list_all is_id xs) (are_ascending xs) h).0).0 in
+    leb-true 1 (length xs) (and_parts (nat_le 1 (length xs)) (nat_le (length xs) 8) within).0
 
 first-length : (total number : ℕ) → IsTrue (is_first_of total number) → number ≤ 256
 first-length total number h = let e = eqb-true number (min total 256) h in omega arith

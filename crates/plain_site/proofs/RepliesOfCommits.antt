@@ -1,12 +1,11 @@
 -- The replies to Commit fit.
-use Rattle.std.proofs.Common.{◌≡◌, ℕ, ◌+◌, ◌≤◌, ◌<◌, ◌^◌, Bool, true, false, ◌&&◌, ◌||◌, ◌==◌, not, List, [], ◌∷◌, ◌++◌, length, filter, find, Option, Some, None, nat_le, IsTrue, IsFalse, refl, sym, ◌∙◌, ap, subst, inl, inr, arith, lt-ltb, le-leb, eq-eqb, ◌≢◌, cond}
+use Rattle.std.proofs.Common.{◌≡◌, ℕ, ◌+◌, ◌≤◌, ◌<◌, ◌^◌, true, ◌&&◌, ◌||◌, ◌==◌, not, List, [], ◌∷◌, length, Option, Some, None, nat_le, IsTrue, IsFalse, refl, sym, ◌∙◌, subst, inl, inr, arith, lt-ltb, le-leb, eq-eqb, ◌≢◌, cond}
 use Rattle.std.proofs.lemmas.Bool.{and_from, or_right, both_ways, cases_Bool, cond-true, cond-false}
 use Rattle.std.proofs.lemmas.Option.{none-some, same_Some}
 use Rattle.std.specs.List.{list_all}
 use Rattle.tardis_base.specs.declared.ids.StateId.{StateId}
 use Rattle.tardis_base.specs.declared.records.Record.{Record}
 use Rattle.tardis_base.specs.declared.requests.EndFlags.{EndFlags}
-use Rattle.tardis_base.specs.declared.replies.Refusal.{Refusal}
 use Rattle.tardis_base.specs.declared.replies.Refusal.TheVariants.{SeqEnd, OpenConflict, Branches, WrongMode}
 use Rattle.tardis_base.specs.declared.replies.Reply.{Reply}
 use Rattle.tardis_base.specs.declared.replies.Reply.TheVariants.{Committed, Ended, Refused}
@@ -22,13 +21,13 @@ use Rattle.plain_dag.specs.Growth.{growth_refusal}
 use Rattle.plain_dag.proofs.Landing.{lands-below}
 use Rattle.plain_site.specs.Site.{Site, SingleTxn, MergeTxn, Txn, Single, Merge, own_count, next_id}
 use Rattle.plain_site.specs.Built.{Built}
-use Rattle.plain_site.specs.Answers.{Answer, refuse, refuse_found, unless}
-use Rattle.plain_site.specs.Commits.{without_txn_of, growth_refusals, committed, commit_below, commit_at, commit_writes, commit_single, commit_merge, commit}
-use Rattle.plain_site.specs.Sound.{IsSound, IsSoundTxn}
+use Rattle.plain_site.specs.Answers.{refuse, refuse_found, unless}
+use Rattle.plain_site.specs.Commits.{without_txn_of, growth_refusals, committed, commit_below, commit_at, commit_single, commit_merge, commit}
+use Rattle.plain_site.specs.Sound.{IsSoundTxn}
 use Rattle.plain_site.proofs.RepliesLists.{first, second, all-filter, all-found}
 use Rattle.plain_site.proofs.RepliesHistory.{is_stored, known-is-id, written-are-keys}
 use Rattle.plain_site.proofs.RepliesGrowth.{GrowsInRange, growth-refusal-is-valid}
-use Rattle.plain_site.proofs.RepliesFrame.{Fits, AllNone, AllFit, AnswerFits, none-when, fit-none, fit-when, fit-found, reply-fits, refusal-fits, answer-fits, unless-both-fit, unless-fits, fitting_replies}
+use Rattle.plain_site.proofs.RepliesFrame.{AllFit, AnswerFits, none-when, fit-none, fit-when, fit-found, reply-fits, refusal-fits, answer-fits, unless-both-fit, unless-fits}
 use Rattle.plain_site.proofs.RepliesSound.{IsRanged}
 use Rattle.plain_site.proofs.RepliesOfReads.{single-writes, merge-states}
 
@@ -67,6 +66,7 @@ commit-below-fits built site n parents writes refusals ranged p w fit =
   where
     r : Record
     r = record { id = next_id site; parents = parents; writes = writes }
+
     made : IsTrue (is_id (next_id site)) → AnswerFits (unless site (growth_refusals built site r) (committed site n r))
     made id =
         unless-fits site (growth_refusals built site r) (committed site n r)
@@ -86,6 +86,7 @@ broken-is-constraint flags k number c e = elim (cases_Bool (is_nb flags && nat_l
   where
     branches : Option ℕ
     branches = cond (is_kb flags && nat_le k number) (Some 8) None
+
     later : IsFalse (is_nb flags && nat_le 1 number) → branches ≡ Some c
     later f = sym (cond-false (is_nb flags && nat_le 1 number) (Some 4) branches f) ∙ e
 

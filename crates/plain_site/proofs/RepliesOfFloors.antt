@@ -1,7 +1,6 @@
 -- The replies to Raise, RaiseAuto and Tidy fit.
-use Rattle.std.proofs.Common.{◌≡◌, ◌≢◌, ℕ, zero, suc, ◌+◌, ◌-◌, ◌≤◌, ◌<◌, ◌^◌, Bool, true, false, ◌&&◌, ◌==◌, not, List, [], ◌∷◌, ◌++◌, length, find, Option, Some, None, IsTrue, IsFalse, refl, sym, ◌∙◌, ap, subst, arith, lt-ltb, ltb-true, eq-eqb}
+use Rattle.std.proofs.Common.{◌≡◌, ◌≢◌, ℕ, zero, suc, ◌+◌, ◌-◌, ◌≤◌, ◌<◌, ◌^◌, ◌&&◌, ◌==◌, not, List, [], ◌∷◌, length, find, Option, Some, None, IsTrue, refl, arith, lt-ltb, ltb-true, eq-eqb}
 use Rattle.std.proofs.lemmas.Bool.{and_from, both_ways}
-use Rattle.std.specs.List.{list_all}
 use Rattle.tardis_base.specs.declared.ids.StateId.{StateId}
 use Rattle.tardis_base.specs.declared.records.Record.{Record}
 use Rattle.tardis_base.specs.declared.replies.Refusal.TheVariants.{SeqEnd, Unknown, FloorBack, Held}
@@ -17,9 +16,9 @@ use Rattle.plain_site.specs.Built.{Built}
 use Rattle.plain_site.specs.Answers.{refuse, refuse_found}
 use Rattle.plain_site.specs.FloorSteps.{raised, raise_to, raise, raise_auto, tidy}
 use Rattle.plain_site.specs.Sound.{IsSound, is_sound_session}
-use Rattle.plain_site.proofs.RepliesLists.{first, second, all-found, all-unwrapped}
-use Rattle.plain_site.proofs.RepliesHistory.{is_stored, states-are-ids}
-use Rattle.plain_site.proofs.RepliesFrame.{Fits, AllNone, AllFit, AnswerFits, none-when, fit-none, fit-when, fit-found, reply-fits, refusal-fits, answer-fits, unless-both-fit, unless-fits}
+use Rattle.plain_site.proofs.RepliesLists.{first, all-found, all-unwrapped}
+use Rattle.plain_site.proofs.RepliesHistory.{states-are-ids}
+use Rattle.plain_site.proofs.RepliesFrame.{Fits, AllFit, AnswerFits, none-when, fit-none, fit-when, fit-found, reply-fits, refusal-fits, answer-fits, unless-both-fit, unless-fits}
 use Rattle.plain_site.proofs.RepliesSound.{IsRanged, floor-ranged, session-open}
 
 -- ===== Floors

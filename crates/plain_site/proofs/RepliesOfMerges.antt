@@ -1,10 +1,11 @@
 -- The replies to BeginMerge, ForkPoints and Conflicts fit.
-use Rattle.std.proofs.Common.{◌≡◌, ℕ, zero, suc, ◌+◌, ◌-◌, ◌≤◌, ◌<◌, ◌^◌, Bool, true, false, ◌&&◌, not, List, [], ◌∷◌, ◌++◌, length, filter, find, take, min, is_none, unwrap_or, Option, Some, None, nat_le, nat_lt, IsTrue, IsFalse, refl, sym, ◌∙◌, ap, subst, inl, inr, arith, lt-ltb, le-leb, leb-true, eq-eqb}
-use Rattle.std.proofs.lemmas.Bool.{and_parts, and_from, or_left, or_right, cases_Bool, cond-true, cond-false, false_from_ne_true}
+use Rattle.std.proofs.Common.{◌≡◌, ℕ, zero, suc, ◌-◌, ◌≤◌, ◌<◌, ◌^◌, Bool, true, ◌&&◌, ◌==◌, not, List, [], ◌∷◌, ◌++◌, length, filter, find, take, min, is_none, unwrap_or, Option, Some, None, nat_le, nat_lt, IsTrue, IsFalse, refl, ap, subst, inl, inr, arith, lt-ltb, le-leb, leb-true, ltb-false, eq-eqb}
+use Rattle.std.proofs.lemmas.Bool.{and_parts, and_from, or_left, or_right, cases_Bool, cond-true, cond-false}
 use Rattle.std.proofs.lemmas.List.{length-take}
 use Rattle.std.proofs.lemmas.Option.{none-some, same_Some}
 use Rattle.std.specs.Prelude.{slice_get}
 use Rattle.std.specs.List.{list_any, list_all}
+use Rattle.std.specs.Option.{option_map}
 use Rattle.tardis_base.specs.declared.ids.StateId.{StateId}
 use Rattle.tardis_base.specs.declared.records.Record.{Record}
 use Rattle.tardis_base.specs.declared.requests.MergeOf.{MergeOf}
@@ -14,31 +15,32 @@ use Rattle.tardis_base.specs.declared.replies.Reply.{Reply}
 use Rattle.tardis_base.specs.declared.replies.Reply.TheVariants.{Merging, Refused}
 use Rattle.tardis_base.specs.Ids.{is_among, are_ascending}
 use Rattle.tardis_base.specs.Keys.{is_key_before, are_ascending_keys}
-use Rattle.tardis_base.specs.Valid.{is_u32, is_id, is_key, is_within, are_parents, are_writes}
-use Rattle.wire_talk.specs.Valid.{is_merge_of, is_first_of, is_what}
-use Rattle.plain_dag.specs.States.{states, arrived, is_known}
+use Rattle.tardis_base.specs.Valid.{is_u32, is_id, is_key, is_within}
+use Rattle.wire_talk.specs.Valid.{is_merge_of, is_first_of}
+use Rattle.plain_dag.specs.States.{arrived, is_known}
 use Rattle.plain_dag.specs.Above.{is_above, are_comparable, comparable_pair, are_apart}
 use Rattle.plain_dag.specs.Begin.{is_admitted}
 use Rattle.plain_dag.specs.Conflicts.{conflict_keys}
 use Rattle.plain_dag.specs.Dag.{IsDag}
-use Rattle.plain_dag.specs.Entries.{entry_of}
+use Rattle.plain_dag.specs.Entries.{entry_of, with_entry}
 use Rattle.plain_dag.specs.Forks.{is_leaf, leaves, is_fork_point, fork_points}
-use Rattle.plain_dag.specs.Floors.{Floor, Session, Sessions, opening_floor, floor_of, is_above_ceilings}
-use Rattle.plain_dag.specs.Collection.{is_kept, kept_states}
+use Rattle.plain_dag.specs.Floors.{Floor, Session, Sessions, opening_floor, is_above_ceilings}
+use Rattle.plain_dag.specs.Collection.{kept_states}
 use Rattle.plain_dag.specs.Laws.{IsUnderFloor}
 use Rattle.plain_dag.proofs.Histories.{newest-is-known, known-stays}
 use Rattle.plain_dag.proofs.Keys.{ascending-parts, ascending-from, is_before_first, chosen-ascend}
 use Rattle.plain_dag.proofs.ConflictKeys.{lists-conflict-keys}
 use Rattle.plain_dag.proofs.Leaves.{begins-at-leaves}
 use Rattle.plain_dag.proofs.Collected.{stays-kept}
-use Rattle.plain_site.specs.Site.{Site, Txn, Single, Merge, MergeTxn, own_floor}
+use Rattle.plain_site.specs.Site.{Site, Txn, Single, Merge, own_floor}
 use Rattle.plain_site.specs.Built.{Built}
 use Rattle.plain_site.specs.Answers.{refuse, refuse_found}
 use Rattle.plain_site.specs.Merges.{in_order, states_to_merge, merge_at, begin_merge, page_of_keys, page_of_states, fork_points_of, conflicts_of}
 use Rattle.plain_site.specs.Sound.{IsSound, IsSoundTxn}
+use Rattle.plain_site.proofs.RepliesLengths.{parents-some}
 use Rattle.plain_site.proofs.RepliesLists.{first, second, all-take, all-filter, all-found, all-from-all, all-append, fewer-pass}
-use Rattle.plain_site.proofs.RepliesHistory.{is_stored, arrived-are-ids}
-use Rattle.plain_site.proofs.RepliesFrame.{Fits, AllNone, AllFit, AnswerFits, none-when, none-found, fit-none, fit-when, fit-found, reply-fits, refusal-fits, answer-fits, refuses, unless-fits}
+use Rattle.plain_site.proofs.RepliesHistory.{arrived-are-ids}
+use Rattle.plain_site.proofs.RepliesFrame.{Fits, AllFit, AnswerFits, none-when, none-found, fit-none, fit-when, fit-found, reply-fits, refusal-fits, answer-fits, refuses, unless-fits}
 use Rattle.plain_site.proofs.RepliesSound.{IsRanged, IsOpen}
 use Rattle.plain_site.proofs.RepliesOrder.{order-length, order-ids, order-ascends}
 use Rattle.plain_site.proofs.RepliesOfCommits.{conflict-keys-are-keys}
@@ -76,7 +78,7 @@ apart-from-none rs xs e = ap is_none e
 
 merge-at-fits : (site : Site) (n : ℕ) (ceiling : StateId) (xs : List StateId) → IsTrue (is_id ceiling) → AreStates xs → AnswerFits (merge_at site n ceiling xs)
 merge-at-fits site n ceiling xs c h =
-    unless-fits site (refuse (nat_lt 8 (length xs)) (TooMany 3 (length xs)) ∷ unknown) (merge_at-next, Merging (in_order xs))
+    unless-fits site (refuse (nat_lt 8 (length xs)) (TooMany 3 (length xs)) ∷ unknown) (next, Merging (in_order xs))
     (fit-when (nat_lt 8 (length xs)) (Refused (TooMany 3 (length xs))) unknown (refusal-fits (TooMany 3 (length xs)) (lt-ltb (length xs) (2 ^ 32) few))
     (fit-found Unknown (find (λ x. not (is_known site.dag x)) xs) below
     (λ x e. refusal-fits (Unknown x) (all-found is_id (λ x. not (is_known site.dag x)) xs x h.ids e))
@@ -92,19 +94,24 @@ merge-at-fits site n ceiling xs c h =
   where
     apart : List (Option Reply)
     apart = refuse_found (λ (p : StateId × StateId). Comparable p.0 p.1) (comparable_pair site.dag xs) ∷ []
+
     below : List (Option Reply)
     below = refuse_found (λ x. Below x ceiling) (find (λ x. not (is_admitted site.dag ceiling x)) xs) ∷ apart
+
     unknown : List (Option Reply)
     unknown = refuse_found Unknown (find (λ x. not (is_known site.dag x)) xs) ∷ below
-    merge_at-next : Site
-    merge_at-next = record site { txns = Rattle.plain_dag.specs.Entries.with_entry n (Merge (record { states = in_order xs; writes = [] })) site.txns }
+
+    next : Site
+    next = record site { txns = with_entry n (Merge (record { states = in_order xs; writes = [] })) site.txns }
+
     few : length xs < 2 ^ 32
     few = omega (arith, h.few)
-    merging : IsFalse (nat_lt 8 (length xs)) → IsTrue (are_apart site.dag xs) → AnswerFits (merge_at-next, Merging (in_order xs))
+
+    merging : IsFalse (nat_lt 8 (length xs)) → IsTrue (are_apart site.dag xs) → AnswerFits (next, Merging (in_order xs))
     merging eight apart =
-        let most : length (in_order xs) ≤ 8 = omega (arith, order-length xs, Rattle.std.proofs.Common.ltb-false 8 (length xs) eight) in
+        let most : length (in_order xs) ≤ 8 = omega (arith, order-length xs, ltb-false 8 (length xs) eight) in
         let some : 1 ≤ length (in_order xs) = omega (arith, order-length xs, h.some) in
-        answer-fits merge_at-next (Merging (in_order xs)) (reply-fits (Merging (in_order xs)) refl
+        answer-fits next (Merging (in_order xs)) (reply-fits (Merging (in_order xs)) refl
         (and_from (is_within 1 8 (length (in_order xs)) && list_all is_id (in_order xs)) (are_ascending (in_order xs))
         (and_from (is_within 1 8 (length (in_order xs))) (list_all is_id (in_order xs))
         (and_from (nat_le 1 (length (in_order xs))) (nat_le (length (in_order xs)) 8) (le-leb 1 (length (in_order xs)) some) (le-leb (length (in_order xs)) 8 most))
@@ -149,13 +156,13 @@ under-floor built site n s sound ranged e =
     (λ f is. subst (λ (o : Option Floor). IsTrue (is_above site.dag (unwrap_or o opening_floor).state s.ceiling)) is (above-at site.sessions sound.under_floor e))
   where
     above-at : (ss : Sessions) → IsTrue (is_above_ceilings site.dag ss (own_floor site).state) → entry_of n ss ≡ Some s → IsTrue (is_above site.dag (own_floor site).state s.ceiling)
-    above-at ss h e = go (find (λ (e : ℕ × Session). Rattle.std.specs.Prelude.◌==◌ n e.0) ss) refl e
+    above-at ss h e = go (find (λ (e : ℕ × Session). n == e.0) ss) refl e
       where
-        go : (o : Option (ℕ × Session)) → find (λ (e : ℕ × Session). Rattle.std.specs.Prelude.◌==◌ n e.0) ss ≡ o → Rattle.std.specs.Option.option_map (λ (e : ℕ × Session). e.1) o ≡ Some s → IsTrue (is_above site.dag (own_floor site).state s.ceiling)
+        go : (o : Option (ℕ × Session)) → find (λ (e : ℕ × Session). n == e.0) ss ≡ o → option_map (λ (e : ℕ × Session). e.1) o ≡ Some s → IsTrue (is_above site.dag (own_floor site).state s.ceiling)
         go None is e = absurd (none-some s e)
         go (Some entry) is e =
             subst (λ (t : Session). IsTrue (is_above site.dag (own_floor site).state t.ceiling)) (same_Some entry.1 s e)
-            (all-found (λ (e : ℕ × Session). is_above site.dag (own_floor site).state e.1.ceiling) (λ (e : ℕ × Session). Rattle.std.specs.Prelude.◌==◌ n e.0) ss entry h is)
+            (all-found (λ (e : ℕ × Session). is_above site.dag (own_floor site).state e.1.ceiling) (λ (e : ℕ × Session). n == e.0) ss entry h is)
 
 arrived-are-known : (rs : List Record) → IsTrue (list_all (is_known rs) (arrived rs))
 arrived-are-known [] = refl
@@ -170,14 +177,9 @@ few-fork-points built site c [] sound ranged ceiling under known admitted some =
 few-fork-points built site c (y ∷ ys) sound ranged ceiling under known admitted some =
     let stays = stays-kept site.dag site.floors site.collected sound.dag sound.collected in
     let fewer : length (fork_points site.dag (y ∷ ys)) ≤ length (kept_states site.dag site.collected) =
-      fewer-pass (is_known site.dag) (is_fork_point site.dag (y ∷ ys)) (λ x. not (is_among x site.collected)) (arrived site.dag) (arrived-are-known site.dag)
-      (λ x here fork. second (is_known site.dag x) (not (is_among x site.collected)) (stays.fork_points_stay x y c ys ceiling under known admitted here fork)) in
+    fewer-pass (is_known site.dag) (is_fork_point site.dag (y ∷ ys)) (λ x. not (is_among x site.collected)) (arrived site.dag) (arrived-are-known site.dag)
+    (λ x here fork. second (is_known site.dag x) (not (is_among x site.collected)) (stays.fork_points_stay x y c ys ceiling under known admitted here fork)) in
     omega (arith, ranged.few_kept)
-
-parents-some : (xs : List StateId) → IsTrue (are_parents xs) → 1 ≤ length xs
-parents-some xs h =
-    let within = first (is_within 1 8 (length xs)) (list_all is_id xs) (first (is_within 1 8 (length xs) && list_all is_id xs) (are_ascending xs) h) in
-    leb-true 1 (length xs) (first (nat_le 1 (length xs)) (nat_le (length xs) 8) within)
 
 pub fork-points-fit : (built : Built) (site : Site) (n : ℕ) (s : Session) (t : Txn) → IsSound built site → IsRanged site → entry_of n site.sessions ≡ Some s → IsSoundTxn site.dag s.ceiling t → AnswerFits (fork_points_of site t)
 fork-points-fit built site n s (Single t) sound ranged e txn = refuses site WrongMode refl

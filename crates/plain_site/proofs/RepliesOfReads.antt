@@ -1,15 +1,14 @@
 -- The replies to Get, Put, Delete and GetFor fit.
-use Rattle.std.proofs.Common.{◌≡◌, ℕ, Bool, true, false, ◌&&◌, List, length, Option, Some, None, nat_le, IsTrue, refl, sym, ◌∙◌, subst}
+use Rattle.std.proofs.Common.{◌≡◌, ℕ, false, ◌&&◌, List, length, Option, Some, None, nat_le, IsTrue, refl, sym, ◌∙◌, subst}
 use Rattle.std.proofs.lemmas.Option.{same_Some}
 use Rattle.std.specs.List.{list_all}
 use Rattle.tardis_base.specs.declared.ids.StateId.{StateId}
 use Rattle.tardis_base.specs.declared.records.Write.{Write}
 use Rattle.tardis_base.specs.declared.records.Write.TheVariants.{Put, Delete}
-use Rattle.tardis_base.specs.declared.records.Record.{Record}
 use Rattle.tardis_base.specs.declared.replies.Refusal.TheVariants.{WrongMode}
 use Rattle.tardis_base.specs.Ids.{root}
 use Rattle.tardis_base.specs.Keys.{write_of, are_ascending_keys}
-use Rattle.tardis_base.specs.Valid.{is_id, is_key, is_write, are_writes, are_parents}
+use Rattle.tardis_base.specs.Valid.{is_id, is_key, are_writes, are_parents}
 use Rattle.wire_talk.specs.Valid.{is_reply}
 use Rattle.plain_dag.specs.Writers.{read}
 use Rattle.plain_dag.specs.Conflicts.{value_over}
@@ -17,7 +16,7 @@ use Rattle.plain_dag.specs.Entries.{entry_of}
 use Rattle.plain_dag.specs.Floors.{Session}
 use Rattle.plain_site.specs.Site.{Site, Txn, Single, Merge, SingleTxn, MergeTxn, writes_of}
 use Rattle.plain_site.specs.Built.{Built}
-use Rattle.plain_site.specs.Answers.{Answer, shown, found}
+use Rattle.plain_site.specs.Answers.{shown, found}
 use Rattle.plain_site.specs.Reads.{get, read_in, set_key, get_for}
 use Rattle.plain_site.specs.Sound.{IsSound, IsSoundTxn, is_txn}
 use Rattle.plain_site.proofs.RepliesLengths.{is_long}

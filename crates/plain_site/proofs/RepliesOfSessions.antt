@@ -1,14 +1,14 @@
 -- The replies to Open, Begin, Ceiling and Close fit.
-use Rattle.std.proofs.Common.{◌≡◌, ℕ, ◌≤◌, ◌<◌, ◌^◌, Bool, true, false, ◌&&◌, List, [], ◌∷◌, length, find, unwrap_or, Option, Some, None, IsTrue, refl, sym, ◌∙◌, ap, subst, arith, lt-ltb}
+use Rattle.std.proofs.Common.{ℕ, ◌<◌, ◌^◌, Bool, List, [], ◌∷◌, length, find, IsTrue, refl, arith, lt-ltb}
 use Rattle.tardis_base.specs.declared.ids.StateId.{StateId}
 use Rattle.tardis_base.specs.declared.records.Record.{Record}
 use Rattle.tardis_base.specs.declared.requests.Begin.{Begin}
 use Rattle.tardis_base.specs.declared.requests.Begin.TheVariants.{Any, Ancestor, Parent, At}
 use Rattle.tardis_base.specs.Valid.{is_u16, is_id}
 use Rattle.wire_talk.specs.Valid.{is_begin}
-use Rattle.plain_dag.specs.States.{states, is_known}
+use Rattle.plain_dag.specs.States.{states}
 use Rattle.plain_dag.specs.Above.{is_above}
-use Rattle.plain_dag.specs.Begin.{last_below, begin_state, last_arrived}
+use Rattle.plain_dag.specs.Begin.{begin_state}
 use Rattle.plain_dag.specs.Floors.{Session}
 use Rattle.plain_site.specs.Site.{Site, own_floor}
 use Rattle.plain_site.specs.Sessions.{open_session, close_session, begin_at, begin, set_ceiling}

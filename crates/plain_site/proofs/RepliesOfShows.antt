@@ -1,8 +1,7 @@
 -- The replies to Stat, Show and Leaves fit.
-use Rattle.std.proofs.Common.{◌≡◌, ℕ, ◌+◌, ◌*◌, ◌≤◌, ◌<◌, ◌^◌, Bool, true, false, ◌&&◌, ◌==◌, not, List, [], ◌∷◌, length, filter, take, min, IsTrue, IsFalse, refl, sym, ◌∙◌, ap, subst, inl, inr, arith, nat_le, lt-ltb, le-leb, eq-eqb, eqb-true, length-append}
+use Rattle.std.proofs.Common.{◌≡◌, ℕ, ◌+◌, ◌≤◌, ◌<◌, ◌^◌, ◌&&◌, not, List, [], ◌∷◌, length, take, min, IsTrue, refl, ◌∙◌, ap, inl, inr, arith, nat_le, lt-ltb, le-leb, eq-eqb, eqb-true, length-append}
 use Rattle.std.proofs.lemmas.Bool.{and_from, cases_Bool, cond-true, cond-false, false_from_ne_true, true_from_ne_false, not_from_false, both_ways}
 use Rattle.std.proofs.lemmas.List.{length-take}
-use Rattle.std.specs.Prelude.{flat_map}
 use Rattle.std.specs.List.{list_all}
 use Rattle.tardis_base.specs.declared.ids.StateId.{StateId}
 use Rattle.tardis_base.specs.declared.records.Record.{Record}
@@ -11,9 +10,8 @@ use Rattle.tardis_base.specs.declared.replies.SiteLine.{SiteLine}
 use Rattle.tardis_base.specs.declared.replies.Reply.TheVariants.{Stat, Shown, Refused}
 use Rattle.tardis_base.specs.Ids.{is_among, same_id}
 use Rattle.tardis_base.specs.Valid.{is_u16, is_u32, is_u64, is_id, is_within}
-use Rattle.wire_item.specs.Spellings.{id_spelling}
-use Rattle.wire_talk.specs.Spellings.{children_spelling, path_spelling, pair_spelling, reply_spelling}
-use Rattle.wire_talk.specs.Valid.{is_reply, is_first_of, is_site_line, are_site_lines, are_children, is_path, is_pair}
+use Rattle.wire_talk.specs.Spellings.{children_spelling, path_spelling}
+use Rattle.wire_talk.specs.Valid.{is_first_of, is_site_line, are_site_lines, are_children, is_path, is_pair}
 use Rattle.plain_dag.specs.States.{arrived, arrival, children, is_known, count_of_site}
 use Rattle.plain_dag.specs.Forks.{is_leaf, leaves}
 use Rattle.plain_dag.specs.Floors.{Floor}
@@ -31,7 +29,7 @@ use Rattle.plain_site.proofs.RepliesLengths.{ids-length, pairs-length}
 use Rattle.plain_site.proofs.RepliesLists.{first, second, all-take, all-filter, fewer-pass}
 use Rattle.plain_site.proofs.RepliesHistory.{is_stored, arrived-are-ids, children-are-ids}
 use Rattle.plain_site.proofs.RepliesGrowth.{path-is-valid}
-use Rattle.plain_site.proofs.RepliesFrame.{Fits, AllNone, AnswerFits, none-when, fit-none, fit-when, reply-fits, refusal-fits, answer-fits, unless-fits}
+use Rattle.plain_site.proofs.RepliesFrame.{Fits, AnswerFits, none-when, fit-none, fit-when, reply-fits, refusal-fits, answer-fits, unless-fits}
 use Rattle.plain_site.proofs.RepliesSound.{IsRanged, is_ranged_floor}
 
 -- ===== Pages
@@ -133,11 +131,11 @@ shown-fits site x ranged few_pairs =
     let short : length path < 2 ^ 32 = omega arith in
     record {
       valid =
-        and_from (is_u64 number && are_children cs) (is_path path)
-        (and_from (is_u64 number) (are_children cs) (lt-ltb number (2 ^ 64) fits)
-        (and_from (is_u32 (length cs)) (list_all is_id cs) (lt-ltb (length cs) (2 ^ 32) few) (children-are-ids site.dag x ranged.stored)))
-        (and_from (is_u32 (length path)) (list_all is_pair path) (lt-ltb (length path) (2 ^ 32) short)
-        (path-is-valid site.dag site.collected x (λ y. omega (arith, ranged.few_children y)) ranged.stored));
+          and_from (is_u64 number && are_children cs) (is_path path)
+          (and_from (is_u64 number) (are_children cs) (lt-ltb number (2 ^ 64) fits)
+          (and_from (is_u32 (length cs)) (list_all is_id cs) (lt-ltb (length cs) (2 ^ 32) few) (children-are-ids site.dag x ranged.stored)))
+          (and_from (is_u32 (length path)) (list_all is_pair path) (lt-ltb (length path) (2 ^ 32) short)
+          (path-is-valid site.dag site.collected x (λ y. omega (arith, ranged.few_children y)) ranged.stored));
       short = omega (arith, ids-length cs, pairs-length path, length-append (children_spelling cs) (path_spelling path));
     }
 

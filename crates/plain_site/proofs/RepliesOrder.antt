@@ -1,36 +1,14 @@
 -- States in order: those that are apart are put in an ascending order.
-use Rattle.std.proofs.Common.{◌≡◌, ◌≢◌, ℕ, zero, suc, ◌+◌, ◌-◌, ◌≤◌, ◌<◌, ◌^◌, Bool, true, false, ◌&&◌, ◌||◌, ◌==◌, not, List, [], ◌∷◌, ◌++◌, length, filter, find, take, min, is_none, unwrap_or, Option, Some, None, nat_le, nat_lt, IsTrue, IsFalse, refl, sym, ◌∙◌, ap, subst, inl, inr, arith, lt-ltb, ltb-true, le-leb, leb-true, eq-eqb, eqb-true, length-append, cond, ltb-false}
-use Rattle.std.proofs.lemmas.Bool.{and_parts, and_from, or_cases, or_parts, or_from, or_left, or_right, cases_Bool, cond-true, cond-false, false_from_ne_true, not-true, both_ways}
-use Rattle.std.proofs.lemmas.List.{length-take}
-use Rattle.std.proofs.lemmas.Option.{none-some, same_Some}
-use Rattle.std.specs.Prelude.{slice_get}
+use Rattle.std.proofs.Common.{◌≡◌, ◌≢◌, ◌+◌, ◌≤◌, ◌<◌, Bool, true, false, ◌&&◌, ◌==◌, not, List, [], ◌∷◌, length, nat_lt, IsTrue, IsFalse, refl, sym, ◌∙◌, ap, subst, inl, inr, arith, lt-ltb, eq-eqb, ltb-false}
+use Rattle.std.proofs.lemmas.Bool.{and_parts, and_from, or_parts, or_from, or_left, or_right, cases_Bool, cond-true, cond-false, false_from_ne_true, not-true, both_ways}
 use Rattle.std.specs.List.{list_any, list_all}
 use Rattle.tardis_base.specs.declared.ids.StateId.{StateId}
 use Rattle.tardis_base.specs.declared.records.Record.{Record}
-use Rattle.tardis_base.specs.declared.requests.MergeOf.{MergeOf}
-use Rattle.tardis_base.specs.declared.requests.MergeOf.TheVariants.{Leaves, States as TheseStates}
-use Rattle.tardis_base.specs.declared.replies.Refusal.TheVariants.{TooMany, Unknown, Below, Comparable, WrongMode}
-use Rattle.tardis_base.specs.declared.replies.Reply.{Reply}
-use Rattle.tardis_base.specs.declared.replies.Reply.TheVariants.{Merging, Refused}
-use Rattle.tardis_base.specs.Ids.{root, same_id, is_among, is_before, are_ascending}
-use Rattle.tardis_base.specs.Keys.{is_key_before, are_ascending_keys}
-use Rattle.tardis_base.specs.Valid.{is_u32, is_id, is_key, is_within, are_parents, are_writes}
-use Rattle.wire_talk.specs.Valid.{is_merge_of, is_first_of, is_what}
-use Rattle.plain_dag.specs.States.{states, arrived, is_known}
-use Rattle.plain_dag.specs.Above.{is_above, are_comparable, comparable_pair, are_apart}
-use Rattle.plain_dag.specs.Begin.{is_admitted}
-use Rattle.plain_dag.specs.Conflicts.{conflict_keys}
-use Rattle.plain_dag.specs.Dag.{IsDag}
-use Rattle.plain_dag.specs.Forks.{is_leaf, leaves, is_fork_point, fork_points}
-use Rattle.plain_dag.specs.Floors.{Floor, Session}
-use Rattle.plain_dag.specs.Collection.{is_kept, kept_states}
-use Rattle.plain_dag.proofs.Ids.{same_id-true, same_id_self, among-first, any-from}
-use Rattle.plain_dag.proofs.Histories.{newest-is-known, known-stays}
+use Rattle.tardis_base.specs.Ids.{same_id, is_among, is_before, are_ascending}
+use Rattle.tardis_base.specs.Valid.{is_id}
+use Rattle.plain_dag.specs.Above.{is_above, are_comparable, are_apart}
+use Rattle.plain_dag.proofs.Ids.{any-from}
 use Rattle.plain_dag.proofs.Order.{above-reflexive, apart-means-incomparable}
-use Rattle.plain_dag.proofs.Keys.{ascending-parts, ascending-from, is_before_first, chosen-ascend, written-keys-ascend}
-use Rattle.plain_dag.proofs.ConflictKeys.{lists-conflict-keys}
-use Rattle.plain_dag.proofs.Leaves.{begins-at-leaves}
-use Rattle.plain_site.specs.Site.{Site}
 use Rattle.plain_site.specs.Merges.{with_state, in_order}
 use Rattle.plain_site.proofs.RepliesLists.{first, second}
 
@@ -142,6 +120,6 @@ order-ascends rs [] h = refl
 order-ascends rs (x ∷ xs) h =
     let parts = and_parts (not (list_any (are_comparable rs x) xs)) (are_apart rs xs) (sym (apart-means-incomparable rs x xs) ∙ h) in
     let other : IsFalse (is_among x xs) = false_from_ne_true (is_among x xs) (λ m.
-      both_ways (list_any (are_comparable rs x) xs) (not-true (list_any (are_comparable rs x) xs) parts.0)
-      (any-from (are_comparable rs x) xs x m (or_left (is_above rs x x) (is_above rs x x) (above-reflexive rs x)))) in
+    both_ways (list_any (are_comparable rs x) xs) (not-true (list_any (are_comparable rs x) xs) parts.0)
+    (any-from (are_comparable rs x) xs x m (or_left (is_above rs x x) (is_above rs x x) (above-reflexive rs x)))) in
     with-ascends x (in_order xs) (order-ascends rs xs parts.1) (order-others x xs other)
