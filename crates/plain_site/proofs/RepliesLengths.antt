@@ -1,6 +1,6 @@
--- How many bytes replies are spelled in.
+-- How many bytes replies are spelled in, and which replies fit a frame.
 use Rattle.std.proofs.Common.{◌≡◌, ℕ, ◌*◌, ◌≤◌, Bool, true, false, ◌&&◌, List, [], ◌∷◌, length, nat_le, IsTrue, refl, arith, leb-true, eqb-true, length-append}
-use Rattle.std.proofs.lemmas.Bool.{and_parts}
+use Rattle.std.proofs.lemmas.Bool.{and_parts, and_from}
 use Rattle.std.specs.Prelude.{flat_map, min}
 use Rattle.std.specs.List.{list_all}
 use Rattle.tardis_base.specs.declared.ids.StateId.{StateId}
@@ -16,6 +16,9 @@ use Rattle.tardis_base.specs.Valid.{is_u32, is_u64, is_u16, is_within, are_bytes
 use Rattle.wire_item.specs.Spellings.{id_spelling, key_spelling, consent_spelling}
 use Rattle.wire_talk.specs.Spellings.{refusal_spelling, reply_spelling, site_line_spelling, pair_spelling}
 use Rattle.wire_talk.specs.Valid.{is_refusal, is_reply, is_site_line, are_site_lines, is_first_of}
+use Rattle.plain_site.specs.Site.{Site}
+use Rattle.plain_site.specs.Answers.{refused}
+use Rattle.plain_site.proofs.RepliesFrame.{Replies, RefusesWell, good_replies}
 
 -- ===== Parts
 
@@ -62,7 +65,7 @@ first-length total number h = let e = eqb-true number (min total 256) h in omega
 
 -- ===== Refusals
 
-pub refusal-length : (refusal : Refusal) → IsTrue (is_refusal refusal) → length (refusal_spelling refusal) ≤ 200
+refusal-length : (refusal : Refusal) → IsTrue (is_refusal refusal) → length (refusal_spelling refusal) ≤ 200
 refusal-length Malformed h = omega arith
 refusal-length NotOpen h = omega arith
 refusal-length AlreadyOpen h = omega arith
@@ -101,7 +104,7 @@ is_long (Shown arrival children path) = true
 is_long (Batch batch) = true
 is_long _ = false
 
-pub reply-length : (reply : Reply) → is_long reply ≡ false → IsTrue (is_reply reply) → length (reply_spelling reply) ≤ 1048576
+reply-length : (reply : Reply) → is_long reply ≡ false → IsTrue (is_reply reply) → length (reply_spelling reply) ≤ 1048576
 reply-length (Opened ceiling) s h = omega arith
 reply-length (Begun state) s h = omega arith
 reply-length (Merging states) s h = omega (arith, ids-length states, parents-length states h)
@@ -138,3 +141,24 @@ reply-length (Early have) s h = omega arith
 reply-length Closed s h = omega arith
 reply-length (Refused refusal) s h = omega (arith, refusal-length refusal h)
 reply-length NoMemory s h = omega arith
+
+-- ===== Replies that fit
+
+-- the reply is one that can be spelled, and its bytes fit a frame
+pub record Fits (reply : Reply) : Type 0 where
+  pub valid : IsTrue (is_reply reply)
+  pub short : length (reply_spelling reply) ≤ 1048576
+
+pub reply-fits : (reply : Reply) → is_long reply ≡ false → IsTrue (is_reply reply) → Fits reply
+reply-fits reply few h = record { valid = h; short = reply-length reply few h }
+
+pub refusal-fits : (refusal : Refusal) → IsTrue (is_refusal refusal) → Fits (Refused refusal)
+refusal-fits refusal h = reply-fits (Refused refusal) refl h
+
+pub refuses : (site : Site) (refusal : Refusal) → IsTrue (is_refusal refusal) → Replies Fits (refused site refusal)
+refuses site refusal h = record { reply = refusal-fits refusal h }
+
+pub refuses-fit : (site : Site) → RefusesWell site (Replies Fits)
+refuses-fit site = record { not_open = refuses site NotOpen refl; no_txn = refuses site NoTxn refl; txn_open = refuses site TxnOpen refl }
+
+pub ruleset fitting_replies = (good_replies, refusal-fits, reply-fits, and_from)

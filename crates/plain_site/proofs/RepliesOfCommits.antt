@@ -27,16 +27,17 @@ use Rattle.plain_site.specs.Sound.{IsSoundTxn}
 use Rattle.plain_site.proofs.RepliesLists.{first, second, all-filter, all-found}
 use Rattle.plain_site.proofs.RepliesHistory.{is_stored, known-is-id, written-are-keys}
 use Rattle.plain_site.proofs.RepliesGrowth.{GrowsInRange, growth-refusal-is-valid}
-use Rattle.plain_site.proofs.RepliesFrame.{AllFit, AnswerFits, none-when, fit-none, fit-when, fit-found, reply-fits, refusal-fits, answer-fits, unless-both-fit, unless-fits}
+use Rattle.plain_site.proofs.RepliesLengths.{Fits, refusal-fits, reply-fits}
+use Rattle.plain_site.proofs.RepliesFrame.{AllGood, Replies, none-when, good-none, good-when, good-found, good-reply, unless-both-good, unless-good}
 use Rattle.plain_site.proofs.RepliesSound.{IsRanged}
 use Rattle.plain_site.proofs.RepliesOfReads.{single-writes, merge-states}
 
 -- ===== Growth
 
-pub growth-fits : (built : Built) (site : Site) (r : Record) → IsRanged site → IsTrue (is_stored r) → AllFit (growth_refusals built site r)
+pub growth-fits : (built : Built) (site : Site) (r : Record) → IsRanged site → IsTrue (is_stored r) → AllGood Fits (growth_refusals built site r)
 growth-fits built site r ranged h =
-    fit-found (λ f. f) (growth_refusal built.path_limits site.limits site.collected site.dag r) []
-    (λ f e. refusal-fits f (growth-refusal-is-valid built.path_limits site.limits site.collected site.dag r f grows e)) fit-none
+    good-found (λ f. f) (growth_refusal built.path_limits site.limits site.collected site.dag r) []
+    (λ f e. refusal-fits f (growth-refusal-is-valid built.path_limits site.limits site.collected site.dag r f grows e)) good-none
   where
     grows : GrowsInRange site.dag site.collected site.limits r
     grows = record {
@@ -57,21 +58,21 @@ next-is-id site ranged f =
     (and_from (nat_le 1 site.own) (nat_le 1 (own_count site + 1)) (le-leb 1 site.own ranged.own.0) (le-leb 1 (own_count site + 1) some)))
 
 pub commit-below-fits : (built : Built) (site : Site) (n : ℕ) (parents : List StateId) (writes : List KeyWrite) (refusals : List (Option Reply))
-    → IsRanged site → IsTrue (are_parents parents) → IsTrue (are_writes writes) → AllFit refusals → AnswerFits (commit_below built site n parents writes refusals)
+    → IsRanged site → IsTrue (are_parents parents) → IsTrue (are_writes writes) → AllGood Fits refusals → Replies Fits (commit_below built site n parents writes refusals)
 commit-below-fits built site n parents writes refusals ranged p w fit =
-    unless-both-fit site refusals (refuse (own_count site == 4294967295) SeqEnd ∷ growth_refusals built site r) (committed site n r) fit (λ none.
-    unless-both-fit site (refuse (own_count site == 4294967295) SeqEnd ∷ []) (growth_refusals built site r) (committed site n r)
-    (fit-when (own_count site == 4294967295) (Refused SeqEnd) [] (refusal-fits SeqEnd refl) fit-none)
+    unless-both-good site refusals (refuse (own_count site == 4294967295) SeqEnd ∷ growth_refusals built site r) (committed site n r) fit (λ none.
+    unless-both-good site (refuse (own_count site == 4294967295) SeqEnd ∷ []) (growth_refusals built site r) (committed site n r)
+    (good-when (own_count site == 4294967295) (Refused SeqEnd) [] (refusal-fits SeqEnd refl) good-none)
     (λ more. made (next-is-id site ranged (none-when (own_count site == 4294967295) (Refused SeqEnd) [] more).0)))
   where
     r : Record
     r = record { id = next_id site; parents = parents; writes = writes }
 
-    made : IsTrue (is_id (next_id site)) → AnswerFits (unless site (growth_refusals built site r) (committed site n r))
+    made : IsTrue (is_id (next_id site)) → Replies Fits (unless site (growth_refusals built site r) (committed site n r))
     made id =
-        unless-fits site (growth_refusals built site r) (committed site n r)
+        unless-good site (growth_refusals built site r) (committed site n r)
         (growth-fits built site r ranged (and_from (is_id (next_id site)) (are_writes writes) id w))
-        (λ none. answer-fits (committed site n r).0 (Committed r.id r.parents) (reply-fits (Committed r.id r.parents) refl (and_from (is_id r.id) (are_parents parents) id p)))
+        (λ none. good-reply (committed site n r).0 (Committed r.id r.parents) (reply-fits (Committed r.id r.parents) refl (and_from (is_id r.id) (are_parents parents) id p)))
 
 -- ===== Single transactions
 
@@ -94,21 +95,21 @@ one-parent : (x : StateId) → IsTrue (is_id x) → IsTrue (are_parents (x ∷ [
 one-parent x h = and_from (is_id x && true) true (and_from (is_id x) true h refl) refl
 
 commit-at-fits : (built : Built) (site : Site) (n : ℕ) (t : SingleTxn) (flags : EndFlags) (k : ℕ) (x : StateId)
-    → IsRanged site → IsTrue (are_writes t.writes) → IsTrue (is_id x) → AnswerFits (commit_at built site n t flags k x)
+    → IsRanged site → IsTrue (are_writes t.writes) → IsTrue (is_id x) → Replies Fits (commit_at built site n t flags k x)
 commit-at-fits built site n t flags k x ranged w h =
     let number : ℕ = length (children site.dag x) in
     let few : number < 2 ^ 32 = omega (arith, ranged.few_children x) in
     commit-below-fits built site n (x ∷ []) t.writes (refuse_found (λ c. Branches c x number) (broken flags k number) ∷ []) ranged (one-parent x h) w
-    (fit-found (λ c. Branches c x number) (broken flags k number) []
+    (good-found (λ c. Branches c x number) (broken flags k number) []
     (λ c e. refusal-fits (Branches c x number)
     (and_from (is_constraint c && is_id x) (is_u32 number)
-    (and_from (is_constraint c) (is_id x) (broken-is-constraint flags k number c e) h) (lt-ltb number (2 ^ 32) few))) fit-none)
+    (and_from (is_constraint c) (is_id x) (broken-is-constraint flags k number c e) h) (lt-ltb number (2 ^ 32) few))) good-none)
 
 commit-single-fits : (built : Built) (site : Site) (n : ℕ) (x : StateId) (reads : List (List ℕ)) (ws : List KeyWrite) (flags : EndFlags) (k : ℕ)
     → IsDag site.dag → IsRanged site → IsTrue (is_known site.dag x) → IsTrue (are_writes ws)
-    → AnswerFits (commit_single built site n (record { state = x; reads = reads; writes = ws }) flags k)
+    → Replies Fits (commit_single built site n (record { state = x; reads = reads; writes = ws }) flags k)
 commit-single-fits built site n x reads [] flags k dag ranged known w =
-    answer-fits (without_txn_of n site) (Ended x) (reply-fits (Ended x) refl (known-is-id site.dag x ranged.stored known))
+    good-reply (without_txn_of n site) (Ended x) (reply-fits (Ended x) refl (known-is-id site.dag x ranged.stored known))
 commit-single-fits built site n x reads (v ∷ vs) flags k dag ranged known w =
     let keys : List (List ℕ) = guarded flags reads (keys_of (v ∷ vs)) in
     commit-at-fits built site n (record { state = x; reads = reads; writes = v ∷ vs }) flags k (landing site.dag keys x) ranged w
@@ -123,16 +124,16 @@ pub open-conflict-is-key : (rs : List Record) (xs : List StateId) (ws : List Key
 open-conflict-is-key rs xs ws k stored e = all-found is_key (λ k. not (has_key k ws)) (conflict_keys rs xs) k (conflict-keys-are-keys rs xs stored) e
 
 commit-merge-fits : (built : Built) (site : Site) (n : ℕ) (t : MergeTxn) (flags : EndFlags)
-    → IsRanged site → IsTrue (are_parents t.states) → IsTrue (are_writes t.writes) → AnswerFits (commit_merge built site n t flags)
+    → IsRanged site → IsTrue (are_parents t.states) → IsTrue (are_writes t.writes) → Replies Fits (commit_merge built site n t flags)
 commit-merge-fits built site n t flags ranged p w =
     commit-below-fits built site n t.states t.writes
     (refuse (not (flags.0 == 0)) WrongMode ∷ refuse_found OpenConflict (open_conflict site.dag t.states t.writes) ∷ []) ranged p w
-    (fit-when (not (flags.0 == 0)) (Refused WrongMode) (refuse_found OpenConflict (open_conflict site.dag t.states t.writes) ∷ []) (refusal-fits WrongMode refl)
-    (fit-found OpenConflict (open_conflict site.dag t.states t.writes) []
-    (λ k e. refusal-fits (OpenConflict k) (open-conflict-is-key site.dag t.states t.writes k ranged.stored e)) fit-none))
+    (good-when (not (flags.0 == 0)) (Refused WrongMode) (refuse_found OpenConflict (open_conflict site.dag t.states t.writes) ∷ []) (refusal-fits WrongMode refl)
+    (good-found OpenConflict (open_conflict site.dag t.states t.writes) []
+    (λ k e. refusal-fits (OpenConflict k) (open-conflict-is-key site.dag t.states t.writes k ranged.stored e)) good-none))
 
 pub commit-fits : (built : Built) (site : Site) (n : ℕ) (ceiling : StateId) (t : Txn) (flags : EndFlags) (k : ℕ)
-    → IsDag site.dag → IsRanged site → IsSoundTxn site.dag ceiling t → AnswerFits (commit built site n t flags k)
+    → IsDag site.dag → IsRanged site → IsSoundTxn site.dag ceiling t → Replies Fits (commit built site n t flags k)
 commit-fits built site n ceiling (Single t) flags k dag ranged sound =
     commit-single-fits built site n t.state t.reads t.writes flags k dag ranged (first (is_known site.dag t.state) true sound.known) (single-writes t sound.shape)
 commit-fits built site n ceiling (Merge t) flags k dag ranged sound =

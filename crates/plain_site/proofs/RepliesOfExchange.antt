@@ -27,10 +27,10 @@ use Rattle.plain_site.specs.Built.{Built}
 use Rattle.plain_site.specs.Answers.{refuse, refuse_found, when}
 use Rattle.plain_site.specs.Commits.{with_record, growth_refusals}
 use Rattle.plain_site.specs.Exchange.{fitting, is_news_for, in_arrival_order, consents_from, batch_for, pull, is_early, judgements, deliver_record, consent_judgements, deliver}
-use Rattle.plain_site.proofs.RepliesLengths.{ids-length, consents-length, parents-some}
+use Rattle.plain_site.proofs.RepliesLengths.{ids-length, consents-length, parents-some, Fits, fitting_replies, refusal-fits, reply-fits}
 use Rattle.plain_site.proofs.RepliesLists.{first, second, all-append, all-found}
 use Rattle.plain_site.proofs.RepliesHistory.{IsShaped, record-shape, shape-stored, id-sequence-fits}
-use Rattle.plain_site.proofs.RepliesFrame.{Fits, AllFit, AnswerFits, fit-none, fit-when, fit-found, reply-fits, refusal-fits, answer-fits, unless-fits, unless-both-fit, fitting_replies}
+use Rattle.plain_site.proofs.RepliesFrame.{AllGood, Replies, good-none, good-when, good-found, good-reply, unless-good, unless-both-good}
 use Rattle.plain_site.proofs.RepliesSound.{IsRanged, is_ranged_floor, floor-ranged}
 use Rattle.plain_site.proofs.RepliesOfCommits.{growth-fits, open-conflict-is-key}
 use Rattle.plain_site.proofs.RepliesOfMerges.{comparable-fits}
@@ -209,14 +209,14 @@ batch-fits site counts dag ranged one =
       short = omega (arith, consents-length cs, length-append (records_spelling rs) (consents_spelling cs));
     }
 
-pub pull-fits : (site : Site) (counts : List ℕ) → IsDag site.dag → IsRanged site → length site.floors ≡ site.limits.sites → IsTrue (are_counts counts) → AnswerFits (pull site counts)
+pub pull-fits : (site : Site) (counts : List ℕ) → IsDag site.dag → IsRanged site → length site.floors ≡ site.limits.sites → IsTrue (are_counts counts) → Replies Fits (pull site counts)
 pull-fits site counts dag ranged one h =
     let within = first (is_within 1 16 (length counts)) (list_all is_u32 counts) h in
     let most = leb-true (length counts) 16 (second (nat_le 1 (length counts)) (nat_le (length counts) 16) within) in
     let few : length counts < 2 ^ 16 = omega arith in
-    unless-fits site (refuse (not (length counts == site.limits.sites)) (BadSite (length counts)) ∷ []) (site, BatchIs (batch_for site counts))
-    (fit-when (not (length counts == site.limits.sites)) (Refused (BadSite (length counts))) [] (refusal-fits (BadSite (length counts)) (lt-ltb (length counts) (2 ^ 16) few)) fit-none)
-    (λ none. answer-fits site (BatchIs (batch_for site counts)) (batch-fits site counts dag ranged one))
+    unless-good site (refuse (not (length counts == site.limits.sites)) (BadSite (length counts)) ∷ []) (site, BatchIs (batch_for site counts))
+    (good-when (not (length counts == site.limits.sites)) (Refused (BadSite (length counts))) [] (refusal-fits (BadSite (length counts)) (lt-ltb (length counts) (2 ^ 16) few)) good-none)
+    (λ none. good-reply site (BatchIs (batch_for site counts)) (batch-fits site counts dag ranged one))
 
 -- ===== Deliver
 
@@ -225,7 +225,7 @@ id-site-fits x h = first (is_u16 x.site) (is_u32 x.sequence) (first (is_u16 x.si
 
 -- a refusal of the parents or the writes
 faults-fit : (site : Site) (r : Record) → IsRanged site → IsShaped r →
-    AllFit
+    AllGood Fits
     (refuse_found ClosedParent (find (is_closed site.dag site.floors) r.parents)
     ∷ refuse_found (λ (p : StateId × StateId). Comparable p.0 p.1) (comparable_pair site.dag r.parents)
     ∷ refuse_found OpenConflict (open_conflict site.dag r.parents r.writes)
@@ -234,13 +234,13 @@ faults-fit site r ranged shape =
     let ids : IsTrue (list_all is_id r.parents) =
     second (is_within 1 8 (length r.parents)) (list_all is_id r.parents) (first (is_within 1 8 (length r.parents) && list_all is_id r.parents) (are_ascending r.parents) shape.parents) in
     let conflicts : List (Option Reply) = refuse_found OpenConflict (open_conflict site.dag r.parents r.writes) ∷ [] in
-    fit-found ClosedParent (find (is_closed site.dag site.floors) r.parents) (refuse_found (λ (p : StateId × StateId). Comparable p.0 p.1) (comparable_pair site.dag r.parents) ∷ conflicts)
+    good-found ClosedParent (find (is_closed site.dag site.floors) r.parents) (refuse_found (λ (p : StateId × StateId). Comparable p.0 p.1) (comparable_pair site.dag r.parents) ∷ conflicts)
     (λ p e. refusal-fits (ClosedParent p) (all-found is_id (is_closed site.dag site.floors) r.parents p ids e))
     (comparable-fits site.dag r.parents conflicts ids
-    (fit-found OpenConflict (open_conflict site.dag r.parents r.writes) []
-    (λ k e. refusal-fits (OpenConflict k) (open-conflict-is-key site.dag r.parents r.writes k ranged.stored e)) fit-none))
+    (good-found OpenConflict (open_conflict site.dag r.parents r.writes) []
+    (λ k e. refusal-fits (OpenConflict k) (open-conflict-is-key site.dag r.parents r.writes k ranged.stored e)) good-none))
 
-judgements-fit : (site : Site) (r : Record) → IsRanged site → IsShaped r → AllFit (judgements site r)
+judgements-fit : (site : Site) (r : Record) → IsRanged site → IsShaped r → AllGood Fits (judgements site r)
 judgements-fit site r ranged shape =
     let here : ℕ = count_of_site site.dag r.id.site in
     let place : IsTrue (is_u16 r.id.site) = id-site-fits r.id shape.id in
@@ -254,19 +254,19 @@ judgements-fit site r ranged shape =
     let c : List (Option Reply) = when (is_early site r) (Early here) ∷ d in
     let b : List (Option Reply) = refuse (r.id.site == site.own) (OwnItem r.id.site r.id.sequence) ∷ c in
     let a : List (Option Reply) = when (nat_le r.id.sequence here) Known ∷ b in
-    fit-when (nat_lt site.limits.sites r.id.site) (Refused (BadSite r.id.site)) a (refusal-fits (BadSite r.id.site) place)
-    (fit-when (nat_le r.id.sequence here) Known b (reply-fits Known refl refl)
-    (fit-when (r.id.site == site.own) (Refused (OwnItem r.id.site r.id.sequence)) c
+    good-when (nat_lt site.limits.sites r.id.site) (Refused (BadSite r.id.site)) a (refusal-fits (BadSite r.id.site) place)
+    (good-when (nat_le r.id.sequence here) Known b (reply-fits Known refl refl)
+    (good-when (r.id.site == site.own) (Refused (OwnItem r.id.site r.id.sequence)) c
     (refusal-fits (OwnItem r.id.site r.id.sequence) (and_from (is_u16 r.id.site) (is_u32 r.id.sequence) place sequence))
-    (fit-when (is_early site r) (Early here) d (reply-fits (Early here) refl count) (faults-fit site r ranged shape))))
+    (good-when (is_early site r) (Early here) d (reply-fits (Early here) refl count) (faults-fit site r ranged shape))))
 
-pub deliver-record-fits : (built : Built) (site : Site) (r : Record) → IsRanged site → IsTrue (is_record r) → AnswerFits (deliver_record built site r)
+pub deliver-record-fits : (built : Built) (site : Site) (r : Record) → IsRanged site → IsTrue (is_record r) → Replies Fits (deliver_record built site r)
 deliver-record-fits built site r ranged h =
-    unless-both-fit site (judgements site r) (growth_refusals built site r) (with_record r site, Applied) (judgements-fit site r ranged (record-shape r h)) (λ none.
-    unless-fits site (growth_refusals built site r) (with_record r site, Applied) (growth-fits built site r ranged (shape-stored r h))
-    (λ more. answer-fits (with_record r site) Applied (reply-fits Applied refl refl)))
+    unless-both-good site (judgements site r) (growth_refusals built site r) (with_record r site, Applied) (judgements-fit site r ranged (record-shape r h)) (λ none.
+    unless-good site (growth_refusals built site r) (with_record r site, Applied) (growth-fits built site r ranged (shape-stored r h))
+    (λ more. good-reply (with_record r site) Applied (reply-fits Applied refl refl)))
 
-consent-judgements-fit : (site : Site) (c : Consent) → IsRanged site → IsTrue (is_consent c) → AllFit (consent_judgements site c)
+consent-judgements-fit : (site : Site) (c : Consent) → IsRanged site → IsTrue (is_consent c) → AllGood Fits (consent_judgements site c)
 consent-judgements-fit site c ranged h =
     let a = and_parts (is_u16 c.site && is_u32 c.number && is_id c.floor && is_u32 c.count) (nat_le 1 c.site && nat_le 1 c.number) h in
     let b = and_parts (is_u16 c.site && is_u32 c.number && is_id c.floor) (is_u32 c.count) a.0 in
@@ -278,8 +278,8 @@ consent-judgements-fit site c ranged h =
     let floor : IsTrue (is_id (floor_of site.floors c.site).state) = (floor-ranged site c.site ranged).state in
     search fitting_replies depth 12
 
-pub deliver-fits : (built : Built) (site : Site) (item : Item) → IsRanged site → IsTrue (is_item item) → AnswerFits (deliver built site item)
+pub deliver-fits : (built : Built) (site : Site) (item : Item) → IsRanged site → IsTrue (is_item item) → Replies Fits (deliver built site item)
 deliver-fits built site (State r) ranged h = deliver-record-fits built site r ranged h
 deliver-fits built site (Promise c) ranged h =
     let next : Site = record site { floors = with_floor site.floors c.site (record { state = c.floor; number = c.number; stated = c.count }) } in
-    unless-fits site (consent_judgements site c) (next, Applied) (consent-judgements-fit site c ranged h) (λ none. answer-fits next Applied (reply-fits Applied refl refl))
+    unless-good site (consent_judgements site c) (next, Applied) (consent-judgements-fit site c ranged h) (λ none. good-reply next Applied (reply-fits Applied refl refl))

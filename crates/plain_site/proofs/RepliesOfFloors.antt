@@ -18,33 +18,34 @@ use Rattle.plain_site.specs.FloorSteps.{raised, raise_to, raise, raise_auto, tid
 use Rattle.plain_site.specs.Sound.{IsSound, is_sound_session}
 use Rattle.plain_site.proofs.RepliesLists.{first, all-found, all-unwrapped}
 use Rattle.plain_site.proofs.RepliesHistory.{states-are-ids}
-use Rattle.plain_site.proofs.RepliesFrame.{Fits, AllFit, AnswerFits, none-when, fit-none, fit-when, fit-found, reply-fits, refusal-fits, answer-fits, unless-both-fit, unless-fits}
+use Rattle.plain_site.proofs.RepliesLengths.{Fits, refusal-fits, reply-fits}
+use Rattle.plain_site.proofs.RepliesFrame.{AllGood, Replies, none-when, good-none, good-when, good-found, good-reply, unless-both-good, unless-good}
 use Rattle.plain_site.proofs.RepliesSound.{IsRanged, floor-ranged, session-open}
 
 -- ===== Floors
 
-raise-to-fits : (site : Site) (x : StateId) (refusals : List (Option Reply)) → IsRanged site → IsTrue (is_id x) → AllFit refusals → AnswerFits (raise_to site x refusals)
+raise-to-fits : (site : Site) (x : StateId) (refusals : List (Option Reply)) → IsRanged site → IsTrue (is_id x) → AllGood Fits refusals → Replies Fits (raise_to site x refusals)
 raise-to-fits site x refusals ranged h fit =
     let number : ℕ = (own_floor site).number in
-    unless-both-fit site refusals (refuse (number == 4294967295) SeqEnd ∷ []) (raised site x) fit (λ none.
-    unless-fits site (refuse (number == 4294967295) SeqEnd ∷ []) (raised site x)
-    (fit-when (number == 4294967295) (Refused SeqEnd) [] (refusal-fits SeqEnd refl) fit-none)
+    unless-both-good site refusals (refuse (number == 4294967295) SeqEnd ∷ []) (raised site x) fit (λ none.
+    unless-good site (refuse (number == 4294967295) SeqEnd ∷ []) (raised site x)
+    (good-when (number == 4294967295) (Refused SeqEnd) [] (refusal-fits SeqEnd refl) good-none)
     (λ more.
     let f = (none-when (number == 4294967295) (Refused SeqEnd) [] more).0 in
     let most : number ≢ 4294967295 = λ e. both_ways (number == 4294967295) f (eq-eqb number 4294967295 e) in
     let few : number < 2 ^ 32 = ltb-true number (2 ^ 32) (floor-ranged site site.own ranged).number in
     let next : number + 1 < 2 ^ 32 = omega arith in
-    answer-fits (raised site x).0 (Raised x (number + 1)) (reply-fits (Raised x (number + 1)) refl (and_from (is_id x) (is_u32 (number + 1)) h (lt-ltb (number + 1) (2 ^ 32) next)))))
+    good-reply (raised site x).0 (Raised x (number + 1)) (reply-fits (Raised x (number + 1)) refl (and_from (is_id x) (is_u32 (number + 1)) h (lt-ltb (number + 1) (2 ^ 32) next)))))
 
-pub raise-fits : (built : Built) (site : Site) (x : StateId) → IsSound built site → IsRanged site → IsTrue (is_id x) → AnswerFits (raise site x)
+pub raise-fits : (built : Built) (site : Site) (x : StateId) → IsSound built site → IsRanged site → IsTrue (is_id x) → Replies Fits (raise site x)
 raise-fits built site x sound ranged h =
     let floor : StateId = (own_floor site).state in
     let held : List (Option Reply) = refuse_found (λ (s : ℕ × Session). Held s.0 s.1.ceiling) (holding_session site.dag site.sessions x) ∷ [] in
     raise-to-fits site x
     (refuse (not (is_known site.dag x)) (Unknown x) ∷ refuse (not (is_above site.dag floor x)) (FloorBack floor) ∷ held) ranged h
-    (fit-when (not (is_known site.dag x)) (Refused (Unknown x)) (refuse (not (is_above site.dag floor x)) (FloorBack floor) ∷ held) (refusal-fits (Unknown x) h)
-    (fit-when (not (is_above site.dag floor x)) (Refused (FloorBack floor)) held (refusal-fits (FloorBack floor) (floor-ranged site site.own ranged).state)
-    (fit-found (λ (s : ℕ × Session). Held s.0 s.1.ceiling) (holding_session site.dag site.sessions x) [] (λ s e. holds s e) fit-none)))
+    (good-when (not (is_known site.dag x)) (Refused (Unknown x)) (refuse (not (is_above site.dag floor x)) (FloorBack floor) ∷ held) (refusal-fits (Unknown x) h)
+    (good-when (not (is_above site.dag floor x)) (Refused (FloorBack floor)) held (refusal-fits (FloorBack floor) (floor-ranged site site.own ranged).state)
+    (good-found (λ (s : ℕ × Session). Held s.0 s.1.ceiling) (holding_session site.dag site.sessions x) [] (λ s e. holds s e) good-none)))
   where
     holds : (s : ℕ × Session) → holding_session site.dag site.sessions x ≡ Some s → Fits (Refused (Held s.0 s.1.ceiling))
     holds s e =
@@ -54,13 +55,13 @@ raise-fits built site x sound ranged h =
         (first (is_u16 s.0) (is_known site.dag s.1.ceiling) (first (is_u16 s.0 && is_known site.dag s.1.ceiling) (is_known site.dag s.1.last) open_one))
         (session-open site.dag s ranged.stored open_one).ceiling_id)
 
-pub raise-auto-fits : (site : Site) → IsRanged site → AnswerFits (raise_auto site)
+pub raise-auto-fits : (site : Site) → IsRanged site → Replies Fits (raise_auto site)
 raise-auto-fits site ranged =
     let floor : StateId = (own_floor site).state in
     raise-to-fits site (automatic_floor site.dag floor site.sessions) [] ranged
     (all-unwrapped is_id (find (λ x. is_above site.dag floor x && is_above_ceilings site.dag site.sessions x) (states site.dag)) floor (floor-ranged site site.own ranged).state
     (λ y e. all-found is_id (λ x. is_above site.dag floor x && is_above_ceilings site.dag site.sessions x) (states site.dag) y (states-are-ids site.dag ranged.stored) e))
-    fit-none
+    good-none
 
 -- ===== Collection
 
@@ -73,9 +74,9 @@ tidied-length (suc n) rs floors ks = go (find (is_collectable rs floors ks) (sta
     go None more = omega arith
     go (Some x) more = more x
 
-pub tidy-fits : (site : Site) (n : ℕ) → IsTrue (is_u16 n) → AnswerFits (tidy site n)
+pub tidy-fits : (site : Site) (n : ℕ) → IsTrue (is_u16 n) → Replies Fits (tidy site n)
 tidy-fits site n h =
     let collected : List StateId = tidied n site.dag site.floors site.collected in
     let few : length collected - length site.collected < 2 ^ 32 = omega (arith, tidied-length n site.dag site.floors site.collected, ltb-true n (2 ^ 16) h) in
-    answer-fits (tidy site n).0 (Tidied (length collected - length site.collected))
+    good-reply (tidy site n).0 (Tidied (length collected - length site.collected))
     (reply-fits (Tidied (length collected - length site.collected)) refl (lt-ltb (length collected - length site.collected) (2 ^ 32) few))

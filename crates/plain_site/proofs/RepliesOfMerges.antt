@@ -37,10 +37,10 @@ use Rattle.plain_site.specs.Built.{Built}
 use Rattle.plain_site.specs.Answers.{refuse, refuse_found}
 use Rattle.plain_site.specs.Merges.{in_order, states_to_merge, merge_at, begin_merge, page_of_keys, page_of_states, fork_points_of, conflicts_of}
 use Rattle.plain_site.specs.Sound.{IsSound, IsSoundTxn}
-use Rattle.plain_site.proofs.RepliesLengths.{parents-some}
+use Rattle.plain_site.proofs.RepliesLengths.{parents-some, Fits, refusal-fits, refuses, reply-fits}
 use Rattle.plain_site.proofs.RepliesLists.{first, second, all-take, all-filter, all-found, all-from-all, all-append, fewer-pass}
 use Rattle.plain_site.proofs.RepliesHistory.{arrived-are-ids}
-use Rattle.plain_site.proofs.RepliesFrame.{Fits, AllFit, AnswerFits, none-when, none-found, fit-none, fit-when, fit-found, reply-fits, refusal-fits, answer-fits, refuses, unless-fits}
+use Rattle.plain_site.proofs.RepliesFrame.{AllGood, Replies, none-when, none-found, good-none, good-when, good-found, good-reply, unless-good}
 use Rattle.plain_site.proofs.RepliesSound.{IsRanged, IsOpen}
 use Rattle.plain_site.proofs.RepliesOrder.{order-length, order-ids, order-ascends}
 use Rattle.plain_site.proofs.RepliesOfCommits.{conflict-keys-are-keys}
@@ -67,24 +67,24 @@ pair-is-valid rs (x ∷ ys) p h e = go (find (are_comparable rs x) ys) refl (pai
         (and_from (is_id x) (is_id y) (first (is_id x) (list_all is_id ys) h) (all-found is_id (are_comparable rs x) ys y (second (is_id x) (list_all is_id ys) h) is))
 
 -- a found pair, as a refusal
-pub comparable-fits : (rs : List Record) (xs : List StateId) (more : List (Option Reply)) → IsTrue (list_all is_id xs) → AllFit more
-    → AllFit (refuse_found (λ (p : StateId × StateId). Comparable p.0 p.1) (comparable_pair rs xs) ∷ more)
+pub comparable-fits : (rs : List Record) (xs : List StateId) (more : List (Option Reply)) → IsTrue (list_all is_id xs) → AllGood Fits more
+    → AllGood Fits (refuse_found (λ (p : StateId × StateId). Comparable p.0 p.1) (comparable_pair rs xs) ∷ more)
 comparable-fits rs xs more h m =
-    fit-found (λ (p : StateId × StateId). Comparable p.0 p.1) (comparable_pair rs xs) more
+    good-found (λ (p : StateId × StateId). Comparable p.0 p.1) (comparable_pair rs xs) more
     (λ p e. refusal-fits (Comparable p.0 p.1) (pair-is-valid rs xs p h e)) m
 
 apart-from-none : (rs : List Record) (xs : List StateId) → comparable_pair rs xs ≡ None → IsTrue (are_apart rs xs)
 apart-from-none rs xs e = ap is_none e
 
-merge-at-fits : (site : Site) (n : ℕ) (ceiling : StateId) (xs : List StateId) → IsTrue (is_id ceiling) → AreStates xs → AnswerFits (merge_at site n ceiling xs)
+merge-at-fits : (site : Site) (n : ℕ) (ceiling : StateId) (xs : List StateId) → IsTrue (is_id ceiling) → AreStates xs → Replies Fits (merge_at site n ceiling xs)
 merge-at-fits site n ceiling xs c h =
-    unless-fits site (refuse (nat_lt 8 (length xs)) (TooMany 3 (length xs)) ∷ unknown) (next, Merging (in_order xs))
-    (fit-when (nat_lt 8 (length xs)) (Refused (TooMany 3 (length xs))) unknown (refusal-fits (TooMany 3 (length xs)) (lt-ltb (length xs) (2 ^ 32) few))
-    (fit-found Unknown (find (λ x. not (is_known site.dag x)) xs) below
+    unless-good site (refuse (nat_lt 8 (length xs)) (TooMany 3 (length xs)) ∷ unknown) (next, Merging (in_order xs))
+    (good-when (nat_lt 8 (length xs)) (Refused (TooMany 3 (length xs))) unknown (refusal-fits (TooMany 3 (length xs)) (lt-ltb (length xs) (2 ^ 32) few))
+    (good-found Unknown (find (λ x. not (is_known site.dag x)) xs) below
     (λ x e. refusal-fits (Unknown x) (all-found is_id (λ x. not (is_known site.dag x)) xs x h.ids e))
-    (fit-found (λ x. Below x ceiling) (find (λ x. not (is_admitted site.dag ceiling x)) xs) apart
+    (good-found (λ x. Below x ceiling) (find (λ x. not (is_admitted site.dag ceiling x)) xs) apart
     (λ x e. refusal-fits (Below x ceiling) (and_from (is_id x) (is_id ceiling) (all-found is_id (λ x. not (is_admitted site.dag ceiling x)) xs x h.ids e) c))
-    (comparable-fits site.dag xs [] h.ids fit-none))))
+    (comparable-fits site.dag xs [] h.ids good-none))))
     (λ none.
     let a = none-when (nat_lt 8 (length xs)) (Refused (TooMany 3 (length xs))) unknown none in
     let b = none-found Unknown (find (λ x. not (is_known site.dag x)) xs) below a.1 in
@@ -107,11 +107,11 @@ merge-at-fits site n ceiling xs c h =
     few : length xs < 2 ^ 32
     few = omega (arith, h.few)
 
-    merging : IsFalse (nat_lt 8 (length xs)) → IsTrue (are_apart site.dag xs) → AnswerFits (next, Merging (in_order xs))
+    merging : IsFalse (nat_lt 8 (length xs)) → IsTrue (are_apart site.dag xs) → Replies Fits (next, Merging (in_order xs))
     merging eight apart =
         let most : length (in_order xs) ≤ 8 = omega (arith, order-length xs, ltb-false 8 (length xs) eight) in
         let some : 1 ≤ length (in_order xs) = omega (arith, order-length xs, h.some) in
-        answer-fits next (Merging (in_order xs)) (reply-fits (Merging (in_order xs)) refl
+        good-reply next (Merging (in_order xs)) (reply-fits (Merging (in_order xs)) refl
         (and_from (is_within 1 8 (length (in_order xs)) && list_all is_id (in_order xs)) (are_ascending (in_order xs))
         (and_from (is_within 1 8 (length (in_order xs))) (list_all is_id (in_order xs))
         (and_from (nat_le 1 (length (in_order xs))) (nat_le (length (in_order xs)) 8) (le-leb 1 (length (in_order xs)) some) (le-leb (length (in_order xs)) 8 most))
@@ -139,7 +139,7 @@ to-merge built site (TheseStates xs) sound ranged h =
     let within = and_parts (nat_le 1 (length xs)) (nat_le (length xs) 255) parts.0 in
     record { ids = parts.1; some = leb-true 1 (length xs) within.0; few = omega (arith, leb-true (length xs) 255 within.1) }
 
-pub begin-merge-fits : (built : Built) (site : Site) (n : ℕ) (s : Session) (of : MergeOf) → IsSound built site → IsRanged site → IsOpen site.dag s → IsTrue (is_merge_of of) → AnswerFits (begin_merge site n s of)
+pub begin-merge-fits : (built : Built) (site : Site) (n : ℕ) (s : Session) (of : MergeOf) → IsSound built site → IsRanged site → IsOpen site.dag s → IsTrue (is_merge_of of) → Replies Fits (begin_merge site n s of)
 begin-merge-fits built site n s of sound ranged held h = merge-at-fits site n s.ceiling (states_to_merge site of) held.ceiling_id (to-merge built site of sound ranged h)
 
 -- ===== ForkPoints
@@ -181,10 +181,10 @@ few-fork-points built site c (y ∷ ys) sound ranged ceiling under known admitte
     (λ x here fork. second (is_known site.dag x) (not (is_among x site.collected)) (stays.fork_points_stay x y c ys ceiling under known admitted here fork)) in
     omega (arith, ranged.few_kept)
 
-pub fork-points-fit : (built : Built) (site : Site) (n : ℕ) (s : Session) (t : Txn) → IsSound built site → IsRanged site → entry_of n site.sessions ≡ Some s → IsSoundTxn site.dag s.ceiling t → AnswerFits (fork_points_of site t)
+pub fork-points-fit : (built : Built) (site : Site) (n : ℕ) (s : Session) (t : Txn) → IsSound built site → IsRanged site → entry_of n site.sessions ≡ Some s → IsSoundTxn site.dag s.ceiling t → Replies Fits (fork_points_of site t)
 fork-points-fit built site n s (Single t) sound ranged e txn = refuses site WrongMode refl
 fork-points-fit built site n s (Merge t) sound ranged e txn =
-    answer-fits site (page_of_states (fork_points site.dag t.states))
+    good-reply site (page_of_states (fork_points site.dag t.states))
     (page-fits (fork_points site.dag t.states) (all-filter is_id (is_fork_point site.dag t.states) (arrived site.dag) (arrived-are-ids site.dag ranged.stored))
     (few-fork-points built site s.ceiling t.states sound ranged (ranged.sessions n s e).ceiling (under-floor built site n s sound ranged e) txn.known txn.admitted
     (parents-some t.states (merge-states t txn.shape))))
@@ -215,10 +215,10 @@ keys-page-fits ks h up =
     (and_from (is_u32 total) (list_all is_key page) (lt-ltb total (2 ^ 32) few) (all-take is_key 256 ks h)) (eq-eqb (length page) (min total 256) number))
     (taken-ascend 256 ks up))
 
-pub conflicts-fit : (site : Site) (t : Txn) (after : List ℕ) → IsRanged site → AnswerFits (conflicts_of site t after)
+pub conflicts-fit : (site : Site) (t : Txn) (after : List ℕ) → IsRanged site → Replies Fits (conflicts_of site t after)
 conflicts-fit site (Single t) after ranged = refuses site WrongMode refl
 conflicts-fit site (Merge t) after ranged =
     let ks : List (List ℕ) = filter (is_key_before after) (conflict_keys site.dag t.states) in
-    answer-fits site (page_of_keys ks)
+    good-reply site (page_of_keys ks)
     (keys-page-fits ks (all-filter is_key (is_key_before after) (conflict_keys site.dag t.states) (conflict-keys-are-keys site.dag t.states ranged.stored))
     (chosen-ascend (is_key_before after) (conflict_keys site.dag t.states) (lists-conflict-keys site.dag t.states).ascends))

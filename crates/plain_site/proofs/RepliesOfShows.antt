@@ -25,11 +25,11 @@ use Rattle.plain_site.specs.Answers.{refuse}
 use Rattle.plain_site.specs.Merges.{page_of_states}
 use Rattle.plain_site.specs.Shows.{site_lines, stat, show, show_leaves}
 use Rattle.plain_site.specs.Sound.{IsSound}
-use Rattle.plain_site.proofs.RepliesLengths.{ids-length, pairs-length}
+use Rattle.plain_site.proofs.RepliesLengths.{ids-length, pairs-length, Fits, refusal-fits, reply-fits}
 use Rattle.plain_site.proofs.RepliesLists.{first, second, all-take, all-filter, fewer-pass}
 use Rattle.plain_site.proofs.RepliesHistory.{is_stored, arrived-are-ids, children-are-ids}
 use Rattle.plain_site.proofs.RepliesGrowth.{path-is-valid}
-use Rattle.plain_site.proofs.RepliesFrame.{Fits, AnswerFits, none-when, fit-none, fit-when, reply-fits, refusal-fits, answer-fits, unless-fits}
+use Rattle.plain_site.proofs.RepliesFrame.{Replies, none-when, good-none, good-when, good-reply, unless-good}
 use Rattle.plain_site.proofs.RepliesSound.{IsRanged, is_ranged_floor}
 
 -- ===== Pages
@@ -66,10 +66,10 @@ leaves-are-few built site sound ranged = omega (arith, few-leaves site.dag site.
 pub leaves-are-ids : (site : Site) → IsRanged site → IsTrue (list_all is_id (leaves site.dag))
 leaves-are-ids site ranged = all-filter is_id (is_leaf site.dag) (arrived site.dag) (arrived-are-ids site.dag ranged.stored)
 
-pub leaves-fit : (built : Built) (site : Site) → IsSound built site → IsRanged site → AnswerFits (show_leaves site)
+pub leaves-fit : (built : Built) (site : Site) → IsSound built site → IsRanged site → Replies Fits (show_leaves site)
 leaves-fit built site sound ranged =
     let few : length (leaves site.dag) < 2 ^ 32 = omega (arith, leaves-are-few built site sound ranged) in
-    answer-fits site (page_of_states (leaves site.dag)) (page-fits (leaves site.dag) (leaves-are-ids site ranged) few)
+    good-reply site (page_of_states (leaves site.dag)) (page-fits (leaves site.dag) (leaves-are-ids site ranged) few)
 
 -- ===== Stat
 
@@ -88,7 +88,7 @@ lines-valid rs n (f ∷ fs) counts h =
     (second (is_id f.state && is_u32 f.stated) (is_u32 f.number) here))
     (lines-valid rs (n + 1) fs counts (second (is_ranged_floor f) (list_all is_ranged_floor fs) h))
 
-pub stat-fits : (built : Built) (site : Site) → IsSound built site → IsRanged site → AnswerFits (stat site)
+pub stat-fits : (built : Built) (site : Site) → IsSound built site → IsRanged site → Replies Fits (stat site)
 stat-fits built site sound ranged =
     let known : ℕ = length site.dag in
     let kept : ℕ = length (kept_states site.dag site.collected) in
@@ -101,7 +101,7 @@ stat-fits built site sound ranged =
     let number : length lines ≡ site.limits.sites = number-of-lines site.dag 1 site.floors ∙ sound.one_floor_each in
     let some : 1 ≤ length lines = omega (arith, ranged.limits.sites) in
     let most : length lines ≤ 16 = omega (arith, ranged.limits.sites) in
-    answer-fits site (Stat known kept ends sessions lines) (reply-fits (Stat known kept ends sessions lines) refl
+    good-reply site (Stat known kept ends sessions lines) (reply-fits (Stat known kept ends sessions lines) refl
     (and_from (is_u64 known && is_u32 kept && is_u32 ends && is_u16 sessions) (are_site_lines lines)
     (and_from (is_u64 known && is_u32 kept && is_u32 ends) (is_u16 sessions)
     (and_from (is_u64 known && is_u32 kept) (is_u32 ends)
@@ -139,16 +139,16 @@ shown-fits site x ranged few_pairs =
       short = omega (arith, ids-length cs, pairs-length path, length-append (children_spelling cs) (path_spelling path));
     }
 
-pub show-fits : (built : Built) (site : Site) (x : StateId) → IsTrue built.path_limits → IsSound built site → IsRanged site → IsTrue (is_id x) → AnswerFits (show site x)
+pub show-fits : (built : Built) (site : Site) (x : StateId) → IsTrue built.path_limits → IsSound built site → IsRanged site → IsTrue (is_id x) → Replies Fits (show site x)
 show-fits built site x limited sound ranged h =
-    unless-fits site (refuse (not (is_known site.dag x)) (Unknown x) ∷ refuse (is_among x site.collected) (Collected x) ∷ [])
+    unless-good site (refuse (not (is_known site.dag x)) (Unknown x) ∷ refuse (is_among x site.collected) (Collected x) ∷ [])
     (site, Shown (arrival site.dag x) (children site.dag x) (fork_path site.dag site.collected x))
-    (fit-when (not (is_known site.dag x)) (Refused (Unknown x)) (refuse (is_among x site.collected) (Collected x) ∷ []) (refusal-fits (Unknown x) h)
-    (fit-when (is_among x site.collected) (Refused (Collected x)) [] (refusal-fits (Collected x) h) fit-none))
+    (good-when (not (is_known site.dag x)) (Refused (Unknown x)) (refuse (is_among x site.collected) (Collected x) ∷ []) (refusal-fits (Unknown x) h)
+    (good-when (is_among x site.collected) (Refused (Collected x)) [] (refusal-fits (Collected x) h) good-none))
     (λ none.
     let a = none-when (not (is_known site.dag x)) (Refused (Unknown x)) (refuse (is_among x site.collected) (Collected x) ∷ []) none in
     let b = none-when (is_among x site.collected) (Refused (Collected x)) [] a.1 in
     let known : IsTrue (is_known site.dag x) = true_from_ne_false (is_known site.dag x) (λ f. both_ways (not (is_known site.dag x)) a.0 (not_from_false (is_known site.dag x) f)) in
     let kept : IsTrue (is_kept site.dag site.collected x) = and_from (is_known site.dag x) (not (is_among x site.collected)) known (not_from_false (is_among x site.collected) b.0) in
     let few : length (fork_path site.dag site.collected x) ≤ 4096 = omega (arith, sound.short_paths limited x kept, ranged.limits.path) in
-    answer-fits site (Shown (arrival site.dag x) (children site.dag x) (fork_path site.dag site.collected x)) (shown-fits site x ranged few))
+    good-reply site (Shown (arrival site.dag x) (children site.dag x) (fork_path site.dag site.collected x)) (shown-fits site x ranged few))
