@@ -1,4 +1,14 @@
 -- What follows from the plain site's definitions.
+pub mod SoundEntries
+pub mod SoundKeys
+pub mod SoundAnswers
+pub mod SoundBooks
+pub mod SoundSessions
+pub mod SoundHistories
+pub mod SoundArrivals
+pub mod SoundOpening
+pub mod SoundCommits
+pub mod SoundRequests
 pub mod RepliesSite
 pub mod RepliesMemory
 pub mod RepliesLengths

@@ -1,13 +1,12 @@
--- Which ids, keys, values, writes and records there are.
-use Rattle.std.specs.Prelude.{ℕ, Bool, true, ◌==◌, ◌&&◌, ◌||◌, ◌^◌, not, length, List, nat_lt, nat_le}
+-- Which ids, writes and records there are.
+use Rattle.std.specs.Prelude.{ℕ, Bool, ◌&&◌, ◌||◌, ◌^◌, not, length, List, nat_lt, nat_le}
 use Rattle.std.specs.List.{list_all}
 use Rattle.tardis_base.specs.declared.ids.StateId.{StateId}
-use Rattle.tardis_base.specs.declared.records.Write.{Write}
-use Rattle.tardis_base.specs.declared.records.Write.TheVariants.{Put, Delete}
 use Rattle.tardis_base.specs.declared.records.Record.{Record}
 use Rattle.tardis_base.specs.declared.records.Limits.{Limits}
 use Rattle.tardis_base.specs.Ids.{root, same_id, are_ascending}
 use Rattle.tardis_base.specs.Keys.{KeyWrite, keys_of, are_ascending_keys}
+pub use Rattle.tardis_base.specs.Bytes.{are_bytes, is_within, is_key, is_value, is_write}
 
 -- the number fits 16 bits
 abbrev pub is_u16 : ℕ → Bool
@@ -19,29 +18,9 @@ is_u32 n = nat_lt n (2 ^ 32)
 abbrev pub is_u64 : ℕ → Bool
 is_u64 n = nat_lt n (2 ^ 64)
 
--- each is a byte
-abbrev pub are_bytes : List ℕ → Bool
-are_bytes bs = list_all (λ b. nat_lt b 256) bs
-
--- the number is one of these and those between
-abbrev pub is_within : ℕ → ℕ → ℕ → Bool
-is_within least most n = nat_le least n && nat_le n most
-
 -- the root's id, or site and sequence are both above 0
 abbrev pub is_id : StateId → Bool
 is_id x = is_u16 x.site && is_u32 x.sequence && (same_id x root || nat_le 1 x.site && nat_le 1 x.sequence)
-
--- 1 to 128 bytes
-abbrev pub is_key : List ℕ → Bool
-is_key k = is_within 1 128 (length k) && are_bytes k
-
--- 0 to 4,096 bytes
-abbrev pub is_value : List ℕ → Bool
-is_value v = nat_le (length v) 4096 && are_bytes v
-
-abbrev pub is_write : Write → Bool
-is_write (Put value) = is_value value
-is_write Delete = true
 
 -- at most 64 writes, with ascending keys
 abbrev pub are_writes : List KeyWrite → Bool

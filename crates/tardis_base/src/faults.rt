@@ -1,6 +1,9 @@
 //! Why a call could not do what was asked.
 
+ghost use Rattle.std.specs.Prelude.{⊤};
+
 use crate::ids::StateId;
+use std::alloc::{AllocError, AllocFailed};
 
 /// There was no memory. The object is as before, unless the call says otherwise.
 #[derive(Clone, Copy, Debug, PartialEq, Eq)]
@@ -34,4 +37,56 @@ pub enum AddFault {
     /// The fork path of this state would be too long, with so many pairs.
     PathFull { state: StateId, pairs: u32 },
     NoMemory,
+}
+
+impl From<AllocError> for NoMemory {
+    ghost from_gives = { λ _ _. ⊤ };
+
+    fn from(_: AllocError) -> NoMemory {
+        NoMemory
+    }
+}
+
+impl<T: Drop> From<AllocFailed<T>> for NoMemory {
+    ghost from_gives = { λ _ _. ⊤ };
+
+    fn from(_: AllocFailed<T>) -> NoMemory {
+        NoMemory
+    }
+}
+
+impl From<NoMemory> for ReadFault {
+    ghost use Rattle.std.specs.Prelude.{◌≡◌};
+    ghost use Rattle.tardis_base.specs.declared.faults.ReadFault.TheVariants.{NoMemory as OutOfMemory};
+
+    ghost from_gives = { λ _ fault. fault ≡ OutOfMemory };
+
+    fn from(_: NoMemory) -> ReadFault {
+        ReadFault::NoMemory
+    }
+}
+
+impl From<BytesFault> for ReadFault {
+    ghost use Rattle.std.specs.Prelude.{◌≡◌};
+    ghost use Rattle.tardis_base.specs.Faults.{read_fault};
+
+    ghost from_gives = { λ fault read. read ≡ read_fault fault };
+
+    fn from(fault: BytesFault) -> ReadFault {
+        match fault {
+            BytesFault::Length => ReadFault::Malformed,
+            BytesFault::NoMemory => ReadFault::NoMemory,
+        }
+    }
+}
+
+impl From<NoMemory> for AddFault {
+    ghost use Rattle.std.specs.Prelude.{◌≡◌};
+    ghost use Rattle.tardis_base.specs.declared.faults.AddFault.TheVariants.{NoMemory as OutOfMemory};
+
+    ghost from_gives = { λ _ fault. fault ≡ OutOfMemory };
+
+    fn from(_: NoMemory) -> AddFault {
+        AddFault::NoMemory
+    }
 }

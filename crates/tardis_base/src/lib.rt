@@ -1,6 +1,7 @@
 //! The types that every layer speaks, and the machine that a site is.
 #![tactic(auto)]
 
+mod aboves;
 mod byte_types;
 mod faults;
 mod ids;
@@ -12,6 +13,7 @@ mod replies;
 mod reply_bufs;
 mod requests;
 
+pub use aboves::Above;
 pub use byte_types::{Key, Value};
 pub use faults::{AddFault, BytesFault, NoMemory, ReadFault, SeqEnd};
 pub use ids::{Slot, StateId};
@@ -25,3 +27,6 @@ pub use records::{Batch, Consent, Item, Limits, Record, Write};
 pub use replies::{Refusal, Reply, SiteLine, SiteLines};
 pub use reply_bufs::{ROOM, ReplyBuf};
 pub use requests::{Begin, EndFlags, MergeOf, Request};
+
+#[cfg(test)]
+mod tests;

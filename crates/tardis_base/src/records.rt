@@ -1,18 +1,26 @@
 //! What sites keep and send to each other.
 
+ghost use Rattle.std.specs.Prelude.{◌≡◌, IsTrue, IfOk};
+ghost use Rattle.std.specs.Option.{option_copied};
+ghost use Rattle.tardis_base.specs.Bytes.{is_write, value_of};
+ghost use Rattle.std.specs.Cmp.{partial_equiv_from_equiv};
+ghost use Rattle.tardis_base.specs.Same.{same_write, same_write-equiv};
+ghost use Rattle.tardis_base.specs.Valid.{are_limits};
+
 use crate::byte_types::Value;
+use crate::faults::NoMemory;
 use crate::ids::StateId;
 use crate::lists::{ConsentList, RecordList, StateList, WriteSet};
 
 /// What a transaction does to one key.
-#[derive(Drop)]
+#[derive(Debug, Drop)]
 pub enum Write {
     Put(Value),
     Delete,
 }
 
 /// A state with the edges to its parents and what it wrote.
-#[derive(Drop)]
+#[derive(Debug, Drop, PartialEq, Eq)]
 pub struct Record {
     pub id: StateId,
     pub parents: StateList,
@@ -29,14 +37,14 @@ pub struct Consent {
 }
 
 /// What one site delivers to another.
-#[derive(Drop)]
+#[derive(Debug, Drop, PartialEq, Eq)]
 pub enum Item {
     State(Record),
     Promise(Consent),
 }
 
 /// What one site gives another that asked for news.
-#[derive(Drop)]
+#[derive(Debug, Drop, PartialEq, Eq)]
 pub struct Batch {
     pub records: RecordList,
     pub consents: ConsentList,
@@ -50,4 +58,86 @@ pub struct Limits {
     pub max_path: u32,
     pub max_sessions: u16,
     pub max_trail: u64,
+}
+
+impl PartialEq for Write {
+    ghost eq = { same_write };
+
+    ghost laws = { partial_equiv_from_equiv same_write-equiv };
+
+    fn eq(&self, other: &Write) -> bool {
+        match (self, other) {
+            (Write::Put(value), Write::Put(another)) => value == another,
+            (Write::Delete, Write::Delete) => true,
+            _ => false,
+        }
+    }
+}
+
+impl Eq for Write {
+    ghost laws = { same_write-equiv };
+}
+
+impl Write {
+    /// An equal write, in memory of its own.
+    pub fn copy(&self) -> Result<Write, NoMemory>
+        ensures { IfOk result (λ write. write ≡ self.now) }
+    {
+        match self {
+            Write::Put(value) => Ok(Write::Put(value.copy()?)),
+            Write::Delete => Ok(Write::Delete),
+        }
+    }
+
+    /// The value that is put; None where the key is deleted.
+    pub fn value(&self) -> Option<&Value>
+        ensures value { option_copied result ≡ value_of self.now }
+        ensures valid { IsTrue (is_write self.now) }
+    {
+        match self {
+            Write::Put(value) => {
+                let _ = value.as_slice();
+                Some(value)
+            },
+            Write::Delete => None,
+        }
+    }
+}
+
+impl Record {
+    /// An equal record, in memory of its own.
+    pub fn copy(&self) -> Result<Record, NoMemory>
+        ensures { IfOk result (λ copy. copy ≡ self.now) }
+    {
+        Ok(Record {
+            id: self.id,
+            parents: self.parents.copy()?,
+            writes: self.writes.copy()?,
+        })
+    }
+}
+
+impl Item {
+    /// An equal item, in memory of its own.
+    pub fn copy(&self) -> Result<Item, NoMemory>
+        ensures { IfOk result (λ copy. copy ≡ self.now) }
+    {
+        match self {
+            Item::State(record) => Ok(Item::State(record.copy()?)),
+            Item::Promise(promise) => Ok(Item::Promise(*promise)),
+        }
+    }
+}
+
+impl Limits {
+    /// Whether a site may have these limits.
+    pub fn valid(&self) -> bool
+        ensures { result ≡ are_limits self.now }
+    {
+        (1..=16).contains(&self.sites)
+            && (1..=16_384).contains(&self.max_kept)
+            && (1..=4_096).contains(&self.max_path)
+            && (1..=256).contains(&self.max_sessions)
+            && self.max_trail <= 1_073_741_824
+    }
 }
