@@ -24,3 +24,10 @@ pub mod RepliesFrame
 pub mod RepliesSound
 pub mod RepliesOfSessions
 pub mod RepliesOfReads
+pub mod RepliesOfCommits
+pub mod RepliesOfShows
+pub mod RepliesOfFloors
+pub mod RepliesOrder
+pub mod RepliesOfMerges
+pub mod RepliesOfExchange
+pub mod RepliesFit

@@ -1,5 +1,5 @@
 -- Fork paths are valid and not too many, and so are the refusals of growth.
-use Rattle.std.proofs.Common.{◌≡◌, ℕ, zero, suc, ◌+◌, ◌*◌, ◌≤◌, ◌<◌, ◌^◌, Bool, true, false, ◌&&◌, ◌==◌, not, List, [], ◌∷◌, ◌++◌, length, filter, find, map, if◌then◌else◌, Option, Some, None, nat_le, nat_lt, IsTrue, IsFalse, refl, sym, ◌∙◌, ap, subst, inl, inr, arith, lt-ltb, length-append}
+use Rattle.std.proofs.Common.{◌≡◌, ℕ, zero, suc, ◌+◌, ◌*◌, ◌≤◌, ◌<◌, ◌^◌, Bool, true, false, ◌&&◌, ◌==◌, not, List, [], ◌∷◌, ◌++◌, length, filter, find, map, if◌then◌else◌, Option, Some, None, nat_lt, IsTrue, refl, sym, ◌∙◌, ap, subst, inl, inr, arith, lt-ltb, length-append}
 use Rattle.std.proofs.lemmas.Bool.{and_from, cases_Bool, cond-true, cond-false}
 use Rattle.std.proofs.lemmas.Option.{none-some, same_Some}
 use Rattle.std.proofs.lemmas.List.FromFn.{length-map-range_with_len}
@@ -123,14 +123,17 @@ growth-refusal-is-valid tries limits ks rs r f g e = elim (cases_Bool (length (k
   where
     path-refusal : Option Refusal
     path-refusal = option_map (λ p. PathFull p.0 p.1) (long_path (r ∷ rs) ks limits.max_path)
+
     too-long : Bool → Option Refusal
     too-long b = if b then path-refusal else None
+
     by-pair : (o : Option (StateId × ℕ)) → long_path (r ∷ rs) ks limits.max_path ≡ o → option_map (λ p. PathFull p.0 p.1) o ≡ Some f → IsTrue (is_refusal f)
     by-pair None is e = absurd (none-some f e)
     by-pair (Some p) is e =
         let kept : length (kept_states (r ∷ rs) ks) ≤ 16385 = omega (arith, g.few_kept, filter-grows (λ x. not (is_among x ks)) (arrived rs) r.id) in
         let few : HaveFewChildren (r ∷ rs) = λ x. omega (arith, g.few_children x, children-grow rs r x) in
         subst (λ q. IsTrue (is_refusal q)) (same_Some (PathFull p.0 p.1) f e) (long-path-is-valid (r ∷ rs) ks limits.max_path p g.stored few kept is)
+
     by-path : (b : Bool) → too-long b ≡ Some f → IsTrue (is_refusal f)
     by-path true e = by-pair (long_path (r ∷ rs) ks limits.max_path) refl e
     by-path false e = absurd (none-some f e)

@@ -1,5 +1,5 @@
 -- Of a history: its ids, keys and values are valid, and its numbers fit their bits.
-use Rattle.std.proofs.Common.{◌≡◌, ℕ, zero, suc, ◌+◌, ◌*◌, ◌≤◌, ◌<◌, ◌^◌, Bool, true, false, ◌&&◌, ◌||◌, ◌==◌, not, List, [], ◌∷◌, ◌++◌, length, filter, find, Option, Some, None, nat_le, nat_lt, IsTrue, IsFalse, refl, sym, ◌∙◌, ap, subst, inl, inr, arith, leb-true, ltb-true, lt-ltb, eqb-true, eq-eqb, ◌≢◌}
+use Rattle.std.proofs.Common.{◌≡◌, ℕ, zero, suc, ◌+◌, ◌*◌, ◌≤◌, ◌<◌, ◌^◌, Bool, true, ◌&&◌, ◌||◌, ◌==◌, not, List, [], ◌∷◌, length, find, Option, Some, None, nat_le, IsTrue, IsFalse, refl, sym, ◌∙◌, ap, subst, inl, inr, arith, leb-true, ltb-true, eqb-true, eq-eqb, ◌≢◌}
 use Rattle.std.proofs.lemmas.Bool.{both_ways, and_parts, and_from, or_cases, cases_Bool, cond-true, cond-false}
 use Rattle.std.proofs.lemmas.Option.{none-some, same_Some}
 use Rattle.std.specs.List.{list_all}
@@ -9,13 +9,13 @@ use Rattle.tardis_base.specs.declared.records.Write.{Write}
 use Rattle.tardis_base.specs.declared.records.Write.TheVariants.{Put, Delete}
 use Rattle.tardis_base.specs.declared.records.Record.{Record}
 use Rattle.tardis_base.specs.Ids.{root, same_id, is_among}
-use Rattle.tardis_base.specs.Keys.{KeyWrite, has_key, write_of, with_key, keys_of, are_ascending_keys, is_key_before}
+use Rattle.tardis_base.specs.Keys.{KeyWrite, write_of, with_key, keys_of, are_ascending_keys, is_key_before}
 use Rattle.tardis_base.specs.Valid.{is_u16, is_u32, is_id, is_key, is_write, are_parents, are_writes, is_record}
 use Rattle.wire_talk.specs.Valid.{is_reply}
-use Rattle.plain_dag.specs.States.{root_record, states, arrived, children, is_known, record_at, write_at, count_of_site}
+use Rattle.plain_dag.specs.States.{states, arrived, children, is_known, record_at, count_of_site}
 use Rattle.plain_dag.specs.Writers.{version_at, latest_writer, lowest, read}
 use Rattle.plain_dag.specs.Conflicts.{with_keys_of, written_keys, latest_writers, value_over}
-use Rattle.plain_dag.specs.Dag.{IsNext, IsDag}
+use Rattle.plain_dag.specs.Dag.{IsDag}
 use Rattle.plain_dag.proofs.Ids.{not-both, same_id-true}
 use Rattle.plain_dag.proofs.States.{children-of-parent, children-before}
 use Rattle.plain_dag.proofs.Keys.{with-key-before, with-key-after, with-key-same}
@@ -145,12 +145,14 @@ version-is-valid rs k x v h e = go (record_at rs x) refl e
         subst (λ z. IsTrue (is_version z)) (same_Some (x, w) v e)
         (and_from (is_id x) (is_write w) (subst (λ z. IsTrue (is_id z)) (sym same) (first (is_id r.id) (are_writes r.writes) s))
         (write-of-is-write k r.writes w (each-write r.writes (second (is_id r.id) (are_writes r.writes) s)) is))
+
     same-as : (rs : List Record) (r : Record) → record_at rs x ≡ Some r → x ≡ r.id
     same-as [] r e = absurd (none-some r e)
     same-as (q ∷ qs) r e = elim (cases_Bool (same_id x q.id)) [
       | inl t ↦ same_id-true x q.id t ∙ ap (λ (z : Record). z.id) (same_Some q r (sym (cond-true (same_id x q.id) (Some q) (record_at qs x) t) ∙ e))
       | inr f ↦ same-as qs r (sym (cond-false (same_id x q.id) (Some q) (record_at qs x) f) ∙ e)
     ]
+
     go : (o : Option Record) → record_at rs x ≡ o → option_map (λ w. (x, w)) (option_and_then (λ r. write_of k r.writes) o) ≡ Some v → IsTrue (is_version v)
     go None is e = absurd (none-some v e)
     go (Some r) is e = written r (write_of k r.writes) (all-found is_stored (λ r. same_id x r.id) rs r h is) (same-as rs r is) refl e

@@ -1,6 +1,6 @@
--- How many bytes replies are spelled in.
-use Rattle.std.proofs.Common.{◌≡◌, ℕ, ◌+◌, ◌*◌, ◌≤◌, Bool, true, false, ◌&&◌, ◌==◌, List, [], ◌∷◌, ◌++◌, length, nat_le, IsTrue, refl, arith, leb-true, eqb-true, length-append}
-use Rattle.std.proofs.lemmas.Bool.{and_parts}
+-- How many bytes replies are spelled in, and which replies fit a frame.
+use Rattle.std.proofs.Common.{◌≡◌, ℕ, ◌*◌, ◌≤◌, Bool, true, false, ◌&&◌, List, [], ◌∷◌, length, nat_le, IsTrue, refl, arith, leb-true, eqb-true, length-append}
+use Rattle.std.proofs.lemmas.Bool.{and_parts, and_from}
 use Rattle.std.specs.Prelude.{flat_map, min}
 use Rattle.std.specs.List.{list_all}
 use Rattle.tardis_base.specs.declared.ids.StateId.{StateId}
@@ -15,7 +15,10 @@ use Rattle.tardis_base.specs.Keys.{are_ascending_keys}
 use Rattle.tardis_base.specs.Valid.{is_u32, is_u64, is_u16, is_within, are_bytes, is_id, is_key, is_value, are_parents}
 use Rattle.wire_item.specs.Spellings.{id_spelling, key_spelling, consent_spelling}
 use Rattle.wire_talk.specs.Spellings.{refusal_spelling, reply_spelling, site_line_spelling, pair_spelling}
-use Rattle.wire_talk.specs.Valid.{is_refusal, is_reply, is_site_line, are_site_lines, are_first_ids, are_first_keys, is_first_of}
+use Rattle.wire_talk.specs.Valid.{is_refusal, is_reply, is_site_line, are_site_lines, is_first_of}
+use Rattle.plain_site.specs.Site.{Site}
+use Rattle.plain_site.specs.Answers.{refused}
+use Rattle.plain_site.proofs.RepliesFrame.{Replies, RefusesWell, good_replies}
 
 -- ===== Parts
 
@@ -52,12 +55,17 @@ parents-length xs h =
     let within = (and_parts (is_within 1 8 (length xs)) (list_all is_id xs) front).0 in
     leb-true (length xs) 8 (and_parts (nat_le 1 (length xs)) (nat_le (length xs) 8) within).1
 
+pub parents-some : (xs : List StateId) → IsTrue (are_parents xs) → 1 ≤ length xs
+parents-some xs h =
+    let within = (and_parts (is_within 1 8 (length xs)) (list_all is_id xs) (and_parts (is_within 1 8 (length xs) && list_all is_id xs) (are_ascending xs) h).0).0 in
+    leb-true 1 (length xs) (and_parts (nat_le 1 (length xs)) (nat_le (length xs) 8) within).0
+
 first-length : (total number : ℕ) → IsTrue (is_first_of total number) → number ≤ 256
 first-length total number h = let e = eqb-true number (min total 256) h in omega arith
 
 -- ===== Refusals
 
-pub refusal-length : (refusal : Refusal) → IsTrue (is_refusal refusal) → length (refusal_spelling refusal) ≤ 200
+refusal-length : (refusal : Refusal) → IsTrue (is_refusal refusal) → length (refusal_spelling refusal) ≤ 200
 refusal-length Malformed h = omega arith
 refusal-length NotOpen h = omega arith
 refusal-length AlreadyOpen h = omega arith
@@ -96,7 +104,7 @@ is_long (Shown arrival children path) = true
 is_long (Batch batch) = true
 is_long _ = false
 
-pub reply-length : (reply : Reply) → is_long reply ≡ false → IsTrue (is_reply reply) → length (reply_spelling reply) ≤ 1048576
+reply-length : (reply : Reply) → is_long reply ≡ false → IsTrue (is_reply reply) → length (reply_spelling reply) ≤ 1048576
 reply-length (Opened ceiling) s h = omega arith
 reply-length (Begun state) s h = omega arith
 reply-length (Merging states) s h = omega (arith, ids-length states, parents-length states h)
@@ -133,3 +141,24 @@ reply-length (Early have) s h = omega arith
 reply-length Closed s h = omega arith
 reply-length (Refused refusal) s h = omega (arith, refusal-length refusal h)
 reply-length NoMemory s h = omega arith
+
+-- ===== Replies that fit
+
+-- the reply is one that can be spelled, and its bytes fit a frame
+pub record Fits (reply : Reply) : Type 0 where
+  pub valid : IsTrue (is_reply reply)
+  pub short : length (reply_spelling reply) ≤ 1048576
+
+pub reply-fits : (reply : Reply) → is_long reply ≡ false → IsTrue (is_reply reply) → Fits reply
+reply-fits reply few h = record { valid = h; short = reply-length reply few h }
+
+pub refusal-fits : (refusal : Refusal) → IsTrue (is_refusal refusal) → Fits (Refused refusal)
+refusal-fits refusal h = reply-fits (Refused refusal) refl h
+
+pub refuses : (site : Site) (refusal : Refusal) → IsTrue (is_refusal refusal) → Replies Fits (refused site refusal)
+refuses site refusal h = record { reply = refusal-fits refusal h }
+
+pub refuses-fit : (site : Site) → RefusesWell site (Replies Fits)
+refuses-fit site = record { not_open = refuses site NotOpen refl; no_txn = refuses site NoTxn refl; txn_open = refuses site TxnOpen refl }
+
+pub ruleset fitting_replies = (good_replies, refusal-fits, reply-fits, and_from)

@@ -1,8 +1,8 @@
 -- What holds of each element of a list holds of what is found, kept or taken of it.
-use Rattle.std.proofs.Common.{◌≡◌, ℕ, zero, suc, ◌+◌, ◌*◌, ◌-◌, ◌≤◌, ◌<◌, Bool, true, false, ◌&&◌, not, List, [], ◌∷◌, ◌++◌, length, filter, filter_map, find, map, take, unwrap_or, Option, Some, None, nat_le, nat_lt, IsTrue, IsFalse, refl, sym, ◌∙◌, ap, subst, inl, inr, arith, leb-true, le-leb, ltb-true, lt-ltb, cond}
+use Rattle.std.proofs.Common.{◌≡◌, ℕ, zero, suc, ◌≤◌, Bool, ◌&&◌, List, [], ◌∷◌, ◌++◌, length, filter, find, take, unwrap_or, Option, Some, None, IsTrue, refl, sym, ◌∙◌, ap, subst, inl, inr, arith}
 use Rattle.std.proofs.lemmas.Bool.{and_parts, and_from, cases_Bool, cond-true, cond-false}
 use Rattle.std.proofs.lemmas.Option.{none-some, same_Some}
-use Rattle.std.specs.Prelude.{slice_get, flat_map}
+use Rattle.std.specs.Prelude.{slice_get}
 use Rattle.std.specs.List.{list_all}
 
 -- ===== Tests

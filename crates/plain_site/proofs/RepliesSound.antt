@@ -1,5 +1,5 @@
 -- What a sound site says of its ids and numbers.
-use Rattle.std.proofs.Common.{◌≡◌, ℕ, zero, suc, ◌+◌, ◌-◌, ◌≤◌, ◌<◌, ◌^◌, Bool, true, false, ◌&&◌, ◌==◌, List, [], ◌∷◌, length, find, unwrap_or, Option, Some, None, nat_le, nat_lt, IsTrue, refl, sym, ◌∙◌, ap, subst, arith, leb-true, ltb-true, lt-ltb}
+use Rattle.std.proofs.Common.{◌≡◌, ℕ, ◌+◌, ◌-◌, ◌≤◌, ◌<◌, ◌^◌, Bool, ◌&&◌, ◌==◌, List, [], ◌∷◌, length, find, Option, Some, None, nat_le, IsTrue, refl, subst, arith, leb-true, lt-ltb}
 use Rattle.std.proofs.lemmas.Bool.{and_parts, and_from}
 use Rattle.std.proofs.lemmas.Option.{none-some, same_Some}
 use Rattle.std.specs.Prelude.{slice_get}
@@ -8,7 +8,6 @@ use Rattle.std.specs.Option.{option_map}
 use Rattle.tardis_base.specs.declared.ids.StateId.{StateId}
 use Rattle.tardis_base.specs.declared.records.Record.{Record}
 use Rattle.tardis_base.specs.declared.records.Limits.{Limits}
-use Rattle.tardis_base.specs.Ids.{root}
 use Rattle.tardis_base.specs.Valid.{is_u16, is_u32, is_id, is_within, are_limits}
 use Rattle.plain_dag.specs.States.{is_known, children, count_of_site}
 use Rattle.plain_dag.specs.Entries.{entry_of}
@@ -17,7 +16,7 @@ use Rattle.plain_dag.specs.Collection.{kept_states}
 use Rattle.plain_site.specs.Site.{Site}
 use Rattle.plain_site.specs.Built.{Built}
 use Rattle.plain_site.specs.Sound.{IsSound, is_sound_session, are_sound_floors}
-use Rattle.plain_site.proofs.RepliesLists.{first, second, all-found, all-get, all-unwrapped}
+use Rattle.plain_site.proofs.RepliesLists.{all-found, all-get, all-unwrapped}
 use Rattle.plain_site.proofs.RepliesHistory.{is_stored, dag-stored, known-is-id, count-fits, history-fits}
 
 -- ===== Limits
@@ -47,7 +46,7 @@ limits-within l h =
 -- ===== Floors
 
 -- the floor's id and its numbers are in range
-abbrev is_ranged_floor : Floor → Bool
+abbrev pub is_ranged_floor : Floor → Bool
 is_ranged_floor f = is_id f.state && is_u32 f.stated && is_u32 f.number
 
 floors-ranged : (rs : List Record) (n : ℕ) (fs : List Floor) → IsTrue (list_all is_stored rs) → ((m : ℕ) → count_of_site rs m < 2 ^ 32) → IsTrue (are_sound_floors rs n fs) → IsTrue (list_all is_ranged_floor fs)
@@ -71,7 +70,7 @@ pub record IsOpen (rs : List Record) (s : Session) : Type 0 where
   pub ceiling_id : IsTrue (is_id s.ceiling)
   pub last_id : IsTrue (is_id s.last)
 
-session-open : (rs : List Record) (s : ℕ × Session) → IsTrue (list_all is_stored rs) → IsTrue (is_sound_session rs s) → IsOpen rs s.1
+pub session-open : (rs : List Record) (s : ℕ × Session) → IsTrue (list_all is_stored rs) → IsTrue (is_sound_session rs s) → IsOpen rs s.1
 session-open rs s stored h =
     let a = and_parts (is_u16 s.0 && is_known rs s.1.ceiling) (is_known rs s.1.last) h in
     let b = and_parts (is_u16 s.0) (is_known rs s.1.ceiling) a.0 in
@@ -128,8 +127,8 @@ pub floor-ranged : (site : Site) (n : ℕ) → IsRanged site → IsRangedFloor (
 floor-ranged site n ranged =
     let f = floor_of site.floors n in
     let h : IsTrue (is_ranged_floor f) =
-      all-unwrapped is_ranged_floor (slice_get site.floors (n - 1)) opening_floor refl
-      (λ f e. all-get is_ranged_floor site.floors (n - 1) f ranged.floors e) in
+    all-unwrapped is_ranged_floor (slice_get site.floors (n - 1)) opening_floor refl
+    (λ f e. all-get is_ranged_floor site.floors (n - 1) f ranged.floors e) in
     let a = and_parts (is_id f.state && is_u32 f.stated) (is_u32 f.number) h in
     let b = and_parts (is_id f.state) (is_u32 f.stated) a.0 in
     record { state = b.0; stated = b.1; number = a.1 }

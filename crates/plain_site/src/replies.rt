@@ -1,7 +1,7 @@
 //! What is true of every reply.
 
 ghost use Rattle.plain_site.specs.Built.{Built};
-ghost use Rattle.plain_site.specs.Laws.{RefusalsLeaveSite, RefusedBytesLeaveSite, NeverWantsMemory};
+ghost use Rattle.plain_site.specs.Laws.{RefusalsLeaveSite, RefusedBytesLeaveSite, NeverWantsMemory, ShowsShortPaths, RepliesFit};
 
 /// After a refusal, after Known and after Early the site is as it was, an open transaction included: over requests, and
 /// over their bytes.
@@ -14,4 +14,11 @@ pub fn refusals_leave_site()
 /// program, and a reader of its replies takes that for nothing else.
 pub fn memory_is_never_wanted()
     ensures { (built : Built) → NeverWantsMemory built }
+{}
+
+/// Each reply of a sound site is one that can be spelled: its ids are ids, its numbers fit their bits, and its lists have the
+/// order and the length that a reader asks for. And it has at most 1,048,576 bytes, as many as a frame holds; only a Show
+/// of many children and a Pull of many records come near that. Where fork paths are shown, their limits have to be tried.
+pub fn replies_fit_a_frame()
+    ensures { (built : Built) → ShowsShortPaths built → RepliesFit built }
 {}
