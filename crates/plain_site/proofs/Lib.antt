@@ -31,3 +31,4 @@ pub mod RepliesOrder
 pub mod RepliesOfMerges
 pub mod RepliesOfExchange
 pub mod RepliesFit
+pub mod RepliesToBytes

@@ -83,7 +83,7 @@ code-is-byte (Pull counts) = refl
 code-is-byte (Deliver item) = refl
 code-is-byte Close = refl
 
-step-fits : (built : Built) → ShowsShortPaths built → (site : Site) (n : ℕ) (q : Request) → IsTrue (is_request q) → IsSound built site → Replies Fits (step built site n q)
+pub step-fits : (built : Built) → ShowsShortPaths built → (site : Site) (n : ℕ) (q : Request) → IsTrue (is_request q) → IsSound built site → Replies Fits (step built site n q)
 step-fits built shows site n q h sound =
     unless-good site (refuse (not (is_built built q)) (Unsupported (code_of q)) ∷ []) (served built site n q)
     (good-when (not (is_built built q)) (Refused (Unsupported (code_of q))) [] (refusal-fits (Unsupported (code_of q)) (code-is-byte q)) good-none)
@@ -95,6 +95,6 @@ step-fits built shows site n q h sound =
 -- where what shows fork paths is built only with their limits, each reply of a sound site fits
 pub replies-fit : (built : Built) → ShowsShortPaths built → RepliesFit built
 replies-fit built shows = record {
-  valid = λ site n q small h sound. (step-fits built shows site n q h sound).reply.valid;
-  short = λ site n q small h sound. (step-fits built shows site n q h sound).reply.short;
+  valid = λ site n q h sound. (step-fits built shows site n q h sound).reply.valid;
+  short = λ site n q h sound. (step-fits built shows site n q h sound).reply.short;
 }

@@ -50,5 +50,10 @@ ShowsShortPaths built = IsTrue (built.operation 17) → IsTrue built.path_limits
 
 -- each reply of a sound site is one that can be spelled, and fits a frame
 pub record RepliesFit (built : Built) : Type 0 where
-  pub valid : (site : Site) (n : ℕ) (q : Request) → IsTrue (is_u16 n) → IsTrue (is_request q) → IsSound built site → IsTrue (is_reply (step built site n q).1)
-  pub short : (site : Site) (n : ℕ) (q : Request) → IsTrue (is_u16 n) → IsTrue (is_request q) → IsSound built site → length (reply_spelling (step built site n q).1) ≤ 1048576
+  pub valid : (site : Site) (n : ℕ) (q : Request) → IsTrue (is_request q) → IsSound built site → IsTrue (is_reply (step built site n q).1)
+  pub short : (site : Site) (n : ℕ) (q : Request) → IsTrue (is_request q) → IsSound built site → length (reply_spelling (step built site n q).1) ≤ 1048576
+
+-- so does each reply to bytes, whatever they spell
+pub record RepliesToBytesFit (built : Built) : Type 0 where
+  pub valid : (site : Site) (event : Event) → IsSound built site → IsTrue (is_reply (step_over_bytes built site event).1)
+  pub short : (site : Site) (event : Event) → IsSound built site → length (reply_spelling (step_over_bytes built site event).1) ≤ 1048576

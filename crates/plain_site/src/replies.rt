@@ -1,7 +1,9 @@
 //! What is true of every reply.
 
 ghost use Rattle.plain_site.specs.Built.{Built};
-ghost use Rattle.plain_site.specs.Laws.{RefusalsLeaveSite, RefusedBytesLeaveSite, NeverWantsMemory, ShowsShortPaths, RepliesFit};
+ghost use Rattle.plain_site.specs.Laws.{RefusalsLeaveSite, RefusedBytesLeaveSite, NeverWantsMemory, ShowsShortPaths, RepliesFit, RepliesToBytesFit};
+
+use wire_talk::talk_has_one_spelling;
 
 /// After a refusal, after Known and after Early the site is as it was, an open transaction included: over requests, and
 /// over their bytes.
@@ -20,5 +22,8 @@ pub fn memory_is_never_wanted()
 /// order and the length that a reader asks for. And it has at most 1,048,576 bytes, as many as a frame holds; only a Show
 /// of many children and a Pull of many records come near that. Where fork paths are shown, their limits have to be tried.
 pub fn replies_fit_a_frame()
-    ensures { (built : Built) → ShowsShortPaths built → RepliesFit built }
-{}
+    ensures requests { (built : Built) → ShowsShortPaths built → RepliesFit built }
+    ensures bytes { (built : Built) → ShowsShortPaths built → RepliesToBytesFit built }
+{
+    talk_has_one_spelling();
+}
