@@ -281,13 +281,17 @@ OneFloorClosesNothing =
     ∷ 0 asks deliver_bare (2 · 3) (2 · 1 ∷ []) => Applied
     ∷ [])
 
--- a record of so many bytes more than 17
-abbrev pub record_of_size : ℕ → Record
-record_of_size n = record { id = 1 · 1; parents = 0 · 0 ∷ []; writes = (codes "x", Written (replicate n 49)) ∷ [] }
+-- a record with a value of so many bytes, whose spelling has 19 more
+abbrev pub record_with_value_of : ℕ → Record
+record_with_value_of n = record { id = 1 · 1; parents = 0 · 0 ∷ []; writes = (codes "x", Written (replicate n 49)) ∷ [] }
 
--- a batch stops at the first record that doesn't fit, even where a later one would
+-- a batch may be filled to its last byte
+abbrev pub BatchesAreFilled : Type 0
+BatchesAreFilled = fitting 50 (record_with_value_of 1 ∷ record_with_value_of 11 ∷ []) ≡ record_with_value_of 1 ∷ record_with_value_of 11 ∷ []
+
+-- it stops at the first record that doesn't fit, even where a later one would
 abbrev pub BatchesStopWhereTheyAreFull : Type 0
-BatchesStopWhereTheyAreFull = fitting 60 (record_of_size 1 ∷ record_of_size 60 ∷ record_of_size 1 ∷ []) ≡ record_of_size 1 ∷ []
+BatchesStopWhereTheyAreFull = fitting 50 (record_with_value_of 1 ∷ record_with_value_of 12 ∷ record_with_value_of 1 ∷ []) ≡ record_with_value_of 1 ∷ []
 
 -- a consent waits for its floor, and for the count that it states; one with a lesser number says nothing new
 abbrev pub ConsentsWaitForBoth : Type 0

@@ -8,7 +8,7 @@ ghost use Rattle.plain_site.specs.RowsOfLimits.{WritesAreLimited, ReadsAreLimite
 ghost use Rattle.plain_site.specs.RowsOfBytes.{WriteIsReadBack, WriteIsReadBackByTheWhole, UnbuiltIsUnsupported, UnbuiltOperationIsTold, BuiltIsNotOpen, OtherBytesAreMalformed, OtherBytesStayMalformed, LongestKeyAndValueArePut, LongerOnesAreMalformed};
 ghost use Rattle.plain_site.specs.RowsOfChoices.{NoBranchIsNamedFirst, OwnWritesAreNotRead, MergesBringNews, ValueIsTheLowestWriters, MergeTriesOneThingAtATime, CeilingStaysOnItsBranch, TidyTakesTheLastArrived, FloorIsKept, CollectsMergedBranches, LongPathOfAKeptStateIsNamed, OwnRecordIsKnown, ClosedParentIsNamedFirst};
 ghost use Rattle.plain_site.specs.RowsOfLandings.{SnapshotsForkOnWrites, SerializableForksOnReads, BothForkOnEither, WithoutConstraintsNothingForks, FirstPassingChildIsTaken, OldWritesAreNoNews, ReadersAlwaysEnd, AncestorKeepsToItsBranch, AbortedWritesAreGone};
-ghost use Rattle.plain_site.specs.RowsOfOperations.{DeletionsAreRead, ClosedSessionsAreGone, OpenSessionIsToldFirst, ConflictsComeInPages, EightStatesAreMerged, PagesHaveTheFirst, SingleTransactionsShowNoBranches, LeavesAreShown, UnknownStatesAreToldFirst, AutomaticFloorStaysAboveCeilings, FloorIsToldBeforeSessions, NumbersRunOut, RoomIsLookedAtBetween, BatchesHaveTheNews, BatchesLeaveOutWhatAllHave, OneFloorClosesNothing, BatchesStopWhereTheyAreFull, ConsentsWaitForBoth};
+ghost use Rattle.plain_site.specs.RowsOfOperations.{DeletionsAreRead, ClosedSessionsAreGone, OpenSessionIsToldFirst, ConflictsComeInPages, EightStatesAreMerged, PagesHaveTheFirst, SingleTransactionsShowNoBranches, LeavesAreShown, UnknownStatesAreToldFirst, AutomaticFloorStaysAboveCeilings, FloorIsToldBeforeSessions, NumbersRunOut, RoomIsLookedAtBetween, BatchesHaveTheNews, BatchesLeaveOutWhatAllHave, OneFloorClosesNothing, BatchesAreFilled, BatchesStopWhereTheyAreFull, ConsentsWaitForBoth};
 ghost use Rattle.plain_site.specs.RowsOfWideMerges.{WideBranchesAreMade, WideMergeIsRefused, WideBranchesAreJoinedInSteps};
 
 /// Where transactions begin, and where they commit.
@@ -116,6 +116,7 @@ pub fn operations_answer_as_told()
     ensures news { BatchesHaveTheNews }
     ensures what_all_have { BatchesLeaveOutWhatAllHave }
     ensures one_floor { OneFloorClosesNothing }
+    ensures filled_batch { BatchesAreFilled }
     ensures full_batch { BatchesStopWhereTheyAreFull }
     ensures early_consents { ConsentsWaitForBoth }
 {}
