@@ -78,7 +78,12 @@ OldReadForks =
 
 -- its state arrived last, so Any begins there
 abbrev pub AnyBeginsAtTheFork : Type 0
-AnyBeginsAtTheFork = Talk everything lone_site (behind ++ 2 asks begin_any => Begun (1 · 3) ∷ 2 asks get "x" => Absent ∷ [])
+AnyBeginsAtTheFork =
+    Talk everything lone_site
+    (behind
+    ++ 2 asks begin_any => Begun (1 · 3)
+    ∷ 2 asks get "x" => Absent
+    ∷ [])
 
 -- ===== A read that stays true: the commit goes past all states that don't write what was read
 

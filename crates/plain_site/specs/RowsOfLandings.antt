@@ -26,24 +26,38 @@ written_before =
 -- SI forks before a state that writes what was written, and goes past one that writes what was read
 abbrev pub SnapshotsForkOnWrites : Type 0
 SnapshotsForkOnWrites =
-    Talk everything lone_site (written_before ++ 2 asks commit si => Committed (1 · 2) (0 · 0 ∷ []) ∷ 3 asks commit si => Committed (1 · 3) (1 · 1 ∷ []) ∷ [])
+    Talk everything lone_site
+    (written_before
+    ++ 2 asks commit si => Committed (1 · 2) (0 · 0 ∷ [])
+    ∷ 3 asks commit si => Committed (1 · 3) (1 · 1 ∷ [])
+    ∷ [])
 
 -- SER does it the other way round
 abbrev pub SerializableForksOnReads : Type 0
 SerializableForksOnReads =
-    Talk everything lone_site (written_before ++ 2 asks commit ser => Committed (1 · 2) (1 · 1 ∷ []) ∷ 3 asks commit ser => Committed (1 · 3) (0 · 0 ∷ []) ∷ [])
+    Talk everything lone_site
+    (written_before
+    ++ 2 asks commit ser => Committed (1 · 2) (1 · 1 ∷ [])
+    ∷ 3 asks commit ser => Committed (1 · 3) (0 · 0 ∷ [])
+    ∷ [])
 
 -- with both, either forks
 abbrev pub BothForkOnEither : Type 0
 BothForkOnEither =
     Talk everything lone_site
-    (written_before ++ 2 asks commit (ser + si) => Committed (1 · 2) (0 · 0 ∷ []) ∷ 3 asks commit (ser + si) => Committed (1 · 3) (0 · 0 ∷ []) ∷ [])
+    (written_before
+    ++ 2 asks commit (ser + si) => Committed (1 · 2) (0 · 0 ∷ [])
+    ∷ 3 asks commit (ser + si) => Committed (1 · 3) (0 · 0 ∷ [])
+    ∷ [])
 
 -- with neither, nothing forks
 abbrev pub WithoutConstraintsNothingForks : Type 0
 WithoutConstraintsNothingForks =
     Talk everything lone_site
-    (written_before ++ 2 asks commit none => Committed (1 · 2) (1 · 1 ∷ []) ∷ 3 asks commit none => Committed (1 · 3) (1 · 2 ∷ []) ∷ [])
+    (written_before
+    ++ 2 asks commit none => Committed (1 · 2) (1 · 1 ∷ [])
+    ∷ 3 asks commit none => Committed (1 · 3) (1 · 2 ∷ [])
+    ∷ [])
 
 -- of two children that pass, the way goes on to the one that arrived first; one that doesn't pass is left out
 abbrev pub FirstPassingChildIsTaken : Type 0

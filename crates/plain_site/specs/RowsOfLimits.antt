@@ -69,7 +69,11 @@ abbrev pub one_session : Site
 one_session = opening (record (program_limits 1) { max_sessions = 1 }) 1
 
 abbrev pub SecondSessionIsRefused : Type 0
-SecondSessionIsRefused = Talk everything one_session (1 asks opens => Opened (0 · 0) ∷ 2 asks opens => Refused (SessionsFull 1) ∷ [])
+SecondSessionIsRefused =
+    Talk everything one_session
+    (1 asks opens => Opened (0 · 0)
+    ∷ 2 asks opens => Refused (SessionsFull 1)
+    ∷ [])
 
 abbrev pub one_pair : Site
 one_pair = opening (record (program_limits 1) { max_path = 1 }) 1

@@ -72,7 +72,11 @@ ClosedSessionsAreGone =
 
 -- where no more sessions may open, one that is open is still told so
 abbrev pub OpenSessionIsToldFirst : Type 0
-OpenSessionIsToldFirst = Talk everything one_session (1 asks opens => Opened (0 · 0) ∷ 1 asks opens => Refused AlreadyOpen ∷ [])
+OpenSessionIsToldFirst =
+    Talk everything one_session
+    (1 asks opens => Opened (0 · 0)
+    ∷ 1 asks opens => Refused AlreadyOpen
+    ∷ [])
 
 -- ===== What a merge shows
 
@@ -157,7 +161,12 @@ LeavesAreShown =
 
 -- a state that isn't there is told first
 abbrev pub UnknownStatesAreToldFirst : Type 0
-UnknownStatesAreToldFirst = Talk everything lone_site (two_open ++ 1 asks Ceiling (1 · 1) => Refused (Unknown (1 · 1)) ∷ 0 asks Raise (1 · 1) => Refused (Unknown (1 · 1)) ∷ [])
+UnknownStatesAreToldFirst =
+    Talk everything lone_site
+    (two_open
+    ++ 1 asks Ceiling (1 · 1) => Refused (Unknown (1 · 1))
+    ∷ 0 asks Raise (1 · 1) => Refused (Unknown (1 · 1))
+    ∷ [])
 
 -- the automatic floor stays above all ceilings: two sessions that follow two branches hold it at the fork
 abbrev pub AutomaticFloorStaysAboveCeilings : Type 0
@@ -197,7 +206,11 @@ abbrev pub out_of_numbers : Site
 out_of_numbers = record lone_site { floors = record { state = 0 · 0; number = 4294967295; stated = 0 } ∷ [] }
 
 abbrev pub NumbersRunOut : Type 0
-NumbersRunOut = Talk everything out_of_numbers (0 asks Raise (0 · 0) => Refused SeqEnd ∷ 0 asks RaiseAuto => Refused SeqEnd ∷ [])
+NumbersRunOut =
+    Talk everything out_of_numbers
+    (0 asks Raise (0 · 0) => Refused SeqEnd
+    ∷ 0 asks RaiseAuto => Refused SeqEnd
+    ∷ [])
 
 -- ===== Limits
 
