@@ -1,5 +1,5 @@
 -- Lemmas on frames and their cut.
-mod Words
+pub mod Words
 mod Lent
 pub mod Joins
 pub mod OneCut

@@ -7,7 +7,7 @@ use Rattle.frame_cut.specs.Frames.{frame, frames, word, IsBody, IsEnd, IsCut}
 use Rattle.frame_cut.proofs.Words.{length-frame, word-frame, same_frame, whole_frame, small_rest, length_behind}
 
 -- where a frame stands, bytes don't end
-not_end : (body rest : List ℕ) → IsBody body → IsEnd (frame body ++ rest) → ⊥
+pub not_end : (body rest : List ℕ) → IsBody body → IsEnd (frame body ++ rest) → ⊥
 not_end body rest fits ends =
     let says : word (frame body ++ rest) ≡ length body = word-frame body rest fits in
     let long : length (frame body ++ rest) ≡ 4 + length body + length rest = length-append (frame body) rest ∙ ap (λ n. n + length rest) (length-frame body) in
@@ -64,3 +64,14 @@ cut_within (ℕ.suc fuel) bytes within small =
         ]
       ]
     ]
+
+-- bodies that were cut from the front of the bytes are a front of those of their cut
+pub front_of : (bytes : List ℕ) (bodies all : List (List ℕ)) (tail rest : List ℕ) → bytes ≡ frames bodies ++ tail → AllByRecursion IsBody bodies → bytes ≡ frames all ++ rest → AllByRecursion IsBody all → IsEnd rest → (more : List (List ℕ)) × (all ≡ bodies ++ more)
+front_of bytes [] all tail rest p a q b e = (all, refl)
+front_of bytes (body ∷ bodies) [] tail rest p a q b e =
+    absurd (not_end body (frames bodies ++ tail) a.0 (subst IsEnd (sym q ∙ (p ∙ append_assoc (frame body) (frames bodies) tail)) e))
+front_of bytes (body ∷ bodies) (other ∷ all) tail rest p a q b e =
+    let same : frame body ++ (frames bodies ++ tail) ≡ frame other ++ (frames all ++ rest) = sym (append_assoc (frame body) (frames bodies) tail) ∙ (sym p ∙ (q ∙ append_assoc (frame other) (frames all) rest)) in
+    let first = same_frame body other (frames bodies ++ tail) (frames all ++ rest) a.0 b.0 same in
+    let more = front_of (frames bodies ++ tail) bodies all tail rest refl a.1 first.1 b.1 e in
+    (more.0, λ i. sym first.0 i ∷ more.1 i)

@@ -1,10 +1,10 @@
 -- Length words and frames.
 use Rattle.std.proofs.Common.{◌≡◌, ℕ, ◌+◌, ◌-◌, ◌<◌, ◌≤◌, List, ◌++◌, length, take, drop, get_or, sym, ap, ◌∙◌, subst, inl, inr, arith, append_assoc}
-use Rattle.std.specs.Int.{w32, to_be_bytes}
+use Rattle.std.specs.Int.{w32, to_be_bytes, from_be_bytes}
 use Rattle.std.proofs.lemmas.Bool.{cases_lt}
 use Rattle.std.proofs.lemmas.Nat.{be_bytes_4, from_be_bytes-to_be_bytes_4}
-use Rattle.std.proofs.lemmas.List.{take_at, drop_at, take-append-drop, drop-drop, length-take-le, length-append, get_or-take, get_or-drop, get_or_past}
-use Rattle.frame_cut.specs.Frames.{frame, word, IsBody}
+use Rattle.std.proofs.lemmas.List.{take_at, drop_at, take-append-drop, take-append-le, drop-drop, length-take-le, length-append, get_or-take, get_or-drop, get_or_past}
+use Rattle.frame_cut.specs.Frames.{frame, word, IsBody, IsLong}
 
 -- a frame has four bytes more than its body
 pub length-frame : (body : List ℕ) → length (frame body) ≡ 4 + length body
@@ -60,3 +60,10 @@ same_frame body other rest left fits fits' same =
     let fronts : frame body ≡ frame other = sym (take_at (frame body) rest (4 + length other) long) ∙ (ap (take (4 + length other)) same ∙ take_at (frame other) left (4 + length other) (length-frame other)) in
     let rests : rest ≡ left = sym (drop_at (frame body) rest (4 + length other) long) ∙ (ap (drop (4 + length other)) same ∙ drop_at (frame other) left (4 + length other) (length-frame other)) in
     (ap (drop 4) fronts, rests)
+
+-- a length word that is too large stays so when more bytes come
+pub long_more : (bytes more : List ℕ) (len : ℕ) → IsLong bytes len → IsLong (bytes ++ more) len
+unfolding word
+long_more bytes more len long =
+    let front : take 4 (bytes ++ more) ≡ take 4 bytes = take-append-le 4 bytes more long.0 in
+    (omega (arith, length-append bytes more, long.0), subst (λ t. from_be_bytes w32 t ≡ len) (sym front) long.1, long.2)

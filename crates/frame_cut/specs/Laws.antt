@@ -25,3 +25,9 @@ abbrev pub MoreBodies : Type 0
 MoreBodies =
     (bytes : List ℕ) (bodies others : List (List ℕ)) (rest left : List ℕ)
     → Cuts bytes bodies rest → Cuts rest others left → Cuts bytes (bodies ++ others) left
+
+-- bodies that were cut from the front of the bytes are a front of those of their cut
+abbrev pub FrontOfCut : Type 0
+FrontOfCut =
+    (bytes : List ℕ) (bodies all : List (List ℕ)) (rest left : List ℕ)
+    → Cuts bytes bodies rest → IsCut bytes all left → (more : List (List ℕ)) × (all ≡ bodies ++ more)

@@ -1,0 +1,6 @@
+-- Lemmas on what was answered and written, and on how a run ends.
+mod Turns
+mod Serving
+mod Ends
+mod Replies
+mod Takings
