@@ -10,3 +10,5 @@ pub mod Lists
 pub mod Progress
 pub mod Orders
 pub mod Codes
+pub mod Gathering
+pub mod Wholes

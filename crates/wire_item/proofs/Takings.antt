@@ -127,3 +127,12 @@ counted-ordered {A} number front test ascends fits tested old n mid xs rest e f 
 
 pub if_ok-same : {A : Type 0} (result : Result A NoMemory) (a b : A) → IfOk result (λ x. x ≡ a) → a ≡ b → IfOk result (λ x. x ≡ b)
 if_ok-same result a b h e = subst (λ z. IfOk result (λ x. x ≡ z)) e h
+
+-- a list with its number in front, whatever is in it
+pub makes-after : {A : Type 0} (number : Front ℕ) (front : Front A) (old : List ℕ) (n : ℕ) (mid : List ℕ) (result : Option (Result (List A) NoMemory)) (new : List ℕ)
+    → number old ≡ Some (n, mid) → Makes (times front n) mid result new → Makes (counted number (times front)) old result new
+unfolding Makes
+makes-after number front old n mid None new e m =
+    made-none (λ read. read.1) (after number (times front)) old (after-then_none number (times front) old n mid e m)
+makes-after number front old n mid (Some result) new e m =
+    (m.0, made-read (λ read. read.1) (after number (times front)) old (n, m.0) new (after-then number (times front) old n mid m.0 new e m.1), m.2)

@@ -182,7 +182,7 @@ fn put(alloc: Global, value: &[u8]) -> Result<Write, NoMemory>
 }
 
 /// The list with the item behind its end, where there was memory for both.
-fn pushed<T: Drop>(list: Result<ListOf<T>, NoMemory>, item: Result<T, NoMemory>) -> Result<ListOf<T>, NoMemory>
+pub(crate) fn pushed<T: Drop>(list: Result<ListOf<T>, NoMemory>, item: Result<T, NoMemory>) -> Result<ListOf<T>, NoMemory>
     ensures { (xs : List T) (x : T) → IfOk list (λ l. l ≡ xs) → IfOk item (λ i. i ≡ x) → IfOk result (λ l. l ≡ xs ++ x ∷ []) }
 {
     let mut list = list?;
