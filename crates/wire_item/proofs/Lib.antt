@@ -7,3 +7,8 @@ pub mod Laws
 pub mod Lengths
 pub mod Takings
 pub mod Lists
+pub mod Progress
+pub mod Orders
+pub mod Codes
+pub mod Gathering
+pub mod Wholes

@@ -1,6 +1,6 @@
 -- What a taking gives, when things are taken one after another.
 use Rattle.std.proofs.Common.{ap₂, ◌≡◌, ℕ, Bool, true, false, ◌&&◌, IsTrue, List, [], ◌∷◌, ◌++◌, length, take, drop, nat_le, nat_lt, ◌<◌, ◌≤◌, Option, Some, None, ap, sym, ◌∙◌, subst, refl, arith, le-leb, take-append-drop}
-use Rattle.std.proofs.lemmas.Bool.{and_left, and_from, and_parts, lt-leb}
+use Rattle.std.proofs.lemmas.Bool.{and_left, and_right, and_from, and_parts, lt-leb}
 use Rattle.std.proofs.lemmas.List.Folds.{list_all-append}
 use Rattle.std.specs.Prelude.{option_map, option_and_then, Result, IfOk}
 use Rattle.std.specs.Bool.{then_some}
@@ -71,3 +71,68 @@ bytes-split n old bytes front back same enough each f b =
   where
     found : List ℕ → List ℕ → Option (List ℕ × List ℕ)
     found x y = Some (x, y)
+
+-- the same where memory may be wanting
+pub unmade : {A : Type 0} (front : Front A) (old new : List ℕ) → Makes front old None new → front old ≡ None
+unfolding Makes
+unmade front old new h = h
+
+pub making : {A : Type 0} (front : Front A) (old new : List ℕ) (result : Result A NoMemory) → Makes front old (Some result) new → (a : A) × (front old ≡ Some (a, new)) × IfOk result (λ b. b ≡ a)
+unfolding Makes
+making front old new result h = h
+
+pub makes : {A : Type 0} (front : Front A) (old new : List ℕ) (result : Result A NoMemory) (a : A) → front old ≡ Some (a, new) → IfOk result (λ b. b ≡ a) → Makes front old (Some result) new
+unfolding Makes
+makes front old new result a e ok = (a, e, ok)
+
+pub makes-none : {A : Type 0} (front : Front A) (old new : List ℕ) (result : Option (Result A NoMemory)) → result ≡ None → front old ≡ None → Makes front old result new
+unfolding Makes
+makes-none front old new result e h = subst (λ r. Makes front old r new) (sym e) h
+
+nothing_is : {A : Type 0} (xs : List A) (rest : List ℕ) → ◌≡◌ {A = Option (List A × List ℕ)} None (Some (xs, rest)) → ⊥
+nothing_is xs rest e = absurd (cc)
+
+-- a list with its number in front, where the number and the order are tested apart
+pub counted-unordered : {A : Type 0} (number : Front ℕ) (front : Front A) (test ascends : List A → Bool) (fits : ℕ → Bool)
+    → ((n : ℕ) (mid : List ℕ) (xs : List A) (rest : List ℕ) → times front n mid ≡ Some (xs, rest) → test xs ≡ (fits n && ascends xs))
+    → (old : List ℕ) (n : ℕ) (mid : List ℕ) → number old ≡ Some (n, mid) → only_if ascends (times front n) mid ≡ None
+    → only_if test (counted number (times front)) old ≡ None
+counted-unordered {A} number front test ascends fits tested old n mid e f = go (times front n mid) refl
+  where
+    disordered : (xs : List A) (rest : List ℕ) (t : Bool) → ascends xs ≡ t → times front n mid ≡ Some (xs, rest) → ascends xs ≡ false
+    disordered xs rest true h is = absurd (nothing_is xs rest (sym f ∙ only_if-read ascends (times front n) mid xs rest is h))
+    disordered xs rest false h is = h
+    whole : (xs : List A) (rest : List ℕ) → times front n mid ≡ Some (xs, rest) → counted number (times front) old ≡ Some (xs, rest)
+    whole xs rest is = made-read (λ read. read.1) (after number (times front)) old (n, xs) rest (after-then number (times front) old n mid xs rest e is)
+    go : (o : Option (List A × List ℕ)) → times front n mid ≡ o → only_if test (counted number (times front)) old ≡ None
+    go None is =
+        only_if-none test (counted number (times front)) old
+          (made-none (λ read. read.1) (after number (times front)) old (after-then_none number (times front) old n mid e is))
+    go (Some read) is =
+        only_if-fails test (counted number (times front)) old read.0 read.1 (whole read.0 read.1 is)
+          (tested n mid read.0 read.1 is ∙ and_right (fits n) (ascends read.0) (disordered read.0 read.1 (ascends read.0) refl is))
+
+pub counted-ordered : {A : Type 0} (number : Front ℕ) (front : Front A) (test ascends : List A → Bool) (fits : ℕ → Bool)
+    → ((n : ℕ) (mid : List ℕ) (xs : List A) (rest : List ℕ) → times front n mid ≡ Some (xs, rest) → test xs ≡ (fits n && ascends xs))
+    → (old : List ℕ) (n : ℕ) (mid : List ℕ) (xs : List A) (rest : List ℕ) → number old ≡ Some (n, mid) → only_if ascends (times front n) mid ≡ Some (xs, rest)
+    → (counted number (times front) old ≡ Some (xs, rest)) × (test xs ≡ fits n)
+counted-ordered {A} number front test ascends fits tested old n mid xs rest e f =
+    let source = only_if-source ascends (times front n) mid xs rest f in
+    (made-read (λ read. read.1) (after number (times front)) old (n, xs) rest (after-then number (times front) old n mid xs rest e source.0),
+     tested n mid xs rest source.0 ∙ and-true (fits n) (ascends xs) source.1)
+  where
+    and-true : (b t : Bool) → IsTrue t → (b && t) ≡ b
+    and-true true t h = h
+    and-true false t h = refl
+
+pub if_ok-same : {A : Type 0} (result : Result A NoMemory) (a b : A) → IfOk result (λ x. x ≡ a) → a ≡ b → IfOk result (λ x. x ≡ b)
+if_ok-same result a b h e = subst (λ z. IfOk result (λ x. x ≡ z)) e h
+
+-- a list with its number in front, whatever is in it
+pub makes-after : {A : Type 0} (number : Front ℕ) (front : Front A) (old : List ℕ) (n : ℕ) (mid : List ℕ) (result : Option (Result (List A) NoMemory)) (new : List ℕ)
+    → number old ≡ Some (n, mid) → Makes (times front n) mid result new → Makes (counted number (times front)) old result new
+unfolding Makes
+makes-after number front old n mid None new e m =
+    made-none (λ read. read.1) (after number (times front)) old (after-then_none number (times front) old n mid e m)
+makes-after number front old n mid (Some result) new e m =
+    (m.0, made-read (λ read. read.1) (after number (times front)) old (n, m.0) new (after-then number (times front) old n mid m.0 new e m.1), m.2)
