@@ -1,4 +1,4 @@
-use Rattle.std.proofs.Common.{◌≡◌, ◌≤◌, length, sym, ◌∙◌, ap, subst}
+use Rattle.std.proofs.Common.{◌≤◌, length, sym, ◌∙◌, ap, subst}
 use Rattle.tardis_base.specs.Keys.{with_key}
 use Rattle.merge_txn.proofs.KnownKeys.{with_key-known, few-with_key}
 use Rattle.merge_txn.proofs.note_key.Goals as goal
