@@ -1,0 +1,2 @@
+-- What a transaction holds.
+pub mod Txns
