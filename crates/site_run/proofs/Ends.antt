@@ -1,12 +1,12 @@
 -- How a run ends.
-use Rattle.std.proofs.Common.{◌≡◌, ◌≢◌, ℕ, ◌+◌, ◌<◌, ◌≤◌, List, [], ◌∷◌, ◌++◌, Option, length, refl, sym, ap, ◌∙◌, subst, inl, inr, arith}
-use Rattle.std.proofs.lemmas.List.{append-nil, length-append, take-append-le}
+use Rattle.std.proofs.Common.{◌≡◌, ℕ, ◌+◌, ◌<◌, List, [], ◌++◌, Option, length, refl, sym, ap, ◌∙◌, subst, inl, inr, arith}
+use Rattle.std.proofs.lemmas.List.{append-nil}
 use Rattle.tardis_io.specs.declared.statuses.Status.{Status}
 use Rattle.tardis_io.specs.declared.statuses.Status.TheVariants.{Ok, Usage, ReadFault, WriteFault, Cut, LongFrame, NoMemory, GateFault, DialFault, Spent, DiskFault, BadExport, NoState}
-use Rattle.frame_cut.specs.Frames.{word, frames, IsPartial, IsLong, IsEnd, Cuts, IsCut}
+use Rattle.frame_cut.specs.Frames.{IsPartial, IsLong, IsEnd, Cuts, IsCut}
 use Rattle.frame_cut.proofs.OneCut.{one, front_of}
 use Rattle.frame_cut.proofs.Words.{long_more}
-use Rattle.site_run.specs.Responses.{Whole, Front, AnsweredBy, Serves}
+use Rattle.site_run.specs.Responses.{AnsweredBy, Serves}
 use Rattle.site_run.specs.Endings.{Ends, EndsSpent, AnswersAll, EndsAs, Outcome, shape_of, most_taken}
 
 -- where as many bytes were taken as may be
@@ -71,7 +71,7 @@ outcome status may from to g h first held left a ends = record {
   ends = ends;
   spent = ends_spent status first a.bodies held left ends;
   front = λ all rest d. front_of first a.bodies all (held ++ left) rest a.read.whole a.read.each d.cuts.whole d.cuts.each d.ends;
-  whole = answers_all status first a.bodies held left a.read ends
+  whole = answers_all status first a.bodies held left a.read ends;
 }
 
 -- how a run ends without a fault

@@ -1,9 +1,8 @@
 -- Answers of a machine, as replies to events.
-use Rattle.std.proofs.Common.{◌≡◌, ℕ, Bool, false, List, [], ◌∷◌, ◌++◌, Option, ◌⊎◌, map, refl, sym, ap, ◌∙◌, subst, inl, inr}
+use Rattle.std.proofs.Common.{◌≡◌, ℕ, false, List, [], ◌∷◌, ◌++◌, Option, ◌⊎◌, map, refl, ap, ◌∙◌, subst, inl, inr}
 use Rattle.std.proofs.lemmas.List.{append-nil}
 use Rattle.std.specs.List.{concat}
 use Rattle.tardis_base.specs.Plain.{Event, PlainMachine, Answers, no_memory}
-use Rattle.tardis_io.specs.Told.{WhileTold}
 use Rattle.tardis_io.proofs.Told.{weaker}
 use Rattle.tardis_io.specs.declared.statuses.Status.{Status}
 use Rattle.frame_cut.specs.Frames.{frame, frames}
@@ -30,7 +29,7 @@ replied_more : {S : Type 0} (m : PlainMachine S) (s : S) (body answer : List ℕ
 replied_more m s body answer u bodies answers t one more = record {
   replies = one.0 ∷ more.replies;
   framed = ap (λ z. z ++ concat answers) one.1.0 ∙ ap (λ z. frame one.0 ++ z) more.framed;
-  answered = answers_more m s (event_of body) one.0 u (map event_of bodies) more.replies t one.1.1 more.answered
+  answered = answers_more m s (event_of body) one.0 u (map event_of bodies) more.replies t one.1.1 more.answered;
 }
 
 replied : {S : Type 0} (m : PlainMachine S) (s : S) (bodies answers : List (List ℕ)) (t : S) → InTurn (MachineMay m) s bodies answers t → Replied m s bodies answers t
@@ -49,7 +48,7 @@ answered_events m shape to g h s bodies a =
       answers = r.answered;
       stands = a.stands;
       given = weaker g h (λ y z. shape (y ++ []) (z ++ []) (concat a.answers)) (λ y z. shape y z (frames r.replies)) a.given
-        (λ y z n. subst (λ x. shape x z (frames r.replies)) (append-nil y) (subst (λ x. shape (y ++ []) x (frames r.replies)) (append-nil z) (subst (λ x. shape (y ++ []) (z ++ []) x) r.framed n)))
+          (λ y z n. subst (λ x. shape x z (frames r.replies)) (append-nil y) (subst (λ x. shape (y ++ []) x (frames r.replies)) (append-nil z) (subst (λ x. shape (y ++ []) (z ++ []) x) r.framed n)));
     }
 
 -- an outcome by answers in turn is one by replies
@@ -62,7 +61,7 @@ outcome_weaker status from P Q first left f o = record {
   ends = o.ends;
   spent = o.spent;
   front = o.front;
-  whole = o.whole
+  whole = o.whole;
 }
 
 -- an outcome of a loop that answers by a machine's replies
@@ -71,4 +70,4 @@ pub machine_outcome : {S : Type 0} (m : PlainMachine S) (status : Status) (from 
     → Outcome status from (λ s bodies. Answered m (shape_of status) to g h s (map event_of bodies)) first left
 machine_outcome m status from to g h first left o =
     outcome_weaker status from (λ s bodies. AnsweredBy (MachineMay m) (shape_of status) to g h [] [] s bodies) (λ s bodies. Answered m (shape_of status) to g h s (map event_of bodies)) first left
-      (λ s bodies a. answered_events m (shape_of status) to g h s bodies a) o
+    (λ s bodies a. answered_events m (shape_of status) to g h s bodies a) o

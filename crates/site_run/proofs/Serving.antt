@@ -1,8 +1,8 @@
 -- Bodies that are cut from bytes and answered, step by step.
-use Rattle.std.proofs.Common.{◌≡◌, ℕ, ◌+◌, ◌≤◌, length, take, drop, arith, List, [], ◌∷◌, ◌++◌, Option, refl, sym, ap, ◌∙◌, subst, append_assoc}
+use Rattle.std.proofs.Common.{◌≡◌, ℕ, ◌+◌, ◌≤◌, length, take, drop, arith, List, [], ◌∷◌, ◌++◌, Option, refl, sym, ap, ◌∙◌, subst}
 use Rattle.std.proofs.lemmas.List.{append-nil, length-append, take_all}
 use Rattle.tardis_io.specs.Told.{WhileTold}
-use Rattle.frame_cut.specs.Frames.{frame, frames, IsBody, Cuts}
+use Rattle.frame_cut.specs.Frames.{frame, IsBody, Cuts}
 use Rattle.frame_cut.proofs.Joins.{more_bytes, more_bodies}
 use Rattle.frame_cut.proofs.Words.{length-frame}
 use Rattle.site_run.specs.Responses.{Whole, Front, AnsweredBy, Serves}
@@ -13,14 +13,14 @@ abbrev pub serves_none : {S : Type 0} (may : S → List ℕ → List ℕ → S �
 serves_none may from g p bytes = record {
   bodies = [];
   read = record { whole = refl; each = tt };
-  answered = λ s f. answered_none may from g p s f
+  answered = λ s f. answered_none may from g p s f;
 }
 
 -- one body is at the front
 one_body : (bytes body rest : List ℕ) → IsBody body → bytes ≡ frame body ++ rest → Cuts bytes (body ∷ []) rest
 one_body bytes body rest fits is = record {
   whole = is ∙ ap (λ z. z ++ rest) (sym (append-nil (frame body)));
-  each = (fits, tt)
+  each = (fits, tt);
 }
 
 -- bodies, and then more bodies
@@ -30,7 +30,7 @@ pub serves_then : {S : Type 0} (may : S → List ℕ → List ℕ → S → Type
 serves_then may shape join from mid to g h k p q r bytes between rest a b = record {
   bodies = a.bodies ++ b.bodies;
   read = more_bodies bytes a.bodies b.bodies between rest a.read b.read;
-  answered = λ s f. answered_then may shape join mid to g h k p q r s a.bodies b.bodies (a.answered s f) b.answered
+  answered = λ s f. answered_then may shape join mid to g h k p q r s a.bodies b.bodies (a.answered s f) b.answered;
 }
 
 -- bodies, and then one body
@@ -41,7 +41,7 @@ serves_body may shape join from mid to g h k p q r bytes between rest body a fit
     serves_then may shape join from mid to g h k p q r bytes between rest a (record {
       bodies = body ∷ [];
       read = one_body between body rest fits is;
-      answered = one
+      answered = one;
     })
 
 -- more bytes come behind the rest
@@ -50,32 +50,32 @@ pub serves_fed : {S : Type 0} (may : S → List ℕ → List ℕ → S → Type 
 serves_fed may shape from to g h p q bytes rest more a = record {
   bodies = a.bodies;
   read = more_bytes bytes more a.bodies rest a.read;
-  answered = a.answered
+  answered = a.answered;
 }
 
 -- what was gathered was written: all of it, or a front
 pub written : {S : Type 0} (may : S → List ℕ → List ℕ → S → Type 0) (to : S → Type 0) (g h k : Option (List ℕ)) (p q r : List ℕ) (s : S) (bodies : List (List ℕ)) → AnsweredBy may Whole to g h p q s bodies → WhileTold h k (λ y z. z ≡ y ++ q) → r ≡ [] → AnsweredBy may Whole to g k p r s bodies
 written may to g h k p q r s bodies a w empty =
     subst (λ z. AnsweredBy may Whole to g k p r s z) (append-nil bodies)
-      (answered_then may Whole whole_then to to g h k p q r s bodies [] a (λ t f. answered_written may to h k q q r t [] (answered_none may to h q t f) w empty))
+    (answered_then may Whole whole_then to to g h k p q r s bodies [] a (λ t f. answered_written may to h k q q r t [] (answered_none may to h q t f) w empty))
 
 pub lost : {S : Type 0} (may : S → List ℕ → List ℕ → S → Type 0) (to : S → Type 0) (g h k : Option (List ℕ)) (p q : List ℕ) (s : S) (bodies : List (List ℕ)) → AnsweredBy may Whole to g h p q s bodies → WhileTold h k (λ y z. (lost : List ℕ) × (z ++ lost ≡ y ++ q)) → AnsweredBy may Front to g k p [] s bodies
 lost may to g h k p q s bodies a w =
     subst (λ z. AnsweredBy may Front to g k p [] s z) (append-nil bodies)
-      (answered_then may Front front_then to to g h k p q [] s bodies [] a (λ t f. answered_lost may to h k q q t [] (answered_none may to h q t f) w))
+    (answered_then may Front front_then to to g h k p q [] s bodies [] a (λ t f. answered_lost may to h k q q t [] (answered_none may to h q t f) w))
 
 pub serves_written : {S : Type 0} (may : S → List ℕ → List ℕ → S → Type 0) (from to : S → Type 0) (g h k : Option (List ℕ)) (p q r bytes rest : List ℕ) → Serves may Whole from to g h p q bytes rest → WhileTold h k (λ y z. z ≡ y ++ q) → r ≡ [] → Serves may Whole from to g k p r bytes rest
 serves_written may from to g h k p q r bytes rest a w empty = record {
   bodies = a.bodies;
   read = a.read;
-  answered = λ s f. written may to g h k p q r s a.bodies (a.answered s f) w empty
+  answered = λ s f. written may to g h k p q r s a.bodies (a.answered s f) w empty;
 }
 
 pub serves_lost : {S : Type 0} (may : S → List ℕ → List ℕ → S → Type 0) (from to : S → Type 0) (g h k : Option (List ℕ)) (p q bytes rest : List ℕ) → Serves may Whole from to g h p q bytes rest → WhileTold h k (λ y z. (lost : List ℕ) × (z ++ lost ≡ y ++ q)) → Serves may Front from to g k p [] bytes rest
 serves_lost may from to g h k p q bytes rest a w = record {
   bodies = a.bodies;
   read = a.read;
-  answered = λ s f. lost may to g h k p q s a.bodies (a.answered s f) w
+  answered = λ s f. lost may to g h k p q s a.bodies (a.answered s f) w;
 }
 
 -- a cutter holds less when it has handed out a frame
@@ -92,13 +92,15 @@ fed_all held piece fed n is all = is ∙ ap (λ z. held ++ z) (take_all n piece 
 
 -- what a piece completes was answered, and of the answers that are written a front was
 pub piece_lost : {S : Type 0} (may : S → List ℕ → List ℕ → S → Type 0) (from to : S → Type 0) (g h k : Option (List ℕ)) (p q held piece fed rest : List ℕ) (n : ℕ) → p ≡ [] → fed ≡ held ++ take n piece → n ≡ length piece → Serves may Whole from to g h p q fed rest → WhileTold h k (λ y z. (lost : List ℕ) × (z ++ lost ≡ y ++ q)) → (x : List ℕ) × Serves may Front from to g k [] [] (held ++ piece) x
-piece_lost may from to g h k p q held piece fed rest n none is all a w =
-    (rest, subst (λ b. Serves may Front from to g k [] [] b rest) (fed_all held piece fed n is all)
-      (subst (λ e. Serves may Front from to g k e [] fed rest) none (serves_lost may from to g h k p q fed rest a w)))
+piece_lost may from to g h k p q held piece fed rest n none is all a w = (
+  rest,
+  subst (λ b. Serves may Front from to g k [] [] b rest) (fed_all held piece fed n is all)
+      (subst (λ e. Serves may Front from to g k e [] fed rest) none (serves_lost may from to g h k p q fed rest a w)),
+)
 
 -- and all of them were
 pub piece_written : {S : Type 0} (may : S → List ℕ → List ℕ → S → Type 0) (from to : S → Type 0) (g h k : Option (List ℕ)) (p q r held piece fed rest : List ℕ) (n : ℕ) → p ≡ [] → fed ≡ held ++ take n piece → n ≡ length piece → Serves may Whole from to g h p q fed rest → WhileTold h k (λ y z. z ≡ y ++ q) → r ≡ [] → Serves may Whole from to g k [] [] (held ++ piece) rest
 piece_written may from to g h k p q r held piece fed rest n none is all a w empty =
     subst (λ b. Serves may Whole from to g k [] [] b rest) (fed_all held piece fed n is all)
-      (subst (λ e. Serves may Whole from to g k e [] fed rest) none
-        (subst (λ e. Serves may Whole from to g k p e fed rest) empty (serves_written may from to g h k p q r fed rest a w empty)))
+    (subst (λ e. Serves may Whole from to g k e [] fed rest) none
+    (subst (λ e. Serves may Whole from to g k p e fed rest) empty (serves_written may from to g h k p q r fed rest a w empty)))

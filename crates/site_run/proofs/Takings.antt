@@ -1,5 +1,5 @@
 -- Pieces that are taken and answered, and how their loop ends.
-use Rattle.std.proofs.Common.{◌≡◌, ◌≢◌, ℕ, ◌+◌, ◌-◌, ◌<◌, ◌≤◌, ◌==◌, Bool, true, false, not, List, [], ◌∷◌, ◌++◌, Option, Result, Ok, Err, IfOk, length, take, drop, refl, sym, ap, ◌∙◌, subst, arith, append_assoc}
+use Rattle.std.proofs.Common.{◌≡◌, ◌≢◌, ℕ, ◌+◌, ◌<◌, ◌≤◌, ◌==◌, true, false, not, List, [], ◌++◌, Option, Result, Ok, Err, IfOk, length, take, refl, sym, ap, ◌∙◌, subst, arith, append_assoc}
 use Rattle.std.proofs.lemmas.Bool.{false≢true}
 use Rattle.std.proofs.lemmas.Bool.Decides.{nat_tests}
 use Rattle.std.proofs.lemmas.List.{nil_from_length, length-append, length-take-le, take-append-le}
@@ -9,7 +9,7 @@ use Rattle.tardis_io.specs.declared.statuses.Status.{Status}
 use Rattle.tardis_io.specs.declared.statuses.Status.TheVariants.{Ok as Finished, ReadFault, WriteFault as Broken, Cut, LongFrame, NoMemory, Spent}
 use Rattle.frame_cut.specs.Frames.{IsPartial, IsLong}
 use Rattle.site_run.specs.Responses.{Whole, Front, AnsweredBy, Serves}
-use Rattle.site_run.specs.Endings.{Outcome, shape_of, most_taken}
+use Rattle.site_run.specs.Endings.{Outcome, shape_of}
 use Rattle.site_run.proofs.Turns.{whole_then, front_then}
 use Rattle.site_run.proofs.Serving.{serves_none, serves_then, serves_fed}
 use Rattle.site_run.proofs.Ends.{outcome}
@@ -70,7 +70,7 @@ module _ {S : Type 0} (may : S → List ℕ → List ℕ → S → Type 0) (from
   serves_piece shape join held first before after buf piece rest n a moved is b =
       let joined : (held ++ piece) ++ after ≡ held ++ before = append_assoc held piece after ∙ ap (λ z. held ++ z) (ap (λ z. z ++ after) is ∙ sym moved) in
       serves_then may shape join from mid to g h k [] [] [] first (held ++ before) (rest ++ after) a
-        (subst (λ z. Serves may shape mid to h k [] [] z (rest ++ after)) joined (serves_fed may shape mid to h k [] [] (held ++ piece) rest after b))
+      (subst (λ z. Serves may shape mid to h k [] [] z (rest ++ after)) joined (serves_fed may shape mid to h k [] [] (held ++ piece) rest after b))
 
   -- so many more bytes were taken
   count_more : (taken n : ℕ) (first before after buf : List ℕ) → length first ≡ taken + length before → before ≡ take n buf ++ after → n ≤ length buf → length first ≡ taken + n + length after

@@ -3,7 +3,7 @@ use Rattle.std.proofs.Common.{◌≡◌, ℕ, List, [], ◌∷◌, ◌++◌, Opt
 use Rattle.std.proofs.lemmas.List.{append-nil}
 use Rattle.std.specs.List.{concat}
 use Rattle.tardis_io.specs.Told.{WhileTold, GivesAll}
-use Rattle.tardis_io.proofs.Told.{same, then, weaker}
+use Rattle.tardis_io.proofs.Told.{same, then}
 use Rattle.site_run.specs.Responses.{Whole, Front, InTurn, Responded, AnsweredBy}
 
 pub concat-append : (xs ys : List (List ℕ)) → concat (xs ++ ys) ≡ concat xs ++ concat ys
@@ -37,8 +37,8 @@ answered_then may shape join mid to g h k p q r s bodies others a more =
       each = in_turn_then may s bodies a.answers a.state others b.answers b.state a.each b.each;
       stands = b.stands;
       given = then g h k (λ y z. Whole (y ++ p) (z ++ q) (concat a.answers)) (λ y z. shape (y ++ q) (z ++ r) (concat b.answers)) (λ y z. shape (y ++ p) (z ++ r) (concat (a.answers ++ b.answers)))
-        a.given b.given
-        (λ x y z m n. subst (λ w. shape (x ++ p) (z ++ r) w) (sym (concat-append a.answers b.answers)) (join (x ++ p) (y ++ q) (z ++ r) (concat a.answers) (concat b.answers) m n))
+          a.given b.given
+          (λ x y z m n. subst (λ w. shape (x ++ p) (z ++ r) w) (sym (concat-append a.answers b.answers)) (join (x ++ p) (y ++ q) (z ++ r) (concat a.answers) (concat b.answers) m n));
     }
 
 -- no body was answered
@@ -48,7 +48,7 @@ answered_none may from g p s f = record {
   state = s;
   each = refl;
   stands = f;
-  given = same g (λ y z. Whole (y ++ p) (z ++ p) []) (λ x. sym (append-nil (x ++ p)))
+  given = same g (λ y z. Whole (y ++ p) (z ++ p) []) (λ x. sym (append-nil (x ++ p)));
 }
 
 -- one body was answered, and its answer gathered
@@ -59,7 +59,7 @@ answered_one may to g p q s body r = record {
   each = (r.state, (r.allowed, refl));
   stands = r.stands;
   given = same g (λ y z. Whole (y ++ p) (z ++ q) (r.answer ++ []))
-    (λ x. ap (λ w. x ++ w) r.put ∙ (sym (append_assoc x p r.answer) ∙ ap (λ w. (x ++ p) ++ w) (sym (append-nil r.answer))))
+      (λ x. ap (λ w. x ++ w) r.put ∙ (sym (append_assoc x p r.answer) ∙ ap (λ w. (x ++ p) ++ w) (sym (append-nil r.answer))));
 }
 
 -- what was gathered was written
@@ -70,7 +70,7 @@ answered_written may to g h p q r s bodies a w empty = record {
   each = a.each;
   stands = a.stands;
   given = then g g h (λ y z. Whole (y ++ p) (z ++ q) (concat a.answers)) (λ y z. z ≡ y ++ q) (λ y z. Whole (y ++ p) (z ++ r) (concat a.answers)) a.given w
-    (λ x y z m n. ap (λ e. z ++ e) empty ∙ (append-nil z ∙ (n ∙ m)))
+      (λ x y z m n. ap (λ e. z ++ e) empty ∙ (append-nil z ∙ (n ∙ m)));
 }
 
 -- or only a front of it
@@ -81,7 +81,7 @@ answered_lost may to g h p q s bodies a w = record {
   each = a.each;
   stands = a.stands;
   given = then g g h (λ y z. Whole (y ++ p) (z ++ q) (concat a.answers)) (λ y z. (lost : List ℕ) × (z ++ lost ≡ y ++ q)) (λ y z. Front (y ++ p) (z ++ []) (concat a.answers)) a.given w
-    (λ x y z m n. (n.0, ap (λ e. e ++ n.0) (append-nil z) ∙ (n.1 ∙ m)))
+      (λ x y z m n. (n.0, ap (λ e. e ++ n.0) (append-nil z) ∙ (n.1 ∙ m)));
 }
 
 -- a write of what was gathered, as its result says

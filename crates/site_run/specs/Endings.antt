@@ -9,6 +9,17 @@ use Rattle.site_run.specs.Responses.{Whole, Front}
 abbrev pub most_taken : ℕ
 most_taken = 1099511627776
 
+-- the ends that a run may have, whatever its devices tell
+abbrev pub IsRunEnd : Status → Type 0
+IsRunEnd Ok = Unit {0}
+IsRunEnd Cut = Unit {0}
+IsRunEnd (LongFrame len) = 1048576 < len
+IsRunEnd ReadFault = Unit {0}
+IsRunEnd WriteFault = Unit {0}
+IsRunEnd NoMemory = Unit {0}
+IsRunEnd Spent = Unit {0}
+IsRunEnd _ = ⊥
+
 -- only a sink that failed was given less than all
 abbrev pub shape_of : Status → List ℕ → List ℕ → List ℕ → Type 0
 shape_of WriteFault = Front

@@ -10,6 +10,8 @@ mod pieces;
 mod responders;
 mod runs;
 mod takes;
+#[cfg(test)]
+mod tests;
 
 pub use gathered::Gathered;
 pub use loops::answer_frames;

@@ -6,7 +6,7 @@ ghost use Rattle.tardis_io.specs.Faults.{Rose};
 ghost use Rattle.frame_cut.specs.Frames.{IsCut};
 ghost use Rattle.site_run.specs.Responses.{AnsweredBy};
 ghost use Rattle.site_run.specs.Buffering.{IsFresh};
-ghost use Rattle.site_run.specs.Endings.{Outcome, EndsAs, shape_of, most_taken};
+ghost use Rattle.site_run.specs.Endings.{Outcome, EndsAs, IsRunEnd, shape_of, most_taken};
 
 use crate::gathered::Gathered;
 use crate::held::Next;
@@ -71,6 +71,7 @@ pub fn answer_frames<T, R: Responder<T>, I: Source, O: Sink>(
         → IsCut first all rest → length first < most_taken
         → (Rose (I.faults input.old) (I.faults input.new) → ⊥) → (Rose (O.faults output.old) (O.faults output.new) → ⊥)
         → EndsAs rest result) }
+    ensures status { IsRunEnd result }
     ensures read_later { I.faults input.old ≤ I.faults input.new }
     ensures write_later { O.faults output.old ≤ O.faults output.new }
     ensures read { result ≡ Status.ReadFault → Rose (I.faults input.old) (I.faults input.new) }
@@ -95,6 +96,7 @@ fn answer_input<T, R: Responder<T>, I: Source, O: Sink>(
     requires { IsFresh buffers.old R.MOST }
     ensures outcome { WhileTold (I.left input.old) (I.left input.new) (λ first left. Outcome result (R.stands subject.old)
         (λ s bodies. AnsweredBy R.may (shape_of result) (R.stands subject.new) (O.given output.old) (O.given output.new) [] [] s bodies) first left) }
+    ensures status { IsRunEnd result }
     ensures read_later { I.faults input.old ≤ I.faults input.new }
     ensures write_later { O.faults output.old ≤ O.faults output.new }
     ensures read { result ≡ Status.ReadFault → Rose (I.faults input.old) (I.faults input.new) }

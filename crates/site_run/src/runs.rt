@@ -6,7 +6,7 @@ ghost use Rattle.tardis_io.specs.Faults.{Rose};
 ghost use Rattle.frame_cut.specs.Frames.{IsCut};
 ghost use Rattle.frame_cut.specs.Events.{event_of};
 ghost use Rattle.site_run.specs.Machines.{Answered};
-ghost use Rattle.site_run.specs.Endings.{Outcome, EndsAs, shape_of, most_taken};
+ghost use Rattle.site_run.specs.Endings.{Outcome, EndsAs, IsRunEnd, shape_of, most_taken};
 
 use crate::loops::answer_frames;
 use crate::machine_replies::MachineReplies;
@@ -30,6 +30,7 @@ pub fn run_site<M: Machine, I: Source, O: Sink>(
         → IsCut first all rest → length first < most_taken
         → (Rose (I.faults input.old) (I.faults input.new) → ⊥) → (Rose (O.faults output.old) (O.faults output.new) → ⊥)
         → EndsAs rest result) }
+    ensures status { IsRunEnd result }
     ensures read_later { I.faults input.old ≤ I.faults input.new }
     ensures write_later { O.faults output.old ≤ O.faults output.new }
     ensures read { result ≡ Status.ReadFault → Rose (I.faults input.old) (I.faults input.new) }

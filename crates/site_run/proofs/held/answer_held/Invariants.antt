@@ -8,7 +8,7 @@ invariant-loop-body g l = record {
   fits : length l.gathered.bytes + g.R.Responder.MOST ≤ l.gathered.room;
   room : l.gathered.room ≡ l.fn.gathered.room;
   later : g.O.Sink.faults l.fn.output ≤ g.O.Sink.faults l.output;
-  opening : g.R.Responder.opening l.subject ≡ g.R.Responder.opening l.fn.subject
+  opening : g.R.Responder.opening l.subject ≡ g.R.Responder.opening l.fn.subject;
 }
 
 abbrev pub decreases-loop-body : goal.decreases-loop-body

@@ -15,7 +15,7 @@ invariant-loop-taken g l = record {
   room : g.R.Responder.MOST ≤ l.gathered.room;
   read_later : g.I.Source.faults l.fn.input ≤ g.I.Source.faults l.input;
   write_later : g.O.Sink.faults l.fn.output ≤ g.O.Sink.faults l.output;
-  opening : g.R.Responder.opening l.subject ≡ g.R.Responder.opening l.fn.subject
+  opening : g.R.Responder.opening l.subject ≡ g.R.Responder.opening l.fn.subject;
 }
 
 abbrev pub decreases-loop-taken : goal.decreases-loop-taken
