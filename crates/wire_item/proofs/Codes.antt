@@ -26,6 +26,7 @@ code-none {A} rows (byte ∷ bytes) h e = go (nat_lt byte 256) refl
   where
     clash : ◌≡◌ {A = Option (ℕ × List ℕ)} None (Some (byte, bytes)) → ⊥
     clash e = absurd (cc)
+
     go : (t : Bool) → nat_lt byte 256 ≡ t → by_code rows (byte ∷ bytes) ≡ None
     go true fits = absurd (clash (sym e ∙ reads-u8.back byte bytes fits))
     go false far_off = far rows byte bytes h far_off

@@ -12,3 +12,4 @@ pub mod Orders
 pub mod Codes
 pub mod Gathering
 pub mod Wholes
+pub mod Writings

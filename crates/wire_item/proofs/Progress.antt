@@ -74,7 +74,7 @@ progress-breaks {A} {K} key before ascends o front start place n now last list x
         let begins = times-begins front (place + 1) n start (p.xs ++ x ∷ []) next read.0 read.1 longer (omega arith) is in
         let broken = order-breaks key before ascends o p.xs x begins.0 (ap (λ l. may_follow before l (key x)) (sym p.last_is) ∙ f) in
         only_if-fails ascends (times front n) start read.0 read.1 is
-          (ap ascends (sym begins.1 ∙ append_assoc p.xs (x ∷ []) begins.0) ∙ broken)
+        (ap ascends (sym begins.1 ∙ append_assoc p.xs (x ∷ []) begins.0) ∙ broken)
 
 pub progress-more : {A K : Type 0} (key : A → K) (before : K → K → Bool) (ascends : List A → Bool) → IsOrder key before ascends
     → (front : Front A) (start : List ℕ) (place : ℕ) (now : List ℕ) (last : Option K) (list longer : Result (List A) NoMemory) (x : A) (next : List ℕ)

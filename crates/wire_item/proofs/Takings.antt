@@ -102,24 +102,27 @@ counted-unordered {A} number front test ascends fits tested old n mid e f = go (
     disordered : (xs : List A) (rest : List ℕ) (t : Bool) → ascends xs ≡ t → times front n mid ≡ Some (xs, rest) → ascends xs ≡ false
     disordered xs rest true h is = absurd (nothing_is xs rest (sym f ∙ only_if-read ascends (times front n) mid xs rest is h))
     disordered xs rest false h is = h
+
     whole : (xs : List A) (rest : List ℕ) → times front n mid ≡ Some (xs, rest) → counted number (times front) old ≡ Some (xs, rest)
     whole xs rest is = made-read (λ read. read.1) (after number (times front)) old (n, xs) rest (after-then number (times front) old n mid xs rest e is)
+
     go : (o : Option (List A × List ℕ)) → times front n mid ≡ o → only_if test (counted number (times front)) old ≡ None
     go None is =
         only_if-none test (counted number (times front)) old
-          (made-none (λ read. read.1) (after number (times front)) old (after-then_none number (times front) old n mid e is))
+        (made-none (λ read. read.1) (after number (times front)) old (after-then_none number (times front) old n mid e is))
     go (Some read) is =
         only_if-fails test (counted number (times front)) old read.0 read.1 (whole read.0 read.1 is)
-          (tested n mid read.0 read.1 is ∙ and_right (fits n) (ascends read.0) (disordered read.0 read.1 (ascends read.0) refl is))
+        (tested n mid read.0 read.1 is ∙ and_right (fits n) (ascends read.0) (disordered read.0 read.1 (ascends read.0) refl is))
 
 pub counted-ordered : {A : Type 0} (number : Front ℕ) (front : Front A) (test ascends : List A → Bool) (fits : ℕ → Bool)
     → ((n : ℕ) (mid : List ℕ) (xs : List A) (rest : List ℕ) → times front n mid ≡ Some (xs, rest) → test xs ≡ (fits n && ascends xs))
     → (old : List ℕ) (n : ℕ) (mid : List ℕ) (xs : List A) (rest : List ℕ) → number old ≡ Some (n, mid) → only_if ascends (times front n) mid ≡ Some (xs, rest)
     → (counted number (times front) old ≡ Some (xs, rest)) × (test xs ≡ fits n)
 counted-ordered {A} number front test ascends fits tested old n mid xs rest e f =
-    let source = only_if-source ascends (times front n) mid xs rest f in
-    (made-read (λ read. read.1) (after number (times front)) old (n, xs) rest (after-then number (times front) old n mid xs rest e source.0),
-     tested n mid xs rest source.0 ∙ and-true (fits n) (ascends xs) source.1)
+    let source = only_if-source ascends (times front n) mid xs rest f in (
+      made-read (λ read. read.1) (after number (times front)) old (n, xs) rest (after-then number (times front) old n mid xs rest e source.0),
+      tested n mid xs rest source.0 ∙ and-true (fits n) (ascends xs) source.1,
+    )
   where
     and-true : (b t : Bool) → IsTrue t → (b && t) ≡ b
     and-true true t h = h

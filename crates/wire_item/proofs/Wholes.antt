@@ -38,14 +38,19 @@ answers {A} {valid} {spelling} {front} reads bytes taken rest done m d result e 
   where
     malformed : whole front bytes ≡ None → Answers valid spelling front bytes (Err Malformed)
     malformed none = record { spelled = tt; malformed = ((λ _. none), (λ _. refl)) }
+
     not_malformed : (r : Result A ReadFault) → (r ≡ Err Malformed → ⊥) → (a : A) → whole front bytes ≡ Some a → (r ≡ Err Malformed) ↔ (whole front bytes ≡ None)
     not_malformed r other a w = ((λ same. absurd (other same)), (λ none. absurd (some-none (whole front bytes) a w none)))
+
     ok-other : (a : A) → ◌≡◌ {A = Result A ReadFault} (Ok a) (Err Malformed) → ⊥
     ok-other a e = absurd (cc)
+
     memory-other : ◌≡◌ {A = Result A ReadFault} (Err OutOfMemory) (Err Malformed) → ⊥
     memory-other e = absurd (cc)
+
     read_whole : (a : A) → front bytes ≡ Some (a, rest) → true ≡ (length rest == 0) → whole front bytes ≡ Some a
     read_whole a e d = whole-read front bytes a (e ∙ ap (λ r. Some (a, r)) (no_list rest (sym d)))
+
     go : (taken : Option (Result A NoMemory)) (done : Bool) → Makes front bytes taken rest → done ≡ (length rest == 0) → Answers valid spelling front bytes (whole_of taken done)
     go None done m d = malformed (ap (option_and_then (λ read. alone read.0 read.1)) (unmade front bytes rest m))
     go (Some result) false m d =

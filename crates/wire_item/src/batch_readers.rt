@@ -68,7 +68,11 @@ impl<'a> Reader<'a> {
         }
     }
 
-    fn ascending_consents(&mut self, alloc: Global, count: u8) -> Option<Result<ConsentList, NoMemory>>
+    fn ascending_consents(
+        &mut self,
+        alloc: Global,
+        count: u8,
+    ) -> Option<Result<ConsentList, NoMemory>>
         ensures { Makes (only_if (λ (cs : List Consent). are_ascending_numbers (map (λ c. c.site) cs)) (times consent_front count)) self.old result self.new }
     {
         let mut consents = Ok(ConsentList::new(alloc));
@@ -107,7 +111,10 @@ fn state_item(state: Result<Record, NoMemory>) -> Result<Item, NoMemory>
     Ok(Item::State(state?))
 }
 
-fn batch_of_parts(records: Result<RecordList, NoMemory>, consents: Result<ConsentList, NoMemory>) -> Result<Batch, NoMemory>
+fn batch_of_parts(
+    records: Result<RecordList, NoMemory>,
+    consents: Result<ConsentList, NoMemory>,
+) -> Result<Batch, NoMemory>
     ensures { (rs : List Record) (cs : List Consent) → IfOk records (λ l. l ≡ rs) → IfOk consents (λ l. l ≡ cs)
         → IfOk result (λ b. b ≡ record { records = rs; consents = cs }) }
 {

@@ -16,7 +16,9 @@ ghost use Rattle.wire_item.specs.Takings.{Makes, Takes};
 
 use crate::readers::Reader;
 use std::alloc::Global;
-use tardis_base::{Consent, Key, ListOf, NoMemory, Record, StateId, StateList, Value, Write, WriteSet};
+use tardis_base::{
+    Consent, Key, ListOf, NoMemory, Record, StateId, StateList, Value, Write, WriteSet,
+};
 
 impl<'a> Reader<'a> {
     /// What is written to a key.
@@ -182,7 +184,10 @@ fn put(alloc: Global, value: &[u8]) -> Result<Write, NoMemory>
 }
 
 /// The list with the item behind its end, where there was memory for both.
-pub(crate) fn pushed<T: Drop>(list: Result<ListOf<T>, NoMemory>, item: Result<T, NoMemory>) -> Result<ListOf<T>, NoMemory>
+pub(crate) fn pushed<T: Drop>(
+    list: Result<ListOf<T>, NoMemory>,
+    item: Result<T, NoMemory>,
+) -> Result<ListOf<T>, NoMemory>
     ensures { (xs : List T) (x : T) → IfOk list (λ l. l ≡ xs) → IfOk item (λ i. i ≡ x) → IfOk result (λ l. l ≡ xs ++ x ∷ []) }
 {
     let mut list = list?;
@@ -191,7 +196,12 @@ pub(crate) fn pushed<T: Drop>(list: Result<ListOf<T>, NoMemory>, item: Result<T,
 }
 
 /// The writes with one more, where there was memory for both.
-fn inserted(alloc: Global, writes: Result<WriteSet, NoMemory>, key: &[u8], write: Result<Write, NoMemory>) -> Result<WriteSet, NoMemory>
+fn inserted(
+    alloc: Global,
+    writes: Result<WriteSet, NoMemory>,
+    key: &[u8],
+    write: Result<Write, NoMemory>,
+) -> Result<WriteSet, NoMemory>
     ensures { (ws : List (List ℕ × Write)) (w : Write) → IfOk writes (λ s. s ≡ ws) → IfOk write (λ v. v ≡ w) → IfOk result (λ s. s ≡ with_write key.now w ws) }
 {
     let mut writes = writes?;
@@ -204,7 +214,11 @@ fn inserted(alloc: Global, writes: Result<WriteSet, NoMemory>, key: &[u8], write
     }
 }
 
-fn record_of_parts(id: StateId, parents: Result<StateList, NoMemory>, writes: Result<WriteSet, NoMemory>) -> Result<Record, NoMemory>
+fn record_of_parts(
+    id: StateId,
+    parents: Result<StateList, NoMemory>,
+    writes: Result<WriteSet, NoMemory>,
+) -> Result<Record, NoMemory>
     ensures { (xs : List StateId) (ws : List (List ℕ × Write)) → IfOk parents (λ l. l ≡ xs) → IfOk writes (λ s. s ≡ ws)
         → IfOk result (λ r. r ≡ record { id = id; parents = xs; writes = ws }) }
 {

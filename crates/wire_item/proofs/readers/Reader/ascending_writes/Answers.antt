@@ -17,7 +17,7 @@ returns-in_err-key c =
     let none = untaken key_front c.loop-place.self c.key.new.self c.in_err-key.ensures in
     makes-none (only_if (λ (ws : List KeyWrite). are_ascending_keys (keys_of ws)) (times (both key_front write_front) c.args.count)) c.args.self.now c.key.new.self c.from_residual.result c.from_residual.ensures
     (progress-none (λ (w : KeyWrite). w.0) (λ (ws : List KeyWrite). are_ascending_keys (keys_of ws)) (both key_front write_front) c.args.self.now c.loop-place._place c.args.count c.loop-place.self (option_copied c.loop-place.last) c.loop-place.writes
-      c.loop-place.invariant (after-none key_front (λ _. write_front) c.loop-place.self none) (omega arith))
+    c.loop-place.invariant (after-none key_front (λ _. write_front) c.loop-place.self none) (omega arith))
 
 pub returns-in_err-write : goal.returns-in_err-write
 returns-in_err-write c =
@@ -25,7 +25,7 @@ returns-in_err-write c =
     let none = unmade write_front c.key.new.self c.write.new.self c.in_err-write.ensures in
     makes-none (only_if (λ (ws : List KeyWrite). are_ascending_keys (keys_of ws)) (times (both key_front write_front) c.args.count)) c.args.self.now c.write.new.self c.from_residual-in_err-write.result c.from_residual-in_err-write.ensures
     (progress-none (λ (w : KeyWrite). w.0) (λ (ws : List KeyWrite). are_ascending_keys (keys_of ws)) (both key_front write_front) c.args.self.now c.loop-place._place c.args.count c.loop-place.self (option_copied c.loop-place.last) c.loop-place.writes
-      c.loop-place.invariant (after-then_none key_front (λ _. write_front) c.loop-place.self c.in_ok-key.key.now c.key.new.self key none) (omega arith))
+    c.loop-place.invariant (after-then_none key_front (λ _. write_front) c.loop-place.self c.in_ok-key.key.now c.key.new.self key none) (omega arith))
 
 pub returns-then-not-key_follows : goal.returns-then-not-key_follows
 returns-then-not-key_follows c =
@@ -34,7 +34,7 @@ returns-then-not-key_follows c =
     let read = after-then key_front (λ _. write_front) c.loop-place.self c.in_ok-key.key.now c.key.new.self write.0 c.write.new.self key write.1 in
     makes-none (only_if (λ (ws : List KeyWrite). are_ascending_keys (keys_of ws)) (times (both key_front write_front) c.args.count)) c.args.self.now c.write.new.self None refl
     (progress-breaks (λ (w : KeyWrite). w.0) is_key_before (λ (ws : List KeyWrite). are_ascending_keys (keys_of ws)) writes-order (both key_front write_front) c.args.self.now c.loop-place._place c.args.count c.loop-place.self (option_copied c.loop-place.last) c.loop-place.writes
-      (c.in_ok-key.key.now, write.0) c.write.new.self c.loop-place.invariant read (sym c.if-not-key_follows.ensures) (omega arith))
+    (c.in_ok-key.key.now, write.0) c.write.new.self c.loop-place.invariant read (sym c.if-not-key_follows.ensures) (omega arith))
 
 pub loop-place-preserved : goal.loop-place-preserved
 loop-place-preserved c =

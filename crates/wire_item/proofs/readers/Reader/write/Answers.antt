@@ -23,7 +23,7 @@ returns-then-kind-ne1 c =
     let kind = taken u8_front c.args.self.now c.u8.new.self c.in_ok-kind.kind c.in_ok-kind.ensures in
     makes-none write_front c.args.self.now c.u8.new.self None refl
     (code-read write_rows c.args.self.now c.in_ok-kind.kind c.u8.new.self kind
-      ∙ code-other (nothing_but Delete) (made Put value_front) 0 1 c.in_ok-kind.kind c.u8.new.self c.if-kind-eq0.false c.if-kind-ne1.true)
+    ∙ code-other (nothing_but Delete) (made Put value_front) 0 1 c.in_ok-kind.kind c.u8.new.self c.if-kind-eq0.false c.if-kind-ne1.true)
 
 pub returns-in_err-value : goal.returns-in_err-value
 returns-in_err-value c =
@@ -31,7 +31,7 @@ returns-in_err-value c =
     let none = untaken value_front c.u8.new.self c.value.new.self c.in_err-value.ensures in
     makes-none write_front c.args.self.now c.value.new.self c.from_residual-in_err-value.result c.from_residual-in_err-value.ensures
     (code-read write_rows c.args.self.now c.in_ok-kind.kind c.u8.new.self kind ∙ ap (λ k. front_of_code k write_rows c.u8.new.self) c.if-kind-ne1.false
-      ∙ made-none Put value_front c.u8.new.self none)
+    ∙ made-none Put value_front c.u8.new.self none)
 
 pub returns : goal.returns
 returns c =
@@ -39,5 +39,5 @@ returns c =
     let value = taken value_front c.u8.new.self c.value.new.self c.in_ok-value.value.now c.in_ok-value.ensures in
     makes write_front c.args.self.now c.value.new.self c.put.result (Put c.in_ok-value.value.now)
     (code-read write_rows c.args.self.now c.in_ok-kind.kind c.u8.new.self kind ∙ ap (λ k. front_of_code k write_rows c.u8.new.self) c.if-kind-ne1.false
-      ∙ made-read Put value_front c.u8.new.self c.in_ok-value.value.now c.value.new.self value)
+    ∙ made-read Put value_front c.u8.new.self c.in_ok-value.value.now c.value.new.self value)
     c.put.ensures
