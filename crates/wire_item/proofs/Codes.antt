@@ -1,6 +1,6 @@
 -- A code that is read, and what stands behind it.
-use Rattle.std.proofs.Common.{◌≡◌, ℕ, ◌<◌, ◌≤◌, Bool, true, false, ◌==◌, ◌&&◌, IsTrue, List, [], ◌∷◌, ◌++◌, length, nat_lt, nat_le, Option, Some, None, if◌then◌else◌, ap, sym, ◌∙◌, subst, refl, arith, ne_eqb, ltb-true, ltb-false, le-leb, eqb-true}
-use Rattle.std.proofs.lemmas.Bool.{and_parts, and_from, cases_Bool, both_ways}
+use Rattle.std.proofs.Common.{◌≡◌, ℕ, Bool, true, false, ◌==◌, IsTrue, List, [], ◌∷◌, nat_lt, Option, Some, None, if◌then◌else◌, ap, sym, ◌∙◌, refl, arith, ne_eqb, ltb-true, ltb-false}
+use Rattle.std.proofs.lemmas.Bool.{and_parts}
 use Rattle.std.specs.List.{list_all}
 use Rattle.wire_item.specs.Fronts.{Front, front_of_code, by_code}
 use Rattle.wire_item.specs.Readings.{u8_front}

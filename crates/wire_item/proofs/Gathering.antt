@@ -1,6 +1,6 @@
 -- How far a list was read, in any order, while memory may be wanting.
-use Rattle.std.proofs.Common.{◌≡◌, ℕ, ◌+◌, ◌<◌, List, [], ◌∷◌, ◌++◌, Option, Some, None, ap, sym, ◌∙◌, refl}
-use Rattle.std.specs.Prelude.{Result, Ok, IfOk}
+use Rattle.std.proofs.Common.{◌≡◌, ℕ, List, Some}
+use Rattle.std.specs.Prelude.{Result, IfOk}
 use Rattle.tardis_base.specs.declared.faults.NoMemory.{NoMemory}
 use Rattle.wire_item.specs.Fronts.{Front, times}
 

@@ -1,10 +1,9 @@
 -- Lists that are read one thing after another, and tests of what was read.
-use Rattle.std.proofs.Common.{◌≡◌, ℕ, zero, suc, ◌+◌, ◌-◌, ◌<◌, ◌≤◌, Bool, true, false, ◌&&◌, IsTrue, List, [], ◌∷◌, ◌++◌, length, nat_le, Option, Some, None, ap, sym, ◌∙◌, subst, refl, arith, append_assoc, append-nil}
-use Rattle.std.proofs.lemmas.Bool.{and_left, and_from, and_parts, cases_Bool}
-use Rattle.std.specs.Prelude.{option_map, option_and_then}
+use Rattle.std.proofs.Common.{◌≡◌, ℕ, suc, ◌+◌, ◌-◌, ◌<◌, ◌≤◌, Bool, true, false, ◌&&◌, IsTrue, List, [], ◌∷◌, ◌++◌, length, nat_le, Option, Some, None, ap, sym, ◌∙◌, refl, arith}
+use Rattle.std.specs.Prelude.{option_map}
 use Rattle.tardis_base.specs.Valid.{are_bytes, is_within, is_key, is_value}
-use Rattle.wire_item.specs.Fronts.{Front, bytes_front, made, both, times}
-use Rattle.wire_item.proofs.Fronts.{bytes_front-source, made-read, made-source, some-parts, after-source, after-read}
+use Rattle.wire_item.specs.Fronts.{Front, bytes_front, both, times}
+use Rattle.wire_item.proofs.Fronts.{bytes_front-source, made-read, made-source, some-parts, after-source}
 use Rattle.wire_item.proofs.Takings.{made-none, after-none, after-then_none, after-then}
 
 and-true : (b : Bool) (t : Bool) → IsTrue t → (b && t) ≡ b

@@ -1,16 +1,15 @@
 -- The orders of ids, of writes and of consents, and the tests of their lists.
-use Rattle.std.proofs.Common.{◌≡◌, ℕ, Bool, true, false, ◌&&◌, IsTrue, List, [], ◌∷◌, length, map, nat_le, nat_lt, Option, Some, ap, sym, ◌∙◌, subst, refl}
+use Rattle.std.proofs.Common.{◌≡◌, ℕ, Bool, true, false, ◌&&◌, IsTrue, List, length, map, nat_le, nat_lt, Some, ap, ◌∙◌, refl}
 use Rattle.std.specs.List.{list_all}
 use Rattle.tardis_base.specs.declared.ids.StateId.{StateId}
 use Rattle.tardis_base.specs.declared.records.Consent.{Consent}
 use Rattle.tardis_base.specs.Ids.{is_before, are_ascending}
 use Rattle.tardis_base.specs.Keys.{KeyWrite, keys_of, is_key_before, are_ascending_keys}
 use Rattle.tardis_base.specs.Valid.{is_within, is_id, is_key, is_write, are_parents, are_writes}
-use Rattle.wire_item.specs.Spellings.{id_spelling, key_write_spelling, consent_spelling}
 use Rattle.wire_item.specs.Valid.{is_consent, are_ascending_numbers, are_consents}
 use Rattle.wire_item.specs.Fronts.{both, times}
 use Rattle.wire_item.specs.Readings.{id_front, key_front, write_front, consent_front}
-use Rattle.wire_item.proofs.Ways.{Reads, many-times, reads-both}
+use Rattle.wire_item.proofs.Ways.{many-times, reads-both}
 use Rattle.wire_item.proofs.Things.{reads-id, reads-key, reads-write, reads-consent}
 use Rattle.wire_item.proofs.Progress.{IsOrder}
 

@@ -1,14 +1,14 @@
 -- What a taking gives, when things are taken one after another.
-use Rattle.std.proofs.Common.{ap₂, ◌≡◌, ℕ, Bool, true, false, ◌&&◌, IsTrue, List, [], ◌∷◌, ◌++◌, length, take, drop, nat_le, nat_lt, ◌<◌, ◌≤◌, Option, Some, None, ap, sym, ◌∙◌, subst, refl, arith, le-leb, take-append-drop}
+use Rattle.std.proofs.Common.{ap₂, ◌≡◌, ℕ, Bool, true, false, ◌&&◌, IsTrue, List, length, take, drop, nat_le, nat_lt, ◌<◌, ◌≤◌, Option, Some, None, ap, sym, ◌∙◌, subst, refl, le-leb, take-append-drop}
 use Rattle.std.proofs.lemmas.Bool.{and_left, and_right, and_from, and_parts, lt-leb}
 use Rattle.std.proofs.lemmas.List.Folds.{list_all-append}
 use Rattle.std.specs.Prelude.{option_map, option_and_then, Result, IfOk}
 use Rattle.std.specs.Bool.{then_some}
 use Rattle.tardis_base.specs.declared.faults.NoMemory.{NoMemory}
 use Rattle.tardis_base.specs.Valid.{are_bytes}
-use Rattle.wire_item.specs.Fronts.{Front, bytes_front, made, only_if, after, both, times, counted, by_code, front_of_code}
+use Rattle.wire_item.specs.Fronts.{Front, bytes_front, made, only_if, after, times, counted}
 use Rattle.wire_item.specs.Takings.{Takes, Makes}
-use Rattle.wire_item.proofs.Fronts.{made-read, made-source, only_if-read, only_if-source, After, after-read}
+use Rattle.wire_item.proofs.Fronts.{made-read, only_if-read, only_if-source, after-read}
 
 -- a taking, as an equation, and back
 pub taken : {A : Type 0} (front : Front A) (old new : List ℕ) (a : A) → Takes front old (Some a) new → front old ≡ Some (a, new)

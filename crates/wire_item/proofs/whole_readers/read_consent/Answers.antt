@@ -1,4 +1,4 @@
-use Rattle.std.proofs.Common.{refl, ap, ◌∙◌, sym, subst, Some, None, Ok, Err, length, ◌==◌, ◌≡◌}
+use Rattle.std.proofs.Common.{refl, ap, ◌∙◌, sym, Some, None, Ok, Err, length, ◌==◌}
 use Rattle.tardis_base.specs.declared.faults.ReadFault.TheVariants.{Malformed}
 use Rattle.wire_item.specs.Readings.{consent_front}
 use Rattle.wire_item.proofs.Things.{reads-consent}

@@ -1,4 +1,3 @@
-use Rattle.std.proofs.Common.{arith}
 use Rattle.tardis_base.specs.Ids.{root}
 use Rattle.wire_item.specs.Spellings.{consent_spelling}
 use Rattle.wire_item.proofs.Writings.{room-next}

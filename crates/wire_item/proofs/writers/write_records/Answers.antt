@@ -1,4 +1,3 @@
-use Rattle.std.proofs.Common.{arith}
 use Rattle.wire_item.specs.Spellings.{record_spelling}
 use Rattle.wire_item.proofs.Writings.{room-item}
 use Rattle.wire_item.proofs.writers.write_records.Goals as goal

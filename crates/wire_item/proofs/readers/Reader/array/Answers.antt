@@ -1,4 +1,4 @@
-use Rattle.std.proofs.Common.{refl, sym, ◌∙◌, ap, subst, IsTrue, List, ℕ, length, take, drop, Some, None, ◌≡◌, ◌<◌, ◌≤◌, arith}
+use Rattle.std.proofs.Common.{sym, ◌∙◌, subst, IsTrue, length, ◌<◌, arith}
 use Rattle.tardis_base.specs.Valid.{are_bytes}
 use Rattle.wire_item.specs.Fronts.{bytes_front}
 use Rattle.wire_item.proofs.Takings.{takes, takes-none, bytes-short, bytes-split}

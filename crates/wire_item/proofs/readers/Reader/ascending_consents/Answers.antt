@@ -1,4 +1,4 @@
-use Rattle.std.proofs.Common.{List, map, nat_lt, refl, sym, ◌∙◌, arith, Ok, ◌≡◌}
+use Rattle.std.proofs.Common.{List, map, nat_lt, refl, sym, arith}
 use Rattle.tardis_base.specs.declared.records.Consent.{Consent}
 use Rattle.wire_item.specs.Valid.{are_ascending_numbers}
 use Rattle.wire_item.specs.Fronts.{only_if, times}

@@ -1,4 +1,4 @@
-use Rattle.std.proofs.Common.{refl, sym, ◌∙◌, arith, Ok, ◌≡◌}
+use Rattle.std.proofs.Common.{refl, sym, arith}
 use Rattle.tardis_base.specs.declared.ids.StateId.{StateId}
 use Rattle.tardis_base.specs.Ids.{is_before, are_ascending}
 use Rattle.wire_item.specs.Fronts.{only_if, times}

@@ -1,4 +1,4 @@
-use Rattle.std.proofs.Common.{List, ℕ, refl, sym, ◌∙◌, arith, Ok, ◌≡◌, None, ◌++◌, ◌∷◌, []}
+use Rattle.std.proofs.Common.{List, refl, sym, arith, None, ◌++◌, ◌∷◌, []}
 use Rattle.std.specs.Option.{option_copied}
 use Rattle.tardis_base.specs.Keys.{KeyWrite, is_key_before, are_ascending_keys, keys_of, with_write}
 use Rattle.tardis_base.proofs.WriteSets.{with_write-last}

@@ -1,4 +1,4 @@
-use Rattle.std.proofs.Common.{List, ℕ}
+use Rattle.std.proofs.Common.{List}
 use Rattle.std.specs.Option.{option_copied}
 use Rattle.tardis_base.specs.Keys.{KeyWrite, are_ascending_keys, keys_of}
 use Rattle.wire_item.specs.Fronts.{both}

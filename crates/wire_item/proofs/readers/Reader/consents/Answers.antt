@@ -1,8 +1,8 @@
 use Rattle.std.proofs.Common.{List, map, refl, None, sym, ◌∙◌, nat_le}
 use Rattle.tardis_base.specs.declared.records.Consent.{Consent}
 use Rattle.wire_item.specs.Valid.{are_ascending_numbers, are_consents}
-use Rattle.wire_item.specs.Fronts.{both, only_if, counted, times}
-use Rattle.wire_item.specs.Readings.{u8_front, consents_front, id_front, key_front, write_front, consent_front}
+use Rattle.wire_item.specs.Fronts.{only_if, counted, times}
+use Rattle.wire_item.specs.Readings.{u8_front, consents_front, consent_front}
 use Rattle.wire_item.proofs.Fronts.{only_if-read}
 use Rattle.wire_item.proofs.Takings.{taken, untaken, making, unmade, makes, makes-none, only_if-fails, counted-unordered, counted-ordered}
 use Rattle.wire_item.proofs.Orders.{consents-tested}

@@ -1,5 +1,4 @@
 use Rattle.std.proofs.Common.{refl, None, sym}
-use Rattle.tardis_base.specs.Valid.{is_id}
 use Rattle.wire_item.specs.Readings.{id_front, u16_front, u32_front}
 use Rattle.wire_item.proofs.Takings.{taken, untaken, takes, takes-none}
 use Rattle.wire_item.proofs.readers.Reader.id.Goals as goal

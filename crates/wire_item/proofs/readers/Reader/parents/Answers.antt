@@ -1,8 +1,8 @@
-use Rattle.std.proofs.Common.{refl, None, sym, ◌∙◌, nat_le}
+use Rattle.std.proofs.Common.{refl, None, sym, ◌∙◌}
 use Rattle.tardis_base.specs.Ids.{are_ascending}
 use Rattle.tardis_base.specs.Valid.{is_within, are_parents}
-use Rattle.wire_item.specs.Fronts.{both, only_if, counted, times}
-use Rattle.wire_item.specs.Readings.{u8_front, parents_front, id_front, key_front, write_front, consent_front}
+use Rattle.wire_item.specs.Fronts.{only_if, counted, times}
+use Rattle.wire_item.specs.Readings.{u8_front, parents_front, id_front}
 use Rattle.wire_item.proofs.Fronts.{only_if-read}
 use Rattle.wire_item.proofs.Takings.{taken, untaken, making, unmade, makes, makes-none, only_if-fails, counted-unordered, counted-ordered}
 use Rattle.wire_item.proofs.Orders.{parents-tested}

@@ -1,4 +1,4 @@
-use Rattle.std.proofs.Common.{refl, None, sym, ◌∙◌}
+use Rattle.std.proofs.Common.{refl, None, sym}
 use Rattle.wire_item.specs.Readings.{id_front, parents_front, writes_front, record_front}
 use Rattle.wire_item.proofs.Takings.{taken, untaken, making, unmade, makes, makes-none}
 use Rattle.wire_item.proofs.readers.Reader.record.Goals as goal

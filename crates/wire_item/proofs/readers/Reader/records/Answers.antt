@@ -1,5 +1,4 @@
 use Rattle.std.proofs.Common.{refl}
-use Rattle.wire_item.specs.Fronts.{times}
 use Rattle.wire_item.specs.Readings.{u16_front, record_front, records_front}
 use Rattle.wire_item.proofs.Takings.{taken, untaken, makes-none, makes-after}
 use Rattle.wire_item.proofs.readers.Reader.records.Goals as goal

@@ -1,4 +1,4 @@
-use Rattle.std.proofs.Common.{refl, None, Ok, ◌∙◌, ap, ◌∷◌, []}
+use Rattle.std.proofs.Common.{refl, None, Ok, ◌∙◌, ap}
 use Rattle.tardis_base.specs.declared.records.Write.TheVariants.{Put, Delete}
 use Rattle.wire_item.specs.Fronts.{nothing_but, made, front_of_code}
 use Rattle.wire_item.specs.Readings.{u8_front, value_front, write_rows, write_front}

@@ -2,7 +2,7 @@ use Rattle.std.proofs.Common.{refl, None, sym, ◌∙◌, nat_le}
 use Rattle.tardis_base.specs.Keys.{are_ascending_keys, keys_of}
 use Rattle.tardis_base.specs.Valid.{are_writes}
 use Rattle.wire_item.specs.Fronts.{both, only_if, counted, times}
-use Rattle.wire_item.specs.Readings.{u8_front, writes_front, id_front, key_front, write_front, consent_front}
+use Rattle.wire_item.specs.Readings.{u8_front, writes_front, key_front, write_front}
 use Rattle.wire_item.proofs.Fronts.{only_if-read}
 use Rattle.wire_item.proofs.Takings.{taken, untaken, making, unmade, makes, makes-none, only_if-fails, counted-unordered, counted-ordered}
 use Rattle.wire_item.proofs.Orders.{writes-tested}

@@ -1,0 +1,146 @@
+//! What no clause says: that memory suffices, and a few spellings from outside.
+
+ghost use Rattle.std.specs.Prelude.{◌≤◌, length};
+
+use crate::{
+    read_batch, read_consent, read_item, read_record, record_len, write_batch, write_consent,
+    write_item, write_record,
+};
+use std::alloc::Global;
+use std::test::Fail;
+use tardis_base::{ReadFault, ReplyBuf};
+
+/// State 2.1 below the root, which puts 1 to the key a.
+const RECORD: [u8; 20] = [0, 2, 0, 0, 0, 1, 1, 0, 0, 0, 0, 0, 0, 1, 1, 97, 1, 0, 1, 49];
+
+/// Consent 1 of site 2, with floor 2.3 and count 3.
+const CONSENT: [u8; 16] = [0, 2, 0, 0, 0, 1, 0, 2, 0, 0, 0, 3, 0, 0, 0, 3];
+
+/// No records, and the consents 1 of site 1 and of site 2.
+const BATCH: [u8; 35] = [
+    0, 0, 2, 0, 1, 0, 0, 0, 1, 0, 2, 0, 0, 0, 3, 0, 0, 0, 0, 0, 2, 0, 0, 0, 1, 0, 2, 0, 0, 0, 3, 0,
+    0, 0, 3,
+];
+
+/// Whether a record is written as it was read.
+fn is_record_kept(alloc: Global, bytes: &[u8]) -> Result<bool, Fail>
+    requires { length bytes.now ≤ 1048576 }
+{
+    let rec = read_record(alloc, bytes)?;
+    let mut out = ReplyBuf::new(alloc)?;
+    write_record(&rec, &mut out);
+    Ok(out.bytes() == bytes && record_len(&rec) as usize == bytes.len())
+}
+
+fn is_consent_kept(alloc: Global, bytes: &[u8]) -> Result<bool, Fail>
+    requires { length bytes.now ≤ 1048576 }
+{
+    let promise = read_consent(bytes)?;
+    let mut out = ReplyBuf::new(alloc)?;
+    write_consent(&promise, &mut out);
+    Ok(out.bytes() == bytes)
+}
+
+fn is_item_kept(alloc: Global, bytes: &[u8]) -> Result<bool, Fail>
+    requires { length bytes.now ≤ 1048576 }
+{
+    let item = read_item(alloc, bytes)?;
+    let mut out = ReplyBuf::new(alloc)?;
+    write_item(&item, &mut out);
+    Ok(out.bytes() == bytes)
+}
+
+fn is_batch_kept(alloc: Global, bytes: &[u8]) -> Result<bool, Fail>
+    requires { length bytes.now ≤ 1048576 }
+{
+    let batch = read_batch(alloc, bytes)?;
+    let mut out = ReplyBuf::new(alloc)?;
+    write_batch(&batch, &mut out);
+    Ok(out.bytes() == bytes)
+}
+
+#[test]
+fn things_are_read_and_written(rt: HostRuntime) -> Result<(), Fail> {
+    let alloc = rt.alloc();
+    assert!(rt; is_record_kept(alloc, &RECORD)?);
+    assert!(rt; is_consent_kept(alloc, &CONSENT)?);
+    assert!(rt; is_batch_kept(alloc, &BATCH)?);
+    let item = [2, 0, 2, 0, 0, 0, 1, 0, 2, 0, 0, 0, 3, 0, 0, 0, 3];
+    assert!(rt; is_item_kept(alloc, &item)?);
+    Ok(())
+}
+
+/// The record of state 1.1 below the root with one write to a key and a value of so many bytes.
+fn record_of_lengths(alloc: Global, key: usize, value: usize) -> Result<Vec<u8>, Fail>
+    requires key_fits { key ≤ 255 }
+    requires value_fits { value ≤ 65535 }
+{
+    let mut bytes = Vec::from_slice(alloc, &[0, 1, 0, 0, 0, 1, 1, 0, 0, 0, 0, 0, 0, 1])?;
+    bytes.push(key as u8)?;
+    bytes.extend_from_slice(vec![in alloc; 7u8; key]?.as_slice())?;
+    bytes.push(1)?;
+    bytes.extend_from_slice(&(value as u16).to_be_bytes())?;
+    bytes.extend_from_slice(vec![in alloc; 7u8; value]?.as_slice())?;
+    Ok(bytes)
+}
+
+#[test]
+fn lengths_are_bounded(rt: HostRuntime) -> Result<(), Fail> {
+    let alloc = rt.alloc();
+    for (key, value, is_record) in [
+        (1, 0, true),
+        (128, 4096, true),
+        (0, 1, false),
+        (129, 1, false),
+        (1, 4097, false),
+    ] {
+        let bytes = record_of_lengths(alloc, key, value)?;
+        let read = read_record(alloc, bytes.as_slice());
+        assert_eq!(rt; read.is_ok(), is_record, "{key} {value}");
+    }
+    Ok(())
+}
+
+#[test]
+fn other_bytes_are_malformed(rt: HostRuntime) -> Result<(), Fail> {
+    let alloc = rt.alloc();
+    for bytes in [
+        // nothing
+        [].as_slice(),
+        // the root
+        &[0, 0, 0, 0, 0, 0, 1, 0, 0, 0, 0, 0, 0, 0],
+        // no parents
+        &[0, 1, 0, 0, 0, 1, 0, 0],
+        // a site without a sequence
+        &[0, 1, 0, 0, 0, 0, 1, 0, 0, 0, 0, 0, 0, 0],
+        // parents in descending order
+        &[0, 1, 0, 0, 0, 2, 2, 0, 1, 0, 0, 0, 1, 0, 0, 0, 0, 0, 0, 0],
+        // keys in descending order
+        &[0, 1, 0, 0, 0, 1, 1, 0, 0, 0, 0, 0, 0, 2, 1, 98, 0, 1, 97, 0],
+        // one key twice
+        &[0, 1, 0, 0, 0, 1, 1, 0, 0, 0, 0, 0, 0, 2, 1, 97, 0, 1, 97, 0],
+        // a write of kind 2
+        &[0, 1, 0, 0, 0, 1, 1, 0, 0, 0, 0, 0, 0, 1, 1, 97, 2],
+        // a byte too few, and one too many
+        &[0, 1, 0, 0, 0, 1, 1, 0, 0, 0, 0, 0, 0],
+        &[0, 1, 0, 0, 0, 1, 1, 0, 0, 0, 0, 0, 0, 0, 0],
+    ] {
+        assert!(rt;
+            matches!(read_record(alloc, bytes), Err(ReadFault::Malformed)),
+            "{bytes:?}"
+        );
+    }
+    assert!(rt; matches!(read_item(alloc, &[3]), Err(ReadFault::Malformed)));
+    let mut number_of_zero = CONSENT;
+    number_of_zero[5] = 0;
+    assert!(rt; matches!(read_consent(&number_of_zero), Err(ReadFault::Malformed)));
+    let mut one_site_twice = BATCH;
+    one_site_twice[4] = 2;
+    assert!(rt;
+        matches!(
+            read_batch(alloc, &one_site_twice),
+            Err(ReadFault::Malformed)
+        )
+    );
+    Ok(())
+}
