@@ -1,21 +1,22 @@
 -- Versions added for the last of ascending writes, and so for all of them in turn.
-use Rattle.std.proofs.Common.{◌≡◌, ℕ, Bool, true, false, not, nat_lt, List, [], ◌∷◌, ◌++◌, Option, Some, None, length, refl, sym, ◌∙◌, ap, subst, inl, inr, arith}
+use Rattle.std.proofs.Common.{◌≡◌, ◌<◌, ℕ, map, Bool, true, false, not, nat_lt, List, [], ◌∷◌, ◌++◌, Option, Some, None, length, refl, sym, ◌∙◌, ap, subst, inl, inr, arith}
 use Rattle.std.specs.List.{list_all}
+use Rattle.std.specs.Map.{lookup}
 use Rattle.std.specs.Option.{option_map_or}
 use Rattle.std.specs.Str.{bytes_eq}
-use Rattle.std.proofs.lemmas.Bool.{and_parts, and_from, cases_Bool, both_ways}
+use Rattle.std.proofs.lemmas.Bool.{and_parts, and_from, or_parts, cases_Bool, both_ways, lt-ltb, ltb-true}
 use Rattle.std.proofs.lemmas.Cmp.{nat_list_eq_equiv}
 use Rattle.std.proofs.lemmas.List.{append-nil, map-append}
 use Rattle.std.proofs.lemmas.Slice.Eq.{bytes_eq-Decides}
 use Rattle.tardis_base.specs.declared.ids.Slot.{Slot}
 use Rattle.tardis_base.specs.declared.ids.StateId.{StateId}
 use Rattle.tardis_base.specs.declared.records.Write.{Write}
-use Rattle.tardis_base.specs.Keys.{KeyWrite, are_ascending_keys, is_key_before, keys_of, write_of}
+use Rattle.tardis_base.specs.Keys.{KeyWrite, are_ascending_keys, is_key_before, is_key_among, keys_of, write_of}
 use Rattle.tardis_base.proofs.KeyOrder.{ascending-parts, bytes_eq-after}
 use Rattle.tardis_base.proofs.KeySets.{before-last}
 use Rattle.tardis_base.proofs.WriteSets.{write_of-there}
 use Rattle.version_list.specs.declared.histories.Version.{Version}
-use Rattle.version_list.specs.Versions.{Versions, Listed, listed_of, versions_of, has_room, has_room_for, version_by, are_in_order, have_come_before}
+use Rattle.version_list.specs.Versions.{Versions, Listed, listed_keys, listed_of, versions_of, has_room, has_room_for, version_by, are_in_order, have_come_before}
 use Rattle.version_list.proofs.Orders.{in_order-push}
 
 pub nothing_left : {X : Type 0} (xs : List X) → length xs ≡ 0 → xs ≡ []
@@ -115,3 +116,25 @@ pub in_order-version_by : (kept : Slot → Bool) (arrival : Slot → ℕ) (vs : 
 in_order-version_by kept arrival vs slot writer None ordered before here = subst (λ xs. are_in_order kept arrival xs ≡ true) (sym (append-nil vs)) ordered
 in_order-version_by kept arrival vs slot writer (Some w) ordered before here =
     in_order-push kept arrival vs (record { slot = slot; writer = writer; write = w }) ordered before here
+
+-- versions before a state, and its own, are before each later state
+pub before-added : (arrival : Slot → ℕ) (vs : List Version) (slot next : Slot) (writer : StateId) (o : Option Write)
+    → have_come_before arrival slot vs ≡ true → arrival slot < arrival next → have_come_before arrival next (vs ++ version_by slot writer o) ≡ true
+before-added arrival [] slot next writer None before later = refl
+before-added arrival [] slot next writer (Some w) before later = and_from (nat_lt (arrival slot) (arrival next)) true (lt-ltb (arrival slot) (arrival next) later) refl
+before-added arrival (v ∷ vs) slot next writer o before later =
+    let parts = and_parts (nat_lt (arrival v.slot) (arrival slot)) (have_come_before arrival slot vs) before in
+    let earlier : arrival v.slot < arrival slot = ltb-true (arrival v.slot) (arrival slot) parts.0 in
+    and_from (nat_lt (arrival v.slot) (arrival next)) (have_come_before arrival next (vs ++ version_by slot writer o))
+    (lt-ltb (arrival v.slot) (arrival next) (omega arith))
+    (before-added arrival vs slot next writer o parts.1 later)
+
+-- a key that isn't among those listed has no versions
+pub listed-none : (vs : Versions) (k : List ℕ) → is_key_among k (listed_keys vs) ≡ false → versions_of vs k ≡ []
+listed-none vs k e = go vs.lists e
+  where
+    go : (ls : List (List ℕ × Listed)) → is_key_among k (map (λ l. l.0) ls) ≡ false → option_map_or (λ (l : Listed). l.versions) (lookup (bytes_eq k) ls) [] ≡ []
+    go [] e = refl
+    go (l ∷ ls) e =
+        let parts = or_parts (bytes_eq k l.0) (is_key_among k (map (λ l. l.0) ls)) e in
+        rw parts.0 (go ls parts.1)

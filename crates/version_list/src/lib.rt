@@ -6,3 +6,6 @@ mod version_lists;
 
 pub use histories::Version;
 pub use version_lists::VersionList;
+
+#[cfg(test)]
+mod tests;

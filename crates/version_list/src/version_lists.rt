@@ -166,6 +166,7 @@ impl VersionList {
     pub fn keys(&self) -> usize
         ensures count { result ≡ length (listed_keys self.now) }
         ensures distinct { IsDistinct bytes_eq (listed_keys self.now) }
+        ensures listed { (k : List ℕ) → is_key_among k (listed_keys self.now) ≡ false → versions_of self.now k ≡ [] }
     {
         self.lists.len()
     }
