@@ -316,6 +316,15 @@ impl WriteSet {
         }
     }
 
+    /// The keys and writes of this set, by ascending keys. It takes no memory.
+    pub fn into_vec(self) -> Vec<(Key, Write)>
+        ensures same { result.items ≡ self }
+        ensures ascending { IsTrue (are_ascending_keys (keys_of self)) }
+        ensures valid { IsTrue (list_all (λ w. is_key w.0 && is_write w.1) self) }
+    {
+        self.writes
+    }
+
     /// Equal writes, in memory of their own.
     pub fn copy(&self) -> Result<WriteSet, NoMemory>
         ensures { IfOk result (λ writes. writes ≡ self.now) }

@@ -1,0 +1,4 @@
+-- Laws of lists of versions in order, of walks from the newest on, of room, and of versions that are added.
+pub mod Orders
+pub mod Rooms
+pub mod Adds

@@ -1,0 +1,3 @@
+-- The versions of keys, and what is read of them.
+pub mod Versions
+pub mod Reads

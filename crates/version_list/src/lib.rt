@@ -1,0 +1,11 @@
+//! The versions of each key, and the one that is read at a state.
+#![tactic(auto)]
+
+mod histories;
+mod version_lists;
+
+pub use histories::Version;
+pub use version_lists::VersionList;
+
+#[cfg(test)]
+mod tests;

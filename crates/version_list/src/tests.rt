@@ -1,0 +1,90 @@
+//! What no clause says: that each call which takes memory gets it, and a row of reads on two branches.
+
+ghost use Rattle.std.specs.Prelude.{◌≡◌, ◌+◌, ◌<◌, ◌==◌, ◌||◌, ◌&&◌, nat_lt, OnOk};
+ghost use Rattle.std.proofs.Common.{ap};
+ghost use Rattle.version_list.specs.Versions.{IsInOrder, IsBefore};
+
+use crate::*;
+use std::alloc::Global;
+use std::test::Fail;
+use tardis_base::{Above, Found, Key, KeySet, Slot, StateId, Value, Write, WriteSet};
+
+/// Four states: 0 with the children 1 and 2, and 3 below 1.
+struct Branches;
+
+impl Above for Branches {
+    ghost is_kept = { λ _ slot. nat_lt slot.0 4 };
+
+    ghost is_above = { λ _ a b. a.0 == b.0 || a.0 == 0 || a.0 == 1 && b.0 == 3 };
+
+    ghost arrival_of = { λ _ slot. slot.0 };
+
+    ghost arrivals_differ = { λ _ a b _ _ same. ap (λ n. record { 0 = n }) same };
+
+    fn above(&self, a: Slot, b: Slot) -> bool {
+        a.0 == b.0 || a.0 == 0 || a.0 == 1 && b.0 == 3
+    }
+
+    fn arrival(&self, slot: Slot) -> u64 {
+        u64::from(slot.0)
+    }
+}
+
+fn id(slot: u32) -> StateId {
+    StateId {
+        site: 1,
+        sequence: slot,
+    }
+}
+
+/// Adds one write of a state that arrives after all others.
+fn wrote(
+    alloc: Global,
+    list: &mut VersionList,
+    slot: u32,
+    key: &Key,
+    write: Write,
+) -> Result<(), Fail>
+    requires order { IsInOrder (λ s. nat_lt s.0 4) (λ s. s.0) list.old }
+    requires newest { IsBefore (λ s. s.0) (record { 0 = slot }) list.old }
+    requires kept { slot < 4 }
+    ensures order { OnOk result (IsInOrder (λ s. nat_lt s.0 4) (λ s. s.0) list.new) }
+    ensures newest { OnOk result (IsBefore (λ s. s.0) (record { 0 = slot + 1 }) list.new) }
+{
+    let mut writes = WriteSet::new(alloc);
+    writes.insert(key.copy()?, write)?;
+    let copy = list.reserve(&writes)?;
+    list.add(&Branches, Slot(slot), id(slot), copy);
+    Ok(())
+}
+
+#[test]
+fn branches_read_their_own(rt: HostRuntime) -> Result<(), Fail> {
+    let alloc = rt.alloc();
+    let key = Key::new(alloc, b"x")?;
+    let value = Value::new(alloc, b"1")?;
+    let mut list = VersionList::new(alloc);
+    wrote(alloc, &mut list, 0, &key, Write::Delete)?;
+    wrote(alloc, &mut list, 1, &key, Write::Put(value.copy()?))?;
+    wrote(alloc, &mut list, 2, &key, Write::Delete)?;
+    let mine = Found::Value {
+        writer: id(1),
+        value: &value,
+    };
+    assert_eq!(rt; list.latest(&Branches, &key, Slot(3)), mine);
+    assert_eq!(rt;
+        list.latest(&Branches, &key, Slot(2)),
+        Found::Deleted { writer: id(2) }
+    );
+    assert_eq!(rt; list.holder(&Branches, &key, Slot(0)), Some(Slot(0)));
+    assert_eq!(rt;
+        list.holder(&Branches, &Key::new(alloc, b"y")?, Slot(0)),
+        None
+    );
+    let mut keys = KeySet::new(alloc);
+    keys.insert(key)?;
+    assert!(rt; list.touches(&Branches, Slot(3), Slot(2), &keys));
+    assert!(rt; !list.touches(&Branches, Slot(3), Slot(1), &keys));
+    assert_eq!(rt; list.keys(), 1);
+    Ok(())
+}
