@@ -7,3 +7,4 @@ pub mod Laws
 pub mod Lengths
 pub mod Takings
 pub mod Lists
+pub mod Written
