@@ -1,8 +1,11 @@
 //! The bytes of requests and replies.
 #![tactic(auto)]
 
+mod field_writers;
+mod request_writers;
 mod spelling_laws;
 
+pub use request_writers::write_request;
 pub use spelling_laws::{
     no_memory_is_spelled, requests_are_read, requests_begin_with_their_code, talk_has_one_spelling,
 };
