@@ -13,3 +13,4 @@ pub mod Codes
 pub mod Gathering
 pub mod Wholes
 pub mod Writings
+pub mod Written

@@ -1,0 +1,104 @@
+//! The writer of refusals. It takes no memory.
+
+ghost use Rattle.std.specs.Prelude.{◌≡◌, ◌+◌, ◌≤◌, [], ◌∷◌, ◌++◌, length, IsTrue};
+ghost use Rattle.wire_item.specs.Spellings.{id_spelling, u16_spelling, u32_spelling, u64_spelling};
+ghost use Rattle.wire_talk.specs.Spellings.{refusal_spelling};
+ghost use Rattle.wire_talk.specs.Valid.{is_refusal};
+
+use crate::field_writers::{
+    write_code_with_id, write_code_with_id_and_u32, write_code_with_key, write_code_with_two_ids,
+    write_code_with_u16, write_code_with_u32,
+};
+use tardis_base::{Refusal, ReplyBuf, StateId};
+use wire_item::{write_id, write_u32, write_u64};
+
+fn write_too_many(what: u8, n: u32, out: &mut ReplyBuf)
+    requires { length out.old + 6 ≤ 1048576 }
+    ensures { out.new ≡ out.old ++ 8 ∷ what ∷ u32_spelling n }
+{
+    out.push_byte(8);
+    write_code_with_u32(what, n, out);
+}
+
+fn write_branches(constraint: u8, state: StateId, children: u32, out: &mut ReplyBuf)
+    requires { length out.old + 12 ≤ 1048576 }
+    ensures { out.new ≡ out.old ++ 15 ∷ constraint ∷ (id_spelling state ++ u32_spelling children) }
+{
+    out.push_byte(15);
+    write_code_with_id_and_u32(constraint, state, children, out);
+}
+
+fn write_held(session: u16, ceiling: StateId, out: &mut ReplyBuf)
+    requires { length out.old + 9 ≤ 1048576 }
+    ensures { out.new ≡ out.old ++ 18 ∷ (u16_spelling session ++ id_spelling ceiling) }
+{
+    write_code_with_u16(18, session, out);
+    write_id(ceiling, out);
+}
+
+fn write_own_item(site: u16, number: u32, out: &mut ReplyBuf)
+    requires { length out.old + 7 ≤ 1048576 }
+    ensures { out.new ≡ out.old ++ 25 ∷ (u16_spelling site ++ u32_spelling number) }
+{
+    write_code_with_u16(25, site, out);
+    write_u32(number, out);
+}
+
+fn write_trail_full(bytes: u64, out: &mut ReplyBuf)
+    requires { length out.old + 9 ≤ 1048576 }
+    ensures { out.new ≡ out.old ++ 26 ∷ u64_spelling bytes }
+{
+    out.push_byte(26);
+    write_u64(bytes, out);
+}
+
+fn write_unsupported(op: u8, out: &mut ReplyBuf)
+    requires { length out.old + 2 ≤ 1048576 }
+    ensures { out.new ≡ out.old ++ 27 ∷ op ∷ [] }
+{
+    out.push_byte(27);
+    out.push_byte(op);
+}
+
+/// Writes the refusal's code and its fields behind the bytes that are there. It takes no memory.
+pub fn write_refusal(refusal: &Refusal, out: &mut ReplyBuf)
+    requires valid { IsTrue (is_refusal refusal.now) }
+    requires fits { length out.old + length (refusal_spelling refusal.now) ≤ 1048576 }
+    ensures { out.new ≡ out.old ++ refusal_spelling refusal.now }
+{
+    match refusal {
+        Refusal::Malformed => out.push_byte(1),
+        Refusal::NotOpen => out.push_byte(2),
+        Refusal::AlreadyOpen => out.push_byte(3),
+        Refusal::SessionsFull { n } => write_code_with_u16(4, *n, out),
+        Refusal::TxnOpen => out.push_byte(5),
+        Refusal::NoTxn => out.push_byte(6),
+        Refusal::WrongMode => out.push_byte(7),
+        Refusal::TooMany { what, n } => write_too_many(*what, *n, out),
+        Refusal::Unknown { state } => write_code_with_id(9, *state, out),
+        Refusal::Below { state, ceiling } => write_code_with_two_ids(10, *state, *ceiling, out),
+        Refusal::Comparable { a, b } => write_code_with_two_ids(11, *a, *b, out),
+        Refusal::NotRead { state } => write_code_with_id(12, *state, out),
+        Refusal::ConflictKey { key } => write_code_with_key(13, key, out),
+        Refusal::OpenConflict { key } => write_code_with_key(14, key, out),
+        Refusal::Branches {
+            constraint,
+            state,
+            children,
+        } => write_branches(*constraint, *state, *children, out),
+        Refusal::CeilingBack { ceiling } => write_code_with_id(16, *ceiling, out),
+        Refusal::FloorBack { floor } => write_code_with_id(17, *floor, out),
+        Refusal::Held { session, ceiling } => write_held(*session, *ceiling, out),
+        Refusal::Collected { state } => write_code_with_id(19, *state, out),
+        Refusal::Full { kept } => write_code_with_u32(20, *kept, out),
+        Refusal::PathFull { state, pairs } => write_code_with_id_and_u32(21, *state, *pairs, out),
+        Refusal::SeqEnd => out.push_byte(22),
+        Refusal::BadSite { site } => write_code_with_u16(23, *site, out),
+        Refusal::ClosedParent { state } => write_code_with_id(24, *state, out),
+        Refusal::OwnItem { site, number } => write_own_item(*site, *number, out),
+        Refusal::TrailFull { bytes } => write_trail_full(*bytes, out),
+        Refusal::Unsupported { op } => write_unsupported(*op, out),
+        Refusal::NoSuchItem { batches } => write_code_with_u32(28, *batches, out),
+        Refusal::BagFull { batches } => write_code_with_u32(29, *batches, out),
+    }
+}
