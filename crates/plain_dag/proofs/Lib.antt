@@ -8,3 +8,8 @@ pub mod Growth
 pub mod LatestWriter
 pub mod Keys
 pub mod ConflictKeys
+pub mod Leaves
+pub mod Landing
+pub mod StandIns
+pub mod Collected
+pub mod Paths

@@ -2,4 +2,5 @@
 //! function here is empty, and its contract is a law. `docs/MODEL.md` has each definition beside its rule.
 #![tactic(auto)]
 
+pub mod landings;
 pub mod orders;
