@@ -7,7 +7,7 @@ use Rattle.tardis_base.specs.Ids.{same_id, is_among}
 use Rattle.tardis_base.specs.Keys.{has_key}
 use Rattle.plain_dag.specs.States.{states, is_known, writes_key, arrival}
 use Rattle.plain_dag.specs.Above.{is_above}
-use Rattle.plain_dag.specs.Writers.{is_writer, writers, are_above, lowest, latest_writer}
+use Rattle.plain_dag.specs.Writers.{is_writer, writers, are_above, lowest, latest_writer, version_at}
 use Rattle.plain_dag.specs.Conflicts.{latest_writers, is_split, is_conflict_key}
 use Rattle.plain_dag.specs.Dag.{IsDag}
 use Rattle.plain_dag.specs.Laws.{IsLatestWriter, WritersHaveOneLatest}
@@ -15,6 +15,8 @@ use Rattle.plain_dag.proofs.Ids.{not-both, among-first, all-at, all-from}
 use Rattle.plain_dag.proofs.Histories.{Fits, Grows, dag-grows, known-before, known-isnt-newest, parent-is-known}
 use Rattle.plain_dag.proofs.Order.{known-above, above-newest-cases, above-by-parent, above-reflexive, above-through, above-antisymmetric, ancestors-arrive-earlier}
 use Rattle.plain_dag.proofs.Growth.{writer-is-known, writes-before, writes-newest, above-stays, writer-stays}
+use Rattle.plain_dag.proofs.Versions.{writers-have-versions}
+use Rattle.std.specs.Option.{option_and_then}
 use Rattle.plain_dag.proofs.Searches.{found-passes, finds-passing, among-filter, filtered-passes, among-mapped, mapped-from, option-cases}
 
 -- ===== The lowest of several
@@ -184,6 +186,9 @@ one-latest-writer rs dag k x known = record {
       let m = latest-is-latest rs k x w e in
       above-antisymmetric rs dag v w (m.below v l.writes) (l.below w m.writes);
   last_arrived = λ v w e h. no-later v w (ancestors-arrive-earlier rs dag v w ((latest-is-latest rs k x w e).below v h));
+  is_read = λ w e.
+      let writes = (and_parts (writes_key rs k w) (is_above rs w x) (latest-is-latest rs k x w e).writes).0 in
+      (writers-have-versions rs (dag-grows rs dag) k w writes, ap (option_and_then (version_at rs k)) e);
 }
   where
     no-later : (v w : StateId) → (v ≡ w) ⊎ (arrival rs v < arrival rs w) → arrival rs v ≤ arrival rs w

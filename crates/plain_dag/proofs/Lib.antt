@@ -5,6 +5,7 @@ pub mod Order
 pub mod States
 pub mod Searches
 pub mod Growth
+pub mod Versions
 pub mod LatestWriter
 pub mod Keys
 pub mod ConflictKeys

@@ -10,7 +10,7 @@ use Rattle.tardis_base.specs.Keys.{are_ascending_keys, is_key_among}
 use Rattle.plain_dag.specs.States.{is_known, arrival, parents_of, children, writes_key}
 use Rattle.plain_dag.specs.Above.{is_above, is_proper_ancestor, are_comparable, are_apart}
 use Rattle.plain_dag.specs.Way.{AtOrAbove}
-use Rattle.plain_dag.specs.Writers.{is_writer, latest_writer, read}
+use Rattle.plain_dag.specs.Writers.{is_writer, latest_writer, version_at, read}
 use Rattle.plain_dag.specs.Conflicts.{is_conflict_key, conflict_keys}
 use Rattle.plain_dag.specs.Forks.{is_leaf, is_fork_point}
 use Rattle.plain_dag.specs.Begin.{is_admitted, begin_state}
@@ -80,13 +80,14 @@ pub record IsLatestWriter (rs : List Record) (k : List ℕ) (x w : StateId) : Ty
   pub writes : IsTrue (is_writer rs k x w)
   pub below : (v : StateId) → IsTrue (is_writer rs k x v) → IsTrue (is_above rs v w)
 
--- where a key is written at a state there is exactly one latest writer, the one that is read, and it is the last-arrived
--- writer at or above the state
+-- where a key is written at a state there is exactly one latest writer, and it is the last-arrived writer at or above the
+-- state; what it wrote is read there
 pub record HasOneLatestWriter (rs : List Record) (k : List ℕ) (x : StateId) : Type 0 where
   pub found : (v : StateId) → IsTrue (is_writer rs k x v) → IsSome (latest_writer rs k x)
   pub is_latest : (w : StateId) → latest_writer rs k x ≡ Some w → IsLatestWriter rs k x w
   pub only : (v w : StateId) → latest_writer rs k x ≡ Some w → IsLatestWriter rs k x v → v ≡ w
   pub last_arrived : (v w : StateId) → latest_writer rs k x ≡ Some w → IsTrue (is_writer rs k x v) → arrival rs v ≤ arrival rs w
+  pub is_read : (w : StateId) → latest_writer rs k x ≡ Some w → IsSome (version_at rs k w) × (read rs k x ≡ version_at rs k w)
 
 abbrev pub WritersHaveOneLatest : List Record → Type 0
 WritersHaveOneLatest rs = (k : List ℕ) (x : StateId) → IsTrue (is_known rs x) → HasOneLatestWriter rs k x

@@ -1,13 +1,11 @@
 -- What `with_key` and `is_key_among` do to ascending keys.
-use Rattle.std.proofs.Common.{◌≡◌, ℕ, ◌<◌, ◌≤◌, Bool, true, false, cond, ◌||◌, List, [], ◌∷◌, ◌++◌, length, get_or, refl, sym, ◌∙◌, ap, subst, inl, inr, arith}
-use Rattle.std.specs.declared.cmp.Ordering.{Ordering}
-use Rattle.std.specs.declared.cmp.Ordering.TheVariants.{Less, Equal, Greater}
+use Rattle.std.proofs.Common.{◌≡◌, ℕ, ◌<◌, ◌≤◌, Bool, true, List, [], ◌∷◌, ◌++◌, length, get_or, refl, sym, ◌∙◌, ap, subst, inl, inr, arith}
+use Rattle.std.specs.declared.cmp.Ordering.TheVariants.{Less, Greater}
 use Rattle.std.specs.Ordering.{nat_cmp}
 use Rattle.std.specs.Cmp.Lexicographic.{slice_cmp}
-use Rattle.std.specs.Str.{bytes_eq}
-use Rattle.std.specs.List.{AllWithin, insert, list_any, list_all}
-use Rattle.std.proofs.lemmas.Bool.{and_parts, and_from, cases_Bool, both_ways}
-use Rattle.tardis_base.specs.Keys.{is_key_before, are_ascending_keys, is_key_among, with_key}
+use Rattle.std.specs.List.{AllWithin, insert, list_all}
+use Rattle.std.proofs.lemmas.Bool.{and_parts, and_from}
+use Rattle.tardis_base.specs.Keys.{is_key_before, are_ascending_keys, with_key}
 use Rattle.tardis_base.proofs.KeyOrder.{is_first, cases_key, before-back, before-itself, before-trans, before-later, ascending-parts, ascending-from, before-from_Less, before-from_Greater}
 
 pub with_key-before : (k l : List ℕ) (ls : List (List ℕ)) → is_key_before k l ≡ true → with_key k (l ∷ ls) ≡ k ∷ l ∷ ls

@@ -1,16 +1,16 @@
 -- What `with_write`, `write_of` and `has_key` do to writes with ascending keys.
-use Rattle.std.proofs.Common.{◌≡◌, ℕ, ◌<◌, ◌≤◌, Bool, true, false, cond, ◌||◌, ◌&&◌, List, [], ◌∷◌, ◌++◌, Option, Some, None, length, get_or, set, map, refl, sym, ◌∙◌, ap, subst, inl, inr, arith}
-use Rattle.std.specs.declared.cmp.Ordering.TheVariants.{Less, Equal, Greater}
+use Rattle.std.proofs.Common.{◌≡◌, ℕ, ◌<◌, ◌≤◌, Bool, true, false, ◌||◌, List, [], ◌∷◌, ◌++◌, Some, None, length, get_or, set, refl, sym, ◌∙◌, ap, subst, inl, inr, arith}
+use Rattle.std.specs.declared.cmp.Ordering.TheVariants.{Less, Greater}
 use Rattle.std.specs.Ordering.{nat_cmp}
 use Rattle.std.specs.Cmp.Lexicographic.{slice_cmp}
 use Rattle.std.specs.Str.{bytes_eq}
-use Rattle.std.specs.List.{AllWithin, insert, list_any, list_all, find}
-use Rattle.std.specs.Option.{option_map, is_some}
-use Rattle.std.proofs.lemmas.Bool.{and_parts, and_from, or_left, or_right, or_from, or_parts, both_ways, cases_Bool}
+use Rattle.std.specs.List.{AllWithin, insert, list_all}
+use Rattle.std.specs.Option.{is_some}
+use Rattle.std.proofs.lemmas.Bool.{and_parts, and_from, or_parts, cases_Bool}
 use Rattle.std.proofs.lemmas.List.{map-append, length-map}
 use Rattle.tardis_base.specs.declared.records.Write.{Write}
 use Rattle.tardis_base.specs.Keys.{KeyWrite, is_key_before, are_ascending_keys, with_key, keys_of, has_key, is_key_among, write_of, with_write}
-use Rattle.tardis_base.proofs.KeyOrder.{cases_key, before-back, before-itself, before-later, bytes_eq-itself, bytes_eq-other, bytes_eq-before, bytes_eq-after, ascending-parts, before-from_Less, before-from_Greater}
+use Rattle.tardis_base.proofs.KeyOrder.{cases_key, before-back, before-itself, before-later, bytes_eq-itself, bytes_eq-other, bytes_eq-after, ascending-parts, before-from_Less, before-from_Greater}
 use Rattle.tardis_base.proofs.KeySets.{with_key-before, with_key-after, with_key-here, ascending-with_key, before-last}
 
 pub with_write-before : (k : List ℕ) (w : Write) (v : KeyWrite) (vs : List KeyWrite) → is_key_before k v.0 ≡ true → with_write k w (v ∷ vs) ≡ (k, w) ∷ v ∷ vs

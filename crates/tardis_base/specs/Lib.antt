@@ -2,5 +2,6 @@
 pub mod Ids
 pub mod Keys
 pub mod Bytes
+pub mod Same
 pub mod Valid
 pub mod Plain

@@ -1,13 +1,15 @@
 //! Lists that contracts see as lists, and sets of keys and of writes in ascending order of their keys.
 
-ghost use Rattle.std.specs.Prelude.{◌≡◌, ◌<◌, ◌==◌, ◌&&◌, Some, [], ◌∷◌, ◌++◌, length, slice_get, IsTrue, IsOk, IfOk, OnOk, OnErr};
+ghost use Rattle.std.specs.Prelude.{◌≡◌, ◌<◌, ◌==◌, ◌&&◌, Some, [], ◌∷◌, ◌++◌, nat_eq, length, slice_get, IsTrue, IsOk, IfOk, OnOk, OnErr};
 ghost use Rattle.std.specs.List.{list_all};
 ghost use Rattle.std.specs.List.Sorted.{IsBinarySearchResult, IsSearchInRange};
 ghost use Rattle.std.specs.Option.{option_copied};
 ghost use Rattle.std.specs.Ordering.{nat_cmp};
-ghost use Rattle.std.specs.Cmp.Lexicographic.{slice_cmp};
+ghost use Rattle.std.specs.Cmp.{partial_equiv_from_equiv};
+ghost use Rattle.std.specs.Cmp.Lexicographic.{pointwise, slice_cmp, lists_per, lists_equiv, nat_list_eq_equiv};
 ghost use Rattle.std.specs.Slice.Iter.{iter_rest};
 ghost use Rattle.tardis_base.specs.Bytes.{is_key, is_write};
+ghost use Rattle.tardis_base.specs.Same.{same_writes, same_writes-equiv};
 ghost use Rattle.tardis_base.specs.Keys.{are_ascending_keys, is_key_among, with_key, keys_of, has_key, write_of, with_write};
 
 use crate::byte_types::Key;
@@ -19,7 +21,7 @@ use std::marker::Model;
 use std::slice;
 
 /// A list that grows at its end.
-#[derive(Drop)]
+#[derive(Debug, Drop)]
 pub struct ListOf<T> {
     items: Vec<T>,
 }
@@ -47,7 +49,7 @@ pub type CountList = ListOf<u32>;
 pub type ByteList = ListOf<u8>;
 
 /// Keys in ascending order, each once.
-#[derive(Drop)]
+#[derive(Debug, Drop)]
 pub struct KeySet {
     keys: Vec<Key>,
 }
@@ -59,6 +61,7 @@ impl Model for KeySet {
     ghost Value = { List (List ℕ) };
 
     ghost use Rattle.tardis_base.specs.Bytes.{is_key};
+    ghost use Rattle.tardis_base.specs.Same.{same_writes, same_writes-equiv};
     ghost use Rattle.tardis_base.specs.Keys.{are_ascending_keys};
 
     ghost view = { λ s. s.keys.items };
@@ -67,7 +70,7 @@ impl Model for KeySet {
 }
 
 /// Writes in ascending order of their keys, one for each key.
-#[derive(Drop)]
+#[derive(Debug, Drop)]
 pub struct WriteSet {
     writes: Vec<(Key, Write)>,
 }
@@ -80,6 +83,7 @@ impl Model for WriteSet {
     ghost Value = { List (List ℕ × Write) };
 
     ghost use Rattle.tardis_base.specs.Bytes.{is_key, is_write};
+    ghost use Rattle.tardis_base.specs.Same.{same_writes, same_writes-equiv};
     ghost use Rattle.tardis_base.specs.Keys.{are_ascending_keys, keys_of};
 
     ghost view = { λ s. s.writes.items };
@@ -318,6 +322,48 @@ impl WriteSet {
         let writes = copied_writes(*self.writes.allocator(), self.writes.as_slice())?;
         Ok(WriteSet { writes })
     }
+}
+
+impl<T: PartialEq> PartialEq for ListOf<T> {
+    ghost eq = { pointwise T.eq };
+
+    ghost laws = { lists_per T.laws };
+
+    fn eq(&self, other: &ListOf<T>) -> bool {
+        self.items == other.items
+    }
+}
+
+impl<T: Eq> Eq for ListOf<T> {
+    ghost laws = { lists_equiv T.Eq.laws };
+}
+
+impl PartialEq for KeySet {
+    ghost eq = { pointwise (pointwise nat_eq) };
+
+    ghost laws = { partial_equiv_from_equiv (lists_equiv nat_list_eq_equiv) };
+
+    fn eq(&self, other: &KeySet) -> bool {
+        self.keys == other.keys
+    }
+}
+
+impl Eq for KeySet {
+    ghost laws = { lists_equiv nat_list_eq_equiv };
+}
+
+impl PartialEq for WriteSet {
+    ghost eq = { same_writes };
+
+    ghost laws = { partial_equiv_from_equiv same_writes-equiv };
+
+    fn eq(&self, other: &WriteSet) -> bool {
+        self.writes == other.writes
+    }
+}
+
+impl Eq for WriteSet {
+    ghost laws = { same_writes-equiv };
 }
 
 /// Where the key is among these, or else where it would be.

@@ -3,6 +3,8 @@
 ghost use Rattle.std.specs.Prelude.{◌≡◌, IsTrue, IfOk};
 ghost use Rattle.std.specs.Option.{option_copied};
 ghost use Rattle.tardis_base.specs.Bytes.{is_write, value_of};
+ghost use Rattle.std.specs.Cmp.{partial_equiv_from_equiv};
+ghost use Rattle.tardis_base.specs.Same.{same_write, same_write-equiv};
 ghost use Rattle.tardis_base.specs.Valid.{are_limits};
 
 use crate::byte_types::Value;
@@ -11,14 +13,14 @@ use crate::ids::StateId;
 use crate::lists::{ConsentList, RecordList, StateList, WriteSet};
 
 /// What a transaction does to one key.
-#[derive(Debug, Drop, PartialEq, Eq)]
+#[derive(Debug, Drop)]
 pub enum Write {
     Put(Value),
     Delete,
 }
 
 /// A state with the edges to its parents and what it wrote.
-#[derive(Drop)]
+#[derive(Debug, Drop, PartialEq, Eq)]
 pub struct Record {
     pub id: StateId,
     pub parents: StateList,
@@ -35,14 +37,14 @@ pub struct Consent {
 }
 
 /// What one site delivers to another.
-#[derive(Drop)]
+#[derive(Debug, Drop, PartialEq, Eq)]
 pub enum Item {
     State(Record),
     Promise(Consent),
 }
 
 /// What one site gives another that asked for news.
-#[derive(Drop)]
+#[derive(Debug, Drop, PartialEq, Eq)]
 pub struct Batch {
     pub records: RecordList,
     pub consents: ConsentList,
@@ -56,6 +58,24 @@ pub struct Limits {
     pub max_path: u32,
     pub max_sessions: u16,
     pub max_trail: u64,
+}
+
+impl PartialEq for Write {
+    ghost eq = { same_write };
+
+    ghost laws = { partial_equiv_from_equiv same_write-equiv };
+
+    fn eq(&self, other: &Write) -> bool {
+        match (self, other) {
+            (Write::Put(value), Write::Put(another)) => value == another,
+            (Write::Delete, Write::Delete) => true,
+            _ => false,
+        }
+    }
+}
+
+impl Eq for Write {
+    ghost laws = { same_write-equiv };
 }
 
 impl Write {

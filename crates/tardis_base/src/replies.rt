@@ -1,6 +1,9 @@
 //! What a site answers.
 
 ghost use Rattle.std.specs.Prelude.{◌≡◌, ◌<◌, ◌≤◌, ◌==◌, Some, [], ◌∷◌, ◌++◌, length, slice_get};
+ghost use Rattle.std.specs.Cmp.Lexicographic.{pointwise, lists_per, lists_equiv};
+ghost use Rattle.std.specs.Cmp.Rules.{comparing};
+ghost use Rattle.std.proofs.Common.{rules};
 
 use crate::byte_types::{Key, Value};
 use crate::ids::StateId;
@@ -17,21 +20,21 @@ pub struct SiteLine {
 }
 
 /// At most 16 site lines, in place.
-#[derive(Drop)]
+#[derive(Debug, Drop)]
 pub struct SiteLines {
     lines: [SiteLine; 16],
     len: usize,
 }
 
 impl Model for SiteLines {
-    ghost use Rattle.std.specs.Prelude.{List, take, ◌≤◌};
+    ghost use Rattle.std.specs.Prelude.{◌≡◌, List, take, length, ◌≤◌};
     ghost use Rattle.tardis_base.specs.declared.replies.SiteLine.{SiteLine};
 
     ghost Value = { List SiteLine };
 
     ghost view = { λ s. take s.len s.lines };
 
-    ghost invariant = { λ s. s.len ≤ 16 };
+    ghost invariant = { λ s. (s.len ≤ 16) × (length s.lines ≡ 16) };
 }
 
 impl SiteLines {
@@ -72,7 +75,13 @@ impl SiteLines {
         requires { place < length self.now }
         ensures { slice_get self.now place ≡ Some result.now }
     {
-        &self.lines[place]
+        &self.as_slice()[place]
+    }
+
+    pub fn as_slice(&self) -> &[SiteLine]
+        ensures { result.now ≡ self.now }
+    {
+        &self.lines[..self.len]
     }
 
     /// Puts the line at the end.
@@ -85,8 +94,22 @@ impl SiteLines {
     }
 }
 
+impl PartialEq for SiteLines {
+    ghost eq = { pointwise ⟦<SiteLine as PartialEq>⟧.eq };
+
+    ghost laws = { lists_per (Prim.search (comparing, rules)) };
+
+    fn eq(&self, other: &SiteLines) -> bool {
+        self.as_slice() == other.as_slice()
+    }
+}
+
+impl Eq for SiteLines {
+    ghost laws = { lists_equiv (Prim.search (comparing, rules)) };
+}
+
 /// Why a request was refused.
-#[derive(Drop)]
+#[derive(Debug, Drop, PartialEq, Eq)]
 pub enum Refusal {
     Malformed,
     NotOpen,
@@ -172,7 +195,7 @@ pub enum Refusal {
 }
 
 /// The answer to a request.
-#[derive(Drop)]
+#[derive(Debug, Drop, PartialEq, Eq)]
 pub enum Reply {
     Opened {
         ceiling: StateId,

@@ -53,14 +53,14 @@ impl Flags for EndFlags {
 }
 
 /// Which states a merge reads.
-#[derive(Drop)]
+#[derive(Debug, Drop, PartialEq, Eq)]
 pub enum MergeOf {
     Leaves,
     States(StateList),
 }
 
 /// A request of one actor.
-#[derive(Drop)]
+#[derive(Debug, Drop, PartialEq, Eq)]
 pub enum Request {
     Open { follow: bool },
     Begin { begin: Begin },

@@ -1,4 +1,4 @@
-use Rattle.std.proofs.Common.{ℕ, nat_lt, get_or, refl, arith}
+use Rattle.std.proofs.Common.{nat_lt, get_or, refl, arith}
 use Rattle.std.specs.List.{list_all}
 use Rattle.std.proofs.lemmas.Bool.{lt-ltb}
 use Rattle.std.proofs.lemmas.List.Recursion.{and_from_places}
