@@ -1,5 +1,5 @@
 -- A key that is written at a state is read there as what its latest writer wrote.
-use Rattle.std.proofs.Common.{◌≡◌, ℕ, true, List, [], ◌∷◌, IsTrue, IsFalse, IsSome, is_some, Option, Some, None, refl, sym, ap, subst, ◌∙◌, inl, inr, find}
+use Rattle.std.proofs.Common.{ℕ, true, ◌&&◌, List, [], ◌∷◌, IsTrue, is_some, Option, Some, None, refl, sym, subst, inl, inr, find}
 use Rattle.std.specs.Option.{option_map, option_and_then}
 use Rattle.std.proofs.lemmas.Bool.{and_parts, or_cases, cases_Bool, cond-true, cond-false}
 use Rattle.std.specs.Prelude.{bytes_eq}
@@ -9,12 +9,9 @@ use Rattle.tardis_base.specs.declared.records.Write.{Write}
 use Rattle.tardis_base.specs.Ids.{same_id}
 use Rattle.tardis_base.specs.Keys.{KeyWrite, has_key, write_of}
 use Rattle.plain_dag.specs.States.{writes_key, record_at}
-use Rattle.plain_dag.specs.Writers.{latest_writer, is_writer, version_at, read}
-use Rattle.plain_dag.specs.Above.{is_above}
-use Rattle.plain_dag.specs.Dag.{IsDag}
-use Rattle.plain_dag.specs.Laws.{IsLatestWriter}
+use Rattle.plain_dag.specs.Writers.{version_at}
 use Rattle.plain_dag.proofs.Ids.{not-both}
-use Rattle.plain_dag.proofs.Histories.{Grows, dag-grows, known-isnt-newest}
+use Rattle.plain_dag.proofs.Histories.{Grows, known-isnt-newest}
 use Rattle.plain_dag.proofs.Growth.{writer-is-known}
 
 -- what is written to a written key can be found
@@ -28,9 +25,16 @@ written-is-found k (w ∷ ws) h = elim (cases_Bool (bytes_eq k w.0)) [
   ]
 ]
 
+abbrev version_with : StateId → Write → StateId × Write
+version_with x w = (x, w)
+
 -- the version that this record makes, where there is one
 abbrev version_in : List ℕ → StateId → Option Record → Option (StateId × Write)
-version_in k x found = option_map (λ w. (x, w)) (option_and_then (λ r. write_of k r.writes) found)
+version_in k x found = option_map (version_with x) (option_and_then (λ r. write_of k r.writes) found)
+
+some-versions : (x : StateId) (o : Option Write) → IsTrue (is_some o) → IsTrue (is_some (option_map (version_with x) o))
+some-versions x None t = t
+some-versions x (Some w) t = refl
 
 -- a state that writes a key has a version of it
 pub writers-have-versions : (rs : List Record) → Grows rs → (k : List ℕ) (x : StateId) → IsTrue (writes_key rs k x) → IsTrue (is_some (version_at rs k x))
@@ -39,12 +43,8 @@ writers-have-versions (r ∷ rs) g k x h = elim (or_cases (same_id x r.id && has
   | inl both ↦
       let parts = and_parts (same_id x r.id) (has_key k r.writes) both in
       subst (λ o. IsTrue (is_some (version_in k x o))) (sym (cond-true (same_id x r.id) (Some r) (record_at rs x) parts.0))
-      (some-mapped (write_of k r.writes) (written-is-found k r.writes parts.1))
+      (some-versions x (write_of k r.writes) (written-is-found k r.writes parts.1))
   | inr m ↦
       let n = known-isnt-newest rs r x g.0 (writer-is-known rs k x m) in
       subst (λ o. IsTrue (is_some (version_in k x o))) (sym (cond-false (same_id x r.id) (Some r) (record_at rs x) n)) (writers-have-versions rs g.1 k x m)
 ]
-  where
-    some-mapped : (o : Option Write) → IsTrue (is_some o) → IsTrue (is_some (option_map (λ w. (x, w)) o))
-    some-mapped None t = t
-    some-mapped (Some w) t = refl

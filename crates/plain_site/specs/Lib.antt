@@ -12,3 +12,14 @@ pub mod Exchange
 pub mod Step
 pub mod Sound
 pub mod Laws
+pub mod RowWords
+pub mod RowsOfCommits
+pub mod RowsOfMerges
+pub mod RowsOfFloors
+pub mod RowByteWords
+pub mod RowsOfBytes
+pub mod RowsOfExchange
+pub mod RowsOfLimits
+pub mod RowsOfChoices
+pub mod RowsOfLandings
+pub mod RowsOfOperations

@@ -1,1 +1,112 @@
 //! Worked rows: what the plain site replies to these requests, line by line.
+
+ghost use Rattle.plain_site.specs.RowsOfCommits.{WriteSkewForks, WriteSkewPassesUnderSnapshots, NoBranchRefusesTheFork, OldReadForks, AnyBeginsAtTheFork, CommitRipplesDown, BranchesAreCounted, BeginsFollowTheLastCommit, ReadingMakesNoState};
+ghost use Rattle.plain_site.specs.RowsOfMerges.{MergeJoinsBranches, TwoMergesConflict, MergesNeedStatesApart, NineLeavesAreTooMany};
+ghost use Rattle.plain_site.specs.RowsOfFloors.{CeilingsHoldReadsAndFloors, FloorsHoldTheSite, CollectionKeepsReads};
+ghost use Rattle.plain_site.specs.RowsOfExchange.{RecordsComeInOrder, ConsentsCloseStates, LyingPeersAreRefused, SitesPastTheLimitAreBad};
+ghost use Rattle.plain_site.specs.RowsOfLimits.{WritesAreLimited, ReadsAreLimited, FullSiteRefuses, SecondSessionIsRefused, LongPathIsRefused};
+ghost use Rattle.plain_site.specs.RowsOfBytes.{WriteIsReadBack, WriteIsReadBackByTheWhole, UnbuiltIsUnsupported, UnbuiltOperationIsTold, BuiltIsNotOpen, OtherBytesAreMalformed, OtherBytesStayMalformed, LongestKeyAndValueArePut, LongerOnesAreMalformed};
+ghost use Rattle.plain_site.specs.RowsOfChoices.{NoBranchIsNamedFirst, OwnWritesAreNotRead, MergesBringNews, ValueIsTheLowestWriters, MergeTriesOneThingAtATime, CeilingStaysOnItsBranch, TidyTakesTheLastArrived, CollectsMergedBranches, LongPathOfAKeptStateIsNamed, OwnRecordIsKnown, ClosedParentIsNamedFirst};
+ghost use Rattle.plain_site.specs.RowsOfLandings.{SnapshotsForkOnWrites, SerializableForksOnReads, BothForkOnEither, WithoutConstraintsNothingForks, FirstPassingChildIsTaken, AncestorKeepsToItsBranch, AbortedWritesAreGone};
+ghost use Rattle.plain_site.specs.RowsOfOperations.{DeletionsAreRead, ClosedSessionsAreGone, OpenSessionIsToldFirst, ConflictsComeInPages, SingleTransactionsShowNoBranches, LeavesAreShown, UnknownStatesAreToldFirst, AutomaticFloorStaysAboveCeilings, NumbersRunOut, RoomIsLookedAtBetween, BatchesHaveTheNews, BatchesStopWhereTheyAreFull, ConsentsWaitForBoth};
+
+/// Where transactions begin, and where they commit.
+pub fn commits_answer_as_told()
+    ensures write_skew { WriteSkewForks }
+    ensures write_skew_under_snapshots { WriteSkewPassesUnderSnapshots }
+    ensures no_branch { NoBranchRefusesTheFork }
+    ensures old_read { OldReadForks }
+    ensures any_at_the_fork { AnyBeginsAtTheFork }
+    ensures ripple { CommitRipplesDown }
+    ensures branches { BranchesAreCounted }
+    ensures begins { BeginsFollowTheLastCommit }
+    ensures no_writes { ReadingMakesNoState }
+{}
+
+/// Merges of branches.
+pub fn merges_answer_as_told()
+    ensures joined { MergeJoinsBranches }
+    ensures two_merges { TwoMergesConflict }
+    ensures apart { MergesNeedStatesApart }
+    ensures nine_leaves { NineLeavesAreTooMany }
+{}
+
+/// Ceilings, floors and collection.
+pub fn floors_answer_as_told()
+    ensures ceilings { CeilingsHoldReadsAndFloors }
+    ensures floors { FloorsHoldTheSite }
+    ensures collection { CollectionKeepsReads }
+{}
+
+/// What other sites deliver.
+pub fn exchange_answers_as_told()
+    ensures records { RecordsComeInOrder }
+    ensures consents { ConsentsCloseStates }
+    ensures lies { LyingPeersAreRefused }
+    ensures bad_sites { SitesPastTheLimitAreBad }
+{}
+
+/// Limits of transactions and of the site.
+pub fn limits_answer_as_told()
+    ensures writes { WritesAreLimited }
+    ensures reads { ReadsAreLimited }
+    ensures full { FullSiteRefuses }
+    ensures sessions { SecondSessionIsRefused }
+    ensures paths { LongPathIsRefused }
+{}
+
+/// Requests and replies in bytes, as far as the program is built and whole.
+pub fn bytes_answer_as_told()
+    ensures read_back { WriteIsReadBack }
+    ensures read_back_by_the_whole { WriteIsReadBackByTheWhole }
+    ensures unsupported { UnbuiltIsUnsupported }
+    ensures unsupported_operation { UnbuiltOperationIsTold }
+    ensures not_open { BuiltIsNotOpen }
+    ensures malformed { OtherBytesAreMalformed }
+    ensures malformed_by_the_whole { OtherBytesStayMalformed }
+    ensures longest { LongestKeyAndValueArePut }
+    ensures longer { LongerOnesAreMalformed }
+{}
+
+/// What the other rows leave open.
+pub fn choices_are_made()
+    ensures no_branch_first { NoBranchIsNamedFirst }
+    ensures own_writes { OwnWritesAreNotRead }
+    ensures news { MergesBringNews }
+    ensures lowest { ValueIsTheLowestWriters }
+    ensures merge_refusals { MergeTriesOneThingAtATime }
+    ensures apart_ceiling { CeilingStaysOnItsBranch }
+    ensures tidy_order { TidyTakesTheLastArrived }
+    ensures merged_branches { CollectsMergedBranches }
+    ensures kept_paths { LongPathOfAKeptStateIsNamed }
+    ensures own_record { OwnRecordIsKnown }
+    ensures closed_parent_first { ClosedParentIsNamedFirst }
+{}
+
+/// Where transactions begin and commit among branches.
+pub fn landings_answer_as_told()
+    ensures si { SnapshotsForkOnWrites }
+    ensures ser { SerializableForksOnReads }
+    ensures both { BothForkOnEither }
+    ensures neither { WithoutConstraintsNothingForks }
+    ensures first_passing { FirstPassingChildIsTaken }
+    ensures ancestor { AncestorKeepsToItsBranch }
+    ensures aborted { AbortedWritesAreGone }
+{}
+
+/// Each operation.
+pub fn operations_answer_as_told()
+    ensures deletions { DeletionsAreRead }
+    ensures closed_sessions { ClosedSessionsAreGone }
+    ensures open_session { OpenSessionIsToldFirst }
+    ensures conflicts { ConflictsComeInPages }
+    ensures single { SingleTransactionsShowNoBranches }
+    ensures leaves { LeavesAreShown }
+    ensures unknown { UnknownStatesAreToldFirst }
+    ensures automatic_floor { AutomaticFloorStaysAboveCeilings }
+    ensures numbers { NumbersRunOut }
+    ensures room { RoomIsLookedAtBetween }
+    ensures news { BatchesHaveTheNews }
+    ensures full_batch { BatchesStopWhereTheyAreFull }
+    ensures early_consents { ConsentsWaitForBoth }
+{}

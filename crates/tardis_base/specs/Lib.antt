@@ -4,4 +4,5 @@ pub mod Keys
 pub mod Bytes
 pub mod Same
 pub mod Valid
+pub mod Faults
 pub mod Plain

@@ -1,6 +1,6 @@
 //! Why a call could not do what was asked.
 
-ghost use Rattle.std.specs.Prelude.{◌≡◌, ⊤};
+ghost use Rattle.std.specs.Prelude.{⊤};
 
 use crate::ids::StateId;
 use std::alloc::{AllocError, AllocFailed};
@@ -63,6 +63,20 @@ impl From<NoMemory> for ReadFault {
 
     fn from(_: NoMemory) -> ReadFault {
         ReadFault::NoMemory
+    }
+}
+
+impl From<BytesFault> for ReadFault {
+    ghost use Rattle.std.specs.Prelude.{◌≡◌};
+    ghost use Rattle.tardis_base.specs.Faults.{read_fault};
+
+    ghost from_gives = { λ fault read. read ≡ read_fault fault };
+
+    fn from(fault: BytesFault) -> ReadFault {
+        match fault {
+            BytesFault::Length => ReadFault::Malformed,
+            BytesFault::NoMemory => ReadFault::NoMemory,
+        }
     }
 }
 

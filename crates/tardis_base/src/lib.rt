@@ -27,3 +27,6 @@ pub use records::{Batch, Consent, Item, Limits, Record, Write};
 pub use replies::{Refusal, Reply, SiteLine, SiteLines};
 pub use reply_bufs::{ROOM, ReplyBuf};
 pub use requests::{Begin, EndFlags, MergeOf, Request};
+
+#[cfg(test)]
+mod tests;

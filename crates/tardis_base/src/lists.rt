@@ -41,6 +41,7 @@ pub type KeyList = ListOf<Key>;
 pub type RecordList = ListOf<Record>;
 
 pub type ConsentList = ListOf<Consent>;
+
 /// Pairs of a fork and the number of one of its branches.
 pub type PathList = ListOf<(StateId, u32)>;
 

@@ -117,6 +117,18 @@ impl Record {
     }
 }
 
+impl Item {
+    /// An equal item, in memory of its own.
+    pub fn copy(&self) -> Result<Item, NoMemory>
+        ensures { IfOk result (λ copy. copy ≡ self.now) }
+    {
+        match self {
+            Item::State(record) => Ok(Item::State(record.copy()?)),
+            Item::Promise(promise) => Ok(Item::Promise(*promise)),
+        }
+    }
+}
+
 impl Limits {
     /// Whether a site may have these limits.
     pub fn valid(&self) -> bool

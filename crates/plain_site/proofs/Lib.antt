@@ -1,0 +1,21 @@
+-- What follows from the plain site's definitions.
+pub mod SoundEntries
+pub mod SoundKeys
+pub mod SoundAnswers
+pub mod SoundBooks
+pub mod SoundSessions
+pub mod SoundHistories
+pub mod SoundArrivals
+pub mod SoundOpening
+pub mod SoundCommits
+pub mod SoundRequests
+pub mod RepliesSite
+pub mod RepliesMemory
+pub mod RepliesLengths
+pub mod RepliesLists
+pub mod RepliesHistory
+pub mod RepliesGrowth
+pub mod RepliesFrame
+pub mod RepliesSound
+pub mod RepliesOfSessions
+pub mod RepliesOfReads
