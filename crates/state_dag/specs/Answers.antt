@@ -1,18 +1,17 @@
 -- What the calls of a table answer.
-use Rattle.std.specs.Prelude.{◌≡◌, ℕ, ◌+◌, ◌-◌, ◌≤◌, Bool, true, List, [], ◌∷◌, map, length, Option, Some, None, Result, Ok, Err, IsTrue, IsFalse, is_none, slice_get}
-use Rattle.std.specs.List.{list_all}
+use Rattle.std.specs.Prelude.{◌≡◌, ◌≤◌, true, ◌==◌, List, [], ◌∷◌, map, Option, Some, None, Result, Ok, Err, IsTrue, IsFalse, slice_get, if◌then◌else◌}
+use Rattle.std.specs.Option.{option_map}
 use Rattle.tardis_base.specs.declared.ids.StateId.{StateId}
 use Rattle.tardis_base.specs.declared.ids.Slot.{Slot}
 use Rattle.tardis_base.specs.declared.records.Record.{Record}
 use Rattle.tardis_base.specs.declared.faults.AddFault.{AddFault}
 use Rattle.tardis_base.specs.declared.faults.AddFault.TheVariants.{Full, PathFull, NoMemory}
-use Rattle.tardis_base.specs.declared.replies.Refusal.{Refusal}
 use Rattle.tardis_base.specs.declared.replies.Refusal.TheVariants.{Full as IsFull, PathFull as IsPathFull}
-use Rattle.tardis_base.specs.Ids.{is_among}
+use Rattle.tardis_base.specs.Ids.{same_id, is_among}
 use Rattle.plain_dag.specs.Above.{is_above}
 use Rattle.plain_dag.specs.Dag.{IsNext}
 use Rattle.plain_dag.specs.Growth.{growth_refusal}
-use Rattle.state_dag.specs.Table.{Table, id_at, is_slot, entry_at}
+use Rattle.state_dag.specs.Table.{Entry, Table, id_at}
 use Rattle.state_dag.specs.Stands.{Stands}
 
 -- the record may be added: it is the next, of one of the table's sites, with the states at these slots as parents, and no
@@ -20,7 +19,7 @@ use Rattle.state_dag.specs.Stands.{Stands}
 pub record MayBeAdded (table : Table) (rs : List Record) (ks : List StateId) (r : Record) (parents : List Slot) : Type 0 where
   pub next : IsNext rs r
   pub site : r.id.site ≤ table.limits.sites
-  pub parents : map (id_at table) parents ≡ map (λ p. Some p) r.parents
+  pub slots : map (id_at table) parents ≡ map (λ p. Some p) r.parents
   pub kept : (p x : StateId) → IsTrue (is_among p r.parents) → IsTrue (is_above rs p x) → IsFalse (is_among x ks)
 
 -- the record was added, or refused as the history refuses it, or there was no memory; where it wasn't added the table is
@@ -39,8 +38,18 @@ IsNewSlot old new x slot = (id_at old slot ≡ None) × (id_at new slot ≡ Some
 abbrev pub KeepsSlots : Table → Table → Type 0
 KeepsSlots old new = (slot : Slot) (x : StateId) → id_at old slot ≡ Some x → id_at new slot ≡ Some x
 
--- the slot of the kept state that arrived next after that of the other, or first where there is none; none at the end
-abbrev pub next_slot : List StateId → Option StateId → Option StateId
-next_slot xs None = slice_get xs 0
-next_slot [] (Some x) = None
-next_slot (y ∷ ys) (Some x) = slice_get ys 0
+-- of these states the one behind the other, or the first where there is no other; none at the end
+abbrev pub next_of : List StateId → Option StateId → Option StateId
+next_of xs None = slice_get xs 0
+next_of [] (Some x) = None
+next_of (y ∷ ys) (Some x) =
+    let later = next_of ys (Some x) in
+    if same_id x y then slice_get ys 0 else later
+
+-- the slot of the entry behind that at the slot, or of the first where none is given; none at the end
+abbrev pub slot_after : List Entry → Option Slot → Option Slot
+slot_after es None = option_map (λ e. e.slot) (slice_get es 0)
+slot_after [] (Some slot) = None
+slot_after (e ∷ es) (Some slot) =
+    let later = slot_after es (Some slot) in
+    if e.slot.0 == slot.0 then option_map (λ f. f.slot) (slice_get es 0) else later

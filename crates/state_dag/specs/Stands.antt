@@ -24,17 +24,17 @@ is_taken table rs x pair =
 -- the entry is that of x: what it says of x is so, its slots are those of the stand-ins of x's children in their order, and
 -- its path has exactly the branches of kept forks that lead to x, each once
 pub record Shows (table : Table) (rs : List Record) (ks : List StateId) (e : Entry) (x : StateId) : Type 0 where
-  pub id : e.id ≡ x
+  pub named : e.id ≡ x
   pub arrived : e.arrival ≡ arrival rs x
-  pub parents : e.parents ≡ parents_of rs x
-  pub children : e.children ≡ children rs x
-  pub stand_ins : map (id_at table) e.stand_ins ≡ map (λ c. Some (stand_in rs ks c)) (children rs x)
+  pub has_parents : e.parents ≡ parents_of rs x
+  pub has_children : e.children ≡ children rs x
+  pub has_stand_ins : map (id_at table) e.stand_ins ≡ map (λ c. Some (stand_in rs ks c)) (children rs x)
   pub ascending : IsTrue (are_ascending_pairs e.path)
-  pub path : (pair : ℕ × ℕ) → has_pair pair e.path ≡ is_taken table rs x pair
+  pub has_path : (pair : ℕ × ℕ) → has_pair pair e.path ≡ is_taken table rs x pair
 
 -- the table stands for these records and these collected states: they are a history; the collected are known and leave
 -- shared stand-ins; the limits are valid and kept; the numbers are those of the history; the entries are those of the kept
--- states, in arrival order
+-- states, in arrival order, and each slot names its state
 pub record Stands (table : Table) (rs : List Record) (ks : List StateId) : Type 0 where
   pub dag : IsDag rs
   pub known_collected : (x : StateId) → IsTrue (is_among x ks) → IsTrue (is_known rs x)
@@ -45,6 +45,7 @@ pub record Stands (table : Table) (rs : List Record) (ks : List StateId) : Type 
   pub short : (x : StateId) → IsTrue (is_kept rs ks x) → length (fork_path rs ks x) ≤ table.limits.max_path
   pub counts : table.counts ≡ map (count_of_site rs) (range_with_len 1 table.limits.sites)
   pub known : table.known ≡ length rs
-  pub leaves : table.leaves ≡ length (leaves rs)
+  pub leaf_count : table.leaves ≡ length (leaves rs)
   pub ids : map (λ e. e.id) table.entries ≡ kept_states rs ks
+  pub slots : map (λ e. id_at table e.slot) table.entries ≡ map (λ e. Some e.id) table.entries
   pub shows : (slot : Slot) (e : Entry) → entry_at table slot ≡ Some e → Shows table rs ks e e.id

@@ -1,6 +1,5 @@
 -- How the table reads its memory.
-use Rattle.std.specs.Prelude.{◌≡◌, ℕ, ◌+◌, ◌≤◌, ◌<◌, List, [], ◌∷◌, length, Option, Some, None, IsTrue, nat_lt, if◌then◌else◌}
-use Rattle.std.specs.List.{list_all}
+use Rattle.std.specs.Prelude.{ℕ, ◌+◌, List, [], ◌∷◌, Option, Some, None, if◌then◌else◌}
 use Rattle.tardis_base.specs.declared.ids.StateId.{StateId}
 use Rattle.tardis_base.specs.declared.ids.Slot.{Slot}
 use Rattle.tardis_base.specs.Ids.{same_id}
@@ -24,10 +23,14 @@ abbrev pub entries_from : ℕ → List Node → List Entry
 entries_from place [] = []
 entries_from place (node ∷ nodes) = entry_of place node ∷ entries_from (place + 1) nodes
 
+-- the one slot, or else the other
+abbrev pub slot_or : Option Slot → Option Slot → Option Slot
+slot_or (Some slot) other = Some slot
+slot_or None other = other
+
 -- the last place, from this one on, of the state
 abbrev pub place_of_id : ℕ → List Node → StateId → Option Slot
 place_of_id place [] x = None
 place_of_id place (node ∷ nodes) x =
     let later = place_of_id (place + 1) nodes x in
-    let here = if same_id x node.id then Some (record { 0 = place }) else None in
-    elim later [ Some slot ↦ Some slot | None ↦ here ]
+    slot_or later (if same_id x node.id then Some (record { 0 = place }) else None)

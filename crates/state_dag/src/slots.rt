@@ -14,4 +14,3 @@ pub fn slot_in(slots: &BTreeMap<StateId, Slot>, id: StateId) -> Option<Slot>
 {
     slots.get(&id).copied()
 }
-
