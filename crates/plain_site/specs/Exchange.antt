@@ -65,7 +65,8 @@ pull site counts =
 abbrev pub is_early : Site → Record → Bool
 is_early site r = not (r.id.sequence == count_of_site site.dag r.id.site + 1 && list_all (is_known site.dag) r.parents)
 
--- how a record is judged, as far as it doesn't concern room
+-- how a record is judged, as far as it doesn't concern room: one that is known is Known, also where it is an own one; and a
+-- parent that is closed is told before parents that aren't apart
 abbrev pub judgements : Site → Record → List (Option Reply)
 judgements site r =
     refuse (nat_lt site.limits.sites r.id.site) (BadSite r.id.site)
