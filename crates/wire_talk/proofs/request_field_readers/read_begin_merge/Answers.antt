@@ -3,7 +3,7 @@ use Rattle.tardis_base.specs.declared.requests.Request.TheVariants.{BeginMerge}
 use Rattle.wire_item.specs.Fronts.{made, counted, times}
 use Rattle.wire_item.specs.Readings.{u8_front, id_front}
 use Rattle.wire_item.proofs.Fronts.{made-read}
-use Rattle.wire_item.proofs.Takings.{taken, untaken, making, unmade, makes, makes-none, made-none, after-none, makes-after}
+use Rattle.wire_item.proofs.Takings.{taken, untaken, making, unmade, makes, makes-none, made-none, makes-after}
 use Rattle.wire_talk.specs.RequestReadings.{merge_of, merge_of_front}
 use Rattle.wire_talk.proofs.request_field_readers.read_begin_merge.Goals as goal
 

@@ -1,6 +1,6 @@
 use Rattle.std.proofs.Common.{refl, sym, None}
 use Rattle.tardis_base.specs.declared.requests.Request.TheVariants.{Commit}
-use Rattle.wire_item.specs.Fronts.{made, both, only_if}
+use Rattle.wire_item.specs.Fronts.{made, both}
 use Rattle.wire_item.specs.Readings.{u8_front, u16_front}
 use Rattle.wire_item.proofs.Fronts.{made-read, only_if-read}
 use Rattle.wire_item.proofs.Takings.{taken, untaken, takes, takes-none, made-none, after-none, after-then_none, after-then, only_if-none, only_if-fails}

@@ -1,4 +1,3 @@
-use Rattle.std.proofs.Common.{refl}
 use Rattle.tardis_base.specs.declared.requests.Request.TheVariants.{Delete}
 use Rattle.wire_item.specs.Fronts.{made}
 use Rattle.wire_item.specs.Readings.{key_front}

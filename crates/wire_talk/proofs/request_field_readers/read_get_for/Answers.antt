@@ -1,4 +1,3 @@
-use Rattle.std.proofs.Common.{refl}
 use Rattle.tardis_base.specs.declared.requests.Request.TheVariants.{GetFor}
 use Rattle.wire_item.specs.Fronts.{made, both}
 use Rattle.wire_item.specs.Readings.{key_front, id_front}

@@ -1,4 +1,4 @@
-use Rattle.std.proofs.Common.{refl, true, false, None, ◌≡◌, Some, ◌∙◌, ap}
+use Rattle.std.proofs.Common.{refl, true, false, None, ◌∙◌, ap}
 use Rattle.tardis_base.specs.declared.requests.Request.TheVariants.{Open}
 use Rattle.wire_item.specs.Fronts.{nothing_but, made, front_of_code}
 use Rattle.wire_item.specs.Readings.{u8_front}

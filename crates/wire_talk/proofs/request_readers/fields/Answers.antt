@@ -1,4 +1,4 @@
-use Rattle.std.proofs.Common.{refl, None, Ok, Some, ◌∙◌, ap, sym, arith}
+use Rattle.std.proofs.Common.{refl, None, Ok, ◌∙◌, ap, arith}
 use Rattle.tardis_base.specs.declared.requests.Request.TheVariants.{Open, Begin, Commit, Abort, ForkPoints, Ceiling, Raise, RaiseAuto, Tidy, Stat, Show, Leaves, Close}
 use Rattle.wire_item.specs.Fronts.{made, front_of_code}
 use Rattle.wire_item.specs.Readings.{id_front, u16_front}
