@@ -55,7 +55,7 @@ pub fn read_batch(alloc: Global, bytes: &[u8]) -> Result<Batch, ReadFault>
 }
 
 /// The thing that was read, where nothing is left behind it.
-fn whole<T: Drop>(thing: Option<Result<T, NoMemory>>, is_done: bool) -> Result<T, ReadFault>
+pub fn whole<T: Drop>(thing: Option<Result<T, NoMemory>>, is_done: bool) -> Result<T, ReadFault>
     ensures { result ≡ whole_of thing is_done }
 {
     match thing {

@@ -1,4 +1,6 @@
 -- The laws of the spellings of requests and replies, and what they rest on.
 pub mod Requests
 pub mod Replies
+pub mod RequestFields
 pub mod Laws
+pub mod RequestCodes

@@ -5,5 +5,6 @@ pub mod Valid
 pub mod Spelled
 pub mod RequestReadings
 pub mod ReplyReadings
+pub mod Memory
 pub mod Laws
 pub mod Rows

@@ -1,0 +1,270 @@
+//! Reading the fields of requests from the front of bytes.
+//!
+//! Whether bytes are a spelling doesn't depend on memory: where memory is wanting for a field, the reader goes on behind
+//! it all the same.
+
+ghost use Rattle.std.specs.Prelude.{◌≡◌, ℕ, List, ◌&&◌, [], ◌∷◌, ◌++◌, nat_le, IfOk};
+ghost use Rattle.tardis_base.specs.declared.ids.StateId.{StateId};
+ghost use Rattle.tardis_base.specs.declared.records.Item.{Item};
+ghost use Rattle.tardis_base.specs.declared.requests.Request.TheVariants.{Commit, Put as PutKey};
+ghost use Rattle.tardis_base.specs.declared.requests.Request.{Request};
+ghost use Rattle.tardis_base.specs.Valid.{is_within};
+ghost use Rattle.wire_item.specs.Fronts.{both, made, times};
+ghost use Rattle.wire_item.specs.Readings.{id_front, item_front, key_front, u32_front, value_front};
+ghost use Rattle.wire_item.specs.Takings.{Makes, Takes};
+ghost use Rattle.wire_talk.specs.RequestReadings.{after_front, begin_front, commit_front, counts_front, flag_front, merge_of, merge_of_front};
+ghost use Rattle.wire_talk.specs.Valid.{is_commit};
+
+use std::alloc::Global;
+use tardis_base::{
+    Begin, ByteList, CountList, EndFlags, Item, Key, ListOf, MergeOf, NoMemory, Request, StateId,
+    StateList, Value,
+};
+use wire_item::Reader;
+
+pub fn read_open(reader: &mut Reader) -> Option<Request>
+    ensures { Takes (made Request.Open flag_front) reader.old result reader.new }
+{
+    let flag = reader.u8()?;
+    if flag == 0 {
+        return Some(Request::Open { follow: false });
+    }
+    if flag == 1 {
+        return Some(Request::Open { follow: true });
+    }
+    None
+}
+
+/// Where a transaction begins.
+fn begin(reader: &mut Reader) -> Option<Begin>
+    ensures { Takes begin_front reader.old result reader.new }
+{
+    match reader.u8()? {
+        0 => Some(Begin::Any),
+        1 => Some(Begin::Ancestor),
+        2 => Some(Begin::Parent),
+        3 => Some(Begin::At(reader.id()?)),
+        _ => None,
+    }
+}
+
+pub fn read_begin(reader: &mut Reader) -> Option<Request>
+    ensures { Takes (made Request.Begin begin_front) reader.old result reader.new }
+{
+    let begin = begin(reader)?;
+    Some(Request::Begin { begin })
+}
+
+pub fn read_get(alloc: Global, reader: &mut Reader) -> Option<Result<Request, NoMemory>>
+    ensures { Makes (made Request.Get key_front) reader.old result reader.new }
+{
+    let key = reader.key()?;
+    Some(get(alloc, key))
+}
+
+pub fn read_put(alloc: Global, reader: &mut Reader) -> Option<Result<Request, NoMemory>>
+    ensures { Makes (made (λ p. PutKey p.0 p.1) (both key_front value_front)) reader.old result reader.new }
+{
+    let key = reader.key()?;
+    let value = reader.value()?;
+    Some(put(alloc, key, value))
+}
+
+pub fn read_delete(alloc: Global, reader: &mut Reader) -> Option<Result<Request, NoMemory>>
+    ensures { Makes (made Request.Delete key_front) reader.old result reader.new }
+{
+    let key = reader.key()?;
+    Some(delete(alloc, key))
+}
+
+pub fn read_commit(reader: &mut Reader) -> Option<Request>
+    ensures { Takes (made (λ p. Commit (record { 0 = p.0 }) p.1) commit_front) reader.old result reader.new }
+{
+    let flags = reader.u8()?;
+    let k = reader.u16()?;
+    if is_commit(flags, k) {
+        Some(Request::Commit {
+            flags: EndFlags(flags),
+            k,
+        })
+    } else {
+        None
+    }
+}
+
+pub fn read_begin_merge(alloc: Global, reader: &mut Reader) -> Option<Result<Request, NoMemory>>
+    ensures { Makes (made Request.BeginMerge merge_of_front) reader.old result reader.new }
+{
+    let count = reader.u8()?;
+    let states = ids(alloc, count, reader)?;
+    Some(begin_merge(states))
+}
+
+pub fn read_conflicts(alloc: Global, reader: &mut Reader) -> Option<Result<Request, NoMemory>>
+    ensures { Makes (made Request.Conflicts after_front) reader.old result reader.new }
+{
+    let count = reader.u8()?;
+    let after = reader.bytes(usize::from(count))?;
+    if is_after_length(count) {
+        Some(conflicts(alloc, after))
+    } else {
+        None
+    }
+}
+
+pub fn read_get_for(alloc: Global, reader: &mut Reader) -> Option<Result<Request, NoMemory>>
+    ensures { Makes (made (λ p. Request.GetFor p.0 p.1) (both key_front id_front)) reader.old result reader.new }
+{
+    let key = reader.key()?;
+    let state = reader.id()?;
+    Some(get_for(alloc, key, state))
+}
+
+pub fn read_pull(alloc: Global, reader: &mut Reader) -> Option<Result<Request, NoMemory>>
+    ensures { Makes (made Request.Pull counts_front) reader.old result reader.new }
+{
+    let count = reader.u8()?;
+    let counts = numbers(alloc, count, reader)?;
+    if is_count_of_sites(count) {
+        Some(pull(counts))
+    } else {
+        None
+    }
+}
+
+pub fn read_deliver(alloc: Global, reader: &mut Reader) -> Option<Result<Request, NoMemory>>
+    ensures { Makes (made Request.Deliver item_front) reader.old result reader.new }
+{
+    let item = reader.item(alloc)?;
+    Some(deliver(item))
+}
+
+/// So many ids.
+fn ids(alloc: Global, count: u8, reader: &mut Reader) -> Option<Result<StateList, NoMemory>>
+    ensures { Makes (times id_front count) reader.old result reader.new }
+{
+    let mut ids = Ok(StateList::new(alloc));
+    for _place in 0..count {
+        let id = reader.id()?;
+        ids = pushed(ids, id);
+    }
+    Some(ids)
+}
+
+/// So many numbers of 32 bits.
+fn numbers(alloc: Global, count: u8, reader: &mut Reader) -> Option<Result<CountList, NoMemory>>
+    ensures { Makes (times u32_front count) reader.old result reader.new }
+{
+    let mut numbers = Ok(CountList::new(alloc));
+    for _place in 0..count {
+        let number = reader.u32()?;
+        numbers = pushed(numbers, number);
+    }
+    Some(numbers)
+}
+
+/// The list with the item behind its end, where there was memory for both.
+fn pushed<T: Drop>(list: Result<ListOf<T>, NoMemory>, item: T) -> Result<ListOf<T>, NoMemory>
+    ensures { (xs : List T) → IfOk list (λ l. l ≡ xs) → IfOk result (λ l. l ≡ xs ++ item ∷ []) }
+{
+    let mut list = list?;
+    list.push(item)?;
+    Ok(list)
+}
+
+fn is_commit(flags: u8, k: u16) -> bool
+    ensures { result ≡ is_commit (record { 0 = flags }) k }
+{
+    let is_counted = flags & 8 == 8;
+    flags < 16 && (if is_counted { k >= 1 } else { k == 0 })
+}
+
+fn is_after_length(count: u8) -> bool
+    ensures { result ≡ nat_le count 128 }
+{
+    count <= 128
+}
+
+fn is_count_of_sites(count: u8) -> bool
+    ensures { result ≡ is_within 1 16 count }
+{
+    (1..=16).contains(&count)
+}
+
+fn key_of(alloc: Global, key: &[u8]) -> Result<Key, NoMemory>
+    ensures { IfOk result (λ k. k ≡ key.now) }
+{
+    match Key::new(alloc, key) {
+        Ok(key) => Ok(key),
+        Err(_) => Err(NoMemory),
+    }
+}
+
+fn value_of(alloc: Global, value: &[u8]) -> Result<Value, NoMemory>
+    ensures { IfOk result (λ v. v ≡ value.now) }
+{
+    match Value::new(alloc, value) {
+        Ok(value) => Ok(value),
+        Err(_) => Err(NoMemory),
+    }
+}
+
+fn get(alloc: Global, key: &[u8]) -> Result<Request, NoMemory>
+    ensures { IfOk result (λ q. q ≡ Request.Get key.now) }
+{
+    let key = key_of(alloc, key)?;
+    Ok(Request::Get { key })
+}
+
+fn put(alloc: Global, key: &[u8], value: &[u8]) -> Result<Request, NoMemory>
+    ensures { IfOk result (λ q. q ≡ PutKey key.now value.now) }
+{
+    let key = key_of(alloc, key)?;
+    let value = value_of(alloc, value)?;
+    Ok(Request::Put { key, value })
+}
+
+fn delete(alloc: Global, key: &[u8]) -> Result<Request, NoMemory>
+    ensures { IfOk result (λ q. q ≡ Request.Delete key.now) }
+{
+    let key = key_of(alloc, key)?;
+    Ok(Request::Delete { key })
+}
+
+fn get_for(alloc: Global, key: &[u8], state: StateId) -> Result<Request, NoMemory>
+    ensures { IfOk result (λ q. q ≡ Request.GetFor key.now state) }
+{
+    let key = key_of(alloc, key)?;
+    Ok(Request::GetFor { key, state })
+}
+
+fn conflicts(alloc: Global, after: &[u8]) -> Result<Request, NoMemory>
+    ensures { IfOk result (λ q. q ≡ Request.Conflicts after.now) }
+{
+    let after = ByteList::from_vec(Vec::from_slice(alloc, after)?);
+    Ok(Request::Conflicts { after })
+}
+
+fn begin_merge(states: Result<StateList, NoMemory>) -> Result<Request, NoMemory>
+    ensures { (xs : List StateId) → IfOk states (λ l. l ≡ xs) → IfOk result (λ q. q ≡ Request.BeginMerge (merge_of xs)) }
+{
+    let states = states?;
+    let of = if states.is_empty() {
+        MergeOf::Leaves
+    } else {
+        MergeOf::States(states)
+    };
+    Ok(Request::BeginMerge { of })
+}
+
+fn pull(counts: Result<CountList, NoMemory>) -> Result<Request, NoMemory>
+    ensures { (ns : List ℕ) → IfOk counts (λ l. l ≡ ns) → IfOk result (λ q. q ≡ Request.Pull ns) }
+{
+    Ok(Request::Pull { counts: counts? })
+}
+
+fn deliver(item: Result<Item, NoMemory>) -> Result<Request, NoMemory>
+    ensures { (x : Item) → IfOk item (λ i. i ≡ x) → IfOk result (λ q. q ≡ Request.Deliver x) }
+{
+    Ok(Request::Deliver { item: item? })
+}

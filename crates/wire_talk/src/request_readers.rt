@@ -1,0 +1,77 @@
+//! Reading bytes that spell one request and nothing else.
+//!
+//! How requests are spelled is stated in `docs/FORMATS.md`. The cost grows with the number of bytes.
+
+ghost use Rattle.std.specs.Prelude.{◌≡◌, ◌↔◌, None, Some, Err, IfOk, IsTrue};
+ghost use Rattle.tardis_base.specs.declared.faults.NoMemory.{NoMemory};
+ghost use Rattle.tardis_base.specs.declared.requests.Request.{Request};
+ghost use Rattle.wire_item.specs.Fronts.{front_of_code};
+ghost use Rattle.wire_item.specs.Takings.{Makes};
+ghost use Rattle.wire_talk.specs.Codes.{code_of};
+ghost use Rattle.wire_talk.specs.Memory.{takes_no_memory};
+ghost use Rattle.wire_talk.specs.RequestReadings.{request_front, request_of, request_rows};
+ghost use Rattle.wire_talk.specs.Spelled.{SpellsRequest};
+
+use crate::request_field_readers::{
+    read_begin, read_begin_merge, read_commit, read_conflicts, read_delete, read_deliver, read_get,
+    read_get_for, read_open, read_pull, read_put,
+};
+use std::alloc::Global;
+use tardis_base::{NoMemory, ReadFault, Request};
+use wire_item::{Reader, whole};
+
+/// The request that the bytes spell. A request with no key, no value, no list and no item takes no memory.
+pub fn read_request(alloc: Global, bytes: &[u8]) -> Result<Request, ReadFault>
+    ensures spelled { IfOk result (λ q. SpellsRequest bytes.now q) }
+    ensures malformed { (result ≡ Err ReadFault.Malformed) ↔ (request_of bytes.now ≡ None) }
+    ensures sure { (q : Request) → request_of bytes.now ≡ Some q → IsTrue (takes_no_memory q) → result ≡ Err ReadFault.NoMemory → ⊥ }
+{
+    let mut reader = Reader::new(bytes);
+    let taken = request(alloc, &mut reader);
+    whole(taken, reader.is_done())
+}
+
+fn request(alloc: Global, reader: &mut Reader) -> Option<Result<Request, NoMemory>>
+    ensures read { Makes request_front reader.old result reader.new }
+    ensures sure { (q : Request) (e : NoMemory) → request_of reader.old ≡ Some q → IsTrue (takes_no_memory q) → result ≡ Some (Err e) → ⊥ }
+{
+    let code = reader.u8()?;
+    fields(alloc, code, reader)
+}
+
+/// What stands behind the code.
+fn fields(alloc: Global, code: u8, reader: &mut Reader) -> Option<Result<Request, NoMemory>>
+    ensures read { Makes (front_of_code code request_rows) reader.old result reader.new }
+    ensures sure { (q : Request) (e : NoMemory) → code_of q ≡ code → IsTrue (takes_no_memory q) → result ≡ Some (Err e) → ⊥ }
+{
+    match code {
+        1 => Some(Ok(read_open(reader)?)),
+        2 => Some(Ok(read_begin(reader)?)),
+        3 => read_get(alloc, reader),
+        4 => read_put(alloc, reader),
+        5 => read_delete(alloc, reader),
+        6 => Some(Ok(read_commit(reader)?)),
+        7 => Some(Ok(Request::Abort)),
+        8 => read_begin_merge(alloc, reader),
+        9 => Some(Ok(Request::ForkPoints)),
+        10 => read_conflicts(alloc, reader),
+        11 => read_get_for(alloc, reader),
+        12 => Some(Ok(Request::Ceiling {
+            state: reader.id()?,
+        })),
+        13 => Some(Ok(Request::Raise {
+            state: reader.id()?,
+        })),
+        14 => Some(Ok(Request::RaiseAuto)),
+        15 => Some(Ok(Request::Tidy { n: reader.u16()? })),
+        16 => Some(Ok(Request::Stat)),
+        17 => Some(Ok(Request::Show {
+            state: reader.id()?,
+        })),
+        18 => Some(Ok(Request::Leaves)),
+        19 => read_pull(alloc, reader),
+        20 => read_deliver(alloc, reader),
+        21 => Some(Ok(Request::Close)),
+        _ => None,
+    }
+}
