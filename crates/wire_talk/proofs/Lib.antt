@@ -1,4 +1,5 @@
 -- The laws of the spellings of requests and replies, and what they rest on.
 pub mod Requests
 pub mod Replies
+pub mod Arms
 pub mod Laws

@@ -2,6 +2,7 @@
 #![tactic(auto)]
 
 mod field_writers;
+mod refusal_readers;
 mod refusal_writers;
 mod reply_writers;
 mod request_writers;
