@@ -1,4 +1,4 @@
--- Versions added for the last of ascending writes, and so for all of them in turn.
+-- Lists added for the last of ascending writes, and so for all of them in turn.
 use Rattle.std.proofs.Common.{◌≡◌, ◌<◌, ℕ, map, Bool, true, false, not, nat_lt, List, [], ◌∷◌, ◌++◌, Option, Some, None, length, refl, sym, ◌∙◌, ap, subst, inl, inr, arith}
 use Rattle.std.specs.List.{list_all}
 use Rattle.std.specs.Map.{lookup}
@@ -16,7 +16,7 @@ use Rattle.tardis_base.proofs.KeyOrder.{ascending-parts, bytes_eq-after}
 use Rattle.tardis_base.proofs.KeySets.{before-last}
 use Rattle.tardis_base.proofs.WriteSets.{write_of-there}
 use Rattle.version_list.specs.declared.histories.Version.{Version}
-use Rattle.version_list.specs.Versions.{Versions, Listed, listed_keys, listed_of, versions_of, has_room, has_room_for, version_by, are_in_order, have_come_before}
+use Rattle.version_list.specs.Lists.{Lists, Listed, keys_in, listed_in, versions_in, has_room_in, have_room_in, version_by, are_in_order, have_come_before}
 use Rattle.version_list.proofs.Orders.{in_order-push}
 
 pub nothing_left : {X : Type 0} (xs : List X) → length xs ≡ 0 → xs ≡ []
@@ -77,38 +77,38 @@ write_of-others k (v ∷ vs) w e =
       | inr f ↦ rw f (write_of-others k vs w e)
     ]
 
-module _ (old new : Versions) (w : KeyWrite) (others : (k : List ℕ) → bytes_eq w.0 k ≡ false → listed_of new k ≡ listed_of old k) where
+module _ (old new : Lists) (w : KeyWrite) (others : (k : List ℕ) → bytes_eq w.0 k ≡ false → listed_in new k ≡ listed_in old k) where
   -- what is still to be added, after the last of the writes was
   pub added-step : (slot : Slot) (writer : StateId) (ws : List KeyWrite) (k : List ℕ) (all : List Version)
       → differs w.0 ws ≡ true
-      → versions_of new w.0 ≡ versions_of old w.0 ++ record { slot = slot; writer = writer; write = w.1 } ∷ []
-      → versions_of old k ++ version_by slot writer (write_of k (ws ++ w ∷ [])) ≡ all
-      → versions_of new k ++ version_by slot writer (write_of k ws) ≡ all
+      → versions_in new w.0 ≡ versions_in old w.0 ++ record { slot = slot; writer = writer; write = w.1 } ∷ []
+      → versions_in old k ++ version_by slot writer (write_of k (ws ++ w ∷ [])) ≡ all
+      → versions_in new k ++ version_by slot writer (write_of k ws) ≡ all
   added-step slot writer ws k all other added all_is =
       elim (cases_Bool (bytes_eq w.0 k)) [
-        | inl t ↦ subst (λ j. versions_of old j ++ version_by slot writer (write_of j (ws ++ w ∷ [])) ≡ all → versions_of new j ++ version_by slot writer (write_of j ws) ≡ all)
+        | inl t ↦ subst (λ j. versions_in old j ++ version_by slot writer (write_of j (ws ++ w ∷ [])) ≡ all → versions_in new j ++ version_by slot writer (write_of j ws) ≡ all)
             ((bytes_eq-Decides w.0 k).0 t)
             (λ here.
-            ap (λ o. versions_of new w.0 ++ version_by slot writer o) (write_of-none w.0 ws other)
-            ∙ append-nil (versions_of new w.0)
+            ap (λ o. versions_in new w.0 ++ version_by slot writer o) (write_of-none w.0 ws other)
+            ∙ append-nil (versions_in new w.0)
             ∙ added
-            ∙ ap (λ o. versions_of old w.0 ++ version_by slot writer o) (sym (write_of-last ws w other))
+            ∙ ap (λ o. versions_in old w.0 ++ version_by slot writer o) (sym (write_of-last ws w other))
             ∙ here)
             all_is
         | inr f ↦
             ap (λ o. option_map_or (λ (l : Listed). l.versions) o [] ++ version_by slot writer (write_of k ws)) (others k f)
-            ∙ ap (λ o. versions_of old k ++ version_by slot writer o) (sym (write_of-others k ws w (nat_list_eq_equiv.symm k w.0 ∙ f)))
+            ∙ ap (λ o. versions_in old k ++ version_by slot writer o) (sym (write_of-others k ws w (nat_list_eq_equiv.symm k w.0 ∙ f)))
             ∙ all_is
       ]
 
   -- the room for the other writes stays
-  pub room-step : (ws : List KeyWrite) → differs w.0 ws ≡ true → has_room_for old (ws ++ w ∷ []) ≡ true → has_room_for new ws ≡ true
+  pub room-step : (ws : List KeyWrite) → differs w.0 ws ≡ true → have_room_in old (ws ++ w ∷ []) ≡ true → have_room_in new ws ≡ true
   room-step [] other room = refl
   room-step (v ∷ vs) other room =
       let apart = and_parts (not (bytes_eq w.0 v.0)) (differs w.0 vs) other in
-      let parts = and_parts (has_room old v.0) (has_room_for old (vs ++ w ∷ [])) room in
+      let parts = and_parts (has_room_in old v.0) (have_room_in old (vs ++ w ∷ [])) room in
       let same = ap (λ o. option_map_or (λ (l : Listed). nat_lt 0 l.room) o false) (others v.0 (other-from_differs w.0 v.0 apart.0)) in
-      and_from (has_room new v.0) (has_room_for new vs) (same ∙ parts.0) (room-step vs apart.1 parts.1)
+      and_from (has_room_in new v.0) (have_room_in new vs) (same ∙ parts.0) (room-step vs apart.1 parts.1)
 
 -- versions in order stay so when a later state's is added, or none
 pub in_order-version_by : (kept : Slot → Bool) (arrival : Slot → ℕ) (vs : List Version) (slot : Slot) (writer : StateId) (o : Option Write)
@@ -130,7 +130,7 @@ before-added arrival (v ∷ vs) slot next writer o before later =
     (before-added arrival vs slot next writer o parts.1 later)
 
 -- a key that isn't among those listed has no versions
-pub listed-none : (vs : Versions) (k : List ℕ) → is_key_among k (listed_keys vs) ≡ false → versions_of vs k ≡ []
+pub listed-none : (vs : Lists) (k : List ℕ) → is_key_among k (keys_in vs) ≡ false → versions_in vs k ≡ []
 listed-none vs k e = go vs.lists e
   where
     go : (ls : List (List ℕ × Listed)) → is_key_among k (map (λ l. l.0) ls) ≡ false → option_map_or (λ (l : Listed). l.versions) (lookup (bytes_eq k) ls) [] ≡ []

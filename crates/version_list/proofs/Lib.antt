@@ -2,3 +2,4 @@
 pub mod Orders
 pub mod Rooms
 pub mod Adds
+pub mod Noted

@@ -4,7 +4,7 @@ use Rattle.std.specs.List.{list_all, list_any}
 use Rattle.std.proofs.lemmas.Bool.{and_parts, or_parts, or_left, or_right, cases_Bool}
 use Rattle.tardis_base.specs.declared.ids.Slot.{Slot}
 use Rattle.version_list.specs.declared.histories.Version.{Version}
-use Rattle.version_list.specs.Versions.{are_in_order, have_come_before}
+use Rattle.version_list.specs.Lists.{are_in_order, have_come_before}
 use Rattle.version_list.specs.Reads.{last_arrived}
 use Rattle.version_list.proofs.Rooms.{all-push}
 

@@ -1,3 +1,4 @@
 -- The versions of keys, and what is read of them.
+pub mod Lists
 pub mod Versions
 pub mod Reads

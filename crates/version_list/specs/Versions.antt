@@ -1,65 +1,54 @@
--- The versions of each key, and the keys with room for one more.
-use Rattle.std.specs.Prelude.{ℕ, Bool, true, false, ◌&&◌, List, [], ◌∷◌, Option, Some, None, nat_lt, map, IsTrue, bytes_eq}
-use Rattle.std.specs.List.{list_all}
+-- The versions of each key, the keys with a version at each state, and the room for more.
+use Rattle.std.specs.Prelude.{◌≡◌, ℕ, Bool, ◌==◌, ◌&&◌, List, [], nat_lt, nat_le, length}
+use Rattle.std.specs.List.{list_any}
 use Rattle.std.specs.Map.{lookup}
 use Rattle.std.specs.Option.{option_map_or}
 use Rattle.tardis_base.specs.declared.ids.Slot.{Slot}
-use Rattle.tardis_base.specs.declared.ids.StateId.{StateId}
-use Rattle.tardis_base.specs.declared.records.Write.{Write}
-use Rattle.tardis_base.specs.Keys.{KeyWrite}
+use Rattle.tardis_base.specs.Keys.{KeyWrite, is_key_among}
 use Rattle.version_list.specs.declared.histories.Version.{Version}
+pub use Rattle.version_list.specs.Lists.{version_by, have_come_before, are_in_order}
+use Rattle.version_list.specs.Lists.{Lists, keys_in, versions_in, has_room_in, have_room_in, AllInOrder, AllBefore}
 
--- the versions of one key as they arrived, and how many more there is room for
-pub record Listed : Type 0 where
-  pub versions : List Version
-  pub room : ℕ
-
--- the listed keys, each with its versions
+-- the versions of the listed keys, how many more states there is room for, and for how many keys of the next one
 pub record Versions : Type 0 where
-  pub lists : List (List ℕ × Listed)
-
--- nothing is listed
-abbrev pub no_versions : Versions
-no_versions = record { lists = [] }
+  pub lists : Lists
+  pub states : ℕ
+  pub keys : ℕ
 
 abbrev pub listed_keys : Versions → List (List ℕ)
-listed_keys vs = map (λ l. l.0) vs.lists
-
--- what is listed for the key, if it is
-abbrev pub listed_of : Versions → List ℕ → Option Listed
-listed_of vs k = lookup (bytes_eq k) vs.lists
+listed_keys vs = keys_in vs.lists
 
 -- the versions of the key as they arrived; none where it isn't listed
 abbrev pub versions_of : Versions → List ℕ → List Version
-versions_of vs k = option_map_or (λ l. l.versions) (listed_of vs k) []
+versions_of vs k = versions_in vs.lists k
 
 -- the key is listed, with room for one more version
 abbrev pub has_room : Versions → List ℕ → Bool
-has_room vs k = option_map_or (λ l. nat_lt 0 l.room) (listed_of vs k) false
+has_room vs k = has_room_in vs.lists k
 
--- there is room for one more version of each key that is written
+-- there is room for one more state with these writes
 abbrev pub has_room_for : Versions → List KeyWrite → Bool
-has_room_for vs ws = list_all (λ w. has_room vs w.0) ws
-
--- the version that a state's write makes; none where the state doesn't write
-abbrev pub version_by : Slot → StateId → Option Write → List Version
-version_by slot writer None = []
-version_by slot writer (Some w) = record { slot = slot; writer = writer; write = w } ∷ []
-
--- each of these arrived before the state
-abbrev pub have_come_before : (Slot → ℕ) → Slot → List Version → Bool
-have_come_before arrival slot vs = list_all (λ v. nat_lt (arrival v.slot) (arrival slot)) vs
-
--- each of these is at a kept state, which arrived before those of all behind it
-abbrev pub are_in_order : (Slot → Bool) → (Slot → ℕ) → List Version → Bool
-are_in_order kept arrival [] = true
-are_in_order kept arrival (v ∷ vs) =
-    kept v.slot && list_all (λ w. nat_lt (arrival v.slot) (arrival w.slot)) vs && are_in_order kept arrival vs
+has_room_for vs ws = nat_lt 0 vs.states && nat_le (length ws) vs.keys && have_room_in vs.lists ws
 
 -- the versions of each key stand in order
 abbrev pub IsInOrder : (Slot → Bool) → (Slot → ℕ) → Versions → Type 0
-IsInOrder kept arrival vs = (k : List ℕ) → IsTrue (are_in_order kept arrival (versions_of vs k))
+IsInOrder kept arrival vs = AllInOrder kept arrival vs.lists
 
 -- every version arrived before the state
 abbrev pub IsBefore : (Slot → ℕ) → Slot → Versions → Type 0
-IsBefore arrival slot vs = (k : List ℕ) → IsTrue (have_come_before arrival slot (versions_of vs k))
+IsBefore arrival slot vs = AllBefore arrival slot vs.lists
+
+abbrev pub same_slot : Slot → Slot → Bool
+same_slot a b = a.0 == b.0
+
+-- one of these versions is at the state
+abbrev pub has_version_at : Slot → List Version → Bool
+has_version_at slot vs = list_any (λ v. same_slot v.slot slot) vs
+
+-- the keys noted for the state; none where none are
+abbrev pub keys_for : Slot → List (Slot × List (List ℕ)) → List (List ℕ)
+keys_for slot es = option_map_or (λ ks. ks) (lookup (same_slot slot) es) []
+
+-- for each state exactly the keys are noted that have a version there
+abbrev pub AreNoted : Lists → List (Slot × List (List ℕ)) → Type 0
+AreNoted ls es = (slot : Slot) (k : List ℕ) → is_key_among k (keys_for slot es) ≡ has_version_at slot (versions_in ls k)

@@ -2,7 +2,7 @@
 
 ghost use Rattle.std.specs.Prelude.{◌≡◌, ◌≤◌, ◌<◌, [], ◌∷◌, ◌++◌, IsTrue, IfOk, OnOk};
 ghost use Rattle.std.specs.Option.{option_copied};
-ghost use Rattle.version_list.specs.Versions.{are_in_order};
+ghost use Rattle.version_list.specs.Lists.{are_in_order};
 ghost use Rattle.version_list.specs.Reads.{latest_version, has_between};
 
 use std::alloc::Global;
@@ -27,7 +27,7 @@ pub(crate) struct History {
 impl Model for History {
     ghost use Rattle.std.specs.Prelude.{◌-◌, vec_len};
     ghost use Rattle.std.specs.Vec.{vec_capacity};
-    ghost use Rattle.version_list.specs.Versions.{Listed};
+    ghost use Rattle.version_list.specs.Lists.{Listed};
 
     ghost Value = { Listed };
 

@@ -2,6 +2,7 @@
 #![tactic(auto)]
 
 mod histories;
+mod key_lists;
 mod version_lists;
 
 pub use histories::Version;

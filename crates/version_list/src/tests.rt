@@ -86,5 +86,7 @@ fn branches_read_their_own(rt: HostRuntime) -> Result<(), Fail> {
     assert!(rt; list.touches(&Branches, Slot(3), Slot(2), &keys));
     assert!(rt; !list.touches(&Branches, Slot(3), Slot(1), &keys));
     assert_eq!(rt; list.keys(), 1);
+    assert_eq!(rt; list.keys_at(Slot(2)).len(), 1);
+    assert!(rt; list.keys_at(Slot(3)).is_empty());
     Ok(())
 }

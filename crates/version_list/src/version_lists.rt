@@ -3,38 +3,52 @@
 ghost use Rattle.std.specs.Prelude.{◌≡◌, ◌<◌, ◌++◌, ◌∷◌, [], ℕ, List, false, length, slice_get, bytes_eq, option_map, IsTrue, IfOk, OnOk};
 ghost use Rattle.std.specs.List.{list_any, IsDistinct};
 ghost use Rattle.tardis_base.specs.Keys.{is_key_among, has_key, write_of};
-ghost use Rattle.version_list.specs.Versions.{no_versions, listed_keys, listed_of, versions_of, has_room, has_room_for, version_by, IsInOrder, IsBefore};
+ghost use Rattle.version_list.specs.Versions.{listed_keys, versions_of, has_room_for, version_by, has_version_at, IsInOrder, IsBefore};
 ghost use Rattle.version_list.specs.Reads.{latest_version, has_between, written, found};
 
-use crate::histories::{self, History, Version};
+use crate::histories::Version;
+use crate::key_lists::KeyLists;
 use indexmap::IndexMap;
 use std::alloc::Global;
 use std::marker::Model;
-use tardis_base::{Above, Found, Key, KeySet, NoMemory, Slot, StateId, Write, WriteSet};
+use std::mem;
+use tardis_base::{Above, Found, Key, KeyList, KeySet, NoMemory, Slot, StateId, WriteSet};
 
 /// The versions of each key, with their states named by slots of one table.
 ///
 /// Keys are found by hashing with a fixed seed. Keys that were chosen to collide make a look-up walk all of them.
 #[derive(Drop)]
 pub struct VersionList {
-    lists: IndexMap<Key, History>,
+    lists: KeyLists,
+    /// The keys with a version at each state.
+    keys: IndexMap<Slot, KeyList>,
+    /// Room for the keys of the next state.
+    next: Vec<Key>,
 }
 
 impl Model for VersionList {
-    ghost use Rattle.version_list.specs.Versions.{Versions};
+    ghost use Rattle.std.specs.Prelude.{◌≡◌, []};
+    ghost use Rattle.std.specs.Vec.{vec_capacity};
+    ghost use Rattle.indexmap.specs.IndexMap.{spare};
+    ghost use Rattle.version_list.specs.Versions.{Versions, AreNoted};
 
     ghost Value = { Versions };
 
-    ghost view = { λ s. record { lists = s.lists.entries } };
+    ghost view = { λ s. record { lists = s.lists; states = spare s.keys; keys = vec_capacity s.next } };
+
+    ghost invariant = { λ s. (s.next.items ≡ []) × AreNoted s.lists s.keys.entries };
 }
 
 impl VersionList {
     /// No versions. It takes no memory.
     pub fn new(alloc: Global) -> VersionList
-        ensures { result ≡ no_versions }
+        ensures empty { (k : List ℕ) → versions_of result k ≡ [] }
+        ensures keys { listed_keys result ≡ [] }
     {
         VersionList {
-            lists: IndexMap::new(alloc),
+            lists: KeyLists::new(alloc),
+            keys: IndexMap::new(alloc),
+            next: Vec::new(alloc),
         }
     }
 
@@ -42,10 +56,7 @@ impl VersionList {
     pub fn versions(&self, key: &Key) -> &[Version]
         ensures { result.now ≡ versions_of self.now key.now }
     {
-        match self.lists.get(key) {
-            Some(history) => history.as_slice(),
-            None => &[],
-        }
+        self.lists.versions(key)
     }
 
     /// Makes room for one more version of each of these keys, and answers an equal copy of the writes.
@@ -56,38 +67,9 @@ impl VersionList {
         ensures room { OnOk result (IsTrue (has_room_for self.new writes.now)) }
         ensures same { (k : List ℕ) → versions_of self.new k ≡ versions_of self.old k }
     {
-        let copy = writes.copy()?;
-        for (key, _) in writes.as_slice() {
-            self.reserve_key(key)?;
-        }
-        Ok(copy)
-    }
-
-    /// Makes room for one more version of the key.
-    fn reserve_key(&mut self, key: &Key) -> Result<(), NoMemory>
-        ensures room { OnOk result (IsTrue (has_room self.new key.now)) }
-        ensures same { (k : List ℕ) → versions_of self.new k ≡ versions_of self.old k }
-        ensures kept { (k : List ℕ) → IsTrue (has_room self.old k) → IsTrue (has_room self.new k) }
-    {
-        if let Some(history) = self.lists.get_mut(key) {
-            return history.reserve();
-        }
-        let history = History::new(*self.lists.allocator())?;
-        self.lists.insert(key.copy()?, history)?;
-        Ok(())
-    }
-
-    /// Puts the version at the end of the key's list.
-    fn add_version(&mut self, key: &Key, version: Version)
-        requires { IsTrue (has_room self.old key.now) }
-        ensures added { versions_of self.new key.now ≡ versions_of self.old key.now ++ version ∷ [] }
-        ensures others { (k : List ℕ) → bytes_eq key.now k ≡ false → listed_of self.new k ≡ listed_of self.old k }
-        ensures keys { listed_keys self.new ≡ listed_keys self.old }
-    {
-        match self.lists.get_mut(key) {
-            Some(history) => history.add(version),
-            None => unreachable!(),
-        }
+        self.keys.reserve(1)?;
+        self.next.reserve(writes.len())?;
+        self.lists.reserve(writes)
     }
 
     /// Adds what the state of this slot wrote, which is read from there on. It takes no memory, and uses up the room for these keys.
@@ -100,14 +82,12 @@ impl VersionList {
         ensures keys { listed_keys self.new ≡ listed_keys self.old }
         ensures order { IsInOrder (A.is_kept dag.now) (A.arrival_of dag.now) self.new }
     {
-        let mut rest = writes.into_vec();
-        while let Some((key, write)) = rest.pop() {
-            let version = Version {
-                slot,
-                writer,
-                write,
-            };
-            self.add_version(&key, version);
+        self.lists.add(dag, slot, writer, writes, &mut self.next);
+        let alloc = *self.next.allocator();
+        let keys = mem::replace(&mut self.next, Vec::new(alloc));
+        match self.keys.insert(slot, KeyList::from_vec(keys)) {
+            Ok(_) => {},
+            Err(_) => unreachable!(),
         }
     }
 
@@ -119,18 +99,7 @@ impl VersionList {
         requires kept { IsTrue (A.is_kept dag.now at) }
         ensures { found result ≡ option_map written (latest_version (A.is_above dag.now) (A.arrival_of dag.now) (versions_of self.now key.now) at) }
     {
-        match histories::latest(dag, self.versions(key), at) {
-            Some(version) => match &version.write {
-                Write::Put(value) => Found::Value {
-                    writer: version.writer,
-                    value,
-                },
-                Write::Delete => Found::Deleted {
-                    writer: version.writer,
-                },
-            },
-            None => Found::Absent,
-        }
+        self.lists.latest(dag, key, at)
     }
 
     /// The state whose version `latest` finds; None exactly where it finds none.
@@ -139,10 +108,7 @@ impl VersionList {
         requires kept { IsTrue (A.is_kept dag.now at) }
         ensures { result ≡ option_map (λ v. v.slot) (latest_version (A.is_above dag.now) (A.arrival_of dag.now) (versions_of self.now key.now) at) }
     {
-        match histories::latest(dag, self.versions(key), at) {
-            Some(version) => Some(version.slot),
-            None => None,
-        }
+        self.lists.holder(dag, key, at)
     }
 
     /// Whether one of the keys has a version at or above the one state and not at or above the other.
@@ -154,12 +120,7 @@ impl VersionList {
         requires second { IsTrue (A.is_kept dag.now not_above) }
         ensures { result ≡ list_any (λ k. has_between (A.is_above dag.now) (versions_of self.now k) above not_above) keys.now }
     {
-        for key in keys.as_slice() {
-            if histories::has_news(dag, self.versions(key), above, not_above) {
-                return true;
-            }
-        }
-        false
+        self.lists.touches(dag, above, not_above, keys)
     }
 
     /// How many keys are listed.
@@ -168,7 +129,7 @@ impl VersionList {
         ensures distinct { IsDistinct bytes_eq (listed_keys self.now) }
         ensures listed { (k : List ℕ) → is_key_among k (listed_keys self.now) ≡ false → versions_of self.now k ≡ [] }
     {
-        self.lists.len()
+        self.lists.keys()
     }
 
     /// The listed key at this place, counted from 0.
@@ -176,9 +137,16 @@ impl VersionList {
         requires { place < length (listed_keys self.now) }
         ensures { slice_get (listed_keys self.now) place ≡ Some result.now }
     {
-        match self.lists.get_index(place) {
-            Some((key, _)) => key,
-            None => unreachable!(),
+        self.lists.key_at(place)
+    }
+
+    /// The keys with a version at this state.
+    pub fn keys_at(&self, slot: Slot) -> &[Key]
+        ensures { (k : List ℕ) → is_key_among k result.now ≡ has_version_at slot (versions_of self.now k) }
+    {
+        match self.keys.get(&slot) {
+            Some(keys) => keys.as_slice(),
+            None => &[],
         }
     }
 }

@@ -1,6 +1,6 @@
 //! Writers of a code and the fields behind it, for those fields that several requests, refusals and replies have.
 
-ghost use Rattle.std.specs.Prelude.{◌≡◌, ◌+◌, ◌≤◌, [], ◌∷◌, ◌++◌, length};
+ghost use Rattle.std.specs.Prelude.{◌≡◌, ◌+◌, ◌≤◌, ◌∷◌, ◌++◌, length};
 ghost use Rattle.wire_item.specs.Spellings.{id_spelling, key_spelling, u16_spelling, u32_spelling};
 
 use tardis_base::{Key, ReplyBuf, StateId};

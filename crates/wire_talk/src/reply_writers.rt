@@ -1,6 +1,6 @@
 //! The writer of replies. It takes no memory.
 
-ghost use Rattle.std.specs.Prelude.{◌≡◌, ◌+◌, ◌≤◌, [], ◌∷◌, ◌++◌, length, flat_map, IsTrue};
+ghost use Rattle.std.specs.Prelude.{◌≡◌, ◌+◌, ◌≤◌, ◌∷◌, ◌++◌, length, flat_map, IsTrue};
 ghost use Rattle.wire_item.specs.Spellings.{batch_spelling, id_spelling, key_spelling, parents_spelling, u16_spelling, u32_spelling, u64_spelling};
 ghost use Rattle.wire_item.specs.Valid.{is_batch};
 ghost use Rattle.tardis_base.specs.Valid.{are_parents};

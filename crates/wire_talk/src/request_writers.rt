@@ -1,6 +1,6 @@
 //! The writer of requests. It takes no memory.
 
-ghost use Rattle.std.specs.Prelude.{◌≡◌, ◌+◌, ◌≤◌, [], ◌∷◌, ◌++◌, length, flat_map, IsTrue};
+ghost use Rattle.std.specs.Prelude.{◌≡◌, ◌+◌, ◌≤◌, ◌∷◌, ◌++◌, length, flat_map, IsTrue};
 ghost use Rattle.wire_item.specs.Spellings.{id_spelling, item_spelling, key_spelling, u16_spelling, u32_spelling, value_spelling};
 ghost use Rattle.wire_item.specs.Valid.{is_item};
 ghost use Rattle.wire_talk.specs.Spellings.{after_spelling, begin_spelling, counts_spelling, flag_spelling, merge_of_spelling, request_spelling};

@@ -9,4 +9,4 @@ write_key-requires c =
     let keys = c.as_slice-key-items.result.now in
     let key = c.key-item.result in
     let room = subst (λ xs. length c.args.out.now + length (flat_map key_spelling xs) ≤ 1048576) (sym c.as_slice-key-items.ensures) c.requires.fits in
-    record { fits = each-room key_spelling keys c.loop-key.key-index key key c.args.out.now c.loop-key.out c.loop-key-test.true c.loop-key.invariant c.key-item.is room }
+    each-room key_spelling keys c.loop-key.key-index key key c.args.out.now c.loop-key.out c.loop-key-test.true c.loop-key.invariant c.key-item.is room

@@ -9,4 +9,4 @@ write_u32-requires c =
     let counts = c.as_slice-count-items.result.now in
     let index = c.loop-count.count-index in
     let room = subst (λ xs. length c.args.out.now + length (flat_map u32_spelling xs) ≤ 1048576) (sym c.as_slice-count-items.ensures) c.requires.fits in
-    record { fits = each-room u32_spelling counts index 0 (get_or counts index 0) c.args.out.now c.loop-count.out c.loop-count-test.true c.loop-count.invariant refl room }
+    each-room u32_spelling counts index 0 (get_or counts index 0) c.args.out.now c.loop-count.out c.loop-count-test.true c.loop-count.invariant refl room

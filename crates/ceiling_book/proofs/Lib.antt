@@ -1,0 +1,4 @@
+-- Lemmas on the book of ceilings.
+pub mod Entries
+pub mod Keeping
+pub mod Growth

@@ -1,0 +1,3 @@
+-- Lemmas on ascending pairs.
+pub mod PairOrder
+pub mod PairSets

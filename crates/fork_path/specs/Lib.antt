@@ -1,0 +1,2 @@
+-- What the lists of branches of forks are.
+pub mod Pairs

@@ -1,0 +1,114 @@
+-- What the calls read off the memory.
+use Rattle.std.proofs.Common.{◌≡◌, ℕ, ◌+◌, ◌-◌, ◌<◌, ◌≤◌, true, false, eqb, List, [], ◌∷◌, ◌++◌, length, map, find, get_or, slice_get, Option, Some, None, is_some, IsTrue, IfSome, refl, sym, ap, subst, ◌∙◌, arith, length-append}
+use Rattle.std.specs.Option.{option_map}
+use Rattle.std.proofs.lemmas.Bool.{and_from, both_ways, false_from_ne_true}
+use Rattle.std.proofs.lemmas.Option.{none-some}
+use Rattle.std.proofs.lemmas.List.{length-map}
+use Rattle.std.proofs.lemmas.List.FromFn.{get_or-map-range_with_len}
+use Rattle.tardis_base.specs.declared.ids.StateId.{StateId}
+use Rattle.tardis_base.specs.declared.ids.Slot.{Slot}
+use Rattle.tardis_base.specs.declared.records.Record.{Record}
+use Rattle.tardis_base.specs.Ids.{is_among}
+use Rattle.plain_dag.specs.States.{count_of_site}
+use Rattle.plain_dag.specs.Begin.{last_arrived}
+use Rattle.plain_dag.specs.Collection.{is_kept, kept_states}
+use Rattle.state_dag.specs.declared.StateDag.TheInside.{Inside}
+use Rattle.state_dag.specs.declared.nodes.Node.{Node}
+use Rattle.state_dag.specs.Table.{Entry, Table, entry_at, id_at, is_slot, arrive_in_order, is_kept_at}
+use Rattle.state_dag.specs.Views.{entries_from, place_of_id}
+use Rattle.state_dag.specs.Held.{seen}
+use Rattle.state_dag.specs.Stands.{Stands}
+use Rattle.state_dag.specs.Answers.{next_of, slot_after}
+use Rattle.state_dag.proofs.Places.{ids_from, AllDiffer, find-beyond, length-ids, named-at, place-found, place-missing, find-some, next-named}
+use Rattle.state_dag.proofs.Known.{kept-is_listed, kept-differ, last-kept}
+
+-- ===== Numbers
+
+pub counted : (table : Table) (rs : List Record) (ks : List StateId) → Stands table rs ks → (site : ℕ) (counts : List ℕ) (d : ℕ) → counts ≡ table.counts → 1 ≤ site → site ≤ table.limits.sites →
+    get_or counts (site - 1) d ≡ count_of_site rs site
+counted table rs ks stands site counts d same some within =
+    ap (λ ns. get_or ns (site - 1) d) (same ∙ stands.counts)
+    ∙ get_or-map-range_with_len (count_of_site rs) 1 table.limits.sites (site - 1) site d (omega arith) (omega arith)
+
+pub entries-kept : (table : Table) (rs : List Record) (ks : List StateId) → Stands table rs ks → length table.entries ≡ length (kept_states rs ks)
+entries-kept table rs ks stands = sym (length-map table.entries (λ e. e.id)) ∙ ap length stands.ids
+
+-- ===== Slots
+
+-- each place is a slot
+pub slot-of_place : (a : Inside) (k : ℕ) → k < length a.nodes.items → is_slot (seen a) (record { 0 = k }) ≡ true
+slot-of_place a k lt = find-some a.nodes.items 0 k (omega arith) (omega arith)
+
+pub last-named : (a : Inside) (table : Table) (rs : List Record) (ks : List StateId) (n : ℕ) → seen a ≡ table → Stands table rs ks → n ≡ length a.nodes.items → id_at table (record { 0 = n - 1 }) ≡ Some (last_arrived rs)
+last-named a table rs ks n is stands len =
+    let w = last-kept rs ks stands.dag stands.shared in
+    let ids : ids_from 0 a.nodes.items ≡ w.0 ++ last_arrived rs ∷ [] = ap (λ (t : Table). map (λ (e : Entry). e.id) t.entries) is ∙ stands.ids ∙ w.1 in
+    let all = length-ids a.nodes.items 0 in
+    let same = ap length ids in
+    let parts = length-append w.0 (last_arrived rs ∷ []) in
+    let place : 0 + length w.0 ≡ n - 1 = omega arith in
+    subst (λ t. id_at t (record { 0 = n - 1 }) ≡ Some (last_arrived rs)) is
+    (subst (λ k. option_map (λ (e : Entry). e.id) (find (λ (e : Entry). eqb e.slot.0 k) (entries_from 0 a.nodes.items)) ≡ Some (last_arrived rs)) place
+    (named-at a.nodes.items 0 w.0 [] (last_arrived rs) ids))
+
+-- ===== Searches
+
+pub searched-names : (a : Inside) (table : Table) (x : StateId) (o : Option Slot) → seen a ≡ table → o ≡ place_of_id 0 a.nodes.items x → IfSome o (λ slot. id_at table slot ≡ Some x)
+searched-names a table x None is e = tt
+searched-names a table x (Some s) is e = subst (λ t. id_at t s ≡ Some x) is (place-found a.nodes.items 0 x s (sym e)).1
+
+named-is_slot : (table : Table) (s : Slot) (x : StateId) → id_at table s ≡ Some x → is_slot table s ≡ true
+named-is_slot table s x h = go (entry_at table s) h
+  where
+    go : (o : Option Entry) → option_map (λ e. e.id) o ≡ Some x → is_some o ≡ true
+    go None e = absurd (none-some x e)
+    go (Some e) _ = refl
+
+pub searched-is_kept : (a : Inside) (table : Table) (x : StateId) (o : Option Slot) → seen a ≡ table → IsTrue (arrive_in_order (entries_from 0 a.nodes.items)) → o ≡ place_of_id 0 a.nodes.items x →
+    IfSome o (λ slot. IsTrue (is_kept_at table slot))
+searched-is_kept a table x None is up e = tt
+searched-is_kept a table x (Some s) is up e =
+    and_from (is_slot table s) (arrive_in_order table.entries)
+    (named-is_slot table s x (subst (λ t. id_at t s ≡ Some x) is (place-found a.nodes.items 0 x s (sym e)).1))
+    (subst (λ t. arrive_in_order t.entries ≡ true) is up)
+
+pub searched-none : (a : Inside) (table : Table) (rs : List Record) (ks : List StateId) (x : StateId) (o : Option Slot) → seen a ≡ table → Stands table rs ks → o ≡ place_of_id 0 a.nodes.items x → ◌≡◌ {A = Option Slot} o None →
+    is_kept rs ks x ≡ false
+searched-none a table rs ks x o is stands e none =
+    let ids : ids_from 0 a.nodes.items ≡ kept_states rs ks = ap (λ (t : Table). map (λ (f : Entry). f.id) t.entries) is ∙ stands.ids in
+    false_from_ne_true (is_kept rs ks x) (λ h.
+    both_ways (is_among x (kept_states rs ks)) (subst (λ xs. is_among x xs ≡ false) ids (place-missing a.nodes.items 0 x (sym e ∙ none))) (kept-is_listed rs ks x h))
+
+-- ===== The next slot
+
+pub first-slot : (a : Inside) → 0 < length a.nodes.items → Some (record { 0 = 0 }) ≡ slot_after (entries_from 0 a.nodes.items) None
+first-slot a some = go a.nodes.items some
+  where
+    go : (ns : List Node) → 0 < length ns → Some (record { 0 = 0 }) ≡ slot_after (entries_from 0 ns) None
+    go [] lt = absurd (omega arith)
+    go (n ∷ ns) lt = refl
+
+-- the first slot names the first kept state
+pub first-is_next : (a : Inside) (table : Table) (rs : List Record) (ks : List StateId) → seen a ≡ table → 0 < length a.nodes.items → Stands table rs ks → id_at table (record { 0 = 0 }) ≡ next_of (kept_states rs ks) None
+first-is_next a table rs ks is some stands =
+    let ids : ids_from 0 a.nodes.items ≡ kept_states rs ks = ap (λ (t : Table). map (λ (f : Entry). f.id) t.entries) is ∙ stands.ids in
+    subst (λ t. id_at t (record { 0 = 0 }) ≡ next_of (kept_states rs ks) None) is (go a.nodes.items some ∙ ap (λ xs. slice_get xs 0) ids)
+  where
+    go : (ns : List Node) → 0 < length ns → option_map (λ e. e.id) (find (λ e. eqb e.slot.0 0) (entries_from 0 ns)) ≡ slice_get (ids_from 0 ns) 0
+    go [] lt = absurd (omega arith)
+    go (n ∷ ns) lt = refl
+
+-- behind a slot the next one names the next kept state
+pub next-is_next : (a : Inside) (table : Table) (rs : List Record) (ks : List StateId) (k : ℕ) (x : StateId) → seen a ≡ table → Stands table rs ks → id_at table (record { 0 = k }) ≡ Some x →
+    id_at table (record { 0 = k + 1 }) ≡ next_of (kept_states rs ks) (Some x)
+next-is_next a table rs ks k x is stands named =
+    let ids : ids_from 0 a.nodes.items ≡ kept_states rs ks = ap (λ (t : Table). map (λ (f : Entry). f.id) t.entries) is ∙ stands.ids in
+    let differ = subst AllDiffer (sym ids) (kept-differ rs ks stands.dag) in
+    let here = subst (λ t. id_at t (record { 0 = k }) ≡ Some x) (sym is) named in
+    subst (λ t. id_at t (record { 0 = k + 1 }) ≡ next_of (kept_states rs ks) (Some x)) is
+    (sym (next-named a.nodes.items 0 k x differ here) ∙ ap (λ xs. next_of xs (Some x)) ids)
+
+-- beyond the last slot nothing is named
+pub beyond-is_none : (a : Inside) (table : Table) (k : ℕ) → seen a ≡ table → length a.nodes.items ≤ k → ◌≡◌ {A = Option StateId} (id_at table (record { 0 = k })) None
+beyond-is_none a table k is le =
+    subst (λ t. ◌≡◌ {A = Option StateId} (id_at t (record { 0 = k })) None) is (ap (option_map (λ (e : Entry). e.id)) (find-beyond a.nodes.items 0 k (omega arith)))

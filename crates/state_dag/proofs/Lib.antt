@@ -1,0 +1,6 @@
+-- Lemmas on the table of states.
+pub mod Places
+pub mod Known
+pub mod Standing
+pub mod Calls
+pub mod Opening

@@ -1,0 +1,36 @@
+-- How the table reads its memory.
+use Rattle.std.specs.Prelude.{ℕ, ◌+◌, List, [], ◌∷◌, Option, Some, None, if◌then◌else◌}
+use Rattle.tardis_base.specs.declared.ids.StateId.{StateId}
+use Rattle.tardis_base.specs.declared.ids.Slot.{Slot}
+use Rattle.tardis_base.specs.Ids.{same_id}
+use Rattle.state_dag.specs.declared.nodes.Node.{Node}
+use Rattle.state_dag.specs.Table.{Entry}
+
+-- the entry of the node at this place
+abbrev pub entry_of : ℕ → Node → Entry
+entry_of place node = record {
+  slot = record { 0 = place };
+  id = node.id;
+  arrival = node.arrival;
+  parents = node.parents.items;
+  children = node.children.items;
+  stand_ins = node.stand_ins.items;
+  path = node.path.pairs;
+}
+
+-- the entries of the nodes from this place on
+abbrev pub entries_from : ℕ → List Node → List Entry
+entries_from place [] = []
+entries_from place (node ∷ nodes) = entry_of place node ∷ entries_from (place + 1) nodes
+
+-- the one slot, or else the other
+abbrev pub slot_or : Option Slot → Option Slot → Option Slot
+slot_or (Some slot) other = Some slot
+slot_or None other = other
+
+-- the last place, from this one on, of the state
+abbrev pub place_of_id : ℕ → List Node → StateId → Option Slot
+place_of_id place [] x = None
+place_of_id place (node ∷ nodes) x =
+    let later = place_of_id (place + 1) nodes x in
+    slot_or later (if same_id x node.id then Some (record { 0 = place }) else None)

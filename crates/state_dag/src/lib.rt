@@ -1,0 +1,248 @@
+//! The table of states: their order by arrival numbers and fork paths.
+#![tactic(auto)]
+
+ghost use Rattle.std.specs.Prelude.{◌≡◌, ℕ, ◌+◌, ◌≤◌, ◌<◌, false, Some, None, List, [], ◌∷◌, length, map, IsTrue, IfOk, IfSome, OnErr};
+ghost use Rattle.std.specs.Option.{option_and_then};
+ghost use Rattle.tardis_base.specs.declared.ids.StateId.{StateId};
+ghost use Rattle.tardis_base.specs.declared.ids.Slot.{Slot};
+ghost use Rattle.tardis_base.specs.declared.records.Record.{Record};
+ghost use Rattle.tardis_base.specs.Valid.{are_limits};
+ghost use Rattle.plain_dag.specs.States.{root_record, is_known, parents_of, arrival, children, count_of_site};
+ghost use Rattle.plain_dag.specs.Above.{is_above};
+ghost use Rattle.plain_dag.specs.Forks.{leaves};
+ghost use Rattle.plain_dag.specs.Begin.{last_arrived};
+ghost use Rattle.plain_dag.specs.Collection.{is_kept, kept_states, stand_in};
+ghost use Rattle.state_dag.specs.Table.{entry_at, id_at, is_slot, is_kept_at, arrival_at, is_slot_above};
+ghost use Rattle.state_dag.specs.Views.{entry_of};
+ghost use Rattle.state_dag.specs.Stands.{Stands};
+ghost use Rattle.state_dag.specs.Answers.{next_of, slot_after};
+
+mod nodes;
+mod slots;
+
+use nodes::{Node, ROOT, is_node_above, root_node};
+use slots::slot_in;
+use std::alloc::Global;
+use std::collections::BTreeMap;
+use std::marker::Model;
+use tardis_base::{Above, Limits, NoMemory, Slot, StateId};
+
+/// The states of one site, by the slots in which the kept ones stand.
+///
+/// A slot is a place in this table alone. It says nothing of arrival.
+#[derive(Drop)]
+pub struct StateDag {
+    limits: Limits,
+    counts: Vec<u32>,
+    known: u64,
+    leaves: u32,
+    nodes: Vec<Node>,
+    slots: BTreeMap<StateId, Slot>,
+}
+
+impl Model for StateDag {
+    ghost use Rattle.state_dag.specs.Table.{Table};
+
+    ghost Value = { Table };
+
+    ghost use Rattle.state_dag.specs.Held.{seen, IsHeld};
+
+    ghost view = { seen };
+
+    ghost invariant = { IsHeld };
+}
+
+impl StateDag {
+    /// The root alone.
+    pub fn new(alloc: Global, limits: &Limits) -> Result<StateDag, NoMemory>
+        requires { IsTrue (are_limits limits.now) }
+        ensures stands { IfOk result (λ table. Stands table (root_record ∷ []) []) }
+        ensures limits { IfOk result (λ table. table.limits ≡ limits.now) }
+    {
+        let counts = vec![in alloc; 0u32; limits.sites as usize]?;
+        let mut nodes = Vec::new(alloc);
+        nodes.push(root_node(alloc))?;
+        let mut slots = BTreeMap::new(alloc);
+        slots.insert(ROOT, Slot(0))?;
+        Ok(StateDag {
+            limits: *limits,
+            counts,
+            known: 1,
+            leaves: 1,
+            nodes,
+            slots,
+        })
+    }
+
+    pub fn limits(&self) -> &Limits
+        ensures { result.now ≡ self.now.limits }
+    {
+        &self.limits
+    }
+
+    /// Whether the state arrived, collected or not.
+    pub fn knows(&self, id: StateId) -> bool
+        ensures { (rs : List Record) (ks : List StateId) → Stands self.now rs ks → result ≡ is_known rs id }
+    {
+        if id.site == 0 {
+            return id.sequence == 0;
+        }
+        if id.site > self.limits.sites || id.sequence == 0 {
+            return false;
+        }
+        id.sequence <= self.counts[id.site as usize - 1]
+    }
+
+    /// The slot of the state, if it is kept. The cost grows with the logarithm of the number of kept states.
+    pub fn slot_of(&self, id: StateId) -> Option<Slot>
+        ensures found { IfSome result (λ slot. id_at self.now slot ≡ Some id) }
+        ensures kept { IfSome result (λ slot. IsTrue (is_kept_at self.now slot)) }
+        ensures none { result ≡ None → (rs : List Record) (ks : List StateId) → Stands self.now rs ks → is_kept rs ks id ≡ false }
+    {
+        slot_in(&self.slots, id)
+    }
+
+    /// Which state is kept at the slot.
+    pub fn id_of(&self, slot: Slot) -> StateId
+        requires { IsTrue (is_slot self.now slot) }
+        ensures is { id_at self.now slot ≡ Some result }
+        ensures kept { IsTrue (is_kept_at self.now slot) }
+        ensures known { (rs : List Record) (ks : List StateId) → Stands self.now rs ks → IsTrue (is_kept rs ks result) }
+    {
+        self.node(slot).id
+    }
+
+    /// How many states of the site arrived.
+    pub fn count(&self, site: u16) -> u32
+        requires first { 1 ≤ site }
+        requires last { site ≤ self.now.limits.sites }
+        ensures { (rs : List Record) (ks : List StateId) → Stands self.now rs ks → result ≡ count_of_site rs site }
+    {
+        self.counts[site as usize - 1]
+    }
+
+    /// How many states arrived, the root among them.
+    pub fn known(&self) -> u64
+        ensures { (rs : List Record) (ks : List StateId) → Stands self.now rs ks → result ≡ length rs }
+    {
+        self.known
+    }
+
+    /// How many states are kept.
+    pub fn kept(&self) -> u32
+        ensures { (rs : List Record) (ks : List StateId) → Stands self.now rs ks → result ≡ length (kept_states rs ks) }
+    {
+        self.nodes.len() as u32
+    }
+
+    /// How many states have no child.
+    pub fn leaves(&self) -> u32
+        ensures { (rs : List Record) (ks : List StateId) → Stands self.now rs ks → result ≡ length (leaves rs) }
+    {
+        self.leaves
+    }
+
+    /// The slot of the state that arrived last.
+    pub fn last(&self) -> Slot
+        ensures slot { IsTrue (is_slot self.now result) }
+        ensures last { (rs : List Record) (ks : List StateId) → Stands self.now rs ks → id_at self.now result ≡ Some (last_arrived rs) }
+    {
+        Slot((self.nodes.len() - 1) as u32)
+    }
+
+    /// How many states had arrived before the one at the slot.
+    pub fn arrival(&self, slot: Slot) -> u64
+        requires { IsTrue (is_slot self.now slot) }
+        ensures is { result ≡ arrival_at self.now slot }
+        ensures arrival { (rs : List Record) (ks : List StateId) → Stands self.now rs ks → (x : StateId) → id_at self.now slot ≡ Some x → result ≡ arrival rs x }
+    {
+        self.node(slot).arrival
+    }
+
+    /// Whether the state of `a` is that of `b` or one of its ancestors.
+    ///
+    /// The cost grows with the lengths of the two fork paths.
+    pub fn is_ancestor(&self, a: Slot, b: Slot) -> bool
+        requires first { IsTrue (is_slot self.now a) }
+        requires second { IsTrue (is_slot self.now b) }
+        ensures is { result ≡ is_slot_above self.now a b }
+        ensures above { (rs : List Record) (ks : List StateId) → Stands self.now rs ks → (x y : StateId) → id_at self.now a ≡ Some x → id_at self.now b ≡ Some y → result ≡ is_above rs x y }
+    {
+        is_node_above(self.node(a), self.node(b))
+    }
+
+    /// All children of the state at the slot, in arrival order, collected ones too.
+    pub fn children(&self, slot: Slot) -> &[StateId]
+        requires { IsTrue (is_slot self.now slot) }
+        ensures { (rs : List Record) (ks : List StateId) → Stands self.now rs ks → (x : StateId) → id_at self.now slot ≡ Some x → result.now ≡ children rs x }
+    {
+        self.node(slot).children.as_slice()
+    }
+
+    /// The slots in which the children of the state at the slot stand, in the order of `children`: of a kept child its own,
+    /// of a collected one that of the state that stands in for it.
+    pub fn child_slots(&self, slot: Slot) -> &[Slot]
+        requires { IsTrue (is_slot self.now slot) }
+        ensures { (rs : List Record) (ks : List StateId) → Stands self.now rs ks → (x : StateId) → id_at self.now slot ≡ Some x → map (id_at self.now) result.now ≡ map (λ c. Some (stand_in rs ks c)) (children rs x) }
+    {
+        self.node(slot).stand_ins.as_slice()
+    }
+
+    /// The parents that the record of the state at the slot names.
+    pub fn parents(&self, slot: Slot) -> &[StateId]
+        requires { IsTrue (is_slot self.now slot) }
+        ensures { (rs : List Record) (ks : List StateId) → Stands self.now rs ks → (x : StateId) → id_at self.now slot ≡ Some x → result.now ≡ parents_of rs x }
+    {
+        self.node(slot).parents.as_slice()
+    }
+
+    /// The slot of the kept state that arrived next after the one at this slot, or first of all; None at the end.
+    pub fn kept_after(&self, slot: Option<Slot>) -> Option<Slot>
+        requires { IfSome slot (λ s. IsTrue (is_slot self.now s)) }
+        ensures slots { IfSome result (λ s. IsTrue (is_slot self.now s)) }
+        ensures is { result ≡ slot_after self.now.entries slot }
+        ensures first { slot ≡ None → (rs : List Record) (ks : List StateId) → Stands self.now rs ks → option_and_then (id_at self.now) result ≡ next_of (kept_states rs ks) None }
+        ensures next { (rs : List Record) (ks : List StateId) → Stands self.now rs ks → (s : Slot) (x : StateId) → slot ≡ Some s → id_at self.now s ≡ Some x → option_and_then (id_at self.now) result ≡ next_of (kept_states rs ks) (Some x) }
+    {
+        let count = self.nodes.len();
+        match slot {
+            None => Some(Slot(0)),
+            Some(slot) => {
+                if (slot.0 as usize) + 1 < count {
+                    Some(Slot(slot.0 + 1))
+                } else {
+                    None
+                }
+            },
+        }
+    }
+
+    fn node(&self, slot: Slot) -> &Node
+        requires { IsTrue (is_slot self.now slot) }
+        ensures entry { entry_at self.now slot ≡ Some (entry_of slot.0 result.now) }
+        ensures kept { IsTrue (is_kept_at self.now slot) }
+    {
+        &self.nodes[slot.0 as usize]
+    }
+}
+
+impl Above for StateDag {
+    ghost use Rattle.state_dag.specs.Table.{is_kept_at, arrival_at, is_slot_above};
+    ghost use Rattle.state_dag.specs.Orders.{arrivals-differ};
+
+    ghost is_kept = { is_kept_at };
+
+    ghost is_above = { is_slot_above };
+
+    ghost arrival_of = { arrival_at };
+
+    ghost arrivals_differ = { arrivals-differ };
+
+    fn above(&self, a: Slot, b: Slot) -> bool {
+        self.is_ancestor(a, b)
+    }
+
+    fn arrival(&self, slot: Slot) -> u64 {
+        self.node(slot).arrival
+    }
+}

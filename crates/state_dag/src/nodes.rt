@@ -1,0 +1,53 @@
+//! The kept states of a table, each in its place.
+
+ghost use Rattle.std.specs.Prelude.{◌≡◌, ℕ, [], IfOk};
+ghost use Rattle.tardis_base.specs.Ids.{root};
+ghost use Rattle.state_dag.specs.Table.{is_entry_above};
+ghost use Rattle.state_dag.specs.Views.{entry_of};
+
+use fork_path::ForkPath;
+use std::alloc::Global;
+use tardis_base::{Slot, StateId};
+
+/// The state from which all others descend.
+pub const ROOT: StateId = StateId {
+    site: 0,
+    sequence: 0,
+};
+
+/// A kept state.
+#[derive(Drop)]
+pub struct Node {
+    pub id: StateId,
+    pub arrival: u64,
+    pub parents: Vec<StateId>,
+    pub children: Vec<StateId>,
+    pub stand_ins: Vec<Slot>,
+    pub path: ForkPath,
+}
+
+/// The root, before it has a child.
+pub fn root_node(alloc: Global) -> Node
+    ensures id { result.id ≡ root }
+    ensures arrival { result.arrival ≡ 0 }
+    ensures parents { result.parents.items ≡ [] }
+    ensures children { result.children.items ≡ [] }
+    ensures stand_ins { result.stand_ins.items ≡ [] }
+    ensures path { result.path.pairs ≡ [] }
+{
+    Node {
+        id: ROOT,
+        arrival: 0,
+        parents: Vec::new(alloc),
+        children: Vec::new(alloc),
+        stand_ins: Vec::new(alloc),
+        path: ForkPath::new(alloc),
+    }
+}
+
+/// Whether the state of `a` is that of `b` or one of its ancestors.
+pub fn is_node_above(a: &Node, b: &Node) -> bool
+    ensures { (p q : ℕ) → result ≡ is_entry_above (entry_of p a.now) (entry_of q b.now) }
+{
+    a.arrival <= b.arrival && b.path.includes(&a.path)
+}
