@@ -1,15 +1,15 @@
 -- What an arm of a code gives, where its fields are read.
-use Rattle.std.proofs.Common.{◌≡◌, ℕ, Bool, true, false, ◌==◌, ◌&&◌, ◌≤◌, IsTrue, List, [], ◌∷◌, nat_lt, Option, Some, None, if◌then◌else◌, ap, sym, ◌∙◌, subst, refl, arith, ne_eqb, ltb-true}
+use Rattle.std.proofs.Common.{◌≡◌, ℕ, false, ◌==◌, ◌≤◌, IsTrue, List, [], ◌∷◌, nat_lt, Option, Some, None, if◌then◌else◌, ap, ◌∙◌, refl, arith, ne_eqb, ltb-true}
 use Rattle.std.proofs.lemmas.Bool.{and_parts}
 use Rattle.std.specs.List.{list_all}
-use Rattle.std.specs.Prelude.{Result, Ok, Err, IfOk}
+use Rattle.std.specs.Prelude.{Result, Ok, IfOk}
 use Rattle.tardis_base.specs.declared.faults.NoMemory.{NoMemory}
 use Rattle.wire_item.specs.Fronts.{Front, made, front_of_code, by_code}
 use Rattle.wire_item.specs.Readings.{u8_front}
 use Rattle.wire_item.specs.Takings.{Takes, Makes}
 use Rattle.wire_item.proofs.Fronts.{made-read}
-use Rattle.wire_item.proofs.Takings.{taken, untaken, making, unmade, makes, makes-none, made-none}
-use Rattle.wire_item.proofs.Codes.{code-read, code-none}
+use Rattle.wire_item.proofs.Takings.{taken, making, makes, makes-none, made-none}
+use Rattle.wire_item.proofs.Codes.{code-read}
 
 -- no row has a code as great as this
 pub front-beyond : {A : Type 0} (bound : ℕ) (rows : List (ℕ × Front A)) (code : ℕ) (bytes : List ℕ)
