@@ -2,5 +2,6 @@
 pub mod Requests
 pub mod Replies
 pub mod RequestFields
+pub mod Arms
 pub mod Laws
 pub mod RequestCodes

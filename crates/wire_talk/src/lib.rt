@@ -2,12 +2,15 @@
 #![tactic(auto)]
 
 mod field_writers;
+mod refusal_readers;
 mod refusal_writers;
 mod reply_writers;
 mod request_field_readers;
 mod request_readers;
 mod request_writers;
 mod spelling_laws;
+#[cfg(test)]
+mod tests;
 
 pub use refusal_writers::write_refusal;
 pub use reply_writers::{write_reply, write_value_reply};

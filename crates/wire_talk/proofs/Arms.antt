@@ -1,0 +1,55 @@
+-- What an arm of a code gives, where its fields are read.
+use Rattle.std.proofs.Common.{◌≡◌, ℕ, false, ◌==◌, ◌≤◌, IsTrue, List, [], ◌∷◌, nat_lt, Option, Some, None, if◌then◌else◌, ap, ◌∙◌, refl, arith, ne_eqb, ltb-true}
+use Rattle.std.proofs.lemmas.Bool.{and_parts}
+use Rattle.std.specs.List.{list_all}
+use Rattle.std.specs.Prelude.{Result, Ok, IfOk}
+use Rattle.tardis_base.specs.declared.faults.NoMemory.{NoMemory}
+use Rattle.wire_item.specs.Fronts.{Front, made, front_of_code, by_code}
+use Rattle.wire_item.specs.Readings.{u8_front}
+use Rattle.wire_item.specs.Takings.{Takes, Makes}
+use Rattle.wire_item.proofs.Fronts.{made-read}
+use Rattle.wire_item.proofs.Takings.{taken, making, makes, makes-none, made-none}
+use Rattle.wire_item.proofs.Codes.{code-read}
+
+-- no row has a code as great as this
+pub front-beyond : {A : Type 0} (bound : ℕ) (rows : List (ℕ × Front A)) (code : ℕ) (bytes : List ℕ)
+    → IsTrue (list_all (λ row. nat_lt row.0 bound) rows) → bound ≤ code → front_of_code code rows bytes ≡ None
+front-beyond bound [] code bytes h e = refl
+front-beyond bound (row ∷ rows) code bytes h e =
+    let parts = and_parts (nat_lt row.0 bound) (list_all (λ row. nat_lt row.0 bound) rows) h in
+    let other : (row.0 == code) ≡ false = ne_eqb row.0 code (λ same. omega (arith, same, ltb-true row.0 bound parts.0, e)) in
+    ap (λ t. (if t then row.1 else front_of_code code rows) bytes) other ∙ front-beyond bound rows code bytes parts.1 e
+
+-- a code, and what was made behind it
+pub makes-coded : {A : Type 0} (rows : List (ℕ × Front A)) (old : List ℕ) (code : ℕ) (mid : List ℕ) (result : Option (Result A NoMemory)) (new : List ℕ)
+    → u8_front old ≡ Some (code, mid) → Makes (front_of_code code rows) mid result new → Makes (by_code rows) old result new
+unfolding Makes
+makes-coded rows old code mid None new e m = code-read rows old code mid e ∙ m
+makes-coded rows old code mid (Some result) new e m = (m.0, code-read rows old code mid e ∙ m.1, m.2)
+
+-- the arm of a code with no fields
+pub arm-plain : {B : Type 0} (rows : List (ℕ × Front B)) (k code : ℕ) (b : B) (old : List ℕ)
+    → code ≡ k → front_of_code k rows old ≡ Some (b, old) → Makes (front_of_code code rows) old (Some (Ok b)) old
+arm-plain rows k code b old e row = makes (front_of_code code rows) old old (Ok b) b (ap (λ j. front_of_code j rows old) e ∙ row) refl
+
+-- the arm of a code whose fields are not there
+pub arm-none : {A B : Type 0} (rows : List (ℕ × Front B)) (k code : ℕ) (f : A → B) (front : Front A) (old new : List ℕ) (r : Option (Result B NoMemory))
+    → code ≡ k → front_of_code k rows ≡ made f front → r ≡ None → front old ≡ None → Makes (front_of_code code rows) old r new
+arm-none rows k code f front old new r e row none t =
+    makes-none (front_of_code code rows) old new r none (ap (λ j. front_of_code j rows old) e ∙ ap (λ g. g old) row ∙ made-none f front old t)
+
+-- the arm of a code whose fields take memory
+pub arm-makes : {A B : Type 0} (rows : List (ℕ × Front B)) (k code : ℕ) (f : A → B) (front : Front A) (old new : List ℕ) (x : Result A NoMemory) (r : Result B NoMemory)
+    → code ≡ k → front_of_code k rows ≡ made f front → Makes front old (Some x) new → ((a : A) → IfOk x (λ y. y ≡ a) → IfOk r (λ y. y ≡ f a))
+    → Makes (front_of_code code rows) old (Some r) new
+arm-makes rows k code f front old new x r e row m made-of =
+    let read = making front old new x m in
+    makes (front_of_code code rows) old new r (f read.0)
+    (ap (λ j. front_of_code j rows old) e ∙ ap (λ g. g old) row ∙ made-read f front old read.0 new read.1) (made-of read.0 read.2)
+
+-- the arm of a code whose fields are taken, and are there
+pub arm-takes : {A B : Type 0} (rows : List (ℕ × Front B)) (k code : ℕ) (f : A → B) (front : Front A) (old : List ℕ) (a : A) (new : List ℕ)
+    → code ≡ k → front_of_code k rows ≡ made f front → Takes front old (Some a) new → Makes (front_of_code code rows) old (Some (Ok (f a))) new
+arm-takes rows k code f front old a new e row t =
+    makes (front_of_code code rows) old new (Ok (f a)) (f a)
+    (ap (λ j. front_of_code j rows old) e ∙ ap (λ g. g old) row ∙ made-read f front old a new (taken front old new a t)) refl
