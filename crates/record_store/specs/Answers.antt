@@ -1,0 +1,34 @@
+-- What the calls of a store answer.
+use Rattle.std.specs.Prelude.{◌≡◌, ◌≤◌, ℕ, true, List, ◌∷◌, Option, Some, None, Result, Ok, Err, IsTrue, IsFalse, OnErr}
+use Rattle.tardis_base.specs.declared.ids.StateId.{StateId}
+use Rattle.tardis_base.specs.declared.ids.Slot.{Slot}
+use Rattle.tardis_base.specs.declared.records.Record.{Record}
+use Rattle.tardis_base.specs.declared.faults.AddFault.{AddFault}
+use Rattle.tardis_base.specs.declared.faults.AddFault.TheVariants.{Full, PathFull, NoMemory}
+use Rattle.tardis_base.specs.declared.replies.Refusal.TheVariants.{Full as IsFull, PathFull as IsPathFull}
+use Rattle.tardis_base.specs.Ids.{is_among}
+use Rattle.plain_dag.specs.Above.{is_above}
+use Rattle.plain_dag.specs.Dag.{IsNext}
+use Rattle.plain_dag.specs.Growth.{growth_refusal}
+use Rattle.version_list.specs.Versions.{versions_of}
+use Rattle.record_store.specs.Store.{Store}
+use Rattle.record_store.specs.Stands.{StoreStands}
+
+-- the record was added, or refused as the history refuses it, or there was no memory; where it wasn't added the store
+-- stands for what it stood for
+abbrev pub AddedIn : Store → Store → List Record → List StateId → Record → Result Slot AddFault → Type 0
+AddedIn old new rs ks r (Ok slot) = (growth_refusal true old.table.limits ks rs r ≡ None) × StoreStands new (r ∷ rs) ks
+AddedIn old new rs ks r (Err (Full kept)) = (growth_refusal true old.table.limits ks rs r ≡ Some (IsFull kept)) × StoreStands new rs ks
+AddedIn old new rs ks r (Err (PathFull x n)) = (growth_refusal true old.table.limits ks rs r ≡ Some (IsPathFull x n)) × StoreStands new rs ks
+AddedIn old new rs ks r (Err NoMemory) = StoreStands new rs ks
+
+-- the table and all versions are as they were; only room for more may have grown
+pub record IsSameStore (old new : Store) : Type 0 where
+  pub table : new.table ≡ old.table
+  pub versions : (k : List ℕ) → versions_of new.versions k ≡ versions_of old.versions k
+
+-- the record may arrive, at one of the sites, and no state at or below one of its parents is collected
+pub record MayArrive (sites : ℕ) (rs : List Record) (ks : List StateId) (r : Record) : Type 0 where
+  pub next : IsNext rs r
+  pub site : r.id.site ≤ sites
+  pub kept : (p x : StateId) → IsTrue (is_among p r.parents) → IsTrue (is_above rs p x) → IsFalse (is_among x ks)

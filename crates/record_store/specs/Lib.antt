@@ -1,0 +1,5 @@
+-- The store of one site: what it holds, when it stands for a history, and what its calls answer.
+pub mod Store
+pub mod Held
+pub mod Stands
+pub mod Answers

@@ -1,0 +1,119 @@
+//! The store of one site: the table of its states, and the versions of the keys at them.
+//!
+//! What a read, a write and a new state mean is stated in `docs/MODEL.md`.
+#![tactic(auto)]
+
+ghost use Rattle.std.specs.Prelude.{◌≡◌, ◌+◌, ◌-◌, ◌≤◌, ℕ, List, [], ◌∷◌, map, Option, Some, None, slice_get, unwrap_or, IsTrue, IfOk, IfSome, OnErr};
+ghost use Rattle.std.specs.List.{list_all};
+ghost use Rattle.tardis_base.specs.declared.ids.StateId.{StateId};
+ghost use Rattle.tardis_base.specs.declared.ids.Slot.{Slot};
+ghost use Rattle.tardis_base.specs.declared.records.Record.{Record};
+ghost use Rattle.tardis_base.specs.Valid.{are_limits};
+ghost use Rattle.plain_dag.specs.States.{root_record, is_known, record_at};
+ghost use Rattle.plain_dag.specs.Writers.{read};
+ghost use Rattle.plain_dag.specs.Landing.{is_news};
+ghost use Rattle.plain_dag.specs.Collection.{stand_in};
+ghost use Rattle.state_dag.specs.Table.{id_at, is_slot, is_kept_at, arrival_at};
+ghost use Rattle.state_dag.specs.Answers.{MayBeAdded, IsNewSlot, KeepsSlots};
+ghost use Rattle.version_list.specs.Versions.{IsInOrder};
+ghost use Rattle.version_list.specs.Reads.{found};
+ghost use Rattle.record_store.specs.Stands.{StoreStands};
+ghost use Rattle.record_store.specs.Answers.{AddedIn, IsSameStore, MayArrive};
+
+use state_dag::StateDag;
+use std::alloc::Global;
+use std::marker::Model;
+use tardis_base::{AddFault, Found, Key, Limits, NoMemory, Record, Slot, StateId, WriteSet};
+use version_list::VersionList;
+
+/// The kept states of one site, and the versions of the keys at them.
+#[derive(Drop)]
+pub struct RecordStore {
+    dag: StateDag,
+    versions: VersionList,
+}
+
+impl Model for RecordStore {
+    ghost use Rattle.record_store.specs.Store.{Store};
+
+    ghost Value = { Store };
+
+    ghost use Rattle.record_store.specs.Held.{seen, IsHeld};
+
+    ghost view = { seen };
+
+    ghost invariant = { λ _. ⊥ };
+}
+
+impl RecordStore {
+    /// The root alone, with nothing written.
+    pub fn new(alloc: Global, limits: &Limits) -> Result<RecordStore, NoMemory>
+        requires { IsTrue (are_limits limits.now) }
+        ensures stands { IfOk result (λ store. StoreStands store (root_record ∷ []) []) }
+        ensures limits { IfOk result (λ store. store.table.limits ≡ limits.now) }
+    {
+        Err(NoMemory)
+    }
+
+    /// The table of the kept states.
+    pub fn dag(&self) -> &StateDag
+        ensures { result.now ≡ self.now.table }
+    {
+        &self.dag
+    }
+
+    /// The versions of the keys.
+    pub fn versions(&self) -> &VersionList
+        ensures is { result.now ≡ self.now.versions }
+        ensures order { IsInOrder (is_kept_at self.now.table) (arrival_at self.now.table) self.now.versions }
+    {
+        &self.versions
+    }
+
+    /// Adds the next state of a site, below the states at these slots, with what it writes.
+    ///
+    /// Where it is refused, or there is no memory, only room for more may have grown. The cost grows with the number of
+    /// states below a parent that gets its second child, with the lengths of the parents' fork paths, and with the writes.
+    pub fn add_state(
+        &mut self,
+        id: StateId,
+        parents: &[Slot],
+        writes: &WriteSet,
+    ) -> Result<Slot, AddFault>
+        requires slots { IsTrue (list_all (is_slot self.old.table) parents.now) }
+        requires first { 1 ≤ id.site }
+        requires last { id.site ≤ self.old.table.limits.sites }
+        requires next { id.sequence ≡ unwrap_or (slice_get self.old.table.counts (id.site - 1)) 0 + 1 }
+        ensures added { (rs : List Record) (ks : List StateId) (r : Record) → StoreStands self.old rs ks → r.id ≡ id → r.writes ≡ writes.now → MayBeAdded self.old.table rs ks r parents.now → AddedIn self.old self.new rs ks r result }
+        ensures slot { IfOk result (λ slot. IsNewSlot self.old.table self.new.table id slot) }
+        ensures keeps { KeepsSlots self.old.table self.new.table }
+        ensures limits { self.new.table.limits ≡ self.old.table.limits }
+        ensures same { OnErr result (IsSameStore self.old self.new) }
+    {
+        Err(AddFault::NoMemory)
+    }
+
+    /// What is read of the key at the state of this slot.
+    ///
+    /// The cost grows with the number of the key's versions that are newer than the one found.
+    pub fn read_at(&self, slot: Slot, key: &Key) -> Found<'_>
+        requires { IsTrue (is_slot self.now.table slot) }
+        ensures { (rs : List Record) (ks : List StateId) → StoreStands self.now rs ks → (x : StateId) → id_at self.now.table slot ≡ Some x → found result ≡ read rs key.now x }
+    {
+        let _ = &self.dag;
+        self.versions.latest(&self.dag, key, slot)
+    }
+
+    /// Whether the key is news of the child to the state at `from`: whether a state at or above the child, and not at or
+    /// above `from`, writes it.
+    ///
+    /// The cost grows with the number of the key's versions.
+    pub fn is_news(&self, from: Slot, child: Slot, key: &Key) -> bool
+        requires from { IsTrue (is_slot self.now.table from) }
+        requires child { IsTrue (is_slot self.now.table child) }
+        ensures { (rs : List Record) (ks : List StateId) → StoreStands self.now rs ks → (x c : StateId) → id_at self.now.table from ≡ Some x → id_at self.now.table child ≡ Some c → result ≡ is_news rs x c key.now }
+    {
+        let _ = &self.dag;
+        false
+    }
+}
