@@ -209,7 +209,7 @@ impl StateDag {
         ensures slot { IfOk result (λ slot. IsNewSlot self.old self.new id slot) }
         ensures keeps { KeepsSlots self.old self.new }
         ensures kept { (s : Slot) → IsTrue (is_kept_at self.old s) → IsTrue (is_kept_at self.new s) × (arrival_at self.new s ≡ arrival_at self.old s) }
-        ensures kept_slot { IfOk result (λ slot. IsTrue (is_kept_at self.new slot)) }
+        ensures arrived { IfOk result (λ slot. IsTrue (is_kept_at self.new slot) × (arrival_at self.new slot ≡ self.old.known)) }
         ensures newest { IfOk result (λ slot. (s : Slot) → IsTrue (is_kept_at self.old s) → arrival_at self.new s < arrival_at self.new slot) }
         ensures limits { self.new.limits ≡ self.old.limits }
         ensures same { OnErr result (self.new ≡ self.old) }
