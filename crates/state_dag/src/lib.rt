@@ -119,7 +119,8 @@ impl StateDag {
     pub fn count(&self, site: u16) -> u32
         requires first { 1 ≤ site }
         requires last { site ≤ self.now.limits.sites }
-        ensures { (rs : List Record) (ks : List StateId) → Stands self.now rs ks → result ≡ count_of_site rs site }
+        ensures is { result ≡ unwrap_or (slice_get self.now.counts (site - 1)) 0 }
+        ensures count { (rs : List Record) (ks : List StateId) → Stands self.now rs ks → result ≡ count_of_site rs site }
     {
         self.counts[site as usize - 1]
     }
