@@ -64,6 +64,14 @@ named-is_slot table s x h = go (entry_at table s) h
     go None e = absurd (none-some x e)
     go (Some e) _ = refl
 
+-- a slot names a state
+pub named-of_slot : (table : Table) (s : Slot) → is_slot table s ≡ true → (x : StateId) × (id_at table s ≡ Some x)
+named-of_slot table s h = go (entry_at table s) h
+  where
+    go : (o : Option Entry) → is_some o ≡ true → (x : StateId) × (option_map (λ e. e.id) o ≡ Some x)
+    go None e = absurd (both_ways false refl e)
+    go (Some e) _ = (e.id, refl)
+
 pub searched-is_kept : (a : Inside) (table : Table) (x : StateId) (o : Option Slot) → seen a ≡ table → IsTrue (arrive_in_order (entries_from 0 a.nodes.items)) → o ≡ place_of_id 0 a.nodes.items x →
     IfSome o (λ slot. IsTrue (is_kept_at table slot))
 searched-is_kept a table x None is up e = tt
