@@ -222,6 +222,7 @@ impl StateDag {
         requires { IfSome slot (λ s. IsTrue (is_slot self.now s)) }
         ensures slots { IfSome result (λ s. IsTrue (is_slot self.now s)) }
         ensures is { slot_after self.now.entries result ≡ slot }
+        ensures earlier { IfSome result (λ s. (t : Slot) → slot ≡ Some t → arrival_at self.now s < arrival_at self.now t) }
         ensures last { slot ≡ None → (rs : List Record) (ks : List StateId) → Stands self.now rs ks → option_and_then (id_at self.now) result ≡ Some (last_arrived rs) }
         ensures before { (rs : List Record) (ks : List StateId) → Stands self.now rs ks → (s : Slot) (x : StateId) → slot ≡ Some s → id_at self.now s ≡ Some x → next_of (kept_states rs ks) (option_and_then (id_at self.now) result) ≡ Some x }
     {

@@ -1,13 +1,13 @@
-use Rattle.std.proofs.Common.{◌≡◌, ◌∙◌, ◌+◌, ◌-◌, ℕ, Option, Some, None, IsTrue, IfSome, true, sym, ap, subst, arith}
+use Rattle.std.proofs.Common.{◌≡◌, ◌∙◌, ◌+◌, ◌-◌, ◌<◌, ℕ, Option, Some, None, IsTrue, IfSome, true, sym, ap, subst, arith}
 use Rattle.tardis_base.specs.declared.ids.StateId.{StateId}
 use Rattle.tardis_base.specs.declared.ids.Slot.{Slot}
-use Rattle.std.proofs.lemmas.Option.{same_Some}
+use Rattle.std.proofs.lemmas.Option.{none-some, same_Some}
 use Rattle.plain_dag.specs.Collection.{kept_states}
-use Rattle.state_dag.specs.Table.{id_at, is_slot}
+use Rattle.state_dag.specs.Table.{id_at, is_slot, arrival_at}
 use Rattle.state_dag.specs.Answers.{next_of, slot_after}
 use Rattle.state_dag.proofs.Known.{limits-parts}
 use Rattle.state_dag.proofs.Places.{place-of_slot, after-place, after-last}
-use Rattle.state_dag.proofs.Calls.{slot-of_place, first-slot, first-is_next, next-is_next, last-named, named-of_slot}
+use Rattle.state_dag.proofs.Calls.{slot-of_place, first-slot, first-is_next, next-is_next, last-named, named-of_slot, place-arrives-earlier}
 use Rattle.state_dag.proofs.StateDag.kept_before.Goals as goal
 
 pub overflow_cast-result : goal.overflow_cast-result
@@ -78,3 +78,14 @@ returns-else-slot-eq0-clause-before c = λ rs ks stands s x is named.
     ∙ sym (next-is_next c.self.inside c.args.self.now rs ks (c.in-Some.slot.0 - 1) w.0 c.self.view_is stands w.1)
     ∙ ap (λ n. id_at c.args.self.now (slot n)) place
     ∙ subst (λ z. id_at c.args.self.now z ≡ Some x) (sym same) named
+
+pub returns-in-None-clause-earlier : goal.returns-in-None-clause-earlier
+returns-in-None-clause-earlier c = λ t is. absurd (none-some t (sym c.in-None.is ∙ is))
+
+pub returns-else-slot-eq0-clause-earlier : goal.returns-else-slot-eq0-clause-earlier
+returns-else-slot-eq0-clause-earlier c = λ t is.
+    let same : c.in-Some.slot ≡ t = same_Some c.in-Some.slot t (sym c.in-Some.is ∙ is) in
+    let there = subst (λ o. IfSome o (λ s. IsTrue (is_slot c.args.self.now s))) c.in-Some.is c.requires in
+    let lt = place-of_slot c.self.inside.nodes.items c.in-Some.slot.0 (subst (λ t. is_slot t c.in-Some.slot ≡ true) (sym c.self.view_is) there) in
+    subst (λ z. arrival_at c.args.self.now (record { 0 = c.in-Some.slot.0 - 1 }) < arrival_at c.args.self.now z) same
+    (place-arrives-earlier c.self.inside c.args.self.now c.in-Some.slot.0 c.self.view_is c.self.invariant.in_order (omega arith) lt)
