@@ -4,3 +4,4 @@ pub mod Known
 pub mod Standing
 pub mod Calls
 pub mod Opening
+pub mod Counting
