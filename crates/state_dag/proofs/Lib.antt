@@ -5,3 +5,4 @@ pub mod Standing
 pub mod Calls
 pub mod Opening
 pub mod Counting
+pub mod Branches
