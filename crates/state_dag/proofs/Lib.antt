@@ -6,3 +6,4 @@ pub mod Calls
 pub mod Opening
 pub mod Counting
 pub mod Branches
+pub mod NextState
