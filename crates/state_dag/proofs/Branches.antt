@@ -134,7 +134,7 @@ states-differ [] d = tt
 states-differ (x ∷ xs) d = (d.0, states-differ xs d.1)
 
 -- what leads somewhere has a number below the number of children
-leads-within : (rs : List Record) (x p : StateId) (n : ℕ) → IsTrue (leads_to rs x (p, n)) → n < length (children rs p)
+pub leads-within : (rs : List Record) (x p : StateId) (n : ℕ) → IsTrue (leads_to rs x (p, n)) → n < length (children rs p)
 leads-within rs x p n leads = go (slice_get (children rs p) n) refl leads
   where
     go : (o : Option StateId) → slice_get (children rs p) n ≡ o → IsTrue (option_map_or (λ c. is_above rs c x) o false) → n < length (children rs p)

@@ -7,3 +7,5 @@ pub mod Opening
 pub mod Counting
 pub mod Branches
 pub mod NextState
+pub mod ParentSlots
+pub mod Taken
