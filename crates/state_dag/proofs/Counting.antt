@@ -38,6 +38,13 @@ module _ {A : Type 0} (p q : A → Bool) where
         ]
       ]
 
+  pub any-implied : ((x : A) → IsTrue (p x) → IsTrue (q x)) → (xs : List A) → IsTrue (list_any p xs) → IsTrue (list_any q xs)
+  any-implied f [] h = h
+  any-implied f (x ∷ xs) h = elim (or_cases (p x) (list_any p xs) h) [
+    | inl t ↦ or_left (q x) (list_any q xs) (f x t)
+    | inr m ↦ or_right (q x) (list_any q xs) (any-implied f xs m)
+  ]
+
 -- a test that is never true is true of none
 pub any-never : {A : Type 0} (xs : List A) → list_any (λ x. false) xs ≡ false
 any-never [] = refl

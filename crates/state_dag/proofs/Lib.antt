@@ -9,3 +9,4 @@ pub mod Branches
 pub mod NextState
 pub mod ParentSlots
 pub mod Taken
+pub mod Lengths

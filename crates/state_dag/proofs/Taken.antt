@@ -61,7 +61,7 @@ module _ (table : Table) (rs : List Record) (ks : List StateId) (r : Record) (pa
       ∙ any-never r.parents
 
   -- first branches in the history's words
-  first-is : (t : Slot) (y p : StateId) (pair : ℕ × ℕ) → id_at table t ≡ Some y → id_at table (record { 0 = pair.0 }) ≡ Some p →
+  pub first-is : (t : Slot) (y p : StateId) (pair : ℕ × ℕ) → id_at table t ≡ Some y → id_at table (record { 0 = pair.0 }) ≡ Some p →
       is_first_branch table parents t pair ≡ (is_among p r.parents && (eqb pair.1 0 && (eqb (length (children rs p)) 1 && leads_to rs y (p, 0))))
   first-is t y p pair named is =
       any-named table rs ks stands (λ s. is_same_pair pair (s.0, 0) && leads_first table t s) (λ q. same_id p q && rest) parents r.parents may.slots (λ s q here m. at s q here m)
