@@ -10,3 +10,5 @@ pub mod NextState
 pub mod ParentSlots
 pub mod Taken
 pub mod Lengths
+pub mod Refusals
+pub mod Growing
