@@ -12,3 +12,4 @@ pub mod Taken
 pub mod Lengths
 pub mod Refusals
 pub mod Growing
+pub mod GrownEntries

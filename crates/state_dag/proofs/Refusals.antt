@@ -101,7 +101,7 @@ module _ (most : ℕ) (long : Entry → ℕ) (path : StateId → ℕ) where
 
 -- ===== The refusal
 
-new-isnt_collected : (table : Table) (rs : List Record) (ks : List StateId) (r : Record) → Stands table rs ks → IsFalse (is_known rs r.id) → IsFalse (is_among r.id ks)
+pub new-isnt_collected : (table : Table) (rs : List Record) (ks : List StateId) (r : Record) → Stands table rs ks → IsFalse (is_known rs r.id) → IsFalse (is_among r.id ks)
 new-isnt_collected table rs ks r stands new = false_from_ne_true (is_among r.id ks) (λ gone. both_ways (is_known rs r.id) new (stands.known_collected r.id gone))
 
 pub kept-next : (table : Table) (rs : List Record) (ks : List StateId) (r : Record) → Stands table rs ks → IsFalse (is_known rs r.id) → kept_states (r ∷ rs) ks ≡ map (λ e. e.id) table.entries ++ r.id ∷ []
