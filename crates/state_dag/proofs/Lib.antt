@@ -13,3 +13,4 @@ pub mod Lengths
 pub mod Refusals
 pub mod Growing
 pub mod GrownEntries
+pub mod GrownCounts
