@@ -11,6 +11,6 @@ pub mod ParentSlots
 pub mod Taken
 pub mod Lengths
 pub mod Refusals
-pub mod Growing
 pub mod GrownEntries
 pub mod GrownCounts
+pub mod Growing
