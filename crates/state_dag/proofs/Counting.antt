@@ -1,5 +1,5 @@
 -- Lists in which nothing stands twice, and how many items two of them have that stand for each other.
-use Rattle.std.proofs.Common.{◌≡◌, ℕ, ◌+◌, ◌≤◌, Bool, true, false, cond, ◌||◌, ◌&&◌, List, [], ◌∷◌, ◌++◌, length, map, filter, IsTrue, IsFalse, inl, inr, refl, sym, ap, ap₂, subst, ◌∙◌, arith}
+use Rattle.std.proofs.Common.{◌≡◌, ◌+◌, ◌≤◌, Bool, true, false, cond, ◌||◌, ◌&&◌, List, [], ◌∷◌, ◌++◌, length, map, filter, IsTrue, IsFalse, inl, inr, refl, ap, ap₂, ◌∙◌, arith}
 use Rattle.std.specs.List.{list_any, list_all}
 use Rattle.std.proofs.lemmas.Bool.{and_parts, and_from, or_cases, or_parts, or_from, or_left, or_right, cases_Bool, both_ways, false_from_ne_true}
 use Rattle.std.proofs.lemmas.List.Folds.{list_any-append}
@@ -87,7 +87,7 @@ module _ {A : Type 0} (same : A → A → Bool) where
     differ-append [] ys d e apart = e
     differ-append (x ∷ xs) ys d e apart = (
       list_any-append (same x) xs ys
-      ∙ or_from (list_any (same x) xs) (list_any (same x) ys) d.0 (apart x (or_left (same x x) (list_any (same x) xs) (itself x))),
+          ∙ or_from (list_any (same x) xs) (list_any (same x) ys) d.0 (apart x (or_left (same x x) (list_any (same x) xs) (itself x))),
       differ-append xs ys d.1 e (λ z m. apart z (or_right (same z x) (list_any (same z) xs) m)),
     )
 

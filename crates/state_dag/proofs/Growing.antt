@@ -3,19 +3,18 @@ use Rattle.std.proofs.Common.{◌≡◌, ℕ, ◌+◌, ◌-◌, ◌≤◌, Bool,
 use Rattle.std.specs.Prelude.{nat_le, unwrap_or}
 use Rattle.std.specs.List.{list_any, list_all, range_with_len}
 use Rattle.std.specs.Option.{option_map}
-use Rattle.std.proofs.lemmas.Bool.{and_parts, and_from, cases_Bool, cases_lt, both_ways, not-true, not_from_false, lt-ltb, le-leb}
+use Rattle.std.proofs.lemmas.Bool.{and_from, cases_Bool, cases_lt, both_ways, not-true, lt-ltb, le-leb}
 use Rattle.std.proofs.lemmas.Option.{none-some}
 use Rattle.tardis_base.specs.declared.ids.StateId.{StateId}
 use Rattle.tardis_base.specs.declared.ids.Slot.{Slot}
 use Rattle.tardis_base.specs.declared.records.Record.{Record}
 use Rattle.tardis_base.specs.declared.replies.Refusal.{Refusal}
 use Rattle.tardis_base.specs.declared.replies.Refusal.TheVariants.{Full as IsFull, PathFull as IsPathFull}
-use Rattle.tardis_base.specs.Ids.{is_among}
 use Rattle.tardis_base.specs.Valid.{are_limits}
 use Rattle.plain_dag.specs.States.{count_of_site}
 use Rattle.plain_dag.specs.Forks.{leaves}
 use Rattle.plain_dag.specs.Collection.{is_kept, kept_states}
-use Rattle.plain_dag.specs.Paths.{fork_path, long_path}
+use Rattle.plain_dag.specs.Paths.{fork_path}
 use Rattle.plain_dag.specs.Growth.{growth_refusal}
 use Rattle.plain_dag.proofs.Ids.{any-false-at, none-found}
 use Rattle.plain_dag.proofs.Histories.{next-is-dag, known-stays}

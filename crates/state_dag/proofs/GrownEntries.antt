@@ -1,25 +1,24 @@
 -- What the entries of a table that has grown say.
-use Rattle.std.proofs.Common.{◌≡◌, ℕ, ◌+◌, Bool, true, false, cond, not, ◌||◌, ◌&&◌, eqb, leb, List, [], ◌∷◌, ◌++◌, length, map, find, Option, Some, None, IsTrue, IsFalse, ◌⊎◌, inl, inr, refl, sym, ap, ap₂, subst, ◌∙◌, eqb-true, eq-eqb, arith}
+use Rattle.std.proofs.Common.{◌≡◌, ℕ, Bool, true, false, cond, not, ◌||◌, ◌&&◌, eqb, leb, List, [], ◌∷◌, ◌++◌, length, map, find, Option, Some, None, IsTrue, ◌⊎◌, inl, inr, refl, sym, ap, ap₂, subst, ◌∙◌, eqb-true, eq-eqb}
 use Rattle.std.specs.Option.{option_map, option_map_or}
-use Rattle.std.proofs.lemmas.Bool.{and_parts, cases_Bool, both_ways, false_from_ne_true, cond-true, cond-false}
+use Rattle.std.proofs.lemmas.Bool.{and_parts, cases_Bool, cond-true, cond-false}
 use Rattle.std.proofs.lemmas.Option.{none-some, same_Some}
 use Rattle.std.proofs.lemmas.List.{map-append}
 use Rattle.tardis_base.specs.declared.ids.StateId.{StateId}
 use Rattle.tardis_base.specs.declared.ids.Slot.{Slot}
 use Rattle.tardis_base.specs.declared.records.Record.{Record}
-use Rattle.tardis_base.specs.Ids.{same_id, is_among}
-use Rattle.fork_path.specs.Pairs.{has_pair}
-use Rattle.plain_dag.specs.States.{is_known, parents_of, arrival, children}
-use Rattle.plain_dag.specs.Collection.{is_kept, kept_states, stand_in}
+use Rattle.tardis_base.specs.Ids.{is_among}
+use Rattle.plain_dag.specs.States.{is_known, children}
+use Rattle.plain_dag.specs.Collection.{kept_states, stand_in}
 use Rattle.plain_dag.specs.Paths.{is_fork, leads_to}
-use Rattle.plain_dag.proofs.Ids.{not-both, same_id_self, among-first, among-later}
+use Rattle.plain_dag.proofs.Ids.{same_id_self, among-first, among-later}
 use Rattle.plain_dag.proofs.Histories.{next-fits, known-isnt-newest, arrival-newest, arrival-before, parents-newest, parents-before}
 use Rattle.plain_dag.proofs.States.{child_is_known}
 use Rattle.plain_dag.proofs.StandIns.{kept-stands-for-itself}
 use Rattle.state_dag.specs.Table.{Entry, Table, entry_at, id_at}
 use Rattle.state_dag.specs.Stands.{is_taken, Shows, Stands}
 use Rattle.state_dag.specs.Answers.{MayBeAdded}
-use Rattle.state_dag.specs.Grown.{is_slot_among, is_first_branch, only_if, IsGrownEntry, IsNewEntry, AreGrownEntries, IsGrown}
+use Rattle.state_dag.specs.Grown.{is_slot_among, is_first_branch, only_if, IsGrownEntry, AreGrownEntries, IsGrown}
 use Rattle.state_dag.proofs.Standing.{slot-is_kept}
 use Rattle.state_dag.proofs.NextState.{children-next, newest-is_childless, stand_in-stays}
 use Rattle.state_dag.proofs.ParentSlots.{slot_from, among-slots}

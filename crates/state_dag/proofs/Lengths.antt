@@ -1,9 +1,9 @@
 -- How long fork paths are with one more state.
-use Rattle.std.proofs.Common.{◌≡◌, ℕ, ◌+◌, ◌≤◌, Bool, true, false, not, ◌||◌, ◌&&◌, eqb, leb, List, [], ◌∷◌, ◌++◌, length, map, filter, Option, Some, None, IsTrue, IsFalse, inl, inr, refl, sym, ap, ap₂, subst, ◌∙◌, eqb-true, eq-eqb, arith, length-append}
-use Rattle.std.specs.List.{list_any, list_all}
+use Rattle.std.proofs.Common.{◌≡◌, ℕ, Bool, true, false, not, ◌||◌, ◌&&◌, eqb, List, [], ◌∷◌, ◌++◌, length, map, filter, Option, Some, None, IsTrue, IsFalse, inl, inr, refl, sym, ap, ap₂, subst, ◌∙◌, eqb-true, eq-eqb, arith, length-append}
+use Rattle.std.specs.List.{list_any}
 use Rattle.std.specs.Option.{option_map, option_map_or}
-use Rattle.std.proofs.lemmas.Bool.{and_parts, and_from, or_cases, or_parts, cases_Bool, both_ways, false_from_ne_true, leb-true}
-use Rattle.std.proofs.lemmas.Option.{none-some, same_Some}
+use Rattle.std.proofs.lemmas.Bool.{and_parts, and_from, false_from_ne_true, leb-true}
+use Rattle.std.proofs.lemmas.Option.{same_Some}
 use Rattle.std.proofs.lemmas.List.{length-map}
 use Rattle.std.proofs.lemmas.List.Folds.{list_any-append}
 use Rattle.tardis_base.specs.declared.ids.StateId.{StateId}
@@ -11,16 +11,16 @@ use Rattle.tardis_base.specs.declared.ids.Slot.{Slot}
 use Rattle.tardis_base.specs.declared.records.Record.{Record}
 use Rattle.tardis_base.specs.Ids.{same_id, is_among}
 use Rattle.fork_path.specs.Pairs.{are_ascending_pairs, is_same_pair, has_pair}
-use Rattle.fork_path.proofs.PairOrder.{same_pair-true, same_pair_self, same_pair_from, has-none, before-rest, ascending-rest}
+use Rattle.fork_path.proofs.PairOrder.{same_pair-true, same_pair_self, has-none, before-rest, ascending-rest}
 use Rattle.plain_dag.specs.States.{is_known, children}
 use Rattle.plain_dag.specs.Collection.{is_kept}
 use Rattle.plain_dag.specs.Paths.{is_fork, leads_to, fork_path}
 use Rattle.plain_dag.proofs.Ids.{not-both, same_id-true, same_id_self, same_id_from}
 use Rattle.plain_dag.proofs.Histories.{known-stays, known-cases, next-is-dag}
 use Rattle.state_dag.specs.Table.{Entry, Table, entry_at, id_at}
-use Rattle.state_dag.specs.Stands.{is_taken, Shows, Stands}
+use Rattle.state_dag.specs.Stands.{is_taken, Stands}
 use Rattle.state_dag.specs.Answers.{MayBeAdded}
-use Rattle.state_dag.specs.Grown.{leads_first, is_first_branch, is_new_pair, IsNewPath, grown_length}
+use Rattle.state_dag.specs.Grown.{leads_first, is_first_branch, IsNewPath, grown_length}
 use Rattle.state_dag.proofs.Standing.{slot-is_kept, kept-has_slot}
 use Rattle.state_dag.proofs.Counting.{Differ, any-map, any-filter, any-alike, any-implied, differ-filter, differ-append, differ-map, all-of, no-more}
 use Rattle.state_dag.proofs.Branches.{is_same_branch, same_branch-itself, has_branch, path-differs, path-has, path-parts}
@@ -129,7 +129,6 @@ module _ (table : Table) (rs : List Record) (ks : List StateId) (r : Record) (pa
           ps (has pair ∙ next-taken y b.0 s.0 b.1 s.1 w.1 w.2)
 
   -- ===== Old states
-
 
   -- the first branches that lead to a slot
   abbrev firsts : Slot → List (ℕ × ℕ)

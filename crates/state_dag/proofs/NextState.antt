@@ -1,19 +1,19 @@
 -- What one more state changes: children, forks, branches and stand-ins.
-use Rattle.std.proofs.Common.{◌≡◌, ℕ, zero, suc, ◌+◌, ◌<◌, ◌≤◌, Bool, true, false, cond, ◌||◌, ◌&&◌, not, eqb, leb, List, [], ◌∷◌, ◌++◌, length, slice_get, Option, Some, None, IsTrue, IsFalse, inl, inr, refl, sym, ap, ap₂, subst, ◌∙◌, eqb-true, eq-eqb, arith, append-nil}
+use Rattle.std.proofs.Common.{◌≡◌, ℕ, zero, suc, Bool, true, false, cond, ◌||◌, ◌&&◌, not, eqb, List, [], ◌∷◌, ◌++◌, length, slice_get, Option, Some, None, IsTrue, IsFalse, inl, inr, refl, sym, ap, subst, ◌∙◌, eqb-true, eq-eqb, arith, append-nil}
 use Rattle.std.specs.List.{list_any}
 use Rattle.std.specs.Option.{option_map_or}
-use Rattle.std.proofs.lemmas.Bool.{and_parts, and_from, and_left, or_left, or_right, cases_Bool, cases_lt, both_ways, not-true, not_from_false, false_from_ne_true, cond-true, cond-false}
+use Rattle.std.proofs.lemmas.Bool.{and_parts, and_left, or_right, cases_Bool, both_ways, not-true, false_from_ne_true, cond-false}
 use Rattle.tardis_base.specs.declared.ids.StateId.{StateId}
 use Rattle.tardis_base.specs.declared.records.Record.{Record}
-use Rattle.tardis_base.specs.Ids.{same_id, is_among}
+use Rattle.tardis_base.specs.Ids.{is_among}
 use Rattle.plain_dag.specs.States.{is_known, children}
 use Rattle.plain_dag.specs.Above.{is_above}
 use Rattle.plain_dag.specs.Dag.{IsNext, IsDag}
-use Rattle.plain_dag.specs.Collection.{is_kept, stand_in}
-use Rattle.plain_dag.specs.Paths.{is_fork, leads_to}
+use Rattle.plain_dag.specs.Collection.{stand_in}
+use Rattle.plain_dag.specs.Paths.{leads_to}
 use Rattle.plain_dag.specs.Laws.{StandInsAreShared}
-use Rattle.plain_dag.proofs.Ids.{not-both, or-false, same_id_self, among-first, among-later}
-use Rattle.plain_dag.proofs.Histories.{Fits, next-fits, next-is-dag, parent-is-known, known-isnt-newest}
+use Rattle.plain_dag.proofs.Ids.{or-false, among-first, among-later}
+use Rattle.plain_dag.proofs.Histories.{Fits, next-fits, parent-is-known}
 use Rattle.plain_dag.proofs.Order.{above-same}
 use Rattle.std.proofs.lemmas.Option.{none-some, same_Some, slice_get_past}
 use Rattle.plain_dag.proofs.Growth.{old-states-stay, new-state-is-below-parents}

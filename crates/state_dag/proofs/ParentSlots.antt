@@ -1,26 +1,24 @@
 -- Which slots name which states, and what a table says of those of a new state's parents.
-use Rattle.std.proofs.Common.{◌≡◌, ℕ, Bool, true, false, not, ◌||◌, ◌&&◌, eqb, leb, List, [], ◌∷◌, length, map, find, slice_get, Option, Some, None, IsTrue, IsFalse, inl, inr, refl, sym, ap, ap₂, subst, ◌∙◌, eqb-true, eq-eqb, arith}
+use Rattle.std.proofs.Common.{◌≡◌, ℕ, Bool, false, not, ◌||◌, ◌&&◌, eqb, List, [], ◌∷◌, length, map, find, slice_get, Some, IsTrue, IsFalse, inl, inr, refl, sym, ap, ap₂, subst, ◌∙◌, eqb-true, eq-eqb}
 use Rattle.std.specs.List.{list_any}
-use Rattle.std.specs.Option.{option_map, option_map_or, option_and_then}
-use Rattle.std.proofs.lemmas.Bool.{and_parts, or_left, cases_Bool, not-true, false_from_ne_true, cond-true, cond-false}
+use Rattle.std.specs.Option.{option_map_or, option_and_then}
+use Rattle.std.proofs.lemmas.Bool.{and_parts, or_left, cases_Bool, not-true, false_from_ne_true}
 use Rattle.std.proofs.lemmas.Option.{none-some, same_Some}
 use Rattle.tardis_base.specs.declared.ids.StateId.{StateId}
 use Rattle.tardis_base.specs.declared.ids.Slot.{Slot}
 use Rattle.tardis_base.specs.declared.records.Record.{Record}
 use Rattle.tardis_base.specs.Ids.{same_id, is_among}
-use Rattle.fork_path.specs.Pairs.{is_same_pair, has_pair}
+use Rattle.fork_path.specs.Pairs.{has_pair}
 use Rattle.plain_dag.specs.States.{children}
 use Rattle.plain_dag.specs.Above.{is_above, are_comparable, are_apart}
-use Rattle.plain_dag.specs.Dag.{IsNext}
 use Rattle.plain_dag.specs.Collection.{stand_in}
 use Rattle.plain_dag.specs.Paths.{leads_to}
 use Rattle.plain_dag.proofs.Ids.{same_test, not-both, same_id-true, same_id_from, among-first, among-later, any-from}
 use Rattle.plain_dag.proofs.Order.{above-reflexive, apart-means-incomparable}
 use Rattle.plain_dag.proofs.States.{parent_is_above}
 use Rattle.plain_dag.proofs.StandIns.{kept-stands-for-itself}
-use Rattle.state_dag.specs.Table.{Entry, Table, entry_at, id_at, is_slot_above}
-use Rattle.state_dag.specs.Stands.{is_taken, Shows, Stands}
-use Rattle.state_dag.specs.Answers.{MayBeAdded}
+use Rattle.state_dag.specs.Table.{Entry, Table, id_at, is_slot_above}
+use Rattle.state_dag.specs.Stands.{is_taken, Stands}
 use Rattle.state_dag.specs.Grown.{path_at, number_of_children, first_child, is_slot_among, leads_first}
 use Rattle.state_dag.proofs.Places.{AllDiffer}
 use Rattle.state_dag.proofs.Known.{kept-differ}
@@ -134,7 +132,7 @@ apart-differ rs [] apart = tt
 apart-differ rs (p ∷ ps) apart =
     let parts = and_parts (not (list_any (are_comparable rs p) ps)) (are_apart rs ps) (sym (apart-means-incomparable rs p ps) ∙ apart) in (
       false_from_ne_true (is_among p ps) (λ m.
-      not-both (list_any (are_comparable rs p) ps) (any-from (are_comparable rs p) ps p m (or_left (is_above rs p p) (is_above rs p p) (above-reflexive rs p)))
-      (not-true (list_any (are_comparable rs p) ps) parts.0)),
+          not-both (list_any (are_comparable rs p) ps) (any-from (are_comparable rs p) ps p m (or_left (is_above rs p p) (is_above rs p p) (above-reflexive rs p)))
+          (not-true (list_any (are_comparable rs p) ps) parts.0)),
       apart-differ rs ps parts.1,
     )

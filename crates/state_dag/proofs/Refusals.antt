@@ -1,27 +1,26 @@
 -- Why a table doesn't grow is why its history doesn't.
-use Rattle.std.proofs.Common.{◌≡◌, ℕ, ◌+◌, ◌<◌, Bool, true, false, cond, ltb, eqb, List, [], ◌∷◌, ◌++◌, length, map, find, Option, Some, None, IsTrue, IsFalse, inl, inr, refl, sym, ap, ap₂, subst, ◌∙◌, eq-eqb}
+use Rattle.std.proofs.Common.{◌≡◌, ℕ, Bool, true, false, cond, ltb, eqb, List, [], ◌∷◌, ◌++◌, length, map, find, Option, Some, None, IsTrue, IsFalse, inl, inr, refl, sym, ap, ap₂, subst, ◌∙◌, eq-eqb}
 use Rattle.std.specs.Option.{option_map}
 use Rattle.std.proofs.lemmas.Bool.{cases_Bool, false_from_ne_true, both_ways}
-use Rattle.std.proofs.lemmas.Option.{none-some, same_Some}
+use Rattle.std.proofs.lemmas.Option.{same_Some}
 use Rattle.std.proofs.lemmas.List.{append_assoc}
 use Rattle.tardis_base.specs.declared.ids.StateId.{StateId}
 use Rattle.tardis_base.specs.declared.ids.Slot.{Slot}
 use Rattle.tardis_base.specs.declared.records.Record.{Record}
 use Rattle.tardis_base.specs.declared.replies.Refusal.{Refusal}
 use Rattle.tardis_base.specs.declared.replies.Refusal.TheVariants.{Full as IsFull, PathFull as IsPathFull}
-use Rattle.tardis_base.specs.Ids.{same_id, is_among}
+use Rattle.tardis_base.specs.Ids.{is_among}
 use Rattle.plain_dag.specs.States.{is_known}
 use Rattle.plain_dag.specs.Collection.{kept_states}
 use Rattle.plain_dag.specs.Paths.{fork_path}
 use Rattle.plain_dag.specs.Growth.{growth_refusal}
 use Rattle.plain_dag.proofs.Ids.{not-both, among-first, among-later}
-use Rattle.state_dag.specs.Table.{Entry, Table, entry_at, id_at}
+use Rattle.state_dag.specs.Table.{Entry, Table, entry_at}
 use Rattle.state_dag.specs.Stands.{Stands}
 use Rattle.state_dag.specs.Answers.{MayBeAdded}
 use Rattle.state_dag.specs.Grown.{IsNewPath, grown_length, too_long, refusal_of}
 use Rattle.state_dag.proofs.Places.{AllDiffer}
 use Rattle.state_dag.proofs.Known.{kept-newest, kept-differ}
-use Rattle.state_dag.proofs.Standing.{found-is_named}
 use Rattle.state_dag.proofs.Calls.{entries-kept}
 use Rattle.state_dag.proofs.Lengths.{grown-length-is, new-length-is}
 
@@ -55,8 +54,8 @@ each-found all es (e ∷ fs) is differ named =
     let here : option_map (λ (f : Entry). f.id) (find (λ (f : Entry). eqb f.slot.0 e.slot.0) all) ≡ Some e.id = cc in
     let rest : map (λ (g : Entry). option_map (λ (f : Entry). f.id) (find (λ (f : Entry). eqb f.slot.0 g.slot.0) all)) fs ≡ map (λ (g : Entry). Some g.id) fs = cc in (
       subst (λ gs. find (λ (f : Entry). eqb f.slot.0 e.slot.0) gs ≡ Some e) is
-      (finds-itself es fs e (subst (λ gs. AllDiffer (map (λ (g : Entry). g.id) gs)) (sym is) differ)
-      (subst (λ gs. option_map (λ (f : Entry). f.id) (find (λ (f : Entry). eqb f.slot.0 e.slot.0) gs) ≡ Some e.id) (sym is) here)),
+          (finds-itself es fs e (subst (λ gs. AllDiffer (map (λ (g : Entry). g.id) gs)) (sym is) differ)
+          (subst (λ gs. option_map (λ (f : Entry). f.id) (find (λ (f : Entry). eqb f.slot.0 e.slot.0) gs) ≡ Some e.id) (sym is) here)),
       each-found all (es ++ e ∷ []) fs (append_assoc es (e ∷ []) fs ∙ is) differ rest,
     )
 

@@ -1,9 +1,9 @@
 -- Which branches lead to the states of a history with one more, in the table's words.
-use Rattle.std.proofs.Common.{◌≡◌, ℕ, ◌+◌, ◌<◌, ◌≤◌, Bool, true, false, not, ◌||◌, ◌&&◌, eqb, leb, List, [], ◌∷◌, ◌++◌, length, map, slice_get, Option, Some, None, IsTrue, IsFalse, ◌⊎◌, inl, inr, refl, sym, ap, ap₂, subst, ◌∙◌, eqb-true, eq-eqb, le-leb, arith, length-append}
+use Rattle.std.proofs.Common.{◌≡◌, ℕ, ◌+◌, ◌<◌, ◌≤◌, Bool, true, false, not, ◌||◌, ◌&&◌, eqb, leb, List, [], ◌∷◌, length, Option, Some, None, IsTrue, inl, inr, refl, sym, ap, ap₂, subst, ◌∙◌, eqb-true, eq-eqb, le-leb, arith, length-append}
 use Rattle.std.specs.List.{list_any}
 use Rattle.std.specs.Option.{option_map_or}
 use Rattle.std.proofs.lemmas.Bool.{and_parts, and_from, and_left, and_right, or_left, or_right, or_from, cases_Bool, both_ways, false_from_ne_true, leb-true}
-use Rattle.std.proofs.lemmas.Option.{none-some, same_Some}
+use Rattle.std.proofs.lemmas.Option.{none-some}
 use Rattle.tardis_base.specs.declared.ids.StateId.{StateId}
 use Rattle.tardis_base.specs.declared.ids.Slot.{Slot}
 use Rattle.tardis_base.specs.declared.records.Record.{Record}
@@ -11,9 +11,8 @@ use Rattle.tardis_base.specs.Ids.{same_id, is_among}
 use Rattle.fork_path.specs.Pairs.{is_same_pair, has_pair}
 use Rattle.plain_dag.specs.States.{is_known, children}
 use Rattle.plain_dag.specs.Above.{is_above}
-use Rattle.plain_dag.specs.Collection.{is_kept}
 use Rattle.plain_dag.specs.Paths.{is_fork, leads_to}
-use Rattle.plain_dag.proofs.Ids.{same_test, not-both, or-false, same_id-true, same_id_from, same_id_self, any-agrees}
+use Rattle.plain_dag.proofs.Ids.{same_test, or-false, same_id-true, any-agrees}
 use Rattle.plain_dag.proofs.Histories.{next-fits, parent-is-known}
 use Rattle.plain_dag.proofs.States.{children-before, children-of-parent}
 use Rattle.state_dag.specs.Table.{Table, id_at}
