@@ -1,7 +1,7 @@
 -- What the entries of a table that has grown say.
-use Rattle.std.proofs.Common.{◌≡◌, ℕ, Bool, true, false, cond, not, ◌||◌, ◌&&◌, eqb, leb, List, [], ◌∷◌, ◌++◌, length, map, find, Option, Some, None, IsTrue, ◌⊎◌, inl, inr, refl, sym, ap, ap₂, subst, ◌∙◌, eqb-true, eq-eqb}
+use Rattle.std.proofs.Common.{◌≡◌, ℕ, Bool, true, false, cond, not, ◌||◌, ◌&&◌, eqb, leb, List, [], ◌∷◌, ◌++◌, length, map, find, Option, Some, None, IsTrue, inl, inr, refl, sym, ap, ap₂, subst, ◌∙◌}
 use Rattle.std.specs.Option.{option_map, option_map_or}
-use Rattle.std.proofs.lemmas.Bool.{and_parts, cases_Bool, cond-true, cond-false}
+use Rattle.std.proofs.lemmas.Bool.{and_parts, cases_Bool}
 use Rattle.std.proofs.lemmas.Option.{none-some, same_Some}
 use Rattle.std.proofs.lemmas.List.{map-append}
 use Rattle.tardis_base.specs.declared.ids.StateId.{StateId}
@@ -18,113 +18,19 @@ use Rattle.plain_dag.proofs.StandIns.{kept-stands-for-itself}
 use Rattle.state_dag.specs.Table.{Entry, Table, entry_at, id_at}
 use Rattle.state_dag.specs.Stands.{is_taken, Shows, Stands}
 use Rattle.state_dag.specs.Answers.{MayBeAdded}
-use Rattle.state_dag.specs.Grown.{is_slot_among, is_first_branch, only_if, IsGrownEntry, AreGrownEntries, IsGrown}
+use Rattle.state_dag.specs.Grown.{is_slot_among, is_first_branch, only_if, IsGrownEntry, IsGrown}
+use Rattle.state_dag.proofs.GrownSlots.{or_else, found-slot, FoundBoth, ids-stay, slots-stay, looked, both, names-stay, none-named, new-named}
 use Rattle.state_dag.proofs.Standing.{slot-is_kept}
 use Rattle.state_dag.proofs.NextState.{children-next, newest-is_childless, stand_in-stays}
 use Rattle.state_dag.proofs.ParentSlots.{slot_from, among-slots}
 use Rattle.state_dag.proofs.Taken.{taken-old, taken-new}
 use Rattle.state_dag.proofs.Refusals.{new-isnt_collected, kept-next}
 
--- ===== Searches
-
--- what is found, or else the other
-abbrev or_else : Option Entry → Option Entry → Option Entry
-or_else (Some e) other = Some e
-or_else None other = other
-
-find-after : (k : ℕ) (es : List Entry) (e : Entry) → find (λ f. eqb f.slot.0 k) (es ++ e ∷ []) ≡ or_else (find (λ f. eqb f.slot.0 k) es) (cond (eqb e.slot.0 k) (Some e) None)
-find-after k [] e = refl
-find-after k (f ∷ es) e = elim (cases_Bool (eqb f.slot.0 k)) [
-  | inl t ↦ rw t refl
-  | inr n ↦ rw n (find-after k es e)
-]
-
-found-slot : (k : ℕ) (es : List Entry) (e : Entry) → find (λ f. eqb f.slot.0 k) es ≡ Some e → e.slot.0 ≡ k
-found-slot k [] e is = absurd (none-some e is)
-found-slot k (f ∷ es) e is = elim (cases_Bool (eqb f.slot.0 k)) [
-  | inl t ↦ sym (ap (λ (g : Entry). g.slot.0) (same_Some f e (rw t at is))) ∙ eqb-true f.slot.0 k t
-  | inr n ↦ found-slot k es e (rw n at is)
-]
-
-module _ (old : Table) (parents : List Slot) (x : StateId) (slot : Slot) where
-  -- both are there, and the one became the other; or neither is
-  abbrev FoundBoth : Option Entry → Option Entry → Type 0
-  FoundBoth None None = Unit {0}
-  FoundBoth (Some o) (Some n) = IsGrownEntry old parents x slot o n
-  FoundBoth None (Some n) = ⊥
-  FoundBoth (Some o) None = ⊥
-
-  found-both : (k : ℕ) (os ns : List Entry) → AreGrownEntries old parents x slot os ns → FoundBoth (find (λ e. eqb e.slot.0 k) os) (find (λ e. eqb e.slot.0 k) ns)
-  found-both k [] [] each = tt
-  found-both k [] (n ∷ ns) each = absurd (each)
-  found-both k (o ∷ os) [] each = absurd (each)
-  found-both k (o ∷ os) (n ∷ ns) each =
-      let same = ap (λ (s : Slot). eqb s.0 k) each.0.slot_stays in
-      elim (cases_Bool (eqb o.slot.0 k)) [
-        | inl t ↦ rw (t, same ∙ t) each.0
-        | inr f ↦ rw (f, same ∙ f) (found-both k os ns each.1)
-      ]
-
-  ids-stay : (os ns : List Entry) → AreGrownEntries old parents x slot os ns → map (λ e. e.id) ns ≡ map (λ e. e.id) os
-  ids-stay [] [] each = refl
-  ids-stay [] (n ∷ ns) each = absurd (each)
-  ids-stay (o ∷ os) [] each = absurd (each)
-  ids-stay (o ∷ os) (n ∷ ns) each = ap₂ (λ (i : StateId) (is : List StateId). i ∷ is) each.0.id_stays (ids-stay os ns each.1)
-
-  slots-stay : (now : Slot → Option StateId) → ((s : Slot) (y : StateId) → id_at old s ≡ Some y → now s ≡ Some y) → (os ns : List Entry) → AreGrownEntries old parents x slot os ns →
-      map (λ e. id_at old e.slot) os ≡ map (λ e. Some e.id) os → map (λ e. now e.slot) ns ≡ map (λ e. Some e.id) ns
-  slots-stay now stays [] [] each named = refl
-  slots-stay now stays [] (n ∷ ns) each named = absurd (each)
-  slots-stay now stays (o ∷ os) [] each named = absurd (each)
-  slots-stay now stays (o ∷ os) (n ∷ ns) each named =
-      let here : id_at old o.slot ≡ Some o.id = cc in
-      let rest : map (λ (e : Entry). id_at old e.slot) os ≡ map (λ (e : Entry). Some e.id) os = cc in
-      ap₂ (λ (i : Option StateId) (is : List (Option StateId)). i ∷ is) (ap now each.0.slot_stays ∙ (stays o.slot o.id here ∙ ap (λ z. Some z) (sym each.0.id_stays))) (slots-stay now stays os ns each.1 rest)
-
 module _ (old new : Table) (rs : List Record) (ks : List StateId) (r : Record) (parents : List Slot) (slot : Slot) (stands : Stands old rs ks) (may : MayBeAdded old rs ks r parents) (g : IsGrown old new r.id parents slot) where
   -- ===== Slots
 
-  looked : (s : Slot) → entry_at new s ≡ or_else (find (λ e. eqb e.slot.0 s.0) g.grown) (cond (eqb g.newest.slot.0 s.0) (Some g.newest) None)
-  looked s = ap (find (λ e. eqb e.slot.0 s.0)) g.entries ∙ find-after s.0 g.grown g.newest
-
-  both : (s : Slot) → FoundBoth old parents r.id slot (entry_at old s) (find (λ e. eqb e.slot.0 s.0) g.grown)
-  both s = found-both old parents r.id slot s.0 old.entries g.grown g.each
-
-  -- a slot names what it named
-  pub names-stay : (s : Slot) (y : StateId) → id_at old s ≡ Some y → id_at new s ≡ Some y
-  names-stay s y named =
-      ap (option_map (λ e. e.id)) (looked s) ∙ go (entry_at old s) (find (λ e. eqb e.slot.0 s.0) g.grown) (both s) named
-    where
-      go : (o n : Option Entry) → FoundBoth old parents r.id slot o n → option_map (λ e. e.id) o ≡ Some y → option_map (λ e. e.id) (or_else n (cond (eqb g.newest.slot.0 s.0) (Some g.newest) None)) ≡ Some y
-      go None n b e = absurd (none-some y e)
-      go (Some o) None b e = absurd (b)
-      go (Some o) (Some n) b e = ap (λ z. Some z) b.id_stays ∙ e
-
-  -- a slot that named nothing names nothing, or the new state
-  none-named : (s : Slot) → ◌≡◌ {A = Option StateId} (id_at old s) None → (◌≡◌ {A = Option StateId} (id_at new s) None) ⊎ (id_at new s ≡ Some r.id)
-  none-named s named =
-      subst (λ (o : Option Entry). (◌≡◌ {A = Option StateId} (option_map (λ (e : Entry). e.id) o) None) ⊎ (option_map (λ (e : Entry). e.id) o ≡ Some r.id)) (sym (looked s))
-      (go (entry_at old s) (find (λ e. eqb e.slot.0 s.0) g.grown) (both s) named)
-    where
-      go : (o n : Option Entry) → FoundBoth old parents r.id slot o n → ◌≡◌ {A = Option StateId} (option_map (λ e. e.id) o) None →
-          (◌≡◌ {A = Option StateId} (option_map (λ e. e.id) (or_else n (cond (eqb g.newest.slot.0 s.0) (Some g.newest) None))) None) ⊎ (option_map (λ e. e.id) (or_else n (cond (eqb g.newest.slot.0 s.0) (Some g.newest) None)) ≡ Some r.id)
-      go None None b e = elim (cases_Bool (eqb g.newest.slot.0 s.0)) [
-        | inl t ↦ inr (ap (option_map (λ (e : Entry). e.id)) (cond-true (eqb g.newest.slot.0 s.0) (Some g.newest) None t) ∙ ap (λ z. Some z) g.is_new.id_is)
-        | inr f ↦ inl (ap (option_map (λ (e : Entry). e.id)) (cond-false (eqb g.newest.slot.0 s.0) (Some g.newest) None f))
-      ]
-      go None (Some n) b e = absurd (b)
-      go (Some o) n b e = absurd (none-some o.id (sym e))
-
-  -- the new slot names the new state
-  pub new-named : id_at new slot ≡ Some r.id
-  new-named = ap (option_map (λ e. e.id)) (looked slot) ∙ go (entry_at old slot) (find (λ e. eqb e.slot.0 slot.0) g.grown) (both slot) g.fresh
-    where
-      go : (o n : Option Entry) → FoundBoth old parents r.id slot o n → ◌≡◌ {A = Option Entry} o None → option_map (λ e. e.id) (or_else n (cond (eqb g.newest.slot.0 slot.0) (Some g.newest) None)) ≡ Some r.id
-      go None None b e =
-          ap (option_map (λ (f : Entry). f.id)) (cond-true (eqb g.newest.slot.0 slot.0) (Some g.newest) None (eq-eqb g.newest.slot.0 slot.0 (ap (λ (s : Slot). s.0) g.is_new.slot_is)))
-          ∙ ap (λ z. Some z) g.is_new.id_is
-      go None (Some n) b e = absurd (b)
-      go (Some o) n b e = absurd (none-some o (sym e))
+  stays : (s : Slot) (y : StateId) → id_at old s ≡ Some y → id_at new s ≡ Some y
+  stays = names-stay old new r.id parents slot g
 
   pub ids-next : map (λ e. e.id) new.entries ≡ kept_states (r ∷ rs) ks
   ids-next =
@@ -135,8 +41,8 @@ module _ (old new : Table) (rs : List Record) (ks : List StateId) (r : Record) (
   pub slots-next : map (λ e. id_at new e.slot) new.entries ≡ map (λ e. Some e.id) new.entries
   slots-next = subst (λ es. map (λ (e : Entry). id_at new e.slot) es ≡ map (λ (e : Entry). Some e.id) es) (sym g.entries)
       (map-append (λ e. id_at new e.slot) g.grown (g.newest ∷ [])
-      ∙ (ap₂ (λ (is : List (Option StateId)) (i : Option StateId). is ++ i ∷ []) (slots-stay old parents r.id slot (id_at new) names-stay old.entries g.grown g.each stands.slots)
-      (ap (id_at new) g.is_new.slot_is ∙ (new-named ∙ ap (λ z. Some z) (sym g.is_new.id_is)))
+      ∙ (ap₂ (λ (is : List (Option StateId)) (i : Option StateId). is ++ i ∷ []) (slots-stay old parents r.id slot (id_at new) stays old.entries g.grown g.each stands.slots)
+      (ap (id_at new) g.is_new.slot_is ∙ (new-named old new r.id parents slot g ∙ ap (λ z. Some z) (sym g.is_new.id_is)))
       ∙ sym (map-append (λ e. Some e.id) g.grown (g.newest ∷ []))))
 
   -- ===== Paths
@@ -147,8 +53,8 @@ module _ (old new : Table) (rs : List Record) (ks : List StateId) (r : Record) (
     where
       go : (o : Option StateId) → id_at old (record { 0 = pair.0 }) ≡ o → is_taken new (r ∷ rs) y pair ≡ is_taken old (r ∷ rs) y pair
       go (Some p) is =
-          ap (λ o. option_map_or (λ q. is_fork (r ∷ rs) q && leads_to (r ∷ rs) y (q, pair.1)) o false) (names-stay (record { 0 = pair.0 }) p is ∙ sym is)
-      go None is = elim (none-named (record { 0 = pair.0 }) is) [
+          ap (λ o. option_map_or (λ q. is_fork (r ∷ rs) q && leads_to (r ∷ rs) y (q, pair.1)) o false) (stays (record { 0 = pair.0 }) p is ∙ sym is)
+      go None is = elim (none-named old new r.id parents slot g (record { 0 = pair.0 }) is) [
         | inl none ↦ ap (λ o. option_map_or (λ q. is_fork (r ∷ rs) q && leads_to (r ∷ rs) y (q, pair.1)) o false) (none ∙ sym is)
         | inr newest ↦
             ap (λ o. option_map_or (λ q. is_fork (r ∷ rs) q && leads_to (r ∷ rs) y (q, pair.1)) o false) newest
@@ -168,13 +74,13 @@ module _ (old new : Table) (rs : List Record) (ks : List StateId) (r : Record) (
       let here : id_at old s ≡ Some (stand_in rs ks c) = cc in
       let rest : map (id_at old) ss ≡ map (λ d. Some (stand_in rs ks d)) cs = cc in
       ap₂ (λ (i : Option StateId) (is : List (Option StateId)). i ∷ is)
-      (names-stay s (stand_in rs ks c) here ∙ ap (λ z. Some z) (sym (stand_in-stays rs r stands.dag may.next ks stands.shared c (known c (among-first c cs)))))
+      (stays s (stand_in rs ks c) here ∙ ap (λ z. Some z) (sym (stand_in-stays rs r stands.dag may.next ks stands.shared c (known c (among-first c cs)))))
       (stand_ins-stay ss cs (λ d m. known d (among-later d c cs m)) rest)
 
   last-stand_in : (b : Bool) → map (id_at new) (only_if b slot) ≡ map (λ c. Some (stand_in (r ∷ rs) ks c)) (only_if b r.id)
   last-stand_in true =
       let itself = kept-stands-for-itself ks (r ∷ rs) r.id (new-isnt_collected old rs ks r stands may.next.new) in
-      ap (λ (i : Option StateId). i ∷ []) (new-named ∙ ap (λ z. Some z) (sym itself))
+      ap (λ (i : Option StateId). i ∷ []) (new-named old new r.id parents slot g ∙ ap (λ z. Some z) (sym itself))
   last-stand_in false = refl
 
   grown-shows : (s : Slot) (o e : Entry) → entry_at old s ≡ Some o → IsGrownEntry old parents r.id slot o e → Shows new (r ∷ rs) ks e o.id
@@ -230,7 +136,7 @@ module _ (old new : Table) (rs : List Record) (ks : List StateId) (r : Record) (
       }
 
   pub shows-next : (s : Slot) (e : Entry) → entry_at new s ≡ Some e → Shows new (r ∷ rs) ks e e.id
-  shows-next s e is = go (entry_at old s) (find (λ f. eqb f.slot.0 s.0) g.grown) refl (both s) (sym (looked s) ∙ is)
+  shows-next s e is = go (entry_at old s) (find (λ f. eqb f.slot.0 s.0) g.grown) refl (both old new r.id parents slot g s) (sym (looked old new r.id parents slot g s) ∙ is)
     where
       go : (o n : Option Entry) → entry_at old s ≡ o → FoundBoth old parents r.id slot o n → or_else n (cond (eqb g.newest.slot.0 s.0) (Some g.newest) None) ≡ Some e → Shows new (r ∷ rs) ks e e.id
       go None None was b h = elim (cases_Bool (eqb g.newest.slot.0 s.0)) [

@@ -10,6 +10,7 @@ pub mod Taken
 pub mod Calls
 pub mod Lengths
 pub mod Refusals
+pub mod GrownSlots
 pub mod GrownEntries
 pub mod GrownCounts
 pub mod Growing
