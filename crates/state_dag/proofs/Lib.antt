@@ -14,4 +14,5 @@ pub mod GrownSlots
 pub mod GrownEntries
 pub mod GrownCounts
 pub mod Growing
+pub mod Added
 pub mod Opening
