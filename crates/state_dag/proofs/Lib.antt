@@ -15,4 +15,5 @@ pub mod GrownEntries
 pub mod GrownCounts
 pub mod Growing
 pub mod Added
+pub mod GrownNodes
 pub mod Opening
