@@ -1,12 +1,12 @@
 -- Entries, places and arrivals of the nodes of a table that has grown.
-use Rattle.std.proofs.Common.{◌≡◌, ℕ, zero, suc, ◌+◌, ◌<◌, ◌≤◌, Bool, true, false, cond, ◌&&◌, ltb, List, [], ◌∷◌, ◌++◌, length, get_or, Option, Some, None, inl, inr, refl, sym, ap, ap₂, subst, ◌∙◌, arith, lt-ltb}
+use Rattle.std.proofs.Common.{◌≡◌, ℕ, suc, ◌+◌, ◌<◌, Bool, true, false, cond, ltb, List, [], ◌∷◌, ◌++◌, length, get_or, Option, Some, None, refl, ap, ap₂, subst, ◌∙◌, arith, lt-ltb}
 use Rattle.std.specs.List.{list_all}
-use Rattle.std.proofs.lemmas.Bool.{and_parts, and_from, cases_Bool, ltb-true}
+use Rattle.std.proofs.lemmas.Bool.{and_parts, and_from, ltb-true}
 use Rattle.tardis_base.specs.declared.ids.StateId.{StateId}
 use Rattle.tardis_base.specs.declared.ids.Slot.{Slot}
 use Rattle.tardis_base.specs.Ids.{same_id}
 use Rattle.state_dag.specs.declared.nodes.Node.{Node}
-use Rattle.state_dag.specs.Table.{Entry, Table, arrive_in_order}
+use Rattle.state_dag.specs.Table.{Table, arrive_in_order}
 use Rattle.state_dag.specs.Views.{entry_of, entries_from, slot_or, place_of_id}
 use Rattle.state_dag.specs.Grown.{IsGrownEntry, AreGrownEntries}
 use Rattle.state_dag.proofs.Added.{have_arrived}
@@ -30,8 +30,8 @@ entries-grown table parents x slot p (o ∷ os) (n ∷ ns) same grown =
     let here : p + 0 ≡ p = omega arith in (
       subst (λ k. IsGrownEntry table parents x slot (entry_of k o) (entry_of k n)) here (grown 0 o (omega arith)),
       entries-grown table parents x slot (p + 1) os ns (omega arith) (λ k d lt.
-      let next : p + suc k ≡ (p + 1) + k = omega arith in
-      subst (λ j. IsGrownEntry table parents x slot (entry_of j (get_or os k d)) (entry_of j (get_or ns k d))) next (grown (suc k) d (omega arith))),
+          let next : p + suc k ≡ (p + 1) + k = omega arith in
+          subst (λ j. IsGrownEntry table parents x slot (entry_of j (get_or os k d)) (entry_of j (get_or ns k d))) next (grown (suc k) d (omega arith))),
     )
 
 -- ===== Places

@@ -16,4 +16,5 @@ pub mod GrownCounts
 pub mod Growing
 pub mod Added
 pub mod GrownNodes
+pub mod GrownPlaces
 pub mod Opening
