@@ -51,7 +51,7 @@ numbers-differ : (a n : ℕ) → Differ eqb (range_with_len a n)
 numbers-differ a zero = tt
 numbers-differ a (suc n) = (below-first (a + 1) a n (omega arith), numbers-differ (a + 1) n)
 
-number-there : (a k n : ℕ) → a ≤ k → k < a + n → list_any (eqb k) (range_with_len a n) ≡ true
+pub number-there : (a k n : ℕ) → a ≤ k → k < a + n → list_any (eqb k) (range_with_len a n) ≡ true
 number-there a k zero le lt = absurd (omega arith)
 number-there a k (suc n) le lt = elim (cases_Bool (eqb k a)) [
   | inl t ↦ or_left (eqb k a) (list_any (eqb k) (range_with_len (a + 1) n)) t

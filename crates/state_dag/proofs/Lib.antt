@@ -18,3 +18,4 @@ pub mod Added
 pub mod GrownNodes
 pub mod GrownPlaces
 pub mod Opening
+pub mod NamedPaths

@@ -12,20 +12,23 @@ ghost use Rattle.plain_dag.specs.Above.{is_above};
 ghost use Rattle.plain_dag.specs.Forks.{leaves};
 ghost use Rattle.plain_dag.specs.Begin.{last_arrived};
 ghost use Rattle.plain_dag.specs.Collection.{is_kept, kept_states, stand_in};
+ghost use Rattle.plain_dag.specs.Paths.{fork_path};
 ghost use Rattle.state_dag.specs.Table.{entry_at, id_at, is_slot, is_kept_at, arrival_at, is_slot_above};
 ghost use Rattle.state_dag.specs.Views.{entry_of};
 ghost use Rattle.state_dag.specs.Stands.{Stands};
 ghost use Rattle.state_dag.specs.Answers.{next_of, slot_after};
 
+mod named_paths;
 mod nodes;
 mod slots;
 
+use named_paths::named_path;
 use nodes::{Node, ROOT, is_node_above, root_node};
 use slots::slot_in;
 use std::alloc::Global;
 use std::collections::BTreeMap;
 use std::marker::Model;
-use tardis_base::{Above, Limits, NoMemory, Slot, StateId};
+use tardis_base::{Above, Limits, NoMemory, PathList, Slot, StateId};
 
 /// The states of one site, by the slots in which the kept ones stand.
 ///
@@ -223,6 +226,21 @@ impl StateDag {
         ensures kept { IsTrue (is_kept_at self.now slot) }
     {
         &self.nodes[slot.0 as usize]
+    }
+
+    /// The fork path of the state at the slot: each kept fork on a way to it with the number of the branch taken, by the
+    /// fork's arrival and then by number.
+    ///
+    /// The cost grows with the number of pairs.
+    pub fn path(&self, slot: Slot) -> Result<PathList, NoMemory>
+        requires { IsTrue (is_slot self.now slot) }
+        ensures { (rs : List Record) (ks : List StateId) → Stands self.now rs ks → (x : StateId) → id_at self.now slot ≡ Some x → IfOk result (λ path. path ≡ fork_path rs ks x) }
+    {
+        named_path(
+            *self.nodes.allocator(),
+            self.nodes.as_slice(),
+            &self.node(slot).path,
+        )
     }
 }
 
