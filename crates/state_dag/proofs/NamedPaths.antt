@@ -1,6 +1,6 @@
 -- Fork paths by the ids of their forks.
-use Rattle.std.proofs.Common.{◌≡◌, ℕ, zero, suc, ◌+◌, ◌<◌, ◌≤◌, Bool, true, false, cond, ◌||◌, ◌&&◌, eqb, ltb, List, [], ◌∷◌, ◌++◌, length, map, filter, find, flat_map, slice_get, Option, Some, None, IsTrue, inl, inr, refl, sym, ap, ap₂, subst, ◌∙◌, eqb-true, eq-eqb, arith}
-use Rattle.std.specs.List.{list_any, list_all, range_with_len, filter_map, cons_option}
+use Rattle.std.proofs.Common.{◌≡◌, ℕ, zero, suc, ◌+◌, ◌<◌, Bool, true, false, cond, ◌||◌, ◌&&◌, eqb, ltb, List, [], ◌∷◌, ◌++◌, length, map, filter, find, flat_map, slice_get, Some, IsTrue, inl, inr, refl, sym, ap, ap₂, subst, ◌∙◌, eqb-true, eq-eqb, arith}
+use Rattle.std.specs.List.{list_all, range_with_len, filter_map, cons_option}
 use Rattle.std.specs.Option.{option_map, option_map_or}
 use Rattle.std.proofs.lemmas.Bool.{and_parts, and_from, and_left, or_left, or_right, cases_Bool, both_ways, false_from_ne_true, lt-ltb, ltb-true}
 use Rattle.std.proofs.lemmas.List.Elements.{filter-append, filter_map-append}

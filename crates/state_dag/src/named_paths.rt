@@ -40,3 +40,53 @@ fn pair_named(nodes: &[Node], pair: (u32, u32)) -> Option<(StateId, u32)>
     let (place, branch) = pair;
     nodes.get(place as usize).map(|node| (node.id, branch))
 }
+
+#[cfg(test)]
+mod tests {
+    use super::*;
+    use crate::StateDag;
+    use crate::nodes::root_node;
+    use tardis_base::Limits;
+
+    #[test]
+    fn the_root_alone_has_no_pairs(rt: HostRuntime) {
+        let limits = Limits {
+            sites: 1,
+            max_kept: 2,
+            max_path: 1,
+            max_sessions: 1,
+            max_trail: 0,
+        };
+        let table = StateDag::new(rt.alloc(), &limits).expect(&rt, "room");
+        let path = table.path(table.last()).expect(&rt, "room");
+        assert!(rt; path.is_empty());
+    }
+
+    #[test]
+    fn pairs_are_named_by_their_nodes(rt: HostRuntime) {
+        let first = StateId {
+            site: 0,
+            sequence: 0,
+        };
+        let second = StateId {
+            site: 3,
+            sequence: 5,
+        };
+        let mut node = root_node(rt.alloc());
+        node.id = second;
+        let mut nodes = Vec::new(rt.alloc());
+        nodes.push(root_node(rt.alloc())).expect(&rt, "room");
+        nodes.push(node).expect(&rt, "room");
+        let mut path = ForkPath::new(rt.alloc());
+        path.reserve(4).expect(&rt, "room");
+        path.with_pair(1, 0);
+        path.with_pair(0, 1);
+        path.with_pair(0, 0);
+        path.with_pair(2, 0);
+        let named = named_path(rt.alloc(), nodes.as_slice(), &path).expect(&rt, "room");
+        assert_eq!(rt;
+            named.as_slice(),
+            [(first, 0), (first, 1), (second, 0)].as_slice()
+        );
+    }
+}

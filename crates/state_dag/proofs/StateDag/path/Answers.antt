@@ -1,6 +1,5 @@
-use Rattle.std.proofs.Common.{◌≡◌, IfOk, ap, sym, subst, ◌∙◌}
+use Rattle.std.proofs.Common.{◌≡◌, IfOk, ap, subst, ◌∙◌}
 use Rattle.std.specs.List.{filter_map}
-use Rattle.plain_dag.specs.Paths.{fork_path}
 use Rattle.state_dag.specs.Views.{entry_of, named_pair}
 use Rattle.state_dag.proofs.Standing.{shown}
 use Rattle.state_dag.proofs.NamedPaths.{named-is_path}
