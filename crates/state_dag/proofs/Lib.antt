@@ -16,6 +16,16 @@ pub mod GrownCounts
 pub mod Growing
 pub mod Added
 pub mod GrownNodes
-pub mod GrownPlaces
 pub mod Opening
+pub mod FirstBranches
+pub mod Passing
+pub mod NodeLists
+pub mod LongPaths
+pub mod Gains
+pub mod NodeRooms
+pub mod NodeGrowth
+pub mod SameEntries
+pub mod LastSlots
+pub mod GrownTables
+pub mod HeldNext
 pub mod NamedPaths
