@@ -3,7 +3,8 @@
 //! Whether bytes are a spelling doesn't depend on memory: where memory is wanting for a field, the reader goes on behind
 //! it all the same.
 
-ghost use Rattle.std.specs.Prelude.{◌≡◌, ℕ, List, IfOk};
+ghost use Rattle.std.specs.Prelude.{◌≡◌, ℕ, List, Some, Err, IfOk, IsErr, OnErr, IsTrue};
+ghost use Rattle.tardis_base.specs.declared.faults.NoMemory.{NoMemory};
 ghost use Rattle.tardis_base.specs.declared.ids.StateId.{StateId};
 ghost use Rattle.tardis_base.specs.declared.records.Batch.{Batch};
 ghost use Rattle.tardis_base.specs.declared.replies.Refusal.{Refusal};
@@ -11,6 +12,7 @@ ghost use Rattle.tardis_base.specs.declared.replies.Reply.{Reply};
 ghost use Rattle.wire_item.specs.Fronts.{both, counted, made, only_if, times};
 ghost use Rattle.wire_item.specs.Readings.{batch_front, id_front, key_front, parents_front, u16_front, u32_front, u64_front, value_front};
 ghost use Rattle.wire_item.specs.Takings.{Makes, Takes};
+ghost use Rattle.wire_talk.specs.Memory.{refusal_takes_no_memory};
 ghost use Rattle.wire_talk.specs.ReplyReadings.{children_front, first_ids_front, first_keys_front, path_front, refusal_front, site_lines_front};
 ghost use Rattle.wire_talk.specs.Valid.{are_first_ids, are_first_keys, is_first_of};
 
@@ -95,18 +97,15 @@ pub fn read_batch(alloc: Global, reader: &mut Reader) -> Option<Result<Reply, No
 }
 
 pub fn read_refused(alloc: Global, reader: &mut Reader) -> Option<Result<Reply, NoMemory>>
-    ensures { Makes (made Reply.Refused refusal_front) reader.old result reader.new }
+    ensures makes { Makes (made Reply.Refused refusal_front) reader.old result reader.new }
+    ensures sure { (x : Refusal) (rest : List ℕ) (e : NoMemory) → refusal_front reader.old ≡ Some (x, rest) → IsTrue (refusal_takes_no_memory x) → result ≡ Some (Err e) → ⊥ }
 {
     let refusal = refusal(reader, alloc)?;
     Some(refused(refusal))
 }
 
 /// The first ids of so many.
-fn first_ids(
-    alloc: Global,
-    total: u32,
-    reader: &mut Reader,
-) -> Option<Result<StateList, NoMemory>>
+fn first_ids(alloc: Global, total: u32, reader: &mut Reader) -> Option<Result<StateList, NoMemory>>
     ensures { Makes (only_if (are_first_ids total) (counted u16_front (times id_front))) reader.old result reader.new }
 {
     let count = reader.u16()?;
@@ -226,7 +225,8 @@ fn batch_of(batch: Result<Batch, NoMemory>) -> Result<Reply, NoMemory>
 }
 
 fn refused(refusal: Result<Refusal, NoMemory>) -> Result<Reply, NoMemory>
-    ensures { (x : Refusal) → IfOk refusal (λ r. r ≡ x) → IfOk result (λ r. r ≡ Reply.Refused x) }
+    ensures made { (x : Refusal) → IfOk refusal (λ r. r ≡ x) → IfOk result (λ r. r ≡ Reply.Refused x) }
+    ensures same { OnErr result (IsErr refusal) }
 {
     Ok(Reply::Refused { refusal: refusal? })
 }

@@ -2,9 +2,12 @@
 //!
 //! How replies are spelled is stated in `docs/FORMATS.md`. The cost grows with the number of bytes.
 
-ghost use Rattle.std.specs.Prelude.{◌≡◌, ◌<◌, ◌≤◌, ◌↔◌, None, Err, IfOk};
+ghost use Rattle.std.specs.Prelude.{◌≡◌, ◌<◌, ◌≤◌, ◌↔◌, ℕ, List, None, Some, Err, IfOk, IsTrue};
+ghost use Rattle.tardis_base.specs.declared.faults.NoMemory.{NoMemory};
+ghost use Rattle.tardis_base.specs.declared.replies.Reply.{Reply};
 ghost use Rattle.wire_item.specs.Fronts.{front_of_code};
 ghost use Rattle.wire_item.specs.Takings.{Makes};
+ghost use Rattle.wire_talk.specs.Memory.{reply_takes_no_memory};
 ghost use Rattle.wire_talk.specs.ReplyReadings.{reply_front, reply_of, reply_rows};
 ghost use Rattle.wire_talk.specs.Spelled.{SpellsReply};
 
@@ -17,10 +20,12 @@ use std::alloc::Global;
 use tardis_base::{NoMemory, ReadFault, Reply};
 use wire_item::{Reader, whole};
 
-/// The reply that the bytes spell.
+/// The reply that the bytes spell. A reply with no key, no value, no batch and no list but that of site lines takes no
+/// memory.
 pub fn read_reply(alloc: Global, bytes: &[u8]) -> Result<Reply, ReadFault>
     ensures spelled { IfOk result (λ reply. SpellsReply bytes.now reply) }
     ensures malformed { (result ≡ Err ReadFault.Malformed) ↔ (reply_of bytes.now ≡ None) }
+    ensures sure { (reply : Reply) → reply_of bytes.now ≡ Some reply → IsTrue (reply_takes_no_memory reply) → result ≡ Err ReadFault.NoMemory → ⊥ }
 {
     let mut reader = Reader::new(bytes);
     let taken = reply(alloc, &mut reader);
@@ -28,7 +33,8 @@ pub fn read_reply(alloc: Global, bytes: &[u8]) -> Result<Reply, ReadFault>
 }
 
 fn reply(alloc: Global, reader: &mut Reader) -> Option<Result<Reply, NoMemory>>
-    ensures { Makes reply_front reader.old result reader.new }
+    ensures read { Makes reply_front reader.old result reader.new }
+    ensures sure { (r : Reply) (e : NoMemory) → reply_of reader.old ≡ Some r → IsTrue (reply_takes_no_memory r) → result ≡ Some (Err e) → ⊥ }
 {
     let code = reader.u8()?;
     if code < 12 {
@@ -41,7 +47,8 @@ fn reply(alloc: Global, reader: &mut Reader) -> Option<Result<Reply, NoMemory>>
 /// The reply of a code below 12.
 fn low_reply(alloc: Global, code: u8, reader: &mut Reader) -> Option<Result<Reply, NoMemory>>
     requires { code < 12 }
-    ensures { Makes (front_of_code code reply_rows) reader.old result reader.new }
+    ensures read { Makes (front_of_code code reply_rows) reader.old result reader.new }
+    ensures sure { (r : Reply) (rest : List ℕ) (e : NoMemory) → front_of_code code reply_rows reader.old ≡ Some (r, rest) → IsTrue (reply_takes_no_memory r) → result ≡ Some (Err e) → ⊥ }
 {
     match code {
         1 => Some(Ok(Reply::Opened {
@@ -70,7 +77,8 @@ fn low_reply(alloc: Global, code: u8, reader: &mut Reader) -> Option<Result<Repl
 /// The reply of a code from 12 on.
 fn high_reply(alloc: Global, code: u8, reader: &mut Reader) -> Option<Result<Reply, NoMemory>>
     requires { 12 ≤ code }
-    ensures { Makes (front_of_code code reply_rows) reader.old result reader.new }
+    ensures read { Makes (front_of_code code reply_rows) reader.old result reader.new }
+    ensures sure { (r : Reply) (rest : List ℕ) (e : NoMemory) → front_of_code code reply_rows reader.old ≡ Some (r, rest) → IsTrue (reply_takes_no_memory r) → result ≡ Some (Err e) → ⊥ }
 {
     match code {
         12 => {
