@@ -7,6 +7,8 @@ mod refusal_readers;
 mod refusal_writers;
 mod reply_field_readers;
 mod reply_readers;
+#[cfg(test)]
+mod reply_tests;
 mod reply_writers;
 mod request_field_readers;
 mod request_readers;
