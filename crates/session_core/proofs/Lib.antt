@@ -1,0 +1,5 @@
+-- Lemmas on the site in memory.
+pub mod Entries
+pub mod WholeTxns
+pub mod Answers
+pub mod OpenSessions

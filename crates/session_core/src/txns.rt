@@ -1,0 +1,83 @@
+//! The open transactions, each with the slots of the states that it reads.
+
+ghost use Rattle.std.specs.Prelude.{◌≡◌, ◌<◌, ℕ, [], length, is_some, IsTrue, IfOk, IfSome, OnOk, OnErr, Some};
+ghost use Rattle.std.specs.Option.{option_copied};
+ghost use Rattle.plain_dag.specs.Entries.{entry_of, with_entry, without_entry, changed};
+ghost use Rattle.merge_txn.specs.Txns.{is_single};
+ghost use Rattle.session_core.specs.Txns.{is_whole};
+
+use merge_txn::Txn;
+use std::alloc::Global;
+use std::collections::BTreeMap;
+use std::marker::Model;
+use tardis_base::{ListOf, NoMemory, Slot};
+
+/// An open transaction. So that no read looks a state up, the slots of its read states are kept beside it, in their order.
+#[derive(Drop)]
+pub struct OpenTxn {
+    pub txn: Txn,
+    pub slots: ListOf<Slot>,
+}
+
+/// The open transactions, by the numbers of their sessions.
+#[derive(Drop)]
+pub struct TxnBook {
+    entries: BTreeMap<u16, OpenTxn>,
+}
+
+impl Model for TxnBook {
+    ghost use Rattle.std.specs.Prelude.{List, ℕ};
+    ghost use Rattle.session_core.specs.declared.txns.OpenTxn.{OpenTxn};
+
+    ghost Value = { List (ℕ × OpenTxn) };
+
+    ghost use Rattle.session_core.specs.Txns.{AreWhole};
+
+    ghost view = { λ a. a.entries.entries };
+
+    ghost invariant = { λ a. AreWhole a.entries.entries };
+}
+
+impl TxnBook {
+    /// No transaction. It takes no memory.
+    pub fn new(alloc: Global) -> TxnBook
+        ensures { result ≡ [] }
+    {
+        TxnBook {
+            entries: BTreeMap::new(alloc),
+        }
+    }
+
+    /// The transaction of the session, if it has one.
+    pub fn get(&self, session: u16) -> Option<&OpenTxn>
+        ensures is { option_copied result ≡ entry_of session self.now }
+        ensures single { IfSome result (λ held. IsTrue (is_single held.now.txn)) }
+        ensures slots { IfSome result (λ held. 0 < length held.now.slots) }
+    {
+        self.entries.get(&session)
+    }
+
+    /// Whether the session has a transaction.
+    pub fn is_open(&self, session: u16) -> bool
+        ensures { result ≡ is_some (entry_of session self.now) }
+    {
+        self.entries.contains_key(&session)
+    }
+
+    /// The transaction of the session, which had none before, or another one.
+    pub fn begin(&mut self, session: u16, held: OpenTxn) -> Result<(), NoMemory>
+        requires { IsTrue (is_whole held) }
+        ensures begun { OnOk result (self.new ≡ with_entry session held self.old) }
+        ensures same { OnErr result (self.new ≡ self.old) }
+    {
+        self.entries.insert(session, held)?;
+        Ok(())
+    }
+
+    /// The session has no transaction any more.
+    pub fn end(&mut self, session: u16)
+        ensures { self.new ≡ without_entry session self.old }
+    {
+        self.entries.remove(&session);
+    }
+}
