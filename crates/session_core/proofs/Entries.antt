@@ -13,7 +13,6 @@ use Rattle.plain_site.proofs.SoundBooks.{at-each}
 use Rattle.ceiling_book.proofs.Entries.{mapped, looked-up, inserted, removed, written}
 
 module _ {A : Type 0} where
-
   mapped-same : (es : List (ℕ × A)) → mapped (λ (a : A). a) es ≡ es
   mapped-same [] = refl
   mapped-same (e ∷ es) = ap (λ (ds : List (ℕ × A)). e ∷ ds) (mapped-same es)

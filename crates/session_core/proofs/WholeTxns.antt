@@ -7,7 +7,6 @@ use Rattle.merge_txn.specs.Txns.{is_single}
 use Rattle.session_core.specs.declared.txns.OpenTxn.{OpenTxn}
 use Rattle.session_core.specs.Txns.{is_whole, AreWhole}
 
-
 pub whole-single : (n : ℕ) (es : List (ℕ × OpenTxn)) (found : Option (Bor OpenTxn)) → AreWhole es → option_copied found ≡ entry_of n es → IfSome found (λ held. IsTrue (is_single held.now.txn))
 whole-single n es None whole is = tt
 whole-single n es (Some held) whole is = (and_parts (is_single held.now.txn) (nat_lt 0 (length held.now.slots)) (whole n held.now (sym is))).0

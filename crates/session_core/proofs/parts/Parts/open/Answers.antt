@@ -1,5 +1,6 @@
 use Rattle.std.proofs.Common.{◌≡◌, Some, Err, sym, subst}
 use Rattle.state_dag.specs.Table.{id_at}
+use Rattle.ceiling_book.specs.declared.OpenFault.{OpenFault}
 use Rattle.ceiling_book.specs.Answers.{OpenedIn}
 use Rattle.plain_site.specs.Sessions.{open_session}
 use Rattle.session_core.specs.Held.{seen}
@@ -15,7 +16,7 @@ returns c = λ site stands sound.
     let here = subst (λ v. CoreStands v site) (sym c.self.view_is) stands in
     let book = c.open_session.new.self in
     let gives = Gives (CoreStands (record core { book = book })) (open_session site c.args.actor c.args.follow) site in
-    let refusal = λ fault. OpenedIn core.book book c.args.actor c.args.follow (Err fault) in
+    let refusal = λ (fault : OpenFault). OpenedIn core.book book c.args.actor c.args.follow (Err fault) in
     elim c.match-open_session.branch [
       | in-Ok w ↦
           subst gives (sym w.result-is)
