@@ -1,7 +1,7 @@
 -- What the calls read off the memory.
-use Rattle.std.proofs.Common.{◌≡◌, ℕ, ◌+◌, ◌-◌, ◌<◌, ◌≤◌, true, false, eqb, List, [], ◌∷◌, ◌++◌, length, map, find, get_or, slice_get, Option, Some, None, is_some, IsTrue, IfSome, refl, sym, ap, subst, ◌∙◌, arith, length-append}
-use Rattle.std.specs.Option.{option_map}
-use Rattle.std.proofs.lemmas.Bool.{and_from, both_ways, false_from_ne_true}
+use Rattle.std.proofs.Common.{◌≡◌, ℕ, ◌+◌, ◌-◌, ◌<◌, ◌≤◌, true, false, eqb, ltb, List, [], ◌∷◌, ◌++◌, length, map, find, get_or, slice_get, Option, Some, None, is_some, IsTrue, IfSome, refl, sym, ap, subst, ◌∙◌, arith, length-append}
+use Rattle.std.specs.Option.{option_map, option_map_or}
+use Rattle.std.proofs.lemmas.Bool.{and_parts, and_from, both_ways, false_from_ne_true, ltb-true}
 use Rattle.std.proofs.lemmas.Option.{none-some}
 use Rattle.std.proofs.lemmas.List.{length-map}
 use Rattle.std.proofs.lemmas.List.FromFn.{get_or-map-range_with_len}
@@ -14,12 +14,12 @@ use Rattle.plain_dag.specs.Begin.{last_arrived}
 use Rattle.plain_dag.specs.Collection.{is_kept, kept_states}
 use Rattle.state_dag.specs.declared.StateDag.TheInside.{Inside}
 use Rattle.state_dag.specs.declared.nodes.Node.{Node}
-use Rattle.state_dag.specs.Table.{Entry, Table, entry_at, id_at, is_slot, arrive_in_order, is_kept_at}
+use Rattle.state_dag.specs.Table.{Entry, Table, entry_at, id_at, is_slot, arrive_in_order, is_kept_at, arrival_at}
 use Rattle.state_dag.specs.Views.{entries_from, place_of_id}
 use Rattle.state_dag.specs.Held.{seen}
 use Rattle.state_dag.specs.Stands.{Stands}
 use Rattle.state_dag.specs.Answers.{next_of, slot_after}
-use Rattle.state_dag.proofs.Places.{ids_from, AllDiffer, find-beyond, length-ids, named-at, place-found, place-missing, find-some, next-named}
+use Rattle.state_dag.proofs.Places.{ids_from, entry-found, AllDiffer, find-beyond, length-ids, named-at, place-found, place-missing, find-some, next-named}
 use Rattle.state_dag.proofs.Known.{kept-is_listed, kept-differ, last-kept}
 
 -- ===== Numbers
@@ -63,6 +63,14 @@ named-is_slot table s x h = go (entry_at table s) h
     go : (o : Option Entry) → option_map (λ e. e.id) o ≡ Some x → is_some o ≡ true
     go None e = absurd (none-some x e)
     go (Some e) _ = refl
+
+-- a slot names a state
+pub named-of_slot : (table : Table) (s : Slot) → is_slot table s ≡ true → (x : StateId) × (id_at table s ≡ Some x)
+named-of_slot table s h = go (entry_at table s) h
+  where
+    go : (o : Option Entry) → is_some o ≡ true → (x : StateId) × (option_map (λ e. e.id) o ≡ Some x)
+    go None e = absurd (both_ways false refl e)
+    go (Some e) _ = (e.id, refl)
 
 pub searched-is_kept : (a : Inside) (table : Table) (x : StateId) (o : Option Slot) → seen a ≡ table → IsTrue (arrive_in_order (entries_from 0 a.nodes.items)) → o ≡ place_of_id 0 a.nodes.items x →
     IfSome o (λ slot. IsTrue (is_kept_at table slot))
@@ -112,3 +120,32 @@ next-is_next a table rs ks k x is stands named =
 pub beyond-is_none : (a : Inside) (table : Table) (k : ℕ) → seen a ≡ table → length a.nodes.items ≤ k → ◌≡◌ {A = Option StateId} (id_at table (record { 0 = k })) None
 beyond-is_none a table k is le =
     subst (λ t. ◌≡◌ {A = Option StateId} (id_at t (record { 0 = k })) None) is (ap (option_map (λ (e : Entry). e.id)) (find-beyond a.nodes.items 0 k (omega arith)))
+
+-- ===== Arrival by places
+
+-- each place has an earlier arrival than the next
+rising-at : (ns : List Node) (p k j : ℕ) (d : Node) → arrive_in_order (entries_from p ns) ≡ true → j ≡ k + 1 → j < length ns → (get_or ns k d).arrival < (get_or ns j d).arrival
+rising-at [] p k j d up next lt = absurd (omega arith)
+rising-at (n ∷ []) p k j d up next lt = absurd (omega arith)
+rising-at (n ∷ m ∷ ns) p ℕ.zero ℕ.zero d up next lt = absurd (omega arith)
+rising-at (n ∷ m ∷ ns) p ℕ.zero (ℕ.suc ℕ.zero) d up next lt = ltb-true n.arrival m.arrival (and_parts (ltb n.arrival m.arrival) (arrive_in_order (entries_from (p + 1) (m ∷ ns))) up).0
+rising-at (n ∷ m ∷ ns) p ℕ.zero (ℕ.suc (ℕ.suc j)) d up next lt = absurd (omega arith)
+rising-at (n ∷ m ∷ ns) p (ℕ.suc k) ℕ.zero d up next lt = absurd (omega arith)
+rising-at (n ∷ m ∷ ns) p (ℕ.suc k) (ℕ.suc j) d up next lt =
+    rising-at (m ∷ ns) (p + 1) k j d (and_parts (ltb n.arrival m.arrival) (arrive_in_order (entries_from (p + 1) (m ∷ ns))) up).1 (omega arith) (omega arith)
+
+arrival-found : (a : Inside) (k : ℕ) (d : Node) → k < length a.nodes.items → arrival_at (seen a) (record { 0 = k }) ≡ (get_or a.nodes.items k d).arrival
+arrival-found a k d lt = ap (λ o. option_map_or (λ (e : Entry). e.arrival) o 0) (entry-found a.nodes.items k d lt)
+
+pub place-arrives-earlier : (a : Inside) (table : Table) (k : ℕ) → seen a ≡ table → IsTrue (arrive_in_order (entries_from 0 a.nodes.items)) → 0 < k → k < length a.nodes.items →
+    arrival_at table (record { 0 = k - 1 }) < arrival_at table (record { 0 = k })
+place-arrives-earlier a table k is up some lt =
+    subst (λ t. arrival_at t (record { 0 = k - 1 }) < arrival_at t (record { 0 = k })) is (go a.nodes.items refl)
+  where
+    go : (ns : List Node) → a.nodes.items ≡ ns → arrival_at (seen a) (record { 0 = k - 1 }) < arrival_at (seen a) (record { 0 = k })
+    go [] e = (let l = ap length e in absurd (omega arith))
+    go (d ∷ ns) e =
+        let one = arrival-found a (k - 1) d (omega arith) in
+        let two = arrival-found a k d lt in
+        let less = rising-at a.nodes.items 0 (k - 1) k d up (omega arith) lt in
+        omega arith

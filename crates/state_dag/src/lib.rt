@@ -217,6 +217,27 @@ impl StateDag {
         }
     }
 
+    /// The slot of the kept state that arrived last before the one at this slot, or last of all; None at the beginning.
+    pub fn kept_before(&self, slot: Option<Slot>) -> Option<Slot>
+        requires { IfSome slot (λ s. IsTrue (is_slot self.now s)) }
+        ensures slots { IfSome result (λ s. IsTrue (is_slot self.now s)) }
+        ensures is { slot_after self.now.entries result ≡ slot }
+        ensures earlier { IfSome result (λ s. (t : Slot) → slot ≡ Some t → arrival_at self.now s < arrival_at self.now t) }
+        ensures last { slot ≡ None → (rs : List Record) (ks : List StateId) → Stands self.now rs ks → option_and_then (id_at self.now) result ≡ Some (last_arrived rs) }
+        ensures before { (rs : List Record) (ks : List StateId) → Stands self.now rs ks → (s : Slot) (x : StateId) → slot ≡ Some s → id_at self.now s ≡ Some x → next_of (kept_states rs ks) (option_and_then (id_at self.now) result) ≡ Some x }
+    {
+        match slot {
+            None => Some(Slot((self.nodes.len() - 1) as u32)),
+            Some(slot) => {
+                if slot.0 == 0 {
+                    None
+                } else {
+                    Some(Slot(slot.0 - 1))
+                }
+            },
+        }
+    }
+
     fn node(&self, slot: Slot) -> &Node
         requires { IsTrue (is_slot self.now slot) }
         ensures entry { entry_at self.now slot ≡ Some (entry_of slot.0 result.now) }

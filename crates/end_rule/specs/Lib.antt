@@ -1,0 +1,2 @@
+-- What a check of the end constraints answers.
+pub mod Checks
