@@ -11,8 +11,10 @@ ghost use Rattle.plain_site.specs.Sound.{IsSound};
 ghost use Rattle.session_core.specs.Stands.{CoreStands};
 
 mod parts;
+mod reads;
 mod sessions;
 mod txns;
+mod writes;
 
 use parts::Parts;
 use std::alloc::Global;
