@@ -8,3 +8,4 @@ pub mod Memory
 pub mod OpenSessions
 pub mod Reading
 pub mod Writing
+pub mod Beginning

@@ -10,6 +10,7 @@ ghost use Rattle.plain_site.specs.Built.{so_far};
 ghost use Rattle.plain_site.specs.Sound.{IsSound};
 ghost use Rattle.session_core.specs.Stands.{CoreStands};
 
+mod begins;
 mod parts;
 mod reads;
 mod sessions;
