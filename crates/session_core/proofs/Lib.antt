@@ -9,3 +9,5 @@ pub mod OpenSessions
 pub mod Reading
 pub mod Writing
 pub mod Beginning
+pub mod Growing
+pub mod Committing

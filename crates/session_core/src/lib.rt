@@ -11,6 +11,7 @@ ghost use Rattle.plain_site.specs.Sound.{IsSound};
 ghost use Rattle.session_core.specs.Stands.{CoreStands};
 
 mod begins;
+mod commits;
 mod parts;
 mod reads;
 mod sessions;
