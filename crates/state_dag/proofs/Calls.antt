@@ -57,7 +57,7 @@ pub searched-names : (a : Inside) (table : Table) (x : StateId) (o : Option Slot
 searched-names a table x None is e = tt
 searched-names a table x (Some s) is e = subst (λ t. id_at t s ≡ Some x) is (place-found a.nodes.items 0 x s (sym e)).1
 
-named-is_slot : (table : Table) (s : Slot) (x : StateId) → id_at table s ≡ Some x → is_slot table s ≡ true
+pub named-is_slot : (table : Table) (s : Slot) (x : StateId) → id_at table s ≡ Some x → is_slot table s ≡ true
 named-is_slot table s x h = go (entry_at table s) h
   where
     go : (o : Option Entry) → option_map (λ e. e.id) o ≡ Some x → is_some o ≡ true
