@@ -1,10 +1,10 @@
 -- The words in which the step is told, where their tests are decided.
-use Rattle.std.proofs.Common.{◌≡◌, ◌↔◌, Bool, true, false, List, ◌∷◌, Option, Some, None, Result, Ok, Err, IsTrue, refl, sym, subst}
+use Rattle.std.proofs.Common.{◌≡◌, ◌↔◌, Bool, true, false, List, ◌∷◌, Option, Some, Result, Ok, Err, IsTrue, refl, sym, subst}
 use Rattle.std.specs.Option.{IfSome}
 use Rattle.std.proofs.lemmas.Bool.{false_from_ne_true}
 use Rattle.tardis_base.specs.declared.replies.Reply.{Reply}
 use Rattle.plain_site.specs.Site.{Site}
-use Rattle.plain_site.specs.Answers.{Answer, when, unless, given}
+use Rattle.plain_site.specs.Answers.{Answer, when, unless}
 use Rattle.session_core.specs.Gives.{IsGiven}
 
 module _ (site : Site) (reply : Reply) (more : List (Option Reply)) (answer : Answer) where

@@ -1,12 +1,11 @@
 -- A transaction begins.
-use Rattle.std.proofs.Common.{◌≡◌, ℕ, Bool, true, false, not, List, [], ◌∷◌, map, is_some, Option, Some, None, Result, Ok, Err, IsTrue, IsFalse, refl, sym, ap, ap₂, subst, ◌∙◌}
+use Rattle.std.proofs.Common.{◌≡◌, ℕ, true, not, List, [], ◌∷◌, is_some, Some, None, Ok, Err, IsTrue, refl, sym, ap, ap₂, subst, ◌∙◌}
 use Rattle.std.specs.List.{list_all}
 use Rattle.std.proofs.lemmas.Option.{same_Some}
-use Rattle.std.proofs.lemmas.Bool.{and_from, not-false, not_from_false, not_from_true}
+use Rattle.std.proofs.lemmas.Bool.{and_from, not_from_false, not_from_true}
 use Rattle.tardis_base.specs.declared.ids.StateId.{StateId}
 use Rattle.tardis_base.specs.declared.ids.Slot.{Slot}
 use Rattle.tardis_base.specs.declared.replies.Refusal.TheVariants.{TxnOpen, Unknown, Below}
-use Rattle.tardis_base.specs.declared.replies.Reply.{Reply}
 use Rattle.tardis_base.specs.declared.replies.Reply.TheVariants.{Refused, Begun}
 use Rattle.tardis_base.specs.declared.requests.Begin.{Begin}
 use Rattle.tardis_base.specs.Ids.{is_among}
@@ -25,7 +24,7 @@ use Rattle.begin_rule.specs.Choices.{ChosenAs}
 use Rattle.plain_site.specs.Site.{Site, Single, own_floor}
 use Rattle.plain_site.specs.Built.{Built}
 use Rattle.plain_site.specs.Sound.{IsSound}
-use Rattle.plain_site.specs.Answers.{Answer, refused, refuse, without_txn}
+use Rattle.plain_site.specs.Answers.{refused, refuse, without_txn}
 use Rattle.plain_site.specs.Sessions.{begin}
 use Rattle.plain_site.proofs.SoundBooks.{open-session as sound-session}
 use Rattle.plain_site.proofs.SoundCommits.{closed-above_own}

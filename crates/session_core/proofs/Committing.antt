@@ -1,9 +1,9 @@
 -- A transaction commits.
-use Rattle.std.proofs.Common.{◌≡◌, ◌≢◌, ℕ, ◌+◌, ◌≤◌, Bool, true, false, ◌==◌, not, List, [], ◌∷◌, ◌++◌, map, length, is_some, Option, Some, None, Result, Ok, Err, IsTrue, IsFalse, refl, sym, ap, ap₂, subst, ◌∙◌, arith}
+use Rattle.std.proofs.Common.{◌≡◌, ◌≢◌, ℕ, ◌+◌, ◌≤◌, true, false, ◌==◌, List, [], ◌∷◌, ◌++◌, map, length, Option, Some, None, IsTrue, IsFalse, refl, sym, ap, ap₂, subst, ◌∙◌, arith}
 use Rattle.std.specs.List.{list_all}
 use Rattle.std.specs.Option.{option_map}
 use Rattle.std.proofs.lemmas.Option.{same_Some}
-use Rattle.std.proofs.lemmas.Bool.{and_parts, and_from, both_ways, false_from_ne_true, ne_eqb}
+use Rattle.std.proofs.lemmas.Bool.{and_parts, both_ways, false_from_ne_true, ne_eqb}
 use Rattle.tardis_base.specs.declared.ids.StateId.{StateId}
 use Rattle.tardis_base.specs.declared.ids.Slot.{Slot}
 use Rattle.tardis_base.specs.declared.records.Record.{Record}
@@ -14,12 +14,12 @@ use Rattle.tardis_base.specs.declared.replies.Reply.{Reply}
 use Rattle.tardis_base.specs.declared.replies.Reply.TheVariants.{Refused, Ended, Committed}
 use Rattle.tardis_base.specs.Ids.{is_among}
 use Rattle.tardis_base.specs.Keys.{KeyWrite, keys_of}
-use Rattle.plain_dag.specs.States.{children, is_known, count_of_site}
+use Rattle.plain_dag.specs.States.{children, count_of_site}
 use Rattle.plain_dag.specs.Above.{is_above}
 use Rattle.plain_dag.specs.Begin.{is_admitted}
 use Rattle.plain_dag.specs.Landing.{landing, guarded, broken}
 use Rattle.plain_dag.specs.Entries.{entry_of, changed, without_entry}
-use Rattle.plain_dag.specs.Floors.{Session, Sessions, after_commit, is_closed}
+use Rattle.plain_dag.specs.Floors.{after_commit, is_closed}
 use Rattle.plain_dag.specs.Growth.{growth_refusal}
 use Rattle.state_dag.specs.Table.{Table, id_at, is_slot}
 use Rattle.state_dag.specs.Answers.{KeepsSlots, MayBeAdded}
@@ -33,13 +33,12 @@ use Rattle.ceiling_book.specs.Places.{AreSlots, ArePlaced}
 use Rattle.ceiling_book.specs.Answers.{KeepsRest}
 use Rattle.plain_site.specs.Site.{Site, SingleTxn, Single, own_count, next_id}
 use Rattle.plain_site.specs.Built.{so_far}
-use Rattle.plain_site.specs.Sound.{IsSound, IsSoundTxn}
+use Rattle.plain_site.specs.Sound.{IsSound}
 use Rattle.plain_site.specs.Answers.{Answer, refused, refuse_found, unless, with_txn}
-use Rattle.plain_site.specs.Commits.{without_txn_of, growth_refusals, committed, commit_below, commit_at, commit_writes, commit_single, commit}
-use Rattle.plain_dag.proofs.Order.{above-reflexive}
+use Rattle.plain_site.specs.Commits.{without_txn_of, growth_refusals, committed, commit_below, commit_writes, commit_single, commit}
 use Rattle.plain_site.proofs.SoundHistories.{above-closed}
 use Rattle.plain_site.proofs.SoundBooks.{own-is_site}
-use Rattle.plain_site.proofs.SoundCommits.{MayJoin, own-next, single-joins, admitted-isnt_closed}
+use Rattle.plain_site.proofs.SoundCommits.{own-next, single-joins, admitted-isnt_closed}
 use Rattle.plain_site.proofs.RepliesSound.{limits-within}
 use Rattle.session_core.specs.declared.parts.Parts.TheInside.{Inside}
 use Rattle.session_core.specs.declared.txns.OpenTxn.{OpenTxn}
@@ -50,7 +49,7 @@ use Rattle.session_core.specs.Gives.{IsGiven}
 use Rattle.session_core.specs.Commits.{next_record}
 use Rattle.session_core.proofs.Answers.{skip, stop, as-given}
 use Rattle.session_core.proofs.Standing.{open-session, txn-answer, txn-ended}
-use Rattle.session_core.proofs.Growing.{slots-stay, names-stay, places-are-slots}
+use Rattle.session_core.proofs.Growing.{slots-stay, names-stay}
 use Rattle.session_core.proofs.Memory.{ended-held}
 
 -- ===== Another store
@@ -260,10 +259,6 @@ may-be-added table site r below x limits named parents may = record {
   slots = ap (λ o. o ∷ []) named ∙ ap (map (λ p. Some p)) (sym parents);
   kept = may.kept;
 }
-
--- no parent of a record that may arrive is collected
-pub parents-free : (site : Site) (r : Record) → MayArrive site.limits.sites site.dag site.collected r → (p : StateId) → IsTrue (is_among p r.parents) → IsFalse (is_among p site.collected)
-parents-free site r may p among = may.kept p p among (above-reflexive site.dag p)
 
 -- ===== The next id
 

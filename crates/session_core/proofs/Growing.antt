@@ -1,19 +1,13 @@
 -- What stands over a table still stands once it has grown.
-use Rattle.std.proofs.Common.{◌≡◌, ℕ, Bool, true, false, ◌&&◌, List, [], ◌∷◌, map, is_some, Option, Some, None, IsTrue, IsFalse, refl, sym, ap, ap₂, subst, ◌∙◌, inl, inr}
+use Rattle.std.proofs.Common.{◌≡◌, true, List, [], ◌∷◌, map, is_some, Option, Some, None, IsTrue, refl, ap₂}
 use Rattle.std.specs.List.{list_all}
 use Rattle.std.specs.Option.{option_map}
-use Rattle.std.proofs.lemmas.Bool.{and_parts, and_from, both_ways, cases_Bool, cond-false, false_from_ne_true}
+use Rattle.std.proofs.lemmas.Bool.{and_parts, and_from}
 use Rattle.std.proofs.lemmas.Option.{none-some}
 use Rattle.tardis_base.specs.declared.ids.StateId.{StateId}
 use Rattle.tardis_base.specs.declared.ids.Slot.{Slot}
-use Rattle.tardis_base.specs.declared.records.Record.{Record}
-use Rattle.tardis_base.specs.Ids.{is_among}
-use Rattle.plain_dag.specs.Collection.{stand_in}
 use Rattle.state_dag.specs.Table.{Entry, Table, entry_at, id_at, is_slot}
 use Rattle.state_dag.specs.Answers.{KeepsSlots}
-use Rattle.ceiling_book.specs.declared.parts.Place.{Place}
-use Rattle.ceiling_book.specs.Book.{Book}
-use Rattle.ceiling_book.specs.Places.{AllPlaces, AreSlots, ArePlaced, IsSlotOf, IsAt, HasStandIn}
 
 entry-names : (o : Option Entry) → is_some o ≡ true → (x : StateId) × (option_map (λ e. e.id) o ≡ Some x)
 entry-names None e = (cc)
@@ -55,30 +49,3 @@ module _ (old new : Table) (keeps : KeepsSlots old new) where
 
           rest : (a : Option StateId) (as' : List (Option StateId)) (b : Option StateId) (bs : List (Option StateId)) → a ∷ as' ≡ b ∷ bs → as' ≡ bs
           rest a as' b bs same = (cc)
-
-  all-places : (At Near More Nearer : Place → Type 0) → ((p : Place) → At p → More p) → ((p : Place) → Near p → Nearer p) → (book : Book) → AllPlaces At Near book → AllPlaces More Nearer book
-  all-places At Near More Nearer at near book all = record {
-    of_root = near _ all.of_root;
-    ceilings = λ k d l. at _ (all.ceilings k d l);
-    last_commits = λ k d l. near _ (all.last_commits k d l);
-    of_floors = λ k d l. at _ (all.of_floors k d l);
-  }
-
-  pub places-are-slots : (book : Book) → AreSlots book old → AreSlots book new
-  places-are-slots book all =
-      all-places (IsSlotOf old) (IsSlotOf old) (IsSlotOf new) (IsSlotOf new) (λ p t. slot-stays p.slot t) (λ p t. slot-stays p.slot t) book all
-
-  -- an old state that has a stand-in keeps it, where no parent of the new one is collected
-  pub stand_in-stays : (r : Record) (rs : List Record) (ks : List StateId) (x : StateId) → ((p : StateId) → IsTrue (is_among p r.parents) → IsFalse (is_among p ks)) → stand_in (r ∷ rs) ks x ≡ stand_in rs ks x
-  stand_in-stays r rs ks x free =
-      let here = stand_in rs ks x in
-      let test = is_among here ks && is_among here r.parents in
-      cond-false test r.id here (false_from_ne_true test (λ t.
-      let parts = and_parts (is_among here ks) (is_among here r.parents) t in
-      both_ways (is_among here ks) (free here parts.1) parts.0))
-
-  pub places-stay : (book : Book) (r : Record) (rs : List Record) (ks : List StateId) → ((p : StateId) → IsTrue (is_among p r.parents) → IsFalse (is_among p ks)) →
-      ArePlaced book old rs ks → ArePlaced book new (r ∷ rs) ks
-  places-stay book r rs ks free all =
-      all-places (IsAt old) (HasStandIn old rs ks) (IsAt new) (HasStandIn new (r ∷ rs) ks) (λ p e. keeps p.slot p.state e)
-      (λ p e. keeps p.slot (stand_in rs ks p.state) e ∙ ap (λ y. Some y) (sym (stand_in-stays r rs ks p.state free))) book all

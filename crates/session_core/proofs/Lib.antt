@@ -11,3 +11,4 @@ pub mod Writing
 pub mod Beginning
 pub mod Growing
 pub mod Committing
+pub mod Showing

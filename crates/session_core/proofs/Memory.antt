@@ -2,7 +2,7 @@
 use Rattle.std.proofs.Common.{◌≡◌, ℕ, List, length, map, Some, IsTrue, sym, ap, subst, ◌∙◌}
 use Rattle.std.specs.List.{list_all}
 use Rattle.plain_dag.specs.Entries.{entry_of, with_entry, without_entry, changed}
-use Rattle.state_dag.specs.Table.{Table, is_slot}
+use Rattle.state_dag.specs.Table.{is_slot}
 use Rattle.ceiling_book.specs.Book.{Book, known_floor}
 use Rattle.ceiling_book.specs.Places.{AreSlots}
 use Rattle.ceiling_book.specs.Answers.{KeepsRest}

@@ -1,5 +1,5 @@
 -- Sessions open and close.
-use Rattle.std.proofs.Common.{◌≡◌, ℕ, Bool, true, ◌==◌, List, [], ◌∷◌, map, length, is_some, Option, Some, Result, Ok, Err, refl, sym, ap, ap₂, subst, ◌∙◌}
+use Rattle.std.proofs.Common.{◌≡◌, ℕ, Bool, true, ◌==◌, List, [], ◌∷◌, map, length, is_some, Option, Some, Ok, Err, refl, sym, ap, ap₂, subst, ◌∙◌}
 use Rattle.std.proofs.lemmas.Option.{same_Some}
 use Rattle.tardis_base.specs.declared.ids.StateId.{StateId}
 use Rattle.tardis_base.specs.declared.ids.Slot.{Slot}
@@ -11,7 +11,7 @@ use Rattle.plain_dag.specs.Entries.{entry_of, with_entry, without_entry}
 use Rattle.plain_dag.specs.Floors.{Sessions, floor_of, opening_session}
 use Rattle.state_dag.specs.Table.{Table, id_at}
 use Rattle.ceiling_book.specs.declared.OpenFault.TheVariants.{AlreadyOpen as IsOpen, SessionsFull as AreFull, NoMemory as OutOfMemory}
-use Rattle.ceiling_book.specs.Book.{Book, known_floor, sessions_of, floors_of, own_floor, is_open, is_full}
+use Rattle.ceiling_book.specs.Book.{Book, known_floor, sessions_of, own_floor, is_open, is_full}
 use Rattle.ceiling_book.specs.Places.{ArePlaced}
 use Rattle.ceiling_book.specs.Answers.{KeepsRest, OpenedIn}
 use Rattle.plain_site.specs.Site.{Site, own_floor as site_floor}

@@ -1,7 +1,7 @@
 -- A transaction reads.
-use Rattle.std.proofs.Common.{◌≡◌, ℕ, Bool, true, false, List, [], ◌∷◌, map, is_some, slice_get, Bor, Option, Some, None, Result, Ok, Err, IsTrue, refl, sym, ap, subst, ◌∙◌}
+use Rattle.std.proofs.Common.{◌≡◌, ℕ, Bool, true, false, List, [], ◌∷◌, map, is_some, slice_get, Bor, Option, Some, None, Ok, IsTrue, refl, sym, ap, subst, ◌∙◌}
 use Rattle.std.specs.List.{list_all}
-use Rattle.std.specs.Option.{option_map, option_copied}
+use Rattle.std.specs.Option.{option_copied}
 use Rattle.std.proofs.lemmas.Bool.{and_parts, both_ways}
 use Rattle.std.proofs.lemmas.Option.{none-some, same_Some}
 use Rattle.tardis_base.specs.declared.ids.StateId.{StateId}
@@ -13,15 +13,13 @@ use Rattle.tardis_base.specs.Ids.{root}
 use Rattle.tardis_base.specs.Keys.{with_key, write_of}
 use Rattle.plain_dag.specs.Entries.{entry_of, changed}
 use Rattle.plain_dag.specs.Writers.{read}
-use Rattle.state_dag.specs.Table.{id_at}
 use Rattle.merge_txn.specs.declared.Txn.{Txn as Kept}
 use Rattle.merge_txn.specs.declared.Txn.TheVariants.{Single as KeptSingle, Merge as KeptMerge}
-use Rattle.merge_txn.specs.declared.TxnFault.{TxnFault}
 use Rattle.merge_txn.specs.declared.TxnFault.TheVariants.{TooMany as TooManyKeys, NoMemory}
 use Rattle.merge_txn.specs.Txns.{is_single, states_of, writes_of, reads_of, with_reads, has_no_place_to_read, read_fault}
 use Rattle.ceiling_book.specs.Book.{is_open}
 use Rattle.plain_site.specs.Site.{Site, SingleTxn, Txn, Single, Merge, with_txn_changed}
-use Rattle.plain_site.specs.Answers.{Answer, refused, given, found, shown, leaves_site, with_txn}
+use Rattle.plain_site.specs.Answers.{refused, given, found, shown, leaves_site, with_txn}
 use Rattle.plain_site.specs.Reads.{get, read_in, read_at, having_read}
 use Rattle.session_core.specs.declared.txns.OpenTxn.{OpenTxn}
 use Rattle.session_core.specs.Core.{Core}
@@ -29,7 +27,7 @@ use Rattle.session_core.specs.Txns.{noting}
 use Rattle.session_core.specs.Stands.{CoreStands, kept_txn}
 use Rattle.session_core.specs.Gives.{NotesFor}
 use Rattle.session_core.proofs.Answers.{skip, stop}
-use Rattle.session_core.proofs.Standing.{there, txn-answer, open-session, kept-for, txn-changed}
+use Rattle.session_core.proofs.Standing.{txn-answer, open-session, kept-for, txn-changed}
 
 -- ===== Lists of one
 

@@ -1,7 +1,6 @@
 -- What stands for a site, and its transactions.
-use Rattle.std.proofs.Common.{◌≡◌, ℕ, Bool, true, false, List, map, is_some, Option, Some, None, IsTrue, refl, sym, ap, subst, ◌∙◌}
+use Rattle.std.proofs.Common.{◌≡◌, ℕ, true, false, List, map, is_some, Option, Some, None, refl, sym, ap, subst, ◌∙◌}
 use Rattle.std.specs.Option.{option_map}
-use Rattle.std.proofs.lemmas.Bool.{both_ways}
 use Rattle.std.proofs.lemmas.Option.{none-some, same_Some}
 use Rattle.plain_dag.specs.Entries.{entry_of, with_entry, without_entry, changed}
 use Rattle.plain_dag.specs.Floors.{Session}

@@ -1,5 +1,5 @@
 -- A transaction writes, and is given up.
-use Rattle.std.proofs.Common.{◌≡◌, ℕ, Bool, true, false, List, [], map, is_some, Option, Some, refl, sym, ap, subst, ◌∙◌}
+use Rattle.std.proofs.Common.{◌≡◌, ℕ, Bool, true, false, List, [], map, is_some, Some, refl, sym, ap, subst, ◌∙◌}
 use Rattle.tardis_base.specs.declared.records.Write.{Write}
 use Rattle.tardis_base.specs.declared.replies.Refusal.TheVariants.{NoTxn, TooMany}
 use Rattle.tardis_base.specs.declared.replies.Reply.TheVariants.{Refused, Done}

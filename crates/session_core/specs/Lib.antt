@@ -7,3 +7,4 @@ pub mod Gives
 pub mod Reads
 pub mod Begins
 pub mod Commits
+pub mod Shows

@@ -15,6 +15,7 @@ mod commits;
 mod parts;
 mod reads;
 mod sessions;
+mod shows;
 mod txns;
 mod writes;
 

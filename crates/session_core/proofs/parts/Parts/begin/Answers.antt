@@ -1,4 +1,4 @@
-use Rattle.std.proofs.Common.{◌≡◌, ◌∙◌, Ok, Err, sym, subst}
+use Rattle.std.proofs.Common.{◌∙◌, Ok, Err, sym, subst}
 use Rattle.tardis_base.specs.declared.replies.Refusal.TheVariants.{TxnOpen, Unknown, Below}
 use Rattle.tardis_base.specs.declared.replies.Reply.TheVariants.{Refused}
 use Rattle.plain_dag.specs.Begin.{begin_state}

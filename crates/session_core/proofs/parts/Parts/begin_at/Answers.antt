@@ -1,9 +1,5 @@
-use Rattle.std.proofs.Common.{◌≡◌, ◌∙◌, [], ◌∷◌, ◌++◌, Some, IsTrue, sym, ap, ap₂, subst}
-use Rattle.std.specs.List.{list_all}
-use Rattle.std.proofs.lemmas.Bool.{and_from}
-use Rattle.merge_txn.specs.declared.Txn.{Txn}
+use Rattle.std.proofs.Common.{◌≡◌, ◌∙◌, [], ◌∷◌, ◌++◌, Some, IsTrue, sym, ap, subst}
 use Rattle.state_dag.specs.Table.{id_at, is_slot}
-use Rattle.session_core.specs.declared.txns.OpenTxn.{OpenTxn}
 use Rattle.session_core.specs.Held.{seen}
 use Rattle.session_core.specs.Stands.{CoreStands}
 use Rattle.session_core.proofs.Memory.{begun-held}

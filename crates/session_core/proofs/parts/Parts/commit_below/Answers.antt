@@ -1,24 +1,20 @@
 use Rattle.std.proofs.Common.{◌≡◌, ◌∙◌, ◌+◌, [], ◌∷◌, Some, Err, refl, sym, ap, subst}
 use Rattle.tardis_base.specs.declared.faults.AddFault.{AddFault}
-use Rattle.tardis_base.specs.declared.faults.AddFault.TheVariants.{NoMemory}
 use Rattle.tardis_base.specs.declared.replies.Refusal.TheVariants.{Full, PathFull}
-use Rattle.plain_dag.specs.Entries.{changed}
-use Rattle.plain_dag.specs.Floors.{after_commit}
 use Rattle.state_dag.specs.Table.{id_at}
 use Rattle.state_dag.specs.Stands.{Stands}
 use Rattle.record_store.specs.Answers.{AddedIn}
-use Rattle.ceiling_book.specs.Book.{sessions_of}
 use Rattle.ceiling_book.specs.Places.{AreSlots, ArePlaced}
 use Rattle.session_core.specs.Held.{seen}
 use Rattle.session_core.specs.Stands.{CoreStands}
 use Rattle.session_core.specs.Commits.{next_record}
-use Rattle.session_core.proofs.Growing.{places-are-slots, places-stay}
-use Rattle.session_core.proofs.Committing.{grown-held, same-table-stands, commit-gives, commit-refused, may-be-added, parents-free, writes-as, counted-as, not-last, named-next, only-parent}
+use Rattle.ceiling_book.proofs.Growth.{slots-grow, placed-grow}
+use Rattle.session_core.proofs.Committing.{grown-held, same-table-stands, commit-gives, commit-refused, may-be-added, writes-as, counted-as, not-last, named-next, only-parent}
 use Rattle.session_core.proofs.parts.Parts.commit_below.Goals as goal
 
 pub committed-requires-clause-slots : goal.committed-requires-clause-slots
 committed-requires-clause-slots c =
-    subst (λ t. AreSlots c.self.inside.book t) (sym c.dag-in-Ok.ensures) (places-are-slots c.self.inside.store.table c.add_state.new.self.table c.add_state.ensures.keeps c.self.inside.book c.self.invariant.places)
+    subst (λ t. AreSlots c.self.inside.book t) (sym c.dag-in-Ok.ensures) (slots-grow c.self.inside.book c.self.inside.store.table c.add_state.new.self.table c.add_state.ensures.keeps c.self.invariant.places)
 
 pub invariant_of-self : goal.invariant_of-self
 invariant_of-self c =
@@ -42,7 +38,7 @@ returns-in-Ok c = λ site stands t x found named_now arrives.
     let stands_new = subst (λ z. Stands z (r ∷ site.dag) site.collected) (sym c.dag-in-Ok.ensures) added.1.table in
     let placed =
     subst (λ z. ArePlaced c.self.inside.book z (r ∷ site.dag) site.collected) (sym c.dag-in-Ok.ensures)
-    (places-stay c.self.inside.store.table c.add_state.new.self.table c.add_state.ensures.keeps c.self.inside.book r site.dag site.collected (parents-free site r may) here.placed) in
+    (placed-grow c.self.inside.book c.self.inside.store.table c.add_state.new.self.table site.dag site.collected r here.store.table c.add_state.ensures.keeps here.placed) in
     let named_new = subst (λ z. id_at z c.in-Ok.slot ≡ Some r.id) (sym c.dag-in-Ok.ensures) (c.in-Ok.ensures.slot.1 ∙ ap (λ y. Some y) id) in
     commit-gives core site here c.args.actor t x c.add_state.new.self c.committed.new.self c.end.new.self (record { site = c.own_site-own.result; sequence = c.count-count.result + 1 }) c.push.new.self more.0 id
     (only-parent c.dag-2.result.now c.self.inside.store.table c.dag-2.ensures c.args.below x c.id_of.result c.new-parents.result c.push.new.self c.id_of.ensures.is named c.new-parents.ensures c.in_ok-push.ensures.added)

@@ -1,4 +1,4 @@
-use Rattle.std.proofs.Common.{◌≡◌, ◌∙◌, Some, sym, ap, ap₂, subst}
+use Rattle.std.proofs.Common.{◌≡◌, ◌∙◌, Some, sym, ap₂, subst}
 use Rattle.tardis_base.specs.Keys.{keys_of}
 use Rattle.plain_dag.specs.Landing.{landing, guarded}
 use Rattle.state_dag.specs.Table.{id_at}

@@ -1,9 +1,8 @@
-use Rattle.std.proofs.Common.{◌≡◌, ◌∙◌, Ok, Err, Some, None, refl, sym, ap, subst}
+use Rattle.std.proofs.Common.{◌≡◌, ◌∙◌, Ok, Some, None, refl, sym, ap, subst}
 use Rattle.std.specs.Option.{option_copied}
-use Rattle.tardis_base.specs.Keys.{write_of}
-use Rattle.merge_txn.specs.Txns.{reads_of, writes_of, has_no_place_to_read, too_many_reads, read_fault}
+use Rattle.merge_txn.specs.Txns.{reads_of, has_no_place_to_read, too_many_reads, read_fault}
 use Rattle.plain_dag.specs.Entries.{entry_of}
-use Rattle.plain_site.specs.Answers.{with_txn, leaves_site}
+use Rattle.plain_site.specs.Answers.{with_txn}
 use Rattle.plain_site.specs.Reads.{get}
 use Rattle.session_core.specs.declared.txns.OpenTxn.{OpenTxn}
 use Rattle.session_core.specs.Held.{seen}

@@ -1,4 +1,4 @@
-use Rattle.std.proofs.Common.{◌≡◌, [], Some, IsTrue, sym, ap, subst}
+use Rattle.std.proofs.Common.{◌≡◌, [], Some, IsTrue, sym, subst}
 use Rattle.state_dag.specs.Table.{id_at, is_slot}
 use Rattle.session_core.specs.Held.{seen}
 use Rattle.session_core.specs.Stands.{CoreStands}
