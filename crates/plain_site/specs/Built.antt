@@ -1,8 +1,7 @@
 -- Which part of a site is built. What isn't is answered Unsupported.
-use Rattle.std.specs.Prelude.{ℕ, Bool, true, false, ◌==◌, ◌&&◌, [], ◌∷◌}
+use Rattle.std.specs.Prelude.{ℕ, Bool, true, ◌==◌, ◌&&◌, [], ◌∷◌}
 use Rattle.std.specs.List.{list_any}
 use Rattle.tardis_base.specs.declared.requests.Begin.{Begin}
-use Rattle.tardis_base.specs.declared.requests.Begin.TheVariants.{Any}
 use Rattle.tardis_base.specs.declared.requests.EndFlags.{EndFlags}
 use Rattle.tardis_base.specs.declared.requests.Request.{Request}
 use Rattle.tardis_base.specs.declared.requests.Request.TheVariants.{Begin as BeginAt, Commit}
@@ -19,18 +18,14 @@ pub record Built : Type 0 where
 abbrev pub everything : Built
 everything = record { operation = λ op. true; begin = λ b. true; flags = λ f. true; path_limits = true }
 
-abbrev pub is_any : Begin → Bool
-is_any Any = true
-is_any _ = false
-
--- what the program has today: Open, Begin Any, Get, Put, and Commit with SER alone
+-- what the program has today: Open, Begin, Get, Put and Commit
 abbrev pub so_far : Built
 so_far =
     record {
       operation = λ op. list_any (λ built. op == built) (1 ∷ 2 ∷ 3 ∷ 4 ∷ 6 ∷ []);
-      begin = is_any;
-      flags = λ f. f.0 == 1;
-      path_limits = false;
+      begin = λ b. true;
+      flags = λ f. true;
+      path_limits = true;
     }
 
 -- the operation of the request is built, and so is its kind of Begin or its set of end constraints

@@ -24,28 +24,29 @@ WriteIsReadBackByTheWhole = TalkInBytes everything lone_site put_and_read
 
 -- ===== What isn't built, and what is no request
 
--- Begin Ancestor, spelled right, isn't built: that is said before that no session is open
+-- ForkPoints, spelled right, isn't built: that is said before that no session is open
 abbrev pub UnbuiltIsUnsupported : Type 0
-UnbuiltIsUnsupported =
-    TalkInBytes so_far lone_site
-    (1 sends hex "02 01" => hex "15 1b 02"
-    ∷ 1 sends hex "06 00 0000" => hex "15 1b 06"
-    ∷ [])
+UnbuiltIsUnsupported = TalkInBytes so_far lone_site (1 sends hex "09" => hex "15 1b 09" ∷ [])
 
 -- an operation that isn't built is told by its code, whatever follows
 abbrev pub UnbuiltOperationIsTold : Type 0
-UnbuiltOperationIsTold =
-    TalkInBytes so_far lone_site
-    (1 sends hex "07" => hex "15 1b 07"
-    ∷ 1 sends hex "14 ff ff" => hex "15 1b 14"
-    ∷ [])
+UnbuiltOperationIsTold = TalkInBytes so_far lone_site (1 sends hex "14 ff ff" => hex "15 1b 14" ∷ [])
 
--- once it is built, there is no session for it
+-- what is built is told that there is no session for it
 abbrev pub BuiltIsNotOpen : Type 0
 BuiltIsNotOpen =
+    TalkInBytes so_far lone_site
+    (1 sends hex "02 01" => hex "15 02"
+    ∷ 1 sends hex "06 00 0000" => hex "15 02"
+    ∷ [])
+
+-- and so is all, once it is built
+abbrev pub WholeIsNotOpen : Type 0
+WholeIsNotOpen =
     TalkInBytes everything lone_site
     (1 sends hex "02 01" => hex "15 02"
     ∷ 1 sends hex "06 00 0000" => hex "15 02"
+    ∷ 1 sends hex "09" => hex "15 02"
     ∷ [])
 
 -- no operation, no such kind of Begin, a byte too many, branches counted without KB

@@ -5,7 +5,7 @@ ghost use Rattle.plain_site.specs.RowsOfMerges.{MergeJoinsBranches, TwoMergesCon
 ghost use Rattle.plain_site.specs.RowsOfFloors.{CeilingsHoldReadsAndFloors, FloorsHoldTheSite, CollectionKeepsReads};
 ghost use Rattle.plain_site.specs.RowsOfExchange.{RecordsComeInOrder, ConsentsCloseStates, LyingPeersAreRefused, SitesPastTheLimitAreBad};
 ghost use Rattle.plain_site.specs.RowsOfLimits.{WritesAreLimited, ReadsAreLimited, FullSiteRefuses, SecondSessionIsRefused, LongPathIsRefused};
-ghost use Rattle.plain_site.specs.RowsOfBytes.{WriteIsReadBack, WriteIsReadBackByTheWhole, UnbuiltIsUnsupported, UnbuiltOperationIsTold, BuiltIsNotOpen, OtherBytesAreMalformed, OtherBytesStayMalformed, LongestKeyAndValueArePut, LongerOnesAreMalformed};
+ghost use Rattle.plain_site.specs.RowsOfBytes.{WriteIsReadBack, WriteIsReadBackByTheWhole, UnbuiltIsUnsupported, UnbuiltOperationIsTold, BuiltIsNotOpen, WholeIsNotOpen, OtherBytesAreMalformed, OtherBytesStayMalformed, LongestKeyAndValueArePut, LongerOnesAreMalformed};
 ghost use Rattle.plain_site.specs.RowsOfChoices.{NoBranchIsNamedFirst, OwnWritesAreNotRead, MergesBringNews, ValueIsTheLowestWriters, MergeTriesOneThingAtATime, CeilingStaysOnItsBranch, TidyTakesTheLastArrived, FloorIsKept, CollectsMergedBranches, LongPathOfAKeptStateIsNamed, OwnRecordIsKnown, ClosedParentIsNamedFirst};
 ghost use Rattle.plain_site.specs.RowsOfLandings.{SnapshotsForkOnWrites, SerializableForksOnReads, BothForkOnEither, WithoutConstraintsNothingForks, FirstPassingChildIsTaken, OldWritesAreNoNews, ReadersAlwaysEnd, AncestorKeepsToItsBranch, AbortedWritesAreGone};
 ghost use Rattle.plain_site.specs.RowsOfOperations.{DeletionsAreRead, ClosedSessionsAreGone, OpenSessionIsToldFirst, ConflictsComeInPages, EightStatesAreMerged, PagesHaveTheFirst, SingleTransactionsShowNoBranches, LeavesAreShown, UnknownStatesAreToldFirst, AutomaticFloorStaysAboveCeilings, FloorIsToldBeforeSessions, NumbersRunOut, RoomIsLookedAtBetween, BatchesHaveTheNews, BatchesLeaveOutWhatAllHave, OneFloorClosesNothing, BatchesAreFilled, BatchesStopWhereTheyAreFull, ConsentsWaitForBoth};
@@ -63,6 +63,7 @@ pub fn bytes_answer_as_told()
     ensures unsupported { UnbuiltIsUnsupported }
     ensures unsupported_operation { UnbuiltOperationIsTold }
     ensures not_open { BuiltIsNotOpen }
+    ensures whole_not_open { WholeIsNotOpen }
     ensures malformed { OtherBytesAreMalformed }
     ensures malformed_by_the_whole { OtherBytesStayMalformed }
     ensures longest { LongestKeyAndValueArePut }

@@ -1,0 +1,59 @@
+-- Entries by numbers: what holds of each, and those of a map.
+use Rattle.std.proofs.Common.{◌≡◌, ℕ, List, [], ◌∷◌, Option, Some, None, refl, sym, ap, subst, ◌∙◌}
+use Rattle.std.specs.Option.{option_map}
+use Rattle.std.specs.Ordering.{nat_cmp}
+use Rattle.std.specs.Map.{lookup, remove_entry, set_value, keys_of}
+use Rattle.std.specs.BTreeMap.{insert_entry, is_at}
+use Rattle.std.specs.List.Sorted.{IsStrictlySortedBy}
+use Rattle.std.proofs.lemmas.Option.{none-some, same_Some}
+use Rattle.std.proofs.lemmas.Map.Keys.{IsDistinct-from_sorted}
+use Rattle.plain_dag.specs.Entries.{entry_of, with_entry, changed, without_entry}
+use Rattle.plain_site.proofs.SoundEntries.{entry-changed, entry-changed_other, entry-with_entry, entry-with_entry_other, entry-without_entry, entry-without_entry_other}
+use Rattle.plain_site.proofs.SoundBooks.{at-each}
+use Rattle.ceiling_book.proofs.Entries.{mapped, inserted, removed, written}
+
+module _ {A : Type 0} where
+  mapped-same : (es : List (ℕ × A)) → mapped (λ (a : A). a) es ≡ es
+  mapped-same [] = refl
+  mapped-same (e ∷ es) = ap (λ (ds : List (ℕ × A)). e ∷ ds) (mapped-same es)
+
+  -- ===== Entries of a map
+
+  pub is-inserted : (n : ℕ) (a : A) (es : List (ℕ × A)) → insert_entry nat_cmp es n a ≡ with_entry n a es
+  is-inserted n a es = sym (mapped-same (insert_entry nat_cmp es n a)) ∙ inserted (λ (b : A). b) n a es ∙ ap (with_entry n a) (mapped-same es)
+
+  pub is-removed : (n : ℕ) (es : List (ℕ × A)) → ◌≡◌ {A = Option A} (lookup (is_at (nat_cmp n)) (remove_entry (is_at (nat_cmp n)) es)) None → remove_entry (is_at (nat_cmp n)) es ≡ without_entry n es
+  is-removed n es none = sym (mapped-same (remove_entry (is_at (nat_cmp n)) es)) ∙ removed (λ (b : A). b) n es none ∙ ap (without_entry n) (mapped-same es)
+
+  pub is-written : (n : ℕ) (g : A → A) (es : List (ℕ × A)) (v : A) → IsStrictlySortedBy nat_cmp (keys_of es) → lookup (is_at (nat_cmp n)) es ≡ Some v → set_value (is_at (nat_cmp n)) es (g v) ≡ changed n g es
+  is-written n g es v ordered found =
+      sym (mapped-same (set_value (is_at (nat_cmp n)) es (g v)))
+      ∙ written (λ (b : A). b) n g es v (g v) (IsDistinct-from_sorted nat_cmp (keys_of es) ordered) found refl
+      ∙ ap (changed n g) (mapped-same es)
+
+  -- ===== What holds of each
+
+  module _ (P : A → Type 0) where
+    -- it holds of each entry
+    abbrev pub Each : List (ℕ × A) → Type 0
+    Each es = (n : ℕ) (a : A) → entry_of n es ≡ Some a → P a
+
+    pub each-with : (n : ℕ) (a : A) (es : List (ℕ × A)) → Each es → P a → Each (with_entry n a es)
+    each-with n a es each p =
+        at-each (λ m. (b : A) → entry_of m (with_entry n a es) ≡ Some b → P b) n (λ b e. subst P (same_Some a b (sym (entry-with_entry n a es) ∙ e)) p)
+        (λ m differ b e. each m b (sym (entry-with_entry_other n m a es differ) ∙ e))
+
+    pub each-without : (n : ℕ) (es : List (ℕ × A)) → Each es → Each (without_entry n es)
+    each-without n es each =
+        at-each (λ m. (b : A) → entry_of m (without_entry n es) ≡ Some b → P b) n (λ b e. absurd (none-some b (sym (entry-without_entry n es) ∙ e)))
+        (λ m differ b e. each m b (sym (entry-without_entry_other n m es differ) ∙ e))
+
+    mapped-holds : (f : A → A) (o : Option A) (b : A) → ((a : A) → P a → P (f a)) → ((a : A) → o ≡ Some a → P a) → option_map f o ≡ Some b → P b
+    mapped-holds f None b keeps each e = absurd (none-some b e)
+    mapped-holds f (Some a) b keeps each e = subst P (same_Some (f a) b e) (keeps a (each a refl))
+
+    pub each-changed : (n : ℕ) (f : A → A) (es : List (ℕ × A)) → ((a : A) → P a → P (f a)) → Each es → Each (changed n f es)
+    each-changed n f es keeps each =
+        at-each (λ m. (b : A) → entry_of m (changed n f es) ≡ Some b → P b) n
+        (λ b e. mapped-holds f (entry_of n es) b keeps (each n) (sym (entry-changed n f es) ∙ e))
+        (λ m differ b e. each m b (sym (entry-changed_other n m f es differ) ∙ e))

@@ -1,0 +1,10 @@
+-- The site in memory: what it holds, when it stands for a plain site, and what its calls answer.
+pub mod Txns
+pub mod Core
+pub mod Held
+pub mod Stands
+pub mod Gives
+pub mod Reads
+pub mod Begins
+pub mod Commits
+pub mod Shows

@@ -1,0 +1,57 @@
+//! One site of the store: it answers requests as the plain site does.
+//!
+//! What each request does is stated in `docs/MODEL.md`.
+#![tactic(auto)]
+
+ghost use Rattle.std.specs.Prelude.{◌≡◌, ◌≤◌, IsTrue, IfOk};
+ghost use Rattle.tardis_base.specs.Valid.{are_limits};
+ghost use Rattle.plain_site.specs.Site.{opening};
+ghost use Rattle.plain_site.specs.Built.{so_far};
+ghost use Rattle.plain_site.specs.Sound.{IsSound};
+ghost use Rattle.session_core.specs.Stands.{CoreStands};
+
+mod begins;
+mod commits;
+mod parts;
+mod reads;
+mod sessions;
+mod shows;
+mod txns;
+mod writes;
+
+use parts::Parts;
+use std::alloc::Global;
+use std::marker::Model;
+use tardis_base::{Limits, NoMemory};
+
+/// One site: its history, its sessions and its open transactions.
+#[derive(Drop)]
+pub struct SiteCore {
+    parts: Parts,
+}
+
+impl Model for SiteCore {
+    ghost use Rattle.session_core.specs.Core.{Core};
+
+    ghost Value = { Core };
+
+    ghost use Rattle.session_core.specs.Stands.{StandsForSite};
+
+    ghost view = { λ a. a.parts };
+
+    ghost invariant = { λ a. StandsForSite a.parts };
+}
+
+impl SiteCore {
+    /// A site that opens: the root alone, and no session.
+    pub fn new(alloc: Global, limits: Limits, own: u16) -> Result<SiteCore, NoMemory>
+        requires limits { IsTrue (are_limits limits) }
+        requires first { 1 ≤ own }
+        requires last { own ≤ limits.sites }
+        ensures stands { IfOk result (λ core. CoreStands core (opening limits own)) }
+        ensures sound { IfOk result (λ _. IsSound so_far (opening limits own)) }
+    {
+        let parts = Parts::new(alloc, &limits, own)?;
+        Ok(SiteCore { parts })
+    }
+}
