@@ -10,8 +10,11 @@ ghost use Rattle.plain_site.specs.Built.{so_far};
 ghost use Rattle.plain_site.specs.Sound.{IsSound};
 ghost use Rattle.session_core.specs.Stands.{CoreStands};
 
+mod built;
 mod parts;
+mod serves;
 mod sessions;
+mod stubs;
 mod txns;
 
 use parts::Parts;
