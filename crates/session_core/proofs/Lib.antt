@@ -3,3 +3,9 @@ pub mod Entries
 pub mod WholeTxns
 pub mod Answers
 pub mod OpenSessions
+pub mod Serving
+pub mod Settings
+pub mod Telling
+pub mod ReadAgain
+pub mod Noting
+pub mod Asking

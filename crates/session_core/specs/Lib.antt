@@ -4,3 +4,4 @@ pub mod Core
 pub mod Held
 pub mod Stands
 pub mod Gives
+pub mod Machine

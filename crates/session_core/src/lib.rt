@@ -10,10 +10,13 @@ ghost use Rattle.plain_site.specs.Built.{so_far};
 ghost use Rattle.plain_site.specs.Sound.{IsSound};
 ghost use Rattle.session_core.specs.Stands.{CoreStands};
 
+mod acts;
+mod asks;
 mod built;
 mod parts;
 mod serves;
 mod sessions;
+mod steps;
 mod stubs;
 mod txns;
 
