@@ -5,3 +5,4 @@ pub mod Held
 pub mod Stands
 pub mod Gives
 pub mod Machine
+pub mod Reads

@@ -15,10 +15,12 @@ mod asks;
 mod built;
 mod parts;
 mod serves;
+mod reads;
 mod sessions;
 mod steps;
 mod stubs;
 mod txns;
+mod writes;
 
 use parts::Parts;
 use std::alloc::Global;

@@ -1,7 +1,7 @@
 //! The table of states: their order by arrival numbers and fork paths.
 #![tactic(auto)]
 
-ghost use Rattle.std.specs.Prelude.{◌≡◌, ℕ, ◌+◌, ◌≤◌, ◌<◌, false, Some, None, List, [], ◌∷◌, length, map, IsTrue, IfOk, IfSome, OnErr};
+ghost use Rattle.std.specs.Prelude.{◌≡◌, ℕ, ◌+◌, ◌-◌, ◌≤◌, ◌<◌, false, Some, None, List, [], ◌∷◌, length, map, slice_get, unwrap_or, IsTrue, IfOk, IfSome, OnErr};
 ghost use Rattle.std.specs.Option.{option_and_then};
 ghost use Rattle.tardis_base.specs.declared.ids.StateId.{StateId};
 ghost use Rattle.tardis_base.specs.declared.ids.Slot.{Slot};
@@ -116,7 +116,8 @@ impl StateDag {
     pub fn count(&self, site: u16) -> u32
         requires first { 1 ≤ site }
         requires last { site ≤ self.now.limits.sites }
-        ensures { (rs : List Record) (ks : List StateId) → Stands self.now rs ks → result ≡ count_of_site rs site }
+        ensures is { result ≡ unwrap_or (slice_get self.now.counts (site - 1)) 0 }
+        ensures count { (rs : List Record) (ks : List StateId) → Stands self.now rs ks → result ≡ count_of_site rs site }
     {
         self.counts[site as usize - 1]
     }
