@@ -14,3 +14,4 @@ pub mod Noting
 pub mod Asking
 pub mod Reading
 pub mod Writing
+pub mod Beginning

@@ -6,3 +6,4 @@ pub mod Stands
 pub mod Gives
 pub mod Machine
 pub mod Reads
+pub mod Begins

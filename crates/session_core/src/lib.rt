@@ -12,13 +12,18 @@ ghost use Rattle.session_core.specs.Stands.{CoreStands};
 
 mod acts;
 mod asks;
+mod begins;
 mod built;
 mod parts;
-mod serves;
 mod reads;
+mod serves;
 mod sessions;
 mod steps;
 mod stubs;
+#[cfg(test)]
+mod tests;
+#[cfg(test)]
+mod told;
 mod txns;
 mod writes;
 

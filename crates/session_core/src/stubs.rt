@@ -14,15 +14,9 @@ ghost use Rattle.session_core.specs.Stands.{CoreStands};
 ghost use Rattle.session_core.specs.Gives.{Gives, IsGiven, FindsFor, NotesFor};
 
 use crate::parts::Parts;
-use tardis_base::{Begin, EndFlags, NoMemory, Reply, StateId};
+use tardis_base::{EndFlags, NoMemory, Reply, StateId};
 
 impl Parts {
-    pub fn begin(&mut self, actor: u16, begin: &Begin) -> Result<Reply, NoMemory>
-        ensures { (site : Site) → CoreStands self.old site → IsSound so_far site → Gives (CoreStands self.new) (without_txn site actor (λ s. begins site actor s begin.now)) site result }
-    {
-        Err(NoMemory)
-    }
-
     pub fn commit(&mut self, actor: u16, flags: EndFlags, k: u16) -> Result<Reply, NoMemory>
         ensures { (site : Site) → CoreStands self.old site → IsSound so_far site → Gives (CoreStands self.new) (with_txn site actor (λ s t. commit so_far site actor t flags k)) site result }
     {
