@@ -18,7 +18,7 @@ pub record Built : Type 0 where
 abbrev pub everything : Built
 everything = record { operation = λ op. true; begin = λ b. true; flags = λ f. true; path_limits = true }
 
--- what the program has today: Open, Begin, Get, Put and Commit
+-- what the program has today: Open, Begin, Get, Put, Delete, Commit, Abort, Stat, Show and Close
 abbrev pub so_far : Built
 so_far =
     record {

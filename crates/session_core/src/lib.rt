@@ -13,6 +13,7 @@ ghost use Rattle.session_core.specs.Stands.{CoreStands};
 mod acts;
 mod asks;
 mod begins;
+mod built;
 mod commits;
 mod built;
 mod parts;
