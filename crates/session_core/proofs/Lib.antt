@@ -6,12 +6,6 @@ pub mod Answers
 pub mod Standing
 pub mod Memory
 pub mod OpenSessions
-pub mod Serving
-pub mod Settings
-pub mod Telling
-pub mod ReadAgain
-pub mod Noting
-pub mod Asking
 pub mod Reading
 pub mod Writing
 pub mod Beginning

@@ -4,7 +4,6 @@ pub mod Core
 pub mod Held
 pub mod Stands
 pub mod Gives
-pub mod Machine
 pub mod Reads
 pub mod Begins
 pub mod Commits

@@ -15,7 +15,6 @@ mod asks;
 mod begins;
 mod built;
 mod commits;
-mod built;
 mod parts;
 mod reads;
 mod serves;
