@@ -28,6 +28,8 @@ mod nodes;
 mod rooms;
 mod slots;
 mod sums;
+#[cfg(test)]
+mod tests;
 
 use changes::{grow, set_count};
 use growth::{check_paths, new_node};
@@ -176,7 +178,8 @@ impl StateDag {
     pub fn count(&self, site: u16) -> u32
         requires first { 1 ≤ site }
         requires last { site ≤ self.now.limits.sites }
-        ensures { (rs : List Record) (ks : List StateId) → Stands self.now rs ks → result ≡ count_of_site rs site }
+        ensures is { result ≡ unwrap_or (slice_get self.now.counts (site - 1)) 0 }
+        ensures count { (rs : List Record) (ks : List StateId) → Stands self.now rs ks → result ≡ count_of_site rs site }
     {
         self.counts[site as usize - 1]
     }
