@@ -29,6 +29,8 @@ mod nodes;
 mod rooms;
 mod slots;
 mod sums;
+#[cfg(test)]
+mod tests;
 
 use changes::{grow, set_count};
 use growth::{check_paths, new_node};
