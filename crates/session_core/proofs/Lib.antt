@@ -12,3 +12,9 @@ pub mod Beginning
 pub mod Growing
 pub mod Committing
 pub mod Showing
+pub mod Serving
+pub mod Settings
+pub mod Telling
+pub mod ReadAgain
+pub mod Noting
+pub mod Asking

@@ -8,3 +8,4 @@ pub mod Reads
 pub mod Begins
 pub mod Commits
 pub mod Shows
+pub mod Machine

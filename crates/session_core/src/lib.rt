@@ -10,12 +10,17 @@ ghost use Rattle.plain_site.specs.Built.{so_far};
 ghost use Rattle.plain_site.specs.Sound.{IsSound};
 ghost use Rattle.session_core.specs.Stands.{CoreStands};
 
+mod acts;
+mod asks;
 mod begins;
+mod built;
 mod commits;
 mod parts;
 mod reads;
+mod serves;
 mod sessions;
 mod shows;
+mod steps;
 mod txns;
 mod writes;
 
