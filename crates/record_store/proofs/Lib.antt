@@ -1,1 +1,6 @@
 -- Lemmas on the store.
+pub mod Holders
+pub mod Reading
+pub mod Adding
+pub mod Holding
+pub mod Records

@@ -133,3 +133,6 @@ fn is_written_news(store: &RecordStore, from: Slot, child: Slot, writes: &[(Key,
     }
     false
 }
+
+#[cfg(test)]
+mod tests;

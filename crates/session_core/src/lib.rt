@@ -21,6 +21,10 @@ mod serves;
 mod sessions;
 mod shows;
 mod steps;
+#[cfg(test)]
+mod tests;
+#[cfg(test)]
+mod told;
 mod txns;
 mod writes;
 

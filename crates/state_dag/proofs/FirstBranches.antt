@@ -1,11 +1,11 @@
 -- Which first branches lead where, by the nodes.
-use Rattle.std.proofs.Common.{◌≡◌, ℕ, ◌<◌, ◌≢◌, Bool, true, false, ◌&&◌, eqb, List, [], ◌∷◌, length, map, find, get_or, slice_get, Option, Some, None, refl, sym, ap, ◌∙◌, eq-eqb}
+use Rattle.std.proofs.Common.{◌≡◌, ◌≢◌, Bool, false, ◌&&◌, eqb, length, slice_get, Option, Some, None, refl, sym, ap, ◌∙◌, eq-eqb}
 use Rattle.std.specs.Option.{option_map, option_map_or, option_and_then}
 use Rattle.std.proofs.lemmas.Bool.{and_left, and_right, ne_eqb}
 use Rattle.tardis_base.specs.declared.ids.Slot.{Slot}
 use Rattle.state_dag.specs.declared.nodes.Node.{Node}
 use Rattle.state_dag.specs.Table.{Entry, Table, entry_at, is_entry_above, is_slot_above}
-use Rattle.state_dag.specs.Views.{entry_of, entries_from}
+use Rattle.state_dag.specs.Views.{entry_of}
 use Rattle.state_dag.specs.Grown.{leads_first}
 use Rattle.state_dag.specs.Nodes.{is_child_above}
 

@@ -1,7 +1,7 @@
 -- What all gains are at one place.
-use Rattle.std.proofs.Common.{◌≡◌, ℕ, ◌+◌, ◌<◌, ◌≤◌, Bool, true, false, ◌&&◌, ◌||◌, cond, eqb, ltb, List, [], ◌∷◌, ◌++◌, length, map, filter, inl, inr, refl, sym, ap, ap₂, subst, ◌∙◌, eq-eqb, eqb-true, length-append, arith}
+use Rattle.std.proofs.Common.{◌≡◌, ℕ, ◌+◌, ◌<◌, ◌≤◌, Bool, true, false, ◌&&◌, ◌||◌, eqb, ltb, List, [], ◌∷◌, ◌++◌, length, map, filter, inl, inr, refl, sym, ap, ap₂, ◌∙◌, eq-eqb, eqb-true, length-append, arith}
 use Rattle.std.specs.List.{list_any, list_all, flat_map}
-use Rattle.std.proofs.lemmas.Bool.{cases_Bool, both_ways, or_parts, ne_eqb, lt-ltb, and_from, cond-true, cond-false}
+use Rattle.std.proofs.lemmas.Bool.{cases_Bool, both_ways, or_parts, ne_eqb, lt-ltb, and_from}
 use Rattle.std.proofs.lemmas.List.Elements.{filter-append}
 use Rattle.std.proofs.lemmas.List.Folds.{list_any-append, list_all-append}
 use Rattle.tardis_base.specs.declared.ids.Slot.{Slot}
@@ -9,7 +9,7 @@ use Rattle.fork_path.specs.Pairs.{is_same_pair}
 use Rattle.state_dag.specs.declared.nodes.Node.{Node}
 use Rattle.state_dag.specs.declared.leads.Gain.{Gain}
 use Rattle.state_dag.specs.Table.{Entry, Table}
-use Rattle.state_dag.specs.Views.{entry_of, entries_from}
+use Rattle.state_dag.specs.Views.{entries_from}
 use Rattle.state_dag.specs.Grown.{leads_first, is_first_branch}
 use Rattle.state_dag.specs.Nodes.{table_of, have_places, is_gaining, gains_at, all_gains, gains_of, is_gain}
 

@@ -1,16 +1,14 @@
 -- The memory of a table stays well-formed.
-use Rattle.std.proofs.Common.{◌≡◌, ℕ, ◌+◌, ◌-◌, ◌<◌, ◌≤◌, Bool, true, false, cond, eqb, leb, ltb, List, [], ◌∷◌, ◌++◌, length, filter, find, sum, get_or, set, Option, Some, None, IsTrue, refl, sym, ap, subst, ◌∙◌, length-append, arith}
+use Rattle.std.proofs.Common.{◌≡◌, ℕ, ◌+◌, ◌<◌, ◌≤◌, Bool, true, false, cond, eqb, leb, ltb, List, [], ◌∷◌, ◌++◌, length, filter, find, sum, get_or, set, Option, Some, None, IsTrue, refl, sym, ap, subst, ◌∙◌, length-append, arith}
 use Rattle.std.specs.List.{list_all}
 use Rattle.std.specs.BTreeMap.{get}
-use Rattle.std.specs.Option.{option_map}
-use Rattle.std.proofs.lemmas.Bool.{ltb-false, le-leb, lt-ltb, cond-true, both_ways}
+use Rattle.std.proofs.lemmas.Bool.{ltb-false, le-leb, lt-ltb}
 use Rattle.std.proofs.lemmas.Option.{none-some}
 use Rattle.std.proofs.lemmas.List.{length-set}
 use Rattle.std.proofs.lemmas.List.Sums.{sum_by_push}
 use Rattle.tardis_base.specs.declared.ids.StateId.{StateId}
 use Rattle.tardis_base.specs.declared.ids.Slot.{Slot}
 use Rattle.tardis_base.specs.declared.records.Limits.{Limits}
-use Rattle.tardis_base.specs.declared.replies.Refusal.{Refusal}
 use Rattle.tardis_base.specs.declared.replies.Refusal.TheVariants.{PathFull as IsPathFull}
 use Rattle.tardis_base.specs.Ids.{same_id}
 use Rattle.tardis_base.specs.Valid.{are_limits}
@@ -22,7 +20,7 @@ use Rattle.state_dag.specs.Table.{Entry, Table, is_slot, arrive_in_order}
 use Rattle.state_dag.specs.Views.{entry_of, entries_from, place_of_id}
 use Rattle.state_dag.specs.Held.{seen, IsHeld}
 use Rattle.state_dag.specs.Grown.{leads_first, grown_length, too_long}
-use Rattle.state_dag.specs.Nodes.{table_of, table_within, are_short, leaf_of, number_of_leaves, IsGrownNode, first_refusal, path_refusal}
+use Rattle.state_dag.specs.Nodes.{table_of, table_within, are_short, leaf_of, number_of_leaves, IsGrownNode, first_refusal}
 use Rattle.state_dag.proofs.Places.{place-of_slot}
 use Rattle.state_dag.proofs.Passing.{all-at, find-none_at}
 use Rattle.state_dag.proofs.NodeLists.{entry-in}

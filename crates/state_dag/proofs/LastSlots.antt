@@ -1,5 +1,5 @@
 -- What slots name when nodes have changed in their places and one more came last.
-use Rattle.std.proofs.Common.{◌≡◌, ℕ, ◌+◌, ◌<◌, ◌≤◌, true, ltb, eqb, List, [], ◌∷◌, ◌++◌, length, find, get_or, Option, Some, None, is_some, IsTrue, refl, sym, ap, subst, ◌∙◌, length-append, arith}
+use Rattle.std.proofs.Common.{◌≡◌, ℕ, ◌<◌, true, ltb, eqb, List, [], ◌∷◌, ◌++◌, length, find, get_or, Some, None, is_some, IsTrue, sym, ap, subst, ◌∙◌, length-append, arith}
 use Rattle.std.specs.List.{list_all}
 use Rattle.std.specs.Option.{option_map, option_map_or}
 use Rattle.std.proofs.lemmas.Bool.{and_parts, and_from, ltb-true}
@@ -7,7 +7,7 @@ use Rattle.std.proofs.lemmas.List.{get_or_append_left, get_or_at}
 use Rattle.tardis_base.specs.declared.ids.StateId.{StateId}
 use Rattle.tardis_base.specs.declared.ids.Slot.{Slot}
 use Rattle.state_dag.specs.declared.nodes.Node.{Node}
-use Rattle.state_dag.specs.Table.{Entry, Table, entry_at, id_at, is_slot, arrive_in_order, is_kept_at, arrival_at}
+use Rattle.state_dag.specs.Table.{Entry, Table, entry_at, is_slot, arrive_in_order, is_kept_at, arrival_at}
 use Rattle.state_dag.specs.Views.{entry_of, entries_from}
 use Rattle.state_dag.specs.Answers.{IsNewSlot, KeepsSlots}
 use Rattle.state_dag.proofs.Calls.{named-is_slot}

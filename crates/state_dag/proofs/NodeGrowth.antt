@@ -1,8 +1,8 @@
 -- How nodes grow, step by step.
-use Rattle.std.proofs.Common.{◌≡◌, ℕ, suc, ◌+◌, ◌<◌, ◌≤◌, Bool, true, false, ◌&&◌, ◌||◌, cond, eqb, ltb, List, [], ◌∷◌, ◌++◌, length, take, drop, filter, get_or, IsTrue, inl, inr, refl, sym, ap, ap₂, subst, ◌∙◌, eq-eqb, eqb-true, length-append, arith}
-use Rattle.std.specs.List.{list_any, list_all, sum_by}
+use Rattle.std.proofs.Common.{◌≡◌, ℕ, suc, ◌+◌, ◌<◌, ◌≤◌, Bool, true, false, ◌&&◌, ◌||◌, cond, eqb, ltb, List, [], ◌∷◌, ◌++◌, length, take, drop, filter, get_or, IsTrue, refl, sym, ap, ap₂, ◌∙◌, eq-eqb, eqb-true, length-append, arith}
+use Rattle.std.specs.List.{list_all}
 use Rattle.std.proofs.lemmas.List.Sums.{sum_by-cons}
-use Rattle.std.proofs.lemmas.Bool.{cases_Bool, both_ways, and_parts, ltb-true, or_parts, or_from, ne_eqb, false_from_ne_true, cond-true, cond-false}
+use Rattle.std.proofs.lemmas.Bool.{both_ways, and_parts, ltb-true, or_parts, or_from, ne_eqb, false_from_ne_true, cond-false}
 use Rattle.std.proofs.lemmas.List.{drop_more}
 use Rattle.std.proofs.lemmas.List.Filters.{length-filter_more}
 use Rattle.std.proofs.lemmas.List.Folds.{list_any_more, list_any_at}
@@ -12,7 +12,7 @@ use Rattle.fork_path.specs.Pairs.{Pairs, are_ascending_pairs, is_same_pair, has_
 use Rattle.state_dag.specs.declared.nodes.Node.{Node}
 use Rattle.state_dag.specs.declared.leads.Gain.{Gain}
 use Rattle.state_dag.specs.Grown.{is_slot_among, only_if, number_of_children}
-use Rattle.state_dag.specs.Nodes.{table_of, AreDistinct, gains_of, is_gain, HasGained, HasChild, leaf_of, number_of_leaves}
+use Rattle.state_dag.specs.Nodes.{table_of, AreDistinct, gains_of, HasGained, HasChild, leaf_of, number_of_leaves}
 use Rattle.state_dag.proofs.Passing.{or-more}
 use Rattle.state_dag.proofs.NodeLists.{children-found}
 

@@ -1,19 +1,17 @@
 -- What a room that was made leaves of the entries.
-use Rattle.std.proofs.Common.{◌≡◌, ℕ, ◌+◌, ◌<◌, ◌≤◌, Bool, true, false, eqb, List, length, take, get_or, set, IsTrue, inl, inr, refl, sym, ap, ap₂, subst, ◌∙◌, eqb-true, eq-eqb, arith}
-use Rattle.std.proofs.lemmas.Bool.{or_cases, both_ways}
-use Rattle.std.proofs.lemmas.List.{length-set, get_or_read}
+use Rattle.std.proofs.Common.{◌≡◌, ℕ, ◌+◌, ◌<◌, true, eqb, List, length, take, get_or, set, inl, inr, sym, ap, ap₂, ◌∙◌, eqb-true}
+use Rattle.std.proofs.lemmas.Bool.{or_cases}
+use Rattle.std.proofs.lemmas.List.{get_or_read}
 use Rattle.std.proofs.lemmas.List.Folds.{list_any_more}
-use Rattle.std.specs.List.{list_any}
 use Rattle.tardis_base.specs.declared.ids.StateId.{StateId}
 use Rattle.tardis_base.specs.declared.ids.Slot.{Slot}
 use Rattle.fork_path.specs.Pairs.{Pairs}
 use Rattle.state_dag.specs.declared.nodes.Node.{Node}
 use Rattle.state_dag.specs.declared.leads.Gain.{Gain}
-use Rattle.state_dag.specs.Table.{Entry}
 use Rattle.state_dag.specs.Views.{entry_of, entries_from}
 use Rattle.state_dag.specs.Grown.{is_slot_among}
-use Rattle.state_dag.specs.Nodes.{is_gaining, TakesChild, HasChildRoom}
-use Rattle.state_dag.proofs.NodeLists.{at-set, entries-set}
+use Rattle.state_dag.specs.Nodes.{is_gaining}
+use Rattle.state_dag.proofs.NodeLists.{entries-set}
 
 -- a node with another room for pairs has the same entry
 pub path-entry : (n : Node) (path : Pairs) (k : ℕ) → path.pairs ≡ n.path.pairs → entry_of k (record n { path = path }) ≡ entry_of k n

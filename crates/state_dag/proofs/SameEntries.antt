@@ -1,16 +1,14 @@
 -- What nodes with the same entries have alike.
-use Rattle.std.proofs.Common.{◌≡◌, ℕ, suc, ◌+◌, ◌*◌, ◌<◌, ◌≤◌, Bool, true, false, cond, eqb, leb, ltb, List, [], ◌∷◌, ◌++◌, length, sum, get_or, set, replicate, zero-add, IsTrue, refl, sym, ap, subst, ◌∙◌, arith}
+use Rattle.std.proofs.Common.{◌≡◌, ℕ, suc, ◌+◌, ◌*◌, ◌<◌, ◌≤◌, Bool, true, false, cond, eqb, ltb, List, [], ◌∷◌, ◌++◌, length, sum, get_or, set, replicate, zero-add, refl, sym, ap, ◌∙◌, arith}
 use Rattle.std.specs.List.{list_all}
-use Rattle.std.proofs.lemmas.Bool.{and_parts, and_from, ltb-true, lt-ltb}
-use Rattle.std.proofs.lemmas.List.Sums.{sum_by-set, sum_by_push, sum_by-cons, sum-map}
+use Rattle.std.proofs.lemmas.Bool.{and_parts, and_from, ltb-true}
+use Rattle.std.proofs.lemmas.List.Sums.{sum_by-cons, sum-map}
 use Rattle.std.proofs.lemmas.List.{map-id}
 use Rattle.tardis_base.specs.declared.ids.StateId.{StateId}
-use Rattle.fork_path.specs.Pairs.{are_ascending_pairs}
-use Rattle.state_dag.specs.declared.StateDag.TheInside.{Inside}
 use Rattle.state_dag.specs.declared.nodes.Node.{Node}
 use Rattle.state_dag.specs.Table.{Entry}
 use Rattle.state_dag.specs.Views.{entry_of, entries_from, place_of_id}
-use Rattle.state_dag.specs.Nodes.{are_short, leaf_of, number_of_leaves}
+use Rattle.state_dag.specs.Nodes.{leaf_of, number_of_leaves}
 use Rattle.state_dag.proofs.Places.{length-entries}
 use Rattle.state_dag.proofs.Passing.{all-at}
 use Rattle.state_dag.proofs.NodeLists.{entry-in}

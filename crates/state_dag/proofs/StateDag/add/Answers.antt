@@ -1,21 +1,17 @@
-use Rattle.std.proofs.Common.{◌≡◌, ◌∙◌, ◌+◌, ◌-◌, ◌<◌, ◌≤◌, ◌++◌, ◌∷◌, [], ℕ, List, Bool, true, false, cond, eqb, ltb, length, filter, find, get_or, unwrap_or, slice_get, slice_set, Option, Some, None, Result, Ok, Err, IsTrue, refl, sym, ap, subst, arith}
+use Rattle.std.proofs.Common.{◌≡◌, ◌∙◌, ◌+◌, ◌-◌, ◌<◌, ◌≤◌, ℕ, List, eqb, ltb, length, filter, get_or, unwrap_or, slice_get, slice_set, Option, None, Result, Ok, Err, IsTrue, refl, sym, ap, subst, arith}
 use Rattle.std.specs.List.{list_all}
 use Rattle.std.proofs.lemmas.Bool.{ne_eqb}
 use Rattle.std.proofs.lemmas.Option.{unwrap_or-slice_get}
 use Rattle.std.proofs.lemmas.Result.{err_from_is_err_and}
 use Rattle.tardis_base.specs.declared.ids.StateId.{StateId}
 use Rattle.tardis_base.specs.declared.ids.Slot.{Slot}
-use Rattle.tardis_base.specs.declared.records.Limits.{Limits}
 use Rattle.tardis_base.specs.declared.records.Record.{Record}
 use Rattle.tardis_base.specs.declared.faults.AddFault.{AddFault}
-use Rattle.tardis_base.specs.declared.faults.AddFault.TheVariants.{Full}
 use Rattle.state_dag.specs.declared.StateDag.TheInside.{Inside}
-use Rattle.state_dag.specs.declared.nodes.Node.{Node}
-use Rattle.state_dag.specs.Table.{Entry, Table, id_at, is_slot, is_kept_at, arrival_at}
+use Rattle.state_dag.specs.Table.{Entry, Table}
 use Rattle.state_dag.specs.Views.{entry_of, entries_from}
-use Rattle.state_dag.specs.Held.{seen, IsHeld}
 use Rattle.state_dag.specs.Stands.{Stands}
-use Rattle.state_dag.specs.Answers.{MayBeAdded, AddedTo, IsNewSlot}
+use Rattle.state_dag.specs.Answers.{MayBeAdded, AddedTo}
 use Rattle.state_dag.specs.Grown.{number_of_children, too_long, refusal_of, IsNewEntry, IsGrown}
 use Rattle.state_dag.specs.Nodes.{table_of, table_within, table_after, are_places, path_refusal, TellsRefusal}
 use Rattle.state_dag.proofs.Places.{length-entries}

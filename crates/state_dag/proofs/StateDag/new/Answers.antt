@@ -1,4 +1,4 @@
-use Rattle.std.proofs.Common.{◌≡◌, ◌∙◌, ◌+◌, ◌++◌, ℕ, Bool, true, false, cond, eqb, leb, ltb, List, [], ◌∷◌, length, sum, replicate, zero-add, refl, subst, sym, ap, arith, rules}
+use Rattle.std.proofs.Common.{◌≡◌, ◌∙◌, ◌+◌, ◌++◌, ℕ, true, cond, eqb, leb, ltb, List, [], ◌∷◌, length, sum, replicate, zero-add, refl, subst, sym, ap, arith, rules}
 use Rattle.std.specs.List.{list_all}
 use Rattle.std.proofs.lemmas.Bool.{and_from, lt-ltb, le-leb}
 use Rattle.std.proofs.lemmas.List.{length-replicate}

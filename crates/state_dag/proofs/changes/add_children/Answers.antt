@@ -1,5 +1,4 @@
-use Rattle.std.proofs.Common.{◌≡◌, ◌∙◌, ◌≤◌, ◌<◌, ◌+◌, ◌++◌, ◌∷◌, [], Bool, ◌==◌, ℕ, true, false, cond, eqb, length, take, filter, get_or, set, List, refl, sym, ap, subst, eq-eqb, arith}
-use Rattle.std.specs.List.{sum_by}
+use Rattle.std.proofs.Common.{◌≡◌, ◌∙◌, ◌<◌, ◌+◌, ◌++◌, ◌∷◌, [], Bool, ℕ, false, cond, eqb, length, take, get_or, refl, sym, ap, subst, eq-eqb, arith}
 use Rattle.std.proofs.lemmas.List.{length-set, get_or-set_other}
 use Rattle.std.proofs.lemmas.List.Sums.{sum_by-set}
 use Rattle.std.proofs.lemmas.List.Filters.{length-filter_more}
@@ -7,7 +6,7 @@ use Rattle.std.proofs.lemmas.List.Folds.{list_any_at}
 use Rattle.tardis_base.specs.declared.ids.Slot.{Slot}
 use Rattle.state_dag.specs.declared.nodes.Node.{Node}
 use Rattle.state_dag.specs.Grown.{is_slot_among, number_of_children}
-use Rattle.state_dag.specs.Nodes.{table_of, AreDistinct, HasChild, TakesChild, leaf_of, number_of_leaves}
+use Rattle.state_dag.specs.Nodes.{table_of, AreDistinct, HasChild, TakesChild, leaf_of}
 use Rattle.state_dag.proofs.NodeLists.{at-set, place-within, children-found}
 use Rattle.state_dag.proofs.NodeRooms.{read-at}
 use Rattle.state_dag.proofs.NodeGrowth.{distinct-at, leaf-none, among-parts, child-own, child-other}

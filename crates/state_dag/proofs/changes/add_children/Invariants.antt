@@ -1,4 +1,4 @@
-use Rattle.std.proofs.Common.{◌≡◌, ◌+◌, ◌==◌, ◌<◌, ◌≤◌, ℕ, false, length, filter, get_or, take, drop, vec_len, vec_capacity}
+use Rattle.std.proofs.Common.{◌≡◌, ◌+◌, ◌==◌, ◌<◌, ℕ, false, length, filter, get_or, take, vec_len, vec_capacity}
 use Rattle.state_dag.specs.declared.nodes.Node.{Node}
 use Rattle.state_dag.specs.Grown.{is_slot_among, number_of_children}
 use Rattle.state_dag.specs.Nodes.{table_of, number_of_leaves, AreDistinct, HasChild}

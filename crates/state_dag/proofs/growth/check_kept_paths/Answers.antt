@@ -1,4 +1,4 @@
-use Rattle.std.proofs.Common.{◌≡◌, ◌∙◌, ◌+◌, ℕ, Option, Some, sym, ap, ap₂, arith}
+use Rattle.std.proofs.Common.{◌∙◌, ◌+◌, ℕ, Option, Some, ap, ap₂, arith}
 use Rattle.std.specs.Option.{option_map}
 use Rattle.std.proofs.lemmas.List.{take_all, get_or_default}
 use Rattle.tardis_base.specs.declared.ids.StateId.{StateId}
@@ -7,7 +7,6 @@ use Rattle.tardis_base.specs.declared.replies.Refusal.TheVariants.{PathFull as I
 use Rattle.state_dag.specs.declared.nodes.Node.{Node}
 use Rattle.state_dag.specs.Views.{entries_from}
 use Rattle.state_dag.proofs.Places.{length-entries}
-use Rattle.state_dag.proofs.NodeLists.{entry-in}
 use Rattle.state_dag.proofs.LongPaths.{short-more, long-first, short-all}
 use Rattle.state_dag.proofs.growth.check_kept_paths.Goals as goal
 

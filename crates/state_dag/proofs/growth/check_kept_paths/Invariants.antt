@@ -1,4 +1,4 @@
-use Rattle.std.proofs.Common.{◌≡◌, Option, None, ltb, find, take}
+use Rattle.std.proofs.Common.{◌≡◌, None, ltb, find, take}
 use Rattle.state_dag.specs.Table.{Entry}
 use Rattle.state_dag.specs.Views.{entries_from}
 use Rattle.state_dag.specs.Grown.{grown_length}

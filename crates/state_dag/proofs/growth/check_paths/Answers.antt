@@ -1,4 +1,4 @@
-use Rattle.std.proofs.Common.{◌≡◌, ◌∙◌, ℕ, Option, None, length, add-zero, arith}
+use Rattle.std.proofs.Common.{◌≡◌, ◌∙◌, ℕ, None, length, add-zero}
 use Rattle.tardis_base.specs.declared.ids.StateId.{StateId}
 use Rattle.tardis_base.specs.declared.replies.Refusal.{Refusal}
 use Rattle.tardis_base.specs.declared.replies.Refusal.TheVariants.{PathFull as IsPathFull}

@@ -1,4 +1,4 @@
-use Rattle.std.proofs.Common.{◌≡◌, ◌∙◌, ◌++◌, ◌+◌, ◌≤◌, List, [], length, map, take, Vec, Global, sym, ap, arith}
+use Rattle.std.proofs.Common.{◌∙◌, ◌++◌, List, map, Vec, Global, sym, ap, arith}
 use Rattle.std.specs.List.{flat_map}
 use Rattle.std.proofs.lemmas.List.{take_all}
 use Rattle.tardis_base.specs.declared.ids.Slot.{Slot}

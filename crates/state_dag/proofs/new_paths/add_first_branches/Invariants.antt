@@ -1,7 +1,6 @@
 use Rattle.std.proofs.Common.{◌≡◌, ◌||◌, ◌&&◌, ℕ, IsTrue, take}
 use Rattle.std.specs.List.{list_any}
 use Rattle.fork_path.specs.Pairs.{are_ascending_pairs, is_same_pair, has_pair}
-use Rattle.state_dag.specs.Grown.{path_at, is_last_branch}
 use Rattle.state_dag.specs.Nodes.{table_of, leads_to_some}
 use Rattle.state_dag.proofs.new_paths.add_first_branches.Given as goal
 

@@ -1,8 +1,7 @@
-use Rattle.std.proofs.Common.{◌≡◌, ◌∙◌, ◌||◌, ◌&&◌, ◌≤◌, ℕ, Bool, true, false, leb, length, get_or, IsTrue, refl, sym, ap, ap₂, subst, add-zero, arith}
-use Rattle.std.proofs.lemmas.Bool.{and_right, le-leb, lt-leb}
+use Rattle.std.proofs.Common.{◌≡◌, ◌∙◌, ◌||◌, ◌&&◌, ◌≤◌, ℕ, Bool, true, false, leb, get_or, IsTrue, refl, sym, ap, ap₂, subst, add-zero, arith}
+use Rattle.std.proofs.lemmas.Bool.{and_right, le-leb}
 use Rattle.tardis_base.specs.declared.ids.Slot.{Slot}
 use Rattle.fork_path.specs.Pairs.{Pairs, is_same_pair, has_pair, are_ascending_pairs}
-use Rattle.state_dag.specs.declared.nodes.Node.{Node}
 use Rattle.state_dag.specs.Grown.{number_of_children}
 use Rattle.state_dag.specs.Nodes.{table_of}
 use Rattle.state_dag.proofs.Passing.{or-more}

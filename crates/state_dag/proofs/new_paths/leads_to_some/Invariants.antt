@@ -1,5 +1,5 @@
 use Rattle.std.proofs.Common.{◌≡◌, false, take}
-use Rattle.state_dag.specs.Nodes.{table_of, leads_to_some}
+use Rattle.state_dag.specs.Nodes.{table_of}
 use Rattle.std.specs.List.{list_any}
 use Rattle.state_dag.specs.Grown.{leads_first}
 use Rattle.state_dag.proofs.new_paths.leads_to_some.Given as goal

@@ -1,4 +1,4 @@
-use Rattle.std.proofs.Common.{◌≡◌, ◌∙◌, ◌||◌, sym, ap, arith}
+use Rattle.std.proofs.Common.{◌∙◌, ◌||◌, sym, ap, arith}
 use Rattle.fork_path.specs.Pairs.{has_pair}
 use Rattle.state_dag.specs.Grown.{path_at}
 use Rattle.state_dag.specs.Nodes.{table_of}

@@ -1,8 +1,8 @@
-use Rattle.std.proofs.Common.{◌≡◌, ◌||◌, ◌&&◌, ℕ, IsTrue, take}
+use Rattle.std.proofs.Common.{◌≡◌, ◌||◌, ℕ, IsTrue, take}
 use Rattle.std.specs.List.{list_any}
-use Rattle.fork_path.specs.Pairs.{are_ascending_pairs, is_same_pair, has_pair}
-use Rattle.state_dag.specs.Grown.{path_at, is_last_branch}
-use Rattle.state_dag.specs.Nodes.{table_of, leads_to_some}
+use Rattle.fork_path.specs.Pairs.{are_ascending_pairs, has_pair}
+use Rattle.state_dag.specs.Grown.{path_at}
+use Rattle.state_dag.specs.Nodes.{table_of}
 use Rattle.state_dag.proofs.new_paths.unite_paths.Given as goal
 
 abbrev pub invariant-loop-parent : goal.invariant-loop-parent

@@ -1,4 +1,4 @@
-use Rattle.std.proofs.Common.{◌≡◌, ◌<◌, ◌≤◌, ℕ, length, map, IsTrue, get_or, take}
+use Rattle.std.proofs.Common.{◌≡◌, ℕ, length, get_or, take}
 use Rattle.state_dag.specs.declared.nodes.Node.{Node}
 use Rattle.state_dag.specs.Views.{entries_from}
 use Rattle.state_dag.specs.Nodes.{HasChildRoom}

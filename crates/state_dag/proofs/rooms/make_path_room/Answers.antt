@@ -1,9 +1,8 @@
-use Rattle.std.proofs.Common.{◌≡◌, ◌∙◌, ◌≤◌, ◌<◌, ℕ, ltb, length, get_or, List, IsTrue, sym, ap, subst, add-zero, arith}
+use Rattle.std.proofs.Common.{◌∙◌, ◌≤◌, ℕ, ltb, length, get_or, List, IsTrue, sym, subst, add-zero, arith}
 use Rattle.std.proofs.lemmas.Bool.{ltb-true}
 use Rattle.std.proofs.lemmas.List.{length-set, take_all}
 use Rattle.state_dag.specs.declared.nodes.Node.{Node}
 use Rattle.state_dag.specs.declared.leads.Gain.{Gain}
-use Rattle.state_dag.specs.Views.{entries_from}
 use Rattle.state_dag.specs.Nodes.{is_gaining}
 use Rattle.state_dag.proofs.Passing.{all-at}
 use Rattle.state_dag.proofs.NodeLists.{at-set}

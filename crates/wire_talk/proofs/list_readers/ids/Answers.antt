@@ -3,7 +3,7 @@ use Rattle.wire_item.specs.Fronts.{times}
 use Rattle.wire_item.specs.Readings.{id_front}
 use Rattle.wire_item.proofs.Lists.{times-more, times-none}
 use Rattle.wire_item.proofs.Takings.{taken, untaken, makes, makes-none}
-use Rattle.wire_talk.proofs.request_field_readers.ids.Goals as goal
+use Rattle.wire_talk.proofs.list_readers.ids.Goals as goal
 
 pub loop-place-init : goal.loop-place-init
 loop-place-init c = record { xs = []; reads = refl; made = c.new.ensures }
