@@ -62,12 +62,7 @@ impl SiteCore {
     }
 
     /// Writes the reply to the actor's request, which is done.
-    fn reply(
-        &mut self,
-        actor: u16,
-        request: &Request,
-        out: &mut ReplyBuf,
-    ) -> Result<(), NoMemory>
+    fn reply(&mut self, actor: u16, request: &Request, out: &mut ReplyBuf) -> Result<(), NoMemory>
         requires valid { IsTrue (is_request request.now) }
         requires empty { out.old ≡ [] }
         ensures given { (site : Site) → SiteStands self.old site → GivesBytes (SiteStands self.new) (step so_far site actor request.now) site result out.new }

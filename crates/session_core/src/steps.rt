@@ -26,12 +26,7 @@ impl SiteCore {
     /// Does the actor's request, and replies to it.
     ///
     /// With no memory the site is as before. Abort, Close, Ceiling, Raise, RaiseAuto, Tidy and Stat never want memory.
-    pub fn step(
-        &mut self,
-        actor: u16,
-        request: &Request,
-        reply: &mut Reply,
-    ) -> Result<(), NoMemory>
+    pub fn step(&mut self, actor: u16, request: &Request, reply: &mut Reply) -> Result<(), NoMemory>
         requires { IsTrue (is_request request.now) }
         ensures done { OnOk result ((site : Site) → SiteStands self.old site → IsGiven (SiteStands self.new) (step so_far site actor request.now) reply.new) }
         ensures same { OnErr result ((site : Site) → SiteStands self.old site → SiteStands self.new site) }
