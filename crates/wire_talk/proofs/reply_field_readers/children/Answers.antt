@@ -1,5 +1,4 @@
 use Rattle.std.proofs.Common.{refl}
-use Rattle.wire_item.specs.Fronts.{both}
 use Rattle.wire_item.specs.Readings.{u32_front, id_front}
 use Rattle.wire_item.proofs.Takings.{taken, untaken, makes-none, makes-after}
 use Rattle.wire_talk.specs.ReplyReadings.{children_front}

@@ -3,7 +3,7 @@ use Rattle.tardis_base.specs.Valid.{is_u32}
 use Rattle.wire_item.specs.Fronts.{counted, only_if, times}
 use Rattle.wire_item.specs.Readings.{u16_front, id_front}
 use Rattle.wire_item.proofs.Fronts.{only_if-read}
-use Rattle.wire_item.proofs.Takings.{taken, untaken, making, unmade, makes, makes-none, made-none, after-then_none, only_if-none, only_if-fails}
+use Rattle.wire_item.proofs.Takings.{taken, untaken, making, unmade, makes, makes-none, only_if-fails}
 use Rattle.wire_talk.specs.Valid.{are_first_ids}
 use Rattle.wire_talk.proofs.RequestFields.{counted-read}
 use Rattle.wire_talk.proofs.ReplyFields.{first_ids-tested}

@@ -1,8 +1,8 @@
-use Rattle.std.proofs.Common.{None, refl, sym, subst, arith, ◌≤◌, IsTrue, Ok}
+use Rattle.std.proofs.Common.{None, refl, sym, subst, arith, ◌≤◌, IsTrue}
 use Rattle.tardis_base.specs.declared.replies.Reply.TheVariants.{Raised, Tidied, Stat as Statistics, Shown, Batch, Applied, Known, Early, Closed, Refused, NoMemory}
 use Rattle.wire_item.specs.Fronts.{both, front_of_code, made}
 use Rattle.wire_item.specs.Readings.{batch_front, id_front, u16_front, u32_front, u64_front}
-use Rattle.wire_item.proofs.Takings.{makes-none, taken, untaken}
+use Rattle.wire_item.proofs.Takings.{makes-none, untaken}
 use Rattle.wire_talk.specs.Memory.{reply_takes_no_memory}
 use Rattle.wire_talk.specs.ReplyReadings.{children_front, path_front, refusal_front, reply_rows, site_lines_front}
 use Rattle.wire_talk.proofs.Arms.{front-beyond, arm-plain, arm-takes, arm-none, arm-sure, arm-source, arm-taken, arm-untaken}
