@@ -17,4 +17,5 @@ pub mod Settings
 pub mod Telling
 pub mod ReadAgain
 pub mod Noting
+pub mod Opening
 pub mod Asking
