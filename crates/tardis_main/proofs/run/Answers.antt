@@ -21,10 +21,10 @@ returns-in-Ok-clause-headline g c =
     let old = g.O.Sink.given c.args.output.now in
     let new = g.O.Sink.given c.run_site.new.output in
     weaker (g.I.Source.left c.args.input.now) (g.I.Source.left c.run_site.new.input)
-    (λ first left. Outcome status (λ s. CoreStands c.in-Ok.site s × IsSound so_far s) (λ s bodies. Answered (site_machine so_far) (shape_of status) (λ t. CoreStands c.run_site.new.machine t × IsSound so_far t) old new s (map event_of bodies)) first left)
+    (λ first left. Outcome status (SiteStands c.in-Ok.site) (λ s bodies. Answered (site_machine so_far) (shape_of status) (SiteStands c.run_site.new.machine) old new s (map event_of bodies)) first left)
     (RunFrom site status old new)
     c.run_site.ensures.outcome
-    (λ x y o. run_from site (λ s. CoreStands c.in-Ok.site s × IsSound so_far s) (λ t. CoreStands c.run_site.new.machine t × IsSound so_far t) status old new x y
+    (λ x y o. run_from site (SiteStands c.in-Ok.site) (SiteStands c.run_site.new.machine) status old new x y
     (c.in-Ok.ensures.stands, opening-is-sound so_far (program_limits 1) 1 refl refl) (λ t both. both.1) o)
 
 pub returns-in-Err-clause-headline : goal.returns-in-Err-clause-headline
