@@ -18,3 +18,4 @@ pub mod Telling
 pub mod ReadAgain
 pub mod Noting
 pub mod Asking
+pub mod Opening
