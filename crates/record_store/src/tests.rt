@@ -1,13 +1,12 @@
 //! What no clause says: that each call which takes memory gets it, and rows of reads on two branches and their merge.
 
-ghost use Rattle.std.specs.Prelude.{◌≡◌, ◌+◌, ◌≤◌, slice_get, unwrap_or, IsTrue, IfOk, OnOk};
+ghost use Rattle.std.specs.Prelude.{◌≡◌, ◌+◌, ◌≤◌, slice_get, unwrap_or, IsTrue};
 ghost use Rattle.state_dag.specs.Table.{is_slot};
 ghost use Rattle.record_store.specs.Answers.{is_listed};
 
 use crate::RecordStore;
 use std::alloc::Global;
 use std::process::Abort;
-use std::test::Fail;
 use tardis_base::{
     AddFault, Found, Key, Limits, Record, Slot, StateId, StateList, Value, Write, WriteSet,
 };
@@ -64,128 +63,135 @@ fn added(rt: &impl Abort, store: &mut RecordStore, sequence: u32, parent: u32, w
     store.add_state(id, &[parent], writes).expect(rt, "room");
 }
 
-/// Writes of these values to the keys `x` and `y`, where there are values.
-fn writes(alloc: Global, x: Option<&[u8]>, y: Option<&[u8]>) -> Result<WriteSet, Fail> {
+/// This key.
+fn key(rt: &impl Abort, alloc: Global, bytes: &[u8]) -> Key {
+    Key::new(alloc, bytes).expect(rt, "room")
+}
+
+/// This value.
+fn value(rt: &impl Abort, alloc: Global, bytes: &[u8]) -> Value {
+    Value::new(alloc, bytes).expect(rt, "room")
+}
+
+/// Writes this value to the key.
+fn put(rt: &impl Abort, alloc: Global, writes: &mut WriteSet, of: &[u8], bytes: &[u8]) {
+    let write = Write::Put(value(rt, alloc, bytes));
+    writes.insert(key(rt, alloc, of), write).expect(rt, "room");
+}
+
+/// One write of this value to `x`.
+fn writes(rt: &impl Abort, alloc: Global, bytes: &[u8]) -> WriteSet {
     let mut writes = WriteSet::new(alloc);
-    if let Some(x) = x {
-        let value = Value::new(alloc, x)?;
-        writes.insert(Key::new(alloc, b"x")?, Write::Put(value))?;
-    }
-    if let Some(y) = y {
-        let value = Value::new(alloc, y)?;
-        writes.insert(Key::new(alloc, b"y")?, Write::Put(value))?;
-    }
-    Ok(writes)
+    put(rt, alloc, &mut writes, b"x", bytes);
+    writes
 }
 
 /// 1.1 below the root writes `x`; below it, 1.2 overwrites that, and 1.3 deletes it and writes `y`.
-fn forked(rt: &impl Abort, alloc: Global) -> Result<RecordStore, Fail>
-    ensures { IfOk result (λ store. 1 ≤ store.table.limits.sites) }
+fn forked(rt: &impl Abort, alloc: Global) -> RecordStore
+    ensures { 1 ≤ result.table.limits.sites }
 {
-    let mut store = RecordStore::new(alloc, &LIMITS)?;
-    added(rt, &mut store, 1, 0, &writes(alloc, Some(b"1"), None)?);
-    added(rt, &mut store, 2, 1, &writes(alloc, Some(b"2"), None)?);
-    let mut last = writes(alloc, None, Some(b"3"))?;
-    last.insert(Key::new(alloc, b"x")?, Write::Delete)?;
+    let mut store = RecordStore::new(alloc, &LIMITS).expect(rt, "room");
+    added(rt, &mut store, 1, 0, &writes(rt, alloc, b"1"));
+    added(rt, &mut store, 2, 1, &writes(rt, alloc, b"2"));
+    let mut last = WriteSet::new(alloc);
+    put(rt, alloc, &mut last, b"y", b"3");
+    last.insert(key(rt, alloc, b"x"), Write::Delete)
+        .expect(rt, "room");
     added(rt, &mut store, 3, 1, &last);
-    Ok(store)
+    store
 }
 
 /// Adds a state below 1.2 and 1.3 by its record, and looks at the record of it.
-fn merged(rt: &impl Abort, alloc: Global, store: &mut RecordStore) -> Result<(), Fail>
+fn merged(rt: &impl Abort, alloc: Global, store: &mut RecordStore)
     requires { 1 ≤ store.old.table.limits.sites }
-    ensures { OnOk result (1 ≤ store.new.table.limits.sites) }
+    ensures { 1 ≤ store.new.table.limits.sites }
 {
     let parents = [kept(rt, store, 2), kept(rt, store, 3)];
     let merge = Record {
         id: next(rt, store, 4),
-        parents: StateList::from_vec(Vec::from_slice(alloc, &parents)?),
-        writes: writes(alloc, Some(b"4"), None)?,
+        parents: StateList::from_vec(Vec::from_slice(alloc, &parents).expect(rt, "room")),
+        writes: writes(rt, alloc, b"4"),
     };
     store.add_record(&merge).expect(rt, "room");
     let slot = at(rt, store, 4);
-    assert!(rt; store.record_of(slot)? == merge);
-    Ok(())
+    assert!(rt; store.record_of(slot).expect(rt, "room") == merge);
 }
 
-/// Looks at what is read of the key at this state: what 1.`writer` wrote.
+/// Adds no state below 1.4, since the store is full.
+fn full(rt: &impl Abort, alloc: Global, store: &mut RecordStore)
+    requires { 1 ≤ store.old.table.limits.sites }
+{
+    let id = next(rt, store, 5);
+    let parent = at(rt, store, 4);
+    let answer = store.add_state(id, &[parent], &writes(rt, alloc, b"5"));
+    assert!(rt; answer == Err(AddFault::Full { kept: 5 }));
+}
+
+/// What is read of the key at this state: who wrote it, if anyone, and the value, unless it was deleted.
 fn reads(
     rt: &impl Abort,
+    alloc: Global,
     store: &RecordStore,
     sequence: u32,
-    key: &Key,
-    writer: u32,
-    value: &Value,
+    of: &[u8],
+    writer: Option<u32>,
+    bytes: Option<&[u8]>,
 ) {
-    let want = Found::Value {
-        writer: state(writer),
-        value,
+    let value = bytes.map(|bytes| value(rt, alloc, bytes));
+    let want = match (writer, &value) {
+        (None, _) => Found::Absent,
+        (Some(writer), None) => Found::Deleted {
+            writer: state(writer),
+        },
+        (Some(writer), Some(value)) => Found::Value {
+            writer: state(writer),
+            value,
+        },
     };
+    let slot = at(rt, store, sequence);
     assert_eq!(rt;
-        store.read_at(at(rt, store, sequence), key),
+        store.read_at(slot, &key(rt, alloc, of)),
         want,
         "at {sequence}"
     );
 }
 
 /// Whether the key is news of the one state to the other.
-fn news(rt: &impl Abort, store: &RecordStore, from: u32, child: u32, key: &Key) -> bool {
-    store.is_news(at(rt, store, from), at(rt, store, child), key)
-}
-
-/// Adds no state below 1.4, since the store is full.
-fn full(rt: &impl Abort, alloc: Global, store: &mut RecordStore) -> Result<(), Fail>
-    requires { 1 ≤ store.old.table.limits.sites }
-{
-    let id = next(rt, store, 5);
-    let parent = at(rt, store, 4);
-    let answer = store.add_state(id, &[parent], &writes(alloc, Some(b"5"), None)?);
-    assert!(rt; answer == Err(AddFault::Full { kept: 5 }));
-    Ok(())
-}
-
-/// Looks at where nothing is read of the key.
-fn reads_none(rt: &impl Abort, store: &RecordStore, sequence: u32, key: &Key) {
-    assert_eq!(rt; store.read_at(at(rt, store, sequence), key), Found::Absent);
-}
-
-/// Looks at where the key is read as deleted.
-fn reads_gone(rt: &impl Abort, store: &RecordStore, sequence: u32, key: &Key) {
-    let gone = Found::Deleted {
-        writer: state(sequence),
-    };
-    assert_eq!(rt; store.read_at(at(rt, store, sequence), key), gone);
+fn news(
+    rt: &impl Abort,
+    alloc: Global,
+    store: &RecordStore,
+    from: u32,
+    child: u32,
+    of: &[u8],
+) -> bool {
+    let (from, child) = (at(rt, store, from), at(rt, store, child));
+    store.is_news(from, child, &key(rt, alloc, of))
 }
 
 #[test]
-fn branches_read_their_own(rt: HostRuntime) -> Result<(), Fail> {
+fn branches_read_their_own(rt: HostRuntime) {
     let alloc = rt.alloc();
-    let x = Key::new(alloc, b"x")?;
-    let y = Key::new(alloc, b"y")?;
-    let store = forked(&rt, alloc)?;
-    reads_none(&rt, &store, 0, &x);
-    reads_none(&rt, &store, 2, &y);
-    reads_gone(&rt, &store, 3, &x);
-    reads(&rt, &store, 1, &x, 1, &Value::new(alloc, b"1")?);
-    reads(&rt, &store, 2, &x, 2, &Value::new(alloc, b"2")?);
-    reads(&rt, &store, 3, &y, 3, &Value::new(alloc, b"3")?);
-    assert!(rt; news(&rt, &store, 1, 2, &x));
-    assert!(rt; !news(&rt, &store, 1, 2, &y));
-    assert!(rt; !news(&rt, &store, 2, 1, &x));
-    Ok(())
+    let store = forked(&rt, alloc);
+    reads(&rt, alloc, &store, 0, b"x", None, None);
+    reads(&rt, alloc, &store, 1, b"x", Some(1), Some(b"1"));
+    reads(&rt, alloc, &store, 2, b"x", Some(2), Some(b"2"));
+    reads(&rt, alloc, &store, 2, b"y", None, None);
+    reads(&rt, alloc, &store, 3, b"x", Some(3), None);
+    reads(&rt, alloc, &store, 3, b"y", Some(3), Some(b"3"));
+    assert!(rt; news(&rt, alloc, &store, 1, 2, b"x"));
+    assert!(rt; !news(&rt, alloc, &store, 1, 2, b"y"));
+    assert!(rt; !news(&rt, alloc, &store, 2, 1, b"x"));
 }
 
 #[test]
-fn a_merge_comes_back_and_a_full_store_keeps_its_reads(rt: HostRuntime) -> Result<(), Fail> {
+fn a_merge_comes_back_and_a_full_store_keeps_its_reads(rt: HostRuntime) {
     let alloc = rt.alloc();
-    let x = Key::new(alloc, b"x")?;
-    let y = Key::new(alloc, b"y")?;
-    let mut store = forked(&rt, alloc)?;
-    merged(&rt, alloc, &mut store)?;
-    full(&rt, alloc, &mut store)?;
-    reads(&rt, &store, 4, &x, 4, &Value::new(alloc, b"4")?);
-    reads(&rt, &store, 4, &y, 3, &Value::new(alloc, b"3")?);
-    assert!(rt; news(&rt, &store, 2, 4, &y));
+    let mut store = forked(&rt, alloc);
+    merged(&rt, alloc, &mut store);
+    full(&rt, alloc, &mut store);
+    reads(&rt, alloc, &store, 4, b"x", Some(4), Some(b"4"));
+    reads(&rt, alloc, &store, 4, b"y", Some(3), Some(b"3"));
+    assert!(rt; news(&rt, alloc, &store, 2, 4, b"y"));
     assert_eq!(rt; store.versions().keys(), 2);
-    Ok(())
 }
