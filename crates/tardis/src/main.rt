@@ -6,9 +6,8 @@
 mod helps;
 
 use helps::{Help, help_of};
-use std::env;
-use std::io;
 use std::process::ExitCode;
+use std::{env, io};
 use tardis_io::{Status, StdIn, StdOut};
 use tardis_main::tardis;
 
