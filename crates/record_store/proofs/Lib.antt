@@ -1,1 +1,5 @@
 -- Lemmas on the store.
+pub mod Holders
+pub mod Reading
+pub mod Adding
+pub mod Holding

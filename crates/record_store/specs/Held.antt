@@ -1,5 +1,6 @@
 -- What holds of the store's memory at all times.
-use Rattle.state_dag.specs.Table.{is_kept_at, arrival_at}
+use Rattle.std.specs.Prelude.{IsTrue}
+use Rattle.state_dag.specs.Table.{arrive_in_order, is_kept_at, arrival_at}
 use Rattle.version_list.specs.Versions.{IsInOrder}
 use Rattle.record_store.specs.declared.RecordStore.TheInside.{Inside}
 use Rattle.record_store.specs.Store.{Store}
@@ -8,6 +9,8 @@ use Rattle.record_store.specs.Store.{Store}
 abbrev pub seen : Inside → Store
 seen a = record { table = a.dag; versions = a.versions }
 
--- each version is at a kept state, and the versions of each key stand in the order of their arrival
-abbrev pub IsHeld : Inside → Type 0
-IsHeld a = IsInOrder (is_kept_at a.dag) (arrival_at a.dag) a.versions
+-- the table's entries stand in arrival order; each version is at a kept state, and the versions of each key stand in the
+-- order of their arrival
+pub record IsHeld (a : Inside) : Type 0 where
+  pub in_order : IsTrue (arrive_in_order a.dag.entries)
+  pub versions : IsInOrder (is_kept_at a.dag) (arrival_at a.dag) a.versions

@@ -42,7 +42,7 @@ impl Model for RecordStore {
 
     ghost view = { seen };
 
-    ghost invariant = { λ _. ⊥ };
+    ghost invariant = { IsHeld };
 }
 
 impl RecordStore {
@@ -52,7 +52,10 @@ impl RecordStore {
         ensures stands { IfOk result (λ store. StoreStands store (root_record ∷ []) []) }
         ensures limits { IfOk result (λ store. store.table.limits ≡ limits.now) }
     {
-        Err(NoMemory)
+        Ok(RecordStore {
+            dag: StateDag::new(alloc, limits)?,
+            versions: VersionList::new(alloc),
+        })
     }
 
     /// The table of the kept states.
@@ -90,7 +93,10 @@ impl RecordStore {
         ensures limits { self.new.table.limits ≡ self.old.table.limits }
         ensures same { OnErr result (IsSameStore self.old self.new) }
     {
-        Err(AddFault::NoMemory)
+        let writes = self.versions.reserve(writes)?;
+        let slot = self.dag.add(id, parents)?;
+        self.versions.add(&self.dag, slot, id, writes);
+        Ok(slot)
     }
 
     /// What is read of the key at the state of this slot.
@@ -114,6 +120,6 @@ impl RecordStore {
         ensures { (rs : List Record) (ks : List StateId) → StoreStands self.now rs ks → (x c : StateId) → id_at self.now.table from ≡ Some x → id_at self.now.table child ≡ Some c → result ≡ is_news rs x c key.now }
     {
         let _ = &self.dag;
-        false
+        self.versions.has_news(&self.dag, child, from, key)
     }
 }

@@ -2,6 +2,7 @@
 #![tactic(auto)]
 
 ghost use Rattle.std.specs.Prelude.{◌≡◌, ℕ, ◌+◌, ◌-◌, ◌≤◌, ◌<◌, false, Some, None, List, [], ◌∷◌, length, map, slice_get, unwrap_or, IsTrue, IfOk, IfSome, OnErr};
+ghost use Rattle.std.specs.List.{list_all};
 ghost use Rattle.std.specs.Option.{option_and_then};
 ghost use Rattle.tardis_base.specs.declared.ids.StateId.{StateId};
 ghost use Rattle.tardis_base.specs.declared.ids.Slot.{Slot};
@@ -15,7 +16,7 @@ ghost use Rattle.plain_dag.specs.Collection.{is_kept, kept_states, stand_in};
 ghost use Rattle.state_dag.specs.Table.{entry_at, id_at, is_slot, is_kept_at, arrival_at, is_slot_above};
 ghost use Rattle.state_dag.specs.Views.{entry_of};
 ghost use Rattle.state_dag.specs.Stands.{Stands};
-ghost use Rattle.state_dag.specs.Answers.{next_of, slot_after};
+ghost use Rattle.state_dag.specs.Answers.{MayBeAdded, AddedTo, IsNewSlot, KeepsSlots, next_of, slot_after};
 
 mod nodes;
 mod slots;
@@ -25,7 +26,7 @@ use slots::slot_in;
 use std::alloc::Global;
 use std::collections::BTreeMap;
 use std::marker::Model;
-use tardis_base::{Above, Limits, NoMemory, Slot, StateId};
+use tardis_base::{Above, AddFault, Limits, NoMemory, Slot, StateId};
 
 /// The states of one site, by the slots in which the kept ones stand.
 ///
@@ -195,6 +196,24 @@ impl StateDag {
         ensures { (rs : List Record) (ks : List StateId) → Stands self.now rs ks → (x : StateId) → id_at self.now slot ≡ Some x → result.now ≡ parents_of rs x }
     {
         self.node(slot).parents.as_slice()
+    }
+
+    /// STUB.
+    pub fn add(&mut self, id: StateId, parents: &[Slot]) -> Result<Slot, AddFault>
+        requires slots { IsTrue (list_all (is_slot self.old) parents.now) }
+        requires first { 1 ≤ id.site }
+        requires last { id.site ≤ self.old.limits.sites }
+        requires next { id.sequence ≡ unwrap_or (slice_get self.old.counts (id.site - 1)) 0 + 1 }
+        ensures added { (rs : List Record) (ks : List StateId) (r : Record) → Stands self.old rs ks → r.id ≡ id → MayBeAdded self.old rs ks r parents.now → AddedTo self.old self.new rs ks r result }
+        ensures slot { IfOk result (λ slot. IsNewSlot self.old self.new id slot) }
+        ensures keeps { KeepsSlots self.old self.new }
+        ensures kept { (s : Slot) → IsTrue (is_kept_at self.old s) → IsTrue (is_kept_at self.new s) × (arrival_at self.new s ≡ arrival_at self.old s) }
+        ensures kept_slot { IfOk result (λ slot. IsTrue (is_kept_at self.new slot)) }
+        ensures newest { IfOk result (λ slot. (s : Slot) → IsTrue (is_kept_at self.old s) → arrival_at self.new s < arrival_at self.new slot) }
+        ensures limits { self.new.limits ≡ self.old.limits }
+        ensures same { OnErr result (self.new ≡ self.old) }
+    {
+        Err(AddFault::NoMemory)
     }
 
     /// The slot of the kept state that arrived next after the one at this slot, or first of all; None at the end.

@@ -157,6 +157,22 @@ impl KeyLists {
         }
     }
 
+    /// Whether the key has a version at or above the one state and not at or above the other.
+    pub(crate) fn has_news<A: Above>(
+        &self,
+        dag: &A,
+        above: Slot,
+        not_above: Slot,
+        key: &Key,
+    ) -> bool
+        requires order { AllInOrder (A.is_kept dag.now) (A.arrival_of dag.now) self.now }
+        requires first { IsTrue (A.is_kept dag.now above) }
+        requires second { IsTrue (A.is_kept dag.now not_above) }
+        ensures { result ≡ has_between (A.is_above dag.now) (versions_in self.now key.now) above not_above }
+    {
+        histories::has_news(dag, self.versions(key), above, not_above)
+    }
+
     /// Whether one of the keys has a version at or above the one state and not at or above the other.
     ///
     /// The cost grows with the number of versions of these keys.
@@ -173,7 +189,7 @@ impl KeyLists {
         ensures { result ≡ list_any (λ k. has_between (A.is_above dag.now) (versions_in self.now k) above not_above) keys.now }
     {
         for key in keys.as_slice() {
-            if histories::has_news(dag, self.versions(key), above, not_above) {
+            if self.has_news(dag, above, not_above, key) {
                 return true;
             }
         }

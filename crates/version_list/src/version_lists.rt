@@ -111,6 +111,18 @@ impl VersionList {
         self.lists.holder(dag, key, at)
     }
 
+    /// Whether the key has a version at or above the one state and not at or above the other.
+    ///
+    /// The cost grows with the number of the key's versions.
+    pub fn has_news<A: Above>(&self, dag: &A, above: Slot, not_above: Slot, key: &Key) -> bool
+        requires order { IsInOrder (A.is_kept dag.now) (A.arrival_of dag.now) self.now }
+        requires first { IsTrue (A.is_kept dag.now above) }
+        requires second { IsTrue (A.is_kept dag.now not_above) }
+        ensures { result ≡ has_between (A.is_above dag.now) (versions_of self.now key.now) above not_above }
+    {
+        self.lists.has_news(dag, above, not_above, key)
+    }
+
     /// Whether one of the keys has a version at or above the one state and not at or above the other.
     ///
     /// The cost grows with the number of versions of these keys.
