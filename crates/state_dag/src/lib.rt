@@ -185,7 +185,8 @@ impl StateDag {
     /// of a collected one that of the state that stands in for it.
     pub fn child_slots(&self, slot: Slot) -> &[Slot]
         requires { IsTrue (is_slot self.now slot) }
-        ensures { (rs : List Record) (ks : List StateId) → Stands self.now rs ks → (x : StateId) → id_at self.now slot ≡ Some x → map (id_at self.now) result.now ≡ map (λ c. Some (stand_in rs ks c)) (children rs x) }
+        ensures slots { IsTrue (list_all (is_slot self.now) result.now) }
+        ensures stand_ins { (rs : List Record) (ks : List StateId) → Stands self.now rs ks → (x : StateId) → id_at self.now slot ≡ Some x → map (id_at self.now) result.now ≡ map (λ c. Some (stand_in rs ks c)) (children rs x) }
     {
         self.node(slot).stand_ins.as_slice()
     }
@@ -262,6 +263,7 @@ impl StateDag {
         requires { IsTrue (is_slot self.now slot) }
         ensures entry { entry_at self.now slot ≡ Some (entry_of slot.0 result.now) }
         ensures kept { IsTrue (is_kept_at self.now slot) }
+        ensures slots { IsTrue (list_all (is_slot self.now) result.now.stand_ins.items) }
     {
         &self.nodes[slot.0 as usize]
     }
