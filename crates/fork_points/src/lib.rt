@@ -84,13 +84,21 @@ pub fn leaf_page(alloc: Global, dag: &StateDag) -> Result<StatePage, NoMemory>
     let mut next = dag.kept_after(None);
     for _place in 0..dag.kept() {
         if let Some(slot) = next {
-            if dag.children(slot).is_empty() {
+            if is_leaf(dag, slot) {
                 page.note(dag.id_of(slot))?;
             }
             next = dag.kept_after(Some(slot));
         }
     }
     Ok(page)
+}
+
+/// Whether the state of this slot has no child.
+fn is_leaf(dag: &StateDag, slot: Slot) -> bool
+    requires { IsTrue (is_slot dag.now slot) }
+    ensures { (rs : List Record) (ks : List StateId) → Stands dag.now rs ks → (x : StateId) → id_at dag.now slot ≡ Some x → result ≡ is_leaf rs x }
+{
+    dag.children(slot).is_empty()
 }
 
 /// Whether the state of this slot is at or above all of these, and none of its children is.
