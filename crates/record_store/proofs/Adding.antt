@@ -1,10 +1,8 @@
 -- A store that has grown by one state.
-use Rattle.std.proofs.Common.{◌≡◌, ℕ, ◌<◌, Bool, true, false, ltb, ◌||◌, ◌&&◌, not, List, [], ◌∷◌, ◌++◌, map, filter, find, Option, Some, None, is_some, Ok, Err, IsTrue, IsFalse, inl, inr, refl, sym, ap, ap₂, subst, ◌∙◌}
-use Rattle.std.specs.Prelude.{bytes_eq}
+use Rattle.std.proofs.Common.{◌≡◌, ℕ, ◌<◌, Bool, true, false, ltb, ◌||◌, ◌&&◌, not, List, [], ◌∷◌, ◌++◌, map, filter, Option, Some, None, is_some, Ok, Err, IsTrue, IsFalse, refl, sym, ap, ap₂, subst, ◌∙◌}
 use Rattle.std.specs.List.{list_any, list_all}
 use Rattle.std.specs.Option.{option_map, option_and_then}
-use Rattle.std.proofs.lemmas.Bool.{and_parts, and_from, and_left, and_right, cases_Bool, both_ways, cond-true, cond-false, ltb-true, lt-ltb, not-true, false_from_ne_true}
-use Rattle.std.proofs.lemmas.Option.{none-some, same_Some}
+use Rattle.std.proofs.lemmas.Bool.{and_parts, and_from, and_left, and_right, both_ways, cond-true, cond-false, lt-ltb, not-true, false_from_ne_true}
 use Rattle.std.proofs.lemmas.List.{map-append}
 use Rattle.tardis_base.specs.declared.ids.StateId.{StateId}
 use Rattle.tardis_base.specs.declared.ids.Slot.{Slot}
@@ -14,18 +12,16 @@ use Rattle.tardis_base.specs.declared.faults.AddFault.{AddFault}
 use Rattle.tardis_base.specs.declared.faults.AddFault.TheVariants.{Full, PathFull, NoMemory}
 use Rattle.tardis_base.specs.Ids.{same_id, is_among}
 use Rattle.tardis_base.specs.Keys.{KeyWrite, has_key, write_of}
-use Rattle.plain_dag.specs.States.{states, is_known, record_at, writes_key, write_at}
-use Rattle.plain_dag.specs.Above.{is_above}
-use Rattle.plain_dag.specs.Writers.{is_writer, latest_writer, version_at, read}
-use Rattle.plain_dag.specs.Collection.{is_kept, kept_states, stand_in}
+use Rattle.tardis_base.proofs.WriteSets.{has_key-write_of}
+use Rattle.plain_dag.specs.States.{states, is_known, record_at, writes_key}
+use Rattle.plain_dag.specs.Writers.{read}
+use Rattle.plain_dag.specs.Collection.{kept_states, stand_in}
 use Rattle.plain_dag.specs.Dag.{IsNext, IsDag}
-use Rattle.plain_dag.specs.Laws.{IsLatestWriter, StandInsAreShared, StandsInWell}
+use Rattle.plain_dag.specs.Laws.{StandInsAreShared}
 use Rattle.plain_dag.proofs.Ids.{same_id_self, same_id_turns, among-first, among-later, any-agrees, any-false-from}
 use Rattle.plain_dag.proofs.Histories.{Fits, next-fits, next-is-dag, newest-is-known, known-isnt-newest}
-use Rattle.plain_dag.proofs.Order.{above-reflexive}
 use Rattle.plain_dag.proofs.Growth.{writes-before, writes-newest, old-reads-stay}
 use Rattle.plain_dag.proofs.Searches.{filter-agrees, filtered-passes}
-use Rattle.plain_dag.proofs.LatestWriter.{one-latest-writer}
 use Rattle.plain_dag.proofs.StandIns.{kept-stands-for-itself, stands-in-well}
 use Rattle.state_dag.specs.Table.{Table, id_at, is_kept_at, arrival_at}
 use Rattle.state_dag.specs.Stands.{Stands}
@@ -36,7 +32,7 @@ use Rattle.version_list.specs.Versions.{versions_of, version_by, have_come_befor
 use Rattle.record_store.specs.Store.{Store}
 use Rattle.record_store.specs.Stands.{holds_key, shown_version, StoreStands}
 use Rattle.record_store.specs.Answers.{AddedIn, IsSameStore}
-use Rattle.record_store.proofs.Holders.{holders, some-of}
+use Rattle.record_store.proofs.Holders.{holders, read-of_writer}
 use Rattle.record_store.proofs.Reading.{read_with}
 
 -- ===== The order of versions
@@ -88,14 +84,6 @@ module _ (old new : Table) (keeps : KeepsArrivals old new) where
       (all-came_before slot newest vs parts.2)
 
 -- ===== What is written
-
--- something is written to a key that is written
-write-tells : (k : List ℕ) (ws : List KeyWrite) → is_some (write_of k ws) ≡ has_key k ws
-write-tells k [] = refl
-write-tells k (w ∷ ws) = elim (cases_Bool (bytes_eq k w.0)) [
-  | inl t ↦ rw t refl
-  | inr f ↦ rw f (write-tells k ws)
-]
 
 both-true : (a b c h : Bool) → a ≡ h → b ≡ true → c ≡ false → (a && b || c) ≡ h
 both-true a b c h e f g = rw (e, f, g) (go h)
@@ -159,15 +147,8 @@ module _ (rs : List Record) (ks : List StateId) (r : Record) (dag : IsDag rs) (s
   -- where the new state writes a key, that is read there
   read-newest : (k : List ℕ) (w : Write) → write_of k r.writes ≡ Some w → read (r ∷ rs) k r.id ≡ Some (r.id, w)
   read-newest k w e =
-      let has : has_key k r.writes ≡ true = sym (write-tells k r.writes) ∙ ap is_some e in
-      let law = one-latest-writer (r ∷ rs) dag_now k r.id (newest-is-known rs r) in
-      let itself : IsLatestWriter (r ∷ rs) k r.id r.id = record {
-        writes = and_from (writes_key (r ∷ rs) k r.id) (is_above (r ∷ rs) r.id r.id) (writes-newest rs r k r.id fits (same_id_self r.id) ∙ has) (above-reflexive (r ∷ rs) r.id);
-        below = λ v h. (and_parts (writes_key (r ∷ rs) k v) (is_above (r ∷ rs) v r.id) h).1;
-      } in
-      let u = some-of (latest_writer (r ∷ rs) k r.id) (law.found r.id itself.writes) in
-      let same = law.only r.id u.0 u.1 itself in
-      ap (option_and_then (version_at (r ∷ rs) k)) (u.1 ∙ ap (λ (v : StateId). Some v) (sym same))
+      let has : has_key k r.writes ≡ true = has_key-write_of k r.writes ∙ ap is_some e in
+      read-of_writer (r ∷ rs) dag_now k r.id (newest-is-known rs r) (writes-newest rs r k r.id fits (same_id_self r.id) ∙ has)
       ∙ (ap (λ (o : Option Record). option_map (λ (v : Write). (r.id, v)) (option_and_then (λ (q : Record). write_of k q.writes) o)) (cond-true (same_id r.id r.id) (Some r) (record_at rs r.id) (same_id_self r.id))
       ∙ ap (option_map (λ (v : Write). (r.id, v))) e)
 
@@ -191,12 +172,12 @@ module _ (rs : List Record) (ks : List StateId) (r : Record) (dag : IsDag rs) (s
       map (shown_version new) (version_by slot r.id o) ≡ map (read_with (r ∷ rs) k) (filter (holds_key (r ∷ rs) ks k) (r.id ∷ []))
   shown-newest new slot named k None e =
       let test = holds_key (r ∷ rs) ks k in
-      sym (ap (map (read_with (r ∷ rs) k)) (cond-false (test r.id) (r.id ∷ []) [] (holds-newest k ∙ (sym (write-tells k r.writes) ∙ ap is_some e))))
+      sym (ap (map (read_with (r ∷ rs) k)) (cond-false (test r.id) (r.id ∷ []) [] (holds-newest k ∙ (has_key-write_of k r.writes ∙ ap is_some e))))
   shown-newest new slot named k (Some w) e =
       let test = holds_key (r ∷ rs) ks k in
       let pair : Option StateId → Option (StateId × Write) → Option StateId × Option (StateId × Write) = λ a b. (a, b) in
       ap (λ p. p ∷ []) (ap₂ pair named (sym (read-newest k w e)))
-      ∙ sym (ap (map (read_with (r ∷ rs) k)) (cond-true (test r.id) (r.id ∷ []) [] (holds-newest k ∙ (sym (write-tells k r.writes) ∙ ap is_some e))))
+      ∙ sym (ap (map (read_with (r ∷ rs) k)) (cond-true (test r.id) (r.id ∷ []) [] (holds-newest k ∙ (has_key-write_of k r.writes ∙ ap is_some e))))
 
   -- the versions of the key are those of its holders
   pub versions-grow : (old new : Table) (slot : Slot) → KeepsSlots old new → id_at new slot ≡ Some r.id → (k : List ℕ) (vs : List Version) → map (shown_version old) vs ≡ map (read_with rs k) (holders rs ks k) →
@@ -228,10 +209,12 @@ pub added-one : (old new : Store) (rs : List Record) (ks : List StateId) (r : Re
     MayBeAdded old.table rs ks r parents → AddedTo old.table new.table rs ks r (Ok slot) → IsNewSlot old.table new.table id slot → KeepsSlots old.table new.table →
     ((k : List ℕ) → versions_of new.versions k ≡ versions_of old.versions k ++ version_by slot id (write_of k writes)) → AddedIn old new rs ks r (Ok slot)
 added-one old new rs ks r id writes parents slot stands id_is writes_is may added slot_is keeps versions =
-    let out = false_from_ne_true (is_among r.id ks) (λ m. both_ways (is_known rs r.id) may.next.new (stands.table.known_collected r.id m)) in
-    (added.0, record {
-      table = added.1;
-      versions = λ k.
-          ap (map (shown_version new.table)) (versions k ∙ ap₂ (λ (x : StateId) (ws : List KeyWrite). versions_of old.versions k ++ version_by slot x (write_of k ws)) (sym id_is) (sym writes_is))
-          ∙ versions-grow rs ks r stands.table.dag stands.table.shared may.next out old.table new.table slot keeps (slot_is.1 ∙ ap (λ (x : StateId). Some x) (sym id_is)) k (versions_of old.versions k) (stands.versions k);
-    })
+    let out = false_from_ne_true (is_among r.id ks) (λ m. both_ways (is_known rs r.id) may.next.new (stands.table.known_collected r.id m)) in (
+      added.0,
+      record {
+        table = added.1;
+        versions = λ k.
+            ap (map (shown_version new.table)) (versions k ∙ ap₂ (λ (x : StateId) (ws : List KeyWrite). versions_of old.versions k ++ version_by slot x (write_of k ws)) (sym id_is) (sym writes_is))
+            ∙ versions-grow rs ks r stands.table.dag stands.table.shared may.next out old.table new.table slot keeps (slot_is.1 ∙ ap (λ (x : StateId). Some x) (sym id_is)) k (versions_of old.versions k) (stands.versions k);
+      },
+    )

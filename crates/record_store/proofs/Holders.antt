@@ -1,8 +1,8 @@
 -- The kept states that hold a key, and what is read by them.
-use Rattle.std.proofs.Common.{◌≡◌, ℕ, ◌<◌, ◌≤◌, Bool, true, ltb, ◌&&◌, not, List, [], ◌∷◌, filter, Option, Some, None, IsTrue, IsSome, ◌⊎◌, inl, inr, refl, sym, ap, subst, ◌∙◌, if◌then◌else◌, arith}
+use Rattle.std.proofs.Common.{◌≡◌, ℕ, ◌<◌, ◌≤◌, true, ltb, ◌&&◌, not, List, [], ◌∷◌, filter, Option, Some, None, IsTrue, IsSome, ◌⊎◌, inl, inr, refl, sym, ap, subst, ◌∙◌, if◌then◌else◌, arith}
 use Rattle.std.specs.List.{list_any}
 use Rattle.std.specs.Option.{option_and_then}
-use Rattle.std.proofs.lemmas.Bool.{and_parts, and_from, cases_Bool, cond-true, cond-false, ltb-true, ltb-false, both_ways}
+use Rattle.std.proofs.lemmas.Bool.{and_parts, and_from, cases_Bool, cond-true, cond-false, ltb-true, ltb-false}
 use Rattle.std.proofs.lemmas.Option.{none-some, same_Some}
 use Rattle.tardis_base.specs.declared.ids.StateId.{StateId}
 use Rattle.tardis_base.specs.declared.records.Record.{Record}
@@ -15,7 +15,7 @@ use Rattle.plain_dag.specs.Collection.{is_kept, kept_states, stand_in}
 use Rattle.plain_dag.specs.Dag.{IsDag}
 use Rattle.plain_dag.specs.Laws.{IsLatestWriter, StandInsAreShared, StandsInWell}
 use Rattle.plain_dag.proofs.Ids.{same_test, not-both, same_id-true, same_id_self, among-first, among-later, among-cases, any-witness, any-from}
-use Rattle.plain_dag.proofs.Searches.{filtered-passes, among-filter, option-cases}
+use Rattle.plain_dag.proofs.Searches.{filtered-passes, among-filter}
 use Rattle.plain_dag.proofs.Order.{above-reflexive, above-transitive, ancestors-arrive-earlier, ancestors-are-known}
 use Rattle.plain_dag.proofs.LatestWriter.{one-latest-writer}
 use Rattle.plain_dag.proofs.StandIns.{stands-in-well}
@@ -85,6 +85,17 @@ module _ (arrived : StateId → ℕ) where
 pub some-of : (o : Option StateId) → IsSome o → (y : StateId) × (o ≡ Some y)
 some-of None h = not-both true refl (sym h)
 some-of (Some y) h = (y, refl)
+
+-- a state that writes a key reads there what it wrote
+pub read-of_writer : (rs : List Record) → IsDag rs → (k : List ℕ) (x : StateId) → IsTrue (is_known rs x) → IsTrue (writes_key rs k x) → read rs k x ≡ version_at rs k x
+read-of_writer rs dag k x known writes =
+    let law = one-latest-writer rs dag k x known in
+    let itself : IsLatestWriter rs k x x = record {
+      writes = and_from (writes_key rs k x) (is_above rs x x) writes (above-reflexive rs x);
+      below = λ v h. (and_parts (writes_key rs k v) (is_above rs v x) h).1;
+    } in
+    let u = some-of (latest_writer rs k x) (law.found x itself.writes) in
+    ap (option_and_then (version_at rs k)) (u.1 ∙ ap (λ (v : StateId). Some v) (sym (law.only x u.0 u.1 itself)))
 
 -- the kept states that hold the key
 abbrev pub holders : List Record → List StateId → List ℕ → List StateId

@@ -1,5 +1,5 @@
 -- What the calls read off the store's memory, and what they leave there.
-use Rattle.std.proofs.Common.{◌≡◌, ℕ, ◌++◌, List, Result, Ok, Err, IsTrue, IsErrAnd, refl, sym, subst, ◌∙◌}
+use Rattle.std.proofs.Common.{◌≡◌, ℕ, ◌++◌, List, Result, Ok, Err, IsTrue, IsErrAnd, refl, sym, subst}
 use Rattle.std.proofs.lemmas.Bool.{and_from}
 use Rattle.tardis_base.specs.declared.ids.StateId.{StateId}
 use Rattle.tardis_base.specs.declared.ids.Slot.{Slot}
@@ -16,7 +16,7 @@ use Rattle.record_store.specs.declared.RecordStore.TheInside.{Inside}
 use Rattle.record_store.specs.Store.{Store}
 use Rattle.record_store.specs.Held.{seen, IsHeld}
 use Rattle.record_store.specs.Stands.{StoreStands}
-use Rattle.record_store.specs.Answers.{AddedIn, IsSameStore}
+use Rattle.record_store.specs.Answers.{AddedIn}
 use Rattle.record_store.proofs.Adding.{same-stands, added-none, added-one}
 
 -- each slot is that of a kept state
@@ -33,7 +33,7 @@ module _ (a : Inside) (store : Store) (is : seen a ≡ store) where
   seen-may rs ks r parents may = subst (λ (s : Store). MayBeAdded s.table rs ks r parents) (sym is) may
 
   -- what holds of the memory holds where nothing but room changed
-  pub still-held : (dag : Table) (vs : Versions) → IsHeld a → dag ≡ a.dag → ((k : List ℕ) → versions_of vs k ≡ versions_of a.versions k) → IsHeld (record { dag = dag; versions = vs })
+  pub still-held : (dag : Table) (vs : Versions) → IsHeld a → dag ≡ a.dag → ((k : List ℕ) → versions_of vs k ≡ versions_of a.versions k) → IsHeld (record a { dag = dag; versions = vs })
   still-held dag vs held same versions = record {
     in_order = subst (λ (t : Table). IsTrue (arrive_in_order t.entries)) (sym same) held.in_order;
     versions = λ k.

@@ -3,3 +3,4 @@ pub mod Holders
 pub mod Reading
 pub mod Adding
 pub mod Holding
+pub mod Records

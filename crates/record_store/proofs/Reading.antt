@@ -1,5 +1,5 @@
 -- What is read of the versions that a store holds.
-use Rattle.std.proofs.Common.{◌≡◌, ℕ, Bool, true, ltb, ◌&&◌, not, List, [], ◌∷◌, map, filter, Option, Some, None, IsTrue, inl, inr, refl, sym, ap, ap₂, subst, ◌∙◌, if◌then◌else◌}
+use Rattle.std.proofs.Common.{◌≡◌, ℕ, Bool, ltb, List, [], ◌∷◌, map, filter, Option, Some, None, inl, inr, refl, sym, ap, ap₂, ◌∙◌}
 use Rattle.std.specs.List.{list_any}
 use Rattle.std.specs.Option.{option_map, option_and_then}
 use Rattle.std.proofs.lemmas.Bool.{cases_Bool, cond-true, cond-false}

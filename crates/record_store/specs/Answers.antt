@@ -1,15 +1,20 @@
 -- What the calls of a store answer.
-use Rattle.std.specs.Prelude.{◌≡◌, ◌≤◌, ℕ, true, List, ◌∷◌, Option, Some, None, Result, Ok, Err, IsTrue, IsFalse, OnErr}
+use Rattle.std.specs.Prelude.{◌≡◌, ◌≤◌, ℕ, Bool, true, List, ◌∷◌, map, Option, Some, None, Result, Ok, Err, IsTrue, IsFalse}
+use Rattle.std.specs.Option.{option_map}
 use Rattle.tardis_base.specs.declared.ids.StateId.{StateId}
 use Rattle.tardis_base.specs.declared.ids.Slot.{Slot}
 use Rattle.tardis_base.specs.declared.records.Record.{Record}
+use Rattle.tardis_base.specs.declared.records.Write.{Write}
 use Rattle.tardis_base.specs.declared.faults.AddFault.{AddFault}
 use Rattle.tardis_base.specs.declared.faults.AddFault.TheVariants.{Full, PathFull, NoMemory}
 use Rattle.tardis_base.specs.declared.replies.Refusal.TheVariants.{Full as IsFull, PathFull as IsPathFull}
 use Rattle.tardis_base.specs.Ids.{is_among}
+use Rattle.plain_dag.specs.States.{is_known}
 use Rattle.plain_dag.specs.Above.{is_above}
+use Rattle.plain_dag.specs.Collection.{stand_in}
 use Rattle.plain_dag.specs.Dag.{IsNext}
 use Rattle.plain_dag.specs.Growth.{growth_refusal}
+use Rattle.state_dag.specs.Table.{Table}
 use Rattle.version_list.specs.Versions.{versions_of}
 use Rattle.record_store.specs.Store.{Store}
 use Rattle.record_store.specs.Stands.{StoreStands}
@@ -32,3 +37,15 @@ pub record MayArrive (sites : ℕ) (rs : List Record) (ks : List StateId) (r : R
   pub next : IsNext rs r
   pub site : r.id.site ≤ sites
   pub kept : (p x : StateId) → IsTrue (is_among p r.parents) → IsTrue (is_above rs p x) → IsFalse (is_among x ks)
+
+-- a state of this id is kept in the table
+abbrev pub is_listed : Table → StateId → Bool
+is_listed table x = is_among x (map (λ e. e.id) table.entries)
+
+-- no other state stands in where x does
+abbrev pub StandsAlone : List Record → List StateId → StateId → Type 0
+StandsAlone rs ks x = (w : StateId) → IsTrue (is_known rs w) → stand_in rs ks w ≡ x → w ≡ x
+
+-- what was written where something was found
+abbrev pub write_found : Option (StateId × Write) → Option Write
+write_found read = option_map (λ w. w.1) read

@@ -3,35 +3,40 @@
 //! What a read, a write and a new state mean is stated in `docs/MODEL.md`.
 #![tactic(auto)]
 
-ghost use Rattle.std.specs.Prelude.{◌≡◌, ◌+◌, ◌-◌, ◌≤◌, ℕ, List, [], ◌∷◌, map, Option, Some, None, slice_get, unwrap_or, IsTrue, IfOk, IfSome, OnErr};
+ghost use Rattle.std.specs.Prelude.{◌≡◌, ◌+◌, ◌-◌, ◌≤◌, ℕ, List, [], ◌∷◌, length, map, take, Option, Some, None, slice_get, unwrap_or, IsTrue, IfOk, OnErr};
 ghost use Rattle.std.specs.List.{list_all};
 ghost use Rattle.tardis_base.specs.declared.ids.StateId.{StateId};
 ghost use Rattle.tardis_base.specs.declared.ids.Slot.{Slot};
 ghost use Rattle.tardis_base.specs.declared.records.Record.{Record};
 ghost use Rattle.tardis_base.specs.Valid.{are_limits};
-ghost use Rattle.plain_dag.specs.States.{root_record, is_known, record_at};
+ghost use Rattle.plain_dag.specs.States.{root_record, record_at};
 ghost use Rattle.plain_dag.specs.Writers.{read};
 ghost use Rattle.plain_dag.specs.Landing.{is_news};
-ghost use Rattle.plain_dag.specs.Collection.{stand_in};
 ghost use Rattle.state_dag.specs.Table.{id_at, is_slot, is_kept_at, arrival_at};
 ghost use Rattle.state_dag.specs.Answers.{MayBeAdded, IsNewSlot, KeepsSlots};
 ghost use Rattle.version_list.specs.Versions.{IsInOrder};
 ghost use Rattle.version_list.specs.Reads.{found};
 ghost use Rattle.record_store.specs.Stands.{StoreStands};
-ghost use Rattle.record_store.specs.Answers.{AddedIn, IsSameStore, MayArrive};
+ghost use Rattle.record_store.specs.Answers.{AddedIn, IsSameStore, MayArrive, StandsAlone, is_listed, write_found};
 
 use state_dag::StateDag;
 use std::alloc::Global;
 use std::marker::Model;
-use tardis_base::{AddFault, Found, Key, Limits, NoMemory, Record, Slot, StateId, WriteSet};
+use tardis_base::{
+    AddFault, Found, Key, Limits, NoMemory, Record, Slot, StateId, StateList, Write, WriteSet,
+};
 use version_list::VersionList;
 
 /// The kept states of one site, and the versions of the keys at them.
 #[derive(Drop)]
 pub struct RecordStore {
+    alloc: Global,
     dag: StateDag,
     versions: VersionList,
 }
+
+/// How many parents a record may have.
+const PARENTS: usize = 8;
 
 impl Model for RecordStore {
     ghost use Rattle.record_store.specs.Store.{Store};
@@ -53,6 +58,7 @@ impl RecordStore {
         ensures limits { IfOk result (λ store. store.table.limits ≡ limits.now) }
     {
         Ok(RecordStore {
+            alloc,
             dag: StateDag::new(alloc, limits)?,
             versions: VersionList::new(alloc),
         })
@@ -99,6 +105,42 @@ impl RecordStore {
         Ok(slot)
     }
 
+    /// Adds the record, whose parents are kept, as the next state of a site.
+    ///
+    /// It answers as `add_state` does, at that cost and that of looking up the parents. Its own work takes no memory.
+    pub fn add_record(&mut self, rec: &Record) -> Result<Slot, AddFault>
+        requires first { 1 ≤ rec.now.id.site }
+        requires last { rec.now.id.site ≤ self.old.table.limits.sites }
+        requires next { rec.now.id.sequence ≡ unwrap_or (slice_get self.old.table.counts (rec.now.id.site - 1)) 0 + 1 }
+        requires few { length rec.now.parents ≤ 8 }
+        requires parents { IsTrue (list_all (is_listed self.old.table) rec.now.parents) }
+        ensures added { (rs : List Record) (ks : List StateId) → StoreStands self.old rs ks → MayArrive self.old.table.limits.sites rs ks rec.now → AddedIn self.old self.new rs ks rec.now result }
+        ensures slot { IfOk result (λ slot. IsNewSlot self.old.table self.new.table rec.now.id slot) }
+        ensures keeps { KeepsSlots self.old.table self.new.table }
+        ensures limits { self.new.table.limits ≡ self.old.table.limits }
+        ensures same { OnErr result (IsSameStore self.old self.new) }
+    {
+        let slots = self.slots_of(rec.parents.as_slice());
+        self.add_state(rec.id, &slots[..rec.parents.len()], &rec.writes)
+    }
+
+    /// The record of the state at this slot, where no other state stands in there.
+    ///
+    /// The cost grows with the parents and with the writes, for each as a read of its key does.
+    pub fn record_of(&self, slot: Slot) -> Result<Record, NoMemory>
+        requires { IsTrue (is_slot self.now.table slot) }
+        ensures { (rs : List Record) (ks : List StateId) → StoreStands self.now rs ks → (x : StateId) → id_at self.now.table slot ≡ Some x → StandsAlone rs ks x → IfOk result (λ rec. record_at rs x ≡ Some rec) }
+    {
+        let parents = Vec::from_slice(self.alloc, self.dag.parents(slot))?;
+        let id = self.dag.id_of(slot);
+        let writes = self.writes_at(slot)?;
+        Ok(Record {
+            id,
+            parents: StateList::from_vec(parents),
+            writes,
+        })
+    }
+
     /// What is read of the key at the state of this slot.
     ///
     /// The cost grows with the number of the key's versions that are newer than the one found.
@@ -121,5 +163,47 @@ impl RecordStore {
     {
         let _ = &self.dag;
         self.versions.has_news(&self.dag, child, from, key)
+    }
+
+    /// What is read, at the state of this slot, of the keys with a version there.
+    fn writes_at(&self, slot: Slot) -> Result<WriteSet, NoMemory>
+        requires { IsTrue (is_slot self.now.table slot) }
+        ensures { (rs : List Record) (ks : List StateId) → StoreStands self.now rs ks → (x : StateId) → id_at self.now.table slot ≡ Some x → StandsAlone rs ks x → (r : Record) → record_at rs x ≡ Some r → IfOk result (λ writes. writes ≡ r.writes) }
+    {
+        let _ = &self.dag;
+        let mut writes = WriteSet::new(self.alloc);
+        for key in self.versions.keys_at(slot) {
+            if let Some(write) = written(self.read_at(slot, key))? {
+                writes.insert(key.copy()?, write)?;
+            }
+        }
+        Ok(writes)
+    }
+
+    /// The slots of these states, in their order and in front.
+    fn slots_of(&self, states: &[StateId]) -> [Slot; PARENTS]
+        requires few { length states.now ≤ 8 }
+        requires listed { IsTrue (list_all (is_listed self.now.table) states.now) }
+        ensures { map (id_at self.now.table) (take (length states.now) result) ≡ map (λ x. Some x) states.now }
+    {
+        let mut slots = [Slot(0); PARENTS];
+        for (place, id) in states.iter().enumerate() {
+            match self.dag.slot_of(*id) {
+                Some(slot) => slots[place] = slot,
+                None => unreachable!(),
+            }
+        }
+        slots
+    }
+}
+
+/// What was written where this was found.
+fn written(read: Found<'_>) -> Result<Option<Write>, NoMemory>
+    ensures { IfOk result (λ write. write ≡ write_found (found read.entry)) }
+{
+    match read {
+        Found::Value { value, .. } => Ok(Some(Write::Put(value.copy()?))),
+        Found::Deleted { .. } => Ok(Some(Write::Delete)),
+        Found::Absent => Ok(None),
     }
 }

@@ -81,6 +81,9 @@ searched-is_kept a table x (Some s) is up e =
     (named-is_slot table s x (subst (λ t. id_at t s ≡ Some x) is (place-found a.nodes.items 0 x s (sym e)).1))
     (subst (λ t. arrive_in_order t.entries ≡ true) is up)
 
+pub searched-unlisted : (a : Inside) (table : Table) (x : StateId) (o : Option Slot) → seen a ≡ table → o ≡ place_of_id 0 a.nodes.items x → ◌≡◌ {A = Option Slot} o None → is_among x (map (λ e. e.id) table.entries) ≡ false
+searched-unlisted a table x o is e none = subst (λ (t : Table). is_among x (map (λ (f : Entry). f.id) t.entries) ≡ false) is (place-missing a.nodes.items 0 x (sym e ∙ none))
+
 pub searched-none : (a : Inside) (table : Table) (rs : List Record) (ks : List StateId) (x : StateId) (o : Option Slot) → seen a ≡ table → Stands table rs ks → o ≡ place_of_id 0 a.nodes.items x → ◌≡◌ {A = Option Slot} o None →
     is_kept rs ks x ≡ false
 searched-none a table rs ks x o is stands e none =

@@ -7,6 +7,7 @@ ghost use Rattle.std.specs.Option.{option_and_then};
 ghost use Rattle.tardis_base.specs.declared.ids.StateId.{StateId};
 ghost use Rattle.tardis_base.specs.declared.ids.Slot.{Slot};
 ghost use Rattle.tardis_base.specs.declared.records.Record.{Record};
+ghost use Rattle.tardis_base.specs.Ids.{is_among};
 ghost use Rattle.tardis_base.specs.Valid.{are_limits};
 ghost use Rattle.plain_dag.specs.States.{root_record, is_known, parents_of, arrival, children, count_of_site};
 ghost use Rattle.plain_dag.specs.Above.{is_above};
@@ -96,6 +97,7 @@ impl StateDag {
 
     /// The slot of the state, if it is kept. The cost grows with the logarithm of the number of kept states.
     pub fn slot_of(&self, id: StateId) -> Option<Slot>
+        ensures unlisted { result ≡ None → is_among id (map (λ e. e.id) self.now.entries) ≡ false }
         ensures found { IfSome result (λ slot. id_at self.now slot ≡ Some id) }
         ensures kept { IfSome result (λ slot. IsTrue (is_kept_at self.now slot)) }
         ensures none { result ≡ None → (rs : List Record) (ks : List StateId) → Stands self.now rs ks → is_kept rs ks id ≡ false }
@@ -209,7 +211,7 @@ impl StateDag {
         ensures slot { IfOk result (λ slot. IsNewSlot self.old self.new id slot) }
         ensures keeps { KeepsSlots self.old self.new }
         ensures kept { (s : Slot) → IsTrue (is_kept_at self.old s) → IsTrue (is_kept_at self.new s) × (arrival_at self.new s ≡ arrival_at self.old s) }
-        ensures kept_slot { IfOk result (λ slot. IsTrue (is_kept_at self.new slot)) }
+        ensures arrived { IfOk result (λ slot. IsTrue (is_kept_at self.new slot) × (arrival_at self.new slot ≡ self.old.known)) }
         ensures newest { IfOk result (λ slot. (s : Slot) → IsTrue (is_kept_at self.old s) → arrival_at self.new s < arrival_at self.new slot) }
         ensures limits { self.new.limits ≡ self.old.limits }
         ensures same { OnErr result (self.new ≡ self.old) }

@@ -1,8 +1,8 @@
-use Rattle.std.proofs.Common.{◌≡◌, ℕ, ◌++◌, List, IsTrue, refl, sym, ap, ap₂, subst, ◌∙◌}
+use Rattle.std.proofs.Common.{◌++◌, List, IsTrue, refl, sym, ap₂, subst, ◌∙◌}
 use Rattle.tardis_base.specs.Keys.{KeyWrite, write_of}
 use Rattle.state_dag.specs.Table.{is_kept_at, arrival_at}
 use Rattle.version_list.specs.declared.histories.Version.{Version}
-use Rattle.version_list.specs.Versions.{versions_of, version_by, have_come_before, are_in_order}
+use Rattle.version_list.specs.Versions.{versions_of, version_by, are_in_order}
 use Rattle.record_store.proofs.Adding.{order-stays, all-came_before}
 use Rattle.record_store.proofs.Holding.{still-held, short-of_memory, refused-by_table, added-to_both}
 use Rattle.record_store.proofs.RecordStore.add_state.Goals as goal
