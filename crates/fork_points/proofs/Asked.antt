@@ -1,15 +1,14 @@
 -- What the table answers of a kept state, and what that says of the history.
-use Rattle.std.proofs.Common.{◌≡◌, Bool, true, false, ◌&&◌, ◌||◌, not, List, [], ◌∷◌, ◌++◌, length, ◌==◌, map, filter, Option, Some, None, IsTrue, IsFalse, inl, inr, refl, sym, ap, ap₂, subst, ◌∙◌, eqb-true, arith}
+use Rattle.std.proofs.Common.{◌≡◌, Bool, true, false, ◌&&◌, ◌||◌, not, List, [], ◌∷◌, ◌++◌, length, ◌==◌, map, filter, Some, IsTrue, IsFalse, inl, inr, refl, sym, ap, ap₂, subst, ◌∙◌, eqb-true, arith}
 use Rattle.std.specs.List.{list_any, list_all}
-use Rattle.std.proofs.lemmas.Bool.{cond-true, cond-false, and_left, and_parts, and_from, or_cases, cases_Bool, both_ways, not_from_false, false_from_ne_true}
-use Rattle.std.proofs.lemmas.Option.{same_Some}
+use Rattle.std.proofs.lemmas.Bool.{cond-true, cond-false, and_left, and_parts, and_from, cases_Bool, not_from_false, false_from_ne_true}
 use Rattle.tardis_base.specs.declared.ids.StateId.{StateId}
 use Rattle.tardis_base.specs.declared.ids.Slot.{Slot}
 use Rattle.tardis_base.specs.declared.records.Record.{Record}
 use Rattle.tardis_base.specs.Ids.{is_among}
 use Rattle.plain_dag.specs.States.{children, is_known, arrived}
 use Rattle.plain_dag.specs.Above.{is_above, is_above_all}
-use Rattle.plain_dag.specs.Forks.{is_leaf, leaves, is_fork_point, fork_points}
+use Rattle.plain_dag.specs.Forks.{is_leaf, is_fork_point}
 use Rattle.plain_dag.specs.Collection.{is_kept, kept_states, stand_in}
 use Rattle.plain_dag.proofs.Ids.{not-both, among-first, among-later}
 use Rattle.plain_dag.proofs.States.{child_is_known}

@@ -1,5 +1,5 @@
 -- Pages of the kept states that pass a test.
-use Rattle.std.proofs.Common.{◌≡◌, ℕ, ◌+◌, ◌≤◌, ◌<◌, Bool, List, [], ◌∷◌, ◌++◌, length, take, filter, slice_get, Option, Some, None, IsTrue, IsFalse, inl, inr, refl, sym, ap, subst, ◌∙◌, arith}
+use Rattle.std.proofs.Common.{◌≡◌, ℕ, ◌+◌, ◌≤◌, ◌<◌, Bool, List, [], ◌∷◌, ◌++◌, length, take, filter, slice_get, Option, Some, None, IsTrue, IsFalse, inl, inr, sym, ap, subst, ◌∙◌, arith}
 use Rattle.std.specs.Option.{option_and_then}
 use Rattle.std.proofs.lemmas.Bool.{cases_lt, cond-true, cond-false}
 use Rattle.std.proofs.lemmas.Option.{slice_get_past}
@@ -8,9 +8,7 @@ use Rattle.std.proofs.lemmas.List.Elements.{filter-append}
 use Rattle.tardis_base.specs.declared.ids.StateId.{StateId}
 use Rattle.tardis_base.specs.declared.ids.Slot.{Slot}
 use Rattle.tardis_base.specs.declared.records.Record.{Record}
-use Rattle.tardis_base.specs.Ids.{is_among}
-use Rattle.plain_dag.specs.States.{arrived, is_known}
-use Rattle.plain_dag.specs.Collection.{is_kept, kept_states}
+use Rattle.plain_dag.specs.Collection.{kept_states}
 use Rattle.state_dag.specs.Table.{Table, id_at}
 use Rattle.state_dag.specs.Stands.{Stands}
 use Rattle.state_dag.specs.Answers.{next_of}

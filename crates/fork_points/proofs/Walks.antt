@@ -1,11 +1,11 @@
 -- Walks along lists.
-use Rattle.std.proofs.Common.{◌≡◌, ℕ, zero, suc, ◌+◌, ◌≤◌, Bool, true, List, [], ◌∷◌, ◌++◌, length, take, filter, slice_get, Option, Some, None, IsTrue, IsFalse, inl, inr, refl, sym, ap, subst, ◌∙◌, arith, add-one}
+use Rattle.std.proofs.Common.{◌≡◌, ℕ, zero, suc, ◌+◌, ◌≤◌, Bool, List, [], ◌∷◌, ◌++◌, length, take, filter, slice_get, Option, Some, None, IsTrue, IsFalse, inl, inr, refl, sym, ap, subst, ◌∙◌, arith, add-one}
 use Rattle.std.proofs.lemmas.Bool.{cases_Bool, cond-true, cond-false, both_ways, false_from_ne_true}
-use Rattle.std.proofs.lemmas.Option.{none-some, same_Some, slice_get_past, slice_get_cases}
+use Rattle.std.proofs.lemmas.Option.{none-some, same_Some, slice_get_cases}
 use Rattle.std.proofs.lemmas.List.{take_all}
 use Rattle.tardis_base.specs.declared.ids.StateId.{StateId}
 use Rattle.tardis_base.specs.Ids.{same_id, is_among}
-use Rattle.plain_dag.proofs.Ids.{not-both, same_id-true, same_id_self, among-first, among-later}
+use Rattle.plain_dag.proofs.Ids.{same_id-true, same_id_self, among-first, among-later}
 use Rattle.state_dag.specs.Answers.{next_of}
 use Rattle.state_dag.proofs.Places.{AllDiffer}
 

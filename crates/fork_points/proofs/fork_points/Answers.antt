@@ -1,16 +1,12 @@
-use Rattle.std.proofs.Common.{◌≡◌, ◌∙◌, ◌+◌, ◌≤◌, List, Option, Some, None, IsTrue, IfSome, filter, take, length, refl, sym, ap, subst, arith}
-use Rattle.std.specs.Option.{option_and_then}
-use Rattle.tardis_base.specs.declared.ids.StateId.{StateId}
-use Rattle.tardis_base.specs.declared.ids.Slot.{Slot}
-use Rattle.state_dag.specs.Table.{id_at, is_slot}
+use Rattle.std.proofs.Common.{◌∙◌, ◌+◌, IsTrue, IfSome, filter, take, refl, sym, ap, subst, arith}
+use Rattle.state_dag.specs.Table.{is_slot}
 use Rattle.plain_dag.specs.Collection.{kept_states}
-use Rattle.state_dag.specs.Answers.{next_of}
-use Rattle.plain_dag.specs.Forks.{is_leaf, is_fork_point, leaves, fork_points}
+use Rattle.plain_dag.specs.Forks.{is_fork_point}
 use Rattle.state_dag.proofs.Calls.{named-of_slot}
 use Rattle.fork_points.specs.declared.StatePage.{StatePage}
 use Rattle.fork_points.specs.Pages.{IsPageOf}
 use Rattle.fork_points.proofs.Pages.{Reached, noted, passed, ended, walked, started, as-reached}
-use Rattle.fork_points.proofs.Asked.{among-kept, leaf-is_kept, leaf-told}
+use Rattle.fork_points.proofs.Asked.{among-kept}
 use Rattle.fork_points.proofs.fork_points.Goals as goal
 use Rattle.fork_points.proofs.fork_points.Goals.{in-Some, then-is_fork_point+in_ok-note, else-is_fork_point, in_default}
 

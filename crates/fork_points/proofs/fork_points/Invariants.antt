@@ -1,7 +1,7 @@
 use Rattle.std.proofs.Common.{◌≡◌, ◌≤◌, List, Some, IsTrue, IfSome, map}
 use Rattle.tardis_base.specs.declared.ids.StateId.{StateId}
 use Rattle.tardis_base.specs.declared.records.Record.{Record}
-use Rattle.plain_dag.specs.Forks.{is_leaf, is_fork_point}
+use Rattle.plain_dag.specs.Forks.{is_fork_point}
 use Rattle.state_dag.specs.Table.{id_at, is_slot}
 use Rattle.state_dag.specs.Stands.{Stands}
 use Rattle.fork_points.proofs.Pages.{Reached}

@@ -1,8 +1,8 @@
-use Rattle.std.proofs.Common.{◌≡◌, ◌≤◌, List, Some, IsTrue, IfSome, map}
+use Rattle.std.proofs.Common.{◌≤◌, List, IsTrue, IfSome}
 use Rattle.tardis_base.specs.declared.ids.StateId.{StateId}
 use Rattle.tardis_base.specs.declared.records.Record.{Record}
-use Rattle.plain_dag.specs.Forks.{is_leaf, is_fork_point}
-use Rattle.state_dag.specs.Table.{id_at, is_slot}
+use Rattle.plain_dag.specs.Forks.{is_leaf}
+use Rattle.state_dag.specs.Table.{is_slot}
 use Rattle.state_dag.specs.Stands.{Stands}
 use Rattle.fork_points.proofs.Pages.{Reached}
 use Rattle.fork_points.proofs.leaf_page.Given as goal

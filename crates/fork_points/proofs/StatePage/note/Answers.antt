@@ -1,5 +1,4 @@
-use Rattle.std.proofs.Common.{◌≡◌, ◌∙◌, ◌+◌, ◌≤◌, ◌∷◌, [], ◌++◌, length, take, ap, sym, arith, length-append}
-use Rattle.std.proofs.lemmas.List.{length-take, take_all}
+use Rattle.std.proofs.Common.{◌∙◌, ◌+◌, ◌≤◌, ◌∷◌, [], ◌++◌, length, ap, sym, arith, length-append}
 use Rattle.fork_points.proofs.Pages.{more-first, full-first, front-has_all, front-is_full}
 use Rattle.fork_points.proofs.StatePage.note.Goals as goal
 
