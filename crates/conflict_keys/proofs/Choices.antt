@@ -1,8 +1,8 @@
 -- The latest writers of a key at kept states, and the lowest of them.
 use Rattle.std.proofs.Common.{◌≡◌, ℕ, Bool, true, false, ◌&&◌, ◌⊎◌, List, [], ◌∷◌, ◌++◌, filter_map, Option, Some, None, is_none, IsTrue, IsFalse, IfSome, inl, inr, refl, sym, ap, subst, ◌∙◌, append-nil}
 use Rattle.std.specs.Option.{option_map, option_and_then}
-use Rattle.std.proofs.lemmas.Bool.{or_cases, or_left, or_right, and_parts, and_from, cases_Bool, cond-true, cond-false, both_ways}
-use Rattle.std.proofs.lemmas.Option.{none-some, same_Some}
+use Rattle.std.proofs.lemmas.Bool.{or_cases, or_left, or_right, and_parts, and_from, cases_Bool, cond-true, cond-false}
+use Rattle.std.proofs.lemmas.Option.{none-some}
 use Rattle.std.proofs.lemmas.List.Elements.{filter_map-append}
 use Rattle.std.proofs.lemmas.List.Folds.{list_all-append}
 use Rattle.tardis_base.specs.declared.ids.StateId.{StateId}
@@ -16,7 +16,7 @@ use Rattle.plain_dag.specs.Conflicts.{latest_writers, is_split}
 use Rattle.plain_dag.specs.Collection.{is_kept, stand_in}
 use Rattle.plain_dag.specs.Dag.{IsDag}
 use Rattle.plain_dag.specs.Laws.{IsLatestWriter, StandInsAreShared, StandsInWell}
-use Rattle.plain_dag.proofs.Ids.{same_test, not-both, among-first, among-later, among-cases, among-append, all-at}
+use Rattle.plain_dag.proofs.Ids.{same_test, not-both, among-first, among-cases, among-append, all-at}
 use Rattle.plain_dag.proofs.Searches.{found-passes, among-mapped, mapped-from, option-cases}
 use Rattle.plain_dag.proofs.Order.{above-transitive, above-antisymmetric}
 use Rattle.plain_dag.proofs.LatestWriter.{lowest-is-one, above-lowest, has-lowest, latest-is-latest}

@@ -1,12 +1,11 @@
 -- The least of the keys that pass.
-use Rattle.std.proofs.Common.{◌≡◌, ℕ, ◌+◌, ◌<◌, Bool, true, false, ◌&&◌, ◌||◌, not, List, [], ◌∷◌, length, take, get_or, find, Option, Some, None, IsTrue, IsFalse, ◌⊎◌, inl, inr, refl, sym, ap, subst, ◌∙◌, bytes_eq}
+use Rattle.std.proofs.Common.{◌≡◌, ℕ, ◌+◌, ◌<◌, Bool, true, ◌&&◌, ◌||◌, List, [], ◌∷◌, length, take, get_or, find, Option, Some, None, IsTrue, IsFalse, ◌⊎◌, inl, inr, refl, sym, ap, subst, ◌∙◌, bytes_eq}
 use Rattle.std.proofs.lemmas.Bool.{and_parts, and_from, or_cases, or_left, or_right, cases_Bool, both_ways, cond-true, cond-false, false_from_ne_true}
-use Rattle.std.proofs.lemmas.Option.{same_Some}
 use Rattle.std.proofs.lemmas.List.Folds.{list_any_more}
 use Rattle.tardis_base.specs.Keys.{is_key_before, are_ascending_keys, is_key_among}
 use Rattle.tardis_base.proofs.KeyOrder.{before-itself, before-back, before-trans}
 use Rattle.plain_dag.proofs.Ids.{not-both}
-use Rattle.plain_dag.proofs.Keys.{same-key, same-key-from, is_before_first, ascending-parts, key-before-transitive, key-cases}
+use Rattle.plain_dag.proofs.Keys.{same-key, same-key-from, ascending-parts, key-before-transitive}
 use Rattle.conflict_keys.specs.Opens.{IsLeast, is_less}
 
 -- ===== More keys

@@ -1,19 +1,19 @@
 -- The keys that are noted.
-use Rattle.std.proofs.Common.{◌≡◌, ℕ, Bool, true, false, ◌&&◌, ◌||◌, List, [], ◌∷◌, ◌++◌, length, take, ◌≤◌, take_all, arith, filter, IsTrue, IsFalse, ◌⊎◌, inl, inr, refl, sym, ap, ap₂, subst, ◌∙◌, bytes_eq, BTreeSet}
+use Rattle.std.proofs.Common.{◌≡◌, ℕ, Bool, false, ◌&&◌, ◌||◌, List, [], ◌∷◌, ◌++◌, length, take, ◌≤◌, take_all, arith, filter, IsTrue, ◌⊎◌, inl, inr, refl, sym, ap, ap₂, subst, ◌∙◌, bytes_eq, BTreeSet}
 use Rattle.std.specs.declared.cmp.Ordering.{Ordering}
 use Rattle.std.specs.declared.cmp.Ordering.TheVariants.{Less, Equal, Greater}
-use Rattle.std.specs.Ordering.{nat_cmp, is_lt, match_ordering}
+use Rattle.std.specs.Ordering.{nat_cmp, match_ordering}
 use Rattle.std.specs.Cmp.Lexicographic.{slice_cmp}
 use Rattle.std.specs.BTreeSet.{insert_key, contains_by}
 use Rattle.std.specs.BTreeMap.{is_at}
 use Rattle.std.specs.List.{list_any}
 use Rattle.tardis_base.specs.declared.byte_types.Key.{Key}
 use Rattle.std.proofs.Math.Seq.{take-append_seam}
-use Rattle.std.proofs.lemmas.Bool.{and_parts, and_from, or_cases, or_left, or_right, cases_Bool}
+use Rattle.std.proofs.lemmas.Bool.{and_parts, or_cases, or_left, or_right}
 use Rattle.std.proofs.lemmas.Map.Text.{is_eq-slice_cmp}
 use Rattle.std.proofs.lemmas.Map.Views.{any-filter_same}
-use Rattle.tardis_base.specs.Keys.{is_key_before, are_ascending_keys, is_key_among, with_key}
-use Rattle.tardis_base.proofs.KeyOrder.{Less-from_before, Greater-from_before, before-from_Less, before-from_Greater, same-from_Equal}
+use Rattle.tardis_base.specs.Keys.{is_key_before, is_key_among, with_key}
+use Rattle.tardis_base.proofs.KeyOrder.{before-from_Less, before-from_Greater, same-from_Equal}
 use Rattle.tardis_base.proofs.KeySets.{with_key-before, with_key-after, with_key-here, with_key_cases}
 use Rattle.plain_dag.specs.Conflicts.{is_conflict_key, conflict_keys}
 use Rattle.plain_dag.specs.Laws.{ListsConflictKeys}
