@@ -54,10 +54,11 @@ pub record MayJoin (site : Site) (parents : List StateId) (writes : List KeyWrit
   pub merges : (k : List ℕ) → IsTrue (is_conflict_key site.dag parents k) → IsTrue (has_key k writes)
   pub free : (p : StateId) → IsTrue (is_among p parents) → IsFalse (is_closed site.dag site.floors p)
 
-abbrev next_record : Site → List StateId → List KeyWrite → Record
+-- the next record of the site, below these parents
+abbrev pub next_record : Site → List StateId → List KeyWrite → Record
 next_record site parents writes = record { id = next_id site; parents = parents; writes = writes }
 
-own-next : (built : Built) (site : Site) (parents : List StateId) (writes : List KeyWrite) → IsSound built site → MayJoin site parents writes →
+pub own-next : (built : Built) (site : Site) (parents : List StateId) (writes : List KeyWrite) → IsSound built site → MayJoin site parents writes →
     own_count site ≢ 4294967295 → IsNext site.dag (next_record site parents writes)
 own-next built site parents writes sound joins more =
     let x = next_id site in
@@ -175,20 +176,19 @@ one-has_no_conflict {P} rs x k h = go (latest_writer rs k x) h
         let found : lowest rs (w ∷ []) ≡ Some w = cond-true (is_above rs w w && true) (Some w) None itself in
         not-both (is_none (lowest rs (w ∷ []))) split (ap is_none found)
 
-writes-keep : (built : Built) (site : Site) (n : ℕ) (s : Session) (t : SingleTxn) (flags : EndFlags) (k : ℕ) → entry_of n site.sessions ≡ Some s →
-    IsSoundTxn site.dag s.ceiling (Single t) → IsSound built site → IsSound built (commit_writes built site n t flags k).0
-writes-keep built site n s t flags k has txn sound =
+-- what a single transaction writes may join below its landing
+pub single-joins : (built : Built) (site : Site) (n : ℕ) (s : Session) (t : SingleTxn) (flags : EndFlags) → entry_of n site.sessions ≡ Some s →
+    IsSoundTxn site.dag s.ceiling (Single t) → IsSound built site → MayJoin site (landing site.dag (guarded flags t.reads (keys_of t.writes)) t.state ∷ []) t.writes
+single-joins built site n s t flags has txn sound =
     let keys = guarded flags t.reads (keys_of t.writes) in
     let x = landing site.dag keys t.state in
     let known = (and_parts (is_known site.dag t.state) true txn.known).0 in
     let admitted = (and_parts (is_admitted site.dag s.ceiling t.state) true txn.admitted).0 in
     let lands = lands-below site.dag keys t.state sound.dag known in
-    let number_of_children = length (children site.dag x) in
     let isnt_closed = admitted-isnt_closed built site n s t.state sound has admitted in
     let lands_open : IsFalse (is_closed site.dag site.floors x) = false_from_ne_true (is_closed site.dag site.floors x) (λ closed.
     both_ways (is_closed site.dag site.floors t.state) isnt_closed (above-closed site.dag sound.dag site.floors t.state x lands.1 closed)) in
-    commit_below-keeps built site n (x ∷ []) t.writes (refuse_found (λ c. Branches c x number_of_children) (broken flags k number_of_children) ∷ []) sound
-    (λ none. record {
+    record {
       parents_valid = and_from (is_id x && true) true (and_from (is_id x) true (known-is_id site.dag sound.dag x lands.0) refl) refl;
       writes_valid = (single-parts t txn.shape).writes;
       known = and_from (is_known site.dag x) true lands.0 refl;
@@ -198,7 +198,15 @@ writes-keep built site n s t flags k has txn sound =
         | inl e ↦ subst (λ z. IsFalse (is_closed site.dag site.floors z)) (sym e) lands_open
         | inr none ↦ not-both true refl (sym none)
       ];
-    })
+    }
+
+writes-keep : (built : Built) (site : Site) (n : ℕ) (s : Session) (t : SingleTxn) (flags : EndFlags) (k : ℕ) → entry_of n site.sessions ≡ Some s →
+    IsSoundTxn site.dag s.ceiling (Single t) → IsSound built site → IsSound built (commit_writes built site n t flags k).0
+writes-keep built site n s t flags k has txn sound =
+    let x = landing site.dag (guarded flags t.reads (keys_of t.writes)) t.state in
+    let number_of_children = length (children site.dag x) in
+    commit_below-keeps built site n (x ∷ []) t.writes (refuse_found (λ c. Branches c x number_of_children) (broken flags k number_of_children) ∷ []) sound
+    (λ none. single-joins built site n s t flags has txn sound)
 
 single-keeps : (built : Built) (site : Site) (n : ℕ) (s : Session) (t : SingleTxn) (flags : EndFlags) (k : ℕ) → entry_of n site.sessions ≡ Some s →
     IsSoundTxn site.dag s.ceiling (Single t) → IsSound built site → IsSound built (commit_single built site n t flags k).0

@@ -18,11 +18,11 @@ pub record Built : Type 0 where
 abbrev pub everything : Built
 everything = record { operation = λ op. true; begin = λ b. true; flags = λ f. true; path_limits = true }
 
--- what the program has today: Open, Begin, Get, Put and Commit
+-- what the program has today: Open, Begin, Get, Put, Delete, Commit, Abort, Stat, Show and Close
 abbrev pub so_far : Built
 so_far =
     record {
-      operation = λ op. list_any (λ built. op == built) (1 ∷ 2 ∷ 3 ∷ 4 ∷ 6 ∷ []);
+      operation = λ op. list_any (λ built. op == built) (1 ∷ 2 ∷ 3 ∷ 4 ∷ 5 ∷ 6 ∷ 7 ∷ 16 ∷ 17 ∷ 21 ∷ []);
       begin = λ b. true;
       flags = λ f. true;
       path_limits = true;

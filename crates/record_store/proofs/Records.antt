@@ -1,5 +1,5 @@
 -- The record of a state, put together from what a store holds.
-use Rattle.std.proofs.Common.{◌≡◌, ℕ, ◌+◌, ◌<◌, Bool, true, false, eqb, leb, ◌||◌, ◌&&◌, not, List, [], ◌∷◌, ◌++◌, length, map, set, take, get_or, Option, Some, None, is_some, IsTrue, IsFalse, inl, inr, refl, sym, ap, ap₂, subst, ◌∙◌, if◌then◌else◌, eqb-true, eq-eqb}
+use Rattle.std.proofs.Common.{◌≡◌, ℕ, ◌+◌, ◌<◌, Bool, true, false, eqb, leb, ◌||◌, ◌&&◌, not, List, [], ◌∷◌, ◌++◌, length, map, find, set, take, get_or, Option, Some, None, is_some, IsTrue, IsFalse, inl, inr, refl, sym, ap, ap₂, subst, ◌∙◌, if◌then◌else◌, eqb-true, eq-eqb}
 use Rattle.std.specs.Prelude.{bytes_eq}
 use Rattle.std.specs.List.{list_all}
 use Rattle.std.specs.Option.{option_map, option_and_then}
@@ -32,7 +32,7 @@ use Rattle.version_list.specs.declared.histories.Version.{Version}
 use Rattle.version_list.specs.Versions.{versions_of, same_slot, has_version_at}
 use Rattle.record_store.specs.Store.{Store}
 use Rattle.record_store.specs.Stands.{holds_key, shown_version, StoreStands}
-use Rattle.record_store.specs.Answers.{StandsAlone, write_found}
+use Rattle.record_store.specs.Answers.{StandsAlone, is_listed, write_found}
 use Rattle.record_store.proofs.Holders.{holders, holder-writes, writer-holds, holder-parts, holder-from, read-of_writer}
 use Rattle.record_store.proofs.Reading.{read_with}
 
@@ -49,12 +49,27 @@ slots-step name slots xs i slot d within among named e =
     ∙ sym (ap (map some) (take_more xs i d among) ∙ map-append some (take i xs) (get_or xs i d ∷ []))))
 
 -- a slot that names a state is one
-named-is_slot : (table : Table) (slot : Slot) (x : StateId) → id_at table slot ≡ Some x → IsTrue (is_slot table slot)
+pub named-is_slot : (table : Table) (slot : Slot) (x : StateId) → id_at table slot ≡ Some x → IsTrue (is_slot table slot)
 named-is_slot table slot x h = go (entry_at table slot) h
   where
     go : (o : Option Entry) → option_map (λ e. e.id) o ≡ Some x → is_some o ≡ true
     go None e = absurd (none-some x e)
     go (Some e) _ = refl
+
+-- and the state is listed
+pub named-is_listed : (table : Table) (slot : Slot) (x : StateId) → id_at table slot ≡ Some x → IsTrue (is_listed table x)
+named-is_listed table slot x h = go table.entries h
+  where
+    go : (es : List Entry) → option_map (λ e. e.id) (find (λ e. eqb e.slot.0 slot.0) es) ≡ Some x → IsTrue (is_among x (map (λ e. e.id) es))
+    go [] e = absurd (none-some x e)
+    go (f ∷ es) e = elim (cases_Bool (eqb f.slot.0 slot.0)) [
+      | inl t ↦
+          let same : f.id ≡ x = same_Some f.id x (sym (ap (option_map (λ (g : Entry). g.id)) (cond-true (eqb f.slot.0 slot.0) (Some f) (find (λ g. eqb g.slot.0 slot.0) es) t)) ∙ e) in
+          or_left (same_id x f.id) (is_among x (map (λ g. g.id) es)) (same_id_from x f.id (sym same))
+      | inr n ↦
+          or_right (same_id x f.id) (is_among x (map (λ g. g.id) es))
+          (go es (sym (ap (option_map (λ (g : Entry). g.id)) (cond-false (eqb f.slot.0 slot.0) (Some f) (find (λ g. eqb g.slot.0 slot.0) es) n)) ∙ e))
+    ]
 
 -- so are slots that name states
 pub named-are_slots : (table : Table) (slots : List Slot) (xs : List StateId) → map (id_at table) slots ≡ map (λ x. Some x) xs → IsTrue (list_all (is_slot table) slots)

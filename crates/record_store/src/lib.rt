@@ -232,3 +232,6 @@ fn written(read: Found<'_>) -> Result<Option<Write>, NoMemory>
         Found::Absent => Ok(None),
     }
 }
+
+#[cfg(test)]
+mod tests;

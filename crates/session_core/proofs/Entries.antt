@@ -10,7 +10,7 @@ use Rattle.std.proofs.lemmas.Map.Keys.{IsDistinct-from_sorted}
 use Rattle.plain_dag.specs.Entries.{entry_of, with_entry, changed, without_entry}
 use Rattle.plain_site.proofs.SoundEntries.{entry-changed, entry-changed_other, entry-with_entry, entry-with_entry_other, entry-without_entry, entry-without_entry_other}
 use Rattle.plain_site.proofs.SoundBooks.{at-each}
-use Rattle.ceiling_book.proofs.Entries.{mapped, looked-up, inserted, removed, written}
+use Rattle.ceiling_book.proofs.Entries.{mapped, inserted, removed, written}
 
 module _ {A : Type 0} where
   mapped-same : (es : List (ℕ × A)) → mapped (λ (a : A). a) es ≡ es

@@ -1,5 +1,21 @@
 -- Lemmas on the site in memory.
 pub mod Entries
 pub mod WholeTxns
+pub mod Written
 pub mod Answers
+pub mod Standing
+pub mod Memory
 pub mod OpenSessions
+pub mod Reading
+pub mod Writing
+pub mod Beginning
+pub mod Growing
+pub mod Committing
+pub mod Showing
+pub mod Serving
+pub mod Settings
+pub mod Telling
+pub mod ReadAgain
+pub mod Noting
+pub mod Opening
+pub mod Asking

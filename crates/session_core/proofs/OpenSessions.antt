@@ -1,26 +1,28 @@
 -- Sessions open and close.
-use Rattle.std.proofs.Common.{◌≡◌, ℕ, Bool, ◌==◌, List, [], ◌∷◌, map, length, is_some, Option, Some, Result, Ok, Err, refl, sym, ap, ap₂, subst, ◌∙◌}
+use Rattle.std.proofs.Common.{◌≡◌, ℕ, Bool, true, ◌==◌, List, [], ◌∷◌, map, length, is_some, Option, Some, Ok, Err, refl, sym, ap, ap₂, subst, ◌∙◌}
 use Rattle.std.proofs.lemmas.Option.{same_Some}
 use Rattle.tardis_base.specs.declared.ids.StateId.{StateId}
 use Rattle.tardis_base.specs.declared.ids.Slot.{Slot}
 use Rattle.tardis_base.specs.declared.records.Record.{Record}
 use Rattle.tardis_base.specs.declared.replies.Refusal.TheVariants.{AlreadyOpen, SessionsFull}
 use Rattle.tardis_base.specs.declared.replies.Reply.{Reply}
-use Rattle.tardis_base.specs.declared.replies.Reply.TheVariants.{Opened, Refused}
-use Rattle.plain_dag.specs.Entries.{entry_of, with_entry}
+use Rattle.tardis_base.specs.declared.replies.Reply.TheVariants.{Opened, Closed, Refused}
+use Rattle.plain_dag.specs.Entries.{entry_of, with_entry, without_entry}
 use Rattle.plain_dag.specs.Floors.{Sessions, floor_of, opening_session}
 use Rattle.state_dag.specs.Table.{Table, id_at}
 use Rattle.ceiling_book.specs.declared.OpenFault.TheVariants.{AlreadyOpen as IsOpen, SessionsFull as AreFull, NoMemory as OutOfMemory}
-use Rattle.ceiling_book.specs.Book.{Book, known_floor, sessions_of, floors_of, own_floor, is_open, is_full}
+use Rattle.ceiling_book.specs.Book.{Book, known_floor, sessions_of, own_floor, is_open, is_full}
 use Rattle.ceiling_book.specs.Places.{ArePlaced}
 use Rattle.ceiling_book.specs.Answers.{KeepsRest, OpenedIn}
 use Rattle.plain_site.specs.Site.{Site, own_floor as site_floor}
-use Rattle.plain_site.specs.Answers.{Answer, refuse}
-use Rattle.plain_site.specs.Sessions.{open_session}
+use Rattle.plain_site.specs.Answers.{Answer, refuse, with_session}
+use Rattle.plain_site.specs.Sessions.{open_session, close_session}
+use Rattle.session_core.specs.declared.txns.OpenTxn.{OpenTxn}
 use Rattle.session_core.specs.Core.{Core}
 use Rattle.session_core.specs.Stands.{CoreStands}
 use Rattle.session_core.specs.Gives.{IsGiven}
 use Rattle.session_core.proofs.Answers.{skip, stop, as-given}
+use Rattle.session_core.proofs.Standing.{open-session as open-before, session-answer, txn-ended}
 
 -- the own floors are the same
 pub same-floor : (core : Core) (site : Site) → CoreStands core site → own_floor core.book ≡ site_floor site
@@ -86,3 +88,15 @@ module _ (core : Core) (book : Book) (site : Site) (n : ℕ) (follow : Bool) (st
 
   pub open-fails : OpenedIn core.book book n follow (Err OutOfMemory) → CoreStands (record core { book = book }) site
   open-fails (closed, room, same) = same-book core book site stands same
+
+-- the session closes, and its transaction is given up
+pub close-gives : (core : Core) (book : Book) (site : Site) (n : ℕ) (es : List (ℕ × OpenTxn)) → CoreStands core site → KeepsRest core.book book →
+    (ArePlaced core.book core.store.table site.dag site.collected → ArePlaced book core.store.table site.dag site.collected) → sessions_of book ≡ without_entry n (sessions_of core.book) →
+    es ≡ without_entry n core.txns → is_open core.book n ≡ true →
+    IsGiven (CoreStands (record core { book = book; txns = es })) (with_session site n (λ s. close_session site n)) Closed
+close-gives core book site n es stands rest placed closed ended opened =
+    let s = open-before core site stands n opened in
+    let without = with-sessions core book site (without_entry n site.sessions) stands rest placed (closed ∙ ap (λ (ss : Sessions). without_entry n ss) stands.sessions) in
+    as-given (CoreStands (record core { book = book; txns = es })) (with_session site n (λ r. close_session site n)) (close_session site n) Closed
+    (session-answer site n (λ r. close_session site n) s.value s.is)
+    (txn-ended (record core { book = book }) (record site { sessions = without_entry n site.sessions }) without n es ended, refl)

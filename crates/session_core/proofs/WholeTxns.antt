@@ -5,7 +5,7 @@ use Rattle.std.proofs.lemmas.Bool.{and_parts, ltb-true}
 use Rattle.plain_dag.specs.Entries.{entry_of}
 use Rattle.merge_txn.specs.Txns.{is_single}
 use Rattle.session_core.specs.declared.txns.OpenTxn.{OpenTxn}
-use Rattle.session_core.specs.Txns.{is_whole, AreWhole}
+use Rattle.session_core.specs.Txns.{AreWhole}
 
 pub whole-single : (n : ℕ) (es : List (ℕ × OpenTxn)) (found : Option (Bor OpenTxn)) → AreWhole es → option_copied found ≡ entry_of n es → IfSome found (λ held. IsTrue (is_single held.now.txn))
 whole-single n es None whole is = tt

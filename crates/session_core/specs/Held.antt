@@ -8,7 +8,6 @@ use Rattle.ceiling_book.specs.Places.{AreSlots}
 use Rattle.session_core.specs.declared.parts.Parts.TheInside.{Inside}
 use Rattle.session_core.specs.declared.txns.OpenTxn.{OpenTxn}
 use Rattle.session_core.specs.Core.{Core}
-use Rattle.session_core.specs.Txns.{AreWhole}
 
 -- what the memory is seen as
 abbrev pub seen : Inside → Core

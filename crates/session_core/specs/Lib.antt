@@ -4,3 +4,8 @@ pub mod Core
 pub mod Held
 pub mod Stands
 pub mod Gives
+pub mod Reads
+pub mod Begins
+pub mod Commits
+pub mod Shows
+pub mod Machine

@@ -1,9 +1,8 @@
 -- What is kept of an open transaction.
-use Rattle.std.specs.Prelude.{◌≡◌, ℕ, ◌&&◌, Bool, List, [], length, nat_lt, Some, IsTrue}
+use Rattle.std.specs.Prelude.{◌≡◌, ℕ, ◌&&◌, Bool, List, length, nat_lt, Some, IsTrue}
 use Rattle.tardis_base.specs.declared.records.Write.{Write}
 use Rattle.tardis_base.specs.Keys.{with_key, with_write}
 use Rattle.plain_dag.specs.Entries.{entry_of}
-use Rattle.merge_txn.specs.declared.Txn.{Txn}
 use Rattle.merge_txn.specs.Txns.{is_single, writes_of, reads_of, with_writes, with_reads}
 use Rattle.session_core.specs.declared.txns.OpenTxn.{OpenTxn}
 

@@ -10,9 +10,23 @@ ghost use Rattle.plain_site.specs.Built.{so_far};
 ghost use Rattle.plain_site.specs.Sound.{IsSound};
 ghost use Rattle.session_core.specs.Stands.{CoreStands};
 
+mod acts;
+mod asks;
+mod begins;
+mod built;
+mod commits;
 mod parts;
+mod reads;
+mod serves;
 mod sessions;
+mod shows;
+mod steps;
+#[cfg(test)]
+mod tests;
+#[cfg(test)]
+mod told;
 mod txns;
+mod writes;
 
 use parts::Parts;
 use std::alloc::Global;

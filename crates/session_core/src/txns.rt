@@ -1,22 +1,43 @@
 //! The open transactions, each with the slots of the states that it reads.
 
-ghost use Rattle.std.specs.Prelude.{◌≡◌, ◌<◌, ℕ, [], length, is_some, IsTrue, IfOk, IfSome, OnOk, OnErr, Some};
+ghost use Rattle.std.specs.Prelude.{◌≡◌, ◌<◌, ◌↔◌, ℕ, [], length, is_some, IsTrue, IfErr, IfSome, OnOk, OnErr};
 ghost use Rattle.std.specs.Option.{option_copied};
 ghost use Rattle.plain_dag.specs.Entries.{entry_of, with_entry, without_entry, changed};
-ghost use Rattle.merge_txn.specs.Txns.{is_single};
-ghost use Rattle.session_core.specs.Txns.{is_whole};
+ghost use Rattle.merge_txn.specs.Txns.{is_single, writes_of, reads_of, has_no_place_to_write, has_no_place_to_read, too_many_writes, too_many_reads, put_fault, read_fault};
+ghost use Rattle.session_core.specs.Txns.{is_whole, noting, putting};
 
-use merge_txn::Txn;
+use merge_txn::{Txn, TxnFault};
 use std::alloc::Global;
 use std::collections::BTreeMap;
 use std::marker::Model;
-use tardis_base::{ListOf, NoMemory, Slot};
+use tardis_base::{Key, ListOf, NoMemory, Slot, Write};
 
 /// An open transaction. So that no read looks a state up, the slots of its read states are kept beside it, in their order.
 #[derive(Drop)]
 pub struct OpenTxn {
     pub txn: Txn,
     pub slots: ListOf<Slot>,
+}
+
+impl OpenTxn {
+    fn note_read(&mut self, key: &Key) -> Result<(), TxnFault>
+        requires { IsTrue (is_single self.old.txn) }
+        ensures noted { OnOk result (self.new ≡ noting key.now self.old) }
+        ensures same { OnErr result (self.new ≡ self.old) }
+        ensures full { (result ≡ Err too_many_reads) ↔ IsTrue (has_no_place_to_read key.now (reads_of self.old.txn)) }
+        ensures fault { IfErr result (λ fault. fault ≡ read_fault key.now (reads_of self.old.txn)) }
+    {
+        self.txn.note_read(key)
+    }
+
+    fn put(&mut self, key: &Key, write: Write) -> Result<(), TxnFault>
+        ensures put { OnOk result (self.new ≡ putting key.now write self.old) }
+        ensures same { OnErr result (self.new ≡ self.old) }
+        ensures full { (result ≡ Err too_many_writes) ↔ IsTrue (has_no_place_to_write key.now (writes_of self.old.txn)) }
+        ensures fault { IfErr result (λ fault. fault ≡ put_fault key.now (writes_of self.old.txn)) }
+    {
+        self.txn.put(key, write)
+    }
 }
 
 /// The open transactions, by the numbers of their sessions.
@@ -72,6 +93,34 @@ impl TxnBook {
     {
         self.entries.insert(session, held)?;
         Ok(())
+    }
+
+    /// Notes that the session's transaction reads the key. On a fault all is as before.
+    pub fn note_read(&mut self, session: u16, key: &Key) -> Result<(), TxnFault>
+        requires { IsTrue (is_some (entry_of session self.old)) }
+        ensures noted { OnOk result (self.new ≡ changed session (noting key.now) self.old) }
+        ensures same { OnErr result (self.new ≡ self.old) }
+        ensures full { IfSome (entry_of session self.old) (λ held. (result ≡ Err too_many_reads) ↔ IsTrue (has_no_place_to_read key.now (reads_of held.txn))) }
+        ensures fault { IfErr result (λ fault. IfSome (entry_of session self.old) (λ held. fault ≡ read_fault key.now (reads_of held.txn))) }
+    {
+        match self.entries.get_mut(&session) {
+            Some(held) => held.note_read(key),
+            None => unreachable!(),
+        }
+    }
+
+    /// Takes the write into the session's transaction. On a fault all is as before.
+    pub fn put(&mut self, session: u16, key: &Key, write: Write) -> Result<(), TxnFault>
+        requires { IsTrue (is_some (entry_of session self.old)) }
+        ensures put { OnOk result (self.new ≡ changed session (putting key.now write) self.old) }
+        ensures same { OnErr result (self.new ≡ self.old) }
+        ensures full { IfSome (entry_of session self.old) (λ held. (result ≡ Err too_many_writes) ↔ IsTrue (has_no_place_to_write key.now (writes_of held.txn))) }
+        ensures fault { IfErr result (λ fault. IfSome (entry_of session self.old) (λ held. fault ≡ put_fault key.now (writes_of held.txn))) }
+    {
+        match self.entries.get_mut(&session) {
+            Some(held) => held.put(key, write),
+            None => unreachable!(),
+        }
     }
 
     /// The session has no transaction any more.

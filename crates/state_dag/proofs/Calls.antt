@@ -1,9 +1,8 @@
 -- What the calls read off the memory.
-use Rattle.std.proofs.Common.{◌≡◌, ℕ, ◌+◌, ◌-◌, ◌<◌, ◌≤◌, Bool, true, false, eqb, ltb, List, [], ◌∷◌, ◌++◌, length, map, find, get_or, slice_get, Option, Some, None, is_some, IsTrue, IfSome, inl, inr, refl, sym, ap, subst, ◌∙◌, arith, length-append}
-use Rattle.std.specs.List.{list_all}
+use Rattle.std.proofs.Common.{◌≡◌, ℕ, ◌+◌, ◌-◌, ◌<◌, ◌≤◌, true, false, eqb, ltb, List, [], ◌∷◌, ◌++◌, length, map, find, get_or, slice_get, Option, Some, None, is_some, IsTrue, IfSome, refl, sym, ap, subst, ◌∙◌, arith, length-append}
 use Rattle.std.specs.Option.{option_map, option_map_or}
-use Rattle.std.proofs.lemmas.Bool.{cases_Bool, cond-true, cond-false, and_parts, and_from, both_ways, false_from_ne_true, ltb-true}
-use Rattle.std.proofs.lemmas.Option.{none-some, same_Some}
+use Rattle.std.proofs.lemmas.Bool.{and_parts, and_from, both_ways, false_from_ne_true, ltb-true}
+use Rattle.std.proofs.lemmas.Option.{none-some}
 use Rattle.std.proofs.lemmas.List.{length-map}
 use Rattle.std.proofs.lemmas.List.FromFn.{get_or-map-range_with_len}
 use Rattle.tardis_base.specs.declared.ids.StateId.{StateId}
@@ -15,7 +14,7 @@ use Rattle.plain_dag.specs.Begin.{last_arrived}
 use Rattle.plain_dag.specs.Collection.{is_kept, kept_states}
 use Rattle.state_dag.specs.declared.StateDag.TheInside.{Inside}
 use Rattle.state_dag.specs.declared.nodes.Node.{Node}
-use Rattle.state_dag.specs.Table.{Entry, Table, entry_at, id_at, is_slot, arrive_in_order, is_kept_at, arrival_at, children_have_slots}
+use Rattle.state_dag.specs.Table.{Entry, Table, entry_at, id_at, is_slot, arrive_in_order, is_kept_at, arrival_at}
 use Rattle.state_dag.specs.Views.{entries_from, place_of_id}
 use Rattle.state_dag.specs.Held.{seen}
 use Rattle.state_dag.specs.Stands.{Stands}
@@ -58,7 +57,7 @@ pub searched-names : (a : Inside) (table : Table) (x : StateId) (o : Option Slot
 searched-names a table x None is e = tt
 searched-names a table x (Some s) is e = subst (λ t. id_at t s ≡ Some x) is (place-found a.nodes.items 0 x s (sym e)).1
 
-named-is_slot : (table : Table) (s : Slot) (x : StateId) → id_at table s ≡ Some x → is_slot table s ≡ true
+pub named-is_slot : (table : Table) (s : Slot) (x : StateId) → id_at table s ≡ Some x → is_slot table s ≡ true
 named-is_slot table s x h = go (entry_at table s) h
   where
     go : (o : Option Entry) → option_map (λ e. e.id) o ≡ Some x → is_some o ≡ true
@@ -153,18 +152,3 @@ place-arrives-earlier a table k is up some lt =
         let two = arrival-found a k d lt in
         let less = rising-at a.nodes.items 0 (k - 1) k d up (omega arith) lt in
         omega arith
-
--- ===== Children
-
-found-passes_too : (q : Entry → Bool) (es : List Entry) (k : ℕ) (e : Entry) → find (λ f. eqb f.slot.0 k) es ≡ Some e → list_all q es ≡ true → q e ≡ true
-found-passes_too q [] k e h all = absurd (none-some e h)
-found-passes_too q (f ∷ es) k e h all =
-    let parts = and_parts (q f) (list_all q es) all in
-    elim (cases_Bool (eqb f.slot.0 k)) [
-      | inl t ↦ subst (λ g. q g ≡ true) (same_Some f e (sym (cond-true (eqb f.slot.0 k) (Some f) (find (λ g. eqb g.slot.0 k) es) t) ∙ h)) parts.0
-      | inr n ↦ found-passes_too q es k e (sym (cond-false (eqb f.slot.0 k) (Some f) (find (λ g. eqb g.slot.0 k) es) n) ∙ h) parts.1
-    ]
-
--- the children of a state stand at slots
-pub children-have_slots : (table : Table) (slot : Slot) (e : Entry) → IsTrue (children_have_slots table) → entry_at table slot ≡ Some e → IsTrue (list_all (is_slot table) e.stand_ins)
-children-have_slots table slot e all found = found-passes_too (λ f. list_all (is_slot table) f.stand_ins) table.entries slot.0 e found all

@@ -219,7 +219,7 @@ differ-filter p (x ∷ xs) d = elim (cases_Bool (p x)) [
   | inr f ↦ rw f (differ-filter p xs d.1)
 ]
 
-arrived-differ : (rs : List Record) → Grows rs → AllDiffer (arrived rs)
+pub arrived-differ : (rs : List Record) → Grows rs → AllDiffer (arrived rs)
 arrived-differ [] g = tt
 arrived-differ (r ∷ rs) g =
     differ-last (arrived rs) r.id (arrived-differ rs g.1)

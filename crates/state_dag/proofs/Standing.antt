@@ -57,7 +57,8 @@ entry-of_id table slot x h = go (entry_at table slot) refl
     go None is = absurd (none-some x (sym (ap (option_map (λ (e : Entry). e.id)) is) ∙ h))
     go (Some e) is = (e, is, same_Some e.id x (sym (ap (option_map (λ (f : Entry). f.id)) is) ∙ h))
 
-found-is_named : (es : List Entry) (k : ℕ) (e : Entry) → find (λ f. eqb f.slot.0 k) es ≡ Some e → IsTrue (is_among e.id (map (λ f. f.id) es))
+-- what is found has its id among these
+pub found-is_named : (es : List Entry) (k : ℕ) (e : Entry) → find (λ f. eqb f.slot.0 k) es ≡ Some e → IsTrue (is_among e.id (map (λ f. f.id) es))
 found-is_named [] k e h = absurd (none-some e h)
 found-is_named (f ∷ es) k e h = elim (cases_Bool (eqb f.slot.0 k)) [
   | inl t ↦

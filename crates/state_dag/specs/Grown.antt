@@ -60,10 +60,10 @@ too_long table parents =
 abbrev pub refusal_of : Table → StateId → List Slot → ℕ → Option Refusal
 refusal_of table x parents pairs =
     let path_refusal : Option Refusal =
-        elim (too_long table parents) [
-          | Some long ↦ Some (IsPathFull long.0 long.1)
-          | None ↦ if nat_lt table.limits.max_path pairs then Some (IsPathFull x pairs) else None
-        ] in
+    elim (too_long table parents) [
+      | Some long ↦ Some (IsPathFull long.0 long.1)
+      | None ↦ if nat_lt table.limits.max_path pairs then Some (IsPathFull x pairs) else None
+    ] in
     if length table.entries == table.limits.max_kept then Some (IsFull (length table.entries)) else path_refusal
 
 -- the item, where the test holds

@@ -1,6 +1,5 @@
 -- What the table of states keeps.
 use Rattle.std.specs.Prelude.{ℕ, Bool, true, false, ◌==◌, ◌&&◌, List, [], ◌∷◌, find, Option, is_some, nat_le, nat_lt}
-use Rattle.std.specs.List.{list_all}
 use Rattle.std.specs.Option.{option_map, option_map_or}
 use Rattle.tardis_base.specs.declared.ids.StateId.{StateId}
 use Rattle.tardis_base.specs.declared.ids.Slot.{Slot}
@@ -60,7 +59,3 @@ is_entry_above a b = nat_le a.arrival b.arrival && has_pairs b.path a.path
 -- so it is with the entries at these slots
 abbrev pub is_slot_above : Table → Slot → Slot → Bool
 is_slot_above table a b = option_map_or (λ e. option_map_or (λ f. is_entry_above e f) (entry_at table b) false) (entry_at table a) false
-
--- each child of a kept state stands at a slot of the table
-abbrev pub children_have_slots : Table → Bool
-children_have_slots table = list_all (λ e. list_all (is_slot table) e.stand_ins) table.entries

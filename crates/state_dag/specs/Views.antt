@@ -1,5 +1,6 @@
 -- How the table reads its memory.
-use Rattle.std.specs.Prelude.{ℕ, ◌+◌, List, [], ◌∷◌, Option, Some, None, if◌then◌else◌}
+use Rattle.std.specs.Prelude.{ℕ, ◌+◌, List, [], ◌∷◌, Option, Some, None, slice_get, if◌then◌else◌}
+use Rattle.std.specs.Option.{option_map}
 use Rattle.tardis_base.specs.declared.ids.StateId.{StateId}
 use Rattle.tardis_base.specs.declared.ids.Slot.{Slot}
 use Rattle.tardis_base.specs.Ids.{same_id}
@@ -34,3 +35,7 @@ place_of_id place [] x = None
 place_of_id place (node ∷ nodes) x =
     let later = place_of_id (place + 1) nodes x in
     slot_or later (if same_id x node.id then Some (record { 0 = place }) else None)
+
+-- the pair with the id of the node at its fork's place, if there is one
+abbrev pub named_pair : List Node → ℕ × ℕ → Option (StateId × ℕ)
+named_pair nodes pair = option_map (λ n. (n.id, pair.1)) (slice_get nodes pair.0)

@@ -1,7 +1,7 @@
 //! The table of states: their order by arrival numbers and fork paths.
 #![tactic(auto)]
 
-ghost use Rattle.std.specs.Prelude.{◌≡◌, ℕ, ◌+◌, ◌-◌, ◌≤◌, ◌<◌, false, Some, None, List, [], ◌∷◌, length, map, slice_get, unwrap_or, IsTrue, IfOk, IfSome, OnErr};
+ghost use Rattle.std.specs.Prelude.{◌≡◌, ℕ, ◌+◌, ◌-◌, ◌≤◌, ◌<◌, false, unwrap_or, slice_get, Some, None, List, [], ◌∷◌, length, map, IsTrue, IfOk, IfSome, OnErr};
 ghost use Rattle.std.specs.List.{list_all};
 ghost use Rattle.std.specs.Option.{option_and_then};
 ghost use Rattle.tardis_base.specs.declared.ids.StateId.{StateId};
@@ -14,20 +14,35 @@ ghost use Rattle.plain_dag.specs.Above.{is_above};
 ghost use Rattle.plain_dag.specs.Forks.{leaves};
 ghost use Rattle.plain_dag.specs.Begin.{last_arrived};
 ghost use Rattle.plain_dag.specs.Collection.{is_kept, kept_states, stand_in};
+ghost use Rattle.plain_dag.specs.Paths.{fork_path};
 ghost use Rattle.state_dag.specs.Table.{entry_at, id_at, is_slot, is_kept_at, arrival_at, is_slot_above};
 ghost use Rattle.state_dag.specs.Views.{entry_of};
 ghost use Rattle.state_dag.specs.Stands.{Stands};
 ghost use Rattle.state_dag.specs.Answers.{MayBeAdded, AddedTo, IsNewSlot, KeepsSlots, next_of, slot_after};
 
+mod changes;
+mod growth;
+mod leads;
+mod named_paths;
+mod new_paths;
 mod nodes;
+mod rooms;
 mod slots;
+mod sums;
+#[cfg(test)]
+mod tests;
 
+use changes::{grow, set_count};
+use growth::{check_paths, new_node};
+use leads::gains;
+use named_paths::named_path;
 use nodes::{Node, ROOT, is_node_above, root_node};
-use slots::slot_in;
+use rooms::make_room;
+use slots::{put_slot, slot_in};
 use std::alloc::Global;
 use std::collections::BTreeMap;
 use std::marker::Model;
-use tardis_base::{Above, AddFault, Limits, NoMemory, Slot, StateId};
+use tardis_base::{Above, AddFault, Limits, NoMemory, PathList, Slot, StateId};
 
 /// The states of one site, by the slots in which the kept ones stand.
 ///
@@ -76,6 +91,52 @@ impl StateDag {
         })
     }
 
+    /// Adds the state below the states at these slots, and answers its slot.
+    ///
+    /// `Full` says that as many states are kept as may be. `PathFull` names the first state, in arrival order and the new
+    /// one last, whose fork path would have more pairs than it may have, with their number. `NoMemory` also stands for a
+    /// number that doesn't fit 32 bits. After each of them the table is as before.
+    ///
+    /// The cost grows with the fork paths of the parents. Where a parent gets its second child it grows with the number of
+    /// kept states and their fork paths too.
+    pub fn add(&mut self, id: StateId, parents: &[Slot]) -> Result<Slot, AddFault>
+        requires slots { IsTrue (list_all (is_slot self.old) parents.now) }
+        requires first { 1 ≤ id.site }
+        requires last { id.site ≤ self.old.limits.sites }
+        requires next { id.sequence ≡ unwrap_or (slice_get self.old.counts (id.site - 1)) 0 + 1 }
+        ensures added { (rs : List Record) (ks : List StateId) (r : Record) → Stands self.old rs ks → r.id ≡ id → MayBeAdded self.old rs ks r parents.now → AddedTo self.old self.new rs ks r result }
+        ensures slot { IfOk result (λ slot. IsNewSlot self.old self.new id slot) }
+        ensures keeps { KeepsSlots self.old self.new }
+        ensures kept { (s : Slot) → IsTrue (is_kept_at self.old s) → IsTrue (is_kept_at self.new s) × (arrival_at self.new s ≡ arrival_at self.old s) }
+        ensures arrived { IfOk result (λ slot. IsTrue (is_kept_at self.new slot) × (arrival_at self.new slot ≡ self.old.known)) }
+        ensures newest { IfOk result (λ slot. (s : Slot) → IsTrue (is_kept_at self.old s) → arrival_at self.new s < arrival_at self.new slot) }
+        ensures limits { self.new.limits ≡ self.old.limits }
+        ensures same { OnErr result (self.new ≡ self.old) }
+    {
+        let kept = self.nodes.len() as u32;
+        if kept == self.limits.max_kept {
+            return Err(AddFault::Full { kept });
+        }
+        let alloc = *self.nodes.allocator();
+        let node = new_node(alloc, &self.nodes, parents, id, self.known)?;
+        check_paths(&self.nodes, parents, &node, &self.limits)?;
+        let gains = gains(alloc, &self.nodes, parents)?;
+        make_room(&mut self.nodes, parents, &gains)?;
+        put_slot(&mut self.slots, id, Slot(kept))?;
+        self.leaves = grow(
+            &mut self.nodes,
+            parents,
+            &gains,
+            id,
+            Slot(kept),
+            self.leaves,
+        ) + 1;
+        self.nodes.push_reserved(node);
+        set_count(&mut self.counts, id.site, id.sequence);
+        self.known += 1;
+        Ok(Slot(kept))
+    }
+
     pub fn limits(&self) -> &Limits
         ensures { result.now ≡ self.now.limits }
     {
@@ -103,6 +164,13 @@ impl StateDag {
         ensures none { result ≡ None → (rs : List Record) (ks : List StateId) → Stands self.now rs ks → is_kept rs ks id ≡ false }
     {
         slot_in(&self.slots, id)
+    }
+
+    /// Whether a state is kept at the slot.
+    pub fn has_slot(&self, slot: Slot) -> bool
+        ensures { result ≡ is_slot self.now slot }
+    {
+        (slot.0 as usize) < self.nodes.len()
     }
 
     /// Which state is kept at the slot.
@@ -187,8 +255,7 @@ impl StateDag {
     /// of a collected one that of the state that stands in for it.
     pub fn child_slots(&self, slot: Slot) -> &[Slot]
         requires { IsTrue (is_slot self.now slot) }
-        ensures slots { IsTrue (list_all (is_slot self.now) result.now) }
-        ensures stand_ins { (rs : List Record) (ks : List StateId) → Stands self.now rs ks → (x : StateId) → id_at self.now slot ≡ Some x → map (id_at self.now) result.now ≡ map (λ c. Some (stand_in rs ks c)) (children rs x) }
+        ensures { (rs : List Record) (ks : List StateId) → Stands self.now rs ks → (x : StateId) → id_at self.now slot ≡ Some x → map (id_at self.now) result.now ≡ map (λ c. Some (stand_in rs ks c)) (children rs x) }
     {
         self.node(slot).stand_ins.as_slice()
     }
@@ -199,24 +266,6 @@ impl StateDag {
         ensures { (rs : List Record) (ks : List StateId) → Stands self.now rs ks → (x : StateId) → id_at self.now slot ≡ Some x → result.now ≡ parents_of rs x }
     {
         self.node(slot).parents.as_slice()
-    }
-
-    /// STUB.
-    pub fn add(&mut self, id: StateId, parents: &[Slot]) -> Result<Slot, AddFault>
-        requires slots { IsTrue (list_all (is_slot self.old) parents.now) }
-        requires first { 1 ≤ id.site }
-        requires last { id.site ≤ self.old.limits.sites }
-        requires next { id.sequence ≡ unwrap_or (slice_get self.old.counts (id.site - 1)) 0 + 1 }
-        ensures added { (rs : List Record) (ks : List StateId) (r : Record) → Stands self.old rs ks → r.id ≡ id → MayBeAdded self.old rs ks r parents.now → AddedTo self.old self.new rs ks r result }
-        ensures slot { IfOk result (λ slot. IsNewSlot self.old self.new id slot) }
-        ensures keeps { KeepsSlots self.old self.new }
-        ensures kept { (s : Slot) → IsTrue (is_kept_at self.old s) → IsTrue (is_kept_at self.new s) × (arrival_at self.new s ≡ arrival_at self.old s) }
-        ensures arrived { IfOk result (λ slot. IsTrue (is_kept_at self.new slot) × (arrival_at self.new slot ≡ self.old.known)) }
-        ensures newest { IfOk result (λ slot. (s : Slot) → IsTrue (is_kept_at self.old s) → arrival_at self.new s < arrival_at self.new slot) }
-        ensures limits { self.new.limits ≡ self.old.limits }
-        ensures same { OnErr result (self.new ≡ self.old) }
-    {
-        Err(AddFault::NoMemory)
     }
 
     /// The slot of the kept state that arrived next after the one at this slot, or first of all; None at the end.
@@ -265,9 +314,23 @@ impl StateDag {
         requires { IsTrue (is_slot self.now slot) }
         ensures entry { entry_at self.now slot ≡ Some (entry_of slot.0 result.now) }
         ensures kept { IsTrue (is_kept_at self.now slot) }
-        ensures slots { IsTrue (list_all (is_slot self.now) result.now.stand_ins.items) }
     {
         &self.nodes[slot.0 as usize]
+    }
+
+    /// The fork path of the state at the slot: each kept fork on a way to it with the number of the branch taken, by the
+    /// fork's arrival and then by number.
+    ///
+    /// The cost grows with the number of pairs.
+    pub fn path(&self, slot: Slot) -> Result<PathList, NoMemory>
+        requires { IsTrue (is_slot self.now slot) }
+        ensures { (rs : List Record) (ks : List StateId) → Stands self.now rs ks → (x : StateId) → id_at self.now slot ≡ Some x → IfOk result (λ path. path ≡ fork_path rs ks x) }
+    {
+        named_path(
+            *self.nodes.allocator(),
+            self.nodes.as_slice(),
+            &self.node(slot).path,
+        )
     }
 }
 

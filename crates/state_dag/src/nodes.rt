@@ -2,7 +2,9 @@
 
 ghost use Rattle.std.specs.Prelude.{◌≡◌, ℕ, [], IfOk};
 ghost use Rattle.tardis_base.specs.Ids.{root};
-ghost use Rattle.state_dag.specs.Table.{is_entry_above};
+ghost use Rattle.std.specs.Option.{option_copied, option_map};
+ghost use Rattle.state_dag.specs.Nodes.{table_of};
+ghost use Rattle.state_dag.specs.Table.{entry_at, is_entry_above};
 ghost use Rattle.state_dag.specs.Views.{entry_of};
 
 use fork_path::ForkPath;
@@ -43,6 +45,13 @@ pub fn root_node(alloc: Global) -> Node
         stand_ins: Vec::new(alloc),
         path: ForkPath::new(alloc),
     }
+}
+
+/// The node in the place of the slot.
+pub fn node_at(nodes: &[Node], slot: Slot) -> Option<&Node>
+    ensures { option_map (entry_of slot.0) (option_copied result) ≡ entry_at (table_of nodes.now) slot }
+{
+    nodes.get(slot.0 as usize)
 }
 
 /// Whether the state of `a` is that of `b` or one of its ancestors.

@@ -1,8 +1,9 @@
 //! Which slot each kept state has.
 
-ghost use Rattle.std.specs.Prelude.{◌≡◌, ℕ, Some, OnErr, OnOk};
+ghost use Rattle.std.specs.Prelude.{◌≡◌, ℕ, Some, OnErr, OnOk, if◌then◌else◌};
 ghost use Rattle.std.specs.BTreeMap.{get};
 ghost use Rattle.tardis_base.specs.declared.ids.StateId.{StateId};
+ghost use Rattle.tardis_base.specs.Ids.{same_id};
 ghost use Rattle.state_dag.specs.Ids.{id_cmp};
 
 use std::collections::BTreeMap;
@@ -13,4 +14,17 @@ pub fn slot_in(slots: &BTreeMap<StateId, Slot>, id: StateId) -> Option<Slot>
     ensures { result ≡ get id_cmp slots.now id }
 {
     slots.get(&id).copied()
+}
+
+/// Gives the state the slot. With no memory all slots stay.
+pub fn put_slot(
+    slots: &mut BTreeMap<StateId, Slot>,
+    id: StateId,
+    slot: Slot,
+) -> Result<(), NoMemory>
+    ensures put { OnOk result ((x : StateId) → get id_cmp slots.new x ≡ (if same_id x id then Some slot else get id_cmp slots.old x)) }
+    ensures same { OnErr result ((x : StateId) → get id_cmp slots.new x ≡ get id_cmp slots.old x) }
+{
+    slots.insert(id, slot)?;
+    Ok(())
 }

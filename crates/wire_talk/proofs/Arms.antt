@@ -1,5 +1,5 @@
 -- What an arm of a code gives, where its fields are read.
-use Rattle.std.proofs.Common.{◌≡◌, ℕ, false, ◌==◌, ◌≤◌, IsTrue, List, [], ◌∷◌, nat_lt, Option, Some, None, if◌then◌else◌, ap, ◌∙◌, refl, arith, ne_eqb, ltb-true}
+use Rattle.std.proofs.Common.{◌≡◌, ℕ, Bool, true, false, ◌==◌, ◌≤◌, IsTrue, List, [], ◌∷◌, nat_lt, Option, Some, None, if◌then◌else◌, ap, sym, ◌∙◌, refl, arith, ne_eqb, ltb-true}
 use Rattle.std.proofs.lemmas.Bool.{and_parts}
 use Rattle.std.specs.List.{list_all}
 use Rattle.std.specs.Prelude.{Result, Ok, IfOk}
@@ -7,8 +7,8 @@ use Rattle.tardis_base.specs.declared.faults.NoMemory.{NoMemory}
 use Rattle.wire_item.specs.Fronts.{Front, made, front_of_code, by_code}
 use Rattle.wire_item.specs.Readings.{u8_front}
 use Rattle.wire_item.specs.Takings.{Takes, Makes}
-use Rattle.wire_item.proofs.Fronts.{made-read}
-use Rattle.wire_item.proofs.Takings.{taken, making, makes, makes-none, made-none}
+use Rattle.wire_item.proofs.Fronts.{Made, made-read, made-source}
+use Rattle.wire_item.proofs.Takings.{taken, untaken, making, makes, makes-none, made-none}
 use Rattle.wire_item.proofs.Codes.{code-read}
 
 -- no row has a code as great as this
@@ -53,3 +53,29 @@ pub arm-takes : {A B : Type 0} (rows : List (ℕ × Front B)) (k code : ℕ) (f 
 arm-takes rows k code f front old a new e row t =
     makes (front_of_code code rows) old new (Ok (f a)) (f a)
     (ap (λ j. front_of_code j rows old) e ∙ ap (λ g. g old) row ∙ made-read f front old a new (taken front old new a t)) refl
+
+-- the arm of a code whose fields always take memory
+pub arm-sure : {A B : Type 0} (rows : List (ℕ × Front B)) (k code : ℕ) (f : A → B) (front : Front A) (sure : B → Bool) → ((a : A) → sure (f a) ≡ false)
+    → (old : List ℕ) (b : B) (rest : List ℕ) → code ≡ k → front_of_code k rows ≡ made f front → front_of_code code rows old ≡ Some (b, rest) → IsTrue (sure b) → ⊥
+arm-sure rows k code f front sure takes old b rest e row read is =
+    let m = made-source f front old b rest (sym (ap (λ j. front_of_code j rows old) e ∙ ap (λ g. g old) row) ∙ read) in
+    true-not-false (sure b) is (sym (ap sure m.is) ∙ takes m.source)
+  where
+    true-not-false : (t : Bool) → t ≡ true → t ≡ false → ⊥
+    true-not-false t p q = absurd (cc)
+
+-- the thing from which the arm of a code made another
+pub arm-source : {A B : Type 0} (rows : List (ℕ × Front B)) (k code : ℕ) (f : A → B) (front : Front A) (old : List ℕ) (b : B) (rest : List ℕ)
+    → code ≡ k → front_of_code k rows ≡ made f front → front_of_code code rows old ≡ Some (b, rest) → Made f front old b rest
+arm-source rows k code f front old b rest e row read = made-source f front old b rest (sym (ap (λ j. front_of_code j rows old) e ∙ ap (λ g. g old) row) ∙ read)
+
+-- the arm of a code whose whole front is taken
+pub arm-taken : {B : Type 0} (rows : List (ℕ × Front B)) (k code : ℕ) (front : Front B) (old : List ℕ) (b : B) (new : List ℕ)
+    → code ≡ k → front_of_code k rows ≡ front → Takes front old (Some b) new → Makes (front_of_code code rows) old (Some (Ok b)) new
+arm-taken rows k code front old b new e row t =
+    makes (front_of_code code rows) old new (Ok b) b (ap (λ j. front_of_code j rows old) e ∙ ap (λ g. g old) row ∙ taken front old new b t) refl
+
+pub arm-untaken : {B : Type 0} (rows : List (ℕ × Front B)) (k code : ℕ) (front : Front B) (old new : List ℕ) (r : Option (Result B NoMemory))
+    → code ≡ k → front_of_code k rows ≡ front → r ≡ None → Takes front old None new → Makes (front_of_code code rows) old r new
+arm-untaken rows k code front old new r e row none t =
+    makes-none (front_of_code code rows) old new r none (ap (λ j. front_of_code j rows old) e ∙ ap (λ g. g old) row ∙ untaken front old new t)

@@ -2,6 +2,7 @@
 pub mod Requests
 pub mod Replies
 pub mod RequestFields
+pub mod ReplyFields
 pub mod Arms
 pub mod Laws
 pub mod RequestCodes

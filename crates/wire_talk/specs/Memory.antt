@@ -1,6 +1,10 @@
--- Which requests are read without memory.
+-- Which requests and replies are read without memory.
 use Rattle.std.specs.Prelude.{Bool, true, false}
 use Rattle.tardis_base.specs.declared.requests.Request.{Request}
+use Rattle.tardis_base.specs.declared.replies.Refusal.{Refusal}
+use Rattle.tardis_base.specs.declared.replies.Refusal.TheVariants.{Malformed, NotOpen, AlreadyOpen, SessionsFull, TxnOpen, NoTxn, WrongMode, TooMany, Unknown, Below, Comparable, NotRead, ConflictKey, OpenConflict, Branches, CeilingBack, FloorBack, Held, Collected, Full, PathFull, SeqEnd, BadSite, ClosedParent, OwnItem, TrailFull, Unsupported, NoSuchItem, BagFull}
+use Rattle.tardis_base.specs.declared.replies.Reply.{Reply}
+use Rattle.tardis_base.specs.declared.replies.Reply.TheVariants.{Opened, Begun, Merging, Value, Deleted, Absent, Done, Committed, Ended, States, Keys, Raised, Tidied, Stat as Statistics, Shown, Batch, Applied, Known, Early, Closed, Refused, NoMemory}
 use Rattle.tardis_base.specs.declared.requests.Request.TheVariants.{Open, Begin, Get, Put, Delete, Commit, Abort, BeginMerge, ForkPoints, Conflicts, GetFor, Ceiling, Raise, RaiseAuto, Tidy, Stat, Show, Leaves, Pull, Deliver, Close}
 
 -- the request has no key, no value, no list and no item
@@ -26,3 +30,60 @@ takes_no_memory Leaves = true
 takes_no_memory (Pull counts) = false
 takes_no_memory (Deliver item) = false
 takes_no_memory Close = true
+
+-- the refusal has no key
+abbrev pub refusal_takes_no_memory : Refusal → Bool
+refusal_takes_no_memory Malformed = true
+refusal_takes_no_memory NotOpen = true
+refusal_takes_no_memory AlreadyOpen = true
+refusal_takes_no_memory (SessionsFull n) = true
+refusal_takes_no_memory TxnOpen = true
+refusal_takes_no_memory NoTxn = true
+refusal_takes_no_memory WrongMode = true
+refusal_takes_no_memory (TooMany what n) = true
+refusal_takes_no_memory (Unknown state) = true
+refusal_takes_no_memory (Below state ceiling) = true
+refusal_takes_no_memory (Comparable a b) = true
+refusal_takes_no_memory (NotRead state) = true
+refusal_takes_no_memory (ConflictKey key) = false
+refusal_takes_no_memory (OpenConflict key) = false
+refusal_takes_no_memory (Branches constraint state children) = true
+refusal_takes_no_memory (CeilingBack ceiling) = true
+refusal_takes_no_memory (FloorBack floor) = true
+refusal_takes_no_memory (Held session ceiling) = true
+refusal_takes_no_memory (Collected state) = true
+refusal_takes_no_memory (Full kept) = true
+refusal_takes_no_memory (PathFull state pairs) = true
+refusal_takes_no_memory SeqEnd = true
+refusal_takes_no_memory (BadSite site) = true
+refusal_takes_no_memory (ClosedParent state) = true
+refusal_takes_no_memory (OwnItem site number) = true
+refusal_takes_no_memory (TrailFull bytes) = true
+refusal_takes_no_memory (Unsupported op) = true
+refusal_takes_no_memory (NoSuchItem batches) = true
+refusal_takes_no_memory (BagFull batches) = true
+
+-- the reply has no key, no value, no batch, and no list but that of site lines
+abbrev pub reply_takes_no_memory : Reply → Bool
+reply_takes_no_memory (Opened ceiling) = true
+reply_takes_no_memory (Begun state) = true
+reply_takes_no_memory (Merging states) = false
+reply_takes_no_memory (Value writer value) = false
+reply_takes_no_memory (Deleted writer) = true
+reply_takes_no_memory Absent = true
+reply_takes_no_memory Done = true
+reply_takes_no_memory (Committed id parents) = false
+reply_takes_no_memory (Ended state) = true
+reply_takes_no_memory (States total first) = false
+reply_takes_no_memory (Keys total first) = false
+reply_takes_no_memory (Raised floor number) = true
+reply_takes_no_memory (Tidied collected) = true
+reply_takes_no_memory (Statistics known kept leaves sessions sites) = true
+reply_takes_no_memory (Shown arrival children path) = false
+reply_takes_no_memory (Batch batch) = false
+reply_takes_no_memory Applied = true
+reply_takes_no_memory Known = true
+reply_takes_no_memory (Early have) = true
+reply_takes_no_memory Closed = true
+reply_takes_no_memory (Refused refusal) = refusal_takes_no_memory refusal
+reply_takes_no_memory NoMemory = true

@@ -2,8 +2,13 @@
 #![tactic(auto)]
 
 mod field_writers;
+mod list_readers;
 mod refusal_readers;
 mod refusal_writers;
+mod reply_field_readers;
+mod reply_readers;
+#[cfg(test)]
+mod reply_tests;
 mod reply_writers;
 mod request_field_readers;
 mod request_readers;
@@ -13,6 +18,7 @@ mod spelling_laws;
 mod tests;
 
 pub use refusal_writers::write_refusal;
+pub use reply_readers::read_reply;
 pub use reply_writers::{write_reply, write_value_reply};
 pub use request_readers::read_request;
 pub use request_writers::write_request;

@@ -1,10 +1,12 @@
 //! Reading refusals, and the fields that refusals and replies have, from the front of bytes.
 
-ghost use Rattle.std.specs.Prelude.{◌≡◌, ◌<◌, ◌≤◌, ℕ, List, IfOk};
+ghost use Rattle.std.specs.Prelude.{◌≡◌, ◌<◌, ◌≤◌, ℕ, List, Some, Err, IfOk, IsTrue};
+ghost use Rattle.tardis_base.specs.declared.faults.NoMemory.{NoMemory};
 ghost use Rattle.tardis_base.specs.declared.replies.Refusal.{Refusal};
 ghost use Rattle.wire_item.specs.Fronts.{both, front_of_code, only_if};
 ghost use Rattle.wire_item.specs.Readings.{id_front, key_front, u16_front, u32_front, u8_front};
 ghost use Rattle.wire_item.specs.Takings.{Makes, Takes};
+ghost use Rattle.wire_talk.specs.Memory.{refusal_takes_no_memory};
 ghost use Rattle.wire_talk.specs.ReplyReadings.{refusal_front, refusal_rows};
 ghost use Rattle.wire_talk.specs.Valid.{is_constraint, is_what};
 
@@ -14,7 +16,8 @@ use wire_item::Reader;
 
 /// A refusal. The reader goes on behind it where memory is wanting for it.
 pub(crate) fn refusal(reader: &mut Reader<'_>, alloc: Global) -> Option<Result<Refusal, NoMemory>>
-    ensures { Makes refusal_front reader.old result reader.new }
+    ensures makes { Makes refusal_front reader.old result reader.new }
+    ensures sure { (x : Refusal) (rest : List ℕ) (e : NoMemory) → refusal_front reader.old ≡ Some (x, rest) → IsTrue (refusal_takes_no_memory x) → result ≡ Some (Err e) → ⊥ }
 {
     let code = reader.u8()?;
     if code < 15 {
@@ -31,7 +34,8 @@ fn low_refusal(
     code: u8,
 ) -> Option<Result<Refusal, NoMemory>>
     requires { code < 15 }
-    ensures { Makes (front_of_code code refusal_rows) reader.old result reader.new }
+    ensures makes { Makes (front_of_code code refusal_rows) reader.old result reader.new }
+    ensures sure { (x : Refusal) (rest : List ℕ) (e : NoMemory) → front_of_code code refusal_rows reader.old ≡ Some (x, rest) → IsTrue (refusal_takes_no_memory x) → result ≡ Some (Err e) → ⊥ }
 {
     match code {
         1 => Some(Ok(Refusal::Malformed)),
@@ -77,7 +81,8 @@ fn low_refusal(
 /// The refusal of a code from 15 on.
 fn high_refusal(reader: &mut Reader<'_>, code: u8) -> Option<Result<Refusal, NoMemory>>
     requires { 15 ≤ code }
-    ensures { Makes (front_of_code code refusal_rows) reader.old result reader.new }
+    ensures makes { Makes (front_of_code code refusal_rows) reader.old result reader.new }
+    ensures sure { (e : NoMemory) → result ≡ Some (Err e) → ⊥ }
 {
     match code {
         15 => {

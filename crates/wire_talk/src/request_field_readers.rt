@@ -15,6 +15,7 @@ ghost use Rattle.wire_item.specs.Takings.{Makes, Takes};
 ghost use Rattle.wire_talk.specs.RequestReadings.{after_front, begin_front, commit_front, counts_front, flag_front, merge_of, merge_of_front};
 ghost use Rattle.wire_talk.specs.Valid.{is_commit};
 
+use crate::list_readers::{ids, is_count_of_sites, pushed};
 use std::alloc::Global;
 use tardis_base::{
     Begin, ByteList, CountList, EndFlags, Item, Key, ListOf, MergeOf, NoMemory, Request, StateId,
@@ -96,7 +97,7 @@ pub fn read_begin_merge(alloc: Global, reader: &mut Reader) -> Option<Result<Req
     ensures { Makes (made Request.BeginMerge merge_of_front) reader.old result reader.new }
 {
     let count = reader.u8()?;
-    let states = ids(alloc, count, reader)?;
+    let states = ids(alloc, u32::from(count), reader)?;
     Some(begin_merge(states))
 }
 
@@ -139,18 +140,6 @@ pub fn read_deliver(alloc: Global, reader: &mut Reader) -> Option<Result<Request
     Some(deliver(item))
 }
 
-/// So many ids.
-fn ids(alloc: Global, count: u8, reader: &mut Reader) -> Option<Result<StateList, NoMemory>>
-    ensures { Makes (times id_front count) reader.old result reader.new }
-{
-    let mut ids = Ok(StateList::new(alloc));
-    for _place in 0..count {
-        let id = reader.id()?;
-        ids = pushed(ids, id);
-    }
-    Some(ids)
-}
-
 /// So many numbers of 32 bits.
 fn numbers(alloc: Global, count: u8, reader: &mut Reader) -> Option<Result<CountList, NoMemory>>
     ensures { Makes (times u32_front count) reader.old result reader.new }
@@ -161,15 +150,6 @@ fn numbers(alloc: Global, count: u8, reader: &mut Reader) -> Option<Result<Count
         numbers = pushed(numbers, number);
     }
     Some(numbers)
-}
-
-/// The list with the item behind its end, where there was memory for both.
-fn pushed<T: Drop>(list: Result<ListOf<T>, NoMemory>, item: T) -> Result<ListOf<T>, NoMemory>
-    ensures { (xs : List T) → IfOk list (λ l. l ≡ xs) → IfOk result (λ l. l ≡ xs ++ item ∷ []) }
-{
-    let mut list = list?;
-    list.push(item)?;
-    Ok(list)
 }
 
 fn is_commit(flags: u8, k: u16) -> bool
@@ -183,12 +163,6 @@ fn is_after_length(count: u8) -> bool
     ensures { result ≡ nat_le count 128 }
 {
     count <= 128
-}
-
-fn is_count_of_sites(count: u8) -> bool
-    ensures { result ≡ is_within 1 16 count }
-{
-    (1..=16).contains(&count)
 }
 
 fn key_of(alloc: Global, key: &[u8]) -> Result<Key, NoMemory>

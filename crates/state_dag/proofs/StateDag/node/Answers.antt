@@ -1,10 +1,7 @@
-use Rattle.std.proofs.Common.{◌≡◌, ◌∙◌, true, Some, IsTrue, sym, ap, subst, arith}
+use Rattle.std.proofs.Common.{◌≡◌, ◌∙◌, true, Some, sym, ap, subst, arith}
 use Rattle.std.proofs.lemmas.Bool.{and_from}
-use Rattle.std.specs.List.{list_all}
 use Rattle.state_dag.specs.Table.{entry_at, is_slot, arrive_in_order}
 use Rattle.state_dag.specs.Views.{entry_of}
-use Rattle.state_dag.specs.Held.{seen}
-use Rattle.state_dag.proofs.Calls.{children-have_slots}
 use Rattle.state_dag.proofs.Places.{entry-found, place-of_slot}
 use Rattle.state_dag.proofs.StateDag.node.Goals as goal
 
@@ -25,12 +22,3 @@ pub returns-clause-kept : goal.returns-clause-kept
 returns-clause-kept c =
     and_from (is_slot c.args.self.now c.args.slot) (arrive_in_order c.args.self.now.entries) c.requires
     (subst (λ t. arrive_in_order t.entries ≡ true) c.self.view_is c.self.invariant.in_order)
-
-pub returns-clause-slots : goal.returns-clause-slots
-returns-clause-slots c =
-    let nodes = c.self.inside.nodes.items in
-    let k = c.args.slot.0 in
-    let lt = place-of_slot nodes k (subst (λ t. is_slot t c.args.slot ≡ true) (sym c.self.view_is) c.requires) in
-    let found = entry-found nodes k c.index.result.now lt ∙ ap (λ n. Some (entry_of k n)) (sym c.index.ensures) in
-    subst (λ t. IsTrue (list_all (is_slot t) c.index.result.now.stand_ins.items)) c.self.view_is
-    (children-have_slots (seen c.self.inside) c.args.slot (entry_of k c.index.result.now) c.self.invariant.linked found)

@@ -1,22 +1,30 @@
 use Rattle.wire_item.specs.Readings.{u8_front}
-use Rattle.wire_item.proofs.Codes.{code-none}
+use Rattle.wire_item.proofs.Codes.{code-none, code-read}
 use Rattle.wire_item.proofs.Takings.{taken, untaken, makes-none}
-use Rattle.std.proofs.Common.{refl}
+use Rattle.std.proofs.Common.{refl, sym, ◌∙◌}
 use Rattle.wire_talk.specs.ReplyReadings.{refusal_rows, refusal_front}
 use Rattle.wire_talk.proofs.Arms.{makes-coded}
 use Rattle.wire_talk.proofs.refusal_readers.refusal.Goals as goal
 
-pub returns-in_err-code : goal.returns-in_err-code
-returns-in_err-code c =
+pub returns-in_err-code-clause-makes : goal.returns-in_err-code-clause-makes
+returns-in_err-code-clause-makes c =
     makes-none refusal_front c.args.reader.now c.u8.new.self c.from_residual.result c.from_residual.ensures
     (code-none refusal_rows c.args.reader.now refl (untaken u8_front c.args.reader.now c.u8.new.self c.in_err-code.ensures))
 
-pub returns-then-code-lt15 : goal.returns-then-code-lt15
-returns-then-code-lt15 c =
+pub returns-then-code-lt15-clause-makes : goal.returns-then-code-lt15-clause-makes
+returns-then-code-lt15-clause-makes c =
     makes-coded refusal_rows c.args.reader.now c.in_ok-code.code c.u8.new.self c.low_refusal.result c.low_refusal.new.reader
-    (taken u8_front c.args.reader.now c.u8.new.self c.in_ok-code.code c.in_ok-code.ensures) c.low_refusal.ensures
+    (taken u8_front c.args.reader.now c.u8.new.self c.in_ok-code.code c.in_ok-code.ensures) c.low_refusal.ensures.makes
 
-pub returns-else-code-lt15 : goal.returns-else-code-lt15
-returns-else-code-lt15 c =
+pub returns-else-code-lt15-clause-makes : goal.returns-else-code-lt15-clause-makes
+returns-else-code-lt15-clause-makes c =
     makes-coded refusal_rows c.args.reader.now c.in_ok-code.code c.u8.new.self c.high_refusal.result c.high_refusal.new.reader
-    (taken u8_front c.args.reader.now c.u8.new.self c.in_ok-code.code c.in_ok-code.ensures) c.high_refusal.ensures
+    (taken u8_front c.args.reader.now c.u8.new.self c.in_ok-code.code c.in_ok-code.ensures) c.high_refusal.ensures.makes
+
+pub returns-then-code-lt15-clause-sure : goal.returns-then-code-lt15-clause-sure
+returns-then-code-lt15-clause-sure c = λ x rest e read sure is.
+    let code = taken u8_front c.args.reader.now c.u8.new.self c.in_ok-code.code c.in_ok-code.ensures in
+    c.low_refusal.ensures.sure x rest e (sym (code-read refusal_rows c.args.reader.now c.in_ok-code.code c.u8.new.self code) ∙ read) sure is
+
+pub returns-else-code-lt15-clause-sure : goal.returns-else-code-lt15-clause-sure
+returns-else-code-lt15-clause-sure c = λ x rest e read sure is. c.high_refusal.ensures.sure e is

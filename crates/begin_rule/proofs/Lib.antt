@@ -1,0 +1,4 @@
+-- Lemmas on where a transaction begins.
+pub mod Rising
+pub mod Newest
+pub mod Chosen

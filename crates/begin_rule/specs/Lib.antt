@@ -1,0 +1,2 @@
+-- What a choice of a read state answers.
+pub mod Choices

@@ -1,0 +1,2 @@
+-- Lemmas on the way to a landing.
+pub mod Ways

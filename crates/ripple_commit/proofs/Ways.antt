@@ -1,0 +1,127 @@
+-- The way to a landing.
+use Rattle.std.proofs.Common.{◌≡◌, ℕ, ◌+◌, ◌≤◌, ◌<◌, Bool, true, false, not, ◌||◌, List, [], ◌∷◌, length, take, get_or, find, Option, Some, None, IsTrue, IsFalse, inl, inr, refl, sym, ap, subst, ◌∙◌, arith}
+use Rattle.std.specs.List.{list_any}
+use Rattle.std.proofs.lemmas.Bool.{and_parts, and_from, or_parts, or_from, cond-true, cond-false, not_from_false}
+use Rattle.std.proofs.lemmas.Option.{none-some, same_Some}
+use Rattle.std.proofs.lemmas.List.Folds.{list_any_more}
+use Rattle.tardis_base.specs.declared.ids.StateId.{StateId}
+use Rattle.tardis_base.specs.declared.ids.Slot.{Slot}
+use Rattle.tardis_base.specs.declared.records.Record.{Record}
+use Rattle.tardis_base.specs.declared.requests.EndFlags.{EndFlags}
+use Rattle.tardis_base.specs.Ids.{is_among}
+use Rattle.tardis_base.specs.Keys.{KeyWrite, keys_of}
+use Rattle.plain_dag.specs.States.{is_known, arrival, children}
+use Rattle.plain_dag.specs.Above.{is_above}
+use Rattle.plain_dag.specs.Landing.{passes, first_passing, landing, guarded}
+use Rattle.plain_dag.specs.Dag.{IsDag}
+use Rattle.plain_dag.specs.Collection.{is_kept}
+use Rattle.plain_dag.proofs.Ids.{among-first, among-later}
+use Rattle.plain_dag.proofs.Histories.{arrival_is_below}
+use Rattle.plain_dag.proofs.Order.{above-reflexive, above-transitive}
+use Rattle.plain_dag.proofs.States.{child_is_known, child_arrives_later, parent_is_above}
+use Rattle.plain_dag.proofs.Searches.{found-passes}
+use Rattle.plain_dag.proofs.Landing.{lands-by-first-children, true-commit}
+use Rattle.state_dag.specs.Table.{Table, id_at}
+use Rattle.ripple_commit.specs.Commits.{IsTrueAt}
+
+-- ===== Searches by places
+
+-- where none before passes, and this one does, it is found
+found-at : (p : StateId → Bool) (xs : List StateId) (i : ℕ) (d : StateId) → i < length xs → list_any p (take i xs) ≡ false → IsTrue (p (get_or xs i d)) → find p xs ≡ Some (get_or xs i d)
+found-at p [] i d lt none here = absurd (omega arith)
+found-at p (x ∷ xs) ℕ.zero d lt none here = cond-true (p x) (Some x) (find p xs) here
+found-at p (x ∷ xs) (ℕ.suc i) d lt none here =
+    let parts = or_parts (p x) (list_any p (take i xs)) none in
+    cond-false (p x) (Some x) (find p xs) parts.0 ∙ found-at p xs i d (omega arith) parts.1 here
+
+-- where none passes, nothing is found
+found-nowhere : (p : StateId → Bool) (xs : List StateId) (n : ℕ) → length xs ≤ n → list_any p (take n xs) ≡ false → ◌≡◌ {A = Option StateId} (find p xs) None
+found-nowhere p [] n all none = refl
+found-nowhere p (x ∷ xs) ℕ.zero all none = absurd (omega arith)
+found-nowhere p (x ∷ xs) (ℕ.suc n) all none =
+    let parts = or_parts (p x) (list_any p (take n xs)) none in
+    cond-false (p x) (Some x) (find p xs) parts.0 ∙ found-nowhere p xs n (omega arith) parts.1
+
+among-at : (xs : List StateId) (i : ℕ) (d : StateId) → i < length xs → IsTrue (is_among (get_or xs i d) xs)
+among-at [] i d lt = absurd (omega arith)
+among-at (x ∷ xs) ℕ.zero d lt = among-first x xs
+among-at (x ∷ xs) (ℕ.suc i) d lt = among-later (get_or xs i d) x xs (among-at xs i d (omega arith))
+
+-- one of the written keys passes exactly where the key of a write does
+pub any-of_keys : (p : List ℕ → Bool) (ws : List KeyWrite) → list_any (λ w. p w.0) ws ≡ list_any p (keys_of ws)
+any-of_keys p [] = refl
+any-of_keys p (w ∷ ws) = ap (λ b. p w.0 || b) (any-of_keys p ws)
+
+-- a child that isn't collected is kept
+child-is_kept : (rs : List Record) (ks : List StateId) (x c : StateId) → IsTrue (is_among c (children rs x)) → IsFalse (is_among c ks) → IsTrue (is_kept rs ks c)
+child-is_kept rs ks x c child out =
+    and_from (is_known rs c) (not (is_among c ks)) (child_is_known rs x c child) (not_from_false (is_among c ks) out)
+
+-- ===== The first child that passes
+
+module _ (rs : List Record) (ks : List StateId) (keys : List (List ℕ)) (x : StateId) (items : List StateId) (same : items ≡ children rs x) where
+  pub item-is_kept : (i : ℕ) (d : StateId) → i < length items → ((c : StateId) → IsTrue (is_among c (children rs x)) → IsFalse (is_among c ks)) → IsTrue (is_kept rs ks (get_or items i d))
+  item-is_kept i d lt out =
+      let c = get_or items i d in
+      let child = subst (λ cs. IsTrue (is_among c cs)) same (among-at items i d lt) in
+      child-is_kept rs ks x c child (out c child)
+
+  pub first-found : (i : ℕ) (d : StateId) → i < length items → list_any (passes rs keys x) (take i items) ≡ false → true ≡ passes rs keys x (get_or items i d) → first_passing rs keys x ≡ Some (get_or items i d)
+  first-found i d lt none here = ap (find (passes rs keys x)) (sym same) ∙ found-at (passes rs keys x) items i d lt none (sym here)
+
+  pub one-more : (i : ℕ) (d : StateId) → i < length items → list_any (passes rs keys x) (take i items) ≡ false → false ≡ passes rs keys x (get_or items i d) → list_any (passes rs keys x) (take (i + 1) items) ≡ false
+  one-more i d lt none here =
+      list_any_more (passes rs keys x) items i d lt ∙ or_from (list_any (passes rs keys x) (take i items)) (passes rs keys x (get_or items i d)) none (sym here)
+
+  pub none-found : (n : ℕ) → length items ≤ n → list_any (passes rs keys x) (take n items) ≡ false → ◌≡◌ {A = Option StateId} None (first_passing rs keys x)
+  none-found n all none = sym (ap (find (passes rs keys x)) (sym same) ∙ found-nowhere (passes rs keys x) items n all none)
+
+-- ===== The way
+
+-- y is on the way from x to its landing, and so many states arrived before it
+pub record IsOnWay (rs : List Record) (keys : List (List ℕ)) (x y : StateId) (n : ℕ) : Type 0 where
+  pub below : IsTrue (is_above rs x y)
+  pub lands : landing rs keys x ≡ landing rs keys y
+  pub reached : n ≤ arrival rs y
+
+module _ (rs : List Record) (ks : List StateId) (keys : List (List ℕ)) (dag : IsDag rs) where
+  pub way-begins : (x y : StateId) (n : ℕ) → x ≡ y → n ≡ arrival rs x → IsOnWay rs keys x y n
+  way-begins x y n same reached =
+      subst (λ z. IsOnWay rs keys x z n) same (record { below = above-reflexive rs x; lands = refl; reached = omega arith })
+
+  known-of : (y : StateId) → IsTrue (is_kept rs ks y) → IsTrue (is_known rs y)
+  known-of y kept = (and_parts (is_known rs y) (not (is_among y ks)) kept).0
+
+  pub way-goes_on : (x y c : StateId) (n : ℕ) → IsTrue (is_kept rs ks y) → first_passing rs keys y ≡ Some c → IsOnWay rs keys x y n → IsOnWay rs keys x c (n + 1)
+  way-goes_on x y c n kept next way =
+      let child = (found-passes (passes rs keys y) (children rs y) c next).0 in
+      let later = child_arrives_later rs dag y c child in
+      let so_far = way.reached in
+      record {
+        below = above-transitive rs dag x y c way.below (parent_is_above rs dag y c child);
+        lands = way.lands ∙ (lands-by-first-children rs keys y dag (known-of y kept)).goes_on c next;
+        reached = omega arith;
+      }
+
+  pub way-ends : (x y : StateId) (n : ℕ) → IsTrue (is_kept rs ks y) → ◌≡◌ {A = Option StateId} (first_passing rs keys y) None → IsOnWay rs keys x y n → y ≡ landing rs keys x
+  way-ends x y n kept none way = sym (way.lands ∙ (lands-by-first-children rs keys y dag (known-of y kept)).stays none)
+
+  -- the way has fewer steps than there are states
+  pub way-is_short : (x y : StateId) (n : ℕ) → IsTrue (is_kept rs ks y) → length rs ≤ n → IsOnWay rs keys x y n → ⊥
+  way-is_short x y n kept many way =
+      let below = arrival_is_below rs y (known-of y kept) in
+      let reached = way.reached in
+      omega arith
+
+-- a child of a state below x is below x
+pub child-below : (rs : List Record) → IsDag rs → (x y c : StateId) → IsTrue (is_above rs x y) → IsTrue (is_among c (children rs y)) → IsTrue (is_above rs x c)
+child-below rs dag x y c above child = above-transitive rs dag x y c above (parent_is_above rs dag y c child)
+
+-- ===== True commits
+
+pub true-at : (table : Table) (slot : Slot) (rs : List Record) (flags : EndFlags) (reads written : List (List ℕ)) (x y : StateId) → IsDag rs → IsTrue (is_known rs x) →
+    id_at table slot ≡ Some (landing rs (guarded flags reads written) x) → id_at table slot ≡ Some y → IsTrueAt rs flags reads written x y
+true-at table slot rs flags reads written x y dag known lands named =
+    let holds = true-commit rs flags reads written x dag known in
+    let there = landing rs (guarded flags reads written) x in
+    subst (λ z. IsTrueAt rs flags reads written x z) (same_Some there y (sym lands ∙ named)) (record { same_reads = holds.same_reads; no_writes = holds.no_writes })

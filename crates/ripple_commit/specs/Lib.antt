@@ -1,0 +1,2 @@
+-- What a landing means to the transaction that commits there.
+pub mod Commits

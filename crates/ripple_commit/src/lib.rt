@@ -1,0 +1,138 @@
+//! Where a transaction lands: from its read state down to the first child that brings no news of a guarded key, and on
+//! from there. The rule is stated in `docs/MODEL.md`.
+#![tactic(auto)]
+
+ghost use Rattle.std.specs.Prelude.{◌≡◌, ℕ, Some, List, is_some, IsTrue, IsFalse, IfSome};
+ghost use Rattle.std.specs.List.{list_any};
+ghost use Rattle.std.specs.Option.{option_and_then};
+ghost use Rattle.tardis_base.specs.declared.ids.StateId.{StateId};
+ghost use Rattle.tardis_base.specs.declared.records.Record.{Record};
+ghost use Rattle.tardis_base.specs.Ids.{is_among};
+ghost use Rattle.tardis_base.specs.Keys.{keys_of};
+ghost use Rattle.plain_dag.specs.States.{children};
+ghost use Rattle.plain_dag.specs.Above.{is_above};
+ghost use Rattle.plain_dag.specs.Landing.{is_news, passes, first_passing, landing, guarded};
+ghost use Rattle.plain_dag.specs.Collection.{is_kept};
+ghost use Rattle.state_dag.specs.Table.{id_at, is_slot};
+ghost use Rattle.record_store.specs.Stands.{StoreStands};
+ghost use Rattle.ripple_commit.specs.Commits.{IsTrueAt};
+
+use bitflags::Flags;
+use record_store::RecordStore;
+use tardis_base::{EndFlags, Key, KeySet, Slot, StateId, Write, WriteSet};
+
+/// The slot of the state under which a transaction commits that read the state at `read`.
+///
+/// Nothing below the read state may be collected. The cost grows with the number of children that are tried on the way,
+/// and for each with the guarded keys, as `RecordStore::is_news` does.
+pub fn landing(
+    store: &RecordStore,
+    read: Slot,
+    flags: EndFlags,
+    reads: &KeySet,
+    writes: &WriteSet,
+) -> Slot
+    requires { IsTrue (is_slot store.now.table read) }
+    ensures slot { IsTrue (is_slot store.now.table result) }
+    ensures landing { (rs : List Record) (ks : List StateId) → StoreStands store.now rs ks → (x : StateId) → id_at store.now.table read ≡ Some x → ((y : StateId) → IsTrue (is_above rs x y) → IsFalse (is_among y ks)) → id_at store.now.table result ≡ Some (landing rs (guarded flags reads.now (keys_of writes.now)) x) }
+    ensures commit { (rs : List Record) (ks : List StateId) → StoreStands store.now rs ks → (x : StateId) → id_at store.now.table read ≡ Some x → ((y : StateId) → IsTrue (is_above rs x y) → IsFalse (is_among y ks)) → (y : StateId) → id_at store.now.table result ≡ Some y → IsTrueAt rs flags reads.now (keys_of writes.now) x y }
+{
+    let mut at = read;
+    for _reached in store.dag().arrival(read)..store.dag().known() {
+        match first_passing(store, at, flags, reads, writes) {
+            Some(child) => at = child,
+            None => return at,
+        }
+    }
+    at
+}
+
+/// The slot of the first child that passes, if one does.
+fn first_passing(
+    store: &RecordStore,
+    from: Slot,
+    flags: EndFlags,
+    reads: &KeySet,
+    writes: &WriteSet,
+) -> Option<Slot>
+    requires { IsTrue (is_slot store.now.table from) }
+    ensures slot { IfSome result (λ s. IsTrue (is_slot store.now.table s)) }
+    ensures first { (rs : List Record) (ks : List StateId) → StoreStands store.now rs ks → (x : StateId) → id_at store.now.table from ≡ Some x → ((c : StateId) → IsTrue (is_among c (children rs x)) → IsFalse (is_among c ks)) → option_and_then (id_at store.now.table) result ≡ first_passing rs (guarded flags reads.now (keys_of writes.now)) x }
+{
+    for child in store.dag().children(from) {
+        if let Some(slot) = passing(store, from, *child, flags, reads, writes) {
+            return Some(slot);
+        }
+    }
+    None
+}
+
+/// The slot of this kept child, if it passes.
+fn passing(
+    store: &RecordStore,
+    from: Slot,
+    child: StateId,
+    flags: EndFlags,
+    reads: &KeySet,
+    writes: &WriteSet,
+) -> Option<Slot>
+    requires { IsTrue (is_slot store.now.table from) }
+    ensures slot { IfSome result (λ s. IsTrue (is_slot store.now.table s)) }
+    ensures named { IfSome result (λ s. id_at store.now.table s ≡ Some child) }
+    ensures passes { (rs : List Record) (ks : List StateId) → StoreStands store.now rs ks → (x : StateId) → id_at store.now.table from ≡ Some x → IsTrue (is_kept rs ks child) → is_some result ≡ passes rs (guarded flags reads.now (keys_of writes.now)) x child }
+{
+    let slot = store.dag().slot_of(child)?;
+    if has_news(store, from, slot, flags, reads, writes) {
+        None
+    } else {
+        Some(slot)
+    }
+}
+
+/// Whether a guarded key is news of the child.
+fn has_news(
+    store: &RecordStore,
+    from: Slot,
+    child: Slot,
+    flags: EndFlags,
+    reads: &KeySet,
+    writes: &WriteSet,
+) -> bool
+    requires from { IsTrue (is_slot store.now.table from) }
+    requires child { IsTrue (is_slot store.now.table child) }
+    ensures { (rs : List Record) (ks : List StateId) → StoreStands store.now rs ks → (x c : StateId) → id_at store.now.table from ≡ Some x → id_at store.now.table child ≡ Some c → result ≡ list_any (is_news rs x c) (guarded flags reads.now (keys_of writes.now)) }
+{
+    if flags.contains(EndFlags::SER) && is_read_news(store, from, child, reads.as_slice()) {
+        return true;
+    }
+    flags.contains(EndFlags::SI) && is_written_news(store, from, child, writes.as_slice())
+}
+
+fn is_read_news(store: &RecordStore, from: Slot, child: Slot, keys: &[Key]) -> bool
+    requires from { IsTrue (is_slot store.now.table from) }
+    requires child { IsTrue (is_slot store.now.table child) }
+    ensures { (rs : List Record) (ks : List StateId) → StoreStands store.now rs ks → (x c : StateId) → id_at store.now.table from ≡ Some x → id_at store.now.table child ≡ Some c → result ≡ list_any (is_news rs x c) keys.now }
+{
+    for key in keys {
+        if store.is_news(from, child, key) {
+            return true;
+        }
+    }
+    false
+}
+
+fn is_written_news(store: &RecordStore, from: Slot, child: Slot, writes: &[(Key, Write)]) -> bool
+    requires from { IsTrue (is_slot store.now.table from) }
+    requires child { IsTrue (is_slot store.now.table child) }
+    ensures { (rs : List Record) (ks : List StateId) → StoreStands store.now rs ks → (x c : StateId) → id_at store.now.table from ≡ Some x → id_at store.now.table child ≡ Some c → result ≡ list_any (is_news rs x c) (keys_of writes.now) }
+{
+    for write in writes {
+        if store.is_news(from, child, &write.0) {
+            return true;
+        }
+    }
+    false
+}
+
+#[cfg(test)]
+mod tests;

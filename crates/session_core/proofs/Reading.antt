@@ -1,0 +1,151 @@
+-- A transaction reads.
+use Rattle.std.proofs.Common.{◌≡◌, ℕ, Bool, true, false, List, [], ◌∷◌, map, is_some, slice_get, Bor, Option, Some, None, Ok, IsTrue, refl, sym, ap, subst, ◌∙◌}
+use Rattle.std.specs.List.{list_all}
+use Rattle.std.specs.Option.{option_copied}
+use Rattle.std.proofs.lemmas.Bool.{and_parts, both_ways}
+use Rattle.std.proofs.lemmas.Option.{none-some, same_Some}
+use Rattle.tardis_base.specs.declared.ids.StateId.{StateId}
+use Rattle.tardis_base.specs.declared.records.Write.{Write}
+use Rattle.tardis_base.specs.declared.records.Write.TheVariants.{Put, Delete}
+use Rattle.tardis_base.specs.declared.replies.Refusal.TheVariants.{TooMany}
+use Rattle.tardis_base.specs.declared.replies.Reply.TheVariants.{Refused}
+use Rattle.tardis_base.specs.Ids.{root}
+use Rattle.tardis_base.specs.Keys.{with_key, write_of}
+use Rattle.plain_dag.specs.Entries.{entry_of, changed}
+use Rattle.plain_dag.specs.Writers.{read}
+use Rattle.merge_txn.specs.declared.Txn.{Txn as Kept}
+use Rattle.merge_txn.specs.declared.Txn.TheVariants.{Single as KeptSingle, Merge as KeptMerge}
+use Rattle.merge_txn.specs.declared.TxnFault.TheVariants.{TooMany as TooManyKeys, NoMemory}
+use Rattle.merge_txn.specs.Txns.{is_single, states_of, writes_of, reads_of, with_reads, has_no_place_to_read, read_fault}
+use Rattle.ceiling_book.specs.Book.{is_open}
+use Rattle.plain_site.specs.Site.{Site, SingleTxn, Txn, Single, Merge, with_txn_changed}
+use Rattle.plain_site.specs.Answers.{refused, given, found, shown, leaves_site, with_txn}
+use Rattle.plain_site.specs.Reads.{get, read_in, read_at, having_read}
+use Rattle.session_core.specs.declared.txns.OpenTxn.{OpenTxn}
+use Rattle.session_core.specs.Core.{Core}
+use Rattle.session_core.specs.Txns.{noting}
+use Rattle.session_core.specs.Stands.{CoreStands, kept_txn}
+use Rattle.session_core.specs.Gives.{NotesFor}
+use Rattle.session_core.proofs.Answers.{skip, stop}
+use Rattle.session_core.proofs.Standing.{txn-answer, open-session, kept-for, txn-changed}
+
+-- ===== Lists of one
+
+pub first-passes : {A : Type 0} (p : A → Bool) (xs : List A) (x : A) → slice_get xs 0 ≡ Some x → IsTrue (list_all p xs) → IsTrue (p x)
+first-passes p [] x e h = absurd (none-some x e)
+first-passes p (y ∷ ys) x e h = subst (λ z. IsTrue (p z)) (same_Some y x e) (and_parts (p y) (list_all p ys) h).0
+
+pub first-named : {A B : Type 0} (f : A → Option B) (xs : List A) (x : A) (y : B) (ys : List (Option B)) → slice_get xs 0 ≡ Some x → map f xs ≡ Some y ∷ ys → f x ≡ Some y
+first-named f [] x y ys e named = absurd (none-some x e)
+first-named f (z ∷ zs) x y ys e named = ap f (sym (same_Some z x e)) ∙ same-first (f z) (map f zs) (Some y) ys named
+  where
+    same-first : {A : Type 0} (a : A) (as' : List A) (b : A) (bs : List A) → a ∷ as' ≡ b ∷ bs → a ≡ b
+    same-first a as' b bs same = (cc)
+
+-- ===== What is kept of a transaction
+
+-- the transaction of one state for one that is kept
+pub record IsSingleFor (site : Site) (n : ℕ) (held : OpenTxn) : Type 0 where
+  pub txn : SingleTxn
+  pub found : entry_of n site.txns ≡ Some (Single txn)
+  pub kept : kept_txn (Single txn) ≡ held.txn
+
+single-of : (site : Site) (n : ℕ) (held : OpenTxn) (t : Txn) → entry_of n site.txns ≡ Some t → kept_txn t ≡ held.txn → IsTrue (is_single held.txn) → IsSingleFor site n held
+single-of site n held (Single t) found kept single = record { txn = t; found = found; kept = kept }
+single-of site n held (Merge t) found kept single = absurd (both_ways false refl (ap is_single kept ∙ single))
+
+pub single-for : (core : Core) (site : Site) → CoreStands core site → (n : ℕ) (held : OpenTxn) → entry_of n core.txns ≡ Some held → IsTrue (is_single held.txn) → IsSingleFor site n held
+single-for core site stands n held at single =
+    let k = kept-for core site stands n held at in
+    single-of site n held k.txn k.found k.kept single
+
+pub kept-note : (k : List ℕ) (t : Txn) (h : OpenTxn) → kept_txn t ≡ h.txn → kept_txn (having_read k t) ≡ (noting k h).txn
+kept-note k (Single t) h e = ap (λ u. with_reads (with_key k (reads_of u)) u) e
+kept-note k (Merge t) h e = ap (λ u. with_reads (with_key k (reads_of u)) u) e
+
+pub note-states : (ks : List (List ℕ)) (u : Kept) → states_of (with_reads ks u) ≡ states_of u
+note-states ks (KeptSingle t) = refl
+note-states ks (KeptMerge t) = refl
+
+-- ===== Replies to reads
+
+pub shown-changes : (x : StateId) (w : Write) → leaves_site (shown x w) ≡ false
+shown-changes x (Put v) = refl
+shown-changes x Delete = refl
+
+pub found-changes : (o : Option (StateId × Write)) → leaves_site (found o) ≡ false
+found-changes None = refl
+found-changes (Some v) = shown-changes v.0 v.1
+
+pub copied-some : {A : Type 0} (o : Option (Bor A)) → is_some (option_copied o) ≡ is_some o
+copied-some None = refl
+copied-some (Some b) = refl
+
+-- there would be too many keys
+pub too-many : (what n : ℕ) (k : List ℕ) (ks : List (List ℕ)) → TooManyKeys what n ≡ read_fault k ks → has_no_place_to_read k ks ≡ true × (TooMany what n ≡ TooMany 2 257)
+too-many what n k ks e = go (has_no_place_to_read k ks) refl
+  where
+    as-refusal : (a b c d : ℕ) → TooManyKeys a b ≡ TooManyKeys c d → TooMany a b ≡ TooMany c d
+    as-refusal a b c d same = (cc)
+
+    go : (b : Bool) → has_no_place_to_read k ks ≡ b → has_no_place_to_read k ks ≡ true × (TooMany what n ≡ TooMany 2 257)
+    go true t =
+        let same : TooManyKeys what n ≡ TooManyKeys 2 257 = rw t at e in
+        (t, as-refusal what n 2 257 same)
+    go false f =
+        let same : TooManyKeys what n ≡ NoMemory = rw f at e in
+        absurd (cc)
+
+module _ (core : Core) (site : Site) (stands : CoreStands core site) (n : ℕ) (k : List ℕ) (h : OpenTxn) (at : entry_of n core.txns ≡ Some h) (single : IsTrue (is_single h.txn)) (opened : is_open core.book n ≡ true) where
+  -- the transaction
+  pub plain : IsSingleFor site n h
+  plain = single-for core site stands n h at single
+
+  own-writes : writes_of h.txn ≡ plain.txn.writes
+  own-writes = sym (ap writes_of plain.kept)
+
+  own-reads : reads_of h.txn ≡ plain.txn.reads
+  own-reads = sym (ap reads_of plain.kept)
+
+  is-get : with_txn site n (λ s t. get site n t k) ≡ get site n (Single plain.txn) k
+  is-get =
+      let s = open-session core site stands n opened in
+      txn-answer site n (λ r t. get site n t k) s.value (Single plain.txn) s.is plain.found
+
+  -- an own write is read
+  pub is-own_read : (w : Write) → write_of k (writes_of h.txn) ≡ Some w → with_txn site n (λ s t. get site n t k) ≡ (site, shown root w)
+  is-own_read w e = is-get ∙ ap (λ o. given o (read_in site n (Single plain.txn) k) (λ v. (site, shown root v))) (ap (write_of k) (sym own-writes) ∙ e)
+
+  -- no own write
+  pub is-read : ◌≡◌ {A = Option Write} (write_of k (writes_of h.txn)) None → with_txn site n (λ s t. get site n t k) ≡ read_at site n plain.txn k
+  is-read e = is-get ∙ ap (λ o. given o (read_in site n (Single plain.txn) k) (λ v. (site, shown root v))) (ap (write_of k) (sym own-writes) ∙ e)
+
+  pub is-noted : has_no_place_to_read k (reads_of h.txn) ≡ false → read_at site n plain.txn k ≡ (with_txn_changed n (having_read k) site, found (read site.dag k plain.txn.state))
+  is-noted f =
+      skip site (Refused (TooMany 2 257)) [] (with_txn_changed n (having_read k) site, found (read site.dag k plain.txn.state)) (has_no_place_to_read k plain.txn.reads) (ap (has_no_place_to_read k) (sym own-reads) ∙ f)
+
+  pub is-too_many : has_no_place_to_read k (reads_of h.txn) ≡ true → read_at site n plain.txn k ≡ refused site (TooMany 2 257)
+  is-too_many t =
+      stop site (Refused (TooMany 2 257)) [] (with_txn_changed n (having_read k) site, found (read site.dag k plain.txn.state)) (has_no_place_to_read k plain.txn.reads) (ap (has_no_place_to_read k) (sym own-reads) ∙ t)
+
+  pub noted-stands : (es : List (ℕ × OpenTxn)) → es ≡ changed n (noting k) core.txns → CoreStands (record core { txns = es }) (with_txn_changed n (having_read k) site)
+  noted-stands es e =
+      txn-changed core site stands n (having_read k) (noting k) es e (kept-note k)
+      (λ g same. same ∙ ap (map (λ x. Some x)) (sym (note-states (with_key k (reads_of g.txn)) g.txn)))
+
+  -- ===== What noting gives
+
+  pub own-notes : (w : Write) → write_of k (writes_of h.txn) ≡ Some w → NotesFor (CoreStands core) (with_txn site n (λ s t. get site n t k)) site (Ok None)
+  own-notes w e =
+      subst (λ a. NotesFor (CoreStands core) a site (Ok None)) (sym (is-own_read w e)) (stands, shown-changes root w)
+
+  pub note-gives : ◌≡◌ {A = Option Write} (write_of k (writes_of h.txn)) None → (es : List (ℕ × OpenTxn)) → es ≡ changed n (noting k) core.txns → has_no_place_to_read k (reads_of h.txn) ≡ false →
+      NotesFor (CoreStands (record core { txns = es })) (with_txn site n (λ s t. get site n t k)) site (Ok None)
+  note-gives none es e f =
+      subst (λ a. NotesFor (CoreStands (record core { txns = es })) a site (Ok None)) (sym (is-read none ∙ is-noted f))
+      (noted-stands es e, found-changes (read site.dag k plain.txn.state))
+
+  pub note-refused : ◌≡◌ {A = Option Write} (write_of k (writes_of h.txn)) None → (es : List (ℕ × OpenTxn)) → es ≡ core.txns → has_no_place_to_read k (reads_of h.txn) ≡ true →
+      NotesFor (CoreStands (record core { txns = es })) (with_txn site n (λ s t. get site n t k)) site (Ok (Some (TooMany 2 257)))
+  note-refused none es e t =
+      (subst (λ z. CoreStands (record core { txns = z }) site) (sym e) stands, is-read none ∙ is-too_many t)

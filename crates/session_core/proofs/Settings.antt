@@ -1,0 +1,121 @@
+-- No request changes the limits of a site, or its own number.
+use Rattle.std.proofs.Common.{◌≡◌, ℕ, Bool, List, [], ◌∷◌, ◌++◌, Option, not, length, ◌==◌, refl, sym, ap₂, ◌∙◌}
+use Rattle.std.specs.Prelude.{◌&&◌, is_some}
+use Rattle.tardis_base.specs.Ids.{root, is_among}
+use Rattle.tardis_base.specs.Keys.{KeyWrite, is_key_among, has_key, write_of, keys_of}
+use Rattle.tardis_base.specs.declared.ids.StateId.{StateId}
+use Rattle.tardis_base.specs.declared.records.Record.{Record}
+use Rattle.tardis_base.specs.declared.records.Write.{Write}
+use Rattle.tardis_base.specs.declared.records.Write.TheVariants.{Put as Value, Delete as Deletion}
+use Rattle.tardis_base.specs.declared.replies.Refusal.TheVariants.{AlreadyOpen, SessionsFull, TooMany, ConflictKey, Unknown, Below, Collected, SeqEnd, WrongMode, OpenConflict, Branches}
+use Rattle.tardis_base.specs.declared.replies.Reply.{Reply}
+use Rattle.tardis_base.specs.declared.replies.Reply.TheVariants.{Opened, Begun, Done, Shown, Ended}
+use Rattle.tardis_base.specs.declared.requests.EndFlags.{EndFlags}
+use Rattle.tardis_base.specs.declared.requests.Request.{Request}
+use Rattle.tardis_base.specs.declared.requests.Request.TheVariants.{Open, Begin as BeginAt, Get, Put, Delete, Commit, Abort, BeginMerge, ForkPoints, Conflicts, GetFor, Ceiling, Raise, RaiseAuto, Tidy, Stat, Show, Leaves, Pull, Deliver, Close}
+use Rattle.plain_dag.specs.Begin.{is_admitted, begin_state}
+use Rattle.plain_dag.specs.Conflicts.{is_conflict_key, value_over, open_conflict}
+use Rattle.plain_dag.specs.Entries.{entry_of, with_entry}
+use Rattle.plain_dag.specs.Floors.{Session, opening_session}
+use Rattle.plain_dag.specs.Landing.{landing, guarded, broken}
+use Rattle.plain_dag.specs.Paths.{fork_path}
+use Rattle.plain_dag.specs.States.{is_known, arrival, children}
+use Rattle.plain_dag.specs.Writers.{read}
+use Rattle.plain_site.specs.Answers.{Answer, refuse, refuse_found, shown, found}
+use Rattle.plain_site.specs.Built.{so_far}
+use Rattle.plain_site.specs.Commits.{abort, commit, commit_below, commit_writes, commit_single, commit_merge, committed, growth_refusals, without_txn_of}
+use Rattle.plain_site.specs.Reads.{get, set_key, read_in, read_at, having_read, having_written}
+use Rattle.plain_site.specs.Sessions.{open_session, close_session, begin, begin_at}
+use Rattle.plain_site.specs.Site.{Site, SingleTxn, MergeTxn, Txn, Single, Merge, opening, own_floor, own_count, next_id, writes_of, with_txn_changed}
+use Rattle.plain_site.specs.Step.{step}
+use Rattle.plain_site.proofs.SoundAnswers.{unless-keeps, given-keeps, session-keeps, txn-keeps, no_txn-keeps, step-keeps}
+use Rattle.session_core.specs.Core.{Core}
+use Rattle.session_core.specs.Stands.{CoreStands}
+use Rattle.session_core.specs.Machine.{opened_with}
+
+-- the limits and the own number are those of the other site
+abbrev pub HasSettingsOf : Site → Site → Type 0
+HasSettingsOf old new = (new.limits ≡ old.limits) × (new.own ≡ old.own)
+
+module _ (site : Site) (n : ℕ) where
+  abbrev P : Site → Type 0
+  P = HasSettingsOf site
+
+  old : P site
+  old = (refl, refl)
+
+  open-same : (follow : Bool) → P (open_session site n follow).0
+  open-same follow =
+      unless-keeps P site old
+      (refuse (is_some (entry_of n site.sessions)) AlreadyOpen ∷ refuse (length site.sessions == site.limits.max_sessions) (SessionsFull (length site.sessions)) ∷ [])
+      (record site { sessions = with_entry n (opening_session follow (own_floor site).state) site.sessions }, Opened (own_floor site).state) (λ none. (refl, refl))
+
+  begin-same : (ceiling x : StateId) → P (begin_at site n ceiling x).0
+  begin-same ceiling x =
+      unless-keeps P site old (refuse (not (is_known site.dag x)) (Unknown x) ∷ refuse (not (is_admitted site.dag ceiling x)) (Below x ceiling) ∷ [])
+      (record site { txns = with_entry n (Single (record { state = x; reads = []; writes = [] })) site.txns }, Begun x) (λ none. (refl, refl))
+
+  read-same : (t : Txn) (k : List ℕ) → P (read_in site n t k).0
+  read-same (Single t) k =
+      unless-keeps P site old (refuse (length t.reads == 256 && not (is_key_among k t.reads)) (TooMany 2 257) ∷ [])
+      (with_txn_changed n (having_read k) site, found (read site.dag k t.state)) (λ none. (refl, refl))
+  read-same (Merge t) k =
+      unless-keeps P site old (refuse (is_conflict_key site.dag t.states k) (ConflictKey k) ∷ []) (site, found (value_over site.dag t.states k)) (λ none. (refl, refl))
+
+  get-same : (t : Txn) (k : List ℕ) → P (get site n t k).0
+  get-same t k = given-keeps P site old (write_of k (writes_of t)) (read_in site n t k) (λ w. (site, shown root w)) (λ none. read-same t k) (λ w e. old)
+
+  set-same : (t : Txn) (k : List ℕ) (w : Write) → P (set_key site n t k w).0
+  set-same t k w =
+      unless-keeps P site old (refuse (length (writes_of t) == 64 && not (has_key k (writes_of t))) (TooMany 1 65) ∷ [])
+      (with_txn_changed n (having_written k w) site, Done) (λ none. (refl, refl))
+
+  below-same : (parents : List StateId) (writes : List KeyWrite) (refusals : List (Option Reply)) → P (commit_below so_far site n parents writes refusals).0
+  below-same parents writes refusals =
+      let r : Record = record { id = next_id site; parents = parents; writes = writes } in
+      unless-keeps P site old (refusals ++ refuse (own_count site == 4294967295) SeqEnd ∷ growth_refusals so_far site r) (committed site n r) (λ none. (refl, refl))
+
+  single-same : (t : SingleTxn) (flags : EndFlags) (k : ℕ) → P (commit_single so_far site n t flags k).0
+  single-same t flags k = go t.writes
+    where
+      go : (ws : List KeyWrite) → P (elim ws as (λ v. Answer) [ [] ↦ (without_txn_of n site, Ended t.state) | w ∷ more ↦ commit_writes so_far site n t flags k ]).0
+      go [] = (refl, refl)
+      go (w ∷ more) =
+          let x = landing site.dag (guarded flags t.reads (keys_of t.writes)) t.state in
+          below-same (x ∷ []) t.writes (refuse_found (λ c. Branches c x (length (children site.dag x))) (broken flags k (length (children site.dag x))) ∷ [])
+
+  commit-same : (t : Txn) (flags : EndFlags) (k : ℕ) → P (commit so_far site n t flags k).0
+  commit-same (Single t) flags k = single-same t flags k
+  commit-same (Merge t) flags k = below-same t.states t.writes (refuse (not (flags.0 == 0)) WrongMode ∷ refuse_found OpenConflict (open_conflict site.dag t.states t.writes) ∷ [])
+
+  -- what isn't built changes nothing
+  pub step-same : (q : Request) → P (step so_far site n q).0
+  step-same (Open follow) = step-keeps P site old so_far n (Open follow) (open-same follow)
+  step-same (BeginAt b) =
+      step-keeps P site old so_far n (BeginAt b) (no_txn-keeps P site old n (λ s. begin site n s b) (λ s e none. begin-same s.ceiling (begin_state site.dag s.last b)))
+  step-same (Get k) = step-keeps P site old so_far n (Get k) (txn-keeps P site old n (λ s t. get site n t k) (λ s e t f. get-same t k))
+  step-same (Put k v) = step-keeps P site old so_far n (Put k v) (txn-keeps P site old n (λ s t. set_key site n t k (Value v)) (λ s e t f. set-same t k (Value v)))
+  step-same (Delete k) = step-keeps P site old so_far n (Delete k) (txn-keeps P site old n (λ s t. set_key site n t k Deletion) (λ s e t f. set-same t k Deletion))
+  step-same (Commit flags k) = step-keeps P site old so_far n (Commit flags k) (txn-keeps P site old n (λ s t. commit so_far site n t flags k) (λ s e t f. commit-same t flags k))
+  step-same Abort = step-keeps P site old so_far n Abort (txn-keeps P site old n (λ s t. abort site n) (λ s e t f. (refl, refl)))
+  step-same (BeginMerge of) = old
+  step-same ForkPoints = old
+  step-same (Conflicts after) = old
+  step-same (GetFor k x) = old
+  step-same (Ceiling x) = old
+  step-same (Raise x) = old
+  step-same RaiseAuto = old
+  step-same (Tidy count) = old
+  step-same Stat = step-keeps P site old so_far n Stat old
+  step-same (Show x) =
+      step-keeps P site old so_far n (Show x)
+      (unless-keeps P site old (refuse (not (is_known site.dag x)) (Unknown x) ∷ refuse (is_among x site.collected) (Collected x) ∷ [])
+      (site, Shown (arrival site.dag x) (children site.dag x) (fork_path site.dag site.collected x)) (λ none. old))
+  step-same Leaves = old
+  step-same (Pull counts) = old
+  step-same (Deliver item) = old
+  step-same Close = step-keeps P site old so_far n Close (session-keeps P site old n (λ s. close_session site n) (λ s e. (refl, refl)))
+
+-- what stands for sites of the same settings opened with the same
+pub opened-same : (a b : Core) (old new : Site) → CoreStands a old → CoreStands b new → HasSettingsOf old new → opened_with b ≡ opened_with a
+opened-same a b old new before after (limits, own) = ap₂ opening (after.limits ∙ limits ∙ sym before.limits) (after.own ∙ own ∙ sym before.own)

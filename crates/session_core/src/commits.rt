@@ -1,0 +1,150 @@
+//! Transactions commit.
+
+ghost use Rattle.std.specs.Prelude.{◌≡◌, ◌≢◌, ◌∷◌, [], is_some, Some, IsTrue};
+ghost use Rattle.tardis_base.specs.declared.ids.StateId.{StateId};
+ghost use Rattle.tardis_base.specs.Keys.{keys_of};
+ghost use Rattle.plain_dag.specs.Entries.{entry_of};
+ghost use Rattle.plain_dag.specs.Landing.{landing as landing_of, guarded};
+ghost use Rattle.state_dag.specs.Table.{id_at, is_slot};
+ghost use Rattle.record_store.specs.Answers.{MayArrive};
+ghost use Rattle.ceiling_book.specs.Book.{is_open};
+ghost use Rattle.plain_site.specs.Site.{Site, SingleTxn, Single, own_count};
+ghost use Rattle.plain_site.specs.Built.{so_far};
+ghost use Rattle.plain_site.specs.Sound.{IsSound};
+ghost use Rattle.plain_site.specs.Answers.{with_txn};
+ghost use Rattle.plain_site.specs.Commits.{commit as commit_txn, commit_below as committed_below, without_txn_of};
+ghost use Rattle.session_core.specs.Stands.{CoreStands};
+ghost use Rattle.session_core.specs.Commits.{next_record};
+ghost use Rattle.session_core.specs.Gives.{Gives, IsGiven};
+
+use crate::parts::Parts;
+use end_rule::Branches;
+use tardis_base::{AddFault, EndFlags, NoMemory, Refusal, Reply, Slot, StateId, StateList};
+
+impl Parts {
+    /// Commits the actor's transaction below its landing. One that wrote nothing ends, and makes no state.
+    ///
+    /// Refused where no session is open (NotOpen), it has no transaction (NoTxn), its landing has too many children
+    /// (Branches), the site has given out its last number (SeqEnd), or there is no room (Full, PathFull). After a refusal,
+    /// and with no memory, the transaction is still open.
+    pub(crate) fn commit(&mut self, actor: u16, flags: EndFlags, k: u16) -> Result<Reply, NoMemory>
+        ensures { (site : Site) → CoreStands self.old site → IsSound so_far site → Gives (CoreStands self.new) (with_txn site actor (λ s t. commit_txn so_far site actor t flags k)) site result }
+    {
+        if !self.book.is_open(actor) {
+            return Ok(Reply::Refused {
+                refusal: Refusal::NotOpen,
+            });
+        }
+        let has_written = match self.txns.get(actor) {
+            None => {
+                return Ok(Reply::Refused {
+                    refusal: Refusal::NoTxn,
+                });
+            },
+            Some(held) => !held.txn.writes().is_empty(),
+        };
+        if !has_written {
+            return Ok(self.end_reading(actor));
+        }
+        let landing = self.landing(actor, flags);
+        match end_rule::check(self.store.dag(), landing, flags, k) {
+            Ok(()) => self.commit_below(actor, landing),
+            Err(
+                Branches {
+                    constraint,
+                    state,
+                    children,
+                },
+            ) => Ok(Reply::Refused {
+                refusal: Refusal::Branches {
+                    constraint,
+                    state,
+                    children,
+                },
+            }),
+        }
+    }
+
+    /// Ends the transaction, which wrote nothing.
+    fn end_reading(&mut self, actor: u16) -> Reply
+        requires { IsTrue (is_some (entry_of actor self.old.txns)) }
+        ensures { (site : Site) → CoreStands self.old site → (t : SingleTxn) → entry_of actor site.txns ≡ Some (Single t) → IsGiven (CoreStands self.new) (without_txn_of actor site, Reply.Ended t.state) result }
+    {
+        let slot = self.read_slot(actor);
+        let state = self.store.dag().id_of(slot);
+        self.txns.end(actor);
+        Reply::Ended { state }
+    }
+
+    /// The slot of the state that the transaction reads.
+    fn read_slot(&self, actor: u16) -> Slot
+        requires { IsTrue (is_some (entry_of actor self.now.txns)) }
+        ensures slot { IsTrue (is_slot self.now.store.table result) }
+        ensures state { (site : Site) → CoreStands self.now site → (t : SingleTxn) → entry_of actor site.txns ≡ Some (Single t) → id_at self.now.store.table result ≡ Some t.state }
+    {
+        let _ = &self.store;
+        match self.txns.get(actor) {
+            Some(held) => *held.slots.at(0),
+            None => unreachable!(),
+        }
+    }
+
+    /// The slot of the state below which the transaction is to commit.
+    fn landing(&self, actor: u16, flags: EndFlags) -> Slot
+        requires { IsTrue (is_some (entry_of actor self.now.txns)) }
+        ensures slot { IsTrue (is_slot self.now.store.table result) }
+        ensures landing { (site : Site) → CoreStands self.now site → IsSound so_far site → (t : SingleTxn) → entry_of actor site.txns ≡ Some (Single t) → id_at self.now.store.table result ≡ Some (landing_of site.dag (guarded flags t.reads (keys_of t.writes)) t.state) }
+    {
+        let slot = self.read_slot(actor);
+        match self.txns.get(actor) {
+            Some(held) => ripple_commit::landing(
+                &self.store,
+                slot,
+                flags,
+                held.txn.reads(),
+                held.txn.writes(),
+            ),
+            None => unreachable!(),
+        }
+    }
+
+    /// Commits the transaction below the state of this slot, as the next state of the site.
+    fn commit_below(&mut self, actor: u16, below: Slot) -> Result<Reply, NoMemory>
+        requires open { IsTrue (is_open self.old.book actor) }
+        requires some { IsTrue (is_some (entry_of actor self.old.txns)) }
+        requires slot { IsTrue (is_slot self.old.store.table below) }
+        ensures { (site : Site) → CoreStands self.old site → (t : SingleTxn) (x : StateId) → entry_of actor site.txns ≡ Some (Single t) → id_at self.old.store.table below ≡ Some x → (own_count site ≢ 4294967295 → MayArrive site.limits.sites site.dag site.collected (next_record site (x ∷ []) t.writes)) → Gives (CoreStands self.new) (committed_below so_far site actor (x ∷ []) t.writes []) site result }
+    {
+        let own = self.book.own_site();
+        let count = self.store.dag().count(own);
+        if count == u32::MAX {
+            return Ok(Reply::Refused {
+                refusal: Refusal::SeqEnd,
+            });
+        }
+        let id = StateId {
+            site: own,
+            sequence: count + 1,
+        };
+        let mut parents = StateList::new(self.alloc);
+        parents.push(self.store.dag().id_of(below))?;
+        let held = match self.txns.get(actor) {
+            Some(held) => held,
+            None => unreachable!(),
+        };
+        match self.store.add_state(id, &[below], held.txn.writes()) {
+            Ok(slot) => {
+                self.book.committed(self.store.dag(), actor, slot);
+                self.txns.end(actor);
+                Ok(Reply::Committed { id, parents })
+            },
+            Err(AddFault::Full { kept }) => Ok(Reply::Refused {
+                refusal: Refusal::Full { kept },
+            }),
+            Err(AddFault::PathFull { state, pairs }) => Ok(Reply::Refused {
+                refusal: Refusal::PathFull { state, pairs },
+            }),
+            Err(AddFault::NoMemory) => Err(NoMemory),
+        }
+    }
+}

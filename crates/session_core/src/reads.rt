@@ -1,0 +1,119 @@
+//! Transactions read.
+
+ghost use Rattle.std.specs.Prelude.{◌≡◌, ◌<◌, ◌∷◌, [], length, map, Some, IsTrue, IfOk};
+ghost use Rattle.std.specs.List.{list_all};
+ghost use Rattle.tardis_base.specs.Ids.{root};
+ghost use Rattle.state_dag.specs.Table.{id_at, is_slot};
+ghost use Rattle.version_list.specs.Reads.{found};
+ghost use Rattle.plain_site.specs.Site.{Site, SingleTxn, Single};
+ghost use Rattle.plain_site.specs.Built.{so_far};
+ghost use Rattle.plain_site.specs.Sound.{IsSound};
+ghost use Rattle.plain_site.specs.Answers.{with_txn, found as reply_to};
+ghost use Rattle.plain_site.specs.Reads.{get};
+ghost use Rattle.session_core.specs.Stands.{CoreStands, kept_txn};
+ghost use Rattle.session_core.specs.Gives.{Gives, FindsFor, NotesFor};
+ghost use Rattle.session_core.specs.Reads.{read_by};
+
+use crate::parts::Parts;
+use crate::txns::OpenTxn;
+use merge_txn::TxnFault;
+use tardis_base::{Found, Key, NoMemory, Refusal, Reply, StateId, Write};
+
+/// The state from which all others descend. It stands for the writer of what a transaction itself has written.
+const ROOT: StateId = StateId {
+    site: 0,
+    sequence: 0,
+};
+
+impl Parts {
+    /// What the actor's transaction reads of the key, before the read is noted: its own write first, with the root as its
+    /// writer. Refused where no session is open (NotOpen) or it has no transaction (NoTxn).
+    pub(crate) fn found(&self, actor: u16, key: &Key) -> Result<Found<'_>, Refusal>
+        ensures { (site : Site) → CoreStands self.now site → IsSound so_far site → FindsFor (with_txn site actor (λ s t. get site actor t key.now)) site result }
+    {
+        if !self.book.is_open(actor) {
+            return Err(Refusal::NotOpen);
+        }
+        match self.txns.get(actor) {
+            None => Err(Refusal::NoTxn),
+            Some(held) => Ok(self.found_by(held, key)),
+        }
+    }
+
+    /// What the transaction reads of the key.
+    fn found_by<'a>(&'a self, held: &'a OpenTxn, key: &Key) -> Found<'a>
+        requires some { 0 < length held.now.slots }
+        requires slots { IsTrue (list_all (is_slot self.now.store.table) held.now.slots) }
+        ensures { (site : Site) → CoreStands self.now site → (t : SingleTxn) → kept_txn (Single t) ≡ held.now.txn → map (id_at self.now.store.table) held.now.slots ≡ Some t.state ∷ [] → found result ≡ read_by site.dag t key.now }
+    {
+        match held.txn.own(key) {
+            Some(write) => own_write(write),
+            None => self.store.read_at(*held.slots.at(0), key),
+        }
+    }
+
+    /// Notes the read of the key, unless it is the transaction's own write.
+    ///
+    /// Refused where no session is open (NotOpen), it has no transaction (NoTxn), or 256 other keys were read (TooMany).
+    pub(crate) fn note_get(&mut self, actor: u16, key: &Key) -> Result<Option<Refusal>, NoMemory>
+        ensures { (site : Site) → CoreStands self.old site → IsSound so_far site → NotesFor (CoreStands self.new) (with_txn site actor (λ s t. get site actor t key.now)) site result }
+    {
+        if !self.book.is_open(actor) {
+            return Ok(Some(Refusal::NotOpen));
+        }
+        match self.txns.get(actor) {
+            None => return Ok(Some(Refusal::NoTxn)),
+            Some(held) => {
+                if held.txn.own(key).is_some() {
+                    return Ok(None);
+                }
+            },
+        }
+        match self.txns.note_read(actor, key) {
+            Ok(()) => Ok(None),
+            Err(TxnFault::TooMany { what, n }) => Ok(Some(Refusal::TooMany { what, n })),
+            Err(TxnFault::NoMemory) => Err(NoMemory),
+        }
+    }
+
+    /// Reads the key in the actor's transaction, and notes the read. The value is a copy.
+    pub(crate) fn get(&mut self, actor: u16, key: &Key) -> Result<Reply, NoMemory>
+        ensures { (site : Site) → CoreStands self.old site → IsSound so_far site → Gives (CoreStands self.new) (with_txn site actor (λ s t. get site actor t key.now)) site result }
+    {
+        let reply = match self.found(actor, key) {
+            Err(refusal) => return Ok(Reply::Refused { refusal }),
+            Ok(found) => reply_of(found)?,
+        };
+        match self.note_get(actor, key)? {
+            None => Ok(reply),
+            Some(refusal) => Ok(Reply::Refused { refusal }),
+        }
+    }
+}
+
+/// What is found where a transaction itself has written.
+fn own_write(write: &Write) -> Found<'_>
+    ensures { found result ≡ Some (root, write.now) }
+{
+    match write {
+        Write::Put(value) => Found::Value {
+            writer: ROOT,
+            value,
+        },
+        Write::Delete => Found::Deleted { writer: ROOT },
+    }
+}
+
+/// The reply to a read. The value is a copy.
+fn reply_of(what: Found<'_>) -> Result<Reply, NoMemory>
+    ensures { IfOk result (λ reply. reply ≡ reply_to (found what.entry)) }
+{
+    match what {
+        Found::Value { writer, value } => Ok(Reply::Value {
+            writer,
+            value: value.copy()?,
+        }),
+        Found::Deleted { writer } => Ok(Reply::Deleted { writer }),
+        Found::Absent => Ok(Reply::Absent),
+    }
+}

@@ -1,0 +1,217 @@
+use Rattle.std.proofs.Common.{◌≡◌, ◌∙◌, ◌+◌, ◌-◌, ◌<◌, ◌≤◌, ℕ, List, eqb, ltb, length, filter, get_or, unwrap_or, slice_get, slice_set, Option, None, Result, Ok, Err, IsTrue, refl, sym, ap, subst, arith}
+use Rattle.std.specs.List.{list_all}
+use Rattle.std.proofs.lemmas.Bool.{ne_eqb}
+use Rattle.std.proofs.lemmas.Option.{unwrap_or-slice_get}
+use Rattle.std.proofs.lemmas.Result.{err_from_is_err_and}
+use Rattle.tardis_base.specs.declared.ids.StateId.{StateId}
+use Rattle.tardis_base.specs.declared.ids.Slot.{Slot}
+use Rattle.tardis_base.specs.declared.records.Record.{Record}
+use Rattle.tardis_base.specs.declared.faults.AddFault.{AddFault}
+use Rattle.state_dag.specs.declared.StateDag.TheInside.{Inside}
+use Rattle.state_dag.specs.Table.{Entry, Table}
+use Rattle.state_dag.specs.Views.{entry_of, entries_from}
+use Rattle.state_dag.specs.Stands.{Stands}
+use Rattle.state_dag.specs.Answers.{MayBeAdded, AddedTo}
+use Rattle.state_dag.specs.Grown.{number_of_children, too_long, refusal_of, IsNewEntry, IsGrown}
+use Rattle.state_dag.specs.Nodes.{table_of, table_within, table_after, are_places, path_refusal, TellsRefusal}
+use Rattle.state_dag.proofs.Places.{length-entries}
+use Rattle.state_dag.proofs.Added.{full, added, parents-differ}
+use Rattle.state_dag.proofs.SameEntries.{same-count, leaves-same, few-leaves, sum-within}
+use Rattle.state_dag.proofs.LastSlots.{fresh, slots-kept, last-named, kept-stays, last-arrives, arrives-last}
+use Rattle.state_dag.proofs.GrownTables.{distinct-from_differ, entry-moves, path-moves, refused-alike, fault-told, table-grown}
+use Rattle.state_dag.proofs.HeldNext.{slots-placed, held-stays, refusal-none, ids-stay, ascend-still, short-still, held-next}
+use Rattle.state_dag.proofs.Known.{limits-parts}
+use Rattle.state_dag.proofs.StateDag.add.Goals as goal
+
+pub returns-then-kept-self-clause-added : goal.returns-then-kept-self-clause-added
+returns-then-kept-self-clause-added c = λ rs ks r stands is may.
+    let os = c.self.inside.nodes.items in
+    let old = c.args.self.now in
+    full old old rs ks r c.args.parents.now stands c.len-kept.result
+    (c.len-kept.ensures ∙ c.self.inside.nodes.ok.0 ∙ sym (length-entries os 0) ∙ ap (λ (t : Table). length t.entries) c.self.view_is)
+    (c.if-kept-self.true ∙ ap (λ (t : Table). t.limits.max_kept) c.self.view_is) refl
+
+pub new_node-requires : goal.new_node-requires
+new_node-requires c =
+    subst (λ ns. IsTrue (are_places ns c.args.parents.now)) (sym c.deref.ensures.value) (slots-placed c.self.inside c.args.self.now c.args.parents.now c.self.view_is c.requires.slots)
+
+pub returns-in_err-check_paths-clause-added : goal.returns-in_err-check_paths-clause-added
+returns-in_err-check_paths-clause-added c = λ rs ks r stands is may.
+    let a = c.self.inside in
+    let os = a.nodes.items in
+    let old = c.args.self.now in
+    let parents = c.args.parents.now in
+    let n = c.in_ok-node.node in
+    let limits = a.limits in
+    let entry = subst (λ ns. IsNewEntry (table_after a.known ns) parents c.args.id (record { 0 = 0 }) (entry_of 0 n)) c.deref.ensures.value (c.in_ok-node.ensures 0) in
+    let told = subst (λ ns. TellsRefusal (path_refusal (table_within limits ns) n.id parents (length n.path.pairs)) (Err c.in_err-check_paths.field-0.0)) c.deref-2.ensures.value c.in_err-check_paths.ensures in
+    let seen_told = subst (λ (t : Table). TellsRefusal (path_refusal t n.id parents (length n.path.pairs)) (Err c.in_err-check_paths.field-0.0)) c.self.view_is told in
+    let named = subst (λ (x : StateId). TellsRefusal (path_refusal old x parents (length n.path.pairs)) (Err c.in_err-check_paths.field-0.0)) (entry.id_is ∙ sym is) seen_told in
+    let p = err_from_is_err_and c.from_residual-in_err-check_paths.result c.from_residual-in_err-check_paths.ensures.1 in
+    let wrong : AddFault → Result Slot AddFault = λ f. Err f in
+    let kept = c.len-kept.ensures ∙ a.nodes.ok.0 ∙ sym (length-entries os 0) ∙ ap (λ (t : Table). length t.entries) c.self.view_is in
+    let room = ne_eqb (length old.entries) old.limits.max_kept (λ e. c.if-kept-self.false (kept ∙ e ∙ sym (ap (λ (t : Table). t.limits.max_kept) c.self.view_is))) in
+    subst (λ (z : Result Slot AddFault). AddedTo old old rs ks r z) (sym (p.1 ∙ ap wrong p.2))
+    (fault-told old rs ks r parents stands may room n.path.pairs (path-moves (table_after a.known os) old (ap (λ (t : Table). t.entries) c.self.view_is) parents n.path.pairs entry.path) c.in_err-check_paths.field-0.0 named)
+
+pub make_room-requires-clause-places : goal.make_room-requires-clause-places
+make_room-requires-clause-places c = slots-placed c.self.inside c.args.self.now c.args.parents.now c.self.view_is c.requires.slots
+
+pub invariant_of-self : goal.invariant_of-self
+invariant_of-self c =
+    let a = c.self.inside in
+    let b : Inside = record { limits = a.limits; counts = a.counts; known = a.known; leaves = a.leaves; nodes = c.make_room.new.nodes; slots = a.slots } in
+    held-stays a b c.self.invariant refl refl refl refl c.make_room.ensures.same (λ x. refl)
+
+pub invariant_of-self-in_err-put_slot : goal.invariant_of-self-in_err-put_slot
+invariant_of-self-in_err-put_slot c =
+    let a = c.self.inside in
+    let b : Inside = record { limits = a.limits; counts = a.counts; known = a.known; leaves = a.leaves; nodes = c.make_room.new.nodes; slots = c.put_slot.new.slots } in
+    held-stays a b c.self.invariant refl refl refl refl c.make_room.ensures.same c.in_err-put_slot.ensures.same
+
+pub grow-requires-clause-places : goal.grow-requires-clause-places
+grow-requires-clause-places c =
+    let count = same-count c.make_room.new.nodes.items c.self.inside.nodes.items c.make_room.ensures.same in
+    subst (λ (n : ℕ). IsTrue (list_all (λ (s : Slot). ltb s.0 n) c.args.parents.now)) (sym count) (slots-placed c.self.inside c.args.self.now c.args.parents.now c.self.view_is c.requires.slots)
+
+pub grow-requires-clause-leaves : goal.grow-requires-clause-leaves
+grow-requires-clause-leaves c = c.self.invariant.leaf_count ∙ sym (leaves-same c.make_room.new.nodes.items c.self.inside.nodes.items c.make_room.ensures.same)
+
+pub overflow_add-self : goal.overflow_add-self
+overflow_add-self c =
+    let few = few-leaves c.grow.new.nodes.items in
+    let leaves = c.grow.ensures.leaves in
+    let count = c.grow.ensures.count in
+    let same = same-count c.make_room.new.nodes.items c.self.inside.nodes.items c.make_room.ensures.same in
+    let within = c.self.invariant.within in
+    let most = (limits-parts c.self.inside.limits c.self.invariant.valid).kept in
+    omega arith
+
+pub overflow_add-self-2 : goal.overflow_add-self-2
+overflow_add-self-2 c =
+    let sums = sum-within c.self.inside.counts.items c.self.invariant.fit in
+    let sites = c.self.invariant.sites in
+    let few = (limits-parts c.self.inside.limits c.self.invariant.valid).sites in
+    let counted = c.self.invariant.counted in
+    omega arith
+
+-- the new node's path is within the limit, and so are all others
+within-limits : (c : goal.After-drop-gains-2) → ◌≡◌ {A = Option (StateId × ℕ)} (too_long (table_within c.self.inside.limits c.self.inside.nodes.items) c.args.parents.now) None × (length c.in_ok-node.node.path.pairs ≤ c.self.inside.limits.max_path)
+within-limits c =
+    let limits = c.self.inside.limits in
+    let n = c.in_ok-node.node in
+    refusal-none n.id limits.max_path (length n.path.pairs) (too_long (table_within limits c.self.inside.nodes.items) c.args.parents.now)
+    (subst (λ ns. path_refusal (table_within limits ns) n.id c.args.parents.now (length n.path.pairs) ≡ None) c.deref-2.ensures.value c.in_ok-check_paths.ensures)
+
+new-entry : (c : goal.After-drop-gains-2) (place : ℕ) → IsNewEntry (table_after c.self.inside.known c.self.inside.nodes.items) c.args.parents.now c.args.id (record { 0 = place }) (entry_of place c.in_ok-node.node)
+new-entry c place =
+    subst (λ ns. IsNewEntry (table_after c.self.inside.known ns) c.args.parents.now c.args.id (record { 0 = place }) (entry_of place c.in_ok-node.node)) c.deref.ensures.value (c.in_ok-node.ensures place)
+
+pub invariant_of-self-2 : goal.invariant_of-self-2
+invariant_of-self-2 c =
+    let a = c.self.inside in
+    let os = a.nodes.items in
+    let ms = c.make_room.new.nodes.items in
+    let ns = c.grow.new.nodes.items in
+    let n = c.in_ok-node.node in
+    let parents = c.args.parents.now in
+    let id = c.args.id in
+    let slot : Slot = record { 0 = c.len-kept.result } in
+    let i = id.site - 1 in
+    let b : Inside = record { limits = a.limits; counts = c.set_count.new.counts; known = a.known + 1; leaves = c.grow.result + 1; nodes = c.push_reserved.new.self; slots = c.put_slot.new.slots } in
+    let same = c.make_room.ensures.same in
+    let entry = new-entry c 0 in
+    let fit = within-limits c in
+    let place : c.len-kept.result ≡ length os = c.len-kept.ensures ∙ a.nodes.ok.0 in
+    let within = c.self.invariant.within in
+    let sites = c.self.invariant.sites in
+    let most = ap (λ (t : Table). t.limits.sites) c.self.view_is in
+    let other = c.if-kept-self.false in
+    held-next a b c.self.invariant ns n id slot i id.sequence c.push_reserved.ensures.items refl refl (ap (λ z. z + 1) c.grow.ensures.leaves) c.set_count.ensures.set c.in_ok-put_slot.ensures.put
+    (c.grow.ensures.count ∙ same-count ms os same) place (omega arith) (ids-stay a.limits os ms ns parents id slot same c.grow.ensures.count c.grow.ensures.each) entry.id_is entry.arrival_is entry.no_children
+    (ascend-still a.limits os ms ns parents id slot same c.grow.ensures.count c.grow.ensures.each c.self.invariant.ascending) entry.path.ascending
+    (short-still a.limits os ms ns parents id slot same c.grow.ensures.count c.grow.ensures.each fit.0) fit.1 (let first = c.requires.first in let last = c.requires.last in omega arith)
+    (c.requires.next ∙ ap (λ (m : ℕ). m + 1) (unwrap_or-slice_get c.args.self.now.counts i 0 ∙ ap (λ (t : Table). get_or t.counts i 0) (sym c.self.view_is))) c.set_count.ensures.fits
+
+-- the nodes, the old table and the new one
+old-entries : (c : goal.After-drop-gains-2) → c.args.self.now.entries ≡ entries_from 0 c.make_room.new.nodes.items
+old-entries c = ap (λ (t : Table). t.entries) (sym c.self.view_is) ∙ sym c.make_room.ensures.same
+
+abbrev new-table : goal.After-drop-gains-2 → Table
+new-table c = record { limits = c.self.inside.limits; counts = c.set_count.new.counts.items; known = c.self.inside.known + 1; leaves = c.grow.result + 1; entries = entries_from 0 c.push_reserved.new.self.items }
+
+last-place : (c : goal.After-drop-gains-2) → c.len-kept.result ≡ length c.make_room.new.nodes.items
+last-place c = c.len-kept.ensures ∙ c.self.inside.nodes.ok.0 ∙ sym (same-count c.make_room.new.nodes.items c.self.inside.nodes.items c.make_room.ensures.same)
+
+stays : (c : goal.After-drop-gains-2) (k : ℕ) → k < length c.make_room.new.nodes.items →
+    ((get_or c.grow.new.nodes.items k c.in_ok-node.node).id ≡ (get_or c.make_room.new.nodes.items k c.in_ok-node.node).id)
+    × ((get_or c.grow.new.nodes.items k c.in_ok-node.node).arrival ≡ (get_or c.make_room.new.nodes.items k c.in_ok-node.node).arrival)
+stays c k lt = let h = c.grow.ensures.each k c.in_ok-node.node lt in (h.id_stays, h.arrival_stays)
+
+pub returns-clause-slot : goal.returns-clause-slot
+returns-clause-slot c =
+    last-named c.args.self.now (new-table c) c.make_room.new.nodes.items c.grow.new.nodes.items c.in_ok-node.node (record { 0 = c.len-kept.result }) c.grow.ensures.count (last-place c) (old-entries c)
+    (ap (entries_from 0) c.push_reserved.ensures.items) (stays c) c.args.id (new-entry c 0).id_is
+
+pub returns-clause-keeps : goal.returns-clause-keeps
+returns-clause-keeps c =
+    slots-kept c.args.self.now (new-table c) c.make_room.new.nodes.items c.grow.new.nodes.items c.in_ok-node.node (record { 0 = c.len-kept.result }) c.grow.ensures.count (last-place c) (old-entries c)
+    (ap (entries_from 0) c.push_reserved.ensures.items) (stays c)
+
+pub returns-clause-kept : goal.returns-clause-kept
+returns-clause-kept c =
+    kept-stays c.args.self.now (new-table c) c.make_room.new.nodes.items c.grow.new.nodes.items c.in_ok-node.node (record { 0 = c.len-kept.result }) c.grow.ensures.count (last-place c) (old-entries c)
+    (ap (entries_from 0) c.push_reserved.ensures.items) (stays c) (invariant_of-self-2 c).in_order
+
+pub returns-clause-arrived : goal.returns-clause-arrived
+returns-clause-arrived c =
+    let h = last-arrives c.args.self.now (new-table c) c.make_room.new.nodes.items c.grow.new.nodes.items c.in_ok-node.node (record { 0 = c.len-kept.result }) c.grow.ensures.count (last-place c) (old-entries c)
+    (ap (entries_from 0) c.push_reserved.ensures.items) (stays c) (invariant_of-self-2 c).in_order in
+    (h.0, h.1 ∙ (new-entry c 0).arrival_is ∙ ap (λ (t : Table). t.known) c.self.view_is)
+
+pub returns-clause-newest : goal.returns-clause-newest
+returns-clause-newest c =
+    let ms = c.make_room.new.nodes.items in
+    let b : Inside = record { limits = c.self.inside.limits; counts = c.self.inside.counts; known = c.self.inside.known; leaves = c.self.inside.leaves; nodes = c.make_room.new.nodes; slots = c.self.inside.slots } in
+    arrives-last c.args.self.now (new-table c) ms c.grow.new.nodes.items c.in_ok-node.node (record { 0 = c.len-kept.result }) c.grow.ensures.count (last-place c) (old-entries c)
+    (ap (entries_from 0) c.push_reserved.ensures.items) (stays c) c.self.inside.known (new-entry c 0).arrival_is (held-stays c.self.inside b c.self.invariant refl refl refl refl c.make_room.ensures.same (λ x. refl)).arrived
+
+-- a table that has grown by the state of a record
+added-as : (old new : Table) (rs : List Record) (ks : List StateId) (r : Record) (parents : List Slot) → Stands old rs ks → MayBeAdded old rs ks r parents → (slot : Slot) (x : StateId) (e : Entry) → r.id ≡ x →
+    (g : IsGrown old new x parents slot) → g.newest ≡ e → refusal_of old x parents (length e.path) ≡ None → AddedTo old new rs ks r (Ok slot)
+added-as old new rs ks r parents stands may slot x e is =
+    subst (λ (z : StateId). (g : IsGrown old new z parents slot) → g.newest ≡ e → refusal_of old z parents (length e.path) ≡ None → AddedTo old new rs ks r (Ok slot)) is
+    (λ g newest none. added old new rs ks r parents stands may slot g (subst (λ (f : Entry). refusal_of old r.id parents (length f.path) ≡ None) (sym newest) none))
+
+pub returns-clause-added : goal.returns-clause-added
+returns-clause-added c = λ rs ks r stands is may.
+    let a = c.self.inside in
+    let os = a.nodes.items in
+    let ms = c.make_room.new.nodes.items in
+    let ns = c.grow.new.nodes.items in
+    let n = c.in_ok-node.node in
+    let old = c.args.self.now in
+    let new = new-table c in
+    let parents = c.args.parents.now in
+    let id = c.args.id in
+    let slot : Slot = record { 0 = c.len-kept.result } in
+    let i = id.site - 1 in
+    let b : Inside = record { limits = a.limits; counts = a.counts; known = a.known; leaves = a.leaves; nodes = c.make_room.new.nodes; slots = a.slots } in
+    let after = ap (entries_from 0) c.push_reserved.ensures.items in
+    let distinct = distinct-from_differ parents (parents-differ old new rs ks r parents stands may) in
+    let counts =
+    c.set_count.ensures.set
+    ∙ ap (λ (z : ℕ). slice_set a.counts.items i z) c.requires.next
+    ∙ ap (λ (t : Table). slice_set t.counts i (unwrap_or (slice_get old.counts i) 0 + 1)) c.self.view_is in
+    let leaves : c.grow.result + 1 + length (filter (λ (p : Slot). eqb (number_of_children (table_of ms) p) 0) parents) ≡ old.leaves + 1 =
+    (let fewer = c.grow.ensures.fewer distinct in let view = ap (λ (t : Table). t.leaves) c.self.view_is in omega arith) in
+    let up = (held-stays a b c.self.invariant refl refl refl refl c.make_room.ensures.same (λ x. refl)).ascending in
+    let entry = entry-moves (table_after a.known os) old (ap (λ (t : Table). t.entries) c.self.view_is) parents id slot (entry_of c.len-kept.result n) (ap (λ (t : Table). t.known) c.self.view_is) (new-entry c c.len-kept.result) in
+    let g = table-grown old new ms ns n parents id slot (old-entries c) (ap (λ (t : Table). t.limits) c.self.view_is) counts (ap (λ (t : Table). t.known + 1) c.self.view_is) leaves
+    (fresh old new ms ns n slot c.grow.ensures.count (last-place c) (old-entries c) after) after c.grow.ensures.count (last-place c) distinct up c.grow.ensures.each entry in
+    let kept = c.len-kept.ensures ∙ a.nodes.ok.0 ∙ sym (length-entries os 0) ∙ ap (λ (t : Table). length t.entries) c.self.view_is in
+    let room = ne_eqb (length old.entries) old.limits.max_kept (λ e. c.if-kept-self.false (kept ∙ e ∙ sym (ap (λ (t : Table). t.limits.max_kept) c.self.view_is))) in
+    let told = subst (λ ns₂. path_refusal (table_within a.limits ns₂) n.id parents (length n.path.pairs) ≡ None) c.deref-2.ensures.value c.in_ok-check_paths.ensures in
+    let seen_told = subst (λ (t : Table). path_refusal t n.id parents (length n.path.pairs) ≡ None) c.self.view_is told in
+    let named = subst (λ (x : StateId). path_refusal old x parents (length n.path.pairs) ≡ None) entry.id_is seen_told in
+    added-as old new rs ks r parents stands may slot id (entry_of c.len-kept.result n) is g.0 g.1 (refused-alike old id parents (length n.path.pairs) None room named)

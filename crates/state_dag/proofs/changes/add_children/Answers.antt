@@ -1,0 +1,71 @@
+use Rattle.std.proofs.Common.{◌≡◌, ◌∙◌, ◌<◌, ◌+◌, ◌++◌, ◌∷◌, [], Bool, ℕ, false, cond, eqb, length, take, get_or, refl, sym, ap, subst, eq-eqb, arith}
+use Rattle.std.proofs.lemmas.List.{length-set, get_or-set_other}
+use Rattle.std.proofs.lemmas.List.Sums.{sum_by-set}
+use Rattle.std.proofs.lemmas.List.Filters.{length-filter_more}
+use Rattle.std.proofs.lemmas.List.Folds.{list_any_at}
+use Rattle.tardis_base.specs.declared.ids.Slot.{Slot}
+use Rattle.state_dag.specs.declared.nodes.Node.{Node}
+use Rattle.state_dag.specs.Grown.{is_slot_among, number_of_children}
+use Rattle.state_dag.specs.Nodes.{table_of, AreDistinct, HasChild, TakesChild, leaf_of}
+use Rattle.state_dag.proofs.NodeLists.{at-set, place-within, children-found}
+use Rattle.state_dag.proofs.NodeRooms.{read-at}
+use Rattle.state_dag.proofs.NodeGrowth.{distinct-at, leaf-none, among-parts, child-own, child-other}
+use Rattle.state_dag.proofs.changes.add_children.Goals as goal
+
+pub loop-parent-preserved : goal.loop-parent-preserved
+loop-parent-preserved c =
+    let none : Slot = record { 0 = 0 } in
+    let i = c.loop-parent.parent-index in
+    let parents = c.args.parents.now in
+    let within : i < length parents = omega arith in
+    let p = (get_or parents i none).0 in
+    let first = c.args.nodes.now.items in
+    let placed = place-within first parents i none c.requires.places within in
+    let count = c.loop-parent.invariant.count in
+    let nodes = c.loop-parent.nodes.items in
+    let here : p < length nodes = omega arith in
+    let old = c.index_mut.result.now in
+    let new = c.add_child-left.new.node in
+    let made = c.add_child-left.ensures in
+    let stay = length-set nodes p new in
+    let leaves = sum_by-set leaf_of nodes p new old here in
+    let read = ap leaf_of c.index_mut.ensures.value in
+    let own = made.leaves in
+    let untouched = λ (distinct : AreDistinct parents).
+    c.index_mut.ensures.value ∙ c.loop-parent.invariant.others p old (distinct-at parents i none distinct within) in
+    let roomy = λ (distinct : AreDistinct parents).
+    let room = c.requires.room p old placed (list_any_at (λ (t : Slot). eqb t.0 p) parents i none within (eq-eqb p p refl)) in
+    subst TakesChild (sym (untouched distinct)) room in
+    record {
+      count = stay ∙ count;
+      len = c.loop-parent.invariant.len;
+      capacity = c.loop-parent.invariant.capacity;
+      rest = λ k d.
+          at-set (λ (m : Node). m ≡ record (get_or first k d) { children = m.children; stand_ins = m.stand_ins }) nodes p new k d here
+          (λ e.
+          made.rest
+          ∙ ap (λ (m : Node). record m { children = new.children; stand_ins = new.stand_ins }) (read-at nodes p old new here c.index_mut.ensures.value k d e ∙ c.loop-parent.invariant.rest k d))
+          (λ ne. c.loop-parent.invariant.rest k d);
+      others = λ k d out.
+          let parts = among-parts c.args.id c.args.slot parents i none within k out in
+          get_or-set_other nodes p k new d parts.1 ∙ c.loop-parent.invariant.others k d parts.0;
+      each = λ distinct k d lt.
+          at-set (HasChild c.args.id c.args.slot (take (i + 1) parents) k (get_or first k d)) nodes p new k d here
+          (λ e.
+          let same : old ≡ get_or first k d =
+          read-at nodes p old new here c.index_mut.ensures.value k d e
+          ∙ c.loop-parent.invariant.others k d (subst (λ (m : ℕ). is_slot_among (record { 0 = m }) (take i parents) ≡ false) (sym e) (distinct-at parents i none distinct within)) in
+          let room = roomy distinct in
+          child-own c.args.id c.args.slot parents i none within k (get_or first k d) new (sym e) (made.children room.0 ∙ ap (λ (m : Node). m.children.items ++ c.args.id ∷ []) same)
+          (made.stand_ins room.1 ∙ ap (λ (m : Node). m.stand_ins.items ++ c.args.slot ∷ []) same))
+          (λ ne. child-other c.args.id c.args.slot parents i none within k (get_or first k d) (get_or nodes k d) ne (c.loop-parent.invariant.each distinct k d (omega arith)));
+      leaves = omega arith;
+      fewer = λ distinct.
+          let childless : Slot → Bool = λ s. eqb (number_of_children (table_of first) s) 0 in
+          let more = length-filter_more childless parents i none within in
+          let number = children-found first p old placed ∙ ap (λ (m : Node). length m.children.items) (sym (untouched distinct)) in
+          let leaf : cond (childless (get_or parents i none)) 1 0 ≡ leaf_of old = ap (λ n. cond (eqb n 0) 1 0) number in
+          let gone = leaf-none new old.children.items c.args.id (made.children (roomy distinct).0) in
+          let before = c.loop-parent.invariant.fewer distinct in
+          omega arith;
+    }

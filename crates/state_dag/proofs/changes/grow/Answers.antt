@@ -1,0 +1,69 @@
+use Rattle.std.proofs.Common.{◌≡◌, ◌∙◌, ◌+◌, ◌++◌, ◌||◌, ◌==◌, Bool, true, false, List, length, get_or, IsTrue, refl, sym, ap, subst, arith}
+use Rattle.tardis_base.specs.declared.ids.Slot.{Slot}
+use Rattle.fork_path.specs.Pairs.{Pairs, are_ascending_pairs, has_pair}
+use Rattle.state_dag.specs.declared.nodes.Node.{Node}
+use Rattle.state_dag.specs.Grown.{is_slot_among, is_first_branch, number_of_children, only_if}
+use Rattle.state_dag.specs.Nodes.{table_of, leaf_of}
+use Rattle.state_dag.proofs.Gains.{gains-counted, gains-told, gains-placed}
+use Rattle.state_dag.proofs.NodeGrowth.{same-leaves, same-children, same-filter}
+use Rattle.state_dag.proofs.changes.grow.Goals as goal
+
+or-turn : (a b : Bool) → (a || b) ≡ (b || a)
+or-turn true true = refl
+or-turn true false = refl
+or-turn false true = refl
+or-turn false false = refl
+
+pub grow_paths-requires-clause-places : goal.grow_paths-requires-clause-places
+grow_paths-requires-clause-places c = gains-placed c.args.nodes.now.items c.args.parents.now c.args.gains.now c.requires.gains
+
+pub add_children-requires-clause-leaves : goal.add_children-requires-clause-leaves
+add_children-requires-clause-leaves c =
+    c.requires.leaves
+    ∙ sym (same-leaves c.grow_paths.new.nodes.items c.args.nodes.now.items c.grow_paths.ensures.count
+    (λ k d lt. let count = c.grow_paths.ensures.count in ap leaf_of (c.grow_paths.ensures.each k d (omega arith)).rest))
+
+pub returns-clause-each : goal.returns-clause-each
+returns-clause-each c = λ k d lt.
+    let first = c.args.nodes.now.items in
+    let parents = c.args.parents.now in
+    let gains = c.args.gains.now in
+    let old = get_or first k d in
+    let mid = get_or c.grow_paths.new.nodes.items k d in
+    let new = get_or c.add_children.new.nodes.items k d in
+    let gained = c.grow_paths.ensures.each k d lt in
+    let rest = c.add_children.ensures.rest k d in
+    let count = c.grow_paths.ensures.count in
+    record {
+      id_stays = ap (λ (n : Node). n.id) rest ∙ ap (λ (n : Node). n.id) gained.rest;
+      arrival_stays = ap (λ (n : Node). n.arrival) rest ∙ ap (λ (n : Node). n.arrival) gained.rest;
+      parents_stay = ap (λ (n : Node). n.parents) rest ∙ ap (λ (n : Node). n.parents) gained.rest;
+      ascending = λ up. subst (λ (q : Pairs). IsTrue (are_ascending_pairs q.pairs)) (sym (ap (λ (n : Node). n.path) rest)) (gained.ascending up);
+      pairs = λ pair.
+          ap (λ (n : Node). has_pair pair n.path.pairs) rest
+          ∙ gained.pairs pair
+          ∙ ap (λ b. b || has_pair pair old.path.pairs) (gains-told first parents gains c.requires.gains k pair lt)
+          ∙ or-turn (is_first_branch (table_of first) parents (record { 0 = k }) pair) (has_pair pair old.path.pairs);
+      longer = (
+          let same = ap (λ (n : Node). length n.path.pairs) rest in
+          let more = gained.longer in
+          let counted = gains-counted first parents gains c.requires.gains k lt in
+          omega arith
+          );
+      child = λ distinct.
+          let made = c.add_children.ensures.each distinct k d (omega arith) in
+          record {
+            children = made.children ∙ ap (λ (n : Node). n.children.items ++ only_if (is_slot_among (record { 0 = k }) parents) c.args.id) gained.rest;
+            stand_ins = made.stand_ins ∙ ap (λ (n : Node). n.stand_ins.items ++ only_if (is_slot_among (record { 0 = k }) parents) c.args.slot) gained.rest;
+          };
+    }
+
+pub returns-clause-fewer : goal.returns-clause-fewer
+returns-clause-fewer c = λ distinct.
+    let first = c.args.nodes.now.items in
+    let mid = c.grow_paths.new.nodes.items in
+    let parents = c.args.parents.now in
+    let childless : List Node → Slot → Bool = λ ns s. number_of_children (table_of ns) s == 0 in
+    let same = same-filter (childless mid) (childless first) (length first) parents
+    (λ s lt. ap (λ n. n == 0) (same-children first mid c.grow_paths.ensures.count (λ k d within. ap (λ (n : Node). n.children.items) (c.grow_paths.ensures.each k d within).rest) s lt)) c.requires.places in
+    ap (λ ss. c.add_children.result + length ss) (sym same) ∙ c.add_children.ensures.fewer distinct

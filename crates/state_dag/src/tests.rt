@@ -1,0 +1,209 @@
+//! What tables answer as they grow.
+
+ghost use Rattle.std.specs.Prelude.{◌≡◌, IsTrue};
+ghost use Rattle.std.specs.List.{list_all};
+ghost use Rattle.state_dag.specs.Table.{is_slot};
+
+use crate::StateDag;
+use rand_core::utils::NextWord;
+use rand_pcg::Lcg64Xsh32;
+use std::alloc::{AllocError, Global};
+use tardis_base::{AddFault, Limits, Slot, StateId};
+
+const LIMITS: Limits = Limits {
+    sites: 1,
+    max_kept: 16_384,
+    max_path: 4_096,
+    max_sessions: 1,
+    max_trail: 0,
+};
+
+/// The state of this arrival number, where one site alone makes states.
+fn state(arrival: u32) -> StateId {
+    StateId {
+        site: if arrival == 0 { 0 } else { 1 },
+        sequence: arrival,
+    }
+}
+
+/// Adds the next state of site 1.
+fn add(dag: &mut StateDag, parents: &[Slot]) -> Result<Slot, AddFault>
+    requires { IsTrue (list_all (is_slot dag.old) parents.now) }
+{
+    if dag.limits().sites == 0 {
+        return Err(AddFault::NoMemory);
+    }
+    let Some(sequence) = dag.count(1).checked_add(1) else {
+        return Err(AddFault::NoMemory);
+    };
+    dag.add(StateId { site: 1, sequence }, parents)
+}
+
+/// Adds it below one or two states, by their arrival numbers.
+fn add_below(dag: &mut StateDag, first: u32, second: Option<u32>) -> Result<Slot, AddFault> {
+    let Some(first) = dag.slot_of(state(first)) else {
+        return Err(AddFault::NoMemory);
+    };
+    let Some(second) = second else {
+        return add(dag, &[first]);
+    };
+    let Some(second) = dag.slot_of(state(second)) else {
+        return Err(AddFault::NoMemory);
+    };
+    add(dag, &[first, second])
+}
+
+/// Whether the one state is at or above the other, by their arrival numbers.
+fn is_above(dag: &StateDag, a: u32, b: u32) -> bool {
+    match (dag.slot_of(state(a)), dag.slot_of(state(b))) {
+        (Some(a), Some(b)) => dag.is_ancestor(a, b),
+        _ => false,
+    }
+}
+
+#[test]
+fn states_are_added_below_their_parents(rt: HostRuntime) {
+    let mut dag = StateDag::new(rt.alloc(), &LIMITS).expect(&rt, "room");
+    let edges = [(0, None), (0, None), (1, Some(2)), (1, Some(2))];
+    for (first, second) in edges {
+        assert!(rt; add_below(&mut dag, first, second).is_ok());
+    }
+    let above = [(0, 4), (1, 3), (2, 4), (3, 3)];
+    for (a, b) in above {
+        assert!(rt; is_above(&dag, a, b));
+    }
+    let apart = [(1, 2), (3, 4), (4, 1), (4, 0)];
+    for (a, b) in apart {
+        assert!(rt; !is_above(&dag, a, b));
+    }
+    assert_eq!(rt; (dag.leaves(), dag.known(), dag.kept()), (2, 5, 5));
+    let merge = dag.slot_of(state(3)).expect(&rt, "a slot");
+    assert_eq!(rt; dag.parents(merge), [state(1), state(2)].as_slice());
+    let path = dag.path(merge).expect(&rt, "room");
+    assert_eq!(rt;
+        path.as_slice(),
+        [(state(0), 0), (state(0), 1), (state(1), 0), (state(2), 0)].as_slice()
+    );
+}
+
+#[test]
+fn limits_refuse_states(rt: HostRuntime) {
+    let two = Limits {
+        max_kept: 2,
+        ..LIMITS
+    };
+    let mut dag = StateDag::new(rt.alloc(), &two).expect(&rt, "room");
+    assert!(rt; add_below(&mut dag, 0, None).is_ok());
+    assert!(rt; add_below(&mut dag, 1, None) == Err(AddFault::Full { kept: 2 }));
+    let short = Limits {
+        max_path: 1,
+        ..LIMITS
+    };
+    let mut dag = StateDag::new(rt.alloc(), &short).expect(&rt, "room");
+    for parent in [0, 0, 1] {
+        assert!(rt; add_below(&mut dag, parent, None).is_ok());
+    }
+    let long = AddFault::PathFull {
+        state: state(3),
+        pairs: 2,
+    };
+    assert!(rt; add_below(&mut dag, 1, None) == Err(long));
+    assert!(rt; is_above(&dag, 1, 3) && !is_above(&dag, 2, 3));
+    assert_eq!(rt; (dag.kept(), dag.leaves()), (4, 2));
+}
+
+/// Which of 200 states are at or above the one, by a walk along the parents of each.
+fn walked(alloc: Global, edges: &[(u32, u32)], state: u32) -> Result<Vec<bool>, AllocError> {
+    let mut reached = vec![in alloc; false; 200]?;
+    mark(&mut reached, state);
+    for place in (0..edges.len()).rev() {
+        if reached.get(place + 1).copied() == Some(true) {
+            let (first, second) = edges[place];
+            mark(&mut reached, first);
+            mark(&mut reached, second);
+        }
+    }
+    Ok(reached)
+}
+
+fn mark(reached: &mut Vec<bool>, state: u32) {
+    if let Some(mark) = reached.get_mut(state as usize) {
+        *mark = true;
+    }
+}
+
+#[test]
+fn ancestors_of_200_states_are_those_along_parents(rt: HostRuntime) {
+    let mut dag = StateDag::new(rt.alloc(), &LIMITS).expect(&rt, "room");
+    let mut words = Lcg64Xsh32::new(7, 1);
+    let mut edges = Vec::new(rt.alloc());
+    for arrival in 1..200u32 {
+        let first = words.next_word() % arrival;
+        let other = if arrival % 5 == 0 {
+            words.next_word() % arrival
+        } else {
+            first
+        };
+        let comparable = is_above(&dag, first, other) || is_above(&dag, other, first);
+        let second = if comparable { None } else { Some(other) };
+        assert!(rt; add_below(&mut dag, first, second).is_ok());
+        edges
+            .push((first, second.unwrap_or(first)))
+            .expect(&rt, "room");
+    }
+    for b in 0..200u32 {
+        let reached = walked(rt.alloc(), edges.as_slice(), b).expect(&rt, "room");
+        for a in 0..200u32 {
+            assert_eq!(rt;
+                Some(is_above(&dag, a, b)),
+                reached.get(a as usize).copied()
+            );
+        }
+    }
+}
+
+/// Whether the state of this arrival number is an ancestor of exactly those of the last 4,096 that arrived no sooner.
+fn agrees(dag: &StateDag, state: Slot, arrival: u32, first: Slot) -> bool
+    requires state { IsTrue (is_slot dag.now state) }
+    requires first { IsTrue (is_slot dag.now first) }
+{
+    let mut next = Some(first);
+    for later in 12_288..16_384u32 {
+        let Some(slot) = next else {
+            return false;
+        };
+        if dag.is_ancestor(state, slot) != (arrival <= later) {
+            return false;
+        }
+        next = dag.kept_after(next);
+    }
+    next.is_none()
+}
+
+/// Whether that is so of each of 16,384 states.
+fn all_agree(dag: &StateDag, first: Slot) -> bool
+    requires { IsTrue (is_slot dag.now first) }
+{
+    let mut next = dag.kept_after(None);
+    for arrival in 0..16_384u32 {
+        let Some(slot) = next else {
+            return false;
+        };
+        if !agrees(dag, slot, arrival, first) {
+            return false;
+        }
+        next = dag.kept_after(next);
+    }
+    next.is_none()
+}
+
+#[test]
+fn ancestry_in_a_chain_of_16384_takes_no_walk(rt: HostRuntime) {
+    let mut dag = StateDag::new(rt.alloc(), &LIMITS).expect(&rt, "room");
+    for _ in 1..16_384u32 {
+        let last = dag.last();
+        assert!(rt; add(&mut dag, &[last]).is_ok());
+    }
+    let first = dag.slot_of(state(12_288)).expect(&rt, "a slot");
+    assert!(rt; all_agree(&dag, first));
+}

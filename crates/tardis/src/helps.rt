@@ -1,0 +1,42 @@
+//! The two words that the program itself answers.
+
+use std::fmt;
+
+/// What the program tells of itself.
+#[derive(Clone, Copy, Debug, PartialEq, Eq)]
+pub enum Help {
+    Usage,
+    Version,
+}
+
+impl fmt::Display for Help {
+    fn fmt<W: fmt::Write>(&self, f: &mut fmt::Formatter<W>) -> fmt::Result {
+        match self {
+            Help::Usage => f.write_str(USAGE),
+            Help::Version => f.write_str("tardis 0.1.0\n"),
+        }
+    }
+}
+
+const USAGE: &str = "\
+tardis: one site of a branch-and-merge key-value store
+
+usage: tardis run         read frames of requests from standard input, and write a
+                          frame with the reply to each on standard output
+       tardis --help      this text
+       tardis --version   the version
+
+The frames are described in docs/FORMATS.md, statuses in docs/COMMANDS.md.
+";
+
+/// The help that these words ask for: `--help` or `--version`, alone.
+pub fn help_of(words: &[String]) -> Option<Help> {
+    if words.len() != 1 {
+        return None;
+    }
+    match words[0].as_str() {
+        "--help" => Some(Help::Usage),
+        "--version" => Some(Help::Version),
+        _ => None,
+    }
+}

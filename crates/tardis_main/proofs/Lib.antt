@@ -1,0 +1,3 @@
+-- Lemmas on runs of the program.
+pub mod Runs
+pub mod Words

@@ -1,0 +1,54 @@
+-- What a run of a machine that stands for a site says of the site.
+use Rattle.std.proofs.Common.{ℕ, List, [], ◌∷◌, ◌++◌, ◌≡◌, ◌<◌, ◌+◌, length, map, Option, Some, None, refl, sym, subst, arith, rules}
+use Rattle.tardis_io.specs.Told.{WhileTold}
+use Rattle.tardis_io.specs.declared.statuses.Status.{Status}
+use Rattle.tardis_io.specs.declared.statuses.Status.TheVariants.{NoMemory}
+use Rattle.frame_cut.specs.Frames.{Cuts}
+use Rattle.frame_cut.specs.Events.{event_of}
+use Rattle.site_run.specs.Machines.{Answered}
+use Rattle.site_run.specs.Responses.{Whole}
+use Rattle.site_run.specs.Endings.{Outcome, shape_of}
+use Rattle.plain_site.specs.Site.{Site}
+use Rattle.plain_site.specs.Built.{so_far}
+use Rattle.plain_site.specs.Step.{site_machine}
+use Rattle.plain_site.specs.Sound.{IsSound}
+use Rattle.tardis_main.specs.Runs.{RunFrom}
+
+-- replies that answer from a site, told of less of what is reached
+answered : (To : Site → Type 0) (status : Status) (old new : Option (List ℕ)) (bodies : List (List ℕ)) (s : Site) → ((t : Site) → To t → IsSound so_far t) →
+    Answered (site_machine so_far) (shape_of status) To old new s (map event_of bodies) → Answered (site_machine so_far) (shape_of status) (IsSound so_far) old new s (map event_of bodies)
+answered To status old new bodies s sound a = record { replies = a.replies; state = a.state; answers = a.answers; stands = sound a.state a.stands; given = a.given }
+
+pub run_from : (site : Site) (From To : Site → Type 0) (status : Status) (old new : Option (List ℕ)) (first left : List ℕ) → From site → ((t : Site) → To t → IsSound so_far t) →
+    Outcome status From (λ s bodies. Answered (site_machine so_far) (shape_of status) To old new s (map event_of bodies)) first left →
+    RunFrom site status old new first left
+run_from site From To status old new first left here sound o =
+    record {
+      bodies = o.bodies;
+      held = o.held;
+      read = o.read;
+      answered = λ s e. subst (λ z. Answered (site_machine so_far) (shape_of status) (IsSound so_far) old new z (map event_of o.bodies)) (sym e) (answered To status old new o.bodies site sound (o.answered site here));
+      ends = o.ends;
+      spent = o.spent;
+      front = o.front;
+      whole = o.whole;
+    }
+
+-- nothing was given
+nothing_given : (old : Option (List ℕ)) → WhileTold old old (λ y z. Whole y z [])
+nothing_given None = tt
+nothing_given (Some y) = search rules
+
+-- a run that had no memory read nothing and gave nothing
+pub no_run : (site : Site) (old : Option (List ℕ)) (first : List ℕ) → IsSound so_far site → RunFrom site NoMemory old old first first
+no_run site old first sound =
+    record {
+      bodies = [];
+      held = [];
+      read = record { whole = refl; each = tt };
+      answered = λ s e. record { replies = []; state = s; answers = refl; stands = subst (λ z. IsSound so_far z) (sym e) sound; given = nothing_given old };
+      ends = (refl, refl, refl);
+      spent = λ e. absurd (omega (arith, e));
+      front = λ all rest cut. (all, refl);
+      whole = λ all rest cut. tt;
+    }

@@ -1,0 +1,3 @@
+-- What a run of the program does.
+pub mod Words
+pub mod Runs

@@ -1,0 +1,138 @@
+use crate::tardis;
+use std::alloc::Global;
+use std::test::Fail;
+use tardis_io::{MemorySink, MemorySource, Status};
+
+/// A session: it opens, begins, puts `1` to `x`, commits, begins, and gets `x`.
+const SESSION: &[u8] = b"\0\0\0\x04\0\x01\x01\0\
+\0\0\0\x04\0\x01\x02\0\
+\0\0\0\x08\0\x01\x04\x01x\0\x011\
+\0\0\0\x06\0\x01\x06\x01\0\0\
+\0\0\0\x04\0\x01\x02\0\
+\0\0\0\x05\0\x01\x03\x01x";
+
+/// Its replies: opened under the root, begun there, done, committed as 1.1 from the root, begun there, the value of 1.1.
+const REPLIES: &[u8] = b"\0\0\0\x07\x01\0\0\0\0\0\0\
+\0\0\0\x07\x02\0\0\0\0\0\0\
+\0\0\0\x01\x07\
+\0\0\0\x0e\x08\0\x01\0\0\0\x01\x01\0\0\0\0\0\0\
+\0\0\0\x07\x02\0\x01\0\0\0\x01\
+\0\0\0\x0a\x04\0\x01\0\0\0\x01\0\x011";
+
+/// How much a call moves at most, and which calls of the source and of the sink fail.
+#[derive(Drop)]
+struct Devices<'a> {
+    piece: u32,
+    failing_takes: &'a [u64],
+    failing_gives: &'a [u64],
+}
+
+const WELL: [u64; 0] = [];
+
+/// Whether `run` over this input ends so and writes that.
+fn runs_to(
+    alloc: Global,
+    input: &[u8],
+    devices: &Devices<'_>,
+    status: Status,
+    output: &[u8],
+) -> Result<bool, Fail> {
+    let words = vec![in alloc; String::from_str(alloc, "run")?]?;
+    let mut source = MemorySource::new(alloc, input, devices.piece.max(1), devices.failing_takes)?;
+    let mut sink = MemorySink::new(alloc, 1_000, devices.piece.max(1), devices.failing_gives)?;
+    let ended = tardis(alloc, words.as_slice(), &mut source, &mut sink);
+    Ok(ended == status && sink.bytes() == output)
+}
+
+#[test]
+fn a_session_is_answered_whatever_the_pieces(rt: HostRuntime) -> Result<(), Fail> {
+    let alloc = rt.alloc();
+    for piece in [65_536, 1, 7] {
+        let devices = Devices {
+            piece,
+            failing_takes: &WELL,
+            failing_gives: &WELL,
+        };
+        assert!(rt; runs_to(alloc, SESSION, &devices, Status::Ok, REPLIES)?);
+        assert!(rt; runs_to(alloc, b"", &devices, Status::Ok, b"")?);
+    }
+    Ok(())
+}
+
+#[test]
+fn each_end_has_its_status(rt: HostRuntime) -> Result<(), Fail> {
+    let alloc = rt.alloc();
+    let well = Devices {
+        piece: 65_536,
+        failing_takes: &WELL,
+        failing_gives: &WELL,
+    };
+    let opened = &REPLIES[..11];
+    assert!(rt;
+        runs_to(
+            alloc,
+            b"\0\0\0\x04\0\x01\x01\0\0\0\0",
+            &well,
+            Status::Cut,
+            opened
+        )?
+    );
+    let long = Status::LongFrame { len: 1_048_577 };
+    assert!(rt;
+        runs_to(
+            alloc,
+            b"\0\0\0\x04\0\x01\x01\0\0\x10\0\x01",
+            &well,
+            long,
+            opened
+        )?
+    );
+    let third = Devices {
+        piece: 1,
+        failing_takes: &[3],
+        failing_gives: &WELL,
+    };
+    assert!(rt; runs_to(alloc, SESSION, &third, Status::ReadFault, b"")?);
+    let second = Devices {
+        piece: 1,
+        failing_takes: &WELL,
+        failing_gives: &[2],
+    };
+    assert!(rt; runs_to(alloc, SESSION, &second, Status::WriteFault, b"\0")?);
+    Ok(())
+}
+
+/// The words of a line.
+fn words_of(alloc: Global, line: &str) -> Result<Vec<String>, Fail> {
+    let mut words = Vec::new(alloc);
+    for word in line.split_whitespace() {
+        words.push(String::from_str(alloc, word)?)?;
+    }
+    Ok(words)
+}
+
+#[test]
+fn other_words_are_no_command(rt: HostRuntime) -> Result<(), Fail> {
+    let alloc = rt.alloc();
+    for line in [
+        "",
+        "run extra",
+        "run --site 2",
+        "run --sites=2",
+        "run --sites 1 --sites 1",
+        "serve --links 2",
+        "Run",
+        "runs",
+    ] {
+        let words = words_of(alloc, line)?;
+        let mut source = MemorySource::new(alloc, SESSION, 9, &WELL)?;
+        let mut sink = MemorySink::new(alloc, 100, 9, &WELL)?;
+        assert_eq!(rt;
+            tardis(alloc, words.as_slice(), &mut source, &mut sink),
+            Status::Usage
+        );
+        assert_eq!(rt; source.left(), SESSION);
+        assert_eq!(rt; sink.bytes().len(), 0);
+    }
+    Ok(())
+}

@@ -1,0 +1,107 @@
+//! Reading bytes that spell one reply and nothing else.
+//!
+//! How replies are spelled is stated in `docs/FORMATS.md`. The cost grows with the number of bytes.
+
+ghost use Rattle.std.specs.Prelude.{◌≡◌, ◌<◌, ◌≤◌, ◌↔◌, ℕ, List, None, Some, Err, IfOk, IsTrue};
+ghost use Rattle.tardis_base.specs.declared.faults.NoMemory.{NoMemory};
+ghost use Rattle.tardis_base.specs.declared.replies.Reply.{Reply};
+ghost use Rattle.wire_item.specs.Fronts.{front_of_code};
+ghost use Rattle.wire_item.specs.Takings.{Makes};
+ghost use Rattle.wire_talk.specs.Memory.{reply_takes_no_memory};
+ghost use Rattle.wire_talk.specs.ReplyReadings.{reply_front, reply_of, reply_rows};
+ghost use Rattle.wire_talk.specs.Spelled.{SpellsReply};
+
+use crate::refusal_readers::id_and_u32;
+use crate::reply_field_readers::{
+    read_batch, read_committed, read_keys, read_merging, read_refused, read_shown, read_states,
+    read_statistics, read_value,
+};
+use std::alloc::Global;
+use tardis_base::{NoMemory, ReadFault, Reply};
+use wire_item::{Reader, whole};
+
+/// The reply that the bytes spell. A reply with no key, no value, no batch and no list but that of site lines takes no
+/// memory.
+pub fn read_reply(alloc: Global, bytes: &[u8]) -> Result<Reply, ReadFault>
+    ensures spelled { IfOk result (λ reply. SpellsReply bytes.now reply) }
+    ensures malformed { (result ≡ Err ReadFault.Malformed) ↔ (reply_of bytes.now ≡ None) }
+    ensures sure { (reply : Reply) → reply_of bytes.now ≡ Some reply → IsTrue (reply_takes_no_memory reply) → result ≡ Err ReadFault.NoMemory → ⊥ }
+{
+    let mut reader = Reader::new(bytes);
+    let taken = reply(alloc, &mut reader);
+    whole(taken, reader.is_done())
+}
+
+fn reply(alloc: Global, reader: &mut Reader) -> Option<Result<Reply, NoMemory>>
+    ensures read { Makes reply_front reader.old result reader.new }
+    ensures sure { (r : Reply) (e : NoMemory) → reply_of reader.old ≡ Some r → IsTrue (reply_takes_no_memory r) → result ≡ Some (Err e) → ⊥ }
+{
+    let code = reader.u8()?;
+    if code < 12 {
+        low_reply(alloc, code, reader)
+    } else {
+        high_reply(alloc, code, reader)
+    }
+}
+
+/// The reply of a code below 12.
+fn low_reply(alloc: Global, code: u8, reader: &mut Reader) -> Option<Result<Reply, NoMemory>>
+    requires { code < 12 }
+    ensures read { Makes (front_of_code code reply_rows) reader.old result reader.new }
+    ensures sure { (r : Reply) (rest : List ℕ) (e : NoMemory) → front_of_code code reply_rows reader.old ≡ Some (r, rest) → IsTrue (reply_takes_no_memory r) → result ≡ Some (Err e) → ⊥ }
+{
+    match code {
+        1 => Some(Ok(Reply::Opened {
+            ceiling: reader.id()?,
+        })),
+        2 => Some(Ok(Reply::Begun {
+            state: reader.id()?,
+        })),
+        3 => read_merging(alloc, reader),
+        4 => read_value(alloc, reader),
+        5 => Some(Ok(Reply::Deleted {
+            writer: reader.id()?,
+        })),
+        6 => Some(Ok(Reply::Absent)),
+        7 => Some(Ok(Reply::Done)),
+        8 => read_committed(alloc, reader),
+        9 => Some(Ok(Reply::Ended {
+            state: reader.id()?,
+        })),
+        10 => read_states(alloc, reader),
+        11 => read_keys(alloc, reader),
+        _ => None,
+    }
+}
+
+/// The reply of a code from 12 on.
+fn high_reply(alloc: Global, code: u8, reader: &mut Reader) -> Option<Result<Reply, NoMemory>>
+    requires { 12 ≤ code }
+    ensures read { Makes (front_of_code code reply_rows) reader.old result reader.new }
+    ensures sure { (r : Reply) (rest : List ℕ) (e : NoMemory) → front_of_code code reply_rows reader.old ≡ Some (r, rest) → IsTrue (reply_takes_no_memory r) → result ≡ Some (Err e) → ⊥ }
+{
+    match code {
+        12 => {
+            let pair = id_and_u32(reader)?;
+            Some(Ok(Reply::Raised {
+                floor: pair.0,
+                number: pair.1,
+            }))
+        },
+        13 => Some(Ok(Reply::Tidied {
+            collected: reader.u32()?,
+        })),
+        14 => Some(Ok(read_statistics(reader)?)),
+        15 => read_shown(alloc, reader),
+        16 => read_batch(alloc, reader),
+        17 => Some(Ok(Reply::Applied)),
+        18 => Some(Ok(Reply::Known)),
+        19 => Some(Ok(Reply::Early {
+            have: reader.u32()?,
+        })),
+        20 => Some(Ok(Reply::Closed)),
+        21 => read_refused(alloc, reader),
+        22 => Some(Ok(Reply::NoMemory)),
+        _ => None,
+    }
+}
