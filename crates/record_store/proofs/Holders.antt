@@ -1,7 +1,7 @@
 -- The kept states that hold a key, and what is read by them.
 use Rattle.std.proofs.Common.{◌≡◌, ℕ, ◌<◌, ◌≤◌, true, ltb, ◌&&◌, not, List, [], ◌∷◌, filter, Option, Some, None, IsTrue, IsSome, ◌⊎◌, inl, inr, refl, sym, ap, subst, ◌∙◌, if◌then◌else◌, arith}
 use Rattle.std.specs.List.{list_any}
-use Rattle.std.specs.Option.{option_and_then}
+use Rattle.std.specs.Option.{option_map, option_and_then}
 use Rattle.std.proofs.lemmas.Bool.{and_parts, and_from, cases_Bool, cond-true, cond-false, ltb-true, ltb-false}
 use Rattle.std.proofs.lemmas.Option.{none-some, same_Some}
 use Rattle.tardis_base.specs.declared.ids.StateId.{StateId}
@@ -143,7 +143,7 @@ module _ (rs : List Record) (ks : List StateId) (dag : IsDag rs) (shared : Stand
     at_or_above = filter (λ y. is_above rs y x) (holders rs ks k)
 
     -- a writer at the state is known
-    writer-is_known : (w : StateId) → IsTrue (is_writer rs k x w) → IsTrue (is_known rs w)
+    pub writer-is_known : (w : StateId) → IsTrue (is_writer rs k x w) → IsTrue (is_known rs w)
     writer-is_known w h = ancestors-are-known rs dag w x known (and_parts (writes_key rs k w) (is_above rs w x) h).1
 
     -- its stand-in is a holder at or above the state
@@ -164,7 +164,7 @@ module _ (rs : List Record) (ks : List StateId) (dag : IsDag rs) (shared : Stand
             not-both true refl (sym (subst (λ zs. IsTrue (is_among (stand_in rs ks l) zs)) (last-none (arrival rs) at_or_above e) (writer-stands_above l latest.writes)))
 
     -- the latest writer at the state is the latest one at its stand-in too
-    latest-at_stand_in : (l : StateId) → IsLatestWriter rs k x l → IsLatestWriter rs k (stand_in rs ks l) l
+    pub latest-at_stand_in : (l : StateId) → IsLatestWriter rs k x l → IsLatestWriter rs k (stand_in rs ks l) l
     latest-at_stand_in l latest =
         let parts = and_parts (writes_key rs k l) (is_above rs l x) latest.writes in
         let here = writer-is_known l latest.writes in
@@ -178,7 +178,7 @@ module _ (rs : List Record) (ks : List StateId) (dag : IsDag rs) (shared : Stand
         }
 
     -- so the reads are one
-    read-at_stand_in : (l : StateId) → latest_writer rs k x ≡ Some l → read rs k (stand_in rs ks l) ≡ read rs k x
+    pub read-at_stand_in : (l : StateId) → latest_writer rs k x ≡ Some l → read rs k (stand_in rs ks l) ≡ read rs k x
     read-at_stand_in l is =
         let latest = (one-latest-writer rs dag k x known).is_latest l is in
         let here = writer-is_known l latest.writes in
@@ -189,8 +189,9 @@ module _ (rs : List Record) (ks : List StateId) (dag : IsDag rs) (shared : Stand
         let same = law.only l u.0 u.1 there in
         ap (option_and_then (version_at rs k)) (u.1 ∙ (ap (λ (v : StateId). Some v) (sym same) ∙ sym is))
 
-    reads-some : (y : StateId) → last_state (arrival rs) at_or_above ≡ Some y → read rs k y ≡ read rs k x
-    reads-some y e =
+    -- the last holder at or above the state stands in for the latest writer there
+    last-stands_in : (y : StateId) → last_state (arrival rs) at_or_above ≡ Some y → (l : StateId) × (latest_writer rs k x ≡ Some l) × (y ≡ stand_in rs ks l)
+    last-stands_in y e =
         let last = last-is_last (arrival rs) at_or_above y e in
         let passes = filtered-passes (λ y. is_above rs y x) (holders rs ks k) y last.one in
         let w = holder-writes k y (holder-parts k y passes.0).1 in
@@ -205,11 +206,31 @@ module _ (rs : List Record) (ks : List StateId) (dag : IsDag rs) (shared : Stand
         let l_above = (and_parts (writes_key rs k l.0) (is_above rs l.0 z) (latest-at_stand_in l.0 latest).writes).1 in
         let above = above-transitive rs dag w.0 l.0 z (latest.below w.0 w_writes) l_above in
         let y_above : IsTrue (is_above rs y z) = subst (λ v. IsTrue (is_above rs v z)) w.3 (sym (well.tells w.0 z w.1 (well.kept l.0 here)) ∙ above) in
-        subst (λ v. read rs k v ≡ read rs k x) (sym (one y z no_later (ancestors-arrive-earlier rs dag y z y_above))) (read-at_stand_in l.0 l.1)
+        (l.0, l.1, one y z no_later (ancestors-arrive-earlier rs dag y z y_above))
       where
         one : (y z : StateId) → arrival rs z ≤ arrival rs y → (y ≡ z) ⊎ (arrival rs y < arrival rs z) → y ≡ z
         one y z le (inl e) = e
         one y z le (inr lt) = absurd (omega arith)
+
+    pub last-holder : last_state (arrival rs) at_or_above ≡ option_map (stand_in rs ks) (latest_writer rs k x)
+    last-holder = go (last_state (arrival rs) at_or_above) refl
+      where
+        none : last_state (arrival rs) at_or_above ≡ None → (o : Option StateId) → latest_writer rs k x ≡ o → None ≡ option_map (stand_in rs ks) o
+        none e None is = refl
+        none e (Some l) is =
+            let latest = (one-latest-writer rs dag k x known).is_latest l is in
+            not-both true refl (sym (subst (λ zs. IsTrue (is_among (stand_in rs ks l) zs)) (last-none (arrival rs) at_or_above e) (writer-stands_above l latest.writes)))
+
+        go : (o : Option StateId) → last_state (arrival rs) at_or_above ≡ o → o ≡ option_map (stand_in rs ks) (latest_writer rs k x)
+        go None e = none e (latest_writer rs k x) refl
+        go (Some y) e =
+            let w = last-stands_in y e in
+            ap (λ (z : StateId). Some z) w.2 ∙ sym (ap (option_map (stand_in rs ks)) w.1)
+
+    reads-some : (y : StateId) → last_state (arrival rs) at_or_above ≡ Some y → read rs k y ≡ read rs k x
+    reads-some y e =
+        let w = last-stands_in y e in
+        subst (λ v. read rs k v ≡ read rs k x) (sym w.2) (read-at_stand_in w.0 w.1)
 
     pub reads-last : option_and_then (read rs k) (last_state (arrival rs) at_or_above) ≡ read rs k x
     reads-last = go (last_state (arrival rs) at_or_above) refl

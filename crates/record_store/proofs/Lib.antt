@@ -4,3 +4,4 @@ pub mod Reading
 pub mod Adding
 pub mod Holding
 pub mod Records
+pub mod LatestHolders

@@ -48,7 +48,7 @@ module _ (table : Table) (rs : List Record) (ks : List StateId) (stands : Stands
       ]
 
   -- the latest version at a slot is that at the last of their states at or above its state
-  latest-shown : (slot : Slot) (x : StateId) → id_at table slot ≡ Some x → (vs : List Version) (ys : List StateId) → map (shown_version table) vs ≡ map (read_with rs k) ys →
+  pub latest-shown : (slot : Slot) (x : StateId) → id_at table slot ≡ Some x → (vs : List Version) (ys : List StateId) → map (shown_version table) vs ≡ map (read_with rs k) ys →
       option_map (shown_version table) (latest_version (is_slot_above table) (arrival_at table) vs slot) ≡ option_map (read_with rs k) (last_state (arrival rs) (filter (λ y. is_above rs y x) ys))
   latest-shown slot x named [] [] e = refl
   latest-shown slot x named [] (y ∷ ys) e = cc

@@ -254,7 +254,7 @@ module _ (store : Store) (rs : List Record) (ks : List StateId) (stands : StoreS
           let together : arrival_at store.table s ≡ arrival_at store.table slot = one ∙ (ap (arrival rs) (sym (same_id-true x y t)) ∙ sym two) in
           eq-eqb s.0 slot.0 (ap (λ (z : Slot). z.0) (arrivals-differ store.table s slot (kept_at s y is) (kept_at slot x named) together))
 
-  versions-at : (k : List ℕ) (vs : List Version) (ys : List StateId) → map (shown_version store.table) vs ≡ map (read_with rs k) ys → has_version_at slot vs ≡ is_among x ys
+  pub versions-at : (k : List ℕ) (vs : List Version) (ys : List StateId) → map (shown_version store.table) vs ≡ map (read_with rs k) ys → has_version_at slot vs ≡ is_among x ys
   versions-at k [] [] e = refl
   versions-at k [] (y ∷ ys) e = cc
   versions-at k (v ∷ vs) [] e = cc

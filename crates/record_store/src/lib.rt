@@ -3,20 +3,23 @@
 //! What a read, a write and a new state mean is stated in `docs/MODEL.md`.
 #![tactic(auto)]
 
-ghost use Rattle.std.specs.Prelude.{◌≡◌, ◌+◌, ◌-◌, ◌≤◌, ℕ, List, [], ◌∷◌, length, map, take, Option, Some, None, slice_get, unwrap_or, IsTrue, IfOk, OnErr};
+ghost use Rattle.std.specs.Prelude.{◌≡◌, ◌+◌, ◌-◌, ◌≤◌, ℕ, List, [], ◌∷◌, length, map, take, Option, Some, None, slice_get, unwrap_or, IsTrue, IfOk, IfSome, OnErr};
 ghost use Rattle.std.specs.List.{list_all};
+ghost use Rattle.std.specs.Option.{option_map, option_and_then};
 ghost use Rattle.tardis_base.specs.declared.ids.StateId.{StateId};
 ghost use Rattle.tardis_base.specs.declared.ids.Slot.{Slot};
 ghost use Rattle.tardis_base.specs.declared.records.Record.{Record};
+ghost use Rattle.tardis_base.specs.Keys.{is_key_among};
 ghost use Rattle.tardis_base.specs.Valid.{are_limits};
 ghost use Rattle.plain_dag.specs.States.{root_record, record_at};
-ghost use Rattle.plain_dag.specs.Writers.{read};
+ghost use Rattle.plain_dag.specs.Writers.{read, latest_writer};
 ghost use Rattle.plain_dag.specs.Landing.{is_news};
+ghost use Rattle.plain_dag.specs.Collection.{stand_in};
 ghost use Rattle.state_dag.specs.Table.{id_at, is_slot, is_kept_at, arrival_at};
 ghost use Rattle.state_dag.specs.Answers.{MayBeAdded, IsNewSlot, KeepsSlots};
 ghost use Rattle.version_list.specs.Versions.{IsInOrder};
 ghost use Rattle.version_list.specs.Reads.{found};
-ghost use Rattle.record_store.specs.Stands.{StoreStands};
+ghost use Rattle.record_store.specs.Stands.{StoreStands, holds_key};
 ghost use Rattle.record_store.specs.Answers.{AddedIn, IsSameStore, MayArrive, StandsAlone, is_listed, write_found};
 
 use state_dag::StateDag;
@@ -163,6 +166,28 @@ impl RecordStore {
     {
         let _ = &self.dag;
         self.versions.has_news(&self.dag, child, from, key)
+    }
+
+    /// The slot of the state that stands in for the latest writer of the key at the state of this slot; None exactly where
+    /// the key is written at no state at or above that one.
+    ///
+    /// The cost is that of `read_at`.
+    pub fn holder_at(&self, slot: Slot, key: &Key) -> Option<Slot>
+        requires { IsTrue (is_slot self.now.table slot) }
+        ensures slot { IfSome result (λ h. IsTrue (is_slot self.now.table h)) }
+        ensures holder { (rs : List Record) (ks : List StateId) → StoreStands self.now rs ks → (x : StateId) → id_at self.now.table slot ≡ Some x → option_and_then (id_at self.now.table) result ≡ option_map (stand_in rs ks) (latest_writer rs key.now x) }
+    {
+        let _ = &self.dag;
+        self.versions.holder(&self.dag, key, slot)
+    }
+
+    /// The keys that the state of this slot holds: those that are written by a state that it stands in for.
+    pub fn keys_at(&self, slot: Slot) -> &[Key]
+        requires { IsTrue (is_slot self.now.table slot) }
+        ensures { (rs : List Record) (ks : List StateId) → StoreStands self.now rs ks → (x : StateId) → id_at self.now.table slot ≡ Some x → (k : List ℕ) → is_key_among k result.now ≡ holds_key rs ks k x }
+    {
+        let _ = &self.dag;
+        self.versions.keys_at(slot)
     }
 
     /// What is read, at the state of this slot, of the keys with a version there.

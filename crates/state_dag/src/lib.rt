@@ -166,6 +166,13 @@ impl StateDag {
         slot_in(&self.slots, id)
     }
 
+    /// Whether a state is kept at the slot.
+    pub fn has_slot(&self, slot: Slot) -> bool
+        ensures { result ≡ is_slot self.now slot }
+    {
+        (slot.0 as usize) < self.nodes.len()
+    }
+
     /// Which state is kept at the slot.
     pub fn id_of(&self, slot: Slot) -> StateId
         requires { IsTrue (is_slot self.now slot) }

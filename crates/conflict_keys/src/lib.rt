@@ -1,0 +1,16 @@
+//! The keys in which several states conflict, and the value of the other keys over them. The rules are stated in
+//! `docs/MODEL.md`.
+#![tactic(auto)]
+
+mod joins;
+mod opens;
+mod pages;
+mod regions;
+mod values;
+
+pub use opens::first_open;
+pub use pages::{KeyPage, conflicts};
+pub use values::value_over;
+
+#[cfg(test)]
+mod tests;

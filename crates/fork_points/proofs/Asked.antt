@@ -1,0 +1,115 @@
+-- What the table answers of a kept state, and what that says of the history.
+use Rattle.std.proofs.Common.{◌≡◌, Bool, true, false, ◌&&◌, ◌||◌, not, List, [], ◌∷◌, ◌++◌, length, ◌==◌, map, filter, Some, IsTrue, IsFalse, inl, inr, refl, sym, ap, ap₂, subst, ◌∙◌, eqb-true, arith}
+use Rattle.std.specs.List.{list_any, list_all}
+use Rattle.std.proofs.lemmas.Bool.{cond-true, cond-false, and_left, and_parts, and_from, cases_Bool, not_from_false, false_from_ne_true}
+use Rattle.tardis_base.specs.declared.ids.StateId.{StateId}
+use Rattle.tardis_base.specs.declared.ids.Slot.{Slot}
+use Rattle.tardis_base.specs.declared.records.Record.{Record}
+use Rattle.tardis_base.specs.Ids.{is_among}
+use Rattle.plain_dag.specs.States.{children, is_known, arrived}
+use Rattle.plain_dag.specs.Above.{is_above, is_above_all}
+use Rattle.plain_dag.specs.Forks.{is_leaf, is_fork_point}
+use Rattle.plain_dag.specs.Collection.{is_kept, kept_states, stand_in}
+use Rattle.plain_dag.proofs.Ids.{not-both, among-first, among-later}
+use Rattle.plain_dag.proofs.States.{child_is_known}
+use Rattle.plain_dag.proofs.Leaves.{leaf-is-childless}
+use Rattle.plain_dag.proofs.StandIns.{stands-in-well}
+use Rattle.state_dag.specs.Table.{Table, id_at, is_slot, is_slot_above}
+use Rattle.state_dag.specs.Stands.{Stands}
+use Rattle.state_dag.proofs.Standing.{slot-is_kept, slots-tell}
+use Rattle.state_dag.proofs.Known.{arrived-is_known}
+use Rattle.state_dag.proofs.Calls.{named-is_slot}
+use Rattle.fork_points.proofs.Walks.{filter-behind}
+
+module _ (table : Table) (rs : List Record) (ks : List StateId) (stands : Stands table rs ks) where
+  -- a slot is above these exactly where its state is
+  slot-above_all : (slot : Slot) (x : StateId) → id_at table slot ≡ Some x → (ss : List Slot) (xs : List StateId) → map (id_at table) ss ≡ map (λ y. Some y) xs → list_all (is_slot_above table slot) ss ≡ is_above_all rs x xs
+  slot-above_all slot x named [] [] e = refl
+  slot-above_all slot x named [] (y ∷ ys) e = absurd (let bad : ⊥ = cc in bad)
+  slot-above_all slot x named (s ∷ ss) [] e = absurd (let bad : ⊥ = cc in bad)
+  slot-above_all slot x named (s ∷ ss) (y ∷ ys) e =
+      let here : id_at table s ≡ Some y = cc in
+      let rest : map (id_at table) ss ≡ map (λ z. Some z) ys = cc in
+      ap₂ ◌&&◌ (slots-tell table rs ks stands slot s x y named here) (slot-above_all slot x named ss ys rest)
+
+  -- these states are kept
+  named-are_kept : (ss : List Slot) (xs : List StateId) → map (id_at table) ss ≡ map (λ y. Some y) xs → IsTrue (list_all (is_kept rs ks) xs)
+  named-are_kept [] [] e = refl
+  named-are_kept [] (y ∷ ys) e = absurd (let bad : ⊥ = cc in bad)
+  named-are_kept (s ∷ ss) [] e = absurd (let bad : ⊥ = cc in bad)
+  named-are_kept (s ∷ ss) (y ∷ ys) e =
+      let here : id_at table s ≡ Some y = cc in
+      let rest : map (id_at table) ss ≡ map (λ z. Some z) ys = cc in
+      and_from (is_kept rs ks y) (list_all (is_kept rs ks) ys) (slot-is_kept table rs ks stands s y here) (named-are_kept ss ys rest)
+
+  -- a state is above kept ones exactly where its stand-in is
+  stand-in-above_all : (c : StateId) → IsTrue (is_known rs c) → (xs : List StateId) → IsTrue (list_all (is_kept rs ks) xs) → is_above_all rs (stand_in rs ks c) xs ≡ is_above_all rs c xs
+  stand-in-above_all c known [] kept = refl
+  stand-in-above_all c known (y ∷ ys) kept =
+      let parts = and_parts (is_kept rs ks y) (list_all (is_kept rs ks) ys) kept in
+      ap₂ ◌&&◌ (sym ((stands-in-well rs ks stands.dag stands.shared).tells c y known parts.0)) (stand-in-above_all c known ys parts.1)
+
+  -- so it is with children
+  one-above_all : (ss : List Slot) (xs : List StateId) → map (id_at table) ss ≡ map (λ y. Some y) xs → (cs : List Slot) (ds : List StateId) → map (id_at table) cs ≡ map (λ d. Some (stand_in rs ks d)) ds →
+      ((d : StateId) → IsTrue (is_among d ds) → IsTrue (is_known rs d)) → list_any (λ c. is_slot table c && list_all (is_slot_above table c) ss) cs ≡ list_any (λ d. is_above_all rs d xs) ds
+  one-above_all ss xs are [] [] e known = refl
+  one-above_all ss xs are [] (d ∷ ds) e known = absurd (let bad : ⊥ = cc in bad)
+  one-above_all ss xs are (c ∷ cs) [] e known = absurd (let bad : ⊥ = cc in bad)
+  one-above_all ss xs are (c ∷ cs) (d ∷ ds) e known =
+      let here : id_at table c ≡ Some (stand_in rs ks d) = cc in
+      let rest : map (id_at table) cs ≡ map (λ z. Some (stand_in rs ks z)) ds = cc in
+      let one = ap₂ ◌&&◌ (named-is_slot table c (stand_in rs ks d) here) (slot-above_all c (stand_in rs ks d) here ss xs are ∙ stand-in-above_all d (known d (among-first d ds)) xs (named-are_kept ss xs are)) in
+      ap₂ ◌||◌ one (one-above_all ss xs are cs ds rest (λ z m. known z (among-later z d ds m)))
+
+  fork-point-told : (slot : Slot) (x : StateId) → id_at table slot ≡ Some x → (ss : List Slot) (xs : List StateId) → map (id_at table) ss ≡ map (λ y. Some y) xs → (cs : List Slot) →
+      map (id_at table) cs ≡ map (λ d. Some (stand_in rs ks d)) (children rs x) →
+      (list_all (is_slot_above table slot) ss && not (list_any (λ c. is_slot table c && list_all (is_slot_above table c) ss) cs)) ≡ is_fork_point rs xs x
+  fork-point-told slot x named ss xs are cs e =
+      ap₂ ◌&&◌ (slot-above_all slot x named ss xs are) (ap not (one-above_all ss xs are cs (children rs x) e (λ d m. child_is_known rs x d m)))
+
+  -- what is asked tells whether the state is a fork point
+  pub both-asked : (slot : Slot) (x : StateId) → id_at table slot ≡ Some x → (ss : List Slot) (xs : List StateId) → map (id_at table) ss ≡ map (λ y. Some y) xs → (cs : List Slot) →
+      map (id_at table) cs ≡ map (λ d. Some (stand_in rs ks d)) (children rs x) → (above below : Bool) → above ≡ list_all (is_slot_above table slot) ss → below ≡ list_any (λ c. is_slot table c && list_all (is_slot_above table c) ss) cs →
+      IsTrue above → not below ≡ is_fork_point rs xs x
+  both-asked slot x named ss xs are cs e above below is_above is_below all =
+      ap not is_below ∙ (sym (ap (λ b. b && not (list_any (λ c. is_slot table c && list_all (is_slot_above table c) ss) cs)) (sym is_above ∙ all)) ∙ fork-point-told slot x named ss xs are cs e)
+
+  pub one-asked : (slot : Slot) (x : StateId) → id_at table slot ≡ Some x → (ss : List Slot) (xs : List StateId) → map (id_at table) ss ≡ map (λ y. Some y) xs → (above : Bool) → above ≡ list_all (is_slot_above table slot) ss →
+      IsFalse above → above ≡ is_fork_point rs xs x
+  one-asked slot x named ss xs are above is apart =
+      apart ∙ sym (and_left (is_above_all rs x xs) (not (list_any (λ c. is_above_all rs c xs) (children rs x))) (sym (slot-above_all slot x named ss xs are) ∙ (sym is ∙ apart)))
+
+  -- ===== All of them
+
+  -- what is kept wherever it passes is found among the kept states
+  pub among-kept : (p : StateId → Bool) → ((x : StateId) → IsTrue (is_known rs x) → IsTrue (p x) → IsTrue (is_kept rs ks x)) → filter p (kept_states rs ks) ≡ filter p (arrived rs)
+  among-kept p kept = filter-behind p (λ x. not (is_among x ks)) (arrived rs) (λ x m passes.
+      let known = arrived-is_known rs x m in
+      (and_parts (is_known rs x) (not (is_among x ks)) (kept x known passes)).1)
+
+  -- a leaf is kept
+  pub leaf-is_kept : (x : StateId) → IsTrue (is_known rs x) → IsTrue (is_leaf rs x) → IsTrue (is_kept rs ks x)
+  leaf-is_kept x known leaf =
+      and_from (is_known rs x) (not (is_among x ks)) known
+      (not_from_false (is_among x ks) (false_from_ne_true (is_among x ks) (λ gone.
+      not-both false (subst (λ cs. IsTrue (list_any (λ c. true) cs)) (leaf-is-childless rs x leaf) (stands.shared x gone).0) refl)))
+
+-- ===== Leaves
+
+some-last : (xs : List StateId) (y : StateId) → xs ++ y ∷ [] ≡ [] → ⊥
+some-last [] y e = cc
+some-last (x ∷ xs) y e = cc
+
+-- a state without children is a leaf
+childless-is-leaf : (rs : List Record) (x : StateId) → children rs x ≡ [] → IsFalse (list_any (λ r. is_among x r.parents) rs)
+childless-is-leaf [] x none = refl
+childless-is-leaf (r ∷ rs) x none = elim (cases_Bool (is_among x r.parents)) [
+  | inl t ↦ absurd (some-last (children rs x) r.id (sym (cond-true (is_among x r.parents) (children rs x ++ r.id ∷ []) (children rs x) t) ∙ none))
+  | inr f ↦ rw f (childless-is-leaf rs x (sym (cond-false (is_among x r.parents) (children rs x ++ r.id ∷ []) (children rs x) f) ∙ none))
+]
+
+pub leaf-told : (rs : List Record) (x : StateId) (cs : List StateId) → cs ≡ children rs x → (length cs == 0) ≡ is_leaf rs x
+leaf-told rs x [] e = sym (ap not (childless-is-leaf rs x (sym e)))
+leaf-told rs x (c ∷ cs) e = false_from_ne_true (length (c ∷ cs) == 0) (λ t. let n = eqb-true (length (c ∷ cs)) 0 t in omega arith) ∙ sym (false_from_ne_true (is_leaf rs x) (λ leaf.
+    let none : c ∷ cs ≡ [] = e ∙ leaf-is-childless rs x leaf in
+    absurd (let bad : ⊥ = cc in bad)))

@@ -1,0 +1,2 @@
+-- What a page of states holds.
+pub mod Pages
