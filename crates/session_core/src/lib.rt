@@ -17,14 +17,14 @@ mod built;
 mod commits;
 mod parts;
 mod reads;
+#[cfg(test)]
+mod rows;
 mod serves;
 mod sessions;
 mod shows;
 mod steps;
 #[cfg(test)]
 mod tests;
-#[cfg(test)]
-mod told;
 mod txns;
 mod writes;
 
