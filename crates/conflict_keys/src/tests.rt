@@ -1,9 +1,10 @@
-//! What no clause says: that memory is had where there is enough, at the root alone.
+//! What no clause says: that memory is had where there is enough.
 
 use crate::{conflicts, first_open, value_over};
 use record_store::RecordStore;
+use std::alloc::Global;
 use std::test::Fail;
-use tardis_base::{Found, Key, Limits, Over, WriteSet};
+use tardis_base::{AddFault, Found, Key, Limits, NoMemory, Over, Slot, StateId, Write, WriteSet};
 
 const LIMITS: Limits = Limits {
     sites: 1,
@@ -13,21 +14,72 @@ const LIMITS: Limits = Limits {
     max_trail: 0,
 };
 
-#[test]
-fn the_root_alone_conflicts_in_no_key(rt: HostRuntime) -> Result<(), Fail> {
-    let store = RecordStore::new(rt.alloc(), &LIMITS)?;
-    let states = [store.dag().last()];
-    let page = conflicts(rt.alloc(), &store, &states, b"")?;
-    assert_eq!(rt; page.total, 0);
-    assert_eq!(rt; page.first.len(), 0);
-    match Key::new(rt.alloc(), b"a") {
-        Ok(key) => assert_eq!(rt;
-            value_over(&store, &states, &key),
-            Over::Found(Found::Absent)
-        ),
-        Err(_) => assert!(rt; false),
+/// The root, or the state of site 1 with this sequence.
+fn state(sequence: u32) -> StateId {
+    StateId {
+        site: if sequence == 0 { 0 } else { 1 },
+        sequence,
     }
-    let writes = WriteSet::new(rt.alloc());
-    assert!(rt; first_open(&store, &states, &writes).is_none());
+}
+
+/// Adds the next state of site 1 below the root.
+fn add_below_root(store: &mut RecordStore, writes: &WriteSet) -> Result<Slot, AddFault> {
+    if store.dag().limits().sites == 0 {
+        return Err(AddFault::NoMemory);
+    }
+    let Some(sequence) = store.dag().count(1).checked_add(1) else {
+        return Err(AddFault::NoMemory);
+    };
+    let Some(root) = store.dag().slot_of(state(0)) else {
+        return Err(AddFault::NoMemory);
+    };
+    store.add_state(StateId { site: 1, sequence }, &[root], writes)
+}
+
+fn key(alloc: Global, bytes: &[u8]) -> Result<Key, NoMemory> {
+    match Key::new(alloc, bytes) {
+        Ok(key) => Ok(key),
+        Err(_) => Err(NoMemory),
+    }
+}
+
+/// Deletes these keys.
+fn deletes(alloc: Global, keys: &[&[u8]]) -> Result<WriteSet, NoMemory> {
+    let mut writes = WriteSet::new(alloc);
+    for bytes in keys {
+        writes.insert(key(alloc, bytes)?, Write::Delete)?;
+    }
+    Ok(writes)
+}
+
+#[test]
+fn two_states_conflict_in_what_both_write(rt: HostRuntime) -> Result<(), Fail> {
+    let alloc = rt.alloc();
+    let mut store = RecordStore::new(alloc, &LIMITS)?;
+    assert!(rt; add_below_root(&mut store, &deletes(alloc, &[b"a", b"c", b"d"])?).is_ok());
+    assert!(rt; add_below_root(&mut store, &deletes(alloc, &[b"b", b"c", b"d"])?).is_ok());
+    let one = store.dag().slot_of(state(1)).expect(&rt, "kept");
+    let other = store.dag().slot_of(state(2)).expect(&rt, "kept");
+    let states = [one, other];
+    for (after, total) in [(b"".as_slice(), 2), (b"c", 1), (b"d", 0)] {
+        let page = conflicts(alloc, &store, &states, after)?;
+        assert_eq!(rt; page.total, total);
+        assert_eq!(rt; page.first.len(), total as usize);
+    }
+    let over = [
+        (
+            b"a".as_slice(),
+            Over::Found(Found::Deleted { writer: state(1) }),
+        ),
+        (b"b", Over::Found(Found::Deleted { writer: state(2) })),
+        (b"c", Over::Conflict),
+        (b"e", Over::Found(Found::Absent)),
+    ];
+    for (bytes, value) in over {
+        assert_eq!(rt; value_over(&store, &states, &key(alloc, bytes)?), value);
+    }
+    let least = key(alloc, b"d")?;
+    let open = first_open(&store, &states, &deletes(alloc, &[b"c"])?);
+    assert!(rt; open == Some(&least));
     Ok(())
 }
