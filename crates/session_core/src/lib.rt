@@ -17,14 +17,10 @@ mod built;
 mod commits;
 mod parts;
 mod reads;
-#[cfg(test)]
-mod rows;
 mod serves;
 mod sessions;
 mod shows;
 mod steps;
-#[cfg(test)]
-mod tests;
 mod txns;
 mod writes;
 
