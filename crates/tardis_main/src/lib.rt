@@ -88,6 +88,4 @@ fn run<I: Source, O: Sink>(alloc: Global, input: &mut I, output: &mut O) -> Stat
 #[cfg(test)]
 mod rows;
 #[cfg(test)]
-mod site_tests;
-#[cfg(test)]
 mod tests;

@@ -143,7 +143,7 @@ fn other_words_are_no_command(rt: HostRuntime) -> Result<(), Fail> {
 
 /// Puts the frame of a body behind these.
 fn put_frame(frames: &mut Vec<u8>, head: &[u8], body: &[u8]) -> Result<(), Fail> {
-    let length = head.len().saturating_add(body.len()) as u32;
+    let length = u32::try_from(head.len().saturating_add(body.len())).unwrap_or(u32::MAX);
     frames.extend_from_slice(&length.to_be_bytes())?;
     frames.extend_from_slice(head)?;
     frames.extend_from_slice(body)?;
