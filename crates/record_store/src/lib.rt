@@ -84,8 +84,9 @@ impl RecordStore {
 
     /// Adds the next state of a site, below the states at these slots, with what it writes.
     ///
-    /// Where it is refused, or there is no memory, only room for more may have grown. The cost grows with the number of
-    /// states below a parent that gets its second child, with the lengths of the parents' fork paths, and with the writes.
+    /// Where it is refused, or there is no memory, only room for more may have grown. The cost grows with the lengths of the
+    /// parents' fork paths and with the writes. Where a parent gets its second child it grows with the number of kept states
+    /// and their fork paths too.
     pub fn add_state(
         &mut self,
         id: StateId,

@@ -6,6 +6,7 @@ pub mod Branches
 pub mod NextState
 pub mod Standing
 pub mod ParentSlots
+pub mod SharedSlots
 pub mod Taken
 pub mod Calls
 pub mod Lengths
@@ -21,6 +22,7 @@ pub mod FirstBranches
 pub mod Passing
 pub mod NodeLists
 pub mod LongPaths
+pub mod LedPlaces
 pub mod Gains
 pub mod NodeRooms
 pub mod NodeGrowth

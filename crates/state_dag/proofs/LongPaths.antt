@@ -1,8 +1,7 @@
 -- Whether a path gets too long, by the nodes.
-use Rattle.std.proofs.Common.{◌≡◌, ℕ, ◌+◌, ◌<◌, ◌≤◌, Bool, true, false, ltb, leb, List, [], ◌∷◌, length, filter, find, take, get_or, Option, Some, None, refl, sym, ap, ◌∙◌, arith}
+use Rattle.std.proofs.Common.{◌≡◌, ℕ, ◌+◌, ◌<◌, ◌≤◌, Bool, true, false, ltb, List, length, filter, find, take, get_or, Option, Some, None, refl, sym, ap, ◌∙◌, arith}
 use Rattle.std.specs.Option.{option_map}
-use Rattle.std.specs.List.{list_all}
-use Rattle.std.proofs.lemmas.Bool.{and_parts, leb-true, le-ltb, lt-ltb, cond-true, cond-false}
+use Rattle.std.proofs.lemmas.Bool.{le-ltb, lt-ltb, cond-true, cond-false}
 use Rattle.std.proofs.lemmas.Option.{none-some}
 use Rattle.tardis_base.specs.declared.ids.StateId.{StateId}
 use Rattle.tardis_base.specs.declared.ids.Slot.{Slot}
@@ -13,7 +12,7 @@ use Rattle.state_dag.specs.declared.nodes.Node.{Node}
 use Rattle.state_dag.specs.Table.{Entry}
 use Rattle.state_dag.specs.Views.{entry_of, entries_from}
 use Rattle.state_dag.specs.Grown.{leads_first, grown_length, too_long}
-use Rattle.state_dag.specs.Nodes.{table_of, table_within, are_short, path_refusal, first_refusal}
+use Rattle.state_dag.specs.Nodes.{table_of, table_within, path_refusal, first_refusal}
 use Rattle.state_dag.proofs.Places.{length-entries}
 use Rattle.state_dag.proofs.Passing.{find-first, find-none_more}
 use Rattle.state_dag.proofs.NodeLists.{entry-in}
@@ -25,19 +24,6 @@ none-from_map f (Some x) e = absurd (none-some (f x) (sym e))
 module _ (limits : Limits) (ns : List Node) (parents : List Slot) where
   abbrev is_long : Entry → Bool
   is_long e = ltb limits.max_path (grown_length (table_of ns) parents e)
-
-  -- where no path was too long and no first branch leads anywhere, none gets too long
-  pub short-stay : are_short limits.max_path ns ≡ true → ((at : Slot) → filter (leads_first (table_of ns) at) parents ≡ []) → too_long (table_within limits ns) parents ≡ None
-  short-stay short none = ap (option_map (λ (e : Entry). (e.id, grown_length (table_of ns) parents e))) (go ns 0 short)
-    where
-      go : (ms : List Node) (p : ℕ) → are_short limits.max_path ms ≡ true → find is_long (entries_from p ms) ≡ None
-      go [] p s = refl
-      go (m ∷ ms) p s =
-          let parts = and_parts (leb (length m.path.pairs) limits.max_path) (list_all (λ n. leb (length n.path.pairs) limits.max_path) ms) s in
-          let le = leb-true (length m.path.pairs) limits.max_path parts.0 in
-          let same = ap length (none (record { 0 = p })) in
-          cond-false (is_long (entry_of p m)) (Some (entry_of p m)) (find is_long (entries_from (p + 1) ms)) (le-ltb limits.max_path (grown_length (table_of ns) parents (entry_of p m)) (omega arith))
-          ∙ go ms (p + 1) parts.1
 
   module _ (k : ℕ) (d : Node) (lt : k < length ns) (count : ℕ) (is : count ≡ length (get_or ns k d).path.pairs + length (filter (leads_first (table_of ns) (record { 0 = k })) parents)) where
     long-at : (b : Bool) → ltb limits.max_path count ≡ b → is_long (get_or (entries_from 0 ns) k (entry_of 0 d)) ≡ b

@@ -1,6 +1,6 @@
 -- Tests of some or all items of a list.
 use Rattle.std.proofs.Common.{◌≡◌, ℕ, ◌+◌, ◌<◌, Bool, true, false, ◌&&◌, ◌||◌, List, [], ◌∷◌, length, take, find, get_or, Some, None, inl, inr, refl, sym, ap, ◌∙◌, arith}
-use Rattle.std.specs.List.{list_any, list_all, flat_map}
+use Rattle.std.specs.List.{list_any, list_all}
 use Rattle.std.proofs.lemmas.Bool.{and_parts, cases_Bool, cond-true, cond-false}
 use Rattle.std.proofs.lemmas.Option.{none-some}
 use Rattle.std.proofs.lemmas.List.Folds.{list_any_more}
@@ -69,10 +69,6 @@ find-none_more test (x ∷ xs) (ℕ.suc i) d none lt f = elim (cases_Bool (test 
   | inl u ↦ absurd (none-some x (sym none ∙ cond-true (test x) (Some x) (find test (take i xs)) u))
   | inr g ↦ cond-false (test x) (Some x) (find test (take (ℕ.suc i) xs)) g ∙ find-none_more test xs i d (sym (cond-false (test x) (Some x) (find test (take i xs)) g) ∙ none) (omega arith) f
 ]
-
-pub flat-none : {X Y : Type 0} (f : X → List Y) (xs : List X) → ((x : X) → f x ≡ []) → flat_map f xs ≡ []
-flat-none f [] none = refl
-flat-none f (x ∷ xs) none = rw (none x) (flat-none f xs none)
 
 pub find-none_at : {X : Type 0} (test : X → Bool) (xs : List X) (i : ℕ) (d : X) → find test xs ≡ None → i < length xs → test (get_or xs i d) ≡ false
 find-none_at test [] i d none lt = absurd (omega arith)

@@ -3,15 +3,15 @@
 ghost use Rattle.std.specs.Prelude.{◌≡◌, ℕ, ◌≤◌, ◌^◌, Some, length, map, IsTrue, IfOk};
 ghost use Rattle.std.specs.Option.{option_map};
 ghost use Rattle.tardis_base.specs.declared.replies.Refusal.TheVariants.{PathFull as IsPathFull};
-ghost use Rattle.state_dag.specs.Table.{id_at};
-ghost use Rattle.state_dag.specs.Views.{entry_of};
+ghost use Rattle.state_dag.specs.Table.{id_at, arrive_in_order};
+ghost use Rattle.state_dag.specs.Views.{entry_of, entries_from};
 ghost use Rattle.state_dag.specs.Grown.{too_long, IsNewEntry};
 ghost use Rattle.state_dag.specs.Nodes.{table_of, table_within, table_after, are_places, are_short, path_refusal, TellsRefusal};
 
-use crate::leads::{has_only_child, leading};
+use crate::leads::{first_led, leading};
 use crate::new_paths::new_path;
 use crate::nodes::Node;
-use crate::sums::sum_in_u32;
+use crate::sums::{in_u32, sum_in_u32};
 use std::alloc::Global;
 use tardis_base::{AddFault, Limits, NoMemory, Slot, StateId};
 
@@ -58,13 +58,12 @@ pub fn check_paths(
     limits: &Limits,
 ) -> Result<(), AddFault>
     requires few { length nodes.now ≤ 2 ^ 32 }
+    requires in_order { IsTrue (arrive_in_order (entries_from 0 nodes.now)) }
     requires short { IsTrue (are_short limits.now.max_path nodes.now) }
     ensures { TellsRefusal (path_refusal (table_within limits.now nodes.now) node.now.id parents.now (length node.now.path.pairs)) result }
 {
-    if has_only_child(nodes, parents) {
-        check_kept_paths(nodes, parents, limits)?;
-    }
-    let pairs = sum_in_u32(node.path.len(), 0)?;
+    check_kept_paths(nodes, parents, limits)?;
+    let pairs = in_u32(node.path.len())?;
     if pairs > limits.max_path {
         return Err(AddFault::PathFull {
             state: node.id,
@@ -76,10 +75,12 @@ pub fn check_paths(
 
 /// The same of the kept states.
 fn check_kept_paths(nodes: &[Node], parents: &[Slot], limits: &Limits) -> Result<(), AddFault>
-    requires { length nodes.now ≤ 2 ^ 32 }
+    requires few { length nodes.now ≤ 2 ^ 32 }
+    requires in_order { IsTrue (arrive_in_order (entries_from 0 nodes.now)) }
+    requires short { IsTrue (are_short limits.now.max_path nodes.now) }
     ensures { TellsRefusal (option_map (λ long. IsPathFull long.0 long.1) (too_long (table_within limits.now nodes.now) parents.now)) result }
 {
-    for place in 0..nodes.len() {
+    for place in first_led(nodes, parents)..nodes.len() {
         let more = leading(nodes, parents, Slot(place as u32));
         let pairs = sum_in_u32(nodes[place].path.len(), more)?;
         if pairs > limits.max_path {

@@ -3,7 +3,7 @@
 
 ghost use Rattle.std.specs.Prelude.{◌≡◌, ℕ, ◌+◌, ◌-◌, ◌≤◌, ◌<◌, false, unwrap_or, slice_get, Some, None, List, [], ◌∷◌, length, map, IsTrue, IfOk, IfSome, OnErr};
 ghost use Rattle.std.specs.List.{list_all};
-ghost use Rattle.std.specs.Option.{option_and_then};
+ghost use Rattle.std.specs.Option.{option_and_then, option_map};
 ghost use Rattle.tardis_base.specs.declared.ids.StateId.{StateId};
 ghost use Rattle.tardis_base.specs.declared.ids.Slot.{Slot};
 ghost use Rattle.tardis_base.specs.declared.records.Record.{Record};
@@ -18,6 +18,7 @@ ghost use Rattle.plain_dag.specs.Paths.{fork_path};
 ghost use Rattle.state_dag.specs.Table.{entry_at, id_at, is_slot, is_kept_at, arrival_at, is_slot_above};
 ghost use Rattle.state_dag.specs.Views.{entry_of};
 ghost use Rattle.state_dag.specs.Stands.{Stands};
+ghost use Rattle.state_dag.specs.Shared.{shared_stand_in};
 ghost use Rattle.state_dag.specs.Answers.{MayBeAdded, AddedTo, IsNewSlot, KeepsSlots, next_of, slot_after};
 
 mod changes;
@@ -38,7 +39,7 @@ use leads::gains;
 use named_paths::named_path;
 use nodes::{Node, ROOT, is_node_above, root_node};
 use rooms::make_room;
-use slots::{put_slot, slot_in};
+use slots::{common_slot, put_slot, slot_in};
 use std::alloc::Global;
 use std::collections::BTreeMap;
 use std::marker::Model;
@@ -70,7 +71,7 @@ impl Model for StateDag {
 }
 
 impl StateDag {
-    /// The root alone.
+    /// The root alone. The cost grows with the number of sites.
     pub fn new(alloc: Global, limits: &Limits) -> Result<StateDag, NoMemory>
         requires { IsTrue (are_limits limits.now) }
         ensures stands { IfOk result (λ table. Stands table (root_record ∷ []) []) }
@@ -97,8 +98,9 @@ impl StateDag {
     /// one last, whose fork path would have more pairs than it may have, with their number. `NoMemory` also stands for a
     /// number that doesn't fit 32 bits. After each of them the table is as before.
     ///
-    /// The cost grows with the fork paths of the parents. Where a parent gets its second child it grows with the number of
-    /// kept states and their fork paths too.
+    /// The cost grows with the fork paths of the parents and the logarithm of the number of kept states. Where a parent gets
+    /// its second child it grows with the number of the states that are kept from its first child on, and with their fork
+    /// paths too.
     pub fn add(&mut self, id: StateId, parents: &[Slot]) -> Result<Slot, AddFault>
         requires slots { IsTrue (list_all (is_slot self.old) parents.now) }
         requires first { 1 ≤ id.site }
@@ -137,13 +139,14 @@ impl StateDag {
         Ok(Slot(kept))
     }
 
+    /// The limits with which the table was made, in constant time.
     pub fn limits(&self) -> &Limits
         ensures { result.now ≡ self.now.limits }
     {
         &self.limits
     }
 
-    /// Whether the state arrived, collected or not.
+    /// Whether the state arrived, collected or not. It takes constant time.
     pub fn knows(&self, id: StateId) -> bool
         ensures { (rs : List Record) (ks : List StateId) → Stands self.now rs ks → result ≡ is_known rs id }
     {
@@ -166,14 +169,14 @@ impl StateDag {
         slot_in(&self.slots, id)
     }
 
-    /// Whether a state is kept at the slot.
+    /// Whether a state is kept at the slot. It takes constant time.
     pub fn has_slot(&self, slot: Slot) -> bool
         ensures { result ≡ is_slot self.now slot }
     {
         (slot.0 as usize) < self.nodes.len()
     }
 
-    /// Which state is kept at the slot.
+    /// Which state is kept at the slot, in constant time.
     pub fn id_of(&self, slot: Slot) -> StateId
         requires { IsTrue (is_slot self.now slot) }
         ensures is { id_at self.now slot ≡ Some result }
@@ -183,7 +186,7 @@ impl StateDag {
         self.node(slot).id
     }
 
-    /// How many states of the site arrived.
+    /// How many states of the site arrived. The number is kept, so it takes constant time.
     pub fn count(&self, site: u16) -> u32
         requires first { 1 ≤ site }
         requires last { site ≤ self.now.limits.sites }
@@ -193,28 +196,28 @@ impl StateDag {
         self.counts[site as usize - 1]
     }
 
-    /// How many states arrived, the root among them.
+    /// How many states arrived, the root among them. The number is kept, so it takes constant time.
     pub fn known(&self) -> u64
         ensures { (rs : List Record) (ks : List StateId) → Stands self.now rs ks → result ≡ length rs }
     {
         self.known
     }
 
-    /// How many states are kept.
+    /// How many states are kept, in constant time.
     pub fn kept(&self) -> u32
         ensures { (rs : List Record) (ks : List StateId) → Stands self.now rs ks → result ≡ length (kept_states rs ks) }
     {
         self.nodes.len() as u32
     }
 
-    /// How many states have no child.
+    /// How many states have no child. The number is kept, so it takes constant time.
     pub fn leaves(&self) -> u32
         ensures { (rs : List Record) (ks : List StateId) → Stands self.now rs ks → result ≡ length (leaves rs) }
     {
         self.leaves
     }
 
-    /// The slot of the state that arrived last.
+    /// The slot of the state that arrived last, in constant time.
     pub fn last(&self) -> Slot
         ensures slot { IsTrue (is_slot self.now result) }
         ensures last { (rs : List Record) (ks : List StateId) → Stands self.now rs ks → id_at self.now result ≡ Some (last_arrived rs) }
@@ -222,7 +225,7 @@ impl StateDag {
         Slot((self.nodes.len() - 1) as u32)
     }
 
-    /// How many states had arrived before the one at the slot.
+    /// How many states had arrived before the one at the slot. It takes constant time.
     pub fn arrival(&self, slot: Slot) -> u64
         requires { IsTrue (is_slot self.now slot) }
         ensures is { result ≡ arrival_at self.now slot }
@@ -243,7 +246,7 @@ impl StateDag {
         is_node_above(self.node(a), self.node(b))
     }
 
-    /// All children of the state at the slot, in arrival order, collected ones too.
+    /// All children of the state at the slot, in arrival order, collected ones too. They are lent, in constant time.
     pub fn children(&self, slot: Slot) -> &[StateId]
         requires { IsTrue (is_slot self.now slot) }
         ensures { (rs : List Record) (ks : List StateId) → Stands self.now rs ks → (x : StateId) → id_at self.now slot ≡ Some x → result.now ≡ children rs x }
@@ -252,7 +255,7 @@ impl StateDag {
     }
 
     /// The slots in which the children of the state at the slot stand, in the order of `children`: of a kept child its own,
-    /// of a collected one that of the state that stands in for it.
+    /// of a collected one that of the state that stands in for it. They are lent, in constant time.
     pub fn child_slots(&self, slot: Slot) -> &[Slot]
         requires { IsTrue (is_slot self.now slot) }
         ensures { (rs : List Record) (ks : List StateId) → Stands self.now rs ks → (x : StateId) → id_at self.now slot ≡ Some x → map (id_at self.now) result.now ≡ map (λ c. Some (stand_in rs ks c)) (children rs x) }
@@ -260,7 +263,20 @@ impl StateDag {
         self.node(slot).stand_ins.as_slice()
     }
 
-    /// The parents that the record of the state at the slot names.
+    /// The slot of the stand-in that all children of the state at the slot share: of a state with one child the slot in
+    /// which that child stands. None where it has no child, or two children stand in different slots.
+    ///
+    /// The cost grows with the number of children.
+    pub fn shared_stand_in(&self, slot: Slot) -> Option<Slot>
+        requires { IsTrue (is_slot self.now slot) }
+        ensures shared { (rs : List Record) (ks : List StateId) → Stands self.now rs ks → (x : StateId) → id_at self.now slot ≡ Some x → option_map (id_at self.now) result ≡ option_map (λ c. Some c) (shared_stand_in rs ks x) }
+        ensures kept { (rs : List Record) (ks : List StateId) → Stands self.now rs ks → IfSome result (λ s. IsTrue (is_kept_at self.now s)) }
+    {
+        let _ = &self.limits;
+        common_slot(self.child_slots(slot))
+    }
+
+    /// The parents that the record of the state at the slot names. They are lent, in constant time.
     pub fn parents(&self, slot: Slot) -> &[StateId]
         requires { IsTrue (is_slot self.now slot) }
         ensures { (rs : List Record) (ks : List StateId) → Stands self.now rs ks → (x : StateId) → id_at self.now slot ≡ Some x → result.now ≡ parents_of rs x }
@@ -268,7 +284,8 @@ impl StateDag {
         self.node(slot).parents.as_slice()
     }
 
-    /// The slot of the kept state that arrived next after the one at this slot, or first of all; None at the end.
+    /// The slot of the kept state that arrived next after the one at this slot, or first of all; None at the end. It takes
+    /// constant time.
     pub fn kept_after(&self, slot: Option<Slot>) -> Option<Slot>
         requires { IfSome slot (λ s. IsTrue (is_slot self.now s)) }
         ensures slots { IfSome result (λ s. IsTrue (is_slot self.now s)) }
@@ -289,7 +306,8 @@ impl StateDag {
         }
     }
 
-    /// The slot of the kept state that arrived last before the one at this slot, or last of all; None at the beginning.
+    /// The slot of the kept state that arrived last before the one at this slot, or last of all; None at the beginning. It
+    /// takes constant time.
     pub fn kept_before(&self, slot: Option<Slot>) -> Option<Slot>
         requires { IfSome slot (λ s. IsTrue (is_slot self.now s)) }
         ensures slots { IfSome result (λ s. IsTrue (is_slot self.now s)) }

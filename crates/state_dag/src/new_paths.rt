@@ -8,7 +8,7 @@ ghost use Rattle.state_dag.specs.Nodes.{table_of, are_places, leads_to_some};
 
 use crate::leads::leads_first;
 use crate::nodes::Node;
-use crate::sums::sum_in_u32;
+use crate::sums::in_u32;
 use fork_path::ForkPath;
 use std::alloc::Global;
 use tardis_base::{NoMemory, Slot};
@@ -72,7 +72,7 @@ fn add_last_branches(path: &mut ForkPath, nodes: &[Node], parents: &[Slot]) -> R
     ensures ascending { IsTrue (are_ascending_pairs path.old.pairs) → IsTrue (are_ascending_pairs path.new.pairs) }
 {
     for parent in parents {
-        let branch = sum_in_u32(nodes[parent.0 as usize].children.len(), 0)?;
+        let branch = in_u32(nodes[parent.0 as usize].children.len())?;
         if branch > 0 {
             path.reserve(1)?;
             path.with_pair(parent.0, branch);

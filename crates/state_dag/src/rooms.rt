@@ -7,7 +7,7 @@ ghost use Rattle.state_dag.specs.Nodes.{table_of, are_places, have_places, is_ga
 
 use crate::leads::Gain;
 use crate::nodes::Node;
-use crate::sums::sum_in_u32;
+use crate::sums::in_u32;
 use tardis_base::{NoMemory, Slot};
 
 /// Makes room for a new node and for what its parents and the gaining paths get.
@@ -31,7 +31,7 @@ fn make_path_room(nodes: &mut Vec<Node>, gains: &[Gain], pairs: usize) -> Result
     ensures same { entries_from 0 nodes.new.items ≡ entries_from 0 nodes.old.items }
     ensures room { OnOk result ((k : ℕ) (d : Node) → k < length nodes.new.items → IsTrue (is_gaining k gains.now) → pairs ≤ (slice_index_or nodes.new.items k d).path.room) }
 {
-    let room = sum_in_u32(pairs, 0)?;
+    let room = in_u32(pairs)?;
     for gain in gains {
         nodes[gain.at.0 as usize].path.reserve(room)?;
     }

@@ -1,10 +1,11 @@
 //! Which slot each kept state has.
 
-ghost use Rattle.std.specs.Prelude.{◌≡◌, ℕ, Some, OnErr, OnOk, if◌then◌else◌};
+ghost use Rattle.std.specs.Prelude.{◌≡◌, ℕ, ◌==◌, Some, OnErr, OnOk, if◌then◌else◌};
 ghost use Rattle.std.specs.BTreeMap.{get};
 ghost use Rattle.tardis_base.specs.declared.ids.StateId.{StateId};
 ghost use Rattle.tardis_base.specs.Ids.{same_id};
 ghost use Rattle.state_dag.specs.Ids.{id_cmp};
+ghost use Rattle.state_dag.specs.Shared.{common};
 
 use std::collections::BTreeMap;
 use tardis_base::{NoMemory, Slot, StateId};
@@ -27,4 +28,16 @@ pub fn put_slot(
 {
     slots.insert(id, slot)?;
     Ok(())
+}
+
+/// The slot that all of these are, if they are one.
+pub fn common_slot(slots: &[Slot]) -> Option<Slot>
+    ensures { result ≡ common (λ a b. a.0 == b.0) slots.now }
+{
+    let first = slots.first()?;
+    if slots.iter().all(|slot| slot == first) {
+        Some(*first)
+    } else {
+        None
+    }
 }

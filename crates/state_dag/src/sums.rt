@@ -1,16 +1,28 @@
 //! Numbers that fit 32 bits.
 
-ghost use Rattle.std.specs.Prelude.{◌≡◌, ◌+◌, IfOk};
+ghost use Rattle.std.specs.Prelude.{◌≡◌, ◌+◌, ◌<◌, IfOk, OnErr};
 
 use tardis_base::NoMemory;
 
-/// The sum. One that doesn't fit is the number of things that no memory holds.
-pub fn sum_in_u32(a: usize, b: usize) -> Result<u32, NoMemory>
-    ensures { IfOk result (λ n. n ≡ a + b) }
+/// The number. Of things so many that their number doesn't fit no memory holds all.
+pub fn in_u32(number: usize) -> Result<u32, NoMemory>
+    ensures is { IfOk result (λ n. n ≡ number) }
+    ensures above { OnErr result (4294967295 < number) }
 {
-    if a <= 0x7fff_ffff && b <= 0x7fff_ffff {
-        Ok((a + b) as u32)
+    if number <= 0xffff_ffff {
+        Ok(number as u32)
     } else {
         Err(NoMemory)
+    }
+}
+
+/// The sum, where it fits.
+pub fn sum_in_u32(a: usize, b: usize) -> Result<u32, NoMemory>
+    ensures is { IfOk result (λ n. n ≡ a + b) }
+    ensures above { OnErr result (4294967295 < a + b) }
+{
+    match a.checked_add(b) {
+        Some(sum) => in_u32(sum),
+        None => Err(NoMemory),
     }
 }

@@ -86,6 +86,22 @@ fn states_are_added_below_their_parents(rt: HostRuntime) {
     );
 }
 
+/// The slot of the stand-in that the root's children share.
+fn shared_below_root(dag: &StateDag) -> Option<Slot> {
+    dag.shared_stand_in(dag.slot_of(state(0))?)
+}
+
+#[test]
+fn only_a_lone_child_is_shared_while_all_are_kept(rt: HostRuntime) {
+    let mut dag = StateDag::new(rt.alloc(), &LIMITS).expect(&rt, "room");
+    assert_eq!(rt; shared_below_root(&dag), None);
+    assert!(rt; add_below(&mut dag, 0, None).is_ok());
+    let child = dag.slot_of(state(1));
+    assert!(rt; child.is_some() && shared_below_root(&dag) == child);
+    assert!(rt; add_below(&mut dag, 0, None).is_ok());
+    assert_eq!(rt; shared_below_root(&dag), None);
+}
+
 #[test]
 fn limits_refuse_states(rt: HostRuntime) {
     let two = Limits {

@@ -61,7 +61,8 @@ impl VersionList {
 
     /// Makes room for one more version of each of these keys, and answers an equal copy of the writes.
     ///
-    /// With no memory, keys may have been listed and room may have been made.
+    /// With no memory, keys may have been listed and room may have been made. The cost grows with the lengths of these keys and
+    /// values, and with a look-up of each key; a list without room is moved to where it has some.
     pub fn reserve(&mut self, writes: &WriteSet) -> Result<WriteSet, NoMemory>
         ensures copy { IfOk result (λ copy. copy ≡ writes.now) }
         ensures room { OnOk result (IsTrue (has_room_for self.new writes.now)) }
@@ -73,6 +74,8 @@ impl VersionList {
     }
 
     /// Adds what the state of this slot wrote, which is read from there on. It takes no memory, and uses up the room for these keys.
+    ///
+    /// The cost grows with the number of the writes, and for each with a look-up of its key.
     pub fn add<A: Above>(&mut self, dag: &A, slot: Slot, writer: StateId, writes: WriteSet)
         requires order { IsInOrder (A.is_kept dag.now) (A.arrival_of dag.now) self.old }
         requires room { IsTrue (has_room_for self.old writes) }
@@ -152,7 +155,7 @@ impl VersionList {
         self.lists.key_at(place)
     }
 
-    /// The keys with a version at this state.
+    /// The keys with a version at this state. The cost is that of a look-up of the slot.
     pub fn keys_at(&self, slot: Slot) -> &[Key]
         ensures { (k : List ℕ) → is_key_among k result.now ≡ has_version_at slot (versions_of self.now k) }
     {

@@ -27,9 +27,11 @@ pub returns-then-kept-self-clause-added : goal.returns-then-kept-self-clause-add
 returns-then-kept-self-clause-added c = λ rs ks r stands is may.
     let os = c.self.inside.nodes.items in
     let old = c.args.self.now in
+    let is_full = c.if-kept-self.true in
+    let equal : c.len-kept.result ≡ c.self.inside.limits.max_kept = omega arith in
     full old old rs ks r c.args.parents.now stands c.len-kept.result
     (c.len-kept.ensures ∙ c.self.inside.nodes.ok.0 ∙ sym (length-entries os 0) ∙ ap (λ (t : Table). length t.entries) c.self.view_is)
-    (c.if-kept-self.true ∙ ap (λ (t : Table). t.limits.max_kept) c.self.view_is) refl
+    (equal ∙ ap (λ (t : Table). t.limits.max_kept) c.self.view_is) refl
 
 pub new_node-requires : goal.new_node-requires
 new_node-requires c =
@@ -50,7 +52,10 @@ returns-in_err-check_paths-clause-added c = λ rs ks r stands is may.
     let p = err_from_is_err_and c.from_residual-in_err-check_paths.result c.from_residual-in_err-check_paths.ensures.1 in
     let wrong : AddFault → Result Slot AddFault = λ f. Err f in
     let kept = c.len-kept.ensures ∙ a.nodes.ok.0 ∙ sym (length-entries os 0) ∙ ap (λ (t : Table). length t.entries) c.self.view_is in
-    let room = ne_eqb (length old.entries) old.limits.max_kept (λ e. c.if-kept-self.false (kept ∙ e ∙ sym (ap (λ (t : Table). t.limits.max_kept) c.self.view_is))) in
+    let room = ne_eqb (length old.entries) old.limits.max_kept (λ e.
+    let equal : c.len-kept.result ≡ c.self.inside.limits.max_kept = kept ∙ e ∙ sym (ap (λ (t : Table). t.limits.max_kept) c.self.view_is) in
+    let has_room = c.if-kept-self.false in
+    omega arith) in
     subst (λ (z : Result Slot AddFault). AddedTo old old rs ks r z) (sym (p.1 ∙ ap wrong p.2))
     (fault-told old rs ks r parents stands may room n.path.pairs (path-moves (table_after a.known os) old (ap (λ (t : Table). t.entries) c.self.view_is) parents n.path.pairs entry.path) c.in_err-check_paths.field-0.0 named)
 
@@ -210,7 +215,10 @@ returns-clause-added c = λ rs ks r stands is may.
     let g = table-grown old new ms ns n parents id slot (old-entries c) (ap (λ (t : Table). t.limits) c.self.view_is) counts (ap (λ (t : Table). t.known + 1) c.self.view_is) leaves
     (fresh old new ms ns n slot c.grow.ensures.count (last-place c) (old-entries c) after) after c.grow.ensures.count (last-place c) distinct up c.grow.ensures.each entry in
     let kept = c.len-kept.ensures ∙ a.nodes.ok.0 ∙ sym (length-entries os 0) ∙ ap (λ (t : Table). length t.entries) c.self.view_is in
-    let room = ne_eqb (length old.entries) old.limits.max_kept (λ e. c.if-kept-self.false (kept ∙ e ∙ sym (ap (λ (t : Table). t.limits.max_kept) c.self.view_is))) in
+    let room = ne_eqb (length old.entries) old.limits.max_kept (λ e.
+    let equal : c.len-kept.result ≡ c.self.inside.limits.max_kept = kept ∙ e ∙ sym (ap (λ (t : Table). t.limits.max_kept) c.self.view_is) in
+    let has_room = c.if-kept-self.false in
+    omega arith) in
     let told = subst (λ ns₂. path_refusal (table_within a.limits ns₂) n.id parents (length n.path.pairs) ≡ None) c.deref-2.ensures.value c.in_ok-check_paths.ensures in
     let seen_told = subst (λ (t : Table). path_refusal t n.id parents (length n.path.pairs) ≡ None) c.self.view_is told in
     let named = subst (λ (x : StateId). path_refusal old x parents (length n.path.pairs) ≡ None) entry.id_is seen_told in

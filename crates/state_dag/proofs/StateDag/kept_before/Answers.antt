@@ -1,5 +1,4 @@
 use Rattle.std.proofs.Common.{◌≡◌, ◌∙◌, ◌+◌, ◌-◌, ◌<◌, ℕ, Option, Some, None, IsTrue, IfSome, true, sym, ap, subst, arith}
-use Rattle.tardis_base.specs.declared.ids.StateId.{StateId}
 use Rattle.tardis_base.specs.declared.ids.Slot.{Slot}
 use Rattle.std.proofs.lemmas.Option.{none-some, same_Some}
 use Rattle.plain_dag.specs.Collection.{kept_states}

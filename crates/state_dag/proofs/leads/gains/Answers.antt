@@ -1,4 +1,4 @@
-use Rattle.std.proofs.Common.{◌∙◌, ◌++◌, List, map, Vec, Global, sym, ap, arith}
+use Rattle.std.proofs.Common.{◌∙◌, ◌++◌, List, sym, ap, arith}
 use Rattle.std.specs.List.{flat_map}
 use Rattle.std.proofs.lemmas.List.{take_all}
 use Rattle.tardis_base.specs.declared.ids.Slot.{Slot}
@@ -6,11 +6,10 @@ use Rattle.state_dag.specs.Table.{Entry}
 use Rattle.state_dag.specs.Views.{entries_from}
 use Rattle.state_dag.specs.Nodes.{table_of, gains_at}
 use Rattle.state_dag.proofs.Places.{length-entries}
-use Rattle.state_dag.proofs.Passing.{flat-none}
+use Rattle.state_dag.proofs.LedPlaces.{none-gained_before}
 use Rattle.state_dag.proofs.NodeLists.{gains-more}
 use Rattle.state_dag.specs.declared.leads.Gain.{Gain}
 use Rattle.state_dag.proofs.leads.gains.Goals as goal
-use Rattle.state_dag.proofs.leads.gains.Goals.{then-has_only_child+else-loop-place-test, else-has_only_child}
 
 pub loop-place-preserved : goal.loop-place-preserved
 loop-place-preserved c =
@@ -20,20 +19,12 @@ loop-place-preserved c =
     ∙ ap (λ gs. gs ++ gains_at (table_of nodes) c.args.parents.now slot) c.loop-place.invariant
     ∙ gains-more (table_of nodes) c.args.parents.now nodes c.loop-place.place (omega arith)
 
+pub loop-place-init : goal.loop-place-init
+loop-place-init c = c.new-gains.ensures.items ∙ sym (none-gained_before c.args.nodes.now c.args.parents.now c.first_led-place.result c.first_led-place.ensures.before)
+
 pub returns : goal.returns
 returns c =
     let nodes = c.args.nodes.now in
-    let table = table_of nodes in
-    let parents = c.args.parents.now in
-    let f : Entry → List Gain = λ e. gains_at table parents e.slot in
-    let gain : Slot → Slot → Gain = λ s p. record { at = s; fork = p } in
-    elim c.if-has_only_child.branch [
-      | then-has_only_child+else-loop-place-test w ↦
-          ap (λ (v : Vec Gain Global). v.items) w.gains-is
-          ∙ w.loop-place.invariant
-          ∙ ap (flat_map f) (take_all w.loop-place.place (entries_from 0 nodes) (let long = length-entries nodes 0 in omega (arith, w.loop-place-test.false)))
-      | else-has_only_child w ↦
-          ap (λ (v : Vec Gain Global). v.items) w.gains-is
-          ∙ c.new-gains.ensures.items
-          ∙ sym (flat-none f (entries_from 0 nodes) (λ e. ap (map (gain e.slot)) (c.has_only_child.ensures w.if-has_only_child.false e.slot)))
-    ]
+    let f : Entry → List Gain = λ e. gains_at (table_of nodes) c.args.parents.now e.slot in
+    c.loop-place.invariant
+    ∙ ap (flat_map f) (take_all c.loop-place.place (entries_from 0 nodes) (let long = length-entries nodes 0 in omega arith))

@@ -1,4 +1,4 @@
-use Rattle.std.proofs.Common.{◌∙◌, ◌≤◌, ℕ, ltb, length, get_or, List, IsTrue, sym, subst, add-zero, arith}
+use Rattle.std.proofs.Common.{◌∙◌, ◌≤◌, ℕ, ltb, length, get_or, List, IsTrue, sym, subst, arith}
 use Rattle.std.proofs.lemmas.Bool.{ltb-true}
 use Rattle.std.proofs.lemmas.List.{length-set, take_all}
 use Rattle.state_dag.specs.declared.nodes.Node.{Node}
@@ -53,7 +53,7 @@ loop-gain-preserved c =
 
 pub returns-clause-room : goal.returns-clause-room
 returns-clause-room c =
-    let room = c.in_ok-room.ensures ∙ add-zero c.args.pairs in
+    let room = c.in_ok-room.ensures.is in
     λ k d lt among.
     subst (λ (n : ℕ). n ≤ (get_or c.loop-gain.nodes.items k d).path.room) room
     (c.loop-gain.invariant.room k d lt (subst (λ (gs : List Gain). IsTrue (is_gaining k gs)) (sym (take_all c.loop-gain.gain-index c.args.gains.now (omega arith))) among))

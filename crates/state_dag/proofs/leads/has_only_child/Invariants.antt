@@ -1,8 +1,0 @@
-use Rattle.std.proofs.Common.{◌≡◌, [], filter, take}
-use Rattle.tardis_base.specs.declared.ids.Slot.{Slot}
-use Rattle.state_dag.specs.Grown.{leads_first}
-use Rattle.state_dag.specs.Nodes.{table_of}
-use Rattle.state_dag.proofs.leads.has_only_child.Given as goal
-
-abbrev pub invariant-loop-parent : goal.invariant-loop-parent
-invariant-loop-parent l = (at : Slot) → filter (leads_first (table_of l.nodes) at) (take l.parent-index l.parents) ≡ []
