@@ -1,5 +1,5 @@
 -- Leaves are chosen.
-use Rattle.std.proofs.Common.{◌≡◌, ◌∙◌, ◌&&◌, not, List, Some, Ok, IsTrue, sym, ap, subst}
+use Rattle.std.proofs.Common.{◌≡◌, not, List, Some, Ok, IsTrue, sym, ap, subst}
 use Rattle.std.proofs.lemmas.Bool.{and_parts}
 use Rattle.tardis_base.specs.declared.ids.StateId.{StateId}
 use Rattle.tardis_base.specs.declared.ids.Slot.{Slot}

@@ -2,3 +2,5 @@
 pub mod Rising
 pub mod Newest
 pub mod Chosen
+pub mod NamedStates
+pub mod Admissions

@@ -1,30 +1,26 @@
 -- The newest kept state below another.
-use Rattle.std.proofs.Common.{◌≡◌, ℕ, ◌+◌, ◌≤◌, ◌<◌, Bool, true, false, not, List, [], ◌∷◌, length, find, Option, Some, None, IsTrue, IsFalse, unwrap_or, ◌⊎◌, inl, inr, refl, sym, ap, subst, ◌∙◌, arith}
+use Rattle.std.proofs.Common.{◌≡◌, ◌≤◌, ◌<◌, Bool, true, false, not, List, [], ◌∷◌, find, Some, None, IsTrue, IsFalse, unwrap_or, inl, inr, refl, sym, ap, subst, ◌∙◌, arith}
 use Rattle.std.proofs.lemmas.Bool.{and_parts, and_from, cases_Bool, both_ways, cond-true, cond-false, false_from_ne_true, not_from_false, cases_lt}
 use Rattle.std.proofs.lemmas.Option.{none-some, same_Some}
 use Rattle.std.specs.List.{list_any}
 use Rattle.tardis_base.specs.declared.ids.StateId.{StateId}
-use Rattle.tardis_base.specs.declared.ids.Slot.{Slot}
 use Rattle.tardis_base.specs.declared.records.Record.{Record}
 use Rattle.tardis_base.specs.Ids.{same_id, is_among}
 use Rattle.plain_dag.specs.States.{states, arrival, is_known}
 use Rattle.plain_dag.specs.Above.{is_above}
 use Rattle.plain_dag.specs.Forks.{is_leaf}
 use Rattle.plain_dag.specs.Begin.{last_arrived, last_below}
-use Rattle.plain_dag.specs.Dag.{IsDag}
 use Rattle.plain_dag.specs.Collection.{is_kept, kept_states, stand_in}
-use Rattle.plain_dag.specs.Laws.{StandsInWell}
-use Rattle.plain_dag.proofs.Ids.{not-both, any-witness, same_id-true, same_id_self}
+use Rattle.plain_dag.proofs.Ids.{not-both, same_id-true, same_id_self}
 use Rattle.plain_dag.proofs.Histories.{Grows, dag-grows, known-before, known-isnt-newest, arrival-newest, arrival-before, arrival_is_below}
 use Rattle.plain_dag.proofs.Order.{above-reflexive, arrivals-differ}
 use Rattle.plain_dag.proofs.Searches.{found-passes, finds-passing}
 use Rattle.plain_dag.proofs.Leaves.{begins-at-leaves, leaf-is-childless}
 use Rattle.plain_dag.proofs.StandIns.{stands-in-well}
-use Rattle.state_dag.specs.Table.{Table, id_at}
+use Rattle.state_dag.specs.Table.{Table}
 use Rattle.state_dag.specs.Stands.{Stands}
 use Rattle.state_dag.specs.Answers.{next_of}
 use Rattle.state_dag.proofs.Known.{kept-is_listed}
-use Rattle.state_dag.proofs.Standing.{slot-is_kept}
 use Rattle.begin_rule.proofs.Rising.{first-rises, next-rises, kept-rise}
 
 -- what is found arrived last of those that pass

@@ -1,2 +1,3 @@
 -- What a choice of a read state answers.
 pub mod Choices
+pub mod Faults

@@ -13,6 +13,9 @@ ghost use Rattle.state_dag.specs.Table.{id_at, is_slot};
 ghost use Rattle.state_dag.specs.Stands.{Stands};
 ghost use Rattle.begin_rule.specs.Choices.{ChosenAs};
 
+mod merges;
+
+pub use merges::{MergeFault, choose_all};
 use state_dag::StateDag;
 use tardis_base::{Begin, Slot, StateId};
 
@@ -73,9 +76,10 @@ fn newest_below(dag: &StateDag, slot: Slot) -> Slot
 }
 
 /// The slot of this known state, if the ceiling admits it.
-fn admitted(dag: &StateDag, state: StateId, ceiling: Slot) -> Result<Slot, BeginFault>
+pub(crate) fn admitted(dag: &StateDag, state: StateId, ceiling: Slot) -> Result<Slot, BeginFault>
     requires { IsTrue (is_slot dag.now ceiling) }
     ensures slot { IfOk result (λ slot. IsTrue (is_slot dag.now slot)) }
+    ensures named { IfOk result (λ slot. id_at dag.now slot ≡ Some state) }
     ensures chosen { (rs : List Record) (ks : List StateId) → Stands dag.now rs ks → (c : StateId) → id_at dag.now ceiling ≡ Some c → IsTrue (is_known rs state) → ((x : StateId) → IsTrue (is_among x ks) → IsTrue (is_proper_ancestor rs x c)) → ChosenAs dag.now rs c state result }
 {
     let limit = dag.id_of(ceiling);

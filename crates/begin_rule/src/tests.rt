@@ -1,9 +1,10 @@
-//! What no clause says: that a choice is made, where the root is alone.
+//! What no clause says: that a choice is made, and that memory is had where there is enough.
 
-use crate::{BeginFault, choose};
+use crate::{BeginFault, MergeFault, choose, choose_all};
 use state_dag::StateDag;
+use std::alloc::Global;
 use std::test::Fail;
-use tardis_base::{Begin, Limits, StateId};
+use tardis_base::{AddFault, Begin, Limits, ListOf, Slot, StateId};
 
 const LIMITS: Limits = Limits {
     sites: 1,
@@ -23,6 +24,40 @@ const FIRST: StateId = StateId {
     sequence: 1,
 };
 
+const SECOND: StateId = StateId {
+    site: 1,
+    sequence: 2,
+};
+
+const THIRD: StateId = StateId {
+    site: 1,
+    sequence: 3,
+};
+
+/// Adds the next state of site 1 below the root.
+fn add_below_root(dag: &mut StateDag) -> Result<Slot, AddFault> {
+    if dag.limits().sites == 0 {
+        return Err(AddFault::NoMemory);
+    }
+    let Some(sequence) = dag.count(1).checked_add(1) else {
+        return Err(AddFault::NoMemory);
+    };
+    let Some(root) = dag.slot_of(ROOT) else {
+        return Err(AddFault::NoMemory);
+    };
+    dag.add(StateId { site: 1, sequence }, &[root])
+}
+
+/// What a merge of these states comes to under the ceiling, if that is kept.
+fn chosen(
+    alloc: Global,
+    dag: &StateDag,
+    states: &[StateId],
+    ceiling: StateId,
+) -> Option<Result<ListOf<Slot>, MergeFault>> {
+    Some(choose_all(alloc, dag, states, dag.slot_of(ceiling)?))
+}
+
 #[test]
 fn a_lone_root_is_chosen(rt: HostRuntime) -> Result<(), Fail> {
     let dag = StateDag::new(rt.alloc(), &LIMITS)?;
@@ -36,6 +71,36 @@ fn a_lone_root_is_chosen(rt: HostRuntime) -> Result<(), Fail> {
     ];
     for (begin, answer) in rows {
         assert_eq!(rt; choose(&dag, &begin, ROOT, slot, slot), answer);
+    }
+    Ok(())
+}
+
+#[test]
+fn a_merge_begins_where_no_state_is_refused(rt: HostRuntime) -> Result<(), Fail> {
+    let mut dag = StateDag::new(rt.alloc(), &LIMITS)?;
+    let one = add_below_root(&mut dag).expect(&rt, "room");
+    let other = add_below_root(&mut dag).expect(&rt, "room");
+    match chosen(rt.alloc(), &dag, &[FIRST, SECOND], ROOT) {
+        Some(Ok(slots)) => assert_eq!(rt; slots.as_slice(), [one, other].as_slice()),
+        _ => assert!(rt; false, "both are known, admitted and apart"),
+    }
+    let unknown = MergeFault::Unknown { state: THIRD };
+    let below = MergeFault::Below {
+        state: ROOT,
+        ceiling: FIRST,
+    };
+    let comparable = MergeFault::Comparable { a: ROOT, b: SECOND };
+    let rows = [
+        ([SECOND, THIRD], ROOT, unknown),
+        ([ROOT, THIRD], FIRST, unknown),
+        ([SECOND, ROOT], FIRST, below),
+        ([ROOT, SECOND], ROOT, comparable),
+    ];
+    for (states, ceiling, fault) in rows {
+        match chosen(rt.alloc(), &dag, &states, ceiling) {
+            Some(Err(told)) => assert_eq!(rt; told, fault),
+            _ => assert!(rt; false, "it is refused"),
+        }
     }
     Ok(())
 }

@@ -46,7 +46,9 @@ impl<T: Drop> From<AllocFailed<T>> for OpenFault {
 
 /// The sessions of one site and the floors of all sites, as known here.
 ///
-/// Each state is kept with its slot in the table of states, so that no call searches for it.
+/// Each state is kept with its slot in the table of states, so that no call searches for it. A call that names a session
+/// looks it up, at a cost that grows with the logarithm of the number of open sessions. The cost of the others, but for
+/// `new`, is the same for each book.
 #[derive(Drop)]
 pub struct CeilingBook {
     own: u16,
@@ -106,8 +108,6 @@ impl CeilingBook {
     }
 
     /// Opens the session under the own floor, with the root as its last commit, and answers the slot of its ceiling.
-    ///
-    /// The cost grows with the logarithm of the number of open sessions.
     pub fn open_session(&mut self, session: u16, follow: bool) -> Result<Slot, OpenFault>
         ensures opened { OpenedIn self.old self.new session follow result }
         ensures rest { KeepsRest self.old self.new }
@@ -184,6 +184,8 @@ impl CeilingBook {
 
     /// Notes that the session committed the state at the slot. Where the session follows and its ceiling is at or above the
     /// state, this is its ceiling too.
+    ///
+    /// Where it follows, the cost is also that of `StateDag::is_ancestor`.
     pub fn committed(&mut self, dag: &StateDag, session: u16, slot: Slot)
         requires open { IsTrue (is_open self.old session) }
         requires slots { AreSlots self.old dag.now }

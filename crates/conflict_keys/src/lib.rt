@@ -10,7 +10,7 @@ mod values;
 
 pub use opens::first_open;
 pub use pages::{KeyPage, conflicts};
-pub use values::value_over;
+pub use values::{is_conflict, value_over};
 
 #[cfg(test)]
 mod tests;

@@ -16,7 +16,7 @@ use tardis_base::{Found, Key, Over, Slot};
 /// The value of the key over these states: what the lowest of its latest writers at them writes, or Conflict where none of
 /// these has all the others at or above it.
 ///
-/// The cost is that of three reads at each of the states.
+/// The cost is that of two reads at each of the states, and of one at the end.
 pub fn value_over<'a>(store: &'a RecordStore, states: &[Slot], key: &Key) -> Over<'a>
     requires { IsTrue (list_all (is_slot store.now.table) states.now) }
     ensures { (rs : List Record) (ks : List StateId) → StoreStands store.now rs ks → (xs : List StateId) → map (id_at store.now.table) states.now ≡ map (λ x. Some x) xs → OverAs rs xs key.now result }
@@ -29,7 +29,9 @@ pub fn value_over<'a>(store: &'a RecordStore, states: &[Slot], key: &Key) -> Ove
 }
 
 /// Whether these states conflict in the key.
-pub(crate) fn is_conflict(store: &RecordStore, states: &[Slot], key: &Key) -> bool
+///
+/// The cost is that of two reads at each of the states.
+pub fn is_conflict(store: &RecordStore, states: &[Slot], key: &Key) -> bool
     requires { IsTrue (list_all (is_slot store.now.table) states.now) }
     ensures { (rs : List Record) (ks : List StateId) → StoreStands store.now rs ks → (xs : List StateId) → map (id_at store.now.table) states.now ≡ map (λ x. Some x) xs → result ≡ is_conflict_key rs xs key.now }
 {

@@ -1,7 +1,7 @@
 -- What the table answers of a kept state, and what that says of the history.
 use Rattle.std.proofs.Common.{◌≡◌, Bool, true, false, ◌&&◌, ◌||◌, not, List, [], ◌∷◌, ◌++◌, length, ◌==◌, map, filter, Some, IsTrue, IsFalse, inl, inr, refl, sym, ap, ap₂, subst, ◌∙◌, eqb-true, arith}
 use Rattle.std.specs.List.{list_any, list_all}
-use Rattle.std.proofs.lemmas.Bool.{cond-true, cond-false, and_left, and_parts, and_from, cases_Bool, not_from_false, false_from_ne_true}
+use Rattle.std.proofs.lemmas.Bool.{cond-true, cond-false, and_left, and_parts, and_from, cases_Bool, not_from_false, not-true, false_from_ne_true}
 use Rattle.tardis_base.specs.declared.ids.StateId.{StateId}
 use Rattle.tardis_base.specs.declared.ids.Slot.{Slot}
 use Rattle.tardis_base.specs.declared.records.Record.{Record}
@@ -11,7 +11,7 @@ use Rattle.plain_dag.specs.Above.{is_above, is_above_all}
 use Rattle.plain_dag.specs.Forks.{is_leaf, is_fork_point}
 use Rattle.plain_dag.specs.Collection.{is_kept, kept_states, stand_in}
 use Rattle.plain_dag.proofs.Ids.{not-both, among-first, among-later}
-use Rattle.plain_dag.proofs.States.{child_is_known}
+use Rattle.plain_dag.proofs.States.{child_is_known, any-witness, any-from}
 use Rattle.plain_dag.proofs.Leaves.{leaf-is-childless}
 use Rattle.plain_dag.proofs.StandIns.{stands-in-well}
 use Rattle.state_dag.specs.Table.{Table, id_at, is_slot, is_slot_above}
@@ -93,6 +93,21 @@ module _ (table : Table) (rs : List Record) (ks : List StateId) (stands : Stands
       and_from (is_known rs x) (not (is_among x ks)) known
       (not_from_false (is_among x ks) (false_from_ne_true (is_among x ks) (λ gone.
       not-both false (subst (λ cs. IsTrue (list_any (λ c. true) cs)) (leaf-is-childless rs x leaf) (stands.shared x gone).0) refl)))
+
+  -- a collected state has a child that is at or above all of these where it is itself, so that fork points are kept
+  pub fork-point-is_kept : (ss : List Slot) (xs : List StateId) → map (id_at table) ss ≡ map (λ y. Some y) xs → (x : StateId) → IsTrue (is_known rs x) → IsTrue (is_fork_point rs xs x) → IsTrue (is_kept rs ks x)
+  fork-point-is_kept ss xs are x known fork =
+      let is_above_them : StateId → Bool = λ c. is_above_all rs c xs in
+      let parts = and_parts (is_above_them x) (not (list_any is_above_them (children rs x))) fork in
+      and_from (is_known rs x) (not (is_among x ks)) known
+      (not_from_false (is_among x ks) (false_from_ne_true (is_among x ks) (λ gone.
+      let some = any-witness (λ c. true) (children rs x) (stands.shared x gone).0 in
+      let kept = named-are_kept ss xs are in
+      let here = stand-in-above_all x known xs kept in
+      let there = stand-in-above_all some.0 (child_is_known rs x some.0 some.1) xs kept in
+      let same = ap (λ z. is_above_all rs z xs) ((stands.shared x gone).1 some.0 some.1) in
+      let above : IsTrue (is_above_them some.0) = sym there ∙ (same ∙ (here ∙ parts.0)) in
+      not-both (list_any is_above_them (children rs x)) (any-from is_above_them (children rs x) some.0 some.1 above) (not-true (list_any is_above_them (children rs x)) parts.1))))
 
 -- ===== Leaves
 

@@ -6,9 +6,7 @@ ghost use Rattle.std.specs.List.{list_all, list_any};
 ghost use Rattle.tardis_base.specs.declared.ids.StateId.{StateId};
 ghost use Rattle.tardis_base.specs.declared.ids.Slot.{Slot};
 ghost use Rattle.tardis_base.specs.declared.records.Record.{Record};
-ghost use Rattle.plain_dag.specs.States.{is_known};
 ghost use Rattle.plain_dag.specs.Forks.{is_leaf, leaves, is_fork_point, fork_points};
-ghost use Rattle.plain_dag.specs.Collection.{is_kept};
 ghost use Rattle.state_dag.specs.Table.{id_at, is_slot, is_slot_above};
 ghost use Rattle.state_dag.specs.Stands.{Stands};
 ghost use Rattle.fork_points.specs.Pages.{IsPageOf};
@@ -54,12 +52,11 @@ impl StatePage {
 
 /// The states at or above all of these that have no child at or above all of them: how many there are, and the first 256.
 ///
-/// All of them are taken to be kept. Of no states at all they are the leaves. The cost grows with the number of kept states
-/// and their children, and with the number of these states; each ancestry that is asked costs what `StateDag::is_ancestor`
-/// does.
+/// Of no states at all they are the leaves. The cost grows with the number of kept states and their children, and with the
+/// number of these states; each ancestry that is asked costs what `StateDag::is_ancestor` does.
 pub fn fork_points(alloc: Global, dag: &StateDag, states: &[Slot]) -> Result<StatePage, NoMemory>
     requires { IsTrue (list_all (is_slot dag.now) states.now) }
-    ensures { (rs : List Record) (ks : List StateId) → Stands dag.now rs ks → (xs : List StateId) → map (id_at dag.now) states.now ≡ map (λ x. Some x) xs → ((x : StateId) → IsTrue (is_known rs x) → IsTrue (is_fork_point rs xs x) → IsTrue (is_kept rs ks x)) → IfOk result (IsPageOf (fork_points rs xs)) }
+    ensures { (rs : List Record) (ks : List StateId) → Stands dag.now rs ks → (xs : List StateId) → map (id_at dag.now) states.now ≡ map (λ x. Some x) xs → IfOk result (IsPageOf (fork_points rs xs)) }
 {
     let mut page = StatePage::new(alloc);
     let mut next = dag.kept_after(None);

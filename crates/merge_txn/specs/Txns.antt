@@ -7,7 +7,7 @@ use Rattle.merge_txn.specs.declared.Txn.TheVariants.{Single, Merge}
 use Rattle.merge_txn.specs.declared.TxnFault.{TxnFault}
 use Rattle.merge_txn.specs.declared.TxnFault.TheVariants.{TooMany, NoMemory}
 
--- it reads one state
+-- it is a single transaction, no merge
 abbrev pub is_single : Txn → Bool
 is_single (Single t) = true
 is_single (Merge t) = false

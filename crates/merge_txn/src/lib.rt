@@ -12,10 +12,10 @@ use tardis_base::{Key, KeySet, NoMemory, StateId, StateList, Write, WriteSet};
 /// How many keys a transaction may write.
 pub const MAX_WRITES: usize = 64;
 
-/// How many keys a transaction of one state may read.
+/// How many keys a single transaction may read.
 pub const MAX_READS: usize = 256;
 
-/// A transaction that reads one state, and notes what it reads.
+/// A single transaction: it reads one state, and notes what it reads.
 #[derive(Debug, Drop)]
 pub struct SingleTxn {
     /// The state that it reads, alone.
@@ -24,7 +24,7 @@ pub struct SingleTxn {
     pub writes: WriteSet,
 }
 
-/// A transaction that reads several states and makes one of them.
+/// A merge: it reads one or more states, and makes one of them.
 #[derive(Debug, Drop)]
 pub struct MergeTxn {
     pub states: StateList,
@@ -108,6 +108,9 @@ impl Txn {
     }
 
     /// Takes the write, in place of what was written to the key. On a fault the transaction is as before, and the write is dropped.
+    ///
+    /// The key is copied. The cost grows with the logarithm of the number of written keys, and for a new key with the number
+    /// of those behind its place.
     pub fn put(&mut self, key: &Key, write: Write) -> Result<(), TxnFault>
         ensures put { OnOk result (self.new ≡ with_writes (with_write key.now write (writes_of self.old)) self.old) }
         ensures same { OnErr result (self.new ≡ self.old) }
@@ -122,6 +125,9 @@ impl Txn {
     }
 
     /// Notes that the key is read. A key that is noted takes no memory, and on a fault the transaction is as before.
+    ///
+    /// A new key is copied. The cost grows with the logarithm of the number of noted keys, and for a new key with the number
+    /// of those behind its place.
     pub fn note_read(&mut self, key: &Key) -> Result<(), TxnFault>
         requires { IsTrue (is_single self.old) }
         ensures noted { OnOk result (self.new ≡ with_reads (with_key key.now (reads_of self.old)) self.old) }

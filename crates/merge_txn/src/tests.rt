@@ -42,23 +42,9 @@ fn a_257th_key_is_not_read(rt: HostRuntime) -> Result<(), Fail> {
     let many = TxnFault::TooMany { what: 2, n: 257 };
     for number in 0..258 {
         let key = key(alloc, number % 257)?;
-        if !txn.is_merge() {
-            let wanted = if number == 256 { Err(many) } else { Ok(()) };
-            assert_eq!(rt; txn.note_read(&key), wanted, "{number}");
-        }
+        assert!(rt; !txn.is_merge());
+        let wanted = if number == 256 { Err(many) } else { Ok(()) };
+        assert_eq!(rt; txn.note_read(&key), wanted, "{number}");
     }
-    Ok(())
-}
-
-#[test]
-fn a_merge_reads_its_states(rt: HostRuntime) -> Result<(), Fail> {
-    let alloc = rt.alloc();
-    let mut states = StateList::new(alloc);
-    for sequence in 1..3 {
-        states.push(StateId { site: 1, sequence })?;
-    }
-    let txn = Txn::merge(alloc, states);
-    assert!(rt; txn.is_merge());
-    assert_eq!(rt; txn.states().len(), 2);
     Ok(())
 }

@@ -1,9 +1,7 @@
-use Rattle.std.proofs.Common.{◌≡◌, ◌∙◌, Some, None, refl, sym, ap, subst}
+use Rattle.std.proofs.Common.{◌∙◌, Some, refl, sym, ap, subst}
 use Rattle.std.proofs.lemmas.Option.{same_Some}
-use Rattle.tardis_base.specs.declared.ids.StateId.{StateId}
 use Rattle.plain_dag.specs.Begin.{last_arrived}
 use Rattle.plain_dag.specs.Collection.{kept_states, stand_in}
-use Rattle.state_dag.specs.Table.{id_at}
 use Rattle.state_dag.specs.Answers.{next_of}
 use Rattle.state_dag.proofs.Calls.{named-of_slot}
 use Rattle.state_dag.proofs.Standing.{slot-is_kept}

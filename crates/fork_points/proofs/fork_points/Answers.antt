@@ -6,7 +6,7 @@ use Rattle.state_dag.proofs.Calls.{named-of_slot}
 use Rattle.fork_points.specs.declared.StatePage.{StatePage}
 use Rattle.fork_points.specs.Pages.{IsPageOf}
 use Rattle.fork_points.proofs.Pages.{Reached, noted, passed, ended, walked, started, as-reached}
-use Rattle.fork_points.proofs.Asked.{among-kept}
+use Rattle.fork_points.proofs.Asked.{among-kept, fork-point-is_kept}
 use Rattle.fork_points.proofs.fork_points.Goals as goal
 use Rattle.fork_points.proofs.fork_points.Goals.{in-Some, then-is_fork_point+in_ok-note, else-is_fork_point, in_default}
 
@@ -60,7 +60,7 @@ loop-place-preserved c = elim c.match-next.branch [
 ]
 
 pub returns : goal.returns
-returns c = λ rs ks stands ys are kept.
+returns c = λ rs ks stands ys are.
     let all = c.kept-place-end.ensures rs ks stands in
     let kept_page = walked c.args.dag.now rs ks stands (is_fork_point rs ys) c.loop-place._place c.loop-place.page c.loop-place.next (omega arith) (c.loop-place.invariant.reached rs ks stands ys are) in
-    subst (λ xs. IsPageOf xs c.loop-place.page) (among-kept c.args.dag.now rs ks stands (is_fork_point rs ys) kept) kept_page
+    subst (λ xs. IsPageOf xs c.loop-place.page) (among-kept c.args.dag.now rs ks stands (is_fork_point rs ys) (fork-point-is_kept c.args.dag.now rs ks stands c.args.states.now ys are)) kept_page
