@@ -24,9 +24,9 @@ WriteIsReadBackByTheWhole = TalkInBytes everything lone_site put_and_read
 
 -- ===== What isn't built, and what is no request
 
--- ForkPoints, spelled right, isn't built: that is said before that no session is open
+-- Ceiling, spelled right, isn't built: that is said before that no session is open
 abbrev pub UnbuiltIsUnsupported : Type 0
-UnbuiltIsUnsupported = TalkInBytes so_far lone_site (1 sends hex "09" => hex "15 1b 09" ∷ [])
+UnbuiltIsUnsupported = TalkInBytes so_far lone_site (1 sends hex "0c 0000 00000000" => hex "15 1b 0c" ∷ [])
 
 -- an operation that isn't built is told by its code, whatever follows
 abbrev pub UnbuiltOperationIsTold : Type 0
@@ -38,6 +38,8 @@ BuiltIsNotOpen =
     TalkInBytes so_far lone_site
     (1 sends hex "02 01" => hex "15 02"
     ∷ 1 sends hex "06 00 0000" => hex "15 02"
+    ∷ 1 sends hex "08 00" => hex "15 02"
+    ∷ 1 sends hex "09" => hex "15 02"
     ∷ [])
 
 -- and so is all, once it is built
@@ -46,7 +48,7 @@ WholeIsNotOpen =
     TalkInBytes everything lone_site
     (1 sends hex "02 01" => hex "15 02"
     ∷ 1 sends hex "06 00 0000" => hex "15 02"
-    ∷ 1 sends hex "09" => hex "15 02"
+    ∷ 1 sends hex "0c 0000 00000000" => hex "15 02"
     ∷ [])
 
 -- no operation, no such kind of Begin, a byte too many, branches counted without KB

@@ -1,5 +1,5 @@
 -- What bytes ask for.
-use Rattle.std.proofs.Common.{◌≡◌, ℕ, List, false, true, Some, IsTrue, refl, sym, subst}
+use Rattle.std.proofs.Common.{◌≡◌, ℕ, List, false, true, Some, IsTrue, refl, subst}
 use Rattle.std.specs.Option.{option_map_or}
 use Rattle.tardis_base.specs.declared.requests.Request.{Request}
 use Rattle.tardis_base.specs.declared.requests.Request.TheVariants.{Open, Begin as BeginAt, Get, Put, Delete, Commit, Abort, BeginMerge, ForkPoints, Conflicts, GetFor, Ceiling, Raise, RaiseAuto, Tidy, Stat, Show, Leaves, Pull, Deliver, Close}

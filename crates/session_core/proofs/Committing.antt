@@ -1,6 +1,5 @@
 -- A transaction commits.
-use Rattle.std.proofs.Common.{◌≡◌, ◌≢◌, ℕ, ◌+◌, ◌≤◌, true, false, ◌==◌, List, [], ◌∷◌, ◌++◌, map, length, Option, Some, None, IsTrue, IsFalse, refl, sym, ap, ap₂, subst, ◌∙◌, arith}
-use Rattle.std.specs.List.{list_all}
+use Rattle.std.proofs.Common.{◌≡◌, ◌≢◌, ℕ, ◌+◌, ◌≤◌, true, false, ◌==◌, List, [], ◌∷◌, map, filter_map, length, Option, Some, None, IsTrue, IsFalse, refl, sym, ap, ap₂, subst, ◌∙◌, arith}
 use Rattle.std.specs.Option.{option_map}
 use Rattle.std.proofs.lemmas.Option.{same_Some}
 use Rattle.std.proofs.lemmas.Bool.{and_parts, both_ways, false_from_ne_true, ne_eqb}
@@ -21,24 +20,24 @@ use Rattle.plain_dag.specs.Landing.{landing, guarded, broken}
 use Rattle.plain_dag.specs.Entries.{entry_of, changed, without_entry}
 use Rattle.plain_dag.specs.Floors.{after_commit, is_closed}
 use Rattle.plain_dag.specs.Growth.{growth_refusal}
-use Rattle.state_dag.specs.Table.{Table, id_at, is_slot}
+use Rattle.state_dag.specs.Table.{Table, id_at}
 use Rattle.state_dag.specs.Answers.{KeepsSlots, MayBeAdded}
 use Rattle.state_dag.specs.Stands.{Stands}
 use Rattle.record_store.specs.Store.{Store}
 use Rattle.record_store.specs.Stands.{StoreStands}
 use Rattle.record_store.specs.Answers.{MayArrive}
-use Rattle.merge_txn.specs.Txns.{states_of, writes_of, reads_of}
+use Rattle.merge_txn.specs.Txns.{states_of, reads_of, writes_of as kept_writes}
 use Rattle.ceiling_book.specs.Book.{Book, known_floor, sessions_of, is_open}
 use Rattle.ceiling_book.specs.Places.{AreSlots, ArePlaced}
 use Rattle.ceiling_book.specs.Answers.{KeepsRest}
-use Rattle.plain_site.specs.Site.{Site, SingleTxn, Single, own_count, next_id}
+use Rattle.plain_site.specs.Site.{Site, SingleTxn, Txn, Single, Merge, own_count, next_id, writes_of}
 use Rattle.plain_site.specs.Built.{so_far}
 use Rattle.plain_site.specs.Sound.{IsSound}
 use Rattle.plain_site.specs.Answers.{Answer, refused, refuse_found, unless, with_txn}
 use Rattle.plain_site.specs.Commits.{without_txn_of, growth_refusals, committed, commit_below, commit_writes, commit_single, commit}
 use Rattle.plain_site.proofs.SoundHistories.{above-closed}
 use Rattle.plain_site.proofs.SoundBooks.{own-is_site}
-use Rattle.plain_site.proofs.SoundCommits.{own-next, single-joins, admitted-isnt_closed}
+use Rattle.plain_site.proofs.SoundCommits.{MayJoin, own-next, single-joins, admitted-isnt_closed}
 use Rattle.plain_site.proofs.RepliesSound.{limits-within}
 use Rattle.session_core.specs.declared.parts.Parts.TheInside.{Inside}
 use Rattle.session_core.specs.declared.txns.OpenTxn.{OpenTxn}
@@ -47,7 +46,7 @@ use Rattle.session_core.specs.Held.{IsHeld}
 use Rattle.session_core.specs.Stands.{CoreStands, kept_txn}
 use Rattle.session_core.specs.Gives.{IsGiven}
 use Rattle.session_core.specs.Commits.{next_record}
-use Rattle.session_core.proofs.Answers.{skip, stop, as-given}
+use Rattle.session_core.proofs.Answers.{skip, as-given}
 use Rattle.session_core.proofs.Standing.{open-session, txn-answer, txn-ended}
 use Rattle.session_core.proofs.Growing.{slots-stay, names-stay}
 use Rattle.session_core.proofs.Memory.{ended-held}
@@ -55,15 +54,6 @@ use Rattle.session_core.proofs.Memory.{ended-held}
 -- ===== Another store
 
 -- the same table
-pub same-table-held : (a : Inside) (store : Store) → IsHeld a → store.table ≡ a.store.table → IsHeld (record a { store = store })
-same-table-held a store held same =
-    let back : a.store.table ≡ store.table = sym same in
-    record {
-      places = subst (λ t. AreSlots a.book t) back held.places;
-      slots = λ n h e. subst (λ t. IsTrue (list_all (is_slot t) h.slots)) back (held.slots n h e);
-      floors = held.floors ∙ ap (λ t. t.limits.sites) back;
-    }
-
 pub same-table-stands : (core : Core) (site : Site) (store : Store) → CoreStands core site → store.table ≡ core.store.table → StoreStands store site.dag site.collected → CoreStands (record core { store = store }) site
 same-table-stands core site store stands same store_stands =
     let back : core.store.table ≡ store.table = sym same in
@@ -116,7 +106,7 @@ stop-found : {A : Type 0} (site : Site) (refusal : A → Refusal) (o : Option A)
     unless site (refuse_found refusal o ∷ more) answer ≡ refused site (refusal a)
 stop-found site refusal o a more answer e = ap (λ z. unless site (refuse_found refusal z ∷ more) answer) e
 
-skip-found : {A : Type 0} (site : Site) (refusal : A → Refusal) (o : Option A) (more : List (Option Reply)) (answer : Answer) → ◌≡◌ {A = Option A} o None →
+pub skip-found : {A : Type 0} (site : Site) (refusal : A → Refusal) (o : Option A) (more : List (Option Reply)) (answer : Answer) → ◌≡◌ {A = Option A} o None →
     unless site (refuse_found refusal o ∷ more) answer ≡ unless site more answer
 skip-found site refusal o more answer e = ap (λ z. unless site (refuse_found refusal z ∷ more) answer) e
 
@@ -126,9 +116,6 @@ module _ (site : Site) (n : ℕ) (parents : List StateId) (writes : List KeyWrit
 
   abbrev growth : Option Refusal
   growth = growth_refusal true site.limits site.collected site.dag (next_record site parents writes)
-
-  pub below-ends : (own_count site == 4294967295) ≡ true → commit_below so_far site n parents writes [] ≡ refused site SeqEnd
-  below-ends e = stop site (Refused SeqEnd) (growth_refusals so_far site r) (committed site n r) (own_count site == 4294967295) e
 
   pub below-commits : (own_count site == 4294967295) ≡ false → ◌≡◌ {A = Option Refusal} growth None → commit_below so_far site n parents writes [] ≡ committed site n r
   below-commits e f =
@@ -150,9 +137,6 @@ module _ (site : Site) (n : ℕ) (t : SingleTxn) (flags : EndFlags) (k : ℕ) wh
   pub passes-on : ◌≡◌ {A = Option ℕ} (broken flags k number) None → commit_writes so_far site n t flags k ≡ commit_below so_far site n (lands ∷ []) t.writes []
   passes-on e = ap (λ o. commit_below so_far site n (lands ∷ []) t.writes (refuse_found (λ (c : ℕ). AreBranches c lands number) o ∷ [])) e
 
-  pub branches : (c : ℕ) → broken flags k number ≡ Some c → commit_writes so_far site n t flags k ≡ refused site (AreBranches c lands number)
-  branches c e = ap (λ o. commit_below so_far site n (lands ∷ []) t.writes (refuse_found (λ (d : ℕ). AreBranches d lands number) o ∷ [])) e
-
   pub reads-only : (length t.writes == 0) ≡ true → commit_single so_far site n t flags k ≡ (without_txn_of n site, Ended t.state)
   reads-only e = go t.writes e
     where
@@ -169,32 +153,37 @@ module _ (site : Site) (n : ℕ) (t : SingleTxn) (flags : EndFlags) (k : ℕ) wh
 
 -- ===== What soundness gives
 
-module _ (site : Site) (sound : IsSound so_far site) (n : ℕ) (t : SingleTxn) (found : entry_of n site.txns ≡ Some (Single t)) where
-  state-open : IsFalse (is_closed site.dag site.floors t.state)
-  state-open =
-      let was = sound.each_txn n (Single t) found in
-      admitted-isnt_closed so_far site n was.0 t.state sound was.1 (and_parts (is_admitted site.dag was.0.ceiling t.state) true was.2.admitted).0
-
+module _ (site : Site) (sound : IsSound so_far site) where
   -- nothing below what isn't closed is collected
   below-open : (x : StateId) → IsFalse (is_closed site.dag site.floors x) → (y : StateId) → IsTrue (is_above site.dag x y) → IsFalse (is_among y site.collected)
   below-open x opened y above =
       false_from_ne_true (is_among y site.collected) (λ among.
       both_ways (is_closed site.dag site.floors x) opened (above-closed site.dag sound.dag site.floors x y above (sound.collected.closed y among)))
 
+  -- what may join may arrive
+  pub joined-arrives : (parents : List StateId) (writes : List KeyWrite) → MayJoin site parents writes → own_count site ≢ 4294967295 →
+      MayArrive site.limits.sites site.dag site.collected (next_record site parents writes)
+  joined-arrives parents writes joins more = record {
+    next = own-next so_far site parents writes sound joins more;
+    site = (own-is_site so_far site sound).1;
+    kept = λ p y among above. below-open p (joins.free p among) y above;
+  }
+
+module _ (site : Site) (sound : IsSound so_far site) (n : ℕ) (t : SingleTxn) (found : entry_of n site.txns ≡ Some (Single t)) where
+  state-open : IsFalse (is_closed site.dag site.floors t.state)
+  state-open =
+      let was = sound.each_txn n (Single t) found in
+      admitted-isnt_closed so_far site n was.0 t.state sound was.1 (and_parts (is_admitted site.dag was.0.ceiling t.state) true was.2.admitted).0
+
   pub below-is-kept : (y : StateId) → IsTrue (is_above site.dag t.state y) → IsFalse (is_among y site.collected)
-  below-is-kept y above = below-open t.state state-open y above
+  below-is-kept y above = below-open site sound t.state state-open y above
 
   pub may-arrive : (flags : EndFlags) → own_count site ≢ 4294967295 →
       MayArrive site.limits.sites site.dag site.collected (next_record site (landing site.dag (guarded flags t.reads (keys_of t.writes)) t.state ∷ []) t.writes)
   may-arrive flags more =
       let was = sound.each_txn n (Single t) found in
       let x = landing site.dag (guarded flags t.reads (keys_of t.writes)) t.state in
-      let joins = single-joins so_far site n was.0 t flags was.1 was.2 sound in
-      record {
-        next = own-next so_far site (x ∷ []) t.writes sound joins more;
-        site = (own-is_site so_far site sound).1;
-        kept = λ p y among above. below-open p (joins.free p among) y above;
-      }
+      joined-arrives site sound (x ∷ []) t.writes (single-joins so_far site n was.0 t flags was.1 was.2 sound) more
 
 -- a state has few children
 pub few-children : (site : Site) → IsSound so_far site → (x : StateId) → length (children site.dag x) ≤ 4294967295
@@ -205,78 +194,98 @@ few-children site sound x =
 
 -- ===== What is kept of the transaction
 
-module _ (core : Core) (site : Site) (stands : CoreStands core site) (n : ℕ) (h : OpenTxn) (t : SingleTxn) (at : entry_of n core.txns ≡ Some h) (found : entry_of n site.txns ≡ Some (Single t)) where
-  pub kept-as : kept_txn (Single t) ≡ h.txn
-  kept-as = same_Some (kept_txn (Single t)) h.txn (sym (ap (option_map kept_txn) found) ∙ stands.txns n ∙ ap (option_map (λ (o : OpenTxn). o.txn)) at)
+writes-kept : (t : Txn) → kept_writes (kept_txn t) ≡ writes_of t
+writes-kept (Single t) = refl
+writes-kept (Merge t) = refl
 
-  -- its slot is that of its state
-  pub slot-of-state : map (id_at core.store.table) h.slots ≡ Some t.state ∷ []
-  slot-of-state = stands.slots n h at ∙ ap (λ u. map (λ x. Some x) (states_of u)) (sym kept-as)
+module _ (core : Core) (site : Site) (stands : CoreStands core site) (n : ℕ) (h : OpenTxn) (t : Txn) (at : entry_of n core.txns ≡ Some h) (found : entry_of n site.txns ≡ Some t) where
+  pub kept-as : kept_txn t ≡ h.txn
+  kept-as = same_Some (kept_txn t) h.txn (sym (ap (option_map kept_txn) found) ∙ stands.txns n ∙ ap (option_map (λ (o : OpenTxn). o.txn)) at)
 
-  pub writes-as : writes_of h.txn ≡ t.writes
-  writes-as = sym (ap writes_of kept-as)
+  -- its slots are those of its states
+  pub slots-named : map (id_at core.store.table) h.slots ≡ map (λ x. Some x) (states_of (kept_txn t))
+  slots-named = stands.slots n h at ∙ ap (λ u. map (λ x. Some x) (states_of u)) (sym kept-as)
 
-  pub reads-as : reads_of h.txn ≡ t.reads
+  pub writes-as : kept_writes h.txn ≡ writes_of t
+  writes-as = sym (ap kept_writes kept-as) ∙ writes-kept t
+
+  pub reads-as : reads_of h.txn ≡ reads_of (kept_txn t)
   reads-as = sym (ap reads_of kept-as)
 
 -- ===== Commit, row by row
 
-module _ (core : Core) (site : Site) (stands : CoreStands core site) (n : ℕ) (t : SingleTxn) (opened : is_open core.book n ≡ true) (found : entry_of n site.txns ≡ Some (Single t)) (flags : EndFlags) (k : ℕ) where
-  pub is-commit : with_txn site n (λ s u. commit so_far site n u flags k) ≡ commit_single so_far site n t flags k
+module _ (core : Core) (site : Site) (stands : CoreStands core site) (n : ℕ) (t : Txn) (opened : is_open core.book n ≡ true) (found : entry_of n site.txns ≡ Some t) (flags : EndFlags) (k : ℕ) where
+  pub is-commit : with_txn site n (λ s u. commit so_far site n u flags k) ≡ commit so_far site n t flags k
   is-commit =
       let s = open-session core site stands n opened in
-      txn-answer site n (λ r u. commit so_far site n u flags k) s.value (Single t) s.is found
+      txn-answer site n (λ r u. commit so_far site n u flags k) s.value t s.is found
 
--- the next state joins, and the session and its transaction follow
-pub commit-gives : (core : Core) (site : Site) → CoreStands core site → (n : ℕ) (t : SingleTxn) (x : StateId) (store : Store) (book : Book) (es : List (ℕ × OpenTxn)) (id : StateId) (parents : List StateId) →
-    (own_count site == 4294967295) ≡ false → id ≡ next_id site → parents ≡ x ∷ [] →
-    (◌≡◌ {A = Option Refusal} (growth_refusal true core.store.table.limits site.collected site.dag (next_record site (x ∷ []) t.writes)) None) × StoreStands store (next_record site (x ∷ []) t.writes ∷ site.dag) site.collected →
+-- the next state joins below these, and the session and its transaction follow
+pub commit-gives : (core : Core) (site : Site) → CoreStands core site → (n : ℕ) (xs : List StateId) (ws : List KeyWrite) (store : Store) (book : Book) (es : List (ℕ × OpenTxn)) (id : StateId) (parents : List StateId) →
+    (own_count site == 4294967295) ≡ false → id ≡ next_id site → parents ≡ xs →
+    (◌≡◌ {A = Option Refusal} (growth_refusal true core.store.table.limits site.collected site.dag (next_record site xs ws)) None) × StoreStands store (next_record site xs ws ∷ site.dag) site.collected →
     KeepsSlots core.store.table store.table → store.table.limits ≡ core.store.table.limits → KeepsRest core.book book →
-    sessions_of book ≡ changed n (after_commit (next_record site (x ∷ []) t.writes ∷ site.dag) (next_id site)) (sessions_of core.book) →
-    ArePlaced book store.table (next_record site (x ∷ []) t.writes ∷ site.dag) site.collected → es ≡ without_entry n core.txns →
-    IsGiven (CoreStands (record core { store = store; book = book; txns = es })) (commit_below so_far site n (x ∷ []) t.writes []) (Committed id parents)
-commit-gives core site stands n t x store book es id parents more named below (room, store_stands) keeps limits rest sessions placed e =
-    let r = next_record site (x ∷ []) t.writes in
-    as-given (CoreStands (record core { store = store; book = book; txns = es })) (commit_below so_far site n (x ∷ []) t.writes []) (committed site n r) (Committed id parents)
-    (below-commits site n (x ∷ []) t.writes more (ap (λ l. growth_refusal true l site.collected site.dag r) (sym stands.limits) ∙ room))
+    sessions_of book ≡ changed n (after_commit (next_record site xs ws ∷ site.dag) (next_id site)) (sessions_of core.book) →
+    ArePlaced book store.table (next_record site xs ws ∷ site.dag) site.collected → es ≡ without_entry n core.txns →
+    IsGiven (CoreStands (record core { store = store; book = book; txns = es })) (commit_below so_far site n xs ws []) (Committed id parents)
+commit-gives core site stands n xs ws store book es id parents more named below (room, store_stands) keeps limits rest sessions placed e =
+    let r = next_record site xs ws in
+    as-given (CoreStands (record core { store = store; book = book; txns = es })) (commit_below so_far site n xs ws []) (committed site n r) (Committed id parents)
+    (below-commits site n xs ws more (ap (λ l. growth_refusal true l site.collected site.dag r) (sym stands.limits) ∙ room))
     (grown-stands core site r store book n es stands store_stands keeps limits rest sessions placed e, ap₂ Committed named below)
 
 -- there is no room
-pub commit-refused : (core : Core) (site : Site) → CoreStands core site → (n : ℕ) (t : SingleTxn) (x : StateId) (store : Store) (refusal : Refusal) → (own_count site == 4294967295) ≡ false →
-    (growth_refusal true core.store.table.limits site.collected site.dag (next_record site (x ∷ []) t.writes) ≡ Some refusal) × StoreStands store site.dag site.collected → store.table ≡ core.store.table →
-    IsGiven (CoreStands (record core { store = store })) (commit_below so_far site n (x ∷ []) t.writes []) (Refused refusal)
-commit-refused core site stands n t x store refusal more (full, store_stands) same =
-    as-given (CoreStands (record core { store = store })) (commit_below so_far site n (x ∷ []) t.writes []) (refused site refusal) (Refused refusal)
-    (below-refuses site n (x ∷ []) t.writes refusal more (ap (λ l. growth_refusal true l site.collected site.dag (next_record site (x ∷ []) t.writes)) (sym stands.limits) ∙ full))
+pub commit-refused : (core : Core) (site : Site) → CoreStands core site → (n : ℕ) (xs : List StateId) (ws : List KeyWrite) (store : Store) (refusal : Refusal) → (own_count site == 4294967295) ≡ false →
+    (growth_refusal true core.store.table.limits site.collected site.dag (next_record site xs ws) ≡ Some refusal) × StoreStands store site.dag site.collected → store.table ≡ core.store.table →
+    IsGiven (CoreStands (record core { store = store })) (commit_below so_far site n xs ws []) (Refused refusal)
+commit-refused core site stands n xs ws store refusal more (full, store_stands) same =
+    as-given (CoreStands (record core { store = store })) (commit_below so_far site n xs ws []) (refused site refusal) (Refused refusal)
+    (below-refuses site n xs ws refusal more (ap (λ l. growth_refusal true l site.collected site.dag (next_record site xs ws)) (sym stands.limits) ∙ full))
     (same-table-stands core site store stands same store_stands, refl)
-
--- the record may be added below the slot
-pub may-be-added : (table : Table) (site : Site) (r : Record) (below : Slot) (x : StateId) → table.limits ≡ site.limits → id_at table below ≡ Some x → r.parents ≡ x ∷ [] →
-    MayArrive site.limits.sites site.dag site.collected r → MayBeAdded table site.dag site.collected r (below ∷ [])
-may-be-added table site r below x limits named parents may = record {
-  next = may.next;
-  site = subst (λ l. r.id.site ≤ l.sites) (sym limits) may.site;
-  slots = ap (λ o. o ∷ []) named ∙ ap (map (λ p. Some p)) (sym parents);
-  kept = may.kept;
-}
 
 -- ===== The next id
 
 -- the own number and the count of the table are those of the site
-pub counted-as : (core : Core) (site : Site) → CoreStands core site → (table : Table) → table ≡ core.store.table → (own count : ℕ) → own ≡ core.book.own →
+counted-as : (core : Core) (site : Site) → CoreStands core site → (table : Table) → table ≡ core.store.table → (own count : ℕ) → own ≡ core.book.own →
     ((rs : List Record) (ks : List StateId) → Stands table rs ks → count ≡ count_of_site rs own) → (own ≡ site.own) × (count ≡ own_count site)
 counted-as core site stands table same own count is counts =
     let mine = is ∙ stands.own in
     (mine, counts site.dag site.collected (subst (λ t. Stands t site.dag site.collected) (sym same) stands.store.table) ∙ ap (count_of_site site.dag) mine)
 
-pub not-last : (site : Site) (count : ℕ) → count ≡ own_count site → ¬ (count ≡ 4294967295) → ((own_count site == 4294967295) ≡ false) × (own_count site ≢ 4294967295)
-not-last site count counted apart = (ne_eqb (own_count site) 4294967295 (λ e. apart (counted ∙ e)), λ e. apart (counted ∙ e))
+-- there is a next id, and its record may be added below the slots
+pub record MayCommit (core : Core) (site : Site) (id : StateId) (r : Record) (below : List Slot) : Type 0 where
+  pub more : (own_count site == 4294967295) ≡ false
+  pub named : id ≡ next_id site
+  pub added : MayBeAdded core.store.table site.dag site.collected r below
 
-pub named-next : (site : Site) (own count : ℕ) → own ≡ site.own → count ≡ own_count site → ◌≡◌ {A = StateId} (record { site = own; sequence = count + 1 }) (next_id site)
-named-next site own count mine counted = ap₂ (λ o q. let x : StateId = record { site = o; sequence = q + 1 } in x) mine counted
+pub may-commit : (core : Core) (site : Site) → CoreStands core site → (table : Table) → table ≡ core.store.table → (own count : ℕ) → own ≡ core.book.own →
+    ((rs : List Record) (ks : List StateId) → Stands table rs ks → count ≡ count_of_site rs own) → ¬ (count ≡ 4294967295) →
+    (below : List Slot) (xs : List StateId) (ws : List KeyWrite) → map (id_at core.store.table) below ≡ map (λ x. Some x) xs →
+    (own_count site ≢ 4294967295 → MayArrive site.limits.sites site.dag site.collected (next_record site xs ws)) →
+    MayCommit core site (record { site = own; sequence = count + 1 }) (next_record site xs ws) below
+may-commit core site stands table same own count is counts apart below xs ws named arrives =
+    let mine = counted-as core site stands table same own count is counts in
+    let may = arrives (λ e. apart (mine.1 ∙ e)) in
+    record {
+      more = ne_eqb (own_count site) 4294967295 (λ e. apart (mine.1 ∙ e));
+      named = ap₂ (λ o q. let x : StateId = record { site = o; sequence = q + 1 } in x) mine.0 mine.1;
+      added =
+          record {
+            next = may.next;
+            site = subst (λ l. site.own ≤ l.sites) (sym stands.limits) may.site;
+            slots = named;
+            kept = may.kept;
+          };
+    }
 
--- the one parent
-pub only-parent : (table now : Table) → table ≡ now → (below : Slot) (x y : StateId) (old ps : List StateId) → id_at table below ≡ Some y → id_at now below ≡ Some x → old ≡ [] → ps ≡ old ++ y ∷ [] → ps ≡ x ∷ []
-only-parent table now same below x y old ps named is none pushed =
-    let one : y ≡ x = same_Some y x (sym named ∙ ap (λ t. id_at t below) same ∙ is) in
-    pushed ∙ ap (λ (os : List StateId). os ++ y ∷ []) none ∙ ap (λ z. z ∷ []) one
+-- ===== The parents
+
+-- what all are there
+all-there : (xs : List StateId) → filter_map (λ o. o) (map (λ x. Some x) xs) ≡ xs
+all-there [] = refl
+all-there (x ∷ xs) = ap (λ ys. x ∷ ys) (all-there xs)
+
+-- the parents are the states of the slots
+pub told-parents : (table now : Table) → table ≡ now → (below : List Slot) (xs ps : List StateId) → map (id_at table) below ≡ map (λ p. Some p) ps → map (id_at now) below ≡ map (λ x. Some x) xs → ps ≡ xs
+told-parents table now same below xs ps told named =
+    sym (all-there ps) ∙ ap (filter_map (λ o. o)) (sym told ∙ ap (λ t. map (id_at t) below) same ∙ named) ∙ all-there xs

@@ -7,10 +7,12 @@ pub mod Standing
 pub mod Memory
 pub mod OpenSessions
 pub mod Reading
+pub mod Finding
 pub mod Writing
 pub mod Beginning
 pub mod Growing
 pub mod Committing
+pub mod MergeCommitting
 pub mod Showing
 pub mod Serving
 pub mod Settings
@@ -19,3 +21,6 @@ pub mod ReadAgain
 pub mod Noting
 pub mod Opening
 pub mod Asking
+pub mod Ordering
+pub mod MergeShows
+pub mod Merging

@@ -1,24 +1,24 @@
 -- Reads that are noted, and then written.
-use Rattle.std.proofs.Common.{◌≡◌, ℕ, List, Bool, true, false, Option, Some, None, Result, Ok, Err, IsTrue, refl, sym, ap, subst, ◌∙◌, inl, inr}
+use Rattle.std.proofs.Common.{◌≡◌, ℕ, List, true, false, Option, Some, None, Result, Ok, IsTrue, refl, sym, ap, subst, ◌∙◌, inl, inr}
 use Rattle.tardis_base.specs.declared.faults.NoMemory.{NoMemory}
 use Rattle.tardis_base.specs.declared.ids.StateId.{StateId}
-use Rattle.tardis_base.specs.declared.readings.Found.{Found}
+use Rattle.tardis_base.specs.declared.readings.Found.{Found as FoundAt}
 use Rattle.tardis_base.specs.declared.readings.Found.TheVariants.{Deleted as FoundDeleted}
+use Rattle.tardis_base.specs.declared.readings.Over.TheVariants.{Found}
 use Rattle.tardis_base.specs.declared.replies.Refusal.{Refusal}
-use Rattle.tardis_base.specs.declared.replies.Refusal.TheVariants.{TooMany}
 use Rattle.tardis_base.specs.declared.replies.Reply.TheVariants.{Refused, Deleted}
 use Rattle.tardis_base.specs.declared.requests.Request.TheVariants.{Get}
 use Rattle.tardis_base.specs.Valid.{is_u16, is_id, is_key}
 use Rattle.wire_talk.specs.Spellings.{reply_spelling}
 use Rattle.wire_talk.specs.Valid.{is_refusal}
 use Rattle.version_list.specs.Reads.{found as found_write}
-use Rattle.plain_site.specs.Answers.{Answer, refused, leaves_site, found}
+use Rattle.plain_site.specs.Answers.{Answer, leaves_site, found}
 use Rattle.plain_site.specs.Built.{so_far}
 use Rattle.plain_site.specs.Site.{Site}
 use Rattle.plain_site.specs.Sound.{IsSound}
 use Rattle.session_core.specs.Core.{Core}
 use Rattle.session_core.specs.Gives.{FindsFor, NotesFor}
-use Rattle.session_core.specs.Machine.{SiteStands, IsTold, MayRead, reading, opened_with}
+use Rattle.session_core.specs.Machine.{SiteStands, MayRead, reading, opened_with}
 use Rattle.session_core.specs.Stands.{CoreStands, StandsForSite}
 use Rattle.session_core.proofs.ReadAgain.{read-again}
 use Rattle.session_core.proofs.Settings.{step-same, opened-same}
@@ -29,12 +29,12 @@ abbrev pub Noted : Core → Core → ℕ → List ℕ → Result (Option Refusal
 Noted old new n k result = (site : Site) → CoreStands old site → IsSound so_far site → NotesFor (CoreStands new) (reading site n k) site result
 
 -- the reply to a read that may be done is found
-pub is-found : (site : Site) (n : ℕ) (k : List ℕ) (what : Found) → FindsFor (reading site n k) site (Ok what) → leaves_site (reading site n k).1 ≡ false → (reading site n k).1 ≡ found (found_write what)
+pub is-found : (site : Site) (n : ℕ) (k : List ℕ) (what : FoundAt) → FindsFor (reading site n k) site k (Ok (Found what)) → leaves_site (reading site n k).1 ≡ false → (reading site n k).1 ≡ found (found_write what)
 is-found site n k what (inl is) read = is
 is-found site n k what (inr refuses) read = let no : true ≡ false = ap (λ (a : Answer). leaves_site a.1) (sym refuses) ∙ read in (cc)
 
 module _ (n : ℕ) (k : List ℕ) (valid : IsTrue (is_key k)) where
-  pub deleted-valid : (core : Core) (writer : StateId) → ((site : Site) → CoreStands core site → IsSound so_far site → FindsFor (reading site n k) site (Ok (FoundDeleted writer))) → MayRead core n k → IsTrue (is_id writer)
+  pub deleted-valid : (core : Core) (writer : StateId) → ((site : Site) → CoreStands core site → IsSound so_far site → FindsFor (reading site n k) site k (Ok (Found (FoundDeleted writer)))) → MayRead core n k → IsTrue (is_id writer)
   deleted-valid core writer finds may =
       let is = is-found may.site n k (FoundDeleted writer) (finds may.site may.stands.0 may.stands.1) may.read in
       (step-told may.site n (Get k) valid may.stands.1 (Deleted writer) (sym is)).valid

@@ -1,15 +1,12 @@
 -- A site in memory that opens.
-use Rattle.std.proofs.Common.{◌≡◌, ℕ, List, [], ◌∷◌, length, map, Some, None, IsTrue, refl, sym, ap, subst, ◌∙◌}
+use Rattle.std.proofs.Common.{◌≡◌, ℕ, List, [], length, Some, refl, sym, ap, subst, ◌∙◌}
 use Rattle.std.specs.Prelude.{replicate}
-use Rattle.std.specs.List.{list_all}
 use Rattle.std.specs.Option.{option_map}
 use Rattle.std.proofs.lemmas.Option.{none-some}
 use Rattle.tardis_base.specs.declared.records.Limits.{Limits}
 use Rattle.plain_dag.specs.Entries.{entry_of}
 use Rattle.plain_dag.specs.Floors.{opening_floor}
-use Rattle.state_dag.specs.Table.{is_slot, id_at}
-use Rattle.ceiling_book.specs.Book.{Book, sessions_of, floors_of}
-use Rattle.merge_txn.specs.Txns.{states_of}
+use Rattle.ceiling_book.specs.Book.{Book, floors_of}
 use Rattle.session_core.specs.declared.txns.OpenTxn.{OpenTxn}
 use Rattle.session_core.specs.Stands.{kept_txn}
 

@@ -1,32 +1,34 @@
 -- No request changes the limits of a site, or its own number.
 use Rattle.std.proofs.Common.{◌≡◌, ℕ, Bool, List, [], ◌∷◌, ◌++◌, Option, not, length, ◌==◌, refl, sym, ap₂, ◌∙◌}
-use Rattle.std.specs.Prelude.{◌&&◌, is_some}
+use Rattle.std.specs.Prelude.{◌&&◌, is_some, nat_lt, find}
 use Rattle.tardis_base.specs.Ids.{root, is_among}
 use Rattle.tardis_base.specs.Keys.{KeyWrite, is_key_among, has_key, write_of, keys_of}
 use Rattle.tardis_base.specs.declared.ids.StateId.{StateId}
 use Rattle.tardis_base.specs.declared.records.Record.{Record}
 use Rattle.tardis_base.specs.declared.records.Write.{Write}
 use Rattle.tardis_base.specs.declared.records.Write.TheVariants.{Put as Value, Delete as Deletion}
-use Rattle.tardis_base.specs.declared.replies.Refusal.TheVariants.{AlreadyOpen, SessionsFull, TooMany, ConflictKey, Unknown, Below, Collected, SeqEnd, WrongMode, OpenConflict, Branches}
+use Rattle.tardis_base.specs.declared.replies.Refusal.TheVariants.{AlreadyOpen, SessionsFull, TooMany, ConflictKey, Unknown, Below, Collected, SeqEnd, WrongMode, OpenConflict, Branches, NotRead, Comparable}
 use Rattle.tardis_base.specs.declared.replies.Reply.{Reply}
-use Rattle.tardis_base.specs.declared.replies.Reply.TheVariants.{Opened, Begun, Done, Shown, Ended}
+use Rattle.tardis_base.specs.declared.replies.Reply.TheVariants.{Opened, Begun, Merging, Done, Shown, Ended}
 use Rattle.tardis_base.specs.declared.requests.EndFlags.{EndFlags}
 use Rattle.tardis_base.specs.declared.requests.Request.{Request}
 use Rattle.tardis_base.specs.declared.requests.Request.TheVariants.{Open, Begin as BeginAt, Get, Put, Delete, Commit, Abort, BeginMerge, ForkPoints, Conflicts, GetFor, Ceiling, Raise, RaiseAuto, Tidy, Stat, Show, Leaves, Pull, Deliver, Close}
+use Rattle.plain_dag.specs.Above.{comparable_pair}
 use Rattle.plain_dag.specs.Begin.{is_admitted, begin_state}
 use Rattle.plain_dag.specs.Conflicts.{is_conflict_key, value_over, open_conflict}
 use Rattle.plain_dag.specs.Entries.{entry_of, with_entry}
-use Rattle.plain_dag.specs.Floors.{Session, opening_session}
+use Rattle.plain_dag.specs.Floors.{opening_session}
 use Rattle.plain_dag.specs.Landing.{landing, guarded, broken}
 use Rattle.plain_dag.specs.Paths.{fork_path}
 use Rattle.plain_dag.specs.States.{is_known, arrival, children}
 use Rattle.plain_dag.specs.Writers.{read}
 use Rattle.plain_site.specs.Answers.{Answer, refuse, refuse_found, shown, found}
 use Rattle.plain_site.specs.Built.{so_far}
-use Rattle.plain_site.specs.Commits.{abort, commit, commit_below, commit_writes, commit_single, commit_merge, committed, growth_refusals, without_txn_of}
-use Rattle.plain_site.specs.Reads.{get, set_key, read_in, read_at, having_read, having_written}
+use Rattle.plain_site.specs.Commits.{abort, commit, commit_below, commit_writes, commit_single, committed, growth_refusals, without_txn_of}
+use Rattle.plain_site.specs.Merges.{in_order, states_to_merge, merge_at, begin_merge, fork_points_of, conflicts_of}
+use Rattle.plain_site.specs.Reads.{get, get_for, set_key, read_in, having_read, having_written}
 use Rattle.plain_site.specs.Sessions.{open_session, close_session, begin, begin_at}
-use Rattle.plain_site.specs.Site.{Site, SingleTxn, MergeTxn, Txn, Single, Merge, opening, own_floor, own_count, next_id, writes_of, with_txn_changed}
+use Rattle.plain_site.specs.Site.{Site, SingleTxn, Txn, Single, Merge, opening, own_floor, own_count, next_id, writes_of, with_txn_changed}
 use Rattle.plain_site.specs.Step.{step}
 use Rattle.plain_site.proofs.SoundAnswers.{unless-keeps, given-keeps, session-keeps, txn-keeps, no_txn-keeps, step-keeps}
 use Rattle.session_core.specs.Core.{Core}
@@ -88,6 +90,28 @@ module _ (site : Site) (n : ℕ) where
   commit-same (Single t) flags k = single-same t flags k
   commit-same (Merge t) flags k = below-same t.states t.writes (refuse (not (flags.0 == 0)) WrongMode ∷ refuse_found OpenConflict (open_conflict site.dag t.states t.writes) ∷ [])
 
+  merge-same : (ceiling : StateId) (xs : List StateId) → P (merge_at site n ceiling xs).0
+  merge-same ceiling xs =
+      unless-keeps P site old
+      (refuse (nat_lt 8 (length xs)) (TooMany 3 (length xs))
+      ∷ refuse_found Unknown (find (λ x. not (is_known site.dag x)) xs)
+      ∷ refuse_found (λ x. Below x ceiling) (find (λ x. not (is_admitted site.dag ceiling x)) xs)
+      ∷ refuse_found (λ pair. Comparable pair.0 pair.1) (comparable_pair site.dag xs)
+      ∷ [])
+      (record site { txns = with_entry n (Merge (record { states = in_order xs; writes = [] })) site.txns }, Merging (in_order xs)) (λ none. (refl, refl))
+
+  fork_points-same : (t : Txn) → P (fork_points_of site t).0
+  fork_points-same (Single t) = old
+  fork_points-same (Merge t) = old
+
+  conflicts-same : (t : Txn) (after : List ℕ) → P (conflicts_of site t after).0
+  conflicts-same (Single t) after = old
+  conflicts-same (Merge t) after = old
+
+  get_for-same : (t : Txn) (k : List ℕ) (x : StateId) → P (get_for site t k x).0
+  get_for-same (Single t) k x = old
+  get_for-same (Merge t) k x = unless-keeps P site old (refuse (not (is_among x t.states)) (NotRead x) ∷ []) (site, found (read site.dag k x)) (λ none. old)
+
   -- what isn't built changes nothing
   pub step-same : (q : Request) → P (step so_far site n q).0
   step-same (Open follow) = step-keeps P site old so_far n (Open follow) (open-same follow)
@@ -98,10 +122,11 @@ module _ (site : Site) (n : ℕ) where
   step-same (Delete k) = step-keeps P site old so_far n (Delete k) (txn-keeps P site old n (λ s t. set_key site n t k Deletion) (λ s e t f. set-same t k Deletion))
   step-same (Commit flags k) = step-keeps P site old so_far n (Commit flags k) (txn-keeps P site old n (λ s t. commit so_far site n t flags k) (λ s e t f. commit-same t flags k))
   step-same Abort = step-keeps P site old so_far n Abort (txn-keeps P site old n (λ s t. abort site n) (λ s e t f. (refl, refl)))
-  step-same (BeginMerge of) = old
-  step-same ForkPoints = old
-  step-same (Conflicts after) = old
-  step-same (GetFor k x) = old
+  step-same (BeginMerge of) =
+      step-keeps P site old so_far n (BeginMerge of) (no_txn-keeps P site old n (λ s. begin_merge site n s of) (λ s e none. merge-same s.ceiling (states_to_merge site of)))
+  step-same ForkPoints = step-keeps P site old so_far n ForkPoints (txn-keeps P site old n (λ s t. fork_points_of site t) (λ s e t f. fork_points-same t))
+  step-same (Conflicts after) = step-keeps P site old so_far n (Conflicts after) (txn-keeps P site old n (λ s t. conflicts_of site t after) (λ s e t f. conflicts-same t after))
+  step-same (GetFor k x) = step-keeps P site old so_far n (GetFor k x) (txn-keeps P site old n (λ s t. get_for site t k x) (λ s e t f. get_for-same t k x))
   step-same (Ceiling x) = old
   step-same (Raise x) = old
   step-same RaiseAuto = old
@@ -111,7 +136,7 @@ module _ (site : Site) (n : ℕ) where
       step-keeps P site old so_far n (Show x)
       (unless-keeps P site old (refuse (not (is_known site.dag x)) (Unknown x) ∷ refuse (is_among x site.collected) (Collected x) ∷ [])
       (site, Shown (arrival site.dag x) (children site.dag x) (fork_path site.dag site.collected x)) (λ none. old))
-  step-same Leaves = old
+  step-same Leaves = step-keeps P site old so_far n Leaves old
   step-same (Pull counts) = old
   step-same (Deliver item) = old
   step-same Close = step-keeps P site old so_far n Close (session-keeps P site old n (λ s. close_session site n) (λ s e. (refl, refl)))

@@ -1,14 +1,13 @@
 -- Each reply of a sound site can be told, and the site stays sound.
-use Rattle.std.proofs.Common.{◌≡◌, ℕ, ◌^◌, Result, Ok, Err, IsTrue, refl, sym, subst, ◌∙◌, ◌<◌, lt-ltb}
+use Rattle.std.proofs.Common.{◌≡◌, ℕ, ◌^◌, Result, Ok, Err, IsTrue, refl, sym, subst, ◌<◌, lt-ltb}
 use Rattle.std.specs.Prelude.{IfOk}
 use Rattle.tardis_base.specs.declared.faults.NoMemory.{NoMemory}
 use Rattle.tardis_base.specs.declared.replies.Reply.{Reply}
 use Rattle.tardis_base.specs.declared.requests.Request.{Request}
 use Rattle.tardis_base.specs.Valid.{is_u16}
 use Rattle.wire_talk.specs.Valid.{is_request}
-use Rattle.plain_site.specs.Answers.{Answer}
 use Rattle.plain_site.specs.Built.{so_far}
-use Rattle.plain_site.specs.Laws.{ShowsShortPaths, RepliesFit}
+use Rattle.plain_site.specs.Laws.{ShowsShortPaths}
 use Rattle.plain_site.specs.Site.{Site}
 use Rattle.plain_site.specs.Sound.{IsSound}
 use Rattle.plain_site.specs.Step.{step}
@@ -16,7 +15,7 @@ use Rattle.plain_site.proofs.RepliesFit.{replies-fit}
 use Rattle.plain_site.proofs.RepliesMemory.{never-wants-memory}
 use Rattle.plain_site.proofs.SoundRequests.{request-keeps-sound}
 use Rattle.session_core.specs.Core.{Core}
-use Rattle.session_core.specs.Gives.{Gives, IsGiven}
+use Rattle.session_core.specs.Gives.{Gives}
 use Rattle.session_core.specs.Machine.{SiteStands, IsTold, opened_with}
 use Rattle.session_core.specs.Stands.{CoreStands, StandsForSite}
 use Rattle.session_core.proofs.Settings.{step-same, opened-same}

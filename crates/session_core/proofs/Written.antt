@@ -1,11 +1,13 @@
 -- A transaction is written over.
-use Rattle.std.proofs.Common.{◌≡◌, ℕ, Bool, true, false, ◌==◌, ◌&&◌, if◌then◌else◌, nat_lt, List, [], ◌∷◌, length, is_some, Option, Some, None, Result, Ok, Err, IsTrue, refl, sym, ap, subst, ◌∙◌}
+use Rattle.std.proofs.Common.{◌≡◌, ℕ, Bool, true, false, ◌==◌, not, if◌then◌else◌, nat_lt, List, [], ◌∷◌, length, is_some, Option, Some, None, Result, Ok, Err, IsTrue, refl, sym, ap, subst, ◌∙◌}
+use Rattle.std.specs.Prelude.{◌||◌}
+use Rattle.std.specs.Option.{IfSome}
 use Rattle.std.specs.Result.{OnOk, OnErr}
 use Rattle.std.specs.Ordering.{nat_cmp}
 use Rattle.std.specs.Map.{lookup, set_value, keys_of}
 use Rattle.std.specs.BTreeMap.{is_at}
 use Rattle.std.specs.List.Sorted.{IsStrictlySortedBy}
-use Rattle.std.proofs.lemmas.Bool.{and_parts, both_ways}
+use Rattle.std.proofs.lemmas.Bool.{both_ways}
 use Rattle.tardis_base.specs.declared.records.Write.{Write}
 use Rattle.tardis_base.specs.Keys.{KeyWrite, with_key, with_write}
 use Rattle.plain_dag.specs.Entries.{entry_of, changed}
@@ -15,14 +17,16 @@ use Rattle.merge_txn.specs.Txns.{is_single, writes_of, reads_of, with_writes, wi
 use Rattle.ceiling_book.proofs.Entries.{looked-up}
 use Rattle.session_core.specs.declared.txns.OpenTxn.{OpenTxn}
 use Rattle.session_core.specs.Txns.{is_whole, AreWhole, noting, putting}
+use Rattle.session_core.proofs.Answers.{at-some}
 use Rattle.session_core.proofs.Entries.{is-written, each-changed}
 
 -- nothing is missing that is there
 pub never-missing : (n : ℕ) (es now : List (ℕ × OpenTxn)) → es ≡ now → IsTrue (is_some (entry_of n now)) → ◌≡◌ {A = Option OpenTxn} (lookup (is_at (nat_cmp n)) es) None → ⊥
 never-missing n es now is some none = both_ways false refl (sym (ap is_some none) ∙ ap is_some (looked-up n es) ∙ ap (λ ds. is_some (entry_of n ds)) is ∙ some)
 
-pub single-there : (n : ℕ) (es : List (ℕ × OpenTxn)) (v : OpenTxn) → AreWhole es → lookup (is_at (nat_cmp n)) es ≡ Some v → IsTrue (is_single v.txn)
-single-there n es v whole found = (and_parts (is_single v.txn) (nat_lt 0 (length v.slots)) (whole n v (sym (looked-up n es) ∙ found))).0
+-- the one that is there reads one state
+pub single-there : (n : ℕ) (es now : List (ℕ × OpenTxn)) (v : OpenTxn) → es ≡ now → lookup (is_at (nat_cmp n)) es ≡ Some v → IfSome (entry_of n now) (λ held. IsTrue (is_single held.txn)) → IsTrue (is_single v.txn)
+single-there n es now v is found single = at-some (λ (h : OpenTxn). IsTrue (is_single h.txn)) (entry_of n now) v (ap (entry_of n) (sym is) ∙ sym (looked-up n es) ∙ found) single
 
 unchanged-entry : (b : Bool) (e : ℕ × OpenTxn) → (if b then (e.0, e.1) else e) ≡ e
 unchanged-entry true e = refl
@@ -43,10 +47,10 @@ single-put ws (Single t) = refl
 single-put ws (Merge t) = refl
 
 pub whole-note : (k : List ℕ) (h : OpenTxn) → IsTrue (is_whole h) → IsTrue (is_whole (noting k h))
-whole-note k h t = ap (λ b. b && nat_lt 0 (length h.slots)) (single-note (with_key k (reads_of h.txn)) h.txn) ∙ t
+whole-note k h t = ap (λ b. not b || nat_lt 0 (length h.slots)) (single-note (with_key k (reads_of h.txn)) h.txn) ∙ t
 
 pub whole-put : (k : List ℕ) (w : Write) (h : OpenTxn) → IsTrue (is_whole h) → IsTrue (is_whole (putting k w h))
-whole-put k w h t = ap (λ b. b && nat_lt 0 (length h.slots)) (single-put (with_write k w (writes_of h.txn)) h.txn) ∙ t
+whole-put k w h t = ap (λ b. not b || nat_lt 0 (length h.slots)) (single-put (with_write k w (writes_of h.txn)) h.txn) ∙ t
 
 module _ (n : ℕ) (es now after : List (ℕ × OpenTxn)) (v w : OpenTxn) (is : es ≡ now) (put : after ≡ set_value (is_at (nat_cmp n)) es w) (ordered : IsStrictlySortedBy nat_cmp (keys_of es)) (found : lookup (is_at (nat_cmp n)) es ≡ Some v) where
   -- the transaction that was there

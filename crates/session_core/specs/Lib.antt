@@ -7,5 +7,6 @@ pub mod Gives
 pub mod Reads
 pub mod Begins
 pub mod Commits
+pub mod Merges
 pub mod Shows
 pub mod Machine

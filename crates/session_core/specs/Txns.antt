@@ -1,14 +1,14 @@
 -- What is kept of an open transaction.
-use Rattle.std.specs.Prelude.{◌≡◌, ℕ, ◌&&◌, Bool, List, length, nat_lt, Some, IsTrue}
+use Rattle.std.specs.Prelude.{◌≡◌, ℕ, ◌||◌, not, Bool, List, length, nat_lt, Some, IsTrue}
 use Rattle.tardis_base.specs.declared.records.Write.{Write}
 use Rattle.tardis_base.specs.Keys.{with_key, with_write}
 use Rattle.plain_dag.specs.Entries.{entry_of}
 use Rattle.merge_txn.specs.Txns.{is_single, writes_of, reads_of, with_writes, with_reads}
 use Rattle.session_core.specs.declared.txns.OpenTxn.{OpenTxn}
 
--- it reads one state, and has a slot: merges can't begin yet
+-- where it is a single one, it has a slot
 abbrev pub is_whole : OpenTxn → Bool
-is_whole held = is_single held.txn && nat_lt 0 (length held.slots)
+is_whole held = not (is_single held.txn) || nat_lt 0 (length held.slots)
 
 -- so are all
 abbrev pub AreWhole : List (ℕ × OpenTxn) → Type 0

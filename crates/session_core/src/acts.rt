@@ -13,7 +13,7 @@ ghost use Rattle.session_core.specs.Machine.{SiteStands, GivesBytes, MayRead, re
 use crate::SiteCore;
 use crate::asks::asked;
 use crate::parts::Parts;
-use tardis_base::{Found, Key, Machine, NoMemory, Refusal, Reply, ReplyBuf, Request};
+use tardis_base::{Found, Key, Machine, NoMemory, Over, Refusal, Reply, ReplyBuf, Request};
 use wire_talk::{write_reply, write_value_reply};
 
 /// Writes the reply into the empty buffer.
@@ -35,12 +35,13 @@ impl Parts {
         ensures { (site : Site) → SiteStands self.now site → leaves_site (reading site actor key.now).1 ≡ false → out.new ≡ reply_spelling (reading site actor key.now).1 }
     {
         match self.found(actor, key) {
-            Ok(Found::Value { writer, value }) => {
+            Ok(Over::Found(Found::Value { writer, value })) => {
                 let _ = value.as_slice();
                 write_value_reply(writer, value, out);
             },
-            Ok(Found::Deleted { writer }) => give(Reply::Deleted { writer }, out),
-            Ok(Found::Absent) => give(Reply::Absent, out),
+            Ok(Over::Found(Found::Deleted { writer })) => give(Reply::Deleted { writer }, out),
+            Ok(Over::Found(Found::Absent)) => give(Reply::Absent, out),
+            Ok(Over::Conflict) => unreachable!(),
             Err(refusal) => give(Reply::Refused { refusal }, out),
         }
     }
@@ -62,17 +63,22 @@ impl SiteCore {
     }
 
     /// Writes the reply to the actor's request, which is done.
-    fn reply(&mut self, actor: u16, request: &Request, out: &mut ReplyBuf) -> Result<(), NoMemory>
-        requires valid { IsTrue (is_request request.now) }
+    fn reply(&mut self, actor: u16, request: Request, out: &mut ReplyBuf) -> Result<(), NoMemory>
+        requires valid { IsTrue (is_request request) }
         requires empty { out.old ≡ [] }
-        ensures given { (site : Site) → SiteStands self.old site → GivesBytes (SiteStands self.new) (step so_far site actor request.now) site result out.new }
-        ensures sure { IsTrue (is_sure request.now) → IsOk result }
+        ensures given { (site : Site) → SiteStands self.old site → GivesBytes (SiteStands self.new) (step so_far site actor request) site result out.new }
+        ensures sure { IsTrue (is_sure request) → IsOk result }
         ensures opening { opened_with self.new ≡ opened_with self.old }
     {
         match request {
-            Request::Get { key } => self.get(actor, key, out),
-            _ => {
-                let reply = self.answer(actor, request)?;
+            Request::Get { key } => self.get(actor, &key, out),
+            Request::Put { key, value } => {
+                let reply = self.put(actor, &key, value)?;
+                give(reply, out);
+                Ok(())
+            },
+            request => {
+                let reply = self.answer(actor, &request)?;
                 give(reply, out);
                 Ok(())
             },
@@ -97,7 +103,7 @@ impl Machine for SiteCore {
     fn act(&mut self, actor: u16, request: &[u8], out: &mut ReplyBuf) -> Result<(), NoMemory> {
         out.clear();
         match asked(self.parts.alloc, request)? {
-            Ok(request) => self.reply(actor, &request, out),
+            Ok(request) => self.reply(actor, request, out),
             Err(refusal) => {
                 give(Reply::Refused { refusal }, out);
                 Ok(())

@@ -27,7 +27,8 @@ impl Parts {
     /// Begins a transaction of the actor's session at the state that is asked for.
     ///
     /// Refused where no session is open (NotOpen), where it has a transaction (TxnOpen), where there is no such state
-    /// (Unknown), and where the state is a proper ancestor of the session's ceiling (Below).
+    /// (Unknown), and where the state is a proper ancestor of the session's ceiling (Below). The cost is that of
+    /// `begin_rule::choose`, and of looking the session up.
     pub(crate) fn begin(&mut self, actor: u16, begin: &Begin) -> Result<Reply, NoMemory>
         ensures { (site : Site) → CoreStands self.old site → IsSound so_far site → Gives (CoreStands self.new) (without_txn site actor (λ s. begin_txn site actor s begin.now)) site result }
     {

@@ -10,7 +10,7 @@ use tardis_base::Request;
 pub fn is_built(op: u8) -> bool
     ensures { result ≡ so_far.operation op }
 {
-    matches!(op, 1..=7 | 16 | 17 | 21)
+    matches!(op, 1..=11 | 16..=18 | 21)
 }
 
 /// The code of the request's operation.

@@ -1,6 +1,7 @@
 //! Transactions commit.
 
-ghost use Rattle.std.specs.Prelude.{◌≡◌, ◌≢◌, ◌∷◌, [], is_some, Some, IsTrue};
+ghost use Rattle.std.specs.Prelude.{◌≡◌, ◌≢◌, List, [], map, is_some, Some, IsTrue, IfSome};
+ghost use Rattle.std.specs.List.{list_all};
 ghost use Rattle.tardis_base.specs.declared.ids.StateId.{StateId};
 ghost use Rattle.tardis_base.specs.Keys.{keys_of};
 ghost use Rattle.plain_dag.specs.Entries.{entry_of};
@@ -8,25 +9,32 @@ ghost use Rattle.plain_dag.specs.Landing.{landing as landing_of, guarded};
 ghost use Rattle.state_dag.specs.Table.{id_at, is_slot};
 ghost use Rattle.record_store.specs.Answers.{MayArrive};
 ghost use Rattle.ceiling_book.specs.Book.{is_open};
-ghost use Rattle.plain_site.specs.Site.{Site, SingleTxn, Single, own_count};
+ghost use Rattle.merge_txn.specs.Txns.{is_single};
+ghost use Rattle.plain_site.specs.Site.{Site, Txn, SingleTxn, Single, own_count, writes_of};
 ghost use Rattle.plain_site.specs.Built.{so_far};
 ghost use Rattle.plain_site.specs.Sound.{IsSound};
 ghost use Rattle.plain_site.specs.Answers.{with_txn};
-ghost use Rattle.plain_site.specs.Commits.{commit as commit_txn, commit_below as committed_below, without_txn_of};
+ghost use Rattle.plain_site.specs.Commits.{commit as commit_txn, commit_below as committed_below, commit_writes as committed_with, without_txn_of};
 ghost use Rattle.session_core.specs.Stands.{CoreStands};
 ghost use Rattle.session_core.specs.Commits.{next_record};
 ghost use Rattle.session_core.specs.Gives.{Gives, IsGiven};
 
+use crate::orders::states_of;
 use crate::parts::Parts;
 use end_rule::Branches;
-use tardis_base::{AddFault, EndFlags, NoMemory, Refusal, Reply, Slot, StateId, StateList};
+use tardis_base::{AddFault, EndFlags, NoMemory, Refusal, Reply, Slot, StateId};
 
 impl Parts {
-    /// Commits the actor's transaction below its landing. One that wrote nothing ends, and makes no state.
+    /// Commits the actor's transaction: a merge below all its read states, a single one below its landing. A single one
+    /// that wrote nothing ends, and makes no state.
     ///
-    /// Refused where no session is open (NotOpen), it has no transaction (NoTxn), its landing has too many children
+    /// Refused where no session is open (NotOpen), it has no transaction (NoTxn), a merge is given end constraints
+    /// (WrongMode) or leaves a conflict key unwritten (OpenConflict, with the least), the landing has too many children
     /// (Branches), the site has given out its last number (SeqEnd), or there is no room (Full, PathFull). After a refusal,
     /// and with no memory, the transaction is still open.
+    ///
+    /// The cost is that of `RecordStore::add_state`, and before it that of `ripple_commit::landing`, or for a merge that of
+    /// `conflict_keys::first_open`. Where a single one wrote nothing, it is that of looking the session up.
     pub(crate) fn commit(&mut self, actor: u16, flags: EndFlags, k: u16) -> Result<Reply, NoMemory>
         ensures { (site : Site) → CoreStands self.old site → IsSound so_far site → Gives (CoreStands self.new) (with_txn site actor (λ s t. commit_txn so_far site actor t flags k)) site result }
     {
@@ -35,39 +43,54 @@ impl Parts {
                 refusal: Refusal::NotOpen,
             });
         }
-        let has_written = match self.txns.get(actor) {
+        let (is_merge, has_written) = match self.txns.get(actor) {
             None => {
                 return Ok(Reply::Refused {
                     refusal: Refusal::NoTxn,
                 });
             },
-            Some(held) => !held.txn.writes().is_empty(),
+            Some(held) => (held.txn.is_merge(), !held.txn.writes().is_empty()),
         };
-        if !has_written {
-            return Ok(self.end_reading(actor));
+        if is_merge {
+            self.commit_merge(actor, flags)
+        } else if has_written {
+            self.commit_writes(actor, flags, k)
+        } else {
+            Ok(self.end_reading(actor))
         }
+    }
+
+    /// Commits the transaction, a single one that has written, below its landing.
+    fn commit_writes(&mut self, actor: u16, flags: EndFlags, k: u16) -> Result<Reply, NoMemory>
+        requires open { IsTrue (is_open self.old.book actor) }
+        requires some { IsTrue (is_some (entry_of actor self.old.txns)) }
+        requires single { IfSome (entry_of actor self.old.txns) (λ held. IsTrue (is_single held.txn)) }
+        ensures { (site : Site) → CoreStands self.old site → IsSound so_far site → (t : SingleTxn) → entry_of actor site.txns ≡ Some (Single t) → Gives (CoreStands self.new) (committed_with so_far site actor t flags k) site result }
+    {
         let landing = self.landing(actor, flags);
         match end_rule::check(self.store.dag(), landing, flags, k) {
-            Ok(()) => self.commit_below(actor, landing),
+            Ok(()) => self.commit_below(actor, &[landing]),
             Err(
                 Branches {
                     constraint,
                     state,
                     children,
                 },
-            ) => Ok(Reply::Refused {
-                refusal: Refusal::Branches {
+            ) => {
+                let refusal = Refusal::Branches {
                     constraint,
                     state,
                     children,
-                },
-            }),
+                };
+                Ok(Reply::Refused { refusal })
+            },
         }
     }
 
     /// Ends the transaction, which wrote nothing.
     fn end_reading(&mut self, actor: u16) -> Reply
-        requires { IsTrue (is_some (entry_of actor self.old.txns)) }
+        requires some { IsTrue (is_some (entry_of actor self.old.txns)) }
+        requires single { IfSome (entry_of actor self.old.txns) (λ held. IsTrue (is_single held.txn)) }
         ensures { (site : Site) → CoreStands self.old site → (t : SingleTxn) → entry_of actor site.txns ≡ Some (Single t) → IsGiven (CoreStands self.new) (without_txn_of actor site, Reply.Ended t.state) result }
     {
         let slot = self.read_slot(actor);
@@ -78,7 +101,8 @@ impl Parts {
 
     /// The slot of the state that the transaction reads.
     fn read_slot(&self, actor: u16) -> Slot
-        requires { IsTrue (is_some (entry_of actor self.now.txns)) }
+        requires some { IsTrue (is_some (entry_of actor self.now.txns)) }
+        requires single { IfSome (entry_of actor self.now.txns) (λ held. IsTrue (is_single held.txn)) }
         ensures slot { IsTrue (is_slot self.now.store.table result) }
         ensures state { (site : Site) → CoreStands self.now site → (t : SingleTxn) → entry_of actor site.txns ≡ Some (Single t) → id_at self.now.store.table result ≡ Some t.state }
     {
@@ -91,7 +115,8 @@ impl Parts {
 
     /// The slot of the state below which the transaction is to commit.
     fn landing(&self, actor: u16, flags: EndFlags) -> Slot
-        requires { IsTrue (is_some (entry_of actor self.now.txns)) }
+        requires some { IsTrue (is_some (entry_of actor self.now.txns)) }
+        requires single { IfSome (entry_of actor self.now.txns) (λ held. IsTrue (is_single held.txn)) }
         ensures slot { IsTrue (is_slot self.now.store.table result) }
         ensures landing { (site : Site) → CoreStands self.now site → IsSound so_far site → (t : SingleTxn) → entry_of actor site.txns ≡ Some (Single t) → id_at self.now.store.table result ≡ Some (landing_of site.dag (guarded flags t.reads (keys_of t.writes)) t.state) }
     {
@@ -108,12 +133,12 @@ impl Parts {
         }
     }
 
-    /// Commits the transaction below the state of this slot, as the next state of the site.
-    fn commit_below(&mut self, actor: u16, below: Slot) -> Result<Reply, NoMemory>
+    /// Commits the transaction below the states of these slots, as the next state of the site.
+    pub(crate) fn commit_below(&mut self, actor: u16, below: &[Slot]) -> Result<Reply, NoMemory>
         requires open { IsTrue (is_open self.old.book actor) }
         requires some { IsTrue (is_some (entry_of actor self.old.txns)) }
-        requires slot { IsTrue (is_slot self.old.store.table below) }
-        ensures { (site : Site) → CoreStands self.old site → (t : SingleTxn) (x : StateId) → entry_of actor site.txns ≡ Some (Single t) → id_at self.old.store.table below ≡ Some x → (own_count site ≢ 4294967295 → MayArrive site.limits.sites site.dag site.collected (next_record site (x ∷ []) t.writes)) → Gives (CoreStands self.new) (committed_below so_far site actor (x ∷ []) t.writes []) site result }
+        requires slots { IsTrue (list_all (is_slot self.old.store.table) below.now) }
+        ensures { (site : Site) → CoreStands self.old site → (t : Txn) (xs : List StateId) → entry_of actor site.txns ≡ Some t → map (id_at self.old.store.table) below.now ≡ map (λ x. Some x) xs → (own_count site ≢ 4294967295 → MayArrive site.limits.sites site.dag site.collected (next_record site xs (writes_of t))) → Gives (CoreStands self.new) (committed_below so_far site actor xs (writes_of t) []) site result }
     {
         let own = self.book.own_site();
         let count = self.store.dag().count(own);
@@ -126,13 +151,12 @@ impl Parts {
             site: own,
             sequence: count + 1,
         };
-        let mut parents = StateList::new(self.alloc);
-        parents.push(self.store.dag().id_of(below))?;
+        let parents = states_of(self.alloc, self.store.dag(), below)?;
         let held = match self.txns.get(actor) {
             Some(held) => held,
             None => unreachable!(),
         };
-        match self.store.add_state(id, &[below], held.txn.writes()) {
+        match self.store.add_state(id, below, held.txn.writes()) {
             Ok(slot) => {
                 self.book.committed(self.store.dag(), actor, slot);
                 self.txns.end(actor);

@@ -1,23 +1,26 @@
 //! Transactions read.
 
-ghost use Rattle.std.specs.Prelude.{◌≡◌, ◌<◌, ◌∷◌, [], length, map, Some, IsTrue, IfOk};
+ghost use Rattle.std.specs.Prelude.{◌≡◌, ◌<◌, List, length, map, Some, IsTrue, IfOk};
 ghost use Rattle.std.specs.List.{list_all};
+ghost use Rattle.tardis_base.specs.declared.ids.StateId.{StateId};
 ghost use Rattle.tardis_base.specs.Ids.{root};
 ghost use Rattle.state_dag.specs.Table.{id_at, is_slot};
 ghost use Rattle.version_list.specs.Reads.{found};
-ghost use Rattle.plain_site.specs.Site.{Site, SingleTxn, Single};
+ghost use Rattle.merge_txn.specs.Txns.{is_single, states_of};
+ghost use Rattle.plain_site.specs.Site.{Site, Txn};
 ghost use Rattle.plain_site.specs.Built.{so_far};
 ghost use Rattle.plain_site.specs.Sound.{IsSound};
 ghost use Rattle.plain_site.specs.Answers.{with_txn, found as reply_to};
 ghost use Rattle.plain_site.specs.Reads.{get};
 ghost use Rattle.session_core.specs.Stands.{CoreStands, kept_txn};
 ghost use Rattle.session_core.specs.Gives.{Gives, FindsFor, NotesFor};
-ghost use Rattle.session_core.specs.Reads.{read_by};
+ghost use Rattle.session_core.specs.Reads.{ReadsAs, conflict_refusal};
 
 use crate::parts::Parts;
 use crate::txns::OpenTxn;
+use conflict_keys::{is_conflict, value_over};
 use merge_txn::TxnFault;
-use tardis_base::{Found, Key, NoMemory, Refusal, Reply, StateId, Write};
+use tardis_base::{Found, Key, NoMemory, Over, Refusal, Reply, StateId, Write};
 
 /// The state from which all others descend. It stands for the writer of what a transaction itself has written.
 const ROOT: StateId = StateId {
@@ -27,9 +30,10 @@ const ROOT: StateId = StateId {
 
 impl Parts {
     /// What the actor's transaction reads of the key, before the read is noted: its own write first, with the root as its
-    /// writer. Refused where no session is open (NotOpen) or it has no transaction (NoTxn).
-    pub(crate) fn found(&self, actor: u16, key: &Key) -> Result<Found<'_>, Refusal>
-        ensures { (site : Site) → CoreStands self.now site → IsSound so_far site → FindsFor (with_txn site actor (λ s t. get site actor t key.now)) site result }
+    /// writer; then what is read at its state, or over the states of a merge. Refused where no session is open (NotOpen)
+    /// or it has no transaction (NoTxn).
+    pub(crate) fn found(&self, actor: u16, key: &Key) -> Result<Over<'_>, Refusal>
+        ensures { (site : Site) → CoreStands self.now site → IsSound so_far site → FindsFor (with_txn site actor (λ s t. get site actor t key.now)) site key.now result }
     {
         if !self.book.is_open(actor) {
             return Err(Refusal::NotOpen);
@@ -41,20 +45,27 @@ impl Parts {
     }
 
     /// What the transaction reads of the key.
-    fn found_by<'a>(&'a self, held: &'a OpenTxn, key: &Key) -> Found<'a>
-        requires some { 0 < length held.now.slots }
+    fn found_by<'a>(&'a self, held: &'a OpenTxn, key: &Key) -> Over<'a>
+        requires some { IsTrue (is_single held.now.txn) → 0 < length held.now.slots }
         requires slots { IsTrue (list_all (is_slot self.now.store.table) held.now.slots) }
-        ensures { (site : Site) → CoreStands self.now site → (t : SingleTxn) → kept_txn (Single t) ≡ held.now.txn → map (id_at self.now.store.table) held.now.slots ≡ Some t.state ∷ [] → found result ≡ read_by site.dag t key.now }
+        ensures { (site : Site) → CoreStands self.now site → (t : Txn) → kept_txn t ≡ held.now.txn → map (id_at self.now.store.table) held.now.slots ≡ map (λ x. Some x) (states_of held.now.txn) → ReadsAs site.dag t key.now result }
     {
         match held.txn.own(key) {
-            Some(write) => own_write(write),
-            None => self.store.read_at(*held.slots.at(0), key),
+            Some(write) => Over::Found(own_write(write)),
+            None => {
+                if held.txn.is_merge() {
+                    value_over(&self.store, held.slots.as_slice(), key)
+                } else {
+                    Over::Found(self.store.read_at(*held.slots.at(0), key))
+                }
+            },
         }
     }
 
-    /// Notes the read of the key, unless it is the transaction's own write.
+    /// Notes the read of the key, unless it is the transaction's own write; a merge notes none.
     ///
-    /// Refused where no session is open (NotOpen), it has no transaction (NoTxn), or 256 other keys were read (TooMany).
+    /// Refused where no session is open (NotOpen), it has no transaction (NoTxn), 256 other keys were read (TooMany), or
+    /// the states of a merge conflict in the key (ConflictKey).
     pub(crate) fn note_get(&mut self, actor: u16, key: &Key) -> Result<Option<Refusal>, NoMemory>
         ensures { (site : Site) → CoreStands self.old site → IsSound so_far site → NotesFor (CoreStands self.new) (with_txn site actor (λ s t. get site actor t key.now)) site result }
     {
@@ -67,6 +78,9 @@ impl Parts {
                 if held.txn.own(key).is_some() {
                     return Ok(None);
                 }
+                if held.txn.is_merge() {
+                    return self.conflict_over(held, key);
+                }
             },
         }
         match self.txns.note_read(actor, key) {
@@ -76,13 +90,34 @@ impl Parts {
         }
     }
 
+    /// The refusal of a read of the key over the states of this merge, if they conflict in it.
+    fn conflict_over(&self, held: &OpenTxn, key: &Key) -> Result<Option<Refusal>, NoMemory>
+        requires slots { IsTrue (list_all (is_slot self.now.store.table) held.now.slots) }
+        ensures { (site : Site) → CoreStands self.now site → (xs : List StateId) → map (id_at self.now.store.table) held.now.slots ≡ map (λ x. Some x) xs → IfOk result (λ refusal. refusal ≡ conflict_refusal site.dag xs key.now) }
+    {
+        if is_conflict(&self.store, held.slots.as_slice(), key) {
+            Ok(Some(Refusal::ConflictKey { key: key.copy()? }))
+        } else {
+            Ok(None)
+        }
+    }
+
     /// Reads the key in the actor's transaction, and notes the read. The value is a copy.
+    ///
+    /// The cost is that of a search of the own writes; where the key isn't among them, also that of
+    /// `RecordStore::read_at` and of `Txn::note_read`, or for a merge of
+    /// `conflict_keys::value_over` and `is_conflict`.
     pub(crate) fn get(&mut self, actor: u16, key: &Key) -> Result<Reply, NoMemory>
         ensures { (site : Site) → CoreStands self.old site → IsSound so_far site → Gives (CoreStands self.new) (with_txn site actor (λ s t. get site actor t key.now)) site result }
     {
         let reply = match self.found(actor, key) {
             Err(refusal) => return Ok(Reply::Refused { refusal }),
-            Ok(found) => reply_of(found)?,
+            Ok(Over::Conflict) => {
+                return Ok(Reply::Refused {
+                    refusal: Refusal::ConflictKey { key: key.copy()? },
+                });
+            },
+            Ok(Over::Found(found)) => reply_of(found)?,
         };
         match self.note_get(actor, key)? {
             None => Ok(reply),
@@ -105,7 +140,7 @@ fn own_write(write: &Write) -> Found<'_>
 }
 
 /// The reply to a read. The value is a copy.
-fn reply_of(what: Found<'_>) -> Result<Reply, NoMemory>
+pub(crate) fn reply_of(what: Found<'_>) -> Result<Reply, NoMemory>
     ensures { IfOk result (λ reply. reply ≡ reply_to (found what.entry)) }
 {
     match what {

@@ -1,6 +1,7 @@
 //! Each request is answered by its own method.
 
 ghost use Rattle.std.specs.Prelude.{◌≡◌, IsTrue, IsOk};
+ghost use Rattle.wire_talk.specs.Valid.{is_request};
 ghost use Rattle.plain_site.specs.Site.{Site};
 ghost use Rattle.plain_site.specs.Built.{so_far};
 ghost use Rattle.plain_site.specs.Sound.{IsSound};
@@ -24,6 +25,7 @@ fn unsupported(op: u8) -> Reply
 impl Parts {
     /// Answers the actor's request. What isn't built is refused before all else.
     pub fn serve(&mut self, actor: u16, request: &Request) -> Result<Reply, NoMemory>
+        requires { IsTrue (is_request request.now) }
         ensures given { (site : Site) → CoreStands self.old site → IsSound so_far site → Gives (CoreStands self.new) (step so_far site actor request.now) site result }
         ensures sure { IsTrue (is_sure request.now) → IsOk result }
     {
@@ -39,8 +41,13 @@ impl Parts {
             Request::Delete { key } => self.put(actor, key, Write::Delete),
             Request::Commit { flags, k } => self.commit(actor, *flags, *k),
             Request::Abort => Ok(self.abort(actor)),
+            Request::BeginMerge { of } => self.begin_merge(actor, of),
+            Request::ForkPoints => self.fork_points(actor),
+            Request::Conflicts { after } => self.conflicts(actor, after),
+            Request::GetFor { key, state } => self.get_for(actor, key, *state),
             Request::Stat => Ok(self.stat()),
             Request::Show { state } => self.show(*state),
+            Request::Leaves => self.leaves(),
             Request::Close => Ok(self.close(actor)),
             _ => Ok(unsupported(op)),
         }

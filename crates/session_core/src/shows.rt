@@ -15,7 +15,7 @@ use tardis_base::{NoMemory, Refusal, Reply, SiteLine, SiteLines, StateId, StateL
 
 impl Parts {
     /// How many states are known and kept, how many leaves there are and open sessions, and a line for each site. It takes
-    /// no memory.
+    /// no memory. The cost grows with the number of sites.
     pub(crate) fn stat(&self) -> Reply
         ensures { (site : Site) → CoreStands self.now site → IsSound so_far site → IsGiven (CoreStands self.now) (stat_of site) result }
     {
@@ -57,7 +57,8 @@ impl Parts {
 
     /// When the state arrived, its children, and its fork path.
     ///
-    /// Refused where there is no such state (Unknown) and where it is collected (Collected).
+    /// Refused where there is no such state (Unknown) and where it is collected (Collected). The cost grows with the number
+    /// of its children, with the length of its fork path, and with the logarithm of the number of kept states.
     pub(crate) fn show(&self, state: StateId) -> Result<Reply, NoMemory>
         ensures { (site : Site) → CoreStands self.now site → IsSound so_far site → Gives (CoreStands self.now) (show_of site state) site result }
     {

@@ -9,7 +9,7 @@ ghost use Rattle.session_core.specs.Gives.{Gives, IsGiven};
 ghost use Rattle.session_core.specs.Machine.{SiteStands, IsTold, opened_with};
 
 use crate::SiteCore;
-use tardis_base::{NoMemory, Reply, Request};
+use tardis_base::{Key, NoMemory, Reply, Request, Value, Write};
 
 impl SiteCore {
     /// The reply to the actor's request, which is done.
@@ -23,9 +23,24 @@ impl SiteCore {
         self.parts.serve(actor, request)
     }
 
+    /// The reply to the actor's Put, which is done. The value isn't copied.
+    pub(crate) fn put(&mut self, actor: u16, key: &Key, value: Value) -> Result<Reply, NoMemory>
+        requires { IsTrue (is_request (Request.Put key.now value)) }
+        ensures given { (site : Site) → SiteStands self.old site → Gives (SiteStands self.new) (step so_far site actor (Request.Put key.now value)) site result }
+        ensures told { IfOk result (λ reply. IsTold reply) }
+        ensures opening { opened_with self.new ≡ opened_with self.old }
+    {
+        self.parts.put(actor, key, Write::Put(value))
+    }
+
     /// Does the actor's request, and replies to it.
     ///
     /// With no memory the site is as before. Abort, Close, Ceiling, Raise, RaiseAuto, Tidy and Stat never want memory.
+    ///
+    /// The cost grows with the logarithm of the number of open sessions, and else is that of the request's own call: of a
+    /// Get a read of its key, of a Put a copy of the value and a place among the transaction's writes, of a Commit the landing
+    /// and the adding of the record. The leaves, and a merge's fork points, conflict keys and Commit, cost more with each
+    /// kept state.
     pub fn step(&mut self, actor: u16, request: &Request, reply: &mut Reply) -> Result<(), NoMemory>
         requires { IsTrue (is_request request.now) }
         ensures done { OnOk result ((site : Site) → SiteStands self.old site → IsGiven (SiteStands self.new) (step so_far site actor request.now) reply.new) }

@@ -72,8 +72,7 @@ impl TxnBook {
     /// The transaction of the session, if it has one.
     pub fn get(&self, session: u16) -> Option<&OpenTxn>
         ensures is { option_copied result ≡ entry_of session self.now }
-        ensures single { IfSome result (λ held. IsTrue (is_single held.now.txn)) }
-        ensures slots { IfSome result (λ held. 0 < length held.now.slots) }
+        ensures slots { IfSome result (λ held. IsTrue (is_single held.now.txn) → 0 < length held.now.slots) }
     {
         self.entries.get(&session)
     }
@@ -95,9 +94,10 @@ impl TxnBook {
         Ok(())
     }
 
-    /// Notes that the session's transaction reads the key. On a fault all is as before.
+    /// Notes that the session's transaction, a single one, reads the key. On a fault all is as before.
     pub fn note_read(&mut self, session: u16, key: &Key) -> Result<(), TxnFault>
-        requires { IsTrue (is_some (entry_of session self.old)) }
+        requires some { IsTrue (is_some (entry_of session self.old)) }
+        requires single { IfSome (entry_of session self.old) (λ held. IsTrue (is_single held.txn)) }
         ensures noted { OnOk result (self.new ≡ changed session (noting key.now) self.old) }
         ensures same { OnErr result (self.new ≡ self.old) }
         ensures full { IfSome (entry_of session self.old) (λ held. (result ≡ Err too_many_reads) ↔ IsTrue (has_no_place_to_read key.now (reads_of held.txn))) }

@@ -17,6 +17,7 @@ impl Parts {
     /// Takes the write into the actor's transaction, in place of what it wrote to the key.
     ///
     /// Refused where no session is open (NotOpen), it has no transaction (NoTxn), or 64 other keys are written (TooMany).
+    /// The cost is that of `Txn::put`, and of looking the session up; the value is moved in.
     pub(crate) fn put(&mut self, actor: u16, key: &Key, write: Write) -> Result<Reply, NoMemory>
         ensures { (site : Site) → CoreStands self.old site → IsSound so_far site → Gives (CoreStands self.new) (with_txn site actor (λ s t. set_key site actor t key.now write)) site result }
     {

@@ -1,5 +1,9 @@
 //! The two words that the program itself answers.
 
+ghost use Rattle.std.specs.Prelude.{◌≡◌, ◌↔◌, Some, map};
+ghost use Rattle.std.specs.String.{string_bytes};
+ghost use Rattle.tardis.specs.Helps.{AskUsage, AskVersion};
+
 use std::fmt;
 
 /// What the program tells of itself.
@@ -30,7 +34,10 @@ The frames are described in docs/FORMATS.md, statuses in docs/COMMANDS.md.
 ";
 
 /// The help that these words ask for: `--help` or `--version`, alone.
-pub fn help_of(words: &[String]) -> Option<Help> {
+pub fn help_of(words: &[String]) -> Option<Help>
+    ensures usage { (result ≡ Some Help.Usage) ↔ AskUsage (map (λ w. string_bytes w) words.now) }
+    ensures version { (result ≡ Some Help.Version) ↔ AskVersion (map (λ w. string_bytes w) words.now) }
+{
     if words.len() != 1 {
         return None;
     }

@@ -3,6 +3,10 @@
 //! The commands and the statuses are stated in `docs/COMMANDS.md`.
 #![tactic(auto)]
 
+ghost use Rattle.std.specs.Prelude.{◌≡◌};
+ghost use Rattle.std.specs.Process.{exit_status};
+ghost use Rattle.tardis_io.specs.Statuses.{status_number};
+
 mod helps;
 
 use helps::{Help, help_of};
@@ -52,9 +56,14 @@ fn tell(rt: &HostRuntime, help: Help) -> Status {
 }
 
 /// Writes the line of the status, if it has one, on standard error, and gives its number.
-fn end(rt: &HostRuntime, status: Status) -> ExitCode {
+fn end(rt: &HostRuntime, status: Status) -> ExitCode
+    ensures { exit_status result ≡ status_number status }
+{
     if status != Status::Ok {
         let _ = rt.eprintln(status);
     }
     ExitCode::from(status.number())
 }
+
+#[cfg(test)]
+mod tests;

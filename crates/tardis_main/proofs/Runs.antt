@@ -1,9 +1,8 @@
 -- What a run of a machine that stands for a site says of the site.
-use Rattle.std.proofs.Common.{ℕ, List, [], ◌∷◌, ◌++◌, ◌≡◌, ◌<◌, ◌+◌, length, map, Option, Some, None, refl, sym, subst, arith, rules}
+use Rattle.std.proofs.Common.{ℕ, List, [], map, Option, Some, None, refl, sym, subst, arith, rules}
 use Rattle.tardis_io.specs.Told.{WhileTold}
 use Rattle.tardis_io.specs.declared.statuses.Status.{Status}
 use Rattle.tardis_io.specs.declared.statuses.Status.TheVariants.{NoMemory}
-use Rattle.frame_cut.specs.Frames.{Cuts}
 use Rattle.frame_cut.specs.Events.{event_of}
 use Rattle.site_run.specs.Machines.{Answered}
 use Rattle.site_run.specs.Responses.{Whole}

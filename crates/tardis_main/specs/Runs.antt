@@ -5,7 +5,7 @@ use Rattle.tardis_io.specs.declared.statuses.Status.{Status}
 use Rattle.frame_cut.specs.Events.{event_of}
 use Rattle.site_run.specs.Machines.{Answered}
 use Rattle.site_run.specs.Endings.{Outcome, shape_of}
-use Rattle.plain_site.specs.Site.{Site, opening}
+use Rattle.plain_site.specs.Site.{Site}
 use Rattle.plain_site.specs.Built.{so_far}
 use Rattle.plain_site.specs.Step.{site_machine}
 use Rattle.plain_site.specs.Sound.{IsSound}

@@ -3,8 +3,9 @@
 //! The commands and the statuses are stated in `docs/COMMANDS.md`.
 #![tactic(auto)]
 
-ghost use Rattle.std.specs.Prelude.{◌≡◌, ◌≤◌, ◌<◌, ◌↔◌, true, false, ℕ, List, length, map};
+ghost use Rattle.std.specs.Prelude.{◌≡◌, ◌≤◌, ◌<◌, ◌↔◌, true, false, ℕ, List, IsTrue, length, map};
 ghost use Rattle.std.specs.String.{string_bytes};
+ghost use Rattle.tardis_base.specs.Valid.{are_limits};
 ghost use Rattle.tardis_io.specs.Told.{WhileTold};
 ghost use Rattle.tardis_io.specs.Faults.{Rose};
 ghost use Rattle.frame_cut.specs.Frames.{IsCut};
@@ -51,7 +52,7 @@ pub fn tardis<I: Source, O: Sink>(
     ensures nothing { result ≡ Status.NoMemory → (input.new ≡ input.old) × (output.new ≡ output.old) }
 {
     if is_run(words) {
-        run(alloc, input, output)
+        run(alloc, LIMITS, 1, input, output)
     } else {
         Status::Usage
     }
@@ -65,9 +66,18 @@ fn is_run(words: &[String]) -> bool
     words.len() == 1 && words[0].as_str() == "run"
 }
 
-/// Runs site 1 of 1.
-fn run<I: Source, O: Sink>(alloc: Global, input: &mut I, output: &mut O) -> Status
-    ensures headline { WhileTold (I.left input.old) (I.left input.new) (RunFrom (opening (program_limits 1) 1) result (O.given output.old) (O.given output.new)) }
+/// Runs the site of this number, with these limits.
+fn run<I: Source, O: Sink>(
+    alloc: Global,
+    limits: Limits,
+    own: u16,
+    input: &mut I,
+    output: &mut O,
+) -> Status
+    requires limits { IsTrue (are_limits limits) }
+    requires first { 1 ≤ own }
+    requires last { own ≤ limits.sites }
+    ensures headline { WhileTold (I.left input.old) (I.left input.new) (RunFrom (opening limits own) result (O.given output.old) (O.given output.new)) }
     ensures exact { WhileTold (I.left input.old) (I.left input.new) (λ first left. (all : List (List ℕ)) (rest : List ℕ)
         → IsCut first all rest → length first < most_taken
         → (Rose (I.faults input.old) (I.faults input.new) → ⊥) → (Rose (O.faults output.old) (O.faults output.new) → ⊥)
@@ -79,13 +89,23 @@ fn run<I: Source, O: Sink>(alloc: Global, input: &mut I, output: &mut O) -> Stat
     ensures write { result ≡ Status.WriteFault → Rose (O.faults output.old) (O.faults output.new) }
     ensures nothing { result ≡ Status.NoMemory → (input.new ≡ input.old) × (output.new ≡ output.old) }
 {
-    match SiteCore::new(alloc, LIMITS, 1) {
+    match SiteCore::new(alloc, limits, own) {
         Ok(mut site) => run_site(alloc, &mut site, input, output),
         Err(NoMemory) => Status::NoMemory,
     }
 }
 
 #[cfg(test)]
+mod limit_tests;
+#[cfg(test)]
+mod merge_rows;
+#[cfg(test)]
+mod merge_tests;
+#[cfg(test)]
 mod rows;
+#[cfg(test)]
+mod step_tests;
+#[cfg(test)]
+mod talks;
 #[cfg(test)]
 mod tests;

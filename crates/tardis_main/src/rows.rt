@@ -15,7 +15,7 @@ pub const TALK: &str = "\
 1 020100       1501                         a byte is left over => refused malformed
 1 06010001     1501                         a number without its flag => refused malformed
 2 0201         1502                         begin ancestor => refused notopen
-2 0800         151b08                       merge leaves => refused unsupported
+2 0c00000000   151b0c                       ceiling => refused unsupported
 2 14ffff       151b14                       deliver => refused unsupported";
 
 /// Two sessions read both keys, and each writes another one. Then the second commits.
@@ -142,3 +142,72 @@ pub const NO_STATE: &str = "\
 1 030178   1502                                     get x => refused notopen
 1 0100     01000000000000                           open => opened 0.0
 1 030178   1506                                     get x => refused notxn";
+
+/// A session opens and begins.
+pub const BEGUN: &str = "\
+1 0100 01000000000000 open => opened 0.0
+1 0200 02000000000000 begin any => begun 0.0";
+
+/// After 256 reads and 64 writes.
+pub const PAST_LIMITS: &str = "\
+1 0303323537     15080200000101               get 257 => refused toomany reads 257
+1 0301ff         06                           get #ff => absent
+1 04023635000131 15080100000041               put 65 1 => refused toomany writes 65
+1 04013f000132   07                           put #3f 2 => done
+1 03013f         04000000000000000132         get #3f => value 0.0 2
+1 06010000       0800010000000101000000000000 commit ser => committed 1.1 from 0.0";
+
+/// A site of three states.
+pub const FULL_SITE: &str = "\
+1 0100         01000000000000               open => opened 0.0
+1 0200         02000000000000               begin any => begun 0.0
+1 040178000131 07                           put x 1 => done
+1 06010000     0800010000000101000000000000 commit ser => committed 1.1 from 0.0
+1 0200         02000100000001               begin any => begun 1.1
+1 040178000132 07                           put x 2 => done
+1 06010000     0800010000000201000100000001 commit ser => committed 1.2 from 1.1
+1 0200         02000100000002               begin any => begun 1.2
+1 040178000133 07                           put x 3 => done
+1 06010000     151400000003                 commit ser => refused full 3
+1 030178       04000000000000000133         get x => value 0.0 3";
+
+/// A site of one session.
+pub const SECOND_SESSION: &str = "\
+1 0100 01000000000000 open => opened 0.0
+2 0100 15040001       open => refused sessionsfull 1";
+
+/// A site whose fork paths have one pair at most.
+pub const LONG_PATH: &str = "\
+1 0100             01000000000000               open => opened 0.0
+2 0100             01000000000000               open => opened 0.0
+1 0200             02000000000000               begin any => begun 0.0
+2 0200             02000000000000               begin any => begun 0.0
+2 030178           06                           get x => absent
+1 040178000131     07                           put x 1 => done
+2 040178000132     07                           put x 2 => done
+1 06010000         0800010000000101000000000000 commit ser => committed 1.1 from 0.0
+2 06010000         0800010000000201000000000000 commit ser => committed 1.2 from 0.0
+1 0203000100000001 02000100000001               begin at 1.1 => begun 1.1
+2 0203000100000001 02000100000001               begin at 1.1 => begun 1.1
+2 030178           04000100000001000131         get x => value 1.1 1
+1 040178000133     07                           put x 3 => done
+2 040178000134     07                           put x 4 => done
+1 06010000         0800010000000301000100000001 commit ser => committed 1.3 from 1.1
+2 06010000         151500010000000300000002     commit ser => refused pathfull 1.3 2";
+
+/// Site 3 of 16, which has made no state, and then makes one.
+pub const ONE_OF_16: &str = "\
+0 10           0e000000000000000100000001000000010000100000000000000000000000000000000000000000000000000000000000000000000000000000000000000000000000000000000000000000000000000000000000000000000000000000000000000000000000000000000000000000000000000000000000000000000000000000000000000000000000000000000000000000000000000000000000000000000000000000000000000000000000000000000000000000000000000000000000000000000000000000000000000000000000000000000000000000000000000000000000000000000000000000000000000000 stat => stat known 1 kept 1 leaves 1 sessions 0 sites 16
+1 0100         01000000000000                           open => opened 0.0
+1 0200         02000000000000                           begin any => begun 0.0
+1 040178000131 07                                       put x 1 => done
+1 06010000     0800030000000101000000000000             commit ser => committed 3.1 from 0.0";
+
+/// After a chain of 200 commits of `k`.
+pub const LOOKING_BACK: &str = "\
+1 0203000100000025 02000100000025                           begin at 1.37 => begun 1.37
+1 03016b           04000100000025000125                     get k => value 1.37 #25
+1 07               07                                       abort => done
+1 0203000000000000 02000000000000                           begin at 0.0 => begun 0.0
+1 03016b           06                                       get k => absent
+0 10               0e00000000000000c9000000c900000001000101000000c800000000000000000000 stat => stat known 201 kept 201 leaves 1 sessions 1 sites 1 200:0.0:0";

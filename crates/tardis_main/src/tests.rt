@@ -2,6 +2,7 @@ use crate::rows::{
     ANY_AFTER, AT_AFTER, BEHIND, COUNTED, LAST_COMMITS, NB_REFUSES, NO_STATE, RIPPLE, SER_FORKS,
     SI_PASSES, SKEWED, TALK,
 };
+use crate::talks::Talk;
 use crate::tardis;
 use std::alloc::Global;
 use std::test::Fail;
@@ -141,65 +142,11 @@ fn other_words_are_no_command(rt: HostRuntime) -> Result<(), Fail> {
     Ok(())
 }
 
-/// Puts the frame of a body behind these.
-fn put_frame(frames: &mut Vec<u8>, head: &[u8], body: &[u8]) -> Result<(), Fail> {
-    let length = u32::try_from(head.len().saturating_add(body.len())).unwrap_or(u32::MAX);
-    frames.extend_from_slice(&length.to_be_bytes())?;
-    frames.extend_from_slice(head)?;
-    frames.extend_from_slice(body)?;
-    Ok(())
-}
-
-/// The frames of the requests and of the replies of rows.
-#[derive(Drop)]
-struct Talk {
-    input: Vec<u8>,
-    output: Vec<u8>,
-}
-
-impl Talk {
-    fn new(alloc: Global) -> Talk {
-        Talk {
-            input: Vec::new(alloc),
-            output: Vec::new(alloc),
-        }
-    }
-
-    /// Puts a row behind the others; whether it has the form of one.
-    fn note(&mut self, alloc: Global, row: &str) -> Result<bool, Fail> {
-        let mut words = row.split_whitespace();
-        let (Some(actor), Some(asked), Some(told)) = (words.next(), words.next(), words.next())
-        else {
-            return Ok(false);
-        };
-        let Ok(actor) = actor.parse::<u16>() else {
-            return Ok(false);
-        };
-        let (Ok(asked), Ok(told)) = (hex::decode(alloc, asked), hex::decode(alloc, told)) else {
-            return Ok(false);
-        };
-        put_frame(&mut self.input, &actor.to_be_bytes(), asked.as_slice())?;
-        put_frame(&mut self.output, &[], told.as_slice())?;
-        Ok(true)
-    }
-
-    /// Puts rows behind the others; whether they all have the form of one.
-    fn note_all(&mut self, alloc: Global, rows: &str) -> Result<bool, Fail> {
-        for row in rows.lines() {
-            if !self.note(alloc, row)? {
-                return Ok(false);
-            }
-        }
-        Ok(true)
-    }
-}
-
-/// Whether a site that opens answers these rows and then those.
-fn answers(alloc: Global, rows: &str, more: &str) -> Result<bool, Fail> {
-    let mut talk = Talk::new(alloc);
-    if !talk.note_all(alloc, rows)? || !talk.note_all(alloc, more)? {
-        return Ok(false);
-    }
+/// Whether a site that opens answers the rows of these tables.
+fn answers(alloc: Global, tables: &[&str]) -> Result<bool, Fail> {
+    let talk = Talk::of(alloc, tables)?;
+    let input = talk.input()?;
+    let output = talk.output()?;
     let devices = Devices {
         piece: 65_536,
         failing_takes: &WELL,
@@ -207,10 +154,10 @@ fn answers(alloc: Global, rows: &str, more: &str) -> Result<bool, Fail> {
     };
     runs_to(
         alloc,
-        talk.input.as_slice(),
+        input.as_slice(),
         &devices,
         Status::Ok,
-        talk.output.as_slice(),
+        output.as_slice(),
     )
 }
 
@@ -218,13 +165,13 @@ fn answers(alloc: Global, rows: &str, more: &str) -> Result<bool, Fail> {
 fn worked_rows_are_answered(rt: HostRuntime) -> Result<(), Fail> {
     let alloc = rt.alloc();
     for rows in [TALK, RIPPLE, COUNTED, LAST_COMMITS, NO_STATE] {
-        assert!(rt; answers(alloc, rows, "")?);
+        assert!(rt; answers(alloc, &[rows])?);
     }
     for ends in [SER_FORKS, SI_PASSES, NB_REFUSES] {
-        assert!(rt; answers(alloc, SKEWED, ends)?);
+        assert!(rt; answers(alloc, &[SKEWED, ends])?);
     }
     for ends in [ANY_AFTER, AT_AFTER] {
-        assert!(rt; answers(alloc, BEHIND, ends)?);
+        assert!(rt; answers(alloc, &[BEHIND, ends])?);
     }
     Ok(())
 }

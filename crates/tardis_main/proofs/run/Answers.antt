@@ -1,4 +1,7 @@
-use Rattle.std.proofs.Common.{refl, map}
+use Rattle.std.proofs.Common.{ℕ, ◌≤◌, IsTrue, leb, map}
+use Rattle.std.proofs.lemmas.Bool.{and_from, le-leb}
+use Rattle.tardis_base.specs.Valid.{is_within, are_limits}
+use Rattle.tardis_base.specs.declared.records.Limits.{Limits}
 use Rattle.tardis_io.proofs.Told.{same, weaker}
 use Rattle.tardis_io.specs.declared.statuses.Status.TheVariants.{NoMemory}
 use Rattle.frame_cut.specs.Events.{event_of}
@@ -10,13 +13,20 @@ use Rattle.plain_site.specs.Step.{site_machine}
 use Rattle.plain_site.specs.Sound.{IsSound}
 use Rattle.plain_site.proofs.SoundOpening.{opening-is-sound}
 use Rattle.session_core.specs.Machine.{SiteStands}
-use Rattle.tardis_main.specs.Runs.{RunFrom, program_limits}
+use Rattle.tardis_main.specs.Runs.{RunFrom}
 use Rattle.tardis_main.proofs.Runs.{run_from, no_run}
 use Rattle.tardis_main.proofs.run.Goals as goal
 
+within : (low high n : ℕ) → low ≤ n → n ≤ high → IsTrue (is_within low high n)
+within low high n from to = and_from (leb low n) (leb n high) (le-leb low n from) (le-leb n high to)
+
+-- the site that opens is sound
+opens : (limits : Limits) (own : ℕ) → IsTrue (are_limits limits) → 1 ≤ own → own ≤ limits.sites → IsSound so_far (opening limits own)
+opens limits own valid first last = opening-is-sound so_far limits own valid (within 1 limits.sites own first last)
+
 pub returns-in-Ok-clause-headline : goal.returns-in-Ok-clause-headline
 returns-in-Ok-clause-headline g c =
-    let site = opening (program_limits 1) 1 in
+    let site = opening c.args.limits c.args.own in
     let status = c.run_site.result in
     let old = g.O.Sink.given c.args.output.now in
     let new = g.O.Sink.given c.run_site.new.output in
@@ -25,9 +35,10 @@ returns-in-Ok-clause-headline g c =
     (RunFrom site status old new)
     c.run_site.ensures.outcome
     (λ x y o. run_from site (SiteStands c.in-Ok.site) (SiteStands c.run_site.new.machine) status old new x y
-    (c.in-Ok.ensures.stands, opening-is-sound so_far (program_limits 1) 1 refl refl) (λ t both. both.1) o)
+    (c.in-Ok.ensures.stands, opens c.args.limits c.args.own c.requires.limits c.requires.first c.requires.last) (λ t both. both.1) o)
 
 pub returns-in-Err-clause-headline : goal.returns-in-Err-clause-headline
 returns-in-Err-clause-headline g c =
-    same (g.I.Source.left c.args.input.now) (RunFrom (opening (program_limits 1) 1) NoMemory (g.O.Sink.given c.args.output.now) (g.O.Sink.given c.args.output.now))
-    (λ x. no_run (opening (program_limits 1) 1) (g.O.Sink.given c.args.output.now) x (opening-is-sound so_far (program_limits 1) 1 refl refl))
+    let site = opening c.args.limits c.args.own in
+    same (g.I.Source.left c.args.input.now) (RunFrom site NoMemory (g.O.Sink.given c.args.output.now) (g.O.Sink.given c.args.output.now))
+    (λ x. no_run site (g.O.Sink.given c.args.output.now) x (opens c.args.limits c.args.own c.requires.limits c.requires.first c.requires.last))

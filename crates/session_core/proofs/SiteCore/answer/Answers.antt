@@ -1,4 +1,4 @@
-use Rattle.std.proofs.Common.{◌≡◌, sym, subst}
+use Rattle.std.proofs.Common.{◌≡◌, subst}
 use Rattle.plain_site.specs.Built.{so_far}
 use Rattle.plain_site.specs.Site.{Site}
 use Rattle.plain_site.specs.Step.{step}

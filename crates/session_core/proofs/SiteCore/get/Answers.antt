@@ -1,8 +1,8 @@
 use Rattle.std.proofs.Common.{◌≡◌, Ok, Some, None, subst, ◌∙◌}
 use Rattle.plain_site.specs.Site.{Site}
 use Rattle.wire_talk.specs.Spellings.{reply_spelling}
-use Rattle.session_core.specs.Machine.{SiteStands, reading, opened_with}
-use Rattle.session_core.proofs.Noting.{Noted, may-read, refusal-valid, noted-stands, noted-opening, read-written, refusal-written}
+use Rattle.session_core.specs.Machine.{SiteStands, reading}
+use Rattle.session_core.proofs.Noting.{Noted, may-read, refusal-valid, noted-stands, read-written, refusal-written}
 use Rattle.session_core.proofs.Telling.{small}
 use Rattle.session_core.proofs.SiteCore.get.Goals as goal
 use Rattle.session_core.proofs.SiteCore.get.Goals.{in-None, in-Some}

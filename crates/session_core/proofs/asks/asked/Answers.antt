@@ -1,4 +1,4 @@
-use Rattle.std.proofs.Common.{◌≡◌, Err, ap, ◌∙◌}
+use Rattle.std.proofs.Common.{Err, ap, ◌∙◌}
 use Rattle.session_core.proofs.Asking.{sure-takes_none}
 use Rattle.session_core.proofs.asks.asked.Goals as goal
 

@@ -1,4 +1,4 @@
-use Rattle.std.proofs.Common.{◌≡◌, Ok, Err, sym, subst}
+use Rattle.std.proofs.Common.{subst}
 use Rattle.session_core.specs.Machine.{AsksFor}
 use Rattle.session_core.proofs.Asking.{asked-sure}
 use Rattle.session_core.proofs.acts.SiteCoreMachine.act.Goals as goal

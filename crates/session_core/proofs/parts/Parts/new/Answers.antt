@@ -1,4 +1,4 @@
-use Rattle.std.proofs.Common.{◌≡◌, [], ◌∷◌, map, Some, IsTrue, refl, sym, subst}
+use Rattle.std.proofs.Common.{◌≡◌, [], ◌∷◌, map, Some, IsTrue, sym, subst}
 use Rattle.std.specs.List.{list_all}
 use Rattle.plain_dag.specs.States.{root_record}
 use Rattle.state_dag.specs.Table.{is_slot, id_at}

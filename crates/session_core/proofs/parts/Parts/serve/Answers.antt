@@ -1,4 +1,4 @@
-use Rattle.std.proofs.Common.{◌≡◌, refl, sym, subst, ap, ◌∙◌}
+use Rattle.std.proofs.Common.{refl, sym, subst, ap, ◌∙◌}
 use Rattle.tardis_base.specs.declared.replies.Refusal.TheVariants.{Unsupported}
 use Rattle.tardis_base.specs.declared.replies.Reply.TheVariants.{Refused}
 use Rattle.tardis_base.specs.declared.records.Write.TheVariants.{Put as Value}
@@ -7,7 +7,7 @@ use Rattle.plain_site.specs.Reads.{set_key}
 use Rattle.plain_site.specs.Answers.{with_txn}
 use Rattle.plain_site.specs.Step.{step}
 use Rattle.session_core.specs.Stands.{CoreStands}
-use Rattle.session_core.specs.Gives.{Gives, IsGiven}
+use Rattle.session_core.specs.Gives.{Gives}
 use Rattle.session_core.proofs.Answers.{as-given}
 use Rattle.session_core.proofs.Serving.{IsOther, other-unsupported}
 use Rattle.session_core.proofs.parts.Parts.serve.Goals as goal
@@ -32,8 +32,13 @@ returns-in_default c =
       delete = c.in_default.not-Delete;
       commit = c.in_default.not-Commit;
       abort = c.in_default.not-Abort;
+      begin_merge = c.in_default.not-BeginMerge;
+      fork_points = c.in_default.not-ForkPoints;
+      conflicts = c.in_default.not-Conflicts;
+      get_for = c.in_default.not-GetFor;
       stat = c.in_default.not-Stat;
       show = c.in_default.not-Show;
+      leaves = c.in_default.not-Leaves;
       close = c.in_default.not-Close;
     } in
     record {

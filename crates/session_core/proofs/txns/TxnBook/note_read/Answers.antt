@@ -10,10 +10,10 @@ use Rattle.session_core.proofs.txns.TxnBook.note_read.Goals as goal
 pub note_read-requires : goal.note_read-requires
 note_read-requires c =
     let found = sym c.get_mut.ensures.value ∙ ap option_copied_mut c.in-Some.is in
-    single-there c.args.session c.self.inside.entries.entries c.in-Some.held.now c.self.invariant found
+    single-there c.args.session c.self.inside.entries.entries c.args.self.now c.in-Some.held.now c.self.view_is found c.requires.single
 
 pub unreachable-requires : goal.unreachable-requires
-unreachable-requires c = never-missing c.args.session c.self.inside.entries.entries c.args.self.now c.self.view_is c.requires (sym c.get_mut.ensures.value ∙ ap option_copied_mut c.in-None.is)
+unreachable-requires c = never-missing c.args.session c.self.inside.entries.entries c.args.self.now c.self.view_is c.requires.some (sym c.get_mut.ensures.value ∙ ap option_copied_mut c.in-None.is)
 
 pub invariant_of-self : goal.invariant_of-self
 invariant_of-self c =

@@ -1,0 +1,72 @@
+-- All plain sites of one running site give one reply.
+use Rattle.std.proofs.Common.{◌≡◌, ℕ, Some, refl, ap}
+use Rattle.tardis_base.specs.declared.requests.Request.{Request}
+use Rattle.tardis_base.specs.declared.requests.Request.TheVariants.{Open, Begin, Get, Put, Delete, Commit, Abort, BeginMerge, ForkPoints, Conflicts, GetFor, Ceiling, Raise, RaiseAuto, Tidy, Stat, Show, Leaves, Pull, Deliver, Close}
+use Rattle.tardis_base.specs.declared.records.Write.TheVariants.{Put as Value, Delete as Deletion}
+use Rattle.plain_dag.specs.Entries.{entry_of}
+use Rattle.plain_dag.specs.Floors.{Session}
+use Rattle.plain_site.specs.Answers.{Answer, with_session, with_txn, without_txn}
+use Rattle.plain_site.specs.Built.{so_far}
+use Rattle.plain_site.specs.Commits.{abort, commit}
+use Rattle.plain_site.specs.Merges.{begin_merge, fork_points_of, conflicts_of}
+use Rattle.plain_site.specs.Reads.{get, set_key, get_for}
+use Rattle.plain_site.specs.Sessions.{begin, close_session}
+use Rattle.plain_site.specs.Site.{Site, Txn}
+use Rattle.plain_site.specs.Step.{step}
+use Rattle.session_core.specs.Core.{Core}
+use Rattle.session_core.specs.Machine.{SiteStands}
+use Rattle.session_laws.specs.Laws.{GivesOneReply}
+use Rattle.session_laws.proofs.Answers.{ReplyAlike, session-alike, txn-alike, no-txn-alike, step-alike}
+use Rattle.session_laws.proofs.Sites.{sessions-alike, txns-alike}
+use Rattle.session_laws.proofs.Requests.{open-alike, begin-alike, get-alike, set-alike, get-for-alike, begin-merge-alike}
+use Rattle.session_laws.proofs.Shows.{fork-points-alike, conflicts-alike, stat-alike, show-alike, leaves-shown-alike}
+use Rattle.session_laws.proofs.Commits.{commit-alike}
+
+module _ (core : Core) (a b : Site) (on_a : SiteStands core a) (on_b : SiteStands core b) (n : ℕ) where
+  sessions : entry_of n a.sessions ≡ entry_of n b.sessions
+  sessions = ap (entry_of n) (sessions-alike core a b on_a on_b)
+
+  for-session : (f g : Session → Answer) → ((s : Session) → entry_of n a.sessions ≡ Some s → ReplyAlike (f s) (g s)) → ReplyAlike (with_session a n f) (with_session b n g)
+  for-session f g each = session-alike a b n sessions f g each
+
+  for-txn : (f g : Session → Txn → Answer) → ((s : Session) (t : Txn) → entry_of n a.sessions ≡ Some s → entry_of n a.txns ≡ Some t → ReplyAlike (f s t) (g s t)) → ReplyAlike (with_txn a n f) (with_txn b n g)
+  for-txn f g each = txn-alike a b n sessions f g (txns-alike core a b on_a on_b n) each
+
+  for-none : (f g : Session → Answer) → ((s : Session) → entry_of n a.sessions ≡ Some s → ReplyAlike (f s) (g s)) → ReplyAlike (without_txn a n f) (without_txn b n g)
+  for-none f g each = no-txn-alike a b n sessions f g (txns-alike core a b on_a on_b n) each
+
+  one-reply : (q : Request) → (step so_far a n q).1 ≡ (step so_far b n q).1
+  one-reply (Open follow) = step-alike a b so_far n (Open follow) (open-alike core a b on_a on_b n follow)
+  one-reply (Begin at) =
+      step-alike a b so_far n (Begin at) (for-none (λ s. begin a n s at) (λ s. begin b n s at) (λ s e. begin-alike core a b on_a on_b n s e at))
+  one-reply (Get k) = step-alike a b so_far n (Get k) (for-txn (λ s t. get a n t k) (λ s t. get b n t k) (λ s t e d. get-alike core a b on_a on_b n t d k))
+  one-reply (Put k v) =
+      step-alike a b so_far n (Put k v) (for-txn (λ s t. set_key a n t k (Value v)) (λ s t. set_key b n t k (Value v)) (λ s t e d. set-alike core a b on_a on_b n t k (Value v)))
+  one-reply (Delete k) =
+      step-alike a b so_far n (Delete k) (for-txn (λ s t. set_key a n t k Deletion) (λ s t. set_key b n t k Deletion) (λ s t e d. set-alike core a b on_a on_b n t k Deletion))
+  one-reply (Commit flags k) =
+      step-alike a b so_far n (Commit flags k)
+      (for-txn (λ s t. commit so_far a n t flags k) (λ s t. commit so_far b n t flags k) (λ s t e d. commit-alike core a b on_a on_b n t d flags k))
+  one-reply Abort = step-alike a b so_far n Abort (for-txn (λ s t. abort a n) (λ s t. abort b n) (λ s t e d. refl))
+  one-reply (BeginMerge of) =
+      step-alike a b so_far n (BeginMerge of) (for-none (λ s. begin_merge a n s of) (λ s. begin_merge b n s of) (λ s e. begin-merge-alike core a b on_a on_b n s e of))
+  one-reply ForkPoints =
+      step-alike a b so_far n ForkPoints (for-txn (λ s t. fork_points_of a t) (λ s t. fork_points_of b t) (λ s t e d. fork-points-alike core a b on_a on_b n t d))
+  one-reply (Conflicts after) =
+      step-alike a b so_far n (Conflicts after)
+      (for-txn (λ s t. conflicts_of a t after) (λ s t. conflicts_of b t after) (λ s t e d. conflicts-alike core a b on_a on_b n t d after))
+  one-reply (GetFor k x) =
+      step-alike a b so_far n (GetFor k x) (for-txn (λ s t. get_for a t k x) (λ s t. get_for b t k x) (λ s t e d. get-for-alike core a b on_a on_b n t d k x))
+  one-reply (Ceiling x) = refl
+  one-reply (Raise x) = refl
+  one-reply RaiseAuto = refl
+  one-reply (Tidy count) = refl
+  one-reply Stat = step-alike a b so_far n Stat (stat-alike core a b on_a on_b n)
+  one-reply (Show x) = step-alike a b so_far n (Show x) (show-alike core a b on_a on_b n x)
+  one-reply Leaves = step-alike a b so_far n Leaves (leaves-shown-alike core a b on_a on_b n)
+  one-reply (Pull counts) = refl
+  one-reply (Deliver item) = refl
+  one-reply Close = step-alike a b so_far n Close (for-session (λ s. close_session a n) (λ s. close_session b n) (λ s e. refl))
+
+pub gives-one-reply : (core : Core) → GivesOneReply core
+gives-one-reply core a b on_a on_b n q = one-reply core a b on_a on_b n q

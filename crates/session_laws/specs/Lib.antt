@@ -1,0 +1,2 @@
+-- What follows from what a site in memory stands for.
+pub mod Laws

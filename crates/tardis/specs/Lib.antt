@@ -1,0 +1,2 @@
+-- What the program answers by itself.
+pub mod Helps
