@@ -1,7 +1,7 @@
 //! Whether a transaction may end where it would land. The rule is stated in `docs/MODEL.md`.
 #![tactic(auto)]
 
-ghost use Rattle.std.specs.Prelude.{◌≡◌, ℕ, ◌≤◌, Some, List, length, IsTrue};
+ghost use Rattle.std.specs.Prelude.{◌≡◌, Some, List, length, min, IsTrue};
 ghost use Rattle.tardis_base.specs.declared.ids.StateId.{StateId};
 ghost use Rattle.tardis_base.specs.declared.records.Record.{Record};
 ghost use Rattle.plain_dag.specs.States.{children};
@@ -25,11 +25,11 @@ pub struct Branches {
 
 /// Whether the end constraints let a transaction end at the state of this slot.
 ///
-/// `k` is looked at with the flag KB alone. The children are all counted, collected ones too; they are taken to be
-/// fewer than 2^32. The cost is the same for each table.
+/// `k` is looked at with the flag KB alone. The children are all counted, collected ones too, and told as far as 32 bits
+/// tell. It takes constant time.
 pub fn check(dag: &StateDag, landing: Slot, flags: EndFlags, k: u16) -> Result<(), Branches>
     requires { IsTrue (is_slot dag.now landing) }
-    ensures { (rs : List Record) (ks : List StateId) → Stands dag.now rs ks → (x : StateId) → id_at dag.now landing ≡ Some x → length (children rs x) ≤ 4294967295 → CheckedAs x (broken flags k (length (children rs x))) (length (children rs x)) result }
+    ensures { (rs : List Record) (ks : List StateId) → Stands dag.now rs ks → (x : StateId) → id_at dag.now landing ≡ Some x → CheckedAs x (broken flags k (length (children rs x))) (min (length (children rs x)) 4294967295) result }
 {
     let children = dag.children(landing).len();
     match broken_by(flags, k, children) {
@@ -57,7 +57,7 @@ fn broken_by(flags: EndFlags, k: u16, children: usize) -> Option<u8>
 
 /// The number, or the greatest that fits.
 fn counted(number: usize) -> u32
-    ensures { number ≤ 4294967295 → result ≡ number }
+    ensures { result ≡ min number 4294967295 }
 {
     number.min(u32::MAX as usize) as u32
 }
