@@ -141,13 +141,22 @@ fn id_behind(commits: u8) -> [u8; 6] {
     [0, commits.min(1), 0, 0, 0, commits]
 }
 
+/// Puts a number, in decimal digits, to `k`.
+fn note_put(alloc: Global, talk: &mut Talk, number: u8) -> Result<(), Fail> {
+    let digits = format!(in alloc; "{number}")?;
+    let mut put = Vec::from_slice(alloc, &[4, 1, 0x6b, 0])?;
+    put.push(u8::try_from(digits.len()).unwrap_or(0))?;
+    put.extend_from_slice(digits.as_bytes())?;
+    talk.ask(put.as_slice(), &[7])
+}
+
 /// Opens a session, and commits so many times, each time the commit's number as the value of `k`.
-pub(crate) fn note_chain(talk: &mut Talk, commits: u8) -> Result<(), Fail> {
+pub(crate) fn note_chain(alloc: Global, talk: &mut Talk, commits: u8) -> Result<(), Fail> {
     talk.ask(&[1, 0], &[1, 0, 0, 0, 0, 0, 0])?;
     for n in 1..=commits {
         let [a, b, c, d, e, f] = id_behind(n - 1);
         talk.ask(&[2, 0], &[2, a, b, c, d, e, f])?;
-        talk.ask(&[4, 1, 0x6b, 0, 1, n], &[7])?;
+        note_put(alloc, talk, n)?;
         talk.ask(&[6, 1, 0, 0], &[8, 0, 1, 0, 0, 0, n, 1, a, b, c, d, e, f])?;
     }
     Ok(())
@@ -157,7 +166,7 @@ pub(crate) fn note_chain(talk: &mut Talk, commits: u8) -> Result<(), Fail> {
 fn each_of_200_states_keeps_its_value(rt: HostRuntime) -> Result<(), Fail> {
     let alloc = rt.alloc();
     let mut talk = Talk::new(alloc);
-    note_chain(&mut talk, 200)?;
+    note_chain(alloc, &mut talk, 200)?;
     talk.note_all(LOOKING_BACK)?;
     assert!(rt; answers(alloc, LIMITS, 1, &talk)?);
     Ok(())

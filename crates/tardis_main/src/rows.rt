@@ -206,7 +206,7 @@ pub const ONE_OF_16: &str = "\
 /// After a chain of 200 commits of `k`.
 pub const LOOKING_BACK: &str = "\
 1 0203000100000025 02000100000025                           begin at 1.37 => begun 1.37
-1 03016b           04000100000025000125                     get k => value 1.37 #25
+1 03016b           0400010000002500023337                   get k => value 1.37 37
 1 07               07                                       abort => done
 1 0203000000000000 02000000000000                           begin at 0.0 => begun 0.0
 1 03016b           06                                       get k => absent

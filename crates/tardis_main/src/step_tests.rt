@@ -83,7 +83,7 @@ fn each_request_is_a_step(rt: HostRuntime) -> Result<(), Fail> {
 fn each_of_200_commits_is_a_step(rt: HostRuntime) -> Result<(), Fail> {
     let alloc = rt.alloc();
     let mut talk = Talk::new(alloc);
-    note_chain(&mut talk, 200)?;
+    note_chain(alloc, &mut talk, 200)?;
     talk.note_all(LOOKING_BACK)?;
     assert!(rt; steps(alloc, &talk)?);
     Ok(())
