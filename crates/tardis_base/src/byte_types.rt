@@ -7,9 +7,11 @@ ghost use Rattle.std.specs.Cmp.Lexicographic.{pointwise, slice_cmp, nat_list_eq_
 ghost use Rattle.std.specs.Cmp.{partial_equiv_from_equiv};
 ghost use Rattle.std.specs.Cmp.Rules.{hashing};
 ghost use Rattle.std.proofs.Common.{rules};
+ghost use Rattle.tardis_base.specs.Sizes.{longest_key, longest_value};
 ghost use Rattle.tardis_base.specs.Valid.{is_within, are_bytes, is_key, is_value};
 
 use crate::faults::{BytesFault, NoMemory};
+use crate::sizes::{MAX_KEY, MAX_VALUE};
 use std::alloc::Global;
 use std::cmp::Ordering;
 use std::hash::{Hash, Hasher};
@@ -23,12 +25,13 @@ pub struct Key {
 
 impl Model for Key {
     ghost use Rattle.std.specs.Prelude.{List, ℕ, ◌≤◌, length};
+    ghost use Rattle.tardis_base.specs.Sizes.{longest_key};
 
     ghost Value = { List ℕ };
 
     ghost view = { λ k. k.bytes.items };
 
-    ghost invariant = { λ k. (1 ≤ length k.bytes.items) × (length k.bytes.items ≤ 128) };
+    ghost invariant = { λ k. (1 ≤ length k.bytes.items) × (length k.bytes.items ≤ longest_key) };
 }
 
 /// A value: 0 to 4,096 bytes.
@@ -39,24 +42,25 @@ pub struct Value {
 
 impl Model for Value {
     ghost use Rattle.std.specs.Prelude.{List, ℕ, ◌≤◌, length};
+    ghost use Rattle.tardis_base.specs.Sizes.{longest_value};
 
     ghost Value = { List ℕ };
 
     ghost view = { λ v. v.bytes.items };
 
-    ghost invariant = { λ v. length v.bytes.items ≤ 4096 };
+    ghost invariant = { λ v. length v.bytes.items ≤ longest_value };
 }
 
 impl Key {
     /// The key of these bytes, which are copied.
     pub fn new(alloc: Global, bytes: &[u8]) -> Result<Key, BytesFault>
         ensures key { IfOk result (λ key. key ≡ bytes.now) }
-        ensures length { (result ≡ Err BytesFault.Length) ↔ (is_within 1 128 (length bytes.now) ≡ false) }
+        ensures length { (result ≡ Err BytesFault.Length) ↔ (is_within 1 longest_key (length bytes.now) ≡ false) }
         ensures valid { OnOk result (IsTrue (is_key bytes.now)) }
         ensures room { result ≡ Err BytesFault.NoMemory → IsTrue (is_key bytes.now) }
     {
         let bytes = checked_bytes(bytes);
-        if bytes.is_empty() || bytes.len() > 128 {
+        if bytes.is_empty() || bytes.len() > MAX_KEY {
             return Err(BytesFault::Length);
         }
         match Vec::from_slice(alloc, bytes) {
@@ -85,12 +89,12 @@ impl Value {
     /// The value of these bytes, which are copied.
     pub fn new(alloc: Global, bytes: &[u8]) -> Result<Value, BytesFault>
         ensures value { IfOk result (λ value. value ≡ bytes.now) }
-        ensures length { (result ≡ Err BytesFault.Length) ↔ (nat_le (length bytes.now) 4096 ≡ false) }
+        ensures length { (result ≡ Err BytesFault.Length) ↔ (nat_le (length bytes.now) longest_value ≡ false) }
         ensures valid { OnOk result (IsTrue (is_value bytes.now)) }
         ensures room { result ≡ Err BytesFault.NoMemory → IsTrue (is_value bytes.now) }
     {
         let bytes = checked_bytes(bytes);
-        if bytes.len() > 4096 {
+        if bytes.len() > MAX_VALUE {
             return Err(BytesFault::Length);
         }
         match Vec::from_slice(alloc, bytes) {

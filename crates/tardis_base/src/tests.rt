@@ -105,12 +105,8 @@ fn writes_stand_in_order(rt: HostRuntime) -> Result<(), Fail> {
 #[test]
 fn a_record_is_copied(rt: HostRuntime) -> Result<(), Fail> {
     let alloc = rt.alloc();
-    let root = StateId {
-        site: 0,
-        sequence: 0,
-    };
     let mut parents = StateList::new(alloc);
-    parents.push(root)?;
+    parents.push(StateId::ROOT)?;
     let record = Record {
         id: StateId {
             site: 1,
@@ -122,7 +118,7 @@ fn a_record_is_copied(rt: HostRuntime) -> Result<(), Fail> {
     let copy = record.copy()?;
     assert_eq!(rt; copy, record);
     assert_eq!(rt; copy.writes.len(), 3);
-    assert_eq!(rt; copy.parents.as_slice(), [root].as_slice());
+    assert_eq!(rt; copy.parents.as_slice(), [StateId::ROOT].as_slice());
     let item = Item::State(record);
     assert_eq!(rt; item.copy()?, item);
     Ok(())
@@ -150,9 +146,9 @@ fn a_reply_has_its_room(rt: HostRuntime) -> Result<(), Fail> {
     assert_eq!(rt; out.bytes(), b"abc".as_slice());
     out.clear();
     assert!(rt; out.is_empty());
-    let most = vec![in alloc; 1u8; ROOM]?;
+    let most = vec![in alloc; 1u8; MAX_FRAME]?;
     out.push(most.as_slice());
-    assert_eq!(rt; out.len(), ROOM);
+    assert_eq!(rt; out.len(), MAX_FRAME);
     assert_eq!(rt; out.bytes(), most.as_slice());
     Ok(())
 }
