@@ -1,12 +1,14 @@
 //! Keys and values: short byte strings of bounded length.
 
-ghost use Rattle.std.specs.Prelude.{◌≡◌, ◌≤◌, ◌↔◌, Some, false, nat_eq, nat_le, length, refl, IsTrue, OnOk, IfOk};
+ghost use Rattle.std.specs.Prelude.{◌≡◌, ◌≤◌, ◌↔◌, Some, false, nat_eq, nat_le, length, refl, true, IsTrue, OnOk, IfOk};
+ghost use Rattle.std.specs.Option.{option_copied, option_map_or};
 ghost use Rattle.std.specs.Ordering.{nat_cmp};
 ghost use Rattle.std.specs.Hash as fed;
 ghost use Rattle.std.specs.Cmp.Lexicographic.{pointwise, slice_cmp, nat_list_eq_equiv, nat_list_cmp_total, texts_ties, texts_po};
 ghost use Rattle.std.specs.Cmp.{partial_equiv_from_equiv};
 ghost use Rattle.std.specs.Cmp.Rules.{hashing};
 ghost use Rattle.std.proofs.Common.{rules};
+ghost use Rattle.tardis_base.specs.Keys.{is_key_before};
 ghost use Rattle.tardis_base.specs.Sizes.{longest_key, longest_value};
 ghost use Rattle.tardis_base.specs.Valid.{is_within, are_bytes, is_key, is_value};
 
@@ -119,12 +121,22 @@ impl Value {
     }
 }
 
-/// The same bytes, of which each is known to be one.
-fn checked_bytes(bytes: &[u8]) -> &[u8]
+/// The same bytes, which proofs then know to be numbers below 256.
+pub fn checked_bytes(bytes: &[u8]) -> &[u8]
     ensures same { result.now ≡ bytes.now }
     ensures bytes { IsTrue (are_bytes bytes.now) }
 {
     bytes
+}
+
+/// Whether the key may stand behind the last one in ascending order. Behind none any may.
+pub fn key_follows(last: Option<&[u8]>, key: &[u8]) -> bool
+    ensures { result ≡ option_map_or (λ before. is_key_before before key.now) (option_copied last.entry) true }
+{
+    match last {
+        Some(before) => before.cmp(key).is_lt(),
+        None => true,
+    }
 }
 
 impl PartialEq for Key {

@@ -142,7 +142,10 @@ impl fmt::Display for AddFault {
                 write!(f, "the site is full: it keeps {kept} states; collect some")
             },
             AddFault::PathFull { state, pairs } => {
-                write!(f, "the fork path of state {state} would have {pairs} pairs, too many")
+                write!(
+                    f,
+                    "the fork path of state {state} would have {pairs} pairs, too many"
+                )
             },
             AddFault::NoMemory => write!(f, "out of memory"),
         }

@@ -15,12 +15,12 @@ mod requests;
 mod sizes;
 
 pub use aboves::Above;
-pub use byte_types::{Key, Value};
+pub use byte_types::{Key, Value, checked_bytes, key_follows};
 pub use faults::{AddFault, BytesFault, NoMemory, ReadFault, SeqEnd};
 pub use ids::{Slot, StateId};
 pub use lists::{
     ByteList, ConsentList, CountList, KeyList, KeySet, ListOf, PathList, RecordList, StateList,
-    WriteSet,
+    WriteSet, pushed,
 };
 pub use machines::Machine;
 pub use readings::{Found, Over};

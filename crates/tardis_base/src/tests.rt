@@ -42,23 +42,23 @@ fn keys_and_values_have_bounded_length(rt: HostRuntime) -> Result<(), Fail> {
         match Key::new(alloc, bytes) {
             Ok(key) => {
                 assert!(rt; fits_key, "{count}");
-                assert_eq!(rt; key.as_slice(), bytes);
-                assert_eq!(rt; key.copy()?, key);
+                assert!(rt; key.as_slice() == bytes);
+                assert!(rt; key.copy()? == key);
             },
             Err(fault) => {
                 assert!(rt; !fits_key, "{count}");
-                assert_eq!(rt; fault, BytesFault::Length);
+                assert!(rt; fault == BytesFault::Length);
             },
         }
         match Value::new(alloc, bytes) {
             Ok(value) => {
                 assert!(rt; fits_value, "{count}");
-                assert_eq!(rt; value.as_slice(), bytes);
-                assert_eq!(rt; value.copy()?, value);
+                assert!(rt; value.as_slice() == bytes);
+                assert!(rt; value.copy()? == value);
             },
             Err(fault) => {
                 assert!(rt; !fits_value, "{count}");
-                assert_eq!(rt; fault, BytesFault::Length);
+                assert!(rt; fault == BytesFault::Length);
             },
         }
     }
@@ -73,10 +73,10 @@ fn keys_stand_in_order(rt: HostRuntime) -> Result<(), Fail> {
     for bytes in [b"b".as_slice(), b"a", b"ab", b"a"] {
         keys.insert(key(alloc, bytes)?)?;
     }
-    assert_eq!(rt; keys.len(), 3);
+    assert!(rt; keys.len() == 3);
     for (place, bytes) in [(0, b"a".as_slice()), (1, b"ab"), (2, b"b")] {
         assert!(rt; place < keys.len());
-        assert_eq!(rt; keys.at(place).as_slice(), bytes);
+        assert!(rt; keys.at(place).as_slice() == bytes);
     }
     assert!(rt; keys.contains(&key(alloc, b"ab")?));
     assert!(rt; !keys.contains(&key(alloc, b"abc")?));
@@ -87,7 +87,7 @@ fn keys_stand_in_order(rt: HostRuntime) -> Result<(), Fail> {
 fn writes_stand_in_order(rt: HostRuntime) -> Result<(), Fail> {
     let alloc = rt.alloc();
     let writes = three_writes(alloc)?;
-    assert_eq!(rt; writes.len(), 3);
+    assert!(rt; writes.len() == 3);
     for (bytes, write) in [
         (b"a".as_slice(), Some(put(alloc, b"1")?)),
         (b"ab", Some(Write::Delete)),
@@ -95,8 +95,8 @@ fn writes_stand_in_order(rt: HostRuntime) -> Result<(), Fail> {
         (b"c", None),
     ] {
         let key = key(alloc, bytes)?;
-        assert_eq!(rt; writes.get(&key), write.as_ref());
-        assert_eq!(rt; writes.contains(&key), write.is_some());
+        assert!(rt; writes.get(&key) == write.as_ref());
+        assert!(rt; writes.contains(&key) == write.is_some());
     }
     assert!(rt; writes.at(1).0.as_slice() == b"ab".as_slice());
     Ok(())
@@ -116,24 +116,24 @@ fn a_record_is_copied(rt: HostRuntime) -> Result<(), Fail> {
         writes: three_writes(alloc)?,
     };
     let copy = record.copy()?;
-    assert_eq!(rt; copy, record);
-    assert_eq!(rt; copy.writes.len(), 3);
-    assert_eq!(rt; copy.parents.as_slice(), [StateId::ROOT].as_slice());
+    assert!(rt; copy == record);
+    assert!(rt; copy.writes.len() == 3);
+    assert!(rt; copy.parents.as_slice() == [StateId::ROOT].as_slice());
     let item = Item::State(record);
-    assert_eq!(rt; item.copy()?, item);
+    assert!(rt; item.copy()? == item);
     Ok(())
 }
 
 #[test]
 fn a_list_is_its_items(rt: HostRuntime) -> Result<(), Fail> {
     let alloc = rt.alloc();
-    let mut counts = CountList::from_vec(vec![in alloc; 3, 5]?);
-    counts.push(8)?;
-    assert_eq!(rt; counts.len(), 3);
-    assert_eq!(rt; *counts.at(2), 8);
-    assert_eq!(rt; counts.iter().copied().max(), Some(8));
-    assert_eq!(rt; counts.copy()?, counts);
-    assert_eq!(rt; counts.into_vec().as_slice(), [3, 5, 8].as_slice());
+    let counts = CountList::from_vec(vec![in alloc; 3, 5]?);
+    let counts = pushed(Ok(counts), Ok(8))?;
+    assert!(rt; counts.len() == 3);
+    assert!(rt; *counts.at(2) == 8);
+    assert!(rt; counts.iter().copied().max() == Some(8));
+    assert!(rt; counts.copy()? == counts);
+    assert!(rt; counts.into_vec().as_slice() == [3, 5, 8].as_slice());
     Ok(())
 }
 
@@ -143,13 +143,13 @@ fn a_reply_has_its_room(rt: HostRuntime) -> Result<(), Fail> {
     let mut out = ReplyBuf::new(alloc)?;
     out.push(b"ab");
     out.push_byte(b'c');
-    assert_eq!(rt; out.bytes(), b"abc".as_slice());
+    assert!(rt; out.bytes() == b"abc".as_slice());
     out.clear();
     assert!(rt; out.is_empty());
     let most = vec![in alloc; 1u8; MAX_FRAME]?;
     out.push(most.as_slice());
-    assert_eq!(rt; out.len(), MAX_FRAME);
-    assert_eq!(rt; out.bytes(), most.as_slice());
+    assert!(rt; out.len() == MAX_FRAME);
+    assert!(rt; out.bytes() == most.as_slice());
     Ok(())
 }
 
@@ -164,11 +164,11 @@ fn lines_stand_in_place(rt: HostRuntime) {
         },
         number: 1,
     };
-    assert_eq!(rt; lines, SiteLines::new());
+    assert!(rt; lines == SiteLines::new());
     lines.push(line);
-    assert_eq!(rt; lines.len(), 1);
-    assert_eq!(rt; *lines.at(0), line);
-    assert_ne!(rt; lines, SiteLines::new());
+    assert!(rt; lines.len() == 1);
+    assert!(rt; *lines.at(0) == line);
+    assert!(rt; lines != SiteLines::new());
 }
 
 #[test]
@@ -200,9 +200,21 @@ fn limits_have_bounds(rt: HostRuntime) {
 }
 
 #[test]
+fn faults_say_what_is_wrong(rt: HostRuntime) -> Result<(), Fail> {
+    let state = StateId {
+        site: 2,
+        sequence: 15,
+    };
+    let fault = AddFault::PathFull { state, pairs: 9 };
+    let text = format!(in rt.alloc(); "{fault}")?;
+    assert!(rt; text.as_str() == "the fork path of state 2.15 would have 9 pairs, too many");
+    Ok(())
+}
+
+#[test]
 fn flags_are_bits(rt: HostRuntime) {
     let flags = EndFlags::SER | EndFlags::NB;
-    assert_eq!(rt; flags.bits(), 5);
+    assert!(rt; flags.bits() == 5);
     assert!(rt; flags.contains(EndFlags::NB));
     assert!(rt; !flags.contains(EndFlags::SI));
 }
