@@ -12,56 +12,35 @@ fn key(alloc: Global, bytes: &[u8]) -> Result<Key, BytesFault> {
     Key::new(alloc, bytes)
 }
 
-fn put(alloc: Global, bytes: &[u8]) -> Result<Write, BytesFault> {
-    Ok(Write::Put(Value::new(alloc, bytes)?))
+fn write(alloc: Global, value: Option<&[u8]>) -> Result<Write, BytesFault> {
+    match value {
+        Some(bytes) => Ok(Write::Put(Value::new(alloc, bytes)?)),
+        None => Ok(Write::Delete),
+    }
 }
 
 /// The writes a=1, ab deleted and b=2.
 fn three_writes(alloc: Global) -> Result<WriteSet, Fail> {
     let mut writes = WriteSet::new(alloc);
-    writes.insert(key(alloc, b"b")?, put(alloc, b"0")?)?;
-    writes.insert(key(alloc, b"a")?, put(alloc, b"1")?)?;
-    writes.insert(key(alloc, b"ab")?, Write::Delete)?;
-    writes.insert(key(alloc, b"b")?, put(alloc, b"2")?)?;
+    for (bytes, value) in [
+        (b"b".as_slice(), Some(b"0".as_slice())),
+        (b"a", Some(b"1")),
+        (b"ab", None),
+        (b"b", Some(b"2")),
+    ] {
+        writes.insert(key(alloc, bytes)?, write(alloc, value)?)?;
+    }
     Ok(writes)
 }
 
 #[test]
-fn keys_and_values_have_bounded_length(rt: HostRuntime) -> Result<(), Fail> {
+fn the_longest_key_and_value_fit(rt: HostRuntime) -> Result<(), Fail> {
     let alloc = rt.alloc();
-    for (count, fits_key, fits_value) in [
-        (0, false, true),
-        (1, true, true),
-        (128, true, true),
-        (129, false, true),
-        (4096, false, true),
-        (4097, false, false),
-    ] {
-        let bytes = vec![in alloc; 7u8; count]?;
-        let bytes = bytes.as_slice();
-        match Key::new(alloc, bytes) {
-            Ok(key) => {
-                assert!(rt; fits_key, "{count}");
-                assert!(rt; key.as_slice() == bytes);
-                assert!(rt; key.copy()? == key);
-            },
-            Err(fault) => {
-                assert!(rt; !fits_key, "{count}");
-                assert!(rt; fault == BytesFault::Length);
-            },
-        }
-        match Value::new(alloc, bytes) {
-            Ok(value) => {
-                assert!(rt; fits_value, "{count}");
-                assert!(rt; value.as_slice() == bytes);
-                assert!(rt; value.copy()? == value);
-            },
-            Err(fault) => {
-                assert!(rt; !fits_value, "{count}");
-                assert!(rt; fault == BytesFault::Length);
-            },
-        }
-    }
+    let bytes = vec![in alloc; 7u8; MAX_VALUE]?;
+    let value = Value::new(alloc, bytes.as_slice())?;
+    assert!(rt; value.copy()? == value);
+    let key = key(alloc, &[7; MAX_KEY])?;
+    assert!(rt; key.copy()? == key);
     Ok(())
 }
 
@@ -69,70 +48,41 @@ fn keys_and_values_have_bounded_length(rt: HostRuntime) -> Result<(), Fail> {
 fn keys_stand_in_order(rt: HostRuntime) -> Result<(), Fail> {
     let alloc = rt.alloc();
     let mut keys = KeySet::new(alloc);
-    assert!(rt; keys.is_empty());
     for bytes in [b"b".as_slice(), b"a", b"ab", b"a"] {
         keys.insert(key(alloc, bytes)?)?;
     }
     assert!(rt; keys.len() == 3);
-    for (place, bytes) in [(0, b"a".as_slice()), (1, b"ab"), (2, b"b")] {
-        assert!(rt; place < keys.len());
-        assert!(rt; keys.at(place).as_slice() == bytes);
-    }
-    assert!(rt; keys.contains(&key(alloc, b"ab")?));
-    assert!(rt; !keys.contains(&key(alloc, b"abc")?));
+    assert!(rt; keys.at(1).as_slice() == b"ab".as_slice());
     Ok(())
 }
 
 #[test]
-fn writes_stand_in_order(rt: HostRuntime) -> Result<(), Fail> {
+fn the_last_write_is_read(rt: HostRuntime) -> Result<(), Fail> {
     let alloc = rt.alloc();
     let writes = three_writes(alloc)?;
-    assert!(rt; writes.len() == 3);
-    for (bytes, write) in [
-        (b"a".as_slice(), Some(put(alloc, b"1")?)),
-        (b"ab", Some(Write::Delete)),
-        (b"b", Some(put(alloc, b"2")?)),
-        (b"c", None),
-    ] {
-        let key = key(alloc, bytes)?;
-        assert!(rt; writes.get(&key) == write.as_ref());
-        assert!(rt; writes.contains(&key) == write.is_some());
-    }
-    assert!(rt; writes.at(1).0.as_slice() == b"ab".as_slice());
+    assert!(rt; writes.get(&key(alloc, b"b")?) == Some(&write(alloc, Some(b"2"))?));
     Ok(())
 }
 
 #[test]
-fn a_record_is_copied(rt: HostRuntime) -> Result<(), Fail> {
+fn an_item_is_copied(rt: HostRuntime) -> Result<(), Fail> {
     let alloc = rt.alloc();
-    let mut parents = StateList::new(alloc);
-    parents.push(StateId::ROOT)?;
-    let record = Record {
+    let item = Item::State(Record {
         id: StateId {
             site: 1,
             sequence: 1,
         },
-        parents,
+        parents: ListOf::from_vec(vec![in alloc; StateId::ROOT]?),
         writes: three_writes(alloc)?,
-    };
-    let copy = record.copy()?;
-    assert!(rt; copy == record);
-    assert!(rt; copy.writes.len() == 3);
-    assert!(rt; copy.parents.as_slice() == [StateId::ROOT].as_slice());
-    let item = Item::State(record);
+    });
     assert!(rt; item.copy()? == item);
     Ok(())
 }
 
 #[test]
-fn a_list_is_its_items(rt: HostRuntime) -> Result<(), Fail> {
-    let alloc = rt.alloc();
-    let counts = CountList::from_vec(vec![in alloc; 3, 5]?);
+fn a_list_grows_at_its_end(rt: HostRuntime) -> Result<(), Fail> {
+    let counts = CountList::from_vec(vec![in rt.alloc(); 3, 5]?);
     let counts = pushed(Ok(counts), Ok(8))?;
-    assert!(rt; counts.len() == 3);
-    assert!(rt; *counts.at(2) == 8);
-    assert!(rt; counts.iter().copied().max() == Some(8));
-    assert!(rt; counts.copy()? == counts);
     assert!(rt; counts.into_vec().as_slice() == [3, 5, 8].as_slice());
     Ok(())
 }
@@ -141,62 +91,10 @@ fn a_list_is_its_items(rt: HostRuntime) -> Result<(), Fail> {
 fn a_reply_has_its_room(rt: HostRuntime) -> Result<(), Fail> {
     let alloc = rt.alloc();
     let mut out = ReplyBuf::new(alloc)?;
-    out.push(b"ab");
-    out.push_byte(b'c');
-    assert!(rt; out.bytes() == b"abc".as_slice());
-    out.clear();
-    assert!(rt; out.is_empty());
     let most = vec![in alloc; 1u8; MAX_FRAME]?;
     out.push(most.as_slice());
-    assert!(rt; out.len() == MAX_FRAME);
     assert!(rt; out.bytes() == most.as_slice());
     Ok(())
-}
-
-#[test]
-fn lines_stand_in_place(rt: HostRuntime) {
-    let mut lines = SiteLines::new();
-    let line = SiteLine {
-        count: 5,
-        floor: StateId {
-            site: 1,
-            sequence: 5,
-        },
-        number: 1,
-    };
-    assert!(rt; lines == SiteLines::new());
-    lines.push(line);
-    assert!(rt; lines.len() == 1);
-    assert!(rt; *lines.at(0) == line);
-    assert!(rt; lines != SiteLines::new());
-}
-
-#[test]
-fn limits_have_bounds(rt: HostRuntime) {
-    let most = Limits {
-        sites: 16,
-        max_kept: 16_384,
-        max_path: 4_096,
-        max_sessions: 256,
-        max_trail: 1_073_741_824,
-    };
-    assert!(rt; most.valid());
-    assert!(rt; !Limits { sites: 0, ..most }.valid());
-    assert!(rt; !Limits { sites: 17, ..most }.valid());
-    assert!(rt;
-        !Limits {
-            max_kept: 0,
-            ..most
-        }
-        .valid()
-    );
-    assert!(rt;
-        Limits {
-            max_trail: 0,
-            ..most
-        }
-        .valid()
-    );
 }
 
 #[test]
@@ -215,8 +113,6 @@ fn faults_say_what_is_wrong(rt: HostRuntime) -> Result<(), Fail> {
 fn flags_are_bits(rt: HostRuntime) {
     let flags = EndFlags::SER | EndFlags::NB;
     assert!(rt; flags.bits() == 5);
-    assert!(rt; flags.contains(EndFlags::NB));
-    assert!(rt; !flags.contains(EndFlags::SI));
 }
 
 /// A chain of two states, in the slots 0 and 1.
@@ -250,7 +146,5 @@ fn arrived_later<A: Above>(table: &A, a: Slot, b: Slot) -> bool
 
 #[test]
 fn a_table_lends_its_order(rt: HostRuntime) {
-    assert!(rt; Chain.above(Slot(0), Slot(1)));
-    assert!(rt; !Chain.above(Slot(1), Slot(0)));
     assert!(rt; arrived_later(&Chain, Slot(1), Slot(0)));
 }
