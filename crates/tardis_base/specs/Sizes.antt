@@ -21,6 +21,10 @@ most_parents = 8
 abbrev pub longest_frame : ℕ
 longest_frame = 1048576
 
+-- the most states, or keys, that one reply names
+abbrev pub most_named : ℕ
+most_named = 256
+
 -- the most sites that may have states
 abbrev pub most_sites : ℕ
 most_sites = 16

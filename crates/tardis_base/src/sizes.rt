@@ -15,6 +15,9 @@ pub const MAX_PARENTS: usize = 8;
 /// The most bytes of a request, of a reply and of a line of text: 1 MiB.
 pub const MAX_FRAME: usize = 1_048_576;
 
+/// The most states, or keys, that one reply names. It tells how many there are.
+pub const MAX_NAMED: usize = 256;
+
 /// The most sites that may have states.
 pub const MAX_SITES: u16 = 16;
 
