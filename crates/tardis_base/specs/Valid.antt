@@ -4,6 +4,7 @@ use Rattle.std.specs.List.{list_all}
 use Rattle.tardis_base.specs.declared.ids.StateId.{StateId}
 use Rattle.tardis_base.specs.declared.records.Record.{Record}
 use Rattle.tardis_base.specs.declared.records.Limits.{Limits}
+use Rattle.tardis_base.specs.Sizes.{most_writes, most_parents, most_sites, most_kept, most_pairs, most_sessions, longest_trail}
 use Rattle.tardis_base.specs.Ids.{root, same_id, are_ascending}
 use Rattle.tardis_base.specs.Keys.{KeyWrite, keys_of, are_ascending_keys}
 pub use Rattle.tardis_base.specs.Bytes.{are_bytes, is_within, is_key, is_value, is_write}
@@ -24,11 +25,11 @@ is_id x = is_u16 x.site && is_u32 x.sequence && (same_id x root || nat_le 1 x.si
 
 -- at most 64 writes, with ascending keys
 abbrev pub are_writes : List KeyWrite → Bool
-are_writes ws = nat_le (length ws) 64 && list_all (λ w. is_key w.0 && is_write w.1) ws && are_ascending_keys (keys_of ws)
+are_writes ws = nat_le (length ws) most_writes && list_all (λ w. is_key w.0 && is_write w.1) ws && are_ascending_keys (keys_of ws)
 
 -- 1 to 8 ids, ascending
 abbrev pub are_parents : List StateId → Bool
-are_parents xs = is_within 1 8 (length xs) && list_all is_id xs && are_ascending xs
+are_parents xs = is_within 1 most_parents (length xs) && list_all is_id xs && are_ascending xs
 
 -- the record of a state other than the root
 abbrev pub is_record : Record → Bool
@@ -37,4 +38,5 @@ is_record r = is_id r.id && not (same_id r.id root) && are_parents r.parents && 
 -- the limits that a site may have
 abbrev pub are_limits : Limits → Bool
 are_limits l =
-    is_within 1 16 l.sites && is_within 1 16384 l.max_kept && is_within 1 4096 l.max_path && is_within 1 256 l.max_sessions && nat_le l.max_trail 1073741824
+    is_within 1 most_sites l.sites && is_within 1 most_kept l.max_kept && is_within 1 most_pairs l.max_path
+    && is_within 1 most_sessions l.max_sessions && nat_le l.max_trail longest_trail

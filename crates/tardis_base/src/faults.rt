@@ -3,7 +3,10 @@
 ghost use Rattle.std.specs.Prelude.{⊤};
 
 use crate::ids::StateId;
+use crate::sizes::{MAX_KEY, MAX_VALUE};
 use std::alloc::{AllocError, AllocFailed};
+use std::error::Error;
+use std::fmt;
 
 /// There was no memory. The object is as before, unless the call says otherwise.
 #[derive(Clone, Copy, Debug, PartialEq, Eq)]
@@ -90,3 +93,63 @@ impl From<NoMemory> for AddFault {
         AddFault::NoMemory
     }
 }
+
+impl fmt::Display for NoMemory {
+    fn fmt<W: fmt::Write>(&self, f: &mut fmt::Formatter<W>) -> fmt::Result {
+        write!(f, "out of memory")
+    }
+}
+
+impl Error for NoMemory {}
+
+impl fmt::Display for SeqEnd {
+    fn fmt<W: fmt::Write>(&self, f: &mut fmt::Formatter<W>) -> fmt::Result {
+        write!(f, "the site has given out its last sequence number")
+    }
+}
+
+impl Error for SeqEnd {}
+
+impl fmt::Display for BytesFault {
+    fn fmt<W: fmt::Write>(&self, f: &mut fmt::Formatter<W>) -> fmt::Result {
+        match self {
+            BytesFault::Length => write!(
+                f,
+                "wrong length: a key has 1 to {MAX_KEY} bytes, and a value at most {MAX_VALUE}"
+            ),
+            BytesFault::NoMemory => write!(f, "out of memory"),
+        }
+    }
+}
+
+impl Error for BytesFault {}
+
+impl fmt::Display for ReadFault {
+    fn fmt<W: fmt::Write>(&self, f: &mut fmt::Formatter<W>) -> fmt::Result {
+        match self {
+            ReadFault::Malformed => write!(f, "malformed: the bytes do not have the format"),
+            ReadFault::NoMemory => write!(f, "out of memory"),
+        }
+    }
+}
+
+impl Error for ReadFault {}
+
+impl fmt::Display for AddFault {
+    fn fmt<W: fmt::Write>(&self, f: &mut fmt::Formatter<W>) -> fmt::Result {
+        match self {
+            AddFault::Full { kept } => {
+                write!(f, "the site is full: it keeps {kept} states; collect some")
+            },
+            AddFault::PathFull { state, pairs } => {
+                write!(
+                    f,
+                    "the fork path of state {state} would have {pairs} pairs, too many"
+                )
+            },
+            AddFault::NoMemory => write!(f, "out of memory"),
+        }
+    }
+}
+
+impl Error for AddFault {}

@@ -1,5 +1,7 @@
 //! How states are named: by an id everywhere, by a slot inside one table.
 
+use std::fmt;
+
 /// The id of a state: the site that made it, and its place among the states of that site.
 ///
 /// The root is `0.0`. Every other state has a site from 1 to 16 and a sequence from 1 on.
@@ -7,6 +9,22 @@
 pub struct StateId {
     pub site: u16,
     pub sequence: u32,
+}
+
+impl StateId {
+    /// The state from which all others descend.
+    pub const ROOT: StateId = StateId {
+        site: 0,
+        sequence: 0,
+    };
+}
+
+/// Site and sequence with a point between them, as `1.5`.
+impl fmt::Display for StateId {
+    fn fmt<W: fmt::Write>(&self, f: &mut fmt::Formatter<W>) -> fmt::Result {
+        let StateId { site, sequence } = *self;
+        write!(f, "{site}.{sequence}")
+    }
 }
 
 /// The place of a kept state in one table of states. It says nothing of arrival.

@@ -12,21 +12,26 @@ mod records;
 mod replies;
 mod reply_bufs;
 mod requests;
+mod sizes;
 
 pub use aboves::Above;
-pub use byte_types::{Key, Value};
+pub use byte_types::{Key, Value, checked_bytes, key_follows};
 pub use faults::{AddFault, BytesFault, NoMemory, ReadFault, SeqEnd};
 pub use ids::{Slot, StateId};
 pub use lists::{
     ByteList, ConsentList, CountList, KeyList, KeySet, ListOf, PathList, RecordList, StateList,
-    WriteSet,
+    WriteSet, pushed,
 };
 pub use machines::Machine;
 pub use readings::{Found, Over};
 pub use records::{Batch, Consent, Item, Limits, Record, Write};
 pub use replies::{Refusal, Reply, SiteLine, SiteLines};
-pub use reply_bufs::{ROOM, ReplyBuf};
+pub use reply_bufs::ReplyBuf;
 pub use requests::{Begin, EndFlags, MergeOf, Request};
+pub use sizes::{
+    MAX_FRAME, MAX_KEPT, MAX_KEY, MAX_NAMED, MAX_PARENTS, MAX_PATH, MAX_SESSIONS, MAX_SITES, MAX_TRAIL,
+    MAX_VALUE, MAX_WRITES,
+};
 
 #[cfg(test)]
 mod tests;

@@ -1,6 +1,6 @@
 //! Lists that contracts see as lists, and sets of keys and of writes in ascending order of their keys.
 
-ghost use Rattle.std.specs.Prelude.{◌≡◌, ◌<◌, ◌==◌, ◌&&◌, Some, [], ◌∷◌, ◌++◌, nat_eq, length, slice_get, IsTrue, IsOk, IfOk, OnOk, OnErr};
+ghost use Rattle.std.specs.Prelude.{◌≡◌, ◌<◌, ◌==◌, ◌&&◌, Some, List, [], ◌∷◌, ◌++◌, nat_eq, length, slice_get, IsTrue, IsOk, IfOk, OnOk, OnErr};
 ghost use Rattle.std.specs.List.{list_all};
 ghost use Rattle.std.specs.List.Sorted.{IsBinarySearchResult, IsSearchInRange};
 ghost use Rattle.std.specs.Option.{option_copied};
@@ -374,6 +374,18 @@ impl PartialEq for WriteSet {
 
 impl Eq for WriteSet {
     ghost laws = { same_writes-equiv };
+}
+
+/// The list with the item behind its end, where there was memory for both.
+pub fn pushed<T: Drop>(
+    list: Result<ListOf<T>, NoMemory>,
+    item: Result<T, NoMemory>,
+) -> Result<ListOf<T>, NoMemory>
+    ensures { (xs : List T) (x : T) → IfOk list (λ l. l ≡ xs) → IfOk item (λ i. i ≡ x) → IfOk result (λ l. l ≡ xs ++ x ∷ []) }
+{
+    let mut list = list?;
+    list.push(item?)?;
+    Ok(list)
 }
 
 /// Where the key is among these, or else where it would be.

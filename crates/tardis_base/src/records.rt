@@ -11,6 +11,7 @@ use crate::byte_types::Value;
 use crate::faults::NoMemory;
 use crate::ids::StateId;
 use crate::lists::{ConsentList, RecordList, StateList, WriteSet};
+use crate::sizes::{MAX_KEPT, MAX_PATH, MAX_SESSIONS, MAX_SITES, MAX_TRAIL};
 
 /// What a transaction does to one key.
 #[derive(Debug, Drop)]
@@ -20,7 +21,7 @@ pub enum Write {
 }
 
 /// A state with the edges to its parents and what it wrote.
-#[derive(Debug, Drop, PartialEq, Eq)]
+#[derive(Drop, PartialEq, Eq)]
 pub struct Record {
     pub id: StateId,
     pub parents: StateList,
@@ -28,7 +29,7 @@ pub struct Record {
 }
 
 /// A site's promise that none of its transactions reads above `floor` from then on.
-#[derive(Clone, Copy, Debug, PartialEq, Eq)]
+#[derive(Clone, Copy, PartialEq, Eq)]
 pub struct Consent {
     pub site: u16,
     pub number: u32,
@@ -37,21 +38,21 @@ pub struct Consent {
 }
 
 /// What one site delivers to another.
-#[derive(Debug, Drop, PartialEq, Eq)]
+#[derive(Drop, PartialEq, Eq)]
 pub enum Item {
     State(Record),
     Promise(Consent),
 }
 
 /// What one site gives another that asked for news.
-#[derive(Debug, Drop, PartialEq, Eq)]
+#[derive(Drop, PartialEq, Eq)]
 pub struct Batch {
     pub records: RecordList,
     pub consents: ConsentList,
 }
 
 /// How much one site may hold.
-#[derive(Clone, Copy, Debug, PartialEq, Eq)]
+#[derive(Clone, Copy, PartialEq, Eq)]
 pub struct Limits {
     pub sites: u16,
     pub max_kept: u32,
@@ -134,10 +135,10 @@ impl Limits {
     pub fn valid(&self) -> bool
         ensures { result ≡ are_limits self.now }
     {
-        (1..=16).contains(&self.sites)
-            && (1..=16_384).contains(&self.max_kept)
-            && (1..=4_096).contains(&self.max_path)
-            && (1..=256).contains(&self.max_sessions)
-            && self.max_trail <= 1_073_741_824
+        (1..=MAX_SITES).contains(&self.sites)
+            && (1..=MAX_KEPT).contains(&self.max_kept)
+            && (1..=MAX_PATH).contains(&self.max_path)
+            && (1..=MAX_SESSIONS).contains(&self.max_sessions)
+            && self.max_trail <= MAX_TRAIL
     }
 }

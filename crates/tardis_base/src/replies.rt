@@ -12,7 +12,7 @@ use crate::records::Batch;
 use std::marker::Model;
 
 /// What one site knows of another, or of itself: how many of its states, its floor, and the number of its consent.
-#[derive(Clone, Copy, Debug, PartialEq, Eq)]
+#[derive(Clone, Copy, PartialEq, Eq)]
 pub struct SiteLine {
     pub count: u32,
     pub floor: StateId,
@@ -20,7 +20,7 @@ pub struct SiteLine {
 }
 
 /// At most 16 site lines, in place.
-#[derive(Debug, Drop)]
+#[derive(Drop)]
 pub struct SiteLines {
     lines: [SiteLine; 16],
     len: usize,
@@ -42,13 +42,9 @@ impl SiteLines {
     pub fn new() -> SiteLines
         ensures { result ≡ [] }
     {
-        let root = StateId {
-            site: 0,
-            sequence: 0,
-        };
         let line = SiteLine {
             count: 0,
-            floor: root,
+            floor: StateId::ROOT,
             number: 0,
         };
         SiteLines {
@@ -109,7 +105,7 @@ impl Eq for SiteLines {
 }
 
 /// Why a request was refused.
-#[derive(Debug, Drop, PartialEq, Eq)]
+#[derive(Drop)]
 pub enum Refusal {
     Malformed,
     NotOpen,
@@ -195,7 +191,7 @@ pub enum Refusal {
 }
 
 /// The answer to a request.
-#[derive(Debug, Drop, PartialEq, Eq)]
+#[derive(Drop)]
 pub enum Reply {
     Opened {
         ceiling: StateId,

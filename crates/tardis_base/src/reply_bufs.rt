@@ -1,13 +1,12 @@
 //! The room that one reply is written into.
 
 ghost use Rattle.std.specs.Prelude.{◌≡◌, ◌+◌, ◌≤◌, [], ◌∷◌, ◌++◌, ◌==◌, length, IfOk};
+ghost use Rattle.tardis_base.specs.Sizes.{longest_frame};
 
 use crate::faults::NoMemory;
+use crate::sizes::MAX_FRAME;
 use std::alloc::Global;
 use std::marker::Model;
-
-/// How many bytes a reply may have: 1 MiB.
-pub const ROOM: usize = 1_048_576;
 
 /// The bytes of one reply, in room that was taken once.
 #[derive(Drop)]
@@ -17,12 +16,13 @@ pub struct ReplyBuf {
 
 impl Model for ReplyBuf {
     ghost use Rattle.std.specs.Prelude.{List, ℕ, ◌≤◌, length, vec_capacity};
+    ghost use Rattle.tardis_base.specs.Sizes.{longest_frame};
 
     ghost Value = { List ℕ };
 
     ghost view = { λ b. b.bytes.items };
 
-    ghost invariant = { λ b. (length b.bytes.items ≤ 1048576) × (1048576 ≤ vec_capacity b.bytes) };
+    ghost invariant = { λ b. (length b.bytes.items ≤ longest_frame) × (longest_frame ≤ vec_capacity b.bytes) };
 }
 
 impl ReplyBuf {
@@ -30,7 +30,7 @@ impl ReplyBuf {
     pub fn new(alloc: Global) -> Result<ReplyBuf, NoMemory>
         ensures { IfOk result (λ b. b ≡ []) }
     {
-        match Vec::with_capacity(alloc, ROOM) {
+        match Vec::with_capacity(alloc, MAX_FRAME) {
             Ok(bytes) => Ok(ReplyBuf { bytes }),
             Err(_) => Err(NoMemory),
         }
@@ -45,14 +45,14 @@ impl ReplyBuf {
 
     pub fn bytes(&self) -> &[u8]
         ensures same { result.now ≡ self.now }
-        ensures room { length self.now ≤ 1048576 }
+        ensures room { length self.now ≤ longest_frame }
     {
         self.bytes.as_slice()
     }
 
     pub fn len(&self) -> usize
         ensures count { result ≡ length self.now }
-        ensures room { length self.now ≤ 1048576 }
+        ensures room { length self.now ≤ longest_frame }
     {
         self.bytes.len()
     }
@@ -65,7 +65,7 @@ impl ReplyBuf {
 
     /// Writes the bytes behind those that are there. It takes no memory.
     pub fn push(&mut self, bytes: &[u8])
-        requires { length self.old + length bytes.now ≤ 1048576 }
+        requires { length self.old + length bytes.now ≤ longest_frame }
         ensures { self.new ≡ self.old ++ bytes.now }
     {
         let _ = self.bytes.extend_from_slice(bytes);
@@ -73,7 +73,7 @@ impl ReplyBuf {
 
     /// Writes one byte behind those that are there. It takes no memory.
     pub fn push_byte(&mut self, byte: u8)
-        requires { length self.old + 1 ≤ 1048576 }
+        requires { length self.old + 1 ≤ longest_frame }
         ensures { self.new ≡ self.old ++ byte ∷ [] }
     {
         let _ = self.bytes.push(byte);

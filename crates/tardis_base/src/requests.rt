@@ -9,7 +9,7 @@ use crate::records::Item;
 use bitflags::{Flag, Flags, bitflag_items};
 
 /// Where a transaction begins.
-#[derive(Clone, Copy, Debug, PartialEq, Eq)]
+#[derive(Clone, Copy, PartialEq, Eq)]
 pub enum Begin {
     Any,
     Ancestor,
@@ -18,7 +18,7 @@ pub enum Begin {
 }
 
 /// The end constraints of a commit.
-#[derive(Clone, Copy, Debug, PartialEq, Eq)]
+#[derive(Clone, Copy, PartialEq, Eq)]
 pub struct EndFlags(pub u8);
 
 bitflag_items! {
@@ -53,14 +53,14 @@ impl Flags for EndFlags {
 }
 
 /// Which states a merge reads.
-#[derive(Debug, Drop, PartialEq, Eq)]
+#[derive(Drop)]
 pub enum MergeOf {
     Leaves,
     States(StateList),
 }
 
 /// A request of one actor.
-#[derive(Debug, Drop, PartialEq, Eq)]
+#[derive(Drop)]
 pub enum Request {
     Open { follow: bool },
     Begin { begin: Begin },

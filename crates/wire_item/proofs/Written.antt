@@ -5,13 +5,14 @@ use Rattle.std.proofs.lemmas.List.{take_all, take_more, flat_map_more}
 use Rattle.std.proofs.lemmas.Bool.{and_parts}
 use Rattle.std.specs.Prelude.{flat_map}
 use Rattle.std.specs.List.{list_all}
+use Rattle.tardis_base.specs.Sizes.{longest_frame}
 
 -- where two parts have room, the first has
-pub room-first : (out a b : List ℕ) → length out + length (a ++ b) ≤ 1048576 → length out + length a ≤ 1048576
+pub room-first : (out a b : List ℕ) → length out + length (a ++ b) ≤ longest_frame → length out + length a ≤ longest_frame
 room-first out a b h = omega (arith, length-append a b)
 
 -- and once it is written, the second has
-pub room-rest : (out a b new : List ℕ) → new ≡ out ++ a → length out + length (a ++ b) ≤ 1048576 → length new + length b ≤ 1048576
+pub room-rest : (out a b new : List ℕ) → new ≡ out ++ a → length out + length (a ++ b) ≤ longest_frame → length new + length b ≤ longest_frame
 room-rest out a b new e h = omega (arith, length-append a b, ap length e, length-append out a)
 
 -- two parts are written
@@ -24,7 +25,7 @@ each-first f xs out = sym (append-nil out)
 
 -- where a list has room, its next thing has
 pub each-room : {A : Type 0} (f : A → List ℕ) (xs : List A) (i : ℕ) (d x : A) (out now : List ℕ)
-    → i < length xs → now ≡ out ++ flat_map f (take i xs) → x ≡ get_or xs i d → length out + length (flat_map f xs) ≤ 1048576 → length now + length (f x) ≤ 1048576
+    → i < length xs → now ≡ out ++ flat_map f (take i xs) → x ≡ get_or xs i d → length out + length (flat_map f xs) ≤ longest_frame → length now + length (f x) ≤ longest_frame
 each-room f xs i d x out now h e is room =
     omega (arith, length-flat_map-take f xs i d h, ap (λ z. length (f z)) is, ap length e, length-append out (flat_map f (take i xs)))
 

@@ -6,6 +6,7 @@ use Rattle.tardis_base.specs.declared.records.Consent.{Consent}
 use Rattle.tardis_base.specs.declared.records.Item.{Item}
 use Rattle.tardis_base.specs.declared.records.Item.TheVariants.{State, Promise}
 use Rattle.tardis_base.specs.declared.records.Batch.{Batch}
+use Rattle.tardis_base.specs.Sizes.{most_sites}
 use Rattle.tardis_base.specs.Valid.{is_u16, is_u32, is_id, is_record}
 
 -- the number fits 8 bits
@@ -32,7 +33,7 @@ are_records rs = is_u16 (length rs) && list_all is_record rs
 
 -- at most 16 consents, their sites ascending
 abbrev pub are_consents : List Consent → Bool
-are_consents cs = nat_le (length cs) 16 && list_all is_consent cs && are_ascending_numbers (map (λ c. c.site) cs)
+are_consents cs = nat_le (length cs) most_sites && list_all is_consent cs && are_ascending_numbers (map (λ c. c.site) cs)
 
 abbrev pub is_batch : Batch → Bool
 is_batch b = are_records b.records && are_consents b.consents

@@ -4,15 +4,15 @@ ghost use Rattle.std.specs.Prelude.{◌≡◌, ℕ, List, true, map, nat_le, nat
 ghost use Rattle.std.specs.Option.{option_map_or};
 ghost use Rattle.tardis_base.specs.declared.records.Consent.{Consent};
 ghost use Rattle.tardis_base.specs.declared.records.Record.{Record};
+ghost use Rattle.tardis_base.specs.Sizes.{most_sites};
 ghost use Rattle.wire_item.specs.Fronts.{only_if, times};
 ghost use Rattle.wire_item.specs.Readings.{batch_front, consent_front, consents_front, item_front, record_front, records_front};
 ghost use Rattle.wire_item.specs.Takings.{Makes};
 ghost use Rattle.wire_item.specs.Valid.{are_ascending_numbers};
 
 use crate::readers::Reader;
-use crate::thing_readers::pushed;
 use std::alloc::Global;
-use tardis_base::{Batch, ConsentList, Item, NoMemory, Record, RecordList};
+use tardis_base::{Batch, ConsentList, Item, MAX_SITES, NoMemory, Record, RecordList, pushed};
 
 impl<'a> Reader<'a> {
     pub fn item(&mut self, alloc: Global) -> Option<Result<Item, NoMemory>>
@@ -90,9 +90,9 @@ impl<'a> Reader<'a> {
 }
 
 fn is_consent_count(count: u8) -> bool
-    ensures { result ≡ nat_le count 16 }
+    ensures { result ≡ nat_le count most_sites }
 {
-    count <= 16
+    u16::from(count) <= MAX_SITES
 }
 
 /// Whether the site may stand behind this one in ascending order.

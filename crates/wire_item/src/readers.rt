@@ -1,14 +1,15 @@
 //! A reader of the bytes that are left, which takes numbers, ids, keys and values from their front.
 
-ghost use Rattle.std.specs.Prelude.{◌≡◌, ◌==◌, length, nat_le, IsTrue};
+ghost use Rattle.std.specs.Prelude.{◌≡◌, ◌==◌, length, nat_le};
 ghost use Rattle.std.specs.Option.{option_copied};
-ghost use Rattle.tardis_base.specs.Valid.{are_bytes, is_id, is_within};
+ghost use Rattle.tardis_base.specs.Sizes.{longest_key, longest_value};
+ghost use Rattle.tardis_base.specs.Valid.{is_id, is_within};
 ghost use Rattle.wire_item.specs.Fronts.{bytes_front};
 ghost use Rattle.wire_item.specs.Readings.{id_front, key_front, u16_front, u32_front, u64_front, u8_front, value_front};
 ghost use Rattle.wire_item.specs.Takings.{Takes};
 
 use std::marker::Model;
-use tardis_base::StateId;
+use tardis_base::{MAX_KEY, MAX_VALUE, StateId, checked_bytes};
 
 /// The bytes that are left of a spelling. After a call that answers None nothing is known of them.
 #[derive(Drop)]
@@ -130,21 +131,13 @@ fn is_id(id: StateId) -> bool
 }
 
 fn is_key_length(count: u8) -> bool
-    ensures { result ≡ is_within 1 128 count }
+    ensures { result ≡ is_within 1 longest_key count }
 {
-    (1..=128).contains(&count)
+    (1..=MAX_KEY).contains(&usize::from(count))
 }
 
 fn is_value_length(count: u16) -> bool
-    ensures { result ≡ nat_le count 4096 }
+    ensures { result ≡ nat_le count longest_value }
 {
-    count <= 4_096
-}
-
-/// The same bytes, of which each is known to be one.
-fn checked_bytes(bytes: &[u8]) -> &[u8]
-    ensures same { result.now ≡ bytes.now }
-    ensures bytes { IsTrue (are_bytes bytes.now) }
-{
-    bytes
+    usize::from(count) <= MAX_VALUE
 }

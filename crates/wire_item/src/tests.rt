@@ -1,6 +1,7 @@
 //! What no clause says: that memory suffices, and a few spellings from outside.
 
 ghost use Rattle.std.specs.Prelude.{◌≤◌, length};
+ghost use Rattle.tardis_base.specs.Sizes.{longest_frame};
 
 use crate::{
     read_batch, read_consent, read_item, read_record, record_len, write_batch, write_consent,
@@ -24,7 +25,7 @@ const BATCH: [u8; 35] = [
 
 /// Whether a record is written as it was read.
 fn is_record_kept(alloc: Global, bytes: &[u8]) -> Result<bool, Fail>
-    requires { length bytes.now ≤ 1048576 }
+    requires { length bytes.now ≤ longest_frame }
 {
     let rec = read_record(alloc, bytes)?;
     let mut out = ReplyBuf::new(alloc)?;
@@ -33,7 +34,7 @@ fn is_record_kept(alloc: Global, bytes: &[u8]) -> Result<bool, Fail>
 }
 
 fn is_consent_kept(alloc: Global, bytes: &[u8]) -> Result<bool, Fail>
-    requires { length bytes.now ≤ 1048576 }
+    requires { length bytes.now ≤ longest_frame }
 {
     let promise = read_consent(bytes)?;
     let mut out = ReplyBuf::new(alloc)?;
@@ -42,7 +43,7 @@ fn is_consent_kept(alloc: Global, bytes: &[u8]) -> Result<bool, Fail>
 }
 
 fn is_item_kept(alloc: Global, bytes: &[u8]) -> Result<bool, Fail>
-    requires { length bytes.now ≤ 1048576 }
+    requires { length bytes.now ≤ longest_frame }
 {
     let item = read_item(alloc, bytes)?;
     let mut out = ReplyBuf::new(alloc)?;
@@ -51,7 +52,7 @@ fn is_item_kept(alloc: Global, bytes: &[u8]) -> Result<bool, Fail>
 }
 
 fn is_batch_kept(alloc: Global, bytes: &[u8]) -> Result<bool, Fail>
-    requires { length bytes.now ≤ 1048576 }
+    requires { length bytes.now ≤ longest_frame }
 {
     let batch = read_batch(alloc, bytes)?;
     let mut out = ReplyBuf::new(alloc)?;

@@ -4,9 +4,10 @@
 //! it all the same.
 
 ghost use Rattle.std.specs.Prelude.{◌≡◌, ℕ, ◌==◌, ◌&&◌, ◌++◌, [], ◌∷◌, List, true, not, nat_le, nat_lt, IfOk};
-ghost use Rattle.std.specs.Option.{option_copied, option_map_or};
+ghost use Rattle.std.specs.Option.{option_map_or};
 ghost use Rattle.tardis_base.specs.Ids.{are_ascending, is_before, root, same_id};
-ghost use Rattle.tardis_base.specs.Keys.{are_ascending_keys, is_key_before, keys_of, with_write};
+ghost use Rattle.tardis_base.specs.Keys.{are_ascending_keys, keys_of, with_write};
+ghost use Rattle.tardis_base.specs.Sizes.{most_parents, most_writes};
 ghost use Rattle.tardis_base.specs.Valid.{is_within};
 ghost use Rattle.tardis_base.specs.declared.ids.StateId.{StateId};
 ghost use Rattle.tardis_base.specs.declared.records.Write.{Write};
@@ -17,7 +18,8 @@ ghost use Rattle.wire_item.specs.Takings.{Makes, Takes};
 use crate::readers::Reader;
 use std::alloc::Global;
 use tardis_base::{
-    Consent, Key, ListOf, NoMemory, Record, StateId, StateList, Value, Write, WriteSet,
+    Consent, Key, MAX_PARENTS, MAX_WRITES, NoMemory, Record, StateId, StateList, Value, Write,
+    WriteSet, key_follows, pushed,
 };
 
 impl<'a> Reader<'a> {
@@ -129,15 +131,15 @@ impl<'a> Reader<'a> {
 }
 
 fn is_parent_count(count: u8) -> bool
-    ensures { result ≡ is_within 1 8 count }
+    ensures { result ≡ is_within 1 most_parents count }
 {
-    (1..=8).contains(&count)
+    (1..=MAX_PARENTS).contains(&usize::from(count))
 }
 
 fn is_write_count(count: u8) -> bool
-    ensures { result ≡ nat_le count 64 }
+    ensures { result ≡ nat_le count most_writes }
 {
-    count <= 64
+    usize::from(count) <= MAX_WRITES
 }
 
 fn is_root(id: StateId) -> bool
@@ -164,16 +166,6 @@ fn follows(last: Option<StateId>, id: StateId) -> bool
     }
 }
 
-/// Whether the key may stand behind this one in ascending order.
-fn key_follows(last: Option<&[u8]>, key: &[u8]) -> bool
-    ensures { result ≡ option_map_or (λ before. is_key_before before key.now) (option_copied last.entry) true }
-{
-    match last {
-        Some(before) => before.cmp(key).is_lt(),
-        None => true,
-    }
-}
-
 fn put(alloc: Global, value: &[u8]) -> Result<Write, NoMemory>
     ensures { IfOk result (λ write. write ≡ Write.Put value.now) }
 {
@@ -181,18 +173,6 @@ fn put(alloc: Global, value: &[u8]) -> Result<Write, NoMemory>
         Ok(value) => Ok(Write::Put(value)),
         Err(_) => Err(NoMemory),
     }
-}
-
-/// The list with the item behind its end, where there was memory for both.
-pub(crate) fn pushed<T: Drop>(
-    list: Result<ListOf<T>, NoMemory>,
-    item: Result<T, NoMemory>,
-) -> Result<ListOf<T>, NoMemory>
-    ensures { (xs : List T) (x : T) → IfOk list (λ l. l ≡ xs) → IfOk item (λ i. i ≡ x) → IfOk result (λ l. l ≡ xs ++ x ∷ []) }
-{
-    let mut list = list?;
-    list.push(item?)?;
-    Ok(list)
 }
 
 /// The writes with one more, where there was memory for both.

@@ -4,6 +4,7 @@
 
 ghost use Rattle.std.specs.Prelude.{◌≡◌, ◌+◌, ◌≤◌, ◌++◌, flat_map, length, sum_by, IsTrue};
 ghost use Rattle.std.specs.List.{list_all};
+ghost use Rattle.tardis_base.specs.Sizes.{longest_frame, most_writes};
 ghost use Rattle.tardis_base.specs.Valid.{are_parents, are_writes, is_record};
 ghost use Rattle.wire_item.specs.Lengths.{key_write_length};
 ghost use Rattle.wire_item.specs.Spellings.{batch_spelling, consent_spelling, consents_spelling, id_spelling, item_spelling, key_spelling, key_write_spelling, parents_spelling, record_spelling, records_spelling, u16_spelling, u32_spelling, u64_spelling, u8_spelling, value_spelling, write_spelling, writes_spelling};
@@ -14,35 +15,35 @@ use tardis_base::{
 };
 
 pub fn write_u8(number: u8, out: &mut ReplyBuf)
-    requires { length out.old + length (u8_spelling number) ≤ 1048576 }
+    requires { length out.old + length (u8_spelling number) ≤ longest_frame }
     ensures { out.new ≡ out.old ++ u8_spelling number }
 {
     out.push_byte(number);
 }
 
 pub fn write_u16(number: u16, out: &mut ReplyBuf)
-    requires { length out.old + length (u16_spelling number) ≤ 1048576 }
+    requires { length out.old + length (u16_spelling number) ≤ longest_frame }
     ensures { out.new ≡ out.old ++ u16_spelling number }
 {
     out.push(&number.to_be_bytes());
 }
 
 pub fn write_u32(number: u32, out: &mut ReplyBuf)
-    requires { length out.old + length (u32_spelling number) ≤ 1048576 }
+    requires { length out.old + length (u32_spelling number) ≤ longest_frame }
     ensures { out.new ≡ out.old ++ u32_spelling number }
 {
     out.push(&number.to_be_bytes());
 }
 
 pub fn write_u64(number: u64, out: &mut ReplyBuf)
-    requires { length out.old + length (u64_spelling number) ≤ 1048576 }
+    requires { length out.old + length (u64_spelling number) ≤ longest_frame }
     ensures { out.new ≡ out.old ++ u64_spelling number }
 {
     out.push(&number.to_be_bytes());
 }
 
 pub fn write_id(id: StateId, out: &mut ReplyBuf)
-    requires { length out.old + length (id_spelling id) ≤ 1048576 }
+    requires { length out.old + length (id_spelling id) ≤ longest_frame }
     ensures { out.new ≡ out.old ++ id_spelling id }
 {
     write_u16(id.site, out);
@@ -50,7 +51,7 @@ pub fn write_id(id: StateId, out: &mut ReplyBuf)
 }
 
 pub fn write_ids(ids: &[StateId], out: &mut ReplyBuf)
-    requires { length out.old + length (flat_map id_spelling ids.now) ≤ 1048576 }
+    requires { length out.old + length (flat_map id_spelling ids.now) ≤ longest_frame }
     ensures { out.new ≡ out.old ++ flat_map id_spelling ids.now }
 {
     for id in ids {
@@ -59,7 +60,7 @@ pub fn write_ids(ids: &[StateId], out: &mut ReplyBuf)
 }
 
 pub fn write_key(key: &Key, out: &mut ReplyBuf)
-    requires { length out.old + length (key_spelling key.now) ≤ 1048576 }
+    requires { length out.old + length (key_spelling key.now) ≤ longest_frame }
     ensures { out.new ≡ out.old ++ key_spelling key.now }
 {
     let bytes = key.as_slice();
@@ -68,7 +69,7 @@ pub fn write_key(key: &Key, out: &mut ReplyBuf)
 }
 
 fn write_write(write: &Write, out: &mut ReplyBuf)
-    requires { length out.old + length (write_spelling write.now) ≤ 1048576 }
+    requires { length out.old + length (write_spelling write.now) ≤ longest_frame }
     ensures { out.new ≡ out.old ++ write_spelling write.now }
 {
     match write {
@@ -81,7 +82,7 @@ fn write_write(write: &Write, out: &mut ReplyBuf)
 }
 
 pub fn write_value(value: &Value, out: &mut ReplyBuf)
-    requires { length out.old + length (value_spelling value.now) ≤ 1048576 }
+    requires { length out.old + length (value_spelling value.now) ≤ longest_frame }
     ensures { out.new ≡ out.old ++ value_spelling value.now }
 {
     let bytes = value.as_slice();
@@ -90,7 +91,7 @@ pub fn write_value(value: &Value, out: &mut ReplyBuf)
 }
 
 fn write_key_writes(writes: &[(Key, Write)], out: &mut ReplyBuf)
-    requires { length out.old + length (flat_map key_write_spelling writes.now) ≤ 1048576 }
+    requires { length out.old + length (flat_map key_write_spelling writes.now) ≤ longest_frame }
     ensures { out.new ≡ out.old ++ flat_map key_write_spelling writes.now }
 {
     for pair in writes {
@@ -99,7 +100,7 @@ fn write_key_writes(writes: &[(Key, Write)], out: &mut ReplyBuf)
 }
 
 fn write_key_write(pair: &(Key, Write), out: &mut ReplyBuf)
-    requires { length out.old + length (key_write_spelling pair.now) ≤ 1048576 }
+    requires { length out.old + length (key_write_spelling pair.now) ≤ longest_frame }
     ensures { out.new ≡ out.old ++ key_write_spelling pair.now }
 {
     write_key(&pair.0, out);
@@ -109,7 +110,7 @@ fn write_key_write(pair: &(Key, Write), out: &mut ReplyBuf)
 /// The parents of a state, or other states of which there are 1 to 8 in ascending order.
 pub fn write_parents(parents: &StateList, out: &mut ReplyBuf)
     requires valid { IsTrue (are_parents parents.now) }
-    requires room { length out.old + length (parents_spelling parents.now) ≤ 1048576 }
+    requires room { length out.old + length (parents_spelling parents.now) ≤ longest_frame }
     ensures { out.new ≡ out.old ++ parents_spelling parents.now }
 {
     write_u8(parents.len() as u8, out);
@@ -118,7 +119,7 @@ pub fn write_parents(parents: &StateList, out: &mut ReplyBuf)
 
 fn write_writes(writes: &WriteSet, out: &mut ReplyBuf)
     requires valid { IsTrue (are_writes writes.now) }
-    requires room { length out.old + length (writes_spelling writes.now) ≤ 1048576 }
+    requires room { length out.old + length (writes_spelling writes.now) ≤ longest_frame }
     ensures { out.new ≡ out.old ++ writes_spelling writes.now }
 {
     write_u8(writes.len() as u8, out);
@@ -128,7 +129,7 @@ fn write_writes(writes: &WriteSet, out: &mut ReplyBuf)
 /// Writes the record's spelling.
 pub fn write_record(rec: &Record, out: &mut ReplyBuf)
     requires valid { IsTrue (is_record rec.now) }
-    requires room { length out.old + length (record_spelling rec.now) ≤ 1048576 }
+    requires room { length out.old + length (record_spelling rec.now) ≤ longest_frame }
     ensures { out.new ≡ out.old ++ record_spelling rec.now }
 {
     write_id(rec.id, out);
@@ -139,7 +140,7 @@ pub fn write_record(rec: &Record, out: &mut ReplyBuf)
 /// Writes the consent's spelling.
 pub fn write_consent(promise: &Consent, out: &mut ReplyBuf)
     requires valid { IsTrue (is_consent promise.now) }
-    requires room { length out.old + length (consent_spelling promise.now) ≤ 1048576 }
+    requires room { length out.old + length (consent_spelling promise.now) ≤ longest_frame }
     ensures { out.new ≡ out.old ++ consent_spelling promise.now }
 {
     write_u16(promise.site, out);
@@ -151,7 +152,7 @@ pub fn write_consent(promise: &Consent, out: &mut ReplyBuf)
 /// Writes the item's spelling.
 pub fn write_item(item: &Item, out: &mut ReplyBuf)
     requires valid { IsTrue (is_item item.now) }
-    requires room { length out.old + length (item_spelling item.now) ≤ 1048576 }
+    requires room { length out.old + length (item_spelling item.now) ≤ longest_frame }
     ensures { out.new ≡ out.old ++ item_spelling item.now }
 {
     match item {
@@ -169,7 +170,7 @@ pub fn write_item(item: &Item, out: &mut ReplyBuf)
 /// Writes the batch's spelling.
 pub fn write_batch(batch: &Batch, out: &mut ReplyBuf)
     requires valid { IsTrue (is_batch batch.now) }
-    requires room { length out.old + length (batch_spelling batch.now) ≤ 1048576 }
+    requires room { length out.old + length (batch_spelling batch.now) ≤ longest_frame }
     ensures { out.new ≡ out.old ++ batch_spelling batch.now }
 {
     write_u16(batch.records.len() as u16, out);
@@ -180,7 +181,7 @@ pub fn write_batch(batch: &Batch, out: &mut ReplyBuf)
 
 fn write_records(records: &[Record], out: &mut ReplyBuf)
     requires valid { IsTrue (list_all is_record records.now) }
-    requires room { length out.old + length (flat_map record_spelling records.now) ≤ 1048576 }
+    requires room { length out.old + length (flat_map record_spelling records.now) ≤ longest_frame }
     ensures { out.new ≡ out.old ++ flat_map record_spelling records.now }
 {
     for rec in records {
@@ -190,7 +191,7 @@ fn write_records(records: &[Record], out: &mut ReplyBuf)
 
 fn write_consents(consents: &[Consent], out: &mut ReplyBuf)
     requires valid { IsTrue (list_all is_consent consents.now) }
-    requires room { length out.old + length (flat_map consent_spelling consents.now) ≤ 1048576 }
+    requires room { length out.old + length (flat_map consent_spelling consents.now) ≤ longest_frame }
     ensures { out.new ≡ out.old ++ flat_map consent_spelling consents.now }
 {
     for promise in consents {
@@ -207,7 +208,7 @@ pub fn record_len(rec: &Record) -> u32
 }
 
 fn writes_len(writes: &[(Key, Write)]) -> u32
-    requires { length writes.now ≤ 64 }
+    requires { length writes.now ≤ most_writes }
     ensures { result ≡ sum_by key_write_length writes.now }
 {
     let mut total = 0;

@@ -1,5 +1,5 @@
 -- Which requests, refusals and replies there are.
-use Rattle.std.specs.Prelude.{ℕ, Bool, true, ◌==◌, ◌&&◌, ◌||◌, List, length, min, bit_and, nat_lt, nat_le, if◌then◌else◌}
+use Rattle.std.specs.Prelude.{ℕ, Bool, true, ◌==◌, ◌&&◌, ◌||◌, List, length, min, nat_lt, nat_le, if◌then◌else◌}
 use Rattle.std.specs.List.{list_all}
 use Rattle.tardis_base.specs.declared.ids.StateId.{StateId}
 use Rattle.tardis_base.specs.declared.requests.Begin.{Begin}
@@ -14,6 +14,8 @@ use Rattle.tardis_base.specs.declared.replies.Refusal.{Refusal}
 use Rattle.tardis_base.specs.declared.replies.Refusal.TheVariants.{Malformed, NotOpen, AlreadyOpen, SessionsFull, TxnOpen, NoTxn, WrongMode, TooMany, Unknown, Below, Comparable, NotRead, ConflictKey, OpenConflict, Branches, CeilingBack, FloorBack, Held, Collected, Full, PathFull, SeqEnd, BadSite, ClosedParent, OwnItem, TrailFull, Unsupported, NoSuchItem, BagFull}
 use Rattle.tardis_base.specs.declared.replies.Reply.{Reply}
 use Rattle.tardis_base.specs.declared.replies.Reply.TheVariants.{Opened, Begun, Merging, Value, Deleted, Absent, Done, Committed, Ended, States, Keys, Raised, Tidied, Stat as Statistics, Shown, Batch, Applied, Known, Early, Closed, Refused, NoMemory}
+use Rattle.tardis_base.specs.Sizes.{longest_key, most_named, most_sites}
+use Rattle.tardis_base.specs.Flags.{is_kb}
 use Rattle.tardis_base.specs.Keys.{are_ascending_keys}
 use Rattle.tardis_base.specs.Valid.{is_u16, is_u32, is_u64, is_within, are_bytes, is_id, is_key, is_value, are_parents}
 use Rattle.wire_item.specs.Valid.{is_u8, is_item, is_batch}
@@ -24,13 +26,9 @@ is_begin Ancestor = true
 is_begin Parent = true
 is_begin (At state) = is_id state
 
--- the flags have the bit with which k counts
-abbrev pub has_kb : EndFlags → Bool
-has_kb flags = bit_and flags.0 8 == 8
-
 -- four flags; k is 1 or more where it counts, else 0
 abbrev pub is_commit : EndFlags → ℕ → Bool
-is_commit flags k = nat_lt flags.0 16 && is_u16 k && (if has_kb flags then nat_le 1 k else k == 0)
+is_commit flags k = nat_lt flags.0 16 && is_u16 k && (if is_kb flags then nat_le 1 k else k == 0)
 
 -- the leaves, or 1 to 255 states
 abbrev pub is_merge_of : MergeOf → Bool
@@ -39,11 +37,11 @@ is_merge_of (TheseStates states) = is_within 1 255 (length states) && list_all i
 
 -- 0 to 128 bytes
 abbrev pub is_after : List ℕ → Bool
-is_after bytes = nat_le (length bytes) 128 && are_bytes bytes
+is_after bytes = nat_le (length bytes) longest_key && are_bytes bytes
 
 -- 1 to 16 numbers
 abbrev pub are_counts : List ℕ → Bool
-are_counts counts = is_within 1 16 (length counts) && list_all is_u32 counts
+are_counts counts = is_within 1 most_sites (length counts) && list_all is_u32 counts
 
 abbrev pub is_request : Request → Bool
 is_request (Open follow) = true
@@ -109,7 +107,7 @@ is_refusal (BagFull batches) = is_u32 batches
 
 -- the first 256 of so many, or all where there are fewer
 abbrev pub is_first_of : ℕ → ℕ → Bool
-is_first_of total number = number == min total 256
+is_first_of total number = number == min total most_named
 
 -- the first ids of so many
 abbrev pub are_first_ids : ℕ → List StateId → Bool
@@ -124,7 +122,7 @@ is_site_line line = is_u32 line.count && is_id line.floor && is_u32 line.number
 
 -- 1 to 16 lines
 abbrev pub are_site_lines : List SiteLine → Bool
-are_site_lines lines = is_within 1 16 (length lines) && list_all is_site_line lines
+are_site_lines lines = is_within 1 most_sites (length lines) && list_all is_site_line lines
 
 -- as many ids as a u32 tells
 abbrev pub are_children : List StateId → Bool

@@ -1,6 +1,7 @@
 //! The writer of refusals. It takes no memory.
 
 ghost use Rattle.std.specs.Prelude.{◌≡◌, ◌+◌, ◌≤◌, [], ◌∷◌, ◌++◌, length, IsTrue};
+ghost use Rattle.tardis_base.specs.Sizes.{longest_frame};
 ghost use Rattle.wire_item.specs.Spellings.{id_spelling, u16_spelling, u32_spelling, u64_spelling};
 ghost use Rattle.wire_talk.specs.Spellings.{refusal_spelling};
 ghost use Rattle.wire_talk.specs.Valid.{is_refusal};
@@ -13,7 +14,7 @@ use tardis_base::{Refusal, ReplyBuf, StateId};
 use wire_item::{write_id, write_u32, write_u64};
 
 fn write_too_many(what: u8, n: u32, out: &mut ReplyBuf)
-    requires { length out.old + 6 ≤ 1048576 }
+    requires { length out.old + 6 ≤ longest_frame }
     ensures { out.new ≡ out.old ++ 8 ∷ what ∷ u32_spelling n }
 {
     out.push_byte(8);
@@ -21,7 +22,7 @@ fn write_too_many(what: u8, n: u32, out: &mut ReplyBuf)
 }
 
 fn write_branches(constraint: u8, state: StateId, children: u32, out: &mut ReplyBuf)
-    requires { length out.old + 12 ≤ 1048576 }
+    requires { length out.old + 12 ≤ longest_frame }
     ensures { out.new ≡ out.old ++ 15 ∷ constraint ∷ (id_spelling state ++ u32_spelling children) }
 {
     out.push_byte(15);
@@ -29,7 +30,7 @@ fn write_branches(constraint: u8, state: StateId, children: u32, out: &mut Reply
 }
 
 fn write_held(session: u16, ceiling: StateId, out: &mut ReplyBuf)
-    requires { length out.old + 9 ≤ 1048576 }
+    requires { length out.old + 9 ≤ longest_frame }
     ensures { out.new ≡ out.old ++ 18 ∷ (u16_spelling session ++ id_spelling ceiling) }
 {
     write_code_with_u16(18, session, out);
@@ -37,7 +38,7 @@ fn write_held(session: u16, ceiling: StateId, out: &mut ReplyBuf)
 }
 
 fn write_own_item(site: u16, number: u32, out: &mut ReplyBuf)
-    requires { length out.old + 7 ≤ 1048576 }
+    requires { length out.old + 7 ≤ longest_frame }
     ensures { out.new ≡ out.old ++ 25 ∷ (u16_spelling site ++ u32_spelling number) }
 {
     write_code_with_u16(25, site, out);
@@ -45,7 +46,7 @@ fn write_own_item(site: u16, number: u32, out: &mut ReplyBuf)
 }
 
 fn write_trail_full(bytes: u64, out: &mut ReplyBuf)
-    requires { length out.old + 9 ≤ 1048576 }
+    requires { length out.old + 9 ≤ longest_frame }
     ensures { out.new ≡ out.old ++ 26 ∷ u64_spelling bytes }
 {
     out.push_byte(26);
@@ -53,7 +54,7 @@ fn write_trail_full(bytes: u64, out: &mut ReplyBuf)
 }
 
 fn write_unsupported(op: u8, out: &mut ReplyBuf)
-    requires { length out.old + 2 ≤ 1048576 }
+    requires { length out.old + 2 ≤ longest_frame }
     ensures { out.new ≡ out.old ++ 27 ∷ op ∷ [] }
 {
     out.push_byte(27);
@@ -63,7 +64,7 @@ fn write_unsupported(op: u8, out: &mut ReplyBuf)
 /// Writes the refusal's code and its fields behind the bytes that are there. It takes no memory.
 pub fn write_refusal(refusal: &Refusal, out: &mut ReplyBuf)
     requires valid { IsTrue (is_refusal refusal.now) }
-    requires fits { length out.old + length (refusal_spelling refusal.now) ≤ 1048576 }
+    requires fits { length out.old + length (refusal_spelling refusal.now) ≤ longest_frame }
     ensures { out.new ≡ out.old ++ refusal_spelling refusal.now }
 {
     match refusal {

@@ -20,7 +20,8 @@ use crate::list_readers::{ids, is_count_of_sites, keys, pairs, site_lines};
 use crate::refusal_readers::refusal;
 use std::alloc::Global;
 use tardis_base::{
-    Batch, KeyList, NoMemory, PathList, Refusal, Reply, SiteLines, StateId, StateList, Value,
+    Batch, KeyList, MAX_NAMED, NoMemory, PathList, Refusal, Reply, SiteLines, StateId, StateList,
+    Value,
 };
 use wire_item::Reader;
 
@@ -158,7 +159,7 @@ fn path(alloc: Global, reader: &mut Reader) -> Option<Result<PathList, NoMemory>
 fn is_first_of(total: u32, count: u16) -> bool
     ensures { result ≡ is_first_of total count }
 {
-    u32::from(count) == total.min(256)
+    usize::from(count) == (total as usize).min(MAX_NAMED)
 }
 
 fn merging(states: Result<StateList, NoMemory>) -> Result<Reply, NoMemory>

@@ -1,6 +1,7 @@
 //! The writer of replies. It takes no memory.
 
 ghost use Rattle.std.specs.Prelude.{◌≡◌, ◌+◌, ◌≤◌, ◌∷◌, ◌++◌, length, flat_map, IsTrue};
+ghost use Rattle.tardis_base.specs.Sizes.{longest_frame};
 ghost use Rattle.wire_item.specs.Spellings.{batch_spelling, id_spelling, key_spelling, parents_spelling, u16_spelling, u32_spelling, u64_spelling};
 ghost use Rattle.wire_item.specs.Valid.{is_batch};
 ghost use Rattle.tardis_base.specs.Valid.{are_parents};
@@ -20,7 +21,7 @@ use wire_item::{
 
 fn write_merging(states: &StateList, out: &mut ReplyBuf)
     requires valid { IsTrue (are_parents states.now) }
-    requires fits { length out.old + length (3 ∷ parents_spelling states.now) ≤ 1048576 }
+    requires fits { length out.old + length (3 ∷ parents_spelling states.now) ≤ longest_frame }
     ensures { out.new ≡ out.old ++ 3 ∷ parents_spelling states.now }
 {
     out.push_byte(3);
@@ -30,7 +31,7 @@ fn write_merging(states: &StateList, out: &mut ReplyBuf)
 /// Writes the reply that a value is read, behind the bytes that are there, from a value that is only lent. It takes no
 /// memory.
 pub fn write_value_reply(writer: StateId, value: &Value, out: &mut ReplyBuf)
-    requires { length out.old + length (reply_spelling (Reply.Value writer value.now)) ≤ 1048576 }
+    requires { length out.old + length (reply_spelling (Reply.Value writer value.now)) ≤ longest_frame }
     ensures { out.new ≡ out.old ++ reply_spelling (Reply.Value writer value.now) }
 {
     write_code_with_id(4, writer, out);
@@ -39,7 +40,7 @@ pub fn write_value_reply(writer: StateId, value: &Value, out: &mut ReplyBuf)
 
 fn write_committed(id: StateId, parents: &StateList, out: &mut ReplyBuf)
     requires valid { IsTrue (are_parents parents.now) }
-    requires fits { length out.old + length (8 ∷ (id_spelling id ++ parents_spelling parents.now)) ≤ 1048576 }
+    requires fits { length out.old + length (8 ∷ (id_spelling id ++ parents_spelling parents.now)) ≤ longest_frame }
     ensures { out.new ≡ out.old ++ 8 ∷ (id_spelling id ++ parents_spelling parents.now) }
 {
     write_code_with_id(8, id, out);
@@ -47,7 +48,7 @@ fn write_committed(id: StateId, parents: &StateList, out: &mut ReplyBuf)
 }
 
 fn write_code_with_counts(code: u8, total: u32, count: u16, out: &mut ReplyBuf)
-    requires { length out.old + 7 ≤ 1048576 }
+    requires { length out.old + 7 ≤ longest_frame }
     ensures { out.new ≡ out.old ++ code ∷ (u32_spelling total ++ u16_spelling count) }
 {
     write_code_with_u32(code, total, out);
@@ -56,7 +57,7 @@ fn write_code_with_counts(code: u8, total: u32, count: u16, out: &mut ReplyBuf)
 
 fn write_states(total: u32, first: &StateList, out: &mut ReplyBuf)
     requires valid { IsTrue (are_first_ids total first.now) }
-    requires fits { length out.old + length (10 ∷ first_ids_spelling total first.now) ≤ 1048576 }
+    requires fits { length out.old + length (10 ∷ first_ids_spelling total first.now) ≤ longest_frame }
     ensures { out.new ≡ out.old ++ 10 ∷ first_ids_spelling total first.now }
 {
     write_code_with_counts(10, total, first.len() as u16, out);
@@ -64,7 +65,7 @@ fn write_states(total: u32, first: &StateList, out: &mut ReplyBuf)
 }
 
 fn write_each_key(keys: &KeyList, out: &mut ReplyBuf)
-    requires fits { length out.old + length (flat_map key_spelling keys.now) ≤ 1048576 }
+    requires fits { length out.old + length (flat_map key_spelling keys.now) ≤ longest_frame }
     ensures { out.new ≡ out.old ++ flat_map key_spelling keys.now }
 {
     for key in keys.as_slice() {
@@ -74,7 +75,7 @@ fn write_each_key(keys: &KeyList, out: &mut ReplyBuf)
 
 fn write_keys(total: u32, first: &KeyList, out: &mut ReplyBuf)
     requires valid { IsTrue (are_first_keys total first.now) }
-    requires fits { length out.old + length (11 ∷ first_keys_spelling total first.now) ≤ 1048576 }
+    requires fits { length out.old + length (11 ∷ first_keys_spelling total first.now) ≤ longest_frame }
     ensures { out.new ≡ out.old ++ 11 ∷ first_keys_spelling total first.now }
 {
     write_code_with_counts(11, total, first.len() as u16, out);
@@ -82,7 +83,7 @@ fn write_keys(total: u32, first: &KeyList, out: &mut ReplyBuf)
 }
 
 fn write_sizes(known: u64, kept: u32, leaves: u32, sessions: u16, out: &mut ReplyBuf)
-    requires { length out.old + 19 ≤ 1048576 }
+    requires { length out.old + 19 ≤ longest_frame }
     ensures { out.new ≡ out.old ++ 14 ∷ (u64_spelling known ++ u32_spelling kept ++ u32_spelling leaves ++ u16_spelling sessions) }
 {
     out.push_byte(14);
@@ -93,7 +94,7 @@ fn write_sizes(known: u64, kept: u32, leaves: u32, sessions: u16, out: &mut Repl
 }
 
 fn write_site_line(line: &SiteLine, out: &mut ReplyBuf)
-    requires { length out.old + 14 ≤ 1048576 }
+    requires { length out.old + 14 ≤ longest_frame }
     ensures { out.new ≡ out.old ++ site_line_spelling line.now }
 {
     write_u32(line.count, out);
@@ -102,7 +103,7 @@ fn write_site_line(line: &SiteLine, out: &mut ReplyBuf)
 }
 
 fn write_each_site_line(lines: &SiteLines, out: &mut ReplyBuf)
-    requires fits { length out.old + length (flat_map site_line_spelling lines.now) ≤ 1048576 }
+    requires fits { length out.old + length (flat_map site_line_spelling lines.now) ≤ longest_frame }
     ensures { out.new ≡ out.old ++ flat_map site_line_spelling lines.now }
 {
     for line in lines.as_slice() {
@@ -111,7 +112,7 @@ fn write_each_site_line(lines: &SiteLines, out: &mut ReplyBuf)
 }
 
 fn write_site_lines(lines: &SiteLines, out: &mut ReplyBuf)
-    requires fits { length out.old + length (site_lines_spelling lines.now) ≤ 1048576 }
+    requires fits { length out.old + length (site_lines_spelling lines.now) ≤ longest_frame }
     ensures { out.new ≡ out.old ++ site_lines_spelling lines.now }
 {
     out.push_byte(lines.len() as u8);
@@ -120,7 +121,7 @@ fn write_site_lines(lines: &SiteLines, out: &mut ReplyBuf)
 
 fn write_children(children: &StateList, out: &mut ReplyBuf)
     requires valid { IsTrue (are_children children.now) }
-    requires fits { length out.old + length (children_spelling children.now) ≤ 1048576 }
+    requires fits { length out.old + length (children_spelling children.now) ≤ longest_frame }
     ensures { out.new ≡ out.old ++ children_spelling children.now }
 {
     write_u32(children.len() as u32, out);
@@ -128,7 +129,7 @@ fn write_children(children: &StateList, out: &mut ReplyBuf)
 }
 
 fn write_pair(fork: StateId, branch: u32, out: &mut ReplyBuf)
-    requires { length out.old + 10 ≤ 1048576 }
+    requires { length out.old + 10 ≤ longest_frame }
     ensures { out.new ≡ out.old ++ pair_spelling (fork, branch) }
 {
     write_id(fork, out);
@@ -136,7 +137,7 @@ fn write_pair(fork: StateId, branch: u32, out: &mut ReplyBuf)
 }
 
 fn write_each_pair(path: &PathList, out: &mut ReplyBuf)
-    requires fits { length out.old + length (flat_map pair_spelling path.now) ≤ 1048576 }
+    requires fits { length out.old + length (flat_map pair_spelling path.now) ≤ longest_frame }
     ensures { out.new ≡ out.old ++ flat_map pair_spelling path.now }
 {
     for (fork, branch) in path.as_slice() {
@@ -146,7 +147,7 @@ fn write_each_pair(path: &PathList, out: &mut ReplyBuf)
 
 fn write_path(path: &PathList, out: &mut ReplyBuf)
     requires valid { IsTrue (is_path path.now) }
-    requires fits { length out.old + length (path_spelling path.now) ≤ 1048576 }
+    requires fits { length out.old + length (path_spelling path.now) ≤ longest_frame }
     ensures { out.new ≡ out.old ++ path_spelling path.now }
 {
     write_u32(path.len() as u32, out);
@@ -154,7 +155,7 @@ fn write_path(path: &PathList, out: &mut ReplyBuf)
 }
 
 fn write_arrival(arrival: u64, out: &mut ReplyBuf)
-    requires { length out.old + 9 ≤ 1048576 }
+    requires { length out.old + 9 ≤ longest_frame }
     ensures { out.new ≡ out.old ++ 15 ∷ u64_spelling arrival }
 {
     out.push_byte(15);
@@ -164,7 +165,7 @@ fn write_arrival(arrival: u64, out: &mut ReplyBuf)
 fn write_shown(arrival: u64, children: &StateList, path: &PathList, out: &mut ReplyBuf)
     requires children { IsTrue (are_children children.now) }
     requires path { IsTrue (is_path path.now) }
-    requires fits { length out.old + length (15 ∷ (u64_spelling arrival ++ children_spelling children.now ++ path_spelling path.now)) ≤ 1048576 }
+    requires fits { length out.old + length (15 ∷ (u64_spelling arrival ++ children_spelling children.now ++ path_spelling path.now)) ≤ longest_frame }
     ensures { out.new ≡ out.old ++ 15 ∷ (u64_spelling arrival ++ children_spelling children.now ++ path_spelling path.now) }
 {
     write_arrival(arrival, out);
@@ -174,7 +175,7 @@ fn write_shown(arrival: u64, children: &StateList, path: &PathList, out: &mut Re
 
 fn write_batch_reply(batch: &Batch, out: &mut ReplyBuf)
     requires valid { IsTrue (is_batch batch.now) }
-    requires fits { length out.old + length (16 ∷ batch_spelling batch.now) ≤ 1048576 }
+    requires fits { length out.old + length (16 ∷ batch_spelling batch.now) ≤ longest_frame }
     ensures { out.new ≡ out.old ++ 16 ∷ batch_spelling batch.now }
 {
     out.push_byte(16);
@@ -183,7 +184,7 @@ fn write_batch_reply(batch: &Batch, out: &mut ReplyBuf)
 
 fn write_refused(refusal: &Refusal, out: &mut ReplyBuf)
     requires valid { IsTrue (is_refusal refusal.now) }
-    requires fits { length out.old + length (21 ∷ refusal_spelling refusal.now) ≤ 1048576 }
+    requires fits { length out.old + length (21 ∷ refusal_spelling refusal.now) ≤ longest_frame }
     ensures { out.new ≡ out.old ++ 21 ∷ refusal_spelling refusal.now }
 {
     out.push_byte(21);
@@ -198,7 +199,7 @@ fn write_statistics(
     sites: &SiteLines,
     out: &mut ReplyBuf,
 )
-    requires fits { length out.old + length (reply_spelling (Reply.Stat known kept leaves sessions sites.now)) ≤ 1048576 }
+    requires fits { length out.old + length (reply_spelling (Reply.Stat known kept leaves sessions sites.now)) ≤ longest_frame }
     ensures { out.new ≡ out.old ++ reply_spelling (Reply.Stat known kept leaves sessions sites.now) }
 {
     write_sizes(known, kept, leaves, sessions, out);
@@ -208,7 +209,7 @@ fn write_statistics(
 /// Writes the reply's code and its fields behind the bytes that are there. It takes no memory.
 pub fn write_reply(reply: &Reply, out: &mut ReplyBuf)
     requires valid { IsTrue (is_reply reply.now) }
-    requires fits { length out.old + length (reply_spelling reply.now) ≤ 1048576 }
+    requires fits { length out.old + length (reply_spelling reply.now) ≤ longest_frame }
     ensures { out.new ≡ out.old ++ reply_spelling reply.now }
 {
     match reply {

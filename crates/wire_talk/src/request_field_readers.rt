@@ -8,6 +8,7 @@ ghost use Rattle.tardis_base.specs.declared.ids.StateId.{StateId};
 ghost use Rattle.tardis_base.specs.declared.records.Item.{Item};
 ghost use Rattle.tardis_base.specs.declared.requests.Request.TheVariants.{Commit, Put as PutKey};
 ghost use Rattle.tardis_base.specs.declared.requests.Request.{Request};
+ghost use Rattle.tardis_base.specs.Sizes.{longest_key};
 ghost use Rattle.tardis_base.specs.Valid.{is_within};
 ghost use Rattle.wire_item.specs.Fronts.{both, made, times};
 ghost use Rattle.wire_item.specs.Readings.{id_front, item_front, key_front, u32_front, value_front};
@@ -15,11 +16,12 @@ ghost use Rattle.wire_item.specs.Takings.{Makes, Takes};
 ghost use Rattle.wire_talk.specs.RequestReadings.{after_front, begin_front, commit_front, counts_front, flag_front, merge_of, merge_of_front};
 ghost use Rattle.wire_talk.specs.Valid.{is_commit};
 
-use crate::list_readers::{ids, is_count_of_sites, pushed};
+use crate::list_readers::{ids, is_count_of_sites};
+use crate::refusal_readers::new_key;
 use std::alloc::Global;
 use tardis_base::{
-    Begin, ByteList, CountList, EndFlags, Item, Key, ListOf, MergeOf, NoMemory, Request, StateId,
-    StateList, Value,
+    Begin, ByteList, CountList, EndFlags, Item, Key, ListOf, MAX_KEY, MergeOf, NoMemory, Request,
+    StateId, StateList, Value, pushed,
 };
 use wire_item::Reader;
 
@@ -147,7 +149,7 @@ fn numbers(alloc: Global, count: u8, reader: &mut Reader) -> Option<Result<Count
     let mut numbers = Ok(CountList::new(alloc));
     for _place in 0..count {
         let number = reader.u32()?;
-        numbers = pushed(numbers, number);
+        numbers = pushed(numbers, Ok(number));
     }
     Some(numbers)
 }
@@ -155,23 +157,14 @@ fn numbers(alloc: Global, count: u8, reader: &mut Reader) -> Option<Result<Count
 fn is_commit(flags: u8, k: u16) -> bool
     ensures { result ≡ is_commit (record { 0 = flags }) k }
 {
-    let is_counted = flags & 8 == 8;
+    let is_counted = flags & EndFlags::KB.0 == EndFlags::KB.0;
     flags < 16 && (if is_counted { k >= 1 } else { k == 0 })
 }
 
 fn is_after_length(count: u8) -> bool
-    ensures { result ≡ nat_le count 128 }
+    ensures { result ≡ nat_le count longest_key }
 {
-    count <= 128
-}
-
-fn key_of(alloc: Global, key: &[u8]) -> Result<Key, NoMemory>
-    ensures { IfOk result (λ k. k ≡ key.now) }
-{
-    match Key::new(alloc, key) {
-        Ok(key) => Ok(key),
-        Err(_) => Err(NoMemory),
-    }
+    usize::from(count) <= MAX_KEY
 }
 
 fn value_of(alloc: Global, value: &[u8]) -> Result<Value, NoMemory>
@@ -186,14 +179,14 @@ fn value_of(alloc: Global, value: &[u8]) -> Result<Value, NoMemory>
 fn get(alloc: Global, key: &[u8]) -> Result<Request, NoMemory>
     ensures { IfOk result (λ q. q ≡ Request.Get key.now) }
 {
-    let key = key_of(alloc, key)?;
+    let key = new_key(alloc, key)?;
     Ok(Request::Get { key })
 }
 
 fn put(alloc: Global, key: &[u8], value: &[u8]) -> Result<Request, NoMemory>
     ensures { IfOk result (λ q. q ≡ PutKey key.now value.now) }
 {
-    let key = key_of(alloc, key)?;
+    let key = new_key(alloc, key)?;
     let value = value_of(alloc, value)?;
     Ok(Request::Put { key, value })
 }
@@ -201,14 +194,14 @@ fn put(alloc: Global, key: &[u8], value: &[u8]) -> Result<Request, NoMemory>
 fn delete(alloc: Global, key: &[u8]) -> Result<Request, NoMemory>
     ensures { IfOk result (λ q. q ≡ Request.Delete key.now) }
 {
-    let key = key_of(alloc, key)?;
+    let key = new_key(alloc, key)?;
     Ok(Request::Delete { key })
 }
 
 fn get_for(alloc: Global, key: &[u8], state: StateId) -> Result<Request, NoMemory>
     ensures { IfOk result (λ q. q ≡ Request.GetFor key.now state) }
 {
-    let key = key_of(alloc, key)?;
+    let key = new_key(alloc, key)?;
     Ok(Request::GetFor { key, state })
 }
 

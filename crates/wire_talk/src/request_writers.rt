@@ -1,6 +1,7 @@
 //! The writer of requests. It takes no memory.
 
 ghost use Rattle.std.specs.Prelude.{◌≡◌, ◌+◌, ◌≤◌, ◌∷◌, ◌++◌, length, flat_map, IsTrue};
+ghost use Rattle.tardis_base.specs.Sizes.{longest_frame};
 ghost use Rattle.wire_item.specs.Spellings.{id_spelling, item_spelling, key_spelling, u16_spelling, u32_spelling, value_spelling};
 ghost use Rattle.wire_item.specs.Valid.{is_item};
 ghost use Rattle.wire_talk.specs.Spellings.{after_spelling, begin_spelling, counts_spelling, flag_spelling, merge_of_spelling, request_spelling};
@@ -13,7 +14,7 @@ use tardis_base::{
 use wire_item::{write_id, write_ids, write_item, write_u16, write_u32, write_value};
 
 fn write_open(follow: bool, out: &mut ReplyBuf)
-    requires { length out.old + 2 ≤ 1048576 }
+    requires { length out.old + 2 ≤ longest_frame }
     ensures { out.new ≡ out.old ++ 1 ∷ flag_spelling follow }
 {
     out.push_byte(1);
@@ -21,7 +22,7 @@ fn write_open(follow: bool, out: &mut ReplyBuf)
 }
 
 fn write_begin(begin: &Begin, out: &mut ReplyBuf)
-    requires { length out.old + length (2 ∷ begin_spelling begin.now) ≤ 1048576 }
+    requires { length out.old + length (2 ∷ begin_spelling begin.now) ≤ longest_frame }
     ensures { out.new ≡ out.old ++ 2 ∷ begin_spelling begin.now }
 {
     out.push_byte(2);
@@ -34,7 +35,7 @@ fn write_begin(begin: &Begin, out: &mut ReplyBuf)
 }
 
 fn write_put(key: &Key, value: &Value, out: &mut ReplyBuf)
-    requires { length out.old + length (4 ∷ (key_spelling key.now ++ value_spelling value.now)) ≤ 1048576 }
+    requires { length out.old + length (4 ∷ (key_spelling key.now ++ value_spelling value.now)) ≤ longest_frame }
     ensures { out.new ≡ out.old ++ 4 ∷ (key_spelling key.now ++ value_spelling value.now) }
 {
     write_code_with_key(4, key, out);
@@ -42,7 +43,7 @@ fn write_put(key: &Key, value: &Value, out: &mut ReplyBuf)
 }
 
 fn write_commit(flags: EndFlags, k: u16, out: &mut ReplyBuf)
-    requires { length out.old + 4 ≤ 1048576 }
+    requires { length out.old + 4 ≤ longest_frame }
     ensures { out.new ≡ out.old ++ 6 ∷ flags.0 ∷ u16_spelling k }
 {
     out.push_byte(6);
@@ -52,7 +53,7 @@ fn write_commit(flags: EndFlags, k: u16, out: &mut ReplyBuf)
 
 fn write_begin_merge(of: &MergeOf, out: &mut ReplyBuf)
     requires valid { IsTrue (is_merge_of of.now) }
-    requires fits { length out.old + length (8 ∷ merge_of_spelling of.now) ≤ 1048576 }
+    requires fits { length out.old + length (8 ∷ merge_of_spelling of.now) ≤ longest_frame }
     ensures { out.new ≡ out.old ++ 8 ∷ merge_of_spelling of.now }
 {
     out.push_byte(8);
@@ -67,7 +68,7 @@ fn write_begin_merge(of: &MergeOf, out: &mut ReplyBuf)
 
 fn write_conflicts(after: &ByteList, out: &mut ReplyBuf)
     requires valid { IsTrue (is_after after.now) }
-    requires fits { length out.old + length (10 ∷ after_spelling after.now) ≤ 1048576 }
+    requires fits { length out.old + length (10 ∷ after_spelling after.now) ≤ longest_frame }
     ensures { out.new ≡ out.old ++ 10 ∷ after_spelling after.now }
 {
     out.push_byte(10);
@@ -76,7 +77,7 @@ fn write_conflicts(after: &ByteList, out: &mut ReplyBuf)
 }
 
 fn write_get_for(key: &Key, state: StateId, out: &mut ReplyBuf)
-    requires { length out.old + length (11 ∷ (key_spelling key.now ++ id_spelling state)) ≤ 1048576 }
+    requires { length out.old + length (11 ∷ (key_spelling key.now ++ id_spelling state)) ≤ longest_frame }
     ensures { out.new ≡ out.old ++ 11 ∷ (key_spelling key.now ++ id_spelling state) }
 {
     write_code_with_key(11, key, out);
@@ -84,7 +85,7 @@ fn write_get_for(key: &Key, state: StateId, out: &mut ReplyBuf)
 }
 
 fn write_each_count(counts: &CountList, out: &mut ReplyBuf)
-    requires fits { length out.old + length (flat_map u32_spelling counts.now) ≤ 1048576 }
+    requires fits { length out.old + length (flat_map u32_spelling counts.now) ≤ longest_frame }
     ensures { out.new ≡ out.old ++ flat_map u32_spelling counts.now }
 {
     for count in counts.as_slice() {
@@ -94,7 +95,7 @@ fn write_each_count(counts: &CountList, out: &mut ReplyBuf)
 
 fn write_pull(counts: &CountList, out: &mut ReplyBuf)
     requires valid { IsTrue (are_counts counts.now) }
-    requires fits { length out.old + length (19 ∷ counts_spelling counts.now) ≤ 1048576 }
+    requires fits { length out.old + length (19 ∷ counts_spelling counts.now) ≤ longest_frame }
     ensures { out.new ≡ out.old ++ 19 ∷ counts_spelling counts.now }
 {
     out.push_byte(19);
@@ -104,7 +105,7 @@ fn write_pull(counts: &CountList, out: &mut ReplyBuf)
 
 fn write_deliver(item: &Item, out: &mut ReplyBuf)
     requires valid { IsTrue (is_item item.now) }
-    requires fits { length out.old + length (20 ∷ item_spelling item.now) ≤ 1048576 }
+    requires fits { length out.old + length (20 ∷ item_spelling item.now) ≤ longest_frame }
     ensures { out.new ≡ out.old ++ 20 ∷ item_spelling item.now }
 {
     out.push_byte(20);
@@ -114,7 +115,7 @@ fn write_deliver(item: &Item, out: &mut ReplyBuf)
 /// Writes the request's code and its fields behind the bytes that are there. It takes no memory.
 pub fn write_request(request: &Request, out: &mut ReplyBuf)
     requires valid { IsTrue (is_request request.now) }
-    requires fits { length out.old + length (request_spelling request.now) ≤ 1048576 }
+    requires fits { length out.old + length (request_spelling request.now) ≤ longest_frame }
     ensures { out.new ≡ out.old ++ request_spelling request.now }
 {
     match request {

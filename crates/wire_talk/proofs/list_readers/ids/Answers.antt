@@ -20,7 +20,7 @@ loop-place-preserved c =
     record {
       xs = c.loop-place.invariant.xs ++ c.in_ok-id.id ∷ [];
       reads = times-more id_front c.loop-place._place c.args.reader.now c.loop-place.invariant.xs c.loop-place.reader c.in_ok-id.id c.id.new.self c.loop-place.invariant.reads read;
-      made = c.pushed-ids.ensures c.loop-place.invariant.xs c.loop-place.invariant.made;
+      made = c.pushed-ids.ensures c.loop-place.invariant.xs c.in_ok-id.id c.loop-place.invariant.made refl;
     }
 
 pub returns : goal.returns

@@ -27,9 +27,9 @@ returns-then-not-key_follows c =
 pub loop-place-preserved : goal.loop-place-preserved
 loop-place-preserved c =
     let key = taken key_front c.loop-place.reader c.key.new.self c.in_ok-key.key.now c.in_ok-key.ensures in
-    progress-more (λ (k : List ℕ). k) is_key_before are_ascending_keys keys-order key_front c.args.reader.now c.loop-place._place c.loop-place.reader (option_copied c.loop-place.last) c.loop-place.keys c.key_pushed-keys.result
+    progress-more (λ (k : List ℕ). k) is_key_before are_ascending_keys keys-order key_front c.args.reader.now c.loop-place._place c.loop-place.reader (option_copied c.loop-place.last) c.loop-place.keys c.pushed-keys.result
     c.in_ok-key.key.now c.key.new.self c.loop-place.invariant key (sym c.if-not-key_follows.ensures)
-    (λ _. c.key_pushed-keys.ensures c.loop-place.invariant.xs c.loop-place.invariant.made)
+    (λ _. c.pushed-keys.ensures c.loop-place.invariant.xs c.in_ok-key.key.now c.loop-place.invariant.made c.new_key.ensures)
 
 pub returns : goal.returns
 returns c =

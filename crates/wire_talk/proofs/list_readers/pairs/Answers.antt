@@ -20,7 +20,7 @@ loop-place-preserved c =
     record {
       xs = c.loop-place.invariant.xs ++ c.in_ok-pair.pair ∷ [];
       reads = times-more (both id_front u32_front) c.loop-place._place c.args.reader.now c.loop-place.invariant.xs c.loop-place.reader c.in_ok-pair.pair c.id_and_u32.new.reader c.loop-place.invariant.reads read;
-      made = c.pushed-pairs.ensures c.loop-place.invariant.xs c.loop-place.invariant.made;
+      made = c.pushed-pairs.ensures c.loop-place.invariant.xs c.in_ok-pair.pair c.loop-place.invariant.made refl;
     }
 
 pub returns : goal.returns

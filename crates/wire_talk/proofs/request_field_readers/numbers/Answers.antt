@@ -20,7 +20,7 @@ loop-place-preserved c =
     record {
       xs = c.loop-place.invariant.xs ++ c.in_ok-number.number ∷ [];
       reads = times-more u32_front c.loop-place._place c.args.reader.now c.loop-place.invariant.xs c.loop-place.reader c.in_ok-number.number c.u32.new.self c.loop-place.invariant.reads read;
-      made = c.pushed-numbers.ensures c.loop-place.invariant.xs c.loop-place.invariant.made;
+      made = c.pushed-numbers.ensures c.loop-place.invariant.xs c.in_ok-number.number c.loop-place.invariant.made refl;
     }
 
 pub returns : goal.returns
