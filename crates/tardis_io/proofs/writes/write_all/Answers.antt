@@ -1,4 +1,4 @@
-use Rattle.std.proofs.Common.{◌≡◌, ℕ, ◌+◌, ◌-◌, List, ◌++◌, length, take, drop, arith}
+use Rattle.std.proofs.Common.{◌≡◌, ℕ, ◌+◌, ◌-◌, List, ◌++◌, ◌∙◌, length, take, drop, arith}
 use Rattle.tardis_io.proofs.Told.{then}
 use Rattle.tardis_io.proofs.Fronts.{given_more, given_lost, within_more}
 use Rattle.tardis_io.proofs.writes.write_all.Goals as goal
@@ -13,6 +13,7 @@ loop-done-preserved g c = record {
       (λ x y z p q. given_more x y z c.args.bytes.now c.loop-done.done c.in-Ok.count p q);
   within = within_more c.args.bytes.now c.loop-done.done c.in-Ok.count c.loop-done.invariant.within c.in-Ok.ensures.bound.1;
   later = omega (arith, c.in-Ok.ensures.cause.later, c.loop-done.invariant.later);
+  kept = c.in-Ok.ensures.kept ∙ c.loop-done.invariant.kept;
 }
 
 pub returns-in-Err-clause-bytes : goal.returns-in-Err-clause-bytes
