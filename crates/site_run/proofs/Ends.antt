@@ -7,7 +7,7 @@ use Rattle.frame_cut.specs.Frames.{IsPartial, IsLong, IsEnd, Cuts, IsCut}
 use Rattle.frame_cut.proofs.OneCut.{one, front_of}
 use Rattle.frame_cut.proofs.Words.{long_more}
 use Rattle.site_run.specs.Responses.{AnsweredBy, Serves}
-use Rattle.site_run.specs.Endings.{Ends, EndsSpent, AnswersAll, EndsAs, Outcome, shape_of, most_taken}
+use Rattle.site_run.specs.Endings.{Ends, EndsSpent, AnswersAll, EndsAs, Outcome, shape_within, most_taken}
 
 -- where as many bytes were taken as may be
 ends_spent : (status : Status) (first : List ℕ) (bodies : List (List ℕ)) (held left : List ℕ) → Ends status first bodies held left → length first ≡ most_taken + length left → EndsSpent status
@@ -60,10 +60,10 @@ answers_all BadExport first bodies held left c e all rest d = tt
 answers_all (NoState state) first bodies held left c e all rest d = tt
 
 -- an outcome, from what was answered and how the run ended
-pub outcome : {S : Type 0} (status : Status) (may : S → List ℕ → List ℕ → S → Type 0) (from to : S → Type 0) (g h : Option (List ℕ)) (first held left : List ℕ)
-    → (a : Serves may (shape_of status) from to g h [] [] first (held ++ left)) → Ends status first a.bodies held left
-    → Outcome status from (λ s bodies. AnsweredBy may (shape_of status) to g h [] [] s bodies) first left
-outcome status may from to g h first held left a ends = record {
+pub outcome : {S : Type 0} (status : Status) (may : S → List ℕ → List ℕ → S → Type 0) (most : ℕ) (from to : S → Type 0) (g h : Option (List ℕ)) (first held left : List ℕ)
+    → (a : Serves may (shape_within most status) from to g h [] [] first (held ++ left)) → Ends status first a.bodies held left
+    → Outcome status from (λ s bodies. AnsweredBy may (shape_within most status) to g h [] [] s bodies) first left
+outcome status may most from to g h first held left a ends = record {
   bodies = a.bodies;
   held = held;
   read = a.read;

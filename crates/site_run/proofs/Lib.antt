@@ -4,3 +4,4 @@ mod Serving
 mod Ends
 mod Replies
 mod Takings
+mod Prompts

@@ -1,7 +1,9 @@
 -- Bodies that are cut from bytes and answered, step by step.
 use Rattle.std.proofs.Common.{◌≡◌, ℕ, ◌+◌, ◌≤◌, length, take, drop, arith, List, [], ◌∷◌, ◌++◌, Option, refl, sym, ap, ◌∙◌, subst}
 use Rattle.std.proofs.lemmas.List.{append-nil, length-append, take_all}
+use Rattle.std.specs.List.{concat}
 use Rattle.tardis_io.specs.Told.{WhileTold}
+use Rattle.tardis_io.proofs.Told.{weaker}
 use Rattle.frame_cut.specs.Frames.{frame, IsBody, Cuts}
 use Rattle.frame_cut.proofs.Joins.{more_bytes, more_bodies}
 use Rattle.frame_cut.proofs.Words.{length-frame}
@@ -59,10 +61,10 @@ written may to g h k p q r s bodies a w empty =
     subst (λ z. AnsweredBy may Whole to g k p r s z) (append-nil bodies)
     (answered_then may Whole whole_then to to g h k p q r s bodies [] a (λ t f. answered_written may to h k q q r t [] (answered_none may to h q t f) w empty))
 
-pub lost : {S : Type 0} (may : S → List ℕ → List ℕ → S → Type 0) (to : S → Type 0) (g h k : Option (List ℕ)) (p q : List ℕ) (s : S) (bodies : List (List ℕ)) → AnsweredBy may Whole to g h p q s bodies → WhileTold h k (λ y z. (lost : List ℕ) × (z ++ lost ≡ y ++ q)) → AnsweredBy may Front to g k p [] s bodies
-lost may to g h k p q s bodies a w =
-    subst (λ z. AnsweredBy may Front to g k p [] s z) (append-nil bodies)
-    (answered_then may Front front_then to to g h k p q [] s bodies [] a (λ t f. answered_lost may to h k q q t [] (answered_none may to h q t f) w))
+pub lost : {S : Type 0} (may : S → List ℕ → List ℕ → S → Type 0) (to : S → Type 0) (g h k : Option (List ℕ)) (p q : List ℕ) (most : ℕ) (s : S) (bodies : List (List ℕ)) → length q ≤ most → AnsweredBy may Whole to g h p q s bodies → WhileTold h k (λ y z. (lost : List ℕ) × ((z ++ lost ≡ y ++ q) × (length lost ≤ length q))) → AnsweredBy may (Front most) to g k p [] s bodies
+lost may to g h k p q most s bodies few a w =
+    subst (λ z. AnsweredBy may (Front most) to g k p [] s z) (append-nil bodies)
+    (answered_then may (Front most) (front_then most) to to g h k p q [] s bodies [] a (λ t f. answered_lost may to h k q q most t [] few (answered_none may to h q t f) w))
 
 pub serves_written : {S : Type 0} (may : S → List ℕ → List ℕ → S → Type 0) (from to : S → Type 0) (g h k : Option (List ℕ)) (p q r bytes rest : List ℕ) → Serves may Whole from to g h p q bytes rest → WhileTold h k (λ y z. z ≡ y ++ q) → r ≡ [] → Serves may Whole from to g k p r bytes rest
 serves_written may from to g h k p q r bytes rest a w empty = record {
@@ -71,11 +73,28 @@ serves_written may from to g h k p q r bytes rest a w empty = record {
   answered = λ s f. written may to g h k p q r s a.bodies (a.answered s f) w empty;
 }
 
-pub serves_lost : {S : Type 0} (may : S → List ℕ → List ℕ → S → Type 0) (from to : S → Type 0) (g h k : Option (List ℕ)) (p q bytes rest : List ℕ) → Serves may Whole from to g h p q bytes rest → WhileTold h k (λ y z. (lost : List ℕ) × (z ++ lost ≡ y ++ q)) → Serves may Front from to g k p [] bytes rest
-serves_lost may from to g h k p q bytes rest a w = record {
+pub serves_lost : {S : Type 0} (may : S → List ℕ → List ℕ → S → Type 0) (from to : S → Type 0) (g h k : Option (List ℕ)) (p q bytes rest : List ℕ) (most : ℕ) → length q ≤ most → Serves may Whole from to g h p q bytes rest → WhileTold h k (λ y z. (lost : List ℕ) × ((z ++ lost ≡ y ++ q) × (length lost ≤ length q))) → Serves may (Front most) from to g k p [] bytes rest
+serves_lost may from to g h k p q bytes rest most few a w = record {
   bodies = a.bodies;
   read = a.read;
-  answered = λ s f. lost may to g h k p q s a.bodies (a.answered s f) w;
+  answered = λ s f. lost may to g h k p q most s a.bodies few (a.answered s f) w;
+}
+
+-- what was given has this shape too
+pub serves_weaker : {S : Type 0} (may : S → List ℕ → List ℕ → S → Type 0) (strong weak : List ℕ → List ℕ → List ℕ → Type 0) → ((x y u : List ℕ) → strong x y u → weak x y u)
+    → (from to : S → Type 0) (g h : Option (List ℕ)) (p q bytes rest : List ℕ) → Serves may strong from to g h p q bytes rest → Serves may weak from to g h p q bytes rest
+serves_weaker may strong weak f from to g h p q bytes rest a = record {
+  bodies = a.bodies;
+  read = a.read;
+  answered = λ s e.
+      let b = a.answered s e in
+      record {
+        answers = b.answers;
+        state = b.state;
+        each = b.each;
+        stands = b.stands;
+        given = weaker g h (λ y z. strong (y ++ p) (z ++ q) (concat b.answers)) (λ y z. weak (y ++ p) (z ++ q) (concat b.answers)) b.given (λ y z n. f (y ++ p) (z ++ q) (concat b.answers) n);
+      };
 }
 
 -- a cutter holds less when it has handed out a frame
@@ -91,11 +110,11 @@ pub fed_all : (held piece fed : List ℕ) (n : ℕ) → fed ≡ held ++ take n p
 fed_all held piece fed n is all = is ∙ ap (λ z. held ++ z) (take_all n piece (omega (arith, all)))
 
 -- what a piece completes was answered, and of the answers that are written a front was
-pub piece_lost : {S : Type 0} (may : S → List ℕ → List ℕ → S → Type 0) (from to : S → Type 0) (g h k : Option (List ℕ)) (p q held piece fed rest : List ℕ) (n : ℕ) → p ≡ [] → fed ≡ held ++ take n piece → n ≡ length piece → Serves may Whole from to g h p q fed rest → WhileTold h k (λ y z. (lost : List ℕ) × (z ++ lost ≡ y ++ q)) → (x : List ℕ) × Serves may Front from to g k [] [] (held ++ piece) x
-piece_lost may from to g h k p q held piece fed rest n none is all a w = (
+pub piece_lost : {S : Type 0} (may : S → List ℕ → List ℕ → S → Type 0) (from to : S → Type 0) (g h k : Option (List ℕ)) (p q held piece fed rest : List ℕ) (n most : ℕ) → length q ≤ most → p ≡ [] → fed ≡ held ++ take n piece → n ≡ length piece → Serves may Whole from to g h p q fed rest → WhileTold h k (λ y z. (lost : List ℕ) × ((z ++ lost ≡ y ++ q) × (length lost ≤ length q))) → (x : List ℕ) × Serves may (Front most) from to g k [] [] (held ++ piece) x
+piece_lost may from to g h k p q held piece fed rest n most few none is all a w = (
   rest,
-  subst (λ b. Serves may Front from to g k [] [] b rest) (fed_all held piece fed n is all)
-      (subst (λ e. Serves may Front from to g k e [] fed rest) none (serves_lost may from to g h k p q fed rest a w)),
+  subst (λ b. Serves may (Front most) from to g k [] [] b rest) (fed_all held piece fed n is all)
+      (subst (λ e. Serves may (Front most) from to g k e [] fed rest) none (serves_lost may from to g h k p q fed rest most few a w)),
 )
 
 -- and all of them were

@@ -1,5 +1,5 @@
 -- Answers in turn, and what a sink has of them.
-use Rattle.std.proofs.Common.{◌≡◌, ℕ, List, [], ◌∷◌, ◌++◌, Option, Result, Ok, Err, OnOk, OnErr, refl, sym, ap, ◌∙◌, subst, append_assoc}
+use Rattle.std.proofs.Common.{◌≡◌, ℕ, ◌≤◌, List, [], ◌∷◌, ◌++◌, length, Option, Result, Ok, Err, OnOk, OnErr, refl, sym, ap, ◌∙◌, subst, arith, append_assoc}
 use Rattle.std.proofs.lemmas.List.{append-nil}
 use Rattle.std.specs.List.{concat}
 use Rattle.tardis_io.specs.Told.{WhileTold, GivesAll}
@@ -22,8 +22,12 @@ pub whole_then : (x y z u v : List ℕ) → Whole x y u → Whole y z v → Whol
 whole_then x y z u v p q = q ∙ (ap (λ w. w ++ v) p ∙ append_assoc x u v)
 
 -- all was given, and then a front
-pub front_then : (x y z u v : List ℕ) → Whole x y u → Front y z v → Front x z (u ++ v)
-front_then x y z u v p q = (q.0, q.1 ∙ (ap (λ w. w ++ v) p ∙ append_assoc x u v))
+pub front_then : (most : ℕ) (x y z u v : List ℕ) → Whole x y u → Front most y z v → Front most x z (u ++ v)
+front_then most x y z u v p q = (q.0, (q.1.0 ∙ (ap (λ w. w ++ v) p ∙ append_assoc x u v), q.1.1))
+
+-- fewer are lacking than may be
+pub front_weaker : (few most : ℕ) → few ≤ most → (x y u : List ℕ) → Front few x y u → Front most x y u
+front_weaker few most less x y u p = (p.0, (p.1.0, omega (arith, p.1.1, less)))
 
 -- bodies that were answered, and then more bodies
 pub answered_then : {S : Type 0} (may : S → List ℕ → List ℕ → S → Type 0) (shape : List ℕ → List ℕ → List ℕ → Type 0) → ((x y z u v : List ℕ) → Whole x y u → shape y z v → shape x z (u ++ v))
@@ -74,14 +78,14 @@ answered_written may to g h p q r s bodies a w empty = record {
 }
 
 -- or only a front of it
-pub answered_lost : {S : Type 0} (may : S → List ℕ → List ℕ → S → Type 0) (to : S → Type 0) (g h : Option (List ℕ)) (p q : List ℕ) (s : S) (bodies : List (List ℕ)) → AnsweredBy may Whole to g g p q s bodies → WhileTold g h (λ y z. (lost : List ℕ) × (z ++ lost ≡ y ++ q)) → AnsweredBy may Front to g h p [] s bodies
-answered_lost may to g h p q s bodies a w = record {
+pub answered_lost : {S : Type 0} (may : S → List ℕ → List ℕ → S → Type 0) (to : S → Type 0) (g h : Option (List ℕ)) (p q : List ℕ) (most : ℕ) (s : S) (bodies : List (List ℕ)) → length q ≤ most → AnsweredBy may Whole to g g p q s bodies → WhileTold g h (λ y z. (lost : List ℕ) × ((z ++ lost ≡ y ++ q) × (length lost ≤ length q))) → AnsweredBy may (Front most) to g h p [] s bodies
+answered_lost may to g h p q most s bodies few a w = record {
   answers = a.answers;
   state = a.state;
   each = a.each;
   stands = a.stands;
-  given = then g g h (λ y z. Whole (y ++ p) (z ++ q) (concat a.answers)) (λ y z. (lost : List ℕ) × (z ++ lost ≡ y ++ q)) (λ y z. Front (y ++ p) (z ++ []) (concat a.answers)) a.given w
-      (λ x y z m n. (n.0, ap (λ e. e ++ n.0) (append-nil z) ∙ (n.1 ∙ m)));
+  given = then g g h (λ y z. Whole (y ++ p) (z ++ q) (concat a.answers)) (λ y z. (lost : List ℕ) × ((z ++ lost ≡ y ++ q) × (length lost ≤ length q))) (λ y z. Front most (y ++ p) (z ++ []) (concat a.answers)) a.given w
+      (λ x y z m n. (n.0, (ap (λ e. e ++ n.0) (append-nil z) ∙ (n.1.0 ∙ m), omega (arith, n.1.1, few))));
 }
 
 -- a write of what was gathered, as its result says
@@ -89,6 +93,6 @@ pub written_ok : {S E : Type 0} (may : S → List ℕ → List ℕ → S → Typ
 written_ok may from to g h p q r bodies (Ok u) w empty a = λ s f. answered_written may to g h p q r s bodies (a s f) w empty
 written_ok may from to g h p q r bodies (Err e) w empty a = tt
 
-pub written_err : {S E : Type 0} (may : S → List ℕ → List ℕ → S → Type 0) (from to : S → Type 0) (g h : Option (List ℕ)) (p q : List ℕ) (bodies : List (List ℕ)) (result : Result Unit E) → WhileTold g h (λ y z. GivesAll y z result q) → ((s : S) → from s → AnsweredBy may Whole to g g p q s bodies) → OnErr result ((s : S) → from s → AnsweredBy may Front to g h p [] s bodies)
-written_err may from to g h p q bodies (Ok u) w a = tt
-written_err may from to g h p q bodies (Err e) w a = λ s f. answered_lost may to g h p q s bodies (a s f) w
+pub written_err : {S E : Type 0} (may : S → List ℕ → List ℕ → S → Type 0) (from to : S → Type 0) (g h : Option (List ℕ)) (p q : List ℕ) (most : ℕ) (bodies : List (List ℕ)) (result : Result Unit E) → length q ≤ most → WhileTold g h (λ y z. GivesAll y z result q) → ((s : S) → from s → AnsweredBy may Whole to g g p q s bodies) → OnErr result ((s : S) → from s → AnsweredBy may (Front most) to g h p [] s bodies)
+written_err may from to g h p q most bodies (Ok u) few w a = tt
+written_err may from to g h p q most bodies (Err e) few w a = λ s f. answered_lost may to g h p q most s bodies few (a s f) w

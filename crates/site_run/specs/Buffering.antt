@@ -1,10 +1,11 @@
 -- The buffers of a loop.
-use Rattle.std.specs.Prelude.{◌≡◌, ℕ, ◌≤◌, [], length}
-use Rattle.site_run.specs.declared.loops.Buffers.{Buffers}
+use Rattle.std.specs.Prelude.{◌≡◌, ℕ, ◌+◌, ◌≤◌, [], length}
+use Rattle.site_run.specs.declared.runs.Buffers.{Buffers}
 
--- no bytes are in use, and there is room for a longest answer
+-- no bytes are in use, and there is room for a longest answer, and a mebibyte more at most
 pub record IsFresh (b : Buffers) (most : ℕ) : Type 0 where
   pub piece : length b.piece.items ≡ 65536
   pub cutter : b.cutter ≡ []
   pub gathered : b.gathered.bytes ≡ []
   pub room : most ≤ b.gathered.room
+  pub bounded : b.gathered.room ≤ 1048576 + most

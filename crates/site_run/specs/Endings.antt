@@ -20,10 +20,14 @@ IsRunEnd NoMemory = Unit {0}
 IsRunEnd Spent = Unit {0}
 IsRunEnd _ = ⊥
 
--- only a sink that failed was given less than all
+-- only a sink that failed was given less than all, and lacks at most what was gathered for the write that failed
+abbrev pub shape_within : ℕ → Status → List ℕ → List ℕ → List ℕ → Type 0
+shape_within most WriteFault = Front most
+shape_within most _ = Whole
+
+-- the same of a machine's replies, of which less than a mebibyte and one frame are gathered
 abbrev pub shape_of : Status → List ℕ → List ℕ → List ℕ → Type 0
-shape_of WriteFault = Front
-shape_of _ = Whole
+shape_of = shape_within 2097156
 
 -- What was left at first, the bodies that were answered, what was taken and not answered, and what is left now. Each
 -- end says what it was that ended the run, and that no more bytes were taken than may be.

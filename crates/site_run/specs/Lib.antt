@@ -5,3 +5,4 @@ pub mod Responses
 pub mod Machines
 pub mod Nexts
 pub mod Endings
+pub mod Prompt

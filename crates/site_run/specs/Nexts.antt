@@ -1,7 +1,7 @@
 -- What stands behind the frames that were answered.
 use Rattle.std.specs.Prelude.{ℕ, List}
-use Rattle.site_run.specs.declared.held.Next.{Next}
-use Rattle.site_run.specs.declared.held.Next.TheVariants.{Part, Long}
+use Rattle.site_run.specs.declared.answers.Next.{Next}
+use Rattle.site_run.specs.declared.answers.Next.TheVariants.{Part, Long}
 use Rattle.frame_cut.specs.Frames.{IsPartial, IsLong}
 
 -- these bytes are what the answer says of them

@@ -1,5 +1,5 @@
 -- Bodies that were cut from bytes and answered, and what became of the answers.
-use Rattle.std.specs.Prelude.{◌≡◌, ℕ, List, [], ◌∷◌, ◌++◌, Option}
+use Rattle.std.specs.Prelude.{◌≡◌, ℕ, ◌≤◌, List, [], ◌∷◌, ◌++◌, length, Option}
 use Rattle.std.specs.List.{concat}
 use Rattle.tardis_io.specs.Told.{WhileTold}
 use Rattle.frame_cut.specs.Frames.{Cuts}
@@ -8,9 +8,9 @@ use Rattle.frame_cut.specs.Frames.{Cuts}
 abbrev pub Whole : List ℕ → List ℕ → List ℕ → Type 0
 Whole old new bytes = new ≡ old ++ bytes
 
--- or a front of them
-abbrev pub Front : List ℕ → List ℕ → List ℕ → Type 0
-Front old new bytes = (lost : List ℕ) × (new ++ lost ≡ old ++ bytes)
+-- or a front of them, that lacks at most so many
+abbrev pub Front : ℕ → List ℕ → List ℕ → List ℕ → Type 0
+Front most old new bytes = (lost : List ℕ) × ((new ++ lost ≡ old ++ bytes) × (length lost ≤ most))
 
 -- from s the bodies are answered in turn, by one answer each, and lead to t
 abbrev pub InTurn : {S : Type 0} → (S → List ℕ → List ℕ → S → Type 0) → S → List (List ℕ) → List (List ℕ) → S → Type 0

@@ -60,6 +60,8 @@ impl Gathered {
     pub fn write_to<O: Sink>(&mut self, output: &mut O) -> Result<(), WriteFault>
         ensures bytes { WhileTold (O.given output.old) (O.given output.new) (λ before after. GivesAll before after result self.old.bytes) }
         ensures cause { HasCause (O.faults output.old) (O.faults output.new) result }
+        ensures kept { O.kept output.new ≡ O.kept output.old }
+        ensures within { length self.old.bytes ≤ self.old.room }
         ensures none { self.new.bytes ≡ [] }
         ensures room { self.new.room ≡ self.old.room }
     {

@@ -126,3 +126,34 @@ fn the_replies_to_one_piece_are_given_in_one_write(rt: HostRuntime) -> Result<()
     assert!(rt; runs_to(rt.alloc(), TWO, &one_write, Status::Ok, REPLIES)?);
     Ok(())
 }
+
+const TWO_ALIKE: &[u8; 16] = b"\x00\x00\x00\x04\x00\x01ab\x00\x00\x00\x04\x00\x02cd";
+
+#[test]
+fn a_reply_is_given_before_the_next_take(rt: HostRuntime) -> Result<(), Fail> {
+    let second_take_fails = Devices {
+        take: 8,
+        failing_takes: &[2],
+        give: 1_000,
+        failing_gives: &WELL,
+    };
+    let read = Status::ReadFault;
+    assert!(rt; runs_to(rt.alloc(), TWO_ALIKE, &second_take_fails, read, FIRST_REPLY)?);
+    let second_give_fails = Devices {
+        take: 8,
+        failing_takes: &WELL,
+        give: 1_000,
+        failing_gives: &[2],
+    };
+    let write = Status::WriteFault;
+    assert!(rt;
+        runs_to(
+            rt.alloc(),
+            TWO_ALIKE,
+            &second_give_fails,
+            write,
+            FIRST_REPLY
+        )?
+    );
+    Ok(())
+}

@@ -32,9 +32,14 @@ given_more before after new bytes done n was now =
     now' ∙ (append_assoc before (take done bytes) (take n (drop done bytes)) ∙ ap (λ t. before ++ t) (sym joined))
 
 -- what was given before a fault
-pub given_front : (before after bytes : List ℕ) (done : ℕ) → after ≡ before ++ take done bytes → (lost : List ℕ) × (after ++ lost ≡ before ++ bytes)
-given_front before after bytes done was =
-    (drop done bytes, subst (λ a. a ++ drop done bytes ≡ before ++ bytes) (sym was) (append_assoc before (take done bytes) (drop done bytes) ∙ ap (λ t. before ++ t) (take-append-drop done bytes)))
+pub given_front : (before after bytes : List ℕ) (done : ℕ) → after ≡ before ++ take done bytes → (lost : List ℕ) × ((after ++ lost ≡ before ++ bytes) × (length lost ≤ length bytes))
+given_front before after bytes done was = (
+  drop done bytes,
+  (
+    subst (λ a. a ++ drop done bytes ≡ before ++ bytes) (sym was) (append_assoc before (take done bytes) (drop done bytes) ∙ ap (λ t. before ++ t) (take-append-drop done bytes)),
+    omega (arith, length-drop done bytes),
+  ),
+)
 
 -- the same through what a read of the bytes lends
 pub moved_under : (bytes lent : List ℕ) (at : ℕ) (buf after : List ℕ) (n most : ℕ) → lent ≡ bytes → n ≡ min most (min (length buf) (length (take (length lent - at) (drop at lent)))) → after ≡ take n (take (length lent - at) (drop at lent)) ++ drop n buf → 0 < most → 0 < length buf → (drop at bytes ≡ take n after ++ drop (at + n) bytes) × (n ≡ 0 → drop at bytes ≡ [])
@@ -42,7 +47,7 @@ moved_under bytes lent at buf after n most is count front some room =
     subst (λ b. (drop at b ≡ take n after ++ drop (at + n) b) × (n ≡ 0 → drop at b ≡ [])) is (moved_at lent at buf after n most count front some room)
 
 -- what was given when a give fails
-pub given_lost : (before after new bytes : List ℕ) (done : ℕ) → after ≡ before ++ take done bytes → new ≡ after → (lost : List ℕ) × (new ++ lost ≡ before ++ bytes)
+pub given_lost : (before after new bytes : List ℕ) (done : ℕ) → after ≡ before ++ take done bytes → new ≡ after → (lost : List ℕ) × ((new ++ lost ≡ before ++ bytes) × (length lost ≤ length bytes))
 given_lost before after new bytes done was now = given_front before new bytes done (now ∙ was)
 
 -- a front of the rest ends within the whole

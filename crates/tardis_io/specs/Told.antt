@@ -1,5 +1,5 @@
 -- Bytes that a source or a sink may tell.
-use Rattle.std.specs.Prelude.{◌≡◌, ℕ, List, [], ◌++◌, take, Option, Some, None, Result, Ok, Err}
+use Rattle.std.specs.Prelude.{◌≡◌, ℕ, ◌≤◌, List, [], ◌++◌, length, take, Option, Some, None, Result, Ok, Err}
 use Rattle.tardis_io.specs.declared.faults.Failed.{Failed}
 
 -- where bytes were told before, they are told after, and P holds of both
@@ -22,4 +22,4 @@ Gives before after (Err e) bytes = after ≡ before
 -- what giving all of some bytes does: all were given, or at a fault a front of them
 abbrev pub GivesAll : {E : Type 0} → List ℕ → List ℕ → Result Unit E → List ℕ → Type 0
 GivesAll before after (Ok u) bytes = after ≡ before ++ bytes
-GivesAll before after (Err e) bytes = (lost : List ℕ) × (after ++ lost ≡ before ++ bytes)
+GivesAll before after (Err e) bytes = (lost : List ℕ) × ((after ++ lost ≡ before ++ bytes) × (length lost ≤ length bytes))

@@ -26,6 +26,10 @@ impl Sink for CountSink {
 
     ghost faults = { λ _. 0 };
 
+    ghost Kept = { Unit {0} };
+
+    ghost kept = { λ _. tt };
+
     fn give(&mut self, bytes: &[u8]) -> Result<usize, Failed>
         requires { 0 < length bytes.now }
         ensures bound { IfOk result (λ n. (0 < n) × (n ≤ length bytes.now)) }

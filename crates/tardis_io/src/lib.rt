@@ -3,6 +3,7 @@
 
 mod adapters;
 mod counting;
+mod duplexes;
 mod faults;
 mod moves;
 mod plans;
@@ -17,6 +18,7 @@ mod writes;
 
 pub use adapters::{ReaderSource, StdIn, StdOut, WriterSink};
 pub use counting::CountSink;
+pub use duplexes::{Duplex, Pair};
 pub use faults::{Failed, WriteFault};
 pub use plans::CallPlan;
 pub use sinks::MemorySink;

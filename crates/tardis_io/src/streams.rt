@@ -1,6 +1,6 @@
 //! What a run reads from and writes to.
 
-ghost use Rattle.std.specs.Prelude.{ℕ, ◌<◌, ◌≤◌, List, Option, length, IfOk};
+ghost use Rattle.std.specs.Prelude.{◌≡◌, ℕ, ◌<◌, ◌≤◌, List, Option, length, IfOk};
 ghost use Rattle.tardis_io.specs.Told.{WhileTold, Takes, Gives};
 ghost use Rattle.tardis_io.specs.Faults.{HasCause};
 
@@ -31,10 +31,16 @@ pub trait Sink {
     // how many faults were counted
     ghost faults: { Self → ℕ };
 
+    // what no give changes
+    ghost Kept: { Type 0 };
+
+    ghost kept: { Self → Kept };
+
     /// Gives a front of `bytes`, at least one, and answers how many. A failed give gives nothing.
     fn give(&mut self, bytes: &[u8]) -> Result<usize, Failed>
         requires { 0 < length bytes.now }
         ensures bound { IfOk result (λ n. (0 < n) × (n ≤ length bytes.now)) }
         ensures bytes { WhileTold (given self.old) (given self.new) (λ before after. Gives before after result bytes.now) }
-        ensures cause { HasCause (faults self.old) (faults self.new) result };
+        ensures cause { HasCause (faults self.old) (faults self.new) result }
+        ensures kept { kept self.new ≡ kept self.old };
 }

@@ -1,9 +1,10 @@
 ghost use Rattle.std.specs.Prelude.{◌≤◌, IfOk};
 
 use crate::{
-    CountSink, Failed, MemorySink, MemorySource, ReaderSource, Sink, Source, Status, StdIn, StdOut,
+    CountSink, Duplex, Failed, MemorySink, MemorySource, Pair, ReaderSource, Sink, Source, Status, StdIn, StdOut,
     SteadySource, WriteFault, WriterSink, write_all,
 };
+use std::alloc::Global;
 use std::io;
 use std::io::{Error, ErrorKind, Read, Write};
 use std::test::Fail;
@@ -182,4 +183,110 @@ fn a_writer_counts_each_error_and_each_write_of_nothing(rt: HostRuntime) {
     let mut output = StdOut::new(rt.stdout());
     assert!(rt; output.give(b"\n") == Ok(1));
     assert_eq!(rt; output.faults(), 0);
+}
+
+/// More bytes than two pieces of a run have, in no pattern that a piece repeats.
+fn many_bytes(alloc: Global) -> Result<Vec<u8>, Fail> {
+    let mut bytes = Vec::new(alloc);
+    for number in 0..40_000u32 {
+        bytes.extend_from_slice(&number.wrapping_mul(2_654_435_761).to_be_bytes())?;
+    }
+    Ok(bytes)
+}
+
+/// A reader of these bytes, and a writer behind those, of which each call moves at most so many.
+#[derive(Drop)]
+struct Slow<'a> {
+    rest: &'a [u8],
+    seen: &'a mut Vec<u8>,
+    most: usize,
+}
+
+impl Read for Slow<'_> {
+    fn read(&mut self, buf: &mut [u8]) -> io::Result<usize> {
+        let count = self.most.min(buf.len()).min(self.rest.len());
+        buf[..count].copy_from_slice(&self.rest[..count]);
+        self.rest = &self.rest[count..];
+        Ok(count)
+    }
+}
+
+impl Write for Slow<'_> {
+    fn write(&mut self, buf: &[u8]) -> io::Result<usize> {
+        let count = self.most.min(buf.len());
+        match self.seen.extend_from_slice(&buf[..count]) {
+            Ok(()) => Ok(count),
+            Err(_) => Err(Error::from(ErrorKind::OutOfMemory)),
+        }
+    }
+
+    fn flush(&mut self) -> io::Result<()> {
+        Ok(())
+    }
+}
+
+/// How many bytes a call of a slow device moves at most.
+const PACES: [usize; 4] = [200_000, 65_537, 4_097, 1_000];
+
+#[test]
+fn a_reader_loses_no_byte(rt: HostRuntime) -> Result<(), Fail> {
+    let bytes = many_bytes(rt.alloc())?;
+    let mut buf = vec![in rt.alloc(); 0; 65_536]?;
+    for most in PACES {
+        let mut unused = Vec::new(rt.alloc());
+        let mut source = ReaderSource::new(Slow {
+            rest: bytes.as_slice(),
+            seen: &mut unused,
+            most,
+        });
+        let mut taken = Vec::new(rt.alloc());
+        for _ in 0..bytes.len() {
+            match source.take(buf.as_mut_slice()) {
+                Ok(0) | Err(Failed) => break,
+                Ok(count) => taken.extend_from_slice(&buf[..count])?,
+            }
+        }
+        assert!(rt; taken == bytes, "takes of {most}");
+    }
+    Ok(())
+}
+
+#[test]
+fn a_writer_loses_no_byte(rt: HostRuntime) -> Result<(), Fail> {
+    let bytes = many_bytes(rt.alloc())?;
+    for most in PACES {
+        let mut seen = Vec::new(rt.alloc());
+        let mut sink = WriterSink::new(Slow {
+            rest: &[],
+            seen: &mut seen,
+            most,
+        });
+        assert!(rt; write_all(&mut sink, bytes.as_slice()) == Ok(()));
+        assert!(rt; seen == bytes, "gives of {most}");
+    }
+    Ok(())
+}
+
+#[test]
+fn a_pair_takes_from_its_source_and_gives_to_its_sink(rt: HostRuntime) -> Result<(), Fail> {
+    let mut input = SteadySource::new(rt.alloc(), b"abc")?;
+    let mut output = MemorySink::new(rt.alloc(), 5, 5, &[])?;
+    let mut pair = Pair {
+        input: &mut input,
+        output: &mut output,
+    };
+    let mut buf = [0u8; 2];
+    assert!(rt; pair.take(&mut buf) == Ok(2));
+    assert!(rt; pair.give(&buf) == Ok(2));
+    assert!(rt; output.bytes() == b"ab".as_slice());
+    Ok(())
+}
+
+#[test]
+fn faults_have_texts(rt: HostRuntime) -> Result<(), Fail> {
+    let failed = format!(in rt.alloc(); "{}", Failed)?;
+    assert_eq!(rt; failed.as_str(), "a read or a write failed");
+    let write = format!(in rt.alloc(); "{}", WriteFault)?;
+    assert_eq!(rt; write.as_str(), "writing failed before all bytes were written");
+    Ok(())
 }

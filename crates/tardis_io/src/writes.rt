@@ -11,6 +11,7 @@ use crate::streams::Sink;
 pub fn write_all<O: Sink>(output: &mut O, bytes: &[u8]) -> Result<(), WriteFault>
     ensures bytes { WhileTold (O.given output.old) (O.given output.new) (λ before after. GivesAll before after result bytes.now) }
     ensures cause { HasCause (O.faults output.old) (O.faults output.new) result }
+    ensures kept { O.kept output.new ≡ O.kept output.old }
 {
     let mut done = 0;
     while done < bytes.len() {

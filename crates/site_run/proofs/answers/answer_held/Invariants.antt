@@ -1,6 +1,6 @@
 use Rattle.std.proofs.Common.{◌≡◌, ◌+◌, ◌≤◌, length}
 use Rattle.site_run.specs.Responses.{Serves, Whole}
-use Rattle.site_run.proofs.held.answer_held.Given as goal
+use Rattle.site_run.proofs.answers.answer_held.Given as goal
 
 abbrev pub invariant-loop-body : goal.invariant-loop-body
 invariant-loop-body g l = record {
@@ -8,6 +8,7 @@ invariant-loop-body g l = record {
   fits : length l.gathered.bytes + g.R.Responder.MOST ≤ l.gathered.room;
   room : l.gathered.room ≡ l.fn.gathered.room;
   later : g.O.Sink.faults l.fn.output ≤ g.O.Sink.faults l.output;
+  kept : g.O.Sink.kept l.output ≡ g.O.Sink.kept l.fn.output;
   opening : g.R.Responder.opening l.subject ≡ g.R.Responder.opening l.fn.subject;
 }
 
