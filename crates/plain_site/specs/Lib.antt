@@ -24,3 +24,5 @@ pub mod RowsOfChoices
 pub mod RowsOfLandings
 pub mod RowsOfOperations
 pub mod RowsOfWideMerges
+pub mod ClientRuns
+pub mod ClientLaws
