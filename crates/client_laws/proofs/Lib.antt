@@ -1,3 +1,8 @@
 -- Why clients can rely on the laws.
 pub mod Refusals
 pub mod Dags
+pub mod Records
+pub mod Tellings
+pub mod Effects
+pub mod EffectsOfTxns
+pub mod EffectsOfSites
