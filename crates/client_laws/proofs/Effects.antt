@@ -22,7 +22,7 @@ pub record Does (site : Site) (n : ℕ) (q : Request) (answer : Answer) : Type 0
   pub grows : (answer.0.dag ≡ site.dag) ⊎ ((r : Record) × (answer.0.dag ≡ r ∷ site.dag))
   pub other_txns : (m : ℕ) → (m ≡ n → ⊥) → entry_of m answer.0.txns ≡ entry_of m site.txns
   pub other_sessions : (m : ℕ) → (m ≡ n → ⊥) → entry_of m answer.0.sessions ≡ entry_of m site.sessions
-  pub txn : (seen : Option Told) → Tells site.dag (entry_of n site.txns) seen → Tells site.dag (entry_of n answer.0.txns) (retold q answer.1 seen)
+  pub txn : (seen : Option Told) → Tells answer.0.dag (entry_of n site.txns) seen → Tells answer.0.dag (entry_of n answer.0.txns) (retold q answer.1 seen)
   pub session : (x : StateId) → HasLast x (entry_of n site.sessions) → HasLast (newest_commit q answer.1 x) (entry_of n answer.0.sessions)
 
 -- ===== Replies that tell nothing
@@ -60,7 +60,7 @@ same-books site n q next reply grows txns sessions tells commits = record {
   grows = grows;
   other_txns = λ m differ. ap (entry_of m) txns;
   other_sessions = λ m differ. ap (entry_of m) sessions;
-  txn = λ seen h. subst (λ ts. Tells site.dag (entry_of n ts) (retold q reply seen)) (sym txns) (subst (Tells site.dag (entry_of n site.txns)) (sym (tells seen)) h);
+  txn = λ seen h. subst (λ ts. Tells next.dag (entry_of n ts) (retold q reply seen)) (sym txns) (subst (Tells next.dag (entry_of n site.txns)) (sym (tells seen)) h);
   session = λ x h. subst (λ ss. HasLast (newest_commit q reply x) (entry_of n ss)) (sym sessions) (subst (λ y. HasLast y (entry_of n site.sessions)) (sym (commits x)) h);
 }
 

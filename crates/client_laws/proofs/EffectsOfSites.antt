@@ -19,7 +19,7 @@ use Rattle.plain_dag.specs.Paths.{fork_path}
 use Rattle.plain_dag.specs.Writers.{read}
 use Rattle.plain_dag.specs.Begin.{begin_state}
 use Rattle.plain_dag.specs.Entries.{entry_of, with_entry, changed, without_entry}
-use Rattle.plain_dag.specs.Floors.{Session, opening_session, with_ceiling, holding_session, automatic_floor}
+use Rattle.plain_dag.specs.Floors.{Session, with_floor, opening_session, with_ceiling, holding_session, automatic_floor}
 use Rattle.wire_talk.specs.Codes.{code_of}
 use Rattle.plain_site.specs.Site.{Site, Txn, Single, Merge, own_floor}
 use Rattle.plain_site.specs.Built.{Built, is_built}
@@ -106,10 +106,87 @@ module _ (site : Site) (n : ℕ) where
       unless-any (Does site n (Deliver (State r))) site (judgements site r ++ growth_refusals built site r) (with_record r site, Applied) (tells-nothing (State r))
       (same-books site n (Deliver (State r)) (with_record r site) Applied (inr (r, refl)) refl refl (λ seen. refl) (λ x. refl))
   deliver-does built (Promise c) =
-      let next = deliver_consent site c in
-      search (unless-any, same-books, tells-nothing)
+      let next = record site { floors = with_floor site.floors c.site (record { state = c.floor; number = c.number; stated = c.count }) } in
+      unless-any (Does site n (Deliver (Promise c))) site (consent_judgements site c) (next, Applied) (tells-nothing (Promise c))
+      (same-books site n (Deliver (Promise c)) next Applied (inl refl) refl refl (λ seen. refl) (λ x. refl))
 
   -- ===== What only shows
 
   shows : (q : Request) (reply : Reply) → ((r : Reply) (seen : Option Told) → retold q r seen ≡ seen) → ((r : Reply) (x : StateId) → newest_commit q r x ≡ x) → Does site n q (site, reply)
   shows q reply tells commits = does-nothing site n q reply (tells reply) (commits reply)
+
+  fork-points-does : (t : Txn) → Does site n ForkPoints (fork_points_of site t)
+  fork-points-does (Single t) = does-refused site n ForkPoints WrongMode
+  fork-points-does (Merge t) = shows ForkPoints (fork_points_of site (Merge t)).1 (λ r seen. refl) (λ r x. refl)
+
+  conflicts-does : (t : Txn) (after : List ℕ) → Does site n (Conflicts after) (conflicts_of site t after)
+  conflicts-does (Single t) after = does-refused site n (Conflicts after) WrongMode
+  conflicts-does (Merge t) after = shows (Conflicts after) (conflicts_of site (Merge t) after).1 (λ r seen. refl) (λ r x. refl)
+
+  get-for-does : (t : Txn) (k : List ℕ) (x : StateId) → Does site n (GetFor k x) (get_for site t k x)
+  get-for-does (Single t) k x = does-refused site n (GetFor k x) WrongMode
+  get-for-does (Merge t) k x =
+      let reply = found (read site.dag k x) in
+      unless-any (Does site n (GetFor k x)) site (refuse (not (is_among x t.states)) (NotRead x) ∷ []) (site, reply)
+      (λ r. shows (GetFor k x) r (λ q seen. refl) (λ q y. refl)) (shows (GetFor k x) reply (λ q seen. refl) (λ q y. refl))
+
+  show-does : (x : StateId) → Does site n (Show x) (show site x)
+  show-does x =
+      let reply = Shown (arrival site.dag x) (children site.dag x) (fork_path site.dag site.collected x) in
+      unless-any (Does site n (Show x)) site (refuse (not (is_known site.dag x)) (Unknown x) ∷ refuse (is_among x site.collected) (Collected x) ∷ []) (site, reply)
+      (λ r. shows (Show x) r (λ q seen. refl) (λ q y. refl)) (shows (Show x) reply (λ q seen. refl) (λ q y. refl))
+
+  pull-does : (counts : List ℕ) → Does site n (Pull counts) (pull site counts)
+  pull-does counts =
+      let reply = BatchIs (batch_for site counts) in
+      unless-any (Does site n (Pull counts)) site (refuse (not (length counts == site.limits.sites)) (BadSite (length counts)) ∷ []) (site, reply)
+      (λ r. shows (Pull counts) r (λ q seen. refl) (λ q y. refl)) (shows (Pull counts) reply (λ q seen. refl) (λ q y. refl))
+
+  raise-does : (x : StateId) → Does site n (Raise x) (raise site x)
+  raise-does x =
+      let floor = (own_floor site).state in
+      raise_to-does (Raise x) x
+      (refuse (not (is_known site.dag x)) (Unknown x)
+      ∷ refuse (not (is_above site.dag floor x)) (FloorBack floor)
+      ∷ refuse_found (λ (s : ℕ × Session). Held s.0 s.1.ceiling) (holding_session site.dag site.sessions x)
+      ∷ []) (λ r seen. refl) (λ r y. refl)
+
+  -- ===== Each request
+
+  served-does : (built : Built) (q : Request) → Does site n q (served built site n q)
+  served-does built (Open follow) = open-does follow
+  served-does built (Begin b) = by-no-txn (refuses-does site n (Begin b)) n (λ s. begin site n s b) (λ s e. begin-does site n b s.ceiling (begin_state site.dag s.last b))
+  served-does built (Get k) = by-txn (refuses-does site n (Get k)) n (λ s t. get site n t k) (λ s t e d. get-does site n t k d)
+  served-does built (Put k v) =
+      by-txn (refuses-does site n (Put k v)) n (λ s t. set_key site n t k (Value v))
+      (λ s t e d. set-does site n (Put k v) t k (Value v) (λ seen. refl) (λ x. refl) d)
+  served-does built (Delete k) =
+      by-txn (refuses-does site n (Delete k)) n (λ s t. set_key site n t k Deletion)
+      (λ s t e d. set-does site n (Delete k) t k Deletion (λ seen. refl) (λ x. refl) d)
+  served-does built (Commit flags k) =
+      by-txn (refuses-does site n (Commit flags k)) n (λ s t. commit built site n t flags k) (λ s t e d. commit-does site n built flags k t)
+  served-does built Abort = by-txn (refuses-does site n Abort) n (λ s t. abort site n) (λ s t e d. abort-does site n)
+  served-does built (BeginMerge of) =
+      by-no-txn (refuses-does site n (BeginMerge of)) n (λ s. begin_merge site n s of) (λ s e. merge-does site n of s.ceiling (states_to_merge site of))
+  served-does built ForkPoints = by-txn (refuses-does site n ForkPoints) n (λ s t. fork_points_of site t) (λ s t e d. fork-points-does t)
+  served-does built (Conflicts after) =
+      by-txn (refuses-does site n (Conflicts after)) n (λ s t. conflicts_of site t after) (λ s t e d. conflicts-does t after)
+  served-does built (GetFor k x) = by-txn (refuses-does site n (GetFor k x)) n (λ s t. get_for site t k x) (λ s t e d. get-for-does t k x)
+  served-does built (Ceiling x) = by-no-txn (refuses-does site n (Ceiling x)) n (λ s. set_ceiling site n s x) (λ s e. ceiling-does s x)
+  served-does built (Raise x) = raise-does x
+  served-does built RaiseAuto =
+      raise_to-does RaiseAuto (automatic_floor site.dag (own_floor site).state site.sessions) [] (λ r seen. refl) (λ r y. refl)
+  served-does built (Tidy count) =
+      let next = tidy site count in
+      same-books site n (Tidy count) next.0 next.1 (inl refl) refl refl (λ seen. refl) (λ x. refl)
+  served-does built Stat = shows Stat (served built site n Stat).1 (λ r seen. refl) (λ r x. refl)
+  served-does built (Show x) = show-does x
+  served-does built Leaves = shows Leaves (served built site n Leaves).1 (λ r seen. refl) (λ r x. refl)
+  served-does built (Pull counts) = pull-does counts
+  served-does built (Deliver item) = deliver-does built item
+  served-does built Close = by-session (refuses-does site n Close) n (λ s. close_session site n) (λ s e. close-does)
+
+  pub step-does : (built : Built) (q : Request) → Does site n q (step built site n q)
+  step-does built q =
+      let unbuilt = not (is_built built q) in
+      unless-does site n q (refuse unbuilt (Unsupported (code_of q)) ∷ []) (served built site n q) (refuse-only unbuilt (Unsupported (code_of q)) [] tt) (served-does built q)

@@ -193,8 +193,8 @@ module _ (site : Site) (n : ℕ) where
   -- ===== Ends
 
   -- the actor's transaction is gone
-  gone-is-told : Tells site.dag (entry_of n (without_entry n site.txns)) None
-  gone-is-told = subst (λ (o : Option Txn). Tells site.dag o None) (sym (entry-without_entry n site.txns)) tt
+  gone-is-told : (rs : List Record) → Tells rs (entry_of n (without_entry n site.txns)) None
+  gone-is-told rs = subst (λ (o : Option Txn). Tells rs o None) (sym (entry-without_entry n site.txns)) tt
 
   ended-does : (q : Request) (reply : Reply) → ((seen : Option Told) → retold q reply seen ≡ None) → ((x : StateId) → newest_commit q reply x ≡ x) →
       Does site n q (without_txn_of n site, reply)
@@ -202,7 +202,7 @@ module _ (site : Site) (n : ℕ) where
     grows = inl refl;
     other_txns = λ m differ. entry-without_entry_other n m site.txns differ;
     other_sessions = λ m differ. refl;
-    txn = λ seen h. subst (Tells site.dag (entry_of n (without_entry n site.txns))) (sym (tells seen)) gone-is-told;
+    txn = λ seen h. subst (Tells site.dag (entry_of n (without_entry n site.txns))) (sym (tells seen)) (gone-is-told site.dag);
     session = λ x h. subst (λ y. HasLast y (entry_of n site.sessions)) (sym (commits x)) h;
   }
 
@@ -221,7 +221,7 @@ module _ (site : Site) (n : ℕ) where
           grows = inr (r, refl);
           other_txns = λ m differ. entry-without_entry_other n m site.txns differ;
           other_sessions = λ m differ. entry-changed_other n m after site.sessions differ;
-          txn = λ seen h. gone-is-told;
+          txn = λ seen h. gone-is-told (r ∷ site.dag);
           session = λ x h.
               subst (HasLast r.id) (sym (entry-changed n after site.sessions)) (last-is-new (r ∷ site.dag) r.id (entry_of n site.sessions));
         }

@@ -6,3 +6,4 @@ pub mod Tellings
 pub mod Effects
 pub mod EffectsOfTxns
 pub mod EffectsOfSites
+pub mod Held
