@@ -7,3 +7,5 @@ pub mod Effects
 pub mod EffectsOfTxns
 pub mod EffectsOfSites
 pub mod Held
+pub mod Commits
+pub mod Laws
