@@ -95,8 +95,6 @@ module _ (built : Built) (site : Site) (n : ℕ) (flags : EndFlags) (k : ℕ) wh
   single-tells : (t : SingleTxn) → entry_of n site.txns ≡ Some (Single t) → TellsCommit site n flags (commit_single built site n t flags k)
   single-tells t there = go t.writes
     where
-      x : StateId
-      x = landing site.dag (guarded flags t.reads (keys_of t.writes)) t.state
       go : (ws : List KeyWrite) → TellsCommit site n flags (elim ws as (λ v. Answer) [ [] ↦ (without_txn_of n site, Ended t.state) | w ∷ vs ↦ commit_writes built site n t flags k ])
       go [] = record { told = λ y parents e. absurd (cc) }
       go (w ∷ ws) =

@@ -1,6 +1,7 @@
 -- The laws of reads and commits.
 use Rattle.std.proofs.Common.{◌≡◌, ℕ, Bool, true, false, List, [], ◌∷◌, ◌++◌, Option, Some, None, IsTrue, IsFalse, inl, inr, refl, sym, ap, subst, ◌∙◌, find}
-use Rattle.std.specs.Prelude.{◌&&◌, ◌||◌, bytes_eq, unwrap_or}
+use Rattle.std.specs.Prelude.{◌&&◌, ◌||◌, ◌==◌, bytes_eq, unwrap_or}
+use Rattle.std.specs.Int.RustNames.{bit_and}
 use Rattle.std.specs.List.{list_all}
 use Rattle.std.proofs.lemmas.Bool.{and_parts, cond_both}
 use Rattle.std.proofs.lemmas.Option.{none-some, same_Some}
@@ -84,10 +85,7 @@ module _ (built : Built) where
 
   module _ (start : Site) (older : List Line) (n : ℕ) (flags : EndFlags) (k : ℕ) (x : StateId) (parents : List StateId)
       (run : IsRun (step built) start (n asks Commit flags k => Committed x parents ∷ older)) where
-    site : Site
-    site = site_after (step built) start older
-
-    before : Holds built (site_after (step built) start older) older
+    pub before : Holds built (site_after (step built) start older) older
     before = run-holds built start older (run-before built start (n asks Commit flags k => Committed x parents) older run)
 
     pub is-commit : IsCommit (site_after (step built) start older) n flags (step built (site_after (step built) start older) n (Commit flags k)).0.dag x parents
@@ -99,3 +97,79 @@ module _ (built : Built) where
     is-told =
         let s = site_after (step built) start older in
         tells-seen s.dag (entry_of n s.txns) (told n older) is-commit.txn is-commit.open_there (before.txn n)
+
+  -- ===== SER
+
+  -- no end constraint is set where their bits are 0
+  not-ser : {P : Type 0} (flags : EndFlags) → flags.0 ≡ 0 → IsTrue (is_ser flags) → P
+  not-ser flags e ser = let none : IsTrue (bit_and 0 1 == 1) = subst (λ bits. IsTrue (bit_and bits 1 == 1)) e ser in absurd (cc)
+
+  not-si : {P : Type 0} (flags : EndFlags) → flags.0 ≡ 0 → IsTrue (is_si flags) → P
+  not-si flags e si = let none : IsTrue (bit_and 0 2 == 2) = subst (λ bits. IsTrue (bit_and bits 2 == 2)) e si in absurd (cc)
+
+  -- what was read at the read state is read at the landing
+  single-holds : (rs : List Record) → IsDag rs → (flags : EndFlags) (t : SingleTxn) (u : Told) → IsTrue (is_known rs t.state) → IsTrue (is_ser flags) → IsTold rs (Single t) u →
+      ReadsShow (λ key. read rs key (landing rs (guarded flags t.reads (keys_of t.writes)) t.state)) u.reads
+  single-holds rs dag flags t u known ser h =
+      let c = true-commit rs flags t.reads (keys_of t.writes) t.state dag known in
+      shows-kept-alike t.reads (value_over rs (t.state ∷ [])) (λ key. read rs key (landing rs (guarded flags t.reads (keys_of t.writes)) t.state)) u.reads
+      (λ key kept. value-over-one rs t.state key ∙ sym (c.same_reads ser key kept)) h.kept h.shown
+
+  ser-holds : (rs : List Record) → IsDag rs → (flags : EndFlags) (t : Txn) (parents : List StateId) (u : Told) → IsTrue (list_all (is_known rs) (read_states t)) →
+      IsTrue (is_ser flags) → IsPlaced rs flags t parents → IsTold rs t u → (p : StateId) × (parents ≡ p ∷ []) × ReadsShow (λ key. read rs key p) u.reads
+  ser-holds rs dag flags (Single t) parents u known ser placed h = (
+    landing rs (guarded flags t.reads (keys_of t.writes)) t.state,
+    placed,
+    single-holds rs dag flags t u (and_parts (is_known rs t.state) true known).0 ser h,
+  )
+  ser-holds rs dag flags (Merge t) parents u known ser placed h = not-ser flags placed.1 ser
+
+  pub serializable-reads-hold : SerializableReadsHold (step built)
+  serializable-reads-hold start older n flags k x parents run ser =
+      let c = is-commit start older n flags k x parents run in
+      let u = is-told start older n flags k x parents run in
+      let sound = (before start older n flags k x parents run).sound in
+      let rs = history (step built) start older in
+      let p = ser-holds rs sound.dag flags c.txn parents u.0 (sound.each_txn n c.txn c.open_there).2.known ser c.placed u.2 in
+      (u.0, p.0, u.1, p.1, p.2)
+
+  same-parent : (p q : StateId) → ◌≡◌ {A = List StateId} (p ∷ []) (q ∷ []) → q ≡ p
+  same-parent p q e = cc
+
+  pub branches-are-serial : BranchesAreSerial (step built)
+  branches-are-serial start older n flags k x p branch run ser is_branch =
+      let h = serializable-reads-hold start older n flags k x (p ∷ []) run ser in
+      let rs = history (step built) start older in
+      let dag = (before start older n flags k x (p ∷ []) run).sound.dag in (
+        h.0,
+        h.2,
+        shows-alike (λ key. read rs key h.1) (one_after_another branch) h.0.reads
+            (λ key. ap (read rs key) (same-parent p h.1 h.3) ∙ branch-is-read rs dag key branch p is_branch) h.4,
+      )
+
+  -- ===== SI
+
+  -- what writes one of these keys and is at or above p is at or above s
+  abbrev NothingUnseen : List Record → List KeyWrite → StateId → StateId → Type 0
+  NothingUnseen rs writes s p = (key : List ℕ) (w : StateId) → IsTrue (has_key key writes) → IsTrue (is_writer rs key p w) → IsTrue (is_above rs w s)
+
+  si-holds : (rs : List Record) → IsDag rs → (flags : EndFlags) (t : Txn) (parents : List StateId) (u : Told) → IsTrue (list_all (is_known rs) (read_states t)) →
+      IsTrue (is_si flags) → IsPlaced rs flags t parents → IsTold rs t u → (s : StateId) × (p : StateId) × (u.states ≡ s ∷ []) × (parents ≡ p ∷ []) × NothingUnseen rs u.writes s p
+  si-holds rs dag flags (Single t) parents u known si placed h =
+      let c = true-commit rs flags t.reads (keys_of t.writes) t.state dag (and_parts (is_known rs t.state) true known).0 in (
+        t.state,
+        landing rs (guarded flags t.reads (keys_of t.writes)) t.state,
+        h.states,
+        placed,
+        λ key w has writer. c.no_writes si key w (has-key-among key t.writes ∙ (ap (has_key key) (sym h.writes) ∙ has)) writer,
+      )
+  si-holds rs dag flags (Merge t) parents u known si placed h = not-si flags placed.1 si
+
+  pub snapshots-overwrite-nothing-unseen : SnapshotsOverwriteNothingUnseen (step built)
+  snapshots-overwrite-nothing-unseen start older n flags k x parents run si =
+      let c = is-commit start older n flags k x parents run in
+      let u = is-told start older n flags k x parents run in
+      let sound = (before start older n flags k x parents run).sound in
+      let rs = history (step built) start older in
+      let p = si-holds rs sound.dag flags c.txn parents u.0 (sound.each_txn n c.txn c.open_there).2.known si c.placed u.2 in
+      (u.0, p.0, p.1, u.1, p.2, p.3, p.4)

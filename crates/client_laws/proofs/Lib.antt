@@ -9,3 +9,4 @@ pub mod EffectsOfSites
 pub mod Held
 pub mod Commits
 pub mod Laws
+pub mod Kept
