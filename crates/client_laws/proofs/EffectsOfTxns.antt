@@ -40,7 +40,7 @@ use Rattle.plain_site.proofs.SoundEntries.{entry-changed, entry-changed_other, e
 use Rattle.plain_site.proofs.SoundCommits.{next_record}
 use Rattle.client_laws.proofs.Dags.{value-over-one}
 use Rattle.client_laws.proofs.Records.{write-has-key, no-write-no-key}
-use Rattle.client_laws.proofs.Tellings.{AreKept, KeepsReads, IsTold, Tells, HasLast, kept-more, tells-changed}
+use Rattle.client_laws.proofs.Tellings.{AreKept, KeepsReads, is_merge, IsTold, Tells, HasLast, kept-more, tells-changed}
 use Rattle.client_laws.proofs.Effects.{Does, OnlyRefuse, refuse-only, found-only, both-only, unless-does}
 
 -- ===== Reads that are told
@@ -64,14 +64,14 @@ got-own k reply seen has =
     (and_right (is_shown reply) (not (has_key k seen.writes)) (not_from_true (has_key k seen.writes) has))
 
 put-told : (rs : List Record) (k : List ℕ) (w : Write) (t : Txn) (seen : Told) → IsTold rs t seen → IsTold rs (having_written k w t) (having_put k w seen)
-put-told rs k w (Single t) seen h = record { states = h.states; writes = ap (with_write k w) h.writes; kept = h.kept; shown = h.shown }
-put-told rs k w (Merge t) seen h = record { states = h.states; writes = ap (with_write k w) h.writes; kept = h.kept; shown = h.shown }
+put-told rs k w (Single t) seen h = record { merges = h.merges; states = h.states; writes = ap (with_write k w) h.writes; kept = h.kept; shown = h.shown }
+put-told rs k w (Merge t) seen h = record { merges = h.merges; states = h.states; writes = ap (with_write k w) h.writes; kept = h.kept; shown = h.shown }
 
 module _ (site : Site) (n : ℕ) where
   -- ===== Beginnings
 
   -- a transaction begins at these states
-  begun-does : (q : Request) (t : Txn) (reply : Reply) (states : List StateId) → ((seen : Option Told) → retold q reply seen ≡ Some (begun states)) → read_states t ≡ states →
+  begun-does : (q : Request) (t : Txn) (reply : Reply) (states : List StateId) → ((seen : Option Told) → retold q reply seen ≡ Some (begun (is_merge t) states)) → read_states t ≡ states →
       writes_of t ≡ [] → KeepsReads t [] → ((x : StateId) → newest_commit q reply x ≡ x) →
       Does site n q (record site { txns = with_entry n t site.txns }, reply)
   begun-does q t reply states tells at none kept commits = record {
@@ -79,9 +79,9 @@ module _ (site : Site) (n : ℕ) where
     other_txns = λ m differ. entry-with_entry_other n m t site.txns differ;
     other_sessions = λ m differ. refl;
     txn = λ seen h.
-        let fresh : IsTold site.dag t (begun states) = record { states = sym at; writes = sym none; kept = kept; shown = tt } in
+        let fresh : IsTold site.dag t (begun (is_merge t) states) = record { merges = refl; states = sym at; writes = sym none; kept = kept; shown = tt } in
         subst (Tells site.dag (entry_of n (with_entry n t site.txns))) (sym (tells seen))
-        (subst (λ (o : Option Txn). Tells site.dag o (Some (begun states))) (sym (entry-with_entry n t site.txns)) fresh);
+        (subst (λ (o : Option Txn). Tells site.dag o (Some (begun (is_merge t) states))) (sym (entry-with_entry n t site.txns)) fresh);
     session = λ x h. subst (λ y. HasLast y (entry_of n site.sessions)) (sym (commits x)) h;
   }
 
@@ -143,6 +143,7 @@ module _ (site : Site) (n : ℕ) where
             let lacks = ap (has_key k) h.writes ∙ no-write-no-key k t.writes none in
             let next : IsTold site.dag more (record seen { reads = (k, found o) ∷ seen.reads }) =
             record {
+              merges = h.merges;
               states = h.states;
               writes = h.writes;
               kept = (has-new-key k t.reads, kept-more k t.reads seen.reads h.kept);
@@ -164,7 +165,7 @@ module _ (site : Site) (n : ℕ) where
             (λ seen h.
             let lacks = ap (has_key k) h.writes ∙ no-write-no-key k t.writes none in
             let next : IsTold site.dag (Merge t) (record seen { reads = (k, found o) ∷ seen.reads }) =
-            record { states = h.states; writes = h.writes; kept = tt; shown = (refl, h.shown) } in
+            record { merges = h.merges; states = h.states; writes = h.writes; kept = tt; shown = (refl, h.shown) } in
             subst (IsTold site.dag (Merge t)) (sym (got-found k o seen lacks)) next);
         session = λ x h. h;
       })

@@ -1,7 +1,8 @@
 -- Nothing committed is lost, and sessions read their own commits.
 use Rattle.std.proofs.Common.{◌≡◌, ℕ, Bool, true, false, List, [], ◌∷◌, ◌++◌, Option, Some, None, IsTrue, IsFalse, inl, inr, refl, sym, ap, subst, ◌∙◌, find}
-use Rattle.std.specs.Prelude.{unwrap_or}
-use Rattle.std.proofs.lemmas.Bool.{cond_both}
+use Rattle.std.specs.Prelude.{◌&&◌, unwrap_or}
+use Rattle.std.specs.List.{list_all}
+use Rattle.std.proofs.lemmas.Bool.{and_parts, and_from, cond_both}
 use Rattle.std.proofs.lemmas.Option.{none-some, same_Some}
 use Rattle.tardis_base.specs.declared.ids.StateId.{StateId}
 use Rattle.tardis_base.specs.declared.records.Record.{Record}
@@ -11,27 +12,35 @@ use Rattle.tardis_base.specs.declared.requests.Begin.{Begin}
 use Rattle.tardis_base.specs.declared.requests.Begin.TheVariants.{Any, Ancestor, Parent}
 use Rattle.tardis_base.specs.declared.requests.Request.TheVariants.{Begin as BeginAt, Commit}
 use Rattle.tardis_base.specs.declared.replies.Reply.TheVariants.{Begun, Committed}
-use Rattle.tardis_base.specs.Keys.{KeyWrite, has_key}
-use Rattle.plain_dag.specs.States.{states, record_at}
+use Rattle.tardis_base.specs.Ids.{is_among}
+use Rattle.tardis_base.specs.Keys.{KeyWrite, keys_of, has_key}
+use Rattle.plain_dag.specs.States.{states, is_known, record_at}
 use Rattle.plain_dag.specs.Above.{is_above}
 use Rattle.plain_dag.specs.Begin.{last_arrived, last_below, begin_state}
 use Rattle.plain_dag.specs.Entries.{entry_of}
 use Rattle.plain_dag.specs.Floors.{Session}
-use Rattle.plain_dag.proofs.Histories.{dag-grows}
-use Rattle.plain_dag.proofs.Order.{above-reflexive}
+use Rattle.plain_dag.specs.Dag.{IsDag}
+use Rattle.plain_dag.specs.Landing.{landing, guarded}
+use Rattle.plain_dag.specs.Writers.{are_above}
+use Rattle.plain_dag.proofs.Ids.{same_id_self, among-first, all-from}
+use Rattle.plain_dag.proofs.Histories.{Fits, dag-grows, known-stays, newest-is-known}
+use Rattle.plain_dag.proofs.Growth.{above-stays}
+use Rattle.plain_dag.proofs.Landing.{lands-below}
+use Rattle.plain_dag.proofs.Order.{above-reflexive, above-by-parent}
+use Rattle.plain_site.proofs.SoundEntries.{all-implies}
 use Rattle.plain_dag.proofs.Searches.{found-passes, option-cases}
-use Rattle.plain_site.specs.Site.{Site, writes_of}
+use Rattle.plain_site.specs.Site.{Site, Txn, Single, Merge, read_states, writes_of}
 use Rattle.plain_site.specs.Built.{Built}
 use Rattle.plain_site.specs.Step.{step}
 use Rattle.plain_site.specs.RowWords.{Line, ◌asks◌=>◌}
 use Rattle.plain_site.specs.ClientRuns.{wants_memory, after_line, site_after, history, AreAnswered, IsRun, Told, told, last_commit}
-use Rattle.plain_site.specs.ClientLaws.{committing, CommitsAreKept, CommitsAreShown, OtherKeysAreJoined, SessionsReadTheirCommits}
+use Rattle.plain_site.specs.ClientLaws.{committing, CommitsAreKept, CommitsAreShown, OtherKeysAreJoined, CommitsJoinWhatTheyRead, SessionsReadTheirCommits}
 use Rattle.client_laws.proofs.Records.{record-of-newest, record-stays, shown-below, joined, no-conflict}
-use Rattle.client_laws.proofs.Tellings.{HasLast}
+use Rattle.client_laws.proofs.Tellings.{is_merge, HasLast}
 use Rattle.client_laws.proofs.EffectsOfSites.{step-does}
-use Rattle.client_laws.proofs.Held.{Holds, Later, stays-later, run-holds, run-before}
-use Rattle.client_laws.proofs.Commits.{step-tells-begin}
-use Rattle.client_laws.proofs.Laws.{was-answered, is-commit, is-told}
+use Rattle.client_laws.proofs.Held.{Later, stays-later, run-holds, run-before}
+use Rattle.client_laws.proofs.Commits.{IsPlaced, step-tells-begin}
+use Rattle.client_laws.proofs.Laws.{was-answered, before, is-commit, is-told}
 
 module _ (built : Built) where
   -- ===== Kept
@@ -47,6 +56,18 @@ module _ (built : Built) where
   older-run start [] older run = run
   older-run start (line ∷ newer) older run = older-run start newer older (run-before built start line (newer ++ older) run)
 
+  -- what stays as records arrive stays with newer lines
+  keeps-on : (P : List Record → Type 0) → ((rs : List Record) (r : Record) → IsDag rs → Fits rs r → P rs → P (r ∷ rs)) → (start : Site) (newer older : List Line) →
+      IsRun (step built) start (newer ++ older) → P (history (step built) start older) → P (history (step built) start (newer ++ older))
+  keeps-on P stays start [] older run h = h
+  keeps-on P stays start (line ∷ newer) older run h =
+      let lines = newer ++ older in
+      let before = run-before built start line lines run in
+      let site = site_after (step built) start lines in
+      let dag = (run-holds built start lines before).sound.dag in
+      stays-later P site.dag (after_line (step built) site line).dag (line-is-later site line) dag (run-holds built start (line ∷ lines) run).sound.dag
+      (λ r f d. stays site.dag r dag f d) (keeps-on P stays start newer older before h)
+
   module _ (start : Site) (older : List Line) (n : ℕ) (flags : EndFlags) (k : ℕ) (x : StateId) (parents : List StateId) where
     its-record : IsRun (step built) start (n asks Commit flags k => Committed x parents ∷ older) → (t : Told) × (told n older ≡ Some t)
         × (record_at (history (step built) start (n asks Commit flags k => Committed x parents ∷ older)) x ≡ Some (record { id = x; parents = parents; writes = t.writes }))
@@ -58,23 +79,16 @@ module _ (built : Built) where
         subst (λ rs. record_at rs x ≡ Some r) (sym c.grown) (record-of-newest (history (step built) start older) r) in
         (u.0, u.1, newest ∙ ap (λ (ws : List KeyWrite). Some (record r { writes = ws })) (sym u.2.writes))
 
-    record-is-kept : (q : Record) (newer : List Line) → IsRun (step built) start (newer ++ (n asks Commit flags k => Committed x parents ∷ older)) →
-        record_at (history (step built) start (n asks Commit flags k => Committed x parents ∷ older)) x ≡ Some q →
-        record_at (history (step built) start (newer ++ (n asks Commit flags k => Committed x parents ∷ older))) x ≡ Some q
-    record-is-kept q [] run e = e
-    record-is-kept q (line ∷ newer) run e =
-        let lines = newer ++ (n asks Commit flags k => Committed x parents ∷ older) in
-        let before = run-before built start line lines run in
-        let site = site_after (step built) start lines in
-        stays-later (λ rs. record_at rs x ≡ Some q) site.dag (after_line (step built) site line).dag (line-is-later site line)
-        (run-holds built start lines before).sound.dag (run-holds built start (line ∷ lines) run).sound.dag (λ r f d. record-stays site.dag r f x q d)
-        (record-is-kept q newer before e)
-
   pub commits-are-kept : CommitsAreKept (step built)
   commits-are-kept start newer older n flags k x parents run =
       let line = n asks Commit flags k => Committed x parents in
       let own = its-record start older n flags k x parents (older-run start newer (line ∷ older) run) in
-      (own.0, own.1, record-is-kept start older n flags k x parents (record { id = x; parents = parents; writes = own.0.writes }) newer run own.2)
+      (
+        own.0,
+        own.1,
+        keeps-on (λ rs. record_at rs x ≡ Some (record { id = x; parents = parents; writes = own.0.writes })) (λ rs r dag f e. record-stays rs r f x _ e) start newer
+            (line ∷ older) run own.2,
+      )
 
   told-record : (start : Site) (newer older : List Line) (n : ℕ) (flags : EndFlags) (k : ℕ) (x : StateId) (parents : List StateId) (t : Told) →
       IsRun (step built) start (committing newer n flags k x parents older) → told n older ≡ Some t →
@@ -97,6 +111,56 @@ module _ (built : Built) where
       let q : Record = record { id = x; parents = parents; writes = t.writes } in
       let at = told-record start newer older n flags k x parents t run e in
       (no-conflict rs (dag-grows rs dag) key x q at lacks, joined rs dag key x q at lacks)
+
+  -- ===== Below what was read
+
+  -- the newest state is below its only parent, and what is at or above that
+  below-parent : (rs : List Record) (r : Record) (p s : StateId) → r.parents ≡ p ∷ [] → IsTrue (is_above rs s p) → IsTrue (is_above (r ∷ rs) s r.id)
+  below-parent rs r p s e above =
+      above-by-parent rs r s p r.id (same_id_self r.id) (subst (λ (ps : List StateId). IsTrue (is_among p ps)) (sym e) (among-first p [])) above
+
+  joins-reads : (rs : List Record) → IsDag rs → (flags : EndFlags) (t : Txn) (x : StateId) (parents : List StateId) → IsTrue (list_all (is_known rs) (read_states t)) →
+      IsPlaced rs flags t parents →
+      IsTrue (are_above (record { id = x; parents = parents; writes = writes_of t } ∷ rs) (read_states t) x) × (IsTrue (is_merge t) → parents ≡ read_states t)
+  joins-reads rs dag flags (Single t) x parents known placed =
+      let r : Record = record { id = x; parents = parents; writes = t.writes } in
+      let keys = guarded flags t.reads (keys_of t.writes) in
+      let lands = lands-below rs keys t.state dag (and_parts (is_known rs t.state) true known).0 in
+      (and_from (is_above (r ∷ rs) t.state x) true (below-parent rs r (landing rs keys t.state) t.state placed lands.1) refl, λ m. absurd (cc))
+  joins-reads rs dag flags (Merge t) x parents known placed =
+      let r : Record = record { id = x; parents = parents; writes = t.writes } in (
+        all-from (λ v. is_above (r ∷ rs) v x) t.states
+            (λ s m. above-by-parent rs r s s x (same_id_self x) (subst (λ (ps : List StateId). IsTrue (is_among s ps)) (sym placed.0) m) (above-reflexive rs s)),
+        λ m. placed.0,
+      )
+
+  -- states at or above a known one stay so
+  above-stay : (x : StateId) (xs : List StateId) (rs : List Record) (r : Record) → IsDag rs → Fits rs r → IsTrue (is_known rs x) × IsTrue (are_above rs xs x) →
+      IsTrue (is_known (r ∷ rs) x) × IsTrue (are_above (r ∷ rs) xs x)
+  above-stay x xs rs r dag f h = (
+    known-stays rs r x h.0,
+    all-implies (λ v. is_above rs v x) (λ v. is_above (r ∷ rs) v x) (λ v a. above-stays rs r f (dag-grows rs dag) v x h.0 ∙ a) xs h.1,
+  )
+
+  pub commits-join-what-they-read : CommitsJoinWhatTheyRead (step built)
+  commits-join-what-they-read start newer older n flags k x parents t run e =
+      let line = n asks Commit flags k => Committed x parents in
+      let own = older-run start newer (line ∷ older) run in
+      let c = is-commit built start older n flags k x parents own in
+      let u = is-told built start older n flags k x parents own in
+      let sound = (before built start older n flags k x parents own).sound in
+      let rs = history (step built) start older in
+      let j = joins-reads rs sound.dag flags c.txn x parents (sound.each_txn n c.txn c.open_there).2.known c.placed in
+      let same = same_Some u.0 t (sym u.1 ∙ e) in
+      let states : read_states c.txn ≡ t.states = sym u.2.states ∙ ap (λ (v : Told). v.states) same in
+      let merges : t.merges ≡ is_merge c.txn = ap (λ (v : Told). v.merges) (sym same) ∙ u.2.merges in
+      let r : Record = record { id = x; parents = parents; writes = writes_of c.txn } in
+      let at : IsTrue (is_known (history (step built) start (line ∷ older)) x) × IsTrue (are_above (history (step built) start (line ∷ older)) t.states x) =
+      subst (λ qs. IsTrue (is_known qs x) × IsTrue (are_above qs t.states x)) (sym c.grown)
+      (newest-is-known rs r, subst (λ xs. IsTrue (are_above (r ∷ rs) xs x)) states j.0) in (
+        (keeps-on (λ qs. IsTrue (is_known qs x) × IsTrue (are_above qs t.states x)) (above-stay x t.states) start newer (line ∷ older) run at).1,
+        λ m. j.1 (sym merges ∙ m) ∙ states,
+      )
 
   -- ===== Own commits
 

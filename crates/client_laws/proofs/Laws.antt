@@ -33,9 +33,8 @@ use Rattle.plain_site.specs.Built.{Built}
 use Rattle.plain_site.specs.Step.{step}
 use Rattle.plain_site.specs.RowWords.{Line, ◌asks◌=>◌}
 use Rattle.plain_site.specs.ClientRuns.{wants_memory, after_line, site_after, history, IsAnswered, AreAnswered, IsRun, Told, told, last_commit, ReadsShow}
-use Rattle.plain_site.specs.ClientLaws.{ReadsOneSnapshot, SerializableReadsHold, IsBranch, one_after_another, BranchesAreSerial, SnapshotsOverwriteNothingUnseen}
+use Rattle.plain_site.specs.ClientLaws.{ReadsOneSnapshot, SerializableReadsHold, SnapshotsOverwriteNothingUnseen}
 use Rattle.client_laws.proofs.Dags.{value-over-one}
-use Rattle.client_laws.proofs.Records.{branch-is-read}
 use Rattle.client_laws.proofs.Tellings.{IsTold, Tells, HasLast, shows-alike, shows-kept-alike}
 use Rattle.client_laws.proofs.Held.{Holds, run-holds, run-before}
 use Rattle.client_laws.proofs.Commits.{IsPlaced, IsCommit, step-tells-commit}
@@ -133,20 +132,6 @@ module _ (built : Built) where
       let p = ser-holds rs sound.dag flags c.txn parents u.0 (sound.each_txn n c.txn c.open_there).2.known ser c.placed u.2 in
       (u.0, p.0, u.1, p.1, p.2)
 
-  same-parent : (p q : StateId) → ◌≡◌ {A = List StateId} (p ∷ []) (q ∷ []) → q ≡ p
-  same-parent p q e = cc
-
-  pub branches-are-serial : BranchesAreSerial (step built)
-  branches-are-serial start older n flags k x p branch run ser is_branch =
-      let h = serializable-reads-hold start older n flags k x (p ∷ []) run ser in
-      let rs = history (step built) start older in
-      let dag = (before start older n flags k x (p ∷ []) run).sound.dag in (
-        h.0,
-        h.2,
-        shows-alike (λ key. read rs key h.1) (one_after_another branch) h.0.reads
-            (λ key. ap (read rs key) (same-parent p h.1 h.3) ∙ branch-is-read rs dag key branch p is_branch) h.4,
-      )
-
   -- ===== SI
 
   -- what writes one of these keys and is at or above p is at or above s
@@ -154,13 +139,14 @@ module _ (built : Built) where
   NothingUnseen rs writes s p = (key : List ℕ) (w : StateId) → IsTrue (has_key key writes) → IsTrue (is_writer rs key p w) → IsTrue (is_above rs w s)
 
   si-holds : (rs : List Record) → IsDag rs → (flags : EndFlags) (t : Txn) (parents : List StateId) (u : Told) → IsTrue (list_all (is_known rs) (read_states t)) →
-      IsTrue (is_si flags) → IsPlaced rs flags t parents → IsTold rs t u → (s : StateId) × (p : StateId) × (u.states ≡ s ∷ []) × (parents ≡ p ∷ []) × NothingUnseen rs u.writes s p
+      IsTrue (is_si flags) → IsPlaced rs flags t parents → IsTold rs t u → (s : StateId) × (p : StateId) × (u.states ≡ s ∷ []) × (parents ≡ p ∷ []) × ReadsShow (λ key. read rs key s) u.reads × NothingUnseen rs u.writes s p
   si-holds rs dag flags (Single t) parents u known si placed h =
       let c = true-commit rs flags t.reads (keys_of t.writes) t.state dag (and_parts (is_known rs t.state) true known).0 in (
         t.state,
         landing rs (guarded flags t.reads (keys_of t.writes)) t.state,
         h.states,
         placed,
+        shows-alike (value_over rs (t.state ∷ [])) (λ key. read rs key t.state) u.reads (value-over-one rs t.state) h.shown,
         λ key w has writer. c.no_writes si key w (has-key-among key t.writes ∙ (ap (has_key key) (sym h.writes) ∙ has)) writer,
       )
   si-holds rs dag flags (Merge t) parents u known si placed h = not-si flags placed.1 si
@@ -172,4 +158,4 @@ module _ (built : Built) where
       let sound = (before start older n flags k x parents run).sound in
       let rs = history (step built) start older in
       let p = si-holds rs sound.dag flags c.txn parents u.0 (sound.each_txn n c.txn c.open_there).2.known si c.placed u.2 in
-      (u.0, p.0, p.1, u.1, p.2, p.3, p.4)
+      (u.0, p.0, p.1, u.1, p.2, p.3, p.4, p.5)

@@ -27,8 +27,13 @@ abbrev pub KeepsReads : Txn → List (List ℕ × Reply) → Type 0
 KeepsReads (Single t) reads = AreKept t.reads reads
 KeepsReads (Merge t) reads = Unit {0}
 
+abbrev pub is_merge : Txn → Bool
+is_merge (Single t) = false
+is_merge (Merge t) = true
+
 -- the transaction is as its client knows it
 pub record IsTold (rs : List Record) (t : Txn) (seen : Told) : Type 0 where
+  pub merges : seen.merges ≡ is_merge t
   pub states : seen.states ≡ read_states t
   pub writes : seen.writes ≡ writes_of t
   pub kept : KeepsReads t seen.reads
@@ -74,6 +79,7 @@ tells-later rs r f g None None known h = tt
 tells-later rs r f g None (Some seen) known h = h
 tells-later rs r f g (Some t) None known h = h
 tells-later rs r f g (Some t) (Some seen) known h = record {
+  merges = h.merges;
   states = h.states;
   writes = h.writes;
   kept = h.kept;

@@ -6,20 +6,27 @@ use Rattle.tardis_base.specs.declared.records.Record.{Record}
 use Rattle.tardis_base.specs.declared.records.Write.{Write}
 use Rattle.tardis_base.specs.declared.requests.Begin.TheVariants.{Any, Ancestor, Parent}
 use Rattle.tardis_base.specs.declared.requests.EndFlags.{EndFlags}
-use Rattle.tardis_base.specs.declared.requests.Request.TheVariants.{Begin, Commit}
+use Rattle.tardis_base.specs.declared.requests.Request.TheVariants.{Begin, Get, Commit}
+use Rattle.tardis_base.specs.declared.replies.Reply.{Reply}
 use Rattle.tardis_base.specs.declared.replies.Reply.TheVariants.{Begun, Committed}
 use Rattle.tardis_base.specs.Ids.{root}
 use Rattle.tardis_base.specs.Keys.{has_key, write_of}
 use Rattle.plain_dag.specs.States.{is_known, record_at}
 use Rattle.plain_dag.specs.Above.{is_above, is_proper_ancestor}
-use Rattle.plain_dag.specs.Writers.{is_writer, read}
+use Rattle.plain_dag.specs.Writers.{is_writer, are_above, read}
 use Rattle.plain_dag.specs.Conflicts.{is_conflict_key, value_over}
 use Rattle.plain_dag.specs.Begin.{last_arrived}
 use Rattle.plain_dag.specs.Landing.{is_ser, is_si}
 use Rattle.plain_site.specs.Site.{Site}
-use Rattle.plain_site.specs.Answers.{leaves_site}
+use Rattle.plain_site.specs.Answers.{leaves_site, shown}
 use Rattle.plain_site.specs.RowWords.{Line, ◌asks◌=>◌}
-use Rattle.plain_site.specs.ClientRuns.{Service, IsRun, Told, told, site_after, history, last_commit, ReadsShow}
+use Rattle.plain_site.specs.ClientRuns.{Service, IsRun, Told, told, is_shown, site_after, history, last_commit, ReadsShow}
+
+-- ===== Commits among lines
+
+-- a commit of the actor, whatever came before and after
+abbrev pub committing : List Line → ℕ → EndFlags → ℕ → StateId → List StateId → List Line → List Line
+committing newer n flags k x parents older = newer ++ (n asks Commit flags k => Committed x parents) ∷ older
 
 -- ===== Each transaction reads one snapshot
 
@@ -43,40 +50,46 @@ SerializableReadsHold service =
 -- these records, newest first, are the branch from the root down to x: each state has the next of them as its only parent
 abbrev pub IsBranch : List Record → List Record → StateId → Type 0
 IsBranch rs [] x = x ≡ root
-IsBranch rs (r ∷ branch) x = (p : StateId) × (record_at rs x ≡ Some r) × (r.parents ≡ p ∷ []) × IsBranch rs branch p
+IsBranch rs (r ∷ before) x = (p : StateId) × (record_at rs x ≡ Some r) × (r.parents ≡ p ∷ []) × IsBranch rs before p
 
 -- what a key holds after these, newest first, were done one after another: the newest write to it, if there is one
 abbrev pub one_after_another : List Record → List ℕ → Option (StateId × Write)
 one_after_another [] key = None
-one_after_another (r ∷ older) key =
-    let before = one_after_another older key in
-    elim (write_of key r.writes) [ Some w ↦ Some (r.id, w) | None ↦ before ]
+one_after_another (r ∷ before) key =
+    let older = one_after_another before key in
+    elim (write_of key r.writes) [ Some w ↦ Some (r.id, w) | None ↦ older ]
 
--- so a branch is a serial history of its serializable transactions: what such a one read is what those before it on the
--- branch leave when they are done one after another
+-- the transaction made the state x by its commit with these end constraints, among these lines
+abbrev pub HasMade : List Line → StateId → EndFlags → Told → Type 0
+HasMade lines x flags t =
+    (newer : List Line) × (older : List Line) × (n : ℕ) × (k : ℕ) × (parents : List StateId)
+    × (lines ≡ committing newer n flags k x parents older) × (told n older ≡ Some t)
+
+-- done one after another in the order of the branch, its serializable transactions read what they did read
+abbrev pub IsSerial : List Line → List Record → Type 0
+IsSerial lines [] = Unit {0}
+IsSerial lines (r ∷ before) =
+    ((flags : EndFlags) (t : Told) → HasMade lines r.id flags t → IsTrue (is_ser flags) → ReadsShow (one_after_another before) t.reads) × IsSerial lines before
+
+-- so each branch is a serial history of its serializable transactions
 abbrev pub BranchesAreSerial : Service → Type 0
 BranchesAreSerial service =
-    (start : Site) (older : List Line) (n : ℕ) (flags : EndFlags) (k : ℕ) (x p : StateId) (branch : List Record) →
-    IsRun service start (n asks Commit flags k => Committed x (p ∷ []) ∷ older) → IsTrue (is_ser flags) →
-    IsBranch (history service start older) branch p →
-    (t : Told) × (told n older ≡ Some t) × ReadsShow (one_after_another branch) t.reads
+    (start : Site) (lines : List Line) (branch : List Record) (x : StateId) → IsRun service start lines → IsBranch (history service start lines) branch x →
+    IsSerial lines branch
 
 -- ===== Snapshot transactions overwrite nothing that they haven't seen
 
--- a transaction that commits with SI has one read state s and one parent p, and what writes a key of its writes and is at or
--- above p is at or above s
+-- a transaction that commits with SI has one read state s and one parent p; each of its reads shows what is read at s, and
+-- what writes a key of its writes and is at or above p is at or above s
 abbrev pub SnapshotsOverwriteNothingUnseen : Service → Type 0
 SnapshotsOverwriteNothingUnseen service =
     (start : Site) (older : List Line) (n : ℕ) (flags : EndFlags) (k : ℕ) (x : StateId) (parents : List StateId) →
     IsRun service start (n asks Commit flags k => Committed x parents ∷ older) → IsTrue (is_si flags) →
     (t : Told) × (s : StateId) × (p : StateId) × (told n older ≡ Some t) × (t.states ≡ s ∷ []) × (parents ≡ p ∷ [])
+    × ReadsShow (λ key. read (history service start older) key s) t.reads
     × ((key : List ℕ) (w : StateId) → IsTrue (has_key key t.writes) → IsTrue (is_writer (history service start older) key p w) → IsTrue (is_above (history service start older) w s))
 
 -- ===== Nothing committed is lost
-
--- a commit of the actor, whatever came before and after
-abbrev pub committing : List Line → ℕ → EndFlags → ℕ → StateId → List StateId → List Line → List Line
-committing newer n flags k x parents older = newer ++ (n asks Commit flags k => Committed x parents) ∷ older
 
 -- whatever came after a commit: its state has its parents, and what the transaction wrote
 abbrev pub CommitsAreKept : Service → Type 0
@@ -106,7 +119,22 @@ OtherKeysAreJoined service =
     IsRun service start lines → told n older ≡ Some t →
     (key : List ℕ) → IsFalse (has_key key t.writes) → IsFalse (is_conflict_key rs parents key) × (read rs key x ≡ value_over rs parents key)
 
+-- its state is at or below each state that the transaction read, and of a merge these are its parents
+abbrev pub CommitsJoinWhatTheyRead : Service → Type 0
+CommitsJoinWhatTheyRead service =
+    (start : Site) (newer older : List Line) (n : ℕ) (flags : EndFlags) (k : ℕ) (x : StateId) (parents : List StateId) (t : Told) →
+    let lines = committing newer n flags k x parents older in
+    IsRun service start lines → told n older ≡ Some t →
+    IsTrue (are_above (history service start lines) t.states x) × (IsTrue t.merges → parents ≡ t.states)
+
 -- ===== Sessions read their own commits
+
+-- a Get of a key that the transaction wrote is shown what it wrote last; the root stands for its writer
+abbrev pub OwnWritesAreRead : Service → Type 0
+OwnWritesAreRead service =
+    (start : Site) (older : List Line) (n : ℕ) (key : List ℕ) (w : Write) (reply : Reply) (t : Told) →
+    IsRun service start (n asks Get key => reply ∷ older) → told n older ≡ Some t → write_of key t.writes ≡ Some w → IsTrue (is_shown reply) →
+    reply ≡ shown root w
 
 -- Parent begins at the session's last commit, Ancestor at or below it, and Any exactly where the state that arrived last is:
 -- with any of them a session reads its own commit, with Any as far as the last-arrived state is at or below it

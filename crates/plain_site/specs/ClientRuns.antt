@@ -63,16 +63,17 @@ pub record IsRun (service : Service) (start : Site) (lines : List Line) : Type 0
 
 -- ===== What the lines of an actor tell of its transaction
 
--- a transaction as its client knows it: the states that it reads; the keys that it read, and not from its own writes, with
--- what it was shown; and what it wrote
+-- a transaction as its client knows it: whether it is a merge; the states that it reads; the keys that it read, and not from
+-- its own writes, with what it was shown; and what it wrote
 pub record Told : Type 0 where
+  pub merges : Bool
   pub states : List StateId
   pub reads : List (List ℕ × Reply)
   pub writes : List KeyWrite
 
 -- before it reads and writes
-abbrev pub begun : List StateId → Told
-begun states = record { states = states; reads = []; writes = [] }
+abbrev pub begun : Bool → List StateId → Told
+begun merges states = record { merges = merges; states = states; reads = []; writes = [] }
 
 -- the reply shows what a key holds
 abbrev pub is_shown : Reply → Bool
@@ -91,8 +92,8 @@ having_put k w t = record t { writes = with_write k w t.writes }
 
 -- one more request of the actor and its reply
 abbrev pub retold : Request → Reply → Option Told → Option Told
-retold (Begin b) (Begun x) t = Some (begun (x ∷ []))
-retold (BeginMerge of) (Merging xs) t = Some (begun xs)
+retold (Begin b) (Begun x) t = Some (begun false (x ∷ []))
+retold (BeginMerge of) (Merging xs) t = Some (begun true xs)
 retold (Get k) reply t = option_map (having_got k reply) t
 retold (Put k v) Done t = option_map (having_put k (Value v)) t
 retold (Delete k) Done t = option_map (having_put k Deletion) t
