@@ -52,12 +52,12 @@ module _ (built : Built) where
       cond_both (wants_memory line.reply) site next (λ s. Later site.dag s.dag) (λ t. inl refl) (λ f. (step-does site line.actor built line.request).grows)
 
   -- the run without its newest lines
-  older-run : (start : Site) (newer older : List Line) → IsRun (step built) start (newer ++ older) → IsRun (step built) start older
+  pub older-run : (start : Site) (newer older : List Line) → IsRun (step built) start (newer ++ older) → IsRun (step built) start older
   older-run start [] older run = run
   older-run start (line ∷ newer) older run = older-run start newer older (run-before built start line (newer ++ older) run)
 
   -- what stays as records arrive stays with newer lines
-  keeps-on : (P : List Record → Type 0) → ((rs : List Record) (r : Record) → IsDag rs → Fits rs r → P rs → P (r ∷ rs)) → (start : Site) (newer older : List Line) →
+  pub keeps-on : (P : List Record → Type 0) → ((rs : List Record) (r : Record) → IsDag rs → Fits rs r → P rs → P (r ∷ rs)) → (start : Site) (newer older : List Line) →
       IsRun (step built) start (newer ++ older) → P (history (step built) start older) → P (history (step built) start (newer ++ older))
   keeps-on P stays start [] older run h = h
   keeps-on P stays start (line ∷ newer) older run h =
@@ -90,7 +90,7 @@ module _ (built : Built) where
             (line ∷ older) run own.2,
       )
 
-  told-record : (start : Site) (newer older : List Line) (n : ℕ) (flags : EndFlags) (k : ℕ) (x : StateId) (parents : List StateId) (t : Told) →
+  pub told-record : (start : Site) (newer older : List Line) (n : ℕ) (flags : EndFlags) (k : ℕ) (x : StateId) (parents : List StateId) (t : Told) →
       IsRun (step built) start (committing newer n flags k x parents older) → told n older ≡ Some t →
       record_at (history (step built) start (committing newer n flags k x parents older)) x ≡ Some (record { id = x; parents = parents; writes = t.writes })
   told-record start newer older n flags k x parents t run e =

@@ -25,7 +25,7 @@ use Rattle.plain_dag.specs.Floors.{Session}
 use Rattle.plain_dag.specs.Dag.{IsDag}
 use Rattle.plain_dag.specs.Laws.{IsTrueCommit}
 use Rattle.plain_dag.proofs.Histories.{dag-grows}
-use Rattle.plain_dag.proofs.Landing.{true-commit}
+use Rattle.plain_dag.proofs.Landing.{lands-below, true-commit}
 use Rattle.plain_dag.proofs.Order.{above-reflexive}
 use Rattle.plain_dag.proofs.Searches.{found-passes, option-cases}
 use Rattle.plain_site.specs.Site.{Site, SingleTxn, MergeTxn, Txn, Single, Merge, read_states, writes_of}
@@ -46,7 +46,7 @@ tells-seen rs None seen t e h = absurd (none-some t e)
 tells-seen rs (Some s) None t e h = absurd (h)
 tells-seen rs (Some s) (Some u) t e h = (u, refl, subst (λ z. IsTold rs z u) (same_Some s t e) h)
 
-tells-open : (rs : List Record) (o : Option Txn) (seen : Option Told) (u : Told) → seen ≡ Some u → Tells rs o seen → (t : Txn) × (o ≡ Some t) × IsTold rs t u
+pub tells-open : (rs : List Record) (o : Option Txn) (seen : Option Told) (u : Told) → seen ≡ Some u → Tells rs o seen → (t : Txn) × (o ≡ Some t) × IsTold rs t u
 tells-open rs o None u e h = absurd (none-some u e)
 tells-open rs None (Some v) u e h = absurd (h)
 tells-open rs (Some t) (Some v) u e h = (t, refl, subst (IsTold rs t) (same_Some v u e) h)
@@ -115,22 +115,33 @@ module _ (built : Built) where
       (λ key kept. value-over-one rs t.state key ∙ sym (c.same_reads ser key kept)) h.kept h.shown
 
   ser-holds : (rs : List Record) → IsDag rs → (flags : EndFlags) (t : Txn) (parents : List StateId) (u : Told) → IsTrue (list_all (is_known rs) (read_states t)) →
-      IsTrue (is_ser flags) → IsPlaced rs flags t parents → IsTold rs t u → (p : StateId) × (parents ≡ p ∷ []) × ReadsShow (λ key. read rs key p) u.reads
+      IsTrue (is_ser flags) → IsPlaced rs flags t parents → IsTold rs t u →
+      (p : StateId) × IsTrue (is_known rs p) × (parents ≡ p ∷ []) × ReadsShow (λ key. read rs key p) u.reads
   ser-holds rs dag flags (Single t) parents u known ser placed h = (
     landing rs (guarded flags t.reads (keys_of t.writes)) t.state,
+    (lands-below rs (guarded flags t.reads (keys_of t.writes)) t.state dag (and_parts (is_known rs t.state) true known).0).0,
     placed,
     single-holds rs dag flags t u (and_parts (is_known rs t.state) true known).0 ser h,
   )
   ser-holds rs dag flags (Merge t) parents u known ser placed h = not-ser flags placed.1 ser
 
-  pub serializable-reads-hold : SerializableReadsHold (step built)
-  serializable-reads-hold start older n flags k x parents run ser =
+  -- the parent of a serializable transaction is known, and its reads hold there
+  pub ser-parent : (start : Site) (older : List Line) (n : ℕ) (flags : EndFlags) (k : ℕ) (x : StateId) (parents : List StateId) →
+      IsRun (step built) start (n asks Commit flags k => Committed x parents ∷ older) → IsTrue (is_ser flags) →
+      (u : Told) × (told n older ≡ Some u) × (p : StateId) × IsTrue (is_known (history (step built) start older) p) × (parents ≡ p ∷ [])
+      × ReadsShow (λ key. read (history (step built) start older) key p) u.reads
+  ser-parent start older n flags k x parents run ser =
       let c = is-commit start older n flags k x parents run in
       let u = is-told start older n flags k x parents run in
       let sound = (before start older n flags k x parents run).sound in
       let rs = history (step built) start older in
       let p = ser-holds rs sound.dag flags c.txn parents u.0 (sound.each_txn n c.txn c.open_there).2.known ser c.placed u.2 in
-      (u.0, p.0, u.1, p.1, p.2)
+      (u.0, u.1, p.0, p.1, p.2, p.3)
+
+  pub serializable-reads-hold : SerializableReadsHold (step built)
+  serializable-reads-hold start older n flags k x parents run ser =
+      let h = ser-parent start older n flags k x parents run ser in
+      (h.0, h.2, h.1, h.4, h.5)
 
   -- ===== SI
 

@@ -10,3 +10,5 @@ pub mod Held
 pub mod Commits
 pub mod Laws
 pub mod Kept
+pub mod Serial
+pub mod OwnWrites
