@@ -12,3 +12,4 @@ pub mod Laws
 pub mod Kept
 pub mod Serial
 pub mod OwnWrites
+pub mod Wrong

@@ -26,3 +26,4 @@ pub mod RowsOfOperations
 pub mod RowsOfWideMerges
 pub mod ClientRuns
 pub mod ClientLaws
+pub mod WrongSteps
