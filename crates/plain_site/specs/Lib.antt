@@ -24,3 +24,6 @@ pub mod RowsOfChoices
 pub mod RowsOfLandings
 pub mod RowsOfOperations
 pub mod RowsOfWideMerges
+pub mod ClientRuns
+pub mod ClientLaws
+pub mod WrongSteps

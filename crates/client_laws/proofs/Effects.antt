@@ -1,0 +1,114 @@
+-- What one request does to the history, the transactions and the sessions, and what its reply tells of that.
+use Rattle.std.proofs.Common.{◌≡◌, ℕ, Bool, true, false, not, List, [], ◌∷◌, ◌++◌, Option, Some, None, ◌⊎◌, inl, inr, refl, sym, ap, subst, ◌∙◌}
+use Rattle.std.specs.Option.{option_map}
+use Rattle.tardis_base.specs.declared.ids.StateId.{StateId}
+use Rattle.tardis_base.specs.declared.records.Record.{Record}
+use Rattle.tardis_base.specs.declared.requests.Request.{Request}
+use Rattle.tardis_base.specs.declared.requests.Request.TheVariants.{Get}
+use Rattle.tardis_base.specs.declared.replies.Refusal.{Refusal}
+use Rattle.tardis_base.specs.declared.replies.Refusal.TheVariants.{NotOpen, TxnOpen, NoTxn}
+use Rattle.tardis_base.specs.declared.replies.Reply.{Reply}
+use Rattle.tardis_base.specs.declared.replies.Reply.TheVariants.{Refused, NoMemory}
+use Rattle.plain_dag.specs.Entries.{entry_of}
+use Rattle.plain_site.specs.Site.{Site, Txn}
+use Rattle.plain_site.specs.Answers.{Answer, when, refuse, refuse_found, unless}
+use Rattle.plain_site.specs.ClientRuns.{Told, retold, newest_commit}
+use Rattle.plain_site.proofs.RepliesFrame.{RefusesWell}
+use Rattle.client_laws.proofs.Tellings.{Tells, HasLast}
+
+-- the history stays or has one record more; the other actors' transactions and sessions stay; and if the actor's were as
+-- its lines told, they are as these and the request with its reply tell
+pub record Does (site : Site) (n : ℕ) (q : Request) (answer : Answer) : Type 0 where
+  pub grows : (answer.0.dag ≡ site.dag) ⊎ ((r : Record) × (answer.0.dag ≡ r ∷ site.dag))
+  pub other_txns : (m : ℕ) → (m ≡ n → ⊥) → entry_of m answer.0.txns ≡ entry_of m site.txns
+  pub other_sessions : (m : ℕ) → (m ≡ n → ⊥) → entry_of m answer.0.sessions ≡ entry_of m site.sessions
+  pub txn : (seen : Option Told) → Tells answer.0.dag (entry_of n site.txns) seen → Tells answer.0.dag (entry_of n answer.0.txns) (retold q answer.1 seen)
+  pub session : (x : StateId) → HasLast x (entry_of n site.sessions) → HasLast (newest_commit q answer.1 x) (entry_of n answer.0.sessions)
+
+-- ===== Replies that tell nothing
+
+got-refused : (k : List ℕ) (refusal : Refusal) (seen : Option Told) → retold (Get k) (Refused refusal) seen ≡ seen
+got-refused k refusal None = refl
+got-refused k refusal (Some seen) = refl
+
+pub refused-tells-nothing : (q : Request) (refusal : Refusal) (seen : Option Told) → retold q (Refused refusal) seen ≡ seen
+refused-tells-nothing (Get k) refusal seen = got-refused k refusal seen
+refused-tells-nothing q refusal seen = refl
+
+pub refused-commits-nothing : (q : Request) (refusal : Refusal) (x : StateId) → newest_commit q (Refused refusal) x ≡ x
+refused-commits-nothing (Get k) refusal x = refl
+refused-commits-nothing q refusal x = refl
+
+got-none : (k : List ℕ) (seen : Option Told) → retold (Get k) NoMemory seen ≡ seen
+got-none k None = refl
+got-none k (Some seen) = refl
+
+pub wanting-tells-nothing : (q : Request) (seen : Option Told) → retold q NoMemory seen ≡ seen
+wanting-tells-nothing (Get k) seen = got-none k seen
+wanting-tells-nothing q seen = refl
+
+pub wanting-commits-nothing : (q : Request) (x : StateId) → newest_commit q NoMemory x ≡ x
+wanting-commits-nothing (Get k) x = refl
+wanting-commits-nothing q x = refl
+
+-- ===== Answers that leave transactions and sessions
+
+pub same-books : (site : Site) (n : ℕ) (q : Request) (next : Site) (reply : Reply) → (next.dag ≡ site.dag) ⊎ ((r : Record) × (next.dag ≡ r ∷ site.dag)) →
+    next.txns ≡ site.txns → next.sessions ≡ site.sessions → ((seen : Option Told) → retold q reply seen ≡ seen) → ((x : StateId) → newest_commit q reply x ≡ x) →
+    Does site n q (next, reply)
+same-books site n q next reply grows txns sessions tells commits = record {
+  grows = grows;
+  other_txns = λ m differ. ap (entry_of m) txns;
+  other_sessions = λ m differ. ap (entry_of m) sessions;
+  txn = λ seen h. subst (λ ts. Tells next.dag (entry_of n ts) (retold q reply seen)) (sym txns) (subst (Tells next.dag (entry_of n site.txns)) (sym (tells seen)) h);
+  session = λ x h. subst (λ ss. HasLast (newest_commit q reply x) (entry_of n ss)) (sym sessions) (subst (λ y. HasLast y (entry_of n site.sessions)) (sym (commits x)) h);
+}
+
+-- nothing is done, and the reply tells nothing
+pub does-nothing : (site : Site) (n : ℕ) (q : Request) (reply : Reply) → ((seen : Option Told) → retold q reply seen ≡ seen) → ((x : StateId) → newest_commit q reply x ≡ x) →
+    Does site n q (site, reply)
+does-nothing site n q reply tells commits = same-books site n q site reply (inl refl) refl refl tells commits
+
+pub does-refused : (site : Site) (n : ℕ) (q : Request) (refusal : Refusal) → Does site n q (site, Refused refusal)
+does-refused site n q refusal = does-nothing site n q (Refused refusal) (refused-tells-nothing q refusal) (refused-commits-nothing q refusal)
+
+pub refuses-does : (site : Site) (n : ℕ) (q : Request) → RefusesWell site (Does site n q)
+refuses-does site n q = record { not_open = does-refused site n q NotOpen; no_txn = does-refused site n q NoTxn; txn_open = does-refused site n q TxnOpen }
+
+-- ===== Refusals before an answer
+
+-- each of these, if it is a reply, refuses
+abbrev pub OnlyRefuse : List (Option Reply) → Type 0
+OnlyRefuse [] = Unit {0}
+OnlyRefuse (None ∷ more) = OnlyRefuse more
+OnlyRefuse (Some reply ∷ more) = ((refusal : Refusal) × (reply ≡ Refused refusal)) × OnlyRefuse more
+
+pub refuse-only : (test : Bool) (refusal : Refusal) (more : List (Option Reply)) → OnlyRefuse more → OnlyRefuse (refuse test refusal ∷ more)
+refuse-only true refusal more h = ((refusal, refl), h)
+refuse-only false refusal more h = h
+
+pub found-only : {A : Type 0} (refusal : A → Refusal) (o : Option A) (more : List (Option Reply)) → OnlyRefuse more → OnlyRefuse (refuse_found refusal o ∷ more)
+found-only refusal None more h = h
+found-only refusal (Some a) more h = ((refusal a, refl), h)
+
+pub both-only : (first more : List (Option Reply)) → OnlyRefuse first → OnlyRefuse more → OnlyRefuse (first ++ more)
+both-only [] more h k = k
+both-only (None ∷ first) more h k = both-only first more h k
+both-only (Some reply ∷ first) more h k = (h.0, both-only first more h.1 k)
+
+-- what holds of each refusal and of the answer holds of the answer behind refusals
+pub unless-refused : (P : Answer → Type 0) (site : Site) (refusals : List (Option Reply)) (answer : Answer) → OnlyRefuse refusals →
+    ((refusal : Refusal) → P (site, Refused refusal)) → P answer → P (unless site refusals answer)
+unless-refused P site [] answer only refused h = h
+unless-refused P site (None ∷ more) answer only refused h = unless-refused P site more answer only refused h
+unless-refused P site (Some reply ∷ more) answer only refused h = subst (λ r. P (site, r)) (sym only.0.1) (refused only.0.0)
+
+-- what holds of each reply that leaves the site
+pub unless-any : (P : Answer → Type 0) (site : Site) (replies : List (Option Reply)) (answer : Answer) → ((reply : Reply) → P (site, reply)) → P answer → P (unless site replies answer)
+unless-any P site [] answer same h = h
+unless-any P site (None ∷ more) answer same h = unless-any P site more answer same h
+unless-any P site (Some reply ∷ more) answer same h = same reply
+
+pub unless-does : (site : Site) (n : ℕ) (q : Request) (refusals : List (Option Reply)) (answer : Answer) → OnlyRefuse refusals → Does site n q answer →
+    Does site n q (unless site refusals answer)
+unless-does site n q refusals answer only h = unless-refused (Does site n q) site refusals answer only (does-refused site n q) h

@@ -1,0 +1,196 @@
+-- Nothing committed is lost, and sessions read their own commits.
+use Rattle.std.proofs.Common.{◌≡◌, ℕ, Bool, true, false, List, [], ◌∷◌, ◌++◌, Option, Some, None, IsTrue, IsFalse, inl, inr, refl, sym, ap, subst, ◌∙◌, find}
+use Rattle.std.specs.Prelude.{◌&&◌, unwrap_or}
+use Rattle.std.specs.List.{list_all}
+use Rattle.std.proofs.lemmas.Bool.{and_parts, and_from, cond_both}
+use Rattle.std.proofs.lemmas.Option.{none-some, same_Some}
+use Rattle.tardis_base.specs.declared.ids.StateId.{StateId}
+use Rattle.tardis_base.specs.declared.records.Record.{Record}
+use Rattle.tardis_base.specs.declared.records.Write.{Write}
+use Rattle.tardis_base.specs.declared.requests.EndFlags.{EndFlags}
+use Rattle.tardis_base.specs.declared.requests.Begin.{Begin}
+use Rattle.tardis_base.specs.declared.requests.Begin.TheVariants.{Any, Ancestor, Parent}
+use Rattle.tardis_base.specs.declared.requests.Request.TheVariants.{Begin as BeginAt, Commit}
+use Rattle.tardis_base.specs.declared.replies.Reply.TheVariants.{Begun, Committed}
+use Rattle.tardis_base.specs.Ids.{is_among}
+use Rattle.tardis_base.specs.Keys.{KeyWrite, keys_of, has_key}
+use Rattle.plain_dag.specs.States.{states, is_known, record_at}
+use Rattle.plain_dag.specs.Above.{is_above}
+use Rattle.plain_dag.specs.Begin.{last_arrived, last_below, begin_state}
+use Rattle.plain_dag.specs.Entries.{entry_of}
+use Rattle.plain_dag.specs.Floors.{Session}
+use Rattle.plain_dag.specs.Dag.{IsDag}
+use Rattle.plain_dag.specs.Landing.{landing, guarded}
+use Rattle.plain_dag.specs.Writers.{are_above}
+use Rattle.plain_dag.proofs.Ids.{same_id_self, among-first, all-from}
+use Rattle.plain_dag.proofs.Histories.{Fits, dag-grows, known-stays, newest-is-known}
+use Rattle.plain_dag.proofs.Growth.{above-stays}
+use Rattle.plain_dag.proofs.Landing.{lands-below}
+use Rattle.plain_dag.proofs.Order.{above-reflexive, above-by-parent}
+use Rattle.plain_site.proofs.SoundEntries.{all-implies}
+use Rattle.plain_dag.proofs.Searches.{found-passes, option-cases}
+use Rattle.plain_site.specs.Site.{Site, Txn, Single, Merge, read_states, writes_of}
+use Rattle.plain_site.specs.Built.{Built}
+use Rattle.plain_site.specs.Step.{step}
+use Rattle.plain_site.specs.RowWords.{Line, ◌asks◌=>◌}
+use Rattle.plain_site.specs.ClientRuns.{wants_memory, after_line, site_after, history, AreAnswered, IsRun, Told, told, last_commit}
+use Rattle.plain_site.specs.ClientLaws.{committing, CommitsAreKept, CommitsAreShown, OtherKeysAreJoined, CommitsJoinWhatTheyRead, SessionsReadTheirCommits}
+use Rattle.client_laws.proofs.Records.{record-of-newest, record-stays, shown-below, joined, no-conflict}
+use Rattle.client_laws.proofs.Tellings.{is_merge, HasLast}
+use Rattle.client_laws.proofs.EffectsOfSites.{step-does}
+use Rattle.client_laws.proofs.Held.{Later, stays-later, run-holds, run-before}
+use Rattle.client_laws.proofs.Commits.{IsPlaced, step-tells-begin}
+use Rattle.client_laws.proofs.Laws.{was-answered, before, is-commit, is-told}
+
+module _ (built : Built) where
+  -- ===== Kept
+
+  -- a line makes the history no other than it was, or longer by one record
+  line-is-later : (site : Site) (line : Line) → Later site.dag (after_line (step built) site line).dag
+  line-is-later site line =
+      let next = (step built site line.actor line.request).0 in
+      cond_both (wants_memory line.reply) site next (λ s. Later site.dag s.dag) (λ t. inl refl) (λ f. (step-does site line.actor built line.request).grows)
+
+  -- the run without its newest lines
+  pub older-run : (start : Site) (newer older : List Line) → IsRun (step built) start (newer ++ older) → IsRun (step built) start older
+  older-run start [] older run = run
+  older-run start (line ∷ newer) older run = older-run start newer older (run-before built start line (newer ++ older) run)
+
+  -- what stays as records arrive stays with newer lines
+  pub keeps-on : (P : List Record → Type 0) → ((rs : List Record) (r : Record) → IsDag rs → Fits rs r → P rs → P (r ∷ rs)) → (start : Site) (newer older : List Line) →
+      IsRun (step built) start (newer ++ older) → P (history (step built) start older) → P (history (step built) start (newer ++ older))
+  keeps-on P stays start [] older run h = h
+  keeps-on P stays start (line ∷ newer) older run h =
+      let lines = newer ++ older in
+      let before = run-before built start line lines run in
+      let site = site_after (step built) start lines in
+      let dag = (run-holds built start lines before).sound.dag in
+      stays-later P site.dag (after_line (step built) site line).dag (line-is-later site line) dag (run-holds built start (line ∷ lines) run).sound.dag
+      (λ r f d. stays site.dag r dag f d) (keeps-on P stays start newer older before h)
+
+  module _ (start : Site) (older : List Line) (n : ℕ) (flags : EndFlags) (k : ℕ) (x : StateId) (parents : List StateId) where
+    its-record : IsRun (step built) start (n asks Commit flags k => Committed x parents ∷ older) → (t : Told) × (told n older ≡ Some t)
+        × (record_at (history (step built) start (n asks Commit flags k => Committed x parents ∷ older)) x ≡ Some (record { id = x; parents = parents; writes = t.writes }))
+    its-record run =
+        let c = is-commit built start older n flags k x parents run in
+        let u = is-told built start older n flags k x parents run in
+        let r : Record = record { id = x; parents = parents; writes = writes_of c.txn } in
+        let newest : record_at (history (step built) start (n asks Commit flags k => Committed x parents ∷ older)) x ≡ Some r =
+        subst (λ rs. record_at rs x ≡ Some r) (sym c.grown) (record-of-newest (history (step built) start older) r) in
+        (u.0, u.1, newest ∙ ap (λ (ws : List KeyWrite). Some (record r { writes = ws })) (sym u.2.writes))
+
+  pub commits-are-kept : CommitsAreKept (step built)
+  commits-are-kept start newer older n flags k x parents run =
+      let line = n asks Commit flags k => Committed x parents in
+      let own = its-record start older n flags k x parents (older-run start newer (line ∷ older) run) in
+      (
+        own.0,
+        own.1,
+        keeps-on (λ rs. record_at rs x ≡ Some (record { id = x; parents = parents; writes = own.0.writes })) (λ rs r dag f e. record-stays rs r f x _ e) start newer
+            (line ∷ older) run own.2,
+      )
+
+  pub told-record : (start : Site) (newer older : List Line) (n : ℕ) (flags : EndFlags) (k : ℕ) (x : StateId) (parents : List StateId) (t : Told) →
+      IsRun (step built) start (committing newer n flags k x parents older) → told n older ≡ Some t →
+      record_at (history (step built) start (committing newer n flags k x parents older)) x ≡ Some (record { id = x; parents = parents; writes = t.writes })
+  told-record start newer older n flags k x parents t run e =
+      let kept = commits-are-kept start newer older n flags k x parents run in
+      kept.2 ∙ ap (λ (u : Told). Some (record { id = x; parents = parents; writes = u.writes })) (same_Some kept.0 t (sym kept.1 ∙ e))
+
+  pub commits-are-shown : CommitsAreShown (step built)
+  commits-are-shown start newer older n flags k x parents t run e key w y writes known above none =
+      let lines = committing newer n flags k x parents older in
+      shown-below (history (step built) start lines) (run-holds built start lines run).sound.dag key x y (record { id = x; parents = parents; writes = t.writes }) w
+      (told-record start newer older n flags k x parents t run e) writes known above none
+
+  pub other-keys-are-joined : OtherKeysAreJoined (step built)
+  other-keys-are-joined start newer older n flags k x parents t run e key lacks =
+      let lines = committing newer n flags k x parents older in
+      let rs = history (step built) start lines in
+      let dag = (run-holds built start lines run).sound.dag in
+      let q : Record = record { id = x; parents = parents; writes = t.writes } in
+      let at = told-record start newer older n flags k x parents t run e in
+      (no-conflict rs (dag-grows rs dag) key x q at lacks, joined rs dag key x q at lacks)
+
+  -- ===== Below what was read
+
+  -- the newest state is below its only parent, and what is at or above that
+  below-parent : (rs : List Record) (r : Record) (p s : StateId) → r.parents ≡ p ∷ [] → IsTrue (is_above rs s p) → IsTrue (is_above (r ∷ rs) s r.id)
+  below-parent rs r p s e above =
+      above-by-parent rs r s p r.id (same_id_self r.id) (subst (λ (ps : List StateId). IsTrue (is_among p ps)) (sym e) (among-first p [])) above
+
+  joins-reads : (rs : List Record) → IsDag rs → (flags : EndFlags) (t : Txn) (x : StateId) (parents : List StateId) → IsTrue (list_all (is_known rs) (read_states t)) →
+      IsPlaced rs flags t parents →
+      IsTrue (are_above (record { id = x; parents = parents; writes = writes_of t } ∷ rs) (read_states t) x) × (IsTrue (is_merge t) → parents ≡ read_states t)
+  joins-reads rs dag flags (Single t) x parents known placed =
+      let r : Record = record { id = x; parents = parents; writes = t.writes } in
+      let keys = guarded flags t.reads (keys_of t.writes) in
+      let lands = lands-below rs keys t.state dag (and_parts (is_known rs t.state) true known).0 in
+      (and_from (is_above (r ∷ rs) t.state x) true (below-parent rs r (landing rs keys t.state) t.state placed lands.1) refl, λ m. absurd (cc))
+  joins-reads rs dag flags (Merge t) x parents known placed =
+      let r : Record = record { id = x; parents = parents; writes = t.writes } in (
+        all-from (λ v. is_above (r ∷ rs) v x) t.states
+            (λ s m. above-by-parent rs r s s x (same_id_self x) (subst (λ (ps : List StateId). IsTrue (is_among s ps)) (sym placed.0) m) (above-reflexive rs s)),
+        λ m. placed.0,
+      )
+
+  -- states at or above a known one stay so
+  above-stay : (x : StateId) (xs : List StateId) (rs : List Record) (r : Record) → IsDag rs → Fits rs r → IsTrue (is_known rs x) × IsTrue (are_above rs xs x) →
+      IsTrue (is_known (r ∷ rs) x) × IsTrue (are_above (r ∷ rs) xs x)
+  above-stay x xs rs r dag f h = (
+    known-stays rs r x h.0,
+    all-implies (λ v. is_above rs v x) (λ v. is_above (r ∷ rs) v x) (λ v a. above-stays rs r f (dag-grows rs dag) v x h.0 ∙ a) xs h.1,
+  )
+
+  pub commits-join-what-they-read : CommitsJoinWhatTheyRead (step built)
+  commits-join-what-they-read start newer older n flags k x parents t run e =
+      let line = n asks Commit flags k => Committed x parents in
+      let own = older-run start newer (line ∷ older) run in
+      let c = is-commit built start older n flags k x parents own in
+      let u = is-told built start older n flags k x parents own in
+      let sound = (before built start older n flags k x parents own).sound in
+      let rs = history (step built) start older in
+      let j = joins-reads rs sound.dag flags c.txn x parents (sound.each_txn n c.txn c.open_there).2.known c.placed in
+      let same = same_Some u.0 t (sym u.1 ∙ e) in
+      let states : read_states c.txn ≡ t.states = sym u.2.states ∙ ap (λ (v : Told). v.states) same in
+      let merges : t.merges ≡ is_merge c.txn = ap (λ (v : Told). v.merges) (sym same) ∙ u.2.merges in
+      let r : Record = record { id = x; parents = parents; writes = writes_of c.txn } in
+      let at : IsTrue (is_known (history (step built) start (line ∷ older)) x) × IsTrue (are_above (history (step built) start (line ∷ older)) t.states x) =
+      subst (λ qs. IsTrue (is_known qs x) × IsTrue (are_above qs t.states x)) (sym c.grown)
+      (newest-is-known rs r, subst (λ xs. IsTrue (are_above (r ∷ rs) xs x)) states j.0) in (
+        (keeps-on (λ qs. IsTrue (is_known qs x) × IsTrue (are_above qs t.states x)) (above-stay x t.states) start newer (line ∷ older) run at).1,
+        λ m. j.1 (sym merges ∙ m) ∙ states,
+      )
+
+  -- ===== Own commits
+
+  -- a transaction begins where it is told to, by the session's last commit
+  begun-at : (b : Begin) (start : Site) (older : List Line) (n : ℕ) (s : StateId) → IsRun (step built) start (n asks BeginAt b => Begun s ∷ older) →
+      begin_state (history (step built) start older) (last_commit n older) b ≡ s
+  begun-at b start older n s run =
+      let site = site_after (step built) start older in
+      let line = n asks BeginAt b => Begun s in
+      let h = run-holds built start older (run-before built start line older run) in
+      let at = (step-tells-begin built site n b).told s (sym (was-answered built site line run.answered.1 refl)) in
+      let last : at.0.last ≡ last_commit n older = subst (HasLast (last_commit n older)) at.1 (h.session n) in
+      ap (λ x. begin_state site.dag x b) (sym last) ∙ at.2
+
+  pub above-last-below : (rs : List Record) (x : StateId) → IsTrue (is_above rs x (last_below rs x))
+  above-last-below rs x = elim (option-cases (find (is_above rs x) (states rs))) [
+    | inl y ↦ subst (λ o. IsTrue (is_above rs x (unwrap_or o x))) (sym y.1) (found-passes (is_above rs x) (states rs) y.0 y.1).1
+    | inr none ↦ subst (λ o. IsTrue (is_above rs x (unwrap_or o x))) (sym none) (above-reflexive rs x)
+  ]
+
+  pub sessions-read-their-commits : SessionsReadTheirCommits (step built)
+  sessions-read-their-commits = record {
+    parent = λ start older n s run. sym (begun-at Parent start older n s run);
+    ancestor = λ start older n s run.
+        let rs = history (step built) start older in
+        let last = last_commit n older in
+        subst (λ z. IsTrue (is_above rs last z)) (begun-at Ancestor start older n s run) (above-last-below rs last);
+    any = λ start older n s run.
+        let rs = history (step built) start older in
+        let last = last_commit n older in
+        let e = begun-at Any start older n s run in
+        (λ h. subst (λ z. IsTrue (is_above rs last z)) (sym e) h, λ h. subst (λ z. IsTrue (is_above rs last z)) e h);
+  }

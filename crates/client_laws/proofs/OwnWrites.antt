@@ -1,0 +1,67 @@
+-- A transaction reads its own writes.
+use Rattle.std.proofs.Common.{◌≡◌, ℕ, Bool, true, false, not, List, [], ◌∷◌, Option, Some, None, IsTrue, ◌⊎◌, inl, inr, refl, sym, ap, subst, ◌∙◌}
+use Rattle.std.proofs.lemmas.Option.{none-some, same_Some}
+use Rattle.tardis_base.specs.declared.records.Write.{Write}
+use Rattle.tardis_base.specs.declared.requests.Request.TheVariants.{Get}
+use Rattle.tardis_base.specs.declared.replies.Refusal.{Refusal}
+use Rattle.tardis_base.specs.declared.replies.Refusal.TheVariants.{NotOpen, TxnOpen, NoTxn, Unsupported}
+use Rattle.tardis_base.specs.declared.replies.Reply.{Reply}
+use Rattle.tardis_base.specs.declared.replies.Reply.TheVariants.{Refused, NoMemory}
+use Rattle.tardis_base.specs.Ids.{root}
+use Rattle.tardis_base.specs.Keys.{write_of}
+use Rattle.plain_dag.specs.Entries.{entry_of}
+use Rattle.wire_talk.specs.Codes.{code_of}
+use Rattle.plain_site.specs.Site.{Site, Txn, writes_of}
+use Rattle.plain_site.specs.Built.{Built, is_built}
+use Rattle.plain_site.specs.Answers.{Answer, refuse, unless, shown}
+use Rattle.plain_site.specs.Reads.{read_in, get}
+use Rattle.plain_site.specs.Step.{served, step}
+use Rattle.plain_site.specs.RowWords.{Line, ◌asks◌=>◌}
+use Rattle.plain_site.specs.ClientRuns.{wants_memory, is_shown, site_after, IsAnswered, IsRun, Told, told}
+use Rattle.plain_site.specs.ClientLaws.{OwnWritesAreRead}
+use Rattle.plain_site.proofs.RepliesFrame.{given-good, by-txn}
+use Rattle.client_laws.proofs.Effects.{refuse-only, unless-refused}
+use Rattle.client_laws.proofs.Held.{run-holds, run-before}
+use Rattle.client_laws.proofs.Laws.{tells-open}
+
+-- where a value is shown, the actor's transaction wrote it, if it wrote the key
+record ShowsOwn (site : Site) (n : ℕ) (k : List ℕ) (answer : Answer) : Type 0 where
+  own : IsTrue (is_shown answer.1) → (t : Txn) (w : Write) → entry_of n site.txns ≡ Some t → write_of k (writes_of t) ≡ Some w → answer.1 ≡ shown root w
+
+module _ (built : Built) (site : Site) (n : ℕ) (k : List ℕ) where
+  refused-shows : (refusal : Refusal) → ShowsOwn site n k (site, Refused refusal)
+  refused-shows refusal = record { own = λ h t w e d. absurd (cc) }
+
+  get-shows : (t : Txn) → entry_of n site.txns ≡ Some t → ShowsOwn site n k (get site n t k)
+  get-shows t there =
+      given-good (ShowsOwn site n k) (write_of k (writes_of t)) (read_in site n t k) (λ w. (site, shown root w))
+      (λ none. record { own = λ h u w e d. absurd (none-some w (sym none ∙ (ap (λ v. write_of k (writes_of v)) (same_Some t u (sym there ∙ e)) ∙ d))) })
+      (λ v some. record {
+        own = λ h u w e d. ap (shown root) (same_Some v w (sym some ∙ (ap (λ x. write_of k (writes_of x)) (same_Some t u (sym there ∙ e)) ∙ d)));
+      })
+
+  step-shows : ShowsOwn site n k (step built site n (Get k))
+  step-shows =
+      let unbuilt = not (is_built built (Get k)) in
+      unless-refused (ShowsOwn site n k) site (refuse unbuilt (Unsupported (code_of (Get k))) ∷ []) (served built site n (Get k))
+      (refuse-only unbuilt (Unsupported (code_of (Get k))) [] tt) refused-shows
+      (by-txn {site = site} {Good = ShowsOwn site n k}
+      (record { not_open = refused-shows NotOpen; no_txn = refused-shows NoTxn; txn_open = refused-shows TxnOpen }) n (λ s t. get site n t k)
+      (λ s t e d. get-shows t d))
+
+shown-wants-nothing : (reply : Reply) → IsTrue (is_shown reply) → IsTrue (wants_memory reply) → ⊥
+shown-wants-nothing NoMemory h t = absurd (cc)
+shown-wants-nothing reply h t = absurd (cc)
+
+shown-is-answered : (built : Built) (site : Site) (line : Line) → IsAnswered (step built) site line → IsTrue (is_shown line.reply) → line.reply ≡ (step built site line.actor line.request).1
+shown-is-answered built site line (inl e) h = e
+shown-is-answered built site line (inr wants) h = absurd (shown-wants-nothing line.reply h wants)
+
+pub own-writes-are-read : (built : Built) → OwnWritesAreRead (step built)
+own-writes-are-read built start older n key w reply t run e writes h =
+    let site = site_after (step built) start older in
+    let line = n asks Get key => reply in
+    let held = run-holds built start older (run-before built start line older run) in
+    let its = tells-open site.dag (entry_of n site.txns) (told n older) t e (held.txn n) in
+    let is = shown-is-answered built site line run.answered.1 h in
+    is ∙ (step-shows built site n key).own (subst (λ r. IsTrue (is_shown r)) is h) its.0 w its.1 (ap (write_of key) (sym its.2.writes) ∙ writes)

@@ -1,0 +1,27 @@
+use Rattle.client_laws.proofs.Kept.{commits-are-kept, commits-are-shown, commits-join-what-they-read, other-keys-are-joined}
+use Rattle.client_laws.proofs.Wrong.{forgotten-records-break, open-conflicts-break, dropped-sides-break, open-conflicts-break-joins}
+use Rattle.client_laws.proofs.nothing_committed_is_lost.Goals as goal
+
+pub returns-clause-kept : goal.returns-clause-kept
+returns-clause-kept c = commits-are-kept
+
+pub returns-clause-shown : goal.returns-clause-shown
+returns-clause-shown c = commits-are-shown
+
+pub returns-clause-joins : goal.returns-clause-joins
+returns-clause-joins c = commits-join-what-they-read
+
+pub returns-clause-others : goal.returns-clause-others
+returns-clause-others c = other-keys-are-joined
+
+pub returns-clause-forgotten_breaks : goal.returns-clause-forgotten_breaks
+returns-clause-forgotten_breaks c = forgotten-records-break
+
+pub returns-clause-conflicts_break : goal.returns-clause-conflicts_break
+returns-clause-conflicts_break c = open-conflicts-break
+
+pub returns-clause-dropped_breaks : goal.returns-clause-dropped_breaks
+returns-clause-dropped_breaks c = dropped-sides-break
+
+pub returns-clause-conflicts_break_others : goal.returns-clause-conflicts_break_others
+returns-clause-conflicts_break_others c = open-conflicts-break-joins

@@ -1,0 +1,63 @@
+//! What a client can rely on, as laws over whole runs: from an opening site on, whatever any actors ask, other sites' records
+//! and promises included, under any limits, and whatever of the site is built. The program calls none of it: each function
+//! here is empty, and its contracts are laws, and beside each a wrong step that breaks it in a run of a few lines.
+//! `docs/MODEL.md` says each law in plain words.
+#![tactic(auto)]
+
+ghost use Rattle.plain_site.specs.Built.{Built};
+ghost use Rattle.plain_site.specs.Step.{step};
+ghost use Rattle.plain_site.specs.ClientLaws.{ReadsOneSnapshot, OwnWritesAreRead, SerializableReadsHold, BranchesAreSerial, SnapshotsOverwriteNothingUnseen, CommitsAreKept, CommitsAreShown, OtherKeysAreJoined, CommitsJoinWhatTheyRead, SessionsReadTheirCommits, RefusalsHideNothing};
+ghost use Rattle.plain_site.specs.WrongSteps.{IsBrokenBy, reads_newest, forgets_own_writes, forgets_reads, forgets_constraints, forgets_collected, leaves_conflicts, drops_sides, forgets_commits, ends_refused};
+
+/// Each transaction reads one snapshot, however long it runs and whatever is committed meanwhile: each of its reads shows the
+/// value over its read states. What it wrote itself it is shown as it wrote it.
+pub fn transactions_read_one_snapshot()
+    ensures snapshot { (built : Built) → ReadsOneSnapshot (step built) }
+    ensures own_writes { (built : Built) → OwnWritesAreRead (step built) }
+    ensures newest_breaks { IsBrokenBy ReadsOneSnapshot reads_newest }
+    ensures forgotten_breaks { IsBrokenBy OwnWritesAreRead forgets_own_writes }
+{}
+
+/// Each serializable transaction has read what its place in its branch shows. So each branch is a serial history of its
+/// serializable transactions: done one after another from the root on, they read what they did read.
+pub fn serializable_transactions_read_what_their_place_shows()
+    ensures reads { (built : Built) → SerializableReadsHold (step built) }
+    ensures serial { (built : Built) → BranchesAreSerial (step built) }
+    ensures forgotten_breaks { IsBrokenBy SerializableReadsHold forgets_reads }
+    ensures forgotten_breaks_branches { IsBrokenBy BranchesAreSerial forgets_reads }
+{}
+
+/// A transaction under snapshot isolation overwrites nothing that it hasn't seen: between its snapshot and its place nothing
+/// writes a key that it wrote.
+pub fn snapshots_overwrite_nothing_unseen()
+    ensures unseen { (built : Built) → SnapshotsOverwriteNothingUnseen (step built) }
+    ensures forgotten_breaks { IsBrokenBy SnapshotsOverwriteNothingUnseen forgets_constraints }
+{}
+
+/// Nothing committed is lost, whatever comes: a commit's state stays known with its parents and its writes, and shows them
+/// to all below it until one of these writes the key. It stands below all that its transaction read, a merge just below all
+/// its read states; and it shows each key that it didn't write as the one value over its parents.
+pub fn nothing_committed_is_lost()
+    ensures kept { (built : Built) → CommitsAreKept (step built) }
+    ensures shown { (built : Built) → CommitsAreShown (step built) }
+    ensures joins { (built : Built) → CommitsJoinWhatTheyRead (step built) }
+    ensures others { (built : Built) → OtherKeysAreJoined (step built) }
+    ensures forgotten_breaks { IsBrokenBy CommitsAreKept forgets_collected }
+    ensures conflicts_break { IsBrokenBy CommitsAreShown leaves_conflicts }
+    ensures dropped_breaks { IsBrokenBy CommitsJoinWhatTheyRead drops_sides }
+    ensures conflicts_break_others { IsBrokenBy OtherKeysAreJoined leaves_conflicts }
+{}
+
+/// A session that begins at Parent reads its last commit, at Ancestor that or a state below it, and at Any too exactly where
+/// the state that arrived last is at or below it.
+pub fn sessions_read_their_own_commits()
+    ensures own { (built : Built) → SessionsReadTheirCommits (step built) }
+    ensures forgotten_breaks { IsBrokenBy SessionsReadTheirCommits forgets_commits }
+{}
+
+/// A request that was refused is as if it hadn't been sent. So a refused commit leaves its transaction as it was, and the
+/// same commit with weaker constraints is answered as if the refused one had not been sent.
+pub fn refusals_hide_nothing()
+    ensures as_not_sent { (built : Built) → RefusalsHideNothing (step built) }
+    ensures ended_breaks { IsBrokenBy RefusalsHideNothing ends_refused }
+{}

@@ -1,0 +1,158 @@
+-- What a client can rely on, as laws over whole runs. Each is a law of what a site does at requests (`Service`), so that it
+-- can be asked of a wrong one too.
+use Rattle.std.specs.Prelude.{◌≡◌, ℕ, ◌↔◌, List, [], ◌∷◌, ◌++◌, Option, Some, None, IsTrue, IsFalse}
+use Rattle.tardis_base.specs.declared.ids.StateId.{StateId}
+use Rattle.tardis_base.specs.declared.records.Record.{Record}
+use Rattle.tardis_base.specs.declared.records.Write.{Write}
+use Rattle.tardis_base.specs.declared.requests.Begin.TheVariants.{Any, Ancestor, Parent}
+use Rattle.tardis_base.specs.declared.requests.EndFlags.{EndFlags}
+use Rattle.tardis_base.specs.declared.requests.Request.TheVariants.{Begin, Get, Commit}
+use Rattle.tardis_base.specs.declared.replies.Reply.{Reply}
+use Rattle.tardis_base.specs.declared.replies.Reply.TheVariants.{Begun, Committed}
+use Rattle.tardis_base.specs.Ids.{root}
+use Rattle.tardis_base.specs.Keys.{has_key, write_of}
+use Rattle.plain_dag.specs.States.{is_known, record_at}
+use Rattle.plain_dag.specs.Above.{is_above, is_proper_ancestor}
+use Rattle.plain_dag.specs.Writers.{is_writer, are_above, read}
+use Rattle.plain_dag.specs.Conflicts.{is_conflict_key, value_over}
+use Rattle.plain_dag.specs.Begin.{last_arrived}
+use Rattle.plain_dag.specs.Landing.{is_ser, is_si}
+use Rattle.plain_site.specs.Site.{Site}
+use Rattle.plain_site.specs.Answers.{leaves_site, shown}
+use Rattle.plain_site.specs.RowWords.{Line, ◌asks◌=>◌}
+use Rattle.plain_site.specs.ClientRuns.{Service, IsRun, Told, told, is_shown, site_after, history, last_commit, ReadsShow}
+
+-- ===== Commits among lines
+
+-- a commit of the actor, whatever came before and after
+abbrev pub committing : List Line → ℕ → EndFlags → ℕ → StateId → List StateId → List Line → List Line
+committing newer n flags k x parents older = newer ++ (n asks Commit flags k => Committed x parents) ∷ older
+
+-- ===== Each transaction reads one snapshot
+
+-- however long a transaction runs, each of its reads shows the value over its read states; where that is one state, it
+-- shows what is read there
+pub record ReadsOneSnapshot (service : Service) : Type 0 where
+  pub of_several : (start : Site) (lines : List Line) (n : ℕ) (t : Told) → IsRun service start lines → told n lines ≡ Some t →
+      ReadsShow (value_over (history service start lines) t.states) t.reads
+  pub of_one : (start : Site) (lines : List Line) (n : ℕ) (t : Told) (s : StateId) → IsRun service start lines → told n lines ≡ Some t → t.states ≡ s ∷ [] →
+      ReadsShow (λ key. read (history service start lines) key s) t.reads
+
+-- ===== Each serializable transaction has read what its place in its branch shows
+
+-- a transaction that commits with SER has one parent p, and each of its reads shows what is read at p at its commit
+abbrev pub SerializableReadsHold : Service → Type 0
+SerializableReadsHold service =
+    (start : Site) (older : List Line) (n : ℕ) (flags : EndFlags) (k : ℕ) (x : StateId) (parents : List StateId) →
+    IsRun service start (n asks Commit flags k => Committed x parents ∷ older) → IsTrue (is_ser flags) →
+    (t : Told) × (p : StateId) × (told n older ≡ Some t) × (parents ≡ p ∷ []) × ReadsShow (λ key. read (history service start older) key p) t.reads
+
+-- these records, newest first, are the branch from the root down to x: each state has the next of them as its only parent
+abbrev pub IsBranch : List Record → List Record → StateId → Type 0
+IsBranch rs [] x = x ≡ root
+IsBranch rs (r ∷ before) x = (p : StateId) × (record_at rs x ≡ Some r) × (r.parents ≡ p ∷ []) × IsBranch rs before p
+
+-- what a key holds after these, newest first, were done one after another: the newest write to it, if there is one
+abbrev pub one_after_another : List Record → List ℕ → Option (StateId × Write)
+one_after_another [] key = None
+one_after_another (r ∷ before) key =
+    let older = one_after_another before key in
+    elim (write_of key r.writes) [ Some w ↦ Some (r.id, w) | None ↦ older ]
+
+-- the transaction made the state x by its commit with these end constraints, among these lines
+abbrev pub HasMade : List Line → StateId → EndFlags → Told → Type 0
+HasMade lines x flags t =
+    (newer : List Line) × (older : List Line) × (n : ℕ) × (k : ℕ) × (parents : List StateId)
+    × (lines ≡ committing newer n flags k x parents older) × (told n older ≡ Some t)
+
+-- done one after another in the order of the branch, its serializable transactions read what they did read
+abbrev pub IsSerial : List Line → List Record → Type 0
+IsSerial lines [] = Unit {0}
+IsSerial lines (r ∷ before) =
+    ((flags : EndFlags) (t : Told) → HasMade lines r.id flags t → IsTrue (is_ser flags) → ReadsShow (one_after_another before) t.reads) × IsSerial lines before
+
+-- so each branch is a serial history of its serializable transactions
+abbrev pub BranchesAreSerial : Service → Type 0
+BranchesAreSerial service =
+    (start : Site) (lines : List Line) (branch : List Record) (x : StateId) → IsRun service start lines → IsBranch (history service start lines) branch x →
+    IsSerial lines branch
+
+-- ===== Snapshot transactions overwrite nothing that they haven't seen
+
+-- a transaction that commits with SI has one read state s and one parent p; each of its reads shows what is read at s, and
+-- what writes a key of its writes and is at or above p is at or above s
+abbrev pub SnapshotsOverwriteNothingUnseen : Service → Type 0
+SnapshotsOverwriteNothingUnseen service =
+    (start : Site) (older : List Line) (n : ℕ) (flags : EndFlags) (k : ℕ) (x : StateId) (parents : List StateId) →
+    IsRun service start (n asks Commit flags k => Committed x parents ∷ older) → IsTrue (is_si flags) →
+    (t : Told) × (s : StateId) × (p : StateId) × (told n older ≡ Some t) × (t.states ≡ s ∷ []) × (parents ≡ p ∷ [])
+    × ReadsShow (λ key. read (history service start older) key s) t.reads
+    × ((key : List ℕ) (w : StateId) → IsTrue (has_key key t.writes) → IsTrue (is_writer (history service start older) key p w) → IsTrue (is_above (history service start older) w s))
+
+-- ===== Nothing committed is lost
+
+-- whatever came after a commit: its state has its parents, and what the transaction wrote
+abbrev pub CommitsAreKept : Service → Type 0
+CommitsAreKept service =
+    (start : Site) (newer older : List Line) (n : ℕ) (flags : EndFlags) (k : ℕ) (x : StateId) (parents : List StateId) →
+    let lines = committing newer n flags k x parents older in
+    IsRun service start lines →
+    (t : Told) × (told n older ≡ Some t) × (record_at (history service start lines) x ≡ Some (record { id = x; parents = parents; writes = t.writes }))
+
+-- a key that it wrote shows that at each state at or below it, until one below it and at or above that state writes the key
+abbrev pub CommitsAreShown : Service → Type 0
+CommitsAreShown service =
+    (start : Site) (newer older : List Line) (n : ℕ) (flags : EndFlags) (k : ℕ) (x : StateId) (parents : List StateId) (t : Told) →
+    let lines = committing newer n flags k x parents older in
+    let rs = history service start lines in
+    IsRun service start lines → told n older ≡ Some t →
+    (key : List ℕ) (w : Write) (y : StateId) → write_of key t.writes ≡ Some w → IsTrue (is_known rs y) → IsTrue (is_above rs x y) →
+    ((z : StateId) → IsTrue (is_proper_ancestor rs x z) → IsTrue (is_writer rs key y z) → ⊥) →
+    read rs key y ≡ Some (x, w)
+
+-- a key that it didn't write shows the one value over its parents, of which the key is no conflict key
+abbrev pub OtherKeysAreJoined : Service → Type 0
+OtherKeysAreJoined service =
+    (start : Site) (newer older : List Line) (n : ℕ) (flags : EndFlags) (k : ℕ) (x : StateId) (parents : List StateId) (t : Told) →
+    let lines = committing newer n flags k x parents older in
+    let rs = history service start lines in
+    IsRun service start lines → told n older ≡ Some t →
+    (key : List ℕ) → IsFalse (has_key key t.writes) → IsFalse (is_conflict_key rs parents key) × (read rs key x ≡ value_over rs parents key)
+
+-- its state is at or below each state that the transaction read, and of a merge these are its parents
+abbrev pub CommitsJoinWhatTheyRead : Service → Type 0
+CommitsJoinWhatTheyRead service =
+    (start : Site) (newer older : List Line) (n : ℕ) (flags : EndFlags) (k : ℕ) (x : StateId) (parents : List StateId) (t : Told) →
+    let lines = committing newer n flags k x parents older in
+    IsRun service start lines → told n older ≡ Some t →
+    IsTrue (are_above (history service start lines) t.states x) × (IsTrue t.merges → parents ≡ t.states)
+
+-- ===== Sessions read their own commits
+
+-- a Get of a key that the transaction wrote is shown what it wrote last; the root stands for its writer
+abbrev pub OwnWritesAreRead : Service → Type 0
+OwnWritesAreRead service =
+    (start : Site) (older : List Line) (n : ℕ) (key : List ℕ) (w : Write) (reply : Reply) (t : Told) →
+    IsRun service start (n asks Get key => reply ∷ older) → told n older ≡ Some t → write_of key t.writes ≡ Some w → IsTrue (is_shown reply) →
+    reply ≡ shown root w
+
+-- Parent begins at the session's last commit, Ancestor at or below it, and Any exactly where the state that arrived last is:
+-- with any of them a session reads its own commit, with Any as far as the last-arrived state is at or below it
+pub record SessionsReadTheirCommits (service : Service) : Type 0 where
+  pub parent : (start : Site) (older : List Line) (n : ℕ) (s : StateId) → IsRun service start (n asks Begin Parent => Begun s ∷ older) → s ≡ last_commit n older
+  pub ancestor : (start : Site) (older : List Line) (n : ℕ) (s : StateId) → IsRun service start (n asks Begin Ancestor => Begun s ∷ older) →
+      IsTrue (is_above (history service start older) (last_commit n older) s)
+  pub any : (start : Site) (older : List Line) (n : ℕ) (s : StateId) → IsRun service start (n asks Begin Any => Begun s ∷ older) →
+      IsTrue (is_above (history service start older) (last_commit n older) s)
+      ↔ IsTrue (is_above (history service start older) (last_commit n older) (last_arrived (history service start older)))
+
+-- ===== Refusals promise nothing hidden
+
+-- a request that was refused, or answered Known or Early, is as if it hadn't been sent: without it, what came after is
+-- answered the same and leads to the same site. So a refused commit leaves its transaction as it was, and the same commit
+-- with weaker constraints is answered as if the refused one had not been sent
+abbrev pub RefusalsHideNothing : Service → Type 0
+RefusalsHideNothing service =
+    (start : Site) (newer older : List Line) (line : Line) → IsTrue (leaves_site line.reply) →
+    IsRun service start (newer ++ line ∷ older) →
+    IsRun service start (newer ++ older) × (site_after service start (newer ++ line ∷ older) ≡ site_after service start (newer ++ older))
