@@ -30,7 +30,7 @@ use Rattle.plain_dag.proofs.Keys.{same-key}
 use Rattle.plain_dag.proofs.ConflictKeys.{lists-conflict-keys}
 use Rattle.plain_dag.proofs.Landing.{lands-below}
 use Rattle.plain_dag.proofs.Collected.{proper-above}
-use Rattle.plain_site.specs.Site.{Site, SingleTxn, MergeTxn, Txn, Single, Merge, own_floor, own_count, next_id}
+use Rattle.plain_site.specs.Site.{Site, SingleTxn, MergeTxn, Txn, Single, Merge, own_floor, own_count, next_id, next_record}
 use Rattle.plain_site.specs.Built.{Built}
 use Rattle.plain_site.specs.Answers.{Answer, refuse, refuse_found}
 use Rattle.plain_site.specs.Commits.{without_txn_of, with_record, growth_refusals, committed, commit_below, commit_writes, commit_single, commit_merge, commit}
@@ -53,10 +53,6 @@ pub record MayJoin (site : Site) (parents : List StateId) (writes : List KeyWrit
   pub apart : IsTrue (are_apart site.dag parents)
   pub merges : (k : List ℕ) → IsTrue (is_conflict_key site.dag parents k) → IsTrue (has_key k writes)
   pub free : (p : StateId) → IsTrue (is_among p parents) → IsFalse (is_closed site.dag site.floors p)
-
--- the next record of the site, below these parents
-abbrev pub next_record : Site → List StateId → List KeyWrite → Record
-next_record site parents writes = record { id = next_id site; parents = parents; writes = writes }
 
 pub own-next : (built : Built) (site : Site) (parents : List StateId) (writes : List KeyWrite) → IsSound built site → MayJoin site parents writes →
     own_count site ≢ 4294967295 → IsNext site.dag (next_record site parents writes)

@@ -13,7 +13,7 @@ use Rattle.plain_dag.specs.Landing.{landing, guarded, broken}
 use Rattle.plain_dag.specs.Entries.{changed, without_entry}
 use Rattle.plain_dag.specs.Floors.{after_commit}
 use Rattle.plain_dag.specs.Growth.{growth_refusal}
-use Rattle.plain_site.specs.Site.{Site, SingleTxn, MergeTxn, Txn, Single, Merge, own_count, next_id}
+use Rattle.plain_site.specs.Site.{Site, SingleTxn, MergeTxn, Txn, Single, Merge, own_count, next_record}
 use Rattle.plain_site.specs.Built.{Built}
 use Rattle.plain_site.specs.Answers.{Answer, refuse, refuse_found, unless}
 
@@ -46,7 +46,7 @@ committed site n r = (
 -- the next state of the site joins below these parents, after the refusals that go before
 abbrev pub commit_below : Built → Site → ℕ → List StateId → List KeyWrite → List (Option Reply) → Answer
 commit_below built site n parents writes refusals =
-    let r : Record = record { id = next_id site; parents = parents; writes = writes } in
+    let r = next_record site parents writes in
     unless site (refusals ++ refuse (own_count site == 4294967295) SeqEnd ∷ growth_refusals built site r) (committed site n r)
 
 -- a single transaction commits below its landing, unless that has too many children

@@ -1,6 +1,7 @@
 -- Merges begin, and show what is to be joined.
-use Rattle.std.specs.Prelude.{ℕ, not, nat_lt, List, [], ◌∷◌, length, take, filter, find, min, if◌then◌else◌}
+use Rattle.std.specs.Prelude.{ℕ, not, nat_lt, List, [], ◌∷◌, length, take, filter, find, min, Option, if◌then◌else◌}
 use Rattle.tardis_base.specs.declared.ids.StateId.{StateId}
+use Rattle.tardis_base.specs.declared.records.Record.{Record}
 use Rattle.tardis_base.specs.declared.requests.MergeOf.{MergeOf}
 use Rattle.tardis_base.specs.declared.requests.MergeOf.TheVariants.{Leaves, States as TheseStates}
 use Rattle.tardis_base.specs.declared.replies.Refusal.TheVariants.{TooMany, Unknown, Below, Comparable, WrongMode}
@@ -35,18 +36,29 @@ abbrev pub states_to_merge : Site → MergeOf → List StateId
 states_to_merge site Leaves = leaves site.dag
 states_to_merge site (TheseStates xs) = xs
 
+-- the first of these states that is unknown
+abbrev pub first_unknown : List Record → List StateId → Option StateId
+first_unknown rs xs = find (λ x. not (is_known rs x)) xs
+
+-- the first of these states that isn't admitted under the ceiling
+abbrev pub first_below : List Record → StateId → List StateId → Option StateId
+first_below rs ceiling xs = find (λ x. not (is_admitted rs ceiling x)) xs
+
+-- the session has a merge of these states that has written nothing
+abbrev pub merging : Site → ℕ → List StateId → Answer
+merging site n xs = (record site { txns = with_entry n (Merge (record { states = xs; writes = [] })) site.txns }, Merging xs)
+
 -- a merge begins at no more than 8 states that are known, admitted and apart; each is tried for one thing before any is
 -- tried for the next
 abbrev pub merge_at : Site → ℕ → StateId → List StateId → Answer
 merge_at site n ceiling xs =
-    let states = in_order xs in
     unless site
     (refuse (nat_lt 8 (length xs)) (TooMany 3 (length xs))
-    ∷ refuse_found Unknown (find (λ x. not (is_known site.dag x)) xs)
-    ∷ refuse_found (λ x. Below x ceiling) (find (λ x. not (is_admitted site.dag ceiling x)) xs)
+    ∷ refuse_found Unknown (first_unknown site.dag xs)
+    ∷ refuse_found (λ x. Below x ceiling) (first_below site.dag ceiling xs)
     ∷ refuse_found (λ pair. Comparable pair.0 pair.1) (comparable_pair site.dag xs)
     ∷ [])
-    (record site { txns = with_entry n (Merge (record { states = states; writes = [] })) site.txns }, Merging states)
+    (merging site n (in_order xs))
 
 abbrev pub begin_merge : Site → ℕ → Session → MergeOf → Answer
 begin_merge site n s of = merge_at site n s.ceiling (states_to_merge site of)

@@ -25,12 +25,16 @@ open_session site n follow =
 abbrev pub close_session : Site → ℕ → Answer
 close_session site n = (record site { sessions = without_entry n site.sessions; txns = without_entry n site.txns }, Closed)
 
+-- the session has a transaction at x that has read and written nothing
+abbrev pub begun : Site → ℕ → StateId → Answer
+begun site n x = (record site { txns = with_entry n (Single (record { state = x; reads = []; writes = [] })) site.txns }, Begun x)
+
 -- a single transaction begins at a state that is known and admitted
 abbrev pub begin_at : Site → ℕ → StateId → StateId → Answer
 begin_at site n ceiling x =
     unless site
     (refuse (not (is_known site.dag x)) (Unknown x) ∷ refuse (not (is_admitted site.dag ceiling x)) (Below x ceiling) ∷ [])
-    (record site { txns = with_entry n (Single (record { state = x; reads = []; writes = [] })) site.txns }, Begun x)
+    (begun site n x)
 
 abbrev pub begin : Site → ℕ → Session → Begin → Answer
 begin site n s b = begin_at site n s.ceiling (begin_state site.dag s.last b)

@@ -15,10 +15,14 @@ use Rattle.plain_site.specs.Site.{Site}
 use Rattle.plain_site.specs.Answers.{Answer, refuse, unless}
 use Rattle.plain_site.specs.Merges.{page_of_states}
 
--- for each site from this one on: its count, its floor and the number of its consent
+-- the line of one site: its count, its floor and the number of its consent
+abbrev pub line_of : List Record → ℕ → Floor → SiteLine
+line_of rs n f = record { count = count_of_site rs n; floor = f.state; number = f.number }
+
+-- the line of each site from this one on
 abbrev pub site_lines : List Record → ℕ → List Floor → List SiteLine
 site_lines rs n [] = []
-site_lines rs n (f ∷ fs) = record { count = count_of_site rs n; floor = f.state; number = f.number } ∷ site_lines rs (n + 1) fs
+site_lines rs n (f ∷ fs) = line_of rs n f ∷ site_lines rs (n + 1) fs
 
 -- how many states are known, the root among them, and how many are kept; the leaves of the whole history; the sessions
 abbrev pub stat : Site → Answer

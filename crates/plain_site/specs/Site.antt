@@ -59,6 +59,10 @@ own_count site = count_of_site site.dag site.own
 abbrev pub next_id : Site → StateId
 next_id site = record { site = site.own; sequence = own_count site + 1 }
 
+-- the next record of the site, with these parents and these writes
+abbrev pub next_record : Site → List StateId → List KeyWrite → Record
+next_record site parents writes = record { id = next_id site; parents = parents; writes = writes }
+
 -- what the transaction wrote
 abbrev pub writes_of : Txn → List KeyWrite
 writes_of (Single t) = t.writes

@@ -25,12 +25,11 @@ use Rattle.plain_site.specs.Site.{Site, Single, own_floor}
 use Rattle.plain_site.specs.Built.{Built}
 use Rattle.plain_site.specs.Sound.{IsSound}
 use Rattle.plain_site.specs.Answers.{refused, refuse, without_txn}
-use Rattle.plain_site.specs.Sessions.{begin}
+use Rattle.plain_site.specs.Sessions.{begin, begun}
 use Rattle.plain_site.proofs.SoundBooks.{open-session as sound-session}
 use Rattle.plain_site.proofs.SoundCommits.{closed-above_own}
-use Rattle.session_core.specs.declared.txns.OpenTxn.{OpenTxn}
+use Rattle.session_core.specs.declared.transactions.OpenTxn.{OpenTxn}
 use Rattle.session_core.specs.Core.{Core}
-use Rattle.session_core.specs.Begins.{begun}
 use Rattle.session_core.specs.Stands.{CoreStands}
 use Rattle.session_core.specs.Gives.{IsGiven}
 use Rattle.session_core.proofs.Answers.{skip, stop, as-given}

@@ -30,7 +30,7 @@ use Rattle.merge_txn.specs.Txns.{states_of, reads_of, writes_of as kept_writes}
 use Rattle.ceiling_book.specs.Book.{Book, known_floor, sessions_of, is_open}
 use Rattle.ceiling_book.specs.Places.{AreSlots, ArePlaced}
 use Rattle.ceiling_book.specs.Answers.{KeepsRest}
-use Rattle.plain_site.specs.Site.{Site, SingleTxn, Txn, Single, Merge, own_count, next_id, writes_of}
+use Rattle.plain_site.specs.Site.{Site, SingleTxn, Txn, Single, Merge, own_count, next_id, writes_of, next_record}
 use Rattle.plain_site.specs.Built.{so_far}
 use Rattle.plain_site.specs.Sound.{IsSound}
 use Rattle.plain_site.specs.Answers.{Answer, refused, refuse_found, unless, with_txn}
@@ -39,13 +39,12 @@ use Rattle.plain_site.proofs.SoundHistories.{above-closed}
 use Rattle.plain_site.proofs.SoundBooks.{own-is_site}
 use Rattle.plain_site.proofs.SoundCommits.{MayJoin, own-next, single-joins, admitted-isnt_closed}
 use Rattle.plain_site.proofs.RepliesSound.{limits-within}
-use Rattle.session_core.specs.declared.parts.Parts.TheInside.{Inside}
-use Rattle.session_core.specs.declared.txns.OpenTxn.{OpenTxn}
+use Rattle.session_core.specs.declared.Parts.TheInside.{Inside}
+use Rattle.session_core.specs.declared.transactions.OpenTxn.{OpenTxn}
 use Rattle.session_core.specs.Core.{Core}
 use Rattle.session_core.specs.Held.{IsHeld}
 use Rattle.session_core.specs.Stands.{CoreStands, kept_txn}
 use Rattle.session_core.specs.Gives.{IsGiven}
-use Rattle.session_core.specs.Commits.{next_record}
 use Rattle.session_core.proofs.Answers.{skip, as-given}
 use Rattle.session_core.proofs.Standing.{open-session, txn-answer, txn-ended}
 use Rattle.session_core.proofs.Growing.{slots-stay, names-stay}

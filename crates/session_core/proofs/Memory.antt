@@ -6,8 +6,8 @@ use Rattle.state_dag.specs.Table.{is_slot}
 use Rattle.ceiling_book.specs.Book.{Book, known_floor}
 use Rattle.ceiling_book.specs.Places.{AreSlots}
 use Rattle.ceiling_book.specs.Answers.{KeepsRest}
-use Rattle.session_core.specs.declared.parts.Parts.TheInside.{Inside}
-use Rattle.session_core.specs.declared.txns.OpenTxn.{OpenTxn}
+use Rattle.session_core.specs.declared.Parts.TheInside.{Inside}
+use Rattle.session_core.specs.declared.transactions.OpenTxn.{OpenTxn}
 use Rattle.session_core.specs.Held.{IsHeld}
 use Rattle.session_core.proofs.Entries.{each-with, each-without, each-changed}
 

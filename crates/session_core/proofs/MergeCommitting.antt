@@ -11,13 +11,12 @@ use Rattle.plain_dag.specs.Conflicts.{open_conflict}
 use Rattle.plain_dag.specs.Entries.{entry_of}
 use Rattle.plain_dag.proofs.Ids.{all-at}
 use Rattle.record_store.specs.Answers.{MayArrive}
-use Rattle.plain_site.specs.Site.{Site, MergeTxn, Merge, own_count}
+use Rattle.plain_site.specs.Site.{Site, MergeTxn, Merge, own_count, next_record}
 use Rattle.plain_site.specs.Built.{so_far}
 use Rattle.plain_site.specs.Sound.{IsSound}
 use Rattle.plain_site.specs.Answers.{refuse, refuse_found}
 use Rattle.plain_site.specs.Commits.{growth_refusals, committed, commit_below, commit_merge}
 use Rattle.plain_site.proofs.SoundCommits.{MayJoin, admitted-isnt_closed, conflicts-written}
-use Rattle.session_core.specs.Commits.{next_record}
 use Rattle.session_core.proofs.Answers.{skip}
 use Rattle.session_core.proofs.Committing.{skip-found, joined-arrives}
 

@@ -6,7 +6,7 @@ use Rattle.plain_site.specs.Site.{Site, MergeTxn, Txn, Single, Merge}
 use Rattle.plain_site.specs.Built.{Built}
 use Rattle.plain_site.specs.Sound.{IsSound}
 use Rattle.plain_site.specs.Answers.{Answer, with_txn}
-use Rattle.session_core.specs.declared.txns.OpenTxn.{OpenTxn}
+use Rattle.session_core.specs.declared.transactions.OpenTxn.{OpenTxn}
 use Rattle.session_core.specs.Core.{Core}
 use Rattle.session_core.specs.Stands.{CoreStands, kept_txn}
 use Rattle.session_core.specs.Merges.{IsMergeFor}

@@ -26,10 +26,9 @@ use Rattle.plain_site.specs.Site.{Site, Merge}
 use Rattle.plain_site.specs.Built.{so_far}
 use Rattle.plain_site.specs.Sound.{IsSound}
 use Rattle.plain_site.specs.Answers.{Answer, refused, refuse_found, unless, without_txn}
-use Rattle.plain_site.specs.Merges.{in_order, merge_at, begin_merge}
-use Rattle.session_core.specs.declared.txns.OpenTxn.{OpenTxn}
+use Rattle.plain_site.specs.Merges.{in_order, merge_at, begin_merge, merging}
+use Rattle.session_core.specs.declared.transactions.OpenTxn.{OpenTxn}
 use Rattle.session_core.specs.Core.{Core}
-use Rattle.session_core.specs.Begins.{merging}
 use Rattle.session_core.specs.Stands.{CoreStands}
 use Rattle.session_core.specs.Gives.{IsGiven}
 use Rattle.session_core.proofs.Answers.{skip, stop, as-given}

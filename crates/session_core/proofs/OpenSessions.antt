@@ -17,7 +17,7 @@ use Rattle.ceiling_book.specs.Answers.{KeepsRest, OpenedIn}
 use Rattle.plain_site.specs.Site.{Site, own_floor as site_floor}
 use Rattle.plain_site.specs.Answers.{Answer, refuse, with_session}
 use Rattle.plain_site.specs.Sessions.{open_session, close_session}
-use Rattle.session_core.specs.declared.txns.OpenTxn.{OpenTxn}
+use Rattle.session_core.specs.declared.transactions.OpenTxn.{OpenTxn}
 use Rattle.session_core.specs.Core.{Core}
 use Rattle.session_core.specs.Stands.{CoreStands}
 use Rattle.session_core.specs.Gives.{IsGiven}

@@ -7,7 +7,7 @@ use Rattle.tardis_base.specs.declared.records.Limits.{Limits}
 use Rattle.plain_dag.specs.Entries.{entry_of}
 use Rattle.plain_dag.specs.Floors.{opening_floor}
 use Rattle.ceiling_book.specs.Book.{Book, floors_of}
-use Rattle.session_core.specs.declared.txns.OpenTxn.{OpenTxn}
+use Rattle.session_core.specs.declared.transactions.OpenTxn.{OpenTxn}
 use Rattle.session_core.specs.Stands.{kept_txn}
 
 -- there is no transaction among none

@@ -25,7 +25,7 @@ use Rattle.ceiling_book.specs.Book.{is_open}
 use Rattle.plain_site.specs.Site.{Site, SingleTxn, Txn, Single, Merge, with_txn_changed, writes_of as plain_writes_of}
 use Rattle.plain_site.specs.Answers.{refused, refuse, unless, given, found, shown, leaves_site, with_txn}
 use Rattle.plain_site.specs.Reads.{get, read_in, read_at, read_over, having_read}
-use Rattle.session_core.specs.declared.txns.OpenTxn.{OpenTxn}
+use Rattle.session_core.specs.declared.transactions.OpenTxn.{OpenTxn}
 use Rattle.session_core.specs.Core.{Core}
 use Rattle.session_core.specs.Txns.{noting}
 use Rattle.session_core.specs.Stands.{CoreStands, kept_txn}

@@ -11,15 +11,14 @@ use Rattle.tardis_base.specs.declared.replies.Refusal.TheVariants.{Unknown, Coll
 use Rattle.tardis_base.specs.declared.replies.Reply.TheVariants.{Refused, Shown}
 use Rattle.tardis_base.specs.Ids.{is_among}
 use Rattle.plain_dag.specs.States.{is_known, arrival, children, count_of_site}
-use Rattle.plain_dag.specs.Floors.{Floor, opening_floor}
+use Rattle.plain_dag.specs.Floors.{Floor, opening_floor, floor_of}
 use Rattle.plain_dag.specs.Paths.{fork_path}
 use Rattle.state_dag.specs.Table.{Table, id_at}
 use Rattle.state_dag.specs.Stands.{Stands}
 use Rattle.state_dag.proofs.Standing.{slot-is_kept}
 use Rattle.plain_site.specs.Site.{Site}
 use Rattle.plain_site.specs.Answers.{Answer, refuse}
-use Rattle.plain_site.specs.Shows.{site_lines, show}
-use Rattle.session_core.specs.Shows.{line_of}
+use Rattle.plain_site.specs.Shows.{site_lines, show, line_of}
 use Rattle.session_core.proofs.Answers.{skip}
 
 -- ===== Lines
@@ -29,25 +28,25 @@ number-of-lines rs n [] = refl
 number-of-lines rs n (f ∷ fs) = ap suc (number-of-lines rs (n + 1) fs)
 
 line-at : (rs : List Record) (n : ℕ) (fs : List Floor) (k : ℕ) (d : SiteLine) → k < length fs →
-    get_or (site_lines rs n fs) k d ≡ record { count = count_of_site rs (n + k); floor = (get_or fs k opening_floor).state; number = (get_or fs k opening_floor).number }
+    get_or (site_lines rs n fs) k d ≡ line_of rs (n + k) (get_or fs k opening_floor)
 line-at rs n [] k d l = absurd (omega arith)
 line-at rs n (f ∷ fs) ℕ.zero d l =
     let same : n ≡ n + 0 = omega arith in
-    ap (λ m. record { count = count_of_site rs m; floor = f.state; number = f.number }) same
+    ap (λ m. line_of rs m f) same
 line-at rs n (f ∷ fs) (suc k) d l =
     let same : n + 1 + k ≡ n + suc k = omega arith in
     let within : k < length fs = omega arith in
-    line-at rs (n + 1) fs k d within ∙ ap (λ m. record { count = count_of_site rs m; floor = (get_or fs k opening_floor).state; number = (get_or fs k opening_floor).number }) same
+    line-at rs (n + 1) fs k d within ∙ ap (λ m. line_of rs m (get_or fs k opening_floor)) same
 
-line-is : (rs : List Record) (fs : List Floor) (k : ℕ) (d : SiteLine) → k < length fs → get_or (site_lines rs 1 fs) k d ≡ line_of rs fs (k + 1)
+line-is : (rs : List Record) (fs : List Floor) (k : ℕ) (d : SiteLine) → k < length fs → get_or (site_lines rs 1 fs) k d ≡ line_of rs (k + 1) (floor_of fs (k + 1))
 line-is rs fs k d l =
     let number : 1 + k ≡ k + 1 = omega arith in
     let place : k ≡ k + 1 - 1 = omega arith in
     let floor = ap (λ j. get_or fs j opening_floor) place ∙ sym (unwrap_or-slice_get fs (k + 1 - 1) opening_floor) in
-    line-at rs 1 fs k d l ∙ ap₂ (λ m (f : Floor). record { count = count_of_site rs m; floor = f.state; number = f.number }) number floor
+    line-at rs 1 fs k d l ∙ ap₂ (λ m (f : Floor). line_of rs m f) number floor
 
 -- one more line
-pub next-line : (rs : List Record) (fs : List Floor) (k : ℕ) (lines after : List SiteLine) (line : SiteLine) → k < length fs → lines ≡ take k (site_lines rs 1 fs) → line ≡ line_of rs fs (k + 1) →
+pub next-line : (rs : List Record) (fs : List Floor) (k : ℕ) (lines after : List SiteLine) (line : SiteLine) → k < length fs → lines ≡ take k (site_lines rs 1 fs) → line ≡ line_of rs (k + 1) (floor_of fs (k + 1)) →
     after ≡ lines ++ line ∷ [] → after ≡ take (k + 1) (site_lines rs 1 fs)
 next-line rs fs k lines after line l so_far is pushed =
     let within : k < length (site_lines rs 1 fs) = omega (arith, number-of-lines rs 1 fs) in

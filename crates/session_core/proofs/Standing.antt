@@ -13,7 +13,7 @@ use Rattle.plain_site.specs.Site.{Site, Txn}
 use Rattle.plain_site.specs.Answers.{Answer, refused, given, with_session, with_txn, without_txn}
 use Rattle.plain_site.proofs.SoundEntries.{entry-changed, entry-changed_other, entry-with_entry, entry-with_entry_other, entry-without_entry, entry-without_entry_other}
 use Rattle.plain_site.proofs.SoundBooks.{at-each}
-use Rattle.session_core.specs.declared.txns.OpenTxn.{OpenTxn}
+use Rattle.session_core.specs.declared.transactions.OpenTxn.{OpenTxn}
 use Rattle.session_core.specs.Core.{Core}
 use Rattle.session_core.specs.Stands.{CoreStands, kept_txn}
 use Rattle.session_core.proofs.Entries.{each-with, each-without, each-changed}

@@ -5,7 +5,7 @@ use Rattle.std.specs.Option.{option_copied, IfSome}
 use Rattle.std.proofs.lemmas.Bool.{ltb-true}
 use Rattle.plain_dag.specs.Entries.{entry_of}
 use Rattle.merge_txn.specs.Txns.{is_single}
-use Rattle.session_core.specs.declared.txns.OpenTxn.{OpenTxn}
+use Rattle.session_core.specs.declared.transactions.OpenTxn.{OpenTxn}
 use Rattle.session_core.specs.Txns.{AreWhole}
 
 -- one that reads one state has a slot

@@ -15,7 +15,7 @@ use Rattle.plain_site.specs.Site.{Site, Txn, Single, Merge, writes_of as plain_w
 use Rattle.plain_site.specs.Answers.{Answer, refused, with_txn}
 use Rattle.plain_site.specs.Reads.{set_key, having_written}
 use Rattle.plain_site.specs.Commits.{abort}
-use Rattle.session_core.specs.declared.txns.OpenTxn.{OpenTxn}
+use Rattle.session_core.specs.declared.transactions.OpenTxn.{OpenTxn}
 use Rattle.session_core.specs.Core.{Core}
 use Rattle.session_core.specs.Txns.{putting}
 use Rattle.session_core.specs.Stands.{CoreStands, kept_txn}

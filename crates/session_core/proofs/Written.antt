@@ -15,7 +15,7 @@ use Rattle.merge_txn.specs.declared.Txn.{Txn as Kept}
 use Rattle.merge_txn.specs.declared.Txn.TheVariants.{Single, Merge}
 use Rattle.merge_txn.specs.Txns.{is_single, writes_of, reads_of, with_writes, with_reads}
 use Rattle.ceiling_book.proofs.Entries.{looked-up}
-use Rattle.session_core.specs.declared.txns.OpenTxn.{OpenTxn}
+use Rattle.session_core.specs.declared.transactions.OpenTxn.{OpenTxn}
 use Rattle.session_core.specs.Txns.{is_whole, AreWhole, noting, putting}
 use Rattle.session_core.proofs.Answers.{at-some}
 use Rattle.session_core.proofs.Entries.{is-written, each-changed}

@@ -2,7 +2,7 @@
 use Rattle.std.specs.Prelude.{ℕ, List}
 use Rattle.record_store.specs.Store.{Store}
 use Rattle.ceiling_book.specs.Book.{Book}
-use Rattle.session_core.specs.declared.txns.OpenTxn.{OpenTxn}
+use Rattle.session_core.specs.declared.transactions.OpenTxn.{OpenTxn}
 
 -- the store of states and versions; the book of sessions and floors; the open transactions by the numbers of their sessions
 pub record Core : Type 0 where

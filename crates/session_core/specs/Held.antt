@@ -5,8 +5,8 @@ use Rattle.plain_dag.specs.Entries.{entry_of}
 use Rattle.state_dag.specs.Table.{is_slot}
 use Rattle.ceiling_book.specs.Book.{floors_of}
 use Rattle.ceiling_book.specs.Places.{AreSlots}
-use Rattle.session_core.specs.declared.parts.Parts.TheInside.{Inside}
-use Rattle.session_core.specs.declared.txns.OpenTxn.{OpenTxn}
+use Rattle.session_core.specs.declared.Parts.TheInside.{Inside}
+use Rattle.session_core.specs.declared.transactions.OpenTxn.{OpenTxn}
 use Rattle.session_core.specs.Core.{Core}
 
 -- what the memory is seen as

@@ -5,8 +5,5 @@ pub mod Held
 pub mod Stands
 pub mod Gives
 pub mod Reads
-pub mod Begins
-pub mod Commits
 pub mod Merges
-pub mod Shows
 pub mod Machine

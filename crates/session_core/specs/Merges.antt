@@ -10,7 +10,7 @@ use Rattle.plain_dag.specs.Floors.{Session}
 use Rattle.state_dag.specs.Table.{Table, id_at}
 use Rattle.plain_site.specs.Site.{Site, SingleTxn, MergeTxn, Txn, Single, Merge}
 use Rattle.plain_site.specs.Answers.{Answer, refused, with_txn}
-use Rattle.session_core.specs.declared.txns.OpenTxn.{OpenTxn}
+use Rattle.session_core.specs.declared.transactions.OpenTxn.{OpenTxn}
 
 -- the session has this merge, and what is kept of it has the slots of the states that it reads
 pub record IsMergeFor (table : Table) (site : Site) (n : ℕ) (held : OpenTxn) : Type 0 where

@@ -12,7 +12,7 @@ use Rattle.merge_txn.specs.Txns.{states_of}
 use Rattle.plain_site.specs.Site.{Site, Txn, Single, Merge}
 use Rattle.plain_site.specs.Built.{so_far}
 use Rattle.plain_site.specs.Sound.{IsSound}
-use Rattle.session_core.specs.declared.txns.OpenTxn.{OpenTxn}
+use Rattle.session_core.specs.declared.transactions.OpenTxn.{OpenTxn}
 use Rattle.session_core.specs.Core.{Core}
 
 -- how a transaction is kept

@@ -4,7 +4,7 @@ use Rattle.tardis_base.specs.declared.records.Write.{Write}
 use Rattle.tardis_base.specs.Keys.{with_key, with_write}
 use Rattle.plain_dag.specs.Entries.{entry_of}
 use Rattle.merge_txn.specs.Txns.{is_single, writes_of, reads_of, with_writes, with_reads}
-use Rattle.session_core.specs.declared.txns.OpenTxn.{OpenTxn}
+use Rattle.session_core.specs.declared.transactions.OpenTxn.{OpenTxn}
 
 -- where it is a single one, it has a slot
 abbrev pub is_whole : OpenTxn → Bool

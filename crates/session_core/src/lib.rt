@@ -10,28 +10,21 @@ ghost use Rattle.plain_site.specs.Built.{so_far};
 ghost use Rattle.plain_site.specs.Sound.{IsSound};
 ghost use Rattle.session_core.specs.Stands.{CoreStands};
 
-mod acts;
-mod asks;
-mod begins;
-mod built;
+mod bytes;
 mod commits;
-mod merge_begins;
-mod merge_commits;
-mod merge_shows;
-mod orders;
-mod parts;
-mod reads;
-mod serves;
+mod dispatch;
+mod merges;
+mod reads_and_writes;
 mod sessions;
 mod shows;
-mod steps;
-mod txns;
-mod writes;
+mod transactions;
 
-use parts::Parts;
+use ceiling_book::CeilingBook;
+use record_store::RecordStore;
 use std::alloc::Global;
 use std::marker::Model;
 use tardis_base::{Limits, NoMemory};
+use transactions::TxnBook;
 
 /// One site: its history, its sessions and its open transactions.
 #[derive(Drop)]
@@ -62,5 +55,47 @@ impl SiteCore {
     {
         let parts = Parts::new(alloc, &limits, own)?;
         Ok(SiteCore { parts })
+    }
+}
+
+/// The history of a site, its sessions and its open transactions.
+#[derive(Drop)]
+pub(crate) struct Parts {
+    pub(crate) alloc: Global,
+    pub(crate) store: RecordStore,
+    pub(crate) book: CeilingBook,
+    pub(crate) txns: TxnBook,
+}
+
+impl Model for Parts {
+    ghost use Rattle.session_core.specs.Core.{Core};
+
+    ghost Value = { Core };
+
+    ghost use Rattle.session_core.specs.Held.{seen, IsHeld};
+
+    ghost view = { seen };
+
+    ghost invariant = { IsHeld };
+}
+
+impl Parts {
+    /// Those of a site that opens: the root alone, and no session.
+    fn new(alloc: Global, limits: &Limits, own: u16) -> Result<Parts, NoMemory>
+        requires limits { IsTrue (are_limits limits.now) }
+        requires first { 1 ≤ own }
+        requires last { own ≤ limits.now.sites }
+        ensures stands { IfOk result (λ core. CoreStands core (opening limits.now own)) }
+    {
+        let store = RecordStore::new(alloc, limits)?;
+        let root = store.dag().last();
+        let book = CeilingBook::new(alloc, limits, own, root)?;
+        let txns = TxnBook::new(alloc);
+        Ok(Parts {
+            alloc,
+            store,
+            book,
+            txns,
+        })
     }
 }

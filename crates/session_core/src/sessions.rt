@@ -1,16 +1,27 @@
-//! Sessions open and close.
+//! Sessions open and close, and transactions begin in them.
 
 ghost use Rattle.plain_site.specs.Site.{Site};
 ghost use Rattle.plain_site.specs.Built.{so_far};
 ghost use Rattle.plain_site.specs.Sound.{IsSound};
-ghost use Rattle.plain_site.specs.Answers.{with_session};
-ghost use Rattle.plain_site.specs.Sessions.{open_session, close_session};
+ghost use Rattle.plain_site.specs.Answers.{with_session, without_txn};
+ghost use Rattle.plain_site.specs.Sessions.{open_session, close_session, begin as begin_txn, begun};
 ghost use Rattle.session_core.specs.Stands.{CoreStands};
 ghost use Rattle.session_core.specs.Gives.{Gives, IsGiven};
+ghost use Rattle.std.specs.Prelude.{◌≡◌, Some, IsTrue, IfOk};
+ghost use Rattle.tardis_base.specs.declared.ids.StateId.{StateId};
+ghost use Rattle.state_dag.specs.Table.{id_at, is_slot};
+ghost use Rattle.plain_dag.specs.Entries.{entry_of};
+ghost use Rattle.plain_dag.specs.Floors.{Session};
+ghost use Rattle.plain_dag.specs.Begin.{begin_state};
+ghost use Rattle.ceiling_book.specs.Book.{is_open};
+ghost use Rattle.begin_rule.specs.Choices.{ChosenAs};
 
-use crate::parts::Parts;
+use crate::Parts;
+use crate::transactions::OpenTxn;
+use begin_rule::BeginFault;
 use ceiling_book::OpenFault;
-use tardis_base::{NoMemory, Refusal, Reply};
+use merge_txn::Txn;
+use tardis_base::{Begin, ListOf, NoMemory, Refusal, Reply, Slot};
 
 impl Parts {
     /// Opens the actor's session under the own floor. A ceiling that follows goes down with the session's commits.
@@ -46,5 +57,60 @@ impl Parts {
         self.book.close_session(actor);
         self.txns.end(actor);
         Reply::Closed
+    }
+}
+
+impl Parts {
+    /// Begins a transaction of the actor's session at the state that is asked for.
+    ///
+    /// Refused where no session is open (NotOpen), where it has a transaction (TxnOpen), where there is no such state
+    /// (Unknown), and where the state is a proper ancestor of the session's ceiling (Below). The cost is that of
+    /// `begin_rule::choose`, and of looking the session up.
+    pub(crate) fn begin(&mut self, actor: u16, begin: &Begin) -> Result<Reply, NoMemory>
+        ensures { (site : Site) → CoreStands self.old site → IsSound so_far site → Gives (CoreStands self.new) (without_txn site actor (λ s. begin_txn site actor s begin.now)) site result }
+    {
+        if !self.book.is_open(actor) {
+            return Ok(Reply::Refused {
+                refusal: Refusal::NotOpen,
+            });
+        }
+        if self.txns.is_open(actor) {
+            return Ok(Reply::Refused {
+                refusal: Refusal::TxnOpen,
+            });
+        }
+        match self.choose(actor, begin) {
+            Ok(slot) => self.begin_at(actor, slot),
+            Err(BeginFault::Unknown { state }) => Ok(Reply::Refused {
+                refusal: Refusal::Unknown { state },
+            }),
+            Err(BeginFault::Below { state, ceiling }) => Ok(Reply::Refused {
+                refusal: Refusal::Below { state, ceiling },
+            }),
+        }
+    }
+
+    /// The slot of the state at which the session is to begin.
+    fn choose(&self, actor: u16, begin: &Begin) -> Result<Slot, BeginFault>
+        requires { IsTrue (is_open self.now.book actor) }
+        ensures slot { IfOk result (λ slot. IsTrue (is_slot self.now.store.table slot)) }
+        ensures chosen { (site : Site) → CoreStands self.now site → IsSound so_far site → (s : Session) → entry_of actor site.sessions ≡ Some s → ChosenAs self.now.store.table site.dag s.ceiling (begin_state site.dag s.last begin.now) result }
+    {
+        let (last, last_slot) = self.book.last(actor);
+        let ceiling = self.book.ceiling(actor);
+        begin_rule::choose(self.store.dag(), begin, last, last_slot, ceiling)
+    }
+
+    /// Begins the transaction at the state of this slot.
+    fn begin_at(&mut self, actor: u16, slot: Slot) -> Result<Reply, NoMemory>
+        requires { IsTrue (is_slot self.old.store.table slot) }
+        ensures { (site : Site) → CoreStands self.old site → (x : StateId) → id_at self.old.store.table slot ≡ Some x → Gives (CoreStands self.new) (begun site actor x) site result }
+    {
+        let state = self.store.dag().id_of(slot);
+        let txn = Txn::single(self.alloc, state)?;
+        let mut slots = ListOf::new(self.alloc);
+        slots.push(slot)?;
+        self.txns.begin(actor, OpenTxn { txn, slots })?;
+        Ok(Reply::Begun { state })
     }
 }

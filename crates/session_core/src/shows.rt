@@ -1,17 +1,28 @@
 //! What a site tells of itself.
 
-ghost use Rattle.std.specs.Prelude.{◌≡◌, ◌≤◌, length};
+ghost use Rattle.std.specs.Prelude.{◌≡◌, ◌≤◌, length, IsTrue, IfOk, IfErr};
+ghost use Rattle.plain_dag.specs.Floors.{floor_of};
 ghost use Rattle.ceiling_book.specs.Book.{floors_of};
 ghost use Rattle.plain_site.specs.Site.{Site};
 ghost use Rattle.plain_site.specs.Built.{so_far};
 ghost use Rattle.plain_site.specs.Sound.{IsSound};
-ghost use Rattle.plain_site.specs.Shows.{stat as stat_of, show as show_of, site_lines as lines_of};
+ghost use Rattle.plain_site.specs.Shows.{stat as stat_of, show as show_of, site_lines as lines_of, show_leaves, line_of};
 ghost use Rattle.session_core.specs.Stands.{CoreStands};
-ghost use Rattle.session_core.specs.Shows.{line_of};
 ghost use Rattle.session_core.specs.Gives.{Gives, IsGiven};
+ghost use Rattle.std.specs.List.{list_all};
+ghost use Rattle.state_dag.specs.Table.{is_slot};
+ghost use Rattle.plain_site.specs.Answers.{with_txn};
+ghost use Rattle.plain_site.specs.Reads.{get_for as got_for};
+ghost use Rattle.plain_site.specs.Merges.{fork_points_of, conflicts_of};
+ghost use Rattle.session_core.specs.Merges.{IsMergeFor, RefusesMerges};
 
-use crate::parts::Parts;
-use tardis_base::{NoMemory, Refusal, Reply, SiteLine, SiteLines, StateId, StateList};
+use crate::Parts;
+use crate::merges::slot_among;
+use crate::reads_and_writes::reply_of;
+use crate::transactions::OpenTxn;
+use tardis_base::{
+    ByteList, Key, NoMemory, Refusal, Reply, SiteLine, SiteLines, StateId, StateList,
+};
 
 impl Parts {
     /// How many states are known and kept, how many leaves there are and open sessions, and a line for each site. It takes
@@ -44,7 +55,7 @@ impl Parts {
     fn site_line(&self, number: u16) -> SiteLine
         requires first { 1 ≤ number }
         requires last { number ≤ length (floors_of self.now.book) }
-        ensures { (site : Site) → CoreStands self.now site → result ≡ line_of site.dag site.floors number }
+        ensures { (site : Site) → CoreStands self.now site → result ≡ line_of site.dag number (floor_of site.floors number) }
     {
         let dag = self.store.dag();
         let (floor, consent, _) = self.book.floor(number);
@@ -81,6 +92,19 @@ impl Parts {
             arrival: dag.arrival(slot),
             children: StateList::from_vec(children),
             path: dag.path(slot)?,
+        })
+    }
+}
+
+impl Parts {
+    /// The leaves: how many, and the first 256 in arrival order. The cost grows with the number of kept states.
+    pub(crate) fn leaves(&self) -> Result<Reply, NoMemory>
+        ensures { (site : Site) → CoreStands self.now site → IsSound so_far site → Gives (CoreStands self.now) (show_leaves site) site result }
+    {
+        let page = fork_points::leaf_page(self.alloc, self.store.dag())?;
+        Ok(Reply::States {
+            total: page.total,
+            first: page.first,
         })
     }
 }

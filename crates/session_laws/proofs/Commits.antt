@@ -20,10 +20,9 @@ use Rattle.record_store.specs.Answers.{MayArrive}
 use Rattle.plain_site.specs.Answers.{Answer, refuse, refuse_found, unless}
 use Rattle.plain_site.specs.Built.{so_far}
 use Rattle.plain_site.specs.Commits.{growth_refusals, committed, commit_below, commit_writes, commit_single, commit_merge, commit, without_txn_of}
-use Rattle.plain_site.specs.Site.{Site, SingleTxn, MergeTxn, Txn, Single, Merge, own_count}
+use Rattle.plain_site.specs.Site.{Site, SingleTxn, MergeTxn, Txn, Single, Merge, own_count, next_record}
 use Rattle.plain_site.proofs.SoundAnswers.{AreNone, none-parts, found-none}
 use Rattle.session_core.specs.Core.{Core}
-use Rattle.session_core.specs.Commits.{next_record}
 use Rattle.session_core.specs.Machine.{SiteStands}
 use Rattle.session_core.proofs.Committing.{below-is-kept, may-arrive}
 use Rattle.session_core.proofs.MergeCommitting.{merge-arrives}

@@ -26,7 +26,7 @@ use Rattle.conflict_keys.proofs.Walks.{named-are_kept}
 use Rattle.plain_site.specs.Site.{Site, SingleTxn, MergeTxn, Txn, Single, Merge, own_count, next_id}
 use Rattle.plain_site.specs.Built.{so_far}
 use Rattle.plain_site.proofs.SoundBooks.{own-is_site}
-use Rattle.session_core.specs.declared.txns.OpenTxn.{OpenTxn}
+use Rattle.session_core.specs.declared.transactions.OpenTxn.{OpenTxn}
 use Rattle.session_core.specs.Core.{Core}
 use Rattle.session_core.specs.Stands.{CoreStands, kept_txn}
 use Rattle.session_core.specs.Machine.{SiteStands}

@@ -1,0 +1,17 @@
+use Rattle.std.proofs.Common.{◌∙◌, sym, subst}
+use Rattle.session_core.specs.Held.{seen}
+use Rattle.session_core.specs.Stands.{CoreStands}
+use Rattle.session_core.proofs.Memory.{ended-held, sessions-held}
+use Rattle.session_core.proofs.OpenSessions.{close-gives}
+use Rattle.session_core.proofs.Parts.close.Goals as goal
+
+pub invariant_of-self : goal.invariant_of-self
+invariant_of-self c =
+    ended-held (record c.self.inside { book = c.close_session.new.self })
+    (sessions-held c.self.inside c.self.invariant c.close_session.new.self c.close_session.ensures.rest (c.close_session.ensures.slots c.self.inside.store.table)) c.args.actor c.end.new.self c.end.ensures
+
+pub returns : goal.returns
+returns c = λ site stands sound.
+    let here = subst (λ v. CoreStands v site) (sym c.self.view_is) stands in
+    close-gives (seen c.self.inside) c.close_session.new.self site c.args.actor c.end.new.self here c.close_session.ensures.rest
+    (c.close_session.ensures.placed c.self.inside.store.table site.dag site.collected) c.close_session.ensures.closed c.end.ensures (sym c.is_open.ensures ∙ c.if-not-is_open.false)

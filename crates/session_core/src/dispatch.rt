@@ -1,0 +1,144 @@
+//! Which operations there are, which of them are built, and the step of a site: a request, and the reply to it.
+
+ghost use Rattle.std.specs.Prelude.{◌≡◌, IsTrue, IsOk, IfOk, OnOk, OnErr};
+ghost use Rattle.wire_talk.specs.Codes as codes;
+ghost use Rattle.plain_site.specs.Built.{so_far};
+ghost use Rattle.wire_talk.specs.Valid.{is_request};
+ghost use Rattle.plain_site.specs.Site.{Site};
+ghost use Rattle.plain_site.specs.Sound.{IsSound};
+ghost use Rattle.plain_site.specs.Step.{step, is_sure};
+ghost use Rattle.session_core.specs.Stands.{CoreStands};
+ghost use Rattle.session_core.specs.Gives.{Gives, IsGiven};
+ghost use Rattle.session_core.specs.Machine.{SiteStands, IsTold, opened_with};
+
+use crate::{Parts, SiteCore};
+use tardis_base::{Key, NoMemory, Refusal, Reply, Request, Value, Write};
+
+/// Whether the operation of this code is built.
+pub fn is_built(op: u8) -> bool
+    ensures { result ≡ so_far.operation op }
+{
+    matches!(op, 1..=11 | 16..=18 | 21)
+}
+
+/// The code of the request's operation.
+pub fn code_of(request: &Request) -> u8
+    ensures { result ≡ codes.code_of request.now }
+{
+    match request {
+        Request::Open { .. } => 1,
+        Request::Begin { .. } => 2,
+        Request::Get { .. } => 3,
+        Request::Put { .. } => 4,
+        Request::Delete { .. } => 5,
+        Request::Commit { .. } => 6,
+        Request::Abort => 7,
+        Request::BeginMerge { .. } => 8,
+        Request::ForkPoints => 9,
+        Request::Conflicts { .. } => 10,
+        Request::GetFor { .. } => 11,
+        Request::Ceiling { .. } => 12,
+        Request::Raise { .. } => 13,
+        Request::RaiseAuto => 14,
+        Request::Tidy { .. } => 15,
+        Request::Stat => 16,
+        Request::Show { .. } => 17,
+        Request::Leaves => 18,
+        Request::Pull { .. } => 19,
+        Request::Deliver { .. } => 20,
+        Request::Close => 21,
+    }
+}
+
+/// The refusal of an operation that isn't built.
+fn unsupported(op: u8) -> Reply
+    ensures { result ≡ Reply.Refused (Refusal.Unsupported op) }
+{
+    Reply::Refused {
+        refusal: Refusal::Unsupported { op },
+    }
+}
+
+impl Parts {
+    /// Answers the actor's request. What isn't built is refused before all else.
+    pub fn serve(&mut self, actor: u16, request: &Request) -> Result<Reply, NoMemory>
+        requires { IsTrue (is_request request.now) }
+        ensures given { (site : Site) → CoreStands self.old site → IsSound so_far site → Gives (CoreStands self.new) (step so_far site actor request.now) site result }
+        ensures sure { IsTrue (is_sure request.now) → IsOk result }
+    {
+        let op = code_of(request);
+        if !is_built(op) {
+            return Ok(unsupported(op));
+        }
+        match request {
+            Request::Open { follow } => self.open(actor, *follow),
+            Request::Begin { begin } => self.begin(actor, begin),
+            Request::Get { key } => self.get(actor, key),
+            Request::Put { key, value } => self.put(actor, key, Write::Put(value.copy()?)),
+            Request::Delete { key } => self.put(actor, key, Write::Delete),
+            Request::Commit { flags, k } => self.commit(actor, *flags, *k),
+            Request::Abort => Ok(self.abort(actor)),
+            Request::BeginMerge { of } => self.begin_merge(actor, of),
+            Request::ForkPoints => self.fork_points(actor),
+            Request::Conflicts { after } => self.conflicts(actor, after),
+            Request::GetFor { key, state } => self.get_for(actor, key, *state),
+            Request::Stat => Ok(self.stat()),
+            Request::Show { state } => self.show(*state),
+            Request::Leaves => self.leaves(),
+            Request::Close => Ok(self.close(actor)),
+            _ => Ok(unsupported(op)),
+        }
+    }
+}
+
+impl SiteCore {
+    /// The reply to the actor's request, which is done.
+    pub(crate) fn answer(&mut self, actor: u16, request: &Request) -> Result<Reply, NoMemory>
+        requires { IsTrue (is_request request.now) }
+        ensures given { (site : Site) → SiteStands self.old site → Gives (SiteStands self.new) (step so_far site actor request.now) site result }
+        ensures told { IfOk result (λ reply. IsTold reply) }
+        ensures sure { IsTrue (is_sure request.now) → IsOk result }
+        ensures opening { opened_with self.new ≡ opened_with self.old }
+    {
+        self.parts.serve(actor, request)
+    }
+
+    /// The reply to the actor's Put, which is done. The value isn't copied.
+    pub(crate) fn put(&mut self, actor: u16, key: &Key, value: Value) -> Result<Reply, NoMemory>
+        requires { IsTrue (is_request (Request.Put key.now value)) }
+        ensures given { (site : Site) → SiteStands self.old site → Gives (SiteStands self.new) (step so_far site actor (Request.Put key.now value)) site result }
+        ensures told { IfOk result (λ reply. IsTold reply) }
+        ensures opening { opened_with self.new ≡ opened_with self.old }
+    {
+        self.parts.put(actor, key, Write::Put(value))
+    }
+
+    /// Does the actor's request, and replies to it.
+    ///
+    /// With no memory the site is as before. Abort, Close, Ceiling, Raise, RaiseAuto, Tidy and Stat never want memory.
+    ///
+    /// The cost grows with the logarithm of the number of open sessions, and else is that of the request's own call: of a
+    /// Get a read of its key, of a Put a copy of the value and a place among the transaction's writes, of a Commit the landing
+    /// and the adding of the record. The leaves, and a merge's fork points, conflict keys and Commit, cost more with each
+    /// kept state.
+    pub fn step(&mut self, actor: u16, request: &Request, reply: &mut Reply) -> Result<(), NoMemory>
+        requires { IsTrue (is_request request.now) }
+        ensures done { OnOk result ((site : Site) → SiteStands self.old site → IsGiven (SiteStands self.new) (step so_far site actor request.now) reply.new) }
+        ensures same { OnErr result ((site : Site) → SiteStands self.old site → SiteStands self.new site) }
+        ensures told { OnOk result (IsTold reply.new) }
+        ensures untold { OnErr result (reply.new ≡ Reply.NoMemory) }
+        ensures sure { IsTrue (is_sure request.now) → IsOk result }
+        ensures opening { opened_with self.new ≡ opened_with self.old }
+    {
+        match self.answer(actor, request) {
+            Ok(answer) => {
+                *reply = answer;
+                Ok(())
+            },
+            Err(NoMemory) => {
+                *reply = Reply::NoMemory;
+                Err(NoMemory)
+            },
+        }
+    }
+}
