@@ -2,7 +2,7 @@ use Rattle.std.proofs.Common.{◌≡◌, ℕ, List, ◌++◌, ◌+◌, ◌≤◌
 use Rattle.std.specs.Vec.{vec_capacity}
 use Rattle.tardis_base.specs.Keys.{are_ascending_keys, is_key_among, has_key, keys_of, write_of}
 use Rattle.version_list.specs.Lists.{keys_in, versions_in, have_room_in, version_by}
-use Rattle.version_list.proofs.key_lists.KeyLists.add.Given as goal
+use Rattle.version_list.proofs.histories.KeyLists.add.Given as goal
 
 abbrev pub invariant-loop-key : goal.invariant-loop-key
 invariant-loop-key g l = record {

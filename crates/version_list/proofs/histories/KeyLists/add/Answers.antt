@@ -4,7 +4,7 @@ use Rattle.tardis_base.specs.Keys.{KeyWrite, are_ascending_keys, is_key_among, h
 use Rattle.version_list.specs.Lists.{versions_in, have_room_in, version_by, are_in_order}
 use Rattle.version_list.proofs.Adds.{nothing_left, last-differs, ascending-front, added-step, room-step, in_order-version_by}
 use Rattle.version_list.proofs.Noted.{noted-step}
-use Rattle.version_list.proofs.key_lists.KeyLists.add.Goals as goal
+use Rattle.version_list.proofs.histories.KeyLists.add.Goals as goal
 
 pub loop-key-preserved : goal.loop-key-preserved
 loop-key-preserved g c =
