@@ -1,3 +1,5 @@
 -- Lemmas on ascending pairs.
 pub mod PairOrder
 pub mod PairSets
+pub mod Walks
+pub mod Merges

@@ -1,11 +1,9 @@
 -- The order of pairs, and what stands in ascending ones.
-use Rattle.std.proofs.Common.{◌≡◌, ℕ, ◌+◌, ◌-◌, ◌<◌, ◌≤◌, Bool, true, false, ◌||◌, ◌&&◌, List, [], ◌∷◌, length, get_or, take, drop, ltb, eqb, refl, sym, ◌∙◌, ap, ap₂, subst, ◌⊎◌, inl, inr, eqb-true, eq-eqb, arith}
-use Rattle.std.specs.List.{AllWithin, list_any, list_all}
+use Rattle.std.proofs.Common.{◌≡◌, ℕ, ◌<◌, ◌≤◌, true, false, ◌&&◌, List, [], ◌∷◌, length, get_or, drop, ltb, eqb, refl, sym, ◌∙◌, ap₂, subst, ◌⊎◌, inl, inr, eqb-true, eq-eqb, arith}
+use Rattle.std.specs.List.{AllWithin, list_all}
 use Rattle.std.specs.List.Sorted.{IsPartitionedBy}
-use Rattle.std.proofs.lemmas.List.{take_more, take_all, get_or_default}
-use Rattle.std.proofs.lemmas.List.Recursion.{and_push, and_fails_at}
-use Rattle.std.proofs.lemmas.Bool.{and_parts, and_from, or_cases, or_left, or_right, cases_Bool, both_ways, false_from_ne_true, ltb-true, lt-ltb, cases_lt}
-use Rattle.fork_path.specs.Pairs.{is_pair_before, are_ascending_pairs, is_same_pair, has_pair, has_pairs}
+use Rattle.std.proofs.lemmas.Bool.{and_parts, and_from, or_cases, or_left, or_right, both_ways, false_from_ne_true, ltb-true, lt-ltb, cases_lt}
+use Rattle.fork_path.specs.Pairs.{is_pair_before, are_ascending_pairs, is_same_pair, has_pair}
 
 -- ===== Two pairs
 
@@ -133,28 +131,6 @@ has-between p (q ∷ ps) (ℕ.suc start) ℕ.zero up le within below above = abs
 has-between p (q ∷ ps) (ℕ.suc start) (ℕ.suc place) up le within below above =
     has-between p ps start place (ascending-rest q ps up) (omega arith) (omega arith) (λ k d lo hi. below (ℕ.suc k) d (omega arith) (omega arith)) (λ lt. above (omega arith))
 
--- a pair behind one of ascending pairs is one of them exactly where it is one of those behind that one
-behind-place : (p y : ℕ × ℕ) (ps : List (ℕ × ℕ)) (n : ℕ) → are_ascending_pairs ps ≡ true → n < length ps → get_or ps n p ≡ p → is_pair_before p y ≡ true →
-    has_pair y ps ≡ has_pair y (drop (ℕ.suc n) ps)
-behind-place p y [] n up lt here h = absurd (omega arith)
-behind-place p y (q ∷ ps) ℕ.zero up lt here h =
-    rw (after-isnt_same y q (subst (λ z. is_pair_before z y ≡ true) (sym here) h)) refl
-behind-place p y (q ∷ ps) (ℕ.suc n) up lt here h =
-    let first : is_pair_before q p ≡ true = at_place ps n (omega arith) here (before-rest q ps up) in
-    rw (after-isnt_same y q (before_trans q p y first h)) (behind-place p y ps n (ascending-rest q ps up) (omega arith) here h)
-  where
-    at_place : (rs : List (ℕ × ℕ)) (k : ℕ) → k < length rs → get_or rs k p ≡ p → list_all (is_pair_before q) rs ≡ true → is_pair_before q p ≡ true
-    at_place [] k l e a = absurd (omega arith)
-    at_place (r ∷ rs) ℕ.zero l e a = subst (λ z. is_pair_before q z ≡ true) e (and_parts (is_pair_before q r) (list_all (is_pair_before q) rs) a).0
-    at_place (r ∷ rs) (ℕ.suc k) l e a = at_place rs k (omega arith) e (and_parts (is_pair_before q r) (list_all (is_pair_before q) rs) a).1
-
-pub has-behind : (p y : ℕ × ℕ) (ps : List (ℕ × ℕ)) (m : ℕ) → are_ascending_pairs ps ≡ true → 0 < m → m ≤ length ps → get_or ps (m - 1) p ≡ p → is_pair_before p y ≡ true →
-    has_pair y ps ≡ has_pair y (drop m ps)
-has-behind p y ps ℕ.zero up some lt here h = absurd (omega arith)
-has-behind p y ps (ℕ.suc n) up some lt here h =
-    let same : ℕ.suc n - 1 ≡ n = omega arith in
-    behind-place p y ps n up (omega arith) (subst (λ k. get_or ps k p ≡ p) same here) h
-
 -- of ascending pairs each stands before those at later places
 pub before-at : (ps : List (ℕ × ℕ)) (i k : ℕ) (d : ℕ × ℕ) → are_ascending_pairs ps ≡ true → i < k → k < length ps → is_pair_before (get_or ps i d) (get_or ps k d) ≡ true
 before-at [] i k d up lt within = absurd (omega arith)
@@ -188,51 +164,3 @@ parted p ps up i j d le lt h = go ps i j up le lt h
     go (q ∷ qs) ℕ.zero (ℕ.suc b) u l m t = head q qs b (before-rest q qs u) (omega arith) t
     go (q ∷ qs) (ℕ.suc a) ℕ.zero u l m t = absurd (omega arith)
     go (q ∷ qs) (ℕ.suc a) (ℕ.suc b) u l m t = go qs a b (ascending-rest q qs u) (omega arith) (omega arith) t
-
--- a pair is none of those from a place on where a walk from there came to one behind it, or to the end
-pub none-from : (ps : List (ℕ × ℕ)) (p own : ℕ × ℕ) (start place : ℕ) → start ≤ place → place < length ps → own ≡ get_or ps place p → AllWithin (λ q. is_pair_before q p ≡ true) ps start place →
-    is_pair_before own p ≡ false → is_same_pair p own ≡ false → are_ascending_pairs ps ≡ true → has_pair p (drop start ps) ≡ false
-none-from ps p own start place le lt here below off other up =
-    has-between p ps start place up le (omega arith) below (λ _. subst (λ z. is_pair_before p z ≡ true) here (behind p own off other))
-
-pub none-at_end : (ps : List (ℕ × ℕ)) (p : ℕ × ℕ) (start place : ℕ) → start ≤ length ps → length ps ≤ place → AllWithin (λ q. is_pair_before q p ≡ true) ps start place →
-    are_ascending_pairs ps ≡ true → has_pair p (drop start ps) ≡ false
-none-at_end ps p start place le past below up =
-    has-between p ps start (length ps) up le (omega arith) (λ k d lo hi. below k d lo (omega arith)) (λ lt. absurd (omega arith))
-
--- ===== A walk along two ascending lists
-
--- what it knows at a place of the second, when it is at `start` in the first
-pub record Walked (ps qs : List (ℕ × ℕ)) (start index : ℕ) : Type 0 where
-  pub bound : start ≤ length ps
-  pub so_far : list_all (λ q. has_pair q ps) (take index qs) ≡ true
-  pub rest : (k : ℕ) (d : ℕ × ℕ) → index ≤ k → k < length qs → has_pair (get_or qs k d) ps ≡ has_pair (get_or qs k d) (drop start ps)
-
-pub walked-none : (ps qs : List (ℕ × ℕ)) → Walked ps qs 0 0
-walked-none ps qs = record { bound = omega arith; so_far = refl; rest = λ k d lo hi. refl }
-
-pub walked-more : (ps qs : List (ℕ × ℕ)) (start index next : ℕ) (q : ℕ × ℕ) → are_ascending_pairs ps ≡ true → are_ascending_pairs qs ≡ true → Walked ps qs start index → index < length qs →
-    q ≡ get_or qs index q → 0 < next → next ≤ length ps → get_or ps (next - 1) q ≡ q → Walked ps qs next (index + 1)
-walked-more ps qs start index next q up up₂ walked lt here some le found =
-    let test : ℕ × ℕ → Bool = λ z. has_pair z ps in
-    let is_there : has_pair q ps ≡ true = has-at q ps (next - 1) (omega arith) found in
-    record {
-      bound = le;
-      so_far =
-          subst (λ zs. list_all test zs ≡ true) (sym (take_more qs index q lt))
-          (and_push (list_all test) test refl (λ _ _. refl) (take index qs) (get_or qs index q)
-          ∙ and_from (list_all test (take index qs)) (test (get_or qs index q)) walked.so_far (subst (λ z. test z ≡ true) here is_there));
-      rest = λ k d lo hi.
-          has-behind q (get_or qs k d) ps next up some le found
-          (subst (λ z. is_pair_before z (get_or qs k d) ≡ true) (get_or_default qs index d q lt ∙ sym here) (before-at qs index k d up₂ (omega arith) hi));
-    }
-
-pub walked-stopped : (ps qs : List (ℕ × ℕ)) (start index : ℕ) (q : ℕ × ℕ) → Walked ps qs start index → index < length qs → q ≡ get_or qs index q → has_pair q (drop start ps) ≡ false → false ≡ has_pairs ps qs
-walked-stopped ps qs start index q walked lt here none =
-    let test : ℕ × ℕ → Bool = λ z. has_pair z ps in
-    sym (and_fails_at (list_all test) test refl (λ _ _. refl) qs index q lt
-    (walked.rest index q (omega arith) lt ∙ subst (λ z. has_pair z (drop start ps) ≡ false) here none))
-
-pub walked-all : (ps qs : List (ℕ × ℕ)) (start index : ℕ) → Walked ps qs start index → length qs ≤ index → true ≡ has_pairs ps qs
-walked-all ps qs start index walked past =
-    sym (subst (λ zs. list_all (λ q. has_pair q ps) zs ≡ true) (take_all index qs past) walked.so_far)

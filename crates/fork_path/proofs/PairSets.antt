@@ -1,13 +1,11 @@
 -- What `with_pair` does to ascending pairs.
-use Rattle.std.proofs.Common.{◌≡◌, ℕ, ◌+◌, ◌<◌, ◌≤◌, Bool, true, false, ◌||◌, List, [], ◌∷◌, length, get_or, take, filter, if◌then◌else◌, IsTrue, Result, IsOk, refl, sym, ◌∙◌, ap, subst, inl, inr, arith}
-use Rattle.std.specs.List.{AllWithin, insert, list_any, list_all}
+use Rattle.std.proofs.Common.{◌≡◌, ℕ, ◌+◌, ◌<◌, ◌≤◌, Bool, true, false, ◌||◌, List, [], ◌∷◌, length, get_or, filter, if◌then◌else◌, IsTrue, Result, IsOk, refl, sym, ◌∙◌, ap, subst, inl, inr, arith}
+use Rattle.std.specs.List.{AllWithin, insert, list_all}
 use Rattle.std.specs.List.Sorted.{IsPartitionPoint}
 use Rattle.std.specs.Result.{is_ok}
-use Rattle.std.proofs.lemmas.List.{take_more, take_all}
-use Rattle.std.proofs.lemmas.List.Recursion.{or_push}
-use Rattle.std.proofs.lemmas.Bool.{and_parts, and_from, cases_Bool, both_ways, cond-true, cond-false}
+use Rattle.std.proofs.lemmas.Bool.{and_parts, and_from, cases_Bool, both_ways, cond-true}
 use Rattle.fork_path.specs.Pairs.{is_pair_before, are_ascending_pairs, is_same_pair, has_pair, with_pair}
-use Rattle.fork_path.proofs.PairOrder.{cases_pair, before_trans, before-itself, before_isnt_after, before-isnt_same, after-isnt_same, same_pair_self, behind, ascending-rest, before-rest, has-before, has-at, has-between}
+use Rattle.fork_path.proofs.PairOrder.{cases_pair, before-itself, before_isnt_after, after-isnt_same, same_pair_self, behind, ascending-rest, before-rest, has-before, has-at, has-between}
 
 pub with_pair-before : (p q : ℕ × ℕ) (qs : List (ℕ × ℕ)) → is_pair_before p q ≡ true → with_pair p (q ∷ qs) ≡ p ∷ q ∷ qs
 with_pair-before p q qs e = rw e refl
@@ -91,14 +89,14 @@ length-with_pair p (q ∷ qs) up =
     longer false e = omega arith
 
 -- a pair goes to a place with those before it in front of it and those behind it from there on
-pub with_pair-insert : (p : ℕ × ℕ) (ps : List (ℕ × ℕ)) (i : ℕ) → are_ascending_pairs ps ≡ true → i ≤ length ps → AllWithin (λ q. is_pair_before q p ≡ true) ps 0 i → AllWithin (λ q. is_pair_before q p ≡ false) ps i (length ps) → (i < length ps → is_same_pair p (get_or ps i p) ≡ false) → with_pair p ps ≡ insert ps i p
+pub with_pair-insert : (p : ℕ × ℕ) (ps : List (ℕ × ℕ)) (i : ℕ) → are_ascending_pairs ps ≡ true → i ≤ length ps → AllWithin (λ q. is_pair_before q p ≡ true) ps 0 i → (i < length ps → is_pair_before (get_or ps i p) p ≡ false) → (i < length ps → is_same_pair p (get_or ps i p) ≡ false) → with_pair p ps ≡ insert ps i p
 with_pair-insert p [] ℕ.zero up le below above other = refl
 with_pair-insert p [] (ℕ.suc i) up le below above other = absurd (omega arith)
-with_pair-insert p (q ∷ qs) ℕ.zero up le below above other = with_pair-before p q qs (behind p q (above 0 q (omega arith) (omega arith)) (other (omega arith)))
+with_pair-insert p (q ∷ qs) ℕ.zero up le below above other = with_pair-before p q qs (behind p q (above (omega arith)) (other (omega arith)))
 with_pair-insert p (q ∷ qs) (ℕ.suc i) up le below above other =
     with_pair-after p q qs (below 0 q (omega arith) (omega arith))
     ∙ ap (λ zs. q ∷ zs)
-    (with_pair-insert p qs i (ascending-rest q qs up) (omega arith) (λ j d lo hi. below (ℕ.suc j) d (omega arith) (omega arith)) (λ j d lo hi. above (ℕ.suc j) d (omega arith) (omega arith)) (λ lt. other (omega arith)))
+    (with_pair-insert p qs i (ascending-rest q qs up) (omega arith) (λ j d lo hi. below (ℕ.suc j) d (omega arith) (omega arith)) (λ lt. above (omega arith)) (λ lt. other (omega arith)))
 
 -- a pair that is there changes nothing
 pub with_pair-found : (p : ℕ × ℕ) (ps : List (ℕ × ℕ)) → are_ascending_pairs ps ≡ true → has_pair p ps ≡ true → with_pair p ps ≡ ps
@@ -128,7 +126,7 @@ pub searched-with_pair : (p : ℕ × ℕ) (ps qs : List (ℕ × ℕ)) (i : ℕ) 
     (i < length qs → is_same_pair p (get_or qs i p) ≡ false) → insert ps i p ≡ with_pair p ps
 searched-with_pair p ps qs i up same le parts missing =
     let point = parts up in
-    sym (with_pair-insert p ps i up le point.0 point.1 (subst (λ zs. i < length zs → is_same_pair p (get_or zs i p) ≡ false) same missing))
+    sym (with_pair-insert p ps i up le point.0 (λ lt. point.1 i p (omega arith) lt) (subst (λ zs. i < length zs → is_same_pair p (get_or zs i p) ≡ false) same missing))
 
 -- what an insertion with room leaves, at the place that a search told
 pub inserted-with_pair : {E : Type 0} (p : ℕ × ℕ) (ps qs zs : List (ℕ × ℕ)) (i : ℕ) (r : Result (Unit {0}) E) (new : List (ℕ × ℕ)) → are_ascending_pairs ps ≡ true → qs ≡ ps → zs ≡ ps → i ≤ length qs →
@@ -180,38 +178,3 @@ ascending-filter keep (p ∷ ps) up = elim (cases_Bool (keep p)) [
           | inl t ↦ rw t (and_from (is_pair_before p q) (list_all (is_pair_before p) (filter keep qs)) h.0 (kept qs h.1))
           | inr f ↦ rw f (kept qs h.1)
         ]
-
--- ===== The pairs of two lists
-
--- where a walk along `others` is that puts each of its pairs among those before it
-pub record Uniting (old others new : List (ℕ × ℕ)) (index : ℕ) : Type 0 where
-  pub ascending : are_ascending_pairs new ≡ true
-  pub pairs : (x : ℕ × ℕ) → has_pair x new ≡ (has_pair x (take index others) || has_pair x old)
-
-pub uniting-none : (old others new : List (ℕ × ℕ)) → are_ascending_pairs old ≡ true → new ≡ old → Uniting old others new 0
-uniting-none old others new up e = record {
-  ascending = subst (λ ps. are_ascending_pairs ps ≡ true) (sym e) up;
-  pairs = λ x. ap (has_pair x) e;
-}
-
-pub uniting-more : (old others new next : List (ℕ × ℕ)) (index : ℕ) → Uniting old others new index → index < length others →
-    (IsTrue (are_ascending_pairs new) → next ≡ with_pair (get_or others index (0, 0)) new) → Uniting old others next (index + 1)
-uniting-more old others new next index u lt e =
-    let p = get_or others index (0, 0) in
-    let g = grown p new next u.ascending (e u.ascending) in
-    record {
-      ascending = g.ascending;
-      pairs = λ x.
-          g.pairs x ∙ ap (λ b. is_same_pair x p || b) (u.pairs x)
-          ∙ turn (is_same_pair x p) (has_pair x (take index others)) (has_pair x old)
-          ∙ ap (λ b. b || has_pair x old) (sym (ap (has_pair x) (take_more others index (0, 0) lt) ∙ or_push (has_pair x) (is_same_pair x) refl (λ _ _. refl) (take index others) p));
-    }
-  where
-    turn : (a b c : Bool) → (a || (b || c)) ≡ ((b || a) || c)
-    turn true true c = refl
-    turn true false c = refl
-    turn false true c = refl
-    turn false false c = refl
-
-pub united : (old others new : List (ℕ × ℕ)) (index : ℕ) → Uniting old others new index → length others ≤ index → (x : ℕ × ℕ) → has_pair x new ≡ (has_pair x others || has_pair x old)
-united old others new index u past x = u.pairs x ∙ ap (λ ps. has_pair x ps || has_pair x old) (take_all index others past)

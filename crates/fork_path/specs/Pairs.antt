@@ -36,6 +36,11 @@ with_pair p (q ∷ qs) =
     let rest = with_pair p qs in
     if is_pair_before p q then p ∷ q ∷ qs else (if is_pair_before q p then q ∷ rest else p ∷ qs)
 
+-- the second pairs with each of the first in its place
+abbrev pub with_each : List (ℕ × ℕ) → List (ℕ × ℕ) → List (ℕ × ℕ)
+with_each [] qs = qs
+with_each (p ∷ ps) qs = with_each ps (with_pair p qs)
+
 -- the pairs of the other forks
 abbrev pub without_pairs_of : ℕ → List (ℕ × ℕ) → List (ℕ × ℕ)
 without_pairs_of fork ps = filter (λ (p : ℕ × ℕ). not (p.0 == fork)) ps

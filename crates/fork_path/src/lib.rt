@@ -1,9 +1,10 @@
 //! Lists of branches of forks, and whether one includes another.
 #![tactic(auto)]
 
-ghost use Rattle.std.specs.Prelude.{◌≡◌, ◌==◌, ℕ, ◌+◌, ◌-◌, ◌≤◌, ◌<◌, ◌||◌, Bool, true, false, Some, None, [], length, drop, slice_index_or, vec_len, vec_capacity, if◌then◌else◌, IsTrue, IfOk, OnOk, OnErr, IfSome};
+ghost use Rattle.std.specs.Prelude.{◌≡◌, ◌==◌, ℕ, ◌+◌, ◌-◌, ◌≤◌, ◌<◌, ◌||◌, Bool, true, false, Some, None, [], ◌∷◌, ◌++◌, length, take, slice_index_or, vec_len, vec_capacity, if◌then◌else◌, IsTrue, IfOk, OnOk, OnErr, IfSome};
+ghost use Rattle.std.specs.List.{AllWithin};
 ghost use Rattle.std.specs.List.Sorted.{IsPartitionPoint};
-ghost use Rattle.fork_path.specs.Pairs.{is_pair_before, are_ascending_pairs, is_same_pair, has_pair, has_pairs, with_pair, without_pairs_of};
+ghost use Rattle.fork_path.specs.Pairs.{is_pair_before, are_ascending_pairs, is_same_pair, has_pair, has_pairs, with_pair, with_each, without_pairs_of};
 
 use std::alloc::Global;
 use std::marker::Model;
@@ -71,15 +72,20 @@ impl ForkPath {
 
     /// Whether every pair of `other` is one of these.
     ///
-    /// The cost grows with the two numbers of pairs.
+    /// It walks both from the last pair on, and ends at the first pair of `other` that isn't here, or where fewer pairs are
+    /// left here than there: at once where `other` has more. At most it passes each pair of the two once.
     pub fn includes(&self, other: &ForkPath) -> bool
         ensures { result ≡ has_pairs self.now.pairs other.now.pairs }
     {
         let own = self.pairs.as_slice();
-        let mut start = 0;
-        for pair in other.pairs.as_slice() {
-            match place_after(own, start, *pair) {
-                Some(next) => start = next,
+        let others = other.pairs.as_slice();
+        let mut end = own.len();
+        for place in (0..others.len()).rev() {
+            if end <= place {
+                return false;
+            }
+            match place_among(own, end, others[place]) {
+                Some(found) => end = found,
                 None => return false,
             }
         }
@@ -110,8 +116,9 @@ impl ForkPath {
         insert_pair(&mut self.pairs, (fork, branch));
     }
 
-    /// Removes all pairs of the fork. The room for more stays.
+    /// Removes all pairs of the fork. The room for more stays, and grows by the room of those that go.
     pub fn without_fork(&mut self, fork: u32)
+        ensures room { self.new.room + length self.new.pairs ≡ self.old.room + length self.old.pairs }
         ensures pairs { self.new.pairs ≡ without_pairs_of fork self.old.pairs }
         ensures ascending { IsTrue (are_ascending_pairs self.new.pairs) }
     {
@@ -120,17 +127,18 @@ impl ForkPath {
 
     /// Puts every pair of `other` in its place. With no memory the pairs stay.
     ///
-    /// The cost grows with the number of pairs of `other`, and for each that is new with the number of pairs behind its
-    /// place.
+    /// The cost grows with the two numbers of pairs. Where there are none yet, those of `other` are copied at once.
     pub fn unite(&mut self, other: &ForkPath) -> Result<(), NoMemory>
         ensures pairs { OnOk result ((p : ℕ × ℕ) → has_pair p self.new.pairs ≡ (has_pair p other.now.pairs || has_pair p self.old.pairs)) }
         ensures same { OnErr result (self.new.pairs ≡ self.old.pairs) }
         ensures ascending { IsTrue (are_ascending_pairs self.new.pairs) }
     {
-        self.pairs.reserve(other.pairs.len())?;
-        for pair in other.pairs.as_slice() {
-            insert_pair(&mut self.pairs, *pair);
+        if self.pairs.is_empty() {
+            self.pairs.extend_from_slice(other.pairs.as_slice())?;
+            return Ok(());
         }
+        let alloc = *self.pairs.allocator();
+        self.pairs = merged(alloc, self.pairs.as_slice(), other.pairs.as_slice())?;
         Ok(())
     }
 
@@ -186,23 +194,70 @@ fn is_at(pairs: &[(u32, u32)], place: usize, pair: (u32, u32)) -> bool
     place < pairs.len() && is_same(pair, pairs[place])
 }
 
-/// The place behind the pair, if it is one of those from `start` on.
-fn place_after(pairs: &[(u32, u32)], start: usize, pair: (u32, u32)) -> Option<usize>
-    requires { start ≤ length pairs.now }
-    ensures found { IfSome result (λ n. (start < n) × (n ≤ length pairs.now) × (slice_index_or pairs.now (n - 1) pair ≡ pair)) }
-    ensures none { result ≡ None → IsTrue (are_ascending_pairs pairs.now) → has_pair pair (drop start pairs.now) ≡ false }
+/// The place of the pair, if it is one of the first `end`, looked for from the last of them on.
+fn place_among(pairs: &[(u32, u32)], end: usize, pair: (u32, u32)) -> Option<usize>
+    requires { end ≤ length pairs.now }
+    ensures found { IfSome result (λ n. (n < end) × (slice_index_or pairs.now n pair ≡ pair)) }
+    ensures none { result ≡ None → IsTrue (are_ascending_pairs pairs.now) → has_pair pair (take end pairs.now) ≡ false }
 {
-    for place in start..pairs.len() {
+    for place in (0..end).rev() {
         let own = pairs[place];
-        if !is_before(own, pair) {
+        if !is_before(pair, own) {
             return if is_same(pair, own) {
-                Some(place + 1)
+                Some(place)
             } else {
                 None
             };
         }
     }
     None
+}
+
+/// The pairs of both lists, which are ascending, each once.
+fn merged(
+    alloc: Global,
+    own: &[(u32, u32)],
+    others: &[(u32, u32)],
+) -> Result<Vec<(u32, u32)>, NoMemory>
+    ensures { IsTrue (are_ascending_pairs own.now) → IsTrue (are_ascending_pairs others.now) → IfOk result (λ pairs. pairs.items ≡ with_each others.now own.now) }
+{
+    let mut pairs = Vec::new(alloc);
+    pairs.reserve(own.len())?;
+    let mut rest = own;
+    for pair in others {
+        let (before, behind) = around(rest, *pair);
+        pairs.extend_from_slice(before)?;
+        pairs.push(*pair)?;
+        rest = behind;
+    }
+    pairs.extend_from_slice(rest)?;
+    Ok(pairs)
+}
+
+/// The place of the first pair that doesn't stand before this one, looked for from the first on.
+fn first_not_before(pairs: &[(u32, u32)], pair: (u32, u32)) -> usize
+    ensures bound { result ≤ length pairs.now }
+    ensures before { AllWithin (λ p. is_pair_before p pair ≡ true) pairs.now 0 result }
+    ensures behind { result < length pairs.now → is_pair_before (slice_index_or pairs.now result pair) pair ≡ false }
+{
+    for place in 0..pairs.len() {
+        if !is_before(pairs[place], pair) {
+            return place;
+        }
+    }
+    pairs.len()
+}
+
+/// The pairs that stand before this one, and those that stand behind it.
+fn around(pairs: &[(u32, u32)], pair: (u32, u32)) -> (&[(u32, u32)], &[(u32, u32)])
+    ensures { IsTrue (are_ascending_pairs pairs.now) → with_pair pair pairs.now ≡ result.0.now ++ pair ∷ result.1.now }
+{
+    let place = first_not_before(pairs, pair);
+    if is_at(pairs, place, pair) {
+        (&pairs[..place], &pairs[place + 1..])
+    } else {
+        (&pairs[..place], &pairs[place..])
+    }
 }
 
 #[cfg(test)]
@@ -227,5 +282,8 @@ mod tests {
         path.without_fork(2);
         assert_eq!(rt; path.as_slice(), [(7, 0), (9, 3)].as_slice());
         assert_eq!(rt; path.len(), 2);
+        let mut first = ForkPath::new(rt.alloc());
+        first.unite(&other).expect(&rt, "room");
+        assert_eq!(rt; first.as_slice(), other.as_slice());
     }
 }

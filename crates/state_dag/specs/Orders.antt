@@ -1,9 +1,10 @@
 -- The order that a table lends.
-use Rattle.std.proofs.Common.{◌≡◌, ℕ, ◌<◌, true, false, eqb, ltb, List, [], ◌∷◌, find, is_some, Some, IsTrue, refl, sym, ap, subst, ◌∙◌, inl, inr, eqb-true, arith}
+use Rattle.std.proofs.Common.{◌≡◌, ℕ, ◌<◌, ◌≤◌, true, false, eqb, ltb, leb, List, [], ◌∷◌, find, is_some, Option, Some, None, IsTrue, refl, sym, ap, subst, ◌∙◌, inl, inr, eqb-true, arith}
 use Rattle.std.specs.Option.{option_map_or}
-use Rattle.std.proofs.lemmas.Bool.{and_parts, cases_Bool, both_ways, ltb-true, cond-false}
+use Rattle.std.proofs.lemmas.Bool.{and_parts, cases_Bool, both_ways, ltb-true, leb-true, cond-false}
 use Rattle.tardis_base.specs.declared.ids.Slot.{Slot}
-use Rattle.state_dag.specs.Table.{Entry, Table, is_slot, arrive_in_order, is_kept_at, arrival_at}
+use Rattle.fork_path.specs.Pairs.{has_pairs}
+use Rattle.state_dag.specs.Table.{Entry, Table, entry_at, is_slot, arrive_in_order, is_kept_at, arrival_at, is_entry_above, is_slot_above}
 
 -- the arrival of the entry at this number
 arrival_in : List Entry → ℕ → ℕ
@@ -53,3 +54,12 @@ arrivals-differ table a b kept_a kept_b same =
     let one = and_parts (is_slot table a) (arrive_in_order table.entries) kept_a in
     let two = and_parts (is_slot table b) (arrive_in_order table.entries) kept_b in
     ap named (same-number table.entries a.0 b.0 one.1 one.0 two.0 same)
+
+-- what stands above a state arrived no later
+pub above-came_first : (table : Table) (a b : Slot) → IsTrue (is_slot_above table a b) → arrival_at table a ≤ arrival_at table b
+above-came_first table a b above = go (entry_at table a) (entry_at table b) above
+  where
+    go : (o p : Option Entry) → option_map_or (λ e. option_map_or (λ f. is_entry_above e f) p false) o false ≡ true → option_map_or (λ e. e.arrival) o 0 ≤ option_map_or (λ e. e.arrival) p 0
+    go None p h = absurd (both_ways false refl h)
+    go (Some e) None h = absurd (both_ways false refl h)
+    go (Some e) (Some f) h = leb-true e.arrival f.arrival (and_parts (leb e.arrival f.arrival) (has_pairs f.path e.path) h).0

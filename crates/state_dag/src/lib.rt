@@ -354,7 +354,7 @@ impl StateDag {
 
 impl Above for StateDag {
     ghost use Rattle.state_dag.specs.Table.{is_kept_at, arrival_at, is_slot_above};
-    ghost use Rattle.state_dag.specs.Orders.{arrivals-differ};
+    ghost use Rattle.state_dag.specs.Orders.{arrivals-differ, above-came_first};
 
     ghost is_kept = { is_kept_at };
 
@@ -363,6 +363,8 @@ impl Above for StateDag {
     ghost arrival_of = { arrival_at };
 
     ghost arrivals_differ = { arrivals-differ };
+
+    ghost above_came_first = { above-came_first };
 
     fn above(&self, a: Slot, b: Slot) -> bool {
         self.is_ancestor(a, b)

@@ -1,6 +1,6 @@
 //! How a table of states lends ancestry and arrival to those that keep data by its slots.
 
-ghost use Rattle.std.specs.Prelude.{◌≡◌, ℕ, Bool, IsTrue};
+ghost use Rattle.std.specs.Prelude.{◌≡◌, ◌≤◌, ℕ, Bool, IsTrue};
 ghost use Rattle.tardis_base.specs.declared.ids.Slot.{Slot};
 
 use crate::ids::Slot;
@@ -25,4 +25,6 @@ pub trait Above {
         ensures { result ≡ arrival_of self.now slot };
 
     ghost arrivals_differ: { (table : Self) (a b : Slot) → IsTrue (is_kept table a) → IsTrue (is_kept table b) → arrival_of table a ≡ arrival_of table b → a ≡ b };
+
+    ghost above_came_first: { (table : Self) (a b : Slot) → IsTrue (is_above table a b) → arrival_of table a ≤ arrival_of table b };
 }

@@ -2,6 +2,7 @@
 
 ghost use Rattle.std.specs.Prelude.{◌≡◌, nat_lt, nat_le, IsTrue};
 ghost use Rattle.std.proofs.Common.{ap};
+ghost use Rattle.std.proofs.lemmas.Bool.{leb-true};
 
 use crate::*;
 use bitflags::Flags;
@@ -126,6 +127,8 @@ impl Above for Chain {
     ghost arrival_of = { λ _ slot. slot.0 };
 
     ghost arrivals_differ = { λ _ a b _ _ same. ap (λ n. record { 0 = n }) same };
+
+    ghost above_came_first = { λ _ a b above. leb-true a.0 b.0 above };
 
     fn above(&self, a: Slot, b: Slot) -> bool {
         a.0 <= b.0

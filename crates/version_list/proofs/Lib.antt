@@ -3,3 +3,4 @@ pub mod Orders
 pub mod Rooms
 pub mod Adds
 pub mod Noted
+pub mod Listing

@@ -1,7 +1,7 @@
 -- Lists of versions in the order of their arrival, and walks over them from the newest on.
-use Rattle.std.proofs.Common.{◌≡◌, ℕ, ◌<◌, Bool, true, false, ◌&&◌, List, [], ◌∷◌, ◌++◌, Some, length, get_or, drop, filter, nat_lt, refl, inl, inr, arith}
+use Rattle.std.proofs.Common.{◌≡◌, ℕ, ◌<◌, ◌≤◌, Bool, true, false, ◌&&◌, List, [], ◌∷◌, ◌++◌, Some, length, get_or, drop, filter, nat_lt, refl, inl, inr, arith}
 use Rattle.std.specs.List.{list_all, list_any}
-use Rattle.std.proofs.lemmas.Bool.{and_parts, or_parts, or_left, or_right, cases_Bool}
+use Rattle.std.proofs.lemmas.Bool.{and_parts, or_parts, or_left, or_right, cases_Bool, false_from_ne_true, ltb-true}
 use Rattle.tardis_base.specs.declared.ids.Slot.{Slot}
 use Rattle.version_list.specs.declared.histories.Version.{Version}
 use Rattle.version_list.specs.Lists.{are_in_order, have_come_before}
@@ -72,3 +72,20 @@ module _ (kept : Slot → Bool) (arrival : Slot → ℕ) where
       let later = all-push (λ (x : Version). nat_lt (arrival w.slot) (arrival x.slot)) vs v parts.1 come.0 in
       let rest = in_order-push vs v parts.2 come.1 e in
       rw (parts.0, later, rest) refl
+
+  -- of versions in order none from one on that arrived after a state is above it
+  pub none-later : (above : Slot → Bool) (by : ℕ) → ((a : Slot) → above a ≡ true → arrival a ≤ by) → (vs : List Version) (i : ℕ) (d : Version) → are_in_order kept arrival vs ≡ true → i < length vs → by < arrival (get_or vs i d).slot → list_any (λ v. above v.slot) (drop i vs) ≡ false
+  none-later above by early [] i d ordered lt later = absurd (omega arith)
+  none-later above by early (v ∷ vs) ℕ.zero d ordered lt later =
+      rw (none v.slot later) (rest vs (order-parts v vs ordered).1)
+    where
+      none : (a : Slot) → by < arrival a → above a ≡ false
+      none a l = false_from_ne_true (above a) (λ h. let le = early a h in omega arith)
+
+      rest : (ws : List Version) → list_all (λ w. nat_lt (arrival v.slot) (arrival w.slot)) ws ≡ true → list_any (λ w. above w.slot) ws ≡ false
+      rest [] a = refl
+      rest (w ∷ ws) a =
+          let parts = and_parts (nat_lt (arrival v.slot) (arrival w.slot)) (list_all (λ w. nat_lt (arrival v.slot) (arrival w.slot)) ws) a in
+          let l = ltb-true (arrival v.slot) (arrival w.slot) parts.0 in
+          rw (none w.slot (omega arith)) (rest ws parts.1)
+  none-later above by early (v ∷ vs) (ℕ.suc i) d ordered lt later = none-later above by early vs i d (order-parts v vs ordered).2 (omega arith) later

@@ -1,12 +1,12 @@
 -- The lists of versions, one for each listed key.
-use Rattle.std.specs.Prelude.{ℕ, Bool, true, false, ◌&&◌, List, [], ◌∷◌, Option, Some, None, nat_lt, map, IsTrue, bytes_eq}
+use Rattle.std.specs.Prelude.{ℕ, Bool, true, false, ◌&&◌, not, List, [], ◌∷◌, ◌++◌, Option, Some, None, nat_lt, map, filter, if◌then◌else◌, IsTrue, bytes_eq}
 use Rattle.std.specs.List.{list_all}
 use Rattle.std.specs.Map.{lookup}
 use Rattle.std.specs.Option.{option_map_or}
 use Rattle.tardis_base.specs.declared.ids.Slot.{Slot}
 use Rattle.tardis_base.specs.declared.ids.StateId.{StateId}
 use Rattle.tardis_base.specs.declared.records.Write.{Write}
-use Rattle.tardis_base.specs.Keys.{KeyWrite}
+use Rattle.tardis_base.specs.Keys.{KeyWrite, is_key_among, keys_of}
 use Rattle.version_list.specs.declared.histories.Version.{Version}
 
 -- the versions of one key as they arrived, and how many more there is room for
@@ -24,6 +24,14 @@ no_lists = record { lists = [] }
 
 abbrev pub keys_in : Lists → List (List ℕ)
 keys_in vs = map (λ l. l.0) vs.lists
+
+-- these keys with the key behind them, if it isn't one of them
+abbrev pub with_listed : List ℕ → List (List ℕ) → List (List ℕ)
+with_listed k ks = if is_key_among k ks then ks else ks ++ k ∷ []
+
+-- those of the written keys that are none of these, in their order
+abbrev pub new_keys : List (List ℕ) → List KeyWrite → List (List ℕ)
+new_keys ks ws = filter (λ k. not (is_key_among k ks)) (keys_of ws)
 
 -- what is listed for the key, if it is
 abbrev pub listed_in : Lists → List ℕ → Option Listed

@@ -1,6 +1,5 @@
 -- What is read of a key's versions.
-use Rattle.std.specs.Prelude.{ℕ, Bool, ◌&&◌, not, List, [], ◌∷◌, Option, Some, None, nat_lt, filter, if◌then◌else◌}
-use Rattle.std.specs.List.{list_any}
+use Rattle.std.specs.Prelude.{ℕ, Bool, List, [], ◌∷◌, Option, Some, None, nat_lt, filter, if◌then◌else◌}
 use Rattle.tardis_base.specs.declared.ids.Slot.{Slot}
 use Rattle.tardis_base.specs.declared.ids.StateId.{StateId}
 use Rattle.tardis_base.specs.declared.records.Write.{Write}
@@ -22,10 +21,6 @@ last_arrived arrival (v ∷ vs) = Some (later_of arrival v (last_arrived arrival
 -- of the versions at or above the state the one that arrived last
 abbrev pub latest_version : (Slot → Slot → Bool) → (Slot → ℕ) → List Version → Slot → Option Version
 latest_version above arrival vs at = last_arrived arrival (filter (λ v. above v.slot at) vs)
-
--- some version is at or above the one state and not at or above the other
-abbrev pub has_between : (Slot → Slot → Bool) → List Version → Slot → Slot → Bool
-has_between above vs low high = list_any (λ v. above v.slot low && not (above v.slot high)) vs
 
 -- who wrote the version, and what
 abbrev pub written : Version → StateId × Write

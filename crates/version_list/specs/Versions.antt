@@ -6,7 +6,7 @@ use Rattle.std.specs.Option.{option_map_or}
 use Rattle.tardis_base.specs.declared.ids.Slot.{Slot}
 use Rattle.tardis_base.specs.Keys.{KeyWrite, is_key_among}
 use Rattle.version_list.specs.declared.histories.Version.{Version}
-pub use Rattle.version_list.specs.Lists.{version_by, have_come_before, are_in_order}
+pub use Rattle.version_list.specs.Lists.{new_keys, version_by, have_come_before, are_in_order}
 use Rattle.version_list.specs.Lists.{Lists, keys_in, versions_in, has_room_in, have_room_in, AllInOrder, AllBefore}
 
 -- the versions of the listed keys, how many more states there is room for, and for how many keys of the next one

@@ -1,13 +1,17 @@
-//! The versions of one key.
+//! The versions of each key: one history a key.
 
-ghost use Rattle.std.specs.Prelude.{◌≡◌, ◌≤◌, ◌<◌, [], ◌∷◌, ◌++◌, IsTrue, IfOk, OnOk};
+ghost use Rattle.std.specs.Prelude.{◌≡◌, ◌≤◌, ◌<◌, ◌+◌, ◌||◌, [], ◌∷◌, ◌++◌, ℕ, List, false, length, take, drop, slice_get, bytes_eq, vec_len, IsTrue, IfOk, OnOk, OnErr};
+ghost use Rattle.std.specs.List.{list_any, IsDistinct};
 ghost use Rattle.std.specs.Option.{option_copied};
-ghost use Rattle.version_list.specs.Lists.{are_in_order};
-ghost use Rattle.version_list.specs.Reads.{latest_version, has_between};
+ghost use Rattle.std.specs.Vec.{vec_capacity};
+ghost use Rattle.tardis_base.specs.Keys.{is_key_among, has_key, write_of};
+ghost use Rattle.version_list.specs.Lists.{no_lists, keys_in, listed_in, versions_in, has_room_in, have_room_in, with_listed, new_keys, version_by, are_in_order, AllInOrder, AllBefore};
+ghost use Rattle.version_list.specs.Reads.{latest_version};
 
+use indexmap::IndexMap;
 use std::alloc::Global;
 use std::marker::Model;
-use tardis_base::{Above, NoMemory, Slot, StateId, Write};
+use tardis_base::{Above, Key, NoMemory, Slot, StateId, Write, WriteSet};
 
 /// What a state wrote to a key.
 #[derive(Debug, Drop)]
@@ -20,7 +24,7 @@ pub struct Version {
 
 /// The versions of one key in the order of their arrival.
 #[derive(Drop)]
-pub(crate) struct History {
+struct History {
     versions: Vec<Version>,
 }
 
@@ -36,7 +40,7 @@ impl Model for History {
 
 impl History {
     /// No versions, with room for one.
-    pub(crate) fn new(alloc: Global) -> Result<History, NoMemory>
+    fn new(alloc: Global) -> Result<History, NoMemory>
         ensures empty { IfOk result (λ history. history.versions ≡ []) }
         ensures room { IfOk result (λ history. 0 < history.room) }
     {
@@ -46,7 +50,7 @@ impl History {
     }
 
     /// Makes room for one more version.
-    pub(crate) fn reserve(&mut self) -> Result<(), NoMemory>
+    fn reserve(&mut self) -> Result<(), NoMemory>
         ensures same { self.new.versions ≡ self.old.versions }
         ensures room { OnOk result (0 < self.new.room) }
         ensures kept { self.old.room ≤ self.new.room }
@@ -56,7 +60,7 @@ impl History {
     }
 
     /// Puts the version at the end. It takes no memory.
-    pub(crate) fn add(&mut self, version: Version)
+    fn add(&mut self, version: Version)
         requires { 0 < self.old.room }
         ensures { self.new.versions ≡ self.old.versions ++ version ∷ [] }
     {
@@ -66,14 +70,165 @@ impl History {
         }
     }
 
-    pub(crate) fn as_slice(&self) -> &[Version]
+    fn as_slice(&self) -> &[Version]
         ensures { result.now ≡ self.now.versions }
     {
         self.versions.as_slice()
     }
 }
 
-/// The version that is read at the state, found from the newest on.
+/// The list of versions of each listed key.
+#[derive(Drop)]
+pub(crate) struct KeyLists {
+    lists: IndexMap<Key, History>,
+}
+
+impl Model for KeyLists {
+    ghost use Rattle.version_list.specs.Lists.{Lists};
+
+    ghost Value = { Lists };
+
+    ghost view = { λ s. record { lists = s.lists.entries } };
+}
+
+impl KeyLists {
+    /// No versions. It takes no memory.
+    pub(crate) fn new(alloc: Global) -> KeyLists
+        ensures { result ≡ no_lists }
+    {
+        KeyLists {
+            lists: IndexMap::new(alloc),
+        }
+    }
+
+    /// The versions of the key in the order of their arrival.
+    pub(crate) fn versions(&self, key: &Key) -> &[Version]
+        ensures { result.now ≡ versions_in self.now key.now }
+    {
+        match self.lists.get(key) {
+            Some(history) => history.as_slice(),
+            None => &[],
+        }
+    }
+
+    /// Makes room for one more version of each of these keys. Those that aren't listed yet are listed behind the others.
+    ///
+    /// With no memory the listed keys are as before, and room may have been made.
+    pub(crate) fn make_room(&mut self, writes: &WriteSet) -> Result<(), NoMemory>
+        ensures room { OnOk result (IsTrue (have_room_in self.new writes.now)) }
+        ensures listed { OnOk result (keys_in self.new ≡ keys_in self.old ++ new_keys (keys_in self.old) writes.now) }
+        ensures not_listed { OnErr result (keys_in self.new ≡ keys_in self.old) }
+        ensures same { (k : List ℕ) → versions_in self.new k ≡ versions_in self.old k }
+        ensures kept { (k : List ℕ) → IsTrue (has_room_in self.old k) → IsTrue (has_room_in self.new k) }
+    {
+        let keys = self.lists.len();
+        for (key, _) in writes.as_slice() {
+            match self.make_room_for(key) {
+                Ok(()) => {},
+                Err(NoMemory) => {
+                    self.withdraw(keys);
+                    return Err(NoMemory);
+                },
+            }
+        }
+        Ok(())
+    }
+
+    /// Makes room for one more version of the key, which is listed then.
+    fn make_room_for(&mut self, key: &Key) -> Result<(), NoMemory>
+        ensures room { OnOk result (IsTrue (has_room_in self.new key.now)) }
+        ensures listed { OnOk result (keys_in self.new ≡ with_listed key.now (keys_in self.old)) }
+        ensures not_listed { OnErr result (keys_in self.new ≡ keys_in self.old) }
+        ensures same { (k : List ℕ) → versions_in self.new k ≡ versions_in self.old k }
+        ensures kept { (k : List ℕ) → IsTrue (has_room_in self.old k) → IsTrue (has_room_in self.new k) }
+    {
+        if let Some(history) = self.lists.get_mut(key) {
+            return history.reserve();
+        }
+        let history = History::new(*self.lists.allocator())?;
+        self.lists.insert(key.copy()?, history)?;
+        Ok(())
+    }
+
+    /// Takes the keys from this place on, which have no versions, off the list. It takes no memory.
+    pub(crate) fn withdraw(&mut self, place: usize)
+        requires { (k : List ℕ) → IsTrue (is_key_among k (drop place (keys_in self.old))) → versions_in self.old k ≡ [] }
+        ensures listed { keys_in self.new ≡ take place (keys_in self.old) }
+        ensures same { (k : List ℕ) → versions_in self.new k ≡ versions_in self.old k }
+        ensures kept { (k : List ℕ) → IsTrue (is_key_among k (take place (keys_in self.old))) → listed_in self.new k ≡ listed_in self.old k }
+    {
+        self.lists.truncate(place);
+    }
+
+    /// Puts the version at the end of the key's list.
+    fn add_version(&mut self, key: &Key, version: Version)
+        requires { IsTrue (has_room_in self.old key.now) }
+        ensures added { versions_in self.new key.now ≡ versions_in self.old key.now ++ version ∷ [] }
+        ensures others { (k : List ℕ) → bytes_eq key.now k ≡ false → listed_in self.new k ≡ listed_in self.old k }
+        ensures keys { keys_in self.new ≡ keys_in self.old }
+    {
+        match self.lists.get_mut(key) {
+            Some(history) => history.add(version),
+            None => unreachable!(),
+        }
+    }
+
+    /// Adds what the state of this slot wrote, and puts the keys that it wrote behind these. It takes no memory.
+    pub(crate) fn add<A: Above>(
+        &mut self,
+        dag: &A,
+        slot: Slot,
+        writer: StateId,
+        writes: WriteSet,
+        keys: &mut Vec<Key>,
+    )
+        requires order { AllInOrder (A.is_kept dag.now) (A.arrival_of dag.now) self.old }
+        requires room { IsTrue (have_room_in self.old writes) }
+        requires kept { IsTrue (A.is_kept dag.now slot) }
+        requires space { vec_len keys.old + length writes ≤ vec_capacity keys.old }
+        requires newest { AllBefore (A.arrival_of dag.now) slot self.old }
+        ensures added { (k : List ℕ) → versions_in self.new k ≡ versions_in self.old k ++ version_by slot writer (write_of k writes) }
+        ensures keys { keys_in self.new ≡ keys_in self.old }
+        ensures written { (k : List ℕ) → is_key_among k keys.new.items ≡ (is_key_among k keys.old.items || has_key k writes) }
+        ensures order { AllInOrder (A.is_kept dag.now) (A.arrival_of dag.now) self.new }
+    {
+        let mut rest = writes.into_vec();
+        while let Some((key, write)) = rest.pop() {
+            let version = Version {
+                slot,
+                writer,
+                write,
+            };
+            self.add_version(&key, version);
+            match keys.push(key) {
+                Ok(()) => {},
+                Err(_) => unreachable!(),
+            }
+        }
+    }
+
+    /// How many keys are listed.
+    pub(crate) fn keys(&self) -> usize
+        ensures count { result ≡ length (keys_in self.now) }
+        ensures distinct { IsDistinct bytes_eq (keys_in self.now) }
+        ensures listed { (k : List ℕ) → is_key_among k (keys_in self.now) ≡ false → versions_in self.now k ≡ [] }
+    {
+        self.lists.len()
+    }
+
+    /// The listed key at this place, counted from 0.
+    pub(crate) fn key_at(&self, place: usize) -> &Key
+        requires { place < length (keys_in self.now) }
+        ensures { slice_get (keys_in self.now) place ≡ Some result.now }
+    {
+        match self.lists.get_index(place) {
+            Some((key, _)) => key,
+            None => unreachable!(),
+        }
+    }
+}
+
+/// The version that is read at the state, found from the newest of those on that had arrived by then.
 pub(crate) fn latest<'a, A: Above>(
     dag: &A,
     versions: &'a [Version],
@@ -83,7 +238,7 @@ pub(crate) fn latest<'a, A: Above>(
     requires kept { IsTrue (A.is_kept dag.now at) }
     ensures { option_copied result ≡ latest_version (A.is_above dag.now) (A.arrival_of dag.now) versions.now at }
 {
-    for place in (0..versions.len()).rev() {
+    for place in (0..arrived_by(dag, versions, at)).rev() {
         let version = &versions[place];
         if dag.above(version.slot, at) {
             return Some(version);
@@ -92,23 +247,23 @@ pub(crate) fn latest<'a, A: Above>(
     None
 }
 
-/// Whether a version is at or above the one state and not at or above the other, from the newest on.
-pub(crate) fn has_news<A: Above>(
-    dag: &A,
-    versions: &[Version],
-    above: Slot,
-    not_above: Slot,
-) -> bool
+/// How many of the versions had arrived when the state did, by a binary search. None behind them is at or above it.
+fn arrived_by<A: Above>(dag: &A, versions: &[Version], at: Slot) -> usize
     requires order { IsTrue (are_in_order (A.is_kept dag.now) (A.arrival_of dag.now) versions.now) }
-    requires first { IsTrue (A.is_kept dag.now above) }
-    requires second { IsTrue (A.is_kept dag.now not_above) }
-    ensures { result ≡ has_between (A.is_above dag.now) versions.now above not_above }
+    requires kept { IsTrue (A.is_kept dag.now at) }
+    ensures bound { result ≤ length versions.now }
+    ensures behind { list_any (λ v. A.is_above dag.now v.slot at) (drop result versions.now) ≡ false }
 {
-    for place in (0..versions.len()).rev() {
-        let slot = versions[place].slot;
-        if dag.above(slot, above) && !dag.above(slot, not_above) {
-            return true;
+    let arrival = dag.arrival(at);
+    let mut low = 0;
+    let mut high = versions.len();
+    while low < high {
+        let middle = low + (high - low) / 2;
+        if dag.arrival(versions[middle].slot) > arrival {
+            high = middle;
+        } else {
+            low = middle + 1;
         }
     }
-    false
+    high
 }

@@ -2,7 +2,6 @@
 #![tactic(auto)]
 
 mod histories;
-mod key_lists;
 mod version_lists;
 
 pub use histories::Version;

@@ -1,13 +1,14 @@
 //! What no clause says: that each call which takes memory gets it, and a row of reads on two branches.
 
-ghost use Rattle.std.specs.Prelude.{◌≡◌, ◌+◌, ◌<◌, ◌==◌, ◌||◌, ◌&&◌, nat_lt, OnOk};
+ghost use Rattle.std.specs.Prelude.{◌≡◌, ◌+◌, ◌<◌, ◌==◌, ◌&&◌, not, nat_eq, nat_lt, nat_le, OnOk};
 ghost use Rattle.std.proofs.Common.{ap};
+ghost use Rattle.std.proofs.lemmas.Bool.{and_parts, leb-true};
 ghost use Rattle.version_list.specs.Versions.{IsInOrder, IsBefore};
 
 use crate::*;
 use std::alloc::Global;
 use std::test::Fail;
-use tardis_base::{Above, Found, Key, KeySet, Slot, StateId, Value, Write, WriteSet};
+use tardis_base::{Above, Found, Key, Slot, StateId, Value, Write, WriteSet};
 
 /// Four states: 0 with the children 1 and 2, and 3 below 1.
 struct Branches;
@@ -15,14 +16,16 @@ struct Branches;
 impl Above for Branches {
     ghost is_kept = { λ _ slot. nat_lt slot.0 4 };
 
-    ghost is_above = { λ _ a b. a.0 == b.0 || a.0 == 0 || a.0 == 1 && b.0 == 3 };
+    ghost is_above = { λ _ a b. nat_le a.0 b.0 && not (nat_lt 0 a.0 && a.0 + 1 == b.0) };
 
     ghost arrival_of = { λ _ slot. slot.0 };
 
     ghost arrivals_differ = { λ _ a b _ _ same. ap (λ n. record { 0 = n }) same };
 
+    ghost above_came_first = { λ _ a b above. leb-true a.0 b.0 (and_parts (nat_le a.0 b.0) (not (nat_lt 0 a.0 && nat_eq (a.0 + 1) b.0)) above).0 };
+
     fn above(&self, a: Slot, b: Slot) -> bool {
-        a.0 == b.0 || a.0 == 0 || a.0 == 1 && b.0 == 3
+        a.0 <= b.0 && !(a.0 > 0 && b.0 - a.0 == 1)
     }
 
     fn arrival(&self, slot: Slot) -> u64 {
@@ -53,8 +56,8 @@ fn wrote(
 {
     let mut writes = WriteSet::new(alloc);
     writes.insert(key.copy()?, write)?;
-    let copy = list.reserve(&writes)?;
-    list.add(&Branches, Slot(slot), id(slot), copy);
+    list.make_room(&writes)?;
+    list.add(&Branches, Slot(slot), id(slot), writes);
     Ok(())
 }
 
@@ -81,10 +84,6 @@ fn branches_read_their_own(rt: HostRuntime) -> Result<(), Fail> {
         list.holder(&Branches, &Key::new(alloc, b"y")?, Slot(0)),
         None
     );
-    let mut keys = KeySet::new(alloc);
-    keys.insert(key)?;
-    assert!(rt; list.touches(&Branches, Slot(3), Slot(2), &keys));
-    assert!(rt; !list.touches(&Branches, Slot(3), Slot(1), &keys));
     assert_eq!(rt; list.keys(), 1);
     assert_eq!(rt; list.keys_at(Slot(2)).len(), 1);
     assert!(rt; list.keys_at(Slot(3)).is_empty());

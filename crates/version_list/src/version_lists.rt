@@ -1,18 +1,17 @@
 //! The versions of all keys.
 
-ghost use Rattle.std.specs.Prelude.{◌≡◌, ◌<◌, ◌++◌, ◌∷◌, [], ℕ, List, false, length, slice_get, bytes_eq, option_map, IsTrue, IfOk, OnOk};
-ghost use Rattle.std.specs.List.{list_any, IsDistinct};
-ghost use Rattle.tardis_base.specs.Keys.{is_key_among, has_key, write_of};
-ghost use Rattle.version_list.specs.Versions.{listed_keys, versions_of, has_room_for, version_by, has_version_at, IsInOrder, IsBefore};
-ghost use Rattle.version_list.specs.Reads.{latest_version, has_between, written, found};
+ghost use Rattle.std.specs.Prelude.{◌≡◌, ◌<◌, ◌++◌, [], ℕ, List, false, length, take, drop, slice_get, bytes_eq, option_map, IsTrue, OnOk, OnErr};
+ghost use Rattle.std.specs.List.{IsDistinct};
+ghost use Rattle.tardis_base.specs.Keys.{is_key_among, write_of};
+ghost use Rattle.version_list.specs.Versions.{listed_keys, new_keys, versions_of, has_room, has_room_for, version_by, has_version_at, IsInOrder, IsBefore};
+ghost use Rattle.version_list.specs.Reads.{latest_version, written, found};
 
-use crate::histories::Version;
-use crate::key_lists::KeyLists;
+use crate::histories::{self, KeyLists, Version};
 use indexmap::IndexMap;
 use std::alloc::Global;
 use std::marker::Model;
 use std::mem;
-use tardis_base::{Above, Found, Key, KeyList, KeySet, NoMemory, Slot, StateId, WriteSet};
+use tardis_base::{Above, Found, Key, KeyList, NoMemory, Slot, StateId, Write, WriteSet};
 
 /// The versions of each key, with their states named by slots of one table.
 ///
@@ -59,18 +58,33 @@ impl VersionList {
         self.lists.versions(key)
     }
 
-    /// Makes room for one more version of each of these keys, and answers an equal copy of the writes.
+    /// Makes room for the versions of one more state with these writes. Keys that aren't listed yet are listed behind the others.
     ///
-    /// With no memory, keys may have been listed and room may have been made. The cost grows with the lengths of these keys and
-    /// values, and with a look-up of each key; a list without room is moved to where it has some.
-    pub fn reserve(&mut self, writes: &WriteSet) -> Result<WriteSet, NoMemory>
-        ensures copy { IfOk result (λ copy. copy ≡ writes.now) }
+    /// With no memory the listed keys are as before, and room may have been made. The cost grows with a look-up of each key
+    /// and the lengths of those that are new; a list without room is moved to where it has some.
+    pub fn make_room(&mut self, writes: &WriteSet) -> Result<(), NoMemory>
         ensures room { OnOk result (IsTrue (has_room_for self.new writes.now)) }
+        ensures listed { OnOk result (listed_keys self.new ≡ listed_keys self.old ++ new_keys (listed_keys self.old) writes.now) }
+        ensures not_listed { OnErr result (listed_keys self.new ≡ listed_keys self.old) }
         ensures same { (k : List ℕ) → versions_of self.new k ≡ versions_of self.old k }
+        ensures kept { (k : List ℕ) → IsTrue (has_room self.old k) → IsTrue (has_room self.new k) }
     {
         self.keys.reserve(1)?;
         self.next.reserve(writes.len())?;
-        self.lists.reserve(writes)
+        self.lists.make_room(writes)
+    }
+
+    /// Takes the keys from this place on, which have no versions, off the list: those that `make_room` listed for a state
+    /// that isn't added. It takes no memory.
+    ///
+    /// The cost grows with the number of these keys.
+    pub fn withdraw(&mut self, place: usize)
+        requires { (k : List ℕ) → IsTrue (is_key_among k (drop place (listed_keys self.old))) → versions_of self.old k ≡ [] }
+        ensures listed { listed_keys self.new ≡ take place (listed_keys self.old) }
+        ensures same { (k : List ℕ) → versions_of self.new k ≡ versions_of self.old k }
+        ensures kept { (k : List ℕ) → IsTrue (is_key_among k (take place (listed_keys self.old))) → has_room self.new k ≡ has_room self.old k }
+    {
+        self.lists.withdraw(place);
     }
 
     /// Adds what the state of this slot wrote, which is read from there on. It takes no memory, and uses up the room for these keys.
@@ -96,46 +110,37 @@ impl VersionList {
 
     /// What is read of the key at the state: the version of greatest arrival among those at or above it.
     ///
-    /// The cost grows with the number of the key's versions that are newer than that one.
+    /// The cost is that of a look-up of the key and of a binary search among its versions, and grows with the number of those
+    /// that had arrived when the state did and are newer than the one found.
     pub fn latest<A: Above>(&self, dag: &A, key: &Key, at: Slot) -> Found<'_>
         requires order { IsInOrder (A.is_kept dag.now) (A.arrival_of dag.now) self.now }
         requires kept { IsTrue (A.is_kept dag.now at) }
         ensures { found result ≡ option_map written (latest_version (A.is_above dag.now) (A.arrival_of dag.now) (versions_of self.now key.now) at) }
     {
-        self.lists.latest(dag, key, at)
+        match histories::latest(dag, self.lists.versions(key), at) {
+            Some(version) => match &version.write {
+                Write::Put(value) => Found::Value {
+                    writer: version.writer,
+                    value,
+                },
+                Write::Delete => Found::Deleted {
+                    writer: version.writer,
+                },
+            },
+            None => Found::Absent,
+        }
     }
 
-    /// The state whose version `latest` finds; None exactly where it finds none.
+    /// The state whose version `latest` finds, at that cost; None exactly where it finds none.
     pub fn holder<A: Above>(&self, dag: &A, key: &Key, at: Slot) -> Option<Slot>
         requires order { IsInOrder (A.is_kept dag.now) (A.arrival_of dag.now) self.now }
         requires kept { IsTrue (A.is_kept dag.now at) }
         ensures { result ≡ option_map (λ v. v.slot) (latest_version (A.is_above dag.now) (A.arrival_of dag.now) (versions_of self.now key.now) at) }
     {
-        self.lists.holder(dag, key, at)
-    }
-
-    /// Whether the key has a version at or above the one state and not at or above the other.
-    ///
-    /// The cost grows with the number of the key's versions.
-    pub fn has_news<A: Above>(&self, dag: &A, above: Slot, not_above: Slot, key: &Key) -> bool
-        requires order { IsInOrder (A.is_kept dag.now) (A.arrival_of dag.now) self.now }
-        requires first { IsTrue (A.is_kept dag.now above) }
-        requires second { IsTrue (A.is_kept dag.now not_above) }
-        ensures { result ≡ has_between (A.is_above dag.now) (versions_of self.now key.now) above not_above }
-    {
-        self.lists.has_news(dag, above, not_above, key)
-    }
-
-    /// Whether one of the keys has a version at or above the one state and not at or above the other.
-    ///
-    /// The cost grows with the number of versions of these keys.
-    pub fn touches<A: Above>(&self, dag: &A, above: Slot, not_above: Slot, keys: &KeySet) -> bool
-        requires order { IsInOrder (A.is_kept dag.now) (A.arrival_of dag.now) self.now }
-        requires first { IsTrue (A.is_kept dag.now above) }
-        requires second { IsTrue (A.is_kept dag.now not_above) }
-        ensures { result ≡ list_any (λ k. has_between (A.is_above dag.now) (versions_of self.now k) above not_above) keys.now }
-    {
-        self.lists.touches(dag, above, not_above, keys)
+        match histories::latest(dag, self.lists.versions(key), at) {
+            Some(version) => Some(version.slot),
+            None => None,
+        }
     }
 
     /// How many keys are listed.

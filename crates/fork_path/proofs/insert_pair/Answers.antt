@@ -1,7 +1,3 @@
-use Rattle.std.proofs.Common.{◌≡◌, ◌<◌, ◌∙◌, true, false, List, length, Result, IsOk, if◌then◌else◌, get_or, ℕ, subst, sym, ap, refl, arith}
-use Rattle.std.specs.List.{insert}
-use Rattle.std.specs.Result.{is_ok}
-use Rattle.fork_path.specs.Pairs.{are_ascending_pairs, is_same_pair, has_pair, with_pair}
 use Rattle.fork_path.proofs.PairSets.{inserted-with_pair, found-with_pair}
 use Rattle.fork_path.proofs.insert_pair.Goals as goal
 

@@ -1,32 +1,26 @@
-use Rattle.std.proofs.Common.{◌≡◌, ◌∙◌, ◌||◌, true, ℕ, length, subst, sym, ap, arith}
-use Rattle.fork_path.specs.Pairs.{are_ascending_pairs, has_pair}
-use Rattle.fork_path.proofs.PairSets.{uniting-none, uniting-more, united}
+use Rattle.std.proofs.Common.{◌≡◌, ◌∙◌, ◌||◌, true, ap, ap₂, subst, sym}
+use Rattle.fork_path.specs.Pairs.{are_ascending_pairs, has_pair, with_each}
+use Rattle.fork_path.proofs.Merges.{has-with_each, ascending-with_each}
 use Rattle.fork_path.proofs.ForkPath.unite.Goals as goal
 
-pub loop-pair-init : goal.loop-pair-init
-loop-pair-init c =
-    let old = ap (λ v. v.pairs) c.self.view_is in
-    record {
-      so_far = uniting-none c.args.self.now.pairs c.as_slice-pair-items.result.now c.reserve.new.self.items (subst (λ v. are_ascending_pairs v.pairs ≡ true) c.self.view_is c.self.invariant) (c.reserve.ensures.items ∙ old);
-      room = (let len = c.len.ensures in let same = c.as_slice-pair-items.ensures.len in let more = c.in_ok-reserve.ensures.ok in omega arith);
-    }
-
-pub insert_pair-requires : goal.insert_pair-requires
-insert_pair-requires c = let room = c.loop-pair.invariant.room in omega arith
-
-pub invariant_of-self-in-loop-pair : goal.invariant_of-self-in-loop-pair
-invariant_of-self-in-loop-pair c = c.loop-pair.invariant.so_far.ascending
-
-pub loop-pair-preserved : goal.loop-pair-preserved
-loop-pair-preserved c = record {
-  so_far = uniting-more c.args.self.now.pairs c.as_slice-pair-items.result.now c.loop-pair.self-inside.pairs.items c.insert_pair.new.pairs.items c.loop-pair.pair-index c.loop-pair.invariant.so_far (omega arith) c.insert_pair.ensures.added;
-  room = (let room = c.loop-pair.invariant.room in let len = c.insert_pair.ensures.len in let capacity = c.insert_pair.ensures.capacity in omega arith);
-}
+pub invariant_of-self-2 : goal.invariant_of-self-2
+invariant_of-self-2 c =
+    let up : are_ascending_pairs c.as_slice-2.result.now ≡ true = subst (λ ps. are_ascending_pairs ps ≡ true) (sym c.as_slice-2.ensures.value) c.self.invariant in
+    let up₂ : are_ascending_pairs c.as_slice-3.result.now ≡ true = subst (λ ps. are_ascending_pairs ps ≡ true) (sym c.as_slice-3.ensures.value) c.other.invariant in
+    let made : c.in_ok-self-inside.field-0.items ≡ with_each c.as_slice-3.result.now c.as_slice-2.result.now = c.in_ok-self-inside.ensures up up₂ in
+    subst (λ ps. are_ascending_pairs ps ≡ true) (sym made) (ascending-with_each c.as_slice-3.result.now c.as_slice-2.result.now up)
 
 pub returns-clause-pairs : goal.returns-clause-pairs
 returns-clause-pairs c = λ p.
-    united c.args.self.now.pairs c.as_slice-pair-items.result.now c.loop-pair.self-inside.pairs.items c.loop-pair.pair-index c.loop-pair.invariant.so_far (omega arith) p
-    ∙ ap (λ ps. has_pair p ps || has_pair p c.args.self.now.pairs) (c.as_slice-pair-items.ensures.value ∙ ap (λ v. v.pairs) c.other.view_is)
+    let up : are_ascending_pairs c.as_slice-2.result.now ≡ true = subst (λ ps. are_ascending_pairs ps ≡ true) (sym c.as_slice-2.ensures.value) c.self.invariant in
+    let up₂ : are_ascending_pairs c.as_slice-3.result.now ≡ true = subst (λ ps. are_ascending_pairs ps ≡ true) (sym c.as_slice-3.ensures.value) c.other.invariant in
+    let made : c.in_ok-self-inside.field-0.items ≡ with_each c.as_slice-3.result.now c.as_slice-2.result.now = c.in_ok-self-inside.ensures up up₂ in
+    ap (has_pair p) made ∙ has-with_each p c.as_slice-3.result.now c.as_slice-2.result.now
+    ∙ ap₂ (λ xs ys. has_pair p xs || has_pair p ys) (c.as_slice-3.ensures.value ∙ ap (λ v. v.pairs) c.other.view_is) (c.as_slice-2.ensures.value ∙ ap (λ v. v.pairs) c.self.view_is)
 
 pub returns-clause-ascending : goal.returns-clause-ascending
-returns-clause-ascending c = c.loop-pair.invariant.so_far.ascending
+returns-clause-ascending c =
+    let up : are_ascending_pairs c.as_slice-2.result.now ≡ true = subst (λ ps. are_ascending_pairs ps ≡ true) (sym c.as_slice-2.ensures.value) c.self.invariant in
+    let up₂ : are_ascending_pairs c.as_slice-3.result.now ≡ true = subst (λ ps. are_ascending_pairs ps ≡ true) (sym c.as_slice-3.ensures.value) c.other.invariant in
+    let made : c.in_ok-self-inside.field-0.items ≡ with_each c.as_slice-3.result.now c.as_slice-2.result.now = c.in_ok-self-inside.ensures up up₂ in
+    subst (λ ps. are_ascending_pairs ps ≡ true) (sym made) (ascending-with_each c.as_slice-3.result.now c.as_slice-2.result.now up)

@@ -1,5 +1,4 @@
-use Rattle.std.proofs.Common.{◌≡◌, ◌∙◌, true, List, ℕ, subst, sym, ap}
-use Rattle.fork_path.specs.Pairs.{are_ascending_pairs, has_pair, with_pair}
+use Rattle.std.proofs.Common.{ℕ, subst}
 use Rattle.fork_path.proofs.PairSets.{Grown, grown}
 use Rattle.fork_path.proofs.ForkPath.with_pair.Goals as goal
 

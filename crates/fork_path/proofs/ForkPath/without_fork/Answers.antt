@@ -1,4 +1,4 @@
-use Rattle.std.proofs.Common.{◌≡◌, ◌==◌, ◌∙◌, ℕ, Bool, true, not, List, subst, sym, ap, rules}
+use Rattle.std.proofs.Common.{◌≡◌, ◌==◌, ◌∙◌, ℕ, true, not, subst, sym, ap, rules}
 use Rattle.std.proofs.lemmas.Fn.{filter_same}
 use Rattle.fork_path.specs.Pairs.{are_ascending_pairs, without_pairs_of}
 use Rattle.fork_path.proofs.PairSets.{ascending-filter}

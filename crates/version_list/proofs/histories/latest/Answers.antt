@@ -2,11 +2,11 @@ use Rattle.std.proofs.Common.{◌≡◌, ℕ, ◌-◌, ◌<◌, true, false, Som
 use Rattle.std.specs.List.{list_any}
 use Rattle.version_list.specs.declared.histories.Version.{Version}
 use Rattle.version_list.specs.Reads.{last_arrived}
-use Rattle.version_list.proofs.Orders.{kept-at, last-found, filter-none, none-at_end}
+use Rattle.version_list.proofs.Orders.{kept-at, last-found, filter-none}
 use Rattle.version_list.proofs.histories.latest.Goals as goal
 
 pub loop-place-init : goal.loop-place-init
-loop-place-init g c = none-at_end (λ (v : Version). g.A.Above.is_above c.args.dag.now v.slot c.args.at) c.args.versions.now
+loop-place-init g c = c.arrived_by-place.ensures.behind
 
 pub above-requires-clause-first : goal.above-requires-clause-first
 above-requires-clause-first g c =

@@ -1,0 +1,14 @@
+use Rattle.std.proofs.Common.{◌≡◌, ◌≤◌, ◌-◌, false, length, drop}
+use Rattle.std.specs.List.{list_any}
+use Rattle.version_list.specs.declared.histories.Version.{Version}
+use Rattle.version_list.proofs.histories.arrived_by.Given as goal
+
+abbrev pub invariant-loop-low : goal.invariant-loop-low
+invariant-loop-low g l = record {
+  order : l.low ≤ l.high;
+  bound : l.high ≤ length l.versions;
+  behind : list_any (λ (v : Version). g.A.Above.is_above l.dag v.slot l.fn.at) (drop l.high l.versions) ≡ false;
+}
+
+abbrev pub decreases-loop-low : goal.decreases-loop-low
+decreases-loop-low g l = l.high - l.low

@@ -1,5 +1,0 @@
-use Rattle.version_list.proofs.Adds.{listed-none}
-use Rattle.version_list.proofs.key_lists.KeyLists.keys.Goals as goal
-
-pub returns-clause-listed : goal.returns-clause-listed
-returns-clause-listed c = λ k e. listed-none c.args.self.now k e
