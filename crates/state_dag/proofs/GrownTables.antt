@@ -90,15 +90,14 @@ module _ (old new : Table) (ms ns : List Node) (n : Node) (parents : List Slot) 
       }
 
   pub table-grown : new.limits ≡ old.limits → new.counts ≡ slice_set old.counts (x.site - 1) (unwrap_or (slice_get old.counts (x.site - 1)) 0 + 1) → new.known ≡ old.known + 1 →
-      new.leaves + length (filter (λ p. eqb (number_of_children (table_of ms) p) 0) parents) ≡ old.leaves + 1 → entry_at old slot ≡ None → new.entries ≡ entries_from 0 (ns ++ n ∷ []) → length ns ≡ length ms →
+      entry_at old slot ≡ None → new.entries ≡ entries_from 0 (ns ++ n ∷ []) → length ns ≡ length ms →
       slot.0 ≡ length ms → AreDistinct parents → list_all (λ m. are_ascending_pairs m.path.pairs) ms ≡ true → ((k : ℕ) (d : Node) → k < length ms → IsGrownNode (table_of ms) parents x slot k (get_or ms k d) (get_or ns k d)) →
       IsNewEntry old parents x slot (entry_of slot.0 n) → (g : IsGrown old new x parents slot) × (g.newest ≡ entry_of slot.0 n)
-  table-grown limits counts known leaves fresh after count place distinct up each is_new = (
+  table-grown limits counts known fresh after count place distinct up each is_new = (
     record {
       limits = limits;
       counts = counts;
       known = known;
-      leaves = ap (λ es. new.leaves + length (filter (λ p. eqb (number_of_children (record old { entries = es }) p) 0) parents)) before ∙ leaves;
       fresh = fresh;
       grown = entries_from 0 ns;
       newest = entry_of slot.0 n;
