@@ -1,28 +1,18 @@
 -- The numbers of a table that has grown.
-use Rattle.std.proofs.Common.{◌≡◌, ℕ, zero, suc, ◌+◌, ◌-◌, ◌<◌, ◌≤◌, Bool, true, false, cond, not, ◌||◌, ◌&&◌, eqb, List, [], ◌∷◌, ◌++◌, length, map, filter, slice_get, slice_set, Some, IsTrue, IsFalse, inl, inr, refl, sym, ap, ap₂, subst, ◌∙◌, eqb-true, eq-eqb, arith, length-append}
+use Rattle.std.proofs.Common.{◌≡◌, ℕ, zero, suc, ◌+◌, ◌-◌, ◌<◌, ◌≤◌, true, ◌||◌, ◌&&◌, eqb, List, [], ◌∷◌, length, map, slice_get, slice_set, IsTrue, IsFalse, inl, inr, refl, sym, ap, ap₂, subst, ◌∙◌, eqb-true, eq-eqb, arith, length-append}
 use Rattle.std.specs.Prelude.{unwrap_or, nat_le}
 use Rattle.std.specs.List.{list_any, range_with_len}
-use Rattle.std.proofs.lemmas.Bool.{and_parts, and_from, or_cases, cases_Bool, false_from_ne_true, not_from_false, leb-true, cond-true}
+use Rattle.std.proofs.lemmas.Bool.{and_parts, or_cases, cases_Bool, false_from_ne_true, not_from_false, leb-true}
 use Rattle.tardis_base.specs.declared.ids.StateId.{StateId}
-use Rattle.tardis_base.specs.declared.ids.Slot.{Slot}
 use Rattle.tardis_base.specs.declared.records.Record.{Record}
 use Rattle.tardis_base.specs.Ids.{root, same_id, is_among}
 use Rattle.tardis_base.specs.Valid.{is_u16, is_u32, is_id}
-use Rattle.plain_dag.specs.States.{arrived, children, count_of_site}
-use Rattle.plain_dag.specs.Forks.{is_leaf, leaves}
-use Rattle.plain_dag.proofs.Ids.{same_test, not-both, same_id-true, same_id_self, same_id_from}
-use Rattle.plain_dag.proofs.Histories.{dag-grows, next-fits, next-is-dag, newest-is-known, parent-is-known}
-use Rattle.plain_dag.proofs.Leaves.{leaf-is-childless, begins-at-leaves}
-use Rattle.plain_dag.proofs.Searches.{among-filter, filtered-passes, filter-agrees}
+use Rattle.plain_dag.specs.States.{children, count_of_site}
+use Rattle.plain_dag.specs.Forks.{is_leaf}
+use Rattle.plain_dag.proofs.Ids.{same_test, not-both}
+use Rattle.plain_dag.proofs.Leaves.{leaf-is-childless}
 use Rattle.plain_dag.proofs.States.{children-of-parent, children-before}
-use Rattle.state_dag.specs.Table.{Table, id_at}
-use Rattle.state_dag.specs.Stands.{Stands}
-use Rattle.state_dag.specs.Answers.{MayBeAdded}
-use Rattle.state_dag.specs.Grown.{number_of_children}
-use Rattle.state_dag.proofs.Known.{count-newest, count-other, known-is_arrived, filter-last, arrived-differ}
-use Rattle.state_dag.proofs.Counting.{Differ, filter-parts, differ-filter, all-of, no-more}
-use Rattle.state_dag.proofs.Branches.{states-differ}
-use Rattle.state_dag.proofs.ParentSlots.{children-at, apart-differ}
+use Rattle.state_dag.proofs.Known.{count-newest, count-other}
 
 -- ===== Counts
 

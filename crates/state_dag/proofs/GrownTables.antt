@@ -1,5 +1,5 @@
 -- A table has grown when its nodes have.
-use Rattle.std.proofs.Common.{◌≡◌, ℕ, ◌+◌, ◌-◌, ◌<◌, true, false, ◌||◌, cond, eqb, ltb, List, [], ◌∷◌, ◌++◌, length, map, filter, get_or, Option, Some, None, Err, unwrap_or, slice_get, slice_set, refl, sym, ap, subst, ◌∙◌, arith}
+use Rattle.std.proofs.Common.{◌≡◌, ℕ, ◌+◌, ◌-◌, ◌<◌, true, false, ◌||◌, cond, eqb, ltb, List, [], ◌∷◌, ◌++◌, length, map, get_or, Option, Some, None, Err, unwrap_or, slice_get, slice_set, refl, sym, ap, subst, ◌∙◌, arith}
 use Rattle.std.specs.List.{list_all}
 use Rattle.std.proofs.lemmas.Bool.{cond-false}
 use Rattle.tardis_base.specs.declared.ids.StateId.{StateId}
@@ -15,7 +15,7 @@ use Rattle.state_dag.specs.Table.{Entry, Table, entry_at, id_at}
 use Rattle.state_dag.specs.Views.{entry_of, entries_from}
 use Rattle.state_dag.specs.Stands.{Stands}
 use Rattle.state_dag.specs.Answers.{MayBeAdded, AddedTo}
-use Rattle.state_dag.specs.Grown.{number_of_children, is_first_branch, is_new_pair, too_long, refusal_of, IsNewPath, IsNewEntry, IsGrownEntry, AreGrownEntries, IsGrown}
+use Rattle.state_dag.specs.Grown.{is_first_branch, is_new_pair, too_long, refusal_of, IsNewPath, IsNewEntry, IsGrownEntry, AreGrownEntries, IsGrown}
 use Rattle.state_dag.specs.Nodes.{table_of, AreDistinct, IsGrownNode, first_refusal, path_refusal, TellsRefusal}
 use Rattle.state_dag.proofs.Counting.{Differ}
 use Rattle.state_dag.proofs.GrownNodes.{entries-last, entries-grown}

@@ -1,6 +1,6 @@
 -- What the nodes of a table get as it grows.
 use Rattle.std.specs.Prelude.{◌≡◌, ℕ, ◌+◌, ◌≤◌, ◌<◌, Bool, false, ◌==◌, ◌&&◌, ◌||◌, List, [], ◌∷◌, ◌++◌, length, map, filter, Option, Some, None, Result, Ok, Err, IsTrue, nat_lt, nat_le, vec_len, vec_capacity, slice_index_or, if◌then◌else◌, ⊤}
-use Rattle.std.specs.List.{list_any, list_all, flat_map, sum_by}
+use Rattle.std.specs.List.{list_any, list_all, flat_map}
 use Rattle.std.specs.Option.{option_map_or}
 use Rattle.tardis_base.specs.declared.ids.StateId.{StateId}
 use Rattle.tardis_base.specs.declared.ids.Slot.{Slot}

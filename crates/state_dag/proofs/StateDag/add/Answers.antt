@@ -1,4 +1,4 @@
-use Rattle.std.proofs.Common.{◌≡◌, ◌∙◌, ◌+◌, ◌-◌, ◌++◌, ◌∷◌, [], not, ◌<◌, ◌≤◌, ℕ, List, eqb, ltb, length, filter, get_or, unwrap_or, slice_get, slice_set, Option, None, Result, Ok, Err, IsTrue, refl, sym, ap, subst, arith}
+use Rattle.std.proofs.Common.{◌≡◌, ◌∙◌, ◌+◌, ◌-◌, ◌++◌, ◌∷◌, [], not, ◌<◌, ◌≤◌, ℕ, List, ltb, length, filter, get_or, unwrap_or, slice_get, slice_set, Option, None, Result, Ok, Err, IsTrue, refl, sym, ap, subst, arith}
 use Rattle.std.specs.List.{list_all}
 use Rattle.std.proofs.lemmas.Bool.{ne_eqb}
 use Rattle.std.proofs.lemmas.Option.{unwrap_or-slice_get}
@@ -13,7 +13,7 @@ use Rattle.state_dag.specs.Views.{entry_of, entries_from}
 use Rattle.state_dag.specs.Stands.{Stands}
 use Rattle.state_dag.specs.Answers.{MayBeAdded, AddedTo}
 use Rattle.state_dag.specs.Grown.{is_slot_among, too_long, refusal_of, IsNewEntry, IsGrown}
-use Rattle.state_dag.specs.Nodes.{table_of, table_within, table_after, are_places, path_refusal, TellsRefusal}
+use Rattle.state_dag.specs.Nodes.{table_within, table_after, are_places, path_refusal, TellsRefusal}
 use Rattle.state_dag.proofs.Places.{length-entries}
 use Rattle.state_dag.proofs.Added.{full, added, parents-differ}
 use Rattle.state_dag.proofs.SameEntries.{same-count, sum-within}
