@@ -1,0 +1,148 @@
+//! The steps of one turn: a ticket is drawn, its turn is waited for, the machine acts, and the turn is passed on.
+
+ghost use Rattle.std.specs.Prelude.{◌≡◌, ◌≤◌, ◌<◌, [], ◌∷◌, length};
+ghost use Rattle.atomic_table.specs.Table.{rest};
+ghost use Rattle.trail_log.specs.Trail.{Kept};
+ghost use Rattle.dag_lock.specs.Known.{Begins};
+ghost use Rattle.dag_lock.specs.Turns.{knows};
+ghost use Rattle.dag_lock.specs.Told.{Rests, Awaits, Took, Holds, passed};
+ghost use Rattle.dag_lock.specs.Steps.{IsOfLock, Acts};
+ghost use Rattle.dag_lock.specs.declared.views.Stage.TheVariants.{Waits, Takes};
+
+use crate::rules::{Add, Draw, Keep, Kin, Law, Look, Origin};
+use crate::views::View;
+use atomic_table::Shared;
+use std::hint::spin_loop;
+use std::sync::Wait;
+use std::sync::atomic::{AtomicU64, Ordering};
+use tardis_base::{Machine, ReplyBuf};
+use trail_log::{Acted, Trailed};
+
+pub(crate) type Seat<M> = atomic_table::Seat<Trailed<M>, View>;
+
+pub(crate) type Words<M> = Shared<Trailed<M>, View, Origin<M>, Law>;
+
+/// The word with the ticket that is drawn next.
+pub(crate) const TICKET: usize = 0;
+
+/// The word with the ticket that is served.
+pub(crate) const SERVING: usize = 1;
+
+/// How often a pass looks before it sleeps.
+const LOOKS: u32 = 100;
+
+/// Draws the next ticket.
+pub(crate) fn draw<M: Machine, R: Wait>(rt: &R, words: &Words<M>, seat: &mut Seat<M>) -> u64
+    requires lock { (seat.old.table_id ≡ words.now.table_id) × (words.now.table_id.words ≡ 2) × (words.now.table_id.slots ≡ 1) }
+    requires rests { Rests seat.old.me }
+    ensures lock { seat.new.table_id ≡ seat.old.table_id }
+    ensures drawn { seat.new.me ≡ (knows (Waits result) seat.old.me.0.seen seat.old.me.0.owned seat.old.me.0.pieces, seat.old.me.1) }
+{
+    for _ in rt.forever() {
+        let next = words.peek(TICKET);
+        if next < u64::MAX {
+            let found = words.compare_exchange::<Draw>(seat, TICKET, next, next + 1);
+            if found == next {
+                return next;
+            }
+        }
+    }
+    unreachable!()
+}
+
+/// Waits until the ticket is served, and takes the machine.
+pub(crate) fn take_turn<M: Machine, Z: Kin<Trailed<M>>, R: Wait>(
+    rt: &R,
+    words: &Words<M>,
+    parked: &AtomicU64,
+    seat: &mut Seat<M>,
+    ticket: u64,
+)
+    requires lock { (seat.old.table_id ≡ words.now.table_id) × (words.now.table_id.words ≡ 2) × (words.now.table_id.slots ≡ 1) }
+    requires waits { Awaits ticket seat.old.me }
+    requires kin { (x : Kept M) → IsOfLock M.opening M.plain words.now.key.machine.value x → Z.is_of x }
+    ensures lock { seat.new.table_id ≡ seat.old.table_id }
+    ensures took { Took Z.is_of seat.old.me ticket seat.new.me }
+{
+    let mut looks = 0;
+    for _ in rt.forever() {
+        let serving = words.load::<Look<Z>>(seat, SERVING);
+        if serving == ticket {
+            return;
+        }
+        looks = pause(rt, words, parked, looks, serving);
+    }
+    unreachable!()
+}
+
+/// Waits a little, and after so many looks until a turn is passed on. The answer counts the looks.
+fn pause<M: Machine, R: Wait>(
+    rt: &R,
+    words: &Words<M>,
+    parked: &AtomicU64,
+    looks: u32,
+    serving: u64,
+) -> u32
+    requires { words.now.table_id.words ≡ 2 }
+{
+    if looks < LOOKS {
+        spin_loop();
+        return looks + 1;
+    }
+    parked.fetch_add(1, Ordering::SeqCst);
+    words.park(rt, SERVING, (serving & 0xffff_ffff) as u32);
+    parked.fetch_sub(1, Ordering::SeqCst);
+    looks
+}
+
+/// The machine that the pass has taken acts.
+pub(crate) fn act<M: Machine>(
+    words: &Words<M>,
+    seat: &mut Seat<M>,
+    actor: u16,
+    request: &[u8],
+    out: &mut ReplyBuf,
+) -> Acted
+    requires lock { seat.old.table_id ≡ words.now.table_id }
+    requires holds { Holds seat.old.me (λ x. Unit {0}) }
+    requires fits { length request.now ≤ 1048574 }
+    ensures lock { seat.new.table_id ≡ seat.old.table_id }
+    ensures view { seat.new.me.0 ≡ seat.old.me.0 }
+    ensures acts { Holds seat.old.me (λ x. Holds seat.new.me (λ y. Acts M.opening M.plain (actor, request.now) result out.new x y)) }
+{
+    let machine = seat.slot_mut(words, 0);
+    machine.act(actor, request, out)
+}
+
+/// Puts the machine back and passes the turn on. Only where a pass sleeps are those that sleep woken.
+pub(crate) fn pass_on<M: Machine>(
+    words: &Words<M>,
+    parked: &AtomicU64,
+    seat: &mut Seat<M>,
+    acted: Acted,
+)
+    requires lock { (seat.old.table_id ≡ words.now.table_id) × (words.now.table_id.words ≡ 2) × (words.now.table_id.slots ≡ 1) }
+    ensures lock { seat.new.table_id ≡ seat.old.table_id }
+    ensures passed { seat.new.me ≡ passed acted seat.old.me }
+{
+    put_back(words, seat, acted);
+    if parked.load(Ordering::SeqCst) > 0 {
+        words.wake_all(SERVING);
+    }
+}
+
+/// Puts the machine back.
+fn put_back<M: Machine>(words: &Words<M>, seat: &mut Seat<M>, acted: Acted)
+    requires lock { (seat.old.table_id ≡ words.now.table_id) × (words.now.table_id.words ≡ 2) × (words.now.table_id.slots ≡ 1) }
+    ensures lock { seat.new.table_id ≡ seat.old.table_id }
+    ensures passed { seat.new.me ≡ passed acted seat.old.me }
+{
+    match acted {
+        Acted::Done => {
+            words.fetch_add::<Add>(seat, SERVING, 1);
+        }
+        _ => {
+            words.fetch_add::<Keep>(seat, SERVING, 1);
+        }
+    }
+}

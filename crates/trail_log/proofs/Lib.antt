@@ -1,0 +1,4 @@
+-- Lemmas on trails.
+pub mod Entries
+pub mod ChunkRows
+pub mod Replies
