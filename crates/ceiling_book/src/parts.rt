@@ -12,12 +12,6 @@ ghost use Rattle.ceiling_book.specs.Places.{IsAt};
 use state_dag::StateDag;
 use tardis_base::{Slot, StateId};
 
-/// The state from which all others descend.
-pub const ROOT: StateId = StateId {
-    site: 0,
-    sequence: 0,
-};
-
 /// A state, and the slot of the table at which it is kept, or at which the state is kept that stands in for it.
 #[derive(Clone, Copy)]
 pub struct Place {

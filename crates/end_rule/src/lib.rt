@@ -12,6 +12,8 @@ ghost use Rattle.end_rule.specs.Checks.{CheckedAs};
 
 use bitflags::Flags;
 use state_dag::StateDag;
+use std::error::Error;
+use std::fmt;
 use tardis_base::{EndFlags, Slot, StateId};
 
 /// Why a transaction may not end where it would land: which constraint is broken, as its bit of `EndFlags`, and how many
@@ -22,6 +24,27 @@ pub struct Branches {
     pub state: StateId,
     pub children: u32,
 }
+
+impl fmt::Display for Branches {
+    fn fmt<W: fmt::Write>(&self, f: &mut fmt::Formatter<W>) -> fmt::Result {
+        let Branches {
+            constraint,
+            state,
+            children,
+        } = *self;
+        let name = if constraint == EndFlags::NB.0 {
+            "NB"
+        } else {
+            "KB"
+        };
+        write!(
+            f,
+            "state {state} has {children} children, too many for the end constraint {name}"
+        )
+    }
+}
+
+impl Error for Branches {}
 
 /// Whether the end constraints let a transaction end at the state of this slot.
 ///

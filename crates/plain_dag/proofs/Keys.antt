@@ -1,12 +1,8 @@
 -- Keys in order: lists of keys that stay ascending, and which keys they have.
-use Rattle.std.proofs.Common.{◌≡◌, ℕ, Bool, true, false, ◌&&◌, cond, List, [], ◌∷◌, IsTrue, IsFalse, ◌⊎◌, inl, inr, refl, sym, ap, subst, ◌∙◌, filter, bytes_eq}
-use Rattle.std.specs.declared.cmp.Ordering.{Ordering}
-use Rattle.std.specs.declared.cmp.Ordering.TheVariants.{Less, Equal, Greater}
-use Rattle.std.specs.Ordering.{nat_cmp, is_lt, is_eq, ordering_reverse}
-use Rattle.std.specs.Cmp.Lexicographic.{slice_cmp}
-use Rattle.std.proofs.lemmas.Bool.{and_parts, and_from, or_cases, or_left, or_right, cases_Bool, cond-true, cond-false}
-use Rattle.std.proofs.lemmas.Cmp.{nat_list_cmp_total}
-use Rattle.std.proofs.lemmas.Map.Text.{is_eq-slice_cmp}
+pub use Rattle.tardis_base.proofs.KeySets.{ascending-with_key as with-key-ascends}
+pub use Rattle.tardis_base.proofs.KeyOrder.{before-trans as key-before-transitive, cases_key as key-cases, is_first as is_before_first, ascending-parts, ascending-from}
+use Rattle.std.proofs.Common.{◌≡◌, ℕ, Bool, true, false, ◌&&◌, cond, List, [], ◌∷◌, IsTrue, IsFalse, inl, inr, refl, sym, subst, ◌∙◌, filter, bytes_eq}
+use Rattle.std.proofs.lemmas.Bool.{and_parts, or_cases, or_left, or_right, cases_Bool, cond-true, cond-false}
 use Rattle.std.proofs.lemmas.Slice.Eq.{bytes_eq-Decides}
 use Rattle.tardis_base.specs.declared.records.Record.{Record}
 use Rattle.tardis_base.specs.declared.ids.StateId.{StateId}
@@ -17,24 +13,6 @@ use Rattle.plain_dag.specs.Conflicts.{with_keys_of, written_keys}
 use Rattle.plain_dag.proofs.Ids.{not-both}
 
 -- ===== One key and another
-
-less-from : (o : Ordering) → IsTrue (is_lt o) → o ≡ Less
-less-from Less e = refl
-less-from Equal e = not-both true refl (sym e)
-less-from Greater e = not-both true refl (sym e)
-
-pub key-before-transitive : (j k l : List ℕ) → IsTrue (is_key_before j k) → IsTrue (is_key_before k l) → IsTrue (is_key_before j l)
-key-before-transitive j k l e f =
-    ap is_lt (nat_list_cmp_total.trans j k l (less-from (slice_cmp nat_cmp j k) e) (less-from (slice_cmp nat_cmp k l) f))
-
--- of two keys one is before the other, or they are the same
-pub key-cases : (k l : List ℕ) → IsTrue (is_key_before k l) ⊎ (IsTrue (is_key_before l k) ⊎ (k ≡ l))
-key-cases k l = at (slice_cmp nat_cmp k l) refl
-  where
-    at : (o : Ordering) → slice_cmp nat_cmp k l ≡ o → IsTrue (is_key_before k l) ⊎ (IsTrue (is_key_before l k) ⊎ (k ≡ l))
-    at Less e = inl (ap is_lt e)
-    at Equal e = inr (inr ((bytes_eq-Decides k l).0 (sym (is_eq-slice_cmp k l) ∙ ap is_eq e)))
-    at Greater e = inr (inl (ap is_lt (nat_list_cmp_total.antisymm l k ∙ ap ordering_reverse e)))
 
 -- two keys of which neither is before the other are the same
 pub neither : (k l : List ℕ) → IsFalse (is_key_before k l) → IsFalse (is_key_before l k) → k ≡ l
@@ -54,19 +32,6 @@ same-key-from k l = (bytes_eq-Decides k l).1
 
 -- ===== Keys in their places
 
--- the key is before the first of these, if there is one
-abbrev pub is_before_first : List ℕ → List (List ℕ) → Bool
-is_before_first k [] = true
-is_before_first k (l ∷ ls) = is_key_before k l
-
-pub ascending-parts : (k : List ℕ) (ks : List (List ℕ)) → IsTrue (are_ascending_keys (k ∷ ks)) → IsTrue (is_before_first k ks) × IsTrue (are_ascending_keys ks)
-ascending-parts k [] e = (refl, refl)
-ascending-parts k (l ∷ ls) e = and_parts (is_key_before k l) (are_ascending_keys (l ∷ ls)) e
-
-pub ascending-from : (k : List ℕ) (ks : List (List ℕ)) → IsTrue (is_before_first k ks) → IsTrue (are_ascending_keys ks) → IsTrue (are_ascending_keys (k ∷ ks))
-ascending-from k [] first rest = refl
-ascending-from k (l ∷ ls) first rest = and_from (is_key_before k l) (are_ascending_keys (l ∷ ls)) first rest
-
 -- where a key comes into a list: before all, after the first, or in its place
 pub with-key-before : (k l : List ℕ) (ls : List (List ℕ)) → IsTrue (is_key_before k l) → with_key k (l ∷ ls) ≡ k ∷ l ∷ ls
 with-key-before k l ls t = cond-true (is_key_before k l) (k ∷ l ∷ ls) (cond (is_key_before l k) (l ∷ with_key k ls) (k ∷ ls)) t
@@ -80,33 +45,6 @@ pub with-key-same : (k l : List ℕ) (ls : List (List ℕ)) → IsFalse (is_key_
 with-key-same k l ls f g =
     cond-false (is_key_before k l) (k ∷ l ∷ ls) (cond (is_key_before l k) (l ∷ with_key k ls) (k ∷ ls)) f
     ∙ cond-false (is_key_before l k) (l ∷ with_key k ls) (k ∷ ls) g
-
--- a key before the first of these and before the key that comes in is before the first of what results
-before-with-key : (j k : List ℕ) (ls : List (List ℕ)) → IsTrue (is_key_before j k) → IsTrue (is_before_first j ls) → IsTrue (is_before_first j (with_key k ls))
-before-with-key j k [] e f = e
-before-with-key j k (l ∷ ls) e f = elim (cases_Bool (is_key_before k l)) [
-  | inl t ↦ subst (λ ks. IsTrue (is_before_first j ks)) (sym (with-key-before k l ls t)) e
-  | inr n ↦ elim (cases_Bool (is_key_before l k)) [
-    | inl t ↦ subst (λ ks. IsTrue (is_before_first j ks)) (sym (with-key-after k l ls n t)) f
-    | inr m ↦ subst (λ ks. IsTrue (is_before_first j ks)) (sym (with-key-same k l ls n m)) e
-  ]
-]
-
-pub with-key-ascends : (k : List ℕ) (ls : List (List ℕ)) → IsTrue (are_ascending_keys ls) → IsTrue (are_ascending_keys (with_key k ls))
-with-key-ascends k [] up = refl
-with-key-ascends k (l ∷ ls) up =
-    let parts = ascending-parts l ls up in
-    elim (cases_Bool (is_key_before k l)) [
-      | inl t ↦ subst (λ ks. IsTrue (are_ascending_keys ks)) (sym (with-key-before k l ls t)) (ascending-from k (l ∷ ls) t up)
-      | inr n ↦ elim (cases_Bool (is_key_before l k)) [
-        | inl t ↦
-            subst (λ ks. IsTrue (are_ascending_keys ks)) (sym (with-key-after k l ls n t))
-            (ascending-from l (with_key k ls) (before-with-key l k ls t parts.0) (with-key-ascends k ls parts.1))
-        | inr m ↦
-            subst (λ ks. IsTrue (are_ascending_keys ks)) (sym (with-key-same k l ls n m))
-            (ascending-from k ls (subst (λ z. IsTrue (is_before_first z ls)) (sym (neither k l n m)) parts.0) parts.1)
-      ]
-    ]
 
 -- the key that comes in is there
 pub has-new-key : (k : List ℕ) (ls : List (List ℕ)) → IsTrue (is_key_among k (with_key k ls))

@@ -14,3 +14,6 @@ pub mod Landing
 pub mod StandIns
 pub mod Collected
 pub mod Paths
+pub mod Known
+pub mod Newest
+pub mod Places

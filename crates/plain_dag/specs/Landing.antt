@@ -1,11 +1,11 @@
 -- News, where a transaction lands, and whether it may end there.
-use Rattle.std.specs.Prelude.{ℕ, Bool, ◌==◌, ◌&&◌, not, nat_le, List, [], ◌++◌, length, find, Option, Some, None, if◌then◌else◌}
+use Rattle.std.specs.Prelude.{ℕ, Bool, ◌&&◌, not, nat_le, List, [], ◌++◌, length, find, Option, Some, None, if◌then◌else◌}
 use Rattle.std.specs.List.{list_any}
 use Rattle.std.specs.Option.{option_map_or}
-use Rattle.std.specs.Int.RustNames.{bit_and}
 use Rattle.tardis_base.specs.declared.ids.StateId.{StateId}
 use Rattle.tardis_base.specs.declared.records.Record.{Record}
 use Rattle.tardis_base.specs.declared.requests.EndFlags.{EndFlags}
+pub use Rattle.tardis_base.specs.Flags.{is_ser, is_si, is_nb, is_kb}
 use Rattle.plain_dag.specs.States.{states, writes_key, children}
 use Rattle.plain_dag.specs.Above.{is_above}
 
@@ -33,22 +33,6 @@ after_steps (ℕ.suc n) rs keys s = option_map_or (after_steps n rs keys) (first
 -- the landing: from s to the first child that passes, and so on until no child passes; there are fewer steps than records
 abbrev pub landing : List Record → List (List ℕ) → StateId → StateId
 landing rs keys s = after_steps (length rs) rs keys s
-
--- serializable: no key that was read may be news
-abbrev pub is_ser : EndFlags → Bool
-is_ser flags = bit_and flags.0 1 == 1
-
--- snapshot isolation: no key that was written may be news
-abbrev pub is_si : EndFlags → Bool
-is_si flags = bit_and flags.0 2 == 2
-
--- no branch: the landing has no child
-abbrev pub is_nb : EndFlags → Bool
-is_nb flags = bit_and flags.0 4 == 4
-
--- k branches: the landing has fewer than k children
-abbrev pub is_kb : EndFlags → Bool
-is_kb flags = bit_and flags.0 8 == 8
 
 -- the keys that no news may hold: with SER those read, with SI those written, with both all of them
 abbrev pub guarded : EndFlags → List (List ℕ) → List (List ℕ) → List (List ℕ)

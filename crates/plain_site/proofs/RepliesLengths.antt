@@ -1,4 +1,5 @@
 -- How many bytes replies are spelled in, and which replies fit a frame.
+pub use Rattle.wire_item.proofs.Lengths.{ids-length}
 use Rattle.std.proofs.Common.{◌≡◌, ℕ, ◌*◌, ◌≤◌, Bool, true, false, ◌&&◌, List, [], ◌∷◌, length, nat_le, IsTrue, refl, arith, leb-true, eqb-true, length-append}
 use Rattle.std.proofs.lemmas.Bool.{and_parts, and_from}
 use Rattle.std.specs.Prelude.{flat_map, min}
@@ -13,7 +14,7 @@ use Rattle.tardis_base.specs.declared.replies.Reply.TheVariants.{Opened, Begun, 
 use Rattle.tardis_base.specs.Ids.{are_ascending}
 use Rattle.tardis_base.specs.Keys.{are_ascending_keys}
 use Rattle.tardis_base.specs.Valid.{is_u32, is_u64, is_u16, is_within, are_bytes, is_id, is_key, is_value, are_parents}
-use Rattle.wire_item.specs.Spellings.{id_spelling, key_spelling, consent_spelling}
+use Rattle.wire_item.specs.Spellings.{key_spelling, consent_spelling}
 use Rattle.wire_talk.specs.Spellings.{refusal_spelling, reply_spelling, site_line_spelling, pair_spelling}
 use Rattle.wire_talk.specs.Valid.{is_refusal, is_reply, is_site_line, are_site_lines, is_first_of}
 use Rattle.plain_site.specs.Site.{Site}
@@ -21,10 +22,6 @@ use Rattle.plain_site.specs.Answers.{refused}
 use Rattle.plain_site.proofs.RepliesFrame.{Replies, RefusesWell, good_replies}
 
 -- ===== Parts
-
-pub ids-length : (xs : List StateId) → length (flat_map id_spelling xs) ≡ 6 * length xs
-ids-length [] = refl
-ids-length (x ∷ xs) = omega (arith, length-append (id_spelling x) (flat_map id_spelling xs), ids-length xs)
 
 lines-length : (ls : List SiteLine) → length (flat_map site_line_spelling ls) ≡ 14 * length ls
 lines-length [] = refl

@@ -1,17 +1,12 @@
 -- What holds of each element of a list holds of what is found, kept or taken of it.
-use Rattle.std.proofs.Common.{◌≡◌, ℕ, zero, suc, ◌≤◌, Bool, ◌&&◌, List, [], ◌∷◌, ◌++◌, length, filter, find, take, unwrap_or, Option, Some, None, IsTrue, refl, sym, ◌∙◌, ap, subst, inl, inr, arith}
-use Rattle.std.proofs.lemmas.Bool.{and_parts, and_from, cases_Bool, cond-true, cond-false}
+pub use Rattle.tardis_base.proofs.Tests.{first, second}
+use Rattle.std.proofs.Common.{◌≡◌, ℕ, zero, suc, ◌≤◌, Bool, List, [], ◌∷◌, ◌++◌, length, filter, find, take, unwrap_or, Option, Some, None, IsTrue, refl, sym, ◌∙◌, ap, subst, inl, inr, arith}
+use Rattle.std.proofs.lemmas.Bool.{and_from, cases_Bool, cond-true, cond-false}
 use Rattle.std.proofs.lemmas.Option.{none-some, same_Some}
 use Rattle.std.specs.Prelude.{slice_get}
 use Rattle.std.specs.List.{list_all}
 
 -- ===== Tests
-
-pub first : (a b : Bool) → IsTrue (a && b) → IsTrue a
-first a b h = (and_parts a b h).0
-
-pub second : (a b : Bool) → IsTrue (a && b) → IsTrue b
-second a b h = (and_parts a b h).1
 
 -- the option is something, or nothing
 pub cases-option : {A : Type 0} (o : Option A) (P : Type 0) → (o ≡ None → P) → ((a : A) → o ≡ Some a → P) → P

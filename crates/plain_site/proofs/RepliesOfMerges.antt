@@ -1,5 +1,5 @@
 -- The replies to BeginMerge, ForkPoints and Conflicts fit.
-use Rattle.std.proofs.Common.{◌≡◌, ℕ, zero, suc, ◌-◌, ◌≤◌, ◌<◌, ◌^◌, Bool, true, ◌&&◌, ◌==◌, not, List, [], ◌∷◌, ◌++◌, length, filter, find, take, min, is_none, unwrap_or, Option, Some, None, nat_le, nat_lt, IsTrue, IsFalse, refl, ap, subst, inl, inr, arith, lt-ltb, le-leb, leb-true, ltb-false, eq-eqb}
+use Rattle.std.proofs.Common.{◌≡◌, ℕ, zero, suc, ◌-◌, ◌≤◌, ◌<◌, ◌^◌, Bool, true, ◌&&◌, ◌==◌, not, List, [], ◌∷◌, ◌++◌, length, filter, find, take, min, unwrap_or, Option, Some, None, nat_le, nat_lt, IsTrue, IsFalse, refl, ap, subst, inl, inr, arith, lt-ltb, le-leb, leb-true, ltb-false, eq-eqb}
 use Rattle.std.proofs.lemmas.Bool.{and_parts, and_from, or_left, or_right, cases_Bool, cond-true, cond-false}
 use Rattle.std.proofs.lemmas.List.{length-take}
 use Rattle.std.proofs.lemmas.Option.{none-some, same_Some}
@@ -42,7 +42,7 @@ use Rattle.plain_site.proofs.RepliesLists.{first, second, all-take, all-filter, 
 use Rattle.plain_site.proofs.RepliesHistory.{arrived-are-ids}
 use Rattle.plain_site.proofs.RepliesFrame.{AllGood, Replies, none-when, none-found, good-none, good-when, good-found, good-reply, unless-good}
 use Rattle.plain_site.proofs.RepliesSound.{IsRanged, IsOpen}
-use Rattle.plain_site.proofs.RepliesOrder.{order-length, order-ids, order-ascends}
+use Rattle.plain_site.proofs.RepliesOrder.{apart-from-none, order-length, order-ids, order-ascends}
 use Rattle.plain_site.proofs.RepliesOfCommits.{conflict-keys-are-keys}
 use Rattle.plain_site.proofs.RepliesOfReads.{merge-states}
 use Rattle.plain_site.proofs.RepliesOfShows.{page-fits, leaves-are-few, leaves-are-ids}
@@ -72,9 +72,6 @@ pub comparable-fits : (rs : List Record) (xs : List StateId) (more : List (Optio
 comparable-fits rs xs more h m =
     good-found (λ (p : StateId × StateId). Comparable p.0 p.1) (comparable_pair rs xs) more
     (λ p e. refusal-fits (Comparable p.0 p.1) (pair-is-valid rs xs p h e)) m
-
-apart-from-none : (rs : List Record) (xs : List StateId) → comparable_pair rs xs ≡ None → IsTrue (are_apart rs xs)
-apart-from-none rs xs e = ap is_none e
 
 merge-at-fits : (site : Site) (n : ℕ) (ceiling : StateId) (xs : List StateId) → IsTrue (is_id ceiling) → AreStates xs → Replies Fits (merge_at site n ceiling xs)
 merge-at-fits site n ceiling xs c h =

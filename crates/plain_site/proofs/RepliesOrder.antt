@@ -1,12 +1,12 @@
 -- States in order: those that are apart are put in an ascending order.
-use Rattle.std.proofs.Common.{◌≡◌, ◌≢◌, ◌+◌, ◌≤◌, ◌<◌, Bool, true, false, ◌&&◌, ◌==◌, not, List, [], ◌∷◌, length, nat_lt, IsTrue, IsFalse, refl, sym, ◌∙◌, ap, subst, inl, inr, arith, lt-ltb, eq-eqb, ltb-false}
+use Rattle.std.proofs.Common.{None, is_none, ◌≡◌, ◌≢◌, ◌+◌, ◌≤◌, ◌<◌, Bool, true, false, ◌&&◌, ◌==◌, not, List, [], ◌∷◌, length, nat_lt, IsTrue, IsFalse, refl, sym, ◌∙◌, ap, subst, inl, inr, arith, lt-ltb, eq-eqb, ltb-false}
 use Rattle.std.proofs.lemmas.Bool.{and_parts, and_from, or_parts, or_from, or_left, or_right, cases_Bool, cond-true, cond-false, false_from_ne_true, not-true, both_ways}
 use Rattle.std.specs.List.{list_any, list_all}
 use Rattle.tardis_base.specs.declared.ids.StateId.{StateId}
 use Rattle.tardis_base.specs.declared.records.Record.{Record}
 use Rattle.tardis_base.specs.Ids.{same_id, is_among, is_before, are_ascending}
 use Rattle.tardis_base.specs.Valid.{is_id}
-use Rattle.plain_dag.specs.Above.{is_above, are_comparable, are_apart}
+use Rattle.plain_dag.specs.Above.{is_above, are_comparable, are_apart, comparable_pair}
 use Rattle.plain_dag.proofs.Ids.{any-from}
 use Rattle.plain_dag.proofs.Order.{above-reflexive, apart-means-incomparable}
 use Rattle.plain_site.specs.Merges.{with_state, in_order}
@@ -113,6 +113,10 @@ order-length (x ∷ xs) = omega (arith, with-length x (in_order xs), order-lengt
 pub order-ids : (xs : List StateId) → IsTrue (list_all is_id xs) → IsTrue (list_all is_id (in_order xs))
 order-ids [] a = refl
 order-ids (x ∷ xs) a = with-ids x (in_order xs) (first (is_id x) (list_all is_id xs) a) (order-ids xs (second (is_id x) (list_all is_id xs) a))
+
+-- states of which no pair is comparable are apart
+pub apart-from-none : (rs : List Record) (xs : List StateId) → comparable_pair rs xs ≡ None → IsTrue (are_apart rs xs)
+apart-from-none rs xs e = ap is_none e
 
 -- states that are apart are different, so their order ascends
 pub order-ascends : (rs : List Record) (xs : List StateId) → IsTrue (are_apart rs xs) → IsTrue (are_ascending (in_order xs))

@@ -1,9 +1,9 @@
 -- The beginning of a merge keeps a sound site sound.
-use Rattle.std.proofs.Common.{◌≡◌, ℕ, suc, ◌≤◌, Bool, true, not, List, [], ◌∷◌, length, find, is_none, Some, None, IsTrue, IsFalse, inl, inr, refl, sym, ap, ap₂, subst, ◌∙◌, arith}
-use Rattle.std.specs.Prelude.{◌==◌, ◌&&◌, nat_le, nat_lt}
+use Rattle.std.proofs.Common.{◌≡◌, ℕ, ◌≤◌, Bool, true, not, List, [], ◌∷◌, length, find, Some, IsTrue, IsFalse, refl, sym, ◌∙◌, arith}
+use Rattle.std.specs.Prelude.{◌&&◌, nat_le, nat_lt}
 use Rattle.std.specs.List.{list_all, list_any}
 use Rattle.std.proofs.Math.Bool.{or_comm}
-use Rattle.std.proofs.lemmas.Bool.{and_parts, and_from, or_left, or_parts, or_from, cases_Bool, cond_both, both_ways, false_from_ne_true, not-true, not_from_false, ltb-false, le-leb, leb-true, eq-eqb}
+use Rattle.std.proofs.lemmas.Bool.{and_parts, and_from, or_parts, or_from, cond_both, not-true, not_from_false, ltb-false, le-leb, leb-true}
 use Rattle.tardis_base.specs.declared.ids.StateId.{StateId}
 use Rattle.tardis_base.specs.declared.records.Record.{Record}
 use Rattle.tardis_base.specs.declared.requests.MergeOf.{MergeOf}
@@ -20,7 +20,7 @@ use Rattle.plain_dag.specs.Forks.{is_leaf, leaves}
 use Rattle.plain_dag.specs.Entries.{entry_of, with_entry}
 use Rattle.plain_dag.specs.Floors.{Session}
 use Rattle.plain_dag.proofs.Ids.{not-both}
-use Rattle.plain_dag.proofs.Order.{above-reflexive, apart-means-incomparable}
+use Rattle.plain_dag.proofs.Order.{apart-means-incomparable}
 use Rattle.plain_dag.proofs.Leaves.{begins-at-leaves}
 use Rattle.plain_dag.proofs.Searches.{among-filter}
 use Rattle.plain_site.specs.Site.{Site, Txn, Merge}
@@ -28,6 +28,7 @@ use Rattle.plain_site.specs.Built.{Built}
 use Rattle.plain_site.specs.Answers.{refuse, refuse_found}
 use Rattle.plain_site.specs.Merges.{with_state, in_order, states_to_merge, merge_at, begin_merge}
 use Rattle.plain_site.specs.Sound.{IsSound}
+use Rattle.plain_site.proofs.RepliesOrder.{apart-from-none, order-length, order-ascends}
 use Rattle.plain_site.proofs.SoundEntries.{all-implies, with_entry-ascends}
 use Rattle.plain_site.proofs.SoundAnswers.{when-none, found-none, none-parts, unless-keeps}
 use Rattle.plain_site.proofs.SoundHistories.{known-is_id, known-is_arrived, root-is-known}
@@ -35,16 +36,6 @@ use Rattle.plain_site.proofs.SoundBooks.{each-with_txn, txns-keep}
 use Rattle.plain_site.proofs.SoundFloors.{unfound-all}
 
 -- ===== States in order
-
-with_state-length : (x : StateId) (ys : List StateId) → length (with_state x ys) ≡ suc (length ys)
-with_state-length x [] = refl
-with_state-length x (y ∷ ys) =
-    cond_both (is_before y x) (y ∷ with_state x ys) (x ∷ y ∷ ys) (λ (zs : List StateId). length zs ≡ suc (suc (length ys)))
-    (λ t. ap suc (with_state-length x ys)) (λ f. refl)
-
-in_order-length : (xs : List StateId) → length (in_order xs) ≡ length xs
-in_order-length [] = refl
-in_order-length (x ∷ xs) = with_state-length x (in_order xs) ∙ ap suc (in_order-length xs)
 
 with_state-all : (p : StateId → Bool) (x : StateId) (ys : List StateId) → IsTrue (p x) → IsTrue (list_all p ys) → IsTrue (list_all p (with_state x ys))
 with_state-all p x [] t h = and_from (p x) true t refl
@@ -104,73 +95,7 @@ in_order-apart rs (x ∷ xs) h =
     let parts = apart-parts rs x xs h in
     with_state-apart rs x (in_order xs) (in_order-none (are_comparable rs x) xs parts.0) (in_order-apart rs xs parts.1)
 
--- ===== Ascending states
-
--- of two states neither of which is before the other, each is the other
-neither-before : (x y : StateId) → IsFalse (is_before x y) → IsFalse (is_before y x) → x ≡ y
-neither-before x y f g =
-    let named : ℕ → ℕ → StateId = λ site sequence. record { site = site; sequence = sequence } in
-    let a = or_parts (nat_lt x.site y.site) (x.site == y.site && nat_lt x.sequence y.sequence) f in
-    let b = or_parts (nat_lt y.site x.site) (y.site == x.site && nat_lt y.sequence x.sequence) g in
-    let low = ltb-false x.site y.site a.0 in
-    let high = ltb-false y.site x.site b.0 in
-    let site : x.site ≡ y.site = omega arith in
-    let not_less : IsFalse (nat_lt x.sequence y.sequence) = false_from_ne_true (nat_lt x.sequence y.sequence) (λ t.
-    both_ways (x.site == y.site && nat_lt x.sequence y.sequence) a.1
-    (and_from (x.site == y.site) (nat_lt x.sequence y.sequence) (eq-eqb x.site y.site site) t)) in
-    let not_more : IsFalse (nat_lt y.sequence x.sequence) = false_from_ne_true (nat_lt y.sequence x.sequence) (λ t.
-    both_ways (y.site == x.site && nat_lt y.sequence x.sequence) b.1
-    (and_from (y.site == x.site) (nat_lt y.sequence x.sequence) (eq-eqb y.site x.site (sym site)) t)) in
-    let least = ltb-false x.sequence y.sequence not_less in
-    let most = ltb-false y.sequence x.sequence not_more in
-    let sequence : x.sequence ≡ y.sequence = omega arith in
-    ap₂ named site sequence
-
--- the state is before the first of these, if there is one
-abbrev is_before_first : StateId → List StateId → Bool
-is_before_first x [] = true
-is_before_first x (y ∷ ys) = is_before x y
-
-ascending-parts : (x : StateId) (ys : List StateId) → IsTrue (are_ascending (x ∷ ys)) → IsTrue (is_before_first x ys) × IsTrue (are_ascending ys)
-ascending-parts x [] h = (refl, refl)
-ascending-parts x (y ∷ ys) h = and_parts (is_before x y) (are_ascending (y ∷ ys)) h
-
-ascending-from : (x : StateId) (ys : List StateId) → IsTrue (is_before_first x ys) → IsTrue (are_ascending ys) → IsTrue (are_ascending (x ∷ ys))
-ascending-from x [] f h = refl
-ascending-from x (y ∷ ys) f h = and_from (is_before x y) (are_ascending (y ∷ ys)) f h
-
-before-with_state : (z x : StateId) (ys : List StateId) → IsTrue (is_before z x) → IsTrue (is_before_first z ys) → IsTrue (is_before_first z (with_state x ys))
-before-with_state z x [] t h = t
-before-with_state z x (y ∷ ys) t h =
-    cond_both (is_before y x) (y ∷ with_state x ys) (x ∷ y ∷ ys) (λ (zs : List StateId). IsTrue (is_before_first z zs)) (λ b. h) (λ b. t)
-
-with_state-ascends : (rs : List Record) (x : StateId) (ys : List StateId) → IsFalse (list_any (are_comparable rs x) ys) → IsTrue (are_ascending ys) → IsTrue (are_ascending (with_state x ys))
-with_state-ascends rs x [] f h = refl
-with_state-ascends rs x (y ∷ ys) f h =
-    let free = or_parts (are_comparable rs x y) (list_any (are_comparable rs x) ys) f in
-    let parts = ascending-parts y ys h in
-    cond_both (is_before y x) (y ∷ with_state x ys) (x ∷ y ∷ ys) (λ (zs : List StateId). IsTrue (are_ascending zs))
-    (λ b. ascending-from y (with_state x ys) (before-with_state y x ys b parts.0) (with_state-ascends rs x ys free.1 parts.1))
-    (λ b.
-    let before : IsTrue (is_before x y) = elim (cases_Bool (is_before x y)) [
-      | inl t ↦ t
-      | inr n ↦
-          let same = neither-before x y n b in
-          not-both (are_comparable rs x y)
-          (or_left (is_above rs x y) (is_above rs y x) (subst (λ z. IsTrue (is_above rs x z)) same (above-reflexive rs x))) free.0
-    ] in
-    ascending-from x (y ∷ ys) before h)
-
-in_order-ascends : (rs : List Record) (xs : List StateId) → IsTrue (are_apart rs xs) → IsTrue (are_ascending (in_order xs))
-in_order-ascends rs [] h = refl
-in_order-ascends rs (x ∷ xs) h =
-    let parts = apart-parts rs x xs h in
-    with_state-ascends rs x (in_order xs) (in_order-none (are_comparable rs x) xs parts.0) (in_order-ascends rs xs parts.1)
-
 -- ===== BeginMerge
-
-none-paired : (rs : List Record) (xs : List StateId) → comparable_pair rs xs ≡ None → IsTrue (are_apart rs xs)
-none-paired rs xs e = ap is_none e
 
 merge_at-keeps : (built : Built) (site : Site) (n : ℕ) (s : Session) (xs : List StateId) → entry_of n site.sessions ≡ Some s → 1 ≤ length xs → IsSound built site →
     IsSound built (merge_at site n s.ceiling xs).0
@@ -192,8 +117,8 @@ merge_at-keeps built site n s xs has some sound =
     let known = unfound-all (is_known rs) xs (found-none Unknown (find (λ x. not (is_known rs x)) xs) second.0) in
     let admitted =
     unfound-all (is_admitted rs s.ceiling) xs (found-none (λ x. Below x s.ceiling) (find (λ x. not (is_admitted rs s.ceiling x)) xs) third.0) in
-    let apart = none-paired rs xs (found-none (λ (pair : StateId × StateId). Comparable pair.0 pair.1) (comparable_pair rs xs) fourth.0) in
-    let same = in_order-length xs in
+    let apart = apart-from-none rs xs (found-none (λ (pair : StateId × StateId). Comparable pair.0 pair.1) (comparable_pair rs xs) fourth.0) in
+    let same = order-length xs in
     let known_too = in_order-all (is_known rs) xs known in
     let within = is_within 1 8 (length states) in
     let valid = list_all is_id states in
@@ -201,7 +126,7 @@ merge_at-keeps built site n s xs has some sound =
     and_from (within && valid) (are_ascending states)
     (and_from within valid
     (and_from (nat_le 1 (length states)) (nat_le (length states) 8) (le-leb 1 (length states) (omega arith)) (le-leb (length states) 8 (omega arith)))
-    (all-implies (is_known rs) is_id (known-is_id rs sound.dag) states known_too)) (in_order-ascends rs xs apart) in
+    (all-implies (is_known rs) is_id (known-is_id rs sound.dag) states known_too)) (order-ascends rs xs apart) in
     txns-keep built site (with_entry n t site.txns) sound (with_entry-ascends n t site.txns sound.txn_numbers)
     (each-with_txn rs site.sessions site.txns n sound.each_txn s t has
     (record {

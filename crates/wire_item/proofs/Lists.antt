@@ -1,14 +1,11 @@
 -- Lists that are read one thing after another, and tests of what was read.
-use Rattle.std.proofs.Common.{◌≡◌, ℕ, suc, ◌+◌, ◌-◌, ◌<◌, ◌≤◌, Bool, true, false, ◌&&◌, IsTrue, List, [], ◌∷◌, ◌++◌, length, nat_le, Option, Some, None, ap, sym, ◌∙◌, refl, arith}
+use Rattle.std.proofs.Common.{◌≡◌, ℕ, suc, ◌+◌, ◌-◌, ◌<◌, ◌≤◌, List, [], ◌∷◌, ◌++◌, length, nat_le, Option, Some, None, ap, sym, ◌∙◌, refl, arith}
 use Rattle.std.specs.Prelude.{option_map}
 use Rattle.tardis_base.specs.Valid.{are_bytes, is_within, is_key, is_value}
+use Rattle.tardis_base.proofs.Tests.{and-true}
 use Rattle.wire_item.specs.Fronts.{Front, bytes_front, both, times}
 use Rattle.wire_item.proofs.Fronts.{bytes_front-source, made-read, made-source, some-parts, after-source}
 use Rattle.wire_item.proofs.Takings.{made-none, after-none, after-then_none, after-then}
-
-and-true : (b : Bool) (t : Bool) → IsTrue t → (b && t) ≡ b
-and-true true t h = h
-and-true false t h = refl
 
 pub key-tested : (n : ℕ) (old key new : List ℕ) → bytes_front n old ≡ Some (key, new) → is_key key ≡ is_within 1 128 n
 key-tested n old key new e =

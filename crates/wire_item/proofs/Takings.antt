@@ -6,6 +6,7 @@ use Rattle.std.specs.Prelude.{option_map, option_and_then, Result, IfOk}
 use Rattle.std.specs.Bool.{then_some}
 use Rattle.tardis_base.specs.declared.faults.NoMemory.{NoMemory}
 use Rattle.tardis_base.specs.Valid.{are_bytes}
+use Rattle.tardis_base.proofs.Tests.{and-true}
 use Rattle.wire_item.specs.Fronts.{Front, bytes_front, made, only_if, after, times, counted}
 use Rattle.wire_item.specs.Takings.{Takes, Makes}
 use Rattle.wire_item.proofs.Fronts.{made-read, only_if-read, only_if-source, after-read}
@@ -123,10 +124,6 @@ counted-ordered {A} number front test ascends fits tested old n mid xs rest e f 
       made-read (λ read. read.1) (after number (times front)) old (n, xs) rest (after-then number (times front) old n mid xs rest e source.0),
       tested n mid xs rest source.0 ∙ and-true (fits n) (ascends xs) source.1,
     )
-  where
-    and-true : (b t : Bool) → IsTrue t → (b && t) ≡ b
-    and-true true t h = h
-    and-true false t h = refl
 
 pub if_ok-same : {A : Type 0} (result : Result A NoMemory) (a b : A) → IfOk result (λ x. x ≡ a) → a ≡ b → IfOk result (λ x. x ≡ b)
 if_ok-same result a b h e = subst (λ z. IfOk result (λ x. x ≡ z)) e h

@@ -6,6 +6,7 @@ use Rattle.tardis_base.specs.declared.ids.StateId.{StateId}
 use Rattle.tardis_base.specs.declared.replies.SiteLine.{SiteLine}
 use Rattle.tardis_base.specs.Keys.{is_key_before, are_ascending_keys}
 use Rattle.tardis_base.specs.Valid.{is_u32, is_within, is_id, is_key}
+use Rattle.tardis_base.proofs.Tests.{and-true}
 use Rattle.wire_item.specs.Fronts.{Front, after, both, counted, only_if, times}
 use Rattle.wire_item.specs.Readings.{id_front, key_front}
 use Rattle.wire_item.specs.Takings.{Takes}
@@ -34,10 +35,6 @@ first_keys-tested total fits n mid ks rest e =
     let h = (many-times reads-key).only n mid ks rest e in
     ap (λ t. t && is_first_of total (length ks) && are_ascending_keys ks) (and_from (is_u32 total) (list_all is_key ks) fits h.1)
     ∙ ap (λ k. is_first_of total k && are_ascending_keys ks) h.0
-
-and-true : (b : Bool) (t : Bool) → t ≡ true → (b && t) ≡ b
-and-true true t h = h
-and-true false t h = refl
 
 pub site_lines-tested : (n : ℕ) (mid : List ℕ) (lines : List SiteLine) (rest : List ℕ) → times site_line_front n mid ≡ Some (lines, rest) → are_site_lines lines ≡ is_within 1 16 n
 site_lines-tested n mid lines rest e =

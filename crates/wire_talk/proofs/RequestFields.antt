@@ -1,10 +1,11 @@
 -- Tests of the fields of requests, and what stands behind a code.
-use Rattle.std.proofs.Common.{◌≡◌, ℕ, ◌≤◌, Bool, true, false, ◌==◌, ◌&&◌, IsTrue, List, [], ◌∷◌, length, nat_le, if◌then◌else◌, Option, Some, None, ap, ◌∙◌, refl, ne_eqb}
+use Rattle.std.proofs.Common.{◌≡◌, ℕ, ◌≤◌, false, ◌==◌, IsTrue, List, [], ◌∷◌, length, nat_le, if◌then◌else◌, Option, Some, None, ap, ◌∙◌, refl, ne_eqb}
 use Rattle.std.proofs.lemmas.Bool.{and_parts, leb-true}
 use Rattle.std.specs.List.{list_all}
 use Rattle.std.specs.Prelude.{Result}
 use Rattle.tardis_base.specs.declared.faults.NoMemory.{NoMemory}
 use Rattle.tardis_base.specs.Valid.{are_bytes, is_u32, is_within}
+use Rattle.tardis_base.proofs.Tests.{and-true}
 use Rattle.wire_item.specs.Fronts.{Front, after, bytes_front, counted, front_of_code, times}
 use Rattle.wire_item.specs.Readings.{u32_front}
 use Rattle.wire_item.specs.Takings.{Makes}
@@ -13,10 +14,6 @@ use Rattle.wire_item.proofs.Takings.{after-then}
 use Rattle.wire_item.proofs.Ways.{many-times}
 use Rattle.wire_item.proofs.Numbers.{reads-u32}
 use Rattle.wire_talk.specs.Valid.{is_after, are_counts}
-
-and-true : (b : Bool) (t : Bool) → IsTrue t → (b && t) ≡ b
-and-true true t h = h
-and-true false t h = refl
 
 pub after-tested : (n : ℕ) (old after new : List ℕ) → bytes_front n old ≡ Some (after, new) → is_after after ≡ nat_le n 128
 after-tested n old after new e =
