@@ -1,10 +1,10 @@
-ghost use Rattle.std.specs.Prelude.{◌≡◌, true, false, [], take, OnOk, OnErr, IsOk};
+ghost use Rattle.std.specs.Prelude.{◌≡◌, true, false, [], None, take, OnOk, OnErr, IsOk, refl};
 
-use crate::run_site;
+use crate::{run_device, run_site};
 use std::alloc::Global;
 use std::test::Fail;
 use tardis_base::{Machine, NoMemory, ReplyBuf};
-use tardis_io::{MemorySink, MemorySource, Status};
+use tardis_io::{Duplex, Failed, MemorySink, MemorySource, Sink, Status};
 
 /// Replies to a request by its first 16 bytes, and finds no memory for an empty one.
 #[derive(Drop)]
@@ -155,5 +155,84 @@ fn a_reply_is_given_before_the_next_take(rt: HostRuntime) -> Result<(), Fail> {
             FIRST_REPLY
         )?
     );
+    Ok(())
+}
+
+/// A device that hands out a frame a take, three times, and counts the takes that came before each reply was given.
+#[derive(Drop)]
+struct Watcher {
+    frames: usize,
+    given: usize,
+    early: usize,
+}
+
+impl Sink for Watcher {
+    ghost given = { λ _. None };
+
+    ghost faults = { λ _. 0 };
+
+    ghost Kept = { Unit {0} };
+
+    ghost kept = { λ _. tt };
+
+    fn give(&mut self, bytes: &[u8]) -> Result<usize, Failed> {
+        self.given = self.given.saturating_add(bytes.len());
+        Ok(bytes.len())
+    }
+}
+
+impl Duplex for Watcher {
+    ghost left = { λ _. None };
+
+    ghost take_faults = { λ _. 0 };
+
+    ghost takes = { λ _. None };
+
+    ghost Parts = { Unit {0} };
+
+    ghost parts = { λ _. tt };
+
+    fn take(&mut self, buf: &mut [u8]) -> Result<usize, Failed> {
+        if self.given != self.frames.saturating_mul(FIRST_REPLY.len()) {
+            self.early = self.early.saturating_add(1);
+        }
+        if self.frames >= 3 {
+            return Ok(0);
+        }
+        self.frames += 1;
+        let count = buf.len().min(8);
+        buf[..count].copy_from_slice(&TWO_ALIKE[..count]);
+        Ok(count)
+    }
+
+    ghost gives_are_apart = { λ _ _ _. (refl, refl, refl, refl) };
+}
+
+#[test]
+fn no_take_comes_before_the_replies_are_given(rt: HostRuntime) {
+    let mut machine = Echo { acts: 0 };
+    let mut device = Watcher {
+        frames: 0,
+        given: 0,
+        early: 0,
+    };
+    let status = run_device(rt.alloc(), &mut machine, &mut device);
+    assert_eq!(rt; status, Status::Ok);
+    assert_eq!(rt; machine.acts, 3);
+    assert_eq!(rt; device.given, 18);
+    assert_eq!(rt; device.early, 0);
+}
+
+#[test]
+fn nothing_is_acted_on_after_a_write_failed(rt: HostRuntime) -> Result<(), Fail> {
+    for (take, acts) in [(8, 1), (16, 2)] {
+        let mut machine = Echo { acts: 0 };
+        let mut source = MemorySource::new(rt.alloc(), TWO_ALIKE, take, &WELL)?;
+        let mut sink = MemorySink::new(rt.alloc(), 1_000, 1_000, &[1])?;
+        let status = run_site(rt.alloc(), &mut machine, &mut source, &mut sink);
+        assert_eq!(rt; status, Status::WriteFault);
+        assert_eq!(rt; machine.acts, acts);
+        assert_eq!(rt; sink.bytes().len(), 0);
+    }
     Ok(())
 }

@@ -7,52 +7,26 @@ ghost use Rattle.std.specs.Prelude.{◌≡◌};
 ghost use Rattle.std.specs.Process.{exit_status};
 ghost use Rattle.tardis_io.specs.Statuses.{status_number};
 
-mod helps;
-
-use helps::{Help, help_of};
 use std::process::ExitCode;
 use std::{env, io};
 use tardis_io::{Status, StdIn, StdOut};
-use tardis_main::tardis;
+use tardis_main::carry_out;
 
 fn main(rt: HostRuntime) -> ExitCode {
-    let words = match words(&rt) {
-        Ok(words) => words,
-        Err(status) => return end(&rt, status),
-    };
-    let status = match help_of(words.as_slice()) {
-        Some(help) => tell(&rt, help),
-        None => {
-            let mut input = StdIn::new(rt.stdin());
-            let mut output = StdOut::new(rt.stdout());
-            tardis(rt.alloc(), words.as_slice(), &mut input, &mut output)
-        }
-    };
-    end(&rt, status)
+    run(&rt)
 }
 
-/// The words behind the program's name. Words that are no text have no form of a command.
-fn words(rt: &HostRuntime) -> Result<Vec<String>, Status> {
-    let args = match env::args(rt) {
-        Ok(args) => args,
-        Err(error) if error.kind() == io::ErrorKind::OutOfMemory => return Err(Status::NoMemory),
-        Err(_) => return Err(Status::Usage),
+/// Carries out the command of the program's arguments over its standard input and output.
+fn run(rt: &HostRuntime) -> ExitCode {
+    let mut input = StdIn::new(rt.stdin());
+    let mut output = StdOut::new(rt.stdout());
+    let status = match env::args(rt) {
+        Ok(args) => carry_out(rt.alloc(), args, &mut input, &mut output),
+        Err(error) if error.kind() == io::ErrorKind::OutOfMemory => Status::NoMemory,
+        // words that are no text have no form of a command
+        Err(_) => Status::Usage,
     };
-    let mut words = Vec::new(rt.alloc());
-    for word in args.skip(1) {
-        if words.push(word).is_err() {
-            return Err(Status::NoMemory);
-        }
-    }
-    Ok(words)
-}
-
-/// Writes the text on standard output.
-fn tell(rt: &HostRuntime, help: Help) -> Status {
-    match rt.print(help) {
-        Ok(()) => Status::Ok,
-        Err(_) => Status::WriteFault,
-    }
+    end(rt, status)
 }
 
 /// Writes the line of the status, if it has one, on standard error, and gives its number.

@@ -1,5 +1,8 @@
 -- What a run of a machine that stands for a site says of the site.
-use Rattle.std.proofs.Common.{ℕ, List, [], map, Option, Some, None, refl, sym, subst, arith, rules}
+use Rattle.std.proofs.Common.{ℕ, ◌≤◌, IsTrue, leb, List, [], map, Option, Some, None, refl, sym, subst, arith, rules}
+use Rattle.std.proofs.lemmas.Bool.{and_from, le-leb}
+use Rattle.tardis_base.specs.Valid.{is_within, are_limits}
+use Rattle.tardis_base.specs.declared.records.Limits.{Limits}
 use Rattle.tardis_io.specs.Told.{WhileTold}
 use Rattle.tardis_io.specs.declared.statuses.Status.{Status}
 use Rattle.tardis_io.specs.declared.statuses.Status.TheVariants.{NoMemory}
@@ -7,10 +10,11 @@ use Rattle.frame_cut.specs.Events.{event_of}
 use Rattle.site_run.specs.Machines.{Answered}
 use Rattle.site_run.specs.Responses.{Whole}
 use Rattle.site_run.specs.Endings.{Outcome, shape_of}
-use Rattle.plain_site.specs.Site.{Site}
+use Rattle.plain_site.specs.Site.{Site, opening}
 use Rattle.plain_site.specs.Built.{so_far}
 use Rattle.plain_site.specs.Step.{site_machine}
 use Rattle.plain_site.specs.Sound.{IsSound}
+use Rattle.plain_site.proofs.SoundOpening.{opening-is-sound}
 use Rattle.tardis_main.specs.Runs.{RunFrom}
 
 -- replies that answer from a site, told of less of what is reached
@@ -51,3 +55,10 @@ no_run site old first sound =
       front = λ all rest cut. (all, refl);
       whole = λ all rest cut. tt;
     }
+
+within : (low high n : ℕ) → low ≤ n → n ≤ high → IsTrue (is_within low high n)
+within low high n from to = and_from (leb low n) (leb n high) (le-leb low n from) (le-leb n high to)
+
+-- the site that opens is sound
+pub opens : (limits : Limits) (own : ℕ) → IsTrue (are_limits limits) → 1 ≤ own → own ≤ limits.sites → IsSound so_far (opening limits own)
+opens limits own valid first last = opening-is-sound so_far limits own valid (within 1 limits.sites own first last)

@@ -1,3 +1,4 @@
 -- What a run of the program does.
 pub mod Words
+pub mod Helps
 pub mod Runs

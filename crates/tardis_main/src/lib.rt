@@ -14,6 +14,11 @@ ghost use Rattle.plain_site.specs.Site.{opening};
 ghost use Rattle.tardis_main.specs.Words.{AreRun};
 ghost use Rattle.tardis_main.specs.Runs.{RunFrom, program_limits};
 
+mod helps;
+mod programs;
+
+pub use helps::{Help, help_of};
+pub use programs::carry_out;
 use session_core::SiteCore;
 use site_run::run_site;
 use std::alloc::Global;

@@ -3,8 +3,9 @@ use crate::rows::{
     SI_PASSES, SKEWED, TALK,
 };
 use crate::talks::Talk;
-use crate::tardis;
+use crate::{Help, carry_out, tardis};
 use std::alloc::Global;
+use std::env::Args;
 use std::test::Fail;
 use tardis_io::{MemorySink, MemorySource, Status};
 
@@ -172,6 +173,40 @@ fn worked_rows_are_answered(rt: HostRuntime) -> Result<(), Fail> {
     }
     for ends in [ANY_AFTER, AT_AFTER] {
         assert!(rt; answers(alloc, &[BEHIND, ends])?);
+    }
+    Ok(())
+}
+
+/// A program's arguments: its name, and the words of a line.
+fn args_of(alloc: Global, line: &str) -> Result<Args, Fail> {
+    let mut args = vec![in alloc; String::from_str(alloc, "tardis")?]?;
+    for word in line.split_whitespace() {
+        args.push(String::from_str(alloc, word)?)?;
+    }
+    Ok(args.into_iter())
+}
+
+#[test]
+fn a_program_is_its_words(rt: HostRuntime) -> Result<(), Fail> {
+    let alloc = rt.alloc();
+    let ends: [(&str, Status, &[u8]); 6] = [
+        ("run", Status::Ok, REPLIES),
+        ("", Status::Usage, b""),
+        ("run extra", Status::Usage, b""),
+        ("--help run", Status::Usage, b""),
+        ("--version", Status::Ok, b"tardis 0.1.0\n"),
+        ("--help", Status::Ok, Help::Usage.text().as_bytes()),
+    ];
+    for (line, status, output) in ends {
+        let args = args_of(alloc, line)?;
+        let mut source = MemorySource::new(alloc, SESSION, 65_536, &WELL)?;
+        let mut sink = MemorySink::new(alloc, 4_000, 65_536, &WELL)?;
+        assert_eq!(rt; carry_out(alloc, args, &mut source, &mut sink), status);
+        assert!(rt; sink.bytes() == output);
+    }
+    let help = Help::Usage.text();
+    for command in ["tardis run ", "tardis --help ", "tardis --version "] {
+        assert!(rt; help.contains(command));
     }
     Ok(())
 }

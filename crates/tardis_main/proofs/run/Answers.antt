@@ -1,7 +1,4 @@
-use Rattle.std.proofs.Common.{ℕ, ◌≤◌, IsTrue, leb, map}
-use Rattle.std.proofs.lemmas.Bool.{and_from, le-leb}
-use Rattle.tardis_base.specs.Valid.{is_within, are_limits}
-use Rattle.tardis_base.specs.declared.records.Limits.{Limits}
+use Rattle.std.proofs.Common.{map}
 use Rattle.tardis_io.proofs.Told.{same, weaker}
 use Rattle.tardis_io.specs.declared.statuses.Status.TheVariants.{NoMemory}
 use Rattle.frame_cut.specs.Events.{event_of}
@@ -10,19 +7,10 @@ use Rattle.site_run.specs.Endings.{Outcome, shape_of}
 use Rattle.plain_site.specs.Site.{opening}
 use Rattle.plain_site.specs.Built.{so_far}
 use Rattle.plain_site.specs.Step.{site_machine}
-use Rattle.plain_site.specs.Sound.{IsSound}
-use Rattle.plain_site.proofs.SoundOpening.{opening-is-sound}
 use Rattle.session_core.specs.Machine.{SiteStands}
 use Rattle.tardis_main.specs.Runs.{RunFrom}
-use Rattle.tardis_main.proofs.Runs.{run_from, no_run}
+use Rattle.tardis_main.proofs.Runs.{run_from, no_run, opens}
 use Rattle.tardis_main.proofs.run.Goals as goal
-
-within : (low high n : ℕ) → low ≤ n → n ≤ high → IsTrue (is_within low high n)
-within low high n from to = and_from (leb low n) (leb n high) (le-leb low n from) (le-leb n high to)
-
--- the site that opens is sound
-opens : (limits : Limits) (own : ℕ) → IsTrue (are_limits limits) → 1 ≤ own → own ≤ limits.sites → IsSound so_far (opening limits own)
-opens limits own valid first last = opening-is-sound so_far limits own valid (within 1 limits.sites own first last)
 
 pub returns-in-Ok-clause-headline : goal.returns-in-Ok-clause-headline
 returns-in-Ok-clause-headline g c =

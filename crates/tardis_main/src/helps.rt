@@ -2,9 +2,7 @@
 
 ghost use Rattle.std.specs.Prelude.{◌≡◌, ◌↔◌, Some, map};
 ghost use Rattle.std.specs.String.{string_bytes};
-ghost use Rattle.tardis.specs.Helps.{AskUsage, AskVersion};
-
-use std::fmt;
+ghost use Rattle.tardis_main.specs.Helps.{AskUsage, AskVersion};
 
 /// What the program tells of itself.
 #[derive(Clone, Copy, Debug, PartialEq, Eq)]
@@ -13,11 +11,12 @@ pub enum Help {
     Version,
 }
 
-impl fmt::Display for Help {
-    fn fmt<W: fmt::Write>(&self, f: &mut fmt::Formatter<W>) -> fmt::Result {
+impl Help {
+    /// The lines that are written.
+    pub fn text(self) -> &'static str {
         match self {
-            Help::Usage => f.write_str(USAGE),
-            Help::Version => f.write_str("tardis 0.1.0\n"),
+            Help::Usage => USAGE,
+            Help::Version => "tardis 0.1.0\n",
         }
     }
 }

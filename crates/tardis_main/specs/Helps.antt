@@ -1,5 +1,6 @@
--- The words that ask for help.
+-- The words that ask for help, and those that ask for nothing.
 use Rattle.std.specs.Prelude.{◌≡◌, ℕ, List, [], ◌∷◌, codes}
+use Rattle.tardis_main.specs.Words.{AreRun}
 
 -- the bytes of the words are those of the one word `--help`
 abbrev pub AskUsage : List (List ℕ) → Type 0
@@ -8,3 +9,7 @@ AskUsage words = words ≡ codes "--help" ∷ []
 -- the bytes of the words are those of the one word `--version`
 abbrev pub AskVersion : List (List ℕ) → Type 0
 AskVersion words = words ≡ codes "--version" ∷ []
+
+-- the words have none of the forms of a command
+abbrev pub AreNone : List (List ℕ) → Type 0
+AreNone words = (AreRun words → ⊥) × (AskUsage words → ⊥) × (AskVersion words → ⊥)

@@ -1,2 +1,0 @@
--- What the program answers by itself.
-pub mod Helps

@@ -1,0 +1,109 @@
+//! The program over its arguments, its input and its output.
+
+ghost use Rattle.std.specs.Prelude.{◌≡◌, ◌≤◌, ◌<◌, ◌⊎◌, ℕ, List, length, map, drop, IfOk};
+ghost use Rattle.std.specs.String.{string_bytes};
+ghost use Rattle.std.specs.Vec.Iter.{into_iter_items};
+ghost use Rattle.tardis_io.specs.Told.{WhileTold};
+ghost use Rattle.tardis_io.specs.Faults.{Rose};
+ghost use Rattle.frame_cut.specs.Frames.{IsCut};
+ghost use Rattle.site_run.specs.Endings.{EndsAs, IsRunEnd, most_taken};
+ghost use Rattle.plain_site.specs.Site.{opening};
+ghost use Rattle.tardis_main.specs.Words.{AreRun};
+ghost use Rattle.tardis_main.specs.Helps.{AskUsage, AskVersion, AreNone};
+ghost use Rattle.tardis_main.specs.Runs.{RunFrom, program_limits};
+
+use crate::helps::{Help, help_of};
+use crate::tardis;
+use std::alloc::Global;
+use std::env::Args;
+use tardis_base::NoMemory;
+use tardis_io::{Sink, Source, Status, WriteFault, write_all};
+
+/// Carries out the command that a program's arguments name, of which the first is the program's name: it tells of itself
+/// for `--help` and `--version`, and is `tardis` for other words.
+pub fn carry_out<I: Source, O: Sink>(
+    alloc: Global,
+    args: Args,
+    input: &mut I,
+    output: &mut O,
+) -> Status
+    ensures usage { result ≡ Status.Usage → AreNone (map (λ w. string_bytes w) (drop 1 (into_iter_items args))) }
+    ensures none { AreNone (map (λ w. string_bytes w) (drop 1 (into_iter_items args)))
+        → ((result ≡ Status.Usage) ⊎ (result ≡ Status.NoMemory)) × (input.new ≡ input.old) × (output.new ≡ output.old) }
+    ensures help { AskUsage (map (λ w. string_bytes w) (drop 1 (into_iter_items args))) ⊎ AskVersion (map (λ w. string_bytes w) (drop 1 (into_iter_items args)))
+        → ((result ≡ Status.Ok) ⊎ ((result ≡ Status.WriteFault) ⊎ (result ≡ Status.NoMemory))) × (input.new ≡ input.old) }
+    ensures headline { AreRun (map (λ w. string_bytes w) (drop 1 (into_iter_items args)))
+        → WhileTold (I.left input.old) (I.left input.new) (RunFrom (opening (program_limits 1) 1) result (O.given output.old) (O.given output.new)) }
+    ensures exact { AreRun (map (λ w. string_bytes w) (drop 1 (into_iter_items args))) → WhileTold (I.left input.old) (I.left input.new) (λ first left. (all : List (List ℕ)) (rest : List ℕ)
+        → IsCut first all rest → length first < most_taken
+        → (Rose (I.faults input.old) (I.faults input.new) → ⊥) → (Rose (O.faults output.old) (O.faults output.new) → ⊥)
+        → EndsAs rest result) }
+    ensures status { AreRun (map (λ w. string_bytes w) (drop 1 (into_iter_items args))) → IsRunEnd result }
+    ensures read_later { I.faults input.old ≤ I.faults input.new }
+    ensures write_later { O.faults output.old ≤ O.faults output.new }
+    ensures read { result ≡ Status.ReadFault → Rose (I.faults input.old) (I.faults input.new) }
+    ensures write { result ≡ Status.WriteFault → Rose (O.faults output.old) (O.faults output.new) }
+    ensures nothing { result ≡ Status.NoMemory → (input.new ≡ input.old) × (output.new ≡ output.old) }
+{
+    match words_behind_name(alloc, args) {
+        Ok(words) => command(alloc, words.as_slice(), input, output),
+        Err(NoMemory) => Status::NoMemory,
+    }
+}
+
+/// The arguments without the first.
+fn words_behind_name(alloc: Global, args: Args) -> Result<Vec<String>, NoMemory>
+    ensures { IfOk result (λ words. words.items ≡ drop 1 (into_iter_items args)) }
+{
+    let mut rest = args;
+    let _ = rest.next();
+    let mut words = Vec::new(alloc);
+    while let Some(word) = rest.next() {
+        match words.push(word) {
+            Ok(()) => {}
+            Err(_) => return Err(NoMemory),
+        }
+    }
+    Ok(words)
+}
+
+/// Carries out the command that the words name.
+fn command<I: Source, O: Sink>(
+    alloc: Global,
+    words: &[String],
+    input: &mut I,
+    output: &mut O,
+) -> Status
+    ensures usage { result ≡ Status.Usage → AreNone (map (λ w. string_bytes w) words.now) }
+    ensures none { AreNone (map (λ w. string_bytes w) words.now) → (result ≡ Status.Usage) × (input.new ≡ input.old) × (output.new ≡ output.old) }
+    ensures help { AskUsage (map (λ w. string_bytes w) words.now) ⊎ AskVersion (map (λ w. string_bytes w) words.now)
+        → ((result ≡ Status.Ok) ⊎ (result ≡ Status.WriteFault)) × (input.new ≡ input.old) }
+    ensures headline { AreRun (map (λ w. string_bytes w) words.now) → WhileTold (I.left input.old) (I.left input.new) (RunFrom (opening (program_limits 1) 1) result (O.given output.old) (O.given output.new)) }
+    ensures exact { AreRun (map (λ w. string_bytes w) words.now) → WhileTold (I.left input.old) (I.left input.new) (λ first left. (all : List (List ℕ)) (rest : List ℕ)
+        → IsCut first all rest → length first < most_taken
+        → (Rose (I.faults input.old) (I.faults input.new) → ⊥) → (Rose (O.faults output.old) (O.faults output.new) → ⊥)
+        → EndsAs rest result) }
+    ensures status { AreRun (map (λ w. string_bytes w) words.now) → IsRunEnd result }
+    ensures read_later { I.faults input.old ≤ I.faults input.new }
+    ensures write_later { O.faults output.old ≤ O.faults output.new }
+    ensures read { result ≡ Status.ReadFault → Rose (I.faults input.old) (I.faults input.new) }
+    ensures write { result ≡ Status.WriteFault → Rose (O.faults output.old) (O.faults output.new) }
+    ensures nothing { result ≡ Status.NoMemory → (input.new ≡ input.old) × (output.new ≡ output.old) }
+{
+    match help_of(words) {
+        Some(help) => tell(help, output),
+        None => tardis(alloc, words, input, output),
+    }
+}
+
+/// Writes what the program tells of itself.
+fn tell<O: Sink>(help: Help, output: &mut O) -> Status
+    ensures status { (result ≡ Status.Ok) ⊎ (result ≡ Status.WriteFault) }
+    ensures write_later { O.faults output.old ≤ O.faults output.new }
+    ensures write { result ≡ Status.WriteFault → Rose (O.faults output.old) (O.faults output.new) }
+{
+    match write_all(output, help.text().as_bytes()) {
+        Ok(()) => Status::Ok,
+        Err(WriteFault) => Status::WriteFault,
+    }
+}
