@@ -130,7 +130,11 @@ module _ (built : Built) (site : Site) (n : ℕ) (flags : EndFlags) (k : ℕ) wh
 
 -- where a single transaction of an open session is told to begin, it begins there
 pub record TellsBegin (site : Site) (n : ℕ) (b : Begin) (answer : Answer) : Type 0 where
-  pub told : (x : StateId) → answer.1 ≡ Begun x → (s : Session) × (entry_of n site.sessions ≡ Some s) × (begin_state site.dag s.last b ≡ x)
+  pub told : (x : StateId) → answer.1 ≡ Begun x → (s : Session) × (entry_of n site.sessions ≡ Some s) × (begin_state site.dag s.last b ≡ x) × IsTrue (is_admitted site.dag s.ceiling x)
+
+not-false : (b : Bool) → IsFalse (not b) → IsTrue b
+not-false true f = refl
+not-false false f = absurd (cc)
 
 module _ (built : Built) (site : Site) (n : ℕ) (b : Begin) where
   refused-begins : (refusal : Refusal) → TellsBegin site n b (site, Refused refusal)
@@ -144,7 +148,14 @@ module _ (built : Built) (site : Site) (n : ℕ) (b : Begin) where
       unless-none (TellsBegin site n b) site (refuse unknown (Unknown x) ∷ refuse below (Below x s.ceiling) ∷ [])
       (record site { txns = with_entry n (Single (record { state = x; reads = []; writes = [] })) site.txns }, Begun x)
       (refuse-only unknown (Unknown x) (refuse below (Below x s.ceiling) ∷ []) (refuse-only below (Below x s.ceiling) [] tt)) refused-begins
-      (λ none. record { told = λ y e. (s, there, cc) })
+      (λ none.
+      let second = none-parts (refuse unknown (Unknown x)) (refuse below (Below x s.ceiling) ∷ []) none in
+      let admitted = not-false (is_admitted site.dag s.ceiling x) (when-none below (Refused (Below x s.ceiling)) (none-parts (refuse below (Below x s.ceiling)) [] second.1).0) in
+      record {
+        told = λ y e.
+            let same : x ≡ y = cc in
+            (s, there, same, subst (λ z. IsTrue (is_admitted site.dag s.ceiling z)) same admitted);
+      })
 
   pub step-tells-begin : TellsBegin site n b (step built site n (BeginAt b))
   step-tells-begin =

@@ -10,20 +10,21 @@ use Rattle.tardis_base.specs.declared.replies.Refusal.TheVariants.{NotOpen, TxnO
 use Rattle.tardis_base.specs.declared.replies.Reply.{Reply}
 use Rattle.tardis_base.specs.declared.replies.Reply.TheVariants.{Refused, NoMemory}
 use Rattle.plain_dag.specs.Entries.{entry_of}
+use Rattle.plain_dag.specs.Floors.{Session}
 use Rattle.plain_site.specs.Site.{Site, Txn}
 use Rattle.plain_site.specs.Answers.{Answer, when, refuse, refuse_found, unless}
-use Rattle.plain_site.specs.ClientRuns.{Told, retold, newest_commit}
+use Rattle.plain_site.specs.ClientRuns.{Told, retold, resession}
 use Rattle.plain_site.proofs.RepliesFrame.{RefusesWell}
-use Rattle.client_laws.proofs.Tellings.{Tells, HasLast}
+use Rattle.client_laws.proofs.Tellings.{Tells}
 
--- the history stays or has one record more; the other actors' transactions and sessions stay; and if the actor's were as
--- its lines told, they are as these and the request with its reply tell
+-- the history stays or has one record more; the other actors' transactions and sessions stay; the actor's session is as the
+-- request and its reply tell; and if its transaction was as its lines told, it is as these and the request with its reply tell
 pub record Does (site : Site) (n : ℕ) (q : Request) (answer : Answer) : Type 0 where
   pub grows : (answer.0.dag ≡ site.dag) ⊎ ((r : Record) × (answer.0.dag ≡ r ∷ site.dag))
   pub other_txns : (m : ℕ) → (m ≡ n → ⊥) → entry_of m answer.0.txns ≡ entry_of m site.txns
   pub other_sessions : (m : ℕ) → (m ≡ n → ⊥) → entry_of m answer.0.sessions ≡ entry_of m site.sessions
   pub txn : (seen : Option Told) → Tells answer.0.dag (entry_of n site.txns) seen → Tells answer.0.dag (entry_of n answer.0.txns) (retold q answer.1 seen)
-  pub session : (x : StateId) → HasLast x (entry_of n site.sessions) → HasLast (newest_commit q answer.1 x) (entry_of n answer.0.sessions)
+  pub session : entry_of n answer.0.sessions ≡ resession answer.0.dag q answer.1 (entry_of n site.sessions)
 
 -- ===== Replies that tell nothing
 
@@ -35,9 +36,9 @@ pub refused-tells-nothing : (q : Request) (refusal : Refusal) (seen : Option Tol
 refused-tells-nothing (Get k) refusal seen = got-refused k refusal seen
 refused-tells-nothing q refusal seen = refl
 
-pub refused-commits-nothing : (q : Request) (refusal : Refusal) (x : StateId) → newest_commit q (Refused refusal) x ≡ x
-refused-commits-nothing (Get k) refusal x = refl
-refused-commits-nothing q refusal x = refl
+pub refused-leaves-session : (q : Request) (refusal : Refusal) (rs : List Record) (s : Option Session) → resession rs q (Refused refusal) s ≡ s
+refused-leaves-session (Get k) refusal rs s = refl
+refused-leaves-session q refusal rs s = refl
 
 got-none : (k : List ℕ) (seen : Option Told) → retold (Get k) NoMemory seen ≡ seen
 got-none k None = refl
@@ -47,30 +48,30 @@ pub wanting-tells-nothing : (q : Request) (seen : Option Told) → retold q NoMe
 wanting-tells-nothing (Get k) seen = got-none k seen
 wanting-tells-nothing q seen = refl
 
-pub wanting-commits-nothing : (q : Request) (x : StateId) → newest_commit q NoMemory x ≡ x
-wanting-commits-nothing (Get k) x = refl
-wanting-commits-nothing q x = refl
+pub wanting-leaves-session : (q : Request) (rs : List Record) (s : Option Session) → resession rs q NoMemory s ≡ s
+wanting-leaves-session (Get k) rs s = refl
+wanting-leaves-session q rs s = refl
 
 -- ===== Answers that leave transactions and sessions
 
 pub same-books : (site : Site) (n : ℕ) (q : Request) (next : Site) (reply : Reply) → (next.dag ≡ site.dag) ⊎ ((r : Record) × (next.dag ≡ r ∷ site.dag)) →
-    next.txns ≡ site.txns → next.sessions ≡ site.sessions → ((seen : Option Told) → retold q reply seen ≡ seen) → ((x : StateId) → newest_commit q reply x ≡ x) →
+    next.txns ≡ site.txns → next.sessions ≡ site.sessions → ((seen : Option Told) → retold q reply seen ≡ seen) → ((rs : List Record) (s : Option Session) → resession rs q reply s ≡ s) →
     Does site n q (next, reply)
-same-books site n q next reply grows txns sessions tells commits = record {
+same-books site n q next reply grows txns sessions tells keeps = record {
   grows = grows;
   other_txns = λ m differ. ap (entry_of m) txns;
   other_sessions = λ m differ. ap (entry_of m) sessions;
   txn = λ seen h. subst (λ ts. Tells next.dag (entry_of n ts) (retold q reply seen)) (sym txns) (subst (Tells next.dag (entry_of n site.txns)) (sym (tells seen)) h);
-  session = λ x h. subst (λ ss. HasLast (newest_commit q reply x) (entry_of n ss)) (sym sessions) (subst (λ y. HasLast y (entry_of n site.sessions)) (sym (commits x)) h);
+  session = ap (entry_of n) sessions ∙ sym (keeps next.dag (entry_of n site.sessions));
 }
 
 -- nothing is done, and the reply tells nothing
-pub does-nothing : (site : Site) (n : ℕ) (q : Request) (reply : Reply) → ((seen : Option Told) → retold q reply seen ≡ seen) → ((x : StateId) → newest_commit q reply x ≡ x) →
+pub does-nothing : (site : Site) (n : ℕ) (q : Request) (reply : Reply) → ((seen : Option Told) → retold q reply seen ≡ seen) → ((rs : List Record) (s : Option Session) → resession rs q reply s ≡ s) →
     Does site n q (site, reply)
-does-nothing site n q reply tells commits = same-books site n q site reply (inl refl) refl refl tells commits
+does-nothing site n q reply tells keeps = same-books site n q site reply (inl refl) refl refl tells keeps
 
 pub does-refused : (site : Site) (n : ℕ) (q : Request) (refusal : Refusal) → Does site n q (site, Refused refusal)
-does-refused site n q refusal = does-nothing site n q (Refused refusal) (refused-tells-nothing q refusal) (refused-commits-nothing q refusal)
+does-refused site n q refusal = does-nothing site n q (Refused refusal) (refused-tells-nothing q refusal) (refused-leaves-session q refusal)
 
 pub refuses-does : (site : Site) (n : ℕ) (q : Request) → RefusesWell site (Does site n q)
 refuses-does site n q = record { not_open = does-refused site n q NotOpen; no_txn = does-refused site n q NoTxn; txn_open = does-refused site n q TxnOpen }

@@ -32,10 +32,10 @@ use Rattle.plain_site.specs.FloorSteps.{raised, raise_to, raise, raise_auto, tid
 use Rattle.plain_site.specs.Shows.{show}
 use Rattle.plain_site.specs.Exchange.{judgements, consent_judgements, deliver_record, deliver_consent, deliver, pull, batch_for}
 use Rattle.plain_site.specs.Step.{served, step}
-use Rattle.plain_site.specs.ClientRuns.{Told, retold, newest_commit}
+use Rattle.plain_site.specs.ClientRuns.{Told, retold, resession}
 use Rattle.plain_site.proofs.RepliesFrame.{by-session, by-txn, by-no-txn}
 use Rattle.plain_site.proofs.SoundEntries.{entry-changed, entry-changed_other, entry-with_entry, entry-with_entry_other, entry-without_entry, entry-without_entry_other}
-use Rattle.client_laws.proofs.Tellings.{Tells, HasLast}
+use Rattle.client_laws.proofs.Tellings.{Tells}
 use Rattle.client_laws.proofs.Effects.{Does, same-books, does-nothing, does-refused, refuses-does, refuse-only, found-only, unless-any, unless-does}
 use Rattle.client_laws.proofs.EffectsOfTxns.{begin-does, merge-does, get-does, set-does, abort-does, commit-does}
 
@@ -56,7 +56,7 @@ module _ (site : Site) (n : ℕ) where
         other_txns = λ m differ. refl;
         other_sessions = λ m differ. entry-with_entry_other n m s site.sessions differ;
         txn = λ seen h. h;
-        session = λ x h. subst (HasLast root) (sym (entry-with_entry n s site.sessions)) refl;
+        session = entry-with_entry n s site.sessions;
       })
 
   close-does : Does site n Close (close_session site n)
@@ -65,12 +65,8 @@ module _ (site : Site) (n : ℕ) where
     other_txns = λ m differ. entry-without_entry_other n m site.txns differ;
     other_sessions = λ m differ. entry-without_entry_other n m site.sessions differ;
     txn = λ seen h. subst (λ (o : Option Txn). Tells site.dag o None) (sym (entry-without_entry n site.txns)) tt;
-    session = λ x h. subst (HasLast x) (sym (entry-without_entry n site.sessions)) tt;
+    session = entry-without_entry n site.sessions;
   }
-
-  same-last : (x y : StateId) (o : Option Session) → HasLast y o → HasLast y (option_map (with_ceiling x) o)
-  same-last x y None h = tt
-  same-last x y (Some s) h = h
 
   ceiling-does : (s : Session) (x : StateId) → Does site n (Ceiling x) (set_ceiling site n s x)
   ceiling-does s x =
@@ -83,64 +79,64 @@ module _ (site : Site) (n : ℕ) where
         other_txns = λ m differ. refl;
         other_sessions = λ m differ. entry-changed_other n m (with_ceiling x) site.sessions differ;
         txn = λ seen h. h;
-        session = λ y h. subst (HasLast y) (sym (entry-changed n (with_ceiling x) site.sessions)) (same-last x y (entry_of n site.sessions) h);
+        session = entry-changed n (with_ceiling x) site.sessions;
       })
 
   -- ===== Floors and collection
 
   raise_to-does : (q : Request) (x : StateId) (refusals : List (Option Reply)) → ((reply : Reply) (seen : Option Told) → retold q reply seen ≡ seen) →
-      ((reply : Reply) (y : StateId) → newest_commit q reply y ≡ y) → Does site n q (raise_to site x refusals)
-  raise_to-does q x refusals tells commits =
+      ((reply : Reply) (rs : List Record) (s : Option Session) → resession rs q reply s ≡ s) → Does site n q (raise_to site x refusals)
+  raise_to-does q x refusals tells keeps =
       let next = raised site x in
       unless-any (Does site n q) site (refusals ++ refuse ((own_floor site).number == 4294967295) SeqEnd ∷ []) next
-      (λ reply. does-nothing site n q reply (tells reply) (commits reply))
-      (same-books site n q next.0 next.1 (inl refl) refl refl (tells next.1) (commits next.1))
+      (λ reply. does-nothing site n q reply (tells reply) (keeps reply))
+      (same-books site n q next.0 next.1 (inl refl) refl refl (tells next.1) (keeps next.1))
 
   -- ===== Exchange
 
   tells-nothing : (item : Item) (reply : Reply) → Does site n (Deliver item) (site, reply)
-  tells-nothing item reply = does-nothing site n (Deliver item) reply (λ seen. refl) (λ x. refl)
+  tells-nothing item reply = does-nothing site n (Deliver item) reply (λ seen. refl) (λ rs s. refl)
 
   deliver-does : (built : Built) (item : Item) → Does site n (Deliver item) (deliver built site item)
   deliver-does built (State r) =
       unless-any (Does site n (Deliver (State r))) site (judgements site r ++ growth_refusals built site r) (with_record r site, Applied) (tells-nothing (State r))
-      (same-books site n (Deliver (State r)) (with_record r site) Applied (inr (r, refl)) refl refl (λ seen. refl) (λ x. refl))
+      (same-books site n (Deliver (State r)) (with_record r site) Applied (inr (r, refl)) refl refl (λ seen. refl) (λ rs s. refl))
   deliver-does built (Promise c) =
       let next = record site { floors = with_floor site.floors c.site (record { state = c.floor; number = c.number; stated = c.count }) } in
       unless-any (Does site n (Deliver (Promise c))) site (consent_judgements site c) (next, Applied) (tells-nothing (Promise c))
-      (same-books site n (Deliver (Promise c)) next Applied (inl refl) refl refl (λ seen. refl) (λ x. refl))
+      (same-books site n (Deliver (Promise c)) next Applied (inl refl) refl refl (λ seen. refl) (λ rs s. refl))
 
   -- ===== What only shows
 
-  shows : (q : Request) (reply : Reply) → ((r : Reply) (seen : Option Told) → retold q r seen ≡ seen) → ((r : Reply) (x : StateId) → newest_commit q r x ≡ x) → Does site n q (site, reply)
-  shows q reply tells commits = does-nothing site n q reply (tells reply) (commits reply)
+  shows : (q : Request) (reply : Reply) → ((r : Reply) (seen : Option Told) → retold q r seen ≡ seen) → ((r : Reply) (rs : List Record) (s : Option Session) → resession rs q r s ≡ s) → Does site n q (site, reply)
+  shows q reply tells keeps = does-nothing site n q reply (tells reply) (keeps reply)
 
   fork-points-does : (t : Txn) → Does site n ForkPoints (fork_points_of site t)
   fork-points-does (Single t) = does-refused site n ForkPoints WrongMode
-  fork-points-does (Merge t) = shows ForkPoints (fork_points_of site (Merge t)).1 (λ r seen. refl) (λ r x. refl)
+  fork-points-does (Merge t) = shows ForkPoints (fork_points_of site (Merge t)).1 (λ r seen. refl) (λ r rs s. refl)
 
   conflicts-does : (t : Txn) (after : List ℕ) → Does site n (Conflicts after) (conflicts_of site t after)
   conflicts-does (Single t) after = does-refused site n (Conflicts after) WrongMode
-  conflicts-does (Merge t) after = shows (Conflicts after) (conflicts_of site (Merge t) after).1 (λ r seen. refl) (λ r x. refl)
+  conflicts-does (Merge t) after = shows (Conflicts after) (conflicts_of site (Merge t) after).1 (λ r seen. refl) (λ r rs s. refl)
 
   get-for-does : (t : Txn) (k : List ℕ) (x : StateId) → Does site n (GetFor k x) (get_for site t k x)
   get-for-does (Single t) k x = does-refused site n (GetFor k x) WrongMode
   get-for-does (Merge t) k x =
       let reply = found (read site.dag k x) in
       unless-any (Does site n (GetFor k x)) site (refuse (not (is_among x t.states)) (NotRead x) ∷ []) (site, reply)
-      (λ r. shows (GetFor k x) r (λ q seen. refl) (λ q y. refl)) (shows (GetFor k x) reply (λ q seen. refl) (λ q y. refl))
+      (λ r. shows (GetFor k x) r (λ q seen. refl) (λ q rs s. refl)) (shows (GetFor k x) reply (λ q seen. refl) (λ q rs s. refl))
 
   show-does : (x : StateId) → Does site n (Show x) (show site x)
   show-does x =
       let reply = Shown (arrival site.dag x) (children site.dag x) (fork_path site.dag site.collected x) in
       unless-any (Does site n (Show x)) site (refuse (not (is_known site.dag x)) (Unknown x) ∷ refuse (is_among x site.collected) (Collected x) ∷ []) (site, reply)
-      (λ r. shows (Show x) r (λ q seen. refl) (λ q y. refl)) (shows (Show x) reply (λ q seen. refl) (λ q y. refl))
+      (λ r. shows (Show x) r (λ q seen. refl) (λ q rs s. refl)) (shows (Show x) reply (λ q seen. refl) (λ q rs s. refl))
 
   pull-does : (counts : List ℕ) → Does site n (Pull counts) (pull site counts)
   pull-does counts =
       let reply = BatchIs (batch_for site counts) in
       unless-any (Does site n (Pull counts)) site (refuse (not (length counts == site.limits.sites)) (BadSite (length counts)) ∷ []) (site, reply)
-      (λ r. shows (Pull counts) r (λ q seen. refl) (λ q y. refl)) (shows (Pull counts) reply (λ q seen. refl) (λ q y. refl))
+      (λ r. shows (Pull counts) r (λ q seen. refl) (λ q rs s. refl)) (shows (Pull counts) reply (λ q seen. refl) (λ q rs s. refl))
 
   raise-does : (x : StateId) → Does site n (Raise x) (raise site x)
   raise-does x =
@@ -149,7 +145,7 @@ module _ (site : Site) (n : ℕ) where
       (refuse (not (is_known site.dag x)) (Unknown x)
       ∷ refuse (not (is_above site.dag floor x)) (FloorBack floor)
       ∷ refuse_found (λ (s : ℕ × Session). Held s.0 s.1.ceiling) (holding_session site.dag site.sessions x)
-      ∷ []) (λ r seen. refl) (λ r y. refl)
+      ∷ []) (λ r seen. refl) (λ r rs s. refl)
 
   -- ===== Each request
 
@@ -159,10 +155,10 @@ module _ (site : Site) (n : ℕ) where
   served-does built (Get k) = by-txn (refuses-does site n (Get k)) n (λ s t. get site n t k) (λ s t e d. get-does site n t k d)
   served-does built (Put k v) =
       by-txn (refuses-does site n (Put k v)) n (λ s t. set_key site n t k (Value v))
-      (λ s t e d. set-does site n (Put k v) t k (Value v) (λ seen. refl) (λ x. refl) d)
+      (λ s t e d. set-does site n (Put k v) t k (Value v) (λ seen. refl) (λ rs s. refl) d)
   served-does built (Delete k) =
       by-txn (refuses-does site n (Delete k)) n (λ s t. set_key site n t k Deletion)
-      (λ s t e d. set-does site n (Delete k) t k Deletion (λ seen. refl) (λ x. refl) d)
+      (λ s t e d. set-does site n (Delete k) t k Deletion (λ seen. refl) (λ rs s. refl) d)
   served-does built (Commit flags k) =
       by-txn (refuses-does site n (Commit flags k)) n (λ s t. commit built site n t flags k) (λ s t e d. commit-does site n built flags k t)
   served-does built Abort = by-txn (refuses-does site n Abort) n (λ s t. abort site n) (λ s t e d. abort-does site n)
@@ -175,13 +171,13 @@ module _ (site : Site) (n : ℕ) where
   served-does built (Ceiling x) = by-no-txn (refuses-does site n (Ceiling x)) n (λ s. set_ceiling site n s x) (λ s e. ceiling-does s x)
   served-does built (Raise x) = raise-does x
   served-does built RaiseAuto =
-      raise_to-does RaiseAuto (automatic_floor site.dag (own_floor site).state site.sessions) [] (λ r seen. refl) (λ r y. refl)
+      raise_to-does RaiseAuto (automatic_floor site.dag (own_floor site).state site.sessions) [] (λ r seen. refl) (λ r rs s. refl)
   served-does built (Tidy count) =
       let next = tidy site count in
-      same-books site n (Tidy count) next.0 next.1 (inl refl) refl refl (λ seen. refl) (λ x. refl)
-  served-does built Stat = shows Stat (served built site n Stat).1 (λ r seen. refl) (λ r x. refl)
+      same-books site n (Tidy count) next.0 next.1 (inl refl) refl refl (λ seen. refl) (λ rs s. refl)
+  served-does built Stat = shows Stat (served built site n Stat).1 (λ r seen. refl) (λ r rs s. refl)
   served-does built (Show x) = show-does x
-  served-does built Leaves = shows Leaves (served built site n Leaves).1 (λ r seen. refl) (λ r x. refl)
+  served-does built Leaves = shows Leaves (served built site n Leaves).1 (λ r seen. refl) (λ r rs s. refl)
   served-does built (Pull counts) = pull-does counts
   served-does built (Deliver item) = deliver-does built item
   served-does built Close = by-session (refuses-does site n Close) n (λ s. close_session site n) (λ s e. close-does)

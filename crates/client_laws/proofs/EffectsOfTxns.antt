@@ -34,13 +34,13 @@ use Rattle.plain_site.specs.Sessions.{begin_at}
 use Rattle.plain_site.specs.Reads.{having_read, having_written, read_in, get, set_key}
 use Rattle.plain_site.specs.Commits.{without_txn_of, abort, growth_refusals, committed, commit_below, commit_at, commit_writes, commit_single, commit_merge, commit}
 use Rattle.plain_site.specs.Merges.{in_order, merge_at}
-use Rattle.plain_site.specs.ClientRuns.{Told, begun, is_shown, having_got, having_put, retold, newest_commit, ReadsShow}
+use Rattle.plain_site.specs.ClientRuns.{Told, begun, is_shown, having_got, having_put, retold, resession, ReadsShow}
 use Rattle.plain_site.proofs.RepliesFrame.{given-good}
 use Rattle.plain_site.proofs.SoundEntries.{entry-changed, entry-changed_other, entry-with_entry, entry-with_entry_other, entry-without_entry, entry-without_entry_other}
 use Rattle.plain_site.proofs.SoundCommits.{next_record}
 use Rattle.client_laws.proofs.Dags.{value-over-one}
 use Rattle.client_laws.proofs.Records.{write-has-key, no-write-no-key}
-use Rattle.client_laws.proofs.Tellings.{AreKept, KeepsReads, is_merge, IsTold, Tells, HasLast, kept-more, tells-changed}
+use Rattle.client_laws.proofs.Tellings.{AreKept, KeepsReads, is_merge, IsTold, Tells, kept-more, tells-changed}
 use Rattle.client_laws.proofs.Effects.{Does, OnlyRefuse, refuse-only, found-only, both-only, unless-does}
 
 -- ===== Reads that are told
@@ -72,9 +72,9 @@ module _ (site : Site) (n : ℕ) where
 
   -- a transaction begins at these states
   begun-does : (q : Request) (t : Txn) (reply : Reply) (states : List StateId) → ((seen : Option Told) → retold q reply seen ≡ Some (begun (is_merge t) states)) → read_states t ≡ states →
-      writes_of t ≡ [] → KeepsReads t [] → ((x : StateId) → newest_commit q reply x ≡ x) →
+      writes_of t ≡ [] → KeepsReads t [] → ((rs : List Record) (s : Option Session) → resession rs q reply s ≡ s) →
       Does site n q (record site { txns = with_entry n t site.txns }, reply)
-  begun-does q t reply states tells at none kept commits = record {
+  begun-does q t reply states tells at none kept keeps = record {
     grows = inl refl;
     other_txns = λ m differ. entry-with_entry_other n m t site.txns differ;
     other_sessions = λ m differ. refl;
@@ -82,7 +82,7 @@ module _ (site : Site) (n : ℕ) where
         let fresh : IsTold site.dag t (begun (is_merge t) states) = record { merges = refl; states = sym at; writes = sym none; kept = kept; shown = tt } in
         subst (Tells site.dag (entry_of n (with_entry n t site.txns))) (sym (tells seen))
         (subst (λ (o : Option Txn). Tells site.dag o (Some (begun (is_merge t) states))) (sym (entry-with_entry n t site.txns)) fresh);
-    session = λ x h. subst (λ y. HasLast y (entry_of n site.sessions)) (sym (commits x)) h;
+    session = sym (keeps site.dag (entry_of n site.sessions));
   }
 
   pub begin-does : (b : Begin) (ceiling x : StateId) → Does site n (BeginAt b) (begin_at site n ceiling x)
@@ -92,7 +92,7 @@ module _ (site : Site) (n : ℕ) where
       (record site { txns = with_entry n t site.txns }, Begun x)
       (refuse-only (not (is_known site.dag x)) (Unknown x) (refuse (not (is_admitted site.dag ceiling x)) (Below x ceiling) ∷ [])
       (refuse-only (not (is_admitted site.dag ceiling x)) (Below x ceiling) [] tt))
-      (begun-does (BeginAt b) t (Begun x) (x ∷ []) (λ seen. refl) refl refl tt (λ y. refl))
+      (begun-does (BeginAt b) t (Begun x) (x ∷ []) (λ seen. refl) refl refl tt (λ rs s. refl))
 
   pub merge-does : (of : MergeOf) (ceiling : StateId) (xs : List StateId) → Does site n (BeginMerge of) (merge_at site n ceiling xs)
   merge-does of ceiling xs =
@@ -109,7 +109,7 @@ module _ (site : Site) (n : ℕ) where
       (refuse-only many (TooMany 3 (length xs)) second
       (found-only Unknown unknown third
       (found-only (λ (x : StateId). Below x ceiling) below fourth (found-only (λ (p : StateId × StateId). Comparable p.0 p.1) pair [] tt))))
-      (begun-does (BeginMerge of) t (Merging states) states (λ seen. refl) refl refl tt (λ y. refl))
+      (begun-does (BeginMerge of) t (Merging states) states (λ seen. refl) refl refl tt (λ rs s. refl))
 
   -- ===== Reads and writes
 
@@ -123,7 +123,7 @@ module _ (site : Site) (n : ℕ) where
         (λ seen h.
         subst (IsTold site.dag t)
         (sym (got-own k (shown root w) seen (subst (λ ws. IsTrue (has_key k ws)) (sym h.writes) (write-has-key k (writes_of t) w own)))) h);
-    session = λ x h. h;
+    session = refl;
   }
 
   read-does : (t : Txn) (k : List ℕ) → entry_of n site.txns ≡ Some t → write_of k (writes_of t) ≡ None → Does site n (Get k) (read_in site n t k)
@@ -150,7 +150,7 @@ module _ (site : Site) (n : ℕ) where
               shown = (ap found (sym (value-over-one site.dag t.state k)), h.shown);
             } in
             subst (IsTold site.dag more) (sym (got-found k o seen lacks)) next);
-        session = λ x h. h;
+        session = refl;
       })
   read-does (Merge t) k e none =
       let o = value_over site.dag t.states k in
@@ -167,7 +167,7 @@ module _ (site : Site) (n : ℕ) where
             let next : IsTold site.dag (Merge t) (record seen { reads = (k, found o) ∷ seen.reads }) =
             record { merges = h.merges; states = h.states; writes = h.writes; kept = tt; shown = (refl, h.shown) } in
             subst (IsTold site.dag (Merge t)) (sym (got-found k o seen lacks)) next);
-        session = λ x h. h;
+        session = refl;
       })
 
   pub get-does : (t : Txn) (k : List ℕ) → entry_of n site.txns ≡ Some t → Does site n (Get k) (get site n t k)
@@ -176,8 +176,8 @@ module _ (site : Site) (n : ℕ) where
       (λ w own. own-read-does t k w e own)
 
   pub set-does : (q : Request) (t : Txn) (k : List ℕ) (w : Write) → ((seen : Option Told) → retold q Done seen ≡ option_map (having_put k w) seen) →
-      ((x : StateId) → newest_commit q Done x ≡ x) → entry_of n site.txns ≡ Some t → Does site n q (set_key site n t k w)
-  set-does q t k w tells commits e =
+      ((rs : List Record) (s : Option Session) → resession rs q Done s ≡ s) → entry_of n site.txns ≡ Some t → Does site n q (set_key site n t k w)
+  set-does q t k w tells keeps e =
       let full = length (writes_of t) == 64 && not (has_key k (writes_of t)) in
       unless-does site n q (refuse full (TooMany 1 65) ∷ []) (with_txn_changed n (having_written k w) site, Done) (refuse-only full (TooMany 1 65) [] tt)
       (record {
@@ -188,7 +188,7 @@ module _ (site : Site) (n : ℕ) where
             subst (Tells site.dag (entry_of n (changed n (having_written k w) site.txns))) (sym (tells seen))
             (tells-changed site.dag (entry_of n site.txns) (entry_of n (changed n (having_written k w) site.txns)) t (having_written k w t) (having_put k w) e
             (entry-changed n (having_written k w) site.txns ∙ ap (option_map (having_written k w)) e) (put-told site.dag k w t) seen h);
-        session = λ x h. subst (λ y. HasLast y (entry_of n site.sessions)) (sym (commits x)) h;
+        session = sym (keeps site.dag (entry_of n site.sessions));
       })
 
   -- ===== Ends
@@ -197,24 +197,20 @@ module _ (site : Site) (n : ℕ) where
   gone-is-told : (rs : List Record) → Tells rs (entry_of n (without_entry n site.txns)) None
   gone-is-told rs = subst (λ (o : Option Txn). Tells rs o None) (sym (entry-without_entry n site.txns)) tt
 
-  ended-does : (q : Request) (reply : Reply) → ((seen : Option Told) → retold q reply seen ≡ None) → ((x : StateId) → newest_commit q reply x ≡ x) →
+  ended-does : (q : Request) (reply : Reply) → ((seen : Option Told) → retold q reply seen ≡ None) → ((rs : List Record) (s : Option Session) → resession rs q reply s ≡ s) →
       Does site n q (without_txn_of n site, reply)
-  ended-does q reply tells commits = record {
+  ended-does q reply tells keeps = record {
     grows = inl refl;
     other_txns = λ m differ. entry-without_entry_other n m site.txns differ;
     other_sessions = λ m differ. refl;
     txn = λ seen h. subst (Tells site.dag (entry_of n (without_entry n site.txns))) (sym (tells seen)) (gone-is-told site.dag);
-    session = λ x h. subst (λ y. HasLast y (entry_of n site.sessions)) (sym (commits x)) h;
+    session = sym (keeps site.dag (entry_of n site.sessions));
   }
 
   pub abort-does : Does site n Abort (abort site n)
-  abort-does = ended-does Abort Done (λ seen. refl) (λ x. refl)
+  abort-does = ended-does Abort Done (λ seen. refl) (λ rs s. refl)
 
   module _ (built : Built) (flags : EndFlags) (k : ℕ) where
-    last-is-new : (rs : List Record) (x : StateId) (o : Option Session) → HasLast x (option_map (after_commit rs x) o)
-    last-is-new rs x None = tt
-    last-is-new rs x (Some s) = refl
-
     committed-does : (r : Record) → Does site n (Commit flags k) (committed site n r)
     committed-does r =
         let after : Session → Session = after_commit (r ∷ site.dag) r.id in
@@ -223,8 +219,7 @@ module _ (site : Site) (n : ℕ) where
           other_txns = λ m differ. entry-without_entry_other n m site.txns differ;
           other_sessions = λ m differ. entry-changed_other n m after site.sessions differ;
           txn = λ seen h. gone-is-told (r ∷ site.dag);
-          session = λ x h.
-              subst (HasLast r.id) (sym (entry-changed n after site.sessions)) (last-is-new (r ∷ site.dag) r.id (entry_of n site.sessions));
+          session = entry-changed n after site.sessions;
         }
 
     commit_below-does : (parents : List StateId) (writes : List KeyWrite) (refusals : List (Option Reply)) → OnlyRefuse refusals →
@@ -248,7 +243,7 @@ module _ (site : Site) (n : ℕ) where
     single-does t = go t.writes
       where
         go : (ws : List KeyWrite) → Does site n (Commit flags k) (elim ws as (λ v. Answer) [ [] ↦ (without_txn_of n site, Ended t.state) | w ∷ vs ↦ commit_writes built site n t flags k ])
-        go [] = ended-does (Commit flags k) (Ended t.state) (λ seen. refl) (λ x. refl)
+        go [] = ended-does (Commit flags k) (Ended t.state) (λ seen. refl) (λ rs s. refl)
         go (w ∷ ws) = commit_at-does t (landing site.dag (guarded flags t.reads (keys_of t.writes)) t.state)
 
     pub commit-does : (t : Txn) → Does site n (Commit flags k) (commit built site n t flags k)

@@ -2,7 +2,7 @@
 use Rattle.std.proofs.Common.{◌≡◌, ℕ, Bool, true, false, List, [], ◌∷◌, ◌++◌, Option, Some, None, IsTrue, IsFalse, inl, inr, refl, sym, ap, subst, ◌∙◌, find}
 use Rattle.std.specs.Prelude.{◌&&◌, unwrap_or}
 use Rattle.std.specs.List.{list_all}
-use Rattle.std.proofs.lemmas.Bool.{and_parts, and_from, cond_both}
+use Rattle.std.proofs.lemmas.Bool.{and_parts, and_from, cond_both, not-true}
 use Rattle.std.proofs.lemmas.Option.{none-some, same_Some}
 use Rattle.tardis_base.specs.declared.ids.StateId.{StateId}
 use Rattle.tardis_base.specs.declared.records.Record.{Record}
@@ -15,8 +15,8 @@ use Rattle.tardis_base.specs.declared.replies.Reply.TheVariants.{Begun, Committe
 use Rattle.tardis_base.specs.Ids.{is_among}
 use Rattle.tardis_base.specs.Keys.{KeyWrite, keys_of, has_key}
 use Rattle.plain_dag.specs.States.{states, is_known, record_at}
-use Rattle.plain_dag.specs.Above.{is_above}
-use Rattle.plain_dag.specs.Begin.{last_arrived, last_below, begin_state}
+use Rattle.plain_dag.specs.Above.{is_above, is_proper_ancestor}
+use Rattle.plain_dag.specs.Begin.{is_admitted, last_arrived, last_below, begin_state}
 use Rattle.plain_dag.specs.Entries.{entry_of}
 use Rattle.plain_dag.specs.Floors.{Session}
 use Rattle.plain_dag.specs.Dag.{IsDag}
@@ -33,10 +33,10 @@ use Rattle.plain_site.specs.Site.{Site, Txn, Single, Merge, read_states, writes_
 use Rattle.plain_site.specs.Built.{Built}
 use Rattle.plain_site.specs.Step.{step}
 use Rattle.plain_site.specs.RowWords.{Line, ◌asks◌=>◌}
-use Rattle.plain_site.specs.ClientRuns.{wants_memory, after_line, site_after, history, AreAnswered, IsRun, Told, told, last_commit}
+use Rattle.plain_site.specs.ClientRuns.{wants_memory, after_line, site_after, history, AreAnswered, IsRun, Told, told, told_session}
 use Rattle.plain_site.specs.ClientLaws.{committing, CommitsAreKept, CommitsAreShown, OtherKeysAreJoined, CommitsJoinWhatTheyRead, SessionsReadTheirCommits}
 use Rattle.client_laws.proofs.Records.{record-of-newest, record-stays, shown-below, joined, no-conflict}
-use Rattle.client_laws.proofs.Tellings.{is_merge, HasLast}
+use Rattle.client_laws.proofs.Tellings.{is_merge}
 use Rattle.client_laws.proofs.EffectsOfSites.{step-does}
 use Rattle.client_laws.proofs.Held.{Later, stays-later, run-holds, run-before}
 use Rattle.client_laws.proofs.Commits.{IsPlaced, step-tells-begin}
@@ -164,16 +164,16 @@ module _ (built : Built) where
 
   -- ===== Own commits
 
-  -- a transaction begins where it is told to, by the session's last commit
-  begun-at : (b : Begin) (start : Site) (older : List Line) (n : ℕ) (s : StateId) → IsRun (step built) start (n asks BeginAt b => Begun s ∷ older) →
-      begin_state (history (step built) start older) (last_commit n older) b ≡ s
-  begun-at b start older n s run =
+  -- a transaction begins where it is told to, by the session's last commit, and not above its ceiling
+  begun-at : (b : Begin) (start : Site) (older : List Line) (n : ℕ) (x : StateId) → IsRun (step built) start (n asks BeginAt b => Begun x ∷ older) →
+      (s : Session) × (told_session (step built) start n older ≡ Some s) × (begin_state (history (step built) start older) s.last b ≡ x)
+      × IsTrue (is_admitted (history (step built) start older) s.ceiling x)
+  begun-at b start older n x run =
       let site = site_after (step built) start older in
-      let line = n asks BeginAt b => Begun s in
+      let line = n asks BeginAt b => Begun x in
       let h = run-holds built start older (run-before built start line older run) in
-      let at = (step-tells-begin built site n b).told s (sym (was-answered built site line run.answered.1 refl)) in
-      let last : at.0.last ≡ last_commit n older = subst (HasLast (last_commit n older)) at.1 (h.session n) in
-      ap (λ x. begin_state site.dag x b) (sym last) ∙ at.2
+      let at = (step-tells-begin built site n b).told x (sym (was-answered built site line run.answered.1 refl)) in
+      (at.0, sym (h.session n) ∙ at.1, at.2, at.3)
 
   pub above-last-below : (rs : List Record) (x : StateId) → IsTrue (is_above rs x (last_below rs x))
   above-last-below rs x = elim (option-cases (find (is_above rs x) (states rs))) [
@@ -183,14 +183,19 @@ module _ (built : Built) where
 
   pub sessions-read-their-commits : SessionsReadTheirCommits (step built)
   sessions-read-their-commits = record {
-    parent = λ start older n s run. sym (begun-at Parent start older n s run);
-    ancestor = λ start older n s run.
+    parent = λ start older n x run. let at = begun-at Parent start older n x run in (at.0, at.1, sym at.2);
+    ancestor = λ start older n x run.
         let rs = history (step built) start older in
-        let last = last_commit n older in
-        subst (λ z. IsTrue (is_above rs last z)) (begun-at Ancestor start older n s run) (above-last-below rs last);
-    any = λ start older n s run.
+        let at = begun-at Ancestor start older n x run in
+        (at.0, at.1, subst (λ z. IsTrue (is_above rs at.0.last z)) at.2 (above-last-below rs at.0.last));
+    any = λ start older n x run.
         let rs = history (step built) start older in
-        let last = last_commit n older in
-        let e = begun-at Any start older n s run in
-        (λ h. subst (λ z. IsTrue (is_above rs last z)) (sym e) h, λ h. subst (λ z. IsTrue (is_above rs last z)) e h);
+        let at = begun-at Any start older n x run in (
+          at.0,
+          at.1,
+          (λ h. subst (λ z. IsTrue (is_above rs at.0.last z)) (sym at.2) h, λ h. subst (λ z. IsTrue (is_above rs at.0.last z)) at.2 h),
+        );
+    under_ceiling = λ start older n b x run.
+        let at = begun-at b start older n x run in
+        (at.0, at.1, not-true (is_proper_ancestor (history (step built) start older) x at.0.ceiling) at.3);
   }

@@ -32,10 +32,10 @@ use Rattle.plain_site.specs.Site.{Site, SingleTxn, MergeTxn, Txn, Single, Merge,
 use Rattle.plain_site.specs.Built.{Built}
 use Rattle.plain_site.specs.Step.{step}
 use Rattle.plain_site.specs.RowWords.{Line, ◌asks◌=>◌}
-use Rattle.plain_site.specs.ClientRuns.{wants_memory, after_line, site_after, history, IsAnswered, AreAnswered, IsRun, Told, told, last_commit, ReadsShow}
+use Rattle.plain_site.specs.ClientRuns.{wants_memory, after_line, site_after, history, IsAnswered, AreAnswered, IsRun, Told, told, ReadsShow}
 use Rattle.plain_site.specs.ClientLaws.{ReadsOneSnapshot, SerializableReadsHold, SnapshotsOverwriteNothingUnseen}
 use Rattle.client_laws.proofs.Dags.{value-over-one}
-use Rattle.client_laws.proofs.Tellings.{IsTold, Tells, HasLast, shows-alike, shows-kept-alike}
+use Rattle.client_laws.proofs.Tellings.{IsTold, Tells, shows-alike, shows-kept-alike}
 use Rattle.client_laws.proofs.Held.{Holds, run-holds, run-before}
 use Rattle.client_laws.proofs.Commits.{IsPlaced, IsCommit, step-tells-commit}
 
@@ -84,7 +84,7 @@ module _ (built : Built) where
 
   module _ (start : Site) (older : List Line) (n : ℕ) (flags : EndFlags) (k : ℕ) (x : StateId) (parents : List StateId)
       (run : IsRun (step built) start (n asks Commit flags k => Committed x parents ∷ older)) where
-    pub before : Holds built (site_after (step built) start older) older
+    pub before : Holds built start (site_after (step built) start older) older
     before = run-holds built start older (run-before built start (n asks Commit flags k => Committed x parents) older run)
 
     pub is-commit : IsCommit (site_after (step built) start older) n flags (step built (site_after (step built) start older) n (Commit flags k)).0.dag x parents

@@ -17,9 +17,10 @@ use Rattle.plain_dag.proofs.Growth.{writer-is-known}
 use Rattle.plain_dag.specs.States.{writes_key}
 use Rattle.plain_dag.specs.Above.{is_above, is_proper_ancestor}
 use Rattle.plain_dag.specs.Writers.{is_writer, read}
+use Rattle.plain_dag.specs.Floors.{Session}
 use Rattle.plain_site.specs.Answers.{found}
 use Rattle.plain_site.specs.RowWords.{Line, lone_site, ◌·◌, ◌asks◌=>◌, put, none, ser, si, nb, commit, merge_leaves, value}
-use Rattle.plain_site.specs.ClientRuns.{Service, IsRun, AreAnswered, Told, told, history, ReadsShow}
+use Rattle.plain_site.specs.ClientRuns.{Service, IsRun, AreAnswered, Told, told, told_session, history, ReadsShow}
 use Rattle.plain_site.specs.ClientLaws.{committing, ReadsOneSnapshot, SerializableReadsHold, BranchesAreSerial, SnapshotsOverwriteNothingUnseen, CommitsAreKept, CommitsAreShown, OtherKeysAreJoined, CommitsJoinWhatTheyRead, OwnWritesAreRead, SessionsReadTheirCommits, RefusalsHideNothing}
 use Rattle.plain_site.specs.WrongSteps.{IsBrokenBy, forgets_reads, forgets_constraints, reads_newest, forgets_own_writes, forgets_collected, leaves_conflicts, drops_sides, forgets_commits, ends_refused, raced, begun_both, both_wrote, stale_read, lost_update, unstable_read, own_write_missed, own_commit_missed, refused_commit, commit_after_refusal, after_conflict, merging_both, put_before_collection, collected_after}
 
@@ -164,7 +165,10 @@ missed-run = run-of forgets_commits own_commit_missed (refl, inl refl, (refl, in
 
 pub forgotten-commits-break : IsBrokenBy SessionsReadTheirCommits forgets_commits
 forgotten-commits-break law =
-    let at : 0 · 0 ≡ 1 · 1 = law.parent lone_site raced 2 (0 · 0) missed-run in
+    let h = law.parent lone_site raced 2 (0 · 0) missed-run in
+    let made : Session = record { follow = false; ceiling = 0 · 0; last = 1 · 1 } in
+    let it : told_session forgets_commits lone_site 2 raced ≡ Some made = refl in
+    let at : 0 · 0 ≡ 1 · 1 = h.2 ∙ ap (λ (s : Session). s.last) (same_Some h.0 made (sym h.1 ∙ it)) in
     let none : ◌≡◌ {A = ℕ} 0 1 = ap (λ (x : StateId). x.site) at in
     absurd (omega arith)
 

@@ -4,6 +4,7 @@ use Rattle.std.specs.Prelude.{◌≡◌, ℕ, ◌↔◌, List, [], ◌∷◌, �
 use Rattle.tardis_base.specs.declared.ids.StateId.{StateId}
 use Rattle.tardis_base.specs.declared.records.Record.{Record}
 use Rattle.tardis_base.specs.declared.records.Write.{Write}
+use Rattle.tardis_base.specs.declared.requests.Begin.{Begin as BeginAt}
 use Rattle.tardis_base.specs.declared.requests.Begin.TheVariants.{Any, Ancestor, Parent}
 use Rattle.tardis_base.specs.declared.requests.EndFlags.{EndFlags}
 use Rattle.tardis_base.specs.declared.requests.Request.TheVariants.{Begin, Get, Commit}
@@ -16,11 +17,12 @@ use Rattle.plain_dag.specs.Above.{is_above, is_proper_ancestor}
 use Rattle.plain_dag.specs.Writers.{is_writer, are_above, read}
 use Rattle.plain_dag.specs.Conflicts.{is_conflict_key, value_over}
 use Rattle.plain_dag.specs.Begin.{last_arrived}
+use Rattle.plain_dag.specs.Floors.{Session}
 use Rattle.plain_dag.specs.Landing.{is_ser, is_si}
 use Rattle.plain_site.specs.Site.{Site}
 use Rattle.plain_site.specs.Answers.{leaves_site, shown}
 use Rattle.plain_site.specs.RowWords.{Line, ◌asks◌=>◌}
-use Rattle.plain_site.specs.ClientRuns.{Service, IsRun, Told, told, is_shown, site_after, history, last_commit, ReadsShow}
+use Rattle.plain_site.specs.ClientRuns.{Service, IsRun, Told, told, is_shown, site_after, history, told_session, ReadsShow}
 
 -- ===== Commits among lines
 
@@ -137,14 +139,18 @@ OwnWritesAreRead service =
     reply ≡ shown root w
 
 -- Parent begins at the session's last commit, Ancestor at or below it, and Any exactly where the state that arrived last is:
--- with any of them a session reads its own commit, with Any as far as the last-arrived state is at or below it
+-- with any of them a session reads its own commit, with Any as far as the last-arrived state is at or below it. However it
+-- begins, it never reads above its ceiling; and with follow a commit below the ceiling is the next ceiling.
 pub record SessionsReadTheirCommits (service : Service) : Type 0 where
-  pub parent : (start : Site) (older : List Line) (n : ℕ) (s : StateId) → IsRun service start (n asks Begin Parent => Begun s ∷ older) → s ≡ last_commit n older
-  pub ancestor : (start : Site) (older : List Line) (n : ℕ) (s : StateId) → IsRun service start (n asks Begin Ancestor => Begun s ∷ older) →
-      IsTrue (is_above (history service start older) (last_commit n older) s)
-  pub any : (start : Site) (older : List Line) (n : ℕ) (s : StateId) → IsRun service start (n asks Begin Any => Begun s ∷ older) →
-      IsTrue (is_above (history service start older) (last_commit n older) s)
-      ↔ IsTrue (is_above (history service start older) (last_commit n older) (last_arrived (history service start older)))
+  pub parent : (start : Site) (older : List Line) (n : ℕ) (x : StateId) → IsRun service start (n asks Begin Parent => Begun x ∷ older) →
+      (s : Session) × (told_session service start n older ≡ Some s) × (x ≡ s.last)
+  pub ancestor : (start : Site) (older : List Line) (n : ℕ) (x : StateId) → IsRun service start (n asks Begin Ancestor => Begun x ∷ older) →
+      (s : Session) × (told_session service start n older ≡ Some s) × IsTrue (is_above (history service start older) s.last x)
+  pub any : (start : Site) (older : List Line) (n : ℕ) (x : StateId) → IsRun service start (n asks Begin Any => Begun x ∷ older) →
+      (s : Session) × (told_session service start n older ≡ Some s)
+      × (IsTrue (is_above (history service start older) s.last x) ↔ IsTrue (is_above (history service start older) s.last (last_arrived (history service start older))))
+  pub under_ceiling : (start : Site) (older : List Line) (n : ℕ) (b : BeginAt) (x : StateId) → IsRun service start (n asks Begin b => Begun x ∷ older) →
+      (s : Session) × (told_session service start n older ≡ Some s) × IsFalse (is_proper_ancestor (history service start older) x s.ceiling)
 
 -- ===== Refusals promise nothing hidden
 

@@ -6,13 +6,13 @@ use Rattle.tardis_base.specs.declared.records.Record.{Record}
 use Rattle.tardis_base.specs.declared.records.Write.{Write}
 use Rattle.tardis_base.specs.declared.records.Write.TheVariants.{Put as Value, Delete as Deletion}
 use Rattle.tardis_base.specs.declared.requests.Request.{Request}
-use Rattle.tardis_base.specs.declared.requests.Request.TheVariants.{Open, Begin, Get, Put, Delete, Commit, Abort, BeginMerge, Close}
+use Rattle.tardis_base.specs.declared.requests.Request.TheVariants.{Open, Begin, Get, Put, Delete, Commit, Abort, BeginMerge, Ceiling, Close}
 use Rattle.tardis_base.specs.declared.replies.Reply.{Reply}
 use Rattle.tardis_base.specs.declared.replies.Reply.TheVariants.{Opened, Begun, Merging, Value as Holds, Deleted, Absent, Done, Committed, Ended, Closed, NoMemory}
-use Rattle.tardis_base.specs.Ids.{root}
 use Rattle.tardis_base.specs.Keys.{KeyWrite, has_key, with_write}
 use Rattle.tardis_base.specs.Valid.{is_u16, is_within, are_limits}
 use Rattle.wire_talk.specs.Valid.{is_request}
+use Rattle.plain_dag.specs.Floors.{Session, opening_session, after_commit, with_ceiling}
 use Rattle.plain_site.specs.Site.{Site, opening}
 use Rattle.plain_site.specs.Answers.{Answer, found}
 use Rattle.plain_site.specs.RowWords.{Line}
@@ -117,15 +117,17 @@ ReadsShow shows (got ∷ earlier) = (got.1 ≡ found (shows got.0)) × ReadsShow
 
 -- ===== What they tell of its session
 
--- one more request of the actor and its reply
-abbrev pub newest_commit : Request → Reply → StateId → StateId
-newest_commit (Open follow) (Opened ceiling) x = root
-newest_commit (Commit flags k) (Committed y parents) x = y
-newest_commit _ _ x = x
+-- one more request of the actor and its reply, where this is the history afterwards
+abbrev pub resession : List Record → Request → Reply → Option Session → Option Session
+resession rs (Open follow) (Opened ceiling) s = Some (opening_session follow ceiling)
+resession rs (Ceiling x) Done s = option_map (with_ceiling x) s
+resession rs (Commit flags k) (Committed x parents) s = option_map (after_commit rs x) s
+resession rs Close Closed s = None
+resession _ _ _ s = s
 
--- what the session of the actor committed last, since it opened; before that the root
-abbrev pub last_commit : ℕ → List Line → StateId
-last_commit n [] = root
-last_commit n (line ∷ older) =
-    let before = last_commit n older in
-    if line.actor == n then newest_commit line.request line.reply before else before
+-- the actor's open session: whether it follows, its ceiling, and what it committed last
+abbrev pub told_session : Service → Site → ℕ → List Line → Option Session
+told_session service start n [] = None
+told_session service start n (line ∷ older) =
+    let before = told_session service start n older in
+    if line.actor == n then resession (history service start (line ∷ older)) line.request line.reply before else before
