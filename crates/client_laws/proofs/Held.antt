@@ -59,7 +59,7 @@ told-other line older m differ = cond-false (line.actor == m) (retold line.reque
 
 -- ===== One line
 
-wanting-is : (reply : Reply) → IsTrue (wants_memory reply) → reply ≡ NoMemory
+pub wanting-is : (reply : Reply) → IsTrue (wants_memory reply) → reply ≡ NoMemory
 wanting-is NoMemory t = refl
 wanting-is reply t = absurd (cc)
 

@@ -13,3 +13,5 @@ pub mod Kept
 pub mod Serial
 pub mod OwnWrites
 pub mod Wrong
+pub mod Events
+pub mod Rows

@@ -6,8 +6,20 @@
 
 ghost use Rattle.plain_site.specs.Built.{Built};
 ghost use Rattle.plain_site.specs.Step.{step};
+ghost use Rattle.plain_site.specs.EventRuns.{EventsAreRuns};
 ghost use Rattle.plain_site.specs.ClientLaws.{ReadsOneSnapshot, OwnWritesAreRead, SerializableReadsHold, BranchesAreSerial, SnapshotsOverwriteNothingUnseen, CommitsAreKept, CommitsAreShown, OtherKeysAreJoined, CommitsJoinWhatTheyRead, SessionsReadTheirCommits, RefusalsHideNothing};
+ghost use Rattle.plain_site.specs.RowsOfClients.{ReadersFork, WritersFork, ReadsAreOld, WantingIsSentAgain, WeakerIsSentAfter, CommitsAreFound, SidesAreJoined, LinesTell};
 ghost use Rattle.plain_site.specs.WrongSteps.{IsBrokenBy, reads_newest, forgets_own_writes, forgets_reads, forgets_constraints, forgets_collected, leaves_conflicts, drops_sides, forgets_commits, ends_refused};
+
+use wire_talk::talk_has_one_spelling;
+
+/// Whatever bytes actors send to a site that opens, and however these are answered, memory's wants included, what they ask and
+/// are answered is a run that leads to the same site. So the laws speak of all that actors send.
+pub fn events_are_runs()
+    ensures { (built : Built) → EventsAreRuns built }
+{
+    talk_has_one_spelling();
+}
 
 /// Each transaction reads one snapshot, however long it runs and whatever is committed meanwhile: each of its reads shows the
 /// value over its read states. What it wrote itself it is shown as it wrote it.
@@ -60,4 +72,16 @@ pub fn sessions_read_their_own_commits()
 pub fn refusals_hide_nothing()
     ensures as_not_sent { (built : Built) → RefusalsHideNothing (step built) }
     ensures ended_breaks { IsBrokenBy RefusalsHideNothing ends_refused }
+{}
+
+/// Worked rows: what the step answers in the runs in which the wrong ones break the laws, and what lines tell their clients.
+pub fn runs_are_told()
+    ensures readers { ReadersFork }
+    ensures writers { WritersFork }
+    ensures old_reads { ReadsAreOld }
+    ensures wanting { WantingIsSentAgain }
+    ensures weaker { WeakerIsSentAfter }
+    ensures own_commits { CommitsAreFound }
+    ensures sides { SidesAreJoined }
+    ensures told { LinesTell }
 {}
