@@ -41,7 +41,7 @@ use Rattle.client_laws.proofs.Commits.{IsPlaced, IsCommit, step-tells-commit}
 
 -- ===== What is told of an open transaction
 
-tells-seen : (rs : List Record) (o : Option Txn) (seen : Option Told) (t : Txn) → o ≡ Some t → Tells rs o seen → (u : Told) × (seen ≡ Some u) × IsTold rs t u
+pub tells-seen : (rs : List Record) (o : Option Txn) (seen : Option Told) (t : Txn) → o ≡ Some t → Tells rs o seen → (u : Told) × (seen ≡ Some u) × IsTold rs t u
 tells-seen rs None seen t e h = absurd (none-some t e)
 tells-seen rs (Some s) None t e h = absurd (h)
 tells-seen rs (Some s) (Some u) t e h = (u, refl, subst (λ z. IsTold rs z u) (same_Some s t e) h)

@@ -21,8 +21,8 @@ use Rattle.plain_dag.specs.Floors.{Session}
 use Rattle.plain_site.specs.Answers.{found}
 use Rattle.plain_site.specs.RowWords.{Line, lone_site, ◌·◌, ◌asks◌=>◌, put, none, ser, si, nb, commit, merge_leaves, value}
 use Rattle.plain_site.specs.ClientRuns.{Service, IsRun, AreAnswered, Told, told, told_session, history, ReadsShow}
-use Rattle.plain_site.specs.ClientLaws.{committing, ReadsOneSnapshot, SerializableReadsHold, BranchesAreSerial, SnapshotsOverwriteNothingUnseen, CommitsAreKept, CommitsAreShown, OtherKeysAreJoined, CommitsJoinWhatTheyRead, OwnWritesAreRead, SessionsReadTheirCommits, RefusalsHideNothing}
-use Rattle.plain_site.specs.WrongSteps.{IsBrokenBy, forgets_reads, forgets_constraints, reads_newest, forgets_own_writes, forgets_collected, leaves_conflicts, drops_sides, forgets_commits, ends_refused, raced, begun_both, both_wrote, stale_read, lost_update, unstable_read, own_write_missed, own_commit_missed, refused_commit, commit_after_refusal, after_conflict, merging_both, put_before_collection, collected_after}
+use Rattle.plain_site.specs.ClientLaws.{committing, ReadsOneSnapshot, ReadersEndWhereTheyRead, DeliveriesAreKept, SerializableReadsHold, BranchesAreSerial, SnapshotsOverwriteNothingUnseen, CommitsAreKept, CommitsAreShown, OtherKeysAreJoined, CommitsJoinWhatTheyRead, OwnWritesAreRead, SessionsReadTheirCommits, RefusalsHideNothing}
+use Rattle.plain_site.specs.WrongSteps.{IsBrokenBy, forgets_reads, forgets_constraints, reads_newest, forgets_own_writes, forgets_collected, leaves_conflicts, drops_sides, forgets_commits, ends_refused, ends_at_newest, forgets_deliveries, ended_elsewhere, begun_three, first_site, of_second_site, delivered, raced, begun_both, both_wrote, stale_read, lost_update, unstable_read, own_write_missed, own_commit_missed, refused_commit, commit_after_refusal, after_conflict, merging_both, put_before_collection, collected_after}
 
 -- lines of the only site that were answered are a run
 run-of : (service : Service) (lines : List Line) → AreAnswered service lone_site lines → IsRun service lone_site lines
@@ -77,6 +77,18 @@ forgotten-own-writes-break law =
     let own : Absent ≡ value (0 · 0) "1" = law lone_site raced 1 (codes "y") (Put (codes "1")) Absent of_one own-missed-run refl refl refl in
     absurd (cc)
 
+ended-run : IsRun ends_at_newest lone_site ended_elsewhere
+ended-run = run-of ends_at_newest ended_elsewhere (refl, inl refl, (refl, inl refl, (refl, inl refl, (refl, inl refl, (refl, inl refl, (refl, inl refl, (refl, inl refl, (refl, inl refl, (refl, inl refl, (refl, inl refl, (refl, inl refl, (refl, inl refl, tt))))))))))))
+
+pub moved-ends-break : IsBrokenBy ReadersEndWhereTheyRead ends_at_newest
+moved-ends-break law =
+    let h = law lone_site begun_three 3 (record { 0 = ser }) 0 (1 · 1) ended-run in
+    let t : Told = record { merges = false; states = 0 · 0 ∷ []; reads = (codes "x", Absent) ∷ []; writes = [] } in
+    let it : told 3 begun_three ≡ Some t = refl in
+    let at : 0 · 0 ≡ 1 · 1 = sym (same-parent (0 · 0) (1 · 1) (ap (λ (u : Told). u.states) (same_Some t h.0 (sym it ∙ h.1)) ∙ h.2)) in
+    let none : ◌≡◌ {A = ℕ} 0 1 = ap (λ (x : StateId). x.site) at in
+    absurd (omega arith)
+
 -- ===== SI
 
 lost-run : IsRun forgets_constraints lone_site lost_update
@@ -97,6 +109,12 @@ forgotten-constraints-break law =
     absurd (cc)
 
 -- ===== What is kept
+
+delivered-run : IsRun forgets_deliveries first_site delivered
+delivered-run = record { limits = refl; own = refl; opens = refl; answered = (refl, inl refl, tt) }
+
+pub forgotten-deliveries-break : IsBrokenBy DeliveriesAreKept forgets_deliveries
+forgotten-deliveries-break law = absurd (none-some of_second_site (law first_site [] [] 0 of_second_site delivered-run))
 
 collecting-run : IsRun forgets_collected lone_site (committing collected_after 1 (record { 0 = none }) 0 (1 · 1) (0 · 0 ∷ []) put_before_collection)
 collecting-run = run-of forgets_collected (committing collected_after 1 (record { 0 = none }) 0 (1 · 1) (0 · 0 ∷ []) put_before_collection) (refl, inl refl, (refl, inl refl, (refl, inl refl, (refl, inl refl, (refl, inl refl, (refl, inl refl, (refl, inl refl, (refl, inl refl, (refl, inl refl, tt)))))))))

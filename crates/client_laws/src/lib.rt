@@ -7,9 +7,9 @@
 ghost use Rattle.plain_site.specs.Built.{Built};
 ghost use Rattle.plain_site.specs.Step.{step};
 ghost use Rattle.plain_site.specs.EventRuns.{EventsAreRuns};
-ghost use Rattle.plain_site.specs.ClientLaws.{ReadsOneSnapshot, OwnWritesAreRead, SerializableReadsHold, BranchesAreSerial, SnapshotsOverwriteNothingUnseen, CommitsAreKept, CommitsAreShown, OtherKeysAreJoined, CommitsJoinWhatTheyRead, SessionsReadTheirCommits, RefusalsHideNothing};
+ghost use Rattle.plain_site.specs.ClientLaws.{ReadsOneSnapshot, OwnWritesAreRead, ReadersEndWhereTheyRead, SerializableReadsHold, BranchesAreSerial, SnapshotsOverwriteNothingUnseen, CommitsAreKept, DeliveriesAreKept, CommitsAreShown, OtherKeysAreJoined, CommitsJoinWhatTheyRead, SessionsReadTheirCommits, RefusalsHideNothing};
 ghost use Rattle.plain_site.specs.RowsOfClients.{ReadersFork, WritersFork, ReadsAreOld, WantingIsSentAgain, WeakerIsSentAfter, CommitsAreFound, SidesAreJoined, LinesTell};
-ghost use Rattle.plain_site.specs.WrongSteps.{IsBrokenBy, reads_newest, forgets_own_writes, forgets_reads, forgets_constraints, forgets_collected, leaves_conflicts, drops_sides, forgets_commits, ends_refused};
+ghost use Rattle.plain_site.specs.WrongSteps.{IsBrokenBy, reads_newest, ends_at_newest, forgets_own_writes, forgets_reads, forgets_constraints, forgets_collected, forgets_deliveries, leaves_conflicts, drops_sides, forgets_commits, ends_refused};
 
 use wire_talk::talk_has_one_spelling;
 
@@ -22,12 +22,15 @@ pub fn events_are_runs()
 }
 
 /// Each transaction reads one snapshot, however long it runs and whatever is committed meanwhile: each of its reads shows the
-/// value over its read states. What it wrote itself it is shown as it wrote it.
+/// value over its read states. What it wrote itself it is shown as it wrote it. One that wrote nothing ends at the state that
+/// it read.
 pub fn transactions_read_one_snapshot()
     ensures snapshot { (built : Built) → ReadsOneSnapshot (step built) }
     ensures own_writes { (built : Built) → OwnWritesAreRead (step built) }
+    ensures ends { (built : Built) → ReadersEndWhereTheyRead (step built) }
     ensures newest_breaks { IsBrokenBy ReadsOneSnapshot reads_newest }
     ensures forgotten_breaks { IsBrokenBy OwnWritesAreRead forgets_own_writes }
+    ensures moved_breaks { IsBrokenBy ReadersEndWhereTheyRead ends_at_newest }
 {}
 
 /// Each serializable transaction has read what its place in its branch shows. So each branch is a serial history of its
@@ -46,15 +49,17 @@ pub fn snapshots_overwrite_nothing_unseen()
     ensures forgotten_breaks { IsBrokenBy SnapshotsOverwriteNothingUnseen forgets_constraints }
 {}
 
-/// Nothing committed is lost, whatever comes: a commit's state stays known with its parents and its writes, and shows them
-/// to all below it until one of these writes the key. It stands below all that its transaction read, a merge just below all
+/// Nothing committed is lost, whatever comes: a commit's state stays known with its parents and its writes, as does a record
+/// that another site made, and its writes are shown to all below it until one of these writes the key. It stands below all that its transaction read, a merge just below all
 /// its read states; and it shows each key that it didn't write as the one value over its parents.
 pub fn nothing_committed_is_lost()
     ensures kept { (built : Built) → CommitsAreKept (step built) }
+    ensures deliveries { (built : Built) → DeliveriesAreKept (step built) }
     ensures shown { (built : Built) → CommitsAreShown (step built) }
     ensures joins { (built : Built) → CommitsJoinWhatTheyRead (step built) }
     ensures others { (built : Built) → OtherKeysAreJoined (step built) }
     ensures forgotten_breaks { IsBrokenBy CommitsAreKept forgets_collected }
+    ensures forgotten_breaks_deliveries { IsBrokenBy DeliveriesAreKept forgets_deliveries }
     ensures conflicts_break { IsBrokenBy CommitsAreShown leaves_conflicts }
     ensures dropped_breaks { IsBrokenBy CommitsJoinWhatTheyRead drops_sides }
     ensures conflicts_break_others { IsBrokenBy OtherKeysAreJoined leaves_conflicts }

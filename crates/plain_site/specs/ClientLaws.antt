@@ -4,12 +4,13 @@ use Rattle.std.specs.Prelude.{◌≡◌, ℕ, ◌↔◌, List, [], ◌∷◌, �
 use Rattle.tardis_base.specs.declared.ids.StateId.{StateId}
 use Rattle.tardis_base.specs.declared.records.Record.{Record}
 use Rattle.tardis_base.specs.declared.records.Write.{Write}
+use Rattle.tardis_base.specs.declared.records.Item.TheVariants.{State}
 use Rattle.tardis_base.specs.declared.requests.Begin.{Begin as BeginAt}
 use Rattle.tardis_base.specs.declared.requests.Begin.TheVariants.{Any, Ancestor, Parent}
 use Rattle.tardis_base.specs.declared.requests.EndFlags.{EndFlags}
-use Rattle.tardis_base.specs.declared.requests.Request.TheVariants.{Begin, Get, Commit}
+use Rattle.tardis_base.specs.declared.requests.Request.TheVariants.{Begin, Get, Commit, Deliver}
 use Rattle.tardis_base.specs.declared.replies.Reply.{Reply}
-use Rattle.tardis_base.specs.declared.replies.Reply.TheVariants.{Begun, Committed}
+use Rattle.tardis_base.specs.declared.replies.Reply.TheVariants.{Begun, Committed, Ended, Applied}
 use Rattle.tardis_base.specs.Ids.{root}
 use Rattle.tardis_base.specs.Keys.{has_key, write_of}
 use Rattle.plain_dag.specs.States.{is_known, record_at}
@@ -48,6 +49,13 @@ SerializableReadsHold service =
     (start : Site) (older : List Line) (n : ℕ) (flags : EndFlags) (k : ℕ) (x : StateId) (parents : List StateId) →
     IsRun service start (n asks Commit flags k => Committed x parents ∷ older) → IsTrue (is_ser flags) →
     (t : Told) × (p : StateId) × (told n older ≡ Some t) × (parents ≡ p ∷ []) × ReadsShow (λ key. read (history service start older) key p) t.reads
+
+-- a transaction that wrote nothing ends at the one state that it read, and each of its reads shows what is read there
+abbrev pub ReadersEndWhereTheyRead : Service → Type 0
+ReadersEndWhereTheyRead service =
+    (start : Site) (older : List Line) (n : ℕ) (flags : EndFlags) (k : ℕ) (x : StateId) →
+    IsRun service start (n asks Commit flags k => Ended x ∷ older) →
+    (t : Told) × (told n older ≡ Some t) × (t.states ≡ x ∷ []) × (t.writes ≡ []) × ReadsShow (λ key. read (history service start older) key x) t.reads
 
 -- these records, newest first, are the branch from the root down to x: each state has the next of them as its only parent
 abbrev pub IsBranch : List Record → List Record → StateId → Type 0
@@ -101,7 +109,14 @@ CommitsAreKept service =
     IsRun service start lines →
     (t : Told) × (told n older ≡ Some t) × (record_at (history service start lines) x ≡ Some (record { id = x; parents = parents; writes = t.writes }))
 
--- a key that it wrote shows that at each state at or below it, until one below it and at or above that state writes the key
+-- and a record of another site is kept from when it was applied
+abbrev pub DeliveriesAreKept : Service → Type 0
+DeliveriesAreKept service =
+    (start : Site) (newer older : List Line) (n : ℕ) (r : Record) →
+    let lines = newer ++ (n asks Deliver (State r) => Applied) ∷ older in
+    IsRun service start lines → record_at (history service start lines) r.id ≡ Some r
+
+-- a key that a commit wrote shows that at each state at or below it, until one below it and at or above that state writes the key
 abbrev pub CommitsAreShown : Service → Type 0
 CommitsAreShown service =
     (start : Site) (newer older : List Line) (n : ℕ) (flags : EndFlags) (k : ℕ) (x : StateId) (parents : List StateId) (t : Told) →
@@ -112,7 +127,7 @@ CommitsAreShown service =
     ((z : StateId) → IsTrue (is_proper_ancestor rs x z) → IsTrue (is_writer rs key y z) → ⊥) →
     read rs key y ≡ Some (x, w)
 
--- a key that it didn't write shows the one value over its parents, of which the key is no conflict key
+-- a key that a commit didn't write shows the one value over its parents, of which the key is no conflict key
 abbrev pub OtherKeysAreJoined : Service → Type 0
 OtherKeysAreJoined service =
     (start : Site) (newer older : List Line) (n : ℕ) (flags : EndFlags) (k : ℕ) (x : StateId) (parents : List StateId) (t : Told) →
@@ -121,7 +136,7 @@ OtherKeysAreJoined service =
     IsRun service start lines → told n older ≡ Some t →
     (key : List ℕ) → IsFalse (has_key key t.writes) → IsFalse (is_conflict_key rs parents key) × (read rs key x ≡ value_over rs parents key)
 
--- its state is at or below each state that the transaction read, and of a merge these are its parents
+-- a commit's state is at or below each state that its transaction read, and of a merge these are its parents
 abbrev pub CommitsJoinWhatTheyRead : Service → Type 0
 CommitsJoinWhatTheyRead service =
     (start : Site) (newer older : List Line) (n : ℕ) (flags : EndFlags) (k : ℕ) (x : StateId) (parents : List StateId) (t : Told) →

@@ -1,18 +1,22 @@
 -- Wrong steps, and runs in which they break the laws: so each law says something.
 use Rattle.std.specs.Prelude.{ℕ, ◌+◌, not, List, [], ◌∷◌, take, filter, if◌then◌else◌}
-use Rattle.tardis_base.specs.declared.requests.Request.TheVariants.{Get, Commit, Tidy, Raise}
+use Rattle.tardis_base.specs.declared.ids.StateId.{StateId}
+use Rattle.tardis_base.specs.declared.records.Record.{Record}
+use Rattle.tardis_base.specs.declared.records.Item.TheVariants.{State}
+use Rattle.tardis_base.specs.declared.requests.Request.TheVariants.{Get, Commit, Tidy, Raise, Deliver}
 use Rattle.tardis_base.specs.declared.replies.Refusal.TheVariants.{NoTxn, Branches}
-use Rattle.tardis_base.specs.declared.replies.Reply.TheVariants.{Opened, Begun, Merging, Absent, Done, Committed, Raised, Tidied, Refused}
+use Rattle.tardis_base.specs.declared.replies.Reply.{Reply}
+use Rattle.tardis_base.specs.declared.replies.Reply.TheVariants.{Opened, Begun, Merging, Absent, Done, Committed, Ended, Raised, Tidied, Applied, Refused}
 use Rattle.tardis_base.specs.Ids.{is_among}
 use Rattle.plain_dag.specs.Begin.{last_arrived}
 use Rattle.plain_dag.specs.Writers.{read}
-use Rattle.plain_site.specs.Site.{Txn, Single, Merge, read_states, writes_of, with_txn_changed}
+use Rattle.plain_site.specs.Site.{Site, opening, Txn, Single, Merge, read_states, writes_of, with_txn_changed}
 use Rattle.plain_site.specs.Built.{everything}
 use Rattle.plain_site.specs.Answers.{Answer, found, leaves_site, with_txn}
 use Rattle.plain_site.specs.Reads.{read_in}
 use Rattle.plain_site.specs.Commits.{without_txn_of, commit_below}
 use Rattle.plain_site.specs.Step.{step}
-use Rattle.plain_site.specs.RowWords.{Line, ◌·◌, ◌asks◌=>◌, opens, opens_following, begin_any, begin_parent, get, put, none, ser, si, nb, commit, merge_leaves, value}
+use Rattle.plain_site.specs.RowWords.{Line, program_limits, ◌·◌, ◌asks◌=>◌, opens, opens_following, begin_any, begin_parent, begin_at, get, put, none, ser, si, nb, commit, merge_leaves, value}
 use Rattle.plain_site.specs.ClientRuns.{Service}
 
 -- the service breaks the law
@@ -52,6 +56,22 @@ without_collected answer = (record answer.0 { dag = filter (λ r. not (is_among 
 abbrev pub forgets_collected : Service
 forgets_collected site n (Tidy count) = without_collected (step everything site n (Tidy count))
 forgets_collected site n q = step everything site n q
+
+-- a record of another site isn't kept
+abbrev pub forgets_deliveries : Service
+forgets_deliveries site n (Deliver item) = (site, Applied)
+forgets_deliveries site n q = step everything site n q
+
+abbrev pub moved_end : StateId → Reply → Reply
+moved_end x (Ended y) = Ended x
+moved_end x reply = reply
+
+-- a transaction without writes is said to end at the state that arrived last
+abbrev pub ends_at_newest : Service
+ends_at_newest site n (Commit flags k) =
+    let answer = step everything site n (Commit flags k) in
+    (answer.0, moved_end (last_arrived site.dag) answer.1)
+ends_at_newest site n q = step everything site n q
 
 -- a commit goes just below the read states, and no conflict key has to be written
 abbrev pub leaves_conflicts : Service
@@ -128,6 +148,27 @@ refused_commit = 1 asks commit (ser + nb) => Refused (Branches nb (0 · 0) 1)
 
 abbrev pub commit_after_refusal : Line
 commit_after_refusal = 1 asks commit none => Refused NoTxn
+
+-- 3 reads at the root, and is said to end at 1.1
+abbrev pub begun_three : List Line
+begun_three =
+    3 asks get "x" => Absent
+    ∷ 3 asks begin_at (0 · 0) => Begun (0 · 0)
+    ∷ 3 asks opens => Opened (0 · 0)
+    ∷ raced
+
+abbrev pub ended_elsewhere : List Line
+ended_elsewhere = 3 asks commit ser => Ended (1 · 1) ∷ begun_three
+
+-- the first of two sites, and a record of the second that it took
+abbrev pub first_site : Site
+first_site = opening (program_limits 2) 1
+
+abbrev pub of_second_site : Record
+of_second_site = record { id = 2 · 1; parents = 0 · 0 ∷ []; writes = [] }
+
+abbrev pub delivered : List Line
+delivered = 0 asks Deliver (State of_second_site) => Applied ∷ []
 
 -- what came after 2 made 1.1, where 1 wrote x too: 1 makes 1.2 beside it and merges the two as 1.3, though both wrote x
 abbrev pub after_conflict : List Line
