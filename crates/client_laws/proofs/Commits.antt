@@ -1,6 +1,6 @@
 -- What a reply tells of the step that gave it: a commit's, and a beginning's.
-use Rattle.std.proofs.Common.{◌≡◌, ℕ, Bool, true, false, not, List, [], ◌∷◌, ◌++◌, length, Option, Some, None, is_none, IsTrue, IsFalse, ◌⊎◌, inl, inr, refl, sym, ap, subst, ◌∙◌}
-use Rattle.std.specs.Prelude.{◌==◌, ◌&&◌}
+use Rattle.std.proofs.Common.{◌≡◌, ℕ, Bool, true, false, not, List, [], ◌∷◌, ◌++◌, length, Option, Some, None, IsTrue, IsFalse, refl, sym, subst}
+use Rattle.std.specs.Prelude.{◌==◌}
 use Rattle.std.proofs.lemmas.Bool.{eqb-true}
 use Rattle.tardis_base.specs.declared.ids.StateId.{StateId}
 use Rattle.tardis_base.specs.declared.records.Record.{Record}
@@ -19,15 +19,14 @@ use Rattle.plain_dag.specs.Growth.{growth_refusal}
 use Rattle.plain_dag.specs.Landing.{landing, guarded, broken}
 use Rattle.plain_dag.specs.Entries.{entry_of, with_entry}
 use Rattle.plain_dag.specs.Floors.{Session}
-use Rattle.plain_dag.proofs.Ids.{not-both}
 use Rattle.wire_talk.specs.Codes.{code_of}
 use Rattle.plain_site.specs.Site.{Site, SingleTxn, Txn, Single, Merge, own_count, writes_of}
 use Rattle.plain_site.specs.Built.{Built, is_built}
-use Rattle.plain_site.specs.Answers.{Answer, refuse, refuse_found, unless, with_txn, without_txn}
-use Rattle.plain_site.specs.Sessions.{begin_at, begin}
+use Rattle.plain_site.specs.Answers.{Answer, refuse, refuse_found, unless}
+use Rattle.plain_site.specs.Sessions.{begin}
 use Rattle.plain_site.specs.Commits.{without_txn_of, growth_refusals, committed, commit_below, commit_writes, commit_single, commit}
 use Rattle.plain_site.specs.Step.{served, step}
-use Rattle.plain_site.proofs.RepliesFrame.{RefusesWell, by-txn, by-no-txn}
+use Rattle.plain_site.proofs.RepliesFrame.{by-txn, by-no-txn}
 use Rattle.plain_site.proofs.SoundAnswers.{AreNone, when-none, none-parts, none-appended}
 use Rattle.plain_site.proofs.SoundCommits.{next_record}
 use Rattle.client_laws.proofs.Effects.{OnlyRefuse, refuse-only, found-only, both-only}

@@ -1,7 +1,5 @@
 -- What one request does to the history, the transactions and the sessions, and what its reply tells of that.
-use Rattle.std.proofs.Common.{◌≡◌, ℕ, Bool, true, false, not, List, [], ◌∷◌, ◌++◌, Option, Some, None, ◌⊎◌, inl, inr, refl, sym, ap, subst, ◌∙◌}
-use Rattle.std.specs.Option.{option_map}
-use Rattle.tardis_base.specs.declared.ids.StateId.{StateId}
+use Rattle.std.proofs.Common.{◌≡◌, ℕ, Bool, true, false, List, [], ◌∷◌, ◌++◌, Option, Some, None, ◌⊎◌, inl, refl, sym, ap, subst, ◌∙◌}
 use Rattle.tardis_base.specs.declared.records.Record.{Record}
 use Rattle.tardis_base.specs.declared.requests.Request.{Request}
 use Rattle.tardis_base.specs.declared.requests.Request.TheVariants.{Get}
@@ -11,8 +9,8 @@ use Rattle.tardis_base.specs.declared.replies.Reply.{Reply}
 use Rattle.tardis_base.specs.declared.replies.Reply.TheVariants.{Refused, NoMemory}
 use Rattle.plain_dag.specs.Entries.{entry_of}
 use Rattle.plain_dag.specs.Floors.{Session}
-use Rattle.plain_site.specs.Site.{Site, Txn}
-use Rattle.plain_site.specs.Answers.{Answer, when, refuse, refuse_found, unless}
+use Rattle.plain_site.specs.Site.{Site}
+use Rattle.plain_site.specs.Answers.{Answer, refuse, refuse_found, unless}
 use Rattle.plain_site.specs.ClientRuns.{Told, retold, resession}
 use Rattle.plain_site.proofs.RepliesFrame.{RefusesWell}
 use Rattle.client_laws.proofs.Tellings.{Tells}

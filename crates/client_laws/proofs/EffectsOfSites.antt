@@ -1,7 +1,6 @@
 -- What the other requests do, and so what each request does.
-use Rattle.std.proofs.Common.{◌≡◌, ℕ, Bool, true, false, not, List, [], ◌∷◌, ◌++◌, length, Option, Some, None, is_some, IsTrue, IsFalse, ◌⊎◌, inl, inr, refl, sym, ap, subst, ◌∙◌}
-use Rattle.std.specs.Prelude.{◌==◌, ◌-◌, ◌+◌}
-use Rattle.std.specs.Option.{option_map}
+use Rattle.std.proofs.Common.{◌≡◌, ℕ, Bool, not, List, [], ◌∷◌, ◌++◌, length, Option, None, is_some, inl, inr, refl, sym, subst}
+use Rattle.std.specs.Prelude.{◌==◌}
 use Rattle.tardis_base.specs.declared.ids.StateId.{StateId}
 use Rattle.tardis_base.specs.declared.records.Record.{Record}
 use Rattle.tardis_base.specs.declared.records.Item.{Item}
@@ -11,32 +10,32 @@ use Rattle.tardis_base.specs.declared.requests.Request.{Request}
 use Rattle.tardis_base.specs.declared.requests.Request.TheVariants.{Open, Begin, Get, Put, Delete, Commit, Abort, BeginMerge, ForkPoints, Conflicts, GetFor, Ceiling, Raise, RaiseAuto, Tidy, Stat, Show, Leaves, Pull, Deliver, Close}
 use Rattle.tardis_base.specs.declared.replies.Refusal.TheVariants.{AlreadyOpen, SessionsFull, Unknown, CeilingBack, WrongMode, NotRead, FloorBack, Held, SeqEnd, Unsupported, Collected, BadSite}
 use Rattle.tardis_base.specs.declared.replies.Reply.{Reply}
-use Rattle.tardis_base.specs.declared.replies.Reply.TheVariants.{Opened, Done, Closed, Refused, Raised, Tidied, Applied, Shown, Stat as Statistics, Batch as BatchIs}
-use Rattle.tardis_base.specs.Ids.{root, is_among}
+use Rattle.tardis_base.specs.declared.replies.Reply.TheVariants.{Opened, Done, Applied, Shown, Batch as BatchIs}
+use Rattle.tardis_base.specs.Ids.{is_among}
 use Rattle.plain_dag.specs.States.{is_known, arrival, children}
 use Rattle.plain_dag.specs.Above.{is_above}
 use Rattle.plain_dag.specs.Paths.{fork_path}
 use Rattle.plain_dag.specs.Writers.{read}
 use Rattle.plain_dag.specs.Begin.{begin_state}
-use Rattle.plain_dag.specs.Entries.{entry_of, with_entry, changed, without_entry}
+use Rattle.plain_dag.specs.Entries.{entry_of, with_entry, changed}
 use Rattle.plain_dag.specs.Floors.{Session, with_floor, opening_session, with_ceiling, holding_session, automatic_floor}
 use Rattle.wire_talk.specs.Codes.{code_of}
 use Rattle.plain_site.specs.Site.{Site, Txn, Single, Merge, own_floor}
 use Rattle.plain_site.specs.Built.{Built, is_built}
-use Rattle.plain_site.specs.Answers.{Answer, refuse, refuse_found, unless, found}
+use Rattle.plain_site.specs.Answers.{refuse, refuse_found, found}
 use Rattle.plain_site.specs.Sessions.{open_session, close_session, begin, set_ceiling}
 use Rattle.plain_site.specs.Reads.{get, set_key, get_for}
 use Rattle.plain_site.specs.Commits.{with_record, growth_refusals, abort, commit}
 use Rattle.plain_site.specs.Merges.{states_to_merge, begin_merge, fork_points_of, conflicts_of}
-use Rattle.plain_site.specs.FloorSteps.{raised, raise_to, raise, raise_auto, tidy}
+use Rattle.plain_site.specs.FloorSteps.{raised, raise_to, raise, tidy}
 use Rattle.plain_site.specs.Shows.{show}
-use Rattle.plain_site.specs.Exchange.{judgements, consent_judgements, deliver_record, deliver_consent, deliver, pull, batch_for}
+use Rattle.plain_site.specs.Exchange.{judgements, consent_judgements, deliver, pull, batch_for}
 use Rattle.plain_site.specs.Step.{served, step}
 use Rattle.plain_site.specs.ClientRuns.{Told, retold, resession}
 use Rattle.plain_site.proofs.RepliesFrame.{by-session, by-txn, by-no-txn}
 use Rattle.plain_site.proofs.SoundEntries.{entry-changed, entry-changed_other, entry-with_entry, entry-with_entry_other, entry-without_entry, entry-without_entry_other}
 use Rattle.client_laws.proofs.Tellings.{Tells}
-use Rattle.client_laws.proofs.Effects.{Does, same-books, does-nothing, does-refused, refuses-does, refuse-only, found-only, unless-any, unless-does}
+use Rattle.client_laws.proofs.Effects.{Does, same-books, does-nothing, does-refused, refuses-does, refuse-only, unless-any, unless-does}
 use Rattle.client_laws.proofs.EffectsOfTxns.{begin-does, merge-does, get-does, set-does, abort-does, commit-does}
 
 module _ (site : Site) (n : ℕ) where

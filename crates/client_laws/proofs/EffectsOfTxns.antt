@@ -1,5 +1,5 @@
 -- What requests of transactions do.
-use Rattle.std.proofs.Common.{◌≡◌, ℕ, Bool, true, false, not, List, [], ◌∷◌, ◌++◌, length, Option, Some, None, IsTrue, IsFalse, ◌⊎◌, inl, inr, refl, sym, ap, subst, ◌∙◌}
+use Rattle.std.proofs.Common.{◌≡◌, ℕ, not, List, [], ◌∷◌, ◌++◌, length, Option, Some, None, IsTrue, IsFalse, inl, inr, refl, sym, ap, subst, ◌∙◌}
 use Rattle.std.specs.Prelude.{◌==◌, ◌&&◌, nat_lt, find}
 use Rattle.std.proofs.lemmas.Bool.{and_from, and_right, cond-true, cond-false, not_from_false, not_from_true}
 use Rattle.std.specs.Option.{option_map}
@@ -11,10 +11,10 @@ use Rattle.tardis_base.specs.declared.requests.Begin.{Begin}
 use Rattle.tardis_base.specs.declared.requests.EndFlags.{EndFlags}
 use Rattle.tardis_base.specs.declared.requests.MergeOf.{MergeOf}
 use Rattle.tardis_base.specs.declared.requests.Request.{Request}
-use Rattle.tardis_base.specs.declared.requests.Request.TheVariants.{Begin as BeginAt, Get, Put, Delete, Commit, Abort, BeginMerge}
+use Rattle.tardis_base.specs.declared.requests.Request.TheVariants.{Begin as BeginAt, Get, Commit, Abort, BeginMerge}
 use Rattle.tardis_base.specs.declared.replies.Refusal.TheVariants.{TooMany, ConflictKey, Unknown, Below, Comparable, WrongMode, OpenConflict, Branches, SeqEnd}
 use Rattle.tardis_base.specs.declared.replies.Reply.{Reply}
-use Rattle.tardis_base.specs.declared.replies.Reply.TheVariants.{Begun, Merging, Done, Committed, Ended}
+use Rattle.tardis_base.specs.declared.replies.Reply.TheVariants.{Begun, Merging, Done, Ended}
 use Rattle.tardis_base.specs.Ids.{root}
 use Rattle.tardis_base.specs.Keys.{KeyWrite, is_key_among, with_key, keys_of, has_key, write_of, with_write}
 use Rattle.plain_dag.specs.States.{is_known, children}
@@ -27,20 +27,20 @@ use Rattle.plain_dag.specs.Landing.{landing, guarded, broken}
 use Rattle.plain_dag.specs.Entries.{entry_of, with_entry, changed, without_entry}
 use Rattle.plain_dag.specs.Floors.{Session, after_commit}
 use Rattle.plain_dag.proofs.Keys.{has-new-key}
-use Rattle.plain_site.specs.Site.{Site, SingleTxn, MergeTxn, Txn, Single, Merge, own_count, writes_of, read_states, with_txn_changed}
+use Rattle.plain_site.specs.Site.{Site, SingleTxn, Txn, Single, Merge, own_count, writes_of, read_states, with_txn_changed}
 use Rattle.plain_site.specs.Built.{Built}
-use Rattle.plain_site.specs.Answers.{Answer, refuse, refuse_found, unless, shown, found}
+use Rattle.plain_site.specs.Answers.{Answer, refuse, refuse_found, shown, found}
 use Rattle.plain_site.specs.Sessions.{begin_at}
 use Rattle.plain_site.specs.Reads.{having_read, having_written, read_in, get, set_key}
-use Rattle.plain_site.specs.Commits.{without_txn_of, abort, growth_refusals, committed, commit_below, commit_at, commit_writes, commit_single, commit_merge, commit}
+use Rattle.plain_site.specs.Commits.{without_txn_of, abort, growth_refusals, committed, commit_below, commit_at, commit_writes, commit_single, commit}
 use Rattle.plain_site.specs.Merges.{in_order, merge_at}
-use Rattle.plain_site.specs.ClientRuns.{Told, begun, is_shown, having_got, having_put, retold, resession, ReadsShow}
+use Rattle.plain_site.specs.ClientRuns.{Told, begun, is_shown, having_got, having_put, retold, resession}
 use Rattle.plain_site.proofs.RepliesFrame.{given-good}
 use Rattle.plain_site.proofs.SoundEntries.{entry-changed, entry-changed_other, entry-with_entry, entry-with_entry_other, entry-without_entry, entry-without_entry_other}
 use Rattle.plain_site.proofs.SoundCommits.{next_record}
 use Rattle.client_laws.proofs.Dags.{value-over-one}
 use Rattle.client_laws.proofs.Records.{write-has-key, no-write-no-key}
-use Rattle.client_laws.proofs.Tellings.{AreKept, KeepsReads, is_merge, IsTold, Tells, kept-more, tells-changed}
+use Rattle.client_laws.proofs.Tellings.{KeepsReads, is_merge, IsTold, Tells, kept-more, tells-changed}
 use Rattle.client_laws.proofs.Effects.{Does, OnlyRefuse, refuse-only, found-only, both-only, unless-does}
 
 -- ===== Reads that are told

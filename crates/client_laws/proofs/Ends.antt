@@ -1,6 +1,6 @@
 -- Transactions that wrote nothing, and records of other sites.
-use Rattle.std.proofs.Common.{◌≡◌, ℕ, Bool, true, false, not, List, [], ◌∷◌, ◌++◌, length, Option, Some, None, IsTrue, IsFalse, inl, inr, refl, sym, ap, subst, ◌∙◌, find}
-use Rattle.std.specs.Prelude.{◌==◌, ◌+◌, nat_lt, nat_le}
+use Rattle.std.proofs.Common.{◌≡◌, ℕ, Bool, true, false, not, List, [], ◌∷◌, ◌++◌, length, Option, Some, None, refl, sym, ap, subst, ◌∙◌, find}
+use Rattle.std.specs.Prelude.{◌==◌, nat_lt, nat_le}
 use Rattle.tardis_base.specs.declared.ids.StateId.{StateId}
 use Rattle.tardis_base.specs.declared.records.Record.{Record}
 use Rattle.tardis_base.specs.declared.records.Item.TheVariants.{State}
@@ -9,7 +9,7 @@ use Rattle.tardis_base.specs.declared.requests.Request.TheVariants.{Commit, Deli
 use Rattle.tardis_base.specs.declared.replies.Refusal.{Refusal}
 use Rattle.tardis_base.specs.declared.replies.Refusal.TheVariants.{NotOpen, TxnOpen, NoTxn, WrongMode, OpenConflict, Branches, SeqEnd, Unsupported, BadSite, OwnItem, ClosedParent, Comparable}
 use Rattle.tardis_base.specs.declared.replies.Reply.{Reply}
-use Rattle.tardis_base.specs.declared.replies.Reply.TheVariants.{Committed, Ended, Applied, Known, Early, Refused}
+use Rattle.tardis_base.specs.declared.replies.Reply.TheVariants.{Ended, Applied, Known, Early, Refused}
 use Rattle.tardis_base.specs.Keys.{KeyWrite, keys_of}
 use Rattle.plain_dag.specs.States.{children, count_of_site, record_at}
 use Rattle.plain_dag.specs.Above.{comparable_pair}
@@ -24,16 +24,16 @@ use Rattle.plain_site.specs.Site.{Site, SingleTxn, Txn, Single, Merge, own_count
 use Rattle.plain_site.specs.Built.{Built, is_built}
 use Rattle.plain_site.specs.Answers.{Answer, when, refuse, refuse_found, unless}
 use Rattle.plain_site.specs.Commits.{with_record, without_txn_of, growth_refusals, committed, commit_below, commit_writes, commit_single, commit}
-use Rattle.plain_site.specs.Exchange.{is_early, judgements, deliver_record}
+use Rattle.plain_site.specs.Exchange.{is_early, judgements}
 use Rattle.plain_site.specs.Step.{served, step}
-use Rattle.plain_site.specs.RowWords.{Line, ◌asks◌=>◌}
-use Rattle.plain_site.specs.ClientRuns.{site_after, history, IsRun, Told, told, ReadsShow}
+use Rattle.plain_site.specs.RowWords.{◌asks◌=>◌}
+use Rattle.plain_site.specs.ClientRuns.{site_after, told}
 use Rattle.plain_site.specs.ClientLaws.{ReadersEndWhereTheyRead, DeliveriesAreKept}
 use Rattle.plain_site.proofs.RepliesFrame.{by-txn}
 use Rattle.plain_site.proofs.SoundCommits.{next_record}
 use Rattle.client_laws.proofs.Dags.{value-over-one}
 use Rattle.client_laws.proofs.Records.{record-of-newest, record-stays}
-use Rattle.client_laws.proofs.Tellings.{IsTold, shows-alike}
+use Rattle.client_laws.proofs.Tellings.{shows-alike}
 use Rattle.client_laws.proofs.Effects.{OnlyRefuse, refuse-only, found-only, both-only, unless-refused}
 use Rattle.client_laws.proofs.Held.{run-holds, run-before}
 use Rattle.client_laws.proofs.Laws.{was-answered, tells-seen}

@@ -5,7 +5,6 @@ use Rattle.std.specs.List.{list_all}
 use Rattle.std.proofs.lemmas.Bool.{and_parts, and_from, cond-false, false_from_ne_true}
 use Rattle.tardis_base.specs.declared.requests.Request.{Request}
 use Rattle.tardis_base.specs.declared.replies.Refusal.TheVariants.{Malformed, Unsupported}
-use Rattle.tardis_base.specs.declared.replies.Reply.{Reply}
 use Rattle.tardis_base.specs.declared.replies.Reply.TheVariants.{NoMemory}
 use Rattle.tardis_base.specs.Plain.{Event, Answers, no_memory}
 use Rattle.tardis_base.specs.Valid.{is_u16, is_within}
@@ -18,7 +17,7 @@ use Rattle.plain_site.specs.Built.{Built}
 use Rattle.plain_site.specs.Answers.{Answer, refused, given}
 use Rattle.plain_site.specs.Step.{step, step_over_bytes, site_machine}
 use Rattle.plain_site.specs.RowWords.{Line, ◌asks◌=>◌}
-use Rattle.plain_site.specs.ClientRuns.{wants_memory, site_after, AreAnswered, IsRun}
+use Rattle.plain_site.specs.ClientRuns.{wants_memory, site_after, AreAnswered}
 use Rattle.plain_site.specs.EventRuns.{asks_nothing, IsLineOf, AreLinesOf, EventsAreRuns}
 use Rattle.plain_site.proofs.RepliesMemory.{never-wants-memory}
 use Rattle.client_laws.proofs.Held.{wanting-is}

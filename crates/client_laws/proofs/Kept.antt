@@ -1,23 +1,21 @@
 -- Nothing committed is lost, and sessions read their own commits.
-use Rattle.std.proofs.Common.{◌≡◌, ℕ, Bool, true, false, List, [], ◌∷◌, ◌++◌, Option, Some, None, IsTrue, IsFalse, inl, inr, refl, sym, ap, subst, ◌∙◌, find}
-use Rattle.std.specs.Prelude.{◌&&◌, unwrap_or}
+use Rattle.std.proofs.Common.{◌≡◌, ℕ, true, List, [], ◌∷◌, ◌++◌, Some, IsTrue, inl, inr, refl, sym, ap, subst, ◌∙◌, find}
+use Rattle.std.specs.Prelude.{unwrap_or}
 use Rattle.std.specs.List.{list_all}
 use Rattle.std.proofs.lemmas.Bool.{and_parts, and_from, cond_both, not-true}
-use Rattle.std.proofs.lemmas.Option.{none-some, same_Some}
+use Rattle.std.proofs.lemmas.Option.{same_Some}
 use Rattle.tardis_base.specs.declared.ids.StateId.{StateId}
 use Rattle.tardis_base.specs.declared.records.Record.{Record}
-use Rattle.tardis_base.specs.declared.records.Write.{Write}
 use Rattle.tardis_base.specs.declared.requests.EndFlags.{EndFlags}
 use Rattle.tardis_base.specs.declared.requests.Begin.{Begin}
 use Rattle.tardis_base.specs.declared.requests.Begin.TheVariants.{Any, Ancestor, Parent}
 use Rattle.tardis_base.specs.declared.requests.Request.TheVariants.{Begin as BeginAt, Commit}
 use Rattle.tardis_base.specs.declared.replies.Reply.TheVariants.{Begun, Committed}
 use Rattle.tardis_base.specs.Ids.{is_among}
-use Rattle.tardis_base.specs.Keys.{KeyWrite, keys_of, has_key}
+use Rattle.tardis_base.specs.Keys.{KeyWrite, keys_of}
 use Rattle.plain_dag.specs.States.{states, is_known, record_at}
 use Rattle.plain_dag.specs.Above.{is_above, is_proper_ancestor}
-use Rattle.plain_dag.specs.Begin.{is_admitted, last_arrived, last_below, begin_state}
-use Rattle.plain_dag.specs.Entries.{entry_of}
+use Rattle.plain_dag.specs.Begin.{is_admitted, last_below, begin_state}
 use Rattle.plain_dag.specs.Floors.{Session}
 use Rattle.plain_dag.specs.Dag.{IsDag}
 use Rattle.plain_dag.specs.Landing.{landing, guarded}
@@ -33,7 +31,7 @@ use Rattle.plain_site.specs.Site.{Site, Txn, Single, Merge, read_states, writes_
 use Rattle.plain_site.specs.Built.{Built}
 use Rattle.plain_site.specs.Step.{step}
 use Rattle.plain_site.specs.RowWords.{Line, ◌asks◌=>◌}
-use Rattle.plain_site.specs.ClientRuns.{wants_memory, after_line, site_after, history, AreAnswered, IsRun, Told, told, told_session}
+use Rattle.plain_site.specs.ClientRuns.{wants_memory, after_line, site_after, history, IsRun, Told, told, told_session}
 use Rattle.plain_site.specs.ClientLaws.{committing, CommitsAreKept, CommitsAreShown, OtherKeysAreJoined, CommitsJoinWhatTheyRead, SessionsReadTheirCommits}
 use Rattle.client_laws.proofs.Records.{record-of-newest, record-stays, shown-below, joined, no-conflict}
 use Rattle.client_laws.proofs.Tellings.{is_merge}
@@ -82,8 +80,7 @@ module _ (built : Built) where
   pub commits-are-kept : CommitsAreKept (step built)
   commits-are-kept start newer older n flags k x parents run =
       let line = n asks Commit flags k => Committed x parents in
-      let own = its-record start older n flags k x parents (older-run start newer (line ∷ older) run) in
-      (
+      let own = its-record start older n flags k x parents (older-run start newer (line ∷ older) run) in (
         own.0,
         own.1,
         keeps-on (λ rs. record_at rs x ≡ Some (record { id = x; parents = parents; writes = own.0.writes })) (λ rs r dag f e. record-stays rs r f x _ e) start newer

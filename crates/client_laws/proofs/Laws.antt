@@ -1,38 +1,29 @@
 -- The laws of reads and commits.
-use Rattle.std.proofs.Common.{◌≡◌, ℕ, Bool, true, false, List, [], ◌∷◌, ◌++◌, Option, Some, None, IsTrue, IsFalse, inl, inr, refl, sym, ap, subst, ◌∙◌, find}
-use Rattle.std.specs.Prelude.{◌&&◌, ◌||◌, ◌==◌, bytes_eq, unwrap_or}
+use Rattle.std.proofs.Common.{◌≡◌, ℕ, true, List, [], ◌∷◌, Option, Some, None, IsTrue, IsFalse, inl, inr, refl, sym, ap, subst, ◌∙◌}
+use Rattle.std.specs.Prelude.{◌||◌, ◌==◌, bytes_eq}
 use Rattle.std.specs.Int.RustNames.{bit_and}
 use Rattle.std.specs.List.{list_all}
-use Rattle.std.proofs.lemmas.Bool.{and_parts, cond_both}
+use Rattle.std.proofs.lemmas.Bool.{and_parts}
 use Rattle.std.proofs.lemmas.Option.{none-some, same_Some}
 use Rattle.tardis_base.specs.declared.ids.StateId.{StateId}
 use Rattle.tardis_base.specs.declared.records.Record.{Record}
 use Rattle.tardis_base.specs.declared.requests.EndFlags.{EndFlags}
-use Rattle.tardis_base.specs.declared.requests.Begin.{Begin}
-use Rattle.tardis_base.specs.declared.requests.Begin.TheVariants.{Any, Ancestor, Parent}
-use Rattle.tardis_base.specs.declared.requests.Request.TheVariants.{Begin as BeginAt, Commit}
-use Rattle.tardis_base.specs.declared.replies.Reply.TheVariants.{Begun, Committed}
-use Rattle.tardis_base.specs.Ids.{is_among}
+use Rattle.tardis_base.specs.declared.requests.Request.TheVariants.{Commit}
+use Rattle.tardis_base.specs.declared.replies.Reply.TheVariants.{Committed}
 use Rattle.tardis_base.specs.Keys.{KeyWrite, is_key_among, keys_of, has_key}
-use Rattle.plain_dag.specs.States.{states, is_known, record_at}
+use Rattle.plain_dag.specs.States.{is_known}
 use Rattle.plain_dag.specs.Above.{is_above}
 use Rattle.plain_dag.specs.Writers.{is_writer, read}
 use Rattle.plain_dag.specs.Conflicts.{value_over}
-use Rattle.plain_dag.specs.Begin.{last_arrived, last_below, begin_state}
 use Rattle.plain_dag.specs.Landing.{landing, guarded, is_ser, is_si}
 use Rattle.plain_dag.specs.Entries.{entry_of}
-use Rattle.plain_dag.specs.Floors.{Session}
 use Rattle.plain_dag.specs.Dag.{IsDag}
-use Rattle.plain_dag.specs.Laws.{IsTrueCommit}
-use Rattle.plain_dag.proofs.Histories.{dag-grows}
 use Rattle.plain_dag.proofs.Landing.{lands-below, true-commit}
-use Rattle.plain_dag.proofs.Order.{above-reflexive}
-use Rattle.plain_dag.proofs.Searches.{found-passes, option-cases}
-use Rattle.plain_site.specs.Site.{Site, SingleTxn, MergeTxn, Txn, Single, Merge, read_states, writes_of}
+use Rattle.plain_site.specs.Site.{Site, SingleTxn, Txn, Single, Merge, read_states}
 use Rattle.plain_site.specs.Built.{Built}
 use Rattle.plain_site.specs.Step.{step}
 use Rattle.plain_site.specs.RowWords.{Line, ◌asks◌=>◌}
-use Rattle.plain_site.specs.ClientRuns.{wants_memory, after_line, site_after, history, IsAnswered, AreAnswered, IsRun, Told, told, ReadsShow}
+use Rattle.plain_site.specs.ClientRuns.{wants_memory, site_after, history, IsAnswered, IsRun, Told, told, ReadsShow}
 use Rattle.plain_site.specs.ClientLaws.{ReadsOneSnapshot, SerializableReadsHold, SnapshotsOverwriteNothingUnseen}
 use Rattle.client_laws.proofs.Dags.{value-over-one}
 use Rattle.client_laws.proofs.Tellings.{IsTold, Tells, shows-alike, shows-kept-alike}

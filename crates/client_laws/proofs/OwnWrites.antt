@@ -1,5 +1,5 @@
 -- A transaction reads its own writes.
-use Rattle.std.proofs.Common.{◌≡◌, ℕ, Bool, true, false, not, List, [], ◌∷◌, Option, Some, None, IsTrue, ◌⊎◌, inl, inr, refl, sym, ap, subst, ◌∙◌}
+use Rattle.std.proofs.Common.{◌≡◌, ℕ, not, List, [], ◌∷◌, Some, IsTrue, inl, inr, sym, ap, subst, ◌∙◌}
 use Rattle.std.proofs.lemmas.Option.{none-some, same_Some}
 use Rattle.tardis_base.specs.declared.records.Write.{Write}
 use Rattle.tardis_base.specs.declared.requests.Request.TheVariants.{Get}
@@ -13,11 +13,11 @@ use Rattle.plain_dag.specs.Entries.{entry_of}
 use Rattle.wire_talk.specs.Codes.{code_of}
 use Rattle.plain_site.specs.Site.{Site, Txn, writes_of}
 use Rattle.plain_site.specs.Built.{Built, is_built}
-use Rattle.plain_site.specs.Answers.{Answer, refuse, unless, shown}
+use Rattle.plain_site.specs.Answers.{Answer, refuse, shown}
 use Rattle.plain_site.specs.Reads.{read_in, get}
 use Rattle.plain_site.specs.Step.{served, step}
 use Rattle.plain_site.specs.RowWords.{Line, ◌asks◌=>◌}
-use Rattle.plain_site.specs.ClientRuns.{wants_memory, is_shown, site_after, IsAnswered, IsRun, Told, told}
+use Rattle.plain_site.specs.ClientRuns.{wants_memory, is_shown, site_after, IsAnswered, told}
 use Rattle.plain_site.specs.ClientLaws.{OwnWritesAreRead}
 use Rattle.plain_site.proofs.RepliesFrame.{given-good, by-txn}
 use Rattle.client_laws.proofs.Effects.{refuse-only, unless-refused}

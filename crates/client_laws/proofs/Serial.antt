@@ -1,5 +1,5 @@
 -- Each branch is a serial history of its serializable transactions.
-use Rattle.std.proofs.Common.{◌≡◌, ℕ, Bool, true, false, List, [], ◌∷◌, ◌++◌, Option, Some, None, IsTrue, refl, sym, ap, subst, ◌∙◌}
+use Rattle.std.proofs.Common.{◌≡◌, ℕ, List, [], ◌∷◌, ◌++◌, Option, Some, IsTrue, refl, sym, ap, subst, ◌∙◌}
 use Rattle.std.proofs.lemmas.Option.{same_Some}
 use Rattle.tardis_base.specs.declared.ids.StateId.{StateId}
 use Rattle.tardis_base.specs.declared.records.Record.{Record}
@@ -18,7 +18,7 @@ use Rattle.plain_site.specs.Built.{Built}
 use Rattle.plain_site.specs.Step.{step}
 use Rattle.plain_site.specs.RowWords.{Line, ◌asks◌=>◌}
 use Rattle.plain_site.specs.ClientRuns.{history, IsRun, Told, told, ReadsShow}
-use Rattle.plain_site.specs.ClientLaws.{committing, IsBranch, one_after_another, HasMade, IsSerial, BranchesAreSerial}
+use Rattle.plain_site.specs.ClientLaws.{committing, IsBranch, one_after_another, IsSerial, BranchesAreSerial}
 use Rattle.client_laws.proofs.Records.{record-is-of, branch-is-read}
 use Rattle.client_laws.proofs.Tellings.{shows-alike}
 use Rattle.client_laws.proofs.Held.{run-holds}

@@ -1,12 +1,11 @@
 -- Each wrong step breaks a law.
-use Rattle.std.proofs.Common.{◌≡◌, ℕ, Bool, true, false, List, [], ◌∷◌, ◌++◌, Option, Some, None, IsTrue, IsFalse, inl, inr, refl, sym, ap, subst, ◌∙◌, ◌⊎◌, arith}
-use Rattle.std.specs.Prelude.{◌+◌, codes}
+use Rattle.std.proofs.Common.{◌≡◌, ℕ, true, false, List, [], ◌∷◌, Some, IsTrue, inl, inr, refl, sym, ap, subst, ◌∙◌, ◌⊎◌, arith}
+use Rattle.std.specs.Prelude.{codes}
 use Rattle.std.proofs.lemmas.Bool.{and_parts}
 use Rattle.std.proofs.lemmas.Option.{none-some, same_Some}
 use Rattle.tardis_base.specs.declared.ids.StateId.{StateId}
 use Rattle.tardis_base.specs.declared.records.Record.{Record}
 use Rattle.tardis_base.specs.declared.records.Write.TheVariants.{Put}
-use Rattle.tardis_base.specs.declared.requests.EndFlags.{EndFlags}
 use Rattle.tardis_base.specs.declared.replies.Refusal.TheVariants.{NoTxn}
 use Rattle.tardis_base.specs.declared.replies.Reply.{Reply}
 use Rattle.tardis_base.specs.declared.replies.Reply.TheVariants.{Absent, Done, Committed, Merging, Refused}
@@ -18,8 +17,7 @@ use Rattle.plain_dag.specs.States.{writes_key}
 use Rattle.plain_dag.specs.Above.{is_above, is_proper_ancestor}
 use Rattle.plain_dag.specs.Writers.{is_writer, read}
 use Rattle.plain_dag.specs.Floors.{Session}
-use Rattle.plain_site.specs.Answers.{found}
-use Rattle.plain_site.specs.RowWords.{Line, lone_site, ◌·◌, ◌asks◌=>◌, put, none, ser, si, nb, commit, merge_leaves, value}
+use Rattle.plain_site.specs.RowWords.{Line, lone_site, ◌·◌, ◌asks◌=>◌, put, none, ser, si, commit, merge_leaves, value}
 use Rattle.plain_site.specs.ClientRuns.{Service, IsRun, AreAnswered, Told, told, told_session, history, ReadsShow}
 use Rattle.plain_site.specs.ClientLaws.{committing, ReadsOneSnapshot, ReadersEndWhereTheyRead, DeliveriesAreKept, SerializableReadsHold, BranchesAreSerial, SnapshotsOverwriteNothingUnseen, CommitsAreKept, CommitsAreShown, OtherKeysAreJoined, CommitsJoinWhatTheyRead, OwnWritesAreRead, SessionsReadTheirCommits, RefusalsHideNothing}
 use Rattle.plain_site.specs.WrongSteps.{IsBrokenBy, forgets_reads, forgets_constraints, reads_newest, forgets_own_writes, forgets_collected, leaves_conflicts, drops_sides, forgets_commits, ends_refused, ends_at_newest, forgets_deliveries, ended_elsewhere, begun_three, first_site, of_second_site, delivered, raced, begun_both, both_wrote, stale_read, lost_update, unstable_read, own_write_missed, own_commit_missed, refused_commit, commit_after_refusal, after_conflict, merging_both, put_before_collection, collected_after}
@@ -47,7 +45,7 @@ forgotten-reads-break law =
     let rs = history forgets_reads lone_site raced in
     let at : ReadsShow (λ key. read rs key (1 · 1)) h.0.reads = subst (λ p. ReadsShow (λ key. read rs key p) h.0.reads) (same-parent (1 · 1) h.1 h.3) h.4 in
     let shows = subst (λ (o : Told). ReadsShow (λ key. read rs key (1 · 1)) o.reads)
-        (same_Some h.0 of_one (sym h.2 ∙ told-one)) at in
+    (same_Some h.0 of_one (sym h.2 ∙ told-one)) at in
     let first : Absent ≡ value (1 · 1) "2" = shows.0 in
     absurd (cc)
 

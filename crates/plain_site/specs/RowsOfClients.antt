@@ -1,15 +1,13 @@
 -- Worked rows: what the step answers in the runs in which wrong steps break the laws, and what the lines tell.
-use Rattle.std.specs.Prelude.{◌≡◌, ◌+◌, false, true, List, [], ◌∷◌, ◌++◌, Some, codes}
+use Rattle.std.specs.Prelude.{◌≡◌, false, List, [], ◌∷◌, Some, codes}
 use Rattle.tardis_base.specs.declared.records.Write.TheVariants.{Put}
-use Rattle.tardis_base.specs.declared.requests.Request.TheVariants.{Tidy}
-use Rattle.tardis_base.specs.declared.replies.Refusal.TheVariants.{OpenConflict}
-use Rattle.tardis_base.specs.declared.replies.Reply.TheVariants.{Begun, Absent, Committed, Tidied, NoMemory, Refused}
+use Rattle.tardis_base.specs.declared.replies.Reply.TheVariants.{Begun, Absent, Committed, NoMemory}
 use Rattle.plain_dag.specs.Floors.{Session}
 use Rattle.plain_site.specs.Built.{everything}
 use Rattle.plain_site.specs.Step.{step}
-use Rattle.plain_site.specs.RowWords.{Line, lone_site, ◌·◌, ◌asks◌=>◌, begin_parent, get, put, none, ser, si, nb, commit, merge_leaves, value}
+use Rattle.plain_site.specs.RowWords.{Line, lone_site, ◌·◌, ◌asks◌=>◌, begin_parent, get, none, ser, si, commit, value}
 use Rattle.plain_site.specs.ClientRuns.{IsRun, Told, told, told_session}
-use Rattle.plain_site.specs.WrongSteps.{raced, both_wrote, merging_both, refused_commit, after_conflict, begun_both, put_before_collection, collected_after}
+use Rattle.plain_site.specs.WrongSteps.{raced, both_wrote, merging_both, refused_commit}
 
 -- the lines are a run of the only site
 abbrev pub AreRun : List Line → Type 0

@@ -1,5 +1,5 @@
 -- Wrong steps, and runs in which they break the laws: so each law says something.
-use Rattle.std.specs.Prelude.{ℕ, ◌+◌, not, List, [], ◌∷◌, take, filter, if◌then◌else◌}
+use Rattle.std.specs.Prelude.{◌+◌, not, List, [], ◌∷◌, take, filter, if◌then◌else◌}
 use Rattle.tardis_base.specs.declared.ids.StateId.{StateId}
 use Rattle.tardis_base.specs.declared.records.Record.{Record}
 use Rattle.tardis_base.specs.declared.records.Item.TheVariants.{State}
