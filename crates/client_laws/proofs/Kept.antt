@@ -32,7 +32,7 @@ use Rattle.plain_site.specs.Built.{Built}
 use Rattle.plain_site.specs.Step.{step}
 use Rattle.plain_site.specs.RowWords.{Line, ◌asks◌=>◌}
 use Rattle.plain_site.specs.ClientRuns.{wants_memory, after_line, site_after, history, IsRun, Told, told, told_session}
-use Rattle.plain_site.specs.ClientLaws.{committing, CommitsAreKept, CommitsAreShown, OtherKeysAreJoined, CommitsJoinWhatTheyRead, SessionsReadTheirCommits}
+use Rattle.plain_site.specs.ClientLaws.{DoneCommit, as_line, CommitsAreKept, CommitsAreShown, OtherKeysAreJoined, CommitsJoinWhatTheyRead, SessionsReadTheirCommits}
 use Rattle.client_laws.proofs.Records.{record-of-newest, record-stays, shown-below, joined, no-conflict}
 use Rattle.client_laws.proofs.Tellings.{is_merge}
 use Rattle.client_laws.proofs.EffectsOfSites.{step-does}
@@ -66,48 +66,42 @@ module _ (built : Built) where
       stays-later P site.dag (after_line (step built) site line).dag (line-is-later site line) dag (run-holds built start (line ∷ lines) run).sound.dag
       (λ r f d. stays site.dag r dag f d) (keeps-on P stays start newer older before h)
 
-  module _ (start : Site) (older : List Line) (n : ℕ) (flags : EndFlags) (k : ℕ) (x : StateId) (parents : List StateId) where
-    its-record : IsRun (step built) start (n asks Commit flags k => Committed x parents ∷ older) → (t : Told) × (told n older ≡ Some t)
-        × (record_at (history (step built) start (n asks Commit flags k => Committed x parents ∷ older)) x ≡ Some (record { id = x; parents = parents; writes = t.writes }))
-    its-record run =
-        let c = is-commit built start older n flags k x parents run in
-        let u = is-told built start older n flags k x parents run in
-        let r : Record = record { id = x; parents = parents; writes = writes_of c.txn } in
-        let newest : record_at (history (step built) start (n asks Commit flags k => Committed x parents ∷ older)) x ≡ Some r =
-        subst (λ rs. record_at rs x ≡ Some r) (sym c.grown) (record-of-newest (history (step built) start older) r) in
-        (u.0, u.1, newest ∙ ap (λ (ws : List KeyWrite). Some (record r { writes = ws })) (sym u.2.writes))
+  its-record : (start : Site) (older : List Line) (d : DoneCommit) → IsRun (step built) start (as_line d ∷ older) → (t : Told) × (told d.actor older ≡ Some t)
+      × (record_at (history (step built) start (as_line d ∷ older)) d.state ≡ Some (record { id = d.state; parents = d.parents; writes = t.writes }))
+  its-record start older d run =
+      let c = is-commit built start older d run in
+      let u = is-told built start older d run in
+      let r : Record = record { id = d.state; parents = d.parents; writes = writes_of c.txn } in
+      let newest : record_at (history (step built) start (as_line d ∷ older)) d.state ≡ Some r =
+      subst (λ rs. record_at rs d.state ≡ Some r) (sym c.grown) (record-of-newest (history (step built) start older) r) in
+      (u.0, u.1, newest ∙ ap (λ (ws : List KeyWrite). Some (record r { writes = ws })) (sym u.2.writes))
 
   pub commits-are-kept : CommitsAreKept (step built)
-  commits-are-kept start newer older n flags k x parents run =
-      let line = n asks Commit flags k => Committed x parents in
-      let own = its-record start older n flags k x parents (older-run start newer (line ∷ older) run) in (
-        own.0,
-        own.1,
-        keeps-on (λ rs. record_at rs x ≡ Some (record { id = x; parents = parents; writes = own.0.writes })) (λ rs r dag f e. record-stays rs r f x _ e) start newer
-            (line ∷ older) run own.2,
-      )
+  commits-are-kept start newer older d run =
+      let own = its-record start older d (older-run start newer (as_line d ∷ older) run) in
+      let r : Record = record { id = d.state; parents = d.parents; writes = own.0.writes } in
+      (own.0, own.1, keeps-on (λ rs. record_at rs d.state ≡ Some r) (λ rs q dag f e. record-stays rs q f d.state r e) start newer (as_line d ∷ older) run own.2)
 
-  pub told-record : (start : Site) (newer older : List Line) (n : ℕ) (flags : EndFlags) (k : ℕ) (x : StateId) (parents : List StateId) (t : Told) →
-      IsRun (step built) start (committing newer n flags k x parents older) → told n older ≡ Some t →
-      record_at (history (step built) start (committing newer n flags k x parents older)) x ≡ Some (record { id = x; parents = parents; writes = t.writes })
-  told-record start newer older n flags k x parents t run e =
-      let kept = commits-are-kept start newer older n flags k x parents run in
-      kept.2 ∙ ap (λ (u : Told). Some (record { id = x; parents = parents; writes = u.writes })) (same_Some kept.0 t (sym kept.1 ∙ e))
+  pub told-record : (start : Site) (newer older : List Line) (d : DoneCommit) (t : Told) → IsRun (step built) start (newer ++ as_line d ∷ older) → told d.actor older ≡ Some t →
+      record_at (history (step built) start (newer ++ as_line d ∷ older)) d.state ≡ Some (record { id = d.state; parents = d.parents; writes = t.writes })
+  told-record start newer older d t run e =
+      let kept = commits-are-kept start newer older d run in
+      kept.2 ∙ ap (λ (u : Told). Some (record { id = d.state; parents = d.parents; writes = u.writes })) (same_Some kept.0 t (sym kept.1 ∙ e))
 
   pub commits-are-shown : CommitsAreShown (step built)
-  commits-are-shown start newer older n flags k x parents t run e key w y writes known above none =
-      let lines = committing newer n flags k x parents older in
-      shown-below (history (step built) start lines) (run-holds built start lines run).sound.dag key x y (record { id = x; parents = parents; writes = t.writes }) w
-      (told-record start newer older n flags k x parents t run e) writes known above none
+  commits-are-shown start newer older d t run e key w y writes known above none =
+      let lines = newer ++ as_line d ∷ older in
+      shown-below (history (step built) start lines) (run-holds built start lines run).sound.dag key d.state y (record { id = d.state; parents = d.parents; writes = t.writes }) w
+      (told-record start newer older d t run e) writes known above none
 
   pub other-keys-are-joined : OtherKeysAreJoined (step built)
-  other-keys-are-joined start newer older n flags k x parents t run e key lacks =
-      let lines = committing newer n flags k x parents older in
+  other-keys-are-joined start newer older d t run e key lacks =
+      let lines = newer ++ as_line d ∷ older in
       let rs = history (step built) start lines in
       let dag = (run-holds built start lines run).sound.dag in
-      let q : Record = record { id = x; parents = parents; writes = t.writes } in
-      let at = told-record start newer older n flags k x parents t run e in
-      (no-conflict rs (dag-grows rs dag) key x q at lacks, joined rs dag key x q at lacks)
+      let q : Record = record { id = d.state; parents = d.parents; writes = t.writes } in
+      let at = told-record start newer older d t run e in
+      (no-conflict rs (dag-grows rs dag) key d.state q at lacks, joined rs dag key d.state q at lacks)
 
   -- ===== Below what was read
 
@@ -140,22 +134,22 @@ module _ (built : Built) where
   )
 
   pub commits-join-what-they-read : CommitsJoinWhatTheyRead (step built)
-  commits-join-what-they-read start newer older n flags k x parents t run e =
-      let line = n asks Commit flags k => Committed x parents in
+  commits-join-what-they-read start newer older d t run e =
+      let line = as_line d in
       let own = older-run start newer (line ∷ older) run in
-      let c = is-commit built start older n flags k x parents own in
-      let u = is-told built start older n flags k x parents own in
-      let sound = (before built start older n flags k x parents own).sound in
+      let c = is-commit built start older d own in
+      let u = is-told built start older d own in
+      let sound = (before built start older d own).sound in
       let rs = history (step built) start older in
-      let j = joins-reads rs sound.dag flags c.txn x parents (sound.each_txn n c.txn c.open_there).2.known c.placed in
+      let j = joins-reads rs sound.dag d.flags c.txn d.state d.parents (sound.each_txn d.actor c.txn c.open_there).2.known c.placed in
       let same = same_Some u.0 t (sym u.1 ∙ e) in
       let states : read_states c.txn ≡ t.states = sym u.2.states ∙ ap (λ (v : Told). v.states) same in
       let merges : t.merges ≡ is_merge c.txn = ap (λ (v : Told). v.merges) (sym same) ∙ u.2.merges in
-      let r : Record = record { id = x; parents = parents; writes = writes_of c.txn } in
-      let at : IsTrue (is_known (history (step built) start (line ∷ older)) x) × IsTrue (are_above (history (step built) start (line ∷ older)) t.states x) =
-      subst (λ qs. IsTrue (is_known qs x) × IsTrue (are_above qs t.states x)) (sym c.grown)
-      (newest-is-known rs r, subst (λ xs. IsTrue (are_above (r ∷ rs) xs x)) states j.0) in (
-        (keeps-on (λ qs. IsTrue (is_known qs x) × IsTrue (are_above qs t.states x)) (above-stay x t.states) start newer (line ∷ older) run at).1,
+      let r : Record = record { id = d.state; parents = d.parents; writes = writes_of c.txn } in
+      let at : IsTrue (is_known (history (step built) start (line ∷ older)) d.state) × IsTrue (are_above (history (step built) start (line ∷ older)) t.states d.state) =
+      subst (λ qs. IsTrue (is_known qs d.state) × IsTrue (are_above qs t.states d.state)) (sym c.grown)
+      (newest-is-known rs r, subst (λ xs. IsTrue (are_above (r ∷ rs) xs d.state)) states j.0) in (
+        (keeps-on (λ qs. IsTrue (is_known qs d.state) × IsTrue (are_above qs t.states d.state)) (above-stay d.state t.states) start newer (line ∷ older) run at).1,
         λ m. j.1 (sym merges ∙ m) ∙ states,
       )
 

@@ -24,7 +24,7 @@ use Rattle.plain_site.specs.Built.{Built}
 use Rattle.plain_site.specs.Step.{step}
 use Rattle.plain_site.specs.RowWords.{Line, ◌asks◌=>◌}
 use Rattle.plain_site.specs.ClientRuns.{wants_memory, site_after, history, IsAnswered, IsRun, Told, told, ReadsShow}
-use Rattle.plain_site.specs.ClientLaws.{ReadsOneSnapshot, SerializableReadsHold, SnapshotsOverwriteNothingUnseen}
+use Rattle.plain_site.specs.ClientLaws.{DoneCommit, as_line, ReadsOneSnapshot, SerializableReadsHold, SnapshotsOverwriteNothingUnseen}
 use Rattle.client_laws.proofs.Dags.{value-over-one}
 use Rattle.client_laws.proofs.Tellings.{IsTold, Tells, shows-alike, shows-kept-alike}
 use Rattle.client_laws.proofs.Held.{Holds, run-holds, run-before}
@@ -73,20 +73,20 @@ module _ (built : Built) where
 
   -- ===== Commits
 
-  module _ (start : Site) (older : List Line) (n : ℕ) (flags : EndFlags) (k : ℕ) (x : StateId) (parents : List StateId)
-      (run : IsRun (step built) start (n asks Commit flags k => Committed x parents ∷ older)) where
+  module _ (start : Site) (older : List Line) (d : DoneCommit)
+      (run : IsRun (step built) start (as_line d ∷ older)) where
     pub before : Holds built start (site_after (step built) start older) older
-    before = run-holds built start older (run-before built start (n asks Commit flags k => Committed x parents) older run)
+    before = run-holds built start older (run-before built start (as_line d) older run)
 
-    pub is-commit : IsCommit (site_after (step built) start older) n flags (step built (site_after (step built) start older) n (Commit flags k)).0.dag x parents
+    pub is-commit : IsCommit (site_after (step built) start older) d.actor d.flags (step built (site_after (step built) start older) d.actor (Commit d.flags d.k)).0.dag d.state d.parents
     is-commit =
-        (step-tells-commit built (site_after (step built) start older) n flags k).told x parents
-        (sym (was-answered (site_after (step built) start older) (n asks Commit flags k => Committed x parents) run.answered.1 refl))
+        (step-tells-commit built (site_after (step built) start older) d.actor d.flags d.k).told d.state d.parents
+        (sym (was-answered (site_after (step built) start older) (as_line d) run.answered.1 refl))
 
-    pub is-told : (u : Told) × (told n older ≡ Some u) × IsTold (site_after (step built) start older).dag is-commit.txn u
+    pub is-told : (u : Told) × (told d.actor older ≡ Some u) × IsTold (site_after (step built) start older).dag is-commit.txn u
     is-told =
         let s = site_after (step built) start older in
-        tells-seen s.dag (entry_of n s.txns) (told n older) is-commit.txn is-commit.open_there (before.txn n)
+        tells-seen s.dag (entry_of d.actor s.txns) (told d.actor older) is-commit.txn is-commit.open_there (before.txn d.actor)
 
   -- ===== SER
 
@@ -117,21 +117,21 @@ module _ (built : Built) where
   ser-holds rs dag flags (Merge t) parents u known ser placed h = not-ser flags placed.1 ser
 
   -- the parent of a serializable transaction is known, and its reads hold there
-  pub ser-parent : (start : Site) (older : List Line) (n : ℕ) (flags : EndFlags) (k : ℕ) (x : StateId) (parents : List StateId) →
-      IsRun (step built) start (n asks Commit flags k => Committed x parents ∷ older) → IsTrue (is_ser flags) →
-      (u : Told) × (told n older ≡ Some u) × (p : StateId) × IsTrue (is_known (history (step built) start older) p) × (parents ≡ p ∷ [])
+  pub ser-parent : (start : Site) (older : List Line) (d : DoneCommit) →
+      IsRun (step built) start (as_line d ∷ older) → IsTrue (is_ser d.flags) →
+      (u : Told) × (told d.actor older ≡ Some u) × (p : StateId) × IsTrue (is_known (history (step built) start older) p) × (d.parents ≡ p ∷ [])
       × ReadsShow (λ key. read (history (step built) start older) key p) u.reads
-  ser-parent start older n flags k x parents run ser =
-      let c = is-commit start older n flags k x parents run in
-      let u = is-told start older n flags k x parents run in
-      let sound = (before start older n flags k x parents run).sound in
+  ser-parent start older d run ser =
+      let c = is-commit start older d run in
+      let u = is-told start older d run in
+      let sound = (before start older d run).sound in
       let rs = history (step built) start older in
-      let p = ser-holds rs sound.dag flags c.txn parents u.0 (sound.each_txn n c.txn c.open_there).2.known ser c.placed u.2 in
+      let p = ser-holds rs sound.dag d.flags c.txn d.parents u.0 (sound.each_txn d.actor c.txn c.open_there).2.known ser c.placed u.2 in
       (u.0, u.1, p.0, p.1, p.2, p.3)
 
   pub serializable-reads-hold : SerializableReadsHold (step built)
-  serializable-reads-hold start older n flags k x parents run ser =
-      let h = ser-parent start older n flags k x parents run ser in
+  serializable-reads-hold start older d run ser =
+      let h = ser-parent start older d run ser in
       (h.0, h.2, h.1, h.4, h.5)
 
   -- ===== SI
@@ -154,10 +154,10 @@ module _ (built : Built) where
   si-holds rs dag flags (Merge t) parents u known si placed h = not-si flags placed.1 si
 
   pub snapshots-overwrite-nothing-unseen : SnapshotsOverwriteNothingUnseen (step built)
-  snapshots-overwrite-nothing-unseen start older n flags k x parents run si =
-      let c = is-commit start older n flags k x parents run in
-      let u = is-told start older n flags k x parents run in
-      let sound = (before start older n flags k x parents run).sound in
+  snapshots-overwrite-nothing-unseen start older d run si =
+      let c = is-commit start older d run in
+      let u = is-told start older d run in
+      let sound = (before start older d run).sound in
       let rs = history (step built) start older in
-      let p = si-holds rs sound.dag flags c.txn parents u.0 (sound.each_txn n c.txn c.open_there).2.known si c.placed u.2 in
+      let p = si-holds rs sound.dag d.flags c.txn d.parents u.0 (sound.each_txn d.actor c.txn c.open_there).2.known si c.placed u.2 in
       (u.0, p.0, p.1, u.1, p.2, p.3, p.4, p.5)

@@ -18,7 +18,7 @@ use Rattle.plain_site.specs.Built.{Built}
 use Rattle.plain_site.specs.Step.{step}
 use Rattle.plain_site.specs.RowWords.{Line, ◌asks◌=>◌}
 use Rattle.plain_site.specs.ClientRuns.{history, IsRun, Told, told, ReadsShow}
-use Rattle.plain_site.specs.ClientLaws.{committing, IsBranch, one_after_another, IsSerial, BranchesAreSerial}
+use Rattle.plain_site.specs.ClientLaws.{DoneCommit, as_line, IsBranch, one_after_another, IsSerial, BranchesAreSerial}
 use Rattle.client_laws.proofs.Records.{record-is-of, branch-is-read}
 use Rattle.client_laws.proofs.Tellings.{shows-alike}
 use Rattle.client_laws.proofs.Held.{run-holds}
@@ -46,16 +46,15 @@ module _ (built : Built) where
       (keeps-on built (IsReadAs key p v) (read-stays-so key p v) start newer (line ∷ older) run next).1
 
   -- what a serializable transaction read is what is read for good at the parent of its state
-  read-at-parent : (start : Site) (newer older : List Line) (n : ℕ) (flags : EndFlags) (k : ℕ) (r : Record) (parents : List StateId) (t : Told) (q : StateId) →
-      IsRun (step built) start (committing newer n flags k r.id parents older) → told n older ≡ Some t → IsTrue (is_ser flags) →
-      record_at (history (step built) start (committing newer n flags k r.id parents older)) r.id ≡ Some r → r.parents ≡ q ∷ [] →
-      ReadsShow (λ key. read (history (step built) start (committing newer n flags k r.id parents older)) key q) t.reads
-  read-at-parent start newer older n flags k r parents t q run e ser at one =
-      let line = n asks Commit flags k => Committed r.id parents in
-      let h = ser-parent built start older n flags k r.id parents (older-run built start newer (line ∷ older) run) ser in
-      let its = same_Some (record { id = r.id; parents = parents; writes = t.writes }) r (sym (told-record built start newer older n flags k r.id parents t run e) ∙ at) in
+  read-at-parent : (start : Site) (newer older : List Line) (d : DoneCommit) (r : Record) (t : Told) (q : StateId) → IsRun (step built) start (newer ++ as_line d ∷ older) →
+      told d.actor older ≡ Some t → IsTrue (is_ser d.flags) → record_at (history (step built) start (newer ++ as_line d ∷ older)) d.state ≡ Some r → r.parents ≡ q ∷ [] →
+      ReadsShow (λ key. read (history (step built) start (newer ++ as_line d ∷ older)) key q) t.reads
+  read-at-parent start newer older d r t q run e ser at one =
+      let line = as_line d in
+      let h = ser-parent built start older d (older-run built start newer (line ∷ older) run) ser in
+      let its = same_Some (record { id = d.state; parents = d.parents; writes = t.writes }) r (sym (told-record built start newer older d t run e) ∙ at) in
       let parent : h.2 ≡ q = same-parent h.2 q (sym h.4 ∙ (ap (λ (p : Record). p.parents) its ∙ one)) in
-      let rs = history (step built) start (committing newer n flags k r.id parents older) in
+      let rs = history (step built) start (newer ++ line ∷ older) in
       subst (λ (u : Told). ReadsShow (λ key. read rs key q) u.reads) (same_Some h.0 t (sym h.1 ∙ e))
       (shows-alike (λ key. read (history (step built) start older) key h.2) (λ key. read rs key q) h.0.reads
       (λ key. sym (read-after start newer older line key h.2 run h.3) ∙ ap (read rs key) parent) h.5)
@@ -67,11 +66,12 @@ module _ (built : Built) where
         let rs = history (step built) start lines in
         let dag = (run-holds built start lines run).sound.dag in
         let at : record_at rs r.id ≡ Some r = ap (record_at rs) (record-is-of rs x r is_branch.1).0 ∙ is_branch.1 in (
-          λ flags t made ser.
+          λ d t made same ser.
+              let there : record_at rs d.state ≡ Some r = ap (record_at rs) same ∙ at in
               let reads : ReadsShow (λ key. read rs key is_branch.0) t.reads =
-              subst (λ ls. ReadsShow (λ key. read (history (step built) start ls) key is_branch.0) t.reads) (sym made.5)
-              (read-at-parent start made.0 made.1 made.2 flags made.3 r made.4 t is_branch.0 (subst (IsRun (step built) start) made.5 run) made.6 ser
-              (subst (λ ls. record_at (history (step built) start ls) r.id ≡ Some r) made.5 at) is_branch.2) in
+              subst (λ ls. ReadsShow (λ key. read (history (step built) start ls) key is_branch.0) t.reads) (sym made.2)
+              (read-at-parent start made.0 made.1 d r t is_branch.0 (subst (IsRun (step built) start) made.2 run) made.3 ser
+              (subst (λ ls. record_at (history (step built) start ls) d.state ≡ Some r) made.2 there) is_branch.2) in
               shows-alike (λ key. read rs key is_branch.0) (one_after_another before) t.reads (λ key. branch-is-read rs dag key before is_branch.0 is_branch.3) reads,
           serial-branch before is_branch.0 is_branch.3,
         )

@@ -1,5 +1,5 @@
 -- Each wrong step breaks a law.
-use Rattle.std.proofs.Common.{◌≡◌, ℕ, true, false, List, [], ◌∷◌, Some, IsTrue, inl, inr, refl, sym, ap, subst, ◌∙◌, ◌⊎◌, arith}
+use Rattle.std.proofs.Common.{◌≡◌, ℕ, true, false, List, [], ◌∷◌, ◌++◌, Some, IsTrue, inl, inr, refl, sym, ap, subst, ◌∙◌, ◌⊎◌, arith}
 use Rattle.std.specs.Prelude.{codes}
 use Rattle.std.proofs.lemmas.Bool.{and_parts}
 use Rattle.std.proofs.lemmas.Option.{none-some, same_Some}
@@ -19,12 +19,16 @@ use Rattle.plain_dag.specs.Writers.{is_writer, read}
 use Rattle.plain_dag.specs.Floors.{Session}
 use Rattle.plain_site.specs.RowWords.{Line, lone_site, ◌·◌, ◌asks◌=>◌, put, none, ser, si, commit, merge_leaves, value}
 use Rattle.plain_site.specs.ClientRuns.{Service, IsRun, AreAnswered, Told, told, told_session, history, ReadsShow}
-use Rattle.plain_site.specs.ClientLaws.{committing, ReadsOneSnapshot, ReadersEndWhereTheyRead, DeliveriesAreKept, SerializableReadsHold, BranchesAreSerial, SnapshotsOverwriteNothingUnseen, CommitsAreKept, CommitsAreShown, OtherKeysAreJoined, CommitsJoinWhatTheyRead, OwnWritesAreRead, SessionsReadTheirCommits, RefusalsHideNothing}
+use Rattle.plain_site.specs.ClientLaws.{DoneCommit, as_line, ReadsOneSnapshot, ReadersEndWhereTheyRead, DeliveriesAreKept, SerializableReadsHold, BranchesAreSerial, SnapshotsOverwriteNothingUnseen, CommitsAreKept, CommitsAreShown, OtherKeysAreJoined, CommitsJoinWhatTheyRead, OwnWritesAreRead, SessionsReadTheirCommits, RefusalsHideNothing}
 use Rattle.plain_site.specs.WrongSteps.{IsBrokenBy, forgets_reads, forgets_constraints, reads_newest, forgets_own_writes, forgets_collected, leaves_conflicts, drops_sides, forgets_commits, ends_refused, ends_at_newest, forgets_deliveries, ended_elsewhere, begun_three, first_site, of_second_site, delivered, raced, begun_both, both_wrote, stale_read, lost_update, unstable_read, own_write_missed, own_commit_missed, refused_commit, commit_after_refusal, after_conflict, merging_both, put_before_collection, collected_after}
 
 -- lines of the only site that were answered are a run
 run-of : (service : Service) (lines : List Line) → AreAnswered service lone_site lines → IsRun service lone_site lines
 run-of service lines answered = record { limits = refl; own = refl; opens = refl; answered = answered }
+
+-- a commit with these end constraints
+abbrev done : ℕ → ℕ → StateId → List StateId → DoneCommit
+done n bits x parents = record { actor = n; flags = record { 0 = bits }; k = 0; state = x; parents = parents }
 
 same-parent : (p q : StateId) → ◌≡◌ {A = List StateId} (p ∷ []) (q ∷ []) → q ≡ p
 same-parent p q e = cc
@@ -40,7 +44,7 @@ stale-run = run-of forgets_reads stale_read (refl, inl refl, (refl, inl refl, (r
 
 pub forgotten-reads-break : IsBrokenBy SerializableReadsHold forgets_reads
 forgotten-reads-break law =
-    let h = law lone_site raced 1 (record { 0 = ser }) 0 (1 · 2) (1 · 1 ∷ []) stale-run refl in
+    let h = law lone_site raced (done 1 ser (1 · 2) (1 · 1 ∷ [])) stale-run refl in
     let told-one : told 1 raced ≡ Some of_one = refl in
     let rs = history forgets_reads lone_site raced in
     let at : ReadsShow (λ key. read rs key (1 · 1)) h.0.reads = subst (λ p. ReadsShow (λ key. read rs key p) h.0.reads) (same-parent (1 · 1) h.1 h.3) h.4 in
@@ -54,7 +58,7 @@ forgotten-reads-break-branches law =
     let below : Record = record { id = 1 · 1; parents = 0 · 0 ∷ []; writes = (codes "x", Put (codes "2")) ∷ [] } in
     let newest : Record = record { id = 1 · 2; parents = 1 · 1 ∷ []; writes = (codes "y", Put (codes "1")) ∷ [] } in
     let serial = law lone_site stale_read (newest ∷ below ∷ []) (1 · 2) stale-run (1 · 1, refl, refl, (0 · 0, refl, refl, refl)) in
-    let reads = serial.0 (record { 0 = ser }) of_one ([], raced, 1, 0, 1 · 1 ∷ [], refl, refl) refl in
+    let reads = serial.0 (done 1 ser (1 · 2) (1 · 1 ∷ [])) of_one ([], raced, refl, refl) refl refl in
     let first : Absent ≡ value (1 · 1) "2" = reads.0 in
     absurd (cc)
 
@@ -94,7 +98,7 @@ lost-run = run-of forgets_constraints lost_update (refl, inl refl, (refl, inl re
 
 pub forgotten-constraints-break : IsBrokenBy SnapshotsOverwriteNothingUnseen forgets_constraints
 forgotten-constraints-break law =
-    let h = law lone_site both_wrote 1 (record { 0 = si }) 0 (1 · 2) (1 · 1 ∷ []) lost-run refl in
+    let h = law lone_site both_wrote (done 1 si (1 · 2) (1 · 1 ∷ [])) lost-run refl in
     let rs = history forgets_constraints lone_site both_wrote in
     let t : Told = record { merges = false; states = 0 · 0 ∷ []; reads = (codes "x", Absent) ∷ []; writes = (codes "x", Put (codes "1")) ∷ (codes "y", Put (codes "1")) ∷ [] } in
     let it : told 1 both_wrote ≡ Some t = refl in
@@ -114,29 +118,29 @@ delivered-run = record { limits = refl; own = refl; opens = refl; answered = (re
 pub forgotten-deliveries-break : IsBrokenBy DeliveriesAreKept forgets_deliveries
 forgotten-deliveries-break law = absurd (none-some of_second_site (law first_site [] [] 0 of_second_site delivered-run))
 
-collecting-run : IsRun forgets_collected lone_site (committing collected_after 1 (record { 0 = none }) 0 (1 · 1) (0 · 0 ∷ []) put_before_collection)
-collecting-run = run-of forgets_collected (committing collected_after 1 (record { 0 = none }) 0 (1 · 1) (0 · 0 ∷ []) put_before_collection) (refl, inl refl, (refl, inl refl, (refl, inl refl, (refl, inl refl, (refl, inl refl, (refl, inl refl, (refl, inl refl, (refl, inl refl, (refl, inl refl, tt)))))))))
+collecting-run : IsRun forgets_collected lone_site (collected_after ++ as_line (done 1 none (1 · 1) (0 · 0 ∷ [])) ∷ put_before_collection)
+collecting-run = run-of forgets_collected (collected_after ++ as_line (done 1 none (1 · 1) (0 · 0 ∷ [])) ∷ put_before_collection) (refl, inl refl, (refl, inl refl, (refl, inl refl, (refl, inl refl, (refl, inl refl, (refl, inl refl, (refl, inl refl, (refl, inl refl, (refl, inl refl, tt)))))))))
 
 pub forgotten-records-break : IsBrokenBy CommitsAreKept forgets_collected
 forgotten-records-break law =
-    let h = law lone_site collected_after put_before_collection 1 (record { 0 = none }) 0 (1 · 1) (0 · 0 ∷ []) collecting-run in
+    let h = law lone_site collected_after put_before_collection (done 1 none (1 · 1) (0 · 0 ∷ [])) collecting-run in
     absurd (none-some (record { id = 1 · 1; parents = 0 · 0 ∷ []; writes = h.0.writes }) h.2)
 
-conflict-run : IsRun leaves_conflicts lone_site (committing after_conflict 2 (record { 0 = none }) 0 (1 · 1) (0 · 0 ∷ []) begun_both)
-conflict-run = run-of leaves_conflicts (committing after_conflict 2 (record { 0 = none }) 0 (1 · 1) (0 · 0 ∷ []) begun_both) (refl, inl refl, (refl, inl refl, (refl, inl refl, (refl, inl refl, (refl, inl refl, (refl, inl refl, (refl, inl refl, (refl, inl refl, (refl, inl refl, (refl, inl refl, (refl, inl refl, (refl, inl refl, tt))))))))))))
+conflict-run : IsRun leaves_conflicts lone_site (after_conflict ++ as_line (done 2 none (1 · 1) (0 · 0 ∷ [])) ∷ begun_both)
+conflict-run = run-of leaves_conflicts (after_conflict ++ as_line (done 2 none (1 · 1) (0 · 0 ∷ [])) ∷ begun_both) (refl, inl refl, (refl, inl refl, (refl, inl refl, (refl, inl refl, (refl, inl refl, (refl, inl refl, (refl, inl refl, (refl, inl refl, (refl, inl refl, (refl, inl refl, (refl, inl refl, (refl, inl refl, tt))))))))))))
 
 pub open-conflicts-break-joins : IsBrokenBy OtherKeysAreJoined leaves_conflicts
 open-conflicts-break-joins law =
     let older : List Line =
     1 asks merge_leaves => Merging (1 · 1 ∷ 1 · 2 ∷ []) ∷ 1 asks commit ser => Committed (1 · 2) (0 · 0 ∷ []) ∷ 1 asks put "x" "1" => Done ∷ raced in
     let t : Told = record { merges = true; states = 1 · 1 ∷ 1 · 2 ∷ []; reads = []; writes = [] } in
-    let h = law lone_site [] older 1 (record { 0 = none }) 0 (1 · 3) (1 · 1 ∷ 1 · 2 ∷ []) t conflict-run refl (codes "x") refl in
+    let h = law lone_site [] older (done 1 none (1 · 3) (1 · 1 ∷ 1 · 2 ∷ [])) t conflict-run refl (codes "x") refl in
     let none : true ≡ false = h.0 in
     absurd (cc)
 
 -- 1.1, 1.2 beside it, and 1.3 that joins them without x
 abbrev conflicting : List Record
-conflicting = history leaves_conflicts lone_site (committing after_conflict 2 (record { 0 = none }) 0 (1 · 1) (0 · 0 ∷ []) begun_both)
+conflicting = history leaves_conflicts lone_site (after_conflict ++ as_line (done 2 none (1 · 1) (0 · 0 ∷ [])) ∷ begun_both)
 
 -- no state below 1.1 writes x
 none-below : (z : StateId) → IsTrue (is_proper_ancestor conflicting (1 · 1) z) → IsTrue (is_writer conflicting (codes "x") (1 · 3) z) → ⊥
@@ -161,7 +165,7 @@ pub open-conflicts-break : IsBrokenBy CommitsAreShown leaves_conflicts
 open-conflicts-break law =
     let t : Told = record { merges = false; states = 0 · 0 ∷ []; reads = []; writes = (codes "x", Put (codes "2")) ∷ [] } in
     let shown : read conflicting (codes "x") (1 · 3) ≡ Some (1 · 1, Put (codes "2")) =
-    law lone_site after_conflict begun_both 2 (record { 0 = none }) 0 (1 · 1) (0 · 0 ∷ []) t conflict-run refl (codes "x") (Put (codes "2")) (1 · 3) refl refl refl none-below in
+    law lone_site after_conflict begun_both (done 2 none (1 · 1) (0 · 0 ∷ [])) t conflict-run refl (codes "x") (Put (codes "2")) (1 · 3) refl refl refl none-below in
     absurd (none-some (1 · 1, Put (codes "2")) shown)
 
 dropping-run : IsRun drops_sides lone_site (1 asks commit none => Committed (1 · 3) (1 · 1 ∷ []) ∷ merging_both)
@@ -170,7 +174,7 @@ dropping-run = run-of drops_sides (1 asks commit none => Committed (1 · 3) (1 �
 pub dropped-sides-break : IsBrokenBy CommitsJoinWhatTheyRead drops_sides
 dropped-sides-break law =
     let t : Told = record { merges = true; states = 1 · 1 ∷ 1 · 2 ∷ []; reads = []; writes = [] } in
-    let h = law lone_site [] merging_both 1 (record { 0 = none }) 0 (1 · 3) (1 · 1 ∷ []) t dropping-run refl in
+    let h = law lone_site [] merging_both (done 1 none (1 · 3) (1 · 1 ∷ [])) t dropping-run refl in
     let same : ◌≡◌ {A = List StateId} (1 · 1 ∷ []) (1 · 1 ∷ 1 · 2 ∷ []) = h.1 refl in
     absurd (cc)
 

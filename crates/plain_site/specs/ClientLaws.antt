@@ -27,9 +27,17 @@ use Rattle.plain_site.specs.ClientRuns.{Service, IsRun, Told, told, is_shown, si
 
 -- ===== Commits among lines
 
--- a commit of the actor, whatever came before and after
-abbrev pub committing : List Line → ℕ → EndFlags → ℕ → StateId → List StateId → List Line → List Line
-committing newer n flags k x parents older = newer ++ (n asks Commit flags k => Committed x parents) ∷ older
+-- a commit that was done: by which actor, with which end constraints, as which state, and below which parents
+pub record DoneCommit : Type 0 where
+  pub actor : ℕ
+  pub flags : EndFlags
+  pub k : ℕ
+  pub state : StateId
+  pub parents : List StateId
+
+-- its line
+abbrev pub as_line : DoneCommit → Line
+as_line c = c.actor asks Commit c.flags c.k => Committed c.state c.parents
 
 -- ===== Each transaction reads one snapshot
 
@@ -41,14 +49,12 @@ pub record ReadsOneSnapshot (service : Service) : Type 0 where
   pub of_one : (start : Site) (lines : List Line) (n : ℕ) (t : Told) (s : StateId) → IsRun service start lines → told n lines ≡ Some t → t.states ≡ s ∷ [] →
       ReadsShow (λ key. read (history service start lines) key s) t.reads
 
--- ===== Each serializable transaction has read what its place in its branch shows
-
--- a transaction that commits with SER has one parent p, and each of its reads shows what is read at p at its commit
-abbrev pub SerializableReadsHold : Service → Type 0
-SerializableReadsHold service =
-    (start : Site) (older : List Line) (n : ℕ) (flags : EndFlags) (k : ℕ) (x : StateId) (parents : List StateId) →
-    IsRun service start (n asks Commit flags k => Committed x parents ∷ older) → IsTrue (is_ser flags) →
-    (t : Told) × (p : StateId) × (told n older ≡ Some t) × (parents ≡ p ∷ []) × ReadsShow (λ key. read (history service start older) key p) t.reads
+-- a Get of a key that the transaction wrote is shown what it wrote last; the root stands for its writer
+abbrev pub OwnWritesAreRead : Service → Type 0
+OwnWritesAreRead service =
+    (start : Site) (older : List Line) (n : ℕ) (key : List ℕ) (w : Write) (reply : Reply) (t : Told) →
+    IsRun service start (n asks Get key => reply ∷ older) → told n older ≡ Some t → write_of key t.writes ≡ Some w → IsTrue (is_shown reply) →
+    reply ≡ shown root w
 
 -- a transaction that wrote nothing ends at the one state that it read, and each of its reads shows what is read there
 abbrev pub ReadersEndWhereTheyRead : Service → Type 0
@@ -56,6 +62,15 @@ ReadersEndWhereTheyRead service =
     (start : Site) (older : List Line) (n : ℕ) (flags : EndFlags) (k : ℕ) (x : StateId) →
     IsRun service start (n asks Commit flags k => Ended x ∷ older) →
     (t : Told) × (told n older ≡ Some t) × (t.states ≡ x ∷ []) × (t.writes ≡ []) × ReadsShow (λ key. read (history service start older) key x) t.reads
+
+-- ===== Each serializable transaction has read what its place in its branch shows
+
+-- a transaction that commits with SER has one parent p, and each of its reads shows what is read at p at its commit
+abbrev pub SerializableReadsHold : Service → Type 0
+SerializableReadsHold service =
+    (start : Site) (older : List Line) (c : DoneCommit) →
+    IsRun service start (as_line c ∷ older) → IsTrue (is_ser c.flags) →
+    (t : Told) × (p : StateId) × (told c.actor older ≡ Some t) × (c.parents ≡ p ∷ []) × ReadsShow (λ key. read (history service start older) key p) t.reads
 
 -- these records, newest first, are the branch from the root down to x: each state has the next of them as its only parent
 abbrev pub IsBranch : List Record → List Record → StateId → Type 0
@@ -69,17 +84,16 @@ one_after_another (r ∷ before) key =
     let older = one_after_another before key in
     elim (write_of key r.writes) [ Some w ↦ Some (r.id, w) | None ↦ older ]
 
--- the transaction made the state x by its commit with these end constraints, among these lines
-abbrev pub HasMade : List Line → StateId → EndFlags → Told → Type 0
-HasMade lines x flags t =
-    (newer : List Line) × (older : List Line) × (n : ℕ) × (k : ℕ) × (parents : List StateId)
-    × (lines ≡ committing newer n flags k x parents older) × (told n older ≡ Some t)
+-- among these lines is the transaction's commit
+abbrev pub HasCommitted : List Line → DoneCommit → Told → Type 0
+HasCommitted lines c t = (newer : List Line) × (older : List Line) × (lines ≡ newer ++ as_line c ∷ older) × (told c.actor older ≡ Some t)
 
 -- done one after another in the order of the branch, its serializable transactions read what they did read
 abbrev pub IsSerial : List Line → List Record → Type 0
 IsSerial lines [] = Unit {0}
 IsSerial lines (r ∷ before) =
-    ((flags : EndFlags) (t : Told) → HasMade lines r.id flags t → IsTrue (is_ser flags) → ReadsShow (one_after_another before) t.reads) × IsSerial lines before
+    ((c : DoneCommit) (t : Told) → HasCommitted lines c t → c.state ≡ r.id → IsTrue (is_ser c.flags) → ReadsShow (one_after_another before) t.reads)
+    × IsSerial lines before
 
 -- so each branch is a serial history of its serializable transactions
 abbrev pub BranchesAreSerial : Service → Type 0
@@ -93,21 +107,22 @@ BranchesAreSerial service =
 -- what writes a key of its writes and is at or above p is at or above s
 abbrev pub SnapshotsOverwriteNothingUnseen : Service → Type 0
 SnapshotsOverwriteNothingUnseen service =
-    (start : Site) (older : List Line) (n : ℕ) (flags : EndFlags) (k : ℕ) (x : StateId) (parents : List StateId) →
-    IsRun service start (n asks Commit flags k => Committed x parents ∷ older) → IsTrue (is_si flags) →
-    (t : Told) × (s : StateId) × (p : StateId) × (told n older ≡ Some t) × (t.states ≡ s ∷ []) × (parents ≡ p ∷ [])
-    × ReadsShow (λ key. read (history service start older) key s) t.reads
-    × ((key : List ℕ) (w : StateId) → IsTrue (has_key key t.writes) → IsTrue (is_writer (history service start older) key p w) → IsTrue (is_above (history service start older) w s))
+    (start : Site) (older : List Line) (c : DoneCommit) →
+    IsRun service start (as_line c ∷ older) → IsTrue (is_si c.flags) →
+    let rs = history service start older in
+    (t : Told) × (s : StateId) × (p : StateId) × (told c.actor older ≡ Some t) × (t.states ≡ s ∷ []) × (c.parents ≡ p ∷ [])
+    × ReadsShow (λ key. read rs key s) t.reads
+    × ((key : List ℕ) (w : StateId) → IsTrue (has_key key t.writes) → IsTrue (is_writer rs key p w) → IsTrue (is_above rs w s))
 
 -- ===== Nothing committed is lost
 
 -- whatever came after a commit: its state has its parents, and what the transaction wrote
 abbrev pub CommitsAreKept : Service → Type 0
 CommitsAreKept service =
-    (start : Site) (newer older : List Line) (n : ℕ) (flags : EndFlags) (k : ℕ) (x : StateId) (parents : List StateId) →
-    let lines = committing newer n flags k x parents older in
+    (start : Site) (newer older : List Line) (c : DoneCommit) →
+    let lines = newer ++ as_line c ∷ older in
     IsRun service start lines →
-    (t : Told) × (told n older ≡ Some t) × (record_at (history service start lines) x ≡ Some (record { id = x; parents = parents; writes = t.writes }))
+    (t : Told) × (told c.actor older ≡ Some t) × (record_at (history service start lines) c.state ≡ Some (record { id = c.state; parents = c.parents; writes = t.writes }))
 
 -- and a record of another site is kept from when it was applied
 abbrev pub DeliveriesAreKept : Service → Type 0
@@ -119,39 +134,32 @@ DeliveriesAreKept service =
 -- a key that a commit wrote shows that at each state at or below it, until one below it and at or above that state writes the key
 abbrev pub CommitsAreShown : Service → Type 0
 CommitsAreShown service =
-    (start : Site) (newer older : List Line) (n : ℕ) (flags : EndFlags) (k : ℕ) (x : StateId) (parents : List StateId) (t : Told) →
-    let lines = committing newer n flags k x parents older in
+    (start : Site) (newer older : List Line) (c : DoneCommit) (t : Told) →
+    let lines = newer ++ as_line c ∷ older in
     let rs = history service start lines in
-    IsRun service start lines → told n older ≡ Some t →
-    (key : List ℕ) (w : Write) (y : StateId) → write_of key t.writes ≡ Some w → IsTrue (is_known rs y) → IsTrue (is_above rs x y) →
-    ((z : StateId) → IsTrue (is_proper_ancestor rs x z) → IsTrue (is_writer rs key y z) → ⊥) →
-    read rs key y ≡ Some (x, w)
+    IsRun service start lines → told c.actor older ≡ Some t →
+    (key : List ℕ) (w : Write) (y : StateId) → write_of key t.writes ≡ Some w → IsTrue (is_known rs y) → IsTrue (is_above rs c.state y) →
+    ((z : StateId) → IsTrue (is_proper_ancestor rs c.state z) → IsTrue (is_writer rs key y z) → ⊥) →
+    read rs key y ≡ Some (c.state, w)
 
 -- a key that a commit didn't write shows the one value over its parents, of which the key is no conflict key
 abbrev pub OtherKeysAreJoined : Service → Type 0
 OtherKeysAreJoined service =
-    (start : Site) (newer older : List Line) (n : ℕ) (flags : EndFlags) (k : ℕ) (x : StateId) (parents : List StateId) (t : Told) →
-    let lines = committing newer n flags k x parents older in
+    (start : Site) (newer older : List Line) (c : DoneCommit) (t : Told) →
+    let lines = newer ++ as_line c ∷ older in
     let rs = history service start lines in
-    IsRun service start lines → told n older ≡ Some t →
-    (key : List ℕ) → IsFalse (has_key key t.writes) → IsFalse (is_conflict_key rs parents key) × (read rs key x ≡ value_over rs parents key)
+    IsRun service start lines → told c.actor older ≡ Some t →
+    (key : List ℕ) → IsFalse (has_key key t.writes) → IsFalse (is_conflict_key rs c.parents key) × (read rs key c.state ≡ value_over rs c.parents key)
 
 -- a commit's state is at or below each state that its transaction read, and of a merge these are its parents
 abbrev pub CommitsJoinWhatTheyRead : Service → Type 0
 CommitsJoinWhatTheyRead service =
-    (start : Site) (newer older : List Line) (n : ℕ) (flags : EndFlags) (k : ℕ) (x : StateId) (parents : List StateId) (t : Told) →
-    let lines = committing newer n flags k x parents older in
-    IsRun service start lines → told n older ≡ Some t →
-    IsTrue (are_above (history service start lines) t.states x) × (IsTrue t.merges → parents ≡ t.states)
+    (start : Site) (newer older : List Line) (c : DoneCommit) (t : Told) →
+    let lines = newer ++ as_line c ∷ older in
+    IsRun service start lines → told c.actor older ≡ Some t →
+    IsTrue (are_above (history service start lines) t.states c.state) × (IsTrue t.merges → c.parents ≡ t.states)
 
 -- ===== Sessions read their own commits
-
--- a Get of a key that the transaction wrote is shown what it wrote last; the root stands for its writer
-abbrev pub OwnWritesAreRead : Service → Type 0
-OwnWritesAreRead service =
-    (start : Site) (older : List Line) (n : ℕ) (key : List ℕ) (w : Write) (reply : Reply) (t : Told) →
-    IsRun service start (n asks Get key => reply ∷ older) → told n older ≡ Some t → write_of key t.writes ≡ Some w → IsTrue (is_shown reply) →
-    reply ≡ shown root w
 
 -- Parent begins at the session's last commit, Ancestor at or below it, and Any exactly where the state that arrived last is:
 -- with any of them a session reads its own commit, with Any as far as the last-arrived state is at or below it. However it
