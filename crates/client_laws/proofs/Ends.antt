@@ -27,15 +27,16 @@ use Rattle.plain_site.specs.Commits.{with_record, without_txn_of, growth_refusal
 use Rattle.plain_site.specs.Exchange.{is_early, judgements}
 use Rattle.plain_site.specs.Step.{served, step}
 use Rattle.plain_site.specs.RowWords.{◌asks◌=>◌}
-use Rattle.plain_site.specs.ClientRuns.{site_after, told}
+use Rattle.plain_site.specs.ClientRuns.{history, site_after, told}
 use Rattle.plain_site.specs.ClientLaws.{ReadersEndWhereTheyRead, DeliveriesAreKept}
 use Rattle.plain_site.proofs.RepliesFrame.{by-txn}
 use Rattle.plain_site.proofs.SoundCommits.{next_record}
 use Rattle.client_laws.proofs.Dags.{value-over-one}
 use Rattle.client_laws.proofs.Records.{record-of-newest, record-stays}
 use Rattle.client_laws.proofs.Tellings.{shows-alike}
-use Rattle.client_laws.proofs.Effects.{OnlyRefuse, refuse-only, found-only, both-only, unless-refused}
-use Rattle.client_laws.proofs.Held.{run-holds, run-before}
+use Rattle.client_laws.proofs.Effects.{AreNoTaking, refuse-no-taking, found-no-taking, both-no-taking, OnlyRefuse, refuse-only, found-only, both-only, unless-refused}
+use Rattle.client_laws.proofs.EffectsOfSites.{judged-no-taking}
+use Rattle.client_laws.proofs.Held.{dag_after, history-is-told, run-holds, run-before}
 use Rattle.client_laws.proofs.Laws.{was-answered, tells-seen}
 use Rattle.client_laws.proofs.Kept.{keeps-on, older-run}
 
@@ -94,33 +95,17 @@ readers-end-where-they-read built start older n flags k x run =
     let line = n asks Commit flags k => Ended x in
     let h = run-holds built start older (run-before built start line older run) in
     let at = (step-ends built site n flags k).told x (sym (was-answered built site line run.answered.1 refl)) in
+    let rs = history older in
     let u = tells-seen site.dag (entry_of n site.txns) (told n older) (Single at.0) at.1 (h.txn n) in (
       u.0,
       u.1,
       u.2.states ∙ ap (λ (y : StateId). y ∷ []) at.2,
       u.2.writes ∙ at.3,
-      shows-alike (value_over site.dag (at.0.state ∷ [])) (λ key. read site.dag key x) u.0.reads
-          (λ key. value-over-one site.dag at.0.state key ∙ ap (read site.dag key) at.2) u.2.shown,
+      shows-alike (value_over site.dag (at.0.state ∷ [])) (λ key. read rs key x) u.0.reads
+          (λ key. value-over-one site.dag at.0.state key ∙ (ap (read site.dag key) at.2 ∙ ap (λ qs. read qs key x) h.dag)) u.2.shown,
     )
 
 -- ===== Deliveries
-
--- each of these, if it is a reply, isn't Applied
-abbrev AreNoTaking : List (Option Reply) → Type 0
-AreNoTaking [] = Unit {0}
-AreNoTaking (None ∷ more) = AreNoTaking more
-AreNoTaking (Some reply ∷ more) = (reply ≡ Applied → ⊥) × AreNoTaking more
-
-when-no-taking : (test : Bool) (reply : Reply) (more : List (Option Reply)) → (reply ≡ Applied → ⊥) → AreNoTaking more → AreNoTaking (when test reply ∷ more)
-when-no-taking true reply more h m = (h, m)
-when-no-taking false reply more h m = m
-
-refuse-no-taking : (test : Bool) (refusal : Refusal) (more : List (Option Reply)) → AreNoTaking more → AreNoTaking (refuse test refusal ∷ more)
-refuse-no-taking test refusal more m = when-no-taking test (Refused refusal) more (λ e. absurd (cc)) m
-
-found-no-taking : {A : Type 0} (refusal : A → Refusal) (o : Option A) (more : List (Option Reply)) → AreNoTaking more → AreNoTaking (refuse_found refusal o ∷ more)
-found-no-taking refusal None more m = m
-found-no-taking refusal (Some a) more m = (λ e. absurd (cc), m)
 
 -- where it is answered Applied, the record is the newest
 record TellsTaken (site : Site) (r : Record) (answer : Answer) : Type 0 where
@@ -130,30 +115,6 @@ unless-taken : (site : Site) (r : Record) (replies : List (Option Reply)) (answe
 unless-taken site r [] answer none h = h
 unless-taken site r (None ∷ more) answer none h = unless-taken site r more answer none h
 unless-taken site r (Some reply ∷ more) answer none h = record { taken = λ e. absurd (none.0 e) }
-
-both-no-taking : (first more : List (Option Reply)) → AreNoTaking first → AreNoTaking more → AreNoTaking (first ++ more)
-both-no-taking [] more h k = k
-both-no-taking (None ∷ first) more h k = both-no-taking first more h k
-both-no-taking (Some reply ∷ first) more h k = (h.0, both-no-taking first more h.1 k)
-
-judged-no-taking : (site : Site) (r : Record) → AreNoTaking (judgements site r)
-judged-no-taking site r =
-    let count = count_of_site site.dag r.id.site in
-    let conflict = open_conflict site.dag r.parents r.writes in
-    let pair = comparable_pair site.dag r.parents in
-    let closed = find (is_closed site.dag site.floors) r.parents in
-    let seventh : List (Option Reply) = refuse_found OpenConflict conflict ∷ [] in
-    let sixth : List (Option Reply) = refuse_found (λ (p : StateId × StateId). Comparable p.0 p.1) pair ∷ seventh in
-    let fifth : List (Option Reply) = refuse_found ClosedParent closed ∷ sixth in
-    let fourth : List (Option Reply) = when (is_early site r) (Early count) ∷ fifth in
-    let third : List (Option Reply) = refuse (r.id.site == site.own) (OwnItem r.id.site r.id.sequence) ∷ fourth in
-    let second : List (Option Reply) = when (nat_le r.id.sequence count) Known ∷ third in
-    refuse-no-taking (nat_lt site.limits.sites r.id.site) (BadSite r.id.site) second
-    (when-no-taking (nat_le r.id.sequence count) Known third (λ e. absurd (cc))
-    (refuse-no-taking (r.id.site == site.own) (OwnItem r.id.site r.id.sequence) fourth
-    (when-no-taking (is_early site r) (Early count) fifth (λ e. absurd (cc))
-    (found-no-taking ClosedParent closed sixth
-    (found-no-taking (λ (p : StateId × StateId). Comparable p.0 p.1) pair seventh (found-no-taking OpenConflict conflict [] tt))))))
 
 step-takes : (built : Built) (site : Site) (n : ℕ) (r : Record) → TellsTaken site r (step built site n (Deliver (State r)))
 step-takes built site n r =
@@ -171,5 +132,6 @@ deliveries-are-kept built start newer older n r run =
     let site = site_after (step built) start older in
     let own = older-run built start newer (line ∷ older) run in
     let grown = (step-takes built site n r).taken (sym (was-answered built site line own.answered.1 refl)) in
-    keeps-on built (λ rs. record_at rs r.id ≡ Some r) (λ rs q dag f e. record-stays rs q f r.id r e) start newer (line ∷ older) run
-    (subst (λ rs. record_at rs r.id ≡ Some r) (sym grown) (record-of-newest site.dag r))
+    subst (λ rs. record_at rs r.id ≡ Some r) (history-is-told built start (newer ++ line ∷ older) run)
+    (keeps-on built (λ rs. record_at rs r.id ≡ Some r) (λ rs q dag f e. record-stays rs q f r.id r e) start newer (line ∷ older) run
+    (subst (λ rs. record_at rs r.id ≡ Some r) (sym grown) (record-of-newest site.dag r)))

@@ -17,19 +17,21 @@ use Rattle.plain_site.specs.Built.{Built}
 use Rattle.plain_site.specs.Step.{step}
 use Rattle.plain_site.specs.Sound.{IsSound}
 use Rattle.plain_site.specs.RowWords.{Line}
-use Rattle.plain_site.specs.ClientRuns.{wants_memory, after_line, site_after, is_asked, IsAnswered, AreAnswered, IsRun, retold, told, resession, told_session, history}
+use Rattle.plain_site.specs.ClientRuns.{wants_memory, after_line, site_after, is_asked, IsAnswered, AreAnswered, IsRun, retold, told, regrown, history, resession, told_session}
+use Rattle.plain_site.specs.ClientLaws.{HistoryIsTold}
 use Rattle.plain_site.proofs.SoundBooks.{at-each}
 use Rattle.plain_site.proofs.SoundOpening.{opening-is-sound}
 use Rattle.plain_site.proofs.SoundRequests.{request-keeps-sound}
 use Rattle.client_laws.proofs.Tellings.{Tells, tells-later}
-use Rattle.client_laws.proofs.Effects.{wanting-tells-nothing, wanting-leaves-session}
+use Rattle.client_laws.proofs.Effects.{wanting-tells-nothing, wanting-leaves-session, wanting-records-nothing}
 use Rattle.client_laws.proofs.EffectsOfSites.{step-does}
 
 -- the site is sound, and its transactions and sessions are as the lines tell
 pub record Holds (built : Built) (start site : Site) (lines : List Line) : Type 0 where
   pub sound : IsSound built site
+  pub dag : site.dag ≡ history lines
   pub txn : (n : ℕ) → Tells site.dag (entry_of n site.txns) (told n lines)
-  pub session : (n : ℕ) → entry_of n site.sessions ≡ told_session (step built) start n lines
+  pub session : (n : ℕ) → entry_of n site.sessions ≡ told_session n lines
 
 -- ===== The history grows
 
@@ -64,17 +66,16 @@ wanting-is reply t = absurd (cc)
 
 module _ (built : Built) (start : Site) where
   module _ (line : Line) (older : List Line) (h : Holds built start (site_after (step built) start older) older) where
-    session-here : (after : Site) → after_line (step built) (site_after (step built) start older) line ≡ after →
-        told_session (step built) start line.actor (line ∷ older) ≡ resession after.dag line.request line.reply (told_session (step built) start line.actor older)
-    session-here after e =
-        let before = told_session (step built) start line.actor older in
-        cond-true (line.actor == line.actor) (resession (history (step built) start (line ∷ older)) line.request line.reply before) before (eq-eqb line.actor line.actor refl)
-        ∙ ap (λ (s : Site). resession s.dag line.request line.reply before) e
+    session-here : (rs : List Record) → rs ≡ history (line ∷ older) → told_session line.actor (line ∷ older) ≡ resession rs line.request line.reply (told_session line.actor older)
+    session-here rs e =
+        let before = told_session line.actor older in
+        cond-true (line.actor == line.actor) (resession (history (line ∷ older)) line.request line.reply before) before (eq-eqb line.actor line.actor refl)
+        ∙ ap (λ qs. resession qs line.request line.reply before) (sym e)
 
-    session-other : (m : ℕ) → (m ≡ line.actor → ⊥) → told_session (step built) start m (line ∷ older) ≡ told_session (step built) start m older
+    session-other : (m : ℕ) → (m ≡ line.actor → ⊥) → told_session m (line ∷ older) ≡ told_session m older
     session-other m differ =
-        let before = told_session (step built) start m older in
-        cond-false (line.actor == m) (resession (history (step built) start (line ∷ older)) line.request line.reply before) before (ne_eqb line.actor m (λ e. differ (sym e)))
+        let before = told_session m older in
+        cond-false (line.actor == m) (resession (history (line ∷ older)) line.request line.reply before) before (ne_eqb line.actor m (λ e. differ (sym e)))
 
     -- memory was wanting, and nothing was done
     holds-wanting : IsTrue (wants_memory line.reply) → Holds built start (site_after (step built) start older) (line ∷ older)
@@ -82,19 +83,21 @@ module _ (built : Built) (start : Site) where
         let site = site_after (step built) start older in
         let n = line.actor in
         let e = wanting-is line.reply wants in
-        let same = cond-true (wants_memory line.reply) site (step built site n line.request).0 wants in
+        let same : site.dag ≡ history (line ∷ older) =
+        h.dag ∙ sym (ap (λ r. regrown line.request r (told n older) (history older)) e ∙ wanting-records-nothing line.request (told n older) (history older)) in
         record {
           sound = h.sound;
+          dag = same;
           txn =
               at-each (λ i. Tells site.dag (entry_of i site.txns) (told i (line ∷ older))) n
               (subst (Tells site.dag (entry_of n site.txns))
               (sym (told-here line older ∙ (ap (λ r. retold line.request r (told n older)) e ∙ wanting-tells-nothing line.request (told n older)))) (h.txn n))
               (λ i differ. subst (Tells site.dag (entry_of i site.txns)) (sym (told-other line older i differ)) (h.txn i));
           session =
-              at-each (λ i. entry_of i site.sessions ≡ told_session (step built) start i (line ∷ older)) n
+              at-each (λ i. entry_of i site.sessions ≡ told_session i (line ∷ older)) n
               (h.session n
-              ∙ sym (session-here site same
-              ∙ (ap (λ r. resession site.dag line.request r (told_session (step built) start n older)) e ∙ wanting-leaves-session line.request site.dag (told_session (step built) start n older))))
+              ∙ sym (session-here site.dag same
+              ∙ (ap (λ r. resession site.dag line.request r (told_session n older)) e ∙ wanting-leaves-session line.request site.dag (told_session n older))))
               (λ i differ. h.session i ∙ sym (session-other i differ));
         }
 
@@ -103,21 +106,24 @@ module _ (built : Built) (start : Site) where
     open-is-known i t e = (h.sound.each_txn i t e).2.known
 
     -- the site answered
-    holds-answered : IsTrue (is_asked line) → line.reply ≡ (step built (site_after (step built) start older) line.actor line.request).1 → IsFalse (wants_memory line.reply) →
+    holds-answered : IsTrue (is_asked line) → line.reply ≡ (step built (site_after (step built) start older) line.actor line.request).1 →
         Holds built start (step built (site_after (step built) start older) line.actor line.request).0 (line ∷ older)
-    holds-answered asked e f =
+    holds-answered asked e =
         let site = site_after (step built) start older in
         let n = line.actor in
         let next = (step built site n line.request).0 in
         let does = step-does site n built line.request in
         let parts = and_parts (is_u16 n) (is_request line.request) asked in
         let sound = request-keeps-sound built line.request site n parts.0 parts.1 h.sound in
-        let same = cond-false (wants_memory line.reply) site next f in
+        let same : next.dag ≡ history (line ∷ older) =
+        does.dag (told n older) (h.txn n)
+        ∙ (ap (λ r. regrown line.request r (told n older) site.dag) (sym e) ∙ ap (regrown line.request line.reply (told n older)) h.dag) in
         let before : (i : ℕ) → Tells next.dag (entry_of i site.txns) (told i older) =
         λ i. stays-later (λ rs. Tells rs (entry_of i site.txns) (told i older)) site.dag next.dag does.grows h.sound.dag sound.dag
         (λ r f t. tells-later site.dag r f (dag-grows site.dag h.sound.dag) (entry_of i site.txns) (told i older) (open-is-known i) t) (h.txn i) in
         record {
           sound = sound;
+          dag = same;
           txn =
               at-each (λ i. Tells next.dag (entry_of i next.txns) (told i (line ∷ older))) n
               (subst (Tells next.dag (entry_of n next.txns)) (sym (told-here line older ∙ ap (λ r. retold line.request r (told n older)) e)) (does.txn (told n older) (before n)))
@@ -125,10 +131,10 @@ module _ (built : Built) (start : Site) where
               subst (λ o. Tells next.dag o (told i (line ∷ older))) (sym (does.other_txns i differ))
               (subst (Tells next.dag (entry_of i site.txns)) (sym (told-other line older i differ)) (before i)));
           session =
-              at-each (λ i. entry_of i next.sessions ≡ told_session (step built) start i (line ∷ older)) n
+              at-each (λ i. entry_of i next.sessions ≡ told_session i (line ∷ older)) n
               (does.session
               ∙ (ap (λ r. resession next.dag line.request r (entry_of n site.sessions)) (sym e)
-              ∙ (ap (resession next.dag line.request line.reply) (h.session n) ∙ sym (session-here next same))))
+              ∙ (ap (resession next.dag line.request line.reply) (h.session n) ∙ sym (session-here next.dag same))))
               (λ i differ. does.other_sessions i differ ∙ (h.session i ∙ sym (session-other i differ)));
         }
 
@@ -140,7 +146,7 @@ module _ (built : Built) (start : Site) where
         elim (cases_Bool (wants_memory line.reply)) [
           | inl wants ↦ subst (λ s. Holds built start s (line ∷ older)) (sym (cond-true (wants_memory line.reply) site next wants)) (holds-wanting wants)
           | inr f ↦
-              subst (λ s. Holds built start s (line ∷ older)) (sym (cond-false (wants_memory line.reply) site next f)) (holds-answered asked (by-step answered f) f)
+              subst (λ s. Holds built start s (line ∷ older)) (sym (cond-false (wants_memory line.reply) site next f)) (holds-answered asked (by-step answered f))
         ]
       where
         by-step : IsAnswered (step built) (site_after (step built) start older) line → IsFalse (wants_memory line.reply) →
@@ -153,6 +159,7 @@ module _ (built : Built) (start : Site) where
   opening-holds : IsSound built start → start ≡ opening start.limits start.own → Holds built start start []
   opening-holds sound e = record {
     sound = sound;
+    dag = ap (λ (s : Site). s.dag) e;
     txn = λ n. subst (λ (s : Site). Tells s.dag (entry_of n s.txns) None) (sym e) tt;
     session = λ n. ap (λ (s : Site). entry_of n s.sessions) e;
   }
@@ -168,3 +175,10 @@ module _ (built : Built) (start : Site) where
   -- without its newest line it is a run too
   pub run-before : (line : Line) (older : List Line) → IsRun (step built) start (line ∷ older) → IsRun (step built) start older
   run-before line older run = record { limits = run.limits; own = run.own; opens = run.opens; answered = run.answered.2 }
+
+-- the history of the site after these lines
+abbrev pub dag_after : Built → Site → List Line → List Record
+dag_after built start lines = (site_after (step built) start lines).dag
+
+pub history-is-told : (built : Built) → HistoryIsTold (step built)
+history-is-told built start lines run = (run-holds built start lines run).dag

@@ -36,7 +36,7 @@ use Rattle.plain_site.specs.ClientLaws.{DoneCommit, as_line, CommitsAreKept, Com
 use Rattle.client_laws.proofs.Records.{record-of-newest, record-stays, shown-below, joined, no-conflict}
 use Rattle.client_laws.proofs.Tellings.{is_merge}
 use Rattle.client_laws.proofs.EffectsOfSites.{step-does}
-use Rattle.client_laws.proofs.Held.{Later, stays-later, run-holds, run-before}
+use Rattle.client_laws.proofs.Held.{dag_after, history-is-told, Later, stays-later, run-holds, run-before}
 use Rattle.client_laws.proofs.Commits.{IsPlaced, step-tells-begin}
 use Rattle.client_laws.proofs.Laws.{was-answered, before, is-commit, is-told}
 
@@ -56,7 +56,7 @@ module _ (built : Built) where
 
   -- what stays as records arrive stays with newer lines
   pub keeps-on : (P : List Record → Type 0) → ((rs : List Record) (r : Record) → IsDag rs → Fits rs r → P rs → P (r ∷ rs)) → (start : Site) (newer older : List Line) →
-      IsRun (step built) start (newer ++ older) → P (history (step built) start older) → P (history (step built) start (newer ++ older))
+      IsRun (step built) start (newer ++ older) → P (dag_after built start older) → P (dag_after built start (newer ++ older))
   keeps-on P stays start [] older run h = h
   keeps-on P stays start (line ∷ newer) older run h =
       let lines = newer ++ older in
@@ -67,40 +67,57 @@ module _ (built : Built) where
       (λ r f d. stays site.dag r dag f d) (keeps-on P stays start newer older before h)
 
   its-record : (start : Site) (older : List Line) (d : DoneCommit) → IsRun (step built) start (as_line d ∷ older) → (t : Told) × (told d.actor older ≡ Some t)
-      × (record_at (history (step built) start (as_line d ∷ older)) d.state ≡ Some (record { id = d.state; parents = d.parents; writes = t.writes }))
+      × (record_at (dag_after built start (as_line d ∷ older)) d.state ≡ Some (record { id = d.state; parents = d.parents; writes = t.writes }))
   its-record start older d run =
       let c = is-commit built start older d run in
       let u = is-told built start older d run in
       let r : Record = record { id = d.state; parents = d.parents; writes = writes_of c.txn } in
-      let newest : record_at (history (step built) start (as_line d ∷ older)) d.state ≡ Some r =
-      subst (λ rs. record_at rs d.state ≡ Some r) (sym c.grown) (record-of-newest (history (step built) start older) r) in
+      let newest : record_at (dag_after built start (as_line d ∷ older)) d.state ≡ Some r =
+      subst (λ rs. record_at rs d.state ≡ Some r) (sym c.grown) (record-of-newest (dag_after built start older) r) in
       (u.0, u.1, newest ∙ ap (λ (ws : List KeyWrite). Some (record r { writes = ws })) (sym u.2.writes))
 
-  pub commits-are-kept : CommitsAreKept (step built)
-  commits-are-kept start newer older d run =
+  record-is-kept : (start : Site) (newer older : List Line) (d : DoneCommit) → IsRun (step built) start (newer ++ as_line d ∷ older) → (t : Told) × (told d.actor older ≡ Some t)
+      × (record_at (dag_after built start (newer ++ as_line d ∷ older)) d.state ≡ Some (record { id = d.state; parents = d.parents; writes = t.writes }))
+  record-is-kept start newer older d run =
       let own = its-record start older d (older-run start newer (as_line d ∷ older) run) in
       let r : Record = record { id = d.state; parents = d.parents; writes = own.0.writes } in
       (own.0, own.1, keeps-on (λ rs. record_at rs d.state ≡ Some r) (λ rs q dag f e. record-stays rs q f d.state r e) start newer (as_line d ∷ older) run own.2)
 
+  pub commits-are-kept : CommitsAreKept (step built)
+  commits-are-kept start newer older d run =
+      let kept = record-is-kept start newer older d run in
+      let r : Record = record { id = d.state; parents = d.parents; writes = kept.0.writes } in
+      (kept.0, kept.1, subst (λ rs. record_at rs d.state ≡ Some r) (history-is-told built start (newer ++ as_line d ∷ older) run) kept.2)
+
   pub told-record : (start : Site) (newer older : List Line) (d : DoneCommit) (t : Told) → IsRun (step built) start (newer ++ as_line d ∷ older) → told d.actor older ≡ Some t →
-      record_at (history (step built) start (newer ++ as_line d ∷ older)) d.state ≡ Some (record { id = d.state; parents = d.parents; writes = t.writes })
+      record_at (dag_after built start (newer ++ as_line d ∷ older)) d.state ≡ Some (record { id = d.state; parents = d.parents; writes = t.writes })
   told-record start newer older d t run e =
-      let kept = commits-are-kept start newer older d run in
+      let kept = record-is-kept start newer older d run in
       kept.2 ∙ ap (λ (u : Told). Some (record { id = d.state; parents = d.parents; writes = u.writes })) (same_Some kept.0 t (sym kept.1 ∙ e))
+
+  -- what lines tell of a history is one
+  told-dag : (start : Site) (lines : List Line) → IsRun (step built) start lines → IsDag (history lines)
+  told-dag start lines run = let h = run-holds built start lines run in subst IsDag h.dag h.sound.dag
+
+  told-at : (start : Site) (newer older : List Line) (d : DoneCommit) (t : Told) → IsRun (step built) start (newer ++ as_line d ∷ older) → told d.actor older ≡ Some t →
+      record_at (history (newer ++ as_line d ∷ older)) d.state ≡ Some (record { id = d.state; parents = d.parents; writes = t.writes })
+  told-at start newer older d t run e =
+      let r : Record = record { id = d.state; parents = d.parents; writes = t.writes } in
+      subst (λ rs. record_at rs d.state ≡ Some r) (history-is-told built start (newer ++ as_line d ∷ older) run) (told-record start newer older d t run e)
 
   pub commits-are-shown : CommitsAreShown (step built)
   commits-are-shown start newer older d t run e key w y writes known above none =
       let lines = newer ++ as_line d ∷ older in
-      shown-below (history (step built) start lines) (run-holds built start lines run).sound.dag key d.state y (record { id = d.state; parents = d.parents; writes = t.writes }) w
-      (told-record start newer older d t run e) writes known above none
+      shown-below (history lines) (told-dag start lines run) key d.state y (record { id = d.state; parents = d.parents; writes = t.writes }) w
+      (told-at start newer older d t run e) writes known above none
 
   pub other-keys-are-joined : OtherKeysAreJoined (step built)
   other-keys-are-joined start newer older d t run e key lacks =
       let lines = newer ++ as_line d ∷ older in
-      let rs = history (step built) start lines in
-      let dag = (run-holds built start lines run).sound.dag in
+      let rs = history lines in
+      let dag = told-dag start lines run in
       let q : Record = record { id = d.state; parents = d.parents; writes = t.writes } in
-      let at = told-record start newer older d t run e in
+      let at = told-at start newer older d t run e in
       (no-conflict rs (dag-grows rs dag) key d.state q at lacks, joined rs dag key d.state q at lacks)
 
   -- ===== Below what was read
@@ -140,16 +157,17 @@ module _ (built : Built) where
       let c = is-commit built start older d own in
       let u = is-told built start older d own in
       let sound = (before built start older d own).sound in
-      let rs = history (step built) start older in
+      let rs = dag_after built start older in
       let j = joins-reads rs sound.dag d.flags c.txn d.state d.parents (sound.each_txn d.actor c.txn c.open_there).2.known c.placed in
       let same = same_Some u.0 t (sym u.1 ∙ e) in
       let states : read_states c.txn ≡ t.states = sym u.2.states ∙ ap (λ (v : Told). v.states) same in
       let merges : t.merges ≡ is_merge c.txn = ap (λ (v : Told). v.merges) (sym same) ∙ u.2.merges in
       let r : Record = record { id = d.state; parents = d.parents; writes = writes_of c.txn } in
-      let at : IsTrue (is_known (history (step built) start (line ∷ older)) d.state) × IsTrue (are_above (history (step built) start (line ∷ older)) t.states d.state) =
+      let at : IsTrue (is_known (dag_after built start (line ∷ older)) d.state) × IsTrue (are_above (dag_after built start (line ∷ older)) t.states d.state) =
       subst (λ qs. IsTrue (is_known qs d.state) × IsTrue (are_above qs t.states d.state)) (sym c.grown)
       (newest-is-known rs r, subst (λ xs. IsTrue (are_above (r ∷ rs) xs d.state)) states j.0) in (
-        (keeps-on (λ qs. IsTrue (is_known qs d.state) × IsTrue (are_above qs t.states d.state)) (above-stay d.state t.states) start newer (line ∷ older) run at).1,
+        subst (λ qs. IsTrue (are_above qs t.states d.state)) (history-is-told built start (newer ++ line ∷ older) run)
+            (keeps-on (λ qs. IsTrue (is_known qs d.state) × IsTrue (are_above qs t.states d.state)) (above-stay d.state t.states) start newer (line ∷ older) run at).1,
         λ m. j.1 (sym merges ∙ m) ∙ states,
       )
 
@@ -157,14 +175,17 @@ module _ (built : Built) where
 
   -- a transaction begins where it is told to, by the session's last commit, and not above its ceiling
   begun-at : (b : Begin) (start : Site) (older : List Line) (n : ℕ) (x : StateId) → IsRun (step built) start (n asks BeginAt b => Begun x ∷ older) →
-      (s : Session) × (told_session (step built) start n older ≡ Some s) × (begin_state (history (step built) start older) s.last b ≡ x)
-      × IsTrue (is_admitted (history (step built) start older) s.ceiling x)
+      (s : Session) × (told_session n older ≡ Some s) × (begin_state (history older) s.last b ≡ x) × IsTrue (is_admitted (history older) s.ceiling x)
   begun-at b start older n x run =
       let site = site_after (step built) start older in
       let line = n asks BeginAt b => Begun x in
       let h = run-holds built start older (run-before built start line older run) in
-      let at = (step-tells-begin built site n b).told x (sym (was-answered built site line run.answered.1 refl)) in
-      (at.0, sym (h.session n) ∙ at.1, at.2, at.3)
+      let at = (step-tells-begin built site n b).told x (sym (was-answered built site line run.answered.1 refl)) in (
+        at.0,
+        sym (h.session n) ∙ at.1,
+        subst (λ rs. begin_state rs at.0.last b ≡ x) h.dag at.2,
+        subst (λ rs. IsTrue (is_admitted rs at.0.ceiling x)) h.dag at.3,
+      )
 
   pub above-last-below : (rs : List Record) (x : StateId) → IsTrue (is_above rs x (last_below rs x))
   above-last-below rs x = elim (option-cases (find (is_above rs x) (states rs))) [
@@ -176,11 +197,11 @@ module _ (built : Built) where
   sessions-read-their-commits = record {
     parent = λ start older n x run. let at = begun-at Parent start older n x run in (at.0, at.1, sym at.2);
     ancestor = λ start older n x run.
-        let rs = history (step built) start older in
+        let rs = history older in
         let at = begun-at Ancestor start older n x run in
         (at.0, at.1, subst (λ z. IsTrue (is_above rs at.0.last z)) at.2 (above-last-below rs at.0.last));
     any = λ start older n x run.
-        let rs = history (step built) start older in
+        let rs = history older in
         let at = begun-at Any start older n x run in (
           at.0,
           at.1,
@@ -188,5 +209,5 @@ module _ (built : Built) where
         );
     under_ceiling = λ start older n b x run.
         let at = begun-at b start older n x run in
-        (at.0, at.1, not-true (is_proper_ancestor (history (step built) start older) x at.0.ceiling) at.3);
+        (at.0, at.1, not-true (is_proper_ancestor (history older) x at.0.ceiling) at.3);
   }

@@ -27,7 +27,7 @@ use Rattle.plain_site.specs.ClientRuns.{wants_memory, site_after, history, IsAns
 use Rattle.plain_site.specs.ClientLaws.{DoneCommit, as_line, ReadsOneSnapshot, SerializableReadsHold, SnapshotsOverwriteNothingUnseen}
 use Rattle.client_laws.proofs.Dags.{value-over-one}
 use Rattle.client_laws.proofs.Tellings.{IsTold, Tells, shows-alike, shows-kept-alike}
-use Rattle.client_laws.proofs.Held.{Holds, run-holds, run-before}
+use Rattle.client_laws.proofs.Held.{dag_after, history-is-told, Holds, run-holds, run-before}
 use Rattle.client_laws.proofs.Commits.{IsPlaced, IsCommit, step-tells-commit}
 
 -- ===== What is told of an open transaction
@@ -54,19 +54,18 @@ module _ (built : Built) where
 
   -- ===== One snapshot
 
-  told-shows : (start : Site) (lines : List Line) (n : ℕ) (t : Told) → IsRun (step built) start lines → told n lines ≡ Some t →
-      ReadsShow (value_over (history (step built) start lines) t.states) t.reads
+  told-shows : (start : Site) (lines : List Line) (n : ℕ) (t : Told) → IsRun (step built) start lines → told n lines ≡ Some t → ReadsShow (value_over (history lines) t.states) t.reads
   told-shows start lines n t run e =
       let h = run-holds built start lines run in
       let site = site_after (step built) start lines in
       let open_there = tells-open site.dag (entry_of n site.txns) (told n lines) t e (h.txn n) in
-      subst (λ xs. ReadsShow (value_over site.dag xs) t.reads) (sym open_there.2.states) open_there.2.shown
+      subst (λ rs. ReadsShow (value_over rs t.states) t.reads) h.dag (subst (λ xs. ReadsShow (value_over site.dag xs) t.reads) (sym open_there.2.states) open_there.2.shown)
 
   pub reads-one-snapshot : ReadsOneSnapshot (step built)
   reads-one-snapshot = record {
     of_several = told-shows;
     of_one = λ start lines n t s run e at.
-        let rs = history (step built) start lines in
+        let rs = history lines in
         shows-alike (value_over rs t.states) (λ key. read rs key s) t.reads (λ key. ap (λ xs. value_over rs xs key) at ∙ value-over-one rs s key)
         (told-shows start lines n t run e);
   }
@@ -119,20 +118,21 @@ module _ (built : Built) where
   -- the parent of a serializable transaction is known, and its reads hold there
   pub ser-parent : (start : Site) (older : List Line) (d : DoneCommit) →
       IsRun (step built) start (as_line d ∷ older) → IsTrue (is_ser d.flags) →
-      (u : Told) × (told d.actor older ≡ Some u) × (p : StateId) × IsTrue (is_known (history (step built) start older) p) × (d.parents ≡ p ∷ [])
-      × ReadsShow (λ key. read (history (step built) start older) key p) u.reads
+      (u : Told) × (told d.actor older ≡ Some u) × (p : StateId) × IsTrue (is_known (dag_after built start older) p) × (d.parents ≡ p ∷ [])
+      × ReadsShow (λ key. read (dag_after built start older) key p) u.reads
   ser-parent start older d run ser =
       let c = is-commit start older d run in
       let u = is-told start older d run in
       let sound = (before start older d run).sound in
-      let rs = history (step built) start older in
+      let rs = dag_after built start older in
       let p = ser-holds rs sound.dag d.flags c.txn d.parents u.0 (sound.each_txn d.actor c.txn c.open_there).2.known ser c.placed u.2 in
       (u.0, u.1, p.0, p.1, p.2, p.3)
 
   pub serializable-reads-hold : SerializableReadsHold (step built)
   serializable-reads-hold start older d run ser =
       let h = ser-parent start older d run ser in
-      (h.0, h.2, h.1, h.4, h.5)
+      let e = history-is-told built start older (run-before built start (as_line d) older run) in
+      (h.0, h.2, h.1, h.4, subst (λ rs. ReadsShow (λ key. read rs key h.2) h.0.reads) e h.5)
 
   -- ===== SI
 
@@ -158,6 +158,15 @@ module _ (built : Built) where
       let c = is-commit start older d run in
       let u = is-told start older d run in
       let sound = (before start older d run).sound in
-      let rs = history (step built) start older in
+      let rs = dag_after built start older in
       let p = si-holds rs sound.dag d.flags c.txn d.parents u.0 (sound.each_txn d.actor c.txn c.open_there).2.known si c.placed u.2 in
-      (u.0, p.0, p.1, u.1, p.2, p.3, p.4, p.5)
+      let e = history-is-told built start older (run-before built start (as_line d) older run) in (
+        u.0,
+        p.0,
+        p.1,
+        u.1,
+        p.2,
+        p.3,
+        subst (λ qs. ReadsShow (λ key. read qs key p.0) u.0.reads) e p.4,
+        subst (λ qs. NothingUnseen qs u.0.writes p.0 p.1) e p.5,
+      )

@@ -1,5 +1,5 @@
 -- Each wrong step breaks a law.
-use Rattle.std.proofs.Common.{◌≡◌, ℕ, true, false, List, [], ◌∷◌, ◌++◌, Some, IsTrue, inl, inr, refl, sym, ap, subst, ◌∙◌, ◌⊎◌, arith}
+use Rattle.std.proofs.Common.{◌≡◌, ℕ, true, false, List, [], ◌∷◌, ◌++◌, length, Some, IsTrue, inl, inr, refl, sym, ap, subst, ◌∙◌, ◌⊎◌, arith}
 use Rattle.std.specs.Prelude.{codes}
 use Rattle.std.proofs.lemmas.Bool.{and_parts}
 use Rattle.std.proofs.lemmas.Option.{none-some, same_Some}
@@ -19,8 +19,8 @@ use Rattle.plain_dag.specs.Writers.{is_writer, read}
 use Rattle.plain_dag.specs.Floors.{Session}
 use Rattle.plain_site.specs.RowWords.{Line, lone_site, ◌·◌, ◌asks◌=>◌, put, none, ser, si, commit, merge_leaves, value}
 use Rattle.plain_site.specs.ClientRuns.{Service, IsRun, AreAnswered, Told, told, told_session, history, ReadsShow}
-use Rattle.plain_site.specs.ClientLaws.{DoneCommit, as_line, ReadsOneSnapshot, ReadersEndWhereTheyRead, DeliveriesAreKept, SerializableReadsHold, BranchesAreSerial, SnapshotsOverwriteNothingUnseen, CommitsAreKept, CommitsAreShown, OtherKeysAreJoined, CommitsJoinWhatTheyRead, OwnWritesAreRead, SessionsReadTheirCommits, RefusalsHideNothing}
-use Rattle.plain_site.specs.WrongSteps.{IsBrokenBy, forgets_reads, forgets_constraints, reads_newest, forgets_own_writes, forgets_collected, leaves_conflicts, drops_sides, forgets_commits, ends_refused, ends_at_newest, forgets_deliveries, ended_elsewhere, begun_three, first_site, of_second_site, delivered, raced, begun_both, both_wrote, stale_read, lost_update, unstable_read, own_write_missed, own_commit_missed, refused_commit, commit_after_refusal, after_conflict, merging_both, put_before_collection, collected_after}
+use Rattle.plain_site.specs.ClientLaws.{DoneCommit, as_line, HistoryIsTold, ReadsOneSnapshot, ReadersEndWhereTheyRead, DeliveriesAreKept, SerializableReadsHold, BranchesAreSerial, SnapshotsOverwriteNothingUnseen, CommitsAreKept, CommitsAreShown, OtherKeysAreJoined, CommitsJoinWhatTheyRead, OwnWritesAreRead, SessionsReadTheirCommits, RefusalsHideNothing}
+use Rattle.plain_site.specs.WrongSteps.{IsBrokenBy, forgets_reads, forgets_constraints, reads_newest, forgets_own_writes, forgets_collected, leaves_conflicts, drops_sides, forgets_commits, ends_refused, ends_at_newest, forgets_deliveries, ended_elsewhere, begun_three, first_site, of_second_site, delivered, delivered_again, raced, begun_both, both_wrote, stale_read, lost_update, unstable_read, own_write_missed, own_commit_missed, refused_commit, commit_after_refusal, after_conflict, merging_both, written_again, collected, name_given_twice}
 
 -- lines of the only site that were answered are a run
 run-of : (service : Service) (lines : List Line) → AreAnswered service lone_site lines → IsRun service lone_site lines
@@ -46,7 +46,7 @@ pub forgotten-reads-break : IsBrokenBy SerializableReadsHold forgets_reads
 forgotten-reads-break law =
     let h = law lone_site raced (done 1 ser (1 · 2) (1 · 1 ∷ [])) stale-run refl in
     let told-one : told 1 raced ≡ Some of_one = refl in
-    let rs = history forgets_reads lone_site raced in
+    let rs = history raced in
     let at : ReadsShow (λ key. read rs key (1 · 1)) h.0.reads = subst (λ p. ReadsShow (λ key. read rs key p) h.0.reads) (same-parent (1 · 1) h.1 h.3) h.4 in
     let shows = subst (λ (o : Told). ReadsShow (λ key. read rs key (1 · 1)) o.reads)
     (same_Some h.0 of_one (sym h.2 ∙ told-one)) at in
@@ -99,7 +99,7 @@ lost-run = run-of forgets_constraints lost_update (refl, inl refl, (refl, inl re
 pub forgotten-constraints-break : IsBrokenBy SnapshotsOverwriteNothingUnseen forgets_constraints
 forgotten-constraints-break law =
     let h = law lone_site both_wrote (done 1 si (1 · 2) (1 · 1 ∷ [])) lost-run refl in
-    let rs = history forgets_constraints lone_site both_wrote in
+    let rs = history both_wrote in
     let t : Told = record { merges = false; states = 0 · 0 ∷ []; reads = (codes "x", Absent) ∷ []; writes = (codes "x", Put (codes "1")) ∷ (codes "y", Put (codes "1")) ∷ [] } in
     let it : told 1 both_wrote ≡ Some t = refl in
     let same : t ≡ h.0 = same_Some t h.0 (sym it ∙ h.3) in
@@ -112,19 +112,44 @@ forgotten-constraints-break law =
 
 -- ===== What is kept
 
-delivered-run : IsRun forgets_deliveries first_site delivered
+delivered-run : IsRun forgets_deliveries first_site (delivered ∷ [])
 delivered-run = record { limits = refl; own = refl; opens = refl; answered = (refl, inl refl, tt) }
 
-pub forgotten-deliveries-break : IsBrokenBy DeliveriesAreKept forgets_deliveries
-forgotten-deliveries-break law = absurd (none-some of_second_site (law first_site [] [] 0 of_second_site delivered-run))
+pub forgotten-deliveries-break-history : IsBrokenBy HistoryIsTold forgets_deliveries
+forgotten-deliveries-break-history law =
+    let lengths : ◌≡◌ {A = ℕ} 1 2 = ap (λ (rs : List Record). length rs) (law first_site (delivered ∷ []) delivered-run) in
+    absurd (omega arith)
 
-collecting-run : IsRun forgets_collected lone_site (collected_after ++ as_line (done 1 none (1 · 1) (0 · 0 ∷ [])) ∷ put_before_collection)
-collecting-run = run-of forgets_collected (collected_after ++ as_line (done 1 none (1 · 1) (0 · 0 ∷ [])) ∷ put_before_collection) (refl, inl refl, (refl, inl refl, (refl, inl refl, (refl, inl refl, (refl, inl refl, (refl, inl refl, (refl, inl refl, (refl, inl refl, (refl, inl refl, tt)))))))))
+delivered-twice-run : IsRun forgets_deliveries first_site (delivered_again ∷ delivered ∷ [])
+delivered-twice-run = record { limits = refl; own = refl; opens = refl; answered = (refl, inl refl, (refl, inl refl, tt)) }
+
+pub forgotten-deliveries-break : IsBrokenBy DeliveriesAreKept forgets_deliveries
+forgotten-deliveries-break law =
+    let again : Record = record of_second_site { writes = (codes "x", Put (codes "1")) ∷ [] } in
+    let same : again ≡ of_second_site = same_Some again of_second_site (law first_site (delivered_again ∷ []) [] 0 of_second_site delivered-twice-run) in
+    let lengths : ◌≡◌ {A = ℕ} 1 0 = ap (λ (r : Record). length r.writes) same in
+    absurd (omega arith)
+
+collecting-run : IsRun forgets_collected lone_site (collected ++ as_line (done 1 none (1 · 2) (1 · 1 ∷ [])) ∷ written_again)
+collecting-run = run-of forgets_collected (collected ++ as_line (done 1 none (1 · 2) (1 · 1 ∷ [])) ∷ written_again) (refl, inl refl, (refl, inl refl, (refl, inl refl, (refl, inl refl, (refl, inl refl, (refl, inl refl, (refl, inl refl, (refl, inl refl, (refl, inl refl, tt)))))))))
+
+pub forgotten-records-break-history : IsBrokenBy HistoryIsTold forgets_collected
+forgotten-records-break-history law =
+    let lengths : ◌≡◌ {A = ℕ} 2 3 =
+    ap (λ (rs : List Record). length rs) (law lone_site (collected ++ as_line (done 1 none (1 · 2) (1 · 1 ∷ [])) ∷ written_again) collecting-run) in
+    absurd (omega arith)
+
+name-given-twice-run : IsRun forgets_collected lone_site (name_given_twice ++ as_line (done 1 none (1 · 2) (1 · 1 ∷ [])) ∷ written_again)
+name-given-twice-run = run-of forgets_collected (name_given_twice ++ as_line (done 1 none (1 · 2) (1 · 1 ∷ [])) ∷ written_again) (refl, inl refl, (refl, inl refl, (refl, inl refl, (refl, inl refl, (refl, inl refl, (refl, inl refl, (refl, inl refl, (refl, inl refl, (refl, inl refl, (refl, inl refl, (refl, inl refl, (refl, inl refl, tt))))))))))))
 
 pub forgotten-records-break : IsBrokenBy CommitsAreKept forgets_collected
 forgotten-records-break law =
-    let h = law lone_site collected_after put_before_collection (done 1 none (1 · 1) (0 · 0 ∷ [])) collecting-run in
-    absurd (none-some (record { id = 1 · 1; parents = 0 · 0 ∷ []; writes = h.0.writes }) h.2)
+    let h = law lone_site name_given_twice written_again (done 1 none (1 · 2) (1 · 1 ∷ [])) name-given-twice-run in
+    let second : Record = record { id = 1 · 2; parents = 1 · 2 ∷ []; writes = (codes "x", Put (codes "3")) ∷ [] } in
+    let first : Record = record { id = 1 · 2; parents = 1 · 1 ∷ []; writes = h.0.writes } in
+    let parents : ◌≡◌ {A = List StateId} (1 · 2 ∷ []) (1 · 1 ∷ []) = ap (λ (r : Record). r.parents) (same_Some second first h.2) in
+    let numbers : ◌≡◌ {A = ℕ} 1 2 = ap (λ (x : StateId). x.sequence) (same-parent (1 · 2) (1 · 1) parents) in
+    absurd (omega arith)
 
 conflict-run : IsRun leaves_conflicts lone_site (after_conflict ++ as_line (done 2 none (1 · 1) (0 · 0 ∷ [])) ∷ begun_both)
 conflict-run = run-of leaves_conflicts (after_conflict ++ as_line (done 2 none (1 · 1) (0 · 0 ∷ [])) ∷ begun_both) (refl, inl refl, (refl, inl refl, (refl, inl refl, (refl, inl refl, (refl, inl refl, (refl, inl refl, (refl, inl refl, (refl, inl refl, (refl, inl refl, (refl, inl refl, (refl, inl refl, (refl, inl refl, tt))))))))))))
@@ -140,7 +165,7 @@ open-conflicts-break-joins law =
 
 -- 1.1, 1.2 beside it, and 1.3 that joins them without x
 abbrev conflicting : List Record
-conflicting = history leaves_conflicts lone_site (after_conflict ++ as_line (done 2 none (1 · 1) (0 · 0 ∷ [])) ∷ begun_both)
+conflicting = history (after_conflict ++ as_line (done 2 none (1 · 1) (0 · 0 ∷ [])) ∷ begun_both)
 
 -- no state below 1.1 writes x
 none-below : (z : StateId) → IsTrue (is_proper_ancestor conflicting (1 · 1) z) → IsTrue (is_writer conflicting (codes "x") (1 · 3) z) → ⊥
@@ -187,7 +212,7 @@ pub forgotten-commits-break : IsBrokenBy SessionsReadTheirCommits forgets_commit
 forgotten-commits-break law =
     let h = law.parent lone_site raced 2 (0 · 0) missed-run in
     let made : Session = record { follow = false; ceiling = 0 · 0; last = 1 · 1 } in
-    let it : told_session forgets_commits lone_site 2 raced ≡ Some made = refl in
+    let it : told_session 2 raced ≡ Some made = refl in
     let at : 0 · 0 ≡ 1 · 1 = h.2 ∙ ap (λ (s : Session). s.last) (same_Some h.0 made (sym h.1 ∙ it)) in
     let none : ◌≡◌ {A = ℕ} 0 1 = ap (λ (x : StateId). x.site) at in
     absurd (omega arith)

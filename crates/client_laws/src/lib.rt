@@ -7,7 +7,7 @@
 ghost use Rattle.plain_site.specs.Built.{Built};
 ghost use Rattle.plain_site.specs.Step.{step};
 ghost use Rattle.plain_site.specs.EventRuns.{EventsAreRuns};
-ghost use Rattle.plain_site.specs.ClientLaws.{ReadsOneSnapshot, OwnWritesAreRead, ReadersEndWhereTheyRead, SerializableReadsHold, BranchesAreSerial, SnapshotsOverwriteNothingUnseen, CommitsAreKept, DeliveriesAreKept, CommitsAreShown, OtherKeysAreJoined, CommitsJoinWhatTheyRead, SessionsReadTheirCommits, RefusalsHideNothing};
+ghost use Rattle.plain_site.specs.ClientLaws.{ReadsOneSnapshot, OwnWritesAreRead, ReadersEndWhereTheyRead, SerializableReadsHold, BranchesAreSerial, SnapshotsOverwriteNothingUnseen, HistoryIsTold, CommitsAreKept, DeliveriesAreKept, CommitsAreShown, OtherKeysAreJoined, CommitsJoinWhatTheyRead, SessionsReadTheirCommits, RefusalsHideNothing};
 ghost use Rattle.plain_site.specs.RowsOfClients.{ReadersFork, WritersFork, ReadsAreOld, WantingIsSentAgain, WeakerIsSentAfter, CommitsAreFound, SidesAreJoined, LinesTell};
 ghost use Rattle.plain_site.specs.WrongSteps.{IsBrokenBy, reads_newest, ends_at_newest, forgets_own_writes, forgets_reads, forgets_constraints, forgets_collected, forgets_deliveries, leaves_conflicts, drops_sides, forgets_commits, ends_refused};
 
@@ -49,15 +49,18 @@ pub fn snapshots_overwrite_nothing_unseen()
     ensures forgotten_breaks { IsBrokenBy SnapshotsOverwriteNothingUnseen forgets_constraints }
 {}
 
-/// Nothing committed is lost, whatever comes: a commit's state stays known with its parents and its writes, as does a record
+/// Nothing committed is lost, whatever comes, and nothing is made up: the site's history is what requests and replies tell of
+/// commits and deliveries. A commit's state stays known with its parents and its writes, as does a record
 /// that another site made, and its writes are shown to all below it until one of these writes the key. It stands below all that its transaction read, a merge just below all
 /// its read states; and it shows each key that it didn't write as the one value over its parents.
 pub fn nothing_committed_is_lost()
+    ensures history { (built : Built) → HistoryIsTold (step built) }
     ensures kept { (built : Built) → CommitsAreKept (step built) }
     ensures deliveries { (built : Built) → DeliveriesAreKept (step built) }
     ensures shown { (built : Built) → CommitsAreShown (step built) }
     ensures joins { (built : Built) → CommitsJoinWhatTheyRead (step built) }
     ensures others { (built : Built) → OtherKeysAreJoined (step built) }
+    ensures forgotten_breaks_history { IsBrokenBy HistoryIsTold forgets_collected }
     ensures forgotten_breaks { IsBrokenBy CommitsAreKept forgets_collected }
     ensures forgotten_breaks_deliveries { IsBrokenBy DeliveriesAreKept forgets_deliveries }
     ensures conflicts_break { IsBrokenBy CommitsAreShown leaves_conflicts }

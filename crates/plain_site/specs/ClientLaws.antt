@@ -45,9 +45,9 @@ as_line c = c.actor asks Commit c.flags c.k => Committed c.state c.parents
 -- shows what is read there
 pub record ReadsOneSnapshot (service : Service) : Type 0 where
   pub of_several : (start : Site) (lines : List Line) (n : ℕ) (t : Told) → IsRun service start lines → told n lines ≡ Some t →
-      ReadsShow (value_over (history service start lines) t.states) t.reads
+      ReadsShow (value_over (history lines) t.states) t.reads
   pub of_one : (start : Site) (lines : List Line) (n : ℕ) (t : Told) (s : StateId) → IsRun service start lines → told n lines ≡ Some t → t.states ≡ s ∷ [] →
-      ReadsShow (λ key. read (history service start lines) key s) t.reads
+      ReadsShow (λ key. read (history lines) key s) t.reads
 
 -- a Get of a key that the transaction wrote is shown what it wrote last; the root stands for its writer
 abbrev pub OwnWritesAreRead : Service → Type 0
@@ -61,7 +61,7 @@ abbrev pub ReadersEndWhereTheyRead : Service → Type 0
 ReadersEndWhereTheyRead service =
     (start : Site) (older : List Line) (n : ℕ) (flags : EndFlags) (k : ℕ) (x : StateId) →
     IsRun service start (n asks Commit flags k => Ended x ∷ older) →
-    (t : Told) × (told n older ≡ Some t) × (t.states ≡ x ∷ []) × (t.writes ≡ []) × ReadsShow (λ key. read (history service start older) key x) t.reads
+    (t : Told) × (told n older ≡ Some t) × (t.states ≡ x ∷ []) × (t.writes ≡ []) × ReadsShow (λ key. read (history older) key x) t.reads
 
 -- ===== Each serializable transaction has read what its place in its branch shows
 
@@ -70,7 +70,7 @@ abbrev pub SerializableReadsHold : Service → Type 0
 SerializableReadsHold service =
     (start : Site) (older : List Line) (c : DoneCommit) →
     IsRun service start (as_line c ∷ older) → IsTrue (is_ser c.flags) →
-    (t : Told) × (p : StateId) × (told c.actor older ≡ Some t) × (c.parents ≡ p ∷ []) × ReadsShow (λ key. read (history service start older) key p) t.reads
+    (t : Told) × (p : StateId) × (told c.actor older ≡ Some t) × (c.parents ≡ p ∷ []) × ReadsShow (λ key. read (history older) key p) t.reads
 
 -- these records, newest first, are the branch from the root down to x: each state has the next of them as its only parent
 abbrev pub IsBranch : List Record → List Record → StateId → Type 0
@@ -98,7 +98,7 @@ IsSerial lines (r ∷ before) =
 -- so each branch is a serial history of its serializable transactions
 abbrev pub BranchesAreSerial : Service → Type 0
 BranchesAreSerial service =
-    (start : Site) (lines : List Line) (branch : List Record) (x : StateId) → IsRun service start lines → IsBranch (history service start lines) branch x →
+    (start : Site) (lines : List Line) (branch : List Record) (x : StateId) → IsRun service start lines → IsBranch (history lines) branch x →
     IsSerial lines branch
 
 -- ===== Snapshot transactions overwrite nothing that they haven't seen
@@ -109,12 +109,16 @@ abbrev pub SnapshotsOverwriteNothingUnseen : Service → Type 0
 SnapshotsOverwriteNothingUnseen service =
     (start : Site) (older : List Line) (c : DoneCommit) →
     IsRun service start (as_line c ∷ older) → IsTrue (is_si c.flags) →
-    let rs = history service start older in
+    let rs = history older in
     (t : Told) × (s : StateId) × (p : StateId) × (told c.actor older ≡ Some t) × (t.states ≡ s ∷ []) × (c.parents ≡ p ∷ [])
     × ReadsShow (λ key. read rs key s) t.reads
     × ((key : List ℕ) (w : StateId) → IsTrue (has_key key t.writes) → IsTrue (is_writer rs key p w) → IsTrue (is_above rs w s))
 
 -- ===== Nothing committed is lost
+
+-- the history of the site is what the lines tell: the root, what was committed, and what was applied
+abbrev pub HistoryIsTold : Service → Type 0
+HistoryIsTold service = (start : Site) (lines : List Line) → IsRun service start lines → (site_after service start lines).dag ≡ history lines
 
 -- whatever came after a commit: its state has its parents, and what the transaction wrote
 abbrev pub CommitsAreKept : Service → Type 0
@@ -122,21 +126,21 @@ CommitsAreKept service =
     (start : Site) (newer older : List Line) (c : DoneCommit) →
     let lines = newer ++ as_line c ∷ older in
     IsRun service start lines →
-    (t : Told) × (told c.actor older ≡ Some t) × (record_at (history service start lines) c.state ≡ Some (record { id = c.state; parents = c.parents; writes = t.writes }))
+    (t : Told) × (told c.actor older ≡ Some t) × (record_at (history lines) c.state ≡ Some (record { id = c.state; parents = c.parents; writes = t.writes }))
 
 -- and a record of another site is kept from when it was applied
 abbrev pub DeliveriesAreKept : Service → Type 0
 DeliveriesAreKept service =
     (start : Site) (newer older : List Line) (n : ℕ) (r : Record) →
     let lines = newer ++ (n asks Deliver (State r) => Applied) ∷ older in
-    IsRun service start lines → record_at (history service start lines) r.id ≡ Some r
+    IsRun service start lines → record_at (history lines) r.id ≡ Some r
 
 -- a key that a commit wrote shows that at each state at or below it, until one below it and at or above that state writes the key
 abbrev pub CommitsAreShown : Service → Type 0
 CommitsAreShown service =
     (start : Site) (newer older : List Line) (c : DoneCommit) (t : Told) →
     let lines = newer ++ as_line c ∷ older in
-    let rs = history service start lines in
+    let rs = history lines in
     IsRun service start lines → told c.actor older ≡ Some t →
     (key : List ℕ) (w : Write) (y : StateId) → write_of key t.writes ≡ Some w → IsTrue (is_known rs y) → IsTrue (is_above rs c.state y) →
     ((z : StateId) → IsTrue (is_proper_ancestor rs c.state z) → IsTrue (is_writer rs key y z) → ⊥) →
@@ -147,7 +151,7 @@ abbrev pub OtherKeysAreJoined : Service → Type 0
 OtherKeysAreJoined service =
     (start : Site) (newer older : List Line) (c : DoneCommit) (t : Told) →
     let lines = newer ++ as_line c ∷ older in
-    let rs = history service start lines in
+    let rs = history lines in
     IsRun service start lines → told c.actor older ≡ Some t →
     (key : List ℕ) → IsFalse (has_key key t.writes) → IsFalse (is_conflict_key rs c.parents key) × (read rs key c.state ≡ value_over rs c.parents key)
 
@@ -157,7 +161,7 @@ CommitsJoinWhatTheyRead service =
     (start : Site) (newer older : List Line) (c : DoneCommit) (t : Told) →
     let lines = newer ++ as_line c ∷ older in
     IsRun service start lines → told c.actor older ≡ Some t →
-    IsTrue (are_above (history service start lines) t.states c.state) × (IsTrue t.merges → c.parents ≡ t.states)
+    IsTrue (are_above (history lines) t.states c.state) × (IsTrue t.merges → c.parents ≡ t.states)
 
 -- ===== Sessions read their own commits
 
@@ -166,14 +170,14 @@ CommitsJoinWhatTheyRead service =
 -- begins, it never reads above its ceiling; and with follow a commit below the ceiling is the next ceiling.
 pub record SessionsReadTheirCommits (service : Service) : Type 0 where
   pub parent : (start : Site) (older : List Line) (n : ℕ) (x : StateId) → IsRun service start (n asks Begin Parent => Begun x ∷ older) →
-      (s : Session) × (told_session service start n older ≡ Some s) × (x ≡ s.last)
+      (s : Session) × (told_session n older ≡ Some s) × (x ≡ s.last)
   pub ancestor : (start : Site) (older : List Line) (n : ℕ) (x : StateId) → IsRun service start (n asks Begin Ancestor => Begun x ∷ older) →
-      (s : Session) × (told_session service start n older ≡ Some s) × IsTrue (is_above (history service start older) s.last x)
+      (s : Session) × (told_session n older ≡ Some s) × IsTrue (is_above (history older) s.last x)
   pub any : (start : Site) (older : List Line) (n : ℕ) (x : StateId) → IsRun service start (n asks Begin Any => Begun x ∷ older) →
-      (s : Session) × (told_session service start n older ≡ Some s)
-      × (IsTrue (is_above (history service start older) s.last x) ↔ IsTrue (is_above (history service start older) s.last (last_arrived (history service start older))))
+      (s : Session) × (told_session n older ≡ Some s)
+      × (IsTrue (is_above (history older) s.last x) ↔ IsTrue (is_above (history older) s.last (last_arrived (history older))))
   pub under_ceiling : (start : Site) (older : List Line) (n : ℕ) (b : BeginAt) (x : StateId) → IsRun service start (n asks Begin b => Begun x ∷ older) →
-      (s : Session) × (told_session service start n older ≡ Some s) × IsFalse (is_proper_ancestor (history service start older) x s.ceiling)
+      (s : Session) × (told_session n older ≡ Some s) × IsFalse (is_proper_ancestor (history older) x s.ceiling)
 
 -- ===== Refusals promise nothing hidden
 

@@ -1,7 +1,8 @@
 -- Wrong steps, and runs in which they break the laws: so each law says something.
-use Rattle.std.specs.Prelude.{◌+◌, not, List, [], ◌∷◌, take, filter, if◌then◌else◌}
+use Rattle.std.specs.Prelude.{◌+◌, not, List, [], ◌∷◌, take, filter, codes, if◌then◌else◌}
 use Rattle.tardis_base.specs.declared.ids.StateId.{StateId}
 use Rattle.tardis_base.specs.declared.records.Record.{Record}
+use Rattle.tardis_base.specs.declared.records.Write.TheVariants.{Put as Value}
 use Rattle.tardis_base.specs.declared.records.Item.TheVariants.{State}
 use Rattle.tardis_base.specs.declared.requests.Request.TheVariants.{Get, Commit, Tidy, Raise, Deliver}
 use Rattle.tardis_base.specs.declared.replies.Refusal.TheVariants.{NoTxn, Branches}
@@ -167,8 +168,12 @@ first_site = opening (program_limits 2) 1
 abbrev pub of_second_site : Record
 of_second_site = record { id = 2 · 1; parents = 0 · 0 ∷ []; writes = [] }
 
-abbrev pub delivered : List Line
-delivered = 0 asks Deliver (State of_second_site) => Applied ∷ []
+abbrev pub delivered : Line
+delivered = 0 asks Deliver (State of_second_site) => Applied
+
+-- another record under the same id, taken too
+abbrev pub delivered_again : Line
+delivered_again = 0 asks Deliver (State (record of_second_site { writes = (codes "x", Value (codes "1")) ∷ [] })) => Applied
 
 -- what came after 2 made 1.1, where 1 wrote x too: 1 makes 1.2 beside it and merges the two as 1.3, though both wrote x
 abbrev pub after_conflict : List Line
@@ -186,20 +191,25 @@ merging_both =
     ∷ 1 asks commit ser => Committed (1 · 2) (0 · 0 ∷ [])
     ∷ raced
 
--- a following session makes 1.1 ..
-abbrev pub put_before_collection : List Line
-put_before_collection =
-    1 asks put "x" "1" => Done
+-- a following session makes 1.1, and writes x again
+abbrev pub written_again : List Line
+written_again =
+    1 asks put "x" "2" => Done
+    ∷ 1 asks begin_any => Begun (1 · 1)
+    ∷ 1 asks commit none => Committed (1 · 1) (0 · 0 ∷ [])
+    ∷ 1 asks put "x" "1" => Done
     ∷ 1 asks begin_any => Begun (0 · 0)
     ∷ 1 asks opens_following => Opened (0 · 0)
     ∷ []
 
--- .. and 1.2 below it, and 1.1 is closed and collected
-abbrev pub collected_after : List Line
-collected_after =
-    0 asks Tidy 1 => Tidied 1
-    ∷ 0 asks Raise (1 · 2) => Raised (1 · 2) 1
-    ∷ 1 asks commit none => Committed (1 · 2) (1 · 1 ∷ [])
-    ∷ 1 asks put "x" "2" => Done
-    ∷ 1 asks begin_any => Begun (1 · 1)
-    ∷ []
+-- after it made 1.2, 1.1 is closed and collected
+abbrev pub collected : List Line
+collected = 0 asks Tidy 1 => Tidied 1 ∷ 0 asks Raise (1 · 2) => Raised (1 · 2) 1 ∷ []
+
+-- and what it makes next is called 1.2 too
+abbrev pub name_given_twice : List Line
+name_given_twice =
+    1 asks commit none => Committed (1 · 2) (1 · 2 ∷ [])
+    ∷ 1 asks put "x" "3" => Done
+    ∷ 1 asks begin_any => Begun (1 · 2)
+    ∷ collected
