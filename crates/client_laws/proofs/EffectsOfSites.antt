@@ -1,5 +1,5 @@
 -- What the other requests do, and so what each request does.
-use Rattle.std.proofs.Common.{◌≡◌, ◌⊎◌, ap, ℕ, Bool, not, List, [], ◌∷◌, ◌++◌, length, Option, None, is_some, inl, inr, refl, sym, subst}
+use Rattle.std.proofs.Common.{◌≡◌, ℕ, Bool, not, List, [], ◌∷◌, ◌++◌, length, Option, None, is_some, inl, inr, refl, sym, subst}
 use Rattle.std.specs.Prelude.{◌==◌, nat_lt, nat_le, find}
 use Rattle.tardis_base.specs.declared.ids.StateId.{StateId}
 use Rattle.tardis_base.specs.declared.records.Record.{Record}

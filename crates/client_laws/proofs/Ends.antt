@@ -1,20 +1,18 @@
 -- Transactions that wrote nothing, and records of other sites.
-use Rattle.std.proofs.Common.{◌≡◌, ℕ, Bool, true, false, not, List, [], ◌∷◌, ◌++◌, length, Option, Some, None, refl, sym, ap, subst, ◌∙◌, find}
-use Rattle.std.specs.Prelude.{◌==◌, nat_lt, nat_le}
+use Rattle.std.proofs.Common.{◌≡◌, ℕ, not, List, [], ◌∷◌, ◌++◌, length, Option, Some, None, refl, sym, ap, subst, ◌∙◌}
+use Rattle.std.specs.Prelude.{◌==◌}
 use Rattle.tardis_base.specs.declared.ids.StateId.{StateId}
 use Rattle.tardis_base.specs.declared.records.Record.{Record}
 use Rattle.tardis_base.specs.declared.records.Item.TheVariants.{State}
 use Rattle.tardis_base.specs.declared.requests.EndFlags.{EndFlags}
 use Rattle.tardis_base.specs.declared.requests.Request.TheVariants.{Commit, Deliver}
 use Rattle.tardis_base.specs.declared.replies.Refusal.{Refusal}
-use Rattle.tardis_base.specs.declared.replies.Refusal.TheVariants.{NotOpen, TxnOpen, NoTxn, WrongMode, OpenConflict, Branches, SeqEnd, Unsupported, BadSite, OwnItem, ClosedParent, Comparable}
+use Rattle.tardis_base.specs.declared.replies.Refusal.TheVariants.{NotOpen, TxnOpen, NoTxn, WrongMode, OpenConflict, Branches, SeqEnd, Unsupported}
 use Rattle.tardis_base.specs.declared.replies.Reply.{Reply}
-use Rattle.tardis_base.specs.declared.replies.Reply.TheVariants.{Ended, Applied, Known, Early, Refused}
+use Rattle.tardis_base.specs.declared.replies.Reply.TheVariants.{Ended, Applied, Refused}
 use Rattle.tardis_base.specs.Keys.{KeyWrite, keys_of}
-use Rattle.plain_dag.specs.States.{children, count_of_site, record_at}
-use Rattle.plain_dag.specs.Above.{comparable_pair}
+use Rattle.plain_dag.specs.States.{children, record_at}
 use Rattle.plain_dag.specs.Conflicts.{open_conflict, value_over}
-use Rattle.plain_dag.specs.Floors.{is_closed}
 use Rattle.plain_dag.specs.Growth.{growth_refusal}
 use Rattle.plain_dag.specs.Landing.{landing, guarded, broken}
 use Rattle.plain_dag.specs.Writers.{read}
@@ -22,9 +20,9 @@ use Rattle.plain_dag.specs.Entries.{entry_of}
 use Rattle.wire_talk.specs.Codes.{code_of}
 use Rattle.plain_site.specs.Site.{Site, SingleTxn, Txn, Single, Merge, own_count}
 use Rattle.plain_site.specs.Built.{Built, is_built}
-use Rattle.plain_site.specs.Answers.{Answer, when, refuse, refuse_found, unless}
+use Rattle.plain_site.specs.Answers.{Answer, refuse, refuse_found, unless}
 use Rattle.plain_site.specs.Commits.{with_record, without_txn_of, growth_refusals, committed, commit_below, commit_writes, commit_single, commit}
-use Rattle.plain_site.specs.Exchange.{is_early, judgements}
+use Rattle.plain_site.specs.Exchange.{judgements}
 use Rattle.plain_site.specs.Step.{served, step}
 use Rattle.plain_site.specs.RowWords.{◌asks◌=>◌}
 use Rattle.plain_site.specs.ClientRuns.{history, site_after, told}
@@ -36,7 +34,7 @@ use Rattle.client_laws.proofs.Records.{record-of-newest, record-stays}
 use Rattle.client_laws.proofs.Tellings.{shows-alike}
 use Rattle.client_laws.proofs.Effects.{AreNoTaking, refuse-no-taking, found-no-taking, both-no-taking, OnlyRefuse, refuse-only, found-only, both-only, unless-refused}
 use Rattle.client_laws.proofs.EffectsOfSites.{judged-no-taking}
-use Rattle.client_laws.proofs.Held.{dag_after, history-is-told, run-holds, run-before}
+use Rattle.client_laws.proofs.Held.{history-is-told, run-holds, run-before}
 use Rattle.client_laws.proofs.Laws.{was-answered, tells-seen}
 use Rattle.client_laws.proofs.Kept.{keeps-on, older-run}
 

@@ -9,8 +9,8 @@ use Rattle.tardis_base.specs.declared.records.Record.{Record}
 use Rattle.tardis_base.specs.declared.requests.EndFlags.{EndFlags}
 use Rattle.tardis_base.specs.declared.requests.Begin.{Begin}
 use Rattle.tardis_base.specs.declared.requests.Begin.TheVariants.{Any, Ancestor, Parent}
-use Rattle.tardis_base.specs.declared.requests.Request.TheVariants.{Begin as BeginAt, Commit}
-use Rattle.tardis_base.specs.declared.replies.Reply.TheVariants.{Begun, Committed}
+use Rattle.tardis_base.specs.declared.requests.Request.TheVariants.{Begin as BeginAt}
+use Rattle.tardis_base.specs.declared.replies.Reply.TheVariants.{Begun}
 use Rattle.tardis_base.specs.Ids.{is_among}
 use Rattle.tardis_base.specs.Keys.{KeyWrite, keys_of}
 use Rattle.plain_dag.specs.States.{states, is_known, record_at}

@@ -9,7 +9,6 @@ use Rattle.tardis_base.specs.declared.ids.StateId.{StateId}
 use Rattle.tardis_base.specs.declared.records.Record.{Record}
 use Rattle.tardis_base.specs.declared.requests.EndFlags.{EndFlags}
 use Rattle.tardis_base.specs.declared.requests.Request.TheVariants.{Commit}
-use Rattle.tardis_base.specs.declared.replies.Reply.TheVariants.{Committed}
 use Rattle.tardis_base.specs.Keys.{KeyWrite, is_key_among, keys_of, has_key}
 use Rattle.plain_dag.specs.States.{is_known}
 use Rattle.plain_dag.specs.Above.{is_above}
@@ -22,7 +21,7 @@ use Rattle.plain_dag.proofs.Landing.{lands-below, true-commit}
 use Rattle.plain_site.specs.Site.{Site, SingleTxn, Txn, Single, Merge, read_states}
 use Rattle.plain_site.specs.Built.{Built}
 use Rattle.plain_site.specs.Step.{step}
-use Rattle.plain_site.specs.RowWords.{Line, ◌asks◌=>◌}
+use Rattle.plain_site.specs.RowWords.{Line}
 use Rattle.plain_site.specs.ClientRuns.{wants_memory, site_after, history, IsAnswered, IsRun, Told, told, ReadsShow}
 use Rattle.plain_site.specs.ClientLaws.{DoneCommit, as_line, ReadsOneSnapshot, SerializableReadsHold, SnapshotsOverwriteNothingUnseen}
 use Rattle.client_laws.proofs.Dags.{value-over-one}

@@ -4,9 +4,6 @@ use Rattle.std.proofs.lemmas.Option.{same_Some}
 use Rattle.tardis_base.specs.declared.ids.StateId.{StateId}
 use Rattle.tardis_base.specs.declared.records.Record.{Record}
 use Rattle.tardis_base.specs.declared.records.Write.{Write}
-use Rattle.tardis_base.specs.declared.requests.EndFlags.{EndFlags}
-use Rattle.tardis_base.specs.declared.requests.Request.TheVariants.{Commit}
-use Rattle.tardis_base.specs.declared.replies.Reply.TheVariants.{Committed}
 use Rattle.plain_dag.specs.States.{is_known, record_at}
 use Rattle.plain_dag.specs.Writers.{read}
 use Rattle.plain_dag.specs.Dag.{IsDag}
@@ -16,8 +13,8 @@ use Rattle.plain_dag.proofs.Growth.{read-stays}
 use Rattle.plain_site.specs.Site.{Site}
 use Rattle.plain_site.specs.Built.{Built}
 use Rattle.plain_site.specs.Step.{step}
-use Rattle.plain_site.specs.RowWords.{Line, ◌asks◌=>◌}
-use Rattle.plain_site.specs.ClientRuns.{history, IsRun, Told, told, ReadsShow}
+use Rattle.plain_site.specs.RowWords.{Line}
+use Rattle.plain_site.specs.ClientRuns.{IsRun, Told, told, ReadsShow}
 use Rattle.plain_site.specs.ClientLaws.{DoneCommit, as_line, IsBranch, one_after_another, IsSerial, BranchesAreSerial}
 use Rattle.client_laws.proofs.Records.{record-is-of, branch-is-read}
 use Rattle.client_laws.proofs.Tellings.{shows-alike}
