@@ -32,7 +32,7 @@ use Rattle.plain_site.specs.Built.{Built}
 use Rattle.plain_site.specs.Step.{step}
 use Rattle.plain_site.specs.RowWords.{Line, ◌asks◌=>◌}
 use Rattle.plain_site.specs.ClientRuns.{wants_memory, after_line, site_after, history, IsRun, Told, told, told_session}
-use Rattle.plain_site.specs.ClientLaws.{DoneCommit, as_line, CommitsAreKept, CommitsAreShown, OtherKeysAreJoined, CommitsJoinWhatTheyRead, SessionsReadTheirCommits}
+use Rattle.plain_site.specs.ClientLaws.{DoneCommit, as_line, CommitsAreKept, CommitsAreShown, OtherKeysAreJoined, CommitsJoinWhatTheyRead, SessionsReadTheirCommits, SessionsStayUnderCeilings}
 use Rattle.client_laws.proofs.Records.{record-of-newest, record-stays, shown-below, joined, no-conflict}
 use Rattle.client_laws.proofs.Tellings.{is_merge}
 use Rattle.client_laws.proofs.EffectsOfSites.{step-does}
@@ -207,7 +207,9 @@ module _ (built : Built) where
           at.1,
           (λ h. subst (λ z. IsTrue (is_above rs at.0.last z)) (sym at.2) h, λ h. subst (λ z. IsTrue (is_above rs at.0.last z)) at.2 h),
         );
-    under_ceiling = λ start older n b x run.
-        let at = begun-at b start older n x run in
-        (at.0, at.1, not-true (is_proper_ancestor (history older) x at.0.ceiling) at.3);
   }
+
+  pub sessions-stay-under-ceilings : SessionsStayUnderCeilings (step built)
+  sessions-stay-under-ceilings start older n b x run =
+      let at = begun-at b start older n x run in
+      (at.0, at.1, not-true (is_proper_ancestor (history older) x at.0.ceiling) at.3)

@@ -1,6 +1,6 @@
 -- Worked rows by computation.
 use Rattle.std.proofs.Common.{inl, inr, refl}
-use Rattle.plain_site.specs.RowsOfClients.{ReadersFork, WritersFork, ReadsAreOld, WantingIsSentAgain, WeakerIsSentAfter, CommitsAreFound, SidesAreJoined}
+use Rattle.plain_site.specs.RowsOfClients.{ReadersFork, WritersFork, ReadsAreOld, WantingIsSentAgain, WeakerIsSentAfter, CommitsAreFound, FollowersStayBelow, SidesAreJoined}
 
 pub readers-fork : ReadersFork
 readers-fork = record { limits = refl; own = refl; opens = refl; answered = (refl, inl refl, (refl, inl refl, (refl, inl refl, (refl, inl refl, (refl, inl refl, (refl, inl refl, (refl, inl refl, (refl, inl refl, (refl, inl refl, tt))))))))) }
@@ -22,3 +22,6 @@ commits-are-found = record { limits = refl; own = refl; opens = refl; answered =
 
 pub sides-are-joined : SidesAreJoined
 sides-are-joined = record { limits = refl; own = refl; opens = refl; answered = (refl, inl refl, (refl, inl refl, (refl, inl refl, (refl, inl refl, (refl, inl refl, (refl, inl refl, (refl, inl refl, (refl, inl refl, (refl, inl refl, (refl, inl refl, (refl, inl refl, tt))))))))))) }
+
+pub followers-stay-below : FollowersStayBelow
+followers-stay-below = record { limits = refl; own = refl; opens = refl; answered = (refl, inl refl, (refl, inl refl, (refl, inl refl, (refl, inl refl, (refl, inl refl, tt))))) }

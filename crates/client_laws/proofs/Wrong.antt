@@ -1,11 +1,12 @@
 -- Each wrong step breaks a law.
-use Rattle.std.proofs.Common.{◌≡◌, ℕ, true, false, List, [], ◌∷◌, ◌++◌, length, Some, IsTrue, inl, inr, refl, sym, ap, subst, ◌∙◌, ◌⊎◌, arith}
+use Rattle.std.proofs.Common.{◌≡◌, ℕ, true, false, List, [], ◌∷◌, ◌++◌, length, Some, IsTrue, IsFalse, inl, inr, refl, sym, ap, subst, ◌∙◌, ◌⊎◌, arith}
 use Rattle.std.specs.Prelude.{codes}
 use Rattle.std.proofs.lemmas.Bool.{and_parts}
 use Rattle.std.proofs.lemmas.Option.{none-some, same_Some}
 use Rattle.tardis_base.specs.declared.ids.StateId.{StateId}
 use Rattle.tardis_base.specs.declared.records.Record.{Record}
 use Rattle.tardis_base.specs.declared.records.Write.TheVariants.{Put}
+use Rattle.tardis_base.specs.declared.requests.Begin.TheVariants.{At}
 use Rattle.tardis_base.specs.declared.replies.Refusal.TheVariants.{NoTxn}
 use Rattle.tardis_base.specs.declared.replies.Reply.{Reply}
 use Rattle.tardis_base.specs.declared.replies.Reply.TheVariants.{Absent, Done, Committed, Merging, Refused}
@@ -19,8 +20,8 @@ use Rattle.plain_dag.specs.Writers.{is_writer, read}
 use Rattle.plain_dag.specs.Floors.{Session}
 use Rattle.plain_site.specs.RowWords.{Line, lone_site, ◌·◌, ◌asks◌=>◌, put, none, ser, si, commit, merge_leaves, value}
 use Rattle.plain_site.specs.ClientRuns.{Service, IsRun, AreAnswered, Told, told, told_session, history, ReadsShow}
-use Rattle.plain_site.specs.ClientLaws.{DoneCommit, as_line, HistoryIsTold, ReadsOneSnapshot, ReadersEndWhereTheyRead, DeliveriesAreKept, SerializableReadsHold, BranchesAreSerial, SnapshotsOverwriteNothingUnseen, CommitsAreKept, CommitsAreShown, OtherKeysAreJoined, CommitsJoinWhatTheyRead, OwnWritesAreRead, SessionsReadTheirCommits, RefusalsHideNothing}
-use Rattle.plain_site.specs.WrongSteps.{IsBrokenBy, forgets_reads, forgets_constraints, reads_newest, forgets_own_writes, forgets_collected, leaves_conflicts, drops_sides, forgets_commits, ends_refused, ends_at_newest, forgets_deliveries, ended_elsewhere, begun_three, first_site, of_second_site, delivered, delivered_again, raced, begun_both, both_wrote, stale_read, lost_update, unstable_read, own_write_missed, own_commit_missed, refused_commit, commit_after_refusal, after_conflict, merging_both, written_again, collected, name_given_twice}
+use Rattle.plain_site.specs.ClientLaws.{DoneCommit, as_line, HistoryIsTold, ReadsOneSnapshot, ReadersEndWhereTheyRead, DeliveriesAreKept, SerializableReadsHold, BranchesAreSerial, SnapshotsOverwriteNothingUnseen, CommitsAreKept, CommitsAreShown, OtherKeysAreJoined, CommitsJoinWhatTheyRead, OwnWritesAreRead, SessionsReadTheirCommits, SessionsStayUnderCeilings, RefusalsHideNothing}
+use Rattle.plain_site.specs.WrongSteps.{IsBrokenBy, forgets_reads, forgets_constraints, reads_newest, forgets_own_writes, forgets_collected, leaves_conflicts, drops_sides, forgets_commits, forgets_ceilings, ends_refused, followed, read_above, ends_at_newest, forgets_deliveries, ended_elsewhere, begun_three, first_site, of_second_site, delivered, delivered_again, raced, begun_both, both_wrote, stale_read, lost_update, unstable_read, own_write_missed, own_commit_missed, refused_commit, commit_after_refusal, after_conflict, merging_both, written_again, collected, name_given_twice}
 
 -- lines of the only site that were answered are a run
 run-of : (service : Service) (lines : List Line) → AreAnswered service lone_site lines → IsRun service lone_site lines
@@ -111,14 +112,6 @@ forgotten-constraints-break law =
     absurd (cc)
 
 -- ===== What is kept
-
-delivered-run : IsRun forgets_deliveries first_site (delivered ∷ [])
-delivered-run = record { limits = refl; own = refl; opens = refl; answered = (refl, inl refl, tt) }
-
-pub forgotten-deliveries-break-history : IsBrokenBy HistoryIsTold forgets_deliveries
-forgotten-deliveries-break-history law =
-    let lengths : ◌≡◌ {A = ℕ} 1 2 = ap (λ (rs : List Record). length rs) (law first_site (delivered ∷ []) delivered-run) in
-    absurd (omega arith)
 
 delivered-twice-run : IsRun forgets_deliveries first_site (delivered_again ∷ delivered ∷ [])
 delivered-twice-run = record { limits = refl; own = refl; opens = refl; answered = (refl, inl refl, (refl, inl refl, tt)) }
@@ -216,6 +209,17 @@ forgotten-commits-break law =
     let at : 0 · 0 ≡ 1 · 1 = h.2 ∙ ap (λ (s : Session). s.last) (same_Some h.0 made (sym h.1 ∙ it)) in
     let none : ◌≡◌ {A = ℕ} 0 1 = ap (λ (x : StateId). x.site) at in
     absurd (omega arith)
+
+above-run : IsRun forgets_ceilings lone_site read_above
+above-run = run-of forgets_ceilings read_above (refl, inl refl, (refl, inl refl, (refl, inl refl, (refl, inl refl, (refl, inl refl, tt)))))
+
+pub forgotten-ceilings-break : IsBrokenBy SessionsStayUnderCeilings forgets_ceilings
+forgotten-ceilings-break law =
+    let h = law lone_site followed 1 (At (0 · 0)) (0 · 0) above-run in
+    let made : Session = record { follow = true; ceiling = 1 · 1; last = 1 · 1 } in
+    let it : told_session 1 followed ≡ Some made = refl in
+    let none : true ≡ false = subst (λ (s : Session). IsFalse (is_proper_ancestor (history followed) (0 · 0) s.ceiling)) (same_Some h.0 made (sym h.1 ∙ it)) h.2 in
+    absurd (cc)
 
 -- ===== Refusals
 

@@ -7,9 +7,9 @@
 ghost use Rattle.plain_site.specs.Built.{Built};
 ghost use Rattle.plain_site.specs.Step.{step};
 ghost use Rattle.plain_site.specs.EventRuns.{EventsAreRuns};
-ghost use Rattle.plain_site.specs.ClientLaws.{ReadsOneSnapshot, OwnWritesAreRead, ReadersEndWhereTheyRead, SerializableReadsHold, BranchesAreSerial, SnapshotsOverwriteNothingUnseen, HistoryIsTold, CommitsAreKept, DeliveriesAreKept, CommitsAreShown, OtherKeysAreJoined, CommitsJoinWhatTheyRead, SessionsReadTheirCommits, RefusalsHideNothing};
-ghost use Rattle.plain_site.specs.RowsOfClients.{ReadersFork, WritersFork, ReadsAreOld, WantingIsSentAgain, WeakerIsSentAfter, CommitsAreFound, SidesAreJoined, LinesTell};
-ghost use Rattle.plain_site.specs.WrongSteps.{IsBrokenBy, reads_newest, ends_at_newest, forgets_own_writes, forgets_reads, forgets_constraints, forgets_collected, forgets_deliveries, leaves_conflicts, drops_sides, forgets_commits, ends_refused};
+ghost use Rattle.plain_site.specs.ClientLaws.{ReadsOneSnapshot, OwnWritesAreRead, ReadersEndWhereTheyRead, SerializableReadsHold, BranchesAreSerial, SnapshotsOverwriteNothingUnseen, HistoryIsTold, CommitsAreKept, DeliveriesAreKept, CommitsAreShown, OtherKeysAreJoined, CommitsJoinWhatTheyRead, SessionsReadTheirCommits, SessionsStayUnderCeilings, RefusalsHideNothing};
+ghost use Rattle.plain_site.specs.RowsOfClients.{ReadersFork, WritersFork, ReadsAreOld, WantingIsSentAgain, WeakerIsSentAfter, CommitsAreFound, FollowersStayBelow, SidesAreJoined, LinesTell};
+ghost use Rattle.plain_site.specs.WrongSteps.{IsBrokenBy, reads_newest, ends_at_newest, forgets_own_writes, forgets_reads, forgets_constraints, forgets_collected, forgets_deliveries, leaves_conflicts, drops_sides, forgets_commits, forgets_ceilings, ends_refused};
 
 use wire_talk::talk_has_one_spelling;
 
@@ -50,9 +50,10 @@ pub fn snapshots_overwrite_nothing_unseen()
 {}
 
 /// Nothing committed is lost, whatever comes, and nothing is made up: the site's history is what requests and replies tell of
-/// commits and deliveries. A commit's state stays known with its parents and its writes, as does a record
-/// that another site made, and its writes are shown to all below it until one of these writes the key. It stands below all that its transaction read, a merge just below all
-/// its read states; and it shows each key that it didn't write as the one value over its parents.
+/// commits and deliveries. A commit's state stays known with its parents and its writes, as does a record that another site
+/// made, and its writes are shown to all below it until one of these writes the key. It stands below all that its
+/// transaction read, a merge just below all its read states; and it shows each key that it didn't write as the one value over
+/// its parents.
 pub fn nothing_committed_is_lost()
     ensures history { (built : Built) → HistoryIsTold (step built) }
     ensures kept { (built : Built) → CommitsAreKept (step built) }
@@ -69,10 +70,12 @@ pub fn nothing_committed_is_lost()
 {}
 
 /// A session that begins at Parent reads its last commit, at Ancestor that or a state below it, and at Any too exactly where
-/// the state that arrived last is at or below it.
+/// the state that arrived last is at or below it. Wherever it is told to begin, it never reads above its ceiling.
 pub fn sessions_read_their_own_commits()
     ensures own { (built : Built) → SessionsReadTheirCommits (step built) }
+    ensures ceilings { (built : Built) → SessionsStayUnderCeilings (step built) }
     ensures forgotten_breaks { IsBrokenBy SessionsReadTheirCommits forgets_commits }
+    ensures forgotten_breaks_ceilings { IsBrokenBy SessionsStayUnderCeilings forgets_ceilings }
 {}
 
 /// A request that was refused is as if it hadn't been sent. So a refused commit leaves its transaction as it was, and the
@@ -90,6 +93,7 @@ pub fn runs_are_told()
     ensures wanting { WantingIsSentAgain }
     ensures weaker { WeakerIsSentAfter }
     ensures own_commits { CommitsAreFound }
+    ensures followers { FollowersStayBelow }
     ensures sides { SidesAreJoined }
     ensures told { LinesTell }
 {}

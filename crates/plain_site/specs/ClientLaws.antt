@@ -166,8 +166,7 @@ CommitsJoinWhatTheyRead service =
 -- ===== Sessions read their own commits
 
 -- Parent begins at the session's last commit, Ancestor at or below it, and Any exactly where the state that arrived last is:
--- with any of them a session reads its own commit, with Any as far as the last-arrived state is at or below it. However it
--- begins, it never reads above its ceiling; and with follow a commit below the ceiling is the next ceiling.
+-- with any of them a session reads its own commit, with Any as far as the last-arrived state is at or below it
 pub record SessionsReadTheirCommits (service : Service) : Type 0 where
   pub parent : (start : Site) (older : List Line) (n : ℕ) (x : StateId) → IsRun service start (n asks Begin Parent => Begun x ∷ older) →
       (s : Session) × (told_session n older ≡ Some s) × (x ≡ s.last)
@@ -176,8 +175,13 @@ pub record SessionsReadTheirCommits (service : Service) : Type 0 where
   pub any : (start : Site) (older : List Line) (n : ℕ) (x : StateId) → IsRun service start (n asks Begin Any => Begun x ∷ older) →
       (s : Session) × (told_session n older ≡ Some s)
       × (IsTrue (is_above (history older) s.last x) ↔ IsTrue (is_above (history older) s.last (last_arrived (history older))))
-  pub under_ceiling : (start : Site) (older : List Line) (n : ℕ) (b : BeginAt) (x : StateId) → IsRun service start (n asks Begin b => Begun x ∷ older) →
-      (s : Session) × (told_session n older ≡ Some s) × IsFalse (is_proper_ancestor (history older) x s.ceiling)
+
+-- and wherever it is told to begin, a session never reads above its ceiling, which with follow goes down to each of its
+-- commits that is below it
+abbrev pub SessionsStayUnderCeilings : Service → Type 0
+SessionsStayUnderCeilings service =
+    (start : Site) (older : List Line) (n : ℕ) (b : BeginAt) (x : StateId) → IsRun service start (n asks Begin b => Begun x ∷ older) →
+    (s : Session) × (told_session n older ≡ Some s) × IsFalse (is_proper_ancestor (history older) x s.ceiling)
 
 -- ===== Refusals promise nothing hidden
 

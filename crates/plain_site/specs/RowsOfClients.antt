@@ -1,13 +1,14 @@
 -- Worked rows: what the step answers in the runs in which wrong steps break the laws, and what the lines tell.
 use Rattle.std.specs.Prelude.{◌≡◌, false, List, [], ◌∷◌, Some, codes}
 use Rattle.tardis_base.specs.declared.records.Write.TheVariants.{Put}
-use Rattle.tardis_base.specs.declared.replies.Reply.TheVariants.{Begun, Absent, Committed, NoMemory}
+use Rattle.tardis_base.specs.declared.replies.Refusal.TheVariants.{Below}
+use Rattle.tardis_base.specs.declared.replies.Reply.TheVariants.{Refused, Begun, Absent, Committed, NoMemory}
 use Rattle.plain_dag.specs.Floors.{Session}
 use Rattle.plain_site.specs.Built.{everything}
 use Rattle.plain_site.specs.Step.{step}
-use Rattle.plain_site.specs.RowWords.{Line, lone_site, ◌·◌, ◌asks◌=>◌, begin_parent, get, none, ser, si, commit, value}
+use Rattle.plain_site.specs.RowWords.{Line, lone_site, ◌·◌, ◌asks◌=>◌, begin_parent, begin_at, get, none, ser, si, commit, value}
 use Rattle.plain_site.specs.ClientRuns.{IsRun, Told, told, told_session}
-use Rattle.plain_site.specs.WrongSteps.{raced, both_wrote, merging_both, refused_commit}
+use Rattle.plain_site.specs.WrongSteps.{followed, raced, both_wrote, merging_both, refused_commit}
 
 -- the lines are a run of the only site
 abbrev pub AreRun : List Line → Type 0
@@ -36,6 +37,10 @@ WeakerIsSentAfter = AreRun (1 asks commit none => Committed (1 · 2) (1 · 1 ∷
 -- session 2 begins at its commit
 abbrev pub CommitsAreFound : Type 0
 CommitsAreFound = AreRun (2 asks begin_parent => Begun (1 · 1) ∷ raced)
+
+-- a following session isn't let above its commit
+abbrev pub FollowersStayBelow : Type 0
+FollowersStayBelow = AreRun (1 asks begin_at (0 · 0) => Refused (Below (0 · 0) (1 · 1)) ∷ followed)
 
 -- a merge joins both sides
 abbrev pub SidesAreJoined : Type 0

@@ -4,12 +4,14 @@ use Rattle.tardis_base.specs.declared.ids.StateId.{StateId}
 use Rattle.tardis_base.specs.declared.records.Record.{Record}
 use Rattle.tardis_base.specs.declared.records.Write.TheVariants.{Put as Value}
 use Rattle.tardis_base.specs.declared.records.Item.TheVariants.{State}
-use Rattle.tardis_base.specs.declared.requests.Request.TheVariants.{Get, Commit, Tidy, Raise, Deliver}
+use Rattle.tardis_base.specs.declared.requests.Request.TheVariants.{Begin, Get, Commit, Tidy, Raise, Deliver}
 use Rattle.tardis_base.specs.declared.replies.Refusal.TheVariants.{NoTxn, Branches}
 use Rattle.tardis_base.specs.declared.replies.Reply.{Reply}
 use Rattle.tardis_base.specs.declared.replies.Reply.TheVariants.{Opened, Begun, Merging, Absent, Done, Committed, Ended, Raised, Tidied, Applied, Refused}
-use Rattle.tardis_base.specs.Ids.{is_among}
+use Rattle.tardis_base.specs.Ids.{root, is_among}
 use Rattle.plain_dag.specs.Begin.{last_arrived}
+use Rattle.plain_dag.specs.Entries.{changed}
+use Rattle.plain_dag.specs.Floors.{with_ceiling}
 use Rattle.plain_dag.specs.Writers.{read}
 use Rattle.plain_site.specs.Site.{Site, opening, Txn, Single, Merge, read_states, writes_of, with_txn_changed}
 use Rattle.plain_site.specs.Built.{everything}
@@ -94,6 +96,13 @@ forgets_commits site n (Commit flags k) =
     let answer = step everything site n (Commit flags k) in
     (record answer.0 { sessions = site.sessions }, answer.1)
 forgets_commits site n q = step everything site n q
+
+-- a transaction begins as if its session had the root as its ceiling
+abbrev pub forgets_ceilings : Service
+forgets_ceilings site n (Begin b) =
+    let answer = step everything (record site { sessions = changed n (with_ceiling root) site.sessions }) n (Begin b) in
+    (record answer.0 { sessions = site.sessions }, answer.1)
+forgets_ceilings site n q = step everything site n q
 
 -- a commit that is refused ends its transaction
 abbrev pub ends_refused : Service
@@ -191,16 +200,25 @@ merging_both =
     ∷ 1 asks commit ser => Committed (1 · 2) (0 · 0 ∷ [])
     ∷ raced
 
--- a following session makes 1.1, and writes x again
-abbrev pub written_again : List Line
-written_again =
-    1 asks put "x" "2" => Done
-    ∷ 1 asks begin_any => Begun (1 · 1)
-    ∷ 1 asks commit none => Committed (1 · 1) (0 · 0 ∷ [])
+-- a following session makes 1.1 ..
+abbrev pub followed : List Line
+followed =
+    1 asks commit none => Committed (1 · 1) (0 · 0 ∷ [])
     ∷ 1 asks put "x" "1" => Done
     ∷ 1 asks begin_any => Begun (0 · 0)
     ∷ 1 asks opens_following => Opened (0 · 0)
     ∷ []
+
+-- .. and reads at the root again
+abbrev pub read_above : List Line
+read_above = 1 asks begin_at (0 · 0) => Begun (0 · 0) ∷ followed
+
+-- .. and writes x again
+abbrev pub written_again : List Line
+written_again =
+    1 asks put "x" "2" => Done
+    ∷ 1 asks begin_any => Begun (1 · 1)
+    ∷ followed
 
 -- after it made 1.2, 1.1 is closed and collected
 abbrev pub collected : List Line

@@ -1,5 +1,5 @@
 use Rattle.std.proofs.Common.{refl}
-use Rattle.client_laws.proofs.Rows.{readers-fork, writers-fork, reads-are-old, wanting-is-sent-again, weaker-is-sent-after, commits-are-found, sides-are-joined}
+use Rattle.client_laws.proofs.Rows.{followers-stay-below, readers-fork, writers-fork, reads-are-old, wanting-is-sent-again, weaker-is-sent-after, commits-are-found, sides-are-joined}
 use Rattle.client_laws.proofs.runs_are_told.Goals as goal
 
 pub returns-clause-readers : goal.returns-clause-readers
@@ -25,3 +25,6 @@ returns-clause-sides c = sides-are-joined
 
 pub returns-clause-told : goal.returns-clause-told
 returns-clause-told c = (refl, refl)
+
+pub returns-clause-followers : goal.returns-clause-followers
+returns-clause-followers c = followers-stay-below
