@@ -32,7 +32,7 @@ use Rattle.plain_site.proofs.SoundCommits.{next_record}
 use Rattle.client_laws.proofs.Effects.{OnlyRefuse, refuse-only, found-only, both-only}
 
 -- what holds of each refusal, and of the answer where none refuses
-unless-none : (P : Answer → Type 0) (site : Site) (refusals : List (Option Reply)) (answer : Answer) → OnlyRefuse refusals →
+pub unless-none : (P : Answer → Type 0) (site : Site) (refusals : List (Option Reply)) (answer : Answer) → OnlyRefuse refusals →
     ((refusal : Refusal) → P (site, Refused refusal)) → (AreNone refusals → P answer) → P (unless site refusals answer)
 unless-none P site [] answer only refused h = h refl
 unless-none P site (None ∷ more) answer only refused h = unless-none P site more answer only refused h

@@ -32,7 +32,7 @@ use Rattle.plain_site.specs.Built.{Built}
 use Rattle.plain_site.specs.Step.{step}
 use Rattle.plain_site.specs.RowWords.{Line, ◌asks◌=>◌}
 use Rattle.plain_site.specs.ClientRuns.{wants_memory, after_line, site_after, history, IsRun, Told, told, told_session}
-use Rattle.plain_site.specs.ClientLaws.{DoneCommit, as_line, CommitsAreKept, CommitsAreShown, OtherKeysAreJoined, CommitsJoinWhatTheyRead, SessionsReadTheirCommits, SessionsStayUnderCeilings}
+use Rattle.plain_site.specs.ClientLaws.{DoneCommit, as_line, CommitsAreKept, CommitsAreShown, OtherKeysAreJoined, CommitsJoinWhatTheyRead, ParentReadsTheLastCommit, AncestorReadsTheLastCommit, AnyReadsTheLastCommit, SessionsStayUnderCeilings}
 use Rattle.client_laws.proofs.Records.{record-of-newest, record-stays, shown-below, joined, no-conflict}
 use Rattle.client_laws.proofs.Tellings.{is_merge}
 use Rattle.client_laws.proofs.EffectsOfSites.{step-does}
@@ -193,21 +193,20 @@ module _ (built : Built) where
     | inr none ↦ subst (λ o. IsTrue (is_above rs x (unwrap_or o x))) (sym none) (above-reflexive rs x)
   ]
 
-  pub sessions-read-their-commits : SessionsReadTheirCommits (step built)
-  sessions-read-their-commits = record {
-    parent = λ start older n x run. let at = begun-at Parent start older n x run in (at.0, at.1, sym at.2);
-    ancestor = λ start older n x run.
-        let rs = history older in
-        let at = begun-at Ancestor start older n x run in
-        (at.0, at.1, subst (λ z. IsTrue (is_above rs at.0.last z)) at.2 (above-last-below rs at.0.last));
-    any = λ start older n x run.
-        let rs = history older in
-        let at = begun-at Any start older n x run in (
-          at.0,
-          at.1,
-          (λ h. subst (λ z. IsTrue (is_above rs at.0.last z)) (sym at.2) h, λ h. subst (λ z. IsTrue (is_above rs at.0.last z)) at.2 h),
-        );
-  }
+  pub parent-reads-the-last : ParentReadsTheLastCommit (step built)
+  parent-reads-the-last start older n x run = let at = begun-at Parent start older n x run in (at.0, at.1, sym at.2)
+
+  pub ancestor-reads-the-last : AncestorReadsTheLastCommit (step built)
+  ancestor-reads-the-last start older n x run =
+      let rs = history older in
+      let at = begun-at Ancestor start older n x run in
+      (at.0, at.1, subst (λ z. IsTrue (is_above rs at.0.last z)) at.2 (above-last-below rs at.0.last))
+
+  pub any-reads-the-last : AnyReadsTheLastCommit (step built)
+  any-reads-the-last start older n x run =
+      let rs = history older in
+      let at = begun-at Any start older n x run in
+      (at.0, at.1, (λ h. subst (λ z. IsTrue (is_above rs at.0.last z)) (sym at.2) h, λ h. subst (λ z. IsTrue (is_above rs at.0.last z)) at.2 h))
 
   pub sessions-stay-under-ceilings : SessionsStayUnderCeilings (step built)
   sessions-stay-under-ceilings start older n b x run =

@@ -23,7 +23,7 @@ use Rattle.plain_site.specs.Built.{Built}
 use Rattle.plain_site.specs.Step.{step}
 use Rattle.plain_site.specs.RowWords.{Line}
 use Rattle.plain_site.specs.ClientRuns.{wants_memory, site_after, history, IsAnswered, IsRun, Told, told, ReadsShow}
-use Rattle.plain_site.specs.ClientLaws.{DoneCommit, as_line, ReadsOneSnapshot, SerializableReadsHold, SnapshotsOverwriteNothingUnseen}
+use Rattle.plain_site.specs.ClientLaws.{DoneCommit, as_line, ReadsOneSnapshot, ReadsAtItsState, SerializableReadsHold, SnapshotsOverwriteNothingUnseen}
 use Rattle.client_laws.proofs.Dags.{value-over-one}
 use Rattle.client_laws.proofs.Tellings.{IsTold, Tells, shows-alike, shows-kept-alike}
 use Rattle.client_laws.proofs.Held.{dag_after, history-is-told, Holds, run-holds, run-before}
@@ -53,21 +53,18 @@ module _ (built : Built) where
 
   -- ===== One snapshot
 
-  told-shows : (start : Site) (lines : List Line) (n : ℕ) (t : Told) → IsRun (step built) start lines → told n lines ≡ Some t → ReadsShow (value_over (history lines) t.states) t.reads
-  told-shows start lines n t run e =
+  pub reads-one-snapshot : ReadsOneSnapshot (step built)
+  reads-one-snapshot start lines n t run e =
       let h = run-holds built start lines run in
       let site = site_after (step built) start lines in
       let open_there = tells-open site.dag (entry_of n site.txns) (told n lines) t e (h.txn n) in
       subst (λ rs. ReadsShow (value_over rs t.states) t.reads) h.dag (subst (λ xs. ReadsShow (value_over site.dag xs) t.reads) (sym open_there.2.states) open_there.2.shown)
 
-  pub reads-one-snapshot : ReadsOneSnapshot (step built)
-  reads-one-snapshot = record {
-    of_several = told-shows;
-    of_one = λ start lines n t s run e at.
-        let rs = history lines in
-        shows-alike (value_over rs t.states) (λ key. read rs key s) t.reads (λ key. ap (λ xs. value_over rs xs key) at ∙ value-over-one rs s key)
-        (told-shows start lines n t run e);
-  }
+  pub reads-at-its-state : ReadsAtItsState (step built)
+  reads-at-its-state start lines n t s run e at =
+      let rs = history lines in
+      shows-alike (value_over rs t.states) (λ key. read rs key s) t.reads (λ key. ap (λ xs. value_over rs xs key) at ∙ value-over-one rs s key)
+      (reads-one-snapshot start lines n t run e)
 
   -- ===== Commits
 

@@ -18,10 +18,10 @@ pub weaker-is-sent-after : WeakerIsSentAfter
 weaker-is-sent-after = record { limits = refl; own = refl; opens = refl; answered = (refl, inl refl, (refl, inl refl, (refl, inl refl, (refl, inl refl, (refl, inl refl, (refl, inl refl, (refl, inl refl, (refl, inl refl, (refl, inl refl, (refl, inl refl, tt)))))))))) }
 
 pub commits-are-found : CommitsAreFound
-commits-are-found = record { limits = refl; own = refl; opens = refl; answered = (refl, inl refl, (refl, inl refl, (refl, inl refl, (refl, inl refl, (refl, inl refl, (refl, inl refl, (refl, inl refl, (refl, inl refl, (refl, inl refl, tt))))))))) }
+commits-are-found = record { limits = refl; own = refl; opens = refl; answered = (refl, inl refl, (refl, inl refl, (refl, inl refl, (refl, inl refl, (refl, inl refl, (refl, inl refl, (refl, inl refl, (refl, inl refl, (refl, inl refl, (refl, inl refl, (refl, inl refl, (refl, inl refl, (refl, inl refl, (refl, inl refl, tt)))))))))))))) }
 
 pub sides-are-joined : SidesAreJoined
-sides-are-joined = record { limits = refl; own = refl; opens = refl; answered = (refl, inl refl, (refl, inl refl, (refl, inl refl, (refl, inl refl, (refl, inl refl, (refl, inl refl, (refl, inl refl, (refl, inl refl, (refl, inl refl, (refl, inl refl, (refl, inl refl, tt))))))))))) }
+sides-are-joined = record { limits = refl; own = refl; opens = refl; answered = (refl, inl refl, (refl, inl refl, (refl, inl refl, (refl, inl refl, (refl, inl refl, (refl, inl refl, (refl, inl refl, (refl, inl refl, (refl, inl refl, (refl, inl refl, (refl, inl refl, (refl, inl refl, (refl, inl refl, tt))))))))))))) }
 
 pub followers-stay-below : FollowersStayBelow
 followers-stay-below = record { limits = refl; own = refl; opens = refl; answered = (refl, inl refl, (refl, inl refl, (refl, inl refl, (refl, inl refl, (refl, inl refl, tt))))) }

@@ -20,8 +20,8 @@ use Rattle.plain_dag.specs.Writers.{is_writer, read}
 use Rattle.plain_dag.specs.Floors.{Session}
 use Rattle.plain_site.specs.RowWords.{Line, lone_site, ◌·◌, ◌asks◌=>◌, put, none, ser, si, commit, merge_leaves, value}
 use Rattle.plain_site.specs.ClientRuns.{Service, IsRun, AreAnswered, Told, told, told_session, history, ReadsShow}
-use Rattle.plain_site.specs.ClientLaws.{DoneCommit, as_line, HistoryIsTold, ReadsOneSnapshot, ReadersEndWhereTheyRead, DeliveriesAreKept, SerializableReadsHold, BranchesAreSerial, SnapshotsOverwriteNothingUnseen, CommitsAreKept, CommitsAreShown, OtherKeysAreJoined, CommitsJoinWhatTheyRead, OwnWritesAreRead, SessionsReadTheirCommits, SessionsStayUnderCeilings, RefusalsHideNothing}
-use Rattle.plain_site.specs.WrongSteps.{IsBrokenBy, forgets_reads, forgets_constraints, reads_newest, forgets_own_writes, forgets_collected, leaves_conflicts, drops_sides, forgets_commits, forgets_ceilings, ends_refused, followed, read_above, ends_at_newest, forgets_deliveries, ended_elsewhere, begun_three, first_site, of_second_site, delivered, delivered_again, raced, begun_both, both_wrote, stale_read, lost_update, unstable_read, own_write_missed, own_commit_missed, refused_commit, commit_after_refusal, after_conflict, merging_both, written_again, collected, name_given_twice}
+use Rattle.plain_site.specs.ClientLaws.{DoneCommit, as_line, HistoryIsTold, ReadsOneSnapshot, ReadsAtItsState, ReadersEndWhereTheyRead, DeliveriesAreKept, SerializableReadsHold, BranchesAreSerial, SnapshotsOverwriteNothingUnseen, CommitsAreKept, CommitsAreShown, OtherKeysAreJoined, CommitsJoinWhatTheyRead, OwnWritesAreRead, ParentReadsTheLastCommit, AncestorReadsTheLastCommit, AnyReadsTheLastCommit, MergesShowEachSide, SessionsStayUnderCeilings, RefusalsHideNothing}
+use Rattle.plain_site.specs.WrongSteps.{IsBrokenBy, forgets_reads, forgets_constraints, reads_newest, forgets_own_writes, forgets_collected, leaves_conflicts, drops_sides, forgets_commits, shows_newest_side, stays_with_own, forked, other_branch_read, newest_missed, other_side_shown, forgets_ceilings, ends_refused, followed, read_above, ends_at_newest, forgets_deliveries, ended_elsewhere, begun_three, first_site, of_second_site, delivered, delivered_again, raced, begun_both, both_wrote, stale_read, lost_update, unstable_read, own_write_missed, own_commit_missed, refused_commit, commit_after_refusal, after_conflict, merging_both, written_again, collected, name_given_twice}
 
 -- lines of the only site that were answered are a run
 run-of : (service : Service) (lines : List Line) → AreAnswered service lone_site lines → IsRun service lone_site lines
@@ -66,10 +66,16 @@ forgotten-reads-break-branches law =
 unstable-run : IsRun reads_newest lone_site unstable_read
 unstable-run = run-of reads_newest unstable_read (refl, inl refl, (refl, inl refl, (refl, inl refl, (refl, inl refl, (refl, inl refl, (refl, inl refl, (refl, inl refl, (refl, inl refl, (refl, inl refl, tt)))))))))
 
+pub newest-reads-break-state : IsBrokenBy ReadsAtItsState reads_newest
+newest-reads-break-state law =
+    let t : Told = record of_one { reads = (codes "x", value (1 · 1) "2") ∷ (codes "x", Absent) ∷ [] } in
+    let first : value (1 · 1) "2" ≡ Absent = (law lone_site unstable_read 1 t (0 · 0) unstable-run refl refl).0 in
+    absurd (cc)
+
 pub newest-reads-break : IsBrokenBy ReadsOneSnapshot reads_newest
 newest-reads-break law =
     let t : Told = record of_one { reads = (codes "x", value (1 · 1) "2") ∷ (codes "x", Absent) ∷ [] } in
-    let first : value (1 · 1) "2" ≡ Absent = (law.of_one lone_site unstable_read 1 t (0 · 0) unstable-run refl refl).0 in
+    let first : value (1 · 1) "2" ≡ Absent = (law lone_site unstable_read 1 t unstable-run refl).0 in
     absurd (cc)
 
 own-missed-run : IsRun forgets_own_writes lone_site own_write_missed
@@ -186,6 +192,15 @@ open-conflicts-break law =
     law lone_site after_conflict begun_both (done 2 none (1 · 1) (0 · 0 ∷ [])) t conflict-run refl (codes "x") (Put (codes "2")) (1 · 3) refl refl refl none-below in
     absurd (none-some (1 · 1, Put (codes "2")) shown)
 
+side-run : IsRun shows_newest_side lone_site other_side_shown
+side-run = run-of shows_newest_side other_side_shown (refl, inl refl, (refl, inl refl, (refl, inl refl, (refl, inl refl, (refl, inl refl, (refl, inl refl, (refl, inl refl, (refl, inl refl, (refl, inl refl, (refl, inl refl, (refl, inl refl, tt)))))))))))
+
+pub newest-sides-break : IsBrokenBy MergesShowEachSide shows_newest_side
+newest-sides-break law =
+    let h = law lone_site merging_both 1 (codes "x") (1 · 1) Absent side-run refl in
+    let shown : Absent ≡ value (1 · 1) "2" = h.4 in
+    absurd (cc)
+
 dropping-run : IsRun drops_sides lone_site (1 asks commit none => Committed (1 · 3) (1 · 1 ∷ []) ∷ merging_both)
 dropping-run = run-of drops_sides (1 asks commit none => Committed (1 · 3) (1 · 1 ∷ []) ∷ merging_both) (refl, inl refl, (refl, inl refl, (refl, inl refl, (refl, inl refl, (refl, inl refl, (refl, inl refl, (refl, inl refl, (refl, inl refl, (refl, inl refl, (refl, inl refl, (refl, inl refl, tt)))))))))))
 
@@ -201,14 +216,40 @@ dropped-sides-break law =
 missed-run : IsRun forgets_commits lone_site own_commit_missed
 missed-run = run-of forgets_commits own_commit_missed (refl, inl refl, (refl, inl refl, (refl, inl refl, (refl, inl refl, (refl, inl refl, (refl, inl refl, (refl, inl refl, (refl, inl refl, (refl, inl refl, tt)))))))))
 
-pub forgotten-commits-break : IsBrokenBy SessionsReadTheirCommits forgets_commits
+pub forgotten-commits-break : IsBrokenBy ParentReadsTheLastCommit forgets_commits
 forgotten-commits-break law =
-    let h = law.parent lone_site raced 2 (0 · 0) missed-run in
+    let h = law lone_site raced 2 (0 · 0) missed-run in
     let made : Session = record { follow = false; ceiling = 0 · 0; last = 1 · 1 } in
     let it : told_session 2 raced ≡ Some made = refl in
     let at : 0 · 0 ≡ 1 · 1 = h.2 ∙ ap (λ (s : Session). s.last) (same_Some h.0 made (sym h.1 ∙ it)) in
     let none : ◌≡◌ {A = ℕ} 0 1 = ap (λ (x : StateId). x.site) at in
     absurd (omega arith)
+
+-- session 2 after its commit of 1.1
+abbrev of_two : Session
+of_two = record { follow = false; ceiling = 0 · 0; last = 1 · 1 }
+
+other-branch-run : IsRun forgets_commits lone_site other_branch_read
+other-branch-run = run-of forgets_commits other_branch_read (refl, inl refl, (refl, inl refl, (refl, inl refl, (refl, inl refl, (refl, inl refl, (refl, inl refl, (refl, inl refl, (refl, inl refl, (refl, inl refl, (refl, inl refl, tt))))))))))
+
+pub forgotten-commits-break-ancestor : IsBrokenBy AncestorReadsTheLastCommit forgets_commits
+forgotten-commits-break-ancestor law =
+    let h = law lone_site forked 2 (1 · 2) other-branch-run in
+    let it : told_session 2 forked ≡ Some of_two = refl in
+    let none : IsTrue false = subst (λ (s : Session). IsTrue (is_above (history forked) s.last (1 · 2))) (same_Some h.0 of_two (sym h.1 ∙ it)) h.2 in
+    absurd (cc)
+
+newest-missed-run : IsRun stays_with_own lone_site newest_missed
+newest-missed-run = run-of stays_with_own newest_missed (refl, inl refl, (refl, inl refl, (refl, inl refl, (refl, inl refl, (refl, inl refl, (refl, inl refl, (refl, inl refl, (refl, inl refl, (refl, inl refl, (refl, inl refl, tt))))))))))
+
+pub own-beginnings-break : IsBrokenBy AnyReadsTheLastCommit stays_with_own
+own-beginnings-break law =
+    let h = law lone_site forked 2 (1 · 1) newest-missed-run in
+    let it : told_session 2 forked ≡ Some of_two = refl in
+    let same = same_Some h.0 of_two (sym h.1 ∙ it) in
+    let newest : IsTrue (is_above (history forked) h.0.last (1 · 2)) = h.2.0 (subst (λ (s : Session). IsTrue (is_above (history forked) s.last (1 · 1))) (sym same) refl) in
+    let none : IsTrue false = subst (λ (s : Session). IsTrue (is_above (history forked) s.last (1 · 2))) same newest in
+    absurd (cc)
 
 above-run : IsRun forgets_ceilings lone_site read_above
 above-run = run-of forgets_ceilings read_above (refl, inl refl, (refl, inl refl, (refl, inl refl, (refl, inl refl, (refl, inl refl, tt)))))

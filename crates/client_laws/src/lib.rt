@@ -7,9 +7,9 @@
 ghost use Rattle.plain_site.specs.Built.{Built};
 ghost use Rattle.plain_site.specs.Step.{step};
 ghost use Rattle.plain_site.specs.EventRuns.{EventsAreRuns};
-ghost use Rattle.plain_site.specs.ClientLaws.{ReadsOneSnapshot, OwnWritesAreRead, ReadersEndWhereTheyRead, SerializableReadsHold, BranchesAreSerial, SnapshotsOverwriteNothingUnseen, HistoryIsTold, CommitsAreKept, DeliveriesAreKept, CommitsAreShown, OtherKeysAreJoined, CommitsJoinWhatTheyRead, SessionsReadTheirCommits, SessionsStayUnderCeilings, RefusalsHideNothing};
+ghost use Rattle.plain_site.specs.ClientLaws.{ReadsOneSnapshot, ReadsAtItsState, OwnWritesAreRead, MergesShowEachSide, ReadersEndWhereTheyRead, SerializableReadsHold, BranchesAreSerial, SnapshotsOverwriteNothingUnseen, HistoryIsTold, CommitsAreKept, DeliveriesAreKept, CommitsAreShown, OtherKeysAreJoined, CommitsJoinWhatTheyRead, ParentReadsTheLastCommit, AncestorReadsTheLastCommit, AnyReadsTheLastCommit, SessionsStayUnderCeilings, RefusalsHideNothing};
 ghost use Rattle.plain_site.specs.RowsOfClients.{ReadersFork, WritersFork, ReadsAreOld, WantingIsSentAgain, WeakerIsSentAfter, CommitsAreFound, FollowersStayBelow, SidesAreJoined, LinesTell};
-ghost use Rattle.plain_site.specs.WrongSteps.{IsBrokenBy, reads_newest, ends_at_newest, forgets_own_writes, forgets_reads, forgets_constraints, forgets_collected, forgets_deliveries, leaves_conflicts, drops_sides, forgets_commits, forgets_ceilings, ends_refused};
+ghost use Rattle.plain_site.specs.WrongSteps.{IsBrokenBy, reads_newest, forgets_own_writes, shows_newest_side, ends_at_newest, forgets_reads, forgets_constraints, forgets_collected, forgets_deliveries, leaves_conflicts, drops_sides, forgets_commits, stays_with_own, forgets_ceilings, ends_refused};
 
 use wire_talk::talk_has_one_spelling;
 
@@ -22,14 +22,18 @@ pub fn events_are_runs()
 }
 
 /// Each transaction reads one snapshot, however long it runs and whatever is committed meanwhile: each of its reads shows the
-/// value over its read states. What it wrote itself it is shown as it wrote it. One that wrote nothing ends at the state that
-/// it read.
+/// value over its read states, which for one state is what is read there. What it wrote itself it is shown as it wrote it, and
+/// a merge is shown each of its sides as it is. A transaction that wrote nothing ends at the state that it read.
 pub fn transactions_read_one_snapshot()
     ensures snapshot { (built : Built) → ReadsOneSnapshot (step built) }
+    ensures at_its_state { (built : Built) → ReadsAtItsState (step built) }
     ensures own_writes { (built : Built) → OwnWritesAreRead (step built) }
+    ensures each_side { (built : Built) → MergesShowEachSide (step built) }
     ensures ends { (built : Built) → ReadersEndWhereTheyRead (step built) }
     ensures newest_breaks { IsBrokenBy ReadsOneSnapshot reads_newest }
+    ensures newest_breaks_state { IsBrokenBy ReadsAtItsState reads_newest }
     ensures forgotten_breaks { IsBrokenBy OwnWritesAreRead forgets_own_writes }
+    ensures newest_breaks_sides { IsBrokenBy MergesShowEachSide shows_newest_side }
     ensures moved_breaks { IsBrokenBy ReadersEndWhereTheyRead ends_at_newest }
 {}
 
@@ -72,9 +76,13 @@ pub fn nothing_committed_is_lost()
 /// A session that begins at Parent reads its last commit, at Ancestor that or a state below it, and at Any too exactly where
 /// the state that arrived last is at or below it. Wherever it is told to begin, it never reads above its ceiling.
 pub fn sessions_read_their_own_commits()
-    ensures own { (built : Built) → SessionsReadTheirCommits (step built) }
+    ensures parent { (built : Built) → ParentReadsTheLastCommit (step built) }
+    ensures ancestor { (built : Built) → AncestorReadsTheLastCommit (step built) }
+    ensures any { (built : Built) → AnyReadsTheLastCommit (step built) }
     ensures ceilings { (built : Built) → SessionsStayUnderCeilings (step built) }
-    ensures forgotten_breaks { IsBrokenBy SessionsReadTheirCommits forgets_commits }
+    ensures forgotten_breaks { IsBrokenBy ParentReadsTheLastCommit forgets_commits }
+    ensures forgotten_breaks_ancestor { IsBrokenBy AncestorReadsTheLastCommit forgets_commits }
+    ensures own_breaks { IsBrokenBy AnyReadsTheLastCommit stays_with_own }
     ensures forgotten_breaks_ceilings { IsBrokenBy SessionsStayUnderCeilings forgets_ceilings }
 {}
 

@@ -8,10 +8,10 @@ use Rattle.tardis_base.specs.declared.records.Item.TheVariants.{State}
 use Rattle.tardis_base.specs.declared.requests.Begin.{Begin as BeginAt}
 use Rattle.tardis_base.specs.declared.requests.Begin.TheVariants.{Any, Ancestor, Parent}
 use Rattle.tardis_base.specs.declared.requests.EndFlags.{EndFlags}
-use Rattle.tardis_base.specs.declared.requests.Request.TheVariants.{Begin, Get, Commit, Deliver}
+use Rattle.tardis_base.specs.declared.requests.Request.TheVariants.{Begin, Get, GetFor, Commit, Deliver}
 use Rattle.tardis_base.specs.declared.replies.Reply.{Reply}
 use Rattle.tardis_base.specs.declared.replies.Reply.TheVariants.{Begun, Committed, Ended, Applied}
-use Rattle.tardis_base.specs.Ids.{root}
+use Rattle.tardis_base.specs.Ids.{root, is_among}
 use Rattle.tardis_base.specs.Keys.{has_key, write_of}
 use Rattle.plain_dag.specs.States.{is_known, record_at}
 use Rattle.plain_dag.specs.Above.{is_above, is_proper_ancestor}
@@ -21,7 +21,7 @@ use Rattle.plain_dag.specs.Begin.{last_arrived}
 use Rattle.plain_dag.specs.Floors.{Session}
 use Rattle.plain_dag.specs.Landing.{is_ser, is_si}
 use Rattle.plain_site.specs.Site.{Site}
-use Rattle.plain_site.specs.Answers.{leaves_site, shown}
+use Rattle.plain_site.specs.Answers.{leaves_site, shown, found}
 use Rattle.plain_site.specs.RowWords.{Line, ◌asks◌=>◌}
 use Rattle.plain_site.specs.ClientRuns.{Service, IsRun, Told, told, is_shown, site_after, history, told_session, ReadsShow}
 
@@ -41,13 +41,16 @@ as_line c = c.actor asks Commit c.flags c.k => Committed c.state c.parents
 
 -- ===== Each transaction reads one snapshot
 
--- however long a transaction runs, each of its reads shows the value over its read states; where that is one state, it
--- shows what is read there
-pub record ReadsOneSnapshot (service : Service) : Type 0 where
-  pub of_several : (start : Site) (lines : List Line) (n : ℕ) (t : Told) → IsRun service start lines → told n lines ≡ Some t →
-      ReadsShow (value_over (history lines) t.states) t.reads
-  pub of_one : (start : Site) (lines : List Line) (n : ℕ) (t : Told) (s : StateId) → IsRun service start lines → told n lines ≡ Some t → t.states ≡ s ∷ [] →
-      ReadsShow (λ key. read (history lines) key s) t.reads
+-- however long a transaction runs, each of its reads shows the value over its read states
+abbrev pub ReadsOneSnapshot : Service → Type 0
+ReadsOneSnapshot service =
+    (start : Site) (lines : List Line) (n : ℕ) (t : Told) → IsRun service start lines → told n lines ≡ Some t → ReadsShow (value_over (history lines) t.states) t.reads
+
+-- where it reads at one state, it is shown what is read there
+abbrev pub ReadsAtItsState : Service → Type 0
+ReadsAtItsState service =
+    (start : Site) (lines : List Line) (n : ℕ) (t : Told) (s : StateId) → IsRun service start lines → told n lines ≡ Some t → t.states ≡ s ∷ [] →
+    ReadsShow (λ key. read (history lines) key s) t.reads
 
 -- a Get of a key that the transaction wrote is shown what it wrote last; the root stands for its writer
 abbrev pub OwnWritesAreRead : Service → Type 0
@@ -55,6 +58,13 @@ OwnWritesAreRead service =
     (start : Site) (older : List Line) (n : ℕ) (key : List ℕ) (w : Write) (reply : Reply) (t : Told) →
     IsRun service start (n asks Get key => reply ∷ older) → told n older ≡ Some t → write_of key t.writes ≡ Some w → IsTrue (is_shown reply) →
     reply ≡ shown root w
+
+-- a merge's GetFor shows what is read at the one of its read states that it names
+abbrev pub MergesShowEachSide : Service → Type 0
+MergesShowEachSide service =
+    (start : Site) (older : List Line) (n : ℕ) (key : List ℕ) (x : StateId) (reply : Reply) →
+    IsRun service start (n asks GetFor key x => reply ∷ older) → IsTrue (is_shown reply) →
+    (t : Told) × (told n older ≡ Some t) × IsTrue t.merges × IsTrue (is_among x t.states) × (reply ≡ found (read (history older) key x))
 
 -- a transaction that wrote nothing ends at the one state that it read, and each of its reads shows what is read there
 abbrev pub ReadersEndWhereTheyRead : Service → Type 0
@@ -165,18 +175,26 @@ CommitsJoinWhatTheyRead service =
 
 -- ===== Sessions read their own commits
 
--- Parent begins at the session's last commit, Ancestor at or below it, and Any exactly where the state that arrived last is:
--- with any of them a session reads its own commit, with Any as far as the last-arrived state is at or below it
-pub record SessionsReadTheirCommits (service : Service) : Type 0 where
-  pub parent : (start : Site) (older : List Line) (n : ℕ) (x : StateId) → IsRun service start (n asks Begin Parent => Begun x ∷ older) →
-      (s : Session) × (told_session n older ≡ Some s) × (x ≡ s.last)
-  pub ancestor : (start : Site) (older : List Line) (n : ℕ) (x : StateId) → IsRun service start (n asks Begin Ancestor => Begun x ∷ older) →
-      (s : Session) × (told_session n older ≡ Some s) × IsTrue (is_above (history older) s.last x)
-  pub any : (start : Site) (older : List Line) (n : ℕ) (x : StateId) → IsRun service start (n asks Begin Any => Begun x ∷ older) →
-      (s : Session) × (told_session n older ≡ Some s)
-      × (IsTrue (is_above (history older) s.last x) ↔ IsTrue (is_above (history older) s.last (last_arrived (history older))))
+-- Parent begins at the session's last commit
+abbrev pub ParentReadsTheLastCommit : Service → Type 0
+ParentReadsTheLastCommit service =
+    (start : Site) (older : List Line) (n : ℕ) (x : StateId) → IsRun service start (n asks Begin Parent => Begun x ∷ older) →
+    (s : Session) × (told_session n older ≡ Some s) × (x ≡ s.last)
 
--- and wherever it is told to begin, a session never reads above its ceiling, which with follow goes down to each of its
+-- Ancestor begins at or below it
+abbrev pub AncestorReadsTheLastCommit : Service → Type 0
+AncestorReadsTheLastCommit service =
+    (start : Site) (older : List Line) (n : ℕ) (x : StateId) → IsRun service start (n asks Begin Ancestor => Begun x ∷ older) →
+    (s : Session) × (told_session n older ≡ Some s) × IsTrue (is_above (history older) s.last x)
+
+-- and Any exactly where the state that arrived last is at or below it
+abbrev pub AnyReadsTheLastCommit : Service → Type 0
+AnyReadsTheLastCommit service =
+    (start : Site) (older : List Line) (n : ℕ) (x : StateId) → IsRun service start (n asks Begin Any => Begun x ∷ older) →
+    let rs = history older in
+    (s : Session) × (told_session n older ≡ Some s) × (IsTrue (is_above rs s.last x) ↔ IsTrue (is_above rs s.last (last_arrived rs)))
+
+-- wherever it is told to begin, a session never reads above its ceiling, which with follow goes down to each of its
 -- commits that is below it
 abbrev pub SessionsStayUnderCeilings : Service → Type 0
 SessionsStayUnderCeilings service =

@@ -4,7 +4,8 @@ use Rattle.tardis_base.specs.declared.ids.StateId.{StateId}
 use Rattle.tardis_base.specs.declared.records.Record.{Record}
 use Rattle.tardis_base.specs.declared.records.Write.TheVariants.{Put as Value}
 use Rattle.tardis_base.specs.declared.records.Item.TheVariants.{State}
-use Rattle.tardis_base.specs.declared.requests.Request.TheVariants.{Begin, Get, Commit, Tidy, Raise, Deliver}
+use Rattle.tardis_base.specs.declared.requests.Begin.TheVariants.{Any, Parent}
+use Rattle.tardis_base.specs.declared.requests.Request.TheVariants.{Begin, Get, GetFor, Commit, Tidy, Raise, Deliver}
 use Rattle.tardis_base.specs.declared.replies.Refusal.TheVariants.{NoTxn, Branches}
 use Rattle.tardis_base.specs.declared.replies.Reply.{Reply}
 use Rattle.tardis_base.specs.declared.replies.Reply.TheVariants.{Opened, Begun, Merging, Absent, Done, Committed, Ended, Raised, Tidied, Applied, Refused}
@@ -19,7 +20,7 @@ use Rattle.plain_site.specs.Answers.{Answer, found, leaves_site, with_txn}
 use Rattle.plain_site.specs.Reads.{read_in}
 use Rattle.plain_site.specs.Commits.{without_txn_of, commit_below}
 use Rattle.plain_site.specs.Step.{step}
-use Rattle.plain_site.specs.RowWords.{Line, program_limits, ◌·◌, ◌asks◌=>◌, opens, opens_following, begin_any, begin_parent, begin_at, get, put, none, ser, si, nb, commit, merge_leaves, value}
+use Rattle.plain_site.specs.RowWords.{Line, program_limits, ◌·◌, ◌asks◌=>◌, opens, opens_following, begin_any, begin_ancestor, begin_parent, begin_at, get, get_for, put, none, ser, si, nb, commit, merge_leaves, value}
 use Rattle.plain_site.specs.ClientRuns.{Service}
 
 -- the service breaks the law
@@ -51,6 +52,11 @@ reads_newest site n q = step everything site n q
 abbrev pub forgets_own_writes : Service
 forgets_own_writes site n (Get k) = with_txn site n (λ s t. read_in site n t k)
 forgets_own_writes site n q = step everything site n q
+
+-- a GetFor is answered at the state that arrived last
+abbrev pub shows_newest_side : Service
+shows_newest_side site n (GetFor k x) = ((step everything site n (GetFor k x)).0, found (read site.dag k (last_arrived site.dag)))
+shows_newest_side site n q = step everything site n q
 
 -- the records of collected states are forgotten
 abbrev pub without_collected : Answer → Answer
@@ -96,6 +102,11 @@ forgets_commits site n (Commit flags k) =
     let answer = step everything site n (Commit flags k) in
     (record answer.0 { sessions = site.sessions }, answer.1)
 forgets_commits site n q = step everything site n q
+
+-- Any begins at the session's last commit
+abbrev pub stays_with_own : Service
+stays_with_own site n (Begin Any) = step everything site n (Begin Parent)
+stays_with_own site n q = step everything site n q
 
 -- a transaction begins as if its session had the root as its ceiling
 abbrev pub forgets_ceilings : Service
@@ -152,6 +163,18 @@ own_write_missed = 1 asks get "y" => Absent ∷ raced
 abbrev pub own_commit_missed : List Line
 own_commit_missed = 2 asks begin_parent => Begun (0 · 0) ∷ raced
 
+-- 1 makes 1.2 beside 1.1
+abbrev pub forked : List Line
+forked = 1 asks commit ser => Committed (1 · 2) (0 · 0 ∷ []) ∷ raced
+
+-- 2 begins where the root is the ancestor
+abbrev pub other_branch_read : List Line
+other_branch_read = 2 asks begin_ancestor => Begun (1 · 2) ∷ forked
+
+-- 2 begins at its own commit, though 1.2 arrived last
+abbrev pub newest_missed : List Line
+newest_missed = 2 asks begin_any => Begun (1 · 1) ∷ forked
+
 -- 1 may not branch, and then has no transaction
 abbrev pub refused_commit : Line
 refused_commit = 1 asks commit (ser + nb) => Refused (Branches nb (0 · 0) 1)
@@ -197,8 +220,11 @@ after_conflict =
 abbrev pub merging_both : List Line
 merging_both =
     1 asks merge_leaves => Merging (1 · 1 ∷ 1 · 2 ∷ [])
-    ∷ 1 asks commit ser => Committed (1 · 2) (0 · 0 ∷ [])
-    ∷ raced
+    ∷ forked
+
+-- for the side of 1.1 it is shown that of 1.2
+abbrev pub other_side_shown : List Line
+other_side_shown = 1 asks get_for "x" (1 · 1) => Absent ∷ merging_both
 
 -- a following session makes 1.1 ..
 abbrev pub followed : List Line
