@@ -1,0 +1,257 @@
+#!/usr/bin/env python3
+"""Measures `PROGRAM run` on several shapes of history.
+
+usage: bench/speed.py PROGRAM [SHAPE ..]
+
+Each shape is a file of request frames (docs/FORMATS.md), read from a file, its replies given to /dev/null. The least
+of three runs counts. A line tells the shape, its requests, the seconds above an empty run, requests a second, and the
+memory that was held at most. Where a shape has a part that is asked for, as a merge at the end of a long history, that
+part is what the run costs above the same history without it.
+"""
+
+import os
+import struct
+import subprocess
+import sys
+import tempfile
+import time
+
+def frame(actor, request):
+    return struct.pack(">IH", len(request) + 2, actor) + request
+
+
+def key(name):
+    name = name.encode()
+    return bytes([len(name)]) + name
+
+
+def opens(follow=False):
+    return b"\x01\x01" if follow else b"\x01\x00"
+
+
+BEGIN_ANY, BEGIN_ANCESTOR = b"\x02\x00", b"\x02\x01"
+ABORT, MERGE_LEAVES, FORK_POINTS, CONFLICTS, LEAVES = b"\x07", b"\x08\x00", b"\x09", b"\x0a\x00", b"\x12"
+SERIALIZABLE, UNCONSTRAINED = b"\x06\x01\x00\x00", b"\x06\x00\x00\x00"
+
+
+def begin_at(site, sequence):
+    return b"\x02\x03" + struct.pack(">HI", site, sequence)
+
+
+def merge_of(*states):
+    return b"\x08" + bytes([len(states)]) + b"".join(struct.pack(">HI", *state) for state in states)
+
+
+def get(name):
+    return b"\x03" + key(name)
+
+
+def put(name, value="v" * 32):
+    value = value.encode()
+    return b"\x04" + key(name) + struct.pack(">H", len(value)) + value
+
+
+def gets(count=400_000):
+    """reads of 64 keys in one transaction"""
+    yield frame(1, opens())
+    yield frame(1, BEGIN_ANY)
+    for place in range(64):
+        yield frame(1, put("k%02d" % place))
+    yield frame(1, SERIALIZABLE)
+    yield frame(1, BEGIN_ANY)
+    frames = [frame(1, get("k%02d" % place)) for place in range(64)]
+    for place in range(count):
+        yield frames[place & 63]
+
+
+def puts(count=400_000):
+    """writes of 64 keys in one transaction"""
+    yield frame(1, opens())
+    yield frame(1, BEGIN_ANY)
+    frames = [frame(1, put("k%02d" % place)) for place in range(64)]
+    for place in range(count):
+        yield frames[place & 63]
+
+
+def chain(states, keys=1):
+    """one session: begin, get, put, commit, again and again"""
+    yield frame(1, opens())
+    for place in range(states):
+        name = "k%05d" % (place % keys)
+        for request in (BEGIN_ANY, get(name), put(name), SERIALIZABLE):
+            yield frame(1, request)
+
+
+def rounds(count):
+    """two sessions conflict on one key, and a merge joins them: three states a round"""
+    yield frame(1, opens())
+    yield frame(2, opens())
+    for place in range(count):
+        for actor in (1, 2):
+            for request in (BEGIN_ANY, get("k"), put("k", "v%d" % place)):
+                yield frame(actor, request)
+        yield frame(1, SERIALIZABLE)
+        yield frame(2, SERIALIZABLE)
+        for request in (MERGE_LEAVES, CONFLICTS, put("k", "m%d" % place), UNCONSTRAINED):
+            yield frame(1, request)
+
+
+def wide_branches(states, merges):
+    """a chain of so many states; then two branches of the same 64 keys and a merge of them, so many times"""
+    yield frame(1, opens())
+    yield frame(2, opens())
+    for place in range(states):
+        yield frame(1, BEGIN_ANY)
+        for fresh in range(64 if place % 100 == 0 else 1):
+            yield frame(1, put("s%d.%d" % (place, fresh)))
+        yield frame(1, SERIALIZABLE)
+    for _ in range(merges):
+        for actor in (1, 2):
+            yield frame(actor, BEGIN_ANY)
+            for fresh in range(64):
+                yield frame(actor, get("b%d" % fresh))
+                yield frame(actor, put("b%d" % fresh, "%d" % actor))
+        for request in (frame(1, SERIALIZABLE), frame(2, SERIALIZABLE), frame(1, MERGE_LEAVES), frame(1, CONFLICTS)):
+            yield request
+        for fresh in range(64):
+            yield frame(1, put("b%d" % fresh, "joined"))
+        yield frame(1, UNCONSTRAINED)
+
+
+def far_landing(states, commits):
+    """commits that have read a key with so many versions on another branch, and land so many states down"""
+    yield frame(1, opens())
+    yield frame(2, opens())
+    readers = range(3, 3 + abs(commits))
+    for reader in readers:
+        yield frame(reader, opens())
+    for actor in (1, 2):
+        for request in (BEGIN_ANY, get("fork"), put("fork")):
+            yield frame(actor, request)
+    yield frame(1, SERIALIZABLE)
+    yield frame(2, SERIALIZABLE)
+    for reader in readers:
+        for request in (BEGIN_ANY, get("hot"), put("mine%d" % reader)):
+            yield frame(reader, request)
+    for _ in range(states):
+        for actor, name in ((1, "hot"), (2, "cold")):
+            for request in (BEGIN_ANCESTOR, put(name), SERIALIZABLE):
+                yield frame(actor, request)
+    for reader in readers:
+        yield frame(reader, SERIALIZABLE if commits > 0 else ABORT)
+
+
+def leaves(count, asked):
+    """so many leaves below one state; then a merge of two of them, its conflicts and fork points, and Leaves, so many times"""
+    yield frame(1, opens())
+    yield frame(2, opens())
+    for request in (BEGIN_ANY, put("k"), SERIALIZABLE):
+        yield frame(1, request)
+    for _ in range(count):
+        for request in (begin_at(1, 1), get("k"), put("k"), SERIALIZABLE):
+            yield frame(1, request)
+    for _ in range(asked):
+        for request in (merge_of((1, 2), (1, 3)), CONFLICTS, FORK_POINTS, ABORT, LEAVES):
+            yield frame(2, request)
+
+
+def stale(states, begins):
+    """a branch grows by so many states; a session on another branch begins at its last commit's branch so many times"""
+    yield frame(1, opens())
+    yield frame(2, opens())
+    for actor in (1, 2):
+        for request in (BEGIN_ANY, get("fork"), put("fork")):
+            yield frame(actor, request)
+    yield frame(2, SERIALIZABLE)
+    yield frame(1, SERIALIZABLE)
+    for _ in range(states):
+        for request in (BEGIN_ANCESTOR, put("a"), SERIALIZABLE):
+            yield frame(1, request)
+    for _ in range(begins):
+        yield frame(2, BEGIN_ANCESTOR)
+        yield frame(2, ABORT)
+
+
+def refused(states, commits):
+    """a store that is full, and commits of 64 fresh keys each that it refuses"""
+    yield from chain(states)
+    for place in range(commits):
+        yield frame(1, BEGIN_ANY)
+        for fresh in range(64):
+            yield frame(1, put("f%d.%d" % (place, fresh)))
+        yield frame(1, SERIALIZABLE)
+        yield frame(1, ABORT)
+
+
+SHAPES = {
+    "gets": [gets()],
+    "puts": [puts()],
+    "chain 1,000": [chain(1_000)],
+    "chain 16,000": [chain(16_000)],
+    "chain 16,000, 4,000 keys": [chain(16_000, 4_000)],
+    "rounds 100": [rounds(100)],
+    "rounds 500": [rounds(500)],
+    "rounds 2,000": [rounds(2_000)],
+    "100 merges of 64 keys in 200": [wide_branches(200, 100), wide_branches(200, 0)],
+    "100 merges of 64 keys in 16,000": [wide_branches(16_000, 100), wide_branches(16_000, 0)],
+    "landing 1,000 down": [far_landing(1_000, 20), far_landing(1_000, -20)],
+    "landing 5,000 down": [far_landing(5_000, 20), far_landing(5_000, -20)],
+    "leaves 200": [leaves(200, 2_000), leaves(200, 0)],
+    "leaves 4,000": [leaves(4_000, 2_000), leaves(4_000, 0)],
+    "stale branch 500": [stale(500, 2_000), stale(500, 0)],
+    "stale branch 5,000": [stale(5_000, 2_000), stale(5_000, 0)],
+    "refused in a full store": [refused(16_383, 4_000), refused(16_383, 0)],
+}
+
+
+def least_of_three(program, path):
+    """The least time of three runs, and the memory that was held at most."""
+    times, memory = [], 0
+    for _ in range(3):
+        with open(path, "rb") as requests, open(os.devnull, "wb") as replies:
+            start = time.perf_counter()
+            child = subprocess.Popen([program, "run"], stdin=requests, stdout=replies)
+            _, status, usage = os.wait4(child.pid, 0)
+            times.append(time.perf_counter() - start)
+            memory = max(memory, usage.ru_maxrss)
+        if status != 0:
+            sys.exit("%s ended with status %d" % (program, status >> 8))
+        if times[-1] > 10:
+            break
+    return min(times), memory
+
+
+def measured(program, folder, frames):
+    path = os.path.join(folder, "requests")
+    count = 0
+    with open(path, "wb") as requests:
+        for one in frames:
+            requests.write(one)
+            count += 1
+    return (count, *least_of_three(program, path))
+
+
+def main():
+    if len(sys.argv) < 2:
+        sys.exit(__doc__)
+    program, wanted = sys.argv[1], sys.argv[2:]
+    with tempfile.TemporaryDirectory() as folder:
+        _, empty, _ = measured(program, folder, [])
+        print("an empty run: %.4f s" % empty)
+        for name, parts in SHAPES.items():
+            if wanted and not any(name.startswith(word) for word in wanted):
+                continue
+            count, seconds, memory = measured(program, folder, parts[0])
+            if len(parts) == 2:
+                fewer, base, least = measured(program, folder, parts[1])
+                print(
+                    "%-32s %8d requests more %9.4f s more %10.0f a second %7.1f MB (%.1f MB without)"
+                    % (name, count - fewer, seconds - base, (count - fewer) / max(seconds - base, 1e-9), memory / 1024, least / 1024)
+                )
+            else:
+                net = max(seconds - empty, 1e-9)
+                print("%-32s %8d requests      %9.4f s      %10.0f a second %7.1f MB" % (name, count, net, count / net, memory / 1024))
+
+
+if __name__ == "__main__":
+    main()
