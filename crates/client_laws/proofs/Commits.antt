@@ -1,6 +1,6 @@
 -- What a reply tells of the step that gave it: a commit's, and a beginning's.
-use Rattle.std.proofs.Common.{◌≡◌, ℕ, Bool, true, false, not, List, [], ◌∷◌, ◌++◌, length, Option, Some, None, is_none, IsTrue, IsFalse, ◌⊎◌, inl, inr, refl, sym, ap, subst, ◌∙◌}
-use Rattle.std.specs.Prelude.{◌==◌, ◌&&◌}
+use Rattle.std.proofs.Common.{◌≡◌, ℕ, Bool, true, false, not, List, [], ◌∷◌, ◌++◌, length, Option, Some, None, IsTrue, IsFalse, refl, sym, subst}
+use Rattle.std.specs.Prelude.{◌==◌}
 use Rattle.std.proofs.lemmas.Bool.{eqb-true}
 use Rattle.tardis_base.specs.declared.ids.StateId.{StateId}
 use Rattle.tardis_base.specs.declared.records.Record.{Record}
@@ -19,21 +19,20 @@ use Rattle.plain_dag.specs.Growth.{growth_refusal}
 use Rattle.plain_dag.specs.Landing.{landing, guarded, broken}
 use Rattle.plain_dag.specs.Entries.{entry_of, with_entry}
 use Rattle.plain_dag.specs.Floors.{Session}
-use Rattle.plain_dag.proofs.Ids.{not-both}
 use Rattle.wire_talk.specs.Codes.{code_of}
 use Rattle.plain_site.specs.Site.{Site, SingleTxn, Txn, Single, Merge, own_count, writes_of}
 use Rattle.plain_site.specs.Built.{Built, is_built}
-use Rattle.plain_site.specs.Answers.{Answer, refuse, refuse_found, unless, with_txn, without_txn}
-use Rattle.plain_site.specs.Sessions.{begin_at, begin}
+use Rattle.plain_site.specs.Answers.{Answer, refuse, refuse_found, unless}
+use Rattle.plain_site.specs.Sessions.{begin}
 use Rattle.plain_site.specs.Commits.{without_txn_of, growth_refusals, committed, commit_below, commit_writes, commit_single, commit}
 use Rattle.plain_site.specs.Step.{served, step}
-use Rattle.plain_site.proofs.RepliesFrame.{RefusesWell, by-txn, by-no-txn}
+use Rattle.plain_site.proofs.RepliesFrame.{by-txn, by-no-txn}
 use Rattle.plain_site.proofs.SoundAnswers.{AreNone, when-none, none-parts, none-appended}
 use Rattle.plain_site.proofs.SoundCommits.{next_record}
 use Rattle.client_laws.proofs.Effects.{OnlyRefuse, refuse-only, found-only, both-only}
 
 -- what holds of each refusal, and of the answer where none refuses
-unless-none : (P : Answer → Type 0) (site : Site) (refusals : List (Option Reply)) (answer : Answer) → OnlyRefuse refusals →
+pub unless-none : (P : Answer → Type 0) (site : Site) (refusals : List (Option Reply)) (answer : Answer) → OnlyRefuse refusals →
     ((refusal : Refusal) → P (site, Refused refusal)) → (AreNone refusals → P answer) → P (unless site refusals answer)
 unless-none P site [] answer only refused h = h refl
 unless-none P site (None ∷ more) answer only refused h = unless-none P site more answer only refused h
@@ -130,7 +129,11 @@ module _ (built : Built) (site : Site) (n : ℕ) (flags : EndFlags) (k : ℕ) wh
 
 -- where a single transaction of an open session is told to begin, it begins there
 pub record TellsBegin (site : Site) (n : ℕ) (b : Begin) (answer : Answer) : Type 0 where
-  pub told : (x : StateId) → answer.1 ≡ Begun x → (s : Session) × (entry_of n site.sessions ≡ Some s) × (begin_state site.dag s.last b ≡ x)
+  pub told : (x : StateId) → answer.1 ≡ Begun x → (s : Session) × (entry_of n site.sessions ≡ Some s) × (begin_state site.dag s.last b ≡ x) × IsTrue (is_admitted site.dag s.ceiling x)
+
+not-false : (b : Bool) → IsFalse (not b) → IsTrue b
+not-false true f = refl
+not-false false f = absurd (cc)
 
 module _ (built : Built) (site : Site) (n : ℕ) (b : Begin) where
   refused-begins : (refusal : Refusal) → TellsBegin site n b (site, Refused refusal)
@@ -144,7 +147,14 @@ module _ (built : Built) (site : Site) (n : ℕ) (b : Begin) where
       unless-none (TellsBegin site n b) site (refuse unknown (Unknown x) ∷ refuse below (Below x s.ceiling) ∷ [])
       (record site { txns = with_entry n (Single (record { state = x; reads = []; writes = [] })) site.txns }, Begun x)
       (refuse-only unknown (Unknown x) (refuse below (Below x s.ceiling) ∷ []) (refuse-only below (Below x s.ceiling) [] tt)) refused-begins
-      (λ none. record { told = λ y e. (s, there, cc) })
+      (λ none.
+      let second = none-parts (refuse unknown (Unknown x)) (refuse below (Below x s.ceiling) ∷ []) none in
+      let admitted = not-false (is_admitted site.dag s.ceiling x) (when-none below (Refused (Below x s.ceiling)) (none-parts (refuse below (Below x s.ceiling)) [] second.1).0) in
+      record {
+        told = λ y e.
+            let same : x ≡ y = cc in
+            (s, there, same, subst (λ z. IsTrue (is_admitted site.dag s.ceiling z)) same admitted);
+      })
 
   pub step-tells-begin : TellsBegin site n b (step built site n (BeginAt b))
   step-tells-begin =

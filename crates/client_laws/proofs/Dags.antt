@@ -1,25 +1,23 @@
 -- What is read at a state, told by its own record and its parents: at its arrival, and for good.
-use Rattle.std.proofs.Common.{◌≡◌, ℕ, true, false, ◌||◌, ◌&&◌, List, [], ◌∷◌, IsTrue, IsFalse, Option, Some, None, ◌⊎◌, is_none, refl, sym, ap, subst, ◌∙◌, inl, inr, find}
-use Rattle.std.proofs.lemmas.Bool.{and_parts, and_from, or_left, cases_Bool, both_ways, cond-true, cond-false, false_from_ne_true}
-use Rattle.std.proofs.lemmas.Option.{none-some, same_Some}
-use Rattle.std.specs.Prelude.{bytes_eq, filter_map}
+use Rattle.std.proofs.Common.{◌≡◌, ℕ, true, List, [], ◌∷◌, IsTrue, IsFalse, Option, Some, None, is_none, refl, sym, ap, subst, ◌∙◌, inl, inr}
+use Rattle.std.proofs.lemmas.Bool.{and_parts, and_from, both_ways, cond-true, false_from_ne_true}
+use Rattle.std.proofs.lemmas.Option.{none-some}
 use Rattle.std.specs.List.{list_all, cons_option}
-use Rattle.std.specs.Option.{option_map, option_and_then}
+use Rattle.std.specs.Option.{option_and_then}
 use Rattle.tardis_base.specs.declared.ids.StateId.{StateId}
 use Rattle.tardis_base.specs.declared.records.Record.{Record}
-use Rattle.tardis_base.specs.declared.records.Write.{Write}
-use Rattle.tardis_base.specs.Ids.{root, same_id, is_among}
-use Rattle.tardis_base.specs.Keys.{KeyWrite, has_key, write_of}
-use Rattle.plain_dag.specs.States.{root_record, states, is_known, record_at, writes_key, parents_of}
+use Rattle.tardis_base.specs.Ids.{same_id, is_among}
+use Rattle.tardis_base.specs.Keys.{has_key}
+use Rattle.plain_dag.specs.States.{is_known, writes_key}
 use Rattle.plain_dag.specs.Above.{is_above}
 use Rattle.plain_dag.specs.Writers.{is_writer, are_above, lowest, latest_writer, version_at, read}
 use Rattle.plain_dag.specs.Conflicts.{latest_writers, is_split, is_conflict_key, value_over}
-use Rattle.plain_dag.specs.Dag.{IsNext, IsDag}
+use Rattle.plain_dag.specs.Dag.{IsDag}
 use Rattle.plain_dag.specs.Laws.{IsLatestWriter}
-use Rattle.plain_dag.proofs.Ids.{not-both, same_id-true, same_id_self, among-cases, all-at}
-use Rattle.plain_dag.proofs.Histories.{Fits, Grows, dag-grows, next-fits, known-isnt-newest, parent-is-known}
+use Rattle.plain_dag.proofs.Ids.{not-both, same_id_self}
+use Rattle.plain_dag.proofs.Histories.{Fits, Grows, known-isnt-newest, parent-is-known}
 use Rattle.plain_dag.proofs.Order.{known-above, above-newest-cases, above-by-parent, above-reflexive, above-through, above-antisymmetric}
-use Rattle.plain_dag.proofs.Growth.{writer-is-known, writes-before, writes-newest, above-stays, latest-writer-stays, lowest-stays, version-stays, read-stays}
+use Rattle.plain_dag.proofs.Growth.{writer-is-known, writes-before, writes-newest, above-stays, latest-writer-stays, lowest-stays, version-stays}
 use Rattle.plain_dag.proofs.LatestWriter.{lowest-is-one, above-lowest, unsplit-has-lowest, latest-is-latest, latest-is-found, has-latest}
 use Rattle.plain_dag.proofs.Searches.{option-cases, among-mapped, mapped-from}
 

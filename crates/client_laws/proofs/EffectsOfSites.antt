@@ -1,7 +1,6 @@
 -- What the other requests do, and so what each request does.
-use Rattle.std.proofs.Common.{◌≡◌, ℕ, Bool, true, false, not, List, [], ◌∷◌, ◌++◌, length, Option, Some, None, is_some, IsTrue, IsFalse, ◌⊎◌, inl, inr, refl, sym, ap, subst, ◌∙◌}
-use Rattle.std.specs.Prelude.{◌==◌, ◌-◌, ◌+◌}
-use Rattle.std.specs.Option.{option_map}
+use Rattle.std.proofs.Common.{◌≡◌, ℕ, Bool, not, List, [], ◌∷◌, ◌++◌, length, Option, None, is_some, inl, inr, refl, sym, subst}
+use Rattle.std.specs.Prelude.{◌==◌, nat_lt, nat_le, find}
 use Rattle.tardis_base.specs.declared.ids.StateId.{StateId}
 use Rattle.tardis_base.specs.declared.records.Record.{Record}
 use Rattle.tardis_base.specs.declared.records.Item.{Item}
@@ -9,35 +8,57 @@ use Rattle.tardis_base.specs.declared.records.Item.TheVariants.{State, Promise}
 use Rattle.tardis_base.specs.declared.records.Write.TheVariants.{Put as Value, Delete as Deletion}
 use Rattle.tardis_base.specs.declared.requests.Request.{Request}
 use Rattle.tardis_base.specs.declared.requests.Request.TheVariants.{Open, Begin, Get, Put, Delete, Commit, Abort, BeginMerge, ForkPoints, Conflicts, GetFor, Ceiling, Raise, RaiseAuto, Tidy, Stat, Show, Leaves, Pull, Deliver, Close}
-use Rattle.tardis_base.specs.declared.replies.Refusal.TheVariants.{AlreadyOpen, SessionsFull, Unknown, CeilingBack, WrongMode, NotRead, FloorBack, Held, SeqEnd, Unsupported, Collected, BadSite}
+use Rattle.tardis_base.specs.declared.replies.Refusal.TheVariants.{AlreadyOpen, SessionsFull, Unknown, CeilingBack, WrongMode, NotRead, FloorBack, Held, SeqEnd, Unsupported, Collected, BadSite, OwnItem, ClosedParent, Comparable, OpenConflict}
 use Rattle.tardis_base.specs.declared.replies.Reply.{Reply}
-use Rattle.tardis_base.specs.declared.replies.Reply.TheVariants.{Opened, Done, Closed, Refused, Raised, Tidied, Applied, Shown, Stat as Statistics, Batch as BatchIs}
-use Rattle.tardis_base.specs.Ids.{root, is_among}
-use Rattle.plain_dag.specs.States.{is_known, arrival, children}
-use Rattle.plain_dag.specs.Above.{is_above}
+use Rattle.tardis_base.specs.declared.replies.Reply.TheVariants.{Opened, Done, Applied, Known, Early, Shown, Batch as BatchIs}
+use Rattle.tardis_base.specs.Ids.{is_among}
+use Rattle.plain_dag.specs.States.{is_known, arrival, children, count_of_site}
+use Rattle.plain_dag.specs.Above.{is_above, comparable_pair}
+use Rattle.plain_dag.specs.Conflicts.{open_conflict}
+use Rattle.plain_dag.specs.Growth.{growth_refusal}
 use Rattle.plain_dag.specs.Paths.{fork_path}
 use Rattle.plain_dag.specs.Writers.{read}
 use Rattle.plain_dag.specs.Begin.{begin_state}
-use Rattle.plain_dag.specs.Entries.{entry_of, with_entry, changed, without_entry}
-use Rattle.plain_dag.specs.Floors.{Session, with_floor, opening_session, with_ceiling, holding_session, automatic_floor}
+use Rattle.plain_dag.specs.Entries.{entry_of, with_entry, changed}
+use Rattle.plain_dag.specs.Floors.{Session, is_closed, with_floor, opening_session, with_ceiling, holding_session, automatic_floor}
 use Rattle.wire_talk.specs.Codes.{code_of}
 use Rattle.plain_site.specs.Site.{Site, Txn, Single, Merge, own_floor}
 use Rattle.plain_site.specs.Built.{Built, is_built}
-use Rattle.plain_site.specs.Answers.{Answer, refuse, refuse_found, unless, found}
+use Rattle.plain_site.specs.Answers.{when, refuse, refuse_found, found}
 use Rattle.plain_site.specs.Sessions.{open_session, close_session, begin, set_ceiling}
 use Rattle.plain_site.specs.Reads.{get, set_key, get_for}
 use Rattle.plain_site.specs.Commits.{with_record, growth_refusals, abort, commit}
 use Rattle.plain_site.specs.Merges.{states_to_merge, begin_merge, fork_points_of, conflicts_of}
-use Rattle.plain_site.specs.FloorSteps.{raised, raise_to, raise, raise_auto, tidy}
+use Rattle.plain_site.specs.FloorSteps.{raised, raise_to, raise, tidy}
 use Rattle.plain_site.specs.Shows.{show}
-use Rattle.plain_site.specs.Exchange.{judgements, consent_judgements, deliver_record, deliver_consent, deliver, pull, batch_for}
+use Rattle.plain_site.specs.Exchange.{is_early, judgements, consent_judgements, deliver, pull, batch_for}
 use Rattle.plain_site.specs.Step.{served, step}
-use Rattle.plain_site.specs.ClientRuns.{Told, retold, newest_commit}
+use Rattle.plain_site.specs.ClientRuns.{Told, retold, regrown, resession}
 use Rattle.plain_site.proofs.RepliesFrame.{by-session, by-txn, by-no-txn}
 use Rattle.plain_site.proofs.SoundEntries.{entry-changed, entry-changed_other, entry-with_entry, entry-with_entry_other, entry-without_entry, entry-without_entry_other}
-use Rattle.client_laws.proofs.Tellings.{Tells, HasLast}
-use Rattle.client_laws.proofs.Effects.{Does, same-books, does-nothing, does-refused, refuses-does, refuse-only, found-only, unless-any, unless-does}
+use Rattle.client_laws.proofs.Tellings.{Tells}
+use Rattle.client_laws.proofs.Effects.{Does, same-books, does-nothing, does-refused, refuses-does, refuse-only, unless-any, unless-does, AreNoTaking, when-no-taking, refuse-no-taking, found-no-taking, both-no-taking, unless-no-taking}
 use Rattle.client_laws.proofs.EffectsOfTxns.{begin-does, merge-does, get-does, set-does, abort-does, commit-does}
+
+-- the judgements of a record take none
+pub judged-no-taking : (site : Site) (r : Record) → AreNoTaking (judgements site r)
+judged-no-taking site r =
+    let count = count_of_site site.dag r.id.site in
+    let conflict = open_conflict site.dag r.parents r.writes in
+    let pair = comparable_pair site.dag r.parents in
+    let closed = find (is_closed site.dag site.floors) r.parents in
+    let seventh : List (Option Reply) = refuse_found OpenConflict conflict ∷ [] in
+    let sixth : List (Option Reply) = refuse_found (λ (p : StateId × StateId). Comparable p.0 p.1) pair ∷ seventh in
+    let fifth : List (Option Reply) = refuse_found ClosedParent closed ∷ sixth in
+    let fourth : List (Option Reply) = when (is_early site r) (Early count) ∷ fifth in
+    let third : List (Option Reply) = refuse (r.id.site == site.own) (OwnItem r.id.site r.id.sequence) ∷ fourth in
+    let second : List (Option Reply) = when (nat_le r.id.sequence count) Known ∷ third in
+    refuse-no-taking (nat_lt site.limits.sites r.id.site) (BadSite r.id.site) second
+    (when-no-taking (nat_le r.id.sequence count) Known third (λ e. absurd (cc))
+    (refuse-no-taking (r.id.site == site.own) (OwnItem r.id.site r.id.sequence) fourth
+    (when-no-taking (is_early site r) (Early count) fifth (λ e. absurd (cc))
+    (found-no-taking ClosedParent closed sixth
+    (found-no-taking (λ (p : StateId × StateId). Comparable p.0 p.1) pair seventh (found-no-taking OpenConflict conflict [] tt))))))
 
 module _ (site : Site) (n : ℕ) where
   -- ===== Sessions
@@ -53,24 +74,22 @@ module _ (site : Site) (n : ℕ) where
       (refuse-only there AlreadyOpen (refuse full (SessionsFull number_open) ∷ []) (refuse-only full (SessionsFull number_open) [] tt))
       (record {
         grows = inl refl;
+        dag = λ seen h. refl;
         other_txns = λ m differ. refl;
         other_sessions = λ m differ. entry-with_entry_other n m s site.sessions differ;
         txn = λ seen h. h;
-        session = λ x h. subst (HasLast root) (sym (entry-with_entry n s site.sessions)) refl;
+        session = entry-with_entry n s site.sessions;
       })
 
   close-does : Does site n Close (close_session site n)
   close-does = record {
     grows = inl refl;
+    dag = λ seen h. refl;
     other_txns = λ m differ. entry-without_entry_other n m site.txns differ;
     other_sessions = λ m differ. entry-without_entry_other n m site.sessions differ;
     txn = λ seen h. subst (λ (o : Option Txn). Tells site.dag o None) (sym (entry-without_entry n site.txns)) tt;
-    session = λ x h. subst (HasLast x) (sym (entry-without_entry n site.sessions)) tt;
+    session = entry-without_entry n site.sessions;
   }
-
-  same-last : (x y : StateId) (o : Option Session) → HasLast y o → HasLast y (option_map (with_ceiling x) o)
-  same-last x y None h = tt
-  same-last x y (Some s) h = h
 
   ceiling-does : (s : Session) (x : StateId) → Does site n (Ceiling x) (set_ceiling site n s x)
   ceiling-does s x =
@@ -80,67 +99,76 @@ module _ (site : Site) (n : ℕ) where
       (refuse-only unknown (Unknown x) (refuse back (CeilingBack s.ceiling) ∷ []) (refuse-only back (CeilingBack s.ceiling) [] tt))
       (record {
         grows = inl refl;
+        dag = λ seen h. refl;
         other_txns = λ m differ. refl;
         other_sessions = λ m differ. entry-changed_other n m (with_ceiling x) site.sessions differ;
         txn = λ seen h. h;
-        session = λ y h. subst (HasLast y) (sym (entry-changed n (with_ceiling x) site.sessions)) (same-last x y (entry_of n site.sessions) h);
+        session = entry-changed n (with_ceiling x) site.sessions;
       })
 
   -- ===== Floors and collection
 
   raise_to-does : (q : Request) (x : StateId) (refusals : List (Option Reply)) → ((reply : Reply) (seen : Option Told) → retold q reply seen ≡ seen) →
-      ((reply : Reply) (y : StateId) → newest_commit q reply y ≡ y) → Does site n q (raise_to site x refusals)
-  raise_to-does q x refusals tells commits =
+      ((reply : Reply) (rs : List Record) (s : Option Session) → resession rs q reply s ≡ s) → ((reply : Reply) (seen : Option Told) (rs : List Record) → regrown q reply seen rs ≡ rs) → Does site n q (raise_to site x refusals)
+  raise_to-does q x refusals tells keeps records =
       let next = raised site x in
       unless-any (Does site n q) site (refusals ++ refuse ((own_floor site).number == 4294967295) SeqEnd ∷ []) next
-      (λ reply. does-nothing site n q reply (tells reply) (commits reply))
-      (same-books site n q next.0 next.1 (inl refl) refl refl (tells next.1) (commits next.1))
+      (λ reply. does-nothing site n q reply (tells reply) (keeps reply) (records reply))
+      (same-books site n q next.0 next.1 (inl refl) (λ seen. sym (records next.1 seen site.dag)) refl refl (tells next.1) (keeps next.1))
 
   -- ===== Exchange
 
-  tells-nothing : (item : Item) (reply : Reply) → Does site n (Deliver item) (site, reply)
-  tells-nothing item reply = does-nothing site n (Deliver item) reply (λ seen. refl) (λ x. refl)
+  -- a record isn't taken where the reply isn't Applied
+  untaken : (r : Record) (reply : Reply) → (reply ≡ Applied → ⊥) → (seen : Option Told) (rs : List Record) → regrown (Deliver (State r)) reply seen rs ≡ rs
+  untaken r Applied other seen rs = absurd (other refl)
+  untaken r reply other seen rs = refl
+
+  tells-nothing : (r : Record) (reply : Reply) → (reply ≡ Applied → ⊥) → Does site n (Deliver (State r)) (site, reply)
+  tells-nothing r reply other = does-nothing site n (Deliver (State r)) reply (λ seen. refl) (λ rs s. refl) (untaken r reply other)
 
   deliver-does : (built : Built) (item : Item) → Does site n (Deliver item) (deliver built site item)
   deliver-does built (State r) =
-      unless-any (Does site n (Deliver (State r))) site (judgements site r ++ growth_refusals built site r) (with_record r site, Applied) (tells-nothing (State r))
-      (same-books site n (Deliver (State r)) (with_record r site) Applied (inr (r, refl)) refl refl (λ seen. refl) (λ x. refl))
+      unless-no-taking (Does site n (Deliver (State r))) site (judgements site r ++ growth_refusals built site r) (with_record r site, Applied)
+      (both-no-taking (judgements site r) (growth_refusals built site r) (judged-no-taking site r)
+      (found-no-taking (λ f. f) (growth_refusal built.path_limits site.limits site.collected site.dag r) [] tt)) (tells-nothing r)
+      (same-books site n (Deliver (State r)) (with_record r site) Applied (inr (r, refl)) (λ seen. refl) refl refl (λ seen. refl) (λ rs s. refl))
   deliver-does built (Promise c) =
       let next = record site { floors = with_floor site.floors c.site (record { state = c.floor; number = c.number; stated = c.count }) } in
-      unless-any (Does site n (Deliver (Promise c))) site (consent_judgements site c) (next, Applied) (tells-nothing (Promise c))
-      (same-books site n (Deliver (Promise c)) next Applied (inl refl) refl refl (λ seen. refl) (λ x. refl))
+      unless-any (Does site n (Deliver (Promise c))) site (consent_judgements site c) (next, Applied)
+      (λ reply. does-nothing site n (Deliver (Promise c)) reply (λ seen. refl) (λ rs s. refl) (λ seen rs. refl))
+      (same-books site n (Deliver (Promise c)) next Applied (inl refl) (λ seen. refl) refl refl (λ seen. refl) (λ rs s. refl))
 
   -- ===== What only shows
 
-  shows : (q : Request) (reply : Reply) → ((r : Reply) (seen : Option Told) → retold q r seen ≡ seen) → ((r : Reply) (x : StateId) → newest_commit q r x ≡ x) → Does site n q (site, reply)
-  shows q reply tells commits = does-nothing site n q reply (tells reply) (commits reply)
+  shows : (q : Request) (reply : Reply) → ((r : Reply) (seen : Option Told) → retold q r seen ≡ seen) → ((r : Reply) (rs : List Record) (s : Option Session) → resession rs q r s ≡ s) → ((r : Reply) (seen : Option Told) (rs : List Record) → regrown q r seen rs ≡ rs) → Does site n q (site, reply)
+  shows q reply tells keeps records = does-nothing site n q reply (tells reply) (keeps reply) (records reply)
 
   fork-points-does : (t : Txn) → Does site n ForkPoints (fork_points_of site t)
   fork-points-does (Single t) = does-refused site n ForkPoints WrongMode
-  fork-points-does (Merge t) = shows ForkPoints (fork_points_of site (Merge t)).1 (λ r seen. refl) (λ r x. refl)
+  fork-points-does (Merge t) = shows ForkPoints (fork_points_of site (Merge t)).1 (λ r seen. refl) (λ r rs s. refl) (λ r seen rs. refl)
 
   conflicts-does : (t : Txn) (after : List ℕ) → Does site n (Conflicts after) (conflicts_of site t after)
   conflicts-does (Single t) after = does-refused site n (Conflicts after) WrongMode
-  conflicts-does (Merge t) after = shows (Conflicts after) (conflicts_of site (Merge t) after).1 (λ r seen. refl) (λ r x. refl)
+  conflicts-does (Merge t) after = shows (Conflicts after) (conflicts_of site (Merge t) after).1 (λ r seen. refl) (λ r rs s. refl) (λ r seen rs. refl)
 
   get-for-does : (t : Txn) (k : List ℕ) (x : StateId) → Does site n (GetFor k x) (get_for site t k x)
   get-for-does (Single t) k x = does-refused site n (GetFor k x) WrongMode
   get-for-does (Merge t) k x =
       let reply = found (read site.dag k x) in
       unless-any (Does site n (GetFor k x)) site (refuse (not (is_among x t.states)) (NotRead x) ∷ []) (site, reply)
-      (λ r. shows (GetFor k x) r (λ q seen. refl) (λ q y. refl)) (shows (GetFor k x) reply (λ q seen. refl) (λ q y. refl))
+      (λ r. shows (GetFor k x) r (λ q seen. refl) (λ q rs s. refl) (λ q seen rs. refl)) (shows (GetFor k x) reply (λ q seen. refl) (λ q rs s. refl) (λ q seen rs. refl))
 
   show-does : (x : StateId) → Does site n (Show x) (show site x)
   show-does x =
       let reply = Shown (arrival site.dag x) (children site.dag x) (fork_path site.dag site.collected x) in
       unless-any (Does site n (Show x)) site (refuse (not (is_known site.dag x)) (Unknown x) ∷ refuse (is_among x site.collected) (Collected x) ∷ []) (site, reply)
-      (λ r. shows (Show x) r (λ q seen. refl) (λ q y. refl)) (shows (Show x) reply (λ q seen. refl) (λ q y. refl))
+      (λ r. shows (Show x) r (λ q seen. refl) (λ q rs s. refl) (λ q seen rs. refl)) (shows (Show x) reply (λ q seen. refl) (λ q rs s. refl) (λ q seen rs. refl))
 
   pull-does : (counts : List ℕ) → Does site n (Pull counts) (pull site counts)
   pull-does counts =
       let reply = BatchIs (batch_for site counts) in
       unless-any (Does site n (Pull counts)) site (refuse (not (length counts == site.limits.sites)) (BadSite (length counts)) ∷ []) (site, reply)
-      (λ r. shows (Pull counts) r (λ q seen. refl) (λ q y. refl)) (shows (Pull counts) reply (λ q seen. refl) (λ q y. refl))
+      (λ r. shows (Pull counts) r (λ q seen. refl) (λ q rs s. refl) (λ q seen rs. refl)) (shows (Pull counts) reply (λ q seen. refl) (λ q rs s. refl) (λ q seen rs. refl))
 
   raise-does : (x : StateId) → Does site n (Raise x) (raise site x)
   raise-does x =
@@ -149,7 +177,7 @@ module _ (site : Site) (n : ℕ) where
       (refuse (not (is_known site.dag x)) (Unknown x)
       ∷ refuse (not (is_above site.dag floor x)) (FloorBack floor)
       ∷ refuse_found (λ (s : ℕ × Session). Held s.0 s.1.ceiling) (holding_session site.dag site.sessions x)
-      ∷ []) (λ r seen. refl) (λ r y. refl)
+      ∷ []) (λ r seen. refl) (λ r rs s. refl) (λ r seen rs. refl)
 
   -- ===== Each request
 
@@ -159,12 +187,12 @@ module _ (site : Site) (n : ℕ) where
   served-does built (Get k) = by-txn (refuses-does site n (Get k)) n (λ s t. get site n t k) (λ s t e d. get-does site n t k d)
   served-does built (Put k v) =
       by-txn (refuses-does site n (Put k v)) n (λ s t. set_key site n t k (Value v))
-      (λ s t e d. set-does site n (Put k v) t k (Value v) (λ seen. refl) (λ x. refl) d)
+      (λ s t e d. set-does site n (Put k v) t k (Value v) (λ seen. refl) (λ rs s. refl) (λ seen rs. refl) d)
   served-does built (Delete k) =
       by-txn (refuses-does site n (Delete k)) n (λ s t. set_key site n t k Deletion)
-      (λ s t e d. set-does site n (Delete k) t k Deletion (λ seen. refl) (λ x. refl) d)
+      (λ s t e d. set-does site n (Delete k) t k Deletion (λ seen. refl) (λ rs s. refl) (λ seen rs. refl) d)
   served-does built (Commit flags k) =
-      by-txn (refuses-does site n (Commit flags k)) n (λ s t. commit built site n t flags k) (λ s t e d. commit-does site n built flags k t)
+      by-txn (refuses-does site n (Commit flags k)) n (λ s t. commit built site n t flags k) (λ s t e d. commit-does site n built flags k t d)
   served-does built Abort = by-txn (refuses-does site n Abort) n (λ s t. abort site n) (λ s t e d. abort-does site n)
   served-does built (BeginMerge of) =
       by-no-txn (refuses-does site n (BeginMerge of)) n (λ s. begin_merge site n s of) (λ s e. merge-does site n of s.ceiling (states_to_merge site of))
@@ -175,13 +203,13 @@ module _ (site : Site) (n : ℕ) where
   served-does built (Ceiling x) = by-no-txn (refuses-does site n (Ceiling x)) n (λ s. set_ceiling site n s x) (λ s e. ceiling-does s x)
   served-does built (Raise x) = raise-does x
   served-does built RaiseAuto =
-      raise_to-does RaiseAuto (automatic_floor site.dag (own_floor site).state site.sessions) [] (λ r seen. refl) (λ r y. refl)
+      raise_to-does RaiseAuto (automatic_floor site.dag (own_floor site).state site.sessions) [] (λ r seen. refl) (λ r rs s. refl) (λ r seen rs. refl)
   served-does built (Tidy count) =
       let next = tidy site count in
-      same-books site n (Tidy count) next.0 next.1 (inl refl) refl refl (λ seen. refl) (λ x. refl)
-  served-does built Stat = shows Stat (served built site n Stat).1 (λ r seen. refl) (λ r x. refl)
+      same-books site n (Tidy count) next.0 next.1 (inl refl) (λ seen. refl) refl refl (λ seen. refl) (λ rs s. refl)
+  served-does built Stat = shows Stat (served built site n Stat).1 (λ r seen. refl) (λ r rs s. refl) (λ r seen rs. refl)
   served-does built (Show x) = show-does x
-  served-does built Leaves = shows Leaves (served built site n Leaves).1 (λ r seen. refl) (λ r x. refl)
+  served-does built Leaves = shows Leaves (served built site n Leaves).1 (λ r seen. refl) (λ r rs s. refl) (λ r seen rs. refl)
   served-does built (Pull counts) = pull-does counts
   served-does built (Deliver item) = deliver-does built item
   served-does built Close = by-session (refuses-does site n Close) n (λ s. close_session site n) (λ s e. close-does)

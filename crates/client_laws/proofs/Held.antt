@@ -1,10 +1,9 @@
 -- What holds of a site after every run.
-use Rattle.std.proofs.Common.{◌≡◌, ℕ, Bool, true, false, List, [], ◌∷◌, Option, Some, None, IsTrue, IsFalse, ◌⊎◌, inl, inr, refl, sym, ap, subst, ◌∙◌}
-use Rattle.std.specs.Prelude.{◌==◌, ◌&&◌}
+use Rattle.std.proofs.Common.{◌≡◌, ℕ, List, [], ◌∷◌, Some, None, IsTrue, IsFalse, ◌⊎◌, inl, inr, refl, sym, ap, subst, ◌∙◌}
+use Rattle.std.specs.Prelude.{◌==◌}
 use Rattle.std.specs.List.{list_all}
-use Rattle.std.proofs.lemmas.Bool.{and_parts, cond-true, cond-false, cond_both, eq-eqb, ne_eqb}
+use Rattle.std.proofs.lemmas.Bool.{and_parts, cases_Bool, cond-true, cond-false, eq-eqb, ne_eqb}
 use Rattle.tardis_base.specs.declared.records.Record.{Record}
-use Rattle.tardis_base.specs.declared.requests.Request.{Request}
 use Rattle.tardis_base.specs.declared.replies.Reply.{Reply}
 use Rattle.tardis_base.specs.declared.replies.Reply.TheVariants.{NoMemory}
 use Rattle.tardis_base.specs.Valid.{is_u16}
@@ -18,19 +17,21 @@ use Rattle.plain_site.specs.Built.{Built}
 use Rattle.plain_site.specs.Step.{step}
 use Rattle.plain_site.specs.Sound.{IsSound}
 use Rattle.plain_site.specs.RowWords.{Line}
-use Rattle.plain_site.specs.ClientRuns.{wants_memory, after_line, site_after, is_asked, IsAnswered, AreAnswered, IsRun, Told, retold, told, newest_commit, last_commit}
+use Rattle.plain_site.specs.ClientRuns.{wants_memory, after_line, site_after, is_asked, IsAnswered, AreAnswered, IsRun, retold, told, regrown, history, resession, told_session}
+use Rattle.plain_site.specs.ClientLaws.{HistoryIsTold}
 use Rattle.plain_site.proofs.SoundBooks.{at-each}
 use Rattle.plain_site.proofs.SoundOpening.{opening-is-sound}
 use Rattle.plain_site.proofs.SoundRequests.{request-keeps-sound}
-use Rattle.client_laws.proofs.Tellings.{Tells, HasLast, tells-later}
-use Rattle.client_laws.proofs.Effects.{Does, wanting-tells-nothing, wanting-commits-nothing}
+use Rattle.client_laws.proofs.Tellings.{Tells, tells-later}
+use Rattle.client_laws.proofs.Effects.{wanting-tells-nothing, wanting-leaves-session, wanting-records-nothing}
 use Rattle.client_laws.proofs.EffectsOfSites.{step-does}
 
 -- the site is sound, and its transactions and sessions are as the lines tell
-pub record Holds (built : Built) (site : Site) (lines : List Line) : Type 0 where
+pub record Holds (built : Built) (start site : Site) (lines : List Line) : Type 0 where
   pub sound : IsSound built site
+  pub dag : site.dag ≡ history lines
   pub txn : (n : ℕ) → Tells site.dag (entry_of n site.txns) (told n lines)
-  pub session : (n : ℕ) → HasLast (last_commit n lines) (entry_of n site.sessions)
+  pub session : (n : ℕ) → entry_of n site.sessions ≡ told_session n lines
 
 -- ===== The history grows
 
@@ -57,97 +58,127 @@ told-here line older = cond-true (line.actor == line.actor) (retold line.request
 told-other : (line : Line) (older : List Line) (m : ℕ) → (m ≡ line.actor → ⊥) → told m (line ∷ older) ≡ told m older
 told-other line older m differ = cond-false (line.actor == m) (retold line.request line.reply (told m older)) (told m older) (ne_eqb line.actor m (λ e. differ (sym e)))
 
-last-here : (line : Line) (older : List Line) → last_commit line.actor (line ∷ older) ≡ newest_commit line.request line.reply (last_commit line.actor older)
-last-here line older =
-    cond-true (line.actor == line.actor) (newest_commit line.request line.reply (last_commit line.actor older)) (last_commit line.actor older) (eq-eqb line.actor line.actor refl)
-
-last-other : (line : Line) (older : List Line) (m : ℕ) → (m ≡ line.actor → ⊥) → last_commit m (line ∷ older) ≡ last_commit m older
-last-other line older m differ =
-    cond-false (line.actor == m) (newest_commit line.request line.reply (last_commit m older)) (last_commit m older) (ne_eqb line.actor m (λ e. differ (sym e)))
-
 -- ===== One line
 
-wanting-is : (reply : Reply) → IsTrue (wants_memory reply) → reply ≡ NoMemory
+pub wanting-is : (reply : Reply) → IsTrue (wants_memory reply) → reply ≡ NoMemory
 wanting-is NoMemory t = refl
 wanting-is reply t = absurd (cc)
 
-module _ (built : Built) where
-  module _ (site : Site) (line : Line) (older : List Line) (h : Holds built site older) where
+module _ (built : Built) (start : Site) where
+  module _ (line : Line) (older : List Line) (h : Holds built start (site_after (step built) start older) older) where
+    session-here : (rs : List Record) → rs ≡ history (line ∷ older) → told_session line.actor (line ∷ older) ≡ resession rs line.request line.reply (told_session line.actor older)
+    session-here rs e =
+        let before = told_session line.actor older in
+        cond-true (line.actor == line.actor) (resession (history (line ∷ older)) line.request line.reply before) before (eq-eqb line.actor line.actor refl)
+        ∙ ap (λ qs. resession qs line.request line.reply before) (sym e)
+
+    session-other : (m : ℕ) → (m ≡ line.actor → ⊥) → told_session m (line ∷ older) ≡ told_session m older
+    session-other m differ =
+        let before = told_session m older in
+        cond-false (line.actor == m) (resession (history (line ∷ older)) line.request line.reply before) before (ne_eqb line.actor m (λ e. differ (sym e)))
+
     -- memory was wanting, and nothing was done
-    holds-wanting : line.reply ≡ NoMemory → Holds built site (line ∷ older)
-    holds-wanting e = record {
-      sound = h.sound;
-      txn = λ m.
-          at-each (λ i. Tells site.dag (entry_of i site.txns) (told i (line ∷ older))) line.actor
-          (subst (Tells site.dag (entry_of line.actor site.txns))
-          (sym (told-here line older ∙ (ap (λ r. retold line.request r (told line.actor older)) e ∙ wanting-tells-nothing line.request (told line.actor older)))) (h.txn line.actor))
-          (λ i differ. subst (Tells site.dag (entry_of i site.txns)) (sym (told-other line older i differ)) (h.txn i)) m;
-      session = λ m.
-          at-each (λ i. HasLast (last_commit i (line ∷ older)) (entry_of i site.sessions)) line.actor
-          (subst (λ x. HasLast x (entry_of line.actor site.sessions))
-          (sym (last-here line older ∙ (ap (λ r. newest_commit line.request r (last_commit line.actor older)) e ∙ wanting-commits-nothing line.request (last_commit line.actor older)))) (h.session line.actor))
-          (λ i differ. subst (λ x. HasLast x (entry_of i site.sessions)) (sym (last-other line older i differ)) (h.session i)) m;
-    }
+    holds-wanting : IsTrue (wants_memory line.reply) → Holds built start (site_after (step built) start older) (line ∷ older)
+    holds-wanting wants =
+        let site = site_after (step built) start older in
+        let n = line.actor in
+        let e = wanting-is line.reply wants in
+        let same : site.dag ≡ history (line ∷ older) =
+        h.dag ∙ sym (ap (λ r. regrown line.request r (told n older) (history older)) e ∙ wanting-records-nothing line.request (told n older) (history older)) in
+        record {
+          sound = h.sound;
+          dag = same;
+          txn =
+              at-each (λ i. Tells site.dag (entry_of i site.txns) (told i (line ∷ older))) n
+              (subst (Tells site.dag (entry_of n site.txns))
+              (sym (told-here line older ∙ (ap (λ r. retold line.request r (told n older)) e ∙ wanting-tells-nothing line.request (told n older)))) (h.txn n))
+              (λ i differ. subst (Tells site.dag (entry_of i site.txns)) (sym (told-other line older i differ)) (h.txn i));
+          session =
+              at-each (λ i. entry_of i site.sessions ≡ told_session i (line ∷ older)) n
+              (h.session n
+              ∙ sym (session-here site.dag same
+              ∙ (ap (λ r. resession site.dag line.request r (told_session n older)) e ∙ wanting-leaves-session line.request site.dag (told_session n older))))
+              (λ i differ. h.session i ∙ sym (session-other i differ));
+        }
 
     -- an open transaction reads at known states
-    open-is-known : (i : ℕ) (t : Txn) → entry_of i site.txns ≡ Some t → IsTrue (list_all (is_known site.dag) (read_states t))
+    open-is-known : (i : ℕ) (t : Txn) → entry_of i (site_after (step built) start older).txns ≡ Some t → IsTrue (list_all (is_known (site_after (step built) start older).dag) (read_states t))
     open-is-known i t e = (h.sound.each_txn i t e).2.known
 
     -- the site answered
-    holds-answered : IsTrue (is_asked line) → line.reply ≡ (step built site line.actor line.request).1 → Holds built (step built site line.actor line.request).0 (line ∷ older)
+    holds-answered : IsTrue (is_asked line) → line.reply ≡ (step built (site_after (step built) start older) line.actor line.request).1 →
+        Holds built start (step built (site_after (step built) start older) line.actor line.request).0 (line ∷ older)
     holds-answered asked e =
+        let site = site_after (step built) start older in
         let n = line.actor in
         let next = (step built site n line.request).0 in
         let does = step-does site n built line.request in
         let parts = and_parts (is_u16 n) (is_request line.request) asked in
         let sound = request-keeps-sound built line.request site n parts.0 parts.1 h.sound in
+        let same : next.dag ≡ history (line ∷ older) =
+        does.dag (told n older) (h.txn n)
+        ∙ (ap (λ r. regrown line.request r (told n older) site.dag) (sym e) ∙ ap (regrown line.request line.reply (told n older)) h.dag) in
         let before : (i : ℕ) → Tells next.dag (entry_of i site.txns) (told i older) =
         λ i. stays-later (λ rs. Tells rs (entry_of i site.txns) (told i older)) site.dag next.dag does.grows h.sound.dag sound.dag
         (λ r f t. tells-later site.dag r f (dag-grows site.dag h.sound.dag) (entry_of i site.txns) (told i older) (open-is-known i) t) (h.txn i) in
         record {
           sound = sound;
+          dag = same;
           txn =
               at-each (λ i. Tells next.dag (entry_of i next.txns) (told i (line ∷ older))) n
               (subst (Tells next.dag (entry_of n next.txns)) (sym (told-here line older ∙ ap (λ r. retold line.request r (told n older)) e)) (does.txn (told n older) (before n)))
               (λ i differ.
               subst (λ o. Tells next.dag o (told i (line ∷ older))) (sym (does.other_txns i differ))
               (subst (Tells next.dag (entry_of i site.txns)) (sym (told-other line older i differ)) (before i)));
-          session = λ m.
-              at-each (λ i. HasLast (last_commit i (line ∷ older)) (entry_of i next.sessions)) n
-              (subst (λ x. HasLast x (entry_of n next.sessions)) (sym (last-here line older ∙ ap (λ r. newest_commit line.request r (last_commit n older)) e))
-              (does.session (last_commit n older) (h.session n)))
-              (λ i differ.
-              subst (HasLast (last_commit i (line ∷ older))) (sym (does.other_sessions i differ))
-              (subst (λ x. HasLast x (entry_of i site.sessions)) (sym (last-other line older i differ)) (h.session i))) m;
+          session =
+              at-each (λ i. entry_of i next.sessions ≡ told_session i (line ∷ older)) n
+              (does.session
+              ∙ (ap (λ r. resession next.dag line.request r (entry_of n site.sessions)) (sym e)
+              ∙ (ap (resession next.dag line.request line.reply) (h.session n) ∙ sym (session-here next.dag same))))
+              (λ i differ. does.other_sessions i differ ∙ (h.session i ∙ sym (session-other i differ)));
         }
 
-    holds-after : IsTrue (is_asked line) → IsAnswered (step built) site line → Holds built (after_line (step built) site line) (line ∷ older)
-    holds-after asked (inr wants) =
-        subst (λ s. Holds built s (line ∷ older)) (sym (cond-true (wants_memory line.reply) site (step built site line.actor line.request).0 wants))
-        (holds-wanting (wanting-is line.reply wants))
-    holds-after asked (inl e) =
-        cond_both (wants_memory line.reply) site (step built site line.actor line.request).0 (λ s. Holds built s (line ∷ older))
-        (λ wants. holds-wanting (wanting-is line.reply wants)) (λ f. holds-answered asked e)
+    holds-after : IsTrue (is_asked line) → IsAnswered (step built) (site_after (step built) start older) line →
+        Holds built start (after_line (step built) (site_after (step built) start older) line) (line ∷ older)
+    holds-after asked answered =
+        let site = site_after (step built) start older in
+        let next = (step built site line.actor line.request).0 in
+        elim (cases_Bool (wants_memory line.reply)) [
+          | inl wants ↦ subst (λ s. Holds built start s (line ∷ older)) (sym (cond-true (wants_memory line.reply) site next wants)) (holds-wanting wants)
+          | inr f ↦
+              subst (λ s. Holds built start s (line ∷ older)) (sym (cond-false (wants_memory line.reply) site next f)) (holds-answered asked (by-step answered f))
+        ]
+      where
+        by-step : IsAnswered (step built) (site_after (step built) start older) line → IsFalse (wants_memory line.reply) →
+            line.reply ≡ (step built (site_after (step built) start older) line.actor line.request).1
+        by-step (inl e) f = e
+        by-step (inr wants) f = absurd (cc)
 
   -- ===== Runs
 
-  opening-holds : (start : Site) → IsSound built start → start ≡ opening start.limits start.own → Holds built start []
-  opening-holds start sound e = subst (λ s. Holds built s []) (sym e) (record { sound = subst (IsSound built) e sound; txn = λ n. tt; session = λ n. tt })
+  opening-holds : IsSound built start → start ≡ opening start.limits start.own → Holds built start start []
+  opening-holds sound e = record {
+    sound = sound;
+    dag = ap (λ (s : Site). s.dag) e;
+    txn = λ n. subst (λ (s : Site). Tells s.dag (entry_of n s.txns) None) (sym e) tt;
+    session = λ n. ap (λ (s : Site). entry_of n s.sessions) e;
+  }
 
-  holds-behind : (start : Site) (lines : List Line) → Holds built start [] → AreAnswered (step built) start lines → Holds built (site_after (step built) start lines) lines
-  holds-behind start [] h answered = h
-  holds-behind start (line ∷ older) h answered =
-      holds-after (site_after (step built) start older) line older (holds-behind start older h answered.2) answered.0 answered.1
+  holds-behind : (lines : List Line) → Holds built start start [] → AreAnswered (step built) start lines → Holds built start (site_after (step built) start lines) lines
+  holds-behind [] h answered = h
+  holds-behind (line ∷ older) h answered = holds-after line older (holds-behind older h answered.2) answered.0 answered.1
 
-  -- a site that opens is sound
-  start-holds : (start : Site) (lines : List Line) → IsRun (step built) start lines → Holds built start []
-  start-holds start lines run =
-      opening-holds start
-      (subst (IsSound built) (sym run.opens) (opening-is-sound built start.limits start.own run.limits run.own)) run.opens
-
-  pub run-holds : (start : Site) (lines : List Line) → IsRun (step built) start lines → Holds built (site_after (step built) start lines) lines
-  run-holds start lines run = holds-behind start lines (start-holds start lines run) run.answered
+  pub run-holds : (lines : List Line) → IsRun (step built) start lines → Holds built start (site_after (step built) start lines) lines
+  run-holds lines run =
+      holds-behind lines (opening-holds (subst (IsSound built) (sym run.opens) (opening-is-sound built start.limits start.own run.limits run.own)) run.opens) run.answered
 
   -- without its newest line it is a run too
-  pub run-before : (start : Site) (line : Line) (older : List Line) → IsRun (step built) start (line ∷ older) → IsRun (step built) start older
-  run-before start line older run = record { limits = run.limits; own = run.own; opens = run.opens; answered = run.answered.2 }
+  pub run-before : (line : Line) (older : List Line) → IsRun (step built) start (line ∷ older) → IsRun (step built) start older
+  run-before line older run = record { limits = run.limits; own = run.own; opens = run.opens; answered = run.answered.2 }
+
+-- the history of the site after these lines
+abbrev pub dag_after : Built → Site → List Line → List Record
+dag_after built start lines = (site_after (step built) start lines).dag
+
+pub history-is-told : (built : Built) → HistoryIsTold (step built)
+history-is-told built start lines run = (run-holds built start lines run).dag

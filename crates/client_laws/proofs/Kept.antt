@@ -1,23 +1,21 @@
 -- Nothing committed is lost, and sessions read their own commits.
-use Rattle.std.proofs.Common.{◌≡◌, ℕ, Bool, true, false, List, [], ◌∷◌, ◌++◌, Option, Some, None, IsTrue, IsFalse, inl, inr, refl, sym, ap, subst, ◌∙◌, find}
-use Rattle.std.specs.Prelude.{◌&&◌, unwrap_or}
+use Rattle.std.proofs.Common.{◌≡◌, ℕ, true, List, [], ◌∷◌, ◌++◌, Some, IsTrue, inl, inr, refl, sym, ap, subst, ◌∙◌, find}
+use Rattle.std.specs.Prelude.{unwrap_or}
 use Rattle.std.specs.List.{list_all}
-use Rattle.std.proofs.lemmas.Bool.{and_parts, and_from, cond_both}
-use Rattle.std.proofs.lemmas.Option.{none-some, same_Some}
+use Rattle.std.proofs.lemmas.Bool.{and_parts, and_from, cond_both, not-true}
+use Rattle.std.proofs.lemmas.Option.{same_Some}
 use Rattle.tardis_base.specs.declared.ids.StateId.{StateId}
 use Rattle.tardis_base.specs.declared.records.Record.{Record}
-use Rattle.tardis_base.specs.declared.records.Write.{Write}
 use Rattle.tardis_base.specs.declared.requests.EndFlags.{EndFlags}
 use Rattle.tardis_base.specs.declared.requests.Begin.{Begin}
 use Rattle.tardis_base.specs.declared.requests.Begin.TheVariants.{Any, Ancestor, Parent}
-use Rattle.tardis_base.specs.declared.requests.Request.TheVariants.{Begin as BeginAt, Commit}
-use Rattle.tardis_base.specs.declared.replies.Reply.TheVariants.{Begun, Committed}
+use Rattle.tardis_base.specs.declared.requests.Request.TheVariants.{Begin as BeginAt}
+use Rattle.tardis_base.specs.declared.replies.Reply.TheVariants.{Begun}
 use Rattle.tardis_base.specs.Ids.{is_among}
-use Rattle.tardis_base.specs.Keys.{KeyWrite, keys_of, has_key}
+use Rattle.tardis_base.specs.Keys.{KeyWrite, keys_of}
 use Rattle.plain_dag.specs.States.{states, is_known, record_at}
-use Rattle.plain_dag.specs.Above.{is_above}
-use Rattle.plain_dag.specs.Begin.{last_arrived, last_below, begin_state}
-use Rattle.plain_dag.specs.Entries.{entry_of}
+use Rattle.plain_dag.specs.Above.{is_above, is_proper_ancestor}
+use Rattle.plain_dag.specs.Begin.{is_admitted, last_below, begin_state}
 use Rattle.plain_dag.specs.Floors.{Session}
 use Rattle.plain_dag.specs.Dag.{IsDag}
 use Rattle.plain_dag.specs.Landing.{landing, guarded}
@@ -33,12 +31,12 @@ use Rattle.plain_site.specs.Site.{Site, Txn, Single, Merge, read_states, writes_
 use Rattle.plain_site.specs.Built.{Built}
 use Rattle.plain_site.specs.Step.{step}
 use Rattle.plain_site.specs.RowWords.{Line, ◌asks◌=>◌}
-use Rattle.plain_site.specs.ClientRuns.{wants_memory, after_line, site_after, history, AreAnswered, IsRun, Told, told, last_commit}
-use Rattle.plain_site.specs.ClientLaws.{committing, CommitsAreKept, CommitsAreShown, OtherKeysAreJoined, CommitsJoinWhatTheyRead, SessionsReadTheirCommits}
+use Rattle.plain_site.specs.ClientRuns.{wants_memory, after_line, site_after, history, IsRun, Told, told, told_session}
+use Rattle.plain_site.specs.ClientLaws.{DoneCommit, as_line, CommitsAreKept, CommitsAreShown, OtherKeysAreJoined, CommitsJoinWhatTheyRead, ParentReadsTheLastCommit, AncestorReadsTheLastCommit, AnyReadsTheLastCommit, SessionsStayUnderCeilings}
 use Rattle.client_laws.proofs.Records.{record-of-newest, record-stays, shown-below, joined, no-conflict}
-use Rattle.client_laws.proofs.Tellings.{is_merge, HasLast}
+use Rattle.client_laws.proofs.Tellings.{is_merge}
 use Rattle.client_laws.proofs.EffectsOfSites.{step-does}
-use Rattle.client_laws.proofs.Held.{Later, stays-later, run-holds, run-before}
+use Rattle.client_laws.proofs.Held.{dag_after, history-is-told, Later, stays-later, run-holds, run-before}
 use Rattle.client_laws.proofs.Commits.{IsPlaced, step-tells-begin}
 use Rattle.client_laws.proofs.Laws.{was-answered, before, is-commit, is-told}
 
@@ -58,7 +56,7 @@ module _ (built : Built) where
 
   -- what stays as records arrive stays with newer lines
   pub keeps-on : (P : List Record → Type 0) → ((rs : List Record) (r : Record) → IsDag rs → Fits rs r → P rs → P (r ∷ rs)) → (start : Site) (newer older : List Line) →
-      IsRun (step built) start (newer ++ older) → P (history (step built) start older) → P (history (step built) start (newer ++ older))
+      IsRun (step built) start (newer ++ older) → P (dag_after built start older) → P (dag_after built start (newer ++ older))
   keeps-on P stays start [] older run h = h
   keeps-on P stays start (line ∷ newer) older run h =
       let lines = newer ++ older in
@@ -68,49 +66,59 @@ module _ (built : Built) where
       stays-later P site.dag (after_line (step built) site line).dag (line-is-later site line) dag (run-holds built start (line ∷ lines) run).sound.dag
       (λ r f d. stays site.dag r dag f d) (keeps-on P stays start newer older before h)
 
-  module _ (start : Site) (older : List Line) (n : ℕ) (flags : EndFlags) (k : ℕ) (x : StateId) (parents : List StateId) where
-    its-record : IsRun (step built) start (n asks Commit flags k => Committed x parents ∷ older) → (t : Told) × (told n older ≡ Some t)
-        × (record_at (history (step built) start (n asks Commit flags k => Committed x parents ∷ older)) x ≡ Some (record { id = x; parents = parents; writes = t.writes }))
-    its-record run =
-        let c = is-commit built start older n flags k x parents run in
-        let u = is-told built start older n flags k x parents run in
-        let r : Record = record { id = x; parents = parents; writes = writes_of c.txn } in
-        let newest : record_at (history (step built) start (n asks Commit flags k => Committed x parents ∷ older)) x ≡ Some r =
-        subst (λ rs. record_at rs x ≡ Some r) (sym c.grown) (record-of-newest (history (step built) start older) r) in
-        (u.0, u.1, newest ∙ ap (λ (ws : List KeyWrite). Some (record r { writes = ws })) (sym u.2.writes))
+  its-record : (start : Site) (older : List Line) (d : DoneCommit) → IsRun (step built) start (as_line d ∷ older) → (t : Told) × (told d.actor older ≡ Some t)
+      × (record_at (dag_after built start (as_line d ∷ older)) d.state ≡ Some (record { id = d.state; parents = d.parents; writes = t.writes }))
+  its-record start older d run =
+      let c = is-commit built start older d run in
+      let u = is-told built start older d run in
+      let r : Record = record { id = d.state; parents = d.parents; writes = writes_of c.txn } in
+      let newest : record_at (dag_after built start (as_line d ∷ older)) d.state ≡ Some r =
+      subst (λ rs. record_at rs d.state ≡ Some r) (sym c.grown) (record-of-newest (dag_after built start older) r) in
+      (u.0, u.1, newest ∙ ap (λ (ws : List KeyWrite). Some (record r { writes = ws })) (sym u.2.writes))
+
+  record-is-kept : (start : Site) (newer older : List Line) (d : DoneCommit) → IsRun (step built) start (newer ++ as_line d ∷ older) → (t : Told) × (told d.actor older ≡ Some t)
+      × (record_at (dag_after built start (newer ++ as_line d ∷ older)) d.state ≡ Some (record { id = d.state; parents = d.parents; writes = t.writes }))
+  record-is-kept start newer older d run =
+      let own = its-record start older d (older-run start newer (as_line d ∷ older) run) in
+      let r : Record = record { id = d.state; parents = d.parents; writes = own.0.writes } in
+      (own.0, own.1, keeps-on (λ rs. record_at rs d.state ≡ Some r) (λ rs q dag f e. record-stays rs q f d.state r e) start newer (as_line d ∷ older) run own.2)
 
   pub commits-are-kept : CommitsAreKept (step built)
-  commits-are-kept start newer older n flags k x parents run =
-      let line = n asks Commit flags k => Committed x parents in
-      let own = its-record start older n flags k x parents (older-run start newer (line ∷ older) run) in
-      (
-        own.0,
-        own.1,
-        keeps-on (λ rs. record_at rs x ≡ Some (record { id = x; parents = parents; writes = own.0.writes })) (λ rs r dag f e. record-stays rs r f x _ e) start newer
-            (line ∷ older) run own.2,
-      )
+  commits-are-kept start newer older d run =
+      let kept = record-is-kept start newer older d run in
+      let r : Record = record { id = d.state; parents = d.parents; writes = kept.0.writes } in
+      (kept.0, kept.1, subst (λ rs. record_at rs d.state ≡ Some r) (history-is-told built start (newer ++ as_line d ∷ older) run) kept.2)
 
-  pub told-record : (start : Site) (newer older : List Line) (n : ℕ) (flags : EndFlags) (k : ℕ) (x : StateId) (parents : List StateId) (t : Told) →
-      IsRun (step built) start (committing newer n flags k x parents older) → told n older ≡ Some t →
-      record_at (history (step built) start (committing newer n flags k x parents older)) x ≡ Some (record { id = x; parents = parents; writes = t.writes })
-  told-record start newer older n flags k x parents t run e =
-      let kept = commits-are-kept start newer older n flags k x parents run in
-      kept.2 ∙ ap (λ (u : Told). Some (record { id = x; parents = parents; writes = u.writes })) (same_Some kept.0 t (sym kept.1 ∙ e))
+  pub told-record : (start : Site) (newer older : List Line) (d : DoneCommit) (t : Told) → IsRun (step built) start (newer ++ as_line d ∷ older) → told d.actor older ≡ Some t →
+      record_at (dag_after built start (newer ++ as_line d ∷ older)) d.state ≡ Some (record { id = d.state; parents = d.parents; writes = t.writes })
+  told-record start newer older d t run e =
+      let kept = record-is-kept start newer older d run in
+      kept.2 ∙ ap (λ (u : Told). Some (record { id = d.state; parents = d.parents; writes = u.writes })) (same_Some kept.0 t (sym kept.1 ∙ e))
+
+  -- what lines tell of a history is one
+  told-dag : (start : Site) (lines : List Line) → IsRun (step built) start lines → IsDag (history lines)
+  told-dag start lines run = let h = run-holds built start lines run in subst IsDag h.dag h.sound.dag
+
+  told-at : (start : Site) (newer older : List Line) (d : DoneCommit) (t : Told) → IsRun (step built) start (newer ++ as_line d ∷ older) → told d.actor older ≡ Some t →
+      record_at (history (newer ++ as_line d ∷ older)) d.state ≡ Some (record { id = d.state; parents = d.parents; writes = t.writes })
+  told-at start newer older d t run e =
+      let r : Record = record { id = d.state; parents = d.parents; writes = t.writes } in
+      subst (λ rs. record_at rs d.state ≡ Some r) (history-is-told built start (newer ++ as_line d ∷ older) run) (told-record start newer older d t run e)
 
   pub commits-are-shown : CommitsAreShown (step built)
-  commits-are-shown start newer older n flags k x parents t run e key w y writes known above none =
-      let lines = committing newer n flags k x parents older in
-      shown-below (history (step built) start lines) (run-holds built start lines run).sound.dag key x y (record { id = x; parents = parents; writes = t.writes }) w
-      (told-record start newer older n flags k x parents t run e) writes known above none
+  commits-are-shown start newer older d t run e key w y writes known above none =
+      let lines = newer ++ as_line d ∷ older in
+      shown-below (history lines) (told-dag start lines run) key d.state y (record { id = d.state; parents = d.parents; writes = t.writes }) w
+      (told-at start newer older d t run e) writes known above none
 
   pub other-keys-are-joined : OtherKeysAreJoined (step built)
-  other-keys-are-joined start newer older n flags k x parents t run e key lacks =
-      let lines = committing newer n flags k x parents older in
-      let rs = history (step built) start lines in
-      let dag = (run-holds built start lines run).sound.dag in
-      let q : Record = record { id = x; parents = parents; writes = t.writes } in
-      let at = told-record start newer older n flags k x parents t run e in
-      (no-conflict rs (dag-grows rs dag) key x q at lacks, joined rs dag key x q at lacks)
+  other-keys-are-joined start newer older d t run e key lacks =
+      let lines = newer ++ as_line d ∷ older in
+      let rs = history lines in
+      let dag = told-dag start lines run in
+      let q : Record = record { id = d.state; parents = d.parents; writes = t.writes } in
+      let at = told-at start newer older d t run e in
+      (no-conflict rs (dag-grows rs dag) key d.state q at lacks, joined rs dag key d.state q at lacks)
 
   -- ===== Below what was read
 
@@ -143,37 +151,41 @@ module _ (built : Built) where
   )
 
   pub commits-join-what-they-read : CommitsJoinWhatTheyRead (step built)
-  commits-join-what-they-read start newer older n flags k x parents t run e =
-      let line = n asks Commit flags k => Committed x parents in
+  commits-join-what-they-read start newer older d t run e =
+      let line = as_line d in
       let own = older-run start newer (line ∷ older) run in
-      let c = is-commit built start older n flags k x parents own in
-      let u = is-told built start older n flags k x parents own in
-      let sound = (before built start older n flags k x parents own).sound in
-      let rs = history (step built) start older in
-      let j = joins-reads rs sound.dag flags c.txn x parents (sound.each_txn n c.txn c.open_there).2.known c.placed in
+      let c = is-commit built start older d own in
+      let u = is-told built start older d own in
+      let sound = (before built start older d own).sound in
+      let rs = dag_after built start older in
+      let j = joins-reads rs sound.dag d.flags c.txn d.state d.parents (sound.each_txn d.actor c.txn c.open_there).2.known c.placed in
       let same = same_Some u.0 t (sym u.1 ∙ e) in
       let states : read_states c.txn ≡ t.states = sym u.2.states ∙ ap (λ (v : Told). v.states) same in
       let merges : t.merges ≡ is_merge c.txn = ap (λ (v : Told). v.merges) (sym same) ∙ u.2.merges in
-      let r : Record = record { id = x; parents = parents; writes = writes_of c.txn } in
-      let at : IsTrue (is_known (history (step built) start (line ∷ older)) x) × IsTrue (are_above (history (step built) start (line ∷ older)) t.states x) =
-      subst (λ qs. IsTrue (is_known qs x) × IsTrue (are_above qs t.states x)) (sym c.grown)
-      (newest-is-known rs r, subst (λ xs. IsTrue (are_above (r ∷ rs) xs x)) states j.0) in (
-        (keeps-on (λ qs. IsTrue (is_known qs x) × IsTrue (are_above qs t.states x)) (above-stay x t.states) start newer (line ∷ older) run at).1,
+      let r : Record = record { id = d.state; parents = d.parents; writes = writes_of c.txn } in
+      let at : IsTrue (is_known (dag_after built start (line ∷ older)) d.state) × IsTrue (are_above (dag_after built start (line ∷ older)) t.states d.state) =
+      subst (λ qs. IsTrue (is_known qs d.state) × IsTrue (are_above qs t.states d.state)) (sym c.grown)
+      (newest-is-known rs r, subst (λ xs. IsTrue (are_above (r ∷ rs) xs d.state)) states j.0) in (
+        subst (λ qs. IsTrue (are_above qs t.states d.state)) (history-is-told built start (newer ++ line ∷ older) run)
+            (keeps-on (λ qs. IsTrue (is_known qs d.state) × IsTrue (are_above qs t.states d.state)) (above-stay d.state t.states) start newer (line ∷ older) run at).1,
         λ m. j.1 (sym merges ∙ m) ∙ states,
       )
 
   -- ===== Own commits
 
-  -- a transaction begins where it is told to, by the session's last commit
-  begun-at : (b : Begin) (start : Site) (older : List Line) (n : ℕ) (s : StateId) → IsRun (step built) start (n asks BeginAt b => Begun s ∷ older) →
-      begin_state (history (step built) start older) (last_commit n older) b ≡ s
-  begun-at b start older n s run =
+  -- a transaction begins where it is told to, by the session's last commit, and not above its ceiling
+  begun-at : (b : Begin) (start : Site) (older : List Line) (n : ℕ) (x : StateId) → IsRun (step built) start (n asks BeginAt b => Begun x ∷ older) →
+      (s : Session) × (told_session n older ≡ Some s) × (begin_state (history older) s.last b ≡ x) × IsTrue (is_admitted (history older) s.ceiling x)
+  begun-at b start older n x run =
       let site = site_after (step built) start older in
-      let line = n asks BeginAt b => Begun s in
+      let line = n asks BeginAt b => Begun x in
       let h = run-holds built start older (run-before built start line older run) in
-      let at = (step-tells-begin built site n b).told s (sym (was-answered built site line run.answered.1 refl)) in
-      let last : at.0.last ≡ last_commit n older = subst (HasLast (last_commit n older)) at.1 (h.session n) in
-      ap (λ x. begin_state site.dag x b) (sym last) ∙ at.2
+      let at = (step-tells-begin built site n b).told x (sym (was-answered built site line run.answered.1 refl)) in (
+        at.0,
+        sym (h.session n) ∙ at.1,
+        subst (λ rs. begin_state rs at.0.last b ≡ x) h.dag at.2,
+        subst (λ rs. IsTrue (is_admitted rs at.0.ceiling x)) h.dag at.3,
+      )
 
   pub above-last-below : (rs : List Record) (x : StateId) → IsTrue (is_above rs x (last_below rs x))
   above-last-below rs x = elim (option-cases (find (is_above rs x) (states rs))) [
@@ -181,16 +193,22 @@ module _ (built : Built) where
     | inr none ↦ subst (λ o. IsTrue (is_above rs x (unwrap_or o x))) (sym none) (above-reflexive rs x)
   ]
 
-  pub sessions-read-their-commits : SessionsReadTheirCommits (step built)
-  sessions-read-their-commits = record {
-    parent = λ start older n s run. sym (begun-at Parent start older n s run);
-    ancestor = λ start older n s run.
-        let rs = history (step built) start older in
-        let last = last_commit n older in
-        subst (λ z. IsTrue (is_above rs last z)) (begun-at Ancestor start older n s run) (above-last-below rs last);
-    any = λ start older n s run.
-        let rs = history (step built) start older in
-        let last = last_commit n older in
-        let e = begun-at Any start older n s run in
-        (λ h. subst (λ z. IsTrue (is_above rs last z)) (sym e) h, λ h. subst (λ z. IsTrue (is_above rs last z)) e h);
-  }
+  pub parent-reads-the-last : ParentReadsTheLastCommit (step built)
+  parent-reads-the-last start older n x run = let at = begun-at Parent start older n x run in (at.0, at.1, sym at.2)
+
+  pub ancestor-reads-the-last : AncestorReadsTheLastCommit (step built)
+  ancestor-reads-the-last start older n x run =
+      let rs = history older in
+      let at = begun-at Ancestor start older n x run in
+      (at.0, at.1, subst (λ z. IsTrue (is_above rs at.0.last z)) at.2 (above-last-below rs at.0.last))
+
+  pub any-reads-the-last : AnyReadsTheLastCommit (step built)
+  any-reads-the-last start older n x run =
+      let rs = history older in
+      let at = begun-at Any start older n x run in
+      (at.0, at.1, (λ h. subst (λ z. IsTrue (is_above rs at.0.last z)) (sym at.2) h, λ h. subst (λ z. IsTrue (is_above rs at.0.last z)) at.2 h))
+
+  pub sessions-stay-under-ceilings : SessionsStayUnderCeilings (step built)
+  sessions-stay-under-ceilings start older n b x run =
+      let at = begun-at b start older n x run in
+      (at.0, at.1, not-true (is_proper_ancestor (history older) x at.0.ceiling) at.3)

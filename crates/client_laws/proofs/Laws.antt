@@ -1,47 +1,37 @@
 -- The laws of reads and commits.
-use Rattle.std.proofs.Common.{◌≡◌, ℕ, Bool, true, false, List, [], ◌∷◌, ◌++◌, Option, Some, None, IsTrue, IsFalse, inl, inr, refl, sym, ap, subst, ◌∙◌, find}
-use Rattle.std.specs.Prelude.{◌&&◌, ◌||◌, ◌==◌, bytes_eq, unwrap_or}
+use Rattle.std.proofs.Common.{◌≡◌, ℕ, true, List, [], ◌∷◌, Option, Some, None, IsTrue, IsFalse, inl, inr, refl, sym, ap, subst, ◌∙◌}
+use Rattle.std.specs.Prelude.{◌||◌, ◌==◌, bytes_eq}
 use Rattle.std.specs.Int.RustNames.{bit_and}
 use Rattle.std.specs.List.{list_all}
-use Rattle.std.proofs.lemmas.Bool.{and_parts, cond_both}
+use Rattle.std.proofs.lemmas.Bool.{and_parts}
 use Rattle.std.proofs.lemmas.Option.{none-some, same_Some}
 use Rattle.tardis_base.specs.declared.ids.StateId.{StateId}
 use Rattle.tardis_base.specs.declared.records.Record.{Record}
 use Rattle.tardis_base.specs.declared.requests.EndFlags.{EndFlags}
-use Rattle.tardis_base.specs.declared.requests.Begin.{Begin}
-use Rattle.tardis_base.specs.declared.requests.Begin.TheVariants.{Any, Ancestor, Parent}
-use Rattle.tardis_base.specs.declared.requests.Request.TheVariants.{Begin as BeginAt, Commit}
-use Rattle.tardis_base.specs.declared.replies.Reply.TheVariants.{Begun, Committed}
-use Rattle.tardis_base.specs.Ids.{is_among}
+use Rattle.tardis_base.specs.declared.requests.Request.TheVariants.{Commit}
 use Rattle.tardis_base.specs.Keys.{KeyWrite, is_key_among, keys_of, has_key}
-use Rattle.plain_dag.specs.States.{states, is_known, record_at}
+use Rattle.plain_dag.specs.States.{is_known}
 use Rattle.plain_dag.specs.Above.{is_above}
 use Rattle.plain_dag.specs.Writers.{is_writer, read}
 use Rattle.plain_dag.specs.Conflicts.{value_over}
-use Rattle.plain_dag.specs.Begin.{last_arrived, last_below, begin_state}
 use Rattle.plain_dag.specs.Landing.{landing, guarded, is_ser, is_si}
 use Rattle.plain_dag.specs.Entries.{entry_of}
-use Rattle.plain_dag.specs.Floors.{Session}
 use Rattle.plain_dag.specs.Dag.{IsDag}
-use Rattle.plain_dag.specs.Laws.{IsTrueCommit}
-use Rattle.plain_dag.proofs.Histories.{dag-grows}
 use Rattle.plain_dag.proofs.Landing.{lands-below, true-commit}
-use Rattle.plain_dag.proofs.Order.{above-reflexive}
-use Rattle.plain_dag.proofs.Searches.{found-passes, option-cases}
-use Rattle.plain_site.specs.Site.{Site, SingleTxn, MergeTxn, Txn, Single, Merge, read_states, writes_of}
+use Rattle.plain_site.specs.Site.{Site, SingleTxn, Txn, Single, Merge, read_states}
 use Rattle.plain_site.specs.Built.{Built}
 use Rattle.plain_site.specs.Step.{step}
-use Rattle.plain_site.specs.RowWords.{Line, ◌asks◌=>◌}
-use Rattle.plain_site.specs.ClientRuns.{wants_memory, after_line, site_after, history, IsAnswered, AreAnswered, IsRun, Told, told, last_commit, ReadsShow}
-use Rattle.plain_site.specs.ClientLaws.{ReadsOneSnapshot, SerializableReadsHold, SnapshotsOverwriteNothingUnseen}
+use Rattle.plain_site.specs.RowWords.{Line}
+use Rattle.plain_site.specs.ClientRuns.{wants_memory, site_after, history, IsAnswered, IsRun, Told, told, ReadsShow}
+use Rattle.plain_site.specs.ClientLaws.{DoneCommit, as_line, ReadsOneSnapshot, ReadsAtItsState, SerializableReadsHold, SnapshotsOverwriteNothingUnseen}
 use Rattle.client_laws.proofs.Dags.{value-over-one}
-use Rattle.client_laws.proofs.Tellings.{IsTold, Tells, HasLast, shows-alike, shows-kept-alike}
-use Rattle.client_laws.proofs.Held.{Holds, run-holds, run-before}
+use Rattle.client_laws.proofs.Tellings.{IsTold, Tells, shows-alike, shows-kept-alike}
+use Rattle.client_laws.proofs.Held.{dag_after, history-is-told, Holds, run-holds, run-before}
 use Rattle.client_laws.proofs.Commits.{IsPlaced, IsCommit, step-tells-commit}
 
 -- ===== What is told of an open transaction
 
-tells-seen : (rs : List Record) (o : Option Txn) (seen : Option Told) (t : Txn) → o ≡ Some t → Tells rs o seen → (u : Told) × (seen ≡ Some u) × IsTold rs t u
+pub tells-seen : (rs : List Record) (o : Option Txn) (seen : Option Told) (t : Txn) → o ≡ Some t → Tells rs o seen → (u : Told) × (seen ≡ Some u) × IsTold rs t u
 tells-seen rs None seen t e h = absurd (none-some t e)
 tells-seen rs (Some s) None t e h = absurd (h)
 tells-seen rs (Some s) (Some u) t e h = (u, refl, subst (λ z. IsTold rs z u) (same_Some s t e) h)
@@ -63,39 +53,35 @@ module _ (built : Built) where
 
   -- ===== One snapshot
 
-  told-shows : (start : Site) (lines : List Line) (n : ℕ) (t : Told) → IsRun (step built) start lines → told n lines ≡ Some t →
-      ReadsShow (value_over (history (step built) start lines) t.states) t.reads
-  told-shows start lines n t run e =
+  pub reads-one-snapshot : ReadsOneSnapshot (step built)
+  reads-one-snapshot start lines n t run e =
       let h = run-holds built start lines run in
       let site = site_after (step built) start lines in
       let open_there = tells-open site.dag (entry_of n site.txns) (told n lines) t e (h.txn n) in
-      subst (λ xs. ReadsShow (value_over site.dag xs) t.reads) (sym open_there.2.states) open_there.2.shown
+      subst (λ rs. ReadsShow (value_over rs t.states) t.reads) h.dag (subst (λ xs. ReadsShow (value_over site.dag xs) t.reads) (sym open_there.2.states) open_there.2.shown)
 
-  pub reads-one-snapshot : ReadsOneSnapshot (step built)
-  reads-one-snapshot = record {
-    of_several = told-shows;
-    of_one = λ start lines n t s run e at.
-        let rs = history (step built) start lines in
-        shows-alike (value_over rs t.states) (λ key. read rs key s) t.reads (λ key. ap (λ xs. value_over rs xs key) at ∙ value-over-one rs s key)
-        (told-shows start lines n t run e);
-  }
+  pub reads-at-its-state : ReadsAtItsState (step built)
+  reads-at-its-state start lines n t s run e at =
+      let rs = history lines in
+      shows-alike (value_over rs t.states) (λ key. read rs key s) t.reads (λ key. ap (λ xs. value_over rs xs key) at ∙ value-over-one rs s key)
+      (reads-one-snapshot start lines n t run e)
 
   -- ===== Commits
 
-  module _ (start : Site) (older : List Line) (n : ℕ) (flags : EndFlags) (k : ℕ) (x : StateId) (parents : List StateId)
-      (run : IsRun (step built) start (n asks Commit flags k => Committed x parents ∷ older)) where
-    pub before : Holds built (site_after (step built) start older) older
-    before = run-holds built start older (run-before built start (n asks Commit flags k => Committed x parents) older run)
+  module _ (start : Site) (older : List Line) (d : DoneCommit)
+      (run : IsRun (step built) start (as_line d ∷ older)) where
+    pub before : Holds built start (site_after (step built) start older) older
+    before = run-holds built start older (run-before built start (as_line d) older run)
 
-    pub is-commit : IsCommit (site_after (step built) start older) n flags (step built (site_after (step built) start older) n (Commit flags k)).0.dag x parents
+    pub is-commit : IsCommit (site_after (step built) start older) d.actor d.flags (step built (site_after (step built) start older) d.actor (Commit d.flags d.k)).0.dag d.state d.parents
     is-commit =
-        (step-tells-commit built (site_after (step built) start older) n flags k).told x parents
-        (sym (was-answered (site_after (step built) start older) (n asks Commit flags k => Committed x parents) run.answered.1 refl))
+        (step-tells-commit built (site_after (step built) start older) d.actor d.flags d.k).told d.state d.parents
+        (sym (was-answered (site_after (step built) start older) (as_line d) run.answered.1 refl))
 
-    pub is-told : (u : Told) × (told n older ≡ Some u) × IsTold (site_after (step built) start older).dag is-commit.txn u
+    pub is-told : (u : Told) × (told d.actor older ≡ Some u) × IsTold (site_after (step built) start older).dag is-commit.txn u
     is-told =
         let s = site_after (step built) start older in
-        tells-seen s.dag (entry_of n s.txns) (told n older) is-commit.txn is-commit.open_there (before.txn n)
+        tells-seen s.dag (entry_of d.actor s.txns) (told d.actor older) is-commit.txn is-commit.open_there (before.txn d.actor)
 
   -- ===== SER
 
@@ -126,22 +112,23 @@ module _ (built : Built) where
   ser-holds rs dag flags (Merge t) parents u known ser placed h = not-ser flags placed.1 ser
 
   -- the parent of a serializable transaction is known, and its reads hold there
-  pub ser-parent : (start : Site) (older : List Line) (n : ℕ) (flags : EndFlags) (k : ℕ) (x : StateId) (parents : List StateId) →
-      IsRun (step built) start (n asks Commit flags k => Committed x parents ∷ older) → IsTrue (is_ser flags) →
-      (u : Told) × (told n older ≡ Some u) × (p : StateId) × IsTrue (is_known (history (step built) start older) p) × (parents ≡ p ∷ [])
-      × ReadsShow (λ key. read (history (step built) start older) key p) u.reads
-  ser-parent start older n flags k x parents run ser =
-      let c = is-commit start older n flags k x parents run in
-      let u = is-told start older n flags k x parents run in
-      let sound = (before start older n flags k x parents run).sound in
-      let rs = history (step built) start older in
-      let p = ser-holds rs sound.dag flags c.txn parents u.0 (sound.each_txn n c.txn c.open_there).2.known ser c.placed u.2 in
+  pub ser-parent : (start : Site) (older : List Line) (d : DoneCommit) →
+      IsRun (step built) start (as_line d ∷ older) → IsTrue (is_ser d.flags) →
+      (u : Told) × (told d.actor older ≡ Some u) × (p : StateId) × IsTrue (is_known (dag_after built start older) p) × (d.parents ≡ p ∷ [])
+      × ReadsShow (λ key. read (dag_after built start older) key p) u.reads
+  ser-parent start older d run ser =
+      let c = is-commit start older d run in
+      let u = is-told start older d run in
+      let sound = (before start older d run).sound in
+      let rs = dag_after built start older in
+      let p = ser-holds rs sound.dag d.flags c.txn d.parents u.0 (sound.each_txn d.actor c.txn c.open_there).2.known ser c.placed u.2 in
       (u.0, u.1, p.0, p.1, p.2, p.3)
 
   pub serializable-reads-hold : SerializableReadsHold (step built)
-  serializable-reads-hold start older n flags k x parents run ser =
-      let h = ser-parent start older n flags k x parents run ser in
-      (h.0, h.2, h.1, h.4, h.5)
+  serializable-reads-hold start older d run ser =
+      let h = ser-parent start older d run ser in
+      let e = history-is-told built start older (run-before built start (as_line d) older run) in
+      (h.0, h.2, h.1, h.4, subst (λ rs. ReadsShow (λ key. read rs key h.2) h.0.reads) e h.5)
 
   -- ===== SI
 
@@ -163,10 +150,19 @@ module _ (built : Built) where
   si-holds rs dag flags (Merge t) parents u known si placed h = not-si flags placed.1 si
 
   pub snapshots-overwrite-nothing-unseen : SnapshotsOverwriteNothingUnseen (step built)
-  snapshots-overwrite-nothing-unseen start older n flags k x parents run si =
-      let c = is-commit start older n flags k x parents run in
-      let u = is-told start older n flags k x parents run in
-      let sound = (before start older n flags k x parents run).sound in
-      let rs = history (step built) start older in
-      let p = si-holds rs sound.dag flags c.txn parents u.0 (sound.each_txn n c.txn c.open_there).2.known si c.placed u.2 in
-      (u.0, p.0, p.1, u.1, p.2, p.3, p.4, p.5)
+  snapshots-overwrite-nothing-unseen start older d run si =
+      let c = is-commit start older d run in
+      let u = is-told start older d run in
+      let sound = (before start older d run).sound in
+      let rs = dag_after built start older in
+      let p = si-holds rs sound.dag d.flags c.txn d.parents u.0 (sound.each_txn d.actor c.txn c.open_there).2.known si c.placed u.2 in
+      let e = history-is-told built start older (run-before built start (as_line d) older run) in (
+        u.0,
+        p.0,
+        p.1,
+        u.1,
+        p.2,
+        p.3,
+        subst (λ qs. ReadsShow (λ key. read qs key p.0) u.0.reads) e p.4,
+        subst (λ qs. NothingUnseen qs u.0.writes p.0 p.1) e p.5,
+      )

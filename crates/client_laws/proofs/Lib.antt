@@ -12,4 +12,7 @@ pub mod Laws
 pub mod Kept
 pub mod Serial
 pub mod OwnWrites
+pub mod Ends
 pub mod Wrong
+pub mod Events
+pub mod Rows

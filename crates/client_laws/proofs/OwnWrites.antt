@@ -1,28 +1,32 @@
--- A transaction reads its own writes.
-use Rattle.std.proofs.Common.{◌≡◌, ℕ, Bool, true, false, not, List, [], ◌∷◌, Option, Some, None, IsTrue, ◌⊎◌, inl, inr, refl, sym, ap, subst, ◌∙◌}
+-- A transaction reads its own writes, and a merge each side.
+use Rattle.std.proofs.Common.{◌≡◌, ℕ, Bool, true, false, not, List, [], ◌∷◌, Some, IsTrue, IsFalse, inl, inr, refl, sym, ap, subst, ◌∙◌}
 use Rattle.std.proofs.lemmas.Option.{none-some, same_Some}
 use Rattle.tardis_base.specs.declared.records.Write.{Write}
-use Rattle.tardis_base.specs.declared.requests.Request.TheVariants.{Get}
+use Rattle.tardis_base.specs.declared.requests.Request.TheVariants.{Get, GetFor}
 use Rattle.tardis_base.specs.declared.replies.Refusal.{Refusal}
-use Rattle.tardis_base.specs.declared.replies.Refusal.TheVariants.{NotOpen, TxnOpen, NoTxn, Unsupported}
+use Rattle.tardis_base.specs.declared.replies.Refusal.TheVariants.{NotOpen, TxnOpen, NoTxn, Unsupported, WrongMode, NotRead}
 use Rattle.tardis_base.specs.declared.replies.Reply.{Reply}
 use Rattle.tardis_base.specs.declared.replies.Reply.TheVariants.{Refused, NoMemory}
-use Rattle.tardis_base.specs.Ids.{root}
+use Rattle.tardis_base.specs.Ids.{root, is_among}
 use Rattle.tardis_base.specs.Keys.{write_of}
+use Rattle.tardis_base.specs.declared.ids.StateId.{StateId}
+use Rattle.plain_dag.specs.Writers.{read}
+use Rattle.plain_site.proofs.SoundAnswers.{when-none, none-parts}
+use Rattle.client_laws.proofs.Commits.{unless-none}
 use Rattle.plain_dag.specs.Entries.{entry_of}
 use Rattle.wire_talk.specs.Codes.{code_of}
-use Rattle.plain_site.specs.Site.{Site, Txn, writes_of}
+use Rattle.plain_site.specs.Site.{Site, MergeTxn, Txn, Single, Merge, writes_of}
 use Rattle.plain_site.specs.Built.{Built, is_built}
-use Rattle.plain_site.specs.Answers.{Answer, refuse, unless, shown}
-use Rattle.plain_site.specs.Reads.{read_in, get}
+use Rattle.plain_site.specs.Answers.{Answer, refuse, shown, found}
+use Rattle.plain_site.specs.Reads.{read_in, get, get_for}
 use Rattle.plain_site.specs.Step.{served, step}
 use Rattle.plain_site.specs.RowWords.{Line, ◌asks◌=>◌}
-use Rattle.plain_site.specs.ClientRuns.{wants_memory, is_shown, site_after, IsAnswered, IsRun, Told, told}
-use Rattle.plain_site.specs.ClientLaws.{OwnWritesAreRead}
+use Rattle.plain_site.specs.ClientRuns.{wants_memory, is_shown, site_after, IsAnswered, told}
+use Rattle.plain_site.specs.ClientLaws.{OwnWritesAreRead, MergesShowEachSide}
 use Rattle.plain_site.proofs.RepliesFrame.{given-good, by-txn}
 use Rattle.client_laws.proofs.Effects.{refuse-only, unless-refused}
 use Rattle.client_laws.proofs.Held.{run-holds, run-before}
-use Rattle.client_laws.proofs.Laws.{tells-open}
+use Rattle.client_laws.proofs.Laws.{tells-open, tells-seen}
 
 -- where a value is shown, the actor's transaction wrote it, if it wrote the key
 record ShowsOwn (site : Site) (n : ℕ) (k : List ℕ) (answer : Answer) : Type 0 where
@@ -65,3 +69,50 @@ own-writes-are-read built start older n key w reply t run e writes h =
     let its = tells-open site.dag (entry_of n site.txns) (told n older) t e (held.txn n) in
     let is = shown-is-answered built site line run.answered.1 h in
     is ∙ (step-shows built site n key).own (subst (λ r. IsTrue (is_shown r)) is h) its.0 w its.1 (ap (write_of key) (sym its.2.writes) ∙ writes)
+
+-- ===== Each side of a merge
+
+-- where a value is shown, it is what is read at one of the states of the actor's merge
+record ShowsSide (site : Site) (n : ℕ) (k : List ℕ) (x : StateId) (answer : Answer) : Type 0 where
+  side : IsTrue (is_shown answer.1) → (t : MergeTxn) × (entry_of n site.txns ≡ Some (Merge t)) × IsTrue (is_among x t.states) × (answer.1 ≡ found (read site.dag k x))
+
+not-false : (b : Bool) → IsFalse (not b) → IsTrue b
+not-false true f = refl
+not-false false f = absurd (cc)
+
+module _ (built : Built) (site : Site) (n : ℕ) (k : List ℕ) (x : StateId) where
+  refused-side : (refusal : Refusal) → ShowsSide site n k x (site, Refused refusal)
+  refused-side refusal = record { side = λ h. absurd (cc) }
+
+  get-for-shows : (t : Txn) → entry_of n site.txns ≡ Some t → ShowsSide site n k x (get_for site t k x)
+  get-for-shows (Single t) there = refused-side WrongMode
+  get-for-shows (Merge t) there =
+      let other = not (is_among x t.states) in
+      unless-none (ShowsSide site n k x) site (refuse other (NotRead x) ∷ []) (site, found (read site.dag k x)) (refuse-only other (NotRead x) [] tt) refused-side
+      (λ none.
+      let among = not-false (is_among x t.states) (when-none other (Refused (NotRead x)) (none-parts (refuse other (NotRead x)) [] none).0) in
+      record { side = λ h. (t, there, among, refl) })
+
+  step-shows-side : ShowsSide site n k x (step built site n (GetFor k x))
+  step-shows-side =
+      let unbuilt = not (is_built built (GetFor k x)) in
+      unless-refused (ShowsSide site n k x) site (refuse unbuilt (Unsupported (code_of (GetFor k x))) ∷ []) (served built site n (GetFor k x))
+      (refuse-only unbuilt (Unsupported (code_of (GetFor k x))) [] tt) refused-side
+      (by-txn {site = site} {Good = ShowsSide site n k x}
+      (record { not_open = refused-side NotOpen; no_txn = refused-side NoTxn; txn_open = refused-side TxnOpen }) n (λ s t. get_for site t k x)
+      (λ s t e d. get-for-shows t d))
+
+pub merges-show-each-side : (built : Built) → MergesShowEachSide (step built)
+merges-show-each-side built start older n key x reply run h =
+    let site = site_after (step built) start older in
+    let line = n asks GetFor key x => reply in
+    let held = run-holds built start older (run-before built start line older run) in
+    let is = shown-is-answered built site line run.answered.1 h in
+    let at = (step-shows-side built site n key x).side (subst (λ r. IsTrue (is_shown r)) is h) in
+    let u = tells-seen site.dag (entry_of n site.txns) (told n older) (Merge at.0) at.1 (held.txn n) in (
+      u.0,
+      u.1,
+      u.2.merges,
+      subst (λ xs. IsTrue (is_among x xs)) (sym u.2.states) at.2,
+      is ∙ (at.3 ∙ ap (λ rs. found (read rs key x)) held.dag),
+    )

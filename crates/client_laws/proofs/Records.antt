@@ -1,6 +1,6 @@
 -- What is read at a state for good, told by its record.
-use Rattle.std.proofs.Common.{◌≡◌, ℕ, true, false, not, ◌||◌, ◌&&◌, List, [], ◌∷◌, IsTrue, IsFalse, Option, Some, None, ◌⊎◌, refl, sym, ap, subst, ◌∙◌, inl, inr, find}
-use Rattle.std.proofs.lemmas.Bool.{and_parts, and_from, or_left, or_right, or_cases, cases_Bool, both_ways, cond-true, cond-false, false_from_ne_true, not_from_false}
+use Rattle.std.proofs.Common.{◌≡◌, ℕ, not, ◌||◌, ◌&&◌, List, [], ◌∷◌, IsTrue, IsFalse, Option, Some, None, refl, sym, ap, subst, ◌∙◌, inl, inr, find}
+use Rattle.std.proofs.lemmas.Bool.{and_parts, and_from, or_left, or_right, cases_Bool, both_ways, cond-true, cond-false, false_from_ne_true, not_from_false}
 use Rattle.std.proofs.lemmas.Option.{none-some, same_Some}
 use Rattle.std.specs.Prelude.{bytes_eq}
 use Rattle.std.specs.List.{list_all}
@@ -8,15 +8,15 @@ use Rattle.std.specs.Option.{option_map, option_and_then}
 use Rattle.tardis_base.specs.declared.ids.StateId.{StateId}
 use Rattle.tardis_base.specs.declared.records.Record.{Record}
 use Rattle.tardis_base.specs.declared.records.Write.{Write}
-use Rattle.tardis_base.specs.Ids.{root, same_id, is_among}
+use Rattle.tardis_base.specs.Ids.{root, same_id}
 use Rattle.tardis_base.specs.Keys.{KeyWrite, has_key, write_of}
 use Rattle.plain_dag.specs.States.{root_record, is_known, record_at, writes_key}
 use Rattle.plain_dag.specs.Above.{is_above, is_proper_ancestor}
-use Rattle.plain_dag.specs.Writers.{is_writer, latest_writer, version_at, read}
+use Rattle.plain_dag.specs.Writers.{is_writer, version_at, read}
 use Rattle.plain_dag.specs.Conflicts.{is_conflict_key, value_over}
-use Rattle.plain_dag.specs.Dag.{IsNext, IsDag}
+use Rattle.plain_dag.specs.Dag.{IsDag}
 use Rattle.plain_dag.specs.Laws.{IsLatestWriter}
-use Rattle.plain_dag.proofs.Ids.{not-both, same_id-true, same_id_self, same_id_from}
+use Rattle.plain_dag.proofs.Ids.{same_id-true, same_id_self}
 use Rattle.plain_dag.proofs.Histories.{Fits, Grows, dag-grows, next-fits, known-stays, known-isnt-newest}
 use Rattle.plain_dag.proofs.Order.{above-reflexive, above-antisymmetric}
 use Rattle.plain_dag.proofs.Growth.{read-stays}

@@ -1,12 +1,12 @@
 -- A refused request is as if it hadn't been sent.
-use Rattle.std.proofs.Common.{◌≡◌, Bool, true, false, List, [], ◌∷◌, ◌++◌, IsTrue, inl, inr, refl, sym, ap, subst, ◌∙◌, cond}
+use Rattle.std.proofs.Common.{◌≡◌, List, [], ◌∷◌, ◌++◌, IsTrue, inl, inr, refl, ap, subst}
 use Rattle.std.proofs.lemmas.Bool.{cond-true, cond_both}
 use Rattle.plain_site.specs.Site.{Site}
 use Rattle.plain_site.specs.Built.{Built}
 use Rattle.plain_site.specs.Answers.{leaves_site}
 use Rattle.plain_site.specs.Step.{step}
 use Rattle.plain_site.specs.RowWords.{Line}
-use Rattle.plain_site.specs.ClientRuns.{wants_memory, after_line, site_after, IsAnswered, AreAnswered, IsRun}
+use Rattle.plain_site.specs.ClientRuns.{wants_memory, after_line, site_after, IsAnswered, AreAnswered}
 use Rattle.plain_site.specs.ClientLaws.{RefusalsHideNothing}
 use Rattle.plain_site.proofs.RepliesSite.{refusals-leave-site}
 

@@ -1,12 +1,9 @@
 -- Each branch is a serial history of its serializable transactions.
-use Rattle.std.proofs.Common.{◌≡◌, ℕ, Bool, true, false, List, [], ◌∷◌, ◌++◌, Option, Some, None, IsTrue, refl, sym, ap, subst, ◌∙◌}
+use Rattle.std.proofs.Common.{◌≡◌, ℕ, List, [], ◌∷◌, ◌++◌, Option, Some, IsTrue, refl, sym, ap, subst, ◌∙◌}
 use Rattle.std.proofs.lemmas.Option.{same_Some}
 use Rattle.tardis_base.specs.declared.ids.StateId.{StateId}
 use Rattle.tardis_base.specs.declared.records.Record.{Record}
 use Rattle.tardis_base.specs.declared.records.Write.{Write}
-use Rattle.tardis_base.specs.declared.requests.EndFlags.{EndFlags}
-use Rattle.tardis_base.specs.declared.requests.Request.TheVariants.{Commit}
-use Rattle.tardis_base.specs.declared.replies.Reply.TheVariants.{Committed}
 use Rattle.plain_dag.specs.States.{is_known, record_at}
 use Rattle.plain_dag.specs.Writers.{read}
 use Rattle.plain_dag.specs.Dag.{IsDag}
@@ -16,12 +13,12 @@ use Rattle.plain_dag.proofs.Growth.{read-stays}
 use Rattle.plain_site.specs.Site.{Site}
 use Rattle.plain_site.specs.Built.{Built}
 use Rattle.plain_site.specs.Step.{step}
-use Rattle.plain_site.specs.RowWords.{Line, ◌asks◌=>◌}
-use Rattle.plain_site.specs.ClientRuns.{history, IsRun, Told, told, ReadsShow}
-use Rattle.plain_site.specs.ClientLaws.{committing, IsBranch, one_after_another, HasMade, IsSerial, BranchesAreSerial}
+use Rattle.plain_site.specs.RowWords.{Line}
+use Rattle.plain_site.specs.ClientRuns.{IsRun, Told, told, ReadsShow}
+use Rattle.plain_site.specs.ClientLaws.{DoneCommit, as_line, IsBranch, one_after_another, IsSerial, BranchesAreSerial}
 use Rattle.client_laws.proofs.Records.{record-is-of, branch-is-read}
 use Rattle.client_laws.proofs.Tellings.{shows-alike}
-use Rattle.client_laws.proofs.Held.{run-holds}
+use Rattle.client_laws.proofs.Held.{dag_after, history-is-told, run-holds}
 use Rattle.client_laws.proofs.Laws.{ser-parent}
 use Rattle.client_laws.proofs.Kept.{keeps-on, older-run, told-record}
 
@@ -38,43 +35,44 @@ same-parent p q e = cc
 module _ (built : Built) where
   -- a read at a state that was known before a commit is the same for good
   read-after : (start : Site) (newer older : List Line) (line : Line) (key : List ℕ) (p : StateId) → IsRun (step built) start (newer ++ line ∷ older) →
-      IsTrue (is_known (history (step built) start older) p) →
-      read (history (step built) start (newer ++ line ∷ older)) key p ≡ read (history (step built) start older) key p
+      IsTrue (is_known (dag_after built start older) p) →
+      read (dag_after built start (newer ++ line ∷ older)) key p ≡ read (dag_after built start older) key p
   read-after start newer older line key p run known =
-      let v = read (history (step built) start older) key p in
+      let v = read (dag_after built start older) key p in
       let next = keeps-on built (IsReadAs key p v) (read-stays-so key p v) start (line ∷ []) older (older-run built start newer (line ∷ older) run) (known, refl) in
       (keeps-on built (IsReadAs key p v) (read-stays-so key p v) start newer (line ∷ older) run next).1
 
   -- what a serializable transaction read is what is read for good at the parent of its state
-  read-at-parent : (start : Site) (newer older : List Line) (n : ℕ) (flags : EndFlags) (k : ℕ) (r : Record) (parents : List StateId) (t : Told) (q : StateId) →
-      IsRun (step built) start (committing newer n flags k r.id parents older) → told n older ≡ Some t → IsTrue (is_ser flags) →
-      record_at (history (step built) start (committing newer n flags k r.id parents older)) r.id ≡ Some r → r.parents ≡ q ∷ [] →
-      ReadsShow (λ key. read (history (step built) start (committing newer n flags k r.id parents older)) key q) t.reads
-  read-at-parent start newer older n flags k r parents t q run e ser at one =
-      let line = n asks Commit flags k => Committed r.id parents in
-      let h = ser-parent built start older n flags k r.id parents (older-run built start newer (line ∷ older) run) ser in
-      let its = same_Some (record { id = r.id; parents = parents; writes = t.writes }) r (sym (told-record built start newer older n flags k r.id parents t run e) ∙ at) in
+  read-at-parent : (start : Site) (newer older : List Line) (d : DoneCommit) (r : Record) (t : Told) (q : StateId) → IsRun (step built) start (newer ++ as_line d ∷ older) →
+      told d.actor older ≡ Some t → IsTrue (is_ser d.flags) → record_at (dag_after built start (newer ++ as_line d ∷ older)) d.state ≡ Some r → r.parents ≡ q ∷ [] →
+      ReadsShow (λ key. read (dag_after built start (newer ++ as_line d ∷ older)) key q) t.reads
+  read-at-parent start newer older d r t q run e ser at one =
+      let line = as_line d in
+      let h = ser-parent built start older d (older-run built start newer (line ∷ older) run) ser in
+      let its = same_Some (record { id = d.state; parents = d.parents; writes = t.writes }) r (sym (told-record built start newer older d t run e) ∙ at) in
       let parent : h.2 ≡ q = same-parent h.2 q (sym h.4 ∙ (ap (λ (p : Record). p.parents) its ∙ one)) in
-      let rs = history (step built) start (committing newer n flags k r.id parents older) in
+      let rs = dag_after built start (newer ++ line ∷ older) in
       subst (λ (u : Told). ReadsShow (λ key. read rs key q) u.reads) (same_Some h.0 t (sym h.1 ∙ e))
-      (shows-alike (λ key. read (history (step built) start older) key h.2) (λ key. read rs key q) h.0.reads
+      (shows-alike (λ key. read (dag_after built start older) key h.2) (λ key. read rs key q) h.0.reads
       (λ key. sym (read-after start newer older line key h.2 run h.3) ∙ ap (read rs key) parent) h.5)
 
   module _ (start : Site) (lines : List Line) (run : IsRun (step built) start lines) where
-    serial-branch : (branch : List Record) (x : StateId) → IsBranch (history (step built) start lines) branch x → IsSerial lines branch
+    serial-branch : (branch : List Record) (x : StateId) → IsBranch (dag_after built start lines) branch x → IsSerial lines branch
     serial-branch [] x is_branch = tt
     serial-branch (r ∷ before) x is_branch =
-        let rs = history (step built) start lines in
+        let rs = dag_after built start lines in
         let dag = (run-holds built start lines run).sound.dag in
         let at : record_at rs r.id ≡ Some r = ap (record_at rs) (record-is-of rs x r is_branch.1).0 ∙ is_branch.1 in (
-          λ flags t made ser.
+          λ d t made same ser.
+              let there : record_at rs d.state ≡ Some r = ap (record_at rs) same ∙ at in
               let reads : ReadsShow (λ key. read rs key is_branch.0) t.reads =
-              subst (λ ls. ReadsShow (λ key. read (history (step built) start ls) key is_branch.0) t.reads) (sym made.5)
-              (read-at-parent start made.0 made.1 made.2 flags made.3 r made.4 t is_branch.0 (subst (IsRun (step built) start) made.5 run) made.6 ser
-              (subst (λ ls. record_at (history (step built) start ls) r.id ≡ Some r) made.5 at) is_branch.2) in
+              subst (λ ls. ReadsShow (λ key. read (dag_after built start ls) key is_branch.0) t.reads) (sym made.2)
+              (read-at-parent start made.0 made.1 d r t is_branch.0 (subst (IsRun (step built) start) made.2 run) made.3 ser
+              (subst (λ ls. record_at (dag_after built start ls) d.state ≡ Some r) made.2 there) is_branch.2) in
               shows-alike (λ key. read rs key is_branch.0) (one_after_another before) t.reads (λ key. branch-is-read rs dag key before is_branch.0 is_branch.3) reads,
           serial-branch before is_branch.0 is_branch.3,
         )
 
   pub branches-are-serial : BranchesAreSerial (step built)
-  branches-are-serial start lines branch x run is_branch = serial-branch start lines run branch x is_branch
+  branches-are-serial start lines branch x run is_branch =
+      serial-branch start lines run branch x (subst (λ rs. IsBranch rs branch x) (sym (history-is-told built start lines run)) is_branch)

@@ -1,5 +1,5 @@
 -- What lines tell of a transaction is what the site has of it.
-use Rattle.std.proofs.Common.{◌≡◌, ℕ, Bool, true, false, List, [], ◌∷◌, Option, Some, None, IsTrue, IsFalse, refl, sym, ap, subst, ◌∙◌}
+use Rattle.std.proofs.Common.{◌≡◌, ℕ, Bool, true, false, List, [], ◌∷◌, Option, Some, None, IsTrue, refl, sym, ap, subst, ◌∙◌}
 use Rattle.std.specs.List.{list_all}
 use Rattle.std.specs.Option.{option_map}
 use Rattle.tardis_base.specs.declared.ids.StateId.{StateId}
@@ -9,7 +9,6 @@ use Rattle.tardis_base.specs.declared.replies.Reply.{Reply}
 use Rattle.tardis_base.specs.Keys.{is_key_among, with_key}
 use Rattle.plain_dag.specs.States.{is_known}
 use Rattle.plain_dag.specs.Conflicts.{value_over}
-use Rattle.plain_dag.specs.Floors.{Session}
 use Rattle.plain_dag.proofs.Histories.{Fits, Grows}
 use Rattle.plain_dag.proofs.Keys.{keeps-keys}
 use Rattle.plain_site.specs.Site.{Txn, Single, Merge, read_states, writes_of}
@@ -44,11 +43,6 @@ Tells rs None None = Unit {0}
 Tells rs None (Some seen) = ⊥
 Tells rs (Some t) None = ⊥
 Tells rs (Some t) (Some seen) = IsTold rs t seen
-
--- an open session committed this last
-abbrev pub HasLast : StateId → Option Session → Type 0
-HasLast x None = Unit {0}
-HasLast x (Some s) = s.last ≡ x
 
 -- ===== Reads
 

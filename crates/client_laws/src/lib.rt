@@ -6,16 +6,35 @@
 
 ghost use Rattle.plain_site.specs.Built.{Built};
 ghost use Rattle.plain_site.specs.Step.{step};
-ghost use Rattle.plain_site.specs.ClientLaws.{ReadsOneSnapshot, OwnWritesAreRead, SerializableReadsHold, BranchesAreSerial, SnapshotsOverwriteNothingUnseen, CommitsAreKept, CommitsAreShown, OtherKeysAreJoined, CommitsJoinWhatTheyRead, SessionsReadTheirCommits, RefusalsHideNothing};
-ghost use Rattle.plain_site.specs.WrongSteps.{IsBrokenBy, reads_newest, forgets_own_writes, forgets_reads, forgets_constraints, forgets_collected, leaves_conflicts, drops_sides, forgets_commits, ends_refused};
+ghost use Rattle.plain_site.specs.EventRuns.{EventsAreRuns};
+ghost use Rattle.plain_site.specs.ClientLaws.{ReadsOneSnapshot, ReadsAtItsState, OwnWritesAreRead, MergesShowEachSide, ReadersEndWhereTheyRead, SerializableReadsHold, BranchesAreSerial, SnapshotsOverwriteNothingUnseen, HistoryIsTold, CommitsAreKept, DeliveriesAreKept, CommitsAreShown, OtherKeysAreJoined, CommitsJoinWhatTheyRead, ParentReadsTheLastCommit, AncestorReadsTheLastCommit, AnyReadsTheLastCommit, SessionsStayUnderCeilings, RefusalsHideNothing};
+ghost use Rattle.plain_site.specs.RowsOfClients.{ReadersFork, WritersFork, ReadsAreOld, WantingIsSentAgain, WeakerIsSentAfter, CommitsAreFound, FollowersStayBelow, SidesAreJoined, LinesTell};
+ghost use Rattle.plain_site.specs.WrongSteps.{IsBrokenBy, reads_newest, forgets_own_writes, shows_newest_side, ends_at_newest, forgets_reads, forgets_constraints, forgets_collected, forgets_deliveries, leaves_conflicts, drops_sides, forgets_commits, stays_with_own, forgets_ceilings, ends_refused};
+
+use wire_talk::talk_has_one_spelling;
+
+/// Whatever bytes actors send to a site that opens, and however these are answered, memory's wants included, what they ask and
+/// are answered is a run that leads to the same site. So the laws speak of all that actors send.
+pub fn events_are_runs()
+    ensures { (built : Built) → EventsAreRuns built }
+{
+    talk_has_one_spelling();
+}
 
 /// Each transaction reads one snapshot, however long it runs and whatever is committed meanwhile: each of its reads shows the
-/// value over its read states. What it wrote itself it is shown as it wrote it.
+/// value over its read states, which for one state is what is read there. What it wrote itself it is shown as it wrote it, and
+/// a merge is shown each of its sides as it is. A transaction that wrote nothing ends at the state that it read.
 pub fn transactions_read_one_snapshot()
     ensures snapshot { (built : Built) → ReadsOneSnapshot (step built) }
+    ensures at_its_state { (built : Built) → ReadsAtItsState (step built) }
     ensures own_writes { (built : Built) → OwnWritesAreRead (step built) }
+    ensures each_side { (built : Built) → MergesShowEachSide (step built) }
+    ensures ends { (built : Built) → ReadersEndWhereTheyRead (step built) }
     ensures newest_breaks { IsBrokenBy ReadsOneSnapshot reads_newest }
+    ensures newest_breaks_state { IsBrokenBy ReadsAtItsState reads_newest }
     ensures forgotten_breaks { IsBrokenBy OwnWritesAreRead forgets_own_writes }
+    ensures newest_breaks_sides { IsBrokenBy MergesShowEachSide shows_newest_side }
+    ensures moved_breaks { IsBrokenBy ReadersEndWhereTheyRead ends_at_newest }
 {}
 
 /// Each serializable transaction has read what its place in its branch shows. So each branch is a serial history of its
@@ -34,25 +53,37 @@ pub fn snapshots_overwrite_nothing_unseen()
     ensures forgotten_breaks { IsBrokenBy SnapshotsOverwriteNothingUnseen forgets_constraints }
 {}
 
-/// Nothing committed is lost, whatever comes: a commit's state stays known with its parents and its writes, and shows them
-/// to all below it until one of these writes the key. It stands below all that its transaction read, a merge just below all
-/// its read states; and it shows each key that it didn't write as the one value over its parents.
+/// Nothing committed is lost, whatever comes, and nothing is made up: the site's history is what requests and replies tell of
+/// commits and deliveries. A commit's state stays known with its parents and its writes, as does a record that another site
+/// made, and its writes are shown to all below it until one of these writes the key. It stands below all that its
+/// transaction read, a merge just below all its read states; and it shows each key that it didn't write as the one value over
+/// its parents.
 pub fn nothing_committed_is_lost()
+    ensures history { (built : Built) → HistoryIsTold (step built) }
     ensures kept { (built : Built) → CommitsAreKept (step built) }
+    ensures deliveries { (built : Built) → DeliveriesAreKept (step built) }
     ensures shown { (built : Built) → CommitsAreShown (step built) }
     ensures joins { (built : Built) → CommitsJoinWhatTheyRead (step built) }
     ensures others { (built : Built) → OtherKeysAreJoined (step built) }
+    ensures forgotten_breaks_history { IsBrokenBy HistoryIsTold forgets_collected }
     ensures forgotten_breaks { IsBrokenBy CommitsAreKept forgets_collected }
+    ensures forgotten_breaks_deliveries { IsBrokenBy DeliveriesAreKept forgets_deliveries }
     ensures conflicts_break { IsBrokenBy CommitsAreShown leaves_conflicts }
     ensures dropped_breaks { IsBrokenBy CommitsJoinWhatTheyRead drops_sides }
     ensures conflicts_break_others { IsBrokenBy OtherKeysAreJoined leaves_conflicts }
 {}
 
 /// A session that begins at Parent reads its last commit, at Ancestor that or a state below it, and at Any too exactly where
-/// the state that arrived last is at or below it.
+/// the state that arrived last is at or below it. Wherever it is told to begin, it never reads above its ceiling.
 pub fn sessions_read_their_own_commits()
-    ensures own { (built : Built) → SessionsReadTheirCommits (step built) }
-    ensures forgotten_breaks { IsBrokenBy SessionsReadTheirCommits forgets_commits }
+    ensures parent { (built : Built) → ParentReadsTheLastCommit (step built) }
+    ensures ancestor { (built : Built) → AncestorReadsTheLastCommit (step built) }
+    ensures any { (built : Built) → AnyReadsTheLastCommit (step built) }
+    ensures ceilings { (built : Built) → SessionsStayUnderCeilings (step built) }
+    ensures forgotten_breaks { IsBrokenBy ParentReadsTheLastCommit forgets_commits }
+    ensures forgotten_breaks_ancestor { IsBrokenBy AncestorReadsTheLastCommit forgets_commits }
+    ensures own_breaks { IsBrokenBy AnyReadsTheLastCommit stays_with_own }
+    ensures forgotten_breaks_ceilings { IsBrokenBy SessionsStayUnderCeilings forgets_ceilings }
 {}
 
 /// A request that was refused is as if it hadn't been sent. So a refused commit leaves its transaction as it was, and the
@@ -60,4 +91,17 @@ pub fn sessions_read_their_own_commits()
 pub fn refusals_hide_nothing()
     ensures as_not_sent { (built : Built) → RefusalsHideNothing (step built) }
     ensures ended_breaks { IsBrokenBy RefusalsHideNothing ends_refused }
+{}
+
+/// Worked rows: what the step answers in the runs in which the wrong ones break the laws, and what lines tell their clients.
+pub fn runs_are_told()
+    ensures readers { ReadersFork }
+    ensures writers { WritersFork }
+    ensures old_reads { ReadsAreOld }
+    ensures wanting { WantingIsSentAgain }
+    ensures weaker { WeakerIsSentAfter }
+    ensures own_commits { CommitsAreFound }
+    ensures followers { FollowersStayBelow }
+    ensures sides { SidesAreJoined }
+    ensures told { LinesTell }
 {}

@@ -4,48 +4,83 @@ use Rattle.std.specs.Prelude.{◌≡◌, ℕ, ◌↔◌, List, [], ◌∷◌, �
 use Rattle.tardis_base.specs.declared.ids.StateId.{StateId}
 use Rattle.tardis_base.specs.declared.records.Record.{Record}
 use Rattle.tardis_base.specs.declared.records.Write.{Write}
+use Rattle.tardis_base.specs.declared.records.Item.TheVariants.{State}
+use Rattle.tardis_base.specs.declared.requests.Begin.{Begin as BeginAt}
 use Rattle.tardis_base.specs.declared.requests.Begin.TheVariants.{Any, Ancestor, Parent}
 use Rattle.tardis_base.specs.declared.requests.EndFlags.{EndFlags}
-use Rattle.tardis_base.specs.declared.requests.Request.TheVariants.{Begin, Get, Commit}
+use Rattle.tardis_base.specs.declared.requests.Request.TheVariants.{Begin, Get, GetFor, Commit, Deliver}
 use Rattle.tardis_base.specs.declared.replies.Reply.{Reply}
-use Rattle.tardis_base.specs.declared.replies.Reply.TheVariants.{Begun, Committed}
-use Rattle.tardis_base.specs.Ids.{root}
+use Rattle.tardis_base.specs.declared.replies.Reply.TheVariants.{Begun, Committed, Ended, Applied}
+use Rattle.tardis_base.specs.Ids.{root, is_among}
 use Rattle.tardis_base.specs.Keys.{has_key, write_of}
 use Rattle.plain_dag.specs.States.{is_known, record_at}
 use Rattle.plain_dag.specs.Above.{is_above, is_proper_ancestor}
 use Rattle.plain_dag.specs.Writers.{is_writer, are_above, read}
 use Rattle.plain_dag.specs.Conflicts.{is_conflict_key, value_over}
 use Rattle.plain_dag.specs.Begin.{last_arrived}
+use Rattle.plain_dag.specs.Floors.{Session}
 use Rattle.plain_dag.specs.Landing.{is_ser, is_si}
 use Rattle.plain_site.specs.Site.{Site}
-use Rattle.plain_site.specs.Answers.{leaves_site, shown}
+use Rattle.plain_site.specs.Answers.{leaves_site, shown, found}
 use Rattle.plain_site.specs.RowWords.{Line, ◌asks◌=>◌}
-use Rattle.plain_site.specs.ClientRuns.{Service, IsRun, Told, told, is_shown, site_after, history, last_commit, ReadsShow}
+use Rattle.plain_site.specs.ClientRuns.{Service, IsRun, Told, told, is_shown, site_after, history, told_session, ReadsShow}
 
 -- ===== Commits among lines
 
--- a commit of the actor, whatever came before and after
-abbrev pub committing : List Line → ℕ → EndFlags → ℕ → StateId → List StateId → List Line → List Line
-committing newer n flags k x parents older = newer ++ (n asks Commit flags k => Committed x parents) ∷ older
+-- a commit that was done: by which actor, with which end constraints, as which state, and below which parents
+pub record DoneCommit : Type 0 where
+  pub actor : ℕ
+  pub flags : EndFlags
+  pub k : ℕ
+  pub state : StateId
+  pub parents : List StateId
+
+-- its line
+abbrev pub as_line : DoneCommit → Line
+as_line c = c.actor asks Commit c.flags c.k => Committed c.state c.parents
 
 -- ===== Each transaction reads one snapshot
 
--- however long a transaction runs, each of its reads shows the value over its read states; where that is one state, it
--- shows what is read there
-pub record ReadsOneSnapshot (service : Service) : Type 0 where
-  pub of_several : (start : Site) (lines : List Line) (n : ℕ) (t : Told) → IsRun service start lines → told n lines ≡ Some t →
-      ReadsShow (value_over (history service start lines) t.states) t.reads
-  pub of_one : (start : Site) (lines : List Line) (n : ℕ) (t : Told) (s : StateId) → IsRun service start lines → told n lines ≡ Some t → t.states ≡ s ∷ [] →
-      ReadsShow (λ key. read (history service start lines) key s) t.reads
+-- however long a transaction runs, each of its reads shows the value over its read states
+abbrev pub ReadsOneSnapshot : Service → Type 0
+ReadsOneSnapshot service =
+    (start : Site) (lines : List Line) (n : ℕ) (t : Told) → IsRun service start lines → told n lines ≡ Some t → ReadsShow (value_over (history lines) t.states) t.reads
+
+-- where it reads at one state, it is shown what is read there
+abbrev pub ReadsAtItsState : Service → Type 0
+ReadsAtItsState service =
+    (start : Site) (lines : List Line) (n : ℕ) (t : Told) (s : StateId) → IsRun service start lines → told n lines ≡ Some t → t.states ≡ s ∷ [] →
+    ReadsShow (λ key. read (history lines) key s) t.reads
+
+-- a Get of a key that the transaction wrote is shown what it wrote last; the root stands for its writer
+abbrev pub OwnWritesAreRead : Service → Type 0
+OwnWritesAreRead service =
+    (start : Site) (older : List Line) (n : ℕ) (key : List ℕ) (w : Write) (reply : Reply) (t : Told) →
+    IsRun service start (n asks Get key => reply ∷ older) → told n older ≡ Some t → write_of key t.writes ≡ Some w → IsTrue (is_shown reply) →
+    reply ≡ shown root w
+
+-- a merge's GetFor shows what is read at the one of its read states that it names
+abbrev pub MergesShowEachSide : Service → Type 0
+MergesShowEachSide service =
+    (start : Site) (older : List Line) (n : ℕ) (key : List ℕ) (x : StateId) (reply : Reply) →
+    IsRun service start (n asks GetFor key x => reply ∷ older) → IsTrue (is_shown reply) →
+    (t : Told) × (told n older ≡ Some t) × IsTrue t.merges × IsTrue (is_among x t.states) × (reply ≡ found (read (history older) key x))
+
+-- a transaction that wrote nothing ends at the one state that it read, and each of its reads shows what is read there
+abbrev pub ReadersEndWhereTheyRead : Service → Type 0
+ReadersEndWhereTheyRead service =
+    (start : Site) (older : List Line) (n : ℕ) (flags : EndFlags) (k : ℕ) (x : StateId) →
+    IsRun service start (n asks Commit flags k => Ended x ∷ older) →
+    (t : Told) × (told n older ≡ Some t) × (t.states ≡ x ∷ []) × (t.writes ≡ []) × ReadsShow (λ key. read (history older) key x) t.reads
 
 -- ===== Each serializable transaction has read what its place in its branch shows
 
 -- a transaction that commits with SER has one parent p, and each of its reads shows what is read at p at its commit
 abbrev pub SerializableReadsHold : Service → Type 0
 SerializableReadsHold service =
-    (start : Site) (older : List Line) (n : ℕ) (flags : EndFlags) (k : ℕ) (x : StateId) (parents : List StateId) →
-    IsRun service start (n asks Commit flags k => Committed x parents ∷ older) → IsTrue (is_ser flags) →
-    (t : Told) × (p : StateId) × (told n older ≡ Some t) × (parents ≡ p ∷ []) × ReadsShow (λ key. read (history service start older) key p) t.reads
+    (start : Site) (older : List Line) (c : DoneCommit) →
+    IsRun service start (as_line c ∷ older) → IsTrue (is_ser c.flags) →
+    (t : Told) × (p : StateId) × (told c.actor older ≡ Some t) × (c.parents ≡ p ∷ []) × ReadsShow (λ key. read (history older) key p) t.reads
 
 -- these records, newest first, are the branch from the root down to x: each state has the next of them as its only parent
 abbrev pub IsBranch : List Record → List Record → StateId → Type 0
@@ -59,22 +94,21 @@ one_after_another (r ∷ before) key =
     let older = one_after_another before key in
     elim (write_of key r.writes) [ Some w ↦ Some (r.id, w) | None ↦ older ]
 
--- the transaction made the state x by its commit with these end constraints, among these lines
-abbrev pub HasMade : List Line → StateId → EndFlags → Told → Type 0
-HasMade lines x flags t =
-    (newer : List Line) × (older : List Line) × (n : ℕ) × (k : ℕ) × (parents : List StateId)
-    × (lines ≡ committing newer n flags k x parents older) × (told n older ≡ Some t)
+-- among these lines is the transaction's commit
+abbrev pub HasCommitted : List Line → DoneCommit → Told → Type 0
+HasCommitted lines c t = (newer : List Line) × (older : List Line) × (lines ≡ newer ++ as_line c ∷ older) × (told c.actor older ≡ Some t)
 
 -- done one after another in the order of the branch, its serializable transactions read what they did read
 abbrev pub IsSerial : List Line → List Record → Type 0
 IsSerial lines [] = Unit {0}
 IsSerial lines (r ∷ before) =
-    ((flags : EndFlags) (t : Told) → HasMade lines r.id flags t → IsTrue (is_ser flags) → ReadsShow (one_after_another before) t.reads) × IsSerial lines before
+    ((c : DoneCommit) (t : Told) → HasCommitted lines c t → c.state ≡ r.id → IsTrue (is_ser c.flags) → ReadsShow (one_after_another before) t.reads)
+    × IsSerial lines before
 
 -- so each branch is a serial history of its serializable transactions
 abbrev pub BranchesAreSerial : Service → Type 0
 BranchesAreSerial service =
-    (start : Site) (lines : List Line) (branch : List Record) (x : StateId) → IsRun service start lines → IsBranch (history service start lines) branch x →
+    (start : Site) (lines : List Line) (branch : List Record) (x : StateId) → IsRun service start lines → IsBranch (history lines) branch x →
     IsSerial lines branch
 
 -- ===== Snapshot transactions overwrite nothing that they haven't seen
@@ -83,68 +117,89 @@ BranchesAreSerial service =
 -- what writes a key of its writes and is at or above p is at or above s
 abbrev pub SnapshotsOverwriteNothingUnseen : Service → Type 0
 SnapshotsOverwriteNothingUnseen service =
-    (start : Site) (older : List Line) (n : ℕ) (flags : EndFlags) (k : ℕ) (x : StateId) (parents : List StateId) →
-    IsRun service start (n asks Commit flags k => Committed x parents ∷ older) → IsTrue (is_si flags) →
-    (t : Told) × (s : StateId) × (p : StateId) × (told n older ≡ Some t) × (t.states ≡ s ∷ []) × (parents ≡ p ∷ [])
-    × ReadsShow (λ key. read (history service start older) key s) t.reads
-    × ((key : List ℕ) (w : StateId) → IsTrue (has_key key t.writes) → IsTrue (is_writer (history service start older) key p w) → IsTrue (is_above (history service start older) w s))
+    (start : Site) (older : List Line) (c : DoneCommit) →
+    IsRun service start (as_line c ∷ older) → IsTrue (is_si c.flags) →
+    let rs = history older in
+    (t : Told) × (s : StateId) × (p : StateId) × (told c.actor older ≡ Some t) × (t.states ≡ s ∷ []) × (c.parents ≡ p ∷ [])
+    × ReadsShow (λ key. read rs key s) t.reads
+    × ((key : List ℕ) (w : StateId) → IsTrue (has_key key t.writes) → IsTrue (is_writer rs key p w) → IsTrue (is_above rs w s))
 
 -- ===== Nothing committed is lost
+
+-- the history of the site is what the lines tell: the root, what was committed, and what was applied
+abbrev pub HistoryIsTold : Service → Type 0
+HistoryIsTold service = (start : Site) (lines : List Line) → IsRun service start lines → (site_after service start lines).dag ≡ history lines
 
 -- whatever came after a commit: its state has its parents, and what the transaction wrote
 abbrev pub CommitsAreKept : Service → Type 0
 CommitsAreKept service =
-    (start : Site) (newer older : List Line) (n : ℕ) (flags : EndFlags) (k : ℕ) (x : StateId) (parents : List StateId) →
-    let lines = committing newer n flags k x parents older in
+    (start : Site) (newer older : List Line) (c : DoneCommit) →
+    let lines = newer ++ as_line c ∷ older in
     IsRun service start lines →
-    (t : Told) × (told n older ≡ Some t) × (record_at (history service start lines) x ≡ Some (record { id = x; parents = parents; writes = t.writes }))
+    (t : Told) × (told c.actor older ≡ Some t) × (record_at (history lines) c.state ≡ Some (record { id = c.state; parents = c.parents; writes = t.writes }))
 
--- a key that it wrote shows that at each state at or below it, until one below it and at or above that state writes the key
+-- and a record of another site is kept from when it was applied
+abbrev pub DeliveriesAreKept : Service → Type 0
+DeliveriesAreKept service =
+    (start : Site) (newer older : List Line) (n : ℕ) (r : Record) →
+    let lines = newer ++ (n asks Deliver (State r) => Applied) ∷ older in
+    IsRun service start lines → record_at (history lines) r.id ≡ Some r
+
+-- a key that a commit wrote shows that at each state at or below it, until one below it and at or above that state writes the key
 abbrev pub CommitsAreShown : Service → Type 0
 CommitsAreShown service =
-    (start : Site) (newer older : List Line) (n : ℕ) (flags : EndFlags) (k : ℕ) (x : StateId) (parents : List StateId) (t : Told) →
-    let lines = committing newer n flags k x parents older in
-    let rs = history service start lines in
-    IsRun service start lines → told n older ≡ Some t →
-    (key : List ℕ) (w : Write) (y : StateId) → write_of key t.writes ≡ Some w → IsTrue (is_known rs y) → IsTrue (is_above rs x y) →
-    ((z : StateId) → IsTrue (is_proper_ancestor rs x z) → IsTrue (is_writer rs key y z) → ⊥) →
-    read rs key y ≡ Some (x, w)
+    (start : Site) (newer older : List Line) (c : DoneCommit) (t : Told) →
+    let lines = newer ++ as_line c ∷ older in
+    let rs = history lines in
+    IsRun service start lines → told c.actor older ≡ Some t →
+    (key : List ℕ) (w : Write) (y : StateId) → write_of key t.writes ≡ Some w → IsTrue (is_known rs y) → IsTrue (is_above rs c.state y) →
+    ((z : StateId) → IsTrue (is_proper_ancestor rs c.state z) → IsTrue (is_writer rs key y z) → ⊥) →
+    read rs key y ≡ Some (c.state, w)
 
--- a key that it didn't write shows the one value over its parents, of which the key is no conflict key
+-- a key that a commit didn't write shows the one value over its parents, of which the key is no conflict key
 abbrev pub OtherKeysAreJoined : Service → Type 0
 OtherKeysAreJoined service =
-    (start : Site) (newer older : List Line) (n : ℕ) (flags : EndFlags) (k : ℕ) (x : StateId) (parents : List StateId) (t : Told) →
-    let lines = committing newer n flags k x parents older in
-    let rs = history service start lines in
-    IsRun service start lines → told n older ≡ Some t →
-    (key : List ℕ) → IsFalse (has_key key t.writes) → IsFalse (is_conflict_key rs parents key) × (read rs key x ≡ value_over rs parents key)
+    (start : Site) (newer older : List Line) (c : DoneCommit) (t : Told) →
+    let lines = newer ++ as_line c ∷ older in
+    let rs = history lines in
+    IsRun service start lines → told c.actor older ≡ Some t →
+    (key : List ℕ) → IsFalse (has_key key t.writes) → IsFalse (is_conflict_key rs c.parents key) × (read rs key c.state ≡ value_over rs c.parents key)
 
--- its state is at or below each state that the transaction read, and of a merge these are its parents
+-- a commit's state is at or below each state that its transaction read, and of a merge these are its parents
 abbrev pub CommitsJoinWhatTheyRead : Service → Type 0
 CommitsJoinWhatTheyRead service =
-    (start : Site) (newer older : List Line) (n : ℕ) (flags : EndFlags) (k : ℕ) (x : StateId) (parents : List StateId) (t : Told) →
-    let lines = committing newer n flags k x parents older in
-    IsRun service start lines → told n older ≡ Some t →
-    IsTrue (are_above (history service start lines) t.states x) × (IsTrue t.merges → parents ≡ t.states)
+    (start : Site) (newer older : List Line) (c : DoneCommit) (t : Told) →
+    let lines = newer ++ as_line c ∷ older in
+    IsRun service start lines → told c.actor older ≡ Some t →
+    IsTrue (are_above (history lines) t.states c.state) × (IsTrue t.merges → c.parents ≡ t.states)
 
 -- ===== Sessions read their own commits
 
--- a Get of a key that the transaction wrote is shown what it wrote last; the root stands for its writer
-abbrev pub OwnWritesAreRead : Service → Type 0
-OwnWritesAreRead service =
-    (start : Site) (older : List Line) (n : ℕ) (key : List ℕ) (w : Write) (reply : Reply) (t : Told) →
-    IsRun service start (n asks Get key => reply ∷ older) → told n older ≡ Some t → write_of key t.writes ≡ Some w → IsTrue (is_shown reply) →
-    reply ≡ shown root w
+-- Parent begins at the session's last commit
+abbrev pub ParentReadsTheLastCommit : Service → Type 0
+ParentReadsTheLastCommit service =
+    (start : Site) (older : List Line) (n : ℕ) (x : StateId) → IsRun service start (n asks Begin Parent => Begun x ∷ older) →
+    (s : Session) × (told_session n older ≡ Some s) × (x ≡ s.last)
 
--- Parent begins at the session's last commit, Ancestor at or below it, and Any exactly where the state that arrived last is:
--- with any of them a session reads its own commit, with Any as far as the last-arrived state is at or below it
-pub record SessionsReadTheirCommits (service : Service) : Type 0 where
-  pub parent : (start : Site) (older : List Line) (n : ℕ) (s : StateId) → IsRun service start (n asks Begin Parent => Begun s ∷ older) → s ≡ last_commit n older
-  pub ancestor : (start : Site) (older : List Line) (n : ℕ) (s : StateId) → IsRun service start (n asks Begin Ancestor => Begun s ∷ older) →
-      IsTrue (is_above (history service start older) (last_commit n older) s)
-  pub any : (start : Site) (older : List Line) (n : ℕ) (s : StateId) → IsRun service start (n asks Begin Any => Begun s ∷ older) →
-      IsTrue (is_above (history service start older) (last_commit n older) s)
-      ↔ IsTrue (is_above (history service start older) (last_commit n older) (last_arrived (history service start older)))
+-- Ancestor begins at or below it
+abbrev pub AncestorReadsTheLastCommit : Service → Type 0
+AncestorReadsTheLastCommit service =
+    (start : Site) (older : List Line) (n : ℕ) (x : StateId) → IsRun service start (n asks Begin Ancestor => Begun x ∷ older) →
+    (s : Session) × (told_session n older ≡ Some s) × IsTrue (is_above (history older) s.last x)
+
+-- and Any exactly where the state that arrived last is at or below it
+abbrev pub AnyReadsTheLastCommit : Service → Type 0
+AnyReadsTheLastCommit service =
+    (start : Site) (older : List Line) (n : ℕ) (x : StateId) → IsRun service start (n asks Begin Any => Begun x ∷ older) →
+    let rs = history older in
+    (s : Session) × (told_session n older ≡ Some s) × (IsTrue (is_above rs s.last x) ↔ IsTrue (is_above rs s.last (last_arrived rs)))
+
+-- wherever it is told to begin, a session never reads above its ceiling, which with follow goes down to each of its
+-- commits that is below it
+abbrev pub SessionsStayUnderCeilings : Service → Type 0
+SessionsStayUnderCeilings service =
+    (start : Site) (older : List Line) (n : ℕ) (b : BeginAt) (x : StateId) → IsRun service start (n asks Begin b => Begun x ∷ older) →
+    (s : Session) × (told_session n older ≡ Some s) × IsFalse (is_proper_ancestor (history older) x s.ceiling)
 
 -- ===== Refusals promise nothing hidden
 

@@ -5,14 +5,16 @@ use Rattle.tardis_base.specs.declared.ids.StateId.{StateId}
 use Rattle.tardis_base.specs.declared.records.Record.{Record}
 use Rattle.tardis_base.specs.declared.records.Write.{Write}
 use Rattle.tardis_base.specs.declared.records.Write.TheVariants.{Put as Value, Delete as Deletion}
+use Rattle.tardis_base.specs.declared.records.Item.TheVariants.{State}
 use Rattle.tardis_base.specs.declared.requests.Request.{Request}
-use Rattle.tardis_base.specs.declared.requests.Request.TheVariants.{Open, Begin, Get, Put, Delete, Commit, Abort, BeginMerge, Close}
+use Rattle.tardis_base.specs.declared.requests.Request.TheVariants.{Open, Begin, Get, Put, Delete, Commit, Abort, BeginMerge, Ceiling, Deliver, Close}
 use Rattle.tardis_base.specs.declared.replies.Reply.{Reply}
-use Rattle.tardis_base.specs.declared.replies.Reply.TheVariants.{Opened, Begun, Merging, Value as Holds, Deleted, Absent, Done, Committed, Ended, Closed, NoMemory}
-use Rattle.tardis_base.specs.Ids.{root}
+use Rattle.tardis_base.specs.declared.replies.Reply.TheVariants.{Opened, Begun, Merging, Value as Holds, Deleted, Absent, Done, Committed, Ended, Applied, Closed, NoMemory}
 use Rattle.tardis_base.specs.Keys.{KeyWrite, has_key, with_write}
 use Rattle.tardis_base.specs.Valid.{is_u16, is_within, are_limits}
 use Rattle.wire_talk.specs.Valid.{is_request}
+use Rattle.plain_dag.specs.States.{root_record}
+use Rattle.plain_dag.specs.Floors.{Session, opening_session, after_commit, with_ceiling}
 use Rattle.plain_site.specs.Site.{Site, opening}
 use Rattle.plain_site.specs.Answers.{Answer, found}
 use Rattle.plain_site.specs.RowWords.{Line}
@@ -36,10 +38,6 @@ after_line service site line = if wants_memory line.reply then site else (servic
 abbrev pub site_after : Service → Site → List Line → Site
 site_after service start [] = start
 site_after service start (line ∷ older) = after_line service (site_after service start older) line
-
--- the history after these lines
-abbrev pub history : Service → Site → List Line → List Record
-history service start lines = (site_after service start lines).dag
 
 -- the actor and the request are such as bytes can spell
 abbrev pub is_asked : Line → Bool
@@ -115,17 +113,32 @@ abbrev pub ReadsShow : (List ℕ → Option (StateId × Write)) → List (List �
 ReadsShow shows [] = Unit {0}
 ReadsShow shows (got ∷ earlier) = (got.1 ≡ found (shows got.0)) × ReadsShow shows earlier
 
--- ===== What they tell of its session
+-- ===== What the lines tell of the history
 
--- one more request of the actor and its reply
-abbrev pub newest_commit : Request → Reply → StateId → StateId
-newest_commit (Open follow) (Opened ceiling) x = root
-newest_commit (Commit flags k) (Committed y parents) x = y
-newest_commit _ _ x = x
+-- one more request of an actor and its reply, where its transaction was this one
+abbrev pub regrown : Request → Reply → Option Told → List Record → List Record
+regrown (Commit flags k) (Committed x parents) (Some t) rs = record { id = x; parents = parents; writes = t.writes } ∷ rs
+regrown (Deliver (State r)) Applied t rs = r ∷ rs
+regrown _ _ _ rs = rs
 
--- what the session of the actor committed last, since it opened; before that the root
-abbrev pub last_commit : ℕ → List Line → StateId
-last_commit n [] = root
-last_commit n (line ∷ older) =
-    let before = last_commit n older in
-    if line.actor == n then newest_commit line.request line.reply before else before
+-- the history: the root, what was committed, and what was applied
+abbrev pub history : List Line → List Record
+history [] = root_record ∷ []
+history (line ∷ older) = regrown line.request line.reply (told line.actor older) (history older)
+
+-- ===== What they tell of the session of an actor
+
+-- one more request of the actor and its reply, where this is the history afterwards
+abbrev pub resession : List Record → Request → Reply → Option Session → Option Session
+resession rs (Open follow) (Opened ceiling) s = Some (opening_session follow ceiling)
+resession rs (Ceiling x) Done s = option_map (with_ceiling x) s
+resession rs (Commit flags k) (Committed x parents) s = option_map (after_commit rs x) s
+resession rs Close Closed s = None
+resession _ _ _ s = s
+
+-- the actor's open session: whether it follows, its ceiling, and what it committed last
+abbrev pub told_session : ℕ → List Line → Option Session
+told_session n [] = None
+told_session n (line ∷ older) =
+    let before = told_session n older in
+    if line.actor == n then resession (history (line ∷ older)) line.request line.reply before else before

@@ -25,5 +25,7 @@ pub mod RowsOfLandings
 pub mod RowsOfOperations
 pub mod RowsOfWideMerges
 pub mod ClientRuns
+pub mod EventRuns
 pub mod ClientLaws
 pub mod WrongSteps
+pub mod RowsOfClients

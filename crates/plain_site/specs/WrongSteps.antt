@@ -1,18 +1,26 @@
 -- Wrong steps, and runs in which they break the laws: so each law says something.
-use Rattle.std.specs.Prelude.{ℕ, ◌+◌, not, List, [], ◌∷◌, take, filter, if◌then◌else◌}
-use Rattle.tardis_base.specs.declared.requests.Request.TheVariants.{Get, Commit, Tidy, Raise}
+use Rattle.std.specs.Prelude.{◌+◌, not, List, [], ◌∷◌, take, filter, codes, if◌then◌else◌}
+use Rattle.tardis_base.specs.declared.ids.StateId.{StateId}
+use Rattle.tardis_base.specs.declared.records.Record.{Record}
+use Rattle.tardis_base.specs.declared.records.Write.TheVariants.{Put as Value}
+use Rattle.tardis_base.specs.declared.records.Item.TheVariants.{State}
+use Rattle.tardis_base.specs.declared.requests.Begin.TheVariants.{Any, Parent}
+use Rattle.tardis_base.specs.declared.requests.Request.TheVariants.{Begin, Get, GetFor, Commit, Tidy, Raise, Deliver}
 use Rattle.tardis_base.specs.declared.replies.Refusal.TheVariants.{NoTxn, Branches}
-use Rattle.tardis_base.specs.declared.replies.Reply.TheVariants.{Opened, Begun, Merging, Absent, Done, Committed, Raised, Tidied, Refused}
-use Rattle.tardis_base.specs.Ids.{is_among}
+use Rattle.tardis_base.specs.declared.replies.Reply.{Reply}
+use Rattle.tardis_base.specs.declared.replies.Reply.TheVariants.{Opened, Begun, Merging, Absent, Done, Committed, Ended, Raised, Tidied, Applied, Refused}
+use Rattle.tardis_base.specs.Ids.{root, is_among}
 use Rattle.plain_dag.specs.Begin.{last_arrived}
+use Rattle.plain_dag.specs.Entries.{changed}
+use Rattle.plain_dag.specs.Floors.{with_ceiling}
 use Rattle.plain_dag.specs.Writers.{read}
-use Rattle.plain_site.specs.Site.{Txn, Single, Merge, read_states, writes_of, with_txn_changed}
+use Rattle.plain_site.specs.Site.{Site, opening, Txn, Single, Merge, read_states, writes_of, with_txn_changed}
 use Rattle.plain_site.specs.Built.{everything}
 use Rattle.plain_site.specs.Answers.{Answer, found, leaves_site, with_txn}
 use Rattle.plain_site.specs.Reads.{read_in}
 use Rattle.plain_site.specs.Commits.{without_txn_of, commit_below}
 use Rattle.plain_site.specs.Step.{step}
-use Rattle.plain_site.specs.RowWords.{Line, ◌·◌, ◌asks◌=>◌, opens, opens_following, begin_any, begin_parent, get, put, none, ser, si, nb, commit, merge_leaves, value}
+use Rattle.plain_site.specs.RowWords.{Line, program_limits, ◌·◌, ◌asks◌=>◌, opens, opens_following, begin_any, begin_ancestor, begin_parent, begin_at, get, get_for, put, none, ser, si, nb, commit, merge_leaves, value}
 use Rattle.plain_site.specs.ClientRuns.{Service}
 
 -- the service breaks the law
@@ -45,6 +53,11 @@ abbrev pub forgets_own_writes : Service
 forgets_own_writes site n (Get k) = with_txn site n (λ s t. read_in site n t k)
 forgets_own_writes site n q = step everything site n q
 
+-- a GetFor is answered at the state that arrived last
+abbrev pub shows_newest_side : Service
+shows_newest_side site n (GetFor k x) = ((step everything site n (GetFor k x)).0, found (read site.dag k (last_arrived site.dag)))
+shows_newest_side site n q = step everything site n q
+
 -- the records of collected states are forgotten
 abbrev pub without_collected : Answer → Answer
 without_collected answer = (record answer.0 { dag = filter (λ r. not (is_among r.id answer.0.collected)) answer.0.dag }, answer.1)
@@ -52,6 +65,22 @@ without_collected answer = (record answer.0 { dag = filter (λ r. not (is_among 
 abbrev pub forgets_collected : Service
 forgets_collected site n (Tidy count) = without_collected (step everything site n (Tidy count))
 forgets_collected site n q = step everything site n q
+
+-- a record of another site isn't kept
+abbrev pub forgets_deliveries : Service
+forgets_deliveries site n (Deliver item) = (site, Applied)
+forgets_deliveries site n q = step everything site n q
+
+abbrev pub moved_end : StateId → Reply → Reply
+moved_end x (Ended y) = Ended x
+moved_end x reply = reply
+
+-- a transaction without writes is said to end at the state that arrived last
+abbrev pub ends_at_newest : Service
+ends_at_newest site n (Commit flags k) =
+    let answer = step everything site n (Commit flags k) in
+    (answer.0, moved_end (last_arrived site.dag) answer.1)
+ends_at_newest site n q = step everything site n q
 
 -- a commit goes just below the read states, and no conflict key has to be written
 abbrev pub leaves_conflicts : Service
@@ -73,6 +102,18 @@ forgets_commits site n (Commit flags k) =
     let answer = step everything site n (Commit flags k) in
     (record answer.0 { sessions = site.sessions }, answer.1)
 forgets_commits site n q = step everything site n q
+
+-- Any begins at the session's last commit
+abbrev pub stays_with_own : Service
+stays_with_own site n (Begin Any) = step everything site n (Begin Parent)
+stays_with_own site n q = step everything site n q
+
+-- a transaction begins as if its session had the root as its ceiling
+abbrev pub forgets_ceilings : Service
+forgets_ceilings site n (Begin b) =
+    let answer = step everything (record site { sessions = changed n (with_ceiling root) site.sessions }) n (Begin b) in
+    (record answer.0 { sessions = site.sessions }, answer.1)
+forgets_ceilings site n q = step everything site n q
 
 -- a commit that is refused ends its transaction
 abbrev pub ends_refused : Service
@@ -122,12 +163,49 @@ own_write_missed = 1 asks get "y" => Absent ∷ raced
 abbrev pub own_commit_missed : List Line
 own_commit_missed = 2 asks begin_parent => Begun (0 · 0) ∷ raced
 
+-- 1 makes 1.2 beside 1.1
+abbrev pub forked : List Line
+forked = 1 asks commit ser => Committed (1 · 2) (0 · 0 ∷ []) ∷ raced
+
+-- 2 begins where the root is the ancestor
+abbrev pub other_branch_read : List Line
+other_branch_read = 2 asks begin_ancestor => Begun (1 · 2) ∷ forked
+
+-- 2 begins at its own commit, though 1.2 arrived last
+abbrev pub newest_missed : List Line
+newest_missed = 2 asks begin_any => Begun (1 · 1) ∷ forked
+
 -- 1 may not branch, and then has no transaction
 abbrev pub refused_commit : Line
 refused_commit = 1 asks commit (ser + nb) => Refused (Branches nb (0 · 0) 1)
 
 abbrev pub commit_after_refusal : Line
 commit_after_refusal = 1 asks commit none => Refused NoTxn
+
+-- 3 reads at the root, and is said to end at 1.1
+abbrev pub begun_three : List Line
+begun_three =
+    3 asks get "x" => Absent
+    ∷ 3 asks begin_at (0 · 0) => Begun (0 · 0)
+    ∷ 3 asks opens => Opened (0 · 0)
+    ∷ raced
+
+abbrev pub ended_elsewhere : List Line
+ended_elsewhere = 3 asks commit ser => Ended (1 · 1) ∷ begun_three
+
+-- the first of two sites, and a record of the second that it took
+abbrev pub first_site : Site
+first_site = opening (program_limits 2) 1
+
+abbrev pub of_second_site : Record
+of_second_site = record { id = 2 · 1; parents = 0 · 0 ∷ []; writes = [] }
+
+abbrev pub delivered : Line
+delivered = 0 asks Deliver (State of_second_site) => Applied
+
+-- another record under the same id, taken too
+abbrev pub delivered_again : Line
+delivered_again = 0 asks Deliver (State (record of_second_site { writes = (codes "x", Value (codes "1")) ∷ [] })) => Applied
 
 -- what came after 2 made 1.1, where 1 wrote x too: 1 makes 1.2 beside it and merges the two as 1.3, though both wrote x
 abbrev pub after_conflict : List Line
@@ -142,23 +220,40 @@ after_conflict =
 abbrev pub merging_both : List Line
 merging_both =
     1 asks merge_leaves => Merging (1 · 1 ∷ 1 · 2 ∷ [])
-    ∷ 1 asks commit ser => Committed (1 · 2) (0 · 0 ∷ [])
-    ∷ raced
+    ∷ forked
+
+-- for the side of 1.1 it is shown that of 1.2
+abbrev pub other_side_shown : List Line
+other_side_shown = 1 asks get_for "x" (1 · 1) => Absent ∷ merging_both
 
 -- a following session makes 1.1 ..
-abbrev pub put_before_collection : List Line
-put_before_collection =
-    1 asks put "x" "1" => Done
+abbrev pub followed : List Line
+followed =
+    1 asks commit none => Committed (1 · 1) (0 · 0 ∷ [])
+    ∷ 1 asks put "x" "1" => Done
     ∷ 1 asks begin_any => Begun (0 · 0)
     ∷ 1 asks opens_following => Opened (0 · 0)
     ∷ []
 
--- .. and 1.2 below it, and 1.1 is closed and collected
-abbrev pub collected_after : List Line
-collected_after =
-    0 asks Tidy 1 => Tidied 1
-    ∷ 0 asks Raise (1 · 2) => Raised (1 · 2) 1
-    ∷ 1 asks commit none => Committed (1 · 2) (1 · 1 ∷ [])
-    ∷ 1 asks put "x" "2" => Done
+-- .. and reads at the root again
+abbrev pub read_above : List Line
+read_above = 1 asks begin_at (0 · 0) => Begun (0 · 0) ∷ followed
+
+-- .. and writes x again
+abbrev pub written_again : List Line
+written_again =
+    1 asks put "x" "2" => Done
     ∷ 1 asks begin_any => Begun (1 · 1)
-    ∷ []
+    ∷ followed
+
+-- after it made 1.2, 1.1 is closed and collected
+abbrev pub collected : List Line
+collected = 0 asks Tidy 1 => Tidied 1 ∷ 0 asks Raise (1 · 2) => Raised (1 · 2) 1 ∷ []
+
+-- and what it makes next is called 1.2 too
+abbrev pub name_given_twice : List Line
+name_given_twice =
+    1 asks commit none => Committed (1 · 2) (1 · 2 ∷ [])
+    ∷ 1 asks put "x" "3" => Done
+    ∷ 1 asks begin_any => Begun (1 · 2)
+    ∷ collected

@@ -1,5 +1,7 @@
+use Rattle.client_laws.proofs.Ends.{deliveries-are-kept}
+use Rattle.client_laws.proofs.Held.{history-is-told}
 use Rattle.client_laws.proofs.Kept.{commits-are-kept, commits-are-shown, commits-join-what-they-read, other-keys-are-joined}
-use Rattle.client_laws.proofs.Wrong.{forgotten-records-break, open-conflicts-break, dropped-sides-break, open-conflicts-break-joins}
+use Rattle.client_laws.proofs.Wrong.{forgotten-records-break-history, forgotten-deliveries-break, forgotten-records-break, open-conflicts-break, dropped-sides-break, open-conflicts-break-joins}
 use Rattle.client_laws.proofs.nothing_committed_is_lost.Goals as goal
 
 pub returns-clause-kept : goal.returns-clause-kept
@@ -25,3 +27,15 @@ returns-clause-dropped_breaks c = dropped-sides-break
 
 pub returns-clause-conflicts_break_others : goal.returns-clause-conflicts_break_others
 returns-clause-conflicts_break_others c = open-conflicts-break-joins
+
+pub returns-clause-deliveries : goal.returns-clause-deliveries
+returns-clause-deliveries c = deliveries-are-kept
+
+pub returns-clause-forgotten_breaks_deliveries : goal.returns-clause-forgotten_breaks_deliveries
+returns-clause-forgotten_breaks_deliveries c = forgotten-deliveries-break
+
+pub returns-clause-history : goal.returns-clause-history
+returns-clause-history c = history-is-told
+
+pub returns-clause-forgotten_breaks_history : goal.returns-clause-forgotten_breaks_history
+returns-clause-forgotten_breaks_history c = forgotten-records-break-history
