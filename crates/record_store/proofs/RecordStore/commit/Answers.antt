@@ -5,7 +5,7 @@ use Rattle.version_list.specs.declared.histories.Version.{Version}
 use Rattle.version_list.specs.Versions.{versions_of, version_by, are_in_order}
 use Rattle.record_store.proofs.Adding.{order-stays, all-came_before}
 use Rattle.record_store.proofs.Holding.{still-held, short-of_memory, refused-by_table, added-to_both}
-use Rattle.record_store.proofs.RecordStore.add_state.Goals as goal
+use Rattle.record_store.proofs.RecordStore.commit.Goals as goal
 
 pub invariant_of-self : goal.invariant_of-self
 invariant_of-self c = still-held c.self.inside c.args.self.now c.self.view_is c.self.inside.dag c.reserve.new.self c.self.invariant refl c.reserve.ensures.same
