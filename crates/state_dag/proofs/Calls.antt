@@ -1,5 +1,6 @@
 -- What the calls read off the memory.
 use Rattle.std.proofs.Common.{◌≡◌, ℕ, ◌+◌, ◌-◌, ◌<◌, ◌≤◌, true, false, eqb, ltb, List, [], ◌∷◌, ◌++◌, length, map, find, get_or, slice_get, Option, Some, None, is_some, IsTrue, IfSome, refl, sym, ap, subst, ◌∙◌, arith, length-append}
+use Rattle.std.specs.List.{list_all}
 use Rattle.std.specs.Option.{option_map, option_map_or}
 use Rattle.std.proofs.lemmas.Bool.{and_parts, and_from, both_ways, false_from_ne_true, ltb-true}
 use Rattle.std.proofs.lemmas.Option.{none-some}
@@ -19,7 +20,9 @@ use Rattle.state_dag.specs.Views.{entries_from, place_of_id}
 use Rattle.state_dag.specs.Held.{seen}
 use Rattle.state_dag.specs.Stands.{Stands}
 use Rattle.state_dag.specs.Answers.{next_of, slot_after}
-use Rattle.state_dag.proofs.Places.{ids_from, entry-found, AllDiffer, find-beyond, length-ids, named-at, place-found, place-missing, find-some, next-named}
+use Rattle.state_dag.proofs.NodeLists.{entry-in}
+use Rattle.state_dag.proofs.LeafSlots.{AreFound}
+use Rattle.state_dag.proofs.Places.{ids_from, length-entries, entry-found, AllDiffer, find-beyond, length-ids, named-at, place-found, place-missing, find-some, next-named}
 use Rattle.state_dag.proofs.Known.{kept-is_listed, kept-differ, last-kept}
 
 -- ===== Numbers
@@ -152,3 +155,22 @@ place-arrives-earlier a table k is up some lt =
         let two = arrival-found a k d lt in
         let less = rising-at a.nodes.items 0 (k - 1) k d up (omega arith) lt in
         omega arith
+
+-- ===== Entries and slots of the memory
+
+-- each entry is found at its slot
+pub entries-found : (a : Inside) (table : Table) → seen a ≡ table → AreFound table table.entries
+entries-found a table is = subst (λ t. AreFound t t.entries) is (go a.nodes.items refl)
+  where
+    go : (ns : List Node) → a.nodes.items ≡ ns → AreFound (seen a) (entries_from 0 a.nodes.items)
+    go [] e = λ k d lt. (let l = ap length e in let long = length-entries a.nodes.items 0 in absurd (omega arith))
+    go (n ∷ ns) e = λ k d lt.
+        let long = length-entries a.nodes.items 0 in
+        let same = entry-in a.nodes.items k n d (omega arith) in
+        subst (λ (f : Entry). entry_at (seen a) f.slot ≡ Some f) (sym same) (entry-found a.nodes.items k n (omega arith))
+
+pub slots-of_places : (a : Inside) (table : Table) → seen a ≡ table → (ss : List Slot) → list_all (λ s. ltb s.0 (length a.nodes.items)) ss ≡ true → list_all (is_slot table) ss ≡ true
+slots-of_places a table is [] all = refl
+slots-of_places a table is (s ∷ ss) all =
+    let parts = and_parts (ltb s.0 (length a.nodes.items)) (list_all (λ (t : Slot). ltb t.0 (length a.nodes.items)) ss) all in
+    and_from (is_slot table s) (list_all (is_slot table) ss) (subst (λ t. is_slot t s ≡ true) is (slot-of_place a s.0 (ltb-true s.0 (length a.nodes.items) parts.0))) (slots-of_places a table is ss parts.1)

@@ -12,7 +12,6 @@ use Rattle.tardis_base.specs.declared.replies.Refusal.{Refusal}
 use Rattle.tardis_base.specs.declared.replies.Refusal.TheVariants.{Full as IsFull, PathFull as IsPathFull}
 use Rattle.tardis_base.specs.Valid.{are_limits}
 use Rattle.plain_dag.specs.States.{count_of_site}
-use Rattle.plain_dag.specs.Forks.{leaves}
 use Rattle.plain_dag.specs.Collection.{is_kept, kept_states}
 use Rattle.plain_dag.specs.Paths.{fork_path}
 use Rattle.plain_dag.specs.Growth.{growth_refusal}
@@ -27,7 +26,7 @@ use Rattle.state_dag.proofs.Known.{kept-is_listed, kept-newest, IsRecordOf, reco
 use Rattle.state_dag.proofs.NextState.{shared-next}
 use Rattle.state_dag.proofs.Refusals.{new-isnt_collected, refused}
 use Rattle.state_dag.proofs.GrownEntries.{ids-next, slots-next, shows-next}
-use Rattle.state_dag.proofs.GrownCounts.{new-site, counts-next, leaves-next}
+use Rattle.state_dag.proofs.GrownCounts.{new-site, counts-next}
 
 -- ===== Where nothing refuses
 
@@ -77,7 +76,6 @@ grows old new rs ks r parents slot stands may none g = record {
   counts = g.counts ∙ subst (λ l. slice_set old.counts (r.id.site - 1) (unwrap_or (slice_get old.counts (r.id.site - 1)) 0 + 1) ≡ map (count_of_site (r ∷ rs)) (range_with_len 1 l.sites)) (sym g.limits)
       (counts-next rs r old.limits.sites old.counts (new-site r parts.id parts.isnt_root) may.site stands.counts);
   known = g.known ∙ ap (λ n. n + 1) stands.known ∙ length-one rs;
-  leaf_count = leaf_count;
   ids = ids-next old new rs ks r parents slot stands may g;
   slots = slots-next old new rs ks r parents slot stands may g;
   shows = shows-next old new rs ks r parents slot stands may g;
@@ -105,10 +103,3 @@ grows old new rs ks r parents slot stands may none g = record {
           | inl lt ↦ absurd (both_ways (long x) out (lt-ltb old.limits.max_path (length (fork_path (r ∷ rs) ks x)) lt))
           | inr le ↦ le
         ]
-
-    leaf_count : new.leaves ≡ length (leaves (r ∷ rs))
-    leaf_count =
-        let next = leaves-next old rs ks r parents stands may in
-        let before = stands.leaf_count in
-        let told = g.leaves in
-        omega arith

@@ -1,28 +1,18 @@
 -- The numbers of a table that has grown.
-use Rattle.std.proofs.Common.{◌≡◌, ℕ, zero, suc, ◌+◌, ◌-◌, ◌<◌, ◌≤◌, Bool, true, false, cond, not, ◌||◌, ◌&&◌, eqb, List, [], ◌∷◌, ◌++◌, length, map, filter, slice_get, slice_set, Some, IsTrue, IsFalse, inl, inr, refl, sym, ap, ap₂, subst, ◌∙◌, eqb-true, eq-eqb, arith, length-append}
+use Rattle.std.proofs.Common.{◌≡◌, ℕ, zero, suc, ◌+◌, ◌-◌, ◌<◌, ◌≤◌, true, ◌||◌, ◌&&◌, eqb, List, [], ◌∷◌, length, map, slice_get, slice_set, IsTrue, IsFalse, inl, inr, refl, sym, ap, ap₂, subst, ◌∙◌, eqb-true, eq-eqb, arith, length-append}
 use Rattle.std.specs.Prelude.{unwrap_or, nat_le}
 use Rattle.std.specs.List.{list_any, range_with_len}
-use Rattle.std.proofs.lemmas.Bool.{and_parts, and_from, or_cases, cases_Bool, false_from_ne_true, not_from_false, leb-true, cond-true}
+use Rattle.std.proofs.lemmas.Bool.{and_parts, or_cases, cases_Bool, false_from_ne_true, not_from_false, leb-true}
 use Rattle.tardis_base.specs.declared.ids.StateId.{StateId}
-use Rattle.tardis_base.specs.declared.ids.Slot.{Slot}
 use Rattle.tardis_base.specs.declared.records.Record.{Record}
 use Rattle.tardis_base.specs.Ids.{root, same_id, is_among}
 use Rattle.tardis_base.specs.Valid.{is_u16, is_u32, is_id}
-use Rattle.plain_dag.specs.States.{arrived, children, count_of_site}
-use Rattle.plain_dag.specs.Forks.{is_leaf, leaves}
-use Rattle.plain_dag.proofs.Ids.{same_test, not-both, same_id-true, same_id_self, same_id_from}
-use Rattle.plain_dag.proofs.Histories.{dag-grows, next-fits, next-is-dag, newest-is-known, parent-is-known}
-use Rattle.plain_dag.proofs.Leaves.{leaf-is-childless, begins-at-leaves}
-use Rattle.plain_dag.proofs.Searches.{among-filter, filtered-passes, filter-agrees}
+use Rattle.plain_dag.specs.States.{children, count_of_site}
+use Rattle.plain_dag.specs.Forks.{is_leaf}
+use Rattle.plain_dag.proofs.Ids.{same_test, not-both}
+use Rattle.plain_dag.proofs.Leaves.{leaf-is-childless}
 use Rattle.plain_dag.proofs.States.{children-of-parent, children-before}
-use Rattle.state_dag.specs.Table.{Table, id_at}
-use Rattle.state_dag.specs.Stands.{Stands}
-use Rattle.state_dag.specs.Answers.{MayBeAdded}
-use Rattle.state_dag.specs.Grown.{number_of_children}
-use Rattle.state_dag.proofs.Known.{count-newest, count-other, known-is_arrived, filter-last, arrived-differ}
-use Rattle.state_dag.proofs.Counting.{Differ, filter-parts, differ-filter, all-of, no-more}
-use Rattle.state_dag.proofs.Branches.{states-differ}
-use Rattle.state_dag.proofs.ParentSlots.{children-at, apart-differ}
+use Rattle.state_dag.proofs.Known.{count-newest, count-other}
 
 -- ===== Counts
 
@@ -79,7 +69,7 @@ has-child (r ∷ rs) x m = elim (cases_Bool (is_among x r.parents)) [
 ]
 
 -- the states without children are the leaves
-childless-is_leaf : (rs : List Record) (x : StateId) → eqb (length (children rs x)) 0 ≡ is_leaf rs x
+pub childless-is_leaf : (rs : List Record) (x : StateId) → eqb (length (children rs x)) 0 ≡ is_leaf rs x
 childless-is_leaf rs x = same_test (eqb (length (children rs x)) 0) (is_leaf rs x) forth back
   where
     forth : IsTrue (eqb (length (children rs x)) 0) → IsTrue (is_leaf rs x)
@@ -90,71 +80,3 @@ childless-is_leaf rs x = same_test (eqb (length (children rs x)) 0) (is_leaf rs 
 
     back : IsTrue (is_leaf rs x) → IsTrue (eqb (length (children rs x)) 0)
     back leaf = eq-eqb (length (children rs x)) 0 (ap length (leaf-is-childless rs x leaf))
-
-module _ (table : Table) (P : Slot → Bool) (Q : StateId → Bool) (same : (s : Slot) (p : StateId) → id_at table s ≡ Some p → P s ≡ Q p) where
-  -- as many slots pass a test as states pass another one that says the same
-  filter-named : (ss : List Slot) (ps : List StateId) → map (id_at table) ss ≡ map (λ p. Some p) ps → length (filter P ss) ≡ length (filter Q ps)
-  filter-named [] [] named = refl
-  filter-named [] (p ∷ ps) named = absurd (let bad : ⊥ = cc in bad)
-  filter-named (s ∷ ss) [] named = absurd (let bad : ⊥ = cc in bad)
-  filter-named (s ∷ ss) (p ∷ ps) named =
-      let here : id_at table s ≡ Some p = cc in
-      let rest : map (id_at table) ss ≡ map (λ q. Some q) ps = cc in
-      let tests = same s p here in
-      let further = filter-named ss ps rest in
-      elim (cases_Bool (P s)) [
-        | inl t ↦ rw (t, sym tests ∙ t) (omega arith)
-        | inr f ↦ rw (f, sym tests ∙ f) further
-      ]
-
--- lists of states without repetition and with the same states are equally long
-same-length : (xs ys : List StateId) → Differ same_id xs → Differ same_id ys → ((x : StateId) → is_among x xs ≡ is_among x ys) → length xs ≡ length ys
-same-length xs ys d e same =
-    let few = no-more same_id same_id one xs ys d (all-of same_id same_id_self (λ x. is_among x ys) xs (λ x m. sym (same x) ∙ m)) in
-    let many = no-more same_id same_id one ys xs e (all-of same_id same_id_self (λ x. is_among x xs) ys (λ x m. same x ∙ m)) in
-    omega arith
-  where
-    one : (x z y : StateId) → IsTrue (same_id x y) → IsTrue (same_id z y) → IsTrue (same_id x z)
-    one x z y t u = same_id_from x z (same_id-true x y t ∙ sym (same_id-true z y u))
-
-module _ (table : Table) (rs : List Record) (ks : List StateId) (r : Record) (parents : List Slot) (stands : Stands table rs ks) (may : MayBeAdded table rs ks r parents) where
-  -- the old leaves that the new state takes are the leaves among its parents
-  taken-leaves : length (filter (λ x. is_among x r.parents && is_leaf rs x) (arrived rs)) ≡ length (filter (λ s. eqb (number_of_children table s) 0) parents)
-  taken-leaves =
-      same-length (filter both (arrived rs)) (filter (is_leaf rs) r.parents)
-      (differ-filter same_id both (arrived rs) (states-differ (arrived rs) (arrived-differ rs (dag-grows rs stands.dag))))
-      (differ-filter same_id (is_leaf rs) r.parents (apart-differ rs r.parents may.next.apart))
-      (λ x. same_test (is_among x (filter both (arrived rs))) (is_among x (filter (is_leaf rs) r.parents)) (there x) (back x))
-      ∙ sym (filter-named table (λ s. eqb (number_of_children table s) 0) (is_leaf rs) (λ s p named. ap (λ n. eqb n 0) (children-at table rs ks stands s p named) ∙ childless-is_leaf rs p) parents r.parents may.slots)
-    where
-      both : StateId → Bool
-      both x = is_among x r.parents && is_leaf rs x
-
-      there : (x : StateId) → IsTrue (is_among x (filter both (arrived rs))) → IsTrue (is_among x (filter (is_leaf rs) r.parents))
-      there x m =
-          let parts = and_parts (is_among x r.parents) (is_leaf rs x) (filtered-passes both (arrived rs) x m).1 in
-          among-filter (is_leaf rs) r.parents x parts.0 parts.1
-
-      back : (x : StateId) → IsTrue (is_among x (filter (is_leaf rs) r.parents)) → IsTrue (is_among x (filter both (arrived rs)))
-      back x m =
-          let parts = filtered-passes (is_leaf rs) r.parents x m in
-          among-filter both (arrived rs) x (known-is_arrived rs x (parent-is-known rs r x (next-fits rs r may.next) parts.0))
-          (and_from (is_among x r.parents) (is_leaf rs x) parts.0 parts.1)
-
-  -- the leaves afterwards are the others and the new state
-  pub leaves-next : length (leaves (r ∷ rs)) + length (filter (λ s. eqb (number_of_children table s) 0) parents) ≡ length (leaves rs) + 1
-  leaves-next =
-      let newest : is_leaf (r ∷ rs) r.id ≡ true = (begins-at-leaves (r ∷ rs) (next-is-dag rs r stands.dag may.next) r.id (newest-is-known rs r)).1 in
-      let last : leaves (r ∷ rs) ≡ filter (is_leaf (r ∷ rs)) (arrived rs) ++ r.id ∷ [] =
-      filter-last (is_leaf (r ∷ rs)) (arrived rs) r.id ∙ ap (λ xs. filter (is_leaf (r ∷ rs)) (arrived rs) ++ xs) (cond-true (is_leaf (r ∷ rs) r.id) (r.id ∷ []) [] newest) in
-      let one = ap length last ∙ length-append (filter (is_leaf (r ∷ rs)) (arrived rs)) (r.id ∷ []) in
-      let others : filter (is_leaf (r ∷ rs)) (arrived rs) ≡ filter (λ x. cond (is_among x r.parents) false (is_leaf rs x)) (arrived rs) =
-      filter-agrees (is_leaf (r ∷ rs)) (λ x. cond (is_among x r.parents) false (is_leaf rs x)) (arrived rs) (λ x m. leaf-is (is_among x r.parents) (list_any (λ q. is_among x q.parents) rs)) in
-      let count = ap length others in
-      let parts = filter-parts (is_leaf rs) (λ x. is_among x r.parents) (arrived rs) in
-      let taken = taken-leaves in
-      omega arith
-    where
-      leaf-is : (a b : Bool) → not (a || b) ≡ cond a false (not b)
-      leaf-is true b = refl
-      leaf-is false b = refl

@@ -1,5 +1,5 @@
 -- A table has grown when its nodes have.
-use Rattle.std.proofs.Common.{◌≡◌, ℕ, ◌+◌, ◌-◌, ◌<◌, true, false, ◌||◌, cond, eqb, ltb, List, [], ◌∷◌, ◌++◌, length, map, filter, get_or, Option, Some, None, Err, unwrap_or, slice_get, slice_set, refl, sym, ap, subst, ◌∙◌, arith}
+use Rattle.std.proofs.Common.{◌≡◌, ℕ, ◌+◌, ◌-◌, ◌<◌, true, false, ◌||◌, cond, eqb, ltb, List, [], ◌∷◌, ◌++◌, length, map, get_or, Option, Some, None, Err, unwrap_or, slice_get, slice_set, refl, sym, ap, subst, ◌∙◌, arith}
 use Rattle.std.specs.List.{list_all}
 use Rattle.std.proofs.lemmas.Bool.{cond-false}
 use Rattle.tardis_base.specs.declared.ids.StateId.{StateId}
@@ -15,7 +15,7 @@ use Rattle.state_dag.specs.Table.{Entry, Table, entry_at, id_at}
 use Rattle.state_dag.specs.Views.{entry_of, entries_from}
 use Rattle.state_dag.specs.Stands.{Stands}
 use Rattle.state_dag.specs.Answers.{MayBeAdded, AddedTo}
-use Rattle.state_dag.specs.Grown.{number_of_children, is_first_branch, is_new_pair, too_long, refusal_of, IsNewPath, IsNewEntry, IsGrownEntry, AreGrownEntries, IsGrown}
+use Rattle.state_dag.specs.Grown.{is_first_branch, is_new_pair, too_long, refusal_of, IsNewPath, IsNewEntry, IsGrownEntry, AreGrownEntries, IsGrown}
 use Rattle.state_dag.specs.Nodes.{table_of, AreDistinct, IsGrownNode, first_refusal, path_refusal, TellsRefusal}
 use Rattle.state_dag.proofs.Counting.{Differ}
 use Rattle.state_dag.proofs.GrownNodes.{entries-last, entries-grown}
@@ -90,15 +90,14 @@ module _ (old new : Table) (ms ns : List Node) (n : Node) (parents : List Slot) 
       }
 
   pub table-grown : new.limits ≡ old.limits → new.counts ≡ slice_set old.counts (x.site - 1) (unwrap_or (slice_get old.counts (x.site - 1)) 0 + 1) → new.known ≡ old.known + 1 →
-      new.leaves + length (filter (λ p. eqb (number_of_children (table_of ms) p) 0) parents) ≡ old.leaves + 1 → entry_at old slot ≡ None → new.entries ≡ entries_from 0 (ns ++ n ∷ []) → length ns ≡ length ms →
+      entry_at old slot ≡ None → new.entries ≡ entries_from 0 (ns ++ n ∷ []) → length ns ≡ length ms →
       slot.0 ≡ length ms → AreDistinct parents → list_all (λ m. are_ascending_pairs m.path.pairs) ms ≡ true → ((k : ℕ) (d : Node) → k < length ms → IsGrownNode (table_of ms) parents x slot k (get_or ms k d) (get_or ns k d)) →
       IsNewEntry old parents x slot (entry_of slot.0 n) → (g : IsGrown old new x parents slot) × (g.newest ≡ entry_of slot.0 n)
-  table-grown limits counts known leaves fresh after count place distinct up each is_new = (
+  table-grown limits counts known fresh after count place distinct up each is_new = (
     record {
       limits = limits;
       counts = counts;
       known = known;
-      leaves = ap (λ es. new.leaves + length (filter (λ p. eqb (number_of_children (record old { entries = es }) p) 0) parents)) before ∙ leaves;
       fresh = fresh;
       grown = entries_from 0 ns;
       newest = entry_of slot.0 n;

@@ -1,5 +1,7 @@
 -- Lemmas on the table of states.
 pub mod Places
+pub mod Following
+pub mod LeafSlots
 pub mod Known
 pub mod Counting
 pub mod Branches

@@ -1,8 +1,6 @@
 -- How nodes grow, step by step.
-use Rattle.std.proofs.Common.{◌≡◌, ℕ, suc, ◌+◌, ◌<◌, ◌≤◌, Bool, true, false, ◌&&◌, ◌||◌, cond, eqb, ltb, List, [], ◌∷◌, ◌++◌, length, take, drop, filter, get_or, IsTrue, refl, sym, ap, ap₂, ◌∙◌, eq-eqb, eqb-true, length-append, arith}
-use Rattle.std.specs.List.{list_all}
-use Rattle.std.proofs.lemmas.List.Sums.{sum_by-cons}
-use Rattle.std.proofs.lemmas.Bool.{both_ways, and_parts, ltb-true, or_parts, or_from, ne_eqb, false_from_ne_true, cond-false}
+use Rattle.std.proofs.Common.{◌≡◌, ℕ, suc, ◌+◌, ◌<◌, ◌≤◌, Bool, true, false, ◌&&◌, ◌||◌, cond, eqb, List, [], ◌∷◌, ◌++◌, length, take, drop, get_or, IsTrue, refl, sym, ap, ◌∙◌, eq-eqb, eqb-true, arith}
+use Rattle.std.proofs.lemmas.Bool.{both_ways, or_parts, or_from, ne_eqb, false_from_ne_true}
 use Rattle.std.proofs.lemmas.List.{drop_more}
 use Rattle.std.proofs.lemmas.List.Filters.{length-filter_more}
 use Rattle.std.proofs.lemmas.List.Folds.{list_any_more, list_any_at}
@@ -11,10 +9,9 @@ use Rattle.tardis_base.specs.declared.ids.Slot.{Slot}
 use Rattle.fork_path.specs.Pairs.{Pairs, are_ascending_pairs, is_same_pair, has_pair}
 use Rattle.state_dag.specs.declared.nodes.Node.{Node}
 use Rattle.state_dag.specs.declared.leads.Gain.{Gain}
-use Rattle.state_dag.specs.Grown.{is_slot_among, only_if, number_of_children}
-use Rattle.state_dag.specs.Nodes.{table_of, AreDistinct, gains_of, HasGained, HasChild, leaf_of, number_of_leaves}
+use Rattle.state_dag.specs.Grown.{is_slot_among, only_if}
+use Rattle.state_dag.specs.Nodes.{AreDistinct, gains_of, HasGained, HasChild}
 use Rattle.state_dag.proofs.Passing.{or-more}
-use Rattle.state_dag.proofs.NodeLists.{children-found}
 
 -- ===== Gains
 
@@ -81,12 +78,6 @@ distinct-at (x ∷ xs) (ℕ.suc i) s distinct lt =
     both_ways (is_slot_among x xs) distinct.0 (list_any_at (λ (z : Slot). eqb z.0 x.0) xs i s (omega arith) (eq-eqb y.0 x.0 (sym (eqb-true x.0 y.0 t))))))
     (distinct-at xs i s distinct.1 (omega arith))
 
--- what has just been put last isn't nothing
-pub leaf-none : (n : Node) (xs : List StateId) (x : StateId) → n.children.items ≡ xs ++ x ∷ [] → leaf_of n ≡ 0
-leaf-none n xs x is =
-    let long = ap length is ∙ length-append xs (x ∷ []) in
-    cond-false (eqb (length n.children.items) 0) 1 0 (ne_eqb (length n.children.items) 0 (λ e. omega arith))
-
 module _ (x : StateId) (slot : Slot) (parents : List Slot) (i : ℕ) (s : Slot) (lt : i < length parents) (k : ℕ) where
   among : is_slot_among (record { 0 = k }) (take (i + 1) parents) ≡ (is_slot_among (record { 0 = k }) (take i parents) || eqb (get_or parents i s).0 k)
   among = list_any_more (λ (t : Slot). eqb t.0 k) parents i s lt
@@ -120,24 +111,3 @@ module _ (x : StateId) (slot : Slot) (parents : List Slot) (i : ℕ) (s : Slot) 
       orred : (b : Bool) → (b || false) ≡ b
       orred true = refl
       orred false = refl
-
--- as many leaves where as many are one
-pub same-leaves : (ns ms : List Node) → length ns ≡ length ms → ((k : ℕ) (d : Node) → k < length ns → leaf_of (get_or ns k d) ≡ leaf_of (get_or ms k d)) → number_of_leaves ns ≡ number_of_leaves ms
-same-leaves [] [] count same = refl
-same-leaves [] (m ∷ ms) count same = absurd (omega arith)
-same-leaves (n ∷ ns) [] count same = absurd (omega arith)
-same-leaves (n ∷ ns) (m ∷ ms) count same =
-    sum_by-cons leaf_of n ns ∙ ap₂ (λ a b. a + b) (same 0 n (omega arith)) (same-leaves ns ms (omega arith) (λ k d lt. same (suc k) d (omega arith))) ∙ sym (sum_by-cons leaf_of m ms)
-
--- as many children where the nodes have as many
-pub same-children : (ns ms : List Node) → length ms ≡ length ns → ((k : ℕ) (d : Node) → k < length ns → (get_or ms k d).children.items ≡ (get_or ns k d).children.items) → (slot : Slot) → slot.0 < length ns →
-    number_of_children (table_of ms) slot ≡ number_of_children (table_of ns) slot
-same-children [] ms count same slot lt = absurd (omega arith)
-same-children (n ∷ ns) ms count same slot lt =
-    children-found ms slot.0 n (omega arith) ∙ ap length (same slot.0 n lt) ∙ sym (children-found (n ∷ ns) slot.0 n lt)
-
-pub same-filter : (one two : Slot → Bool) (n : ℕ) (slots : List Slot) → ((s : Slot) → s.0 < n → one s ≡ two s) → list_all (λ (s : Slot). ltb s.0 n) slots ≡ true → filter one slots ≡ filter two slots
-same-filter one two n [] same all = refl
-same-filter one two n (s ∷ slots) same all =
-    let parts = and_parts (ltb s.0 n) (list_all (λ (t : Slot). ltb t.0 n) slots) all in
-    ap₂ (λ (b : Bool) (rest : List Slot). cond b (s ∷ rest) rest) (same s (ltb-true s.0 n parts.0)) (same-filter one two n slots same parts.1)

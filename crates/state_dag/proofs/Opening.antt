@@ -20,7 +20,7 @@ abbrev pub root_entry : Entry
 root_entry = record { slot = record { 0 = 0 }; id = root; arrival = 0; parents = []; children = []; stand_ins = []; path = [] }
 
 abbrev pub opening : Limits → List ℕ → Entry → Table
-opening limits counts e = record { limits = limits; counts = counts; known = 1; leaves = 1; entries = e ∷ [] }
+opening limits counts e = record { limits = limits; counts = counts; known = 1; entries = e ∷ [] }
 
 pub root-entry : (n : Node) → n.id ≡ root → n.arrival ≡ 0 → n.parents.items ≡ [] → n.children.items ≡ [] → n.stand_ins.items ≡ [] → n.path.pairs ≡ [] → entry_of 0 n ≡ root_entry
 root-entry n a b c d e f = rw (a, b, c, d, e, f) refl
@@ -71,7 +71,6 @@ module _ (limits : Limits) (valid : IsTrue (are_limits limits)) (counts : List �
     short = λ x h. omega arith;
     counts = zeros ∙ no-counts limits.sites;
     known = refl;
-    leaf_count = refl;
     ids = refl;
     slots = refl;
     shows = shows-root;

@@ -1,5 +1,5 @@
 -- What nodes with the same entries have alike.
-use Rattle.std.proofs.Common.{◌≡◌, ℕ, suc, ◌+◌, ◌*◌, ◌<◌, ◌≤◌, Bool, true, false, cond, eqb, ltb, List, [], ◌∷◌, ◌++◌, length, sum, get_or, set, replicate, zero-add, refl, sym, ap, ◌∙◌, arith}
+use Rattle.std.proofs.Common.{◌≡◌, ℕ, suc, ◌+◌, ◌*◌, ◌<◌, ◌≤◌, Bool, true, ltb, List, [], ◌∷◌, ◌++◌, length, sum, get_or, set, replicate, zero-add, refl, sym, ap, ◌∙◌, arith}
 use Rattle.std.specs.List.{list_all}
 use Rattle.std.proofs.lemmas.Bool.{and_parts, and_from, ltb-true}
 use Rattle.std.proofs.lemmas.List.Sums.{sum_by-cons, sum-map}
@@ -8,11 +8,9 @@ use Rattle.tardis_base.specs.declared.ids.StateId.{StateId}
 use Rattle.state_dag.specs.declared.nodes.Node.{Node}
 use Rattle.state_dag.specs.Table.{Entry}
 use Rattle.state_dag.specs.Views.{entry_of, entries_from, place_of_id}
-use Rattle.state_dag.specs.Nodes.{leaf_of, number_of_leaves}
 use Rattle.state_dag.proofs.Places.{length-entries}
 use Rattle.state_dag.proofs.Passing.{all-at}
 use Rattle.state_dag.proofs.NodeLists.{entry-in}
-use Rattle.state_dag.proofs.NodeGrowth.{same-leaves}
 use Rattle.state_dag.proofs.GrownNodes.{place-stays}
 
 pub all-from-at : {X : Type 0} (test : X → Bool) (xs : List X) → ((k : ℕ) (d : X) → k < length xs → test (get_or xs k d) ≡ true) → list_all test xs ≡ true
@@ -40,23 +38,8 @@ module _ (ns ms : List Node) (same : entries_from 0 ns ≡ entries_from 0 ms) wh
       let count = same-count in
       sym (plain k (get_or ns k d)) ∙ ap test (same-at k d lt) ∙ plain k (get_or ms k d) ∙ all-at (λ n. test (entry_of 0 n)) ms k d all (omega arith))
 
-  pub leaves-same : number_of_leaves ns ≡ number_of_leaves ms
-  leaves-same = same-leaves ns ms same-count (λ k d lt. ap (λ (e : Entry). cond (eqb (length e.children) 0) 1 0) (same-at k d lt))
-
   pub places-same : (x : StateId) → place_of_id 0 ns x ≡ place_of_id 0 ms x
   places-same x = place-stays 0 ms ns x same-count (λ k d lt. let count = same-count in ap (λ (e : Entry). e.id) (same-at k d (omega arith)))
-
-pub few-leaves : (ns : List Node) → number_of_leaves ns ≤ length ns
-few-leaves [] = omega arith
-few-leaves (n ∷ ns) =
-    let rest = few-leaves ns in
-    let one = at-most-one (eqb (length n.children.items) 0) in
-    let parts = sum_by-cons leaf_of n ns in
-    omega arith
-  where
-    at-most-one : (b : Bool) → cond b 1 0 ≤ 1
-    at-most-one true = omega arith
-    at-most-one false = omega arith
 
 -- ===== Counts
 

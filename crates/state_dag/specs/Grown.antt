@@ -103,7 +103,6 @@ pub record IsGrown (old new : Table) (x : StateId) (parents : List Slot) (slot :
   pub limits : new.limits ≡ old.limits
   pub counts : new.counts ≡ slice_set old.counts (x.site - 1) (unwrap_or (slice_get old.counts (x.site - 1)) 0 + 1)
   pub known : new.known ≡ old.known + 1
-  pub leaves : new.leaves + length (filter (λ p. number_of_children old p == 0) parents) ≡ old.leaves + 1
   pub fresh : entry_at old slot ≡ None
   pub grown : List Entry
   pub newest : Entry

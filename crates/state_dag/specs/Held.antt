@@ -1,5 +1,5 @@
 -- What holds of the table's memory at all times.
-use Rattle.std.specs.Prelude.{◌≡◌, ◌+◌, ◌^◌, ◌≤◌, ◌<◌, length, sum, IsTrue, nat_lt}
+use Rattle.std.specs.Prelude.{◌≡◌, ◌+◌, ◌^◌, ◌≤◌, ◌<◌, length, map, filter, sum, IsTrue, nat_lt}
 use Rattle.std.specs.List.{list_all}
 use Rattle.std.specs.BTreeMap.{get}
 use Rattle.tardis_base.specs.declared.ids.StateId.{StateId}
@@ -8,8 +8,8 @@ use Rattle.fork_path.specs.Pairs.{are_ascending_pairs}
 use Rattle.state_dag.specs.declared.StateDag.TheInside.{Inside}
 use Rattle.state_dag.specs.Ids.{id_cmp}
 use Rattle.state_dag.specs.Table.{Table, arrive_in_order}
-use Rattle.state_dag.specs.Views.{entries_from, place_of_id}
-use Rattle.state_dag.specs.Nodes.{are_short, number_of_leaves}
+use Rattle.state_dag.specs.Views.{entries_from, is_childless, place_of_id}
+use Rattle.state_dag.specs.Nodes.{are_short}
 
 -- the table that the memory is seen as
 abbrev pub seen : Inside → Table
@@ -17,7 +17,6 @@ seen a = record {
   limits = a.limits;
   counts = a.counts.items;
   known = a.known;
-  leaves = a.leaves;
   entries = entries_from 0 a.nodes.items;
 }
 
@@ -32,7 +31,9 @@ pub record IsHeld (a : Inside) : Type 0 where
   pub arrived : IsTrue (list_all (λ n. nat_lt n.arrival a.known) a.nodes.items)
   pub ascending : IsTrue (list_all (λ n. are_ascending_pairs n.path.pairs) a.nodes.items)
   pub short : IsTrue (are_short a.limits.max_path a.nodes.items)
-  pub leaf_count : a.leaves ≡ number_of_leaves a.nodes.items
+  pub listed : a.kept.items ≡ map (λ e. e.slot) (entries_from 0 a.nodes.items)
+  pub childless : a.leaves.items ≡ map (λ e. e.slot) (filter is_childless (entries_from 0 a.nodes.items))
+  pub stand_ins : IsTrue (list_all (λ n. list_all (λ s. nat_lt s.0 (length a.nodes.items)) n.stand_ins.items) a.nodes.items)
   pub sites : length a.counts.items ≡ a.limits.sites
   pub fit : IsTrue (list_all (λ n. nat_lt n (2 ^ 32)) a.counts.items)
   pub counted : a.known ≡ sum a.counts.items + 1

@@ -1,6 +1,6 @@
 -- What the nodes of a table get as it grows.
 use Rattle.std.specs.Prelude.{◌≡◌, ℕ, ◌+◌, ◌≤◌, ◌<◌, Bool, false, ◌==◌, ◌&&◌, ◌||◌, List, [], ◌∷◌, ◌++◌, length, map, filter, Option, Some, None, Result, Ok, Err, IsTrue, nat_lt, nat_le, vec_len, vec_capacity, slice_index_or, if◌then◌else◌, ⊤}
-use Rattle.std.specs.List.{list_any, list_all, flat_map, sum_by}
+use Rattle.std.specs.List.{list_any, list_all, flat_map}
 use Rattle.std.specs.Option.{option_map_or}
 use Rattle.tardis_base.specs.declared.ids.StateId.{StateId}
 use Rattle.tardis_base.specs.declared.ids.Slot.{Slot}
@@ -22,7 +22,6 @@ table_of nodes = record {
   limits = record { sites = 0; max_kept = 0; max_path = 0; max_sessions = 0; max_trail = 0 };
   counts = [];
   known = 0;
-  leaves = 0;
   entries = entries_from 0 nodes;
 }
 
@@ -121,14 +120,6 @@ pub record HasChild (x : StateId) (slot : Slot) (parents : List Slot) (place : �
   pub children : new.children.items ≡ old.children.items ++ only_if (is_slot_among (record { 0 = place }) parents) x
   pub stand_ins : new.stand_ins.items ≡ old.stand_ins.items ++ only_if (is_slot_among (record { 0 = place }) parents) slot
 
--- one, if the node has no child
-abbrev pub leaf_of : Node → ℕ
-leaf_of node = if length node.children.items == 0 then 1 else 0
-
--- how many of the nodes have no child
-abbrev pub number_of_leaves : List Node → ℕ
-number_of_leaves nodes = sum_by leaf_of nodes
-
 -- what became of the node at this place below a table that grew
 pub record IsGrownNode (table : Table) (parents : List Slot) (x : StateId) (slot : Slot) (place : ℕ) (old new : Node) : Type 0 where
   pub id_stays : new.id ≡ old.id
@@ -138,3 +129,6 @@ pub record IsGrownNode (table : Table) (parents : List Slot) (x : StateId) (slot
   pub pairs : (pair : ℕ × ℕ) → has_pair pair new.path.pairs ≡ (has_pair pair old.path.pairs || is_first_branch table parents (record { 0 = place }) pair)
   pub longer : length new.path.pairs ≤ length old.path.pairs + length (filter (leads_first table (record { 0 = place })) parents)
   pub child : AreDistinct parents → HasChild x slot parents place old new
+  pub parent : IsTrue (is_slot_among (record { 0 = place }) parents) → 1 ≤ length new.children.items
+  pub other : is_slot_among (record { 0 = place }) parents ≡ false → new.children.items ≡ old.children.items
+  pub slots : (test : Slot → Bool) → IsTrue (list_all test old.stand_ins.items) → IsTrue (test slot) → IsTrue (list_all test new.stand_ins.items)

@@ -10,7 +10,6 @@ use Rattle.tardis_base.specs.Valid.{are_limits}
 use Rattle.fork_path.specs.Pairs.{are_ascending_pairs, has_pair}
 use Rattle.plain_dag.specs.States.{is_known, parents_of, arrival, children, count_of_site}
 use Rattle.plain_dag.specs.Dag.{IsDag}
-use Rattle.plain_dag.specs.Forks.{leaves}
 use Rattle.plain_dag.specs.Collection.{is_kept, kept_states, stand_in}
 use Rattle.plain_dag.specs.Paths.{is_fork, leads_to, fork_path}
 use Rattle.plain_dag.specs.Laws.{StandInsAreShared}
@@ -45,7 +44,6 @@ pub record Stands (table : Table) (rs : List Record) (ks : List StateId) : Type 
   pub short : (x : StateId) → IsTrue (is_kept rs ks x) → length (fork_path rs ks x) ≤ table.limits.max_path
   pub counts : table.counts ≡ map (count_of_site rs) (range_with_len 1 table.limits.sites)
   pub known : table.known ≡ length rs
-  pub leaf_count : table.leaves ≡ length (leaves rs)
   pub ids : map (λ e. e.id) table.entries ≡ kept_states rs ks
   pub slots : map (λ e. id_at table e.slot) table.entries ≡ map (λ e. Some e.id) table.entries
   pub shows : (slot : Slot) (e : Entry) → entry_at table slot ≡ Some e → Shows table rs ks e e.id

@@ -17,13 +17,11 @@ pub record Entry : Type 0 where
   pub stand_ins : List Slot
   pub path : List (ℕ × ℕ)
 
--- the limits; how many states of each site there are; how many in all; how many without a child; the kept states in
--- arrival order
+-- the limits; how many states of each site there are; how many in all; the kept states in arrival order
 pub record Table : Type 0 where
   pub limits : Limits
   pub counts : List ℕ
   pub known : ℕ
-  pub leaves : ℕ
   pub entries : List Entry
 
 -- the entry at the slot

@@ -1,5 +1,5 @@
 -- How the table reads its memory.
-use Rattle.std.specs.Prelude.{ℕ, ◌+◌, List, [], ◌∷◌, Option, Some, None, slice_get, if◌then◌else◌}
+use Rattle.std.specs.Prelude.{ℕ, ◌+◌, Bool, ◌==◌, length, List, [], ◌∷◌, Option, Some, None, slice_get, if◌then◌else◌}
 use Rattle.std.specs.Option.{option_map}
 use Rattle.tardis_base.specs.declared.ids.StateId.{StateId}
 use Rattle.tardis_base.specs.declared.ids.Slot.{Slot}
@@ -23,6 +23,10 @@ entry_of place node = record {
 abbrev pub entries_from : ℕ → List Node → List Entry
 entries_from place [] = []
 entries_from place (node ∷ nodes) = entry_of place node ∷ entries_from (place + 1) nodes
+
+-- the entry's state has no child
+abbrev pub is_childless : Entry → Bool
+is_childless e = length e.children == 0
 
 -- the one slot, or else the other
 abbrev pub slot_or : Option Slot → Option Slot → Option Slot

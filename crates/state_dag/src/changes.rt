@@ -1,38 +1,29 @@
 //! How nodes change as their table grows. No call here can fail.
 
-ghost use Rattle.std.specs.Prelude.{◌≡◌, ℕ, ◌+◌, ◌-◌, ◌^◌, ◌<◌, ◌≤◌, ◌==◌, ◌++◌, [], ◌∷◌, length, filter, IsTrue, vec_len, vec_capacity, slice_index_or, slice_set};
-ghost use Rattle.std.specs.List.{sum_by};
+ghost use Rattle.std.specs.Prelude.{◌≡◌, ℕ, ◌+◌, ◌-◌, ◌^◌, ◌<◌, ◌≤◌, ◌++◌, [], ◌∷◌, Bool, false, length, IsTrue, vec_len, vec_capacity, slice_index_or, slice_set};
+ghost use Rattle.std.specs.List.{list_all};
+ghost use Rattle.tardis_base.specs.declared.ids.Slot.{Slot};
 ghost use Rattle.state_dag.specs.declared.nodes.Node.{Node};
-ghost use Rattle.state_dag.specs.Grown.{number_of_children};
-ghost use Rattle.state_dag.specs.Nodes.{table_of, are_places, have_places, all_gains, AreDistinct, HasPathRoom, HasChildRoom, HasGained, HasChild, IsGrownNode, leaf_of, number_of_leaves};
+ghost use Rattle.state_dag.specs.Grown.{is_slot_among};
+ghost use Rattle.state_dag.specs.Nodes.{table_of, are_places, have_places, all_gains, AreDistinct, HasPathRoom, HasChildRoom, HasGained, HasChild, IsGrownNode};
 
 use crate::leads::Gain;
 use crate::nodes::Node;
 use tardis_base::{Slot, StateId};
 
-/// Gives the parents a child and the gaining paths their pairs, and answers how many nodes have no child then.
-pub fn grow(
-    nodes: &mut Vec<Node>,
-    parents: &[Slot],
-    gains: &[Gain],
-    id: StateId,
-    slot: Slot,
-    leaves: u32,
-) -> u32
+/// Gives the parents a child and the gaining paths their pairs.
+pub fn grow(nodes: &mut Vec<Node>, parents: &[Slot], gains: &[Gain], id: StateId, slot: Slot)
     requires places { IsTrue (are_places nodes.old.items parents.now) }
     requires gains { gains.now ≡ all_gains (table_of nodes.old.items) parents.now }
     requires paths { HasPathRoom nodes.old.items gains.now }
     requires children { HasChildRoom nodes.old.items parents.now }
-    requires leaves { leaves ≡ number_of_leaves nodes.old.items }
     ensures count { length nodes.new.items ≡ length nodes.old.items }
     ensures room { vec_len nodes.new ≡ vec_len nodes.old }
     ensures capacity { vec_capacity nodes.new ≡ vec_capacity nodes.old }
     ensures each { (k : ℕ) (d : Node) → k < length nodes.old.items → IsGrownNode (table_of nodes.old.items) parents.now id slot k (slice_index_or nodes.old.items k d) (slice_index_or nodes.new.items k d) }
-    ensures leaves { result ≡ number_of_leaves nodes.new.items }
-    ensures fewer { AreDistinct parents.now → result + length (filter (λ p. number_of_children (table_of nodes.old.items) p == 0) parents.now) ≡ leaves }
 {
     grow_paths(nodes, gains);
-    add_children(nodes, parents, id, slot, leaves)
+    add_children(nodes, parents, id, slot);
 }
 
 /// Puts each first branch into the path of the state that it leads to.
@@ -49,43 +40,34 @@ fn grow_paths(nodes: &mut Vec<Node>, gains: &[Gain])
     }
 }
 
-/// Gives each parent the new child, and answers how many nodes have no child then.
-fn add_children(
-    nodes: &mut Vec<Node>,
-    parents: &[Slot],
-    id: StateId,
-    slot: Slot,
-    leaves: u32,
-) -> u32
+/// Gives each parent the new child.
+fn add_children(nodes: &mut Vec<Node>, parents: &[Slot], id: StateId, slot: Slot)
     requires places { IsTrue (are_places nodes.old.items parents.now) }
     requires room { HasChildRoom nodes.old.items parents.now }
-    requires leaves { leaves ≡ number_of_leaves nodes.old.items }
     ensures count { length nodes.new.items ≡ length nodes.old.items }
     ensures room { vec_len nodes.new ≡ vec_len nodes.old }
     ensures capacity { vec_capacity nodes.new ≡ vec_capacity nodes.old }
     ensures rest { (k : ℕ) (d : Node) → (slice_index_or nodes.new.items k d) ≡ record (slice_index_or nodes.old.items k d) { children = (slice_index_or nodes.new.items k d).children; stand_ins = (slice_index_or nodes.new.items k d).stand_ins } }
     ensures each { AreDistinct parents.now → (k : ℕ) (d : Node) → k < length nodes.old.items → HasChild id slot parents.now k (slice_index_or nodes.old.items k d) (slice_index_or nodes.new.items k d) }
-    ensures leaves { result ≡ number_of_leaves nodes.new.items }
-    ensures fewer { AreDistinct parents.now → result + length (filter (λ p. number_of_children (table_of nodes.old.items) p == 0) parents.now) ≡ leaves }
+    ensures parent { (k : ℕ) (d : Node) → k < length nodes.old.items → IsTrue (is_slot_among (record { 0 = k }) parents.now) → 1 ≤ length (slice_index_or nodes.new.items k d).children.items }
+    ensures other { (k : ℕ) (d : Node) → is_slot_among (record { 0 = k }) parents.now ≡ false → (slice_index_or nodes.new.items k d) ≡ (slice_index_or nodes.old.items k d) }
+    ensures slots { (test : Slot → Bool) (k : ℕ) (d : Node) → k < length nodes.old.items → IsTrue (list_all test (slice_index_or nodes.old.items k d).stand_ins.items) → IsTrue (test slot) → IsTrue (list_all test (slice_index_or nodes.new.items k d).stand_ins.items) }
 {
-    let mut left = leaves;
     for parent in parents {
-        left -= add_child(&mut nodes[parent.0 as usize], id, slot);
+        add_child(&mut nodes[parent.0 as usize], id, slot);
     }
-    left
 }
 
-/// Gives the node a child, where there is room, and answers 1 where it had none before.
-fn add_child(node: &mut Node, id: StateId, slot: Slot) -> u32
+/// Gives the node a child, where there is room.
+fn add_child(node: &mut Node, id: StateId, slot: Slot)
     ensures rest { node.new ≡ record node.old { children = node.new.children; stand_ins = node.new.stand_ins } }
     ensures children { vec_len node.old.children < vec_capacity node.old.children → node.new.children.items ≡ node.old.children.items ++ id ∷ [] }
     ensures stand_ins { vec_len node.old.stand_ins < vec_capacity node.old.stand_ins → node.new.stand_ins.items ≡ node.old.stand_ins.items ++ slot ∷ [] }
-    ensures leaves { leaf_of node.new + result ≡ leaf_of node.old }
+    ensures longer { length node.old.children.items ≤ length node.new.children.items }
+    ensures slots { (test : Slot → Bool) → IsTrue (list_all test node.old.stand_ins.items) → IsTrue (test slot) → IsTrue (list_all test node.new.stand_ins.items) }
 {
-    let was_leaf = node.children.is_empty();
     let _ = node.children.push(id);
     let _ = node.stand_ins.push(slot);
-    u32::from(was_leaf && !node.children.is_empty())
 }
 
 /// Makes it so many states of the site.

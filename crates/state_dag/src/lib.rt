@@ -39,7 +39,7 @@ use leads::gains;
 use named_paths::named_path;
 use nodes::{Node, ROOT, is_node_above, root_node};
 use rooms::make_room;
-use slots::{common_slot, put_slot, slot_in};
+use slots::{common_slot, drop_slots, make_slot_room, put_slot, slot_in};
 use std::alloc::Global;
 use std::collections::BTreeMap;
 use std::marker::Model;
@@ -53,8 +53,9 @@ pub struct StateDag {
     limits: Limits,
     counts: Vec<u32>,
     known: u64,
-    leaves: u32,
     nodes: Vec<Node>,
+    kept: Vec<Slot>,
+    leaves: Vec<Slot>,
     slots: BTreeMap<StateId, Slot>,
 }
 
@@ -80,14 +81,19 @@ impl StateDag {
         let counts = vec![in alloc; 0u32; limits.sites as usize]?;
         let mut nodes = Vec::new(alloc);
         nodes.push(root_node(alloc))?;
+        let mut kept = Vec::new(alloc);
+        kept.push(Slot(0))?;
+        let mut leaves = Vec::new(alloc);
+        leaves.push(Slot(0))?;
         let mut slots = BTreeMap::new(alloc);
         slots.insert(ROOT, Slot(0))?;
         Ok(StateDag {
             limits: *limits,
             counts,
             known: 1,
-            leaves: 1,
             nodes,
+            kept,
+            leaves,
             slots,
         })
     }
@@ -124,16 +130,14 @@ impl StateDag {
         check_paths(&self.nodes, parents, &node, &self.limits)?;
         let gains = gains(alloc, &self.nodes, parents)?;
         make_room(&mut self.nodes, parents, &gains)?;
+        make_slot_room(&mut self.kept)?;
+        make_slot_room(&mut self.leaves)?;
         put_slot(&mut self.slots, id, Slot(kept))?;
-        self.leaves = grow(
-            &mut self.nodes,
-            parents,
-            &gains,
-            id,
-            Slot(kept),
-            self.leaves,
-        ) + 1;
+        grow(&mut self.nodes, parents, &gains, id, Slot(kept));
         self.nodes.push_reserved(node);
+        drop_slots(&mut self.leaves, parents);
+        self.leaves.push_reserved(Slot(kept));
+        self.kept.push_reserved(Slot(kept));
         set_count(&mut self.counts, id.site, id.sequence);
         self.known += 1;
         Ok(Slot(kept))
@@ -210,11 +214,28 @@ impl StateDag {
         self.nodes.len() as u32
     }
 
-    /// How many states have no child. The number is kept, so it takes constant time.
+    /// How many states have no child, in constant time.
     pub fn leaves(&self) -> u32
         ensures { (rs : List Record) (ks : List StateId) → Stands self.now rs ks → result ≡ length (leaves rs) }
     {
-        self.leaves
+        self.leaves.len() as u32
+    }
+
+    /// The slots of the kept states, in arrival order. They are lent, in constant time.
+    pub fn kept_slots(&self) -> &[Slot]
+        ensures slots { IsTrue (list_all (is_slot self.now) result.now) }
+        ensures is { result.now ≡ map (λ e. e.slot) self.now.entries }
+        ensures kept { (rs : List Record) (ks : List StateId) → Stands self.now rs ks → map (id_at self.now) result.now ≡ map (λ x. Some x) (kept_states rs ks) }
+    {
+        self.kept.as_slice()
+    }
+
+    /// The slots of the states that have no child, in arrival order. They are lent, in constant time.
+    pub fn leaf_slots(&self) -> &[Slot]
+        ensures slots { IsTrue (list_all (is_slot self.now) result.now) }
+        ensures leaves { (rs : List Record) (ks : List StateId) → Stands self.now rs ks → map (id_at self.now) result.now ≡ map (λ x. Some x) (leaves rs) }
+    {
+        self.leaves.as_slice()
     }
 
     /// The slot of the state that arrived last, in constant time.
@@ -258,7 +279,8 @@ impl StateDag {
     /// of a collected one that of the state that stands in for it. They are lent, in constant time.
     pub fn child_slots(&self, slot: Slot) -> &[Slot]
         requires { IsTrue (is_slot self.now slot) }
-        ensures { (rs : List Record) (ks : List StateId) → Stands self.now rs ks → (x : StateId) → id_at self.now slot ≡ Some x → map (id_at self.now) result.now ≡ map (λ c. Some (stand_in rs ks c)) (children rs x) }
+        ensures slots { IsTrue (list_all (is_slot self.now) result.now) }
+        ensures stand_ins { (rs : List Record) (ks : List StateId) → Stands self.now rs ks → (x : StateId) → id_at self.now slot ≡ Some x → map (id_at self.now) result.now ≡ map (λ c. Some (stand_in rs ks c)) (children rs x) }
     {
         self.node(slot).stand_ins.as_slice()
     }
@@ -332,6 +354,7 @@ impl StateDag {
         requires { IsTrue (is_slot self.now slot) }
         ensures entry { entry_at self.now slot ≡ Some (entry_of slot.0 result.now) }
         ensures kept { IsTrue (is_kept_at self.now slot) }
+        ensures stand_ins { IsTrue (list_all (is_slot self.now) result.now.stand_ins.items) }
     {
         &self.nodes[slot.0 as usize]
     }

@@ -1,11 +1,12 @@
 //! Which slot each kept state has.
 
-ghost use Rattle.std.specs.Prelude.{◌≡◌, ℕ, ◌==◌, Some, OnErr, OnOk, if◌then◌else◌};
+ghost use Rattle.std.specs.Prelude.{◌≡◌, ℕ, ◌==◌, ◌≤◌, ◌<◌, not, filter, Some, OnErr, OnOk, vec_len, vec_capacity, if◌then◌else◌};
 ghost use Rattle.std.specs.BTreeMap.{get};
 ghost use Rattle.tardis_base.specs.declared.ids.StateId.{StateId};
 ghost use Rattle.tardis_base.specs.Ids.{same_id};
 ghost use Rattle.state_dag.specs.Ids.{id_cmp};
 ghost use Rattle.state_dag.specs.Shared.{common};
+ghost use Rattle.state_dag.specs.Grown.{is_slot_among};
 
 use std::collections::BTreeMap;
 use tardis_base::{NoMemory, Slot, StateId};
@@ -28,6 +29,25 @@ pub fn put_slot(
 {
     slots.insert(id, slot)?;
     Ok(())
+}
+
+/// Makes room for one more slot.
+pub fn make_slot_room(slots: &mut Vec<Slot>) -> Result<(), NoMemory>
+    ensures items { slots.new.items ≡ slots.old.items }
+    ensures len { vec_len slots.new ≡ vec_len slots.old }
+    ensures room { OnOk result (vec_len slots.new < vec_capacity slots.new) }
+{
+    slots.reserve(1)?;
+    Ok(())
+}
+
+/// Takes these out of the slots.
+pub fn drop_slots(slots: &mut Vec<Slot>, gone: &[Slot])
+    ensures items { slots.new.items ≡ filter (λ s. not (is_slot_among s gone.now)) slots.old.items }
+    ensures len { vec_len slots.new ≤ vec_len slots.old }
+    ensures capacity { vec_capacity slots.new ≡ vec_capacity slots.old }
+{
+    slots.retain(|slot| !gone.contains(slot));
 }
 
 /// The slot that all of these are, if they are one.

@@ -61,6 +61,20 @@ fn is_above(dag: &StateDag, a: u32, b: u32) -> bool {
     }
 }
 
+/// The states at the slots.
+fn named(alloc: Global, dag: &StateDag, slots: &[Slot]) -> Result<Vec<StateId>, AllocError> {
+    slots
+        .iter()
+        .filter_map(|slot| {
+            if dag.has_slot(*slot) {
+                Some(dag.id_of(*slot))
+            } else {
+                None
+            }
+        })
+        .collect(alloc)
+}
+
 #[test]
 fn states_are_added_below_their_parents(rt: HostRuntime) {
     let mut dag = StateDag::new(rt.alloc(), &LIMITS).expect(&rt, "room");
@@ -77,6 +91,18 @@ fn states_are_added_below_their_parents(rt: HostRuntime) {
         assert!(rt; !is_above(&dag, a, b));
     }
     assert_eq!(rt; (dag.leaves(), dag.known(), dag.kept()), (2, 5, 5));
+    assert_eq!(rt;
+        named(rt.alloc(), &dag, dag.kept_slots())
+            .expect(&rt, "room")
+            .as_slice(),
+        [state(0), state(1), state(2), state(3), state(4)].as_slice()
+    );
+    assert_eq!(rt;
+        named(rt.alloc(), &dag, dag.leaf_slots())
+            .expect(&rt, "room")
+            .as_slice(),
+        [state(3), state(4)].as_slice()
+    );
     let merge = dag.slot_of(state(3)).expect(&rt, "a slot");
     assert_eq!(rt; dag.parents(merge), [state(1), state(2)].as_slice());
     let path = dag.path(merge).expect(&rt, "room");

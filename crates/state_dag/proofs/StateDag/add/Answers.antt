@@ -1,4 +1,4 @@
-use Rattle.std.proofs.Common.{◌≡◌, ◌∙◌, ◌+◌, ◌-◌, ◌<◌, ◌≤◌, ℕ, List, eqb, ltb, length, filter, get_or, unwrap_or, slice_get, slice_set, Option, None, Result, Ok, Err, IsTrue, refl, sym, ap, subst, arith}
+use Rattle.std.proofs.Common.{◌≡◌, ◌∙◌, ◌+◌, ◌-◌, ◌++◌, ◌∷◌, [], not, ◌<◌, ◌≤◌, ℕ, List, ltb, length, filter, get_or, unwrap_or, slice_get, slice_set, Option, None, Result, Ok, Err, IsTrue, refl, sym, ap, subst, arith}
 use Rattle.std.specs.List.{list_all}
 use Rattle.std.proofs.lemmas.Bool.{ne_eqb}
 use Rattle.std.proofs.lemmas.Option.{unwrap_or-slice_get}
@@ -12,14 +12,14 @@ use Rattle.state_dag.specs.Table.{Entry, Table}
 use Rattle.state_dag.specs.Views.{entry_of, entries_from}
 use Rattle.state_dag.specs.Stands.{Stands}
 use Rattle.state_dag.specs.Answers.{MayBeAdded, AddedTo}
-use Rattle.state_dag.specs.Grown.{number_of_children, too_long, refusal_of, IsNewEntry, IsGrown}
-use Rattle.state_dag.specs.Nodes.{table_of, table_within, table_after, are_places, path_refusal, TellsRefusal}
+use Rattle.state_dag.specs.Grown.{is_slot_among, too_long, refusal_of, IsNewEntry, IsGrown}
+use Rattle.state_dag.specs.Nodes.{table_within, table_after, are_places, path_refusal, TellsRefusal}
 use Rattle.state_dag.proofs.Places.{length-entries}
 use Rattle.state_dag.proofs.Added.{full, added, parents-differ}
-use Rattle.state_dag.proofs.SameEntries.{same-count, leaves-same, few-leaves, sum-within}
+use Rattle.state_dag.proofs.SameEntries.{same-count, sum-within}
 use Rattle.state_dag.proofs.LastSlots.{fresh, slots-kept, last-named, kept-stays, last-arrives, arrives-last}
 use Rattle.state_dag.proofs.GrownTables.{distinct-from_differ, entry-moves, path-moves, refused-alike, fault-told, table-grown}
-use Rattle.state_dag.proofs.HeldNext.{slots-placed, held-stays, refusal-none, ids-stay, ascend-still, short-still, held-next}
+use Rattle.state_dag.proofs.HeldNext.{slots-placed, held-stays, refusal-none, ids-stay, leaves-lost, stands-stay, ascend-still, short-still, held-next}
 use Rattle.state_dag.proofs.Known.{limits-parts}
 use Rattle.state_dag.proofs.StateDag.add.Goals as goal
 
@@ -65,35 +65,34 @@ make_room-requires-clause-places c = slots-placed c.self.inside c.args.self.now 
 pub invariant_of-self : goal.invariant_of-self
 invariant_of-self c =
     let a = c.self.inside in
-    let b : Inside = record { limits = a.limits; counts = a.counts; known = a.known; leaves = a.leaves; nodes = c.make_room.new.nodes; slots = a.slots } in
-    held-stays a b c.self.invariant refl refl refl refl c.make_room.ensures.same (λ x. refl)
+    let b : Inside = record { limits = a.limits; counts = a.counts; known = a.known; nodes = c.make_room.new.nodes; kept = a.kept; leaves = a.leaves; slots = a.slots } in
+    held-stays a b c.self.invariant refl refl refl refl refl c.make_room.ensures.same (λ x. refl)
+
+pub invariant_of-self-in_err-make_slot_room : goal.invariant_of-self-in_err-make_slot_room
+invariant_of-self-in_err-make_slot_room c =
+    let a = c.self.inside in
+    let b : Inside = record { limits = a.limits; counts = a.counts; known = a.known; nodes = c.make_room.new.nodes; kept = c.make_slot_room.new.slots; leaves = a.leaves; slots = a.slots } in
+    held-stays a b c.self.invariant refl refl refl refl c.make_slot_room.ensures.items c.make_room.ensures.same (λ x. refl)
+
+pub invariant_of-self-in_err-make_slot_room-2 : goal.invariant_of-self-in_err-make_slot_room-2
+invariant_of-self-in_err-make_slot_room-2 c =
+    let a = c.self.inside in
+    let b : Inside = record { limits = a.limits; counts = a.counts; known = a.known; nodes = c.make_room.new.nodes; kept = c.make_slot_room.new.slots; leaves = c.make_slot_room-2.new.slots; slots = a.slots } in
+    held-stays a b c.self.invariant refl refl refl c.make_slot_room-2.ensures.items c.make_slot_room.ensures.items c.make_room.ensures.same (λ x. refl)
 
 pub invariant_of-self-in_err-put_slot : goal.invariant_of-self-in_err-put_slot
 invariant_of-self-in_err-put_slot c =
     let a = c.self.inside in
-    let b : Inside = record { limits = a.limits; counts = a.counts; known = a.known; leaves = a.leaves; nodes = c.make_room.new.nodes; slots = c.put_slot.new.slots } in
-    held-stays a b c.self.invariant refl refl refl refl c.make_room.ensures.same c.in_err-put_slot.ensures.same
+    let b : Inside = record { limits = a.limits; counts = a.counts; known = a.known; nodes = c.make_room.new.nodes; kept = c.make_slot_room.new.slots; leaves = c.make_slot_room-2.new.slots; slots = c.put_slot.new.slots } in
+    held-stays a b c.self.invariant refl refl refl c.make_slot_room-2.ensures.items c.make_slot_room.ensures.items c.make_room.ensures.same c.in_err-put_slot.ensures.same
 
 pub grow-requires-clause-places : goal.grow-requires-clause-places
 grow-requires-clause-places c =
     let count = same-count c.make_room.new.nodes.items c.self.inside.nodes.items c.make_room.ensures.same in
     subst (λ (n : ℕ). IsTrue (list_all (λ (s : Slot). ltb s.0 n) c.args.parents.now)) (sym count) (slots-placed c.self.inside c.args.self.now c.args.parents.now c.self.view_is c.requires.slots)
 
-pub grow-requires-clause-leaves : goal.grow-requires-clause-leaves
-grow-requires-clause-leaves c = c.self.invariant.leaf_count ∙ sym (leaves-same c.make_room.new.nodes.items c.self.inside.nodes.items c.make_room.ensures.same)
-
 pub overflow_add-self : goal.overflow_add-self
 overflow_add-self c =
-    let few = few-leaves c.grow.new.nodes.items in
-    let leaves = c.grow.ensures.leaves in
-    let count = c.grow.ensures.count in
-    let same = same-count c.make_room.new.nodes.items c.self.inside.nodes.items c.make_room.ensures.same in
-    let within = c.self.invariant.within in
-    let most = (limits-parts c.self.inside.limits c.self.invariant.valid).kept in
-    omega arith
-
-pub overflow_add-self-2 : goal.overflow_add-self-2
-overflow_add-self-2 c =
     let sums = sum-within c.self.inside.counts.items c.self.invariant.fit in
     let sites = c.self.invariant.sites in
     let few = (limits-parts c.self.inside.limits c.self.invariant.valid).sites in
@@ -123,7 +122,7 @@ invariant_of-self-2 c =
     let id = c.args.id in
     let slot : Slot = record { 0 = c.len-kept.result } in
     let i = id.site - 1 in
-    let b : Inside = record { limits = a.limits; counts = c.set_count.new.counts; known = a.known + 1; leaves = c.grow.result + 1; nodes = c.push_reserved.new.self; slots = c.put_slot.new.slots } in
+    let b : Inside = record { limits = a.limits; counts = c.set_count.new.counts; known = a.known + 1; nodes = c.push_reserved.new.self; kept = c.push_reserved-3.new.self; leaves = c.push_reserved-2.new.self; slots = c.put_slot.new.slots } in
     let same = c.make_room.ensures.same in
     let entry = new-entry c 0 in
     let fit = within-limits c in
@@ -132,7 +131,10 @@ invariant_of-self-2 c =
     let sites = c.self.invariant.sites in
     let most = ap (λ (t : Table). t.limits.sites) c.self.view_is in
     let other = c.if-kept-self.false in
-    held-next a b c.self.invariant ns n id slot i id.sequence c.push_reserved.ensures.items refl refl (ap (λ z. z + 1) c.grow.ensures.leaves) c.set_count.ensures.set c.in_ok-put_slot.ensures.put
+    held-next a b c.self.invariant ns n id slot i id.sequence c.push_reserved.ensures.items refl refl c.set_count.ensures.set c.in_ok-put_slot.ensures.put
+    (c.push_reserved-3.ensures.items ∙ ap (λ (ss : List Slot). ss ++ slot ∷ []) c.make_slot_room.ensures.items) parents
+    (c.push_reserved-2.ensures.items ∙ ap (λ (ss : List Slot). ss ++ slot ∷ []) (c.drop_slots.ensures.items ∙ ap (filter (λ (s : Slot). not (is_slot_among s parents))) c.make_slot_room-2.ensures.items))
+    (leaves-lost a.limits os ms ns parents id slot same c.grow.ensures.count c.grow.ensures.each) entry.no_stand_ins (stands-stay a.limits os ms ns parents id slot same c.grow.ensures.count c.grow.ensures.each)
     (c.grow.ensures.count ∙ same-count ms os same) place (omega arith) (ids-stay a.limits os ms ns parents id slot same c.grow.ensures.count c.grow.ensures.each) entry.id_is entry.arrival_is entry.no_children
     (ascend-still a.limits os ms ns parents id slot same c.grow.ensures.count c.grow.ensures.each c.self.invariant.ascending) entry.path.ascending
     (short-still a.limits os ms ns parents id slot same c.grow.ensures.count c.grow.ensures.each fit.0) fit.1 (let first = c.requires.first in let last = c.requires.last in omega arith)
@@ -143,7 +145,7 @@ old-entries : (c : goal.After-drop-gains-2) → c.args.self.now.entries ≡ entr
 old-entries c = ap (λ (t : Table). t.entries) (sym c.self.view_is) ∙ sym c.make_room.ensures.same
 
 abbrev new-table : goal.After-drop-gains-2 → Table
-new-table c = record { limits = c.self.inside.limits; counts = c.set_count.new.counts.items; known = c.self.inside.known + 1; leaves = c.grow.result + 1; entries = entries_from 0 c.push_reserved.new.self.items }
+new-table c = record { limits = c.self.inside.limits; counts = c.set_count.new.counts.items; known = c.self.inside.known + 1; entries = entries_from 0 c.push_reserved.new.self.items }
 
 last-place : (c : goal.After-drop-gains-2) → c.len-kept.result ≡ length c.make_room.new.nodes.items
 last-place c = c.len-kept.ensures ∙ c.self.inside.nodes.ok.0 ∙ sym (same-count c.make_room.new.nodes.items c.self.inside.nodes.items c.make_room.ensures.same)
@@ -177,9 +179,9 @@ returns-clause-arrived c =
 pub returns-clause-newest : goal.returns-clause-newest
 returns-clause-newest c =
     let ms = c.make_room.new.nodes.items in
-    let b : Inside = record { limits = c.self.inside.limits; counts = c.self.inside.counts; known = c.self.inside.known; leaves = c.self.inside.leaves; nodes = c.make_room.new.nodes; slots = c.self.inside.slots } in
+    let b : Inside = record { limits = c.self.inside.limits; counts = c.self.inside.counts; known = c.self.inside.known; nodes = c.make_room.new.nodes; kept = c.self.inside.kept; leaves = c.self.inside.leaves; slots = c.self.inside.slots } in
     arrives-last c.args.self.now (new-table c) ms c.grow.new.nodes.items c.in_ok-node.node (record { 0 = c.len-kept.result }) c.grow.ensures.count (last-place c) (old-entries c)
-    (ap (entries_from 0) c.push_reserved.ensures.items) (stays c) c.self.inside.known (new-entry c 0).arrival_is (held-stays c.self.inside b c.self.invariant refl refl refl refl c.make_room.ensures.same (λ x. refl)).arrived
+    (ap (entries_from 0) c.push_reserved.ensures.items) (stays c) c.self.inside.known (new-entry c 0).arrival_is (held-stays c.self.inside b c.self.invariant refl refl refl refl refl c.make_room.ensures.same (λ x. refl)).arrived
 
 -- a table that has grown by the state of a record
 added-as : (old new : Table) (rs : List Record) (ks : List StateId) (r : Record) (parents : List Slot) → Stands old rs ks → MayBeAdded old rs ks r parents → (slot : Slot) (x : StateId) (e : Entry) → r.id ≡ x →
@@ -201,18 +203,16 @@ returns-clause-added c = λ rs ks r stands is may.
     let id = c.args.id in
     let slot : Slot = record { 0 = c.len-kept.result } in
     let i = id.site - 1 in
-    let b : Inside = record { limits = a.limits; counts = a.counts; known = a.known; leaves = a.leaves; nodes = c.make_room.new.nodes; slots = a.slots } in
+    let b : Inside = record { limits = a.limits; counts = a.counts; known = a.known; nodes = c.make_room.new.nodes; kept = a.kept; leaves = a.leaves; slots = a.slots } in
     let after = ap (entries_from 0) c.push_reserved.ensures.items in
     let distinct = distinct-from_differ parents (parents-differ old new rs ks r parents stands may) in
     let counts =
     c.set_count.ensures.set
     ∙ ap (λ (z : ℕ). slice_set a.counts.items i z) c.requires.next
     ∙ ap (λ (t : Table). slice_set t.counts i (unwrap_or (slice_get old.counts i) 0 + 1)) c.self.view_is in
-    let leaves : c.grow.result + 1 + length (filter (λ (p : Slot). eqb (number_of_children (table_of ms) p) 0) parents) ≡ old.leaves + 1 =
-    (let fewer = c.grow.ensures.fewer distinct in let view = ap (λ (t : Table). t.leaves) c.self.view_is in omega arith) in
-    let up = (held-stays a b c.self.invariant refl refl refl refl c.make_room.ensures.same (λ x. refl)).ascending in
+    let up = (held-stays a b c.self.invariant refl refl refl refl refl c.make_room.ensures.same (λ x. refl)).ascending in
     let entry = entry-moves (table_after a.known os) old (ap (λ (t : Table). t.entries) c.self.view_is) parents id slot (entry_of c.len-kept.result n) (ap (λ (t : Table). t.known) c.self.view_is) (new-entry c c.len-kept.result) in
-    let g = table-grown old new ms ns n parents id slot (old-entries c) (ap (λ (t : Table). t.limits) c.self.view_is) counts (ap (λ (t : Table). t.known + 1) c.self.view_is) leaves
+    let g = table-grown old new ms ns n parents id slot (old-entries c) (ap (λ (t : Table). t.limits) c.self.view_is) counts (ap (λ (t : Table). t.known + 1) c.self.view_is)
     (fresh old new ms ns n slot c.grow.ensures.count (last-place c) (old-entries c) after) after c.grow.ensures.count (last-place c) distinct up c.grow.ensures.each entry in
     let kept = c.len-kept.ensures ∙ a.nodes.ok.0 ∙ sym (length-entries os 0) ∙ ap (λ (t : Table). length t.entries) c.self.view_is in
     let room = ne_eqb (length old.entries) old.limits.max_kept (λ e.

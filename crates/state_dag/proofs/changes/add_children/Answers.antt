@@ -1,15 +1,15 @@
-use Rattle.std.proofs.Common.{◌≡◌, ◌∙◌, ◌<◌, ◌+◌, ◌++◌, ◌∷◌, [], Bool, ℕ, false, cond, eqb, length, take, get_or, refl, sym, ap, subst, eq-eqb, arith}
+use Rattle.std.proofs.Common.{◌≡◌, ◌∙◌, ◌<◌, ◌≤◌, ◌+◌, ◌++◌, ◌∷◌, [], ℕ, false, IsTrue, inl, inr, eqb, length, take, get_or, refl, sym, ap, subst, eq-eqb, length-append, arith}
+use Rattle.std.specs.List.{list_all}
+use Rattle.std.proofs.lemmas.Bool.{cases_Bool}
 use Rattle.std.proofs.lemmas.List.{length-set, get_or-set_other}
-use Rattle.std.proofs.lemmas.List.Sums.{sum_by-set}
-use Rattle.std.proofs.lemmas.List.Filters.{length-filter_more}
 use Rattle.std.proofs.lemmas.List.Folds.{list_any_at}
 use Rattle.tardis_base.specs.declared.ids.Slot.{Slot}
 use Rattle.state_dag.specs.declared.nodes.Node.{Node}
-use Rattle.state_dag.specs.Grown.{is_slot_among, number_of_children}
-use Rattle.state_dag.specs.Nodes.{table_of, AreDistinct, HasChild, TakesChild, leaf_of}
-use Rattle.state_dag.proofs.NodeLists.{at-set, place-within, children-found}
-use Rattle.state_dag.proofs.NodeRooms.{read-at}
-use Rattle.state_dag.proofs.NodeGrowth.{distinct-at, leaf-none, among-parts, child-own, child-other}
+use Rattle.state_dag.specs.Grown.{is_slot_among}
+use Rattle.state_dag.specs.Nodes.{AreDistinct, HasChild, TakesChild}
+use Rattle.state_dag.proofs.NodeLists.{at-set, place-within}
+use Rattle.state_dag.proofs.NodeRooms.{read-at, among-before}
+use Rattle.state_dag.proofs.NodeGrowth.{distinct-at, among-parts, child-own, child-other}
 use Rattle.state_dag.proofs.changes.add_children.Goals as goal
 
 pub loop-parent-preserved : goal.loop-parent-preserved
@@ -25,12 +25,9 @@ loop-parent-preserved c =
     let nodes = c.loop-parent.nodes.items in
     let here : p < length nodes = omega arith in
     let old = c.index_mut.result.now in
-    let new = c.add_child-left.new.node in
-    let made = c.add_child-left.ensures in
+    let new = c.add_child.new.node in
+    let made = c.add_child.ensures in
     let stay = length-set nodes p new in
-    let leaves = sum_by-set leaf_of nodes p new old here in
-    let read = ap leaf_of c.index_mut.ensures.value in
-    let own = made.leaves in
     let untouched = λ (distinct : AreDistinct parents).
     c.index_mut.ensures.value ∙ c.loop-parent.invariant.others p old (distinct-at parents i none distinct within) in
     let roomy = λ (distinct : AreDistinct parents).
@@ -59,13 +56,26 @@ loop-parent-preserved c =
           child-own c.args.id c.args.slot parents i none within k (get_or first k d) new (sym e) (made.children room.0 ∙ ap (λ (m : Node). m.children.items ++ c.args.id ∷ []) same)
           (made.stand_ins room.1 ∙ ap (λ (m : Node). m.stand_ins.items ++ c.args.slot ∷ []) same))
           (λ ne. child-other c.args.id c.args.slot parents i none within k (get_or first k d) (get_or nodes k d) ne (c.loop-parent.invariant.each distinct k d (omega arith)));
-      leaves = omega arith;
-      fewer = λ distinct.
-          let childless : Slot → Bool = λ s. eqb (number_of_children (table_of first) s) 0 in
-          let more = length-filter_more childless parents i none within in
-          let number = children-found first p old placed ∙ ap (λ (m : Node). length m.children.items) (sym (untouched distinct)) in
-          let leaf : cond (childless (get_or parents i none)) 1 0 ≡ leaf_of old = ap (λ n. cond (eqb n 0) 1 0) number in
-          let gone = leaf-none new old.children.items c.args.id (made.children (roomy distinct).0) in
-          let before = c.loop-parent.invariant.fewer distinct in
-          omega arith;
+      parent = λ k d lt there.
+          at-set (λ (m : Node). 1 ≤ length m.children.items) nodes p new k d here
+          (λ e.
+          let longer = made.longer in
+          elim (cases_Bool (is_slot_among (record { 0 = p }) (take i parents))) [
+            | inl t ↦
+                let before = c.loop-parent.invariant.parent p old here t in
+                let same = ap (λ (m : Node). length m.children.items) c.index_mut.ensures.value in
+                omega arith
+            | inr f ↦
+                let was = c.index_mut.ensures.value ∙ c.loop-parent.invariant.others p old f in
+                let room = c.requires.room p old placed (list_any_at (λ (t : Slot). eqb t.0 p) parents i none within (eq-eqb p p refl)) in
+                let more = ap length (made.children (subst TakesChild (sym was) room).0) ∙ length-append old.children.items (c.args.id ∷ []) in
+                omega arith
+          ])
+          (λ ne. c.loop-parent.invariant.parent k d (omega arith) (among-before parents i none k within there ne));
+      slots = λ test k d lt all own.
+          at-set (λ (m : Node). IsTrue (list_all test m.stand_ins.items)) nodes p new k d here
+          (λ e.
+          let same = read-at nodes p old new here c.index_mut.ensures.value k d e in
+          made.slots test (subst (λ (m : Node). IsTrue (list_all test m.stand_ins.items)) (sym same) (c.loop-parent.invariant.slots test k d (omega arith) all own)) own)
+          (λ ne. c.loop-parent.invariant.slots test k d (omega arith) all own);
     }

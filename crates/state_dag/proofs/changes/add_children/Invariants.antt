@@ -1,7 +1,9 @@
-use Rattle.std.proofs.Common.{◌≡◌, ◌+◌, ◌==◌, ◌<◌, ℕ, false, length, filter, get_or, take, vec_len, vec_capacity}
+use Rattle.std.proofs.Common.{◌≡◌, ◌<◌, ◌≤◌, ℕ, Bool, false, IsTrue, length, get_or, take, vec_len, vec_capacity}
+use Rattle.std.specs.List.{list_all}
+use Rattle.tardis_base.specs.declared.ids.Slot.{Slot}
 use Rattle.state_dag.specs.declared.nodes.Node.{Node}
-use Rattle.state_dag.specs.Grown.{is_slot_among, number_of_children}
-use Rattle.state_dag.specs.Nodes.{table_of, number_of_leaves, AreDistinct, HasChild}
+use Rattle.state_dag.specs.Grown.{is_slot_among}
+use Rattle.state_dag.specs.Nodes.{AreDistinct, HasChild}
 use Rattle.state_dag.proofs.changes.add_children.Given as goal
 
 abbrev pub invariant-loop-parent : goal.invariant-loop-parent
@@ -12,6 +14,6 @@ invariant-loop-parent l = record {
   rest : (k : ℕ) (d : Node) → get_or l.nodes.items k d ≡ record (get_or l.fn.nodes.items k d) { children = (get_or l.nodes.items k d).children; stand_ins = (get_or l.nodes.items k d).stand_ins };
   others : (k : ℕ) (d : Node) → is_slot_among (record { 0 = k }) (take l.parent-index l.parents) ≡ false → get_or l.nodes.items k d ≡ get_or l.fn.nodes.items k d;
   each : AreDistinct l.parents → (k : ℕ) (d : Node) → k < length l.nodes.items → HasChild l.id l.slot (take l.parent-index l.parents) k (get_or l.fn.nodes.items k d) (get_or l.nodes.items k d);
-  leaves : l.left ≡ number_of_leaves l.nodes.items;
-  fewer : AreDistinct l.parents → l.left + length (filter (λ p. number_of_children (table_of l.fn.nodes.items) p == 0) (take l.parent-index l.parents)) ≡ l.leaves;
+  parent : (k : ℕ) (d : Node) → k < length l.nodes.items → IsTrue (is_slot_among (record { 0 = k }) (take l.parent-index l.parents)) → 1 ≤ length (get_or l.nodes.items k d).children.items;
+  slots : (test : Slot → Bool) (k : ℕ) (d : Node) → k < length l.nodes.items → IsTrue (list_all test (get_or l.fn.nodes.items k d).stand_ins.items) → IsTrue (test l.slot) → IsTrue (list_all test (get_or l.nodes.items k d).stand_ins.items);
 }

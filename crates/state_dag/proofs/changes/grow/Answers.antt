@@ -1,11 +1,11 @@
-use Rattle.std.proofs.Common.{◌≡◌, ◌∙◌, ◌+◌, ◌++◌, ◌||◌, ◌==◌, Bool, true, false, List, length, get_or, IsTrue, refl, sym, ap, subst, arith}
+use Rattle.std.proofs.Common.{◌≡◌, ◌∙◌, ◌++◌, ◌||◌, Bool, true, false, List, length, get_or, IsTrue, refl, sym, ap, subst, arith}
+use Rattle.std.specs.List.{list_all}
 use Rattle.tardis_base.specs.declared.ids.Slot.{Slot}
 use Rattle.fork_path.specs.Pairs.{Pairs, are_ascending_pairs, has_pair}
 use Rattle.state_dag.specs.declared.nodes.Node.{Node}
-use Rattle.state_dag.specs.Grown.{is_slot_among, is_first_branch, number_of_children, only_if}
-use Rattle.state_dag.specs.Nodes.{table_of, leaf_of}
+use Rattle.state_dag.specs.Grown.{is_slot_among, is_first_branch, only_if}
+use Rattle.state_dag.specs.Nodes.{table_of}
 use Rattle.state_dag.proofs.Gains.{gains-counted, gains-told, gains-placed}
-use Rattle.state_dag.proofs.NodeGrowth.{same-leaves, same-children, same-filter}
 use Rattle.state_dag.proofs.changes.grow.Goals as goal
 
 or-turn : (a b : Bool) → (a || b) ≡ (b || a)
@@ -16,12 +16,6 @@ or-turn false false = refl
 
 pub grow_paths-requires-clause-places : goal.grow_paths-requires-clause-places
 grow_paths-requires-clause-places c = gains-placed c.args.nodes.now.items c.args.parents.now c.args.gains.now c.requires.gains
-
-pub add_children-requires-clause-leaves : goal.add_children-requires-clause-leaves
-add_children-requires-clause-leaves c =
-    c.requires.leaves
-    ∙ sym (same-leaves c.grow_paths.new.nodes.items c.args.nodes.now.items c.grow_paths.ensures.count
-    (λ k d lt. let count = c.grow_paths.ensures.count in ap leaf_of (c.grow_paths.ensures.each k d (omega arith)).rest))
 
 pub returns-clause-each : goal.returns-clause-each
 returns-clause-each c = λ k d lt.
@@ -56,14 +50,8 @@ returns-clause-each c = λ k d lt.
             children = made.children ∙ ap (λ (n : Node). n.children.items ++ only_if (is_slot_among (record { 0 = k }) parents) c.args.id) gained.rest;
             stand_ins = made.stand_ins ∙ ap (λ (n : Node). n.stand_ins.items ++ only_if (is_slot_among (record { 0 = k }) parents) c.args.slot) gained.rest;
           };
+      parent = λ there. c.add_children.ensures.parent k d (omega arith) there;
+      other = λ apart. ap (λ (n : Node). n.children.items) (c.add_children.ensures.other k d apart) ∙ ap (λ (n : Node). n.children.items) gained.rest;
+      slots = λ test all own.
+          c.add_children.ensures.slots test k d (omega arith) (subst (λ (ss : List Slot). IsTrue (list_all test ss)) (sym (ap (λ (n : Node). n.stand_ins.items) gained.rest)) all) own;
     }
-
-pub returns-clause-fewer : goal.returns-clause-fewer
-returns-clause-fewer c = λ distinct.
-    let first = c.args.nodes.now.items in
-    let mid = c.grow_paths.new.nodes.items in
-    let parents = c.args.parents.now in
-    let childless : List Node → Slot → Bool = λ ns s. number_of_children (table_of ns) s == 0 in
-    let same = same-filter (childless mid) (childless first) (length first) parents
-    (λ s lt. ap (λ n. n == 0) (same-children first mid c.grow_paths.ensures.count (λ k d within. ap (λ (n : Node). n.children.items) (c.grow_paths.ensures.each k d within).rest) s lt)) c.requires.places in
-    ap (λ ss. c.add_children.result + length ss) (sym same) ∙ c.add_children.ensures.fewer distinct
