@@ -1,8 +1,8 @@
 -- The kept states that hold a key, and what is read by them.
-use Rattle.std.proofs.Common.{◌≡◌, ℕ, ◌<◌, ◌≤◌, true, ltb, ◌&&◌, not, List, [], ◌∷◌, filter, Option, Some, None, IsTrue, IsSome, ◌⊎◌, inl, inr, refl, sym, ap, subst, ◌∙◌, if◌then◌else◌, arith}
+use Rattle.std.proofs.Common.{◌≡◌, ℕ, ◌<◌, ◌≤◌, true, false, ltb, ◌&&◌, not, List, [], ◌∷◌, filter, Option, Some, None, IsTrue, IsSome, ◌⊎◌, inl, inr, refl, sym, ap, subst, ◌∙◌, if◌then◌else◌, arith}
 use Rattle.std.specs.List.{list_any}
-use Rattle.std.specs.Option.{option_map, option_and_then}
-use Rattle.std.proofs.lemmas.Bool.{and_parts, and_from, cases_Bool, cond-true, cond-false, ltb-true, ltb-false}
+use Rattle.std.specs.Option.{option_map, option_map_or, option_and_then}
+use Rattle.std.proofs.lemmas.Bool.{and_parts, and_from, cases_Bool, both_ways, false_from_ne_true, cond-true, cond-false, ltb-true, ltb-false}
 use Rattle.std.proofs.lemmas.Option.{none-some, same_Some}
 use Rattle.tardis_base.specs.declared.ids.StateId.{StateId}
 use Rattle.tardis_base.specs.declared.records.Record.{Record}
@@ -13,7 +13,7 @@ use Rattle.plain_dag.specs.Writers.{is_writer, latest_writer, version_at, read}
 use Rattle.plain_dag.specs.Landing.{is_between, is_news}
 use Rattle.plain_dag.specs.Collection.{is_kept, kept_states, stand_in}
 use Rattle.plain_dag.specs.Dag.{IsDag}
-use Rattle.plain_dag.specs.Laws.{IsLatestWriter, StandInsAreShared, StandsInWell}
+use Rattle.plain_dag.specs.Laws.{IsLatestWriter, HasOneLatestWriter, StandInsAreShared, StandsInWell}
 use Rattle.plain_dag.proofs.Ids.{same_test, not-both, same_id-true, same_id_self, among-first, among-later, among-cases, any-witness, any-from}
 use Rattle.plain_dag.proofs.Searches.{filtered-passes, among-filter}
 use Rattle.plain_dag.proofs.Order.{above-reflexive, above-transitive, ancestors-arrive-earlier, ancestors-are-known}
@@ -241,23 +241,39 @@ module _ (rs : List Record) (ks : List StateId) (dag : IsDag rs) (shared : Stand
 
   -- ===== News
 
-  pub news-held : (k : List ℕ) (s c : StateId) → IsTrue (is_kept rs ks s) → IsTrue (is_kept rs ks c) → list_any (is_between rs s c) (holders rs ks k) ≡ is_news rs s c k
-  news-held k s c kept_s kept_c = same_test (list_any (is_between rs s c) (holders rs ks k)) (is_news rs s c k) there back
+  -- the key is news of one kept state to another exactly where the stand-in of its latest writer at the one isn't at or above the other
+  pub news-told : (k : List ℕ) (s c : StateId) → IsTrue (is_kept rs ks s) → IsTrue (is_kept rs ks c) → option_map_or (λ y. not (is_above rs y s)) (option_map (stand_in rs ks) (latest_writer rs k c)) false ≡ is_news rs s c k
+  news-told k s c kept_s kept_c = go (latest_writer rs k c) refl
     where
-      same-between : (w : StateId) → IsTrue (is_known rs w) → is_between rs s c w ≡ is_between rs s c (stand_in rs ks w)
-      same-between w here =
-          ap (λ b. b && not (is_above rs w s)) (well.tells w c here kept_c)
-          ∙ ap (λ b. is_above rs (stand_in rs ks w) c && not b) (well.tells w s here kept_s)
+      law : HasOneLatestWriter rs k c
+      law = one-latest-writer rs dag k c (and_parts (is_known rs c) (not (is_among c ks)) kept_c).0
 
-      there : IsTrue (list_any (is_between rs s c) (holders rs ks k)) → IsTrue (is_news rs s c k)
-      there h =
-          let y = any-witness (is_between rs s c) (holders rs ks k) h in
-          let w = holder-writes k y.0 (holder-parts k y.0 y.1).1 in
-          any-from (λ w. writes_key rs k w && is_between rs s c w) (states rs) w.0 w.1
-          (and_from (writes_key rs k w.0) (is_between rs s c w.0) w.2 (same-between w.0 w.1 ∙ subst (λ z. IsTrue (is_between rs s c z)) (sym w.3) y.2))
-
-      back : IsTrue (is_news rs s c k) → IsTrue (list_any (is_between rs s c) (holders rs ks k))
-      back h =
+      -- a writer that is news
+      found : IsTrue (is_news rs s c k) → (w : StateId) × IsTrue (is_writer rs k c w) × IsTrue (not (is_above rs w s))
+      found h =
           let w = any-witness (λ w. writes_key rs k w && is_between rs s c w) (states rs) h in
           let parts = and_parts (writes_key rs k w.0) (is_between rs s c w.0) w.2 in
-          any-from (is_between rs s c) (holders rs ks k) (stand_in rs ks w.0) (writer-is_held k w.0 w.1 parts.0) (sym (same-between w.0 w.1) ∙ parts.1)
+          let between = and_parts (is_above rs w.0 c) (not (is_above rs w.0 s)) parts.1 in
+          (w.0, and_from (writes_key rs k w.0) (is_above rs w.0 c) parts.0 between.0, between.1)
+
+      none : latest_writer rs k c ≡ None → is_news rs s c k ≡ false
+      none is = false_from_ne_true (is_news rs s c k) (λ h. let w = found h in let l = some-of (latest_writer rs k c) (law.found w.0 w.1) in none-some l.0 (sym is ∙ l.1))
+
+      go : (o : Option StateId) → latest_writer rs k c ≡ o → option_map_or (λ y. not (is_above rs y s)) (option_map (stand_in rs ks) o) false ≡ is_news rs s c k
+      go None is = sym (none is)
+      go (Some l) is =
+          let latest = law.is_latest l is in
+          let parts = and_parts (writes_key rs k l) (is_above rs l c) latest.writes in
+          let here = writer-is_known k c kept_c l latest.writes in
+          let told = well.tells l s here kept_s in
+          elim (cases_Bool (is_above rs l s)) [
+            | inl t ↦
+                ap not (sym told ∙ t)
+                ∙ sym (false_from_ne_true (is_news rs s c k) (λ h.
+                let w = found h in
+                both_ways (not (is_above rs w.0 s)) (ap not (above-transitive rs dag w.0 l s (latest.below w.0 w.1) t)) w.2))
+            | inr f ↦
+                ap not (sym told ∙ f)
+                ∙ sym (any-from (λ w. writes_key rs k w && is_between rs s c w) (states rs) l here
+                (and_from (writes_key rs k l) (is_between rs s c l) parts.0 (and_from (is_above rs l c) (not (is_above rs l s)) parts.1 (ap not f))))
+          ]

@@ -11,7 +11,7 @@ use Rattle.state_dag.specs.Table.{Table, is_slot, arrive_in_order, is_kept_at, a
 use Rattle.state_dag.specs.Stands.{Stands}
 use Rattle.state_dag.specs.Answers.{MayBeAdded, AddedTo, IsNewSlot, KeepsSlots}
 use Rattle.version_list.specs.declared.histories.Version.{Version}
-use Rattle.version_list.specs.Versions.{Versions, versions_of, version_by, are_in_order}
+use Rattle.version_list.specs.Versions.{Versions, listed_keys, versions_of, version_by, are_in_order}
 use Rattle.record_store.specs.declared.RecordStore.TheInside.{Inside}
 use Rattle.record_store.specs.Store.{Store}
 use Rattle.record_store.specs.Held.{seen, IsHeld}
@@ -42,24 +42,24 @@ module _ (a : Inside) (store : Store) (is : seen a ≡ store) where
   }
 
   -- there was no memory
-  pub short-of_memory : (vs : Versions) → ((k : List ℕ) → versions_of vs k ≡ versions_of a.versions k) → (answer : Result Slot AddFault) → IsErrAnd answer (λ f. f ≡ NoMemory) →
+  pub short-of_memory : (vs : Versions) → ((k : List ℕ) → versions_of vs k ≡ versions_of a.versions k) → listed_keys vs ≡ listed_keys a.versions → (answer : Result Slot AddFault) → IsErrAnd answer (λ f. f ≡ NoMemory) →
       (rs : List Record) (ks : List StateId) (r : Record) → StoreStands store rs ks → AddedIn store (record { table = a.dag; versions = vs }) rs ks r answer
-  short-of_memory vs versions (Ok slot) none rs ks r stands = absurd (none)
-  short-of_memory vs versions (Err f) none rs ks r stands =
+  short-of_memory vs versions listed (Ok slot) none rs ks r stands = absurd (none)
+  short-of_memory vs versions listed (Err f) none rs ks r stands =
       subst (λ g. AddedIn store (record { table = a.dag; versions = vs }) rs ks r (Err g)) (sym none)
-      (same-stands (seen a) (record { table = a.dag; versions = vs }) rs ks (seen-stands rs ks stands) (record { table = refl; versions = versions }))
+      (same-stands (seen a) (record { table = a.dag; versions = vs }) rs ks (seen-stands rs ks stands) (record { table = refl; versions = versions; listed = listed }))
 
   -- the table refused it
-  pub refused-by_table : (dag : Table) (vs : Versions) (parents : List Slot) (f : AddFault) → dag ≡ a.dag → ((k : List ℕ) → versions_of vs k ≡ versions_of a.versions k) → (answer : Result Slot AddFault) → IsErrAnd answer (λ g. g ≡ f) →
+  pub refused-by_table : (dag : Table) (vs : Versions) (parents : List Slot) (f : AddFault) → dag ≡ a.dag → ((k : List ℕ) → versions_of vs k ≡ versions_of a.versions k) → listed_keys vs ≡ listed_keys a.versions → (answer : Result Slot AddFault) → IsErrAnd answer (λ g. g ≡ f) →
       (rs : List Record) (ks : List StateId) (r : Record) → StoreStands store rs ks → MayBeAdded store.table rs ks r parents → (Stands a.dag rs ks → MayBeAdded a.dag rs ks r parents → AddedTo a.dag dag rs ks r (Err f)) →
       AddedIn store (record { table = dag; versions = vs }) rs ks r answer
-  refused-by_table dag vs parents f same versions (Ok slot) is_f rs ks r stands may added = absurd (is_f)
-  refused-by_table dag vs parents f same versions (Err g) is_f rs ks r stands may added =
+  refused-by_table dag vs parents f same versions listed (Ok slot) is_f rs ks r stands may added = absurd (is_f)
+  refused-by_table dag vs parents f same versions listed (Err g) is_f rs ks r stands may added =
       let new : Store = record { table = dag; versions = vs } in
       let held = seen-stands rs ks stands in
       subst (λ h. AddedIn store new rs ks r (Err h)) (sym is_f)
       (subst (λ s. AddedIn s new rs ks r (Err f)) is
-      (added-none (seen a) new rs ks r f held (record { table = same; versions = versions }) (added held.table (seen-may rs ks r parents may))))
+      (added-none (seen a) new rs ks r f held (record { table = same; versions = versions; listed = listed }) (added held.table (seen-may rs ks r parents may))))
 
   -- it was added
   pub added-to_both : (dag : Table) (vs : Versions) (id : StateId) (writes : List KeyWrite) (parents : List Slot) (slot : Slot) → IsNewSlot a.dag dag id slot → KeepsSlots a.dag dag →

@@ -1,8 +1,7 @@
 -- What is read of the versions that a store holds.
-use Rattle.std.proofs.Common.{◌≡◌, ℕ, Bool, ltb, List, [], ◌∷◌, map, filter, Option, Some, None, inl, inr, refl, sym, ap, ap₂, ◌∙◌}
-use Rattle.std.specs.List.{list_any}
-use Rattle.std.specs.Option.{option_map, option_and_then}
-use Rattle.std.proofs.lemmas.Bool.{cases_Bool, cond-true, cond-false}
+use Rattle.std.proofs.Common.{◌≡◌, ℕ, Bool, true, false, not, ltb, List, [], ◌∷◌, map, filter, Option, Some, None, is_some, IsTrue, inl, inr, refl, sym, ap, ap₂, ◌∙◌}
+use Rattle.std.specs.Option.{option_map, option_map_or, option_and_then}
+use Rattle.std.proofs.lemmas.Bool.{cases_Bool, both_ways, cond-true, cond-false}
 use Rattle.std.proofs.lemmas.Option.{same_Some}
 use Rattle.tardis_base.specs.declared.ids.StateId.{StateId}
 use Rattle.tardis_base.specs.declared.ids.Slot.{Slot}
@@ -10,17 +9,18 @@ use Rattle.tardis_base.specs.declared.records.Record.{Record}
 use Rattle.tardis_base.specs.declared.records.Write.{Write}
 use Rattle.plain_dag.specs.States.{arrival}
 use Rattle.plain_dag.specs.Above.{is_above}
-use Rattle.plain_dag.specs.Writers.{read}
-use Rattle.plain_dag.specs.Landing.{is_between, is_news}
-use Rattle.state_dag.specs.Table.{Table, id_at, is_slot_above, arrival_at}
+use Rattle.plain_dag.specs.Writers.{latest_writer, read}
+use Rattle.plain_dag.specs.Landing.{is_news}
+use Rattle.plain_dag.specs.Collection.{stand_in}
+use Rattle.state_dag.specs.Table.{Entry, Table, entry_at, id_at, is_slot, is_slot_above, arrival_at}
 use Rattle.state_dag.specs.Stands.{Stands}
 use Rattle.state_dag.proofs.Standing.{slots-tell, slots-arrive, slot-is_kept}
 use Rattle.version_list.specs.declared.histories.Version.{Version}
 use Rattle.version_list.specs.Versions.{versions_of}
-use Rattle.version_list.specs.Reads.{later_of, last_arrived, latest_version, has_between, written}
+use Rattle.version_list.specs.Reads.{later_of, last_arrived, latest_version, written}
 use Rattle.record_store.specs.Store.{Store}
 use Rattle.record_store.specs.Stands.{shown_version, StoreStands}
-use Rattle.record_store.proofs.Holders.{later_state, last_state, holders, reads-last, news-held}
+use Rattle.record_store.proofs.Holders.{later_state, last_state, holders, reads-last, news-told}
 
 -- a state with what is read there
 abbrev pub read_with : List Record → List ℕ → StateId → Option StateId × Option (StateId × Write)
@@ -72,20 +72,6 @@ module _ (table : Table) (rs : List Record) (ks : List StateId) (stands : Stands
             ∙ (later ∙ sym (ap (λ zs. option_map (read_with rs k) (last_state (arrival rs) zs)) (cond-false (below y) (y ∷ gs) gs n)))
       ]
 
-  -- so is whether one of them is between two states
-  between-shown : (low high : Slot) (c s : StateId) → id_at table low ≡ Some c → id_at table high ≡ Some s → (vs : List Version) (ys : List StateId) → map (shown_version table) vs ≡ map (read_with rs k) ys →
-      has_between (is_slot_above table) vs low high ≡ list_any (is_between rs s c) ys
-  between-shown low high c s low_is high_is [] [] e = refl
-  between-shown low high c s low_is high_is [] (y ∷ ys) e = cc
-  between-shown low high c s low_is high_is (v ∷ vs) [] e = cc
-  between-shown low high c s low_is high_is (v ∷ vs) (y ∷ ys) e =
-      let here : shown_version table v ≡ read_with rs k y = cc in
-      let rest : map (shown_version table) vs ≡ map (read_with rs k) ys = cc in
-      let later = between-shown low high c s low_is high_is vs ys rest in
-      let one = slots-tell table rs ks stands v.slot low y c (shown-at v y here) low_is in
-      let two = slots-tell table rs ks stands v.slot high y s (shown-at v y here) high_is in
-      cc
-
 -- what was shown is what is read
 read-of_shown : (table : Table) (rs : List Record) (k : List ℕ) (o : Option Version) (p : Option StateId) → option_map (shown_version table) o ≡ option_map (read_with rs k) p → option_map written o ≡ option_and_then (read rs k) p
 read-of_shown table rs k None None e = refl
@@ -103,10 +89,18 @@ found-is_read store rs ks stands slot x named k =
     (latest-shown store.table rs ks stands.table k slot x named vs hs (stands.versions k))
     ∙ reads-last rs ks stands.table.dag stands.table.shared k x (slot-is_kept store.table rs ks stands.table slot x named)
 
--- whether a version is between two kept states is whether the key is news
-pub between-is_news : (store : Store) (rs : List Record) (ks : List StateId) → StoreStands store rs ks → (from child : Slot) (x c : StateId) → id_at store.table from ≡ Some x → id_at store.table child ≡ Some c → (k : List ℕ) →
-    has_between (is_slot_above store.table) (versions_of store.versions k) child from ≡ is_news rs x c k
-between-is_news store rs ks stands from child x c from_is child_is k =
-    between-shown store.table rs ks stands.table k child from c x child_is from_is (versions_of store.versions k) (holders rs ks k) (stands.versions k)
-    ∙ news-held rs ks stands.table.dag stands.table.shared k x c
+-- whether the state that holds the key at one isn't at or above the other is whether the key is news
+pub holder-is_news : (store : Store) (rs : List Record) (ks : List StateId) → StoreStands store rs ks → (from child : Slot) (x c : StateId) → id_at store.table from ≡ Some x → id_at store.table child ≡ Some c → (k : List ℕ) →
+    (h : Option StateId) → h ≡ option_map (stand_in rs ks) (latest_writer rs k c) → option_map_or (λ y. not (is_above rs y x)) h false ≡ is_news rs x c k
+holder-is_news store rs ks stands from child x c from_is child_is k h is =
+    ap (λ o. option_map_or (λ y. not (is_above rs y x)) o false) is
+    ∙ news-told rs ks stands.table.dag stands.table.shared k x c
     (slot-is_kept store.table rs ks stands.table from x from_is) (slot-is_kept store.table rs ks stands.table child c child_is)
+
+-- which state is kept at a slot
+pub slot-named : (table : Table) (slot : Slot) → IsTrue (is_slot table slot) → (y : StateId) × (id_at table slot ≡ Some y)
+slot-named table slot h = go (entry_at table slot) h
+  where
+    go : (o : Option Entry) → is_some o ≡ true → (y : StateId) × (option_map (λ e. e.id) o ≡ Some y)
+    go None e = absurd (both_ways false refl e)
+    go (Some e) _ = (e.id, refl)

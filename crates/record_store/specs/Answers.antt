@@ -15,7 +15,7 @@ use Rattle.plain_dag.specs.Collection.{stand_in}
 use Rattle.plain_dag.specs.Dag.{IsNext}
 use Rattle.plain_dag.specs.Growth.{growth_refusal}
 use Rattle.state_dag.specs.Table.{Table}
-use Rattle.version_list.specs.Versions.{versions_of}
+use Rattle.version_list.specs.Versions.{listed_keys, versions_of}
 use Rattle.record_store.specs.Store.{Store}
 use Rattle.record_store.specs.Stands.{StoreStands}
 
@@ -27,10 +27,11 @@ AddedIn old new rs ks r (Err (Full kept)) = (growth_refusal true old.table.limit
 AddedIn old new rs ks r (Err (PathFull x n)) = (growth_refusal true old.table.limits ks rs r ≡ Some (IsPathFull x n)) × StoreStands new rs ks
 AddedIn old new rs ks r (Err NoMemory) = StoreStands new rs ks
 
--- the table and all versions are as they were; only room for more may have grown
+-- the table, all versions and the listed keys are as they were; only room for more may have grown
 pub record IsSameStore (old new : Store) : Type 0 where
   pub table : new.table ≡ old.table
   pub versions : (k : List ℕ) → versions_of new.versions k ≡ versions_of old.versions k
+  pub listed : listed_keys new.versions ≡ listed_keys old.versions
 
 -- the record may arrive, at one of the sites, and no state at or below one of its parents is collected
 pub record MayArrive (sites : ℕ) (rs : List Record) (ks : List StateId) (r : Record) : Type 0 where

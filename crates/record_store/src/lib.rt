@@ -3,7 +3,7 @@
 //! What a read, a write and a new state mean is stated in `docs/MODEL.md`.
 #![tactic(auto)]
 
-ghost use Rattle.std.specs.Prelude.{◌≡◌, ◌+◌, ◌-◌, ◌≤◌, ℕ, List, [], ◌∷◌, length, map, take, Option, Some, None, slice_get, unwrap_or, IsTrue, IfOk, IfSome, OnErr};
+ghost use Rattle.std.specs.Prelude.{◌≡◌, ◌+◌, ◌-◌, ◌≤◌, ℕ, List, [], ◌∷◌, length, map, take, Option, Some, None, slice_get, unwrap_or, IsTrue, IfOk, IfSome, OnOk, OnErr};
 ghost use Rattle.std.specs.List.{list_all};
 ghost use Rattle.std.specs.Option.{option_map, option_and_then};
 ghost use Rattle.tardis_base.specs.declared.ids.StateId.{StateId};
@@ -25,6 +25,7 @@ ghost use Rattle.record_store.specs.Answers.{AddedIn, IsSameStore, MayArrive, St
 use state_dag::StateDag;
 use std::alloc::Global;
 use std::marker::Model;
+use std::mem;
 use tardis_base::{
     AddFault, Found, Key, Limits, NoMemory, Record, Slot, StateId, StateList, Write, WriteSet,
 };
@@ -82,11 +83,9 @@ impl RecordStore {
         &self.versions
     }
 
-    /// Adds the next state of a site, below the states at these slots, with what it writes.
+    /// Adds the next state of a site, below the states at these slots, with a copy of what it writes.
     ///
-    /// Where it is refused, or there is no memory, only room for more may have grown. The cost grows with the lengths of the
-    /// parents' fork paths and with the writes. Where a parent gets its second child it grows with the number of kept states
-    /// and their fork paths too.
+    /// It answers as `commit` does, at that cost and that of the copy.
     pub fn add_state(
         &mut self,
         id: StateId,
@@ -103,10 +102,47 @@ impl RecordStore {
         ensures limits { self.new.table.limits ≡ self.old.table.limits }
         ensures same { OnErr result (IsSameStore self.old self.new) }
     {
-        let writes = self.versions.reserve(writes)?;
-        let slot = self.dag.add(id, parents)?;
-        self.versions.add(&self.dag, slot, id, writes);
-        Ok(slot)
+        let mut copy = writes.copy()?;
+        self.commit(id, parents, &mut copy)
+    }
+
+    /// Adds the next state of a site, below the states at these slots, with what it writes, which is moved here.
+    ///
+    /// Where it is refused, or there is no memory, the writes stay where they were, and only room for more may have grown. The
+    /// cost grows with the lengths of the parents' fork paths, and for each write with a look-up of its key; a key that was
+    /// never written before is copied, and nothing else. Where a parent gets its second child it grows with the number of kept
+    /// states and their fork paths too.
+    pub fn commit(
+        &mut self,
+        id: StateId,
+        parents: &[Slot],
+        writes: &mut WriteSet,
+    ) -> Result<Slot, AddFault>
+        requires slots { IsTrue (list_all (is_slot self.old.table) parents.now) }
+        requires first { 1 ≤ id.site }
+        requires last { id.site ≤ self.old.table.limits.sites }
+        requires next { id.sequence ≡ unwrap_or (slice_get self.old.table.counts (id.site - 1)) 0 + 1 }
+        ensures added { (rs : List Record) (ks : List StateId) (r : Record) → StoreStands self.old rs ks → r.id ≡ id → r.writes ≡ writes.old → MayBeAdded self.old.table rs ks r parents.now → AddedIn self.old self.new rs ks r result }
+        ensures slot { IfOk result (λ slot. IsNewSlot self.old.table self.new.table id slot) }
+        ensures keeps { KeepsSlots self.old.table self.new.table }
+        ensures limits { self.new.table.limits ≡ self.old.table.limits }
+        ensures same { OnErr result (IsSameStore self.old self.new) }
+        ensures moved { OnOk result (writes.new ≡ []) }
+        ensures left { OnErr result (writes.new ≡ writes.old) }
+    {
+        let listed = self.versions.keys();
+        self.versions.make_room(writes)?;
+        match self.dag.add(id, parents) {
+            Ok(slot) => {
+                let moved = mem::replace(writes, WriteSet::new(self.alloc));
+                self.versions.add(&self.dag, slot, id, moved);
+                Ok(slot)
+            },
+            Err(fault) => {
+                self.versions.withdraw(listed);
+                Err(fault)
+            },
+        }
     }
 
     /// Adds the record, whose parents are kept, as the next state of a site.
@@ -147,7 +183,8 @@ impl RecordStore {
 
     /// What is read of the key at the state of this slot.
     ///
-    /// The cost grows with the number of the key's versions that are newer than the one found.
+    /// The cost is that of a look-up of the key and of a binary search among its versions, and grows with the number of those
+    /// that had arrived when the state did and are newer than the one found.
     pub fn read_at(&self, slot: Slot, key: &Key) -> Found<'_>
         requires { IsTrue (is_slot self.now.table slot) }
         ensures { (rs : List Record) (ks : List StateId) → StoreStands self.now rs ks → (x : StateId) → id_at self.now.table slot ≡ Some x → found result ≡ read rs key.now x }
@@ -159,14 +196,17 @@ impl RecordStore {
     /// Whether the key is news of the child to the state at `from`: whether a state at or above the child, and not at or
     /// above `from`, writes it.
     ///
-    /// The cost grows with the number of the key's versions.
+    /// Only the latest writer at the child is asked, since all others there are at or above it. The cost is that of `read_at`
+    /// at the child, and of one question of ancestry.
     pub fn is_news(&self, from: Slot, child: Slot, key: &Key) -> bool
         requires from { IsTrue (is_slot self.now.table from) }
         requires child { IsTrue (is_slot self.now.table child) }
         ensures { (rs : List Record) (ks : List StateId) → StoreStands self.now rs ks → (x c : StateId) → id_at self.now.table from ≡ Some x → id_at self.now.table child ≡ Some c → result ≡ is_news rs x c key.now }
     {
-        let _ = &self.dag;
-        self.versions.has_news(&self.dag, child, from, key)
+        match self.holder_at(child, key) {
+            Some(holder) => !self.dag.is_ancestor(holder, from),
+            None => false,
+        }
     }
 
     /// The slot of the state that stands in for the latest writer of the key at the state of this slot; None exactly where

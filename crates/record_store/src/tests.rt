@@ -117,14 +117,17 @@ fn merged(rt: &impl Abort, alloc: Global, store: &mut RecordStore)
     assert!(rt; store.record_of(slot).expect(rt, "room") == merge);
 }
 
-/// Adds no state below 1.4, since the store is full.
+/// Adds no state below 1.4, since the store is full; what was to be written, a new key too, stays where it was.
 fn full(rt: &impl Abort, alloc: Global, store: &mut RecordStore)
     requires { 1 ≤ store.old.table.limits.sites }
 {
     let id = next(rt, store, 5);
     let parent = at(rt, store, 4);
-    let answer = store.add_state(id, &[parent], &writes(rt, alloc, b"5"));
+    let mut fresh = writes(rt, alloc, b"5");
+    put(rt, alloc, &mut fresh, b"z", b"5");
+    let answer = store.commit(id, &[parent], &mut fresh);
     assert!(rt; answer == Err(AddFault::Full { kept: 5 }));
+    assert_eq!(rt; fresh.len(), 2);
 }
 
 /// What is read of the key at this state: who wrote it, if anyone, and the value, unless it was deleted.

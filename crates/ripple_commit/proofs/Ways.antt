@@ -1,6 +1,7 @@
 -- The way to a landing.
-use Rattle.std.proofs.Common.{◌≡◌, ℕ, ◌+◌, ◌≤◌, ◌<◌, Bool, true, false, not, ◌||◌, List, [], ◌∷◌, length, take, get_or, find, Option, Some, None, IsTrue, IsFalse, refl, sym, ap, subst, ◌∙◌, arith}
-use Rattle.std.specs.List.{list_any}
+use Rattle.std.proofs.Common.{◌≡◌, ℕ, ◌+◌, ◌≤◌, ◌<◌, Bool, true, false, not, ◌||◌, List, [], ◌∷◌, length, map, take, get_or, find, Option, Some, None, IsTrue, IsFalse, refl, sym, ap, ap₂, subst, ◌∙◌, arith}
+use Rattle.std.specs.List.{list_any, list_all}
+use Rattle.std.proofs.lemmas.List.{length-map}
 use Rattle.std.proofs.lemmas.Bool.{and_parts, and_from, or_parts, or_from, cond-true, cond-false, not_from_false}
 use Rattle.std.proofs.lemmas.Option.{same_Some}
 use Rattle.std.proofs.lemmas.List.Folds.{list_any_more}
@@ -14,10 +15,12 @@ use Rattle.plain_dag.specs.States.{is_known, arrival, children}
 use Rattle.plain_dag.specs.Above.{is_above}
 use Rattle.plain_dag.specs.Landing.{passes, first_passing, landing, guarded}
 use Rattle.plain_dag.specs.Dag.{IsDag}
-use Rattle.plain_dag.specs.Collection.{is_kept}
+use Rattle.plain_dag.specs.Collection.{is_kept, stand_in}
+use Rattle.plain_dag.specs.Laws.{StandInsAreShared}
 use Rattle.plain_dag.proofs.Ids.{among-first, among-later}
 use Rattle.plain_dag.proofs.Histories.{arrival_is_below}
 use Rattle.plain_dag.proofs.Order.{above-reflexive, above-transitive}
+use Rattle.plain_dag.proofs.StandIns.{stands-in-well}
 use Rattle.plain_dag.proofs.States.{child_is_known, child_arrives_later, parent_is_above}
 use Rattle.plain_dag.proofs.Searches.{found-passes}
 use Rattle.plain_dag.proofs.Landing.{lands-by-first-children, true-commit}
@@ -42,11 +45,6 @@ found-nowhere p (x ∷ xs) (ℕ.suc n) all none =
     let parts = or_parts (p x) (list_any p (take n xs)) none in
     cond-false (p x) (Some x) (find p xs) parts.0 ∙ found-nowhere p xs n (omega arith) parts.1
 
-among-at : (xs : List StateId) (i : ℕ) (d : StateId) → i < length xs → IsTrue (is_among (get_or xs i d) xs)
-among-at [] i d lt = absurd (omega arith)
-among-at (x ∷ xs) ℕ.zero d lt = among-first x xs
-among-at (x ∷ xs) (ℕ.suc i) d lt = among-later (get_or xs i d) x xs (among-at xs i d (omega arith))
-
 -- one of the written keys passes exactly where the key of a write does
 pub any-of_keys : (p : List ℕ → Bool) (ws : List KeyWrite) → list_any (λ w. p w.0) ws ≡ list_any p (keys_of ws)
 any-of_keys p [] = refl
@@ -57,15 +55,35 @@ child-is_kept : (rs : List Record) (ks : List StateId) (x c : StateId) → IsTru
 child-is_kept rs ks x c child out =
     and_from (is_known rs c) (not (is_among c ks)) (child_is_known rs x c child) (not_from_false (is_among c ks) out)
 
+-- ===== The slots of the children
+
+-- children that aren't collected stand in their own slots
+pub children-stand : (rs : List Record) (ks : List StateId) → IsDag rs → StandInsAreShared rs ks → (x : StateId) → ((c : StateId) → IsTrue (is_among c (children rs x)) → IsFalse (is_among c ks)) →
+    map (λ c. Some (stand_in rs ks c)) (children rs x) ≡ map (λ c. Some c) (children rs x)
+children-stand rs ks dag shared x out = go (children rs x) (λ c m. m)
+  where
+    go : (cs : List StateId) → ((c : StateId) → IsTrue (is_among c cs) → IsTrue (is_among c (children rs x))) → map (λ c. Some (stand_in rs ks c)) cs ≡ map (λ c. Some c) cs
+    go [] within = refl
+    go (c ∷ cs) within =
+        let child = within c (among-first c cs) in
+        let here = (stands-in-well rs ks dag shared).stays c (child-is_kept rs ks x c child (out c child)) in
+        ap₂ (λ (y : StateId) (ys : List (Option StateId)). Some y ∷ ys) here (go cs (λ d m. within d (among-later d c cs m)))
+
+-- a place among the slots is that of a child
+pub same_length : (table : Table) (slots : List Slot) (cs : List StateId) → map (id_at table) slots ≡ map (λ c. Some c) cs → length slots ≡ length cs
+same_length table slots cs named = sym (length-map slots (id_at table)) ∙ ap length named ∙ length-map cs (λ c. Some c)
+
+pub slot-at : (table : Table) (slots : List Slot) (cs : List StateId) → map (id_at table) slots ≡ map (λ c. Some c) cs → (i : ℕ) (d : Slot) (e : StateId) → i < length slots → id_at table (get_or slots i d) ≡ Some (get_or cs i e)
+slot-at table [] cs named i d e lt = absurd (omega arith)
+slot-at table (s ∷ slots) [] named i d e lt = cc
+slot-at table (s ∷ slots) (c ∷ cs) named ℕ.zero d e lt = cc
+slot-at table (s ∷ slots) (c ∷ cs) named (ℕ.suc i) d e lt =
+    let rest : map (id_at table) slots ≡ map (λ z. Some z) cs = cc in
+    slot-at table slots cs rest i d e (omega arith)
+
 -- ===== The first child that passes
 
 module _ (rs : List Record) (ks : List StateId) (keys : List (List ℕ)) (x : StateId) (items : List StateId) (same : items ≡ children rs x) where
-  pub item-is_kept : (i : ℕ) (d : StateId) → i < length items → ((c : StateId) → IsTrue (is_among c (children rs x)) → IsFalse (is_among c ks)) → IsTrue (is_kept rs ks (get_or items i d))
-  item-is_kept i d lt out =
-      let c = get_or items i d in
-      let child = subst (λ cs. IsTrue (is_among c cs)) same (among-at items i d lt) in
-      child-is_kept rs ks x c child (out c child)
-
   pub first-found : (i : ℕ) (d : StateId) → i < length items → list_any (passes rs keys x) (take i items) ≡ false → true ≡ passes rs keys x (get_or items i d) → first_passing rs keys x ≡ Some (get_or items i d)
   first-found i d lt none here = ap (find (passes rs keys x)) (sym same) ∙ found-at (passes rs keys x) items i d lt none (sym here)
 

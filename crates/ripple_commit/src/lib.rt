@@ -19,12 +19,12 @@ ghost use Rattle.ripple_commit.specs.Commits.{IsTrueAt};
 
 use bitflags::Flags;
 use record_store::RecordStore;
-use tardis_base::{EndFlags, Key, KeySet, Slot, StateId, Write, WriteSet};
+use tardis_base::{EndFlags, Key, KeySet, Slot, Write, WriteSet};
 
 /// The slot of the state under which a transaction commits that read the state at `read`.
 ///
 /// Nothing below the read state may be collected. The cost grows with the number of children that are tried on the way,
-/// and for each with the guarded keys, as `RecordStore::is_news` does.
+/// and for each with the guarded keys, as `RecordStore::is_news` does: no state's id is looked up.
 pub fn landing(
     store: &RecordStore,
     read: Slot,
@@ -59,34 +59,12 @@ fn first_passing(
     ensures slot { IfSome result (λ s. IsTrue (is_slot store.now.table s)) }
     ensures first { (rs : List Record) (ks : List StateId) → StoreStands store.now rs ks → (x : StateId) → id_at store.now.table from ≡ Some x → ((c : StateId) → IsTrue (is_among c (children rs x)) → IsFalse (is_among c ks)) → option_and_then (id_at store.now.table) result ≡ first_passing rs (guarded flags reads.now (keys_of writes.now)) x }
 {
-    for child in store.dag().children(from) {
-        if let Some(slot) = passing(store, from, *child, flags, reads, writes) {
-            return Some(slot);
+    for child in store.dag().child_slots(from) {
+        if !has_news(store, from, *child, flags, reads, writes) {
+            return Some(*child);
         }
     }
     None
-}
-
-/// The slot of this kept child, if it passes.
-fn passing(
-    store: &RecordStore,
-    from: Slot,
-    child: StateId,
-    flags: EndFlags,
-    reads: &KeySet,
-    writes: &WriteSet,
-) -> Option<Slot>
-    requires { IsTrue (is_slot store.now.table from) }
-    ensures slot { IfSome result (λ s. IsTrue (is_slot store.now.table s)) }
-    ensures named { IfSome result (λ s. id_at store.now.table s ≡ Some child) }
-    ensures passes { (rs : List Record) (ks : List StateId) → StoreStands store.now rs ks → (x : StateId) → id_at store.now.table from ≡ Some x → IsTrue (is_kept rs ks child) → is_some result ≡ passes rs (guarded flags reads.now (keys_of writes.now)) x child }
-{
-    let slot = store.dag().slot_of(child)?;
-    if has_news(store, from, slot, flags, reads, writes) {
-        None
-    } else {
-        Some(slot)
-    }
 }
 
 /// Whether a guarded key is news of the child.

@@ -117,6 +117,7 @@ impl KeyLists {
     pub(crate) fn make_room(&mut self, writes: &WriteSet) -> Result<(), NoMemory>
         ensures room { OnOk result (IsTrue (have_room_in self.new writes.now)) }
         ensures listed { OnOk result (keys_in self.new ≡ keys_in self.old ++ new_keys (keys_in self.old) writes.now) }
+        ensures unused { OnOk result ((k : List ℕ) → IsTrue (is_key_among k (drop (length (keys_in self.old)) (keys_in self.new))) → versions_in self.new k ≡ []) }
         ensures not_listed { OnErr result (keys_in self.new ≡ keys_in self.old) }
         ensures same { (k : List ℕ) → versions_in self.new k ≡ versions_in self.old k }
         ensures kept { (k : List ℕ) → IsTrue (has_room_in self.old k) → IsTrue (has_room_in self.new k) }
@@ -247,7 +248,8 @@ pub(crate) fn latest<'a, A: Above>(
     None
 }
 
-/// How many of the versions had arrived when the state did, by a binary search. None behind them is at or above it.
+/// How many of the versions had arrived when the state did: all, or as a binary search finds. None behind them is at or
+/// above it.
 fn arrived_by<A: Above>(dag: &A, versions: &[Version], at: Slot) -> usize
     requires order { IsTrue (are_in_order (A.is_kept dag.now) (A.arrival_of dag.now) versions.now) }
     requires kept { IsTrue (A.is_kept dag.now at) }
@@ -255,8 +257,12 @@ fn arrived_by<A: Above>(dag: &A, versions: &[Version], at: Slot) -> usize
     ensures behind { list_any (λ v. A.is_above dag.now v.slot at) (drop result versions.now) ≡ false }
 {
     let arrival = dag.arrival(at);
+    let count = versions.len();
+    if count > 0 && dag.arrival(versions[count - 1].slot) <= arrival {
+        return count;
+    }
     let mut low = 0;
-    let mut high = versions.len();
+    let mut high = count;
     while low < high {
         let middle = low + (high - low) / 2;
         if dag.arrival(versions[middle].slot) > arrival {

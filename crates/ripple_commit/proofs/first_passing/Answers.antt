@@ -1,34 +1,59 @@
-use Rattle.std.proofs.Common.{◌≡◌, ◌≤◌, ◌∙◌, Some, length, sym, subst, arith}
+use Rattle.std.proofs.Common.{◌≡◌, ◌≤◌, ◌<◌, ◌∙◌, Option, Some, List, not, map, length, get_or, refl, sym, ap, subst, arith}
+use Rattle.tardis_base.specs.declared.ids.StateId.{StateId}
+use Rattle.tardis_base.specs.declared.ids.Slot.{Slot}
 use Rattle.tardis_base.specs.Ids.{root}
 use Rattle.tardis_base.specs.Keys.{keys_of}
+use Rattle.plain_dag.specs.States.{children}
 use Rattle.plain_dag.specs.Landing.{guarded}
 use Rattle.state_dag.specs.Table.{id_at}
 use Rattle.state_dag.specs.Stands.{Stands}
-use Rattle.ripple_commit.proofs.Ways.{item-is_kept, first-found, one-more, none-found}
+use Rattle.ripple_commit.proofs.Ways.{children-stand, same_length, slot-at, first-found, one-more, none-found}
 use Rattle.ripple_commit.proofs.first_passing.Goals as goal
 
-pub returns-in-Some-clause-first : goal.returns-in-Some-clause-first
-returns-in-Some-clause-first c = λ rs ks stands x at out.
-    let items = c.children-child-items.result.now in
+pub returns-then-not-has_news-clause-first : goal.returns-then-not-has_news-clause-first
+returns-then-not-has_news-clause-first c = λ rs ks stands x at out.
+    let table = c.args.store.now.table in
+    let slots = c.child_slots-child-items.result.now in
     let keys = guarded c.args.flags c.args.reads.now (keys_of c.args.writes.now) in
-    let same = c.children-child-items.ensures rs ks (subst (λ t. Stands t rs ks) (sym c.dag.ensures) stands.table) x (subst (λ t. id_at t c.args.from ≡ Some x) (sym c.dag.ensures) at) in
     let i = c.loop-child.child-index in
-    let kept = item-is_kept rs ks keys x items same i root c.loop-child-test.true out in
-    c.in-Some.ensures.named ∙ sym (first-found rs ks keys x items same i root c.loop-child-test.true (c.loop-child.invariant rs ks stands x at out) (c.in-Some.ensures.passes rs ks stands x at kept))
+    let named : map (id_at table) slots ≡ map (λ z. Some z) (children rs x) =
+    subst (λ t. map (id_at t) slots ≡ map (λ z. Some z) (children rs x)) c.dag.ensures
+    (c.child_slots-child-items.ensures.stand_ins rs ks (subst (λ t. Stands t rs ks) (sym c.dag.ensures) stands.table) x (subst (λ t. id_at t c.args.from ≡ Some x) (sym c.dag.ensures) at)
+    ∙ children-stand rs ks stands.table.dag stands.table.shared x out) in
+    let long = same_length table slots (children rs x) named in
+    let lt : i < length (children rs x) = omega (arith, long, c.loop-child-test.true) in
+    let d : Slot = record { 0 = 0 } in
+    let here = slot-at table slots (children rs x) named i d root c.loop-child-test.true in
+    here
+    ∙ sym (first-found rs ks keys x (children rs x) refl i root lt (c.loop-child.invariant rs ks stands x at out)
+    (sym (ap not (sym (c.has_news.ensures rs ks stands x (get_or (children rs x) i root) at here) ∙ c.if-not-has_news.true))))
 
 pub loop-child-preserved : goal.loop-child-preserved
 loop-child-preserved c = λ rs ks stands x at out.
-    let items = c.children-child-items.result.now in
+    let table = c.args.store.now.table in
+    let slots = c.child_slots-child-items.result.now in
     let keys = guarded c.args.flags c.args.reads.now (keys_of c.args.writes.now) in
-    let same = c.children-child-items.ensures rs ks (subst (λ t. Stands t rs ks) (sym c.dag.ensures) stands.table) x (subst (λ t. id_at t c.args.from ≡ Some x) (sym c.dag.ensures) at) in
     let i = c.loop-child.child-index in
-    let kept = item-is_kept rs ks keys x items same i root c.loop-child-test.true out in
-    one-more rs ks keys x items same i root c.loop-child-test.true (c.loop-child.invariant rs ks stands x at out) (c.in_default.ensures.passes rs ks stands x at kept)
+    let named : map (id_at table) slots ≡ map (λ z. Some z) (children rs x) =
+    subst (λ t. map (id_at t) slots ≡ map (λ z. Some z) (children rs x)) c.dag.ensures
+    (c.child_slots-child-items.ensures.stand_ins rs ks (subst (λ t. Stands t rs ks) (sym c.dag.ensures) stands.table) x (subst (λ t. id_at t c.args.from ≡ Some x) (sym c.dag.ensures) at)
+    ∙ children-stand rs ks stands.table.dag stands.table.shared x out) in
+    let long = same_length table slots (children rs x) named in
+    let lt : i < length (children rs x) = omega (arith, long, c.loop-child-test.true) in
+    let d : Slot = record { 0 = 0 } in
+    let here = slot-at table slots (children rs x) named i d root c.loop-child-test.true in
+    one-more rs ks keys x (children rs x) refl i root lt (c.loop-child.invariant rs ks stands x at out)
+    (sym (ap not (sym (c.has_news.ensures rs ks stands x (get_or (children rs x) i root) at here) ∙ c.if-not-has_news.false)))
 
 pub returns-clause-first : goal.returns-clause-first
 returns-clause-first c = λ rs ks stands x at out.
-    let items = c.children-child-items.result.now in
+    let table = c.args.store.now.table in
+    let slots = c.child_slots-child-items.result.now in
     let keys = guarded c.args.flags c.args.reads.now (keys_of c.args.writes.now) in
-    let same = c.children-child-items.ensures rs ks (subst (λ t. Stands t rs ks) (sym c.dag.ensures) stands.table) x (subst (λ t. id_at t c.args.from ≡ Some x) (sym c.dag.ensures) at) in
-    let all : length items ≤ c.loop-child.child-index = omega arith in
-    none-found rs ks keys x items same c.loop-child.child-index all (c.loop-child.invariant rs ks stands x at out)
+    let named : map (id_at table) slots ≡ map (λ z. Some z) (children rs x) =
+    subst (λ t. map (id_at t) slots ≡ map (λ z. Some z) (children rs x)) c.dag.ensures
+    (c.child_slots-child-items.ensures.stand_ins rs ks (subst (λ t. Stands t rs ks) (sym c.dag.ensures) stands.table) x (subst (λ t. id_at t c.args.from ≡ Some x) (sym c.dag.ensures) at)
+    ∙ children-stand rs ks stands.table.dag stands.table.shared x out) in
+    let long = same_length table slots (children rs x) named in
+    let all : length (children rs x) ≤ c.loop-child.child-index = omega (arith, long, c.loop-child-test.false) in
+    none-found rs ks keys x (children rs x) refl c.loop-child.child-index all (c.loop-child.invariant rs ks stands x at out)

@@ -5,20 +5,26 @@ use Rattle.version_list.proofs.histories.arrived_by.Goals as goal
 
 pub arrival-requires : goal.arrival-requires
 arrival-requires g c =
+    let versions = c.args.versions.now in
+    let lt : length versions - 1 < length versions = omega arith in
+    kept-at (g.A.Above.is_kept c.args.dag.now) (g.A.Above.arrival_of c.args.dag.now) versions (length versions - 1) c.index-versions-count.result c.requires.order lt
+
+pub arrival-requires-in-loop-low : goal.arrival-requires-in-loop-low
+arrival-requires-in-loop-low g c =
     let middle = c.loop-low.low + (c.loop-low.high - c.loop-low.low) / 2 in
     let bound = c.loop-low.invariant.bound in
     let lt : middle < length c.args.versions.now = omega arith in
     kept-at (g.A.Above.is_kept c.args.dag.now) (g.A.Above.arrival_of c.args.dag.now) c.args.versions.now middle c.index-versions-middle.result c.requires.order lt
 
-pub loop-low-preserved-then-arrival : goal.loop-low-preserved-then-arrival
-loop-low-preserved-then-arrival g c =
+pub loop-low-preserved-then-arrival-2 : goal.loop-low-preserved-then-arrival-2
+loop-low-preserved-then-arrival-2 g c =
     let dag = c.args.dag.now in
     let versions = c.args.versions.now in
     let middle = c.loop-low.low + (c.loop-low.high - c.loop-low.low) / 2 in
     let bound = c.loop-low.invariant.bound in
     let lt : middle < length versions = omega arith in
     let at = g.A.Above.arrival_of dag c.args.at in
-    let later : at < g.A.Above.arrival_of dag (get_or versions middle c.index-versions-middle.result).slot = omega (arith, c.arrival.ensures, c.arrival-arrival.ensures, c.if-arrival.true) in
+    let later : at < g.A.Above.arrival_of dag (get_or versions middle c.index-versions-middle.result).slot = omega (arith, c.arrival-in-loop-low.ensures, c.arrival-arrival.ensures, c.if-arrival-2.true) in
     record {
       order = omega arith;
       bound = omega arith;

@@ -1,9 +1,9 @@
-use Rattle.std.proofs.Common.{◌≡◌, ◌++◌, true, false, nat_lt, List, ℕ, IsTrue, length, take, get_or, sym, ◌∙◌, ap, subst}
+use Rattle.std.proofs.Common.{◌≡◌, ◌++◌, true, false, nat_lt, List, ℕ, IsTrue, length, take, get_or, sym, ◌∙◌, ap, subst, refl, arith}
 use Rattle.std.specs.Option.{option_map_or}
-use Rattle.std.proofs.lemmas.List.{take_more, length-map}
+use Rattle.std.proofs.lemmas.List.{take_more, take_all, length-map}
 use Rattle.std.proofs.lemmas.Slice.Eq.{bytes_eq-Decides}
 use Rattle.tardis_base.specs.Keys.{KeyWrite, are_ascending_keys, is_key_among, keys_of}
-use Rattle.version_list.specs.Lists.{Listed, keys_in, has_room_in, have_room_in, with_listed}
+use Rattle.version_list.specs.Lists.{Listed, keys_in, has_room_in, have_room_in, with_listed, new_keys}
 use Rattle.version_list.proofs.Rooms.{all-push, all-weaken}
 use Rattle.version_list.proofs.Listing.{listed-more, new-unused, taken_back, room-listed}
 use Rattle.version_list.proofs.histories.KeyLists.make_room.Goals as goal
@@ -42,3 +42,10 @@ loop-key-preserved c =
       same = λ k. c.make_room_for.ensures.same k ∙ c.loop-key.invariant.same k;
       kept = λ k h. c.make_room_for.ensures.kept k (c.loop-key.invariant.kept k h);
     }
+
+pub returns-clause-unused : goal.returns-clause-unused
+returns-clause-unused c =
+    let items = c.as_slice-key-items.result.now in
+    let old = c.args.self.now in
+    let whole = ap (λ ws. keys_in old ++ new_keys (keys_in old) ws) (take_all c.loop-key.key-index items (omega arith)) in
+    new-unused old c.loop-key.self items (length (keys_in old)) (λ k j. (bytes_eq-Decides k j).0) (c.loop-key.invariant.listed ∙ whole) refl c.loop-key.invariant.same
