@@ -2,6 +2,7 @@
 pub mod Places
 pub mod Following
 pub mod LeafSlots
+pub mod KeptSlots
 pub mod Known
 pub mod Counting
 pub mod Branches

@@ -34,7 +34,7 @@ mod sums;
 mod tests;
 
 use changes::{grow, set_count};
-use growth::{check_paths, new_node};
+use growth::{check_path, new_node};
 use leads::gains;
 use named_paths::named_path;
 use nodes::{Node, ROOT, is_node_above, root_node};
@@ -127,8 +127,8 @@ impl StateDag {
         }
         let alloc = *self.nodes.allocator();
         let node = new_node(alloc, &self.nodes, parents, id, self.known)?;
-        check_paths(&self.nodes, parents, &node, &self.limits)?;
-        let gains = gains(alloc, &self.nodes, parents)?;
+        let gains = gains(alloc, &self.nodes, &self.kept, parents, &self.limits)?;
+        check_path(&node, &self.limits)?;
         make_room(&mut self.nodes, parents, &gains)?;
         make_slot_room(&mut self.kept)?;
         make_slot_room(&mut self.leaves)?;
