@@ -1,7 +1,7 @@
 -- What all gains are at one slot.
-use Rattle.std.proofs.Common.{◌≡◌, ℕ, ◌+◌, ◌<◌, ◌≤◌, Bool, true, false, ◌&&◌, ◌||◌, eqb, ltb, List, [], ◌∷◌, ◌++◌, length, map, filter, inl, inr, refl, sym, ap, ap₂, subst, ◌∙◌, eq-eqb, eqb-true, length-append, arith}
-use Rattle.std.specs.List.{list_any, list_all, flat_map}
-use Rattle.std.proofs.lemmas.Bool.{cases_Bool, and_parts, both_ways, or_parts, ne_eqb, lt-ltb, and_from}
+use Rattle.std.proofs.Common.{◌≡◌, ℕ, ◌+◌, ◌≤◌, Bool, true, false, ◌&&◌, ◌||◌, eqb, ltb, List, [], ◌∷◌, ◌++◌, length, map, filter, inl, inr, refl, sym, ap, ap₂, subst, ◌∙◌, eq-eqb, eqb-true, length-append, arith}
+use Rattle.std.specs.List.{list_any, list_all}
+use Rattle.std.proofs.lemmas.Bool.{cases_Bool, and_parts, both_ways, or_parts, and_from}
 use Rattle.std.proofs.lemmas.List.Elements.{filter-append}
 use Rattle.std.proofs.lemmas.List.Folds.{list_any-append, list_all-append}
 use Rattle.tardis_base.specs.declared.ids.Slot.{Slot}

@@ -1,14 +1,12 @@
 -- The memory of a table stays well-formed.
-use Rattle.std.proofs.Common.{not, inl, inr, ◌&&◌, ◌≡◌, ℕ, ◌+◌, ◌<◌, ◌≤◌, Bool, true, false, cond, eqb, leb, ltb, List, [], ◌∷◌, ◌++◌, length, map, filter, find, sum, get_or, set, Option, Some, None, Err, IsTrue, refl, sym, ap, subst, ◌∙◌, length-append, arith}
+use Rattle.std.proofs.Common.{not, inl, inr, ◌&&◌, ◌≡◌, ℕ, ◌+◌, ◌<◌, ◌≤◌, Bool, true, false, cond, eqb, leb, ltb, List, [], ◌∷◌, ◌++◌, length, map, filter, find, sum, get_or, set, Some, None, IsTrue, refl, sym, ap, subst, ◌∙◌, length-append, arith}
 use Rattle.std.specs.List.{list_all}
 use Rattle.std.specs.BTreeMap.{get}
 use Rattle.std.proofs.lemmas.Bool.{cases_Bool, ne_eqb, and_right, and_parts, and_from, ltb-true, ltb-false, le-leb, lt-ltb}
-use Rattle.std.proofs.lemmas.Option.{none-some}
 use Rattle.std.proofs.lemmas.List.{length-set}
 use Rattle.tardis_base.specs.declared.ids.StateId.{StateId}
 use Rattle.tardis_base.specs.declared.ids.Slot.{Slot}
 use Rattle.tardis_base.specs.declared.records.Limits.{Limits}
-use Rattle.tardis_base.specs.declared.replies.Refusal.TheVariants.{PathFull as IsPathFull}
 use Rattle.tardis_base.specs.Ids.{same_id}
 use Rattle.tardis_base.specs.Valid.{are_limits}
 use Rattle.fork_path.specs.Pairs.{are_ascending_pairs}

@@ -1,6 +1,7 @@
 -- Lemmas on the table of states.
 pub mod Places
 pub mod Following
+pub mod Rising
 pub mod LeafSlots
 pub mod KeptSlots
 pub mod Known

@@ -1,5 +1,5 @@
 -- Whether a path gets too long, by the slots.
-use Rattle.std.proofs.Common.{◌≡◌, ℕ, ◌+◌, ◌<◌, ◌≤◌, Bool, true, false, ltb, List, [], ◌∷◌, length, map, filter, find, Option, Some, None, Err, inl, inr, refl, sym, ap, ap₂, ◌∙◌, arith}
+use Rattle.std.proofs.Common.{◌≡◌, ℕ, ◌+◌, ◌≤◌, Bool, ltb, List, [], ◌∷◌, length, map, filter, find, Option, Some, None, Err, inl, inr, refl, sym, ap, ap₂, ◌∙◌, arith}
 use Rattle.std.specs.Option.{option_map, option_map_or}
 use Rattle.std.proofs.lemmas.Bool.{cases_Bool, le-ltb, lt-ltb, cond-true, cond-false}
 use Rattle.std.proofs.lemmas.Option.{none-some, same_Some}
@@ -10,7 +10,7 @@ use Rattle.tardis_base.specs.declared.faults.AddFault.TheVariants.{Full, PathFul
 use Rattle.tardis_base.specs.declared.replies.Refusal.{Refusal}
 use Rattle.tardis_base.specs.declared.replies.Refusal.TheVariants.{PathFull as IsPathFull}
 use Rattle.state_dag.specs.Table.{Entry, Table, entry_at, id_at}
-use Rattle.state_dag.specs.Grown.{path_at, leads_first, grown_length, too_long}
+use Rattle.state_dag.specs.Grown.{leads_first, grown_length, too_long}
 use Rattle.state_dag.specs.Nodes.{length_after, is_long, TellsLong, TellsOwn, first_refusal, path_refusal, TellsRefusal}
 use Rattle.state_dag.proofs.LeafSlots.{AreFound, found-rest}
 

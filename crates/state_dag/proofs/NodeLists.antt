@@ -1,17 +1,15 @@
 -- Nodes by their places.
-use Rattle.std.proofs.Common.{◌≡◌, ℕ, ◌+◌, ◌<◌, true, ltb, List, [], ◌∷◌, ◌++◌, length, take, get_or, set, Some, inl, inr, refl, sym, ap, subst, ◌∙◌, arith}
-use Rattle.std.specs.List.{flat_map}
+use Rattle.std.proofs.Common.{◌≡◌, ℕ, ◌+◌, ◌<◌, true, ltb, List, [], ◌∷◌, length, get_or, set, Some, inl, inr, refl, sym, ap, subst, ◌∙◌, arith}
 use Rattle.std.specs.Option.{option_map, option_map_or}
 use Rattle.std.proofs.lemmas.Bool.{cases_eq, ltb-true}
-use Rattle.std.proofs.lemmas.List.{get_or-set_same, get_or-set_other, take_more, flat_map_more}
+use Rattle.std.proofs.lemmas.List.{get_or-set_same, get_or-set_other}
 use Rattle.tardis_base.specs.declared.ids.Slot.{Slot}
 use Rattle.state_dag.specs.declared.nodes.Node.{Node}
-use Rattle.state_dag.specs.declared.leads.Gain.{Gain}
-use Rattle.state_dag.specs.Table.{Entry, Table, id_at}
+use Rattle.state_dag.specs.Table.{Entry, id_at}
 use Rattle.state_dag.specs.Views.{entry_of, entries_from}
 use Rattle.state_dag.specs.Grown.{path_at, number_of_children}
-use Rattle.state_dag.specs.Nodes.{table_of, are_places, gains_at}
-use Rattle.state_dag.proofs.Places.{entry-found, length-entries}
+use Rattle.state_dag.specs.Nodes.{table_of, are_places}
+use Rattle.state_dag.proofs.Places.{entry-found}
 use Rattle.state_dag.proofs.Passing.{all-at}
 
 -- a node in place of another

@@ -42,6 +42,11 @@ abbrev pub AreDistinct : List Slot → Type 0
 AreDistinct [] = Unit {0}
 AreDistinct (slot ∷ slots) = (is_slot_among slot slots ≡ false) × AreDistinct slots
 
+-- each has a lower number than all behind it
+abbrev pub Rise : (Slot → ℕ) → List Slot → Type 0
+Rise number [] = Unit {0}
+Rise number (slot ∷ slots) = IsTrue (list_all (λ s. nat_lt (number slot) (number s)) slots) × Rise number slots
+
 -- no path has more than so many pairs
 abbrev pub are_short : ℕ → List Node → Bool
 are_short most nodes = list_all (λ n. nat_le (length n.path.pairs) most) nodes

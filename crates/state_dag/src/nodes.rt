@@ -57,7 +57,7 @@ pub fn node_at(nodes: &[Node], slot: Slot) -> Option<&Node>
 }
 
 /// How many states had arrived before that of the node in the place of the slot. 0 where there is no node.
-fn arrival_in(nodes: &[Node], slot: Slot) -> u64
+pub fn arrival_in(nodes: &[Node], slot: Slot) -> u64
     ensures { result ≡ arrival_at (table_of nodes.now) slot }
 {
     match node_at(nodes, slot) {

@@ -13,13 +13,15 @@ use Rattle.state_dag.specs.Views.{entry_of, entries_from}
 use Rattle.state_dag.specs.Stands.{Stands}
 use Rattle.state_dag.specs.Answers.{MayBeAdded, AddedTo}
 use Rattle.state_dag.specs.Grown.{path_at, is_slot_among, too_long, refusal_of, IsNewEntry, IsGrown}
-use Rattle.state_dag.specs.Nodes.{table_of, table_within, table_after, are_places, is_long, IsGrownNode, path_refusal, TellsRefusal}
+use Rattle.state_dag.specs.Nodes.{table_of, table_within, table_after, are_places, is_long, Rise, IsGrownNode, path_refusal, TellsRefusal}
 use Rattle.std.specs.List.Sorted.{IsNonDecreasingBy}
 use Rattle.state_dag.specs.Held.{seen}
 use Rattle.state_dag.specs.declared.nodes.Node.{Node}
 use Rattle.state_dag.proofs.Calls.{entries-found}
 use Rattle.state_dag.proofs.KeptSlots.{slots_from, slots-placed_all, place-listed, slots-distinct, slots-ascend, slots-short}
 use Rattle.state_dag.proofs.LongPaths.{short-told, long-told, own-told, nothing-told}
+use Rattle.state_dag.proofs.Following.{childless_slots}
+use Rattle.state_dag.proofs.LeafSlots.{leaves-rise}
 use Rattle.state_dag.proofs.Gains.{gains-placed, gains-few, grown-as}
 use Rattle.state_dag.proofs.Places.{length-entries}
 use Rattle.state_dag.proofs.Added.{full, added, parents-differ}
@@ -116,12 +118,22 @@ make_room-requires-clause-few c =
     let is = gains-in_same a c.args.parents.now c.deref-2.result.now c.deref-3.result.now c.deref-2.ensures.value (c.deref-3.ensures.value ∙ c.self.invariant.listed) a.nodes.items c.in_ok-gains.gains.items c.in_ok-gains.ensures.gains refl in
     gains-few a.nodes.items c.args.parents.now (slots_from 0 a.nodes.items) c.deref-4.result.now (c.deref-4.ensures.value ∙ is) (slots-distinct a.nodes.items)
 
+pub drop_slots-requires : goal.drop_slots-requires
+drop_slots-requires c =
+    let a = c.self.inside in
+    let ms = c.make_room.new.nodes.items in
+    let same = c.make_room.ensures.same in
+    subst (λ ns. Rise (arrival_at (table_of ns)) c.make_slot_room-2.new.slots.items) (sym c.deref-5.ensures.value)
+    (subst (λ ss. Rise (arrival_at (table_of ms)) ss) (sym (c.make_slot_room-2.ensures.items ∙ c.self.invariant.childless))
+    (subst (λ es. Rise (arrival_at (record (table_of ms) { entries = es })) (childless_slots (entries_from 0 a.nodes.items))) (sym same)
+    (leaves-rise (seen a) (entries_from 0 a.nodes.items) (entries-found a (seen a) refl) c.self.invariant.in_order)))
+
 pub grow-requires-clause-gains : goal.grow-requires-clause-gains
 grow-requires-clause-gains c =
     let a = c.self.inside in
     let ms = c.make_room.new.nodes.items in
     let is = gains-in_same a c.args.parents.now c.deref-2.result.now c.deref-3.result.now c.deref-2.ensures.value (c.deref-3.ensures.value ∙ c.self.invariant.listed) ms c.in_ok-gains.gains.items c.in_ok-gains.ensures.gains c.make_room.ensures.same in
-    gains-placed ms c.args.parents.now (slots_from 0 ms) c.deref-5.result.now (c.deref-5.ensures.value ∙ is) (slots-placed_all ms)
+    gains-placed ms c.args.parents.now (slots_from 0 ms) c.deref-6.result.now (c.deref-6.ensures.value ∙ is) (slots-placed_all ms)
 
 pub make_room-requires-clause-places : goal.make_room-requires-clause-places
 make_room-requires-clause-places c = slots-placed c.self.inside c.args.self.now c.args.parents.now c.self.view_is c.requires.slots
@@ -180,7 +192,7 @@ each-grown c k d lt =
     let a = c.self.inside in
     let ms = c.make_room.new.nodes.items in
     let is = gains-in_same a c.args.parents.now c.deref-2.result.now c.deref-3.result.now c.deref-2.ensures.value (c.deref-3.ensures.value ∙ c.self.invariant.listed) ms c.in_ok-gains.gains.items c.in_ok-gains.ensures.gains c.make_room.ensures.same in
-    grown-as ms c.args.parents.now (slots_from 0 ms) c.deref-5.result.now (c.deref-5.ensures.value ∙ is) c.args.id (record { 0 = c.len-kept.result }) k (get_or ms k d) (get_or c.grow.new.nodes.items k d) (slots-distinct ms) (place-listed ms k lt)
+    grown-as ms c.args.parents.now (slots_from 0 ms) c.deref-6.result.now (c.deref-6.ensures.value ∙ is) c.args.id (record { 0 = c.len-kept.result }) k (get_or ms k d) (get_or c.grow.new.nodes.items k d) (slots-distinct ms) (place-listed ms k lt)
     (c.grow.ensures.each k d lt)
 
 new-entry : (c : goal.After-drop-gains-2) (place : ℕ) → IsNewEntry (table_after c.self.inside.known c.self.inside.nodes.items) c.args.parents.now c.args.id (record { 0 = place }) (entry_of place c.in_ok-node.node)

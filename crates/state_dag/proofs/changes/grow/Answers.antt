@@ -1,10 +1,9 @@
-use Rattle.std.proofs.Common.{◌≡◌, ◌∙◌, ◌++◌, ◌||◌, Bool, true, false, List, length, get_or, IsTrue, refl, sym, ap, subst, arith}
+use Rattle.std.proofs.Common.{◌∙◌, ◌++◌, List, length, get_or, IsTrue, sym, ap, subst, arith}
 use Rattle.std.specs.List.{list_all}
 use Rattle.tardis_base.specs.declared.ids.Slot.{Slot}
 use Rattle.fork_path.specs.Pairs.{Pairs, are_ascending_pairs, has_pair}
 use Rattle.state_dag.specs.declared.nodes.Node.{Node}
-use Rattle.state_dag.specs.Grown.{is_slot_among, is_first_branch, only_if}
-use Rattle.state_dag.specs.Nodes.{table_of}
+use Rattle.state_dag.specs.Grown.{is_slot_among, only_if}
 use Rattle.state_dag.proofs.changes.grow.Goals as goal
 
 pub returns-clause-each : goal.returns-clause-each

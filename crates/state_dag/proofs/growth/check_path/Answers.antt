@@ -1,4 +1,4 @@
-use Rattle.std.proofs.Common.{◌∙◌, refl, sym, arith}
+use Rattle.std.proofs.Common.{◌∙◌, refl, arith}
 use Rattle.state_dag.proofs.growth.check_path.Goals as goal
 
 pub returns-then-pairs-limits : goal.returns-then-pairs-limits

@@ -1,7 +1,6 @@
 use Rattle.std.proofs.Common.{◌∙◌, Option, ap, get_or, arith}
 use Rattle.std.specs.Option.{option_copied}
 use denote.Bor.{Bor}
-use Rattle.tardis_base.specs.declared.ids.Slot.{Slot}
 use Rattle.state_dag.specs.declared.nodes.Node.{Node}
 use Rattle.state_dag.specs.Nodes.{table_of, is_child_above}
 use Rattle.state_dag.proofs.LedPlaces.{later-isnt_above, led-more}

@@ -1,11 +1,9 @@
 use Rattle.std.proofs.Common.{◌≡◌, ◌∙◌, ℕ, ltb, length, get_or, IsTrue, inl, inr, sym, ap, subst, arith}
 use Rattle.std.specs.List.{list_all}
 use Rattle.std.proofs.lemmas.Bool.{cases_Bool}
-use Rattle.std.proofs.lemmas.List.Sums.{length-filter, count_by-le-length}
 use Rattle.tardis_base.specs.declared.ids.Slot.{Slot}
 use Rattle.fork_path.specs.Pairs.{Pairs}
-use Rattle.state_dag.specs.Grown.{leads_first}
-use Rattle.state_dag.specs.Nodes.{table_of, is_gaining}
+use Rattle.state_dag.specs.Nodes.{is_gaining}
 use Rattle.state_dag.proofs.Places.{length-entries}
 use Rattle.state_dag.proofs.Gains.{none-gained}
 use Rattle.state_dag.proofs.rooms.make_room.Goals as goal
