@@ -1,17 +1,22 @@
--- What all gains are at one place.
-use Rattle.std.proofs.Common.{◌≡◌, ℕ, ◌+◌, ◌<◌, ◌≤◌, Bool, true, false, ◌&&◌, ◌||◌, eqb, ltb, List, [], ◌∷◌, ◌++◌, length, map, filter, inl, inr, refl, sym, ap, ap₂, ◌∙◌, eq-eqb, eqb-true, length-append, arith}
-use Rattle.std.specs.List.{list_any, list_all, flat_map}
-use Rattle.std.proofs.lemmas.Bool.{cases_Bool, both_ways, or_parts, ne_eqb, lt-ltb, and_from}
+-- What all gains are at one slot.
+use Rattle.std.proofs.Common.{◌≡◌, ℕ, ◌+◌, ◌≤◌, Bool, true, false, ◌&&◌, ◌||◌, eqb, ltb, List, [], ◌∷◌, ◌++◌, length, map, filter, inl, inr, refl, sym, ap, ap₂, subst, ◌∙◌, eq-eqb, eqb-true, length-append, arith}
+use Rattle.std.specs.List.{list_any, list_all}
+use Rattle.std.proofs.lemmas.Bool.{cases_Bool, and_parts, both_ways, or_parts, and_from}
 use Rattle.std.proofs.lemmas.List.Elements.{filter-append}
 use Rattle.std.proofs.lemmas.List.Folds.{list_any-append, list_all-append}
 use Rattle.tardis_base.specs.declared.ids.Slot.{Slot}
-use Rattle.fork_path.specs.Pairs.{is_same_pair}
+use Rattle.fork_path.specs.Pairs.{is_same_pair, has_pair}
+use Rattle.std.proofs.lemmas.List.Sums.{length-filter, count_by-le-length}
+use Rattle.tardis_base.specs.declared.ids.StateId.{StateId}
 use Rattle.state_dag.specs.declared.nodes.Node.{Node}
 use Rattle.state_dag.specs.declared.leads.Gain.{Gain}
-use Rattle.state_dag.specs.Table.{Entry, Table}
-use Rattle.state_dag.specs.Views.{entries_from}
-use Rattle.state_dag.specs.Grown.{leads_first, is_first_branch}
-use Rattle.state_dag.specs.Nodes.{table_of, have_places, is_gaining, gains_at, all_gains, gains_of, is_gain}
+use Rattle.state_dag.specs.Table.{Table}
+use Rattle.state_dag.specs.Grown.{is_slot_among, leads_first, is_first_branch}
+use Rattle.state_dag.specs.Nodes.{table_of, have_places, is_gaining, gains_at, all_gains, gains_of, is_gain, AreDistinct, HasGrown, IsGrownNode}
+
+later : (a b : Bool) → a ≡ false → (a || b) ≡ true → b ≡ true
+later true b f t = absurd (both_ways true f refl)
+later false b f t = t
 
 -- ===== Those of one state
 
@@ -43,9 +48,9 @@ other-gain : (k : ℕ) (slot : Slot) (pair : ℕ × ℕ) (ps : List Slot) → eq
 other-gain k slot pair [] other = refl
 other-gain k slot pair (p ∷ ps) other = rw other (other-gain k slot pair ps other)
 
-own-places : (n : ℕ) (slot : Slot) (ps : List Slot) → slot.0 < n → list_all (λ (g : Gain). ltb g.at.0 n) (map (λ p. record { at = slot; fork = p }) ps) ≡ true
+own-places : (n : ℕ) (slot : Slot) (ps : List Slot) → ltb slot.0 n ≡ true → list_all (λ (g : Gain). ltb g.at.0 n) (map (λ p. record { at = slot; fork = p }) ps) ≡ true
 own-places n slot [] lt = refl
-own-places n slot (p ∷ ps) lt = and_from (ltb slot.0 n) (list_all (λ (g : Gain). ltb g.at.0 n) (map (λ p. record { at = slot; fork = p }) ps)) (lt-ltb slot.0 n lt) (own-places n slot ps lt)
+own-places n slot (p ∷ ps) lt = and_from (ltb slot.0 n) (list_all (λ (g : Gain). ltb g.at.0 n) (map (λ p. record { at = slot; fork = p }) ps)) lt (own-places n slot ps lt)
 
 -- ===== All
 
@@ -53,80 +58,108 @@ module _ (table : Table) (parents : List Slot) where
   count-parts : (k : ℕ) (xs ys : List Gain) → gains_of k (xs ++ ys) ≡ gains_of k xs + gains_of k ys
   count-parts k xs ys = ap length (filter-append (λ (g : Gain). eqb g.at.0 k) xs ys) ∙ length-append (filter (λ (g : Gain). eqb g.at.0 k) xs) (filter (λ (g : Gain). eqb g.at.0 k) ys)
 
-  -- none of a place before
-  none-before : (ns : List Node) (p k : ℕ) → k < p → gains_of k (flat_map (λ (e : Entry). gains_at table parents e.slot) (entries_from p ns)) ≡ 0
-  none-before [] p k lt = refl
-  none-before (n ∷ ns) p k lt =
-      let slot : Slot = record { 0 = p } in
-      let here = other-count k slot (filter (leads_first table slot) parents) (ne_eqb p k (λ e. omega arith)) in
-      let rest = none-before ns (p + 1) k (omega arith) in
-      count-parts k (gains_at table parents slot) (flat_map (λ (e : Entry). gains_at table parents e.slot) (entries_from (p + 1) ns)) ∙ omega arith
+  -- none at a slot that isn't one of these
+  none-out : (slots : List Slot) (k : ℕ) → is_slot_among (record { 0 = k }) slots ≡ false → gains_of k (all_gains table parents slots) ≡ 0
+  none-out [] k out = refl
+  none-out (s ∷ slots) k out =
+      let parts = or_parts (eqb s.0 k) (is_slot_among (record { 0 = k }) slots) out in
+      let here = other-count k s (filter (leads_first table s) parents) parts.0 in
+      let rest = none-out slots k parts.1 in
+      count-parts k (gains_at table parents s) (all_gains table parents slots) ∙ omega arith
 
-  -- as many at a place as parents lead there
-  count-at : (ns : List Node) (p k : ℕ) → p ≤ k → k < p + length ns → gains_of k (flat_map (λ (e : Entry). gains_at table parents e.slot) (entries_from p ns)) ≡ length (filter (leads_first table (record { 0 = k })) parents)
-  count-at [] p k le lt = absurd (omega arith)
-  count-at (n ∷ ns) p k le lt = elim (cases_Bool (eqb p k)) [
+  -- as many at a slot as parents lead there
+  count-at : (slots : List Slot) (k : ℕ) → AreDistinct slots → is_slot_among (record { 0 = k }) slots ≡ true → gains_of k (all_gains table parents slots) ≡ length (filter (leads_first table (record { 0 = k })) parents)
+  count-at [] k distinct there = absurd (both_ways false refl there)
+  count-at (s ∷ slots) k distinct there = elim (cases_Bool (eqb s.0 k)) [
     | inl t ↦
-        let slot : Slot = record { 0 = p } in
-        let same = eqb-true p k t in
-        let here = own-count k slot (filter (leads_first table slot) parents) same in
-        let rest = none-before ns (p + 1) k (omega arith) in
+        let same = eqb-true s.0 k t in
+        let here = own-count k s (filter (leads_first table s) parents) same in
+        let rest = none-out slots k (subst (λ (m : ℕ). is_slot_among (record { 0 = m }) slots ≡ false) same distinct.0) in
         let moved = ap (λ (m : ℕ). length (filter (leads_first table (record { 0 = m })) parents)) same in
-        count-parts k (gains_at table parents slot) (flat_map (λ (e : Entry). gains_at table parents e.slot) (entries_from (p + 1) ns)) ∙ omega arith
+        count-parts k (gains_at table parents s) (all_gains table parents slots) ∙ omega arith
     | inr f ↦
-        let slot : Slot = record { 0 = p } in
-        let here = other-count k slot (filter (leads_first table slot) parents) f in
-        let further : p ≡ k → ⊥ = λ e. both_ways (eqb p k) f (eq-eqb p k e) in
-        let rest = count-at ns (p + 1) k (omega arith) (omega arith) in
-        count-parts k (gains_at table parents slot) (flat_map (λ (e : Entry). gains_at table parents e.slot) (entries_from (p + 1) ns)) ∙ omega arith
+        let here = other-count k s (filter (leads_first table s) parents) f in
+        let rest = count-at slots k distinct.1 (later (eqb s.0 k) (is_slot_among (record { 0 = k }) slots) f there) in
+        count-parts k (gains_at table parents s) (all_gains table parents slots) ∙ omega arith
   ]
 
-  gain-before : (ns : List Node) (p k : ℕ) (pair : ℕ × ℕ) → k < p → is_gain k (flat_map (λ (e : Entry). gains_at table parents e.slot) (entries_from p ns)) pair ≡ false
-  gain-before [] p k pair lt = refl
-  gain-before (n ∷ ns) p k pair lt =
-      let slot : Slot = record { 0 = p } in
-      list_any-append (λ (g : Gain). eqb g.at.0 k && is_same_pair pair (g.fork.0, 0)) (gains_at table parents slot) (flat_map (λ (e : Entry). gains_at table parents e.slot) (entries_from (p + 1) ns))
-      ∙ ap₂ (λ a b. a || b) (other-gain k slot pair (filter (leads_first table slot) parents) (ne_eqb p k (λ e. omega arith))) (gain-before ns (p + 1) k pair (omega arith))
+  gain-out : (slots : List Slot) (k : ℕ) (pair : ℕ × ℕ) → is_slot_among (record { 0 = k }) slots ≡ false → is_gain k (all_gains table parents slots) pair ≡ false
+  gain-out [] k pair out = refl
+  gain-out (s ∷ slots) k pair out =
+      let parts = or_parts (eqb s.0 k) (is_slot_among (record { 0 = k }) slots) out in
+      list_any-append (λ (g : Gain). eqb g.at.0 k && is_same_pair pair (g.fork.0, 0)) (gains_at table parents s) (all_gains table parents slots)
+      ∙ ap₂ (λ a b. a || b) (other-gain k s pair (filter (leads_first table s) parents) parts.0) (gain-out slots k pair parts.1)
 
-  -- the gains at a place are the first branches that lead there
-  gain-at : (ns : List Node) (p k : ℕ) (pair : ℕ × ℕ) → p ≤ k → k < p + length ns → is_gain k (flat_map (λ (e : Entry). gains_at table parents e.slot) (entries_from p ns)) pair ≡ is_first_branch table parents (record { 0 = k }) pair
-  gain-at [] p k pair le lt = absurd (omega arith)
-  gain-at (n ∷ ns) p k pair le lt = elim (cases_Bool (eqb p k)) [
+  -- the gains at a slot are the first branches that lead there
+  gain-at : (slots : List Slot) (k : ℕ) (pair : ℕ × ℕ) → AreDistinct slots → is_slot_among (record { 0 = k }) slots ≡ true → is_gain k (all_gains table parents slots) pair ≡ is_first_branch table parents (record { 0 = k }) pair
+  gain-at [] k pair distinct there = absurd (both_ways false refl there)
+  gain-at (s ∷ slots) k pair distinct there = elim (cases_Bool (eqb s.0 k)) [
     | inl t ↦
-        let slot : Slot = record { 0 = p } in
-        let same = eqb-true p k t in
-        list_any-append (λ (g : Gain). eqb g.at.0 k && is_same_pair pair (g.fork.0, 0)) (gains_at table parents slot) (flat_map (λ (e : Entry). gains_at table parents e.slot) (entries_from (p + 1) ns))
-        ∙ ap₂ (λ a b. a || b) (own-gain k slot (leads_first table slot) pair parents same) (gain-before ns (p + 1) k pair (omega arith))
-        ∙ orred (is_first_branch table parents slot pair)
+        let same = eqb-true s.0 k t in
+        list_any-append (λ (g : Gain). eqb g.at.0 k && is_same_pair pair (g.fork.0, 0)) (gains_at table parents s) (all_gains table parents slots)
+        ∙ ap₂ (λ a b. a || b) (own-gain k s (leads_first table s) pair parents same) (gain-out slots k pair (subst (λ (m : ℕ). is_slot_among (record { 0 = m }) slots ≡ false) same distinct.0))
+        ∙ orred (is_first_branch table parents s pair)
         ∙ ap (λ (m : ℕ). is_first_branch table parents (record { 0 = m }) pair) same
     | inr f ↦
-        let slot : Slot = record { 0 = p } in
-        let further : p ≡ k → ⊥ = λ e. both_ways (eqb p k) f (eq-eqb p k e) in
-        list_any-append (λ (g : Gain). eqb g.at.0 k && is_same_pair pair (g.fork.0, 0)) (gains_at table parents slot) (flat_map (λ (e : Entry). gains_at table parents e.slot) (entries_from (p + 1) ns))
-        ∙ ap₂ (λ a b. a || b) (other-gain k slot pair (filter (leads_first table slot) parents) f) (gain-at ns (p + 1) k pair (omega arith) (omega arith))
+        list_any-append (λ (g : Gain). eqb g.at.0 k && is_same_pair pair (g.fork.0, 0)) (gains_at table parents s) (all_gains table parents slots)
+        ∙ ap₂ (λ a b. a || b) (other-gain k s pair (filter (leads_first table s) parents) f) (gain-at slots k pair distinct.1 (later (eqb s.0 k) (is_slot_among (record { 0 = k }) slots) f there))
   ]
     where
       orred : (b : Bool) → (b || false) ≡ b
       orred true = refl
       orred false = refl
 
-  all-placed : (ns : List Node) (p n : ℕ) → p + length ns ≤ n → list_all (λ (g : Gain). ltb g.at.0 n) (flat_map (λ (e : Entry). gains_at table parents e.slot) (entries_from p ns)) ≡ true
-  all-placed [] p n le = refl
-  all-placed (m ∷ ns) p n le =
-      let slot : Slot = record { 0 = p } in
-      list_all-append (λ (g : Gain). ltb g.at.0 n) (gains_at table parents slot) (flat_map (λ (e : Entry). gains_at table parents e.slot) (entries_from (p + 1) ns))
-      ∙ and_from (list_all (λ (g : Gain). ltb g.at.0 n) (gains_at table parents slot)) (list_all (λ (g : Gain). ltb g.at.0 n) (flat_map (λ (e : Entry). gains_at table parents e.slot) (entries_from (p + 1) ns)))
-      (own-places n slot (filter (leads_first table slot) parents) (omega arith)) (all-placed ns (p + 1) n (omega arith))
+  all-placed : (slots : List Slot) (n : ℕ) → list_all (λ (s : Slot). ltb s.0 n) slots ≡ true → list_all (λ (g : Gain). ltb g.at.0 n) (all_gains table parents slots) ≡ true
+  all-placed [] n all = refl
+  all-placed (s ∷ slots) n all =
+      let parts = and_parts (ltb s.0 n) (list_all (λ (t : Slot). ltb t.0 n) slots) all in
+      list_all-append (λ (g : Gain). ltb g.at.0 n) (gains_at table parents s) (all_gains table parents slots)
+      ∙ and_from (list_all (λ (g : Gain). ltb g.at.0 n) (gains_at table parents s)) (list_all (λ (g : Gain). ltb g.at.0 n) (all_gains table parents slots))
+      (own-places n s (filter (leads_first table s) parents) parts.0) (all-placed slots n parts.1)
 
-module _ (ns : List Node) (parents : List Slot) (gains : List Gain) (is : gains ≡ all_gains (table_of ns) parents) where
-  pub gains-counted : (k : ℕ) → k < length ns → gains_of k gains ≡ length (filter (leads_first (table_of ns) (record { 0 = k })) parents)
-  gains-counted k lt = ap (gains_of k) is ∙ count-at (table_of ns) parents ns 0 k (omega arith) (omega arith)
+module _ (ns : List Node) (parents slots : List Slot) (gains : List Gain) (is : gains ≡ all_gains (table_of ns) parents slots) where
+  pub gains-counted : (k : ℕ) → AreDistinct slots → is_slot_among (record { 0 = k }) slots ≡ true → gains_of k gains ≡ length (filter (leads_first (table_of ns) (record { 0 = k })) parents)
+  gains-counted k distinct there = ap (gains_of k) is ∙ count-at (table_of ns) parents slots k distinct there
 
-  pub gains-told : (k : ℕ) (pair : ℕ × ℕ) → k < length ns → is_gain k gains pair ≡ is_first_branch (table_of ns) parents (record { 0 = k }) pair
-  gains-told k pair lt = ap (λ gs. is_gain k gs pair) is ∙ gain-at (table_of ns) parents ns 0 k pair (omega arith) (omega arith)
+  pub gains-told : (k : ℕ) (pair : ℕ × ℕ) → AreDistinct slots → is_slot_among (record { 0 = k }) slots ≡ true → is_gain k gains pair ≡ is_first_branch (table_of ns) parents (record { 0 = k }) pair
+  gains-told k pair distinct there = ap (λ gs. is_gain k gs pair) is ∙ gain-at (table_of ns) parents slots k pair distinct there
 
-  pub gains-placed : have_places ns gains ≡ true
-  gains-placed = ap (have_places ns) is ∙ all-placed (table_of ns) parents ns 0 (length ns) (omega arith)
+  pub gains-placed : list_all (λ (s : Slot). ltb s.0 (length ns)) slots ≡ true → have_places ns gains ≡ true
+  gains-placed placed = ap (have_places ns) is ∙ all-placed (table_of ns) parents slots (length ns) placed
+
+  -- no more than there are parents
+  pub gains-few : AreDistinct slots → (k : ℕ) → gains_of k gains ≤ length parents
+  gains-few distinct k = elim (cases_Bool (is_slot_among (record { 0 = k }) slots)) [
+    | inl t ↦
+        let counted = gains-counted k distinct t in
+        let as_count = length-filter (leads_first (table_of ns) (record { 0 = k })) parents in
+        let few = count_by-le-length (leads_first (table_of ns) (record { 0 = k })) parents in
+        omega arith
+    | inr f ↦ (let none = ap (gains_of k) is ∙ none-out (table_of ns) parents slots k f in omega arith)
+  ]
+
+  -- what became of a node with these gains became of it in a table that grew
+  pub grown-as : (x : StateId) (slot : Slot) (k : ℕ) (old new : Node) → AreDistinct slots → is_slot_among (record { 0 = k }) slots ≡ true → HasGrown gains parents x slot k old new → IsGrownNode (table_of ns) parents x slot k old new
+  grown-as x slot k old new distinct there h = record {
+    id_stays = h.id_stays;
+    arrival_stays = h.arrival_stays;
+    parents_stay = h.parents_stay;
+    ascending = h.ascending;
+    pairs = λ pair.
+        h.pairs pair ∙ ap (λ b. b || has_pair pair old.path.pairs) (gains-told k pair distinct there)
+        ∙ or-turn (is_first_branch (table_of ns) parents (record { 0 = k }) pair) (has_pair pair old.path.pairs);
+    longer = (let longer = h.longer in let counted = gains-counted k distinct there in omega arith);
+    child = h.child;
+    parent = h.parent;
+    other = h.other;
+    slots = h.slots;
+  }
+    where
+      or-turn : (a b : Bool) → (a || b) ≡ (b || a)
+      or-turn true true = refl
+      or-turn true false = refl
+      or-turn false true = refl
+      or-turn false false = refl
 
 -- where a path gains nothing there are no gains
 pub none-gained : (k : ℕ) (gains : List Gain) → is_gaining k gains ≡ false → gains_of k gains ≡ 0

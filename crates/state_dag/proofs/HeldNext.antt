@@ -1,14 +1,12 @@
 -- The memory of a table stays well-formed.
-use Rattle.std.proofs.Common.{not, inl, inr, ◌&&◌, ◌≡◌, ℕ, ◌+◌, ◌<◌, ◌≤◌, Bool, true, false, cond, eqb, leb, ltb, List, [], ◌∷◌, ◌++◌, length, map, filter, find, sum, get_or, set, Option, Some, None, IsTrue, refl, sym, ap, subst, ◌∙◌, length-append, arith}
+use Rattle.std.proofs.Common.{not, inl, inr, ◌&&◌, ◌≡◌, ℕ, ◌+◌, ◌<◌, ◌≤◌, Bool, true, false, cond, eqb, leb, ltb, List, [], ◌∷◌, ◌++◌, length, map, filter, find, sum, get_or, set, Some, None, IsTrue, refl, sym, ap, subst, ◌∙◌, length-append, arith}
 use Rattle.std.specs.List.{list_all}
 use Rattle.std.specs.BTreeMap.{get}
 use Rattle.std.proofs.lemmas.Bool.{cases_Bool, ne_eqb, and_right, and_parts, and_from, ltb-true, ltb-false, le-leb, lt-ltb}
-use Rattle.std.proofs.lemmas.Option.{none-some}
 use Rattle.std.proofs.lemmas.List.{length-set}
 use Rattle.tardis_base.specs.declared.ids.StateId.{StateId}
 use Rattle.tardis_base.specs.declared.ids.Slot.{Slot}
 use Rattle.tardis_base.specs.declared.records.Limits.{Limits}
-use Rattle.tardis_base.specs.declared.replies.Refusal.TheVariants.{PathFull as IsPathFull}
 use Rattle.tardis_base.specs.Ids.{same_id}
 use Rattle.tardis_base.specs.Valid.{are_limits}
 use Rattle.fork_path.specs.Pairs.{are_ascending_pairs}
@@ -20,7 +18,10 @@ use Rattle.state_dag.specs.Views.{entry_of, entries_from, place_of_id}
 use Rattle.state_dag.specs.Held.{seen, IsHeld}
 use Rattle.state_dag.specs.Grown.{leads_first, grown_length, too_long}
 use Rattle.state_dag.specs.Grown.{is_slot_among}
-use Rattle.state_dag.specs.Nodes.{table_of, table_within, are_short, IsGrownNode, first_refusal}
+use Rattle.state_dag.specs.Nodes.{table_of, table_within, are_short, all_gains, is_long, TellsLong, IsGrownNode}
+use Rattle.state_dag.specs.declared.leads.Gain.{Gain}
+use Rattle.tardis_base.specs.declared.faults.AddFault.{AddFault}
+use Rattle.state_dag.proofs.KeptSlots.{slots_from}
 use Rattle.state_dag.proofs.Following.{Follow, follow-places, LosesLeaf, childless_slots, leaves-follow, leaves-last, slots-follow}
 use Rattle.state_dag.proofs.Places.{place-of_slot}
 use Rattle.state_dag.proofs.Passing.{all-at, find-none_at}
@@ -66,15 +67,26 @@ and-true : (b : Bool) → (b && true) ≡ b
 and-true true = refl
 and-true false = refl
 
--- ===== Paths within the limit
+-- ===== What was found by the slots
 
-pub refusal-none : (x : StateId) (most pairs : ℕ) (o : Option (StateId × ℕ)) → first_refusal x most pairs o ≡ None → ◌≡◌ {A = Option (StateId × ℕ)} o None × (pairs ≤ most)
-refusal-none x most pairs (Some long) e = absurd (none-some _ (sym e))
-refusal-none x most pairs None e = (refl, ltb-false most pairs (go (ltb most pairs) e))
-  where
-    go : (t : Bool) → cond t (Some (IsPathFull x pairs)) None ≡ None → t ≡ false
-    go true h = absurd (none-some (IsPathFull x pairs) (sym h))
-    go false h = refl
+module _ (a : Inside) (parents : List Slot) (ns : List Node) (ss : List Slot) (nodes : ns ≡ a.nodes.items) (slots : ss ≡ map (λ e. e.slot) (entries_from 0 a.nodes.items)) where
+  pub none-in_seen : find (is_long (table_of ns) a.limits.max_path parents) ss ≡ None → find (is_long (seen a) a.limits.max_path parents) (map (λ e. e.slot) (entries_from 0 a.nodes.items)) ≡ None
+  none-in_seen none =
+      subst (λ qs. find (is_long (seen a) a.limits.max_path parents) qs ≡ None) slots (subst (λ ms. find (is_long (table_of ms) a.limits.max_path parents) ss ≡ None) nodes none)
+
+  pub long-in_seen : (fault : AddFault) → TellsLong (table_of ns) parents (find (is_long (table_of ns) a.limits.max_path parents) ss) fault →
+      TellsLong (seen a) parents (find (is_long (seen a) a.limits.max_path parents) (map (λ e. e.slot) (entries_from 0 a.nodes.items))) fault
+  long-in_seen fault told =
+      subst (λ qs. TellsLong (seen a) parents (find (is_long (seen a) a.limits.max_path parents) qs) fault) slots
+      (subst (λ ms. TellsLong (table_of ms) parents (find (is_long (table_of ms) a.limits.max_path parents) ss) fault) nodes told)
+
+  -- the gains, in nodes with the same entries too
+  pub gains-in_same : (ms : List Node) (gains : List Gain) → gains ≡ all_gains (table_of ns) parents ss → entries_from 0 ms ≡ entries_from 0 a.nodes.items → gains ≡ all_gains (table_of ms) parents (slots_from 0 ms)
+  gains-in_same ms gains is same =
+      is ∙ ap (λ qs. all_gains (table_of qs) parents ss) nodes ∙ ap (all_gains (table_of a.nodes.items) parents) slots
+      ∙ ap (λ es. all_gains (record (table_of a.nodes.items) { entries = es }) parents (map (λ e. e.slot) es)) (sym same)
+
+-- ===== Paths within the limit
 
 module _ (limits : Limits) (os ms ns : List Node) (parents : List Slot) (x : StateId) (slot : Slot) (same : entries_from 0 ms ≡ entries_from 0 os) (count : length ns ≡ length ms)
     (each : (k : ℕ) (d : Node) → k < length ms → IsGrownNode (table_of ms) parents x slot k (get_or ms k d) (get_or ns k d)) where

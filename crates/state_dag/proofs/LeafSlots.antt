@@ -1,8 +1,8 @@
 -- The slots of the kept states, and of the leaves among them.
-use Rattle.std.proofs.Common.{◌≡◌, ℕ, suc, ◌<◌, ◌≤◌, Bool, true, not, eqb, List, [], ◌∷◌, length, map, filter, get_or, Some, is_some, inl, inr, refl, sym, ap, ap₂, ◌∙◌, arith}
+use Rattle.std.proofs.Common.{◌≡◌, ℕ, suc, ◌<◌, ◌≤◌, Bool, true, not, eqb, ltb, List, [], ◌∷◌, length, map, filter, get_or, Some, is_some, inl, inr, refl, sym, ap, ap₂, subst, ◌∙◌, arith}
 use Rattle.std.specs.List.{list_all, list_any}
-use Rattle.std.specs.Option.{option_map}
-use Rattle.std.proofs.lemmas.Bool.{and_from, cases_Bool, both_ways, not_from_false, false_from_ne_true}
+use Rattle.std.specs.Option.{option_map, option_map_or}
+use Rattle.std.proofs.lemmas.Bool.{and_parts, ltb-true, lt-ltb, and_from, cases_Bool, both_ways, not_from_false, false_from_ne_true}
 use Rattle.tardis_base.specs.declared.ids.StateId.{StateId}
 use Rattle.tardis_base.specs.declared.records.Record.{Record}
 use Rattle.tardis_base.specs.Ids.{is_among}
@@ -11,7 +11,8 @@ use Rattle.plain_dag.specs.Forks.{is_leaf, leaves}
 use Rattle.plain_dag.specs.Collection.{kept_states}
 use Rattle.plain_dag.specs.Laws.{StandInsAreShared}
 use Rattle.plain_dag.proofs.Leaves.{leaf-is-childless}
-use Rattle.state_dag.specs.Table.{Entry, Table, entry_at, id_at, is_slot}
+use Rattle.state_dag.specs.Table.{Entry, Table, entry_at, id_at, is_slot, arrival_at, arrive_in_order}
+use Rattle.state_dag.specs.Nodes.{Rise}
 use Rattle.state_dag.specs.Views.{is_childless}
 use Rattle.state_dag.specs.Stands.{Stands}
 use Rattle.state_dag.proofs.Following.{childless_slots}
@@ -97,3 +98,41 @@ few-leaves (e ∷ es) =
       | inl t ↦ rw t (omega arith)
       | inr f ↦ rw f (omega arith)
     ]
+
+-- ===== Their order
+
+-- what comes behind an entry arrived later
+leaves-later : (table : Table) (p : Entry) (es : List Entry) → AreFound table es → arrive_in_order (p ∷ es) ≡ true → list_all (λ s. ltb p.arrival (arrival_at table s)) (childless_slots es) ≡ true
+leaves-later table p [] found up = refl
+leaves-later table p (e ∷ es) found up =
+    let parts = and_parts (ltb p.arrival e.arrival) (arrive_in_order (e ∷ es)) up in
+    let here : arrival_at table e.slot ≡ e.arrival = ap (λ o. option_map_or (λ (f : Entry). f.arrival) o 0) (found 0 e (omega arith)) in
+    let rest = leaves-later table p es (found-rest table e es found) (skips es parts.0 parts.1) in
+    elim (cases_Bool (is_childless e)) [
+      | inl t ↦
+          rw t (and_from (ltb p.arrival (arrival_at table e.slot)) (list_all (λ s. ltb p.arrival (arrival_at table s)) (childless_slots es)) (ap (ltb p.arrival) here ∙ parts.0) rest)
+      | inr f ↦ rw f rest
+    ]
+  where
+    skips : (fs : List Entry) → ltb p.arrival e.arrival ≡ true → arrive_in_order (e ∷ fs) ≡ true → arrive_in_order (p ∷ fs) ≡ true
+    skips [] one two = refl
+    skips (f ∷ fs) one two =
+        let parts = and_parts (ltb e.arrival f.arrival) (arrive_in_order (f ∷ fs)) two in
+        let first = ltb-true p.arrival e.arrival one in
+        let second = ltb-true e.arrival f.arrival parts.0 in
+        and_from (ltb p.arrival f.arrival) (arrive_in_order (f ∷ fs)) (lt-ltb p.arrival f.arrival (omega arith)) parts.1
+
+-- the leaves' slots stand in arrival order
+pub leaves-rise : (table : Table) (es : List Entry) → AreFound table es → arrive_in_order es ≡ true → Rise (arrival_at table) (childless_slots es)
+leaves-rise table [] found up = tt
+leaves-rise table (e ∷ es) found up =
+    let here : arrival_at table e.slot ≡ e.arrival = ap (λ o. option_map_or (λ (f : Entry). f.arrival) o 0) (found 0 e (omega arith)) in
+    let rest = leaves-rise table es (found-rest table e es found) (in-order es up) in
+    elim (cases_Bool (is_childless e)) [
+      | inl t ↦ rw t (subst (λ m. list_all (λ s. ltb m (arrival_at table s)) (childless_slots es) ≡ true) (sym here) (leaves-later table e es (found-rest table e es found) up), rest)
+      | inr f ↦ rw f rest
+    ]
+  where
+    in-order : (fs : List Entry) → arrive_in_order (e ∷ fs) ≡ true → arrive_in_order fs ≡ true
+    in-order [] u = refl
+    in-order (f ∷ fs) u = (and_parts (ltb e.arrival f.arrival) (arrive_in_order (f ∷ fs)) u).1

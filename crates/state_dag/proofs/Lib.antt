@@ -1,7 +1,9 @@
 -- Lemmas on the table of states.
 pub mod Places
 pub mod Following
+pub mod Rising
 pub mod LeafSlots
+pub mod KeptSlots
 pub mod Known
 pub mod Counting
 pub mod Branches

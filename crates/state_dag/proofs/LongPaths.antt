@@ -1,60 +1,96 @@
--- Whether a path gets too long, by the nodes.
-use Rattle.std.proofs.Common.{◌≡◌, ℕ, ◌+◌, ◌<◌, ◌≤◌, Bool, true, false, ltb, List, length, filter, find, take, get_or, Option, Some, None, refl, sym, ap, ◌∙◌, arith}
-use Rattle.std.specs.Option.{option_map}
-use Rattle.std.proofs.lemmas.Bool.{le-ltb, lt-ltb, cond-true, cond-false}
-use Rattle.std.proofs.lemmas.Option.{none-some}
+-- Whether a path gets too long, by the slots.
+use Rattle.std.proofs.Common.{◌≡◌, ℕ, ◌+◌, ◌≤◌, Bool, ltb, List, [], ◌∷◌, length, map, filter, find, Option, Some, None, Err, inl, inr, refl, sym, ap, ap₂, ◌∙◌, arith}
+use Rattle.std.specs.Option.{option_map, option_map_or}
+use Rattle.std.proofs.lemmas.Bool.{cases_Bool, le-ltb, lt-ltb, cond-true, cond-false}
+use Rattle.std.proofs.lemmas.Option.{none-some, same_Some}
 use Rattle.tardis_base.specs.declared.ids.StateId.{StateId}
 use Rattle.tardis_base.specs.declared.ids.Slot.{Slot}
-use Rattle.tardis_base.specs.declared.records.Limits.{Limits}
+use Rattle.tardis_base.specs.declared.faults.AddFault.{AddFault}
+use Rattle.tardis_base.specs.declared.faults.AddFault.TheVariants.{Full, PathFull, NoMemory}
 use Rattle.tardis_base.specs.declared.replies.Refusal.{Refusal}
 use Rattle.tardis_base.specs.declared.replies.Refusal.TheVariants.{PathFull as IsPathFull}
-use Rattle.state_dag.specs.declared.nodes.Node.{Node}
-use Rattle.state_dag.specs.Table.{Entry}
-use Rattle.state_dag.specs.Views.{entry_of, entries_from}
+use Rattle.state_dag.specs.Table.{Entry, Table, entry_at, id_at}
 use Rattle.state_dag.specs.Grown.{leads_first, grown_length, too_long}
-use Rattle.state_dag.specs.Nodes.{table_of, table_within, path_refusal, first_refusal}
-use Rattle.state_dag.proofs.Places.{length-entries}
-use Rattle.state_dag.proofs.Passing.{find-first, find-none_more}
-use Rattle.state_dag.proofs.NodeLists.{entry-in}
+use Rattle.state_dag.specs.Nodes.{length_after, is_long, TellsLong, TellsOwn, first_refusal, path_refusal, TellsRefusal}
+use Rattle.state_dag.proofs.LeafSlots.{AreFound, found-rest}
 
 pub none-from_map : {X Y : Type 0} (f : X → Y) (o : Option X) → option_map f o ≡ None → o ≡ None
 none-from_map f None e = refl
 none-from_map f (Some x) e = absurd (none-some (f x) (sym e))
 
-module _ (limits : Limits) (ns : List Node) (parents : List Slot) where
-  abbrev is_long : Entry → Bool
-  is_long e = ltb limits.max_path (grown_length (table_of ns) parents e)
+module _ (table : Table) (parents : List Slot) (most : ℕ) where
+  abbrev long-entry : Entry → Bool
+  long-entry e = ltb most (grown_length table parents e)
 
-  module _ (k : ℕ) (d : Node) (lt : k < length ns) (count : ℕ) (is : count ≡ length (get_or ns k d).path.pairs + length (filter (leads_first (table_of ns) (record { 0 = k })) parents)) where
-    long-at : (b : Bool) → ltb limits.max_path count ≡ b → is_long (get_or (entries_from 0 ns) k (entry_of 0 d)) ≡ b
-    long-at b e = ap is_long (entry-in ns k d (entry_of 0 d) lt) ∙ ap (ltb limits.max_path) (sym is) ∙ e
+  same-length : (e : Entry) → entry_at table e.slot ≡ Some e → length_after table parents e.slot ≡ grown_length table parents e
+  same-length e is = ap (λ o. length (option_map_or (λ (f : Entry). f.path) o []) + length (filter (leads_first table e.slot) parents)) is
 
-    within : k < length (entries_from 0 ns)
-    within = let e = length-entries ns 0 in omega arith
+  -- what is found among the slots stands for what is found among the entries
+  abbrev Matches : Option Slot → Option Entry → Type 0
+  Matches None None = Unit {0}
+  Matches (Some s) (Some e) = (e.slot ≡ s) × (entry_at table s ≡ Some e)
+  Matches None (Some e) = ⊥
+  Matches (Some s) None = ⊥
 
-    pub short-more : find is_long (take k (entries_from 0 ns)) ≡ None → count ≤ limits.max_path → find is_long (take (k + 1) (entries_from 0 ns)) ≡ None
-    short-more before le =
-        let next : k + 1 ≡ ℕ.suc k = omega arith in
-        ap (λ m. find is_long (take m (entries_from 0 ns))) next
-        ∙ find-none_more is_long (entries_from 0 ns) k (entry_of 0 d) before within (long-at false (le-ltb limits.max_path count le))
+  matched : (es : List Entry) → AreFound table es → Matches (find (is_long table most parents) (map (λ e. e.slot) es)) (find long-entry es)
+  matched [] found = tt
+  matched (e ∷ es) found =
+      let here = found 0 e (omega arith) in
+      let same = ap (ltb most) (same-length e here) in
+      elim (cases_Bool (long-entry e)) [
+        | inl t ↦ rw (t, same ∙ t) (refl, here)
+        | inr f ↦ rw (f, same ∙ f) (matched es (found-rest table e es found))
+      ]
 
-    pub long-first : find is_long (take k (entries_from 0 ns)) ≡ None → limits.max_path < count → too_long (table_within limits ns) parents ≡ Some ((get_or ns k d).id, count)
-    long-first before lt₂ =
-        let told : StateId → ℕ → Option (StateId × ℕ) = λ x n. Some (x, n) in
-        ap (option_map (λ (e : Entry). (e.id, grown_length (table_of ns) parents e)))
-        (find-first is_long (entries_from 0 ns) k (entry_of 0 d) before within (long-at true (lt-ltb limits.max_path count lt₂)))
-        ∙ ap (λ (e : Entry). told e.id (grown_length (table_of ns) parents e)) (entry-in ns k d (entry_of 0 d) lt)
-        ∙ ap (told (get_or ns k d).id) (sym is)
+  none-matched : (o : Option Slot) (p : Option Entry) → Matches o p → o ≡ None → p ≡ None
+  none-matched None None m e = refl
+  none-matched None (Some q) m e = absurd (m)
+  none-matched (Some s) p m e = absurd (none-some s (sym e))
 
-  pub short-all : (k : ℕ) → find is_long (take k (entries_from 0 ns)) ≡ None → take k (entries_from 0 ns) ≡ entries_from 0 ns → too_long (table_within limits ns) parents ≡ None
-  short-all k none all = ap (option_map (λ (e : Entry). (e.id, grown_length (table_of ns) parents e))) (sym (ap (find is_long) all) ∙ none)
+  some-matched : (s : Slot) (o : Option Slot) (p : Option Entry) → Matches o p → o ≡ Some s → (x : StateId) (n : ℕ) → id_at table s ≡ Some x → length_after table parents s ≡ n →
+      option_map {U = StateId × ℕ} (λ e. (e.id, grown_length table parents e)) p ≡ Some (x, n)
+  some-matched s None None m e x n named is = absurd (none-some s e)
+  some-matched s None (Some q) m e x n named is = absurd (m)
+  some-matched s (Some t) None m e x n named is = absurd (m)
+  some-matched s (Some t) (Some q) m e x n named is =
+      let same : t ≡ s = same_Some t s e in
+      let here : entry_at table s ≡ Some q = ap (entry_at table) (sym same) ∙ m.1 in
+      let told : StateId → ℕ → Option (StateId × ℕ) = λ y k. Some (y, k) in
+      let id : q.id ≡ x = same_Some q.id x (sym (ap (option_map (λ (f : Entry). f.id)) here) ∙ named) in
+      let long : grown_length table parents q ≡ n = sym (same-length q (ap (entry_at table) m.0 ∙ m.1)) ∙ ap (length_after table parents) (m.0 ∙ same) ∙ is in
+      ap₂ told id long
 
-  -- where no kept path gets too long, the new one decides
-  pub new-long : (x : StateId) (pairs n : ℕ) → too_long (table_within limits ns) parents ≡ None → n ≡ pairs → limits.max_path < n → path_refusal (table_within limits ns) x parents pairs ≡ Some (IsPathFull x n)
-  new-long x pairs n none same lt =
-      let told : ℕ → Option Refusal = λ m. Some (IsPathFull x m) in
-      ap (first_refusal x limits.max_path pairs) none ∙ cond-true (ltb limits.max_path pairs) (told pairs) None (lt-ltb limits.max_path pairs (omega arith)) ∙ ap told (sym same)
+module _ (table : Table) (parents : List Slot) (x : StateId) (pairs : ℕ) (found : AreFound table table.entries) where
+  abbrev pub slots : List Slot
+  slots = map (λ (e : Entry). e.slot) table.entries
 
-  pub new-short : (x : StateId) (pairs n : ℕ) → too_long (table_within limits ns) parents ≡ None → n ≡ pairs → n ≤ limits.max_path → path_refusal (table_within limits ns) x parents pairs ≡ None
-  new-short x pairs n none same le =
-      ap (first_refusal x limits.max_path pairs) none ∙ cond-false (ltb limits.max_path pairs) (Some (IsPathFull x pairs)) None (le-ltb limits.max_path pairs (omega arith))
+  matches : Matches table parents table.limits.max_path (find (is_long table table.limits.max_path parents) slots) (find (long-entry table parents table.limits.max_path) table.entries)
+  matches = matched table parents table.limits.max_path table.entries found
+
+  -- no path of a kept state is too long
+  pub short-told : find (is_long table table.limits.max_path parents) slots ≡ None → too_long table parents ≡ None
+  short-told none =
+      ap (option_map {U = StateId × ℕ} (λ e. (e.id, grown_length table parents e)))
+      (none-matched table parents table.limits.max_path (find (is_long table table.limits.max_path parents) slots) (find (long-entry table parents table.limits.max_path) table.entries) matches none)
+
+  -- a fault that tells a kept state
+  pub long-told : (fault : AddFault) → TellsLong table parents (find (is_long table table.limits.max_path parents) slots) fault → TellsRefusal (path_refusal table x parents pairs) (Err fault)
+  long-told (Full kept) told = absurd (told)
+  long-told (PathFull y n) told =
+      ap (first_refusal x table.limits.max_path pairs)
+      (some-matched table parents table.limits.max_path told.0 (find (is_long table table.limits.max_path parents) slots) (find (long-entry table parents table.limits.max_path) table.entries) matches told.1 y n told.2 told.3)
+  long-told NoMemory told = tt
+
+  -- or the new state
+  pub own-told : (fault : AddFault) → find (is_long table table.limits.max_path parents) slots ≡ None → TellsOwn x pairs table.limits.max_path (Err fault) → TellsRefusal (path_refusal table x parents pairs) (Err fault)
+  own-told (Full kept) none told = absurd (told)
+  own-told (PathFull y n) none told =
+      let refusal : StateId → ℕ → Option Refusal = λ z m. Some (IsPathFull z m) in
+      ap (first_refusal x table.limits.max_path pairs) (short-told none)
+      ∙ cond-true (ltb table.limits.max_path pairs) (refusal x pairs) None (lt-ltb table.limits.max_path pairs told.2) ∙ ap₂ refusal (sym told.0) (sym told.1)
+  own-told NoMemory none told = tt
+
+  -- or nothing is
+  pub nothing-told : find (is_long table table.limits.max_path parents) slots ≡ None → pairs ≤ table.limits.max_path → path_refusal table x parents pairs ≡ None
+  nothing-told none le =
+      ap (first_refusal x table.limits.max_path pairs) (short-told none) ∙ cond-false (ltb table.limits.max_path pairs) (Some (IsPathFull x pairs)) None (le-ltb table.limits.max_path pairs le)

@@ -1,17 +1,15 @@
 -- Nodes by their places.
-use Rattle.std.proofs.Common.{◌≡◌, ℕ, ◌+◌, ◌<◌, true, ltb, List, [], ◌∷◌, ◌++◌, length, take, get_or, set, Some, inl, inr, refl, sym, ap, subst, ◌∙◌, arith}
-use Rattle.std.specs.List.{flat_map}
+use Rattle.std.proofs.Common.{◌≡◌, ℕ, ◌+◌, ◌<◌, true, ltb, List, [], ◌∷◌, length, get_or, set, Some, inl, inr, refl, sym, ap, subst, ◌∙◌, arith}
 use Rattle.std.specs.Option.{option_map, option_map_or}
 use Rattle.std.proofs.lemmas.Bool.{cases_eq, ltb-true}
-use Rattle.std.proofs.lemmas.List.{get_or-set_same, get_or-set_other, take_more, flat_map_more}
+use Rattle.std.proofs.lemmas.List.{get_or-set_same, get_or-set_other}
 use Rattle.tardis_base.specs.declared.ids.Slot.{Slot}
 use Rattle.state_dag.specs.declared.nodes.Node.{Node}
-use Rattle.state_dag.specs.declared.leads.Gain.{Gain}
-use Rattle.state_dag.specs.Table.{Entry, Table, id_at}
+use Rattle.state_dag.specs.Table.{Entry, id_at}
 use Rattle.state_dag.specs.Views.{entry_of, entries_from}
 use Rattle.state_dag.specs.Grown.{path_at, number_of_children}
-use Rattle.state_dag.specs.Nodes.{table_of, are_places, gains_at}
-use Rattle.state_dag.proofs.Places.{entry-found, length-entries}
+use Rattle.state_dag.specs.Nodes.{table_of, are_places}
+use Rattle.state_dag.proofs.Places.{entry-found}
 use Rattle.state_dag.proofs.Passing.{all-at}
 
 -- a node in place of another
@@ -50,18 +48,3 @@ id-found ns k d lt = ap (λ o. option_map (λ e. e.id) o) (entry-found ns k d lt
 
 pub place-within : (ns : List Node) (slots : List Slot) (i : ℕ) (d : Slot) → are_places ns slots ≡ true → i < length slots → (get_or slots i d).0 < length ns
 place-within ns slots i d places lt = ltb-true (get_or slots i d).0 (length ns) (all-at (λ s. ltb s.0 (length ns)) slots i d places lt)
-
--- ===== Gains so far
-
-pub gains-more : (table : Table) (parents : List Slot) (ns : List Node) (k : ℕ) → k < length ns →
-    flat_map (λ (e : Entry). gains_at table parents e.slot) (take k (entries_from 0 ns)) ++ gains_at table parents (record { 0 = k })
-    ≡ flat_map (λ (e : Entry). gains_at table parents e.slot) (take (k + 1) (entries_from 0 ns))
-gains-more table parents [] k lt = absurd (omega arith)
-gains-more table parents (n ∷ ns) k lt =
-    let all : List Entry = entries_from 0 (n ∷ ns) in
-    let f : Entry → List Gain = λ e. gains_at table parents e.slot in
-    let d : Entry = entry_of 0 n in
-    let long = length-entries (n ∷ ns) 0 in
-    ap (λ (e : Entry). flat_map f (take k all) ++ gains_at table parents e.slot) (sym (entry-in (n ∷ ns) k n d lt))
-    ∙ flat_map_more f [] (take k all) (get_or all k d)
-    ∙ ap (flat_map f) (sym (take_more all k d (omega arith)))

@@ -1,5 +1,5 @@
 -- What a table says of the history that it stands for.
-use Rattle.std.proofs.Common.{◌≡◌, ℕ, true, false, ◌&&◌, eqb, leb, List, [], ◌∷◌, map, find, Option, Some, None, IsTrue, inl, inr, refl, sym, ap, ap₂, subst, ◌∙◌, eqb-true, eq-eqb, arith}
+use Rattle.std.proofs.Common.{◌≡◌, ℕ, true, false, ◌&&◌, eqb, leb, List, [], ◌∷◌, map, find, Option, Some, None, is_some, IsTrue, inl, inr, refl, sym, ap, ap₂, subst, ◌∙◌, eqb-true, eq-eqb, arith}
 use Rattle.std.specs.Option.{option_map, option_map_or}
 use Rattle.std.proofs.lemmas.Bool.{and_parts, and_from, or_cases, or_left, or_right, cases_Bool, cond-true, cond-false, leb-true, le-leb}
 use Rattle.std.proofs.lemmas.Option.{none-some, same_Some}
@@ -14,7 +14,7 @@ use Rattle.plain_dag.specs.Collection.{is_kept}
 use Rattle.plain_dag.specs.Paths.{is_fork, leads_to}
 use Rattle.plain_dag.proofs.Ids.{same_test, not-both, among-first, among-later, among-cases}
 use Rattle.plain_dag.proofs.Paths.{fork-paths-tell}
-use Rattle.state_dag.specs.Table.{Entry, Table, entry_at, id_at, is_entry_above, is_slot_above, arrival_at}
+use Rattle.state_dag.specs.Table.{Entry, Table, entry_at, id_at, is_slot, is_entry_above, is_slot_above, arrival_at}
 use Rattle.state_dag.specs.Stands.{is_taken, Shows, Stands}
 use Rattle.state_dag.proofs.Known.{kept-is_listed, listed-is_kept}
 
@@ -80,6 +80,17 @@ pub slots-above : (table : Table) (a b : Slot) (e f : Entry) → entry_at table 
 slots-above table a b e f is_a is_b =
     ap (λ o. option_map_or (λ (g : Entry). option_map_or (λ (h : Entry). is_entry_above g h) (entry_at table b) false) o false) is_a
     ∙ ap (λ o. option_map_or (λ (h : Entry). is_entry_above e h) o false) is_b
+
+-- a slot is above itself
+pub slot-above-itself : (table : Table) (a : Slot) → is_slot table a ≡ true → is_slot_above table a a ≡ true
+slot-above-itself table a there = go (entry_at table a) refl there
+  where
+    itself : (e : Entry) → is_entry_above e e ≡ true
+    itself e = and_from (leb e.arrival e.arrival) (has_pairs e.path e.path) (le-leb e.arrival e.arrival (omega arith)) (included-from e.path e.path (λ q h. h))
+
+    go : (o : Option Entry) → entry_at table a ≡ o → is_some o ≡ true → is_slot_above table a a ≡ true
+    go None is t = not-both true refl (sym t)
+    go (Some e) is t = ap (λ o. option_map_or (λ (g : Entry). option_map_or (λ (h : Entry). is_entry_above g h) o false) o false) is ∙ itself e
 
 module _ (table : Table) (rs : List Record) (ks : List StateId) (stands : Stands table rs ks) where
   -- what the entry of a state says

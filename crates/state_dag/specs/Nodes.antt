@@ -12,9 +12,9 @@ use Rattle.tardis_base.specs.declared.replies.Refusal.TheVariants.{PathFull as I
 use Rattle.fork_path.specs.Pairs.{are_ascending_pairs, is_same_pair, has_pair}
 use Rattle.state_dag.specs.declared.nodes.Node.{Node}
 use Rattle.state_dag.specs.declared.leads.Gain.{Gain}
-use Rattle.state_dag.specs.Table.{Entry, Table, entry_at, is_entry_above}
+use Rattle.state_dag.specs.Table.{Table, entry_at, id_at, is_entry_above}
 use Rattle.state_dag.specs.Views.{entry_of, entries_from}
-use Rattle.state_dag.specs.Grown.{leads_first, is_slot_among, is_first_branch, only_if, too_long}
+use Rattle.state_dag.specs.Grown.{path_at, leads_first, is_slot_among, is_first_branch, only_if, too_long}
 
 -- a table with these nodes and nothing else
 abbrev pub table_of : List Node → Table
@@ -42,6 +42,11 @@ abbrev pub AreDistinct : List Slot → Type 0
 AreDistinct [] = Unit {0}
 AreDistinct (slot ∷ slots) = (is_slot_among slot slots ≡ false) × AreDistinct slots
 
+-- each has a lower number than all behind it
+abbrev pub Rise : (Slot → ℕ) → List Slot → Type 0
+Rise number [] = Unit {0}
+Rise number (slot ∷ slots) = IsTrue (list_all (λ s. nat_lt (number slot) (number s)) slots) × Rise number slots
+
 -- no path has more than so many pairs
 abbrev pub are_short : ℕ → List Node → Bool
 are_short most nodes = list_all (λ n. nat_le (length n.path.pairs) most) nodes
@@ -55,9 +60,23 @@ is_child_above table slot child =
 abbrev pub gains_at : Table → List Slot → Slot → List Gain
 gains_at table parents slot = map (λ p. record { at = slot; fork = p }) (filter (leads_first table slot) parents)
 
--- all first branches of the parents, with each state that they lead to
-abbrev pub all_gains : Table → List Slot → List Gain
-all_gains table parents = flat_map (λ (e : Entry). gains_at table parents e.slot) table.entries
+-- all first branches of the parents, with each of the states at these slots that they lead to
+abbrev pub all_gains : Table → List Slot → List Slot → List Gain
+all_gains table parents slots = flat_map (gains_at table parents) slots
+
+-- how many pairs the path of the state at the slot has afterwards
+abbrev pub length_after : Table → List Slot → Slot → ℕ
+length_after table parents slot = length (path_at table slot) + length (filter (leads_first table slot) parents)
+
+-- they are too many
+abbrev pub is_long : Table → ℕ → List Slot → Slot → Bool
+is_long table most parents slot = nat_lt most (length_after table parents slot)
+
+-- the path of the state at this slot is told as too long, or there was no memory
+abbrev pub TellsLong : Table → List Slot → Option Slot → AddFault → Type 0
+TellsLong table parents long (PathFull x pairs) = (slot : Slot) × (long ≡ Some slot) × (id_at table slot ≡ Some x) × (length_after table parents slot ≡ pairs)
+TellsLong table parents long NoMemory = ⊤
+TellsLong table parents long (Full kept) = ⊥
 
 -- the fork's first branch leads to one of the parents
 abbrev pub leads_to_some : Table → List Slot → Slot → Bool
@@ -78,6 +97,13 @@ TellsRefusal refusal (Ok done) = refusal ≡ None
 TellsRefusal refusal (Err (PathFull x pairs)) = refusal ≡ Some (IsPathFull x pairs)
 TellsRefusal refusal (Err NoMemory) = ⊤
 TellsRefusal refusal (Err (Full kept)) = ⊥
+
+-- the new state's path isn't too long, or it is told, or there was no memory
+abbrev pub TellsOwn : StateId → ℕ → ℕ → Result (Unit {0}) AddFault → Type 0
+TellsOwn x pairs most (Ok done) = pairs ≤ most
+TellsOwn x pairs most (Err (PathFull y n)) = (y ≡ x) × (n ≡ pairs) × (most < pairs)
+TellsOwn x pairs most (Err NoMemory) = ⊤
+TellsOwn x pairs most (Err (Full kept)) = ⊥
 
 -- each gain is one of a node
 abbrev pub have_places : List Node → List Gain → Bool
@@ -119,6 +145,19 @@ pub record HasGained (gains : List Gain) (place : ℕ) (old new : Node) : Type 0
 pub record HasChild (x : StateId) (slot : Slot) (parents : List Slot) (place : ℕ) (old new : Node) : Type 0 where
   pub children : new.children.items ≡ old.children.items ++ only_if (is_slot_among (record { 0 = place }) parents) x
   pub stand_ins : new.stand_ins.items ≡ old.stand_ins.items ++ only_if (is_slot_among (record { 0 = place }) parents) slot
+
+-- what became of the node at this place, with these gains
+pub record HasGrown (gains : List Gain) (parents : List Slot) (x : StateId) (slot : Slot) (place : ℕ) (old new : Node) : Type 0 where
+  pub id_stays : new.id ≡ old.id
+  pub arrival_stays : new.arrival ≡ old.arrival
+  pub parents_stay : new.parents ≡ old.parents
+  pub ascending : IsTrue (are_ascending_pairs old.path.pairs) → IsTrue (are_ascending_pairs new.path.pairs)
+  pub pairs : (pair : ℕ × ℕ) → has_pair pair new.path.pairs ≡ (is_gain place gains pair || has_pair pair old.path.pairs)
+  pub longer : length new.path.pairs ≤ length old.path.pairs + gains_of place gains
+  pub child : AreDistinct parents → HasChild x slot parents place old new
+  pub parent : IsTrue (is_slot_among (record { 0 = place }) parents) → 1 ≤ length new.children.items
+  pub other : is_slot_among (record { 0 = place }) parents ≡ false → new.children.items ≡ old.children.items
+  pub slots : (test : Slot → Bool) → IsTrue (list_all test old.stand_ins.items) → IsTrue (test slot) → IsTrue (list_all test new.stand_ins.items)
 
 -- what became of the node at this place below a table that grew
 pub record IsGrownNode (table : Table) (parents : List Slot) (x : StateId) (slot : Slot) (place : ℕ) (old new : Node) : Type 0 where

@@ -5,7 +5,7 @@ ghost use Rattle.std.specs.List.{list_all};
 ghost use Rattle.tardis_base.specs.declared.ids.Slot.{Slot};
 ghost use Rattle.state_dag.specs.declared.nodes.Node.{Node};
 ghost use Rattle.state_dag.specs.Grown.{is_slot_among};
-ghost use Rattle.state_dag.specs.Nodes.{table_of, are_places, have_places, all_gains, AreDistinct, HasPathRoom, HasChildRoom, HasGained, HasChild, IsGrownNode};
+ghost use Rattle.state_dag.specs.Nodes.{are_places, have_places, AreDistinct, HasPathRoom, HasChildRoom, HasGained, HasChild, HasGrown};
 
 use crate::leads::Gain;
 use crate::nodes::Node;
@@ -14,13 +14,13 @@ use tardis_base::{Slot, StateId};
 /// Gives the parents a child and the gaining paths their pairs.
 pub fn grow(nodes: &mut Vec<Node>, parents: &[Slot], gains: &[Gain], id: StateId, slot: Slot)
     requires places { IsTrue (are_places nodes.old.items parents.now) }
-    requires gains { gains.now ≡ all_gains (table_of nodes.old.items) parents.now }
+    requires gains { IsTrue (have_places nodes.old.items gains.now) }
     requires paths { HasPathRoom nodes.old.items gains.now }
     requires children { HasChildRoom nodes.old.items parents.now }
     ensures count { length nodes.new.items ≡ length nodes.old.items }
     ensures room { vec_len nodes.new ≡ vec_len nodes.old }
     ensures capacity { vec_capacity nodes.new ≡ vec_capacity nodes.old }
-    ensures each { (k : ℕ) (d : Node) → k < length nodes.old.items → IsGrownNode (table_of nodes.old.items) parents.now id slot k (slice_index_or nodes.old.items k d) (slice_index_or nodes.new.items k d) }
+    ensures each { (k : ℕ) (d : Node) → k < length nodes.old.items → HasGrown gains.now parents.now id slot k (slice_index_or nodes.old.items k d) (slice_index_or nodes.new.items k d) }
 {
     grow_paths(nodes, gains);
     add_children(nodes, parents, id, slot);

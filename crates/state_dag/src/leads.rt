@@ -1,16 +1,18 @@
 //! Which first branches lead where, in a table that is to grow below some parents.
 
-ghost use Rattle.std.specs.Prelude.{◌≡◌, ℕ, ◌<◌, ◌≤◌, ◌^◌, ◌++◌, false, [], length, map, filter, IsTrue, IfOk, OnOk};
+ghost use Rattle.std.specs.Prelude.{◌≡◌, ℕ, ◌<◌, ◌≤◌, ◌++◌, false, nat_le, [], length, find, filter, slice_index_or, None, IsTrue, IfOk, OnOk, MatchResult};
+ghost use Rattle.std.specs.List.{list_all};
+ghost use Rattle.std.specs.List.Sorted.{IsNonDecreasingBy};
 ghost use Rattle.std.specs.Option.{option_copied, option_map, option_map_or};
 ghost use Rattle.tardis_base.specs.declared.ids.Slot.{Slot};
-ghost use Rattle.state_dag.specs.Table.{entry_at, arrive_in_order, is_slot_above};
-ghost use Rattle.state_dag.specs.Views.{entry_of, entries_from};
-ghost use Rattle.state_dag.specs.Grown.{leads_first};
-ghost use Rattle.state_dag.specs.Nodes.{table_of, are_places, is_child_above, gains_at, all_gains};
+ghost use Rattle.state_dag.specs.Table.{arrival_at, is_slot_above};
+ghost use Rattle.state_dag.specs.Grown.{path_at, leads_first};
+ghost use Rattle.state_dag.specs.Nodes.{table_of, are_places, is_child_above, gains_at, all_gains, is_long, TellsLong};
 
-use crate::nodes::{Node, is_node_above, node_at};
+use crate::nodes::{Node, first_from, is_node_above, node_at};
+use crate::sums::sum_in_u32;
 use std::alloc::Global;
-use tardis_base::{NoMemory, Slot};
+use tardis_base::{AddFault, Limits, NoMemory, Slot};
 
 /// A first branch that leads to a kept state, and isn't in its path yet.
 #[derive(Clone, Copy)]
@@ -49,34 +51,20 @@ pub fn leads_first(nodes: &[Node], slot: Slot, parent: Slot) -> bool
     }
 }
 
-/// The first place to which a first branch of the parents may lead, where nodes stand in arrival order: that of the first
-/// of their only children, or the one behind all nodes.
-pub fn first_led(nodes: &[Node], parents: &[Slot]) -> usize
-    requires { IsTrue (arrive_in_order (entries_from 0 nodes.now)) }
-    ensures within { result ≤ length nodes.now }
-    ensures before { (at : Slot) → at.0 < result → filter (leads_first (table_of nodes.now) at) parents.now ≡ [] }
+/// The first of the slots to which a first branch of the parents may lead, where they stand in arrival order: that of the
+/// first of their only children, or the end.
+fn first_led(nodes: &[Node], slots: &[Slot], parents: &[Slot]) -> usize
+    requires { IsNonDecreasingBy (arrival_at (table_of nodes.now)) slots.now }
+    ensures within { result ≤ length slots.now }
+    ensures before { (k : ℕ) (d : Slot) → k < result → filter (leads_first (table_of nodes.now) (slice_index_or slots.now k d)) parents.now ≡ [] }
 {
-    let mut first = nodes.len();
+    let mut first = slots.len();
     for parent in parents {
-        if let Some(child) = only_child_slot(nodes, *parent) {
-            first = first.min(child.0 as usize);
+        if let Some(child) = only_child(nodes, *parent) {
+            first = first.min(first_from(nodes, slots, child.arrival));
         }
     }
     first
-}
-
-/// How many of the parents have exactly one child, which is the state at the slot or one of its ancestors.
-pub fn leading(nodes: &[Node], parents: &[Slot], slot: Slot) -> usize
-    requires { slot.0 < length nodes.now }
-    ensures { result ≡ length (filter (leads_first (table_of nodes.now) slot) parents.now) }
-{
-    let mut count = 0;
-    for parent in parents {
-        if leads_first(nodes, slot, *parent) {
-            count += 1;
-        }
-    }
-    count
 }
 
 /// Adds the first branches of the parents that lead to the state at the slot.
@@ -100,15 +88,34 @@ fn add_gains(
     Ok(())
 }
 
-/// All first branches of the parents, with each state that they lead to. The nodes stand in arrival order.
-pub fn gains(alloc: Global, nodes: &[Node], parents: &[Slot]) -> Result<Vec<Gain>, NoMemory>
-    requires few { length nodes.now ≤ 2 ^ 32 }
-    requires in_order { IsTrue (arrive_in_order (entries_from 0 nodes.now)) }
-    ensures { IfOk result (λ gains. gains.items ≡ all_gains (table_of nodes.now) parents.now) }
+/// All first branches of the parents, with each of the states at the slots that they lead to, in this order. Tells the
+/// first of these states whose path would have more pairs than a path may have. The slots stand in arrival order.
+pub fn gains(
+    alloc: Global,
+    nodes: &[Node],
+    slots: &[Slot],
+    parents: &[Slot],
+    limits: &Limits,
+) -> Result<Vec<Gain>, AddFault>
+    requires places { IsTrue (are_places nodes.now slots.now) }
+    requires in_order { IsNonDecreasingBy (arrival_at (table_of nodes.now)) slots.now }
+    requires short { IsTrue (list_all (λ s. nat_le (length (path_at (table_of nodes.now) s)) limits.now.max_path) slots.now) }
+    ensures gains { IfOk result (λ gains. gains.items ≡ all_gains (table_of nodes.now) parents.now slots.now) }
+    ensures long { MatchResult result (λ gains. find (is_long (table_of nodes.now) limits.now.max_path parents.now) slots.now ≡ None) (λ fault. TellsLong (table_of nodes.now) parents.now (find (is_long (table_of nodes.now) limits.now.max_path parents.now) slots.now) fault) }
 {
     let mut gains = Vec::new(alloc);
-    for place in first_led(nodes, parents)..nodes.len() {
-        add_gains(&mut gains, nodes, parents, Slot(place as u32))?;
+    for place in first_led(nodes, slots, parents)..slots.len() {
+        let slot = slots[place];
+        let before = gains.len();
+        add_gains(&mut gains, nodes, parents, slot)?;
+        let node = &nodes[slot.0 as usize];
+        let pairs = sum_in_u32(node.path.len(), gains.len() - before)?;
+        if pairs > limits.max_path {
+            return Err(AddFault::PathFull {
+                state: node.id,
+                pairs,
+            });
+        }
     }
     Ok(gains)
 }

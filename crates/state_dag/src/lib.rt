@@ -34,7 +34,7 @@ mod sums;
 mod tests;
 
 use changes::{grow, set_count};
-use growth::{check_paths, new_node};
+use growth::{check_path, new_node};
 use leads::gains;
 use named_paths::named_path;
 use nodes::{Node, ROOT, is_node_above, root_node};
@@ -127,15 +127,15 @@ impl StateDag {
         }
         let alloc = *self.nodes.allocator();
         let node = new_node(alloc, &self.nodes, parents, id, self.known)?;
-        check_paths(&self.nodes, parents, &node, &self.limits)?;
-        let gains = gains(alloc, &self.nodes, parents)?;
+        let gains = gains(alloc, &self.nodes, &self.kept, parents, &self.limits)?;
+        check_path(&node, &self.limits)?;
         make_room(&mut self.nodes, parents, &gains)?;
         make_slot_room(&mut self.kept)?;
         make_slot_room(&mut self.leaves)?;
         put_slot(&mut self.slots, id, Slot(kept))?;
+        drop_slots(&self.nodes, &mut self.leaves, parents);
         grow(&mut self.nodes, parents, &gains, id, Slot(kept));
         self.nodes.push_reserved(node);
-        drop_slots(&mut self.leaves, parents);
         self.leaves.push_reserved(Slot(kept));
         self.kept.push_reserved(Slot(kept));
         set_count(&mut self.counts, id.site, id.sequence);
@@ -257,13 +257,16 @@ impl StateDag {
 
     /// Whether the state of `a` is that of `b` or one of its ancestors.
     ///
-    /// The cost grows with the lengths of the two fork paths.
+    /// Of equal slots it takes constant time. Else the cost grows with the lengths of the two fork paths.
     pub fn is_ancestor(&self, a: Slot, b: Slot) -> bool
         requires first { IsTrue (is_slot self.now a) }
         requires second { IsTrue (is_slot self.now b) }
         ensures is { result ≡ is_slot_above self.now a b }
         ensures above { (rs : List Record) (ks : List StateId) → Stands self.now rs ks → (x y : StateId) → id_at self.now a ≡ Some x → id_at self.now b ≡ Some y → result ≡ is_above rs x y }
     {
+        if a == b {
+            return true;
+        }
         is_node_above(self.node(a), self.node(b))
     }
 

@@ -3,7 +3,7 @@
 ghost use Rattle.std.specs.Prelude.{◌≡◌, ℕ, ◌≤◌, ◌<◌, length, IsTrue, OnOk, vec_len, vec_capacity, slice_index_or};
 ghost use Rattle.state_dag.specs.declared.nodes.Node.{Node};
 ghost use Rattle.state_dag.specs.Views.{entries_from};
-ghost use Rattle.state_dag.specs.Nodes.{table_of, are_places, have_places, is_gaining, all_gains, HasPathRoom, HasChildRoom, TakesChild};
+ghost use Rattle.state_dag.specs.Nodes.{are_places, have_places, is_gaining, gains_of, HasPathRoom, HasChildRoom, TakesChild};
 
 use crate::leads::Gain;
 use crate::nodes::Node;
@@ -13,7 +13,8 @@ use tardis_base::{NoMemory, Slot};
 /// Makes room for a new node and for what its parents and the gaining paths get.
 pub fn make_room(nodes: &mut Vec<Node>, parents: &[Slot], gains: &[Gain]) -> Result<(), NoMemory>
     requires places { IsTrue (are_places nodes.old.items parents.now) }
-    requires gains { gains.now ≡ all_gains (table_of nodes.old.items) parents.now }
+    requires gains { IsTrue (have_places nodes.old.items gains.now) }
+    requires few { (k : ℕ) → gains_of k gains.now ≤ length parents.now }
     ensures same { entries_from 0 nodes.new.items ≡ entries_from 0 nodes.old.items }
     ensures paths { OnOk result (HasPathRoom nodes.new.items gains.now) }
     ensures children { OnOk result (HasChildRoom nodes.new.items parents.now) }

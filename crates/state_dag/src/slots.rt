@@ -6,8 +6,11 @@ ghost use Rattle.tardis_base.specs.declared.ids.StateId.{StateId};
 ghost use Rattle.tardis_base.specs.Ids.{same_id};
 ghost use Rattle.state_dag.specs.Ids.{id_cmp};
 ghost use Rattle.state_dag.specs.Shared.{common};
+ghost use Rattle.state_dag.specs.Table.{arrival_at};
 ghost use Rattle.state_dag.specs.Grown.{is_slot_among};
+ghost use Rattle.state_dag.specs.Nodes.{table_of, Rise};
 
+use crate::nodes::{Node, arrival_in, first_from};
 use std::collections::BTreeMap;
 use tardis_base::{NoMemory, Slot, StateId};
 
@@ -41,13 +44,29 @@ pub fn make_slot_room(slots: &mut Vec<Slot>) -> Result<(), NoMemory>
     Ok(())
 }
 
-/// Takes these out of the slots.
-pub fn drop_slots(slots: &mut Vec<Slot>, gone: &[Slot])
+/// Takes these out of the slots, each by a binary search. The slots stand in arrival order.
+pub fn drop_slots(nodes: &[Node], slots: &mut Vec<Slot>, gone: &[Slot])
+    requires { Rise (arrival_at (table_of nodes.now)) slots.old.items }
     ensures items { slots.new.items ≡ filter (λ s. not (is_slot_among s gone.now)) slots.old.items }
     ensures len { vec_len slots.new ≤ vec_len slots.old }
     ensures capacity { vec_capacity slots.new ≡ vec_capacity slots.old }
 {
-    slots.retain(|slot| !gone.contains(slot));
+    for slot in gone {
+        drop_slot(nodes, slots, *slot);
+    }
+}
+
+/// Takes this one out, if it is among them.
+fn drop_slot(nodes: &[Node], slots: &mut Vec<Slot>, gone: Slot)
+    requires { Rise (arrival_at (table_of nodes.now)) slots.old.items }
+    ensures items { slots.new.items ≡ filter (λ s. not (gone.0 == s.0)) slots.old.items }
+    ensures len { vec_len slots.new ≤ vec_len slots.old }
+    ensures capacity { vec_capacity slots.new ≡ vec_capacity slots.old }
+{
+    let place = first_from(nodes, slots, arrival_in(nodes, gone));
+    if place < slots.len() && slots[place] == gone {
+        let _ = slots.remove(place);
+    }
 }
 
 /// The slot that all of these are, if they are one.

@@ -1,21 +1,10 @@
-use Rattle.std.proofs.Common.{◌≡◌, ◌∙◌, ◌++◌, ◌||◌, Bool, true, false, List, length, get_or, IsTrue, refl, sym, ap, subst, arith}
+use Rattle.std.proofs.Common.{◌∙◌, ◌++◌, List, length, get_or, IsTrue, sym, ap, subst, arith}
 use Rattle.std.specs.List.{list_all}
 use Rattle.tardis_base.specs.declared.ids.Slot.{Slot}
 use Rattle.fork_path.specs.Pairs.{Pairs, are_ascending_pairs, has_pair}
 use Rattle.state_dag.specs.declared.nodes.Node.{Node}
-use Rattle.state_dag.specs.Grown.{is_slot_among, is_first_branch, only_if}
-use Rattle.state_dag.specs.Nodes.{table_of}
-use Rattle.state_dag.proofs.Gains.{gains-counted, gains-told, gains-placed}
+use Rattle.state_dag.specs.Grown.{is_slot_among, only_if}
 use Rattle.state_dag.proofs.changes.grow.Goals as goal
-
-or-turn : (a b : Bool) → (a || b) ≡ (b || a)
-or-turn true true = refl
-or-turn true false = refl
-or-turn false true = refl
-or-turn false false = refl
-
-pub grow_paths-requires-clause-places : goal.grow_paths-requires-clause-places
-grow_paths-requires-clause-places c = gains-placed c.args.nodes.now.items c.args.parents.now c.args.gains.now c.requires.gains
 
 pub returns-clause-each : goal.returns-clause-each
 returns-clause-each c = λ k d lt.
@@ -35,13 +24,10 @@ returns-clause-each c = λ k d lt.
       ascending = λ up. subst (λ (q : Pairs). IsTrue (are_ascending_pairs q.pairs)) (sym (ap (λ (n : Node). n.path) rest)) (gained.ascending up);
       pairs = λ pair.
           ap (λ (n : Node). has_pair pair n.path.pairs) rest
-          ∙ gained.pairs pair
-          ∙ ap (λ b. b || has_pair pair old.path.pairs) (gains-told first parents gains c.requires.gains k pair lt)
-          ∙ or-turn (is_first_branch (table_of first) parents (record { 0 = k }) pair) (has_pair pair old.path.pairs);
+          ∙ gained.pairs pair;
       longer = (
           let same = ap (λ (n : Node). length n.path.pairs) rest in
           let more = gained.longer in
-          let counted = gains-counted first parents gains c.requires.gains k lt in
           omega arith
           );
       child = λ distinct.

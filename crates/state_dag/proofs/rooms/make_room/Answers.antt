@@ -1,17 +1,12 @@
 use Rattle.std.proofs.Common.{◌≡◌, ◌∙◌, ℕ, ltb, length, get_or, IsTrue, inl, inr, sym, ap, subst, arith}
 use Rattle.std.specs.List.{list_all}
 use Rattle.std.proofs.lemmas.Bool.{cases_Bool}
-use Rattle.std.proofs.lemmas.List.Sums.{length-filter, count_by-le-length}
 use Rattle.tardis_base.specs.declared.ids.Slot.{Slot}
 use Rattle.fork_path.specs.Pairs.{Pairs}
-use Rattle.state_dag.specs.Grown.{leads_first}
-use Rattle.state_dag.specs.Nodes.{table_of, is_gaining}
+use Rattle.state_dag.specs.Nodes.{is_gaining}
 use Rattle.state_dag.proofs.Places.{length-entries}
-use Rattle.state_dag.proofs.Gains.{gains-counted, gains-placed, none-gained}
+use Rattle.state_dag.proofs.Gains.{none-gained}
 use Rattle.state_dag.proofs.rooms.make_room.Goals as goal
-
-pub make_path_room-requires : goal.make_path_room-requires
-make_path_room-requires c = gains-placed c.args.nodes.now.items c.args.parents.now c.args.gains.now c.requires.gains
 
 pub make_child_room-requires : goal.make_child_room-requires
 make_child_room-requires c =
@@ -35,9 +30,7 @@ returns-clause-paths c = λ k d lt.
     elim (cases_Bool (is_gaining k gains)) [
       | inl t ↦
           let room = c.in_ok-make_path_room.ensures.room k d (omega arith) t in
-          let counted = gains-counted first parents gains c.requires.gains k (omega arith) in
-          let as_count = length-filter (leads_first (table_of first) (record { 0 = k })) parents in
-          let few = count_by-le-length (leads_first (table_of first) (record { 0 = k })) parents in
+          let few = c.requires.few k in
           omega arith
       | inr f ↦ (let none = none-gained k gains f in omega arith)
     ]
