@@ -1,0 +1,5 @@
+-- Lemmas on the lock's rule.
+pub mod Fronts
+pub mod Places
+pub mod Keeping
+pub mod Moves
