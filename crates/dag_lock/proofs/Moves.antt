@@ -1,12 +1,12 @@
 -- The steps of a turn keep the rule.
-use Rattle.std.proofs.Common.{◌≡◌, ◌≢◌, ℕ, ◌+◌, ◌-◌, ◌%◌, ◌<◌, ◌≤◌, ◌==◌, ◌⊎◌, List, [], ◌∷◌, ◌++◌, length, get_or, set, refl, sym, ap, ◌∙◌, subst, inl, inr, arith, append-nil, length-append, if◌then◌else◌, eq-eqb, ne_eqb}
+use Rattle.std.proofs.Common.{◌≡◌, ◌≢◌, ℕ, ◌+◌, ◌-◌, ◌%◌, ◌^◌, ◌<◌, ◌≤◌, ◌==◌, ◌⊎◌, List, [], ◌∷◌, ◌++◌, length, get_or, set, refl, sym, ap, ◌∙◌, subst, inl, inr, arith, append-nil, length-append, if◌then◌else◌, eq-eqb, ne_eqb}
 use mathlib.Core.Logic.{dite}
 use mathlib.Core.Option.{Option, none, some, some-injective, some-ne-none}
 use native.Mathlib.Decide.{ℕ_discrete}
 use prog.Atomic.{either}
 use lib.ListN.{get_elem?}
 use Rattle.tardis_base.specs.Plain.{Event}
-use Rattle.atomic_table.specs.Table.{State, Me, Act, step, keeps, takes, gives, Valid, Allows, stepped, carried_after}
+use Rattle.atomic_table.specs.Table.{State, Me, Act, step, keeps, takes, gives, Valid, Allows, stepped, carried_after, put_back, rest}
 use Rattle.atomic_table.proofs.Lists.{exchanged, set_else}
 use Rattle.trail_log.specs.Trail.{Kept}
 use Rattle.dag_lock.specs.declared.views.View.{View}
@@ -14,9 +14,9 @@ use Rattle.dag_lock.specs.declared.views.Stage.{Stage}
 use Rattle.dag_lock.specs.declared.views.Stage.TheVariants.{Idle, Waits, Takes}
 use Rattle.dag_lock.specs.Known.{Begins, Ascends}
 use Rattle.dag_lock.specs.Turns.{knows, spent_view, times, times_in, once_below, ticket_of, Queue, InTurn, Fits, Home, Turns}
-use Rattle.dag_lock.specs.Told.{drawn, looked, Took, Rests}
+use Rattle.dag_lock.specs.Told.{drawn, looked, kept, added, trail_held, Took}
 use Rattle.dag_lock.proofs.Fronts.{begins_same, begins_is, begins_then, begins_length}
-use Rattle.dag_lock.proofs.Places.{ascends_more}
+use Rattle.dag_lock.proofs.Places.{ascends_more, ascends_snoc, times_snoc, once_more}
 use Rattle.dag_lock.proofs.Keeping.{set_there, one_there, queue_set, queue_same, keeps_rule, unchanged}
 
 -- a pass at another stage isn't spent
@@ -240,3 +240,39 @@ module _ {M : Type 0} (IsOf : Kept M → Type 0) (pieces : ℕ) where
       )))
       (inl (y, refl, refl, is))
       (λ p. omega (arith, places p, ap (λ h. once_below p (length h)) turn.3)) refl)
+
+  -- the machine goes back as it was taken, or with the same trail
+  pub passes_kept : (slots id : ℕ) (m : Me (Kept M) View) (y : Kept M) (t : ℕ) → m.0.stage ≡ Takes t → m.1 ≡ (0, y) ∷ [] → IsOf y → y.trail ≡ m.0.seen
+      → Allows (Turns IsOf pieces) slots id m 1 (λ n. (n + 1) % 2 ^ 64) (kept (step slots 1 1 0 none) m)
+  passes_kept slots id m y t taken is of same s k long at range =
+      let own = k.each id m.0 at in
+      let next : ℕ = (get_or s.words 1 0 + 1) % 18446744073709551616 in
+      let w : View = knows Idle m.0.seen m.0.owned m.0.pieces in (
+        w,
+        gives,
+        tt,
+        subst (λ (c : List (ℕ × Kept M)). Turns IsOf pieces record { words = set s.words 1 next; homes = put_back s.homes c; views = set s.views id w }) (sym is)
+        (subst (λ seen. Turns IsOf pieces record { words = set s.words 1 next; homes = set s.homes 0 (some y); views = set s.views id (knows Idle seen m.0.owned m.0.pieces) }) same
+        (hands_on s k id m.0 y t m.0.owned at taken of (begins_is m.0.seen y.trail (sym same)) (subst (λ seen. Ascends 0 (length seen) m.0.owned) (sym same) own.owned) (λ p. ap (λ seen. times p m.0.owned + once_below p (length seen)) (sym same)))),
+        ap (λ (c : List (ℕ × Kept M)). (w, rest c)) is,
+      )
+
+  -- the machine goes back with an entry more
+  pub passes_added : (slots id : ℕ) (m : Me (Kept M) View) (y : Kept M) (t : ℕ) (e : Event) → m.0.stage ≡ Takes t → m.1 ≡ (0, y) ∷ [] → IsOf y → y.trail ≡ m.0.seen ++ e ∷ []
+      → Allows (Turns IsOf pieces) slots id m 1 (λ n. (n + 1) % 2 ^ 64) (added (step slots 1 1 0 none) m)
+  passes_added slots id m y t e taken is of more s k long at range =
+      let own = k.each id m.0 at in
+      let next : ℕ = (get_or s.words 1 0 + 1) % 18446744073709551616 in
+      let count : length y.trail ≡ length m.0.seen + 1 = ap length more ∙ omega (arith, length-append m.0.seen (e ∷ [])) in
+      let owned : List ℕ = m.0.owned ++ length m.0.seen ∷ [] in
+      let w : View = knows Idle (trail_held m.1) owned m.0.pieces in
+      let trail : trail_held m.1 ≡ y.trail = ap trail_held is in (
+        w,
+        gives,
+        tt,
+        subst (λ (c : List (ℕ × Kept M)). Turns IsOf pieces record { words = set s.words 1 next; homes = put_back s.homes c; views = set s.views id w }) (sym is)
+        (subst (λ seen. Turns IsOf pieces record { words = set s.words 1 next; homes = set s.homes 0 (some y); views = set s.views id (knows Idle seen owned m.0.pieces) }) (sym trail)
+        (hands_on s k id m.0 y t owned at taken of (e ∷ [], more) (subst (λ n. Ascends 0 n owned) (sym count) (ascends_snoc 0 (length m.0.seen) m.0.owned own.owned (omega arith)))
+        (λ p. omega (arith, times_snoc p m.0.owned (length m.0.seen), once_more p (length m.0.seen), ap (once_below p) count)))),
+        ap (λ (c : List (ℕ × Kept M)). (w, rest c)) is,
+      )

@@ -1,6 +1,8 @@
 -- Places that passes own, and sums over all passes.
 use Rattle.std.proofs.Common.{◌≡◌, ◌≢◌, ◌⊎◌, if◌then◌else◌, ℕ, ◌+◌, ◌-◌, ◌<◌, ◌≤◌, ◌==◌, eqb, cond, Bool, true, false, nat_lt, List, [], ◌∷◌, ◌++◌, length, set, refl, sym, ap, ◌∙◌, subst, inl, inr, arith, eqb-true, eq-eqb, ne_eqb}
-use Rattle.std.proofs.lemmas.Bool.{cases_Bool, cases_lt, false≢true}
+use Rattle.std.proofs.lemmas.Bool.{cases_lt, ltb-true, lt-ltb, le-ltb}
+use mathlib.Core.Logic.{dite}
+use native.Mathlib.Decide.{ℕ_discrete}
 use Rattle.std.proofs.lemmas.Bool.Decides.{nat_tests}
 use Rattle.std.specs.List.{range_with_len}
 use mathlib.Core.Option.{some, some-injective, some-ne-none}
@@ -96,6 +98,27 @@ ascends_merged a n (x ∷ xs) qs up vp apart =
     let once : (1 + times x xs) + times x qs ≤ 1 = rw here at (apart x) in
     let others = ascends_merged a n xs qs (ascends_from a (x + 1) n xs up.2 (omega (arith, up.0))) vp (λ p. omega (arith, apart p)) in
     ascends_put a n x (merged xs qs) others up.0 up.1 (omega (arith, times_merged x xs qs))
+
+once_by : (p n : ℕ) (b : Bool) → nat_lt p n ≡ b → once_below p (n + 1) ≡ (if p == n then 1 else 0) + (if b then 1 else 0)
+once_by p n true is =
+    let below : p < n = ltb-true p n is in
+    let further : nat_lt p (n + 1) ≡ true = lt-ltb p (n + 1) (omega arith) in
+    let other : p == n ≡ false = ne_eqb p n (λ e. omega arith) in
+    rw (further, other) refl
+once_by p n false is =
+    let high : n ≤ p = grind (arith, nat_tests) in
+    dite (ℕ_discrete p n)
+    (λ e.
+      let further : nat_lt p (n + 1) ≡ true = lt-ltb p (n + 1) (omega arith) in
+      let same : p == n ≡ true = eq-eqb p n e in
+      rw (further, same) refl)
+    (λ ne.
+      let further : nat_lt p (n + 1) ≡ false = le-ltb p (n + 1) (omega arith) in
+      let other : p == n ≡ false = ne_eqb p n ne in
+      rw (further, other) refl)
+
+pub once_more : (p n : ℕ) → once_below p (n + 1) ≡ (if p == n then 1 else 0) + once_below p n
+once_more p n = once_by p n (nat_lt p n) refl
 
 -- each place from a on is there once, so the list is all of them
 pub all_places : (a k n : ℕ) (ps : List ℕ) → a + k ≡ n → Ascends a n ps → ((p : ℕ) → a ≤ p → p < n → times p ps ≡ 1) → ps ≡ range_with_len a k
