@@ -105,3 +105,17 @@ module _ {M : Type 0} (IsOf : Kept M → Type 0) (pieces : ℕ) where
               let in_all : nat_lt p (length k.history) ≡ true = lt-ltb p (length k.history) (omega (arith, ap length seen)) in
               once p ∙ ap (λ (b : Bool). if b then 1 else 0) in_all);
       }
+
+  -- what is taken out of the lock when the whole pass closes it
+  pub closed : (id : ℕ) (v : View) (words : List ℕ) (slots : List (Kept M)) (x : Kept M) → Final (Seen (Turns IsOf pieces) id v) words slots → v.stage ≡ Idle → v.pieces ≡ pieces → get_elem? slots 0 ≡ some x
+      → (x.trail ≡ v.seen) × IsOf x × (v.owned ≡ range_with_len 0 (length x.trail))
+  closed id v words slots x final idle all first =
+      let s = final.0 in
+      let k = final.1.0 in
+      let end = closes s k id v final.1.1 idle all in
+      let there : get_elem? slots 0 ≡ some end.machine = final.4 0 end.machine (ap (λ (homes : List (Option (Kept M))). get_elem? homes 0) end.home) in
+      let same : end.machine ≡ x = some-injective end.machine x (sym there ∙ first) in (
+        subst (λ (y : Kept M). y.trail ≡ v.seen) same end.trail,
+        subst IsOf same end.is_of,
+        end.places ∙ ap (λ (seen : List Event). range_with_len 0 (length seen)) (sym end.trail ∙ ap (λ (y : Kept M). y.trail) same),
+      )

@@ -9,7 +9,7 @@ use Rattle.trail_log.specs.declared.acted.Acted.{Acted}
 use Rattle.trail_log.specs.declared.acted.Acted.TheVariants.{Done, TrailFull, NoMemory}
 use Rattle.dag_lock.specs.declared.views.View.{View}
 use Rattle.dag_lock.specs.declared.views.Stage.TheVariants.{Idle, Waits, Takes}
-use Rattle.dag_lock.specs.Known.{Begins, Ascends}
+use Rattle.dag_lock.specs.Known.{Known, Begins, Ascends}
 use Rattle.dag_lock.specs.Badges.{known_of}
 use Rattle.dag_lock.specs.Turns.{knows}
 use Rattle.dag_lock.specs.Told.{Took, Holds, Returns, passed}
@@ -31,10 +31,24 @@ module _ {M : Type 0} where
   same_held : (x y : Kept M) (m : List (ℕ × Kept M)) → m ≡ (0, x) ∷ [] → m ≡ (0, y) ∷ [] → x ≡ y
   same_held x y m p q = ap (λ (l : List (ℕ × Kept M)). (get_or l 0 (0, x)).1) (sym p ∙ q)
 
+-- the one view of a pass that is live
+pub live_view : (lock : TableId) (views : List View) (v : View) (p : Known) → known_of lock views ≡ p → views ≡ v ∷ []
+    → ((u : View) × (views ≡ u ∷ []) × (u.stage ≡ Idle) × (0 < u.pieces) × Ascends 0 (length u.seen) u.owned)
+    → (known_of lock (v ∷ []) ≡ p) × (v.stage ≡ Idle) × (0 < v.pieces) × Ascends 0 (length v.seen) v.owned
+live_view lock views v p is one live =
+    let old : views ≡ live.0 ∷ [] = live.1 in
+    let same : live.0 ≡ v = cc in (
+      ap (known_of lock) (sym one) ∙ is,
+      subst (λ (u : View). u.stage ≡ Idle) same live.2,
+      subst (λ (u : View). 0 < u.pieces) same live.3,
+      subst (λ (u : View). Ascends 0 (length u.seen) u.owned) same live.4,
+    )
+
 module _ {M P : Type 0} (opening : M → P) (plain : PlainMachine P) where
   -- the machine that comes back
   pub returns_it : (z : Kept M) (m taken after : Me (Kept M) View) (t : ℕ) (e : Event) (r : Acted) (out : List ℕ) → m.1 ≡ [] → Took (IsOfLock opening plain z) m t taken → after.0 ≡ taken.0
       → Holds taken (λ x. Holds after (λ y. Acts opening plain e r out x y)) → Returns (IsOfLock opening plain z) r after
+  unfolding holds_it
   returns_it z m taken after t e r out empty took same acts =
       let x : Kept M = took.0 in
       let held = holds_it (IsOfLock opening plain z) m taken t empty took in
@@ -94,13 +108,14 @@ module _ {M P : Type 0} (opening : M → P) (plain : PlainMachine P) where
     pub pieces : last.0.pieces ≡ v.pieces
     pub up : Ascends 0 (length last.0.seen) last.0.owned
 
-  pub step_ends : (z : Kept M) (v : View) (m taken after last : Me (Kept M) View) (t : ℕ) (e : Event) (r : Acted) (out : List ℕ) (lock other : TableId)
-      → m ≡ (knows (Waits t) v.seen v.owned v.pieces, []) → Took (IsOfLock opening plain z) m t taken → after.0 ≡ taken.0
+  pub step_ends : (z : Kept M) (v : View) (m taken after last : Me (Kept M) View) (t : ℕ) (e : Event) (r : Acted) (out : List ℕ) (lock other : TableId) (none : List (ℕ × Kept M))
+      → m ≡ (knows (Waits t) v.seen v.owned v.pieces, none) → none ≡ [] → Took (IsOfLock opening plain z) m t taken → after.0 ≡ taken.0
       → Holds taken (λ x. Holds after (λ y. Acts opening plain e r out x y)) → last ≡ passed r after → Ascends 0 (length v.seen) v.owned
       → StepEnds z v e r out lock other last
-  step_ends z v m taken after last t e r out lock other waits took same acts is up =
+  unfolding holds_it
+  step_ends z v m taken after last t e r out lock other none waits nothing took same acts is up =
       let x : Kept M = took.0 in
-      let empty : m.1 ≡ [] = ap (λ (w : Me (Kept M) View). w.1) waits in
+      let empty : m.1 ≡ [] = ap (λ (w : Me (Kept M) View). w.1) waits ∙ nothing in
       let held = holds_it (IsOfLock opening plain z) m taken t empty took in
       let one : acts.0 ≡ x = same_held acts.0 x taken.1 acts.1 held.1 in
       let back = acts.2 in
