@@ -1,7 +1,7 @@
 -- The lock when it is made, and when it is closed by a whole pass.
-use Rattle.std.proofs.Common.{◌≡◌, ◌≢◌, ℕ, ◌+◌, ◌-◌, ◌<◌, ◌≤◌, ◌⊎◌, Bool, true, false, nat_lt, List, [], ◌∷◌, ◌++◌, length, refl, sym, ap, ◌∙◌, subst, inl, inr, arith, if◌then◌else◌}
+use Rattle.std.proofs.Common.{◌≡◌, ◌≢◌, ℕ, ◌<◌, Bool, true, false, nat_lt, List, [], ◌∷◌, length, refl, sym, ap, ◌∙◌, subst, inl, inr, arith, if◌then◌else◌}
 use mathlib.Core.Logic.{dite}
-use mathlib.Core.Option.{Option, none, some, some-injective, some-ne-none}
+use mathlib.Core.Option.{Option, some, some-injective, some-ne-none}
 use native.Mathlib.Decide.{ℕ_discrete}
 use lib.ListN.{get_elem?, set}
 use Rattle.std.specs.List.{range_with_len}
@@ -11,12 +11,11 @@ use Rattle.atomic_table.specs.Table.{State, opening, Final, Seen}
 use Rattle.atomic_table.proofs.Lists.{set_else}
 use Rattle.trail_log.specs.Trail.{Kept}
 use Rattle.dag_lock.specs.declared.views.View.{View}
-use Rattle.dag_lock.specs.declared.views.Stage.TheVariants.{Idle, Waits, Takes}
-use Rattle.dag_lock.specs.Known.{Begins, Ascends}
-use Rattle.dag_lock.specs.Turns.{knows, total, times, times_in, pieces_in, once_below, spent_view, Queue, Fits, Home, Turns}
+use Rattle.dag_lock.specs.declared.views.Stage.TheVariants.{Idle, Takes}
+use Rattle.dag_lock.specs.Turns.{knows, total, times, times_in, pieces_in, once_below, spent_view, Fits, Turns}
 use Rattle.dag_lock.proofs.Fronts.{begins_whole}
 use Rattle.dag_lock.proofs.Places.{total_set, total_at, times_high, all_places}
-use Rattle.dag_lock.proofs.Keeping.{one_there, set_there}
+use Rattle.dag_lock.proofs.Keeping.{one_there}
 
 total_none : (f : View → ℕ) (l : List View) → ((j : ℕ) (u : View) → get_elem? l j ≡ some u → f u ≡ 0) → total f l ≡ 0
 total_none f [] each = refl
@@ -77,9 +76,9 @@ module _ {M : Type 0} (IsOf : Kept M → Type 0) (pieces : ℕ) where
       let own = k.each id v at in
       let without = total_set pieces_in s.views id v spent_view at in
       let spent : (j : ℕ) (u : View) → j ≢ id → get_elem? s.views j ≡ some u → u ≡ spent_view = λ j u ne there.
-          (k.each j u there).spent (let little = total_at pieces_in (set s.views id spent_view) j u (set_else s.views id j spent_view ne ∙ there) in omega (arith, k.whole)) in
+      (k.each j u there).spent (let little = total_at pieces_in (set s.views id spent_view) j u (set_else s.views id j spent_view ne ∙ there) in omega (arith, k.whole)) in
       let once : (p : ℕ) → times p v.owned ≡ once_below p (length k.history) = λ p.
-          sym (total_one (times_in p) s.views id v at (λ j u ne there. ap (times_in p) (spent j u ne there))) ∙ k.places p in
+      sym (total_one (times_in p) s.views id v at (λ j u ne there. ap (times_in p) (spent j u ne there))) ∙ k.places p in
       let seen : v.seen ≡ k.history = begins_whole v.seen k.history own.seen (elim (cases_lt (length v.seen) (length k.history)) [
         | inl less ↦
             let far : times (length v.seen) v.owned ≡ 0 = times_high (length v.seen) 0 (length v.seen) v.owned own.owned (omega arith) in
@@ -102,8 +101,8 @@ module _ {M : Type 0} (IsOf : Kept M → Type 0) (pieces : ℕ) where
         is_of = machine.3;
         places = all_places 0 (length v.seen) (length v.seen) v.owned (omega arith) own.owned
             (λ p from below.
-              let in_all : nat_lt p (length k.history) ≡ true = lt-ltb p (length k.history) (omega (arith, ap length seen)) in
-              once p ∙ ap (λ (b : Bool). if b then 1 else 0) in_all);
+            let in_all : nat_lt p (length k.history) ≡ true = lt-ltb p (length k.history) (omega (arith, ap length seen)) in
+            once p ∙ ap (λ (b : Bool). if b then 1 else 0) in_all);
       }
 
   -- what is taken out of the lock when the whole pass closes it

@@ -1,5 +1,5 @@
 -- Fronts of one list.
-use Rattle.std.proofs.Common.{◌≡◌, ℕ, ◌+◌, ◌<◌, ◌≤◌, List, [], ◌∷◌, ◌++◌, length, refl, sym, ap, ◌∙◌, subst, arith, append_assoc, append-nil, length-append}
+use Rattle.std.proofs.Common.{◌≡◌, ◌≤◌, List, [], ◌∷◌, ◌++◌, length, refl, sym, ap, ◌∙◌, arith, append_assoc, append-nil, length-append}
 use Rattle.std.proofs.lemmas.List.{nil_from_length}
 use Rattle.tardis_base.specs.Plain.{Event}
 use Rattle.dag_lock.specs.Known.{Begins}

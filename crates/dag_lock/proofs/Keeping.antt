@@ -1,17 +1,15 @@
 -- How a step that changes one view keeps the rule.
-use Rattle.std.proofs.Common.{◌≡◌, ◌≢◌, ℕ, ◌+◌, ◌-◌, ◌<◌, ◌≤◌, ◌⊎◌, List, [], ◌∷◌, ◌++◌, length, get_or, set, refl, sym, ap, ◌∙◌, subst, inl, inr, ⊎_elim, arith}
+use Rattle.std.proofs.Common.{◌≡◌, ◌≢◌, ℕ, ◌+◌, ◌<◌, ◌≤◌, ◌⊎◌, List, [], ◌∷◌, length, get_or, set, refl, sym, ap, ◌∙◌, subst, inl, inr, arith}
 use mathlib.Core.Logic.{dite}
-use mathlib.Core.Option.{Option, none, some, some-injective, some-ne-none}
+use mathlib.Core.Option.{Option, some, some-injective, some-ne-none}
 use native.Mathlib.Decide.{ℕ_discrete}
 use lib.ListN.{get_elem?}
 use Rattle.tardis_base.specs.Plain.{Event}
-use Rattle.atomic_table.specs.Table.{State, Me, keeps, stepped}
+use Rattle.atomic_table.specs.Table.{State, keeps, stepped}
 use Rattle.atomic_table.proofs.Lists.{at_set, set_else, set_again}
 use Rattle.trail_log.specs.Trail.{Kept}
 use Rattle.dag_lock.specs.declared.views.View.{View}
-use Rattle.dag_lock.specs.declared.views.Stage.{Stage}
-use Rattle.dag_lock.specs.declared.views.Stage.TheVariants.{Idle, Waits, Takes}
-use Rattle.dag_lock.specs.Turns.{total, times_in, once_below, pieces_in, ticket_of, Queue, Fits, Home, Turns}
+use Rattle.dag_lock.specs.Turns.{times_in, once_below, pieces_in, ticket_of, Queue, Fits, Home, Turns}
 use Rattle.dag_lock.proofs.Places.{total_set}
 
 pub set_there : {A : Type 0} (l : List A) (i : ℕ) (a b : A) → get_elem? l i ≡ some a → get_elem? (set l i b) i ≡ some b
@@ -63,8 +61,8 @@ module _ {M : Type 0} (IsOf : Kept M → Type 0) (pieces : ℕ) where
       elim home [
         | inl here ↦ inl here
         | inr away ↦ inr (
-            away.0,
-            (
+          away.0,
+          (
               let holder = away.1 in
               dite (ℕ_discrete holder.0 id)
               (λ e. (
@@ -74,8 +72,8 @@ module _ {M : Type 0} (IsOf : Kept M → Type 0) (pieces : ℕ) where
                 same ∙ (ap (λ (u : View). u.stage) (one_there views id holder.0 v holder.1 at holder.2 (sym e)) ∙ holder.3),
               ))
               (λ ne. (holder.0, holder.1, set_else views id holder.0 w ne ∙ holder.2, holder.3))
-            ),
-          )
+              ),
+        )
       ]
 
   -- one view and all else that it may change

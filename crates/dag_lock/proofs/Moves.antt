@@ -1,5 +1,5 @@
 -- The steps of a turn keep the rule.
-use Rattle.std.proofs.Common.{◌≡◌, ◌≢◌, ℕ, ◌+◌, ◌-◌, ◌%◌, ◌^◌, ◌<◌, ◌≤◌, ◌==◌, ◌⊎◌, List, [], ◌∷◌, ◌++◌, length, get_or, set, refl, sym, ap, ◌∙◌, subst, inl, inr, arith, append-nil, length-append, if◌then◌else◌, eq-eqb, ne_eqb}
+use Rattle.std.proofs.Common.{◌≡◌, ◌≢◌, ℕ, ◌+◌, ◌%◌, ◌^◌, ◌<◌, ◌≤◌, ◌==◌, List, [], ◌∷◌, ◌++◌, length, get_or, set, refl, sym, ap, ◌∙◌, subst, inl, inr, arith, length-append, if◌then◌else◌, eq-eqb, ne_eqb}
 use mathlib.Core.Logic.{dite}
 use mathlib.Core.Option.{Option, none, some, some-injective, some-ne-none}
 use native.Mathlib.Decide.{ℕ_discrete}
@@ -13,8 +13,8 @@ use Rattle.dag_lock.specs.declared.views.View.{View}
 use Rattle.dag_lock.specs.declared.views.Stage.{Stage}
 use Rattle.dag_lock.specs.declared.views.Stage.TheVariants.{Idle, Waits, Takes}
 use Rattle.dag_lock.specs.Known.{Begins, Ascends}
-use Rattle.dag_lock.specs.Turns.{knows, spent_view, times, times_in, once_below, ticket_of, Queue, InTurn, Fits, Home, Turns}
-use Rattle.dag_lock.specs.Told.{drawn, looked, kept, added, trail_held, Took}
+use Rattle.dag_lock.specs.Turns.{knows, spent_view, times, once_below, ticket_of, InTurn, Home, Turns}
+use Rattle.dag_lock.specs.Told.{drawn, looked, kept, added, trail_held}
 use Rattle.dag_lock.proofs.Fronts.{begins_same, begins_is, begins_then, begins_length}
 use Rattle.dag_lock.proofs.Places.{ascends_more, ascends_snoc, times_snoc, once_more}
 use Rattle.dag_lock.proofs.Keeping.{set_there, one_there, queue_set, queue_same, keeps_rule, unchanged}
@@ -84,14 +84,14 @@ module _ {M : Type 0} (IsOf : Kept M → Type 0) (pieces : ℕ) where
       }
       (queue_set s.views id v w k.ticket k.serving (k.ticket + 1) k.serving k.owner keeper at k.queue
       (λ t from below.
-        dite (ℕ_discrete t k.ticket)
-        (λ e. inl (given_here k.ticket id k.owner t e, ap some (sym e)))
-        (λ ne. inr (
-          given_else k.ticket id k.owner t ne,
-          from,
-          omega arith,
-          λ held. some-ne-none t (sym held ∙ ap ticket_of idle),
-        ))))
+      dite (ℕ_discrete t k.ticket)
+      (λ e. inl (given_here k.ticket id k.owner t e, ap some (sym e)))
+      (λ ne. inr (
+        given_else k.ticket id k.owner t ne,
+        from,
+        omega arith,
+        λ held. some-ne-none t (sym held ∙ ap ticket_of idle),
+      ))))
       (home_other s.homes s.views k.serving k.history id v w at (λ taken. let both : Idle ≡ Takes k.serving = sym idle ∙ taken in cc) k.home)
       (λ p. refl) refl
 
@@ -103,15 +103,15 @@ module _ {M : Type 0} (IsOf : Kept M → Type 0) (pieces : ℕ) where
       exchanged (get_or s.words 0 0) old (old + 1)
       (λ x. (w : View) × (a : Act (Kept M)) × Valid s.homes m.1 a × Turns IsOf pieces (stepped s 0 x id m.1 w a) × drawn (step slots 0 old (old + 1) none) m (get_or s.words 0 0) (w, carried_after m.1 a))
       (λ hit.
-        let same : old ≡ k.ticket = sym hit ∙ next in (
-          knows (Waits (get_or s.words 0 0)) m.0.seen m.0.owned m.0.pieces,
-          keeps,
-          tt,
-          subst (λ n. Turns IsOf pieces record { words = set s.words 0 (old + 1); homes = s.homes; views = set s.views id (knows (Waits n) m.0.seen m.0.owned m.0.pieces) }) (sym next)
-          (subst (λ n. Turns IsOf pieces record { words = set s.words 0 (n + 1); homes = s.homes; views = set s.views id (knows (Waits k.ticket) m.0.seen m.0.owned m.0.pieces) }) (sym same)
-          (draws_one s k id m.0 at idle some_pieces (omega arith))),
-          ((λ _. refl), λ miss. absurd (miss hit)),
-        ))
+      let same : old ≡ k.ticket = sym hit ∙ next in (
+        knows (Waits (get_or s.words 0 0)) m.0.seen m.0.owned m.0.pieces,
+        keeps,
+        tt,
+        subst (λ n. Turns IsOf pieces record { words = set s.words 0 (old + 1); homes = s.homes; views = set s.views id (knows (Waits n) m.0.seen m.0.owned m.0.pieces) }) (sym next)
+            (subst (λ n. Turns IsOf pieces record { words = set s.words 0 (n + 1); homes = s.homes; views = set s.views id (knows (Waits k.ticket) m.0.seen m.0.owned m.0.pieces) }) (sym same)
+            (draws_one s k id m.0 at idle some_pieces (omega arith))),
+        ((λ _. refl), λ miss. absurd (miss hit)),
+      ))
       (λ miss. (m.0, keeps, tt, unchanged IsOf pieces s k 0 id m.0 m.1 at, ((λ hit. absurd (miss hit)), λ _. refl)))
 
   -- where the served pass takes the machine, others stand as before
@@ -161,28 +161,28 @@ module _ {M : Type 0} (IsOf : Kept M → Type 0) (pieces : ℕ) where
       let turn : (k.serving ≤ t) × (t < k.ticket) × (k.owner t ≡ id) = subst (InTurn IsOf pieces s.homes k.ticket k.serving k.owner k.history id m.0.seen) waits own.turn in
       dite (ℕ_discrete t (get_or s.words 1 0))
       (λ hit.
-        let served : t ≡ k.serving = hit ∙ found in
-        elim k.home [
-          | inl here ↦
-              let x = here.0 in (
-                knows (Takes (get_or s.words 1 0)) x.trail m.0.owned m.0.pieces,
-                takes 0 x,
-                ap (λ hs. get_elem? hs 0) here.1,
-                subst (λ n. Turns IsOf pieces record { words = set s.words 1 (get_or s.words 1 0); homes = set s.homes 0 none; views = set s.views id (knows (Takes n) x.trail m.0.owned m.0.pieces) }) hit
-                (takes_it s k id m.0 x t at waits served here.1 here.2),
-                (
-                  (λ _. (x, refl, subst (Begins m.0.seen) (sym here.2) own.seen, kin x here.3)),
-                  λ miss. absurd (miss (waits ∙ ap Waits hit)),
-                ),
-              )
-          | inr away ↦
-              let holder = away.1 in
-              let held = (k.each holder.0 holder.1 holder.2).turn in
-              let taken : (k.serving ≡ k.serving) × (k.serving < k.ticket) × (k.owner k.serving ≡ holder.0) × (holder.1.seen ≡ k.history) × (s.homes ≡ none ∷ []) = subst (InTurn IsOf pieces s.homes k.ticket k.serving k.owner k.history holder.0 holder.1.seen) holder.3 held in
-              let me : id ≡ holder.0 = sym turn.2 ∙ (ap k.owner served ∙ taken.2) in
-              let both : Waits t ≡ Takes k.serving = sym waits ∙ (ap (λ (u : View). u.stage) (one_there s.views id holder.0 m.0 holder.1 at holder.2 me) ∙ holder.3) in
-              cc
-        ])
+      let served : t ≡ k.serving = hit ∙ found in
+      elim k.home [
+        | inl here ↦
+            let x = here.0 in (
+              knows (Takes (get_or s.words 1 0)) x.trail m.0.owned m.0.pieces,
+              takes 0 x,
+              ap (λ hs. get_elem? hs 0) here.1,
+              subst (λ n. Turns IsOf pieces record { words = set s.words 1 (get_or s.words 1 0); homes = set s.homes 0 none; views = set s.views id (knows (Takes n) x.trail m.0.owned m.0.pieces) }) hit
+                  (takes_it s k id m.0 x t at waits served here.1 here.2),
+              (
+                (λ _. (x, refl, subst (Begins m.0.seen) (sym here.2) own.seen, kin x here.3)),
+                λ miss. absurd (miss (waits ∙ ap Waits hit)),
+              ),
+            )
+        | inr away ↦
+            let holder = away.1 in
+            let held = (k.each holder.0 holder.1 holder.2).turn in
+            let taken : (k.serving ≡ k.serving) × (k.serving < k.ticket) × (k.owner k.serving ≡ holder.0) × (holder.1.seen ≡ k.history) × (s.homes ≡ none ∷ []) = subst (InTurn IsOf pieces s.homes k.ticket k.serving k.owner k.history holder.0 holder.1.seen) holder.3 held in
+            let me : id ≡ holder.0 = sym turn.2 ∙ (ap k.owner served ∙ taken.2) in
+            let both : Waits t ≡ Takes k.serving = sym waits ∙ (ap (λ (u : View). u.stage) (one_there s.views id holder.0 m.0 holder.1 at holder.2 me) ∙ holder.3) in
+            cc
+      ])
       (λ miss. (
         m.0,
         keeps,
@@ -252,8 +252,8 @@ module _ {M : Type 0} (IsOf : Kept M → Type 0) (pieces : ℕ) where
         gives,
         tt,
         subst (λ (c : List (ℕ × Kept M)). Turns IsOf pieces record { words = set s.words 1 next; homes = put_back s.homes c; views = set s.views id w }) (sym is)
-        (subst (λ seen. Turns IsOf pieces record { words = set s.words 1 next; homes = set s.homes 0 (some y); views = set s.views id (knows Idle seen m.0.owned m.0.pieces) }) same
-        (hands_on s k id m.0 y t m.0.owned at taken of (begins_is m.0.seen y.trail (sym same)) (subst (λ seen. Ascends 0 (length seen) m.0.owned) (sym same) own.owned) (λ p. ap (λ seen. times p m.0.owned + once_below p (length seen)) (sym same)))),
+            (subst (λ seen. Turns IsOf pieces record { words = set s.words 1 next; homes = set s.homes 0 (some y); views = set s.views id (knows Idle seen m.0.owned m.0.pieces) }) same
+            (hands_on s k id m.0 y t m.0.owned at taken of (begins_is m.0.seen y.trail (sym same)) (subst (λ seen. Ascends 0 (length seen) m.0.owned) (sym same) own.owned) (λ p. ap (λ seen. times p m.0.owned + once_below p (length seen)) (sym same)))),
         ap (λ (c : List (ℕ × Kept M)). (w, rest c)) is,
       )
 
@@ -271,8 +271,8 @@ module _ {M : Type 0} (IsOf : Kept M → Type 0) (pieces : ℕ) where
         gives,
         tt,
         subst (λ (c : List (ℕ × Kept M)). Turns IsOf pieces record { words = set s.words 1 next; homes = put_back s.homes c; views = set s.views id w }) (sym is)
-        (subst (λ seen. Turns IsOf pieces record { words = set s.words 1 next; homes = set s.homes 0 (some y); views = set s.views id (knows Idle seen owned m.0.pieces) }) (sym trail)
-        (hands_on s k id m.0 y t owned at taken of (e ∷ [], more) (subst (λ n. Ascends 0 n owned) (sym count) (ascends_snoc 0 (length m.0.seen) m.0.owned own.owned (omega arith)))
-        (λ p. omega (arith, times_snoc p m.0.owned (length m.0.seen), once_more p (length m.0.seen), ap (once_below p) count)))),
+            (subst (λ seen. Turns IsOf pieces record { words = set s.words 1 next; homes = set s.homes 0 (some y); views = set s.views id (knows Idle seen owned m.0.pieces) }) (sym trail)
+            (hands_on s k id m.0 y t owned at taken of (e ∷ [], more) (subst (λ n. Ascends 0 n owned) (sym count) (ascends_snoc 0 (length m.0.seen) m.0.owned own.owned (omega arith)))
+            (λ p. omega (arith, times_snoc p m.0.owned (length m.0.seen), once_more p (length m.0.seen), ap (once_below p) count)))),
         ap (λ (c : List (ℕ × Kept M)). (w, rest c)) is,
       )

@@ -1,17 +1,17 @@
 -- Splits and joins of passes keep the rule.
-use Rattle.std.proofs.Common.{◌≡◌, ◌≢◌, ℕ, ◌+◌, ◌-◌, ◌<◌, ◌≤◌, ◌⊎◌, Bool, true, false, nat_lt, List, [], ◌∷◌, ◌++◌, length, get_or, set, refl, sym, ap, ◌∙◌, subst, inl, inr, arith, if◌then◌else◌}
-use mathlib.Core.Option.{Option, none, some, some-injective, some-ne-none}
+use Rattle.std.proofs.Common.{◌≡◌, ℕ, ◌+◌, ◌<◌, ◌≤◌, Bool, true, false, nat_lt, List, [], ◌∷◌, ◌++◌, length, get_or, set, refl, sym, ap, ◌∙◌, subst, inl, inr, arith, if◌then◌else◌}
+use mathlib.Core.Option.{Option, none, some}
 use lib.ListN.{get_elem?}
 use Rattle.std.proofs.lemmas.Bool.{ltb-true}
 use Rattle.std.proofs.lemmas.Bool.Decides.{nat_tests}
 use Rattle.tardis_base.specs.Plain.{Event}
-use Rattle.atomic_table.specs.Table.{State, Me, Act, step, keeps, Allows, Splits, Joins, stepped}
+use Rattle.atomic_table.specs.Table.{State, Me, step, keeps, Allows, Splits, Joins}
 use Rattle.atomic_table.proofs.Lists.{at_set, set_else, at_snoc, at_longer}
 use Rattle.trail_log.specs.Trail.{Kept}
 use Rattle.dag_lock.specs.declared.views.View.{View}
-use Rattle.dag_lock.specs.declared.views.Stage.TheVariants.{Idle, Waits, Takes}
-use Rattle.dag_lock.specs.Known.{Begins, Ascends, merged}
-use Rattle.dag_lock.specs.Turns.{knows, total, times, times_in, pieces_in, once_below, spent_view, kept_view, given_view, longer, shorter, joined_view, ticket_of, Queue, InTurn, Fits, Home, Turns}
+use Rattle.dag_lock.specs.declared.views.Stage.TheVariants.{Idle}
+use Rattle.dag_lock.specs.Known.{Begins, Ascends}
+use Rattle.dag_lock.specs.Turns.{knows, times, times_in, pieces_in, once_below, spent_view, kept_view, given_view, longer, shorter, joined_view, ticket_of, Queue, InTurn, Fits, Home, Turns}
 use Rattle.dag_lock.specs.Told.{settled}
 use Rattle.dag_lock.proofs.Fronts.{begins_two}
 use Rattle.dag_lock.proofs.Places.{total_set, total_snoc, total_at, ascends_more, ascends_merged, times_merged}
@@ -107,8 +107,8 @@ module _ {M : Type 0} (IsOf : Kept M → Type 0) (pieces : ℕ) where
       let lists = both_lists v.seen w.seen k.history own.seen theirs.seen in
       let views = set s.views id both in
       let owned : Ascends 0 (length both.seen) both.owned = ascends_merged 0 (length both.seen) v.owned w.owned
-          (ascends_more 0 (length v.seen) (length both.seen) v.owned own.owned lists.2) (ascends_more 0 (length w.seen) (length both.seen) w.owned theirs.owned lists.3)
-          (apart s k id other v w at there' ne) in record {
+      (ascends_more 0 (length v.seen) (length both.seen) v.owned own.owned lists.2) (ascends_more 0 (length w.seen) (length both.seen) w.owned theirs.owned lists.3)
+      (apart s k id other v w at there' ne) in record {
         ticket = k.ticket;
         serving = k.serving;
         history = k.history;
@@ -150,16 +150,16 @@ module _ {M : Type 0} (IsOf : Kept M → Type 0) (pieces : ℕ) where
         keeps,
         tt,
         keeps_rule IsOf pieces s k id m.0 w at (set s.words 0 (get_or s.words 0 0)) s.homes k.ticket k.serving k.history k.owner
-        (ap (λ ws. set ws 0 (get_or ws 0 0)) k.words) k.order k.low (λ j u ne there old. old)
-        record {
-          turn = tt;
-          seen = own.seen;
-          beside = (k.history, refl);
-          owned = own.owned;
-          spent = λ empty. absurd (omega arith);
-        }
-        (queue_same s.views id m.0 w k.ticket k.serving k.owner at (sym (ap ticket_of idle)) k.queue)
-        (home_set IsOf pieces s.homes s.views k.serving k.history id m.0 w at (sym idle) k.home)
-        (λ p. refl) refl,
+            (ap (λ ws. set ws 0 (get_or ws 0 0)) k.words) k.order k.low (λ j u ne there old. old)
+            record {
+              turn = tt;
+              seen = own.seen;
+              beside = (k.history, refl);
+              owned = own.owned;
+              spent = λ empty. absurd (omega arith);
+            }
+            (queue_same s.views id m.0 w k.ticket k.serving k.owner at (sym (ap ticket_of idle)) k.queue)
+            (home_set IsOf pieces s.homes s.views k.serving k.history id m.0 w at (sym idle) k.home)
+            (λ p. refl) refl,
         (refl, begins_two m.0.beside m.0.seen k.history own.beside own.seen short, own.owned),
       )

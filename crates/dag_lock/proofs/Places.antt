@@ -1,5 +1,5 @@
 -- Places that passes own, and sums over all passes.
-use Rattle.std.proofs.Common.{◌≡◌, ◌≢◌, ◌⊎◌, if◌then◌else◌, ℕ, ◌+◌, ◌-◌, ◌<◌, ◌≤◌, ◌==◌, eqb, cond, Bool, true, false, nat_lt, List, [], ◌∷◌, ◌++◌, length, set, refl, sym, ap, ◌∙◌, subst, inl, inr, arith, eqb-true, eq-eqb, ne_eqb}
+use Rattle.std.proofs.Common.{◌≡◌, ◌⊎◌, if◌then◌else◌, ℕ, ◌+◌, ◌<◌, ◌≤◌, ◌==◌, Bool, true, false, nat_lt, List, [], ◌∷◌, ◌++◌, set, refl, sym, ap, subst, inl, inr, arith, eq-eqb, ne_eqb}
 use Rattle.std.proofs.lemmas.Bool.{cases_lt, ltb-true, lt-ltb, le-ltb}
 use mathlib.Core.Logic.{dite}
 use native.Mathlib.Decide.{ℕ_discrete}
@@ -109,13 +109,13 @@ once_by p n false is =
     let high : n ≤ p = grind (arith, nat_tests) in
     dite (ℕ_discrete p n)
     (λ e.
-      let further : nat_lt p (n + 1) ≡ true = lt-ltb p (n + 1) (omega arith) in
-      let same : p == n ≡ true = eq-eqb p n e in
-      rw (further, same) refl)
+    let further : nat_lt p (n + 1) ≡ true = lt-ltb p (n + 1) (omega arith) in
+    let same : p == n ≡ true = eq-eqb p n e in
+    rw (further, same) refl)
     (λ ne.
-      let further : nat_lt p (n + 1) ≡ false = le-ltb p (n + 1) (omega arith) in
-      let other : p == n ≡ false = ne_eqb p n ne in
-      rw (further, other) refl)
+    let further : nat_lt p (n + 1) ≡ false = le-ltb p (n + 1) (omega arith) in
+    let other : p == n ≡ false = ne_eqb p n ne in
+    rw (further, other) refl)
 
 pub once_more : (p n : ℕ) → once_below p (n + 1) ≡ (if p == n then 1 else 0) + once_below p n
 once_more p n = once_by p n (nat_lt p n) refl
@@ -134,9 +134,9 @@ all_places a (ℕ.suc k) n (p ∷ ps) long up all =
       | inr most ↦
           let same : p ≡ a = omega (arith, up.0) in
           let rest = all_places (a + 1) k n ps (omega arith) (subst (λ b. Ascends (b + 1) n ps) same up.2)
-              (λ q from below.
-                let not_here : q == p ≡ false = ne_eqb q p (λ e. omega arith) in
-                let once : 0 + times q ps ≡ 1 = rw not_here at (all q (omega arith) below) in
-                omega arith) in
+          (λ q from below.
+          let not_here : q == p ≡ false = ne_eqb q p (λ e. omega arith) in
+          let once : 0 + times q ps ≡ 1 = rw not_here at (all q (omega arith) below) in
+          omega arith) in
           λ i. same i ∷ rest i
     ]

@@ -1,5 +1,5 @@
 -- What the steps of a turn come to together.
-use Rattle.std.proofs.Common.{◌≡◌, ◌≢◌, ℕ, ◌+◌, ◌<◌, ◌≤◌, List, [], ◌∷◌, ◌++◌, length, get_or, refl, sym, ap, ◌∙◌, subst, arith, length-append, Some}
+use Rattle.std.proofs.Common.{◌≡◌, ℕ, ◌+◌, ◌<◌, ◌≤◌, List, [], ◌∷◌, ◌++◌, length, get_or, refl, sym, ap, ◌∙◌, subst, arith, length-append, Some}
 use Rattle.tardis_base.specs.Plain.{Event, PlainMachine, reply_at}
 use Rattle.atomic_table.specs.Seated.{TableId}
 use Rattle.atomic_table.specs.Table.{Me}
@@ -96,7 +96,7 @@ module _ {M P : Type 0} (opening : M → P) (plain : PlainMachine P) where
     refl,
     refl,
     subst (λ n. Ascends 0 n (v.owned ++ length x.trail ∷ [])) (sym (ap length did.trail ∙ omega (arith, length-append x.trail (e ∷ []))))
-    (ascends_snoc 0 (length x.trail) v.owned (ascends_more 0 (length v.seen) (length x.trail) v.owned up (begins_length v.seen x.trail seen)) (omega arith)),
+        (ascends_snoc 0 (length x.trail) v.owned (ascends_more 0 (length v.seen) (length x.trail) v.owned up (begins_length v.seen x.trail seen)) (omega arith)),
   )
   rests_by x y v t e (TrailFull bytes) out seen did up = (refl, refl, refl, ascends_more 0 (length v.seen) (length x.trail) v.owned up (begins_length v.seen x.trail seen))
   rests_by x y v t e NoMemory out seen did up = (refl, refl, refl, ascends_more 0 (length v.seen) (length x.trail) v.owned up (begins_length v.seen x.trail seen))
@@ -122,7 +122,7 @@ module _ {M P : Type 0} (opening : M → P) (plain : PlainMachine P) where
       let y : Kept M = back.0 in
       let did : Acts opening plain e r out x y = subst (λ (w : Kept M). Acts opening plain e r out w y) one back.2 in
       let view : after.0 ≡ knows (Takes t) x.trail v.owned v.pieces =
-          same ∙ (ap (λ (w : Me (Kept M) View). w.0) took.1 ∙ ap (λ (w : Me (Kept M) View). knows (Takes t) x.trail w.0.owned w.0.pieces) waits) in
+      same ∙ (ap (λ (w : Me (Kept M) View). w.0) took.1 ∙ ap (λ (w : Me (Kept M) View). knows (Takes t) x.trail w.0.owned w.0.pieces) waits) in
       let seen : Begins v.seen x.trail = subst (λ (w : Me (Kept M) View). Begins w.0.seen x.trail) waits took.2 in
       let me : (knows (Takes t) x.trail v.owned v.pieces, (0, y) ∷ []) ≡ after = sym (λ i. (view i, back.1 i)) in
       let whole : passed r (knows (Takes t) x.trail v.owned v.pieces, (0, y) ∷ []) ≡ last = ap (passed r) me ∙ sym is in

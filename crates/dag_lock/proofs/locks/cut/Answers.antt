@@ -1,4 +1,4 @@
-use Rattle.std.proofs.Common.{◌≡◌, ℕ, sym, subst, arith}
+use Rattle.std.proofs.Common.{ℕ, sym, subst, arith}
 use Rattle.atomic_table.specs.Table.{Splits}
 use Rattle.dag_lock.specs.Turns.{Turns, kept_view, given_view}
 use Rattle.dag_lock.specs.Steps.{IsOfLock}
@@ -13,5 +13,5 @@ split_seat-requires g c =
       c.requires.lock.0,
       omega (arith, c.requires.lock.1),
       subst (λ (n : ℕ). Splits (Turns IsOf key.pieces) c.args.seat.now.id v (kept_view n v) (given_view n v)) (sym c.requires.give)
-      (splits IsOf key.pieces c.args.seat.now.id v c.args.give c.requires.rests.1 c.requires.some.0 c.requires.some.1),
+          (splits IsOf key.pieces c.args.seat.now.id v c.args.give c.requires.rests.1 c.requires.some.0 c.requires.some.1),
     )

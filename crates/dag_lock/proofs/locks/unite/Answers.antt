@@ -1,4 +1,4 @@
-use Rattle.std.proofs.Common.{◌≡◌, ◌+◌, ◌<◌, ◌≤◌, ℕ, length, sym, ap, ◌∙◌, subst, arith}
+use Rattle.std.proofs.Common.{◌<◌, ◌≤◌, length, sym, ap, ◌∙◌, subst, arith}
 use Rattle.atomic_table.specs.Table.{Me}
 use Rattle.trail_log.specs.Trail.{Kept}
 use Rattle.dag_lock.specs.declared.views.View.{View}
@@ -25,7 +25,7 @@ load-requires g c =
       c.join_seat.ensures.0 ∙ c.requires.lock.0,
       omega (arith, c.requires.lock.2),
       settles (IsOfLock g.M.Machine.opening g.M.Machine.plain key.machine.value) key.pieces c.args.words.now.table_id.slots c.join_seat.new.seat.id c.join_seat.new.seat.me
-      (ap (λ (m : Me (Kept g.row.M.Denot) View). m.0.stage) c.join_seat.ensures.2 ∙ c.requires.one.1)
-      (subst (λ (m : Me (Kept g.row.M.Denot) View). 0 < m.0.pieces) is (omega (arith, c.requires.one.2)))
-      (subst (λ (m : Me (Kept g.row.M.Denot) View). length m.0.beside ≤ length m.0.seen) is (shorter_is v.seen w.seen)),
+          (ap (λ (m : Me (Kept g.row.M.Denot) View). m.0.stage) c.join_seat.ensures.2 ∙ c.requires.one.1)
+          (subst (λ (m : Me (Kept g.row.M.Denot) View). 0 < m.0.pieces) is (omega (arith, c.requires.one.2)))
+          (subst (λ (m : Me (Kept g.row.M.Denot) View). length m.0.beside ≤ length m.0.seen) is (shorter_is v.seen w.seen)),
     )

@@ -1,4 +1,4 @@
-use Rattle.std.proofs.Common.{◌≡◌, ◌≢◌, ◌++◌, ◌∷◌, [], ℕ, List, refl, sym, ap, ◌∙◌, subst, arith}
+use Rattle.std.proofs.Common.{◌≡◌, ◌≢◌, List, refl, ◌∙◌, subst, arith}
 use Rattle.tardis_base.specs.Plain.{Event}
 use Rattle.trail_log.specs.Ends.{trail_with}
 use Rattle.trail_log.specs.declared.acted.Acted.{Acted}
@@ -20,7 +20,7 @@ fetch_add-requires g c =
       c.requires.lock.0,
       omega (arith, c.requires.lock.1),
       passes_added (IsOfLock g.M.Machine.opening g.M.Machine.plain key.machine.value) key.pieces c.args.words.now.table_id.slots c.args.seat.now.id c.args.seat.now.me turn.0 turn.2.0 turn.4.0 turn.2.1 turn.1 turn.3
-      (subst (λ r. turn.0.trail ≡ trail_with r c.args.seat.now.me.0.seen turn.4.0) c.in-Done.is turn.4.1),
+          (subst (λ r. turn.0.trail ≡ trail_with r c.args.seat.now.me.0.seen turn.4.0) c.in-Done.is turn.4.1),
     )
 
 pub fetch_add-requires-in_default : goal.fetch_add-requires-in_default
@@ -30,5 +30,5 @@ fetch_add-requires-in_default g c =
       c.requires.lock.0,
       omega (arith, c.requires.lock.1),
       passes_kept (IsOfLock g.M.Machine.opening g.M.Machine.plain key.machine.value) key.pieces c.args.words.now.table_id.slots c.args.seat.now.id c.args.seat.now.me turn.0 turn.2.0 turn.2.1 turn.1 turn.3
-      (turn.4.1 ∙ no_more c.args.acted c.args.seat.now.me.0.seen turn.4.0 c.in_default.not-Done),
+          (turn.4.1 ∙ no_more c.args.acted c.args.seat.now.me.0.seen turn.4.0 c.in_default.not-Done),
     )

@@ -1,4 +1,4 @@
-use Rattle.std.proofs.Common.{◌≡◌, ◌<◌, sym, ap, ◌∙◌, subst, arith}
+use Rattle.std.proofs.Common.{ap, ◌∙◌, arith}
 use Rattle.atomic_table.specs.Table.{Me}
 use Rattle.trail_log.specs.Trail.{Kept}
 use Rattle.dag_lock.specs.declared.views.View.{View}
@@ -13,7 +13,7 @@ load-serving-requires g c =
       c.loop.invariant.1 ∙ c.requires.lock.0,
       omega (arith, c.requires.lock.1),
       looks (IsOfLock g.M.Machine.opening g.M.Machine.plain key.machine.value) key.pieces g.Z.Kin.is_of c.requires.kin c.args.words.now.table_id.slots c.loop.seat.id c.loop.seat.me c.args.ticket
-      (ap (λ (x : Me (Kept g.row.M.Denot) View). x.0.stage) c.loop.invariant.0 ∙ c.requires.waits.1),
+          (ap (λ (x : Me (Kept g.row.M.Denot) View). x.0.stage) c.loop.invariant.0 ∙ c.requires.waits.1),
     )
 
 pub returns-then-serving-ticket-clause-took : goal.returns-then-serving-ticket-clause-took

@@ -1,5 +1,4 @@
-use Rattle.std.proofs.Common.{◌≡◌, ◌+◌, ◌∷◌, [], List, ℕ, length, sym, ap, ◌∙◌, subst}
-use Rattle.std.specs.List.{range_with_len}
+use Rattle.std.proofs.Common.{sym, ap, ◌∙◌}
 use Rattle.dag_lock.specs.Known.{Known}
 use Rattle.dag_lock.specs.Steps.{IsOfLock}
 use Rattle.dag_lock.proofs.Stepping.{live_view}
