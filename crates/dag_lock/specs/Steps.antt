@@ -5,7 +5,7 @@ use Rattle.trail_log.specs.Trail.{Kept, bytes_of}
 use Rattle.trail_log.specs.Ends.{trail_with, IsFullAt}
 use Rattle.trail_log.specs.declared.acted.Acted.{Acted}
 use Rattle.trail_log.specs.declared.acted.Acted.TheVariants.{Done, TrailFull, NoMemory}
-use Rattle.dag_lock.specs.Known.{Known, Begins, merged}
+use Rattle.dag_lock.specs.Known.{Known, Begins}
 
 -- the pass is of the same lock and has as many pieces
 abbrev pub Keeps : Known → Known → Type 0

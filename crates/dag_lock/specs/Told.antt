@@ -3,12 +3,13 @@ use Rattle.std.specs.Prelude.{◌≡◌, ◌≢◌, ℕ, ◌+◌, ◌<◌, List,
 use Rattle.tardis_base.specs.Plain.{Event}
 use Rattle.atomic_table.specs.Table.{Me, Step}
 use Rattle.trail_log.specs.Trail.{Kept}
+use Rattle.trail_log.specs.Ends.{trail_with}
 use Rattle.trail_log.specs.declared.acted.Acted.{Acted}
 use Rattle.trail_log.specs.declared.acted.Acted.TheVariants.{Done, TrailFull, NoMemory}
 use Rattle.dag_lock.specs.declared.views.View.{View}
 use Rattle.dag_lock.specs.declared.views.Stage.TheVariants.{Idle, Waits, Takes}
-use Rattle.dag_lock.specs.Known.{Begins, Ascends}
-use Rattle.dag_lock.specs.Turns.{knows}
+use Rattle.dag_lock.specs.Known.{Begins, Ascends, merged}
+use Rattle.dag_lock.specs.Turns.{knows, longer, shorter}
 
 module _ {M : Type 0} where
   -- the ticket was the next one, and is the pass's; else nothing is changed
@@ -49,6 +50,15 @@ module _ {M : Type 0} where
   -- it has the machine
   abbrev pub Holds : Me (Kept M) View → (Kept M → Type 0) → Type 0
   Holds m P = (x : Kept M) × (m.1 ≡ (0, x) ∷ []) × P x
+
+  -- it has the machine back that it had taken, after the machine was asked
+  abbrev pub Returns : (Kept M → Type 0) → Acted → Me (Kept M) View → Type 0
+  Returns IsOf r m = (y : Kept M) × (m.1 ≡ (0, y) ∷ []) × ((t : ℕ) × (m.0.stage ≡ Takes t)) × IsOf y × ((e : Event) × (y.trail ≡ trail_with r m.0.seen e))
+
+  -- what the seat of two that were joined knows
+  abbrev pub United : View → View → Me (Kept M) View → Type 0
+  United v w m = (m ≡ (knows Idle (longer v.seen w.seen) (merged v.owned w.owned) (v.pieces + w.pieces), [])) × Begins (shorter v.seen w.seen) (longer v.seen w.seen)
+      × Ascends 0 (length (longer v.seen w.seen)) (merged v.owned w.owned)
 
   -- the seat after it passed on
   abbrev pub passed : Acted → Me (Kept M) View → Me (Kept M) View

@@ -3,10 +3,12 @@
 ghost use Rattle.std.specs.Prelude.{◌≡◌, ℕ, ◌+◌, ◌-◌, ◌≤◌, ◌<◌, [], length, IfOk};
 ghost use Rattle.std.specs.List.{range_with_len};
 ghost use Rattle.tardis_base.specs.Plain.{state_after};
+ghost use Rattle.dag_lock.specs.Turns.{kept_view, given_view};
+ghost use Rattle.dag_lock.specs.Told.{Rests, United};
 
 use crate::passes::Pass;
 use crate::rules::{Both, Cut, Gives, Law, Origin, Settle};
-use crate::turns::{Seat, Words, act, draw, pass_on, take_turn};
+use crate::turns::{Seat, TICKET, Words, act, draw, pass_on, take_turn};
 use crate::views::View;
 use atomic_table::{Refused, Table};
 use std::alloc::Global;
@@ -92,4 +94,88 @@ impl<M: Machine> DagLock<M> {
             acted,
         )
     }
+
+    /// Gives so many of the pass's pieces to a second pass, which has seen the same and has no entries of its own.
+    pub fn split(&self, pass: Pass, give: u32) -> (Pass, Pass)
+        requires lock { pass.lock ≡ lock_id self.now }
+        requires some { 0 < give }
+        requires left { give < pass.pieces }
+        ensures first { result.0 ≡ record { lock = pass.lock; seen = pass.seen; owned = pass.owned; pieces = pass.pieces - give } }
+        ensures second { result.1 ≡ record { lock = pass.lock; seen = pass.seen; owned = []; pieces = give } }
+    {
+        let Pass { badge } = pass;
+        let mut seat: Seat<M> = badge.into_seat();
+        let given = cut::<M, Brand>(&self.table.shared, &mut seat, give);
+        (
+            Pass {
+                badge: seat.into_badge(),
+            },
+            Pass {
+                badge: given.into_badge(),
+            },
+        )
+    }
+
+    /// Makes one pass of two. Of the lists that they have seen it has seen the longer.
+    pub fn join(&self, one: Pass, other: Pass) -> Pass
+        requires one { one.lock ≡ lock_id self.now }
+        requires other { other.lock ≡ lock_id self.now }
+        ensures lock { result.lock ≡ one.lock }
+        ensures seen { IsLonger one.seen other.seen result.seen }
+        ensures owned { result.owned ≡ merged one.owned other.owned }
+        ensures pieces { result.pieces ≡ one.pieces + other.pieces }
+    {
+        let Pass { badge: first } = one;
+        let Pass { badge: second } = other;
+        let mut seat: Seat<M> = first.into_seat();
+        unite(&self.table.shared, &mut seat, second.into_seat());
+        Pass {
+            badge: seat.into_badge(),
+        }
+    }
+
+    /// Takes the lock apart. The pass is whole: each pass that was split off was joined again. So it has seen the whole
+    /// trail, and every entry is its own.
+    pub fn close(self, pass: Pass) -> Trailed<M>
+        requires lock { pass.lock ≡ lock_id self }
+        requires whole { pass.pieces ≡ pieces_of self }
+        ensures trail { result.trail ≡ pass.seen }
+        ensures owned { pass.owned ≡ range_with_len 0 (length result.trail) }
+        ensures stands { M.stands result.machine (state_after M.plain (M.opening result.machine) result.trail) }
+        ensures opening { M.opening result.machine ≡ M.opening (start_of self).machine }
+        ensures most { result.max_trail ≡ (start_of self).max_trail }
+    {
+        let DagLock { table, parked: _ } = self;
+        let Pass { badge } = pass;
+        let mut closed = table.close_with(badge.into_seat());
+        let trailed = closed.take(0);
+        closed.free();
+        let _ = trailed.machine();
+        trailed
+    }
+}
+
+/// Gives pieces of a seat to a new one.
+fn cut<M: Machine, Z: Gives>(words: &Words<M>, seat: &mut Seat<M>, give: u32) -> Seat<M>
+    requires lock { (seat.old.table_id ≡ words.now.table_id) × (words.now.table_id.words ≡ 2) }
+    requires give { Z.give ≡ give }
+    requires rests { Rests seat.old.me }
+    requires some { (0 < give) × (give < seat.old.me.0.pieces) }
+    ensures lock { (seat.new.table_id ≡ seat.old.table_id) × (result.table_id ≡ seat.old.table_id) }
+    ensures kept { seat.new.me ≡ (kept_view give seat.old.me.0, []) }
+    ensures given { result.me ≡ (given_view give seat.old.me.0, []) }
+{
+    words.split_seat::<Cut<Z>>(seat)
+}
+
+/// Makes one seat of two.
+fn unite<M: Machine>(words: &Words<M>, seat: &mut Seat<M>, other: Seat<M>)
+    requires lock { (seat.old.table_id ≡ words.now.table_id) × (other.table_id ≡ words.now.table_id) × (words.now.table_id.words ≡ 2) × (words.now.table_id.slots ≡ 1) }
+    requires one { Rests seat.old.me }
+    requires other { Rests other.me }
+    ensures lock { seat.new.table_id ≡ seat.old.table_id }
+    ensures united { United seat.old.me.0 other.me.0 seat.new.me }
+{
+    words.join_seat::<Both>(seat, other);
+    words.load::<Settle>(seat, TICKET);
 }

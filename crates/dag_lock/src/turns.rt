@@ -5,7 +5,7 @@ ghost use Rattle.atomic_table.specs.Table.{rest};
 ghost use Rattle.trail_log.specs.Trail.{Kept};
 ghost use Rattle.dag_lock.specs.Known.{Begins};
 ghost use Rattle.dag_lock.specs.Turns.{knows};
-ghost use Rattle.dag_lock.specs.Told.{Rests, Awaits, Took, Holds, passed};
+ghost use Rattle.dag_lock.specs.Told.{Rests, Awaits, Took, Holds, Returns, passed};
 ghost use Rattle.dag_lock.specs.Steps.{IsOfLock, Acts};
 ghost use Rattle.dag_lock.specs.declared.views.Stage.TheVariants.{Waits, Takes};
 
@@ -122,6 +122,7 @@ pub(crate) fn pass_on<M: Machine>(
     acted: Acted,
 )
     requires lock { (seat.old.table_id ≡ words.now.table_id) × (words.now.table_id.words ≡ 2) × (words.now.table_id.slots ≡ 1) }
+    requires turn { Returns (IsOfLock M.opening M.plain words.now.key.machine.value) acted seat.old.me }
     ensures lock { seat.new.table_id ≡ seat.old.table_id }
     ensures passed { seat.new.me ≡ passed acted seat.old.me }
 {
@@ -134,6 +135,7 @@ pub(crate) fn pass_on<M: Machine>(
 /// Puts the machine back.
 fn put_back<M: Machine>(words: &Words<M>, seat: &mut Seat<M>, acted: Acted)
     requires lock { (seat.old.table_id ≡ words.now.table_id) × (words.now.table_id.words ≡ 2) × (words.now.table_id.slots ≡ 1) }
+    requires turn { Returns (IsOfLock M.opening M.plain words.now.key.machine.value) acted seat.old.me }
     ensures lock { seat.new.table_id ≡ seat.old.table_id }
     ensures passed { seat.new.me ≡ passed acted seat.old.me }
 {

@@ -1,12 +1,12 @@
 -- Entries and the frames that they are kept as.
-use Rattle.std.proofs.Common.{◌≡◌, ℕ, ◌+◌, ◌*◌, ◌<◌, ◌≤◌, List, [], ◌∷◌, ◌++◌, length, take, drop, map, refl, sym, ap, ◌∙◌, subst, inl, arith, append_assoc, append-nil}
-use Rattle.std.specs.Int.{w16, w32, to_be_bytes, from_be_bytes}
-use Rattle.std.specs.List.{AllByRecursion, flat_map}
+use Rattle.std.proofs.Common.{◌≡◌, ℕ, ◌+◌, ◌<◌, ◌≤◌, List, [], ◌∷◌, ◌++◌, length, take, drop, map, refl, sym, ap, ◌∙◌, subst, inl, arith, append-nil}
+use Rattle.std.specs.Int.{w16, to_be_bytes}
+use Rattle.std.specs.List.{AllByRecursion}
 use Rattle.std.proofs.lemmas.Nat.{from_be_bytes-to_be_bytes_2}
 use Rattle.std.proofs.lemmas.List.{take_at, drop_at, length-append, map-append}
 use Rattle.std.proofs.lemmas.Grind.{flat_map-append}
 use Rattle.tardis_base.specs.Plain.{Event}
-use Rattle.frame_cut.specs.Frames.{frame, frames, word, IsBody, IsCut}
+use Rattle.frame_cut.specs.Frames.{frame, frames, word, IsBody}
 use Rattle.frame_cut.specs.Events.{event_of}
 use Rattle.frame_cut.proofs.Words.{length-frame, word-frame}
 use Rattle.trail_log.specs.Frames.{body_of, trail_frames, IsEntry, IsRead, entries_within, entries_of, IsTrail}

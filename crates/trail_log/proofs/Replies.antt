@@ -1,5 +1,5 @@
 -- Replies and states at the end of a trail.
-use Rattle.std.proofs.Common.{◌≡◌, ℕ, ◌+◌, List, [], ◌∷◌, ◌++◌, length, Option, Some, refl, arith}
+use Rattle.std.proofs.Common.{◌≡◌, ◌+◌, List, [], ◌∷◌, ◌++◌, length, Some, refl, arith}
 use Rattle.tardis_base.specs.Plain.{Event, PlainMachine, state_after, reply_at}
 use Rattle.trail_log.specs.Trail.{bytes_of}
 

@@ -1,4 +1,4 @@
-use Rattle.std.proofs.Common.{◌≡◌, ◌+◌, ◌≤◌, ◌++◌, length, ℕ, List, sym, ap, ◌∙◌, arith, append_assoc}
+use Rattle.std.proofs.Common.{◌≡◌, ◌++◌, length, ℕ, List, sym, ap, ◌∙◌, append_assoc}
 use Rattle.std.specs.Int.{w16, w32, to_be_bytes}
 use Rattle.frame_cut.specs.Frames.{frame}
 use Rattle.trail_log.specs.Frames.{body_of}

@@ -1,4 +1,4 @@
-use Rattle.std.proofs.Common.{◌≡◌, ◌+◌, ◌-◌, ◌<◌, ◌≤◌, ◌++◌, ◌∷◌, [], List, ℕ, length, get_or, set, sym, ap, ◌∙◌, subst, refl, arith, length-append}
+use Rattle.std.proofs.Common.{◌≡◌, ◌+◌, ◌-◌, ◌≤◌, ◌++◌, ◌∷◌, [], List, ℕ, length, get_or, set, sym, ap, ◌∙◌, subst, arith, length-append}
 use Rattle.std.specs.List.{concat}
 use Rattle.tardis_base.specs.Plain.{Event}
 use Rattle.frame_cut.specs.Frames.{frame}

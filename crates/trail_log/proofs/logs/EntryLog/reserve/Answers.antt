@@ -1,6 +1,5 @@
-use Rattle.std.proofs.Common.{◌≡◌, ◌≤◌, ◌++◌, ◌∷◌, [], List, ℕ, sym, ap, ◌∙◌, subst, refl, arith}
+use Rattle.std.proofs.Common.{◌≡◌, ◌++◌, ◌∷◌, [], List, ℕ, sym, ap, ◌∙◌, subst, arith}
 use Rattle.std.specs.List.{concat}
-use Rattle.trail_log.specs.Trail.{Logged}
 use Rattle.trail_log.specs.Frames.{entries_of, IsTrail, room_behind}
 use Rattle.trail_log.proofs.ChunkRows.{concat_new, room_new}
 use Rattle.trail_log.proofs.logs.EntryLog.reserve.Goals as goal

@@ -1,4 +1,4 @@
-use Rattle.std.proofs.Common.{◌≡◌, ◌+◌, ◌≤◌, ◌++◌, ℕ, List, length, take, sym, ap, ◌∙◌, subst, arith}
+use Rattle.std.proofs.Common.{◌≡◌, ◌+◌, ◌++◌, ℕ, List, take, ap, ◌∙◌, arith}
 use Rattle.std.specs.List.{concat}
 use Rattle.tardis_io.proofs.Told.{then}
 use Rattle.trail_log.specs.Frames.{trail_frames}

@@ -1,4 +1,4 @@
-use Rattle.std.proofs.Common.{◌≡◌, ℕ, ◌+◌, ◌≤◌, [], ◌∷◌, ◌++◌, Some, length, List, sym, ap, ◌∙◌, subst, arith}
+use Rattle.std.proofs.Common.{◌≡◌, ℕ, ◌+◌, [], ◌∷◌, ◌++◌, Some, length, List, sym, ap, ◌∙◌, subst, arith}
 use Rattle.tardis_base.specs.Plain.{Event, PlainMachine, state_after, reply_at}
 use Rattle.trail_log.specs.Trail.{bytes_of}
 use Rattle.trail_log.proofs.Replies.{bytes_more, state_more, reply_last}

@@ -1,4 +1,4 @@
-use Rattle.std.proofs.Common.{subst, ap, sym}
+use Rattle.std.proofs.Common.{subst, ap}
 use Rattle.trail_log.specs.Frames.{trail_frames, IsRead}
 use Rattle.trail_log.proofs.Entries.{read_again}
 use Rattle.trail_log.proofs.trails.Trailed.write_trail.Goals as goal
