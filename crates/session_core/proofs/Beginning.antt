@@ -1,11 +1,10 @@
 -- A transaction begins.
-use Rattle.std.proofs.Common.{◌≡◌, ℕ, true, not, List, [], ◌∷◌, is_some, Some, None, Ok, Err, IsTrue, refl, sym, ap, ap₂, subst, ◌∙◌}
-use Rattle.std.specs.List.{list_all}
+use Rattle.std.proofs.Common.{◌≡◌, ℕ, not, List, [], ◌∷◌, Some, None, Ok, Err, IsTrue, refl, sym, ap, ap₂, subst, ◌∙◌}
 use Rattle.std.proofs.lemmas.Option.{same_Some}
-use Rattle.std.proofs.lemmas.Bool.{and_from, not_from_false, not_from_true}
+use Rattle.std.proofs.lemmas.Bool.{not_from_false, not_from_true}
 use Rattle.tardis_base.specs.declared.ids.StateId.{StateId}
 use Rattle.tardis_base.specs.declared.ids.Slot.{Slot}
-use Rattle.tardis_base.specs.declared.replies.Refusal.TheVariants.{TxnOpen, Unknown, Below}
+use Rattle.tardis_base.specs.declared.replies.Refusal.TheVariants.{Unknown, Below}
 use Rattle.tardis_base.specs.declared.replies.Reply.TheVariants.{Refused, Begun}
 use Rattle.tardis_base.specs.declared.requests.Begin.{Begin}
 use Rattle.tardis_base.specs.Ids.{is_among}
@@ -15,17 +14,16 @@ use Rattle.plain_dag.specs.Begin.{is_admitted, begin_state}
 use Rattle.plain_dag.specs.Entries.{entry_of, with_entry}
 use Rattle.plain_dag.specs.Floors.{Session}
 use Rattle.plain_dag.proofs.Collected.{proper-above}
-use Rattle.state_dag.specs.Table.{Table, id_at, is_slot}
+use Rattle.state_dag.specs.Table.{id_at}
 use Rattle.merge_txn.specs.declared.Txn.{Txn as Kept}
 use Rattle.merge_txn.specs.declared.Txn.TheVariants.{Single as KeptSingle}
-use Rattle.ceiling_book.specs.Book.{is_open}
 use Rattle.begin_rule.specs.declared.BeginFault.{BeginFault}
 use Rattle.begin_rule.specs.declared.BeginFault.TheVariants.{Unknown as IsUnknown, Below as IsBelow}
 use Rattle.begin_rule.specs.Choices.{ChosenAs}
-use Rattle.plain_site.specs.Site.{Site, Single, own_floor}
+use Rattle.plain_site.specs.Site.{Site, own_floor}
 use Rattle.plain_site.specs.Built.{Built}
 use Rattle.plain_site.specs.Sound.{IsSound}
-use Rattle.plain_site.specs.Answers.{refused, refuse, without_txn}
+use Rattle.plain_site.specs.Answers.{refuse, without_txn}
 use Rattle.plain_site.specs.Sessions.{begin, begun}
 use Rattle.plain_site.proofs.SoundBooks.{open-session as sound-session}
 use Rattle.plain_site.proofs.SoundCommits.{closed-above_own}
@@ -33,7 +31,7 @@ use Rattle.session_core.specs.Core.{Core}
 use Rattle.session_core.specs.Stands.{CoreStands}
 use Rattle.session_core.specs.Gives.{IsGiven, Stops}
 use Rattle.session_core.specs.Stops.{begin_stop}
-use Rattle.session_core.proofs.Answers.{skip, stop, as-given}
+use Rattle.session_core.proofs.Answers.{skip, stop}
 use Rattle.session_core.proofs.Standing.{none-kept, no-txn-answer, txn-begun}
 
 -- a collected state is a proper ancestor of each ceiling

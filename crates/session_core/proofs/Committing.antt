@@ -12,7 +12,6 @@ use Rattle.tardis_base.specs.declared.records.Record.{Record}
 use Rattle.tardis_base.specs.declared.requests.EndFlags.{EndFlags}
 use Rattle.tardis_base.specs.declared.replies.Refusal.{Refusal}
 use Rattle.tardis_base.specs.declared.replies.Refusal.TheVariants.{SeqEnd, Branches as AreBranches, Full as IsFull, PathFull as IsPathFull}
-use Rattle.tardis_base.specs.declared.replies.Reply.{Reply}
 use Rattle.tardis_base.specs.declared.replies.Reply.TheVariants.{Refused, Ended, Committed}
 use Rattle.tardis_base.specs.Ids.{is_among}
 use Rattle.tardis_base.specs.Keys.{KeyWrite, keys_of}
@@ -35,13 +34,13 @@ use Rattle.merge_txn.specs.declared.Txn.{Txn as Kept}
 use Rattle.merge_txn.specs.declared.Txn.TheVariants.{Single as KeptSingle, Merge as KeptMerge}
 use Rattle.merge_txn.specs.Txns.{writes_of as kept_writes}
 use Rattle.session_core.specs.Txns.{IsNamed}
-use Rattle.ceiling_book.specs.Book.{Book, known_floor, sessions_of, is_open}
+use Rattle.ceiling_book.specs.Book.{Book, known_floor, sessions_of}
 use Rattle.ceiling_book.specs.Places.{AreSlots, ArePlaced}
 use Rattle.ceiling_book.specs.Answers.{KeepsRest}
-use Rattle.plain_site.specs.Site.{Site, SingleTxn, Txn, Single, Merge, own_count, next_id, writes_of, next_record}
+use Rattle.plain_site.specs.Site.{Site, SingleTxn, Txn, Single, own_count, next_id, writes_of, next_record}
 use Rattle.plain_site.specs.Built.{so_far}
 use Rattle.plain_site.specs.Sound.{IsSound}
-use Rattle.plain_site.specs.Answers.{Answer, refused, refuse_found, unless, with_txn}
+use Rattle.plain_site.specs.Answers.{Answer, refused, refuse_found}
 use Rattle.plain_site.specs.Commits.{without_txn_of, growth_refusals, committed, commit_below, commit_at, commit_writes, commit_single}
 use Rattle.plain_site.proofs.SoundHistories.{above-closed}
 use Rattle.plain_site.proofs.SoundBooks.{own-is_site}
@@ -54,7 +53,7 @@ use Rattle.session_core.specs.Stands.{CoreStands, txn_of}
 use Rattle.session_core.specs.Gives.{IsGiven, Stops}
 use Rattle.session_core.specs.Stops.{add_stop}
 use Rattle.session_core.proofs.Answers.{skip, skip-found, stop-found, as-given}
-use Rattle.session_core.proofs.Standing.{open-session, txn-answer, txn-ended}
+use Rattle.session_core.proofs.Standing.{txn-ended}
 use Rattle.session_core.proofs.Growing.{txn-slots-stay, txn-names-stay}
 use Rattle.session_core.proofs.Memory.{ended-held}
 

@@ -6,7 +6,7 @@ use Rattle.tardis_base.specs.declared.replies.Reply.TheVariants.{Refused as Refu
 use Rattle.tardis_base.specs.declared.requests.Request.TheVariants.{Get}
 use Rattle.tardis_base.specs.Valid.{is_u16, is_key}
 use Rattle.wire_talk.specs.Spellings.{reply_spelling}
-use Rattle.plain_site.specs.Answers.{Answer, found}
+use Rattle.plain_site.specs.Answers.{Answer}
 use Rattle.plain_site.specs.Built.{so_far}
 use Rattle.plain_site.specs.Site.{Site}
 use Rattle.plain_site.specs.Sound.{IsSound}

@@ -1,12 +1,11 @@
 -- The merge of a session, and what it tells of its states.
-use Rattle.std.proofs.Common.{◌≡◌, ℕ, ◌∙◌}
+use Rattle.std.proofs.Common.{ℕ, ◌∙◌}
 use Rattle.state_dag.specs.Table.{Table}
 use Rattle.merge_txn.specs.declared.Txn.TheVariants.{Single as KeptSingle}
 use Rattle.merge_txn.specs.declared.SingleTxn.{SingleTxn as OneKept}
 use Rattle.tardis_base.specs.declared.replies.Refusal.{Refusal}
 use Rattle.tardis_base.specs.declared.replies.Refusal.TheVariants.{WrongMode}
 use Rattle.plain_site.specs.Site.{Site}
-use Rattle.plain_site.specs.Answers.{refused}
 use Rattle.session_core.specs.Guards.{HasTxn, RefusesTxns}
 use Rattle.session_core.specs.Merges.{RefusesMerges}
 use Rattle.session_core.specs.Stands.{txn_of}

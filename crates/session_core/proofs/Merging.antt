@@ -1,5 +1,5 @@
 -- A merge begins.
-use Rattle.std.proofs.Common.{◌≡◌, ◌≤◌, ◌<◌, ℕ, true, false, nat_lt, List, [], ◌∷◌, length, take, map, is_some, Option, Some, None, Result, Ok, Err, IsTrue, refl, sym, ap, ap₂, subst, ◌∙◌, arith}
+use Rattle.std.proofs.Common.{◌≡◌, ◌≤◌, ◌<◌, ℕ, false, nat_lt, List, [], ◌∷◌, length, take, map, Option, Some, None, Result, Ok, Err, IsTrue, refl, sym, ap, ap₂, subst, ◌∙◌, arith}
 use Rattle.std.proofs.lemmas.Option.{same_Some}
 use Rattle.std.proofs.lemmas.List.{take_all}
 use Rattle.std.proofs.lemmas.Bool.{false_from_ne_true, ltb-true, lt-ltb}
@@ -7,31 +7,30 @@ use Rattle.tardis_base.specs.declared.ids.StateId.{StateId}
 use Rattle.tardis_base.specs.declared.ids.Slot.{Slot}
 use Rattle.tardis_base.specs.declared.records.Record.{Record}
 use Rattle.tardis_base.specs.Ids.{is_among}
-use Rattle.tardis_base.specs.declared.replies.Refusal.TheVariants.{TxnOpen, TooMany, Unknown, Below, Comparable}
+use Rattle.tardis_base.specs.declared.replies.Refusal.TheVariants.{TooMany, Unknown, Below, Comparable}
 use Rattle.tardis_base.specs.declared.replies.Reply.TheVariants.{Refused, Merging}
-use Rattle.tardis_base.specs.declared.requests.MergeOf.{MergeOf}
 use Rattle.plain_dag.specs.Above.{is_proper_ancestor, comparable_pair}
 use Rattle.plain_dag.specs.Floors.{Session}
 use Rattle.plain_dag.specs.Entries.{entry_of, with_entry}
 use Rattle.state_dag.specs.Table.{Table, id_at}
 use Rattle.state_dag.specs.Stands.{Stands}
-use Rattle.ceiling_book.specs.Book.{Book, sessions_of, is_open}
+use Rattle.ceiling_book.specs.Book.{Book, sessions_of}
 use Rattle.ceiling_book.specs.Places.{ArePlaced}
 use Rattle.begin_rule.specs.declared.merges.MergeFault.{MergeFault}
 use Rattle.begin_rule.specs.declared.merges.MergeFault.TheVariants.{Unknown as OneUnknown, Below as OneBelow, Comparable as AreComparable, NoMemory as OutOfMemory}
 use Rattle.begin_rule.specs.Choices.{ChosenAllAs}
 use Rattle.merge_txn.specs.declared.Txn.TheVariants.{Merge as KeptMerge}
-use Rattle.plain_site.specs.Site.{Site, Merge}
+use Rattle.plain_site.specs.Site.{Site}
 use Rattle.plain_site.specs.Built.{so_far}
 use Rattle.plain_site.specs.Sound.{IsSound}
-use Rattle.plain_site.specs.Answers.{Answer, refused, refuse_found, unless, without_txn}
+use Rattle.plain_site.specs.Answers.{Answer, refused, refuse_found, unless}
 use Rattle.plain_site.specs.Merges.{in_order, merge_at, merging, first_unknown, first_below}
 use Rattle.merge_txn.specs.declared.Txn.{Txn as Kept}
 use Rattle.session_core.specs.Core.{Core}
 use Rattle.session_core.specs.Stands.{CoreStands}
 use Rattle.session_core.specs.Gives.{IsGiven, Stops}
 use Rattle.session_core.specs.Stops.{merge_stop}
-use Rattle.session_core.proofs.Answers.{skip, stop, as-given}
+use Rattle.session_core.proofs.Answers.{skip, stop}
 use Rattle.session_core.proofs.Standing.{txn-begun}
 use Rattle.session_core.proofs.Beginning.{collected-above}
 use Rattle.session_core.proofs.Ordering.{cons-parts}

@@ -1,7 +1,5 @@
 -- A transaction reads.
-use Rattle.std.proofs.Common.{◌≡◌, ℕ, Bool, true, false, List, [], Option, Some, None, Result, Ok, Err, IsTrue, refl, sym, ap, subst, ◌∙◌}
-use Rattle.std.specs.Prelude.{if◌then◌else◌}
-use Rattle.std.proofs.lemmas.Bool.{both_ways}
+use Rattle.std.proofs.Common.{◌≡◌, ℕ, Bool, true, false, List, [], Option, Some, None, Result, Ok, Err, refl, sym, ap, subst, ◌∙◌}
 use Rattle.std.proofs.lemmas.Option.{same_Some, none-some}
 use Rattle.tardis_base.specs.declared.ids.StateId.{StateId}
 use Rattle.tardis_base.specs.declared.records.Write.{Write}
@@ -12,8 +10,8 @@ use Rattle.tardis_base.specs.declared.replies.Reply.{Reply}
 use Rattle.tardis_base.specs.declared.replies.Reply.TheVariants.{Refused}
 use Rattle.std.specs.Result.{IsErrAnd}
 use Rattle.tardis_base.specs.Ids.{root}
-use Rattle.tardis_base.specs.Keys.{with_key, write_of}
-use Rattle.plain_dag.specs.Entries.{entry_of, changed}
+use Rattle.tardis_base.specs.Keys.{write_of}
+use Rattle.plain_dag.specs.Entries.{entry_of}
 use Rattle.plain_dag.specs.Writers.{read}
 use Rattle.plain_dag.specs.Conflicts.{is_conflict_key, value_over}
 use Rattle.state_dag.specs.Table.{Table}
@@ -24,8 +22,8 @@ use Rattle.merge_txn.specs.declared.SingleTxn.{SingleTxn as OneKept}
 use Rattle.merge_txn.specs.declared.MergeTxn.{MergeTxn as MergeKept}
 use Rattle.merge_txn.specs.declared.TxnFault.{TxnFault}
 use Rattle.merge_txn.specs.Txns.{reads_of, has_no_place_to_read, read_fault}
-use Rattle.plain_site.specs.Site.{Site, SingleTxn, MergeTxn, Txn, Single, Merge, with_txn_changed}
-use Rattle.plain_site.specs.Answers.{refused, refuse, unless, given, found, shown}
+use Rattle.plain_site.specs.Site.{Site, SingleTxn, MergeTxn, Single, Merge, with_txn_changed}
+use Rattle.plain_site.specs.Answers.{refused, given, found, shown}
 use Rattle.plain_site.specs.Reads.{get, read_in, having_read}
 use Rattle.session_core.specs.Core.{Core}
 use Rattle.session_core.specs.Stands.{CoreStands, txn_of}
@@ -35,7 +33,7 @@ use Rattle.session_core.specs.Reads.{ReadsAs}
 use Rattle.session_core.specs.Gives.{IsGiven, Stops, GivesOrStops}
 use Rattle.session_core.specs.declared.stops.Stop.{Stop}
 use Rattle.session_core.specs.Stops.{txn_stop}
-use Rattle.session_core.specs.Txns.{noting, IsNamed, NotedAs, ChangedAs, has_slots}
+use Rattle.session_core.specs.Txns.{noting, IsNamed, NotedAs, has_slots}
 use Rattle.session_core.proofs.Answers.{skip, stop, as-given, stopped}
 use Rattle.session_core.proofs.Standing.{txn-answer, txn-changed, same-txns}
 

@@ -1,5 +1,5 @@
 -- A transaction writes.
-use Rattle.std.proofs.Common.{◌≡◌, ℕ, Bool, true, false, List, [], Option, Some, None, Ok, Err, refl, sym, ap, subst, ◌∙◌}
+use Rattle.std.proofs.Common.{◌≡◌, ℕ, Bool, true, false, List, [], Some, Ok, Err, refl, sym, ap, subst, ◌∙◌}
 use Rattle.tardis_base.specs.declared.records.Write.{Write}
 use Rattle.tardis_base.specs.declared.replies.Refusal.TheVariants.{TooMany}
 use Rattle.tardis_base.specs.declared.replies.Reply.TheVariants.{Refused, Done}
@@ -12,7 +12,7 @@ use Rattle.merge_txn.specs.Txns.{writes_of, has_no_place_to_write, put_fault}
 use Rattle.plain_site.specs.Site.{Site, writes_of as plain_writes, with_txn_changed}
 use Rattle.plain_site.specs.Built.{so_far}
 use Rattle.plain_site.specs.Sound.{IsSound}
-use Rattle.plain_site.specs.Answers.{Answer, refused, with_txn}
+use Rattle.plain_site.specs.Answers.{Answer, with_txn}
 use Rattle.plain_site.specs.Reads.{set_key, having_written}
 use Rattle.session_core.specs.Core.{Core}
 use Rattle.session_core.specs.Txns.{putting, IsNamed, PutAs, has_slots}

@@ -4,7 +4,7 @@ use Rattle.std.specs.Option.{option_map}
 use Rattle.std.proofs.lemmas.Bool.{and_from, both_ways, not-true, not_from_false, false_from_ne_true}
 use Rattle.std.proofs.lemmas.Option.{none-some, same_Some}
 use Rattle.tardis_base.specs.declared.ids.StateId.{StateId}
-use Rattle.tardis_base.specs.Ids.{root, is_among}
+use Rattle.tardis_base.specs.Ids.{is_among}
 use Rattle.plain_dag.specs.States.{is_known, count_of_site}
 use Rattle.plain_dag.specs.Above.{is_proper_ancestor}
 use Rattle.plain_dag.specs.Writers.{read}

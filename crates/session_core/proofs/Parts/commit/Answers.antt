@@ -1,9 +1,9 @@
-use Rattle.std.proofs.Common.{◌≡◌, ◌∙◌, [], Some, map, sym, ap, subst}
+use Rattle.std.proofs.Common.{◌∙◌, [], map, sym, ap, subst}
 use Rattle.tardis_base.specs.Keys.{keys_of}
 use Rattle.plain_dag.specs.Landing.{landing, guarded}
 use Rattle.state_dag.specs.Table.{id_at}
 use Rattle.merge_txn.specs.declared.Txn.TheVariants.{Single as KeptSingle, Merge as KeptMerge}
-use Rattle.plain_site.specs.Site.{SingleTxn, MergeTxn, Single, Merge}
+use Rattle.plain_site.specs.Site.{SingleTxn, MergeTxn, Merge}
 use Rattle.plain_site.specs.Built.{so_far}
 use Rattle.plain_site.specs.Answers.{with_txn}
 use Rattle.plain_site.specs.Commits.{commit, commit_at, commit_below}

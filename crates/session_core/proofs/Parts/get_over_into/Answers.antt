@@ -1,11 +1,6 @@
-use Rattle.std.proofs.Common.{◌≡◌, ap}
+use Rattle.std.proofs.Common.{ap}
 use Rattle.version_list.specs.Reads.{found as found_write}
 use Rattle.plain_site.specs.Answers.{Answer, found}
-use Rattle.plain_site.specs.Built.{so_far}
-use Rattle.plain_site.specs.Site.{Site}
-use Rattle.plain_site.specs.Sound.{IsSound}
-use Rattle.session_core.specs.Machine.{reading}
-use Rattle.session_core.specs.Stands.{CoreStands}
 use Rattle.session_core.proofs.Getting.{read-told}
 use Rattle.session_core.proofs.Reading.{merge-found}
 use Rattle.session_core.proofs.Parts.get_over_into.Goals as goal

@@ -1,4 +1,4 @@
-use Rattle.std.proofs.Common.{◌≡◌, ◌∙◌, Some, None, sym, ap, subst}
+use Rattle.std.proofs.Common.{◌∙◌, Some, None, sym, ap, subst}
 use Rattle.std.specs.Option.{option_copied_mut}
 use Rattle.merge_txn.specs.Txns.{has_no_place_to_read, reads_of, too_many_reads}
 use Rattle.session_core.specs.Txns.{NotedAs, noting}
