@@ -1,21 +1,10 @@
 -- What a transaction holds, and when it is full.
-use Rattle.std.specs.Prelude.{ℕ, Bool, true, false, ◌==◌, ◌&&◌, not, List, [], if◌then◌else◌, length}
-use Rattle.tardis_base.specs.declared.ids.StateId.{StateId}
+use Rattle.std.specs.Prelude.{ℕ, Bool, ◌==◌, ◌&&◌, not, List, [], if◌then◌else◌, length}
 use Rattle.tardis_base.specs.Keys.{KeyWrite, is_key_among, has_key}
 use Rattle.merge_txn.specs.declared.Txn.{Txn}
 use Rattle.merge_txn.specs.declared.Txn.TheVariants.{Single, Merge}
 use Rattle.merge_txn.specs.declared.TxnFault.{TxnFault}
 use Rattle.merge_txn.specs.declared.TxnFault.TheVariants.{TooMany, NoMemory}
-
--- it is a single transaction, no merge
-abbrev pub is_single : Txn → Bool
-is_single (Single t) = true
-is_single (Merge t) = false
-
--- the states that it reads
-abbrev pub states_of : Txn → List StateId
-states_of (Single t) = t.states
-states_of (Merge t) = t.states
 
 -- what it writes, by ascending keys
 abbrev pub writes_of : Txn → List KeyWrite

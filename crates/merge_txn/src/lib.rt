@@ -4,10 +4,12 @@
 ghost use Rattle.std.specs.Prelude.{◌≡◌, ◌≤◌, ◌==◌, ◌&&◌, ◌↔◌, not, [], ◌∷◌, length, if◌then◌else◌, IsTrue, IsOk, IfOk, IfErr, OnOk, OnErr};
 ghost use Rattle.std.specs.Option.{option_copied};
 ghost use Rattle.tardis_base.specs.Keys.{is_key_among, has_key, with_key, write_of, with_write};
-ghost use Rattle.merge_txn.specs.Txns.{is_single, states_of, writes_of, reads_of, with_writes, with_reads, has_no_place_to_write, has_no_place_to_read, too_many_writes, too_many_reads, put_fault, read_fault};
+ghost use Rattle.merge_txn.specs.Txns.{writes_of, reads_of, with_writes, with_reads, has_no_place_to_write, has_no_place_to_read, too_many_writes, too_many_reads, put_fault, read_fault};
 
 use std::alloc::Global;
-use tardis_base::{Key, KeySet, NoMemory, StateId, StateList, Write, WriteSet};
+use std::error::Error;
+use std::{fmt, mem};
+use tardis_base::{Key, KeySet, ListOf, NoMemory, Slot, StateId, StateList, Write, WriteSet};
 
 /// How many keys a transaction may write.
 pub const MAX_WRITES: usize = 64;
@@ -18,8 +20,9 @@ pub const MAX_READS: usize = 256;
 /// A single transaction: it reads one state, and notes what it reads.
 #[derive(Debug, Drop)]
 pub struct SingleTxn {
-    /// The state that it reads, alone.
-    pub states: StateList,
+    pub state: StateId,
+    /// Where the state is kept, so that no read looks it up.
+    pub slot: Slot,
     pub reads: KeySet,
     pub writes: WriteSet,
 }
@@ -28,6 +31,8 @@ pub struct SingleTxn {
 #[derive(Debug, Drop)]
 pub struct MergeTxn {
     pub states: StateList,
+    /// Where the states are kept, in their order, so that no read looks one up.
+    pub slots: ListOf<Slot>,
     pub writes: WriteSet,
 }
 
@@ -47,47 +52,27 @@ pub enum TxnFault {
 }
 
 impl Txn {
-    /// A transaction that reads this state.
-    pub fn single(alloc: Global, read: StateId) -> Result<Txn, NoMemory>
-        ensures { IfOk result (λ txn. txn ≡ Txn.Single (record { states = read ∷ []; reads = []; writes = [] })) }
+    /// A transaction that reads the state, which is kept at the slot. It takes no memory.
+    pub fn single(alloc: Global, state: StateId, slot: Slot) -> Txn
+        ensures { result ≡ Txn.Single (record { state = state; slot = slot; reads = []; writes = [] }) }
     {
-        let mut states = StateList::new(alloc);
-        states.push(read)?;
-        Ok(Txn::Single(SingleTxn {
-            states,
+        Txn::Single(SingleTxn {
+            state,
+            slot,
             reads: KeySet::new(alloc),
-            writes: WriteSet::new(alloc),
-        }))
-    }
-
-    /// A transaction that merges these states. It takes no memory.
-    pub fn merge(alloc: Global, states: StateList) -> Txn
-        ensures { result ≡ Txn.Merge (record { states = states; writes = [] }) }
-    {
-        Txn::Merge(MergeTxn {
-            states,
             writes: WriteSet::new(alloc),
         })
     }
 
-    /// Whether it merges states, and so notes no reads.
-    pub fn is_merge(&self) -> bool
-        ensures { result ≡ not (is_single self.now) }
+    /// A transaction that merges the states, which are kept at the slots. It takes no memory.
+    pub fn merge(alloc: Global, states: StateList, slots: ListOf<Slot>) -> Txn
+        ensures { result ≡ Txn.Merge (record { states = states; slots = slots; writes = [] }) }
     {
-        match self {
-            Txn::Single(_) => false,
-            Txn::Merge(_) => true,
-        }
-    }
-
-    /// The states that it reads.
-    pub fn states(&self) -> &StateList
-        ensures { result.now ≡ states_of self.now }
-    {
-        match self {
-            Txn::Single(txn) => &txn.states,
-            Txn::Merge(txn) => &txn.states,
-        }
+        Txn::Merge(MergeTxn {
+            states,
+            slots,
+            writes: WriteSet::new(alloc),
+        })
     }
 
     /// What it has written so far.
@@ -109,14 +94,14 @@ impl Txn {
 
     /// Takes the write, in place of what was written to the key. On a fault the transaction is as before, and the write is dropped.
     ///
-    /// The key is copied. The cost grows with the logarithm of the number of written keys, and for a new key with the number
-    /// of those behind its place.
-    pub fn put(&mut self, key: &Key, write: Write) -> Result<(), TxnFault>
-        ensures put { OnOk result (self.new ≡ with_writes (with_write key.now write (writes_of self.old)) self.old) }
+    /// Key and write are moved in. The cost grows with the logarithm of the number of written keys, and for a new key with
+    /// the number of those behind its place.
+    pub fn put(&mut self, key: Key, write: Write) -> Result<(), TxnFault>
+        ensures put { OnOk result (self.new ≡ with_writes (with_write key write (writes_of self.old)) self.old) }
         ensures same { OnErr result (self.new ≡ self.old) }
         ensures few { length (writes_of self.old) ≤ 64 → length (writes_of self.new) ≤ 64 }
-        ensures full { (result ≡ Err too_many_writes) ↔ IsTrue (has_no_place_to_write key.now (writes_of self.old)) }
-        ensures fault { IfErr result (λ fault. fault ≡ put_fault key.now (writes_of self.old)) }
+        ensures full { (result ≡ Err too_many_writes) ↔ IsTrue (has_no_place_to_write key (writes_of self.old)) }
+        ensures fault { IfErr result (λ fault. fault ≡ put_fault key (writes_of self.old)) }
     {
         match self {
             Txn::Single(txn) => put_write(&mut txn.writes, key, write),
@@ -124,12 +109,12 @@ impl Txn {
         }
     }
 
-    /// Notes that the key is read. A key that is noted takes no memory, and on a fault the transaction is as before.
+    /// Notes that the key is read; a merge notes none. A key that is noted takes no memory, and on a fault the transaction
+    /// is as before.
     ///
     /// A new key is copied. The cost grows with the logarithm of the number of noted keys, and for a new key with the number
     /// of those behind its place.
     pub fn note_read(&mut self, key: &Key) -> Result<(), TxnFault>
-        requires { IsTrue (is_single self.old) }
         ensures noted { OnOk result (self.new ≡ with_reads (with_key key.now (reads_of self.old)) self.old) }
         ensures same { OnErr result (self.new ≡ self.old) }
         ensures known { IsTrue (is_key_among key.now (reads_of self.old)) → IsOk result }
@@ -139,34 +124,44 @@ impl Txn {
     {
         match self {
             Txn::Single(txn) => note_key(&mut txn.reads, key),
-            Txn::Merge(_) => unreachable!(),
+            Txn::Merge(_) => Ok(()),
         }
     }
 
-    /// The keys whose reads are noted.
-    pub fn reads(&self) -> &KeySet
-        requires { IsTrue (is_single self.now) }
-        ensures { result.now ≡ reads_of self.now }
+    /// What it has written is taken out, and it has written nothing. It takes no memory.
+    pub fn take_writes(&mut self, alloc: Global) -> WriteSet
+        ensures taken { result ≡ writes_of self.old }
+        ensures left { self.new ≡ with_writes [] self.old }
     {
         match self {
-            Txn::Single(txn) => &txn.reads,
-            Txn::Merge(_) => unreachable!(),
+            Txn::Single(txn) => mem::replace(&mut txn.writes, WriteSet::new(alloc)),
+            Txn::Merge(txn) => mem::replace(&mut txn.writes, WriteSet::new(alloc)),
+        }
+    }
+
+    /// It has written this, in place of what it had. It takes no memory.
+    pub fn set_writes(&mut self, writes: WriteSet)
+        ensures { self.new ≡ with_writes writes self.old }
+    {
+        match self {
+            Txn::Single(txn) => txn.writes = writes,
+            Txn::Merge(txn) => txn.writes = writes,
         }
     }
 }
 
 /// Takes the write among these.
-fn put_write(writes: &mut WriteSet, key: &Key, write: Write) -> Result<(), TxnFault>
-    ensures put { OnOk result (writes.new ≡ with_write key.now write writes.old) }
+fn put_write(writes: &mut WriteSet, key: Key, write: Write) -> Result<(), TxnFault>
+    ensures put { OnOk result (writes.new ≡ with_write key write writes.old) }
     ensures same { OnErr result (writes.new ≡ writes.old) }
     ensures few { length writes.old ≤ 64 → length writes.new ≤ 64 }
-    ensures full { (result ≡ Err too_many_writes) ↔ IsTrue (has_no_place_to_write key.now writes.old) }
-    ensures fault { IfErr result (λ fault. fault ≡ put_fault key.now writes.old) }
+    ensures full { (result ≡ Err too_many_writes) ↔ IsTrue (has_no_place_to_write key writes.old) }
+    ensures fault { IfErr result (λ fault. fault ≡ put_fault key writes.old) }
 {
-    if writes.len() == MAX_WRITES && !writes.contains(key) {
+    if writes.len() == MAX_WRITES && !writes.contains(&key) {
         return Err(TxnFault::TooMany { what: 1, n: 65 });
     }
-    writes.insert(key.copy()?, write)?;
+    writes.insert(key, write)?;
     Ok(())
 }
 
@@ -189,6 +184,28 @@ fn note_key(reads: &mut KeySet, key: &Key) -> Result<(), TxnFault>
     reads.insert(key.copy()?)?;
     Ok(())
 }
+
+impl fmt::Display for TxnFault {
+    fn fmt<W: fmt::Write>(&self, f: &mut fmt::Formatter<W>) -> fmt::Result {
+        match self {
+            TxnFault::TooMany { what: 1, n } => {
+                write!(
+                    f,
+                    "the transaction would write {n} keys, one more than it may"
+                )
+            },
+            TxnFault::TooMany { n, .. } => {
+                write!(
+                    f,
+                    "the transaction would read {n} keys, one more than it may"
+                )
+            },
+            TxnFault::NoMemory => write!(f, "out of memory"),
+        }
+    }
+}
+
+impl Error for TxnFault {}
 
 impl From<NoMemory> for TxnFault {
     ghost use Rattle.std.specs.Prelude.{◌≡◌};

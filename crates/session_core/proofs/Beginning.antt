@@ -1,11 +1,10 @@
 -- A transaction begins.
-use Rattle.std.proofs.Common.{◌≡◌, ℕ, true, not, List, [], ◌∷◌, is_some, Some, None, Ok, Err, IsTrue, refl, sym, ap, ap₂, subst, ◌∙◌}
-use Rattle.std.specs.List.{list_all}
+use Rattle.std.proofs.Common.{◌≡◌, ℕ, not, List, [], ◌∷◌, Some, None, Ok, Err, IsTrue, refl, sym, ap, ap₂, subst, ◌∙◌}
 use Rattle.std.proofs.lemmas.Option.{same_Some}
-use Rattle.std.proofs.lemmas.Bool.{and_from, not_from_false, not_from_true}
+use Rattle.std.proofs.lemmas.Bool.{not_from_false, not_from_true}
 use Rattle.tardis_base.specs.declared.ids.StateId.{StateId}
 use Rattle.tardis_base.specs.declared.ids.Slot.{Slot}
-use Rattle.tardis_base.specs.declared.replies.Refusal.TheVariants.{TxnOpen, Unknown, Below}
+use Rattle.tardis_base.specs.declared.replies.Refusal.TheVariants.{Unknown, Below}
 use Rattle.tardis_base.specs.declared.replies.Reply.TheVariants.{Refused, Begun}
 use Rattle.tardis_base.specs.declared.requests.Begin.{Begin}
 use Rattle.tardis_base.specs.Ids.{is_among}
@@ -15,25 +14,25 @@ use Rattle.plain_dag.specs.Begin.{is_admitted, begin_state}
 use Rattle.plain_dag.specs.Entries.{entry_of, with_entry}
 use Rattle.plain_dag.specs.Floors.{Session}
 use Rattle.plain_dag.proofs.Collected.{proper-above}
-use Rattle.state_dag.specs.Table.{Table, id_at, is_slot}
+use Rattle.state_dag.specs.Table.{id_at}
 use Rattle.merge_txn.specs.declared.Txn.{Txn as Kept}
 use Rattle.merge_txn.specs.declared.Txn.TheVariants.{Single as KeptSingle}
-use Rattle.ceiling_book.specs.Book.{is_open}
+use Rattle.begin_rule.specs.declared.BeginFault.{BeginFault}
 use Rattle.begin_rule.specs.declared.BeginFault.TheVariants.{Unknown as IsUnknown, Below as IsBelow}
 use Rattle.begin_rule.specs.Choices.{ChosenAs}
-use Rattle.plain_site.specs.Site.{Site, Single, own_floor}
+use Rattle.plain_site.specs.Site.{Site, own_floor}
 use Rattle.plain_site.specs.Built.{Built}
 use Rattle.plain_site.specs.Sound.{IsSound}
-use Rattle.plain_site.specs.Answers.{refused, refuse, without_txn}
+use Rattle.plain_site.specs.Answers.{refuse, without_txn}
 use Rattle.plain_site.specs.Sessions.{begin, begun}
 use Rattle.plain_site.proofs.SoundBooks.{open-session as sound-session}
 use Rattle.plain_site.proofs.SoundCommits.{closed-above_own}
-use Rattle.session_core.specs.declared.transactions.OpenTxn.{OpenTxn}
 use Rattle.session_core.specs.Core.{Core}
 use Rattle.session_core.specs.Stands.{CoreStands}
-use Rattle.session_core.specs.Gives.{IsGiven}
-use Rattle.session_core.proofs.Answers.{skip, stop, as-given}
-use Rattle.session_core.proofs.Standing.{there, open-session, kept-for, none-kept, no-txn-answer, txn-in-the-way, txn-begun}
+use Rattle.session_core.specs.Gives.{IsGiven, Stops}
+use Rattle.session_core.specs.Stops.{begin_stop}
+use Rattle.session_core.proofs.Answers.{skip, stop}
+use Rattle.session_core.proofs.Standing.{none-kept, no-txn-answer, txn-begun}
 
 -- a collected state is a proper ancestor of each ceiling
 pub collected-above : (built : Built) (site : Site) (n : ℕ) (s : Session) → IsSound built site → entry_of n site.sessions ≡ Some s →
@@ -41,39 +40,16 @@ pub collected-above : (built : Built) (site : Site) (n : ℕ) (s : Session) → 
 collected-above built site n s sound is x among =
     proper-above site.dag sound.dag x (own_floor site).state s.ceiling (closed-above_own built site x sound (sound.collected.closed x among)) (sound-session built site n s sound is).1
 
--- the transaction that is kept for one that begins at x
-abbrev pub beginning : StateId → List Slot → OpenTxn
-beginning x slots = record { txn = KeptSingle (record { states = x ∷ []; reads = []; writes = [] }); slots = slots }
-
 -- it begins
-pub begins : (core : Core) (site : Site) → CoreStands core site → (n : ℕ) (x : StateId) (slot : Slot) (es : List (ℕ × OpenTxn)) → id_at core.store.table slot ≡ Some x →
-    es ≡ with_entry n (beginning x (slot ∷ [])) core.txns → IsGiven (CoreStands (record core { txns = es })) (begun site n x) (Begun x)
-begins core site stands n x slot es named e =
-    (txn-begun core site stands n (Single (record { state = x; reads = []; writes = [] })) (beginning x (slot ∷ [])) es e refl (ap (λ o. o ∷ []) named), refl)
-
-pub begins-at : (core : Core) (site : Site) → CoreStands core site → (n : ℕ) (x y : StateId) (slot : Slot) (h : OpenTxn) (es : List (ℕ × OpenTxn)) → id_at core.store.table slot ≡ Some x →
-    id_at core.store.table slot ≡ Some y → h.txn ≡ KeptSingle (record { states = y ∷ []; reads = []; writes = [] }) → h.slots ≡ slot ∷ [] → es ≡ with_entry n h core.txns →
-    IsGiven (CoreStands (record core { txns = es })) (begun site n x) (Begun y)
-begins-at core site stands n x y slot h es named named_too txn slots e =
+pub begins-at : (core : Core) (site : Site) → CoreStands core site → (n : ℕ) (x y : StateId) (slot : Slot) (es : List (ℕ × Kept)) → id_at core.store.table slot ≡ Some x → id_at core.store.table slot ≡ Some y →
+    es ≡ with_entry n (KeptSingle (record { state = y; slot = slot; reads = []; writes = [] })) core.txns → IsGiven (CoreStands (record core { txns = es })) (begun site n x) (Begun y)
+begins-at core site stands n x y slot es named named_too e =
     let same : y ≡ x = same_Some y x (sym named_too ∙ named) in
-    let whole : h ≡ beginning y (slot ∷ []) = ap₂ (λ (t : Kept) (ss : List Slot). record { txn = t; slots = ss }) txn slots in
     subst (λ z. IsGiven (CoreStands (record core { txns = es })) (begun site n z) (Begun y)) same
-    (begins core site stands n y slot es named_too (e ∙ ap (λ o. with_entry n o core.txns) whole))
+    (txn-begun core site stands n (KeptSingle (record { state = y; slot = slot; reads = []; writes = [] })) es e named_too, refl)
 
--- the only slot is one of the table's
-pub only-slot : (table : Table) (slot : Slot) (ss : List Slot) → ss ≡ slot ∷ [] → IsTrue (is_slot table slot) → IsTrue (list_all (is_slot table) ss)
-only-slot table slot ss e t = subst (λ z. IsTrue (list_all (is_slot table) z)) (sym e) (and_from (is_slot table slot) true t refl)
-
-module _ (core : Core) (site : Site) (stands : CoreStands core site) (n : ℕ) (b : Begin) (opened : is_open core.book n ≡ true) where
-  -- a transaction is in the way
-  pub begin-refused : is_some (entry_of n core.txns) ≡ true → IsGiven (CoreStands core) (without_txn site n (λ s. begin site n s b)) (Refused TxnOpen)
-  begin-refused some =
-      let s = open-session core site stands n opened in
-      let h = there (entry_of n core.txns) some in
-      let k = kept-for core site stands n h.value h.is in
-      as-given (CoreStands core) (without_txn site n (λ r. begin site n r b)) (refused site TxnOpen) (Refused TxnOpen) (txn-in-the-way site n (λ r. begin site n r b) s.value k.txn s.is k.found) (stands, refl)
-
-  module _ (s : Session) (is : entry_of n site.sessions ≡ Some s) (none : entry_of n core.txns ≡ None) where
+module _ (core : Core) (site : Site) (stands : CoreStands core site) (n : ℕ) (b : Begin) (none : entry_of n core.txns ≡ None) where
+  module _ (s : Session) (is : entry_of n site.sessions ≡ Some s) where
     is-begin : without_txn site n (λ r. begin site n r b) ≡ begin site n s b
     is-begin = no-txn-answer site n (λ r. begin site n r b) s is (none-kept core site stands n none)
 
@@ -90,24 +66,22 @@ module _ (core : Core) (site : Site) (stands : CoreStands core site) (n : ℕ) (
         ∙ skip site (Refused (Below at s.ceiling)) [] (begun site n at)
         (not (is_admitted site.dag s.ceiling at)) (not_from_true (is_admitted site.dag s.ceiling at) admitted)
 
-    pub begin-unknown : (y : StateId) → ChosenAs core.store.table site.dag s.ceiling at (Err (IsUnknown y)) →
-        IsGiven (CoreStands core) (without_txn site n (λ r. begin site n r b)) (Refused (Unknown y))
-    begin-unknown y (same, unknown) =
-        as-given (CoreStands core) (without_txn site n (λ r. begin site n r b)) (refused site (Unknown at)) (Refused (Unknown y))
-        (is-begin
-        ∙ stop site (Refused (Unknown at))
-        (refuse (not (is_admitted site.dag s.ceiling at)) (Below at s.ceiling) ∷ []) (begun site n at)
-        (not (is_known site.dag at)) (not_from_false (is_known site.dag at) unknown))
-        (stands, ap (λ z. Refused (Unknown z)) same)
-
-    pub begin-below : (y d : StateId) → ChosenAs core.store.table site.dag s.ceiling at (Err (IsBelow y d)) →
-        IsGiven (CoreStands core) (without_txn site n (λ r. begin site n r b)) (Refused (Below y d))
-    begin-below y d (same, ceiling, is_known_one, not_admitted) =
-        as-given (CoreStands core) (without_txn site n (λ r. begin site n r b)) (refused site (Below at s.ceiling)) (Refused (Below y d))
-        (is-begin
-        ∙ skip site (Refused (Unknown at))
-        (refuse (not (is_admitted site.dag s.ceiling at)) (Below at s.ceiling) ∷ []) (begun site n at)
-        (not (is_known site.dag at)) (not_from_true (is_known site.dag at) is_known_one)
-        ∙ stop site (Refused (Below at s.ceiling)) [] (begun site n at)
-        (not (is_admitted site.dag s.ceiling at)) (not_from_false (is_admitted site.dag s.ceiling at) not_admitted))
-        (stands, ap (λ z. Refused (Below z d)) same ∙ ap (λ z. Refused (Below at z)) ceiling)
+    pub begin-stops : (fault : BeginFault) → ChosenAs core.store.table site.dag s.ceiling at (Err fault) → Stops (CoreStands core) (without_txn site n (λ r. begin site n r b)) site (begin_stop fault)
+    begin-stops (IsUnknown y) (same, unknown) = (
+      stands,
+      is-begin
+          ∙ stop site (Refused (Unknown at))
+          (refuse (not (is_admitted site.dag s.ceiling at)) (Below at s.ceiling) ∷ []) (begun site n at)
+          (not (is_known site.dag at)) (not_from_false (is_known site.dag at) unknown)
+          ∙ ap (λ z. (site, Refused (Unknown z))) (sym same),
+    )
+    begin-stops (IsBelow y d) (same, ceiling, is_known_one, not_admitted) = (
+      stands,
+      is-begin
+          ∙ skip site (Refused (Unknown at))
+          (refuse (not (is_admitted site.dag s.ceiling at)) (Below at s.ceiling) ∷ []) (begun site n at)
+          (not (is_known site.dag at)) (not_from_true (is_known site.dag at) is_known_one)
+          ∙ stop site (Refused (Below at s.ceiling)) [] (begun site n at)
+          (not (is_admitted site.dag s.ceiling at)) (not_from_false (is_admitted site.dag s.ceiling at) not_admitted)
+          ∙ ap₂ (λ z w. (site, Refused (Below z w))) (sym same) (sym ceiling),
+    )

@@ -1,15 +1,17 @@
 -- A transaction commits.
-use Rattle.std.proofs.Common.{◌≡◌, ◌≢◌, ℕ, ◌+◌, ◌≤◌, true, false, ◌==◌, List, [], ◌∷◌, map, filter_map, length, Option, Some, None, IsTrue, IsFalse, refl, sym, ap, ap₂, subst, ◌∙◌, arith}
+use Rattle.std.proofs.Common.{◌≡◌, ◌≢◌, ℕ, ◌+◌, ◌≤◌, true, false, ◌==◌, List, [], ◌∷◌, map, filter_map, length, Option, Some, None, Err, IsTrue, IsFalse, refl, sym, ap, ap₂, subst, ◌∙◌, arith}
 use Rattle.std.specs.Option.{option_map}
+use Rattle.std.specs.Prelude.{min}
 use Rattle.std.proofs.lemmas.Option.{same_Some}
 use Rattle.std.proofs.lemmas.Bool.{and_parts, both_ways, false_from_ne_true, ne_eqb}
+use Rattle.tardis_base.specs.declared.faults.AddFault.{AddFault}
+use Rattle.tardis_base.specs.declared.faults.AddFault.TheVariants.{Full, PathFull, NoMemory as OutOfMemory}
 use Rattle.tardis_base.specs.declared.ids.StateId.{StateId}
 use Rattle.tardis_base.specs.declared.ids.Slot.{Slot}
 use Rattle.tardis_base.specs.declared.records.Record.{Record}
 use Rattle.tardis_base.specs.declared.requests.EndFlags.{EndFlags}
 use Rattle.tardis_base.specs.declared.replies.Refusal.{Refusal}
-use Rattle.tardis_base.specs.declared.replies.Refusal.TheVariants.{SeqEnd, Branches as AreBranches}
-use Rattle.tardis_base.specs.declared.replies.Reply.{Reply}
+use Rattle.tardis_base.specs.declared.replies.Refusal.TheVariants.{SeqEnd, Branches as AreBranches, Full as IsFull, PathFull as IsPathFull}
 use Rattle.tardis_base.specs.declared.replies.Reply.TheVariants.{Refused, Ended, Committed}
 use Rattle.tardis_base.specs.Ids.{is_among}
 use Rattle.tardis_base.specs.Keys.{KeyWrite, keys_of}
@@ -25,29 +27,34 @@ use Rattle.state_dag.specs.Answers.{KeepsSlots, MayBeAdded}
 use Rattle.state_dag.specs.Stands.{Stands}
 use Rattle.record_store.specs.Store.{Store}
 use Rattle.record_store.specs.Stands.{StoreStands}
-use Rattle.record_store.specs.Answers.{MayArrive}
-use Rattle.merge_txn.specs.Txns.{states_of, reads_of, writes_of as kept_writes}
-use Rattle.ceiling_book.specs.Book.{Book, known_floor, sessions_of, is_open}
+use Rattle.record_store.specs.Answers.{AddedIn, MayArrive}
+use Rattle.end_rule.specs.declared.Branches.{Branches}
+use Rattle.end_rule.specs.Checks.{CheckedAs}
+use Rattle.merge_txn.specs.declared.Txn.{Txn as Kept}
+use Rattle.merge_txn.specs.declared.Txn.TheVariants.{Single as KeptSingle, Merge as KeptMerge}
+use Rattle.merge_txn.specs.Txns.{writes_of as kept_writes}
+use Rattle.session_core.specs.Txns.{IsNamed}
+use Rattle.ceiling_book.specs.Book.{Book, known_floor, sessions_of}
 use Rattle.ceiling_book.specs.Places.{AreSlots, ArePlaced}
 use Rattle.ceiling_book.specs.Answers.{KeepsRest}
-use Rattle.plain_site.specs.Site.{Site, SingleTxn, Txn, Single, Merge, own_count, next_id, writes_of, next_record}
+use Rattle.plain_site.specs.Site.{Site, SingleTxn, Txn, Single, own_count, next_id, writes_of, next_record}
 use Rattle.plain_site.specs.Built.{so_far}
 use Rattle.plain_site.specs.Sound.{IsSound}
-use Rattle.plain_site.specs.Answers.{Answer, refused, refuse_found, unless, with_txn}
-use Rattle.plain_site.specs.Commits.{without_txn_of, growth_refusals, committed, commit_below, commit_writes, commit_single, commit}
+use Rattle.plain_site.specs.Answers.{Answer, refused, refuse_found}
+use Rattle.plain_site.specs.Commits.{without_txn_of, growth_refusals, committed, commit_below, commit_at, commit_writes, commit_single}
 use Rattle.plain_site.proofs.SoundHistories.{above-closed}
 use Rattle.plain_site.proofs.SoundBooks.{own-is_site}
 use Rattle.plain_site.proofs.SoundCommits.{MayJoin, own-next, single-joins, admitted-isnt_closed}
 use Rattle.plain_site.proofs.RepliesSound.{limits-within}
 use Rattle.session_core.specs.declared.Parts.TheInside.{Inside}
-use Rattle.session_core.specs.declared.transactions.OpenTxn.{OpenTxn}
 use Rattle.session_core.specs.Core.{Core}
 use Rattle.session_core.specs.Held.{IsHeld}
-use Rattle.session_core.specs.Stands.{CoreStands, kept_txn}
-use Rattle.session_core.specs.Gives.{IsGiven}
-use Rattle.session_core.proofs.Answers.{skip, as-given}
-use Rattle.session_core.proofs.Standing.{open-session, txn-answer, txn-ended}
-use Rattle.session_core.proofs.Growing.{slots-stay, names-stay}
+use Rattle.session_core.specs.Stands.{CoreStands, txn_of}
+use Rattle.session_core.specs.Gives.{IsGiven, Stops}
+use Rattle.session_core.specs.Stops.{add_stop}
+use Rattle.session_core.proofs.Answers.{skip, skip-found, stop-found, as-given}
+use Rattle.session_core.proofs.Standing.{txn-ended}
+use Rattle.session_core.proofs.Growing.{txn-slots-stay, txn-names-stay}
 use Rattle.session_core.proofs.Memory.{ended-held}
 
 -- ===== Another store
@@ -65,21 +72,21 @@ same-table-stands core site store stands same store_stands =
       floors = stands.floors;
       placed = subst (λ t. ArePlaced core.book t site.dag site.collected) back stands.placed;
       txns = stands.txns;
-      slots = λ n h e. subst (λ t. map (id_at t) h.slots ≡ map (λ x. Some x) (states_of h.txn)) back (stands.slots n h e);
+      slots = λ n h e. subst (λ t. IsNamed t h) back (stands.slots n h e);
     }
 
 -- a table that has grown
-pub grown-held : (a : Inside) (store : Store) (book : Book) (n : ℕ) (es : List (ℕ × OpenTxn)) → IsHeld a → KeepsSlots a.store.table store.table → store.table.limits ≡ a.store.table.limits →
+pub grown-held : (a : Inside) (store : Store) (book : Book) (n : ℕ) (es : List (ℕ × Kept)) → IsHeld a → KeepsSlots a.store.table store.table → store.table.limits ≡ a.store.table.limits →
     KeepsRest a.book book → AreSlots book store.table → es ≡ without_entry n a.txns → IsHeld (record a { store = store; book = book; txns = es })
 grown-held a store book n es held keeps limits rest slots e =
     ended-held (record a { store = store; book = book })
     (record {
       places = slots;
-      slots = λ m h f. slots-stay a.store.table store.table keeps h.slots (held.slots m h f);
+      slots = λ m h f. txn-slots-stay a.store.table store.table keeps h (held.slots m h f);
       floors = ap (λ fs. length (map known_floor fs)) rest.floors ∙ held.floors ∙ ap (λ l. l.sites) (sym limits);
     }) n es e
 
-pub grown-stands : (core : Core) (site : Site) (r : Record) (store : Store) (book : Book) (n : ℕ) (es : List (ℕ × OpenTxn)) → CoreStands core site → StoreStands store (r ∷ site.dag) site.collected →
+pub grown-stands : (core : Core) (site : Site) (r : Record) (store : Store) (book : Book) (n : ℕ) (es : List (ℕ × Kept)) → CoreStands core site → StoreStands store (r ∷ site.dag) site.collected →
     KeepsSlots core.store.table store.table → store.table.limits ≡ core.store.table.limits → KeepsRest core.book book →
     sessions_of book ≡ changed n (after_commit (r ∷ site.dag) r.id) (sessions_of core.book) → ArePlaced book store.table (r ∷ site.dag) site.collected → es ≡ without_entry n core.txns →
     CoreStands (record core { store = store; book = book; txns = es }) (committed site n r).0
@@ -95,19 +102,10 @@ grown-stands core site r store book n es stands store_stands keeps limits rest s
       floors = ap (map known_floor) rest.floors ∙ stands.floors;
       placed = placed;
       txns = stands.txns;
-      slots = λ m h f. names-stay core.store.table store.table keeps h.slots (states_of h.txn) (stands.slots m h f);
+      slots = λ m h f. txn-names-stay core.store.table store.table keeps h (stands.slots m h f);
     }) n es e
 
 -- ===== The plain answers
-
--- the first refusal of what was found
-stop-found : {A : Type 0} (site : Site) (refusal : A → Refusal) (o : Option A) (a : A) (more : List (Option Reply)) (answer : Answer) → o ≡ Some a →
-    unless site (refuse_found refusal o ∷ more) answer ≡ refused site (refusal a)
-stop-found site refusal o a more answer e = ap (λ z. unless site (refuse_found refusal z ∷ more) answer) e
-
-pub skip-found : {A : Type 0} (site : Site) (refusal : A → Refusal) (o : Option A) (more : List (Option Reply)) (answer : Answer) → ◌≡◌ {A = Option A} o None →
-    unless site (refuse_found refusal o ∷ more) answer ≡ unless site more answer
-skip-found site refusal o more answer e = ap (λ z. unless site (refuse_found refusal z ∷ more) answer) e
 
 module _ (site : Site) (n : ℕ) (parents : List StateId) (writes : List KeyWrite) where
   abbrev r : Record
@@ -127,14 +125,22 @@ module _ (site : Site) (n : ℕ) (parents : List StateId) (writes : List KeyWrit
       ∙ stop-found site (λ (g : Refusal). g) growth refusal [] (committed site n r) f
 
 module _ (site : Site) (n : ℕ) (t : SingleTxn) (flags : EndFlags) (k : ℕ) where
-  abbrev lands : StateId
-  lands = landing site.dag (guarded flags t.reads (keys_of t.writes)) t.state
+  abbrev number : StateId → ℕ
+  number x = length (children site.dag x)
 
-  abbrev number : ℕ
-  number = length (children site.dag lands)
+  -- the end constraints aren't broken there
+  pub passes-on : (x : StateId) → ◌≡◌ {A = Option ℕ} (broken flags k (number x)) None → commit_at so_far site n t flags k x ≡ commit_below so_far site n (x ∷ []) t.writes []
+  passes-on x e = ap (λ o. commit_below so_far site n (x ∷ []) t.writes (refuse_found (λ (c : ℕ). AreBranches c x (number x)) o ∷ [])) e
 
-  pub passes-on : ◌≡◌ {A = Option ℕ} (broken flags k number) None → commit_writes so_far site n t flags k ≡ commit_below so_far site n (lands ∷ []) t.writes []
-  passes-on e = ap (λ o. commit_below so_far site n (lands ∷ []) t.writes (refuse_found (λ (c : ℕ). AreBranches c lands number) o ∷ [])) e
+  -- they are
+  pub branches-refuse : (x : StateId) (c : ℕ) → ◌≡◌ {A = Option ℕ} (broken flags k (number x)) (Some c) → commit_at so_far site n t flags k x ≡ refused site (AreBranches c x (number x))
+  branches-refuse x c e = ap (λ o. commit_below so_far site n (x ∷ []) t.writes (refuse_found (λ (d : ℕ). AreBranches d x (number x)) o ∷ [])) e
+
+  pub branches-stop : (x : StateId) (b : Branches) → number x ≤ 4294967295 → CheckedAs x (broken flags k (number x)) (min (number x) 4294967295) (Err b) →
+      commit_at so_far site n t flags k x ≡ refused site (AreBranches b.constraint b.state b.children)
+  branches-stop x b few (is, state, count) =
+      let whole : min (number x) 4294967295 ≡ number x = omega (arith, few) in
+      branches-refuse x b.constraint is ∙ ap₂ (λ y m. refused site (AreBranches b.constraint y m)) (sym state) (sym (count ∙ whole))
 
   pub reads-only : (length t.writes == 0) ≡ true → commit_single so_far site n t flags k ≡ (without_txn_of n site, Ended t.state)
   reads-only e = go t.writes e
@@ -193,34 +199,21 @@ few-children site sound x =
 
 -- ===== What is kept of the transaction
 
-writes-kept : (t : Txn) → kept_writes (kept_txn t) ≡ writes_of t
-writes-kept (Single t) = refl
-writes-kept (Merge t) = refl
+writes-kept : (t : Kept) → kept_writes t ≡ writes_of (txn_of t)
+writes-kept (KeptSingle t) = refl
+writes-kept (KeptMerge t) = refl
 
-module _ (core : Core) (site : Site) (stands : CoreStands core site) (n : ℕ) (h : OpenTxn) (t : Txn) (at : entry_of n core.txns ≡ Some h) (found : entry_of n site.txns ≡ Some t) where
-  pub kept-as : kept_txn t ≡ h.txn
-  kept-as = same_Some (kept_txn t) h.txn (sym (ap (option_map kept_txn) found) ∙ stands.txns n ∙ ap (option_map (λ (o : OpenTxn). o.txn)) at)
+module _ (core : Core) (site : Site) (stands : CoreStands core site) (n : ℕ) (h : Kept) (t : Txn) (at : entry_of n core.txns ≡ Some h) (found : entry_of n site.txns ≡ Some t) where
+  pub kept-as : txn_of h ≡ t
+  kept-as = same_Some (txn_of h) t (sym (ap (option_map txn_of) at) ∙ stands.txns n ∙ found)
 
-  -- its slots are those of its states
-  pub slots-named : map (id_at core.store.table) h.slots ≡ map (λ x. Some x) (states_of (kept_txn t))
-  slots-named = stands.slots n h at ∙ ap (λ u. map (λ x. Some x) (states_of u)) (sym kept-as)
-
-  pub writes-as : kept_writes h.txn ≡ writes_of t
-  writes-as = sym (ap kept_writes kept-as) ∙ writes-kept t
-
-  pub reads-as : reads_of h.txn ≡ reads_of (kept_txn t)
-  reads-as = sym (ap reads_of kept-as)
+  pub writes-as : kept_writes h ≡ writes_of t
+  writes-as = writes-kept h ∙ ap writes_of kept-as
 
 -- ===== Commit, row by row
 
-module _ (core : Core) (site : Site) (stands : CoreStands core site) (n : ℕ) (t : Txn) (opened : is_open core.book n ≡ true) (found : entry_of n site.txns ≡ Some t) (flags : EndFlags) (k : ℕ) where
-  pub is-commit : with_txn site n (λ s u. commit so_far site n u flags k) ≡ commit so_far site n t flags k
-  is-commit =
-      let s = open-session core site stands n opened in
-      txn-answer site n (λ r u. commit so_far site n u flags k) s.value t s.is found
-
 -- the next state joins below these, and the session and its transaction follow
-pub commit-gives : (core : Core) (site : Site) → CoreStands core site → (n : ℕ) (xs : List StateId) (ws : List KeyWrite) (store : Store) (book : Book) (es : List (ℕ × OpenTxn)) (id : StateId) (parents : List StateId) →
+pub commit-gives : (core : Core) (site : Site) → CoreStands core site → (n : ℕ) (xs : List StateId) (ws : List KeyWrite) (store : Store) (book : Book) (es : List (ℕ × Kept)) (id : StateId) (parents : List StateId) →
     (own_count site == 4294967295) ≡ false → id ≡ next_id site → parents ≡ xs →
     (◌≡◌ {A = Option Refusal} (growth_refusal true core.store.table.limits site.collected site.dag (next_record site xs ws)) None) × StoreStands store (next_record site xs ws ∷ site.dag) site.collected →
     KeepsSlots core.store.table store.table → store.table.limits ≡ core.store.table.limits → KeepsRest core.book book →
@@ -233,14 +226,19 @@ commit-gives core site stands n xs ws store book es id parents more named below 
     (below-commits site n xs ws more (ap (λ l. growth_refusal true l site.collected site.dag r) (sym stands.limits) ∙ room))
     (grown-stands core site r store book n es stands store_stands keeps limits rest sessions placed e, ap₂ Committed named below)
 
--- there is no room
-pub commit-refused : (core : Core) (site : Site) → CoreStands core site → (n : ℕ) (xs : List StateId) (ws : List KeyWrite) (store : Store) (refusal : Refusal) → (own_count site == 4294967295) ≡ false →
-    (growth_refusal true core.store.table.limits site.collected site.dag (next_record site xs ws) ≡ Some refusal) × StoreStands store site.dag site.collected → store.table ≡ core.store.table →
-    IsGiven (CoreStands (record core { store = store })) (commit_below so_far site n xs ws []) (Refused refusal)
-commit-refused core site stands n xs ws store refusal more (full, store_stands) same =
-    as-given (CoreStands (record core { store = store })) (commit_below so_far site n xs ws []) (refused site refusal) (Refused refusal)
-    (below-refuses site n xs ws refusal more (ap (λ l. growth_refusal true l site.collected site.dag (next_record site xs ws)) (sym stands.limits) ∙ full))
-    (same-table-stands core site store stands same store_stands, refl)
+-- it isn't added
+pub commit-stops : (core : Core) (site : Site) → CoreStands core site → (n : ℕ) (xs : List StateId) (ws : List KeyWrite) (store : Store) (fault : AddFault) → (own_count site == 4294967295) ≡ false →
+    AddedIn core.store store site.dag site.collected (next_record site xs ws) (Err fault) → store.table ≡ core.store.table →
+    Stops (CoreStands (record core { store = store })) (commit_below so_far site n xs ws []) site (add_stop fault)
+commit-stops core site stands n xs ws store fault more added same = go fault added
+  where
+    refuses : (refusal : Refusal) → growth_refusal true core.store.table.limits site.collected site.dag (next_record site xs ws) ≡ Some refusal → commit_below so_far site n xs ws [] ≡ refused site refusal
+    refuses refusal full = below-refuses site n xs ws refusal more (ap (λ l. growth_refusal true l site.collected site.dag (next_record site xs ws)) (sym stands.limits) ∙ full)
+
+    go : (f : AddFault) → AddedIn core.store store site.dag site.collected (next_record site xs ws) (Err f) → Stops (CoreStands (record core { store = store })) (commit_below so_far site n xs ws []) site (add_stop f)
+    go (Full kept) (full, there) = (same-table-stands core site store stands same there, refuses (IsFull kept) full)
+    go (PathFull x m) (full, there) = (same-table-stands core site store stands same there, refuses (IsPathFull x m) full)
+    go OutOfMemory there = same-table-stands core site store stands same there
 
 -- ===== The next id
 

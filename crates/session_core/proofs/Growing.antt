@@ -8,6 +8,9 @@ use Rattle.tardis_base.specs.declared.ids.StateId.{StateId}
 use Rattle.tardis_base.specs.declared.ids.Slot.{Slot}
 use Rattle.state_dag.specs.Table.{Entry, Table, entry_at, id_at, is_slot}
 use Rattle.state_dag.specs.Answers.{KeepsSlots}
+use Rattle.merge_txn.specs.declared.Txn.{Txn}
+use Rattle.merge_txn.specs.declared.Txn.TheVariants.{Single, Merge}
+use Rattle.session_core.specs.Txns.{has_slots, IsNamed}
 
 entry-names : (o : Option Entry) → is_some o ≡ true → (x : StateId) × (option_map (λ e. e.id) o ≡ Some x)
 entry-names None e = (cc)
@@ -49,3 +52,12 @@ module _ (old new : Table) (keeps : KeepsSlots old new) where
 
           rest : (a : Option StateId) (as' : List (Option StateId)) (b : Option StateId) (bs : List (Option StateId)) → a ∷ as' ≡ b ∷ bs → as' ≡ bs
           rest a as' b bs same = (cc)
+
+  -- and so with a transaction
+  pub txn-slots-stay : (t : Txn) → IsTrue (has_slots old t) → IsTrue (has_slots new t)
+  txn-slots-stay (Single t) h = slot-stays t.slot h
+  txn-slots-stay (Merge t) h = slots-stay t.slots h
+
+  pub txn-names-stay : (t : Txn) → IsNamed old t → IsNamed new t
+  txn-names-stay (Single t) named = keeps t.slot t.state named
+  txn-names-stay (Merge t) named = names-stay t.slots t.states named

@@ -1,13 +1,11 @@
 -- Lemmas on the site in memory.
 pub mod Entries
-pub mod WholeTxns
 pub mod Written
 pub mod Answers
 pub mod Standing
 pub mod Memory
 pub mod OpenSessions
 pub mod Reading
-pub mod Finding
 pub mod Writing
 pub mod Beginning
 pub mod Growing
@@ -17,8 +15,7 @@ pub mod Showing
 pub mod Serving
 pub mod Settings
 pub mod Telling
-pub mod ReadAgain
-pub mod Noting
+pub mod Getting
 pub mod Opening
 pub mod Asking
 pub mod Ordering

@@ -1,5 +1,5 @@
 -- A merge begins.
-use Rattle.std.proofs.Common.{◌≡◌, ◌≤◌, ◌<◌, ℕ, true, false, nat_lt, List, [], ◌∷◌, length, take, map, is_some, Option, Some, None, Result, Ok, Err, IsTrue, refl, sym, ap, ap₂, subst, ◌∙◌, arith}
+use Rattle.std.proofs.Common.{◌≡◌, ◌≤◌, ◌<◌, ℕ, false, nat_lt, List, [], ◌∷◌, length, take, map, Option, Some, None, Result, Ok, Err, IsTrue, refl, sym, ap, ap₂, subst, ◌∙◌, arith}
 use Rattle.std.proofs.lemmas.Option.{same_Some}
 use Rattle.std.proofs.lemmas.List.{take_all}
 use Rattle.std.proofs.lemmas.Bool.{false_from_ne_true, ltb-true, lt-ltb}
@@ -7,32 +7,31 @@ use Rattle.tardis_base.specs.declared.ids.StateId.{StateId}
 use Rattle.tardis_base.specs.declared.ids.Slot.{Slot}
 use Rattle.tardis_base.specs.declared.records.Record.{Record}
 use Rattle.tardis_base.specs.Ids.{is_among}
-use Rattle.tardis_base.specs.declared.replies.Refusal.TheVariants.{TxnOpen, TooMany, Unknown, Below, Comparable}
+use Rattle.tardis_base.specs.declared.replies.Refusal.TheVariants.{TooMany, Unknown, Below, Comparable}
 use Rattle.tardis_base.specs.declared.replies.Reply.TheVariants.{Refused, Merging}
-use Rattle.tardis_base.specs.declared.requests.MergeOf.{MergeOf}
 use Rattle.plain_dag.specs.Above.{is_proper_ancestor, comparable_pair}
 use Rattle.plain_dag.specs.Floors.{Session}
 use Rattle.plain_dag.specs.Entries.{entry_of, with_entry}
 use Rattle.state_dag.specs.Table.{Table, id_at}
 use Rattle.state_dag.specs.Stands.{Stands}
-use Rattle.ceiling_book.specs.Book.{Book, sessions_of, is_open}
+use Rattle.ceiling_book.specs.Book.{Book, sessions_of}
 use Rattle.ceiling_book.specs.Places.{ArePlaced}
 use Rattle.begin_rule.specs.declared.merges.MergeFault.{MergeFault}
-use Rattle.begin_rule.specs.declared.merges.MergeFault.TheVariants.{Unknown as OneUnknown, Below as OneBelow, Comparable as AreComparable}
-use Rattle.begin_rule.specs.Choices.{ChosenAllAs, first_unknown, first_below}
+use Rattle.begin_rule.specs.declared.merges.MergeFault.TheVariants.{Unknown as OneUnknown, Below as OneBelow, Comparable as AreComparable, NoMemory as OutOfMemory}
+use Rattle.begin_rule.specs.Choices.{ChosenAllAs}
 use Rattle.merge_txn.specs.declared.Txn.TheVariants.{Merge as KeptMerge}
-use Rattle.merge_txn.specs.Txns.{states_of}
-use Rattle.plain_site.specs.Site.{Site, Merge}
+use Rattle.plain_site.specs.Site.{Site}
 use Rattle.plain_site.specs.Built.{so_far}
 use Rattle.plain_site.specs.Sound.{IsSound}
-use Rattle.plain_site.specs.Answers.{Answer, refused, refuse_found, unless, without_txn}
-use Rattle.plain_site.specs.Merges.{in_order, merge_at, begin_merge, merging}
-use Rattle.session_core.specs.declared.transactions.OpenTxn.{OpenTxn}
+use Rattle.plain_site.specs.Answers.{Answer, refused, refuse_found, unless}
+use Rattle.plain_site.specs.Merges.{in_order, merge_at, merging, first_unknown, first_below}
+use Rattle.merge_txn.specs.declared.Txn.{Txn as Kept}
 use Rattle.session_core.specs.Core.{Core}
 use Rattle.session_core.specs.Stands.{CoreStands}
-use Rattle.session_core.specs.Gives.{IsGiven}
-use Rattle.session_core.proofs.Answers.{skip, stop, as-given}
-use Rattle.session_core.proofs.Standing.{there, open-session, kept-for, txn-in-the-way, txn-begun}
+use Rattle.session_core.specs.Gives.{IsGiven, Stops}
+use Rattle.session_core.specs.Stops.{merge_stop}
+use Rattle.session_core.proofs.Answers.{skip, stop}
+use Rattle.session_core.proofs.Standing.{txn-begun}
 use Rattle.session_core.proofs.Beginning.{collected-above}
 use Rattle.session_core.proofs.Ordering.{cons-parts}
 
@@ -48,12 +47,14 @@ states-told (x ∷ xs) (y ∷ ys) e =
     ap₂ (λ z zs. z ∷ zs) (same_Some x y parts.0) (states-told xs ys parts.1)
 
 -- a merge of these states is kept, and told
-pub merges-at : (core : Core) (site : Site) → CoreStands core site → (n : ℕ) (ys states told : List StateId) (h : OpenTxn) (es : List (ℕ × OpenTxn)) → states ≡ ys → told ≡ states →
-    h.txn ≡ KeptMerge (record { states = states; writes = [] }) → map (id_at core.store.table) h.slots ≡ map (λ x. Some x) ys → es ≡ with_entry n h core.txns →
+pub merges-at : (core : Core) (site : Site) → CoreStands core site → (n : ℕ) (ys states told : List StateId) (slots : List Slot) (es : List (ℕ × Kept)) → states ≡ ys → told ≡ states →
+    map (id_at core.store.table) slots ≡ map (λ x. Some x) ys → es ≡ with_entry n (KeptMerge (record { states = states; slots = slots; writes = [] })) core.txns →
     IsGiven (CoreStands (record core { txns = es })) (merging site n ys) (Merging told)
-merges-at core site stands n ys states told h es same copied txn named e =
-    let kept : h.txn ≡ KeptMerge (record { states = ys; writes = [] }) = txn ∙ ap (λ zs. KeptMerge (record { states = zs; writes = [] })) same in
-    (txn-begun core site stands n (Merge (record { states = ys; writes = [] })) h es e (sym kept) (named ∙ ap (λ u. map (λ x. Some x) (states_of u)) (sym kept)), ap (λ zs. Merging zs) (copied ∙ same))
+merges-at core site stands n ys states told slots es same copied named e = (
+  txn-begun core site stands n (KeptMerge (record { states = ys; slots = slots; writes = [] })) es
+      (e ∙ ap (λ zs. with_entry n (KeptMerge (record { states = zs; slots = slots; writes = [] })) core.txns) same) named,
+  ap (λ zs. Merging zs) (copied ∙ same),
+)
 
 -- ===== Refusals
 
@@ -89,14 +90,13 @@ module _ (site : Site) (n : ℕ) (c : StateId) (xs : List StateId) (few : length
     pub all-chosen : (slots : List Slot) → ChosenAllAs table site.dag c xs (Ok slots) → merge_at site n c xs ≡ merging site n (in_order xs)
     all-chosen slots (known, admitted, apart, named) = judged-as None None None known admitted apart
 
-    pub one-unknown : (y : StateId) → ChosenAllAs table site.dag c xs (Err (OneUnknown y)) → merge_at site n c xs ≡ refused site (Unknown y)
-    one-unknown y unknown = judged-as (Some y) (first_below site.dag c xs) (comparable_pair site.dag xs) unknown refl refl
-
-    pub one-below : (y d : StateId) → ChosenAllAs table site.dag c xs (Err (OneBelow y d)) → merge_at site n c xs ≡ refused site (Below y d)
-    one-below y d (known, below, ceiling) = judged-as None (Some y) (comparable_pair site.dag xs) known below refl ∙ ap (λ z. refused site (Below y z)) (sym ceiling)
-
-    pub two-comparable : (y z : StateId) → ChosenAllAs table site.dag c xs (Err (AreComparable y z)) → merge_at site n c xs ≡ refused site (Comparable y z)
-    two-comparable y z (known, admitted, pair) = judged-as None None (Some (y, z)) known admitted pair
+    -- why they aren't
+    pub merge-stops : (fault : MergeFault) → ChosenAllAs table site.dag c xs (Err fault) → (stands : Site → Type 0) → stands site → Stops stands (merge_at site n c xs) site (merge_stop fault)
+    merge-stops (OneUnknown y) unknown stands there = (there, judged-as (Some y) (first_below site.dag c xs) (comparable_pair site.dag xs) unknown refl refl)
+    merge-stops (OneBelow y d) (known, below, ceiling) stands there =
+        (there, judged-as None (Some y) (comparable_pair site.dag xs) known below refl ∙ ap (λ z. refused site (Below y z)) (sym ceiling))
+    merge-stops (AreComparable y z) (known, admitted, pair) stands there = (there, judged-as None None (Some (y, z)) known admitted pair)
+    merge-stops OutOfMemory chosen stands there = there
 
 -- ===== The choice
 
@@ -116,18 +116,6 @@ chosen-under core site stands sound n s is table same ceiling limit xs result ch
     let here = subst (λ t. Stands t site.dag site.collected) (sym same) stands.store.table in
     let placed = subst (λ t. ArePlaced core.book t site.dag site.collected) (sym same) stands.placed in
     chooses site.dag site.collected here s.ceiling (limit table site.dag site.collected placed s (ap (entry_of n) stands.sessions ∙ is)) (collected-above so_far site n s sound is)
-
--- ===== Before the choice
-
--- a transaction is in the way
-pub merge-refused : (core : Core) (site : Site) → CoreStands core site → (n : ℕ) (of : MergeOf) → is_open core.book n ≡ true → is_some (entry_of n core.txns) ≡ true →
-    IsGiven (CoreStands core) (without_txn site n (λ s. begin_merge site n s of)) (Refused TxnOpen)
-merge-refused core site stands n of opened some =
-    let s = open-session core site stands n opened in
-    let h = there (entry_of n core.txns) some in
-    let k = kept-for core site stands n h.value h.is in
-    as-given (CoreStands core) (without_txn site n (λ r. begin_merge site n r of)) (refused site TxnOpen) (Refused TxnOpen)
-    (txn-in-the-way site n (λ r. begin_merge site n r of) s.value k.txn s.is k.found) (stands, refl)
 
 -- a page of few states is all of them
 pub whole-page : (xs page : List StateId) → length xs ≤ 8 → page ≡ take 256 xs → page ≡ xs

@@ -10,6 +10,8 @@ use Rattle.tardis_base.specs.declared.replies.Reply.TheVariants.{Opened, Closed,
 use Rattle.plain_dag.specs.Entries.{entry_of, with_entry, without_entry}
 use Rattle.plain_dag.specs.Floors.{Sessions, floor_of, opening_session}
 use Rattle.state_dag.specs.Table.{Table, id_at}
+use Rattle.merge_txn.specs.declared.Txn.{Txn}
+use Rattle.ceiling_book.specs.declared.OpenFault.{OpenFault}
 use Rattle.ceiling_book.specs.declared.OpenFault.TheVariants.{AlreadyOpen as IsOpen, SessionsFull as AreFull, NoMemory as OutOfMemory}
 use Rattle.ceiling_book.specs.Book.{Book, known_floor, sessions_of, own_floor, is_open, is_full}
 use Rattle.ceiling_book.specs.Places.{ArePlaced}
@@ -17,10 +19,10 @@ use Rattle.ceiling_book.specs.Answers.{KeepsRest, OpenedIn}
 use Rattle.plain_site.specs.Site.{Site, own_floor as site_floor}
 use Rattle.plain_site.specs.Answers.{Answer, refuse, with_session}
 use Rattle.plain_site.specs.Sessions.{open_session, close_session}
-use Rattle.session_core.specs.declared.transactions.OpenTxn.{OpenTxn}
 use Rattle.session_core.specs.Core.{Core}
 use Rattle.session_core.specs.Stands.{CoreStands}
-use Rattle.session_core.specs.Gives.{IsGiven}
+use Rattle.session_core.specs.Gives.{IsGiven, Stops}
+use Rattle.session_core.specs.Stops.{open_stop}
 use Rattle.session_core.proofs.Answers.{skip, stop, as-given}
 use Rattle.session_core.proofs.Standing.{open-session as open-before, session-answer, txn-ended}
 
@@ -74,23 +76,20 @@ module _ (core : Core) (book : Book) (site : Site) (n : ℕ) (follow : Bool) (st
       ∙ skip site (Refused (SessionsFull (length site.sessions))) [] opened (length site.sessions == site.limits.max_sessions) (sym is-full ∙ room))
       (with-sessions core book site (with_entry n (opening_session follow (site_floor site).state) site.sessions) stands rest (placed core.store.table site.dag site.collected) sessions, ap Opened here)
 
-  pub open-refuses_again : OpenedIn core.book book n follow (Err IsOpen) → IsGiven (CoreStands (record core { book = book })) (open_session site n follow) (Refused AlreadyOpen)
-  open-refuses_again (opened_before, same) =
-      as-given (CoreStands (record core { book = book })) (open_session site n follow) (site, Refused AlreadyOpen) (Refused AlreadyOpen)
-      (stop site (Refused AlreadyOpen) number-full opened (is_some (entry_of n site.sessions)) (sym is-open ∙ opened_before)) (same-book core book site stands same, refl)
-
-  pub open-refuses_full : (m : ℕ) → OpenedIn core.book book n follow (Err (AreFull m)) → IsGiven (CoreStands (record core { book = book })) (open_session site n follow) (Refused (SessionsFull m))
-  open-refuses_full m (closed, full, number, same) =
-      as-given (CoreStands (record core { book = book })) (open_session site n follow) (site, Refused (SessionsFull (length site.sessions))) (Refused (SessionsFull m))
-      (skip site (Refused AlreadyOpen) number-full opened (is_some (entry_of n site.sessions)) (sym is-open ∙ closed)
-      ∙ stop site (Refused (SessionsFull (length site.sessions))) [] opened (length site.sessions == site.limits.max_sessions) (sym is-full ∙ full))
-      (same-book core book site stands same, ap (λ k. Refused (SessionsFull k)) (number ∙ ap (λ (ss : Sessions). length ss) stands.sessions))
-
-  pub open-fails : OpenedIn core.book book n follow (Err OutOfMemory) → CoreStands (record core { book = book }) site
-  open-fails (closed, room, same) = same-book core book site stands same
+  -- why it isn't opened
+  pub open-stops : (fault : OpenFault) → OpenedIn core.book book n follow (Err fault) → Stops (CoreStands (record core { book = book })) (open_session site n follow) site (open_stop fault)
+  open-stops IsOpen (opened_before, same) =
+      (same-book core book site stands same, stop site (Refused AlreadyOpen) number-full opened (is_some (entry_of n site.sessions)) (sym is-open ∙ opened_before))
+  open-stops (AreFull m) (closed, full, number, same) = (
+    same-book core book site stands same,
+    skip site (Refused AlreadyOpen) number-full opened (is_some (entry_of n site.sessions)) (sym is-open ∙ closed)
+        ∙ stop site (Refused (SessionsFull (length site.sessions))) [] opened (length site.sessions == site.limits.max_sessions) (sym is-full ∙ full)
+        ∙ ap (λ k. (site, Refused (SessionsFull k))) (sym (number ∙ ap (λ (ss : Sessions). length ss) stands.sessions)),
+  )
+  open-stops OutOfMemory (closed, room, same) = same-book core book site stands same
 
 -- the session closes, and its transaction is given up
-pub close-gives : (core : Core) (book : Book) (site : Site) (n : ℕ) (es : List (ℕ × OpenTxn)) → CoreStands core site → KeepsRest core.book book →
+pub close-gives : (core : Core) (book : Book) (site : Site) (n : ℕ) (es : List (ℕ × Txn)) → CoreStands core site → KeepsRest core.book book →
     (ArePlaced core.book core.store.table site.dag site.collected → ArePlaced book core.store.table site.dag site.collected) → sessions_of book ≡ without_entry n (sessions_of core.book) →
     es ≡ without_entry n core.txns → is_open core.book n ≡ true →
     IsGiven (CoreStands (record core { book = book; txns = es })) (with_session site n (λ s. close_session site n)) Closed

@@ -7,16 +7,16 @@ use Rattle.tardis_base.specs.declared.records.Limits.{Limits}
 use Rattle.plain_dag.specs.Entries.{entry_of}
 use Rattle.plain_dag.specs.Floors.{opening_floor}
 use Rattle.ceiling_book.specs.Book.{Book, floors_of}
-use Rattle.session_core.specs.declared.transactions.OpenTxn.{OpenTxn}
-use Rattle.session_core.specs.Stands.{kept_txn}
+use Rattle.merge_txn.specs.declared.Txn.{Txn as Kept}
+use Rattle.session_core.specs.Stands.{txn_of}
 
 -- there is no transaction among none
-pub none-held : (P : ℕ → OpenTxn → Type 0) (txns : List (ℕ × OpenTxn)) → txns ≡ [] → (n : ℕ) (held : OpenTxn) → entry_of n txns ≡ Some held → P n held
+pub none-held : (P : ℕ → Kept → Type 0) (txns : List (ℕ × Kept)) → txns ≡ [] → (n : ℕ) (held : Kept) → entry_of n txns ≡ Some held → P n held
 none-held P txns none n held e = absurd (none-some held (subst (λ t. entry_of n t ≡ Some held) none e))
 
 -- no transaction is kept for none
-pub none-kept : (txns : List (ℕ × OpenTxn)) → txns ≡ [] → (n : ℕ) → option_map kept_txn (entry_of n []) ≡ option_map (λ (held : OpenTxn). held.txn) (entry_of n txns)
-none-kept txns none n = subst (λ t. option_map kept_txn (entry_of n []) ≡ option_map (λ (held : OpenTxn). held.txn) (entry_of n t)) (sym none) refl
+pub none-kept : (txns : List (ℕ × Kept)) → txns ≡ [] → (n : ℕ) → option_map txn_of (entry_of n txns) ≡ entry_of n []
+none-kept txns none n = subst (λ t. option_map txn_of (entry_of n t) ≡ entry_of n []) (sym none) refl
 
 replicated : {A : Type 0} (n : ℕ) (a : A) → length (replicate n a) ≡ n
 replicated ℕ.zero a = refl

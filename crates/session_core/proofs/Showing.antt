@@ -10,7 +10,7 @@ use Rattle.tardis_base.specs.declared.replies.SiteLine.{SiteLine}
 use Rattle.tardis_base.specs.declared.replies.Refusal.TheVariants.{Unknown, Collected}
 use Rattle.tardis_base.specs.declared.replies.Reply.TheVariants.{Refused, Shown}
 use Rattle.tardis_base.specs.Ids.{is_among}
-use Rattle.plain_dag.specs.States.{is_known, arrival, children, count_of_site}
+use Rattle.plain_dag.specs.States.{is_known, arrival, children}
 use Rattle.plain_dag.specs.Floors.{Floor, opening_floor, floor_of}
 use Rattle.plain_dag.specs.Paths.{fork_path}
 use Rattle.state_dag.specs.Table.{Table, id_at}

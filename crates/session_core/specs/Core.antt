@@ -2,10 +2,10 @@
 use Rattle.std.specs.Prelude.{ℕ, List}
 use Rattle.record_store.specs.Store.{Store}
 use Rattle.ceiling_book.specs.Book.{Book}
-use Rattle.session_core.specs.declared.transactions.OpenTxn.{OpenTxn}
+use Rattle.merge_txn.specs.declared.Txn.{Txn}
 
 -- the store of states and versions; the book of sessions and floors; the open transactions by the numbers of their sessions
 pub record Core : Type 0 where
   pub store : Store
   pub book : Book
-  pub txns : List (ℕ × OpenTxn)
+  pub txns : List (ℕ × Txn)

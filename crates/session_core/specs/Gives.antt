@@ -1,32 +1,41 @@
 -- What a request gives.
-use Rattle.std.specs.Prelude.{◌≡◌, ℕ, false, List, Option, Some, None, Result, Ok, Err, ◌⊎◌}
-use Rattle.tardis_base.specs.declared.faults.NoMemory.{NoMemory}
-use Rattle.tardis_base.specs.declared.readings.Over.{Over}
-use Rattle.tardis_base.specs.declared.readings.Over.TheVariants.{Found, Conflict}
-use Rattle.tardis_base.specs.declared.replies.Refusal.{Refusal}
-use Rattle.tardis_base.specs.declared.replies.Refusal.TheVariants.{TooMany, ConflictKey}
+use Rattle.std.specs.Prelude.{◌≡◌, ⊤, Result, Ok, Err}
+use Rattle.tardis_base.specs.declared.faults.NoMemory.{NoMemory as OutOfMemory}
 use Rattle.tardis_base.specs.declared.replies.Reply.{Reply}
-use Rattle.version_list.specs.Reads.{found as found_write}
+use Rattle.tardis_base.specs.declared.replies.Reply.TheVariants.{Refused as RefusedWith}
 use Rattle.plain_site.specs.Site.{Site}
-use Rattle.plain_site.specs.Answers.{Answer, refused, found, leaves_site}
+use Rattle.plain_site.specs.Answers.{Answer, refused}
+use Rattle.session_core.specs.declared.stops.Stop.{Stop}
+use Rattle.session_core.specs.declared.stops.Stop.TheVariants.{Refused, NoMemory}
 
 -- the plain answer: its reply, and what stands for its site
 abbrev pub IsGiven : (Site → Type 0) → Answer → Reply → Type 0
 IsGiven stands answer reply = stands answer.0 × (reply ≡ answer.1)
 
 -- the plain answer; or there was no memory, and what stands for the site as it was
-abbrev pub Gives : (Site → Type 0) → Answer → Site → Result Reply NoMemory → Type 0
+abbrev pub Gives : (Site → Type 0) → Answer → Site → Result Reply OutOfMemory → Type 0
 Gives stands answer old (Ok reply) = IsGiven stands answer reply
 Gives stands answer old (Err fault) = stands old
 
--- what a read of the key finds, unless too many keys are read; that it is a conflict key; or the refusal that goes before
-abbrev pub FindsFor : Answer → Site → List ℕ → Result Over Refusal → Type 0
-FindsFor answer old k (Ok (Found what)) = (answer.1 ≡ found (found_write what)) ⊎ (answer ≡ refused old (TooMany 2 257))
-FindsFor answer old k (Ok Conflict) = answer ≡ refused old (ConflictKey k)
-FindsFor answer old k (Err refusal) = answer ≡ refused old refusal
+-- what a stop leaves: what stands for the site as it was; and the plain answer is the refusal, where it is one
+abbrev pub Stops : (Site → Type 0) → Answer → Site → Stop → Type 0
+Stops stands answer old (Refused refusal) = stands old × (answer ≡ refused old refusal)
+Stops stands answer old NoMemory = stands old
 
--- the read is noted, and the answer is none that leaves the site; or it is refused; or there was no memory
-abbrev pub NotesFor : (Site → Type 0) → Answer → Site → Result (Option Refusal) NoMemory → Type 0
-NotesFor stands answer old (Ok None) = stands answer.0 × (leaves_site answer.1 ≡ false)
-NotesFor stands answer old (Ok (Some refusal)) = stands old × (answer ≡ refused old refusal)
-NotesFor stands answer old (Err fault) = stands old
+-- the plain answer, or a stop
+abbrev pub GivesOrStops : (Site → Type 0) → Answer → Site → Result Reply Stop → Type 0
+GivesOrStops stands answer old (Ok reply) = IsGiven stands answer reply
+GivesOrStops stands answer old (Err stop) = Stops stands answer old stop
+
+-- it isn't memory that is wanting
+abbrev pub NeedsNoMemory : {A : Type 0} → Result A Stop → Type 0
+NeedsNoMemory (Ok reply) = ⊤
+NeedsNoMemory (Err (Refused refusal)) = ⊤
+NeedsNoMemory (Err NoMemory) = ⊥
+
+-- what is told: the reply, or the refusal as one; or that there was no memory
+abbrev pub ToldAs : Result Reply Stop → Result Reply OutOfMemory → Type 0
+ToldAs (Ok reply) told = told ≡ Ok reply
+ToldAs (Err (Refused refusal)) told = told ≡ Ok (RefusedWith refusal)
+ToldAs (Err NoMemory) (Ok reply) = ⊥
+ToldAs (Err NoMemory) (Err fault) = ⊤

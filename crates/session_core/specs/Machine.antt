@@ -1,20 +1,27 @@
 -- What the machine over the parts stands for, and what it answers.
-use Rattle.std.specs.Prelude.{◌≡◌, ◌≤◌, ℕ, false, List, [], length, Some, Result, Ok, Err, IsTrue}
+use Rattle.std.specs.Prelude.{◌≡◌, ◌≤◌, ℕ, List, [], length, Some, Result, Ok, Err, IsTrue}
 use Rattle.tardis_base.specs.declared.replies.Refusal.{Refusal}
 use Rattle.tardis_base.specs.declared.replies.Reply.{Reply}
 use Rattle.tardis_base.specs.declared.replies.Reply.TheVariants.{NoMemory}
+use Rattle.tardis_base.specs.declared.ids.StateId.{StateId}
+use Rattle.tardis_base.specs.declared.records.Write.{Write}
+use Rattle.tardis_base.specs.declared.records.Write.TheVariants.{Put as Value, Delete as Deletion}
 use Rattle.tardis_base.specs.declared.requests.Request.{Request}
+use Rattle.tardis_base.specs.declared.requests.Request.TheVariants.{Put, Delete}
 use Rattle.wire_talk.specs.Spellings.{reply_spelling}
 use Rattle.wire_talk.specs.Valid.{is_request, is_refusal, is_reply}
 use Rattle.wire_talk.specs.RequestReadings.{request_of}
-use Rattle.plain_site.specs.Site.{Site, opening}
+use Rattle.plain_dag.specs.Writers.{read}
+use Rattle.plain_site.specs.Site.{Site, opening, with_txn_changed}
 use Rattle.plain_site.specs.Built.{so_far}
 use Rattle.plain_site.specs.Sound.{IsSound}
-use Rattle.plain_site.specs.Answers.{Answer, refused, with_txn, leaves_site}
-use Rattle.plain_site.specs.Reads.{get}
+use Rattle.plain_site.specs.Answers.{Answer, refused, with_txn, found}
+use Rattle.plain_site.specs.Reads.{get, having_read}
 use Rattle.plain_site.specs.Step.{step, step_over_bytes}
 use Rattle.session_core.specs.Core.{Core}
+use Rattle.session_core.specs.Gives.{Stops}
 use Rattle.session_core.specs.Stands.{CoreStands}
+use Rattle.session_core.specs.declared.stops.Stop.{Stop}
 
 -- it stands for the plain site, which is sound
 abbrev pub SiteStands : Core → Site → Type 0
@@ -44,8 +51,18 @@ AsksFor bytes (Err refusal) = IsTrue (is_refusal refusal) × ((site : Site) (n :
 abbrev pub reading : Site → ℕ → List ℕ → Answer
 reading site n k = with_txn site n (λ s t. get site n t k)
 
--- at a plain site that it stands for, the read isn't refused
-pub record MayRead (core : Core) (n : ℕ) (k : List ℕ) : Type 0 where
-  pub site : Site
-  pub stands : SiteStands core site
-  pub read : leaves_site (reading site n k).1 ≡ false
+-- the request to write to the key
+abbrev pub writing : List ℕ → Write → Request
+writing k (Value v) = Put k v
+writing k Deletion = Delete k
+
+-- the plain answer, its reply in bytes; or a stop, and no byte
+abbrev pub WritesOrStops : (Site → Type 0) → Answer → Site → Result (Unit {0}) Stop → List ℕ → Type 0
+WritesOrStops stands answer old (Ok done) bytes = stands answer.0 × (bytes ≡ reply_spelling answer.1)
+WritesOrStops stands answer old (Err stop) bytes = Stops stands answer old stop × (bytes ≡ [])
+
+-- the read of a single transaction at x is noted, and the plain answer is what is read there; or a stop
+abbrev pub NotesOrStops : (Site → Type 0) → Site → ℕ → List ℕ → StateId → Result (Unit {0}) Stop → Type 0
+NotesOrStops stands site n k x (Ok done) =
+    (reading site n k ≡ (with_txn_changed n (having_read k) site, found (read site.dag k x))) × stands (with_txn_changed n (having_read k) site)
+NotesOrStops stands site n k x (Err stop) = Stops stands (reading site n k) site stop

@@ -1,22 +1,19 @@
 -- The merge of a session, and what is asked of it.
-use Rattle.std.specs.Prelude.{◌≡◌, ℕ, List, Option, Some, None, map, IsTrue, IsFalse}
+use Rattle.std.specs.Prelude.{◌≡◌, ⊤, ℕ, true, false, not, ◌==◌, List, Option, Some, None, Result, Ok, Err, IsTrue, IsFalse}
 use Rattle.tardis_base.specs.declared.ids.StateId.{StateId}
 use Rattle.tardis_base.specs.declared.ids.Slot.{Slot}
 use Rattle.tardis_base.specs.declared.replies.Refusal.{Refusal}
-use Rattle.tardis_base.specs.declared.replies.Refusal.TheVariants.{WrongMode}
+use Rattle.tardis_base.specs.declared.replies.Refusal.TheVariants.{WrongMode, OpenConflict}
+use Rattle.tardis_base.specs.declared.requests.EndFlags.{EndFlags}
 use Rattle.tardis_base.specs.Ids.{is_among}
-use Rattle.plain_dag.specs.Entries.{entry_of}
+use Rattle.tardis_base.specs.Keys.{KeyWrite}
+use Rattle.plain_dag.specs.Conflicts.{open_conflict}
 use Rattle.plain_dag.specs.Floors.{Session}
 use Rattle.state_dag.specs.Table.{Table, id_at}
-use Rattle.plain_site.specs.Site.{Site, SingleTxn, MergeTxn, Txn, Single, Merge}
+use Rattle.plain_site.specs.Site.{Site, SingleTxn, Txn, Single}
 use Rattle.plain_site.specs.Answers.{Answer, refused, with_txn}
-use Rattle.session_core.specs.declared.transactions.OpenTxn.{OpenTxn}
-
--- the session has this merge, and what is kept of it has the slots of the states that it reads
-pub record IsMergeFor (table : Table) (site : Site) (n : ℕ) (held : OpenTxn) : Type 0 where
-  pub txn : MergeTxn
-  pub found : entry_of n site.txns ≡ Some (Merge txn)
-  pub named : map (id_at table) held.slots ≡ map (λ x. Some x) txn.states
+use Rattle.session_core.specs.declared.stops.Stop.{Stop}
+use Rattle.session_core.specs.declared.stops.Stop.TheVariants.{Refused, NoMemory}
 
 -- it is asked of merges alone
 abbrev pub OnlyOfMerges : Site → (Session → Txn → Answer) → Type 0
@@ -25,6 +22,14 @@ OnlyOfMerges site go = (s : Session) (t : SingleTxn) → go s (Single t) ≡ ref
 -- whatever is asked of a merge is refused with this
 abbrev pub RefusesMerges : Site → ℕ → Refusal → Type 0
 RefusesMerges site n refusal = (go : Session → Txn → Answer) → OnlyOfMerges site go → with_txn site n go ≡ refused site refusal
+
+-- the merge of these states may commit; or it is given end constraints; or it leaves this conflict key unwritten
+abbrev pub MayMerge : Site → List StateId → List KeyWrite → EndFlags → Result (List Slot) Stop → Type 0
+MayMerge site xs ws flags (Ok slots) = (not (flags.0 == 0) ≡ false) × (open_conflict site.dag xs ws ≡ None)
+MayMerge site xs ws flags (Err (Refused WrongMode)) = not (flags.0 == 0) ≡ true
+MayMerge site xs ws flags (Err (Refused (OpenConflict k))) = (not (flags.0 == 0) ≡ false) × (open_conflict site.dag xs ws ≡ Some k)
+MayMerge site xs ws flags (Err (Refused refusal)) = ⊥
+MayMerge site xs ws flags (Err NoMemory) = ⊤
 
 -- the slot is that of the state, which is one of these; or it is none of them
 abbrev pub IsSlotAmong : Table → List StateId → StateId → Option Slot → Type 0

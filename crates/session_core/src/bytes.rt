@@ -1,28 +1,37 @@
 //! The site as a machine over bytes.
 
-ghost use Rattle.std.specs.Prelude.{◌≡◌, Some, IsTrue, IsOk, IfOk, ◌≤◌, false, [], length};
+ghost use Rattle.std.specs.Prelude.{◌≡◌, ◌≤◌, Some, [], length, IsTrue, IsOk, IfOk};
+ghost use Rattle.std.specs.List.{list_all};
 ghost use Rattle.tardis_base.specs.declared.requests.Request.{Request};
-ghost use Rattle.wire_talk.specs.RequestReadings.{request_of};
-ghost use Rattle.plain_site.specs.Step.{is_sure, step};
-ghost use Rattle.session_core.specs.Machine.{AsksFor, SiteStands, GivesBytes, MayRead, reading, opened_with};
 ghost use Rattle.tardis_base.specs.Valid.{is_key};
+ghost use Rattle.state_dag.specs.Table.{is_slot};
+ghost use Rattle.version_list.specs.Reads.{found};
+ghost use Rattle.wire_talk.specs.RequestReadings.{request_of};
 ghost use Rattle.wire_talk.specs.Spellings.{reply_spelling};
 ghost use Rattle.wire_talk.specs.Valid.{is_request, is_reply};
 ghost use Rattle.plain_site.specs.Site.{Site};
 ghost use Rattle.plain_site.specs.Built.{so_far};
-ghost use Rattle.plain_site.specs.Answers.{leaves_site};
+ghost use Rattle.plain_site.specs.Sound.{IsSound};
+ghost use Rattle.plain_site.specs.Answers.{found as reply_to};
+ghost use Rattle.plain_site.specs.Step.{step, is_sure};
+ghost use Rattle.session_core.specs.Stands.{CoreStands, StandsForSite};
+ghost use Rattle.session_core.specs.Guards.{HasTxn};
+ghost use Rattle.session_core.specs.Machine.{AsksFor, SiteStands, GivesBytes, WritesOrStops, reading, opened_with};
 
 use crate::dispatch::is_built;
+use crate::reads_and_writes::own_write;
+use crate::stops::Stop;
 use crate::{Parts, SiteCore};
+use merge_txn::{MergeTxn, Txn};
 use std::alloc::Global;
 use tardis_base::{
-    Found, Key, Machine, NoMemory, Over, ReadFault, Refusal, Reply, ReplyBuf, Request,
+    Found, Key, Machine, NoMemory, Over, ReadFault, Refusal, Reply, ReplyBuf, Request, Write,
 };
 use wire_talk::{read_request, talk_has_one_spelling, write_reply, write_value_reply};
 
 /// The request that the bytes spell, or why they are refused. An operation that isn't built is told by its first byte,
 /// whatever follows; other bytes that spell no request are malformed.
-pub fn asked(alloc: Global, bytes: &[u8]) -> Result<Result<Request, Refusal>, NoMemory>
+fn asked(alloc: Global, bytes: &[u8]) -> Result<Result<Request, Refusal>, NoMemory>
     ensures asked { IfOk result (λ asked. AsksFor bytes.now asked) }
     ensures sure { (q : Request) → request_of bytes.now ≡ Some q → IsTrue (is_sure q) → IsOk result }
 {
@@ -49,40 +58,85 @@ fn give(reply: Reply, out: &mut ReplyBuf)
     write_reply(&reply, out);
 }
 
+/// Writes the reply to a read of what was found into the empty buffer; a value from the store's own bytes.
+fn give_found(what: Found<'_>, out: &mut ReplyBuf)
+    requires empty { out.old ≡ [] }
+    requires valid { IsTrue (is_reply (reply_to (found what))) }
+    requires short { length (reply_spelling (reply_to (found what))) ≤ 1048576 }
+    ensures { out.new ≡ reply_spelling (reply_to (found what.entry)) }
+{
+    match what {
+        Found::Value { writer, value } => write_value_reply(writer, value, out),
+        Found::Deleted { writer } => give(Reply::Deleted { writer }, out),
+        Found::Absent => give(Reply::Absent, out),
+    }
+}
+
 impl Parts {
-    /// Writes the reply to a read of the key into the empty buffer; a value from the store's own bytes.
-    fn write_found(&self, actor: u16, key: &Key, out: &mut ReplyBuf)
-        requires empty { out.old ≡ [] }
+    /// Reads the key in the actor's transaction, notes the read, and writes the reply into the empty buffer; after a stop
+    /// that is still empty. The value isn't copied: the key is noted first, and the writing takes no memory.
+    fn get_into(&mut self, actor: u16, key: &Key, out: &mut ReplyBuf) -> Result<(), Stop>
         requires key { IsTrue (is_key key.now) }
-        requires read { MayRead self.now actor key.now }
-        ensures { (site : Site) → SiteStands self.now site → leaves_site (reading site actor key.now).1 ≡ false → out.new ≡ reply_spelling (reading site actor key.now).1 }
+        requires empty { out.old ≡ [] }
+        requires stands { StandsForSite self.old }
+        ensures { (site : Site) → CoreStands self.old site → IsSound so_far site → WritesOrStops (CoreStands self.new) (reading site actor key.now) site result out.new }
     {
-        match self.found(actor, key) {
-            Ok(Over::Found(Found::Value { writer, value })) => {
-                let _ = value.as_slice();
-                write_value_reply(writer, value, out);
+        let slot = match self.open_txn(actor)? {
+            Txn::Single(single) => match single.writes.get(key) {
+                Some(write) => {
+                    give_found(own_write(write), out);
+                    return Ok(());
+                },
+                None => single.slot,
             },
-            Ok(Over::Found(Found::Deleted { writer })) => give(Reply::Deleted { writer }, out),
-            Ok(Over::Found(Found::Absent)) => give(Reply::Absent, out),
-            Ok(Over::Conflict) => unreachable!(),
-            Err(refusal) => give(Reply::Refused { refusal }, out),
+            Txn::Merge(merge) => return self.get_over_into(actor, merge, key, out),
+        };
+        self.note_read(actor, key)?;
+        give_found(self.store.read_at(slot, key), out);
+        Ok(())
+    }
+
+    /// Reads the key in a merge, and writes the reply into the empty buffer.
+    fn get_over_into(
+        &self,
+        actor: u16,
+        merge: &MergeTxn,
+        key: &Key,
+        out: &mut ReplyBuf,
+    ) -> Result<(), Stop>
+        requires slots { IsTrue (list_all (is_slot self.now.store.table) merge.now.slots) }
+        requires key { IsTrue (is_key key.now) }
+        requires empty { out.old ≡ [] }
+        requires stands { StandsForSite self.now }
+        requires found { (site : Site) → CoreStands self.now site → IsSound so_far site → HasTxn self.now.store.table site actor (Txn.Merge merge.now) }
+        ensures { (site : Site) → CoreStands self.now site → IsSound so_far site → WritesOrStops (CoreStands self.now) (reading site actor key.now) site result out.new }
+    {
+        match self.found_over(merge, key) {
+            Over::Found(found) => {
+                give_found(found, out);
+                Ok(())
+            },
+            Over::Conflict => Err(Stop::Refused(Refusal::ConflictKey { key: key.copy()? })),
         }
     }
 }
 
 impl SiteCore {
-    /// Get. The value isn't copied: the key is noted first, and then the reply is written, which takes no memory.
+    /// Get. The value isn't copied.
     fn get(&mut self, actor: u16, key: &Key, out: &mut ReplyBuf) -> Result<(), NoMemory>
         requires key { IsTrue (is_key key.now) }
         requires empty { out.old ≡ [] }
         ensures given { (site : Site) → SiteStands self.old site → GivesBytes (SiteStands self.new) (step so_far site actor (Request.Get key.now)) site result out.new }
         ensures opening { opened_with self.new ≡ opened_with self.old }
     {
-        match self.parts.note_get(actor, key)? {
-            None => self.parts.write_found(actor, key, out),
-            Some(refusal) => give(Reply::Refused { refusal }, out),
+        match self.parts.get_into(actor, key, out) {
+            Ok(()) => Ok(()),
+            Err(Stop::Refused(refusal)) => {
+                give(Reply::Refused { refusal }, out);
+                Ok(())
+            },
+            Err(Stop::NoMemory) => Err(NoMemory),
         }
-        Ok(())
     }
 
     /// Writes the reply to the actor's request, which is done.
@@ -96,7 +150,12 @@ impl SiteCore {
         match request {
             Request::Get { key } => self.get(actor, &key, out),
             Request::Put { key, value } => {
-                let reply = self.put(actor, &key, value)?;
+                let reply = self.put(actor, key, Write::Put(value))?;
+                give(reply, out);
+                Ok(())
+            },
+            Request::Delete { key } => {
+                let reply = self.put(actor, key, Write::Delete)?;
                 give(reply, out);
                 Ok(())
             },

@@ -2,17 +2,18 @@
 
 ghost use Rattle.std.specs.Prelude.{◌≡◌, IsTrue, IsOk, IfOk, OnOk, OnErr};
 ghost use Rattle.wire_talk.specs.Codes as codes;
-ghost use Rattle.plain_site.specs.Built.{so_far};
 ghost use Rattle.wire_talk.specs.Valid.{is_request};
 ghost use Rattle.plain_site.specs.Site.{Site};
+ghost use Rattle.plain_site.specs.Built.{so_far};
 ghost use Rattle.plain_site.specs.Sound.{IsSound};
 ghost use Rattle.plain_site.specs.Step.{step, is_sure};
 ghost use Rattle.session_core.specs.Stands.{CoreStands};
-ghost use Rattle.session_core.specs.Gives.{Gives, IsGiven};
-ghost use Rattle.session_core.specs.Machine.{SiteStands, IsTold, opened_with};
+ghost use Rattle.session_core.specs.Gives.{Gives, GivesOrStops, IsGiven, NeedsNoMemory, ToldAs};
+ghost use Rattle.session_core.specs.Machine.{SiteStands, IsTold, opened_with, writing};
 
+use crate::stops::Stop;
 use crate::{Parts, SiteCore};
-use tardis_base::{Key, NoMemory, Refusal, Reply, Request, Value, Write};
+use tardis_base::{Key, NoMemory, Refusal, Reply, Request, Write};
 
 /// Whether the operation of this code is built.
 pub fn is_built(op: u8) -> bool
@@ -50,34 +51,23 @@ pub fn code_of(request: &Request) -> u8
     }
 }
 
-/// The refusal of an operation that isn't built.
-fn unsupported(op: u8) -> Reply
-    ensures { result ≡ Reply.Refused (Refusal.Unsupported op) }
-{
-    Reply::Refused {
-        refusal: Refusal::Unsupported { op },
-    }
-}
-
 impl Parts {
-    /// Answers the actor's request. What isn't built is refused before all else.
-    pub fn serve(&mut self, actor: u16, request: &Request) -> Result<Reply, NoMemory>
+    /// Answers the actor's request by its own method. What isn't built is refused before all else.
+    fn serve(&mut self, actor: u16, request: &Request) -> Result<Reply, Stop>
         requires { IsTrue (is_request request.now) }
-        ensures given { (site : Site) → CoreStands self.old site → IsSound so_far site → Gives (CoreStands self.new) (step so_far site actor request.now) site result }
-        ensures sure { IsTrue (is_sure request.now) → IsOk result }
+        ensures given { (site : Site) → CoreStands self.old site → IsSound so_far site → GivesOrStops (CoreStands self.new) (step so_far site actor request.now) site result }
+        ensures sure { IsTrue (is_sure request.now) → NeedsNoMemory result }
     {
-        let op = code_of(request);
-        if !is_built(op) {
-            return Ok(unsupported(op));
-        }
         match request {
             Request::Open { follow } => self.open(actor, *follow),
             Request::Begin { begin } => self.begin(actor, begin),
             Request::Get { key } => self.get(actor, key),
-            Request::Put { key, value } => self.put(actor, key, Write::Put(value.copy()?)),
-            Request::Delete { key } => self.put(actor, key, Write::Delete),
+            Request::Put { key, value } => {
+                self.put(actor, key.copy()?, Write::Put(value.copy()?))
+            },
+            Request::Delete { key } => self.put(actor, key.copy()?, Write::Delete),
             Request::Commit { flags, k } => self.commit(actor, *flags, *k),
-            Request::Abort => Ok(self.abort(actor)),
+            Request::Abort => self.abort(actor),
             Request::BeginMerge { of } => self.begin_merge(actor, of),
             Request::ForkPoints => self.fork_points(actor),
             Request::Conflicts { after } => self.conflicts(actor, after),
@@ -85,9 +75,22 @@ impl Parts {
             Request::Stat => Ok(self.stat()),
             Request::Show { state } => self.show(*state),
             Request::Leaves => self.leaves(),
-            Request::Close => Ok(self.close(actor)),
-            _ => Ok(unsupported(op)),
+            Request::Close => self.close(actor),
+            _ => Err(Stop::Refused(Refusal::Unsupported {
+                op: code_of(request),
+            })),
         }
+    }
+}
+
+/// A refusal is a reply.
+fn told(outcome: Result<Reply, Stop>) -> Result<Reply, NoMemory>
+    ensures { ToldAs outcome result }
+{
+    match outcome {
+        Ok(reply) => Ok(reply),
+        Err(Stop::Refused(refusal)) => Ok(Reply::Refused { refusal }),
+        Err(Stop::NoMemory) => Err(NoMemory),
     }
 }
 
@@ -100,17 +103,17 @@ impl SiteCore {
         ensures sure { IsTrue (is_sure request.now) → IsOk result }
         ensures opening { opened_with self.new ≡ opened_with self.old }
     {
-        self.parts.serve(actor, request)
+        told(self.parts.serve(actor, request))
     }
 
-    /// The reply to the actor's Put, which is done. The value isn't copied.
-    pub(crate) fn put(&mut self, actor: u16, key: &Key, value: Value) -> Result<Reply, NoMemory>
-        requires { IsTrue (is_request (Request.Put key.now value)) }
-        ensures given { (site : Site) → SiteStands self.old site → Gives (SiteStands self.new) (step so_far site actor (Request.Put key.now value)) site result }
+    /// The reply to the actor's Put or Delete, which is done. Key and value are moved in.
+    pub(crate) fn put(&mut self, actor: u16, key: Key, write: Write) -> Result<Reply, NoMemory>
+        requires { IsTrue (is_request (writing key write)) }
+        ensures given { (site : Site) → SiteStands self.old site → Gives (SiteStands self.new) (step so_far site actor (writing key write)) site result }
         ensures told { IfOk result (λ reply. IsTold reply) }
         ensures opening { opened_with self.new ≡ opened_with self.old }
     {
-        self.parts.put(actor, key, Write::Put(value))
+        told(self.parts.put(actor, key, write))
     }
 
     /// Does the actor's request, and replies to it.

@@ -17,6 +17,7 @@ mod merges;
 mod reads_and_writes;
 mod sessions;
 mod shows;
+mod stops;
 mod transactions;
 
 use ceiling_book::CeilingBook;

@@ -1,93 +1,64 @@
 //! Sessions open and close, and transactions begin in them.
 
+ghost use Rattle.std.specs.Prelude.{◌≡◌, None, Some, IsTrue, IfOk};
+ghost use Rattle.tardis_base.specs.declared.ids.StateId.{StateId};
+ghost use Rattle.plain_dag.specs.Begin.{begin_state};
+ghost use Rattle.plain_dag.specs.Entries.{entry_of};
+ghost use Rattle.plain_dag.specs.Floors.{Session};
+ghost use Rattle.state_dag.specs.Table.{id_at, is_slot};
+ghost use Rattle.ceiling_book.specs.Book.{is_open};
+ghost use Rattle.begin_rule.specs.Choices.{ChosenAs};
 ghost use Rattle.plain_site.specs.Site.{Site};
 ghost use Rattle.plain_site.specs.Built.{so_far};
 ghost use Rattle.plain_site.specs.Sound.{IsSound};
 ghost use Rattle.plain_site.specs.Answers.{with_session, without_txn};
 ghost use Rattle.plain_site.specs.Sessions.{open_session, close_session, begin as begin_txn, begun};
 ghost use Rattle.session_core.specs.Stands.{CoreStands};
-ghost use Rattle.session_core.specs.Gives.{Gives, IsGiven};
-ghost use Rattle.std.specs.Prelude.{◌≡◌, Some, IsTrue, IfOk};
-ghost use Rattle.tardis_base.specs.declared.ids.StateId.{StateId};
-ghost use Rattle.state_dag.specs.Table.{id_at, is_slot};
-ghost use Rattle.plain_dag.specs.Entries.{entry_of};
-ghost use Rattle.plain_dag.specs.Floors.{Session};
-ghost use Rattle.plain_dag.specs.Begin.{begin_state};
-ghost use Rattle.ceiling_book.specs.Book.{is_open};
-ghost use Rattle.begin_rule.specs.Choices.{ChosenAs};
+ghost use Rattle.session_core.specs.Gives.{GivesOrStops, NeedsNoMemory};
 
 use crate::Parts;
-use crate::transactions::OpenTxn;
+use crate::stops::Stop;
 use begin_rule::BeginFault;
-use ceiling_book::OpenFault;
 use merge_txn::Txn;
-use tardis_base::{Begin, ListOf, NoMemory, Refusal, Reply, Slot};
+use tardis_base::{Begin, Reply, Slot};
 
 impl Parts {
     /// Opens the actor's session under the own floor. A ceiling that follows goes down with the session's commits.
     ///
     /// Refused where it is open (AlreadyOpen), and where as many are open as may be (SessionsFull).
-    pub(crate) fn open(&mut self, actor: u16, follow: bool) -> Result<Reply, NoMemory>
-        ensures { (site : Site) → CoreStands self.old site → IsSound so_far site → Gives (CoreStands self.new) (open_session site actor follow) site result }
+    pub(crate) fn open(&mut self, actor: u16, follow: bool) -> Result<Reply, Stop>
+        ensures { (site : Site) → CoreStands self.old site → IsSound so_far site → GivesOrStops (CoreStands self.new) (open_session site actor follow) site result }
     {
-        match self.book.open_session(actor, follow) {
-            Ok(slot) => Ok(Reply::Opened {
-                ceiling: self.store.dag().id_of(slot),
-            }),
-            Err(OpenFault::AlreadyOpen) => Ok(Reply::Refused {
-                refusal: Refusal::AlreadyOpen,
-            }),
-            Err(OpenFault::SessionsFull { n }) => Ok(Reply::Refused {
-                refusal: Refusal::SessionsFull { n },
-            }),
-            Err(OpenFault::NoMemory) => Err(NoMemory),
-        }
+        let ceiling = self.book.open_session(actor, follow)?;
+        Ok(Reply::Opened {
+            ceiling: self.store.dag().id_of(ceiling),
+        })
     }
+
     /// Closes the actor's session, and gives its transaction up. It takes no memory.
     ///
     /// Refused where no session is open (NotOpen).
-    pub(crate) fn close(&mut self, actor: u16) -> Reply
-        ensures { (site : Site) → CoreStands self.old site → IsSound so_far site → IsGiven (CoreStands self.new) (with_session site actor (λ s. close_session site actor)) result }
+    pub(crate) fn close(&mut self, actor: u16) -> Result<Reply, Stop>
+        ensures given { (site : Site) → CoreStands self.old site → IsSound so_far site → GivesOrStops (CoreStands self.new) (with_session site actor (λ s. close_session site actor)) site result }
+        ensures sure { NeedsNoMemory result }
     {
-        if !self.book.is_open(actor) {
-            return Reply::Refused {
-                refusal: Refusal::NotOpen,
-            };
-        }
+        self.session(actor)?;
         self.book.close_session(actor);
         self.txns.end(actor);
-        Reply::Closed
+        Ok(Reply::Closed)
     }
-}
 
-impl Parts {
     /// Begins a transaction of the actor's session at the state that is asked for.
     ///
     /// Refused where no session is open (NotOpen), where it has a transaction (TxnOpen), where there is no such state
     /// (Unknown), and where the state is a proper ancestor of the session's ceiling (Below). The cost is that of
     /// `begin_rule::choose`, and of looking the session up.
-    pub(crate) fn begin(&mut self, actor: u16, begin: &Begin) -> Result<Reply, NoMemory>
-        ensures { (site : Site) → CoreStands self.old site → IsSound so_far site → Gives (CoreStands self.new) (without_txn site actor (λ s. begin_txn site actor s begin.now)) site result }
+    pub(crate) fn begin(&mut self, actor: u16, begin: &Begin) -> Result<Reply, Stop>
+        ensures { (site : Site) → CoreStands self.old site → IsSound so_far site → GivesOrStops (CoreStands self.new) (without_txn site actor (λ s. begin_txn site actor s begin.now)) site result }
     {
-        if !self.book.is_open(actor) {
-            return Ok(Reply::Refused {
-                refusal: Refusal::NotOpen,
-            });
-        }
-        if self.txns.is_open(actor) {
-            return Ok(Reply::Refused {
-                refusal: Refusal::TxnOpen,
-            });
-        }
-        match self.choose(actor, begin) {
-            Ok(slot) => self.begin_at(actor, slot),
-            Err(BeginFault::Unknown { state }) => Ok(Reply::Refused {
-                refusal: Refusal::Unknown { state },
-            }),
-            Err(BeginFault::Below { state, ceiling }) => Ok(Reply::Refused {
-                refusal: Refusal::Below { state, ceiling },
-            }),
-        }
+        self.no_txn(actor)?;
+        let slot = self.choose(actor, begin)?;
+        self.begin_at(actor, slot)
     }
 
     /// The slot of the state at which the session is to begin.
@@ -102,15 +73,13 @@ impl Parts {
     }
 
     /// Begins the transaction at the state of this slot.
-    fn begin_at(&mut self, actor: u16, slot: Slot) -> Result<Reply, NoMemory>
+    fn begin_at(&mut self, actor: u16, slot: Slot) -> Result<Reply, Stop>
         requires { IsTrue (is_slot self.old.store.table slot) }
-        ensures { (site : Site) → CoreStands self.old site → (x : StateId) → id_at self.old.store.table slot ≡ Some x → Gives (CoreStands self.new) (begun site actor x) site result }
+        ensures { (site : Site) → CoreStands self.old site → (x : StateId) → id_at self.old.store.table slot ≡ Some x → GivesOrStops (CoreStands self.new) (begun site actor x) site result }
     {
         let state = self.store.dag().id_of(slot);
-        let txn = Txn::single(self.alloc, state)?;
-        let mut slots = ListOf::new(self.alloc);
-        slots.push(slot)?;
-        self.txns.begin(actor, OpenTxn { txn, slots })?;
+        self.txns
+            .begin(actor, Txn::single(self.alloc, state, slot))?;
         Ok(Reply::Begun { state })
     }
 }

@@ -1,6 +1,6 @@
 //! What a site tells of itself.
 
-ghost use Rattle.std.specs.Prelude.{◌≡◌, ◌≤◌, length, IsTrue, IfOk, IfErr};
+ghost use Rattle.std.specs.Prelude.{◌≡◌, ◌≤◌, length};
 ghost use Rattle.plain_dag.specs.Floors.{floor_of};
 ghost use Rattle.ceiling_book.specs.Book.{floors_of};
 ghost use Rattle.plain_site.specs.Site.{Site};
@@ -8,21 +8,11 @@ ghost use Rattle.plain_site.specs.Built.{so_far};
 ghost use Rattle.plain_site.specs.Sound.{IsSound};
 ghost use Rattle.plain_site.specs.Shows.{stat as stat_of, show as show_of, site_lines as lines_of, show_leaves, line_of};
 ghost use Rattle.session_core.specs.Stands.{CoreStands};
-ghost use Rattle.session_core.specs.Gives.{Gives, IsGiven};
-ghost use Rattle.std.specs.List.{list_all};
-ghost use Rattle.state_dag.specs.Table.{is_slot};
-ghost use Rattle.plain_site.specs.Answers.{with_txn};
-ghost use Rattle.plain_site.specs.Reads.{get_for as got_for};
-ghost use Rattle.plain_site.specs.Merges.{fork_points_of, conflicts_of};
-ghost use Rattle.session_core.specs.Merges.{IsMergeFor, RefusesMerges};
+ghost use Rattle.session_core.specs.Gives.{IsGiven, GivesOrStops};
 
 use crate::Parts;
-use crate::merges::slot_among;
-use crate::reads_and_writes::reply_of;
-use crate::transactions::OpenTxn;
-use tardis_base::{
-    ByteList, Key, NoMemory, Refusal, Reply, SiteLine, SiteLines, StateId, StateList,
-};
+use crate::stops::Stop;
+use tardis_base::{Refusal, Reply, SiteLine, SiteLines, StateId, StateList};
 
 impl Parts {
     /// How many states are known and kept, how many leaves there are and open sessions, and a line for each site. It takes
@@ -70,22 +60,16 @@ impl Parts {
     ///
     /// Refused where there is no such state (Unknown) and where it is collected (Collected). The cost grows with the number
     /// of its children, with the length of its fork path, and with the logarithm of the number of kept states.
-    pub(crate) fn show(&self, state: StateId) -> Result<Reply, NoMemory>
-        ensures { (site : Site) → CoreStands self.now site → IsSound so_far site → Gives (CoreStands self.now) (show_of site state) site result }
+    pub(crate) fn show(&self, state: StateId) -> Result<Reply, Stop>
+        ensures { (site : Site) → CoreStands self.now site → IsSound so_far site → GivesOrStops (CoreStands self.now) (show_of site state) site result }
     {
         let dag = self.store.dag();
         if !dag.knows(state) {
-            return Ok(Reply::Refused {
-                refusal: Refusal::Unknown { state },
-            });
+            return Err(Stop::Refused(Refusal::Unknown { state }));
         }
         let slot = match dag.slot_of(state) {
             Some(slot) => slot,
-            None => {
-                return Ok(Reply::Refused {
-                    refusal: Refusal::Collected { state },
-                });
-            },
+            None => return Err(Stop::Refused(Refusal::Collected { state })),
         };
         let children = Vec::from_slice(self.alloc, dag.children(slot))?;
         Ok(Reply::Shown {
@@ -94,12 +78,10 @@ impl Parts {
             path: dag.path(slot)?,
         })
     }
-}
 
-impl Parts {
     /// The leaves: how many, and the first 256 in arrival order. The cost grows with the number of kept states.
-    pub(crate) fn leaves(&self) -> Result<Reply, NoMemory>
-        ensures { (site : Site) → CoreStands self.now site → IsSound so_far site → Gives (CoreStands self.now) (show_leaves site) site result }
+    pub(crate) fn leaves(&self) -> Result<Reply, Stop>
+        ensures { (site : Site) → CoreStands self.now site → IsSound so_far site → GivesOrStops (CoreStands self.now) (show_leaves site) site result }
     {
         let page = fork_points::leaf_page(self.alloc, self.store.dag())?;
         Ok(Reply::States {

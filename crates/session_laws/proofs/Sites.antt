@@ -4,7 +4,7 @@ use Rattle.std.specs.Option.{option_map}
 use Rattle.std.proofs.lemmas.Bool.{and_from, both_ways, not-true, not_from_false, false_from_ne_true}
 use Rattle.std.proofs.lemmas.Option.{none-some, same_Some}
 use Rattle.tardis_base.specs.declared.ids.StateId.{StateId}
-use Rattle.tardis_base.specs.Ids.{root, is_among}
+use Rattle.tardis_base.specs.Ids.{is_among}
 use Rattle.plain_dag.specs.States.{is_known, count_of_site}
 use Rattle.plain_dag.specs.Above.{is_proper_ancestor}
 use Rattle.plain_dag.specs.Writers.{read}
@@ -21,16 +21,14 @@ use Rattle.ceiling_book.proofs.Entries.{looked-up, entry-mapped}
 use Rattle.ceiling_book.proofs.Keeping.{found-ceiling, found-last}
 use Rattle.merge_txn.specs.declared.Txn.{Txn as Kept}
 use Rattle.merge_txn.specs.declared.Txn.TheVariants.{Single as KeptSingle, Merge as KeptMerge}
-use Rattle.merge_txn.specs.Txns.{states_of}
 use Rattle.conflict_keys.proofs.Walks.{named-are_kept}
-use Rattle.plain_site.specs.Site.{Site, SingleTxn, MergeTxn, Txn, Single, Merge, own_count, next_id}
+use Rattle.plain_site.specs.Site.{Site, SingleTxn, MergeTxn, Txn, Single, Merge, own_count, next_id, read_states}
 use Rattle.plain_site.specs.Built.{so_far}
 use Rattle.plain_site.proofs.SoundBooks.{own-is_site}
-use Rattle.session_core.specs.declared.transactions.OpenTxn.{OpenTxn}
 use Rattle.session_core.specs.Core.{Core}
-use Rattle.session_core.specs.Stands.{CoreStands, kept_txn}
+use Rattle.session_core.specs.Stands.{CoreStands, txn_of}
+use Rattle.session_core.specs.Txns.{IsNamed}
 use Rattle.session_core.specs.Machine.{SiteStands}
-use Rattle.session_core.proofs.Committing.{slots-named}
 use Rattle.session_core.proofs.Beginning.{collected-above}
 use Rattle.session_laws.proofs.Alike.{AreAlike}
 use Rattle.session_laws.proofs.Tables.{tables-alike, known-alike, count-alike, admitted-alike}
@@ -38,30 +36,19 @@ use Rattle.session_laws.proofs.Stores.{read-alike}
 
 -- ===== Transactions
 
-abbrev first_state : List StateId → StateId
-first_state [] = root
-first_state (x ∷ xs) = x
-
--- the transaction that is kept so
-abbrev plain_txn : Kept → Txn
-plain_txn (KeptSingle t) = Single (record { state = first_state t.states; reads = t.reads; writes = t.writes })
-plain_txn (KeptMerge t) = Merge (record { states = t.states; writes = t.writes })
-
-plain-of_kept : (t : Txn) → plain_txn (kept_txn t) ≡ t
-plain-of_kept (Single t) = refl
-plain-of_kept (Merge t) = refl
-
-plain-entry : (o : Option Txn) → option_map plain_txn (option_map kept_txn o) ≡ o
-plain-entry None = refl
-plain-entry (Some t) = ap (λ u. Some u) (plain-of_kept t)
-
 -- the states that an open transaction reads are kept
-read-is_kept : (core : Core) (site : Site) → CoreStands core site → (n : ℕ) (t : Txn) → entry_of n site.txns ≡ Some t → (x : StateId) → IsTrue (is_among x (states_of (kept_txn t))) → IsTrue (is_kept site.dag site.collected x)
+read-is_kept : (core : Core) (site : Site) → CoreStands core site → (n : ℕ) (t : Txn) → entry_of n site.txns ≡ Some t → (x : StateId) → IsTrue (is_among x (read_states t)) → IsTrue (is_kept site.dag site.collected x)
 read-is_kept core site stands n t found x m = go (entry_of n core.txns) refl
   where
-    go : (o : Option OpenTxn) → entry_of n core.txns ≡ o → IsTrue (is_kept site.dag site.collected x)
-    go None e = absurd (none-some (kept_txn t) (sym (ap (option_map (λ (h : OpenTxn). h.txn)) e) ∙ (sym (stands.txns n) ∙ ap (option_map kept_txn) found)))
-    go (Some h) e = named-are_kept core.store.table site.dag site.collected stands.store.table h.slots (states_of (kept_txn t)) (slots-named core site stands n h t e found) x m
+    of-kept : (h : Kept) → IsNamed core.store.table h → IsTrue (is_among x (read_states (txn_of h))) → IsTrue (is_kept site.dag site.collected x)
+    of-kept (KeptSingle h) named among = named-are_kept core.store.table site.dag site.collected stands.store.table (h.slot ∷ []) (h.state ∷ []) (ap (λ o. o ∷ []) named) x among
+    of-kept (KeptMerge h) named among = named-are_kept core.store.table site.dag site.collected stands.store.table h.slots h.states named x among
+
+    go : (o : Option Kept) → entry_of n core.txns ≡ o → IsTrue (is_kept site.dag site.collected x)
+    go None e = absurd (none-some t (sym (ap (option_map txn_of) e) ∙ (stands.txns n ∙ found)))
+    go (Some h) e =
+        let same : txn_of h ≡ t = same_Some (txn_of h) t (sym (ap (option_map txn_of) e) ∙ (stands.txns n ∙ found)) in
+        of-kept h (stands.slots n h e) (subst (λ u. IsTrue (is_among x (read_states u))) (sym same) m)
 
 -- ===== Sessions
 
@@ -101,7 +88,7 @@ module _ (core : Core) (a b : Site) (on_a : SiteStands core a) (on_b : SiteStand
   own-alike = sym on_a.0.own ∙ on_b.0.own
 
   pub txns-alike : (n : ℕ) → entry_of n a.txns ≡ entry_of n b.txns
-  txns-alike n = sym (plain-entry (entry_of n a.txns)) ∙ (ap (option_map plain_txn) (on_a.0.txns n ∙ sym (on_b.0.txns n)) ∙ plain-entry (entry_of n b.txns))
+  txns-alike n = sym (on_a.0.txns n) ∙ on_b.0.txns n
 
   -- the same state stands in for a last commit
   pub last-held : (n : ℕ) (s : Session) → entry_of n a.sessions ≡ Some s → stand_in a.dag a.collected s.last ≡ stand_in b.dag b.collected s.last

@@ -1,25 +1,22 @@
-use Rattle.std.proofs.Common.{◌∙◌, sym, subst}
-use Rattle.tardis_base.specs.declared.replies.Refusal.TheVariants.{NoTxn}
-use Rattle.tardis_base.specs.declared.replies.Reply.TheVariants.{Refused}
+use Rattle.std.proofs.Common.{refl, sym, subst}
+use Rattle.tardis_base.specs.declared.replies.Reply.TheVariants.{Done}
 use Rattle.plain_site.specs.Answers.{with_txn}
 use Rattle.plain_site.specs.Commits.{abort}
 use Rattle.session_core.specs.Held.{seen}
 use Rattle.session_core.specs.Stands.{CoreStands}
-use Rattle.session_core.specs.Gives.{IsGiven}
+use Rattle.session_core.proofs.Answers.{as-given}
 use Rattle.session_core.proofs.Memory.{ended-held}
-use Rattle.session_core.proofs.Writing.{no-txn, aborted}
+use Rattle.session_core.proofs.Standing.{has-answer, txn-ended}
 use Rattle.session_core.proofs.Parts.abort.Goals as goal
-
-pub returns-then-not-is_open-2 : goal.returns-then-not-is_open-2
-returns-then-not-is_open-2 c = λ site stands sound.
-    let here = subst (λ v. CoreStands v site) (sym c.self.view_is) stands in
-    subst (λ v. IsGiven (CoreStands v) (with_txn site c.args.actor (λ s t. abort site c.args.actor)) (Refused NoTxn)) c.self.view_is
-    (no-txn (seen c.self.inside) site here c.args.actor (λ s t. abort site c.args.actor) (sym c.is_open.ensures ∙ c.if-not-is_open.false) (sym c.is_open-2.ensures ∙ c.if-not-is_open-2.true))
 
 pub invariant_of-self : goal.invariant_of-self
 invariant_of-self c = ended-held c.self.inside c.self.invariant c.args.actor c.end.new.self c.end.ensures
 
-pub returns : goal.returns
-returns c = λ site stands sound.
+pub returns-clause-given : goal.returns-clause-given
+returns-clause-given c = λ site stands sound.
     let here = subst (λ v. CoreStands v site) (sym c.self.view_is) stands in
-    aborted (seen c.self.inside) site here c.args.actor c.end.new.self c.end.ensures (sym c.is_open.ensures ∙ c.if-not-is_open.false) (sym c.is_open-2.ensures ∙ c.if-not-is_open-2.false)
+    let n = c.args.actor in
+    let txn = c.in_ok-open_txn.field-0.now in
+    as-given (CoreStands (record (seen c.self.inside) { txns = c.end.new.self })) (with_txn site n (λ s t. abort site n)) (abort site n) Done
+    (has-answer c.args.self.now.store.table site n txn (c.in_ok-open_txn.ensures.stands site stands sound) (λ t. abort site n))
+    (txn-ended (seen c.self.inside) site here n c.end.new.self c.end.ensures, refl)

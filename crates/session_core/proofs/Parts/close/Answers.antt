@@ -1,4 +1,5 @@
-use Rattle.std.proofs.Common.{◌∙◌, sym, subst}
+use Rattle.std.proofs.Common.{◌≡◌, true, sym, subst}
+use Rattle.ceiling_book.specs.Book.{is_open}
 use Rattle.session_core.specs.Held.{seen}
 use Rattle.session_core.specs.Stands.{CoreStands}
 use Rattle.session_core.proofs.Memory.{ended-held, sessions-held}
@@ -10,8 +11,9 @@ invariant_of-self c =
     ended-held (record c.self.inside { book = c.close_session.new.self })
     (sessions-held c.self.inside c.self.invariant c.close_session.new.self c.close_session.ensures.rest (c.close_session.ensures.slots c.self.inside.store.table)) c.args.actor c.end.new.self c.end.ensures
 
-pub returns : goal.returns
-returns c = λ site stands sound.
+pub returns-clause-given : goal.returns-clause-given
+returns-clause-given c = λ site stands sound.
     let here = subst (λ v. CoreStands v site) (sym c.self.view_is) stands in
     close-gives (seen c.self.inside) c.close_session.new.self site c.args.actor c.end.new.self here c.close_session.ensures.rest
-    (c.close_session.ensures.placed c.self.inside.store.table site.dag site.collected) c.close_session.ensures.closed c.end.ensures (sym c.is_open.ensures ∙ c.if-not-is_open.false)
+    (c.close_session.ensures.placed c.self.inside.store.table site.dag site.collected) c.close_session.ensures.closed c.end.ensures
+    (subst (λ v. is_open v.book c.args.actor ≡ true) (sym c.self.view_is) c.in_ok-session.ensures.open)

@@ -1,52 +1,43 @@
-use Rattle.std.proofs.Common.{◌∙◌, ◌==◌, length, refl, sym, ap, subst}
-use Rattle.std.proofs.lemmas.Bool.{not-true, not-false}
-use Rattle.tardis_base.specs.declared.replies.Refusal.TheVariants.{NoTxn}
-use Rattle.tardis_base.specs.declared.replies.Reply.TheVariants.{Refused, Ended}
-use Rattle.merge_txn.specs.Txns.{is_single}
-use Rattle.plain_site.specs.Site.{Single}
+use Rattle.std.proofs.Common.{◌∙◌, [], map, sym, ap, subst}
+use Rattle.tardis_base.specs.Keys.{keys_of}
+use Rattle.plain_dag.specs.Landing.{landing, guarded}
+use Rattle.state_dag.specs.Table.{id_at}
+use Rattle.merge_txn.specs.declared.Txn.TheVariants.{Single as KeptSingle, Merge as KeptMerge}
+use Rattle.plain_site.specs.Site.{SingleTxn, MergeTxn, Merge}
 use Rattle.plain_site.specs.Built.{so_far}
-use Rattle.plain_site.specs.Answers.{refused, with_txn}
-use Rattle.plain_site.specs.Commits.{commit, without_txn_of}
-use Rattle.session_core.specs.Held.{seen}
+use Rattle.plain_site.specs.Answers.{with_txn}
+use Rattle.plain_site.specs.Commits.{commit, commit_at, commit_below}
+use Rattle.session_core.specs.Guards.{HasTxn}
 use Rattle.session_core.specs.Stands.{CoreStands}
-use Rattle.session_core.specs.Gives.{IsGiven, Gives}
-use Rattle.session_core.proofs.Answers.{as-given}
-use Rattle.session_core.proofs.Standing.{refuses-no_txn}
-use Rattle.session_core.proofs.Reading.{single-for}
-use Rattle.session_core.proofs.Committing.{is-commit, writes-as, reads-only, writes-too}
+use Rattle.session_core.proofs.Answers.{as-answer}
+use Rattle.session_core.proofs.Standing.{has-answer}
+use Rattle.session_core.proofs.Committing.{writes-too, below-is-kept, may-arrive}
+use Rattle.session_core.proofs.MergeCommitting.{merge-arrives, merges-below}
 use Rattle.session_core.proofs.Parts.commit.Goals as goal
 
-pub returns-in-None : goal.returns-in-None
-returns-in-None c = λ site stands sound.
-    let here = subst (λ v. CoreStands v site) (sym c.self.view_is) stands in
-    subst (λ v. IsGiven (CoreStands v) (with_txn site c.args.actor (λ s t. commit so_far site c.args.actor t c.args.flags c.args.k)) (Refused NoTxn)) c.self.view_is
-    (as-given (CoreStands (seen c.self.inside)) (with_txn site c.args.actor (λ s t. commit so_far site c.args.actor t c.args.flags c.args.k)) (refused site NoTxn) (Refused NoTxn)
-    (refuses-no_txn (seen c.self.inside) site here c.args.actor (λ s t. commit so_far site c.args.actor t c.args.flags c.args.k) (sym c.is_open.ensures ∙ c.if-not-is_open.false) (sym c.in-None.ensures.is)) (here, refl))
+pub returns-in_ok-below-in-Merge : goal.returns-in_ok-below-in-Merge
+returns-in_ok-below-in-Merge c = λ site stands sound.
+    let n = c.args.actor in
+    let table = c.args.self.now.store.table in
+    let m = c.in-Merge.merge in
+    let t : MergeTxn = record { states = m.states; writes = m.writes } in
+    let has = subst (HasTxn table site n) c.in-Merge.is (c.in_ok-merge.ensures.stands site stands sound) in
+    let may = c.in_ok-below-in-Merge.ensures.may site stands has.named in
+    let named = ap (map (id_at table)) (c.as_slice.ensures ∙ c.in_ok-below-in-Merge.ensures.slots) ∙ has.named in
+    as-answer (CoreStands c.commit_below.new.self) (with_txn site n (λ s u. commit so_far site n u c.args.flags c.args.k)) (commit_below so_far site n m.states m.writes []) site c.commit_below.result
+    (has-answer table site n (KeptMerge m) has (λ u. commit so_far site n u c.args.flags c.args.k) ∙ merges-below site n t c.args.flags may.0 may.1)
+    (c.commit_below.ensures site stands (Merge t) m.states has.found named (merge-arrives site sound n t has.found may.1))
 
-pub returns-then-has_written : goal.returns-then-has_written
-returns-then-has_written c = λ site stands sound.
-    let here = subst (λ v. CoreStands v site) (sym c.self.view_is) stands in
-    let core = seen c.self.inside in
-    let held = c.in-Some.held.now in
-    let at = sym c.in-Some.ensures.is in
-    let plain = single-for core site here c.args.actor held at (not-false (is_single held.txn) (sym c.is_merge.ensures ∙ c.if-is_merge.false)) in
-    let opened = sym c.is_open.ensures ∙ c.if-not-is_open.false in
-    let writes = c.writes.ensures ∙ writes-as core site here c.args.actor held (Single plain.txn) at plain.found in
-    let some = ap (λ ws. length ws == 0) (sym writes) ∙ sym c.is_empty.ensures ∙ not-true c.is_empty.result c.if-has_written.true in
-    subst (λ a. Gives (CoreStands c.commit_writes.new.self) a site c.commit_writes.result)
-    (sym (is-commit core site here c.args.actor (Single plain.txn) opened plain.found c.args.flags c.args.k ∙ writes-too site c.args.actor plain.txn c.args.flags c.args.k some))
-    (c.commit_writes.ensures site stands sound plain.txn plain.found)
-
-pub returns-else-has_written : goal.returns-else-has_written
-returns-else-has_written c = λ site stands sound.
-    let here = subst (λ v. CoreStands v site) (sym c.self.view_is) stands in
-    let core = seen c.self.inside in
-    let held = c.in-Some.held.now in
-    let at = sym c.in-Some.ensures.is in
-    let plain = single-for core site here c.args.actor held at (not-false (is_single held.txn) (sym c.is_merge.ensures ∙ c.if-is_merge.false)) in
-    let opened = sym c.is_open.ensures ∙ c.if-not-is_open.false in
-    let writes = c.writes.ensures ∙ writes-as core site here c.args.actor held (Single plain.txn) at plain.found in
-    let none = ap (λ ws. length ws == 0) (sym writes) ∙ sym c.is_empty.ensures ∙ not-false c.is_empty.result c.if-has_written.false in
-    as-given (CoreStands c.end_reading.new.self) (with_txn site c.args.actor (λ s t. commit so_far site c.args.actor t c.args.flags c.args.k)) (without_txn_of c.args.actor site, Ended plain.txn.state) c.end_reading.result
-    (is-commit core site here c.args.actor (Single plain.txn) opened plain.found c.args.flags c.args.k ∙ reads-only site c.args.actor plain.txn c.args.flags c.args.k none)
-    (c.end_reading.ensures site stands plain.txn plain.found)
+pub returns-else-is_empty : goal.returns-else-is_empty
+returns-else-is_empty c = λ site stands sound.
+    let n = c.args.actor in
+    let table = c.args.self.now.store.table in
+    let one = c.in-Single.single in
+    let t : SingleTxn = record { state = one.state; reads = one.reads; writes = one.writes } in
+    let has = subst (HasTxn table site n) c.in-Single.is (c.in_ok-merge.ensures.stands site stands sound) in
+    let some = sym c.is_empty.ensures ∙ c.if-is_empty.false in
+    let x = landing site.dag (guarded c.args.flags t.reads (keys_of t.writes)) t.state in
+    let lands = c.landing-landing.ensures.landing site stands has.named (below-is-kept site sound n t has.found) in
+    as-answer (CoreStands c.commit_at.new.self) (with_txn site n (λ s u. commit so_far site n u c.args.flags c.args.k)) (commit_at so_far site n t c.args.flags c.args.k x) site c.commit_at.result
+    (has-answer table site n (KeptSingle one) has (λ u. commit so_far site n u c.args.flags c.args.k) ∙ writes-too site n t c.args.flags c.args.k some)
+    (c.commit_at.ensures site stands sound t x has.found lands (may-arrive site sound n t has.found c.args.flags))

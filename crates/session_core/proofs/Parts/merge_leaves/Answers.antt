@@ -3,7 +3,7 @@ use Rattle.plain_dag.specs.Forks.{leaves}
 use Rattle.state_dag.specs.Stands.{Stands}
 use Rattle.plain_site.specs.Merges.{merge_at}
 use Rattle.session_core.specs.Stands.{CoreStands}
-use Rattle.session_core.specs.Gives.{Gives}
+use Rattle.session_core.specs.Gives.{GivesOrStops}
 use Rattle.session_core.proofs.Merging.{whole-page}
 use Rattle.session_core.proofs.Parts.merge_leaves.Goals as goal
 
@@ -16,5 +16,5 @@ returns c = λ site stands sound s is.
     let page = c.in_ok-page.ensures site.dag site.collected (subst (λ t. Stands t site.dag site.collected) (sym table_too) stands.store.table) in
     let few : length xs ≤ 8 = omega (arith, count, c.if-count-gt-MOST_STATES.false) in
     let all = c.as_slice.ensures ∙ whole-page xs c.in_ok-page.page.first few page.1 in
-    subst (λ ys. Gives (CoreStands c.merge_states.new.self) (merge_at site c.args.actor s.ceiling ys) site c.merge_states.result) all
+    subst (λ ys. GivesOrStops (CoreStands c.merge_states.new.self) (merge_at site c.args.actor s.ceiling ys) site c.merge_states.result) all
     (c.merge_states.ensures site stands sound s is (subst (λ ys. length ys ≤ 8) (sym all) few))

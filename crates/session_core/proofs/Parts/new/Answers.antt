@@ -1,10 +1,9 @@
-use Rattle.std.proofs.Common.{◌≡◌, [], ◌∷◌, map, Some, IsTrue, sym, subst}
-use Rattle.std.specs.List.{list_all}
+use Rattle.std.proofs.Common.{◌≡◌, [], ◌∷◌, Some, IsTrue, sym, subst}
 use Rattle.plain_dag.specs.States.{root_record}
 use Rattle.state_dag.specs.Table.{is_slot, id_at}
 use Rattle.state_dag.specs.Stands.{Stands}
 use Rattle.tardis_base.specs.Ids.{root as the_root}
-use Rattle.merge_txn.specs.Txns.{states_of}
+use Rattle.session_core.specs.Txns.{has_slots, IsNamed}
 use Rattle.session_core.proofs.Opening.{none-held, none-kept, floors-open}
 use Rattle.session_core.proofs.Parts.new.Goals as goal
 
@@ -14,7 +13,7 @@ invariant_of-result c =
     let book = c.in_ok-book.book in
     record {
       places = c.in_ok-book.ensures.slots store.table (subst (λ t. IsTrue (is_slot t c.last-root.result)) c.dag.ensures c.last-root.ensures.slot);
-      slots = none-held (λ n held. IsTrue (list_all (is_slot store.table) held.slots)) c.new-txns.result c.new-txns.ensures;
+      slots = none-held (λ n held. IsTrue (has_slots store.table held)) c.new-txns.result c.new-txns.ensures;
       floors = floors-open book c.args.limits.now store.table.limits c.in_ok-book.ensures.floors c.in_ok-store.ensures.limits;
     }
 
@@ -34,6 +33,6 @@ returns c =
             (subst (λ t. id_at t c.last-root.result ≡ Some the_root) c.dag.ensures
             (c.last-root.ensures.last (root_record ∷ []) [] (subst (λ t. Stands t (root_record ∷ []) []) (sym c.dag.ensures) c.in_ok-store.ensures.stands.table)));
         txns = none-kept c.new-txns.result c.new-txns.ensures;
-        slots = none-held (λ n held. map (id_at store.table) held.slots ≡ map (λ x. Some x) (states_of held.txn)) c.new-txns.result c.new-txns.ensures;
+        slots = none-held (λ n held. IsNamed store.table held) c.new-txns.result c.new-txns.ensures;
       };
     }

@@ -1,50 +1,32 @@
-use Rattle.std.proofs.Common.{refl, sym, subst, ap, ◌∙◌}
-use Rattle.tardis_base.specs.declared.replies.Refusal.TheVariants.{Unsupported}
-use Rattle.tardis_base.specs.declared.replies.Reply.TheVariants.{Refused}
-use Rattle.tardis_base.specs.declared.records.Write.TheVariants.{Put as Value}
+use Rattle.std.proofs.Common.{sym, subst}
+use Rattle.tardis_base.specs.declared.records.Write.TheVariants.{Put as Value, Delete as Deletion}
 use Rattle.plain_site.specs.Built.{so_far}
 use Rattle.plain_site.specs.Reads.{set_key}
 use Rattle.plain_site.specs.Answers.{with_txn}
 use Rattle.plain_site.specs.Step.{step}
 use Rattle.session_core.specs.Stands.{CoreStands}
-use Rattle.session_core.specs.Gives.{Gives}
-use Rattle.session_core.proofs.Answers.{as-given}
-use Rattle.session_core.proofs.Serving.{IsOther, other-unsupported}
+use Rattle.session_core.specs.Gives.{GivesOrStops}
 use Rattle.session_core.proofs.Parts.serve.Goals as goal
 
-pub returns-in_ok-copy-in-Put-clause-given : goal.returns-in_ok-copy-in-Put-clause-given
-returns-in_ok-copy-in-Put-clause-given c = λ site stands sound.
-    subst (λ q. Gives (CoreStands c.put.new.self) (step so_far site c.args.actor q) site c.put.result) (sym c.in-Put.is)
-    (subst (λ v. Gives (CoreStands c.put.new.self) (with_txn site c.args.actor (λ s t. set_key site c.args.actor t c.in-Put.key (Value v))) site c.put.result) c.in_ok-copy-in-Put.ensures
-    (c.put.ensures site stands sound))
+pub returns-in_ok-copy-in-Put-2-clause-given : goal.returns-in_ok-copy-in-Put-2-clause-given
+returns-in_ok-copy-in-Put-2-clause-given c = λ site stands sound.
+    let n = c.args.actor in
+    let copied = subst (λ k. GivesOrStops (CoreStands c.put.new.self) (with_txn site n (λ s t. set_key site n t k (Value c.in_ok-copy-in-Put-2.field-0))) site c.put.result) c.in_ok-copy-in-Put.ensures
+    (c.put.ensures site stands sound) in
+    subst (λ q. GivesOrStops (CoreStands c.put.new.self) (step so_far site n q) site c.put.result) (sym c.in-Put.is)
+    (subst (λ v. GivesOrStops (CoreStands c.put.new.self) (with_txn site n (λ s t. set_key site n t c.in-Put.key (Value v))) site c.put.result) c.in_ok-copy-in-Put-2.ensures copied)
+
+pub returns-in_ok-copy-in-Delete-clause-given : goal.returns-in_ok-copy-in-Delete-clause-given
+returns-in_ok-copy-in-Delete-clause-given c = λ site stands sound.
+    let n = c.args.actor in
+    subst (λ q. GivesOrStops (CoreStands c.put-in-Delete.new.self) (step so_far site n q) site c.put-in-Delete.result) (sym c.in-Delete.is)
+    (subst (λ k. GivesOrStops (CoreStands c.put-in-Delete.new.self) (with_txn site n (λ s t. set_key site n t k Deletion)) site c.put-in-Delete.result) c.in_ok-copy-in-Delete.ensures
+    (c.put-in-Delete.ensures site stands sound))
 
 pub returns-in-Commit-clause-given : goal.returns-in-Commit-clause-given
 returns-in-Commit-clause-given c = λ site stands sound.
-    subst (λ q. Gives (CoreStands c.commit.new.self) (step so_far site c.args.actor q) site c.commit.result) (sym c.in-Commit.is) (c.commit.ensures site stands sound)
+    subst (λ q. GivesOrStops (CoreStands c.commit.new.self) (step so_far site c.args.actor q) site c.commit.result) (sym c.in-Commit.is) (c.commit.ensures site stands sound)
 
-pub returns-in_default : goal.returns-in_default
-returns-in_default c =
-    let other : IsOther c.args.request.now = record {
-      opens = c.in_default.not-Open;
-      begin = c.in_default.not-Begin;
-      get = c.in_default.not-Get;
-      put = c.in_default.not-Put;
-      delete = c.in_default.not-Delete;
-      commit = c.in_default.not-Commit;
-      abort = c.in_default.not-Abort;
-      begin_merge = c.in_default.not-BeginMerge;
-      fork_points = c.in_default.not-ForkPoints;
-      conflicts = c.in_default.not-Conflicts;
-      get_for = c.in_default.not-GetFor;
-      stat = c.in_default.not-Stat;
-      show = c.in_default.not-Show;
-      leaves = c.in_default.not-Leaves;
-      close = c.in_default.not-Close;
-    } in
-    record {
-      given = λ site stands sound.
-          as-given (CoreStands c.args.self.now) (step so_far site c.args.actor c.args.request.now) (site, Refused (Unsupported c.code_of-op.result)) c.unsupported-in_default.result
-          (other-unsupported site c.args.actor c.args.request.now other ∙ ap (λ op. (site, Refused (Unsupported op))) (sym c.code_of-op.ensures))
-          (stands, c.unsupported-in_default.ensures);
-      sure = λ sure. refl;
-    }
+pub returns-in-GetFor-clause-given : goal.returns-in-GetFor-clause-given
+returns-in-GetFor-clause-given c = λ site stands sound.
+    subst (λ q. GivesOrStops (CoreStands c.args.self.now) (step so_far site c.args.actor q) site c.get_for.result) (sym c.in-GetFor.is) (c.get_for.ensures site stands sound)

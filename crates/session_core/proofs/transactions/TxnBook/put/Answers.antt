@@ -1,43 +1,33 @@
-use Rattle.std.proofs.Common.{◌≡◌, ◌∙◌, ◌↔◌, Err, IsTrue, sym, ap, subst}
-use Rattle.std.specs.Option.{option_copied_mut, IfSome}
-use Rattle.std.specs.Result.{IfErr}
-use Rattle.merge_txn.specs.Txns.{too_many_writes, has_no_place_to_write, put_fault, writes_of}
-use Rattle.session_core.specs.declared.transactions.OpenTxn.{OpenTxn}
-use Rattle.session_core.specs.Txns.{putting}
-use Rattle.session_core.proofs.Written.{never-missing, whole-put, was-there, on-change, on-fault, still-whole}
+use Rattle.std.proofs.Common.{◌∙◌, Some, None, sym, ap, subst}
+use Rattle.std.specs.Option.{option_copied_mut}
+use Rattle.merge_txn.specs.Txns.{has_no_place_to_write, writes_of, too_many_writes}
+use Rattle.session_core.specs.Txns.{PutAs, putting}
+use Rattle.session_core.proofs.Written.{nothing-there, was-there, is-changed}
 use Rattle.session_core.proofs.transactions.TxnBook.put.Goals as goal
+use Rattle.session_core.proofs.transactions.TxnBook.put.Goals.{in-Some, in-None}
 
-pub unreachable-requires : goal.unreachable-requires
-unreachable-requires c = never-missing c.args.session c.self.inside.entries.entries c.args.self.now c.self.view_is c.requires (sym c.get_mut.ensures.value ∙ ap option_copied_mut c.in-None.is)
-
-pub invariant_of-self : goal.invariant_of-self
-invariant_of-self c =
-    let found = sym c.get_mut.ensures.value ∙ ap option_copied_mut c.in-Some.is in
-    still-whole c.args.session c.self.inside.entries.entries c.args.self.now (c.get_mut.follows.lender c.put.new.self).entries c.in-Some.held.now c.put.new.self c.self.view_is (c.get_mut.follows.holds c.put.new.self).0
-    c.get_mut.ensures.ordered found c.put.result (putting c.args.key.now c.args.write) c.put.ensures.put c.put.ensures.same (whole-put c.args.key.now c.args.write) c.self.invariant
-
-pub returns-clause-put : goal.returns-clause-put
-returns-clause-put c =
-    let found = sym c.get_mut.ensures.value ∙ ap option_copied_mut c.in-Some.is in
-    on-change c.args.session c.self.inside.entries.entries c.args.self.now (c.get_mut.follows.lender c.put.new.self).entries c.in-Some.held.now c.put.new.self c.self.view_is (c.get_mut.follows.holds c.put.new.self).0
-    c.get_mut.ensures.ordered found c.put.result (putting c.args.key.now c.args.write) c.put.ensures.put
-
-pub returns-clause-same : goal.returns-clause-same
-returns-clause-same c =
-    let found = sym c.get_mut.ensures.value ∙ ap option_copied_mut c.in-Some.is in
-    on-fault c.args.session c.self.inside.entries.entries c.args.self.now (c.get_mut.follows.lender c.put.new.self).entries c.in-Some.held.now c.put.new.self c.self.view_is (c.get_mut.follows.holds c.put.new.self).0
-    c.get_mut.ensures.ordered found c.put.result c.put.ensures.same
-
-pub returns-clause-full : goal.returns-clause-full
-returns-clause-full c =
-    let found = sym c.get_mut.ensures.value ∙ ap option_copied_mut c.in-Some.is in
-    let at = was-there c.args.session c.self.inside.entries.entries c.args.self.now (c.get_mut.follows.lender c.put.new.self).entries c.in-Some.held.now c.put.new.self c.self.view_is (c.get_mut.follows.holds c.put.new.self).0
-    c.get_mut.ensures.ordered found in
-    subst (λ o. IfSome o (λ (held : OpenTxn). (c.put.result ≡ Err too_many_writes) ↔ IsTrue (has_no_place_to_write c.args.key.now (writes_of held.txn)))) (sym at) c.put.ensures.full
-
-pub returns-clause-fault : goal.returns-clause-fault
-returns-clause-fault c =
-    let found = sym c.get_mut.ensures.value ∙ ap option_copied_mut c.in-Some.is in
-    let at = was-there c.args.session c.self.inside.entries.entries c.args.self.now (c.get_mut.follows.lender c.put.new.self).entries c.in-Some.held.now c.put.new.self c.self.view_is (c.get_mut.follows.holds c.put.new.self).0
-    c.get_mut.ensures.ordered found in
-    subst (λ o. IfErr c.put.result (λ fault. IfSome o (λ (held : OpenTxn). fault ≡ put_fault c.args.key.now (writes_of held.txn)))) (sym at) c.put.ensures.fault
+pub returns : goal.returns
+returns c =
+    let now = c.args.self.now in
+    let n = c.args.session in
+    let k = c.args.key in
+    let es = c.self.inside.entries.entries in
+    elim c.match-get_mut.branch [
+      | in-Some w ↦
+          let found = sym c.get_mut.ensures.value ∙ ap option_copied_mut w.in-Some.is in
+          let after = (c.get_mut.follows.lender w.put.new.self).entries in
+          let put = (c.get_mut.follows.holds w.put.new.self).0 in
+          let v = w.in-Some.txn.now in
+          subst (λ r. PutAs now c.match-get_mut.self-inside.entries.entries n k c.args.write r) (sym w.result-is)
+          (subst (λ i. PutAs now i.entries.entries n k c.args.write (Some w.put.result)) (sym w.self-inside-is) (
+            v,
+            was-there n es now after v w.put.new.self c.self.view_is put c.get_mut.ensures.ordered found,
+            is-changed n es now after v w.put.new.self c.self.view_is put c.get_mut.ensures.ordered found (putting k c.args.write) (has_no_place_to_write k (writes_of v)) too_many_writes w.put.result w.put.ensures.put
+                w.put.ensures.same w.put.ensures.full w.put.ensures.fault,
+          ))
+      | in-None w ↦
+          let none = sym c.get_mut.ensures.value ∙ ap option_copied_mut w.in-None.is in
+          subst (λ r. PutAs now c.match-get_mut.self-inside.entries.entries n k c.args.write r) (sym w.result-is)
+          (subst (λ i. PutAs now i.entries.entries n k c.args.write None) (sym w.self-inside-is)
+          (nothing-there n es now c.self.view_is none, ap (λ m. m.entries) c.get_mut.follows.holds-at-none ∙ c.self.view_is))
+    ]
