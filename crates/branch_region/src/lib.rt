@@ -8,16 +8,17 @@ ghost use Rattle.tardis_base.specs.declared.ids.StateId.{StateId};
 ghost use Rattle.tardis_base.specs.declared.records.Record.{Record};
 ghost use Rattle.state_dag.specs.Table.{id_at, is_slot};
 ghost use Rattle.state_dag.specs.Stands.{Stands};
-ghost use Rattle.branch_region.specs.Regions.{apart_states, shared_states};
+ghost use Rattle.branch_region.specs.Regions.{is_above_part, apart_states, shared_states};
 
 mod asked;
 mod older;
 mod parts;
+#[cfg(test)]
+mod tests;
 mod walks;
 
-pub use parts::Region;
-
 use older::older;
+pub use parts::Region;
 use parts::joined;
 use state_dag::StateDag;
 use std::alloc::Global;
@@ -47,4 +48,14 @@ pub fn region(alloc: Global, dag: &StateDag, states: &[Slot]) -> Result<Region, 
         }
     }
     Ok(walk.noted())
+}
+
+/// Whether the state of this slot is at or above some of these states, and not at or above all of them. It takes no memory,
+/// and asks an ancestry for each of the states.
+pub fn is_above_part(dag: &StateDag, slot: Slot, states: &[Slot]) -> bool
+    requires slot { IsTrue (is_slot dag.now slot) }
+    requires states { IsTrue (list_all (is_slot dag.now) states.now) }
+    ensures { (rs : List Record) (ks : List StateId) → Stands dag.now rs ks → (x : StateId) → id_at dag.now slot ≡ Some x → (xs : List StateId) → map (id_at dag.now) states.now ≡ map (λ y. Some y) xs → result ≡ is_above_part rs x xs }
+{
+    asked::is_above_part(dag, slot, states)
 }

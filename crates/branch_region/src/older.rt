@@ -10,8 +10,8 @@ ghost use Rattle.state_dag.specs.Stands.{Stands};
 ghost use Rattle.branch_region.specs.Regions.{is_above_part, is_last_shared};
 ghost use Rattle.branch_region.specs.Walks.{is_until};
 
-use crate::parts::Region;
 use crate::asked::{is_above_part, is_last_shared};
+use crate::parts::Region;
 use state_dag::StateDag;
 use std::alloc::Global;
 use tardis_base::{NoMemory, Slot};

@@ -11,8 +11,8 @@ ghost use Rattle.state_dag.specs.Table.{id_at, is_slot, arrival_at};
 ghost use Rattle.state_dag.specs.Stands.{Stands};
 ghost use Rattle.branch_region.specs.Walks.{waits_at, AreSlots, HasSlots, IsWalkAt, StepsTo, HasThese, AreWaiting};
 
-use crate::parts::Region;
 use crate::asked::is_above_all;
+use crate::parts::Region;
 use state_dag::StateDag;
 use std::alloc::Global;
 use std::collections::BTreeMap;

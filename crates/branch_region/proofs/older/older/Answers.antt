@@ -51,9 +51,9 @@ loop-slot-preserved c =
             let part = sym (part-told table rs ks stands (get_or items i d) n.state n.named c.args.states.now xs are) ∙ (sym c.is_above_part.ensures ∙ w.if-is_above_part.true) in
             let p : StateId → Bool = λ x. is_above_part rs x xs in (
               subst (λ (v : Vec Slot Global). map (id_at table) v.items ≡ map (λ x. Some x) (filter (is_until rs c.args.bound p) (take (i + 1) (kept_states rs ks)))) (sym w.apart-is)
-              (ap (map (id_at table)) w.in_ok-push.ensures.items ∙ passing-more (id_at table) (is_until rs c.args.bound p) (kept_states rs ks) i n.state c.loop-slot.apart.items (get_or items i d) n.next n.named (until-is (arrival rs) p c.args.bound n.state lt ∙ part) was.0),
+                  (ap (map (id_at table)) w.in_ok-push.ensures.items ∙ passing-more (id_at table) (is_until rs c.args.bound p) (kept_states rs ks) i n.state c.loop-slot.apart.items (get_or items i d) n.next n.named (until-is (arrival rs) p c.args.bound n.state lt ∙ part) was.0),
               subst (λ (v : Vec Slot Global). map (id_at table) v.items ≡ map (λ x. Some x) (filter (is_until rs c.args.bound (is_last_shared rs xs)) (take (i + 1) (kept_states rs ks)))) (sym w.shared-is)
-              (passing-same (id_at table) (is_until rs c.args.bound (is_last_shared rs xs)) (kept_states rs ks) i n.state c.loop-slot.shared.items n.next (until-is (arrival rs) (is_last_shared rs xs) c.args.bound n.state lt ∙ part-isnt_last rs xs n.state part) was.1),
+                  (passing-same (id_at table) (is_until rs c.args.bound (is_last_shared rs xs)) (kept_states rs ks) i n.state c.loop-slot.shared.items n.next (until-is (arrival rs) (is_last_shared rs xs) c.args.bound n.state lt ∙ part-isnt_last rs xs n.state part) was.1),
             );
       }
       | else-is_above_part+then-is_last_shared+in_ok-push-2 w ↦ record {
@@ -68,9 +68,9 @@ loop-slot-preserved c =
             let last = sym (w.is_last_shared.ensures rs ks stands n.state n.named xs are) ∙ w.if-is_last_shared.true in
             let p : StateId → Bool = λ x. is_above_part rs x xs in (
               subst (λ (v : Vec Slot Global). map (id_at table) v.items ≡ map (λ x. Some x) (filter (is_until rs c.args.bound p) (take (i + 1) (kept_states rs ks)))) (sym w.apart-is)
-              (passing-same (id_at table) (is_until rs c.args.bound p) (kept_states rs ks) i n.state c.loop-slot.apart.items n.next (until-is (arrival rs) p c.args.bound n.state lt ∙ part) was.0),
+                  (passing-same (id_at table) (is_until rs c.args.bound p) (kept_states rs ks) i n.state c.loop-slot.apart.items n.next (until-is (arrival rs) p c.args.bound n.state lt ∙ part) was.0),
               subst (λ (v : Vec Slot Global). map (id_at table) v.items ≡ map (λ x. Some x) (filter (is_until rs c.args.bound (is_last_shared rs xs)) (take (i + 1) (kept_states rs ks)))) (sym w.shared-is)
-              (ap (map (id_at table)) w.in_ok-push-2.ensures.items ∙ passing-more (id_at table) (is_until rs c.args.bound (is_last_shared rs xs)) (kept_states rs ks) i n.state c.loop-slot.shared.items (get_or items i d) n.next n.named (until-is (arrival rs) (is_last_shared rs xs) c.args.bound n.state lt ∙ last) was.1),
+                  (ap (map (id_at table)) w.in_ok-push-2.ensures.items ∙ passing-more (id_at table) (is_until rs c.args.bound (is_last_shared rs xs)) (kept_states rs ks) i n.state c.loop-slot.shared.items (get_or items i d) n.next n.named (until-is (arrival rs) (is_last_shared rs xs) c.args.bound n.state lt ∙ last) was.1),
             );
       }
       | else-is_above_part+else-is_last_shared w ↦ record {
@@ -85,9 +85,9 @@ loop-slot-preserved c =
             let last = sym (w.is_last_shared.ensures rs ks stands n.state n.named xs are) ∙ w.if-is_last_shared.false in
             let p : StateId → Bool = λ x. is_above_part rs x xs in (
               subst (λ (v : Vec Slot Global). map (id_at table) v.items ≡ map (λ x. Some x) (filter (is_until rs c.args.bound p) (take (i + 1) (kept_states rs ks)))) (sym w.apart-is)
-              (passing-same (id_at table) (is_until rs c.args.bound p) (kept_states rs ks) i n.state c.loop-slot.apart.items n.next (until-is (arrival rs) p c.args.bound n.state lt ∙ part) was.0),
+                  (passing-same (id_at table) (is_until rs c.args.bound p) (kept_states rs ks) i n.state c.loop-slot.apart.items n.next (until-is (arrival rs) p c.args.bound n.state lt ∙ part) was.0),
               subst (λ (v : Vec Slot Global). map (id_at table) v.items ≡ map (λ x. Some x) (filter (is_until rs c.args.bound (is_last_shared rs xs)) (take (i + 1) (kept_states rs ks)))) (sym w.shared-is)
-              (passing-same (id_at table) (is_until rs c.args.bound (is_last_shared rs xs)) (kept_states rs ks) i n.state c.loop-slot.shared.items n.next (until-is (arrival rs) (is_last_shared rs xs) c.args.bound n.state lt ∙ last) was.1),
+                  (passing-same (id_at table) (is_until rs c.args.bound (is_last_shared rs xs)) (kept_states rs ks) i n.state c.loop-slot.shared.items n.next (until-is (arrival rs) (is_last_shared rs xs) c.args.bound n.state lt ∙ last) was.1),
             );
       }
     ]
