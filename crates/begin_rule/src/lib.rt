@@ -17,6 +17,8 @@ mod merges;
 
 pub use merges::{MergeFault, choose_all};
 use state_dag::StateDag;
+use std::error::Error;
+use std::fmt;
 use tardis_base::{Begin, Slot, StateId};
 
 /// Why a transaction may not begin where it was to begin.
@@ -27,6 +29,27 @@ pub enum BeginFault {
     /// The state is a proper ancestor of the session's ceiling.
     Below { state: StateId, ceiling: StateId },
 }
+
+impl fmt::Display for BeginFault {
+    fn fmt<W: fmt::Write>(&self, f: &mut fmt::Formatter<W>) -> fmt::Result {
+        match *self {
+            BeginFault::Unknown { state } => {
+                let StateId { site, sequence } = state;
+                write!(f, "the state {site}.{sequence} has not arrived here")
+            },
+            BeginFault::Below { state, ceiling } => {
+                let StateId { site, sequence } = state;
+                write!(
+                    f,
+                    "the state {site}.{sequence} is above the session's ceiling {}.{}: begin at the ceiling, or at a state that is not above it",
+                    ceiling.site, ceiling.sequence
+                )
+            },
+        }
+    }
+}
+
+impl Error for BeginFault {}
 
 /// The slot of the state that a transaction of this session reads.
 ///
