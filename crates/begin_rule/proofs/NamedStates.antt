@@ -43,7 +43,7 @@ pub record IsNamedNext (name : Slot → Option StateId) (ss : List Slot) (xs : L
   pub behind : map name (drop (i + 1) ss) ≡ map (λ x. Some x) (drop (i + 1) xs)
 
 -- there are as many slots as states
-named-length : (name : Slot → Option StateId) (ss : List Slot) (xs : List StateId) → map name ss ≡ map (λ x. Some x) xs → length ss ≡ length xs
+pub named-length : (name : Slot → Option StateId) (ss : List Slot) (xs : List StateId) → map name ss ≡ map (λ x. Some x) xs → length ss ≡ length xs
 named-length name ss xs are = sym (length-map ss name) ∙ (ap length are ∙ length-map xs (λ x. Some x))
 
 -- each slot has its state at its place

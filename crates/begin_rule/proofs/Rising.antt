@@ -1,18 +1,15 @@
--- Kept states rise by arrival, and so does what the next of them is.
-use Rattle.std.proofs.Common.{◌≡◌, ℕ, ◌≤◌, ◌<◌, Bool, true, not, List, [], ◌∷◌, ◌++◌, filter, Some, IsTrue, ◌⊎◌, inl, inr, refl, sym, ap, subst, ◌∙◌, arith}
-use Rattle.std.specs.Prelude.{slice_get}
+-- Leaves rise by arrival.
+use Rattle.std.proofs.Common.{◌≡◌, ℕ, zero, suc, ◌≤◌, ◌<◌, Bool, true, List, [], ◌∷◌, ◌++◌, filter, drop, Some, IsTrue, ◌⊎◌, inl, inr, refl, sym, ap, subst, ◌∙◌, arith}
 use Rattle.std.proofs.lemmas.Bool.{cases_Bool}
-use Rattle.std.proofs.lemmas.Option.{none-some, same_Some}
 use Rattle.tardis_base.specs.declared.ids.StateId.{StateId}
 use Rattle.tardis_base.specs.declared.records.Record.{Record}
-use Rattle.tardis_base.specs.Ids.{same_id, is_among}
+use Rattle.tardis_base.specs.Ids.{is_among}
 use Rattle.plain_dag.specs.States.{arrived, arrival}
-use Rattle.plain_dag.specs.Collection.{kept_states}
+use Rattle.plain_dag.specs.Forks.{is_leaf, leaves}
 use Rattle.plain_dag.specs.Dag.{IsDag}
-use Rattle.plain_dag.proofs.Ids.{not-both, same_id-true, same_id_self, among-first, among-later, among-cases}
+use Rattle.plain_dag.proofs.Ids.{not-both, same_id_self, among-first, among-later, among-cases}
 use Rattle.plain_dag.proofs.Histories.{Grows, dag-grows, known-isnt-newest, arrival-newest, arrival-before, arrival_is_below}
 use Rattle.plain_dag.proofs.Searches.{filtered-passes}
-use Rattle.state_dag.specs.Answers.{next_of}
 use Rattle.state_dag.proofs.Known.{arrived-is_known}
 
 module _ (f : StateId → ℕ) where
@@ -42,37 +39,21 @@ module _ (f : StateId → ℕ) where
     | inr n ↦ rw n (rising-filter p xs up.1)
   ]
 
-  -- the first comes before all
-  pub first-rises : (xs : List StateId) (n z : StateId) → Rising xs → slice_get xs 0 ≡ Some n → IsTrue (is_among z xs) → f n ≤ f z
-  first-rises [] n z up e m = not-both true refl (sym m)
-  first-rises (x ∷ xs) n z up e m =
-      let same : x ≡ n = same_Some x n e in
-      elim (among-cases z x xs m) [
-        | inl is ↦ (let eq = ap f (is ∙ same) in omega arith)
-        | inr later ↦ (let less = up.0 z later in let eq = ap f same in omega arith)
-      ]
+  front-is_among : (xs : List StateId) (i : ℕ) (x : StateId) (zs : List StateId) → drop i xs ≡ x ∷ zs → IsTrue (is_among x xs)
+  front-is_among xs zero x zs e = subst (λ ys. IsTrue (is_among x ys)) (sym e) (among-first x zs)
+  front-is_among [] (suc i) x zs e = absurd (let bad : ⊥ = cc in bad)
+  front-is_among (w ∷ xs) (suc i) x zs e = among-later x w xs (front-is_among xs i x zs e)
 
-  has-next : (xs : List StateId) (m n : StateId) → next_of xs (Some m) ≡ Some n → IsTrue (is_among m xs)
-  has-next [] m n e = absurd (none-some n e)
-  has-next (x ∷ xs) m n e = elim (cases_Bool (same_id m x)) [
-    | inl t ↦ subst (λ w. IsTrue (is_among w (x ∷ xs))) (sym (same_id-true m x t)) (among-first x xs)
-    | inr o ↦ among-later m x xs (has-next xs m n (rw o at e))
+  -- what has a greater number than the one at a place stands behind it
+  pub stands-behind : (xs : List StateId) (i : ℕ) (x y : StateId) (zs : List StateId) → Rising xs → drop i xs ≡ x ∷ zs → IsTrue (is_among y xs) → f x < f y → IsTrue (is_among y zs)
+  stands-behind xs zero x y zs up e m lt = elim (among-cases y x zs (subst (λ ys. IsTrue (is_among y ys)) e m)) [
+    | inl is ↦ (let at = ap f is in absurd (omega arith))
+    | inr later ↦ later
   ]
-
-  -- between one and the next is none
-  pub next-rises : (xs : List StateId) (m n z : StateId) → Rising xs → next_of xs (Some m) ≡ Some n → IsTrue (is_among z xs) → (f z ≤ f m) ⊎ (f n ≤ f z)
-  next-rises [] m n z up e a = not-both true refl (sym a)
-  next-rises (x ∷ xs) m n z up e a = elim (cases_Bool (same_id m x)) [
-    | inl t ↦ elim (among-cases z x xs a) [
-      | inl is ↦ inl (let eq = ap f (is ∙ sym (same_id-true m x t)) in omega arith)
-      | inr later ↦ inr (first-rises xs n z up.1 (rw t at e) later)
-    ]
-    | inr o ↦
-        let rest = rw o at e in
-        elim (among-cases z x xs a) [
-          | inl is ↦ inl (let less = up.0 m (has-next xs m n rest) in let eq = ap f is in omega arith)
-          | inr later ↦ next-rises xs m n z up.1 rest later
-        ]
+  stands-behind [] (suc i) x y zs up e m lt = absurd (let bad : ⊥ = cc in bad)
+  stands-behind (w ∷ xs) (suc i) x y zs up e m lt = elim (among-cases y w xs m) [
+    | inl is ↦ (let at = ap f is in let less = up.0 x (front-is_among xs i x zs e) in absurd (omega arith))
+    | inr later ↦ stands-behind xs i x y zs up.1 e later lt
   ]
 
 rising-agrees : (f g : StateId → ℕ) (xs : List StateId) → ((z : StateId) → IsTrue (is_among z xs) → f z ≡ g z) → Rising f xs → Rising g xs
@@ -93,5 +74,5 @@ arrived-rise (r ∷ rs) g =
     let newest = arrival-newest rs r r.id (same_id_self r.id) in
     omega arith)
 
-pub kept-rise : (rs : List Record) (ks : List StateId) → IsDag rs → Rising (arrival rs) (kept_states rs ks)
-kept-rise rs ks dag = rising-filter (arrival rs) (λ x. not (is_among x ks)) (arrived rs) (arrived-rise rs (dag-grows rs dag))
+pub leaves-rise : (rs : List Record) → IsDag rs → Rising (arrival rs) (leaves rs)
+leaves-rise rs dag = rising-filter (arrival rs) (is_leaf rs) (arrived rs) (arrived-rise rs (dag-grows rs dag))

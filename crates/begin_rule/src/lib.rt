@@ -17,6 +17,8 @@ mod merges;
 
 pub use merges::{MergeFault, choose_all};
 use state_dag::StateDag;
+use std::error::Error;
+use std::fmt;
 use tardis_base::{Begin, Slot, StateId};
 
 /// Why a transaction may not begin where it was to begin.
@@ -28,11 +30,32 @@ pub enum BeginFault {
     Below { state: StateId, ceiling: StateId },
 }
 
+impl fmt::Display for BeginFault {
+    fn fmt<W: fmt::Write>(&self, f: &mut fmt::Formatter<W>) -> fmt::Result {
+        match *self {
+            BeginFault::Unknown { state } => {
+                let StateId { site, sequence } = state;
+                write!(f, "the state {site}.{sequence} has not arrived here")
+            },
+            BeginFault::Below { state, ceiling } => {
+                let StateId { site, sequence } = state;
+                write!(
+                    f,
+                    "the state {site}.{sequence} is above the session's ceiling {}.{}: begin at the ceiling, or at a state that is not above it",
+                    ceiling.site, ceiling.sequence
+                )
+            },
+        }
+    }
+}
+
+impl Error for BeginFault {}
+
 /// The slot of the state that a transaction of this session reads.
 ///
 /// `last` is the session's last commit, and `last_slot` the slot of the state that stands in for it. The cost of Ancestor
-/// grows with the number of kept states that arrived after the answer, that of the others with the logarithm of the
-/// number of kept states; each ancestry that is asked costs what `StateDag::is_ancestor` does.
+/// grows with the number of leaves that arrived after the answer, that of the others with the logarithm of the number of
+/// kept states; each ancestry that is asked costs what `StateDag::is_ancestor` does.
 pub fn choose(
     dag: &StateDag,
     begin: &Begin,
@@ -59,20 +82,19 @@ pub fn choose(
     }
 }
 
-/// The slot of the kept state that arrived last of those at or below the state of this slot.
+/// The slot of the state that arrived last of those at or below the state of this slot. It is a leaf.
 fn newest_below(dag: &StateDag, slot: Slot) -> Slot
     requires { IsTrue (is_slot dag.now slot) }
     ensures slot { IsTrue (is_slot dag.now result) }
     ensures newest { (rs : List Record) (ks : List StateId) → Stands dag.now rs ks → (last : StateId) → IsTrue (is_known rs last) → id_at dag.now slot ≡ Some (stand_in rs ks last) → id_at dag.now result ≡ Some (last_below rs last) }
 {
-    let mut newest = dag.last();
-    while !dag.is_ancestor(slot, newest) {
-        match dag.kept_before(Some(newest)) {
-            Some(earlier) => newest = earlier,
-            None => return slot,
+    let leaves = dag.leaf_slots();
+    for place in (0..leaves.len()).rev() {
+        if dag.is_ancestor(slot, leaves[place]) {
+            return leaves[place];
         }
     }
-    newest
+    slot
 }
 
 /// The slot of this known state, if the ceiling admits it.

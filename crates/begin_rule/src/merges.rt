@@ -14,6 +14,8 @@ ghost use Rattle.begin_rule.specs.Choices.{ChosenAllAs, AdmittedAllAs, first_unk
 use crate::{BeginFault, admitted};
 use state_dag::StateDag;
 use std::alloc::Global;
+use std::error::Error;
+use std::fmt;
 use tardis_base::{ListOf, NoMemory, Slot, StateId};
 
 /// Why a merge may not begin at the states that were named.
@@ -27,6 +29,25 @@ pub enum MergeFault {
     Comparable { a: StateId, b: StateId },
     NoMemory,
 }
+
+impl fmt::Display for MergeFault {
+    fn fmt<W: fmt::Write>(&self, f: &mut fmt::Formatter<W>) -> fmt::Result {
+        match *self {
+            MergeFault::Unknown { state } => write!(f, "{}", BeginFault::Unknown { state }),
+            MergeFault::Below { state, ceiling } => {
+                write!(f, "{}", BeginFault::Below { state, ceiling })
+            },
+            MergeFault::Comparable { a, b } => write!(
+                f,
+                "of the states {}.{} and {}.{} one is at or above the other: merge without one of them",
+                a.site, a.sequence, b.site, b.sequence
+            ),
+            MergeFault::NoMemory => write!(f, "out of memory"),
+        }
+    }
+}
+
+impl Error for MergeFault {}
 
 impl From<BeginFault> for MergeFault {
     ghost use Rattle.std.specs.Prelude.{◌≡◌};

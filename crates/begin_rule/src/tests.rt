@@ -104,3 +104,29 @@ fn a_merge_begins_where_no_state_is_refused(rt: HostRuntime) -> Result<(), Fail>
     }
     Ok(())
 }
+
+#[test]
+fn faults_say_what_to_do(rt: HostRuntime) -> Result<(), Fail> {
+    let rows = [
+        (
+            MergeFault::Unknown { state: FIRST },
+            "the state 1.1 has not arrived here",
+        ),
+        (
+            MergeFault::Below {
+                state: ROOT,
+                ceiling: FIRST,
+            },
+            "the state 0.0 is above the session's ceiling 1.1: begin at the ceiling, or at a state that is not above it",
+        ),
+        (
+            MergeFault::Comparable { a: ROOT, b: SECOND },
+            "of the states 0.0 and 1.2 one is at or above the other: merge without one of them",
+        ),
+        (MergeFault::NoMemory, "out of memory"),
+    ];
+    for (fault, text) in rows {
+        assert_eq!(rt; format!(in rt.alloc(); "{fault}")?.as_str(), text);
+    }
+    Ok(())
+}

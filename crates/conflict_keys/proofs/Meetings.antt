@@ -15,8 +15,8 @@ use Rattle.plain_dag.specs.Writers.{latest_writer}
 use Rattle.plain_dag.specs.Conflicts.{latest_writers, is_conflict_key}
 use Rattle.plain_dag.specs.Collection.{is_kept, kept_states, stand_in}
 use Rattle.plain_dag.specs.Laws.{StandsInWell}
-use Rattle.plain_dag.proofs.Ids.{not-both, among-first, any-from, all-at, all-agrees}
-use Rattle.plain_dag.proofs.Searches.{mapped-from}
+use Rattle.plain_dag.proofs.Ids.{not-both, among-first, any-witness, any-from, all-at, all-agrees}
+use Rattle.plain_dag.proofs.Searches.{among-filter, mapped-from}
 use Rattle.plain_dag.proofs.LatestWriter.{has-lowest, lowest-is-unsplit, split-has-one, latest-is-latest}
 use Rattle.plain_dag.proofs.StandIns.{stands-in-well}
 use Rattle.state_dag.specs.Table.{Table, id_at, is_slot_above}
@@ -25,8 +25,9 @@ use Rattle.state_dag.proofs.Standing.{slots-tell}
 use Rattle.state_dag.proofs.Known.{kept-is_listed}
 use Rattle.record_store.specs.Stands.{holds_key}
 use Rattle.record_store.proofs.Holders.{writer-holds}
-use Rattle.conflict_keys.specs.Regions.{is_above_part, is_slot_above_part, is_met}
-use Rattle.conflict_keys.proofs.Walks.{Named, take-next}
+use Rattle.conflict_keys.specs.Regions.{is_met}
+use Rattle.branch_region.specs.Regions.{is_above_part, apart_states}
+use Rattle.conflict_keys.proofs.Walks.{take-next}
 use Rattle.conflict_keys.proofs.Choices.{are-read, read-is_known}
 
 -- one of these fails where not all pass
@@ -77,52 +78,35 @@ module _ (rs : List Record) (ks : List StateId) (table : Table) (stands : Stands
         (writer-holds rs ks stands.dag stands.shared k w.0 known parts.0))
   ]
 
--- ===== What the slots tell
+-- and by one of the states apart
+pub apart-is_met : (rs : List Record) (ks xs : List StateId) (k : List ℕ) → IsTrue (is_met rs ks xs (kept_states rs ks) k) → IsTrue (is_met rs ks xs (apart_states rs ks xs) k)
+apart-is_met rs ks xs k met =
+    let y = any-witness (λ y. is_above_part rs y xs && holds_key rs ks k y) (kept_states rs ks) met in
+    any-from (λ y. is_above_part rs y xs && holds_key rs ks k y) (apart_states rs ks xs) y.0
+    (among-filter (λ x. is_above_part rs x xs) (kept_states rs ks) y.0 y.1 (and_parts (is_above_part rs y.0 xs) (holds_key rs ks k y.0) y.2).0) y.2
 
-module _ (table : Table) (rs : List Record) (ks : List StateId) (stands : Stands table rs ks) (slot : Slot) (x : StateId) (named : id_at table slot ≡ Some x) where
-  any-told : (ss : List Slot) (xs : List StateId) → Named (id_at table) ss xs → list_any (is_slot_above table slot) ss ≡ list_any (is_above rs x) xs
-  any-told [] [] are = refl
-  any-told [] (y ∷ ys) are = absurd (let bad : ⊥ = cc in bad)
-  any-told (s ∷ ss) [] are = absurd (let bad : ⊥ = cc in bad)
-  any-told (s ∷ ss) (y ∷ ys) are =
-      let here : id_at table s ≡ Some y = cc in
-      let rest : Named (id_at table) ss ys = cc in
-      ap₂ ◌||◌ (slots-tell table rs ks stands slot s x y named here) (any-told ss ys rest)
+-- ===== One more state
 
-  all-told : (ss : List Slot) (xs : List StateId) → Named (id_at table) ss xs → list_all (is_slot_above table slot) ss ≡ is_above_all rs x xs
-  all-told [] [] are = refl
-  all-told [] (y ∷ ys) are = absurd (let bad : ⊥ = cc in bad)
-  all-told (s ∷ ss) [] are = absurd (let bad : ⊥ = cc in bad)
-  all-told (s ∷ ss) (y ∷ ys) are =
-      let here : id_at table s ≡ Some y = cc in
-      let rest : Named (id_at table) ss ys = cc in
-      ap₂ ◌&&◌ (slots-tell table rs ks stands slot s x y named here) (all-told ss ys rest)
-
-  pub part-told : (ss : List Slot) (xs : List StateId) → Named (id_at table) ss xs → is_slot_above_part table slot ss ≡ is_above_part rs x xs
-  part-told ss xs are = ap₂ (λ a b. a && not b) (any-told ss xs are) (all-told ss xs are)
-
--- ===== One more kept state
-
-module _ (rs : List Record) (ks xs : List StateId) (i : ℕ) (k : List ℕ) where
-  met-more : (x : StateId) → slice_get (kept_states rs ks) i ≡ Some x → is_met rs ks xs (take (i + 1) (kept_states rs ks)) k ≡ (is_met rs ks xs (take i (kept_states rs ks)) k || (is_above_part rs x xs && holds_key rs ks k x || false))
+module _ (rs : List Record) (ks xs zs : List StateId) (i : ℕ) (k : List ℕ) where
+  met-more : (x : StateId) → slice_get zs i ≡ Some x → is_met rs ks xs (take (i + 1) zs) k ≡ (is_met rs ks xs (take i zs) k || (is_above_part rs x xs && holds_key rs ks k x || false))
   met-more x e =
-      ap (λ ys. is_met rs ks xs ys k) (take-next (kept_states rs ks) i x e)
-      ∙ list_any-append (λ y. is_above_part rs y xs && holds_key rs ks k y) (take i (kept_states rs ks)) (x ∷ [])
+      ap (λ ys. is_met rs ks xs ys k) (take-next zs i x e)
+      ∙ list_any-append (λ y. is_above_part rs y xs && holds_key rs ks k y) (take i zs) (x ∷ [])
 
   -- what is met with it was met or is held by it
-  pub met-here : (x : StateId) (keys : List (List ℕ)) → slice_get (kept_states rs ks) i ≡ Some x → is_key_among k keys ≡ holds_key rs ks k x → IsTrue (is_met rs ks xs (take (i + 1) (kept_states rs ks)) k) →
-      IsTrue (is_met rs ks xs (take i (kept_states rs ks)) k || is_key_among k keys)
-  met-here x keys e holds m = elim (or_cases (is_met rs ks xs (take i (kept_states rs ks)) k) (is_above_part rs x xs && holds_key rs ks k x || false) (sym (met-more x e) ∙ m)) [
-    | inl old ↦ or_left (is_met rs ks xs (take i (kept_states rs ks)) k) (is_key_among k keys) old
+  pub met-here : (x : StateId) (keys : List (List ℕ)) → slice_get zs i ≡ Some x → is_key_among k keys ≡ holds_key rs ks k x → IsTrue (is_met rs ks xs (take (i + 1) zs) k) →
+      IsTrue (is_met rs ks xs (take i zs) k || is_key_among k keys)
+  met-here x keys e holds m = elim (or_cases (is_met rs ks xs (take i zs) k) (is_above_part rs x xs && holds_key rs ks k x || false) (sym (met-more x e) ∙ m)) [
+    | inl old ↦ or_left (is_met rs ks xs (take i zs) k) (is_key_among k keys) old
     | inr new ↦ elim (or_cases (is_above_part rs x xs && holds_key rs ks k x) false new) [
-      | inl both ↦ or_right (is_met rs ks xs (take i (kept_states rs ks)) k) (is_key_among k keys) (holds ∙ (and_parts (is_above_part rs x xs) (holds_key rs ks k x) both).1)
+      | inl both ↦ or_right (is_met rs ks xs (take i zs) k) (is_key_among k keys) (holds ∙ (and_parts (is_above_part rs x xs) (holds_key rs ks k x) both).1)
       | inr none ↦ not-both false none refl
     ]
   ]
 
   -- where it isn't above a part of the states, what is met with it was met
-  pub met-passed : (x : StateId) → slice_get (kept_states rs ks) i ≡ Some x → IsFalse (is_above_part rs x xs) → IsTrue (is_met rs ks xs (take (i + 1) (kept_states rs ks)) k) → IsTrue (is_met rs ks xs (take i (kept_states rs ks)) k)
-  met-passed x e apart m = elim (or_cases (is_met rs ks xs (take i (kept_states rs ks)) k) (is_above_part rs x xs && holds_key rs ks k x || false) (sym (met-more x e) ∙ m)) [
+  pub met-passed : (x : StateId) → slice_get zs i ≡ Some x → IsFalse (is_above_part rs x xs) → IsTrue (is_met rs ks xs (take (i + 1) zs) k) → IsTrue (is_met rs ks xs (take i zs) k)
+  met-passed x e apart m = elim (or_cases (is_met rs ks xs (take i zs) k) (is_above_part rs x xs && holds_key rs ks k x || false) (sym (met-more x e) ∙ m)) [
     | inl old ↦ old
     | inr new ↦ elim (or_cases (is_above_part rs x xs && holds_key rs ks k x) false new) [
       | inl both ↦ not-both (is_above_part rs x xs) (and_parts (is_above_part rs x xs) (holds_key rs ks k x) both).0 apart

@@ -1,21 +1,19 @@
--- Walks along the kept states, and along the states that slots name.
-use Rattle.std.proofs.Common.{◌≡◌, ℕ, zero, suc, ◌+◌, ◌≤◌, ◌<◌, List, [], ◌∷◌, ◌++◌, length, take, map, get_or, Option, Some, None, true, IsTrue, IsFalse, inl, inr, refl, sym, ap, subst, ◌∙◌, arith, add-one}
+-- Walks along the states that slots name.
+use Rattle.std.proofs.Common.{◌≡◌, ℕ, zero, suc, ◌+◌, ◌<◌, Bool, List, [], ◌∷◌, ◌++◌, length, take, map, get_or, Option, Some, true, IsTrue, inl, inr, refl, sym, ap, subst, ◌∙◌, arith, add-one}
 use Rattle.std.specs.Prelude.{slice_get}
-use Rattle.std.specs.Option.{option_and_then}
-use Rattle.std.proofs.lemmas.Bool.{cond-true, cond-false, both_ways, false_from_ne_true}
-use Rattle.std.proofs.lemmas.Option.{none-some, same_Some, slice_get_past, slice_get_cases}
+use Rattle.std.specs.List.{list_all}
+use Rattle.std.proofs.lemmas.Bool.{and_parts}
+use Rattle.std.proofs.lemmas.Option.{none-some, same_Some}
 use Rattle.std.proofs.lemmas.List.{take_all, length-map}
 use Rattle.tardis_base.specs.declared.ids.StateId.{StateId}
 use Rattle.tardis_base.specs.declared.ids.Slot.{Slot}
 use Rattle.tardis_base.specs.declared.records.Record.{Record}
-use Rattle.tardis_base.specs.Ids.{same_id, is_among}
+use Rattle.tardis_base.specs.Ids.{is_among}
 use Rattle.plain_dag.specs.Collection.{is_kept, kept_states}
-use Rattle.plain_dag.proofs.Ids.{not-both, same_id-true, same_id_self, among-first, among-later, among-cases}
+use Rattle.plain_dag.proofs.Ids.{not-both, among-first, among-later, among-cases}
 use Rattle.state_dag.specs.Table.{Table, id_at}
 use Rattle.state_dag.specs.Stands.{Stands}
-use Rattle.state_dag.specs.Answers.{next_of}
-use Rattle.state_dag.proofs.Places.{AllDiffer}
-use Rattle.state_dag.proofs.Known.{kept-differ}
+use Rattle.branch_region.specs.Regions.{apart_states}
 use Rattle.state_dag.proofs.Standing.{slot-is_kept}
 
 -- ===== Places in a list
@@ -28,12 +26,6 @@ take-suc (y ∷ xs) (suc i) x e = ap (λ zs. y ∷ zs) (take-suc xs i x e)
 -- one more of these
 pub take-next : (xs : List StateId) (i : ℕ) (x : StateId) → slice_get xs i ≡ Some x → take (i + 1) xs ≡ take i xs ++ x ∷ []
 take-next xs i x e = subst (λ n. take n xs ≡ take i xs ++ x ∷ []) (sym (add-one i)) (take-suc xs i x e)
-
-past-end : (xs : List StateId) (i : ℕ) → ◌≡◌ {A = Option StateId} (slice_get xs i) None → length xs ≤ i
-past-end xs i e = elim ((slice_get_cases xs i).1) [
-  | inl there ↦ absurd (none-some there.0 (sym e ∙ there.2))
-  | inr past ↦ past.0
-]
 
 pub got-is_among : (xs : List StateId) (i : ℕ) (x : StateId) → slice_get xs i ≡ Some x → IsTrue (is_among x xs)
 got-is_among [] i x e = absurd (none-some x e)
@@ -48,38 +40,6 @@ among-front (y ∷ xs) (suc i) x m = elim (among-cases x y (take i xs) m) [
   | inr later ↦ among-later x y xs (among-front xs i x later)
 ]
 
-next-suc : (xs : List StateId) (i : ℕ) (x : StateId) → AllDiffer xs → slice_get xs i ≡ Some x → next_of xs (Some x) ≡ slice_get xs (suc i)
-next-suc [] i x differ e = absurd (none-some x e)
-next-suc (y ∷ xs) zero x differ e =
-    let same : y ≡ x = same_Some y x e in
-    cond-true (same_id x y) (slice_get xs 0) (next_of xs (Some x)) (subst (λ z. IsTrue (same_id z y)) same (same_id_self y))
-next-suc (y ∷ xs) (suc i) x differ e =
-    let other : IsFalse (same_id x y) = false_from_ne_true (same_id x y) (λ t. both_ways (is_among y xs) differ.0 (subst (λ z. IsTrue (is_among z xs)) (same_id-true x y t) (got-is_among xs i x e))) in
-    cond-false (same_id x y) (slice_get xs 0) (next_of xs (Some x)) other ∙ next-suc xs i x differ.1 e
-
--- ===== The kept states
-
-module _ (table : Table) (rs : List Record) (ks : List StateId) (stands : Stands table rs ks) (i : ℕ) where
-  -- the slot after that of the kept state at a place is that of the one at the next place
-  pub walk-next : (slot : Slot) (later : Option Slot) (x : StateId) → id_at table slot ≡ Some x → id_at table slot ≡ slice_get (kept_states rs ks) i → option_and_then (id_at table) later ≡ next_of (kept_states rs ks) (Some x) →
-      option_and_then (id_at table) later ≡ slice_get (kept_states rs ks) (i + 1)
-  walk-next slot later x named here next =
-      next
-      ∙ subst (λ n. next_of (kept_states rs ks) (Some x) ≡ slice_get (kept_states rs ks) n) (sym (add-one i))
-      (next-suc (kept_states rs ks) i x (kept-differ rs ks stands.dag) (sym here ∙ named))
-
-  -- behind the end there is none
-  pub walk-ended : (next : Option Slot) → ◌≡◌ {A = Option Slot} next None → option_and_then (id_at table) next ≡ slice_get (kept_states rs ks) i → option_and_then (id_at table) next ≡ slice_get (kept_states rs ks) (i + 1)
-  walk-ended next none here =
-      let gone = sym here ∙ ap (option_and_then (id_at table)) none in
-      let past = past-end (kept_states rs ks) i gone in
-      here ∙ (gone ∙ sym (slice_get_past (kept_states rs ks) (i + 1) (omega arith)))
-
-  pub take-ended : (next : Option Slot) → ◌≡◌ {A = Option Slot} next None → option_and_then (id_at table) next ≡ slice_get (kept_states rs ks) i → take (i + 1) (kept_states rs ks) ≡ take i (kept_states rs ks)
-  take-ended next none here =
-      let past = past-end (kept_states rs ks) i (sym here ∙ ap (option_and_then (id_at table)) none) in
-      take_all (i + 1) (kept_states rs ks) (omega arith) ∙ sym (take_all i (kept_states rs ks) past)
-
 -- ===== The states that slots name
 
 -- these slots name these states
@@ -93,6 +53,7 @@ named-length name ss xs are = sym (length-map ss name) ∙ (ap length are ∙ le
 pub record IsNamedAt (name : Slot → Option StateId) (xs : List StateId) (i : ℕ) (s : Slot) : Type 0 where
   pub state : StateId
   pub named : name s ≡ Some state
+  pub got : slice_get xs i ≡ Some state
   pub one : IsTrue (is_among state xs)
   pub next : take (i + 1) xs ≡ take i xs ++ state ∷ []
 
@@ -105,7 +66,7 @@ named-at name (s ∷ ss) (x ∷ xs) (suc i) d are lt = (let rest : Named name ss
 pub named-next : (name : Slot → Option StateId) (ss : List Slot) (xs : List StateId) (i : ℕ) (d : Slot) → Named name ss xs → i < length ss → IsNamedAt name xs i (get_or ss i d)
 named-next name ss xs i d are lt =
     let w = named-at name ss xs i d are lt in
-    record { state = w.0; named = w.1; one = got-is_among xs i w.0 w.2; next = take-next xs i w.0 w.2 }
+    record { state = w.0; named = w.1; got = w.2; one = got-is_among xs i w.0 w.2; next = take-next xs i w.0 w.2 }
 
 -- they are kept
 pub named-are_kept : (table : Table) (rs : List Record) (ks : List StateId) → Stands table rs ks → (ss : List Slot) (xs : List StateId) → Named (id_at table) ss xs → (x : StateId) → IsTrue (is_among x xs) → IsTrue (is_kept rs ks x)
@@ -118,3 +79,19 @@ named-are_kept table rs ks stands (s ∷ ss) (y ∷ ys) are x m =
       | inl e ↦ subst (λ z. IsTrue (is_kept rs ks z)) (sym e) (slot-is_kept table rs ks stands s y here)
       | inr later ↦ named-are_kept table rs ks stands ss ys rest x later
     ]
+
+-- each of these is a slot
+pub all-got : (p : Slot → Bool) (ss : List Slot) (i : ℕ) (d : Slot) → IsTrue (list_all p ss) → i < length ss → IsTrue (p (get_or ss i d))
+all-got p [] i d all lt = absurd (omega arith)
+all-got p (s ∷ ss) zero d all lt = (and_parts (p s) (list_all p ss) all).0
+all-got p (s ∷ ss) (suc i) d all lt = all-got p ss i d (and_parts (p s) (list_all p ss) all).1 (omega arith)
+
+-- ===== Lists of slots that are lent
+
+-- where the table stands for a history, these slots are those of its kept states
+abbrev pub GivesKept : Table → List Slot → Type 0
+GivesKept table ss = (rs : List Record) (ks : List StateId) → Stands table rs ks → map (id_at table) ss ≡ map (λ x. Some x) (kept_states rs ks)
+
+-- and these are those of the states apart of the states at those
+abbrev pub GivesApart : Table → List Slot → List Slot → Type 0
+GivesApart table ss apart = (rs : List Record) (ks : List StateId) → Stands table rs ks → (xs : List StateId) → map (id_at table) ss ≡ map (λ x. Some x) xs → map (id_at table) apart ≡ map (λ x. Some x) (apart_states rs ks xs)

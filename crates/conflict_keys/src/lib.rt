@@ -5,10 +5,9 @@
 mod joins;
 mod opens;
 mod pages;
-mod regions;
 mod values;
 
-pub use opens::first_open;
+pub use opens::{first_open, open_conflict};
 pub use pages::{KeyPage, conflicts};
 pub use values::{is_conflict, value_over};
 

@@ -1,6 +1,6 @@
 //! The least conflict key that isn't written.
 
-ghost use Rattle.std.specs.Prelude.{◌≡◌, ◌||◌, ℕ, Bool, Some, List, map, IsTrue};
+ghost use Rattle.std.specs.Prelude.{◌≡◌, ◌||◌, ℕ, Bool, Some, List, map, IsTrue, IfOk};
 ghost use Rattle.std.specs.List.{list_all};
 ghost use Rattle.std.specs.Option.{option_copied};
 ghost use Rattle.tardis_base.specs.declared.ids.StateId.{StateId};
@@ -11,10 +11,11 @@ ghost use Rattle.state_dag.specs.Table.{id_at, is_slot};
 ghost use Rattle.record_store.specs.Stands.{StoreStands};
 ghost use Rattle.conflict_keys.specs.Opens.{IsLeast, is_open_conflict, is_less};
 
-use crate::regions::is_above_part;
 use crate::values::is_conflict;
+use branch_region::{is_above_part, region};
 use record_store::RecordStore;
-use tardis_base::{Key, Slot, WriteSet};
+use std::alloc::Global;
+use tardis_base::{Key, NoMemory, Slot, WriteSet};
 
 /// The least key in which these states conflict and that isn't written; None exactly where there is none. It takes no
 /// memory.
@@ -27,16 +28,33 @@ pub fn first_open<'a>(store: &'a RecordStore, states: &[Slot], writes: &WriteSet
     ensures { (rs : List Record) (ks : List StateId) → StoreStands store.now rs ks → (xs : List StateId) → map (id_at store.now.table) states.now ≡ map (λ x. Some x) xs → option_copied result ≡ open_conflict rs xs writes.now }
 {
     let mut least = None;
-    let mut next = store.dag().kept_after(None);
-    for _place in 0..store.dag().kept() {
-        if let Some(slot) = next {
-            if is_above_part(store.dag(), slot, states) {
-                least = least_open(store, states, writes, store.keys_at(slot), least);
-            }
-            next = store.dag().kept_after(Some(slot));
+    for slot in store.dag().kept_slots() {
+        if is_above_part(store.dag(), *slot, states) {
+            least = least_open(store, states, writes, store.keys_at(*slot), least);
         }
     }
     least
+}
+
+/// The least key in which these states conflict and that isn't written, as `first_open` finds it. It takes memory.
+///
+/// The cost is that of the region of the states, and grows with the keys held by the states apart; each of these keys costs
+/// a search of the writes, and at most two reads at each of the states.
+pub fn open_conflict<'a>(
+    alloc: Global,
+    store: &'a RecordStore,
+    states: &[Slot],
+    writes: &WriteSet,
+) -> Result<Option<&'a Key>, NoMemory>
+    requires { IsTrue (list_all (is_slot store.now.table) states.now) }
+    ensures { (rs : List Record) (ks : List StateId) → StoreStands store.now rs ks → (xs : List StateId) → map (id_at store.now.table) states.now ≡ map (λ x. Some x) xs → IfOk result (λ least. option_copied least ≡ open_conflict rs xs writes.now) }
+{
+    let above = region(alloc, store.dag(), states)?;
+    let mut least = None;
+    for slot in above.apart.as_slice() {
+        least = least_open(store, states, writes, store.keys_at(*slot), least);
+    }
+    Ok(least)
 }
 
 /// The least of the one found before and of these keys that the states conflict in and that aren't written.

@@ -10,8 +10,8 @@ ghost use Rattle.state_dag.specs.Table.{id_at, is_slot};
 ghost use Rattle.record_store.specs.Stands.{StoreStands};
 ghost use Rattle.conflict_keys.specs.Pages.{IsPageOf, AreNoted, is_conflict_behind};
 
-use crate::regions::is_above_part;
 use crate::values::is_conflict;
+use branch_region::region;
 use record_store::RecordStore;
 use std::alloc::Global;
 use std::collections::BTreeSet;
@@ -29,9 +29,8 @@ pub struct KeyPage {
 
 /// The keys behind these bytes in which the states conflict.
 ///
-/// The cost grows with the number of kept states, and with the keys held by those of them that are at or above one of the
-/// states and not at or above all of them; each of these keys costs at most two reads at each of the states, and a search
-/// among the keys that were found.
+/// The cost is that of the region of the states, and grows with the keys held by the states apart; each of these keys costs
+/// at most two reads at each of the states, and a search among the keys that were found.
 pub fn conflicts(
     alloc: Global,
     store: &RecordStore,
@@ -42,14 +41,9 @@ pub fn conflicts(
     ensures { (rs : List Record) (ks : List StateId) → StoreStands store.now rs ks → (xs : List StateId) → map (id_at store.now.table) states.now ≡ map (λ x. Some x) xs → IfOk result (IsPageOf (filter (is_key_before after.now) (conflict_keys rs xs))) }
 {
     let mut noted = BTreeSet::new(alloc);
-    let mut next = store.dag().kept_after(None);
-    for _place in 0..store.dag().kept() {
-        if let Some(slot) = next {
-            if is_above_part(store.dag(), slot, states) {
-                note_conflicts(store, states, after, store.keys_at(slot), &mut noted)?;
-            }
-            next = store.dag().kept_after(Some(slot));
-        }
+    let above = region(alloc, store.dag(), states)?;
+    for slot in above.apart.as_slice() {
+        note_conflicts(store, states, after, store.keys_at(*slot), &mut noted)?;
     }
     page_of(alloc, &noted)
 }

@@ -1,6 +1,6 @@
 //! What no clause says: that memory is had where there is enough.
 
-use crate::{conflicts, first_open, value_over};
+use crate::{conflicts, first_open, open_conflict, value_over};
 use record_store::RecordStore;
 use std::alloc::Global;
 use std::test::Fail;
@@ -79,7 +79,8 @@ fn two_states_conflict_in_what_both_write(rt: HostRuntime) -> Result<(), Fail> {
         assert_eq!(rt; value_over(&store, &states, &key(alloc, bytes)?), value);
     }
     let least = key(alloc, b"d")?;
-    let open = first_open(&store, &states, &deletes(alloc, &[b"c"])?);
-    assert!(rt; open == Some(&least));
+    let written = deletes(alloc, &[b"c"])?;
+    assert!(rt; first_open(&store, &states, &written) == Some(&least));
+    assert!(rt; open_conflict(alloc, &store, &states, &written)? == Some(&least));
     Ok(())
 }

@@ -67,17 +67,12 @@ module _ (table : Table) (rs : List Record) (ks : List StateId) (stands : Stands
   fork-point-told slot x named ss xs are cs e =
       ap₂ ◌&&◌ (slot-above_all slot x named ss xs are) (ap not (one-above_all ss xs are cs (children rs x) e (λ d m. child_is_known rs x d m)))
 
-  -- what is asked tells whether the state is a fork point
-  pub both-asked : (slot : Slot) (x : StateId) → id_at table slot ≡ Some x → (ss : List Slot) (xs : List StateId) → map (id_at table) ss ≡ map (λ y. Some y) xs → (cs : List Slot) →
-      map (id_at table) cs ≡ map (λ d. Some (stand_in rs ks d)) (children rs x) → (above below : Bool) → above ≡ list_all (is_slot_above table slot) ss → below ≡ list_any (λ c. is_slot table c && list_all (is_slot_above table c) ss) cs →
-      IsTrue above → not below ≡ is_fork_point rs xs x
-  both-asked slot x named ss xs are cs e above below is_above is_below all =
-      ap not is_below ∙ (sym (ap (λ b. b && not (list_any (λ c. is_slot table c && list_all (is_slot_above table c) ss) cs)) (sym is_above ∙ all)) ∙ fork-point-told slot x named ss xs are cs e)
-
-  pub one-asked : (slot : Slot) (x : StateId) → id_at table slot ≡ Some x → (ss : List Slot) (xs : List StateId) → map (id_at table) ss ≡ map (λ y. Some y) xs → (above : Bool) → above ≡ list_all (is_slot_above table slot) ss →
-      IsFalse above → above ≡ is_fork_point rs xs x
-  one-asked slot x named ss xs are above is apart =
-      apart ∙ sym (and_left (is_above_all rs x xs) (not (list_any (λ c. is_above_all rs c xs) (children rs x))) (sym (slot-above_all slot x named ss xs are) ∙ (sym is ∙ apart)))
+  -- of a state at or above all of these, what is asked of its children tells whether it is a fork point
+  pub shared-asked : (slot : Slot) (x : StateId) → id_at table slot ≡ Some x → (ss : List Slot) (xs : List StateId) → map (id_at table) ss ≡ map (λ y. Some y) xs → (cs : List Slot) →
+      map (id_at table) cs ≡ map (λ d. Some (stand_in rs ks d)) (children rs x) → (below : Bool) → below ≡ list_any (λ c. is_slot table c && list_all (is_slot_above table c) ss) cs →
+      IsTrue (is_above_all rs x xs) → not below ≡ is_fork_point rs xs x
+  shared-asked slot x named ss xs are cs e below is_below all =
+      ap not is_below ∙ (sym (ap (λ b. b && not (list_any (λ c. is_slot table c && list_all (is_slot_above table c) ss) cs)) (slot-above_all slot x named ss xs are ∙ all)) ∙ fork-point-told slot x named ss xs are cs e)
 
   -- ===== All of them
 

@@ -1,4 +1,4 @@
--- Lemmas on walks along the kept states, and on what is asked of each.
+-- Lemmas on what is asked of each state, and on fork points among the shared states.
 pub mod Walks
-pub mod Pages
 pub mod Asked
+pub mod Forks

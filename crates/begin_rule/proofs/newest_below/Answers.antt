@@ -1,45 +1,52 @@
-use Rattle.std.proofs.Common.{◌∙◌, Some, refl, sym, ap, subst}
-use Rattle.std.proofs.lemmas.Option.{same_Some}
-use Rattle.plain_dag.specs.Begin.{last_arrived}
-use Rattle.plain_dag.specs.Collection.{kept_states, stand_in}
-use Rattle.state_dag.specs.Answers.{next_of}
-use Rattle.state_dag.proofs.Calls.{named-of_slot}
+use Rattle.std.proofs.Common.{◌≡◌, ◌∙◌, ℕ, ◌+◌, ◌-◌, ◌∷◌, drop, length, Some, IsTrue, inl, inr, refl, sym, ap, subst, arith, false}
+use Rattle.std.proofs.lemmas.List.{drop_all}
+use Rattle.tardis_base.specs.Ids.{is_among}
+use Rattle.plain_dag.specs.States.{arrival}
+use Rattle.plain_dag.specs.Above.{is_above}
+use Rattle.plain_dag.specs.Forks.{leaves}
+use Rattle.plain_dag.specs.Collection.{stand_in}
+use Rattle.plain_dag.proofs.Ids.{not-both, among-cases}
+use Rattle.state_dag.specs.Table.{id_at}
 use Rattle.state_dag.proofs.Standing.{slot-is_kept}
-use Rattle.begin_rule.proofs.Newest.{NoneLater, none-after-last, none-after-earlier, some-before, newest-found}
+use Rattle.begin_rule.proofs.NamedStates.{named-next, named-length}
+use Rattle.begin_rule.proofs.Rising.{leaves-rise, stands-behind}
+use Rattle.begin_rule.proofs.Newest.{below-stand-in, some-leaf, newest-found}
 use Rattle.begin_rule.proofs.newest_below.Goals as goal
 
-pub loop-slot-init : goal.loop-slot-init
-loop-slot-init c = record {
-  slot = c.last-newest.ensures.slot;
-  none = λ rs ks stands last known at n named.
-      subst (λ z. NoneLater rs ks last z) (same_Some (last_arrived rs) n (sym (c.last-newest.ensures.last rs ks stands) ∙ named)) (none-after-last c.args.dag.now rs ks stands last known);
-}
+pub loop-place-init : goal.loop-place-init
+loop-place-init c = λ rs ks stands last known at z m.
+    let len = named-length (id_at c.args.dag.now) c.leaf_slots-leaves.result.now (leaves rs) (c.leaf_slots-leaves.ensures.leaves rs ks stands) in
+    not-both false (subst (λ ys. IsTrue (is_among z ys)) (drop_all (length c.leaf_slots-leaves.result.now) (leaves rs) (omega arith)) m) refl
 
-pub loop-slot-preserved : goal.loop-slot-preserved
-loop-slot-preserved c = record {
-  slot = c.in-Some.ensures.slots;
-  none = λ rs ks stands last known at m named.
-      let table = c.args.dag.now in
-      let w = named-of_slot table c.loop-slot.newest c.loop-slot.invariant.slot in
-      let kept = slot-is_kept table rs ks stands c.loop-slot.newest w.0 w.1 in
-      let apart = sym (c.loop-slot-test.ensures.above rs ks stands (stand_in rs ks last) w.0 at w.1) in
-      let next = sym (ap (next_of (kept_states rs ks)) named) ∙ c.in-Some.ensures.before rs ks stands c.loop-slot.newest w.0 refl w.1 in
-      none-after-earlier table rs ks stands last known m w.0 kept apart next (c.loop-slot.invariant.none rs ks stands last known at w.0 w.1);
-}
-
-pub returns-in-None-clause-newest : goal.returns-in-None-clause-newest
-returns-in-None-clause-newest c = λ rs ks stands last known at.
+pub loop-place-preserved : goal.loop-place-preserved
+loop-place-preserved c = λ rs ks stands last known at z m.
     let table = c.args.dag.now in
-    let w = named-of_slot table c.loop-slot.newest c.loop-slot.invariant.slot in
-    let kept = slot-is_kept table rs ks stands c.loop-slot.newest w.0 w.1 in
-    let apart = sym (c.loop-slot-test.ensures.above rs ks stands (stand_in rs ks last) w.0 at w.1) in
-    let first = c.in-None.ensures.before rs ks stands c.loop-slot.newest w.0 refl w.1 in
-    absurd (some-before table rs ks stands last known w.0 kept apart first (c.loop-slot.invariant.none rs ks stands last known at w.0 w.1))
+    let i = c.loop-place.place - 1 in
+    let more = c.loop-place-test.true in
+    let n = named-next (id_at table) c.leaf_slots-leaves.result.now (leaves rs) i (record { 0 = 0 }) (c.leaf_slots-leaves.ensures.leaves rs ks stands) (let le = c.loop-place.auto.place in omega arith) in
+    let place : i + 1 ≡ c.loop-place.place = omega arith in
+    let kept = slot-is_kept table rs ks stands _ n.state n.named in
+    let apart = sym (c.is_ancestor.ensures.above rs ks stands (stand_in rs ks last) n.state at n.named) ∙ c.if-is_ancestor.false in
+    elim (among-cases z n.state (drop (i + 1) (leaves rs)) (subst (λ ys. IsTrue (is_among z ys)) n.next m)) [
+      | inl is ↦ subst (λ w. is_above rs last w ≡ false) (sym is) (below-stand-in table rs ks stands last known n.state kept ∙ apart)
+      | inr later ↦ c.loop-place.invariant rs ks stands last known at z (subst (λ k. IsTrue (is_among z (drop k (leaves rs)))) place later)
+    ]
+
+pub returns-then-is_ancestor-clause-newest : goal.returns-then-is_ancestor-clause-newest
+returns-then-is_ancestor-clause-newest c = λ rs ks stands last known at.
+    let table = c.args.dag.now in
+    let i = c.loop-place.place - 1 in
+    let more = c.loop-place-test.true in
+    let n = named-next (id_at table) c.leaf_slots-leaves.result.now (leaves rs) i (record { 0 = 0 }) (c.leaf_slots-leaves.ensures.leaves rs ks stands) (let le = c.loop-place.auto.place in omega arith) in
+    let place : i + 1 ≡ c.loop-place.place = omega arith in
+    let kept = slot-is_kept table rs ks stands _ n.state n.named in
+    let above = sym (c.is_ancestor.ensures.above rs ks stands (stand_in rs ks last) n.state at n.named) ∙ c.if-is_ancestor.true in
+    n.named ∙ ap (λ z. Some z) (newest-found table rs ks stands last known n.state kept above (λ z m lt.
+    let behind = stands-behind (arrival rs) (leaves rs) i n.state z (drop (i + 1) (leaves rs)) (leaves-rise rs stands.dag) n.next m lt in
+    c.loop-place.invariant rs ks stands last known at z (subst (λ k. IsTrue (is_among z (drop k (leaves rs)))) place behind)))
 
 pub returns-clause-newest : goal.returns-clause-newest
 returns-clause-newest c = λ rs ks stands last known at.
-    let table = c.args.dag.now in
-    let w = named-of_slot table c.loop-slot.newest c.loop-slot.invariant.slot in
-    let kept = slot-is_kept table rs ks stands c.loop-slot.newest w.0 w.1 in
-    let above = sym (c.loop-slot-test.ensures.above rs ks stands (stand_in rs ks last) w.0 at w.1) in
-    w.1 ∙ ap (λ z. Some z) (newest-found table rs ks stands last known w.0 kept above (c.loop-slot.invariant.none rs ks stands last known at w.0 w.1))
+    let end = c.loop-place-test.false in
+    let first : c.loop-place.place ≡ 0 = omega arith in
+    absurd (some-leaf c.args.dag.now rs ks stands last known (λ z m. c.loop-place.invariant rs ks stands last known at z (subst (λ k. IsTrue (is_among z (drop k (leaves rs)))) (sym first) m)))

@@ -1,104 +1,49 @@
-use Rattle.std.proofs.Common.{IfOk, BTreeSet}
-use Rattle.tardis_base.specs.declared.byte_types.Key.{Key}
-use Rattle.state_dag.specs.Stands.{Stands}
-use Rattle.record_store.specs.Stands.{StoreStands}
-use Rattle.conflict_keys.specs.Regions.{is_slot_above_part}
-use Rattle.conflict_keys.proofs.Noted.{none-noted}
-use Rattle.std.proofs.Common.{◌≡◌, ◌∙◌, ◌+◌, ◌||◌, ℕ, Bool, List, [], Some, IsTrue, IsFalse, IfSome, take, refl, sym, ap, subst, arith, take_all}
-use Rattle.std.specs.Option.{option_and_then}
-use Rattle.std.specs.Prelude.{slice_get}
+use Rattle.std.proofs.Common.{◌≡◌, ◌∙◌, ◌+◌, ◌||◌, ℕ, Bool, List, [], Some, IfOk, IsTrue, map, take, refl, sym, ap, subst, arith, take_all}
+use Rattle.std.specs.List.{list_all}
 use Rattle.tardis_base.specs.declared.ids.StateId.{StateId}
-use Rattle.tardis_base.specs.declared.records.Record.{Record}
-use Rattle.tardis_base.specs.Keys.{is_key_among}
+use Rattle.tardis_base.specs.declared.ids.Slot.{Slot}
+use Rattle.tardis_base.specs.Keys.{is_key_among, has_key}
+use Rattle.plain_dag.specs.Conflicts.{is_conflict_key, conflict_keys}
 use Rattle.plain_dag.specs.Collection.{kept_states}
 use Rattle.state_dag.specs.Table.{Table, id_at, is_slot}
-use Rattle.state_dag.specs.Answers.{next_of}
-use Rattle.state_dag.proofs.Calls.{named-of_slot}
-use Rattle.conflict_keys.specs.Regions.{is_met, is_above_part}
+use Rattle.state_dag.specs.Stands.{Stands}
+use Rattle.branch_region.specs.Regions.{is_above_part, apart_states}
+use Rattle.conflict_keys.specs.Regions.{is_met}
 use Rattle.conflict_keys.specs.Pages.{IsPageOf, AreNoted, is_conflict_behind}
-use Rattle.conflict_keys.proofs.Walks.{named-are_kept, walk-next, walk-ended, take-ended}
-use Rattle.conflict_keys.proofs.Meetings.{conflict-is_met, part-told, met-here, met-passed}
-use Rattle.conflict_keys.proofs.Noted.{noted-of_fewer, noted-are_all}
+use Rattle.conflict_keys.proofs.Walks.{named-next, named-length, named-are_kept, all-got, GivesApart}
+use Rattle.conflict_keys.proofs.Meetings.{conflict-is_met, apart-is_met, met-here}
+use Rattle.conflict_keys.proofs.Noted.{none-noted, noted-of_fewer, noted-are_all}
 use Rattle.conflict_keys.proofs.pages.conflicts.Goals as goal
-use Rattle.conflict_keys.proofs.pages.conflicts.Goals.{in-Some, then-is_above_part+in_ok-note_conflicts, else-is_above_part, in_default}
 
-pub loop-place-init : goal.loop-place-init
-loop-place-init c = record {
-  slot = subst (λ (t : Table). IfSome c.kept_after-next.result (λ s. IsTrue (is_slot t s))) c.dag.ensures c.kept_after-next.ensures.slots;
-  next = λ rs ks stands.
-      subst (λ (t : Table). option_and_then (id_at t) c.kept_after-next.result ≡ slice_get (kept_states rs ks) 0) c.dag.ensures
-      (c.kept_after-next.ensures.first refl rs ks (subst (λ (t : Table). Stands t rs ks) (sym c.dag.ensures) stands.table));
-  noted = λ rs ks stands xs are. subst (λ zs. AreNoted (is_conflict_behind rs xs c.args.after.now) (is_met rs ks xs []) zs) (sym c.new-noted.ensures.empty) (none-noted (is_conflict_behind rs xs c.args.after.now));
-}
+pub loop-slot-init : goal.loop-slot-init
+loop-slot-init c = λ rs ks stands xs are. subst (λ zs. AreNoted (is_conflict_behind rs xs c.args.after.now) (is_met rs ks xs []) zs) (sym c.new-noted.ensures.empty) (none-noted (is_conflict_behind rs xs c.args.after.now))
 
-pub loop-place-preserved : goal.loop-place-preserved
-loop-place-preserved c =
+pub loop-slot-preserved : goal.loop-slot-preserved
+loop-slot-preserved c = λ rs ks stands xs are.
     let table = c.args.store.now.table in
-    let i = c.loop-place._place in
-    elim c.match-next.branch [
-      | in-Some w ↦
-          let slot = w.in-Some.slot in
-          let later = w.kept_after-next-in-Some.result in
-          let held : IsTrue (is_slot table slot) = subst (λ o. IfSome o (λ s. IsTrue (is_slot table s))) w.in-Some.is c.loop-place.invariant.slot in
-          let slots : IfSome c.match-next.next (λ s. IsTrue (is_slot table s)) =
-          subst (λ o. IfSome o (λ s. IsTrue (is_slot table s))) (sym w.next-is) (subst (λ (t : Table). IfSome later (λ s. IsTrue (is_slot t s))) w.dag-in-Some-2.ensures w.kept_after-next-in-Some.ensures.slots) in
-          let n = named-of_slot table slot held in
-          let after : (rs : List Record) (ks : List StateId) → StoreStands c.args.store.now rs ks → option_and_then (id_at table) c.match-next.next ≡ slice_get (kept_states rs ks) (i + 1) =
-          λ rs ks stands.
-          let at = sym (ap (option_and_then (id_at table)) w.in-Some.is) ∙ c.loop-place.invariant.next rs ks stands in
-          ap (option_and_then (id_at table)) w.next-is
-          ∙ walk-next table rs ks stands.table i slot later n.0 n.1 at
-          (subst (λ (t : Table). option_and_then (id_at t) later ≡ next_of (kept_states rs ks) (Some n.0)) w.dag-in-Some-2.ensures
-          (w.kept_after-next-in-Some.ensures.next rs ks (subst (λ (t : Table). Stands t rs ks) (sym w.dag-in-Some-2.ensures) stands.table) slot n.0 refl (subst (λ (t : Table). id_at t slot ≡ Some n.0) (sym w.dag-in-Some-2.ensures) n.1))) in
-          elim w.if-is_above_part.branch [
-            | then-is_above_part+in_ok-note_conflicts v ↦ record {
-              slot = slots;
-              next = after;
-              noted = λ rs ks stands xs are.
-                  let p = is_conflict_behind rs xs c.args.after.now in
-                  let at = sym n.1 ∙ (sym (ap (option_and_then (id_at table)) w.in-Some.is) ∙ c.loop-place.invariant.next rs ks stands) in
-                  let was = is_met rs ks xs (take i (kept_states rs ks)) in
-                  let more = is_met rs ks xs (take (i + 1) (kept_states rs ks)) in
-                  let keys = v.keys_at.result.now in
-                  let wider : List ℕ → Bool = λ k. was k || is_key_among k keys in
-                  let new = v.in_ok-note_conflicts.ensures rs ks stands xs are was (c.loop-place.invariant.noted rs ks stands xs are) in
-                  subst (λ (s : BTreeSet Key). AreNoted p more s.keys) (sym (w.noted-is ∙ v.noted-is))
-                  (noted-of_fewer p wider more v.note_conflicts.new.noted.keys (λ k m. met-here rs ks xs i k n.0 keys (sym at) (v.keys_at.ensures rs ks stands n.0 n.1 k) m) new);
-            }
-            | else-is_above_part v ↦ record {
-              slot = slots;
-              next = after;
-              noted = λ rs ks stands xs are.
-                  let p = is_conflict_behind rs xs c.args.after.now in
-                  let at = sym n.1 ∙ (sym (ap (option_and_then (id_at table)) w.in-Some.is) ∙ c.loop-place.invariant.next rs ks stands) in
-                  let was = is_met rs ks xs (take i (kept_states rs ks)) in
-                  let more = is_met rs ks xs (take (i + 1) (kept_states rs ks)) in
-                  let part = part-told table rs ks stands.table slot n.0 n.1 c.args.states.now xs are in
-                  let asked = w.is_above_part.ensures ∙ ap (λ t. is_slot_above_part t slot c.args.states.now) w.dag-in-Some.ensures in
-                  let apart : IsFalse (is_above_part rs n.0 xs) = sym part ∙ (sym asked ∙ v.if-is_above_part.false) in
-                  subst (λ (s : BTreeSet Key). AreNoted p more s.keys) (sym (w.noted-is ∙ v.noted-is))
-                  (noted-of_fewer p was more c.loop-place.noted.keys (λ k m. met-passed rs ks xs i k n.0 (sym at) apart m) (c.loop-place.invariant.noted rs ks stands xs are));
-            }
-          ]
-      | in_default w ↦ record {
-        slot = subst (λ o. IfSome o (λ s. IsTrue (is_slot table s))) (sym w.next-is) c.loop-place.invariant.slot;
-        next = λ rs ks stands. ap (option_and_then (id_at table)) w.next-is ∙ walk-ended table rs ks stands.table i c.loop-place.next w.in_default.is (c.loop-place.invariant.next rs ks stands);
-        noted = λ rs ks stands xs are.
-            let p = is_conflict_behind rs xs c.args.after.now in
-            let was = is_met rs ks xs (take i (kept_states rs ks)) in
-            let more = is_met rs ks xs (take (i + 1) (kept_states rs ks)) in
-            let ended = take-ended table rs ks stands.table i c.loop-place.next w.in_default.is (c.loop-place.invariant.next rs ks stands) in
-            subst (λ (s : BTreeSet Key). AreNoted p more s.keys) (sym w.noted-is)
-            (noted-of_fewer p was more c.loop-place.noted.keys (λ k m. subst (λ ys. IsTrue (is_met rs ks xs ys k)) ended m) (c.loop-place.invariant.noted rs ks stands xs are));
-      }
-    ]
+    let i = c.loop-slot.slot-index in
+    let zs = apart_states rs ks xs in
+    let slots = c.as_slice-slot-items.result.now in
+    let apart = subst (λ (t : Table). GivesApart t c.args.states.now c.in_ok-above.above.apart.items) c.dag.ensures c.in_ok-above.ensures.apart in
+    let named : map (id_at table) slots ≡ map (λ x. Some x) zs = ap (map (id_at table)) c.as_slice-slot-items.ensures.value ∙ apart rs ks stands.table xs are in
+    let n = named-next (id_at table) slots zs i (record { 0 = 0 }) named c.loop-slot-test.true in
+    let was = is_met rs ks xs (take i zs) in
+    let keys = c.keys_at.result.now in
+    let wider : List ℕ → Bool = λ k. was k || is_key_among k keys in
+    let new = c.in_ok-note_conflicts.ensures rs ks stands xs are was (c.loop-slot.invariant rs ks stands xs are) in
+    noted-of_fewer (is_conflict_behind rs xs c.args.after.now) wider (is_met rs ks xs (take (i + 1) zs)) c.note_conflicts.new.noted.keys
+    (λ k m. met-here rs ks xs zs i k n.state keys n.got (c.keys_at.ensures rs ks stands n.state n.named k) m) new
 
 pub returns : goal.returns
 returns c = λ rs ks stands xs are.
     let table = c.args.store.now.table in
-    let i = c.loop-place._place in
-    let count = c.kept-place-end.ensures rs ks (subst (λ (t : Table). Stands t rs ks) (sym c.dag-2.ensures) stands.table) in
+    let i = c.loop-slot.slot-index in
+    let zs = apart_states rs ks xs in
+    let slots = c.as_slice-slot-items.result.now in
+    let apart = subst (λ (t : Table). GivesApart t c.args.states.now c.in_ok-above.above.apart.items) c.dag.ensures c.in_ok-above.ensures.apart in
+    let named : map (id_at table) slots ≡ map (λ x. Some x) zs = ap (map (id_at table)) c.as_slice-slot-items.ensures.value ∙ apart rs ks stands.table xs are in
+    let len = named-length (id_at table) slots zs named in
     let kept = named-are_kept table rs ks stands.table c.args.states.now xs are in
-    let noted = subst (λ ys. AreNoted (is_conflict_behind rs xs c.args.after.now) (is_met rs ks xs ys) c.loop-place.noted.keys) (take_all i (kept_states rs ks) (omega arith)) (c.loop-place.invariant.noted rs ks stands xs are) in
-    subst (λ zs. IfOk c.page_of.result (IsPageOf zs))
-    (sym (noted-are_all rs xs c.args.after.now (is_met rs ks xs (kept_states rs ks)) c.loop-place.noted.keys (λ k h. conflict-is_met rs ks table stands.table xs kept k h) noted)) c.page_of.ensures
+    let noted = subst (λ ys. AreNoted (is_conflict_behind rs xs c.args.after.now) (is_met rs ks xs ys) c.loop-slot.noted.keys) (take_all i zs (let end = c.loop-slot-test.false in omega arith)) (c.loop-slot.invariant rs ks stands xs are) in
+    subst (λ keys. IfOk c.page_of.result (IsPageOf keys))
+    (sym (noted-are_all rs xs c.args.after.now (is_met rs ks xs zs) c.loop-slot.noted.keys (λ k h. apart-is_met rs ks xs k (conflict-is_met rs ks table stands.table xs kept k h)) noted)) c.page_of.ensures

@@ -1,0 +1,7 @@
+-- Lemmas on regions.
+pub mod Orders
+pub mod Told
+pub mod Parents
+pub mod Steps
+pub mod Named
+pub mod Waiting

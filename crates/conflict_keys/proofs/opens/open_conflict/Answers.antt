@@ -1,0 +1,53 @@
+use Rattle.std.proofs.Common.{◌≡◌, ◌∙◌, ◌+◌, ◌||◌, not, ℕ, Bool, false, List, [], Some, IsTrue, IsFalse, map, take, refl, sym, ap, subst, arith, take_all}
+use Rattle.std.specs.List.{list_all}
+use Rattle.std.specs.Option.{option_copied}
+use Rattle.tardis_base.specs.declared.ids.StateId.{StateId}
+use Rattle.tardis_base.specs.declared.ids.Slot.{Slot}
+use Rattle.tardis_base.specs.Keys.{is_key_among, has_key}
+use Rattle.plain_dag.specs.Conflicts.{is_conflict_key, conflict_keys}
+use Rattle.plain_dag.specs.Collection.{kept_states}
+use Rattle.state_dag.specs.Table.{Table, id_at, is_slot}
+use Rattle.state_dag.specs.Stands.{Stands}
+use Rattle.branch_region.specs.Regions.{is_above_part, apart_states}
+use Rattle.conflict_keys.specs.Regions.{is_met}
+use Rattle.plain_dag.proofs.ConflictKeys.{lists-conflict-keys}
+use Rattle.plain_dag.proofs.Ids.{not-both}
+use Rattle.conflict_keys.specs.Opens.{IsLeast, is_open_conflict}
+use Rattle.conflict_keys.proofs.Walks.{named-next, named-length, named-are_kept, GivesApart}
+use Rattle.conflict_keys.proofs.Meetings.{conflict-is_met, apart-is_met, met-here}
+use Rattle.conflict_keys.proofs.Least.{least-of_fewer, least-found}
+use Rattle.conflict_keys.proofs.opens.open_conflict.Goals as goal
+
+pub loop-slot-init : goal.loop-slot-init
+loop-slot-init c = λ rs ks stands xs are. λ k m. not-both false m refl
+
+pub loop-slot-preserved : goal.loop-slot-preserved
+loop-slot-preserved c = λ rs ks stands xs are.
+    let table = c.args.store.now.table in
+    let i = c.loop-slot.slot-index in
+    let zs = apart_states rs ks xs in
+    let slots = c.as_slice-slot-items.result.now in
+    let apart = subst (λ (t : Table). GivesApart t c.args.states.now c.in_ok-above.above.apart.items) c.dag.ensures c.in_ok-above.ensures.apart in
+    let named : map (id_at table) slots ≡ map (λ x. Some x) zs = ap (map (id_at table)) c.as_slice-slot-items.ensures.value ∙ apart rs ks stands.table xs are in
+    let n = named-next (id_at table) slots zs i (record { 0 = 0 }) named c.loop-slot-test.true in
+    let was = is_met rs ks xs (take i zs) in
+    let keys = c.keys_at.result.now in
+    let wider : List ℕ → Bool = λ k. was k || is_key_among k keys in
+    let new = c.least_open-least.ensures rs ks stands xs are was (c.loop-slot.invariant rs ks stands xs are) in
+    least-of_fewer (is_open_conflict rs xs c.args.writes.now) wider (is_met rs ks xs (take (i + 1) zs)) (option_copied c.least_open-least.result)
+    (λ k m. met-here rs ks xs zs i k n.state keys n.got (c.keys_at.ensures rs ks stands n.state n.named k) m) new
+
+pub returns : goal.returns
+returns c = λ rs ks stands xs are.
+    let table = c.args.store.now.table in
+    let i = c.loop-slot.slot-index in
+    let zs = apart_states rs ks xs in
+    let slots = c.as_slice-slot-items.result.now in
+    let apart = subst (λ (t : Table). GivesApart t c.args.states.now c.in_ok-above.above.apart.items) c.dag.ensures c.in_ok-above.ensures.apart in
+    let named : map (id_at table) slots ≡ map (λ x. Some x) zs = ap (map (id_at table)) c.as_slice-slot-items.ensures.value ∙ apart rs ks stands.table xs are in
+    let len = named-length (id_at table) slots zs named in
+    let kept = named-are_kept table rs ks stands.table c.args.states.now xs are in
+    let law = lists-conflict-keys rs xs in
+    let least = subst (λ ys. IsLeast (is_open_conflict rs xs c.args.writes.now) (is_met rs ks xs ys) (option_copied c.loop-slot.least)) (take_all i zs (let end = c.loop-slot-test.false in omega arith)) (c.loop-slot.invariant rs ks stands xs are) in
+    least-found (is_conflict_key rs xs) (λ k. not (has_key k c.args.writes.now)) (is_met rs ks xs zs) (conflict_keys rs xs) law.ascends law.complete
+    (λ k h. apart-is_met rs ks xs k (conflict-is_met rs ks table stands.table xs kept k h)) (option_copied c.loop-slot.least) least

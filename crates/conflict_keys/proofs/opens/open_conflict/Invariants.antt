@@ -1,0 +1,15 @@
+use Rattle.std.proofs.Common.{◌≡◌, List, Some, IsTrue, map, take}
+use Rattle.std.specs.List.{list_all}
+use Rattle.tardis_base.specs.declared.ids.StateId.{StateId}
+use Rattle.tardis_base.specs.declared.records.Record.{Record}
+use Rattle.state_dag.specs.Table.{id_at, is_slot}
+use Rattle.record_store.specs.Stands.{StoreStands}
+use Rattle.branch_region.specs.Regions.{apart_states}
+use Rattle.conflict_keys.specs.Regions.{is_met}
+use Rattle.std.specs.Option.{option_copied}
+use Rattle.conflict_keys.specs.Opens.{IsLeast, is_open_conflict}
+use Rattle.conflict_keys.proofs.opens.open_conflict.Given as goal
+
+abbrev pub invariant-loop-slot : goal.invariant-loop-slot
+invariant-loop-slot l = (rs : List Record) (ks : List StateId) → StoreStands l.store rs ks → (xs : List StateId) → map (id_at l.store.table) l.states ≡ map (λ x. Some x) xs →
+    IsLeast (is_open_conflict rs xs l.writes) (is_met rs ks xs (take l.slot-index (apart_states rs ks xs))) (option_copied l.least)
