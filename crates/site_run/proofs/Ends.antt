@@ -2,7 +2,7 @@
 use Rattle.std.proofs.Common.{◌≡◌, ℕ, ◌+◌, ◌<◌, List, [], ◌++◌, Option, length, refl, sym, ap, ◌∙◌, subst, inl, inr, arith}
 use Rattle.std.proofs.lemmas.List.{append-nil}
 use Rattle.tardis_io.specs.declared.statuses.Status.{Status}
-use Rattle.tardis_io.specs.declared.statuses.Status.TheVariants.{Ok, Usage, ReadFault, WriteFault, Cut, LongFrame, NoMemory, GateFault, DialFault, Spent, DiskFault, BadExport, NoState}
+use Rattle.tardis_io.specs.declared.statuses.Status.TheVariants.{Ok, Usage, ReadFault, WriteFault, Cut, LongFrame, NoMemory, Spent}
 use Rattle.frame_cut.specs.Frames.{IsPartial, IsLong, IsEnd, Cuts, IsCut}
 use Rattle.frame_cut.proofs.OneCut.{one, front_of}
 use Rattle.frame_cut.proofs.Words.{long_more}
@@ -18,12 +18,7 @@ ends_spent WriteFault first bodies held left e n = tt
 ends_spent Cut first bodies held left e n = let none : length left ≡ 0 = ap length e.2 in absurd (omega (arith, e.3, n, none))
 ends_spent (LongFrame len) first bodies held left e n = tt
 ends_spent NoMemory first bodies held left e n = let same : length left ≡ length first = ap length e.2 in absurd (omega (arith, n, same))
-ends_spent GateFault first bodies held left e n = e
-ends_spent DialFault first bodies held left e n = e
 ends_spent Spent first bodies held left e n = tt
-ends_spent DiskFault first bodies held left e n = e
-ends_spent BadExport first bodies held left e n = e
-ends_spent (NoState state) first bodies held left e n = e
 
 -- an empty end
 no_bytes : IsEnd []
@@ -52,12 +47,7 @@ answers_all Usage first bodies held left c e all rest d = tt
 answers_all ReadFault first bodies held left c e all rest d = tt
 answers_all WriteFault first bodies held left c e all rest d = tt
 answers_all NoMemory first bodies held left c e all rest d = tt
-answers_all GateFault first bodies held left c e all rest d = tt
-answers_all DialFault first bodies held left c e all rest d = tt
 answers_all Spent first bodies held left c e all rest d = tt
-answers_all DiskFault first bodies held left c e all rest d = tt
-answers_all BadExport first bodies held left c e all rest d = tt
-answers_all (NoState state) first bodies held left c e all rest d = tt
 
 -- an outcome, from what was answered and how the run ended
 pub outcome : {S : Type 0} (status : Status) (may : S → List ℕ → List ℕ → S → Type 0) (most : ℕ) (from to : S → Type 0) (g h : Option (List ℕ)) (first held left : List ℕ)
@@ -85,8 +75,3 @@ ends_as ReadFault from P first left o r w all rest d few = r refl
 ends_as WriteFault from P first left o r w all rest d few = w refl
 ends_as Spent from P first left o r w all rest d few = absurd (omega (arith, o.ends.1, few))
 ends_as Usage from P first left o r w all rest d few = o.ends
-ends_as GateFault from P first left o r w all rest d few = o.ends
-ends_as DialFault from P first left o r w all rest d few = o.ends
-ends_as DiskFault from P first left o r w all rest d few = o.ends
-ends_as BadExport from P first left o r w all rest d few = o.ends
-ends_as (NoState state) from P first left o r w all rest d few = o.ends

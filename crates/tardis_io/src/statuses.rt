@@ -4,7 +4,6 @@ ghost use Rattle.std.specs.Prelude.{◌≡◌};
 ghost use Rattle.tardis_io.specs.Statuses.{status_number};
 
 use std::fmt;
-use tardis_base::StateId;
 
 /// How a run ends. The process ends with its number, and its text is the line on standard error.
 #[derive(Clone, Copy, Debug, PartialEq, Eq)]
@@ -20,15 +19,8 @@ pub enum Status {
     /// A length word was above 1,048,576, or a text line beyond 1,048,576 bytes.
     LongFrame { len: u32 },
     NoMemory,
-    GateFault,
-    DialFault,
     /// 1,099,511,627,776 bytes were taken and more would have been.
     Spent,
-    DiskFault,
-    /// The input is no export.
-    BadExport,
-    /// The site has no such state.
-    NoState { state: StateId },
 }
 
 impl Status {
@@ -44,12 +36,7 @@ impl Status {
             Status::Cut => 4,
             Status::LongFrame { .. } => 5,
             Status::NoMemory => 6,
-            Status::GateFault => 7,
-            Status::DialFault => 8,
             Status::Spent => 9,
-            Status::DiskFault => 10,
-            Status::BadExport => 11,
-            Status::NoState { .. } => 12,
         }
     }
 }
@@ -64,15 +51,7 @@ impl fmt::Display for Status {
             Status::Cut => write!(f, "tardis: input ends inside a frame"),
             Status::LongFrame { len } => write!(f, "tardis: frame too long: {len}"),
             Status::NoMemory => write!(f, "tardis: out of memory"),
-            Status::GateFault => write!(f, "tardis: gate fault"),
-            Status::DialFault => write!(f, "tardis: dial fault"),
             Status::Spent => write!(f, "tardis: input too large"),
-            Status::DiskFault => write!(f, "tardis: disk fault"),
-            Status::BadExport => write!(f, "tardis: not an export"),
-            Status::NoState { state } => {
-                let StateId { site, sequence } = *state;
-                write!(f, "tardis: no such state {site}.{sequence}")
-            }
         }
     }
 }
