@@ -94,7 +94,7 @@ pub fn refusals_hide_nothing()
     ensures ended_breaks { IsBrokenBy RefusalsHideNothing ends_refused }
 {}
 
-/// Worked rows: what the step answers in the runs in which the wrong ones break the laws, and what lines tell their clients.
+/// Worked rows: what the step answers where wrong ones break laws, and what lines tell their clients.
 pub fn runs_are_told()
     ensures readers { ReadersFork }
     ensures writers { WritersFork }
