@@ -23,7 +23,8 @@ pub fn events_are_runs()
 
 /// Each transaction reads one snapshot, however long it runs and whatever is committed meanwhile: each of its reads shows the
 /// value over its read states, which for one state is what is read there. What it wrote itself it is shown as it wrote it, and
-/// a merge is shown each of its sides as it is. A transaction that wrote nothing ends at the state that it read.
+/// a merge is shown each of its sides as it is. A transaction whose commit makes no state wrote nothing, and ends at the state
+/// that it read.
 pub fn transactions_read_one_snapshot()
     ensures snapshot { (built : Built) → ReadsOneSnapshot (step built) }
     ensures at_its_state { (built : Built) → ReadsAtItsState (step built) }
@@ -93,7 +94,7 @@ pub fn refusals_hide_nothing()
     ensures ended_breaks { IsBrokenBy RefusalsHideNothing ends_refused }
 {}
 
-/// Worked rows: what the step answers in the runs in which the wrong ones break the laws, and what lines tell their clients.
+/// Worked rows: what the step answers where wrong ones break laws, and what lines tell their clients.
 pub fn runs_are_told()
     ensures readers { ReadersFork }
     ensures writers { WritersFork }

@@ -66,7 +66,8 @@ MergesShowEachSide service =
     IsRun service start (n asks GetFor key x => reply ∷ older) → IsTrue (is_shown reply) →
     (t : Told) × (told n older ≡ Some t) × IsTrue t.merges × IsTrue (is_among x t.states) × (reply ≡ found (read (history older) key x))
 
--- a transaction that wrote nothing ends at the one state that it read, and each of its reads shows what is read there
+-- a transaction whose commit makes no state wrote nothing; it ends at the one state that it read, and each of its reads shows
+-- what is read there
 abbrev pub ReadersEndWhereTheyRead : Service → Type 0
 ReadersEndWhereTheyRead service =
     (start : Site) (older : List Line) (n : ℕ) (flags : EndFlags) (k : ℕ) (x : StateId) →

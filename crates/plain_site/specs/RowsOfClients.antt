@@ -1,4 +1,4 @@
--- Worked rows: what the step answers in the runs in which wrong steps break the laws, and what the lines tell.
+-- Worked rows: what the step answers where wrong ones break laws, and what the lines tell.
 use Rattle.std.specs.Prelude.{◌≡◌, false, List, [], ◌∷◌, Some, codes}
 use Rattle.tardis_base.specs.declared.records.Write.TheVariants.{Put}
 use Rattle.tardis_base.specs.declared.requests.Request.TheVariants.{Abort}

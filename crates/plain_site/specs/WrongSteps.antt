@@ -75,7 +75,7 @@ abbrev pub moved_end : StateId → Reply → Reply
 moved_end x (Ended y) = Ended x
 moved_end x reply = reply
 
--- a transaction without writes is said to end at the state that arrived last
+-- a single transaction without writes is said to end at the state that arrived last
 abbrev pub ends_at_newest : Service
 ends_at_newest site n (Commit flags k) =
     let answer = step everything site n (Commit flags k) in
