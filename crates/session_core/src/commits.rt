@@ -17,7 +17,7 @@ ghost use Rattle.plain_site.specs.Sound.{IsSound};
 ghost use Rattle.plain_site.specs.Answers.{with_txn};
 ghost use Rattle.plain_site.specs.Commits.{commit as commit_txn, commit_at as committed_at, commit_below as committed_below, abort, without_txn_of};
 ghost use Rattle.session_core.specs.Stands.{CoreStands};
-ghost use Rattle.session_core.specs.Gives.{IsGiven, GivesOrStops, NeedsNoMemory};
+ghost use Rattle.session_core.specs.Gives.{Answers, IsGiven, GivesOrStops, NeedsNoMemory};
 ghost use Rattle.session_core.specs.Merges.{MayMerge};
 
 use crate::Parts;
@@ -39,7 +39,7 @@ impl Parts {
     /// The cost is that of `RecordStore::add_state`, and before it that of `ripple_commit::landing`, or for a merge that of
     /// `conflict_keys::first_open`. Where a single one wrote nothing, it is that of looking the transaction up.
     pub(crate) fn commit(&mut self, actor: u16, flags: EndFlags, k: u16) -> Result<Reply, Stop>
-        ensures { (site : Site) → CoreStands self.old site → IsSound so_far site → GivesOrStops (CoreStands self.new) (with_txn site actor (λ s t. commit_txn so_far site actor t flags k)) site result }
+        ensures { Answers self.old self.new result (λ site. with_txn site actor (λ s t. commit_txn so_far site actor t flags k)) }
     {
         self.session(actor)?;
         match self.open_txn(actor)? {
@@ -146,7 +146,7 @@ impl Parts {
     ///
     /// Refused where no session is open (NotOpen) or it has no transaction (NoTxn).
     pub(crate) fn abort(&mut self, actor: u16) -> Result<Reply, Stop>
-        ensures given { (site : Site) → CoreStands self.old site → IsSound so_far site → GivesOrStops (CoreStands self.new) (with_txn site actor (λ s t. abort site actor)) site result }
+        ensures given { Answers self.old self.new result (λ site. with_txn site actor (λ s t. abort site actor)) }
         ensures sure { NeedsNoMemory result }
     {
         self.open_txn(actor)?;

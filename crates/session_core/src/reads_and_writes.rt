@@ -14,7 +14,7 @@ ghost use Rattle.plain_site.specs.Sound.{IsSound};
 ghost use Rattle.plain_site.specs.Answers.{with_txn, found as reply_to};
 ghost use Rattle.plain_site.specs.Reads.{get, set_key, get_for as got_for};
 ghost use Rattle.session_core.specs.Stands.{CoreStands};
-ghost use Rattle.session_core.specs.Gives.{GivesOrStops};
+ghost use Rattle.session_core.specs.Gives.{Answers, GivesOrStops};
 ghost use Rattle.session_core.specs.Guards.{HasTxn};
 ghost use Rattle.session_core.specs.Machine.{NotesOrStops};
 ghost use Rattle.session_core.specs.Reads.{ReadsAs};
@@ -42,7 +42,7 @@ impl Parts {
     /// The cost is that of a search of the own writes; where the key isn't among them, also that of
     /// `RecordStore::read_at` and of `Txn::note_read`, or for a merge of `conflict_keys::value_over`.
     pub(crate) fn get(&mut self, actor: u16, key: &Key) -> Result<Reply, Stop>
-        ensures { (site : Site) → CoreStands self.old site → IsSound so_far site → GivesOrStops (CoreStands self.new) (with_txn site actor (λ s t. get site actor t key.now)) site result }
+        ensures { Answers self.old self.new result (λ site. with_txn site actor (λ s t. get site actor t key.now)) }
     {
         let slot = match self.open_txn(actor)? {
             Txn::Single(single) => match single.writes.get(key) {
@@ -95,7 +95,7 @@ impl Parts {
     /// Refused where no session is open (NotOpen), it has no transaction (NoTxn), or 64 other keys are written (TooMany).
     /// The cost is that of `Txn::put`, and of looking the transaction up; key and value are moved in.
     pub(crate) fn put(&mut self, actor: u16, key: Key, write: Write) -> Result<Reply, Stop>
-        ensures { (site : Site) → CoreStands self.old site → IsSound so_far site → GivesOrStops (CoreStands self.new) (with_txn site actor (λ s t. set_key site actor t key write)) site result }
+        ensures { Answers self.old self.new result (λ site. with_txn site actor (λ s t. set_key site actor t key write)) }
     {
         match self.txns.put(actor, key, write) {
             Some(Ok(())) => Ok(Reply::Done),
@@ -111,7 +111,7 @@ impl Parts {
     ///
     /// Refused as `merge_of` says, and where the merge doesn't read that state (NotRead).
     pub(crate) fn get_for(&self, actor: u16, key: &Key, state: StateId) -> Result<Reply, Stop>
-        ensures { (site : Site) → CoreStands self.now site → IsSound so_far site → GivesOrStops (CoreStands self.now) (with_txn site actor (λ s t. got_for site t key.now state)) site result }
+        ensures { Answers self.now self.now result (λ site. with_txn site actor (λ s t. got_for site t key.now state)) }
     {
         let merge = self.merge_of(actor)?;
         match slot_among(self.store.dag(), merge.slots.as_slice(), state) {

@@ -14,7 +14,7 @@ ghost use Rattle.plain_site.specs.Sound.{IsSound};
 ghost use Rattle.plain_site.specs.Answers.{with_session, without_txn};
 ghost use Rattle.plain_site.specs.Sessions.{open_session, close_session, begin as begin_txn, begun};
 ghost use Rattle.session_core.specs.Stands.{CoreStands};
-ghost use Rattle.session_core.specs.Gives.{GivesOrStops, NeedsNoMemory};
+ghost use Rattle.session_core.specs.Gives.{Answers, GivesOrStops, NeedsNoMemory};
 
 use crate::Parts;
 use crate::stops::Stop;
@@ -27,7 +27,7 @@ impl Parts {
     ///
     /// Refused where it is open (AlreadyOpen), and where as many are open as may be (SessionsFull).
     pub(crate) fn open(&mut self, actor: u16, follow: bool) -> Result<Reply, Stop>
-        ensures { (site : Site) → CoreStands self.old site → IsSound so_far site → GivesOrStops (CoreStands self.new) (open_session site actor follow) site result }
+        ensures { Answers self.old self.new result (λ site. open_session site actor follow) }
     {
         let ceiling = self.book.open_session(actor, follow)?;
         Ok(Reply::Opened {
@@ -39,7 +39,7 @@ impl Parts {
     ///
     /// Refused where no session is open (NotOpen).
     pub(crate) fn close(&mut self, actor: u16) -> Result<Reply, Stop>
-        ensures given { (site : Site) → CoreStands self.old site → IsSound so_far site → GivesOrStops (CoreStands self.new) (with_session site actor (λ s. close_session site actor)) site result }
+        ensures given { Answers self.old self.new result (λ site. with_session site actor (λ s. close_session site actor)) }
         ensures sure { NeedsNoMemory result }
     {
         self.session(actor)?;
@@ -54,7 +54,7 @@ impl Parts {
     /// (Unknown), and where the state is a proper ancestor of the session's ceiling (Below). The cost is that of
     /// `begin_rule::choose`, and of looking the session up.
     pub(crate) fn begin(&mut self, actor: u16, begin: &Begin) -> Result<Reply, Stop>
-        ensures { (site : Site) → CoreStands self.old site → IsSound so_far site → GivesOrStops (CoreStands self.new) (without_txn site actor (λ s. begin_txn site actor s begin.now)) site result }
+        ensures { Answers self.old self.new result (λ site. without_txn site actor (λ s. begin_txn site actor s begin.now)) }
     {
         self.no_txn(actor)?;
         let slot = self.choose(actor, begin)?;
