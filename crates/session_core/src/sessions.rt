@@ -1,20 +1,12 @@
 //! Sessions open and close, and transactions begin in them.
 
-ghost use Rattle.std.specs.Prelude.{◌≡◌, None, Some, IsTrue, IfOk};
-ghost use Rattle.tardis_base.specs.declared.ids.StateId.{StateId};
-ghost use Rattle.plain_dag.specs.Begin.{begin_state};
-ghost use Rattle.plain_dag.specs.Entries.{entry_of};
-ghost use Rattle.plain_dag.specs.Floors.{Session};
-ghost use Rattle.state_dag.specs.Table.{id_at, is_slot};
+ghost use Rattle.std.specs.Prelude.{IsTrue, IfOk};
+ghost use Rattle.state_dag.specs.Table.{is_slot};
 ghost use Rattle.ceiling_book.specs.Book.{is_open};
-ghost use Rattle.begin_rule.specs.Choices.{ChosenAs};
-ghost use Rattle.plain_site.specs.Site.{Site};
-ghost use Rattle.plain_site.specs.Built.{so_far};
-ghost use Rattle.plain_site.specs.Sound.{IsSound};
 ghost use Rattle.plain_site.specs.Answers.{with_session, without_txn};
-ghost use Rattle.plain_site.specs.Sessions.{open_session, close_session, begin as begin_txn, begun};
-ghost use Rattle.session_core.specs.Stands.{CoreStands};
-ghost use Rattle.session_core.specs.Gives.{Answers, GivesOrStops, NeedsNoMemory};
+ghost use Rattle.plain_site.specs.Sessions.{open_session, close_session, begin as begin_txn};
+ghost use Rattle.session_core.specs.Gives.{Answers, NeedsNoMemory};
+ghost use Rattle.session_core.specs.Begins.{ChoosesFor, BeginsAt};
 
 use crate::Parts;
 use crate::stops::Stop;
@@ -65,7 +57,7 @@ impl Parts {
     fn choose(&self, actor: u16, begin: &Begin) -> Result<Slot, BeginFault>
         requires { IsTrue (is_open self.now.book actor) }
         ensures slot { IfOk result (λ slot. IsTrue (is_slot self.now.store.table slot)) }
-        ensures chosen { (site : Site) → CoreStands self.now site → IsSound so_far site → (s : Session) → entry_of actor site.sessions ≡ Some s → ChosenAs self.now.store.table site.dag s.ceiling (begin_state site.dag s.last begin.now) result }
+        ensures chosen { ChoosesFor self.now actor begin.now result }
     {
         let (last, last_slot) = self.book.last(actor);
         let ceiling = self.book.ceiling(actor);
@@ -75,7 +67,7 @@ impl Parts {
     /// Begins the transaction at the state of this slot.
     fn begin_at(&mut self, actor: u16, slot: Slot) -> Result<Reply, Stop>
         requires { IsTrue (is_slot self.old.store.table slot) }
-        ensures { (site : Site) → CoreStands self.old site → (x : StateId) → id_at self.old.store.table slot ≡ Some x → GivesOrStops (CoreStands self.new) (begun site actor x) site result }
+        ensures { BeginsAt self.old self.new actor slot result }
     {
         let state = self.store.dag().id_of(slot);
         self.txns
