@@ -277,7 +277,9 @@ mod tests {
         let root = table.last();
         let mut book = CeilingBook::new(alloc, &limits, 2, root)?;
         assert!(rt; book.open_session(7, true)? == root);
+        assert!(rt; book.is_open(7));
         book.committed(&table, 7, root);
+        assert!(rt; book.is_open(7));
         assert!(rt; book.last(7) == (StateId::ROOT, root));
         Ok(())
     }
