@@ -29,9 +29,11 @@ use Rattle.plain_dag.specs.Landing.{broken, guarded, landing}
 use Rattle.plain_dag.specs.Paths.{fork_path}
 use Rattle.plain_dag.specs.States.{arrival, children, is_known, states}
 use Rattle.plain_dag.specs.Writers.{read}
+use Rattle.plain_dag.proofs.States.{children-before}
 use Rattle.plain_site.proofs.SoundAnswers.{AreNone, given-keeps, no_txn-keeps, none-appended, session-keeps, step-keeps, txn-keeps, unless-keeps}
 use Rattle.plain_site.proofs.SoundCommits.{MayJoin, merge_refusals, single-joins, unrefused-joins}
 use Rattle.plain_site.proofs.SoundHistories.{unfound-at}
+use Rattle.plain_site.proofs.SoundDeliveries.{welcome}
 use Rattle.plain_site.specs.Answers.{Answer, found, refuse, refuse_found, shown}
 use Rattle.plain_site.specs.Built.{Built}
 use Rattle.plain_site.specs.Commits.{abort, commit, commit_below, commit_single, commit_writes, committed, growth_refusals, with_record, without_txn_of}
@@ -40,17 +42,15 @@ use Rattle.plain_site.specs.FloorSteps.{raise, raise_to, raised}
 use Rattle.plain_site.specs.Laws.{ClosedGetNoChild}
 use Rattle.plain_site.specs.Merges.{begin_merge, conflicts_of, first_below, first_unknown, fork_points_of, in_order, merge_at, merging, states_to_merge}
 use Rattle.plain_site.specs.Reads.{get, get_for, having_read, having_written, read_in, set_key}
-use Rattle.plain_site.specs.RowWords.{none}
 use Rattle.plain_site.specs.Sessions.{begin, begin_at, begun, close_session, open_session, set_ceiling}
 use Rattle.plain_site.specs.Shows.{show}
 use Rattle.plain_site.specs.Site.{Merge, Single, SingleTxn, Site, Txn, next_record, own_count, own_floor, with_txn_changed, writes_of}
 use Rattle.plain_site.specs.Sound.{IsSound, IsSoundTxn}
 use Rattle.plain_site.specs.Step.{served}
-use Rattle.plain_site.specs.WrongSteps.{collected}
 
 module _ (built : Built) (site : Site) (n : ℕ) (x : StateId) where
   -- the state has the children that it had
-  Stays : Site → Type 0
+  abbrev Stays : Site → Type 0
   Stays new = children new.dag x ≡ children site.dag x
 
   -- ===== Requests that add no record
