@@ -2,3 +2,5 @@
 pub mod Entries
 pub mod Keeping
 pub mod Growth
+pub mod Moves
+pub mod Newest

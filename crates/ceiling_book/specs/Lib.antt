@@ -3,3 +3,4 @@ pub mod Book
 pub mod Places
 pub mod Held
 pub mod Answers
+pub mod Floors

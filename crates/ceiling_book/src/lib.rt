@@ -15,8 +15,10 @@ ghost use Rattle.ceiling_book.specs.Book.{sessions_of, floors_of, own_floor, is_
 ghost use Rattle.ceiling_book.specs.Places.{AreSlots, ArePlaced};
 ghost use Rattle.ceiling_book.specs.Answers.{KeepsRest, OpenedIn};
 
+mod floors;
 mod parts;
 
+pub use floors::{CeilingBack, RaiseFault};
 use parts::{KnownFloor, OpenSession, Place};
 use state_dag::StateDag;
 use std::alloc::{AllocFailed, Global};
@@ -281,6 +283,11 @@ mod tests {
         book.committed(&table, 7, root);
         assert!(rt; book.is_open(7));
         assert!(rt; book.last(7) == (StateId::ROOT, root));
+        assert!(rt; book.set_ceiling(&table, 7, root) == Ok(()));
+        assert!(rt; book.raise(&table, root) == Ok(1));
+        assert!(rt; book.raise_auto(&table) == Ok((root, 2)));
+        assert!(rt; !book.closed(&table, root));
+        assert!(rt; book.above_all_floors(&table, root));
         Ok(())
     }
 }

@@ -3,7 +3,7 @@
 ghost use Rattle.std.specs.Prelude.{◌≡◌, ◌⊎◌, List, Some, IsTrue};
 ghost use Rattle.tardis_base.specs.declared.ids.StateId.{StateId};
 ghost use Rattle.tardis_base.specs.declared.records.Record.{Record};
-ghost use Rattle.plain_dag.specs.Floors.{after_commit};
+ghost use Rattle.plain_dag.specs.Floors.{after_commit, with_ceiling};
 ghost use Rattle.state_dag.specs.Table.{is_slot};
 ghost use Rattle.state_dag.specs.Stands.{Stands};
 ghost use Rattle.ceiling_book.specs.Book.{session_of};
@@ -50,5 +50,13 @@ impl OpenSession {
             ceiling: if goes_down { commit } else { self.ceiling },
             last: commit,
         }
+    }
+    /// The session under this ceiling.
+    pub fn with_ceiling(&self, ceiling: Place) -> OpenSession
+        ensures session { session_of result ≡ with_ceiling ceiling.state (session_of self.now) }
+        ensures ceiling { result.ceiling ≡ ceiling }
+        ensures last { result.last ≡ self.now.last }
+    {
+        OpenSession { ceiling, ..*self }
     }
 }
