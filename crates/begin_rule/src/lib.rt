@@ -66,7 +66,10 @@ pub fn choose(
     requires last { IsTrue (is_slot dag.now last_slot) }
     requires ceiling { IsTrue (is_slot dag.now ceiling) }
     ensures slot { IfOk result (λ slot. IsTrue (is_slot dag.now slot)) }
-    ensures chosen { (rs : List Record) (ks : List StateId) → Stands dag.now rs ks → (c : StateId) → id_at dag.now ceiling ≡ Some c → IsTrue (is_known rs last) → id_at dag.now last_slot ≡ Some (stand_in rs ks last) → ((x : StateId) → IsTrue (is_among x ks) → IsTrue (is_proper_ancestor rs x c)) → ChosenAs dag.now rs c (begin_state rs last begin.now) result }
+    ensures chosen { (rs : List Record) (ks : List StateId) → Stands dag.now rs ks → (c : StateId) → id_at dag.now ceiling ≡ Some c
+        → IsTrue (is_known rs last) → id_at dag.now last_slot ≡ Some (stand_in rs ks last)
+        → ((x : StateId) → IsTrue (is_among x ks) → IsTrue (is_proper_ancestor rs x c))
+        → ChosenAs dag.now rs c (begin_state rs last begin.now) result }
 {
     match *begin {
         Begin::Any => Ok(dag.last()),
@@ -86,7 +89,8 @@ pub fn choose(
 fn newest_below(dag: &StateDag, slot: Slot) -> Slot
     requires { IsTrue (is_slot dag.now slot) }
     ensures slot { IsTrue (is_slot dag.now result) }
-    ensures newest { (rs : List Record) (ks : List StateId) → Stands dag.now rs ks → (last : StateId) → IsTrue (is_known rs last) → id_at dag.now slot ≡ Some (stand_in rs ks last) → id_at dag.now result ≡ Some (last_below rs last) }
+    ensures newest { (rs : List Record) (ks : List StateId) → Stands dag.now rs ks → (last : StateId) → IsTrue (is_known rs last)
+        → id_at dag.now slot ≡ Some (stand_in rs ks last) → id_at dag.now result ≡ Some (last_below rs last) }
 {
     let leaves = dag.leaf_slots();
     for place in (0..leaves.len()).rev() {
@@ -102,7 +106,9 @@ pub(crate) fn admitted(dag: &StateDag, state: StateId, ceiling: Slot) -> Result<
     requires { IsTrue (is_slot dag.now ceiling) }
     ensures slot { IfOk result (λ slot. IsTrue (is_slot dag.now slot)) }
     ensures named { IfOk result (λ slot. id_at dag.now slot ≡ Some state) }
-    ensures chosen { (rs : List Record) (ks : List StateId) → Stands dag.now rs ks → (c : StateId) → id_at dag.now ceiling ≡ Some c → IsTrue (is_known rs state) → ((x : StateId) → IsTrue (is_among x ks) → IsTrue (is_proper_ancestor rs x c)) → ChosenAs dag.now rs c state result }
+    ensures chosen { (rs : List Record) (ks : List StateId) → Stands dag.now rs ks → (c : StateId) → id_at dag.now ceiling ≡ Some c
+        → IsTrue (is_known rs state) → ((x : StateId) → IsTrue (is_among x ks) → IsTrue (is_proper_ancestor rs x c))
+        → ChosenAs dag.now rs c state result }
 {
     let limit = dag.id_of(ceiling);
     let below = BeginFault::Below {

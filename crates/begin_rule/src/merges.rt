@@ -87,7 +87,8 @@ pub fn choose_all(
 ) -> Result<ListOf<Slot>, MergeFault>
     requires { IsTrue (is_slot dag.now ceiling) }
     ensures slots { IfOk result (λ slots. IsTrue (list_all (is_slot dag.now) slots)) }
-    ensures chosen { (rs : List Record) (ks : List StateId) → Stands dag.now rs ks → (c : StateId) → id_at dag.now ceiling ≡ Some c → ((x : StateId) → IsTrue (is_among x ks) → IsTrue (is_proper_ancestor rs x c)) → ChosenAllAs dag.now rs c states.now result }
+    ensures chosen { (rs : List Record) (ks : List StateId) → Stands dag.now rs ks → (c : StateId) → id_at dag.now ceiling ≡ Some c
+        → ((x : StateId) → IsTrue (is_among x ks) → IsTrue (is_proper_ancestor rs x c)) → ChosenAllAs dag.now rs c states.now result }
 {
     if let Some(state) = first_unknown(dag, states) {
         return Err(MergeFault::Unknown { state });
@@ -116,7 +117,9 @@ fn first_unknown(dag: &StateDag, states: &[StateId]) -> Option<StateId>
 fn admit_all(dag: &StateDag, states: &[StateId], ceiling: Slot) -> Result<(), BeginFault>
     requires { IsTrue (is_slot dag.now ceiling) }
     ensures kept { OnOk result (IsTrue (list_all (is_listed dag.now) states.now)) }
-    ensures admitted { (rs : List Record) (ks : List StateId) → Stands dag.now rs ks → (c : StateId) → id_at dag.now ceiling ≡ Some c → ((x : StateId) → IsTrue (is_among x ks) → IsTrue (is_proper_ancestor rs x c)) → first_unknown rs states.now ≡ None → AdmittedAllAs rs c states.now result }
+    ensures admitted { (rs : List Record) (ks : List StateId) → Stands dag.now rs ks → (c : StateId) → id_at dag.now ceiling ≡ Some c
+        → ((x : StateId) → IsTrue (is_among x ks) → IsTrue (is_proper_ancestor rs x c)) → first_unknown rs states.now ≡ None
+        → AdmittedAllAs rs c states.now result }
 {
     for state in states {
         admitted(dag, *state, ceiling)?;
@@ -143,7 +146,8 @@ fn slots_of(alloc: Global, dag: &StateDag, states: &[StateId]) -> Result<ListOf<
 /// The first two of these states that are comparable, by the place of the one and then of the other.
 fn comparable_pair(dag: &StateDag, slots: &[Slot]) -> Option<(StateId, StateId)>
     requires { IsTrue (list_all (is_slot dag.now) slots.now) }
-    ensures { (rs : List Record) (ks : List StateId) → Stands dag.now rs ks → (xs : List StateId) → map (id_at dag.now) slots.now ≡ map (λ x. Some x) xs → result ≡ comparable_pair rs xs }
+    ensures { (rs : List Record) (ks : List StateId) → Stands dag.now rs ks → (xs : List StateId)
+        → map (id_at dag.now) slots.now ≡ map (λ x. Some x) xs → result ≡ comparable_pair rs xs }
 {
     for place in 0..slots.len() {
         if let Some(other) = first_comparable(dag, slots[place], &slots[place + 1..]) {
@@ -158,7 +162,8 @@ fn first_comparable(dag: &StateDag, slot: Slot, others: &[Slot]) -> Option<Slot>
     requires slot { IsTrue (is_slot dag.now slot) }
     requires others { IsTrue (list_all (is_slot dag.now) others.now) }
     ensures slot { IfSome result (λ other. IsTrue (is_slot dag.now other)) }
-    ensures first { (rs : List Record) (ks : List StateId) → Stands dag.now rs ks → (x : StateId) (ys : List StateId) → id_at dag.now slot ≡ Some x → map (id_at dag.now) others.now ≡ map (λ y. Some y) ys → option_and_then (id_at dag.now) result ≡ find (are_comparable rs x) ys }
+    ensures first { (rs : List Record) (ks : List StateId) → Stands dag.now rs ks → (x : StateId) (ys : List StateId) → id_at dag.now slot ≡ Some x
+        → map (id_at dag.now) others.now ≡ map (λ y. Some y) ys → option_and_then (id_at dag.now) result ≡ find (are_comparable rs x) ys }
 {
     for other in others {
         if are_comparable(dag, slot, *other) {
@@ -172,7 +177,8 @@ fn first_comparable(dag: &StateDag, slot: Slot, others: &[Slot]) -> Option<Slot>
 fn are_comparable(dag: &StateDag, a: Slot, b: Slot) -> bool
     requires first { IsTrue (is_slot dag.now a) }
     requires second { IsTrue (is_slot dag.now b) }
-    ensures { (rs : List Record) (ks : List StateId) → Stands dag.now rs ks → (x y : StateId) → id_at dag.now a ≡ Some x → id_at dag.now b ≡ Some y → result ≡ are_comparable rs x y }
+    ensures { (rs : List Record) (ks : List StateId) → Stands dag.now rs ks → (x y : StateId) → id_at dag.now a ≡ Some x → id_at dag.now b ≡ Some y
+        → result ≡ are_comparable rs x y }
 {
     dag.is_ancestor(a, b) || dag.is_ancestor(b, a)
 }

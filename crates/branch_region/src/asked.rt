@@ -49,7 +49,8 @@ pub(crate) fn is_above_part(dag: &StateDag, slot: Slot, states: &[Slot]) -> bool
 pub(crate) fn is_last_shared(dag: &StateDag, slot: Slot, states: &[Slot]) -> bool
     requires slot { IsTrue (is_slot dag.now slot) }
     requires states { IsTrue (list_all (is_slot dag.now) states.now) }
-    ensures { (rs : List Record) (ks : List StateId) → Stands dag.now rs ks → (x : StateId) → id_at dag.now slot ≡ Some x → (xs : List StateId) → map (id_at dag.now) states.now ≡ map (λ y. Some y) xs → result ≡ is_last_shared rs xs x }
+    ensures { (rs : List Record) (ks : List StateId) → Stands dag.now rs ks → (x : StateId) → id_at dag.now slot ≡ Some x → (xs : List StateId)
+        → map (id_at dag.now) states.now ≡ map (λ y. Some y) xs → result ≡ is_last_shared rs xs x }
 {
     is_above_all(dag, slot, states)
         && (is_one_of(slot, states) || is_one_above_part(dag, dag.child_slots(slot), states))

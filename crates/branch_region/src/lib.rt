@@ -34,8 +34,12 @@ use walks::{Step, Walk};
 pub fn region(alloc: Global, dag: &StateDag, states: &[Slot]) -> Result<Region, NoMemory>
     requires { IsTrue (list_all (is_slot dag.now) states.now) }
     ensures slots { IfOk result (λ region. IsTrue (list_all (is_slot dag.now) region.apart.items) × IsTrue (list_all (is_slot dag.now) region.shared.items)) }
-    ensures apart { (rs : List Record) (ks : List StateId) → Stands dag.now rs ks → (xs : List StateId) → map (id_at dag.now) states.now ≡ map (λ x. Some x) xs → IfOk result (λ region. map (id_at dag.now) region.apart.items ≡ map (λ x. Some x) (apart_states rs ks xs)) }
-    ensures shared { (rs : List Record) (ks : List StateId) → Stands dag.now rs ks → (xs : List StateId) → map (id_at dag.now) states.now ≡ map (λ x. Some x) xs → IfOk result (λ region. map (id_at dag.now) region.shared.items ≡ map (λ x. Some x) (shared_states rs ks xs)) }
+    ensures apart { (rs : List Record) (ks : List StateId) → Stands dag.now rs ks → (xs : List StateId)
+        → map (id_at dag.now) states.now ≡ map (λ x. Some x) xs
+        → IfOk result (λ region. map (id_at dag.now) region.apart.items ≡ map (λ x. Some x) (apart_states rs ks xs)) }
+    ensures shared { (rs : List Record) (ks : List StateId) → Stands dag.now rs ks → (xs : List StateId)
+        → map (id_at dag.now) states.now ≡ map (λ x. Some x) xs
+        → IfOk result (λ region. map (id_at dag.now) region.shared.items ≡ map (λ x. Some x) (shared_states rs ks xs)) }
 {
     let mut walk = Walk::new(alloc, dag, states)?;
     for _place in 0..dag.kept() {
@@ -55,7 +59,8 @@ pub fn region(alloc: Global, dag: &StateDag, states: &[Slot]) -> Result<Region, 
 pub fn is_above_part(dag: &StateDag, slot: Slot, states: &[Slot]) -> bool
     requires slot { IsTrue (is_slot dag.now slot) }
     requires states { IsTrue (list_all (is_slot dag.now) states.now) }
-    ensures { (rs : List Record) (ks : List StateId) → Stands dag.now rs ks → (x : StateId) → id_at dag.now slot ≡ Some x → (xs : List StateId) → map (id_at dag.now) states.now ≡ map (λ y. Some y) xs → result ≡ is_above_part rs x xs }
+    ensures { (rs : List Record) (ks : List StateId) → Stands dag.now rs ks → (x : StateId) → id_at dag.now slot ≡ Some x → (xs : List StateId)
+        → map (id_at dag.now) states.now ≡ map (λ y. Some y) xs → result ≡ is_above_part rs x xs }
 {
     asked::is_above_part(dag, slot, states)
 }

@@ -25,8 +25,14 @@ pub(crate) fn older(
 ) -> Result<Region, NoMemory>
     requires { IsTrue (list_all (is_slot dag.now) states.now) }
     ensures slots { IfOk result (λ region. IsTrue (list_all (is_slot dag.now) region.apart.items) × IsTrue (list_all (is_slot dag.now) region.shared.items)) }
-    ensures apart { (rs : List Record) (ks : List StateId) → Stands dag.now rs ks → (xs : List StateId) → map (id_at dag.now) states.now ≡ map (λ x. Some x) xs → IfOk result (λ region. map (id_at dag.now) region.apart.items ≡ map (λ x. Some x) (filter (is_until rs bound (λ x. is_above_part rs x xs)) (kept_states rs ks))) }
-    ensures shared { (rs : List Record) (ks : List StateId) → Stands dag.now rs ks → (xs : List StateId) → map (id_at dag.now) states.now ≡ map (λ x. Some x) xs → IfOk result (λ region. map (id_at dag.now) region.shared.items ≡ map (λ x. Some x) (filter (is_until rs bound (is_last_shared rs xs)) (kept_states rs ks))) }
+    ensures apart { (rs : List Record) (ks : List StateId) → Stands dag.now rs ks → (xs : List StateId)
+        → map (id_at dag.now) states.now ≡ map (λ x. Some x) xs
+        → IfOk result (λ region. map (id_at dag.now) region.apart.items
+        ≡ map (λ x. Some x) (filter (is_until rs bound (λ x. is_above_part rs x xs)) (kept_states rs ks))) }
+    ensures shared { (rs : List Record) (ks : List StateId) → Stands dag.now rs ks → (xs : List StateId)
+        → map (id_at dag.now) states.now ≡ map (λ x. Some x) xs
+        → IfOk result (λ region. map (id_at dag.now) region.shared.items
+        ≡ map (λ x. Some x) (filter (is_until rs bound (is_last_shared rs xs)) (kept_states rs ks))) }
 {
     let mut apart = Vec::new(alloc);
     let mut shared = Vec::new(alloc);

@@ -42,7 +42,8 @@ impl Walk {
     pub(crate) fn new(alloc: Global, dag: &StateDag, states: &[Slot]) -> Result<Walk, NoMemory>
         requires { IsTrue (list_all (is_slot dag.now) states.now) }
         ensures slots { IfOk result (HasSlots dag.now) }
-        ensures walk { (rs : List Record) (ks : List StateId) → Stands dag.now rs ks → (xs : List StateId) → map (id_at dag.now) states.now ≡ map (λ x. Some x) xs → IfOk result (λ walk. (b : ℕ) × IsWalkAt dag.now rs ks xs 0 b walk) }
+        ensures walk { (rs : List Record) (ks : List StateId) → Stands dag.now rs ks → (xs : List StateId)
+            → map (id_at dag.now) states.now ≡ map (λ x. Some x) xs → IfOk result (λ walk. (b : ℕ) × IsWalkAt dag.now rs ks xs 0 b walk) }
     {
         Ok(Walk {
             waiting: all_waiting(alloc, dag, states)?,
@@ -56,7 +57,9 @@ impl Walk {
         requires states { IsTrue (list_all (is_slot dag.now) states.now) }
         requires slots { HasSlots dag.now self.old }
         ensures slots { OnOk result (HasSlots dag.now self.new) }
-        ensures walk { (rs : List Record) (ks : List StateId) → Stands dag.now rs ks → (xs : List StateId) → map (id_at dag.now) states.now ≡ map (λ x. Some x) xs → (n b : ℕ) → IsWalkAt dag.now rs ks xs n b self.old → IfOk result (StepsTo dag.now rs ks xs n self.new) }
+        ensures walk { (rs : List Record) (ks : List StateId) → Stands dag.now rs ks → (xs : List StateId)
+            → map (id_at dag.now) states.now ≡ map (λ x. Some x) xs → (n b : ℕ) → IsWalkAt dag.now rs ks xs n b self.old
+            → IfOk result (StepsTo dag.now rs ks xs n self.new) }
     {
         let Some((arrival, slot)) = self.waiting.pop_last() else {
             return Ok(Step::Over);
@@ -94,7 +97,8 @@ fn all_waiting(
 ) -> Result<BTreeMap<u64, Slot>, NoMemory>
     requires { IsTrue (list_all (is_slot dag.now) states.now) }
     ensures slots { IfOk result (λ waiting. AreSlots dag.now (waits_at waiting)) }
-    ensures waiting { (rs : List Record) (ks : List StateId) → Stands dag.now rs ks → (xs : List StateId) → map (id_at dag.now) states.now ≡ map (λ x. Some x) xs → IfOk result (λ waiting. AreWaiting dag.now rs xs (waits_at waiting)) }
+    ensures waiting { (rs : List Record) (ks : List StateId) → Stands dag.now rs ks → (xs : List StateId)
+        → map (id_at dag.now) states.now ≡ map (λ x. Some x) xs → IfOk result (λ waiting. AreWaiting dag.now rs xs (waits_at waiting)) }
 {
     let mut waiting = BTreeMap::new(alloc);
     for state in states {
@@ -112,7 +116,8 @@ fn put_parents(
     requires slot { IsTrue (is_slot dag.now slot) }
     requires slots { AreSlots dag.now (waits_at waiting.old) }
     ensures slots { OnOk result (AreSlots dag.now (waits_at waiting.new)) }
-    ensures parents { (rs : List Record) (ks : List StateId) → Stands dag.now rs ks → (x : StateId) → id_at dag.now slot ≡ Some x → IfOk result (λ all. IsTrue all → HasThese dag.now rs ks (parents_of rs x) (waits_at waiting.old) (waits_at waiting.new)) }
+    ensures parents { (rs : List Record) (ks : List StateId) → Stands dag.now rs ks → (x : StateId) → id_at dag.now slot ≡ Some x
+        → IfOk result (λ all. IsTrue all → HasThese dag.now rs ks (parents_of rs x) (waits_at waiting.old) (waits_at waiting.new)) }
 {
     for parent in dag.parents(slot) {
         match dag.slot_of(*parent) {

@@ -87,7 +87,9 @@ impl CeilingBook {
         requires open { IsTrue (is_open self.old session) }
         requires slots { AreSlots self.old dag.now }
         requires slot { IsTrue (is_slot dag.now slot) }
-        ensures set { (rs : List Record) (ks : List StateId) → Stands dag.now rs ks → ArePlaced self.old dag.now rs ks → (s : Session) → entry_of session (sessions_of self.old) ≡ Some s → (x : StateId) → id_at dag.now slot ≡ Some x → CeilingSetIn rs self.old self.new session s x result }
+        ensures set { (rs : List Record) (ks : List StateId) → Stands dag.now rs ks → ArePlaced self.old dag.now rs ks → (s : Session)
+            → entry_of session (sessions_of self.old) ≡ Some s → (x : StateId) → id_at dag.now slot ≡ Some x
+            → CeilingSetIn rs self.old self.new session s x result }
         ensures same { OnErr result (self.new ≡ self.old) }
         ensures rest { KeepsRest self.old self.new }
         ensures slots { AreSlots self.new dag.now }
@@ -116,7 +118,8 @@ impl CeilingBook {
         requires slots { AreSlots self.old dag.now }
         requires slot { IsTrue (is_slot dag.now slot) }
         requires own { self.old.own ≤ dag.now.limits.sites }
-        ensures raised { (rs : List Record) (ks : List StateId) → Stands dag.now rs ks → ArePlaced self.old dag.now rs ks → (x : StateId) → id_at dag.now slot ≡ Some x → RaisedIn rs self.old self.new x result }
+        ensures raised { (rs : List Record) (ks : List StateId) → Stands dag.now rs ks → ArePlaced self.old dag.now rs ks → (x : StateId)
+            → id_at dag.now slot ≡ Some x → RaisedIn rs self.old self.new x result }
         ensures same { OnErr result (self.new ≡ self.old) }
         ensures rest { KeepsSessions self.old self.new }
         ensures slots { AreSlots self.new dag.now }
@@ -143,7 +146,9 @@ impl CeilingBook {
     pub fn raise_auto(&mut self, dag: &StateDag) -> Result<(Slot, u32), SeqEnd>
         requires slots { AreSlots self.old dag.now }
         requires own { self.old.own ≤ dag.now.limits.sites }
-        ensures raised { (rs : List Record) (ks : List StateId) → Stands dag.now rs ks → ArePlaced self.old dag.now rs ks → ((x : StateId) → IsTrue (is_among x ks) → IsTrue (is_proper_ancestor rs x (own_floor self.old).state)) → AutoRaisedIn rs dag.now self.old self.new result }
+        ensures raised { (rs : List Record) (ks : List StateId) → Stands dag.now rs ks → ArePlaced self.old dag.now rs ks
+            → ((x : StateId) → IsTrue (is_among x ks) → IsTrue (is_proper_ancestor rs x (own_floor self.old).state))
+            → AutoRaisedIn rs dag.now self.old self.new result }
         ensures same { OnErr result (self.new ≡ self.old) }
         ensures rest { KeepsSessions self.old self.new }
         ensures slots { AreSlots self.new dag.now }
@@ -162,7 +167,8 @@ impl CeilingBook {
     pub fn closed(&self, dag: &StateDag, slot: Slot) -> bool
         requires slots { AreSlots self.now dag.now }
         requires slot { IsTrue (is_slot dag.now slot) }
-        ensures { (rs : List Record) (ks : List StateId) → Stands dag.now rs ks → ArePlaced self.now dag.now rs ks → (x : StateId) → id_at dag.now slot ≡ Some x → result ≡ is_closed rs (floors_of self.now) x }
+        ensures { (rs : List Record) (ks : List StateId) → Stands dag.now rs ks → ArePlaced self.now dag.now rs ks → (x : StateId)
+            → id_at dag.now slot ≡ Some x → result ≡ is_closed rs (floors_of self.now) x }
     {
         let place = Place {
             state: dag.id_of(slot),
@@ -182,7 +188,8 @@ impl CeilingBook {
     pub fn above_all_floors(&self, dag: &StateDag, slot: Slot) -> bool
         requires slots { AreSlots self.now dag.now }
         requires slot { IsTrue (is_slot dag.now slot) }
-        ensures { (rs : List Record) (ks : List StateId) → Stands dag.now rs ks → ArePlaced self.now dag.now rs ks → (x : StateId) → id_at dag.now slot ≡ Some x → result ≡ is_above_floors rs (floors_of self.now) x }
+        ensures { (rs : List Record) (ks : List StateId) → Stands dag.now rs ks → ArePlaced self.now dag.now rs ks → (x : StateId)
+            → id_at dag.now slot ≡ Some x → result ≡ is_above_floors rs (floors_of self.now) x }
     {
         for floor in self.floors.iter() {
             if !dag.is_ancestor(slot, floor.place.slot) {
@@ -219,7 +226,9 @@ impl CeilingBook {
     fn automatic_floor(&self, dag: &StateDag) -> Slot
         requires slots { AreSlots self.now dag.now }
         ensures slot { IsTrue (is_slot dag.now result) }
-        ensures floor { (rs : List Record) (ks : List StateId) → Stands dag.now rs ks → ArePlaced self.now dag.now rs ks → ((x : StateId) → IsTrue (is_among x ks) → IsTrue (is_proper_ancestor rs x (own_floor self.now).state)) → id_at dag.now result ≡ Some (automatic_floor rs (own_floor self.now).state (sessions_of self.now)) }
+        ensures floor { (rs : List Record) (ks : List StateId) → Stands dag.now rs ks → ArePlaced self.now dag.now rs ks
+            → ((x : StateId) → IsTrue (is_among x ks) → IsTrue (is_proper_ancestor rs x (own_floor self.now).state)) → id_at dag.now result
+            ≡ Some (automatic_floor rs (own_floor self.now).state (sessions_of self.now)) }
     {
         let floor = self.own_place();
         let kept = dag.kept_slots();
@@ -236,7 +245,8 @@ impl CeilingBook {
         requires slots { AreSlots self.now dag.now }
         requires floor { IsTrue (is_slot dag.now floor.slot) }
         requires slot { IsTrue (is_slot dag.now slot) }
-        ensures { (rs : List Record) (ks : List StateId) → Stands dag.now rs ks → ArePlaced self.now dag.now rs ks → IsAt dag.now floor → (x : StateId) → id_at dag.now slot ≡ Some x → result ≡ (is_above rs floor.state x && is_above_ceilings rs (sessions_of self.now) x) }
+        ensures { (rs : List Record) (ks : List StateId) → Stands dag.now rs ks → ArePlaced self.now dag.now rs ks → IsAt dag.now floor
+            → (x : StateId) → id_at dag.now slot ≡ Some x → result ≡ (is_above rs floor.state x && is_above_ceilings rs (sessions_of self.now) x) }
     {
         if !dag.is_ancestor(floor.slot, slot) {
             return false;
@@ -249,7 +259,8 @@ impl CeilingBook {
         requires slots { AreSlots self.old dag.now }
         requires slot { IsTrue (is_slot dag.now slot) }
         requires own { self.old.own ≤ dag.now.limits.sites }
-        ensures moved { (rs : List Record) (ks : List StateId) → Stands dag.now rs ks → (x : StateId) → id_at dag.now slot ≡ Some x → FloorMoved rs self.old self.new x result }
+        ensures moved { (rs : List Record) (ks : List StateId) → Stands dag.now rs ks → (x : StateId) → id_at dag.now slot ≡ Some x
+            → FloorMoved rs self.old self.new x result }
         ensures same { OnErr result (self.new ≡ self.old) }
         ensures rest { KeepsSessions self.old self.new }
         ensures slots { AreSlots self.new dag.now }
@@ -276,7 +287,8 @@ impl CeilingBook {
 fn is_proper_ancestor(dag: &StateDag, above: Place, below: Place) -> bool
     requires above { IsTrue (is_slot dag.now above.slot) }
     requires below { IsTrue (is_slot dag.now below.slot) }
-    ensures { (rs : List Record) (ks : List StateId) → Stands dag.now rs ks → IsAt dag.now above → IsAt dag.now below → result ≡ is_proper_ancestor rs above.state below.state }
+    ensures { (rs : List Record) (ks : List StateId) → Stands dag.now rs ks → IsAt dag.now above → IsAt dag.now below → result
+        ≡ is_proper_ancestor rs above.state below.state }
 {
     dag.is_ancestor(above.slot, below.slot) && !is_same(above.state, below.state)
 }

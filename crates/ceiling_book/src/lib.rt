@@ -104,7 +104,8 @@ impl CeilingBook {
         ensures sessions { IfOk result (λ book. sessions_of book ≡ []) }
         ensures floors { IfOk result (λ book. floors_of book ≡ replicate limits.now.sites opening_floor) }
         ensures slots { IfOk result (λ book. (table : Table) → IsTrue (is_slot table root) → AreSlots book table) }
-        ensures placed { IfOk result (λ book. (table : Table) (rs : List Record) (ks : List StateId) → Stands table rs ks → id_at table root ≡ Some the_root → ArePlaced book table rs ks) }
+        ensures placed { IfOk result (λ book. (table : Table) (rs : List Record) (ks : List StateId) → Stands table rs ks → id_at table root
+            ≡ Some the_root → ArePlaced book table rs ks) }
     {
         let place = Place {
             state: StateId::ROOT,
@@ -130,7 +131,8 @@ impl CeilingBook {
         ensures opened { OpenedIn self.old self.new session follow result }
         ensures rest { KeepsRest self.old self.new }
         ensures slot { IfOk result (λ slot. (table : Table) → AreSlots self.old table → IsTrue (is_slot table slot)) }
-        ensures ceiling { IfOk result (λ slot. (table : Table) (rs : List Record) (ks : List StateId) → ArePlaced self.old table rs ks → id_at table slot ≡ Some (own_floor self.old).state) }
+        ensures ceiling { IfOk result (λ slot. (table : Table) (rs : List Record) (ks : List StateId) → ArePlaced self.old table rs ks
+            → id_at table slot ≡ Some (own_floor self.old).state) }
         ensures slots { (table : Table) → AreSlots self.old table → AreSlots self.new table }
         ensures placed { (table : Table) (rs : List Record) (ks : List StateId) → ArePlaced self.old table rs ks → ArePlaced self.new table rs ks }
     {
@@ -184,7 +186,8 @@ impl CeilingBook {
     pub fn ceiling(&self, session: u16) -> Slot
         requires { IsTrue (is_open self.now session) }
         ensures slot { (table : Table) → AreSlots self.now table → IsTrue (is_slot table result) }
-        ensures ceiling { (table : Table) (rs : List Record) (ks : List StateId) → ArePlaced self.now table rs ks → (s : Session) → entry_of session (sessions_of self.now) ≡ Some s → id_at table result ≡ Some s.ceiling }
+        ensures ceiling { (table : Table) (rs : List Record) (ks : List StateId) → ArePlaced self.now table rs ks → (s : Session)
+            → entry_of session (sessions_of self.now) ≡ Some s → id_at table result ≡ Some s.ceiling }
     {
         self.session(session).ceiling.slot
     }
@@ -194,7 +197,8 @@ impl CeilingBook {
         requires { IsTrue (is_open self.now session) }
         ensures state { (s : Session) → entry_of session (sessions_of self.now) ≡ Some s → result.0 ≡ s.last }
         ensures slot { (table : Table) → AreSlots self.now table → IsTrue (is_slot table result.1) }
-        ensures stand_in { (table : Table) (rs : List Record) (ks : List StateId) → ArePlaced self.now table rs ks → (s : Session) → entry_of session (sessions_of self.now) ≡ Some s → id_at table result.1 ≡ Some (stand_in rs ks s.last) }
+        ensures stand_in { (table : Table) (rs : List Record) (ks : List StateId) → ArePlaced self.now table rs ks → (s : Session)
+            → entry_of session (sessions_of self.now) ≡ Some s → id_at table result.1 ≡ Some (stand_in rs ks s.last) }
     {
         let last = self.session(session).last;
         (last.state, last.slot)
@@ -208,7 +212,8 @@ impl CeilingBook {
         requires open { IsTrue (is_open self.old session) }
         requires slots { AreSlots self.old dag.now }
         requires slot { IsTrue (is_slot dag.now slot) }
-        ensures sessions { (rs : List Record) (ks : List StateId) → Stands dag.now rs ks → ArePlaced self.old dag.now rs ks → (x : StateId) → id_at dag.now slot ≡ Some x → sessions_of self.new ≡ changed session (after_commit rs x) (sessions_of self.old) }
+        ensures sessions { (rs : List Record) (ks : List StateId) → Stands dag.now rs ks → ArePlaced self.old dag.now rs ks → (x : StateId)
+            → id_at dag.now slot ≡ Some x → sessions_of self.new ≡ changed session (after_commit rs x) (sessions_of self.old) }
         ensures rest { KeepsRest self.old self.new }
         ensures slots { AreSlots self.new dag.now }
         ensures placed { (rs : List Record) (ks : List StateId) → Stands dag.now rs ks → ArePlaced self.old dag.now rs ks → ArePlaced self.new dag.now rs ks }
@@ -227,7 +232,8 @@ impl CeilingBook {
         requires first { 1 ≤ site }
         requires last { site ≤ length (floors_of self.now) }
         ensures slot { (table : Table) → AreSlots self.now table → IsTrue (is_slot table result.0) }
-        ensures floor { (table : Table) (rs : List Record) (ks : List StateId) → ArePlaced self.now table rs ks → id_at table result.0 ≡ Some (floor_of (floors_of self.now) site).state }
+        ensures floor { (table : Table) (rs : List Record) (ks : List StateId) → ArePlaced self.now table rs ks → id_at table result.0
+            ≡ Some (floor_of (floors_of self.now) site).state }
         ensures number { result.1 ≡ (floor_of (floors_of self.now) site).number }
         ensures stated { result.2 ≡ (floor_of (floors_of self.now) site).stated }
     {

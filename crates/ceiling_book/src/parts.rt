@@ -40,7 +40,8 @@ impl OpenSession {
     pub fn after_commit(&self, dag: &StateDag, commit: Place) -> OpenSession
         requires ceiling { IsTrue (is_slot dag.now self.now.ceiling.slot) }
         requires commit { IsTrue (is_slot dag.now commit.slot) }
-        ensures session { (rs : List Record) (ks : List StateId) → Stands dag.now rs ks → IsAt dag.now self.now.ceiling → IsAt dag.now commit → session_of result ≡ after_commit rs commit.state (session_of self.now) }
+        ensures session { (rs : List Record) (ks : List StateId) → Stands dag.now rs ks → IsAt dag.now self.now.ceiling → IsAt dag.now commit
+            → session_of result ≡ after_commit rs commit.state (session_of self.now) }
         ensures ceiling { (result.ceiling ≡ self.now.ceiling) ⊎ (result.ceiling ≡ commit) }
         ensures last { result.last ≡ commit }
     {

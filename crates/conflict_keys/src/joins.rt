@@ -33,7 +33,8 @@ pub(crate) enum Joined {
 pub(crate) fn join(store: &RecordStore, states: &[Slot], key: &Key) -> Joined
     requires { IsTrue (list_all (is_slot store.now.table) states.now) }
     ensures slot { (s : Slot) → result ≡ At s → IsTrue (is_slot store.now.table s) }
-    ensures joined { (rs : List Record) (ks : List StateId) → StoreStands store.now rs ks → (xs : List StateId) → map (id_at store.now.table) states.now ≡ map (λ x. Some x) xs → JoinedAs store.now.table rs ks xs key.now result }
+    ensures joined { (rs : List Record) (ks : List StateId) → StoreStands store.now rs ks → (xs : List StateId)
+        → map (id_at store.now.table) states.now ≡ map (λ x. Some x) xs → JoinedAs store.now.table rs ks xs key.now result }
 {
     match candidate(store, states, key) {
         None => Joined::Absent,
@@ -51,7 +52,8 @@ pub(crate) fn join(store: &RecordStore, states: &[Slot], key: &Key) -> Joined
 fn candidate(store: &RecordStore, states: &[Slot], key: &Key) -> Option<Slot>
     requires { IsTrue (list_all (is_slot store.now.table) states.now) }
     ensures slot { IfSome result (λ s. IsTrue (is_slot store.now.table s)) }
-    ensures chosen { (rs : List Record) (ks : List StateId) → StoreStands store.now rs ks → (xs : List StateId) → map (id_at store.now.table) states.now ≡ map (λ x. Some x) xs → IsChosen store.now.table rs ks (latest_writers rs key.now xs) result }
+    ensures chosen { (rs : List Record) (ks : List StateId) → StoreStands store.now rs ks → (xs : List StateId)
+        → map (id_at store.now.table) states.now ≡ map (λ x. Some x) xs → IsChosen store.now.table rs ks (latest_writers rs key.now xs) result }
 {
     let mut lowest = None;
     for state in states {
@@ -80,7 +82,9 @@ fn lower(dag: &StateDag, first: Option<Slot>, second: Option<Slot>) -> Option<Sl
 fn is_below_all(store: &RecordStore, states: &[Slot], key: &Key, lowest: Slot) -> bool
     requires states { IsTrue (list_all (is_slot store.now.table) states.now) }
     requires lowest { IsTrue (is_slot store.now.table lowest) }
-    ensures { (rs : List Record) (ks : List StateId) → StoreStands store.now rs ks → (xs : List StateId) → map (id_at store.now.table) states.now ≡ map (λ x. Some x) xs → (w : StateId) → IsTrue (is_among w (latest_writers rs key.now xs)) → id_at store.now.table lowest ≡ Some (stand_in rs ks w) → result ≡ are_above rs (latest_writers rs key.now xs) w }
+    ensures { (rs : List Record) (ks : List StateId) → StoreStands store.now rs ks → (xs : List StateId)
+        → map (id_at store.now.table) states.now ≡ map (λ x. Some x) xs → (w : StateId) → IsTrue (is_among w (latest_writers rs key.now xs))
+        → id_at store.now.table lowest ≡ Some (stand_in rs ks w) → result ≡ are_above rs (latest_writers rs key.now xs) w }
 {
     for state in states {
         if !is_above_or_none(store.dag(), store.holder_at(*state, key), lowest) {

@@ -25,7 +25,8 @@ use tardis_base::{Key, NoMemory, Slot, WriteSet};
 /// of the states.
 pub fn first_open<'a>(store: &'a RecordStore, states: &[Slot], writes: &WriteSet) -> Option<&'a Key>
     requires { IsTrue (list_all (is_slot store.now.table) states.now) }
-    ensures { (rs : List Record) (ks : List StateId) → StoreStands store.now rs ks → (xs : List StateId) → map (id_at store.now.table) states.now ≡ map (λ x. Some x) xs → option_copied result ≡ open_conflict rs xs writes.now }
+    ensures { (rs : List Record) (ks : List StateId) → StoreStands store.now rs ks → (xs : List StateId)
+        → map (id_at store.now.table) states.now ≡ map (λ x. Some x) xs → option_copied result ≡ open_conflict rs xs writes.now }
 {
     let mut least = None;
     for slot in store.dag().kept_slots() {
@@ -47,7 +48,9 @@ pub fn open_conflict<'a>(
     writes: &WriteSet,
 ) -> Result<Option<&'a Key>, NoMemory>
     requires { IsTrue (list_all (is_slot store.now.table) states.now) }
-    ensures { (rs : List Record) (ks : List StateId) → StoreStands store.now rs ks → (xs : List StateId) → map (id_at store.now.table) states.now ≡ map (λ x. Some x) xs → IfOk result (λ least. option_copied least ≡ open_conflict rs xs writes.now) }
+    ensures { (rs : List Record) (ks : List StateId) → StoreStands store.now rs ks → (xs : List StateId)
+        → map (id_at store.now.table) states.now ≡ map (λ x. Some x) xs
+        → IfOk result (λ least. option_copied least ≡ open_conflict rs xs writes.now) }
 {
     let above = region(alloc, store.dag(), states)?;
     let mut least = None;
@@ -66,7 +69,10 @@ fn least_open<'a>(
     found: Option<&'a Key>,
 ) -> Option<&'a Key>
     requires { IsTrue (list_all (is_slot store.now.table) states.now) }
-    ensures { (rs : List Record) (ks : List StateId) → StoreStands store.now rs ks → (xs : List StateId) → map (id_at store.now.table) states.now ≡ map (λ x. Some x) xs → (met : List ℕ → Bool) → IsLeast (is_open_conflict rs xs writes.now) met (option_copied found.entry) → IsLeast (is_open_conflict rs xs writes.now) (λ k. met k || is_key_among k keys.now) (option_copied result) }
+    ensures { (rs : List Record) (ks : List StateId) → StoreStands store.now rs ks → (xs : List StateId)
+        → map (id_at store.now.table) states.now ≡ map (λ x. Some x) xs → (met : List ℕ → Bool)
+        → IsLeast (is_open_conflict rs xs writes.now) met (option_copied found.entry)
+        → IsLeast (is_open_conflict rs xs writes.now) (λ k. met k || is_key_among k keys.now) (option_copied result) }
 {
     let mut least = found;
     for key in keys {
@@ -90,7 +96,8 @@ fn is_less(key: &Key, least: Option<&Key>) -> bool
 /// Whether the states conflict in the key, and it isn't written.
 fn is_open(store: &RecordStore, states: &[Slot], writes: &WriteSet, key: &Key) -> bool
     requires { IsTrue (list_all (is_slot store.now.table) states.now) }
-    ensures { (rs : List Record) (ks : List StateId) → StoreStands store.now rs ks → (xs : List StateId) → map (id_at store.now.table) states.now ≡ map (λ x. Some x) xs → result ≡ is_open_conflict rs xs writes.now key.now }
+    ensures { (rs : List Record) (ks : List StateId) → StoreStands store.now rs ks → (xs : List StateId)
+        → map (id_at store.now.table) states.now ≡ map (λ x. Some x) xs → result ≡ is_open_conflict rs xs writes.now key.now }
 {
     !writes.contains(key) && is_conflict(store, states, key)
 }

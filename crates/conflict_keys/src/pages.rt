@@ -38,7 +38,9 @@ pub fn conflicts(
     after: &[u8],
 ) -> Result<KeyPage, NoMemory>
     requires { IsTrue (list_all (is_slot store.now.table) states.now) }
-    ensures { (rs : List Record) (ks : List StateId) → StoreStands store.now rs ks → (xs : List StateId) → map (id_at store.now.table) states.now ≡ map (λ x. Some x) xs → IfOk result (IsPageOf (filter (is_key_before after.now) (conflict_keys rs xs))) }
+    ensures { (rs : List Record) (ks : List StateId) → StoreStands store.now rs ks → (xs : List StateId)
+        → map (id_at store.now.table) states.now ≡ map (λ x. Some x) xs
+        → IfOk result (IsPageOf (filter (is_key_before after.now) (conflict_keys rs xs))) }
 {
     let mut noted = BTreeSet::new(alloc);
     let above = region(alloc, store.dag(), states)?;
@@ -57,7 +59,10 @@ fn note_conflicts(
     noted: &mut BTreeSet<Key>,
 ) -> Result<(), NoMemory>
     requires { IsTrue (list_all (is_slot store.now.table) states.now) }
-    ensures { (rs : List Record) (ks : List StateId) → StoreStands store.now rs ks → (xs : List StateId) → map (id_at store.now.table) states.now ≡ map (λ x. Some x) xs → (met : List ℕ → Bool) → AreNoted (is_conflict_behind rs xs after.now) met noted.old.keys → OnOk result (AreNoted (is_conflict_behind rs xs after.now) (λ k. met k || is_key_among k keys.now) noted.new.keys) }
+    ensures { (rs : List Record) (ks : List StateId) → StoreStands store.now rs ks → (xs : List StateId)
+        → map (id_at store.now.table) states.now ≡ map (λ x. Some x) xs → (met : List ℕ → Bool)
+        → AreNoted (is_conflict_behind rs xs after.now) met noted.old.keys
+        → OnOk result (AreNoted (is_conflict_behind rs xs after.now) (λ k. met k || is_key_among k keys.now) noted.new.keys) }
 {
     for key in keys {
         if !noted.contains(key) && is_behind(store, states, after, key) {
@@ -70,7 +75,8 @@ fn note_conflicts(
 /// Whether the key is behind the bytes, and the states conflict in it.
 fn is_behind(store: &RecordStore, states: &[Slot], after: &[u8], key: &Key) -> bool
     requires { IsTrue (list_all (is_slot store.now.table) states.now) }
-    ensures { (rs : List Record) (ks : List StateId) → StoreStands store.now rs ks → (xs : List StateId) → map (id_at store.now.table) states.now ≡ map (λ x. Some x) xs → result ≡ is_conflict_behind rs xs after.now key.now }
+    ensures { (rs : List Record) (ks : List StateId) → StoreStands store.now rs ks → (xs : List StateId)
+        → map (id_at store.now.table) states.now ≡ map (λ x. Some x) xs → result ≡ is_conflict_behind rs xs after.now key.now }
 {
     is_after(key, after) && is_conflict(store, states, key)
 }

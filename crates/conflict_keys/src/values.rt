@@ -19,7 +19,8 @@ use tardis_base::{Found, Key, Over, Slot};
 /// The cost is that of two reads at each of the states, and of one at the end.
 pub fn value_over<'a>(store: &'a RecordStore, states: &[Slot], key: &Key) -> Over<'a>
     requires { IsTrue (list_all (is_slot store.now.table) states.now) }
-    ensures { (rs : List Record) (ks : List StateId) → StoreStands store.now rs ks → (xs : List StateId) → map (id_at store.now.table) states.now ≡ map (λ x. Some x) xs → OverAs rs xs key.now result }
+    ensures { (rs : List Record) (ks : List StateId) → StoreStands store.now rs ks → (xs : List StateId)
+        → map (id_at store.now.table) states.now ≡ map (λ x. Some x) xs → OverAs rs xs key.now result }
 {
     match join(store, states, key) {
         Joined::Absent => Over::Found(Found::Absent),
@@ -33,7 +34,8 @@ pub fn value_over<'a>(store: &'a RecordStore, states: &[Slot], key: &Key) -> Ove
 /// The cost is that of two reads at each of the states.
 pub fn is_conflict(store: &RecordStore, states: &[Slot], key: &Key) -> bool
     requires { IsTrue (list_all (is_slot store.now.table) states.now) }
-    ensures { (rs : List Record) (ks : List StateId) → StoreStands store.now rs ks → (xs : List StateId) → map (id_at store.now.table) states.now ≡ map (λ x. Some x) xs → result ≡ is_conflict_key rs xs key.now }
+    ensures { (rs : List Record) (ks : List StateId) → StoreStands store.now rs ks → (xs : List StateId)
+        → map (id_at store.now.table) states.now ≡ map (λ x. Some x) xs → result ≡ is_conflict_key rs xs key.now }
 {
     match join(store, states, key) {
         Joined::Absent => false,

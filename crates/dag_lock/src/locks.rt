@@ -170,7 +170,8 @@ fn cut<M: Machine, Z: Gives>(words: &Words<M>, seat: &mut Seat<M>, give: u32) ->
 
 /// Makes one seat of two.
 fn unite<M: Machine>(words: &Words<M>, seat: &mut Seat<M>, other: Seat<M>)
-    requires lock { (seat.old.table_id ≡ words.now.table_id) × (other.table_id ≡ words.now.table_id) × (words.now.table_id.words ≡ 2) × (words.now.table_id.slots ≡ 1) }
+    requires lock { (seat.old.table_id ≡ words.now.table_id) × (other.table_id ≡ words.now.table_id) × (words.now.table_id.words ≡ 2)
+        × (words.now.table_id.slots ≡ 1) }
     requires one { Rests seat.old.me }
     requires other { Rests other.me }
     ensures lock { seat.new.table_id ≡ seat.old.table_id }

@@ -52,7 +52,8 @@ impl Error for Branches {}
 /// tell. It takes constant time.
 pub fn check(dag: &StateDag, landing: Slot, flags: EndFlags, k: u16) -> Result<(), Branches>
     requires { IsTrue (is_slot dag.now landing) }
-    ensures { (rs : List Record) (ks : List StateId) → Stands dag.now rs ks → (x : StateId) → id_at dag.now landing ≡ Some x → CheckedAs x (broken flags k (length (children rs x))) (min (length (children rs x)) 4294967295) result }
+    ensures { (rs : List Record) (ks : List StateId) → Stands dag.now rs ks → (x : StateId) → id_at dag.now landing ≡ Some x
+        → CheckedAs x (broken flags k (length (children rs x))) (min (length (children rs x)) 4294967295) result }
 {
     let children = dag.children(landing).len();
     match broken_by(flags, k, children) {

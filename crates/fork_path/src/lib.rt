@@ -181,7 +181,8 @@ fn is_same(a: (u32, u32), b: (u32, u32)) -> bool
 /// The place of the first pair that doesn't stand before this one.
 fn place_of(pairs: &[(u32, u32)], pair: (u32, u32)) -> usize
     ensures bound { result ≤ length pairs.now }
-    ensures place { IsTrue (are_ascending_pairs pairs.now) → IsPartitionPoint (λ p. is_pair_before p pair ≡ true) (λ p. is_pair_before p pair ≡ false) pairs.now result }
+    ensures place { IsTrue (are_ascending_pairs pairs.now)
+        → IsPartitionPoint (λ p. is_pair_before p pair ≡ true) (λ p. is_pair_before p pair ≡ false) pairs.now result }
 {
     pairs.partition_point(|own| is_before(*own, pair))
 }
@@ -219,7 +220,8 @@ fn merged(
     own: &[(u32, u32)],
     others: &[(u32, u32)],
 ) -> Result<Vec<(u32, u32)>, NoMemory>
-    ensures { IsTrue (are_ascending_pairs own.now) → IsTrue (are_ascending_pairs others.now) → IfOk result (λ pairs. pairs.items ≡ with_each others.now own.now) }
+    ensures { IsTrue (are_ascending_pairs own.now) → IsTrue (are_ascending_pairs others.now)
+        → IfOk result (λ pairs. pairs.items ≡ with_each others.now own.now) }
 {
     let mut pairs = Vec::new(alloc);
     pairs.reserve(own.len())?;

@@ -32,7 +32,8 @@ pub struct StatePage {
 /// children of those that they share last; of each child an ancestry is asked for each of the states.
 pub fn fork_points(alloc: Global, dag: &StateDag, states: &[Slot]) -> Result<StatePage, NoMemory>
     requires { IsTrue (list_all (is_slot dag.now) states.now) }
-    ensures { (rs : List Record) (ks : List StateId) → Stands dag.now rs ks → (xs : List StateId) → map (id_at dag.now) states.now ≡ map (λ x. Some x) xs → IfOk result (IsPageOf (fork_points rs xs)) }
+    ensures { (rs : List Record) (ks : List StateId) → Stands dag.now rs ks → (xs : List StateId)
+        → map (id_at dag.now) states.now ≡ map (λ x. Some x) xs → IfOk result (IsPageOf (fork_points rs xs)) }
 {
     if states.is_empty() {
         return leaf_page(alloc, dag);

@@ -96,7 +96,8 @@ impl RecordStore {
         requires first { 1 ≤ id.site }
         requires last { id.site ≤ self.old.table.limits.sites }
         requires next { id.sequence ≡ unwrap_or (slice_get self.old.table.counts (id.site - 1)) 0 + 1 }
-        ensures added { (rs : List Record) (ks : List StateId) (r : Record) → StoreStands self.old rs ks → r.id ≡ id → r.writes ≡ writes.now → MayBeAdded self.old.table rs ks r parents.now → AddedIn self.old self.new rs ks r result }
+        ensures added { (rs : List Record) (ks : List StateId) (r : Record) → StoreStands self.old rs ks → r.id ≡ id → r.writes ≡ writes.now
+            → MayBeAdded self.old.table rs ks r parents.now → AddedIn self.old self.new rs ks r result }
         ensures slot { IfOk result (λ slot. IsNewSlot self.old.table self.new.table id slot) }
         ensures keeps { KeepsSlots self.old.table self.new.table }
         ensures limits { self.new.table.limits ≡ self.old.table.limits }
@@ -122,7 +123,8 @@ impl RecordStore {
         requires first { 1 ≤ id.site }
         requires last { id.site ≤ self.old.table.limits.sites }
         requires next { id.sequence ≡ unwrap_or (slice_get self.old.table.counts (id.site - 1)) 0 + 1 }
-        ensures added { (rs : List Record) (ks : List StateId) (r : Record) → StoreStands self.old rs ks → r.id ≡ id → r.writes ≡ writes.old → MayBeAdded self.old.table rs ks r parents.now → AddedIn self.old self.new rs ks r result }
+        ensures added { (rs : List Record) (ks : List StateId) (r : Record) → StoreStands self.old rs ks → r.id ≡ id → r.writes ≡ writes.old
+            → MayBeAdded self.old.table rs ks r parents.now → AddedIn self.old self.new rs ks r result }
         ensures slot { IfOk result (λ slot. IsNewSlot self.old.table self.new.table id slot) }
         ensures keeps { KeepsSlots self.old.table self.new.table }
         ensures limits { self.new.table.limits ≡ self.old.table.limits }
@@ -154,7 +156,8 @@ impl RecordStore {
         requires next { rec.now.id.sequence ≡ unwrap_or (slice_get self.old.table.counts (rec.now.id.site - 1)) 0 + 1 }
         requires few { length rec.now.parents ≤ 8 }
         requires parents { IsTrue (list_all (is_listed self.old.table) rec.now.parents) }
-        ensures added { (rs : List Record) (ks : List StateId) → StoreStands self.old rs ks → MayArrive self.old.table.limits.sites rs ks rec.now → AddedIn self.old self.new rs ks rec.now result }
+        ensures added { (rs : List Record) (ks : List StateId) → StoreStands self.old rs ks → MayArrive self.old.table.limits.sites rs ks rec.now
+            → AddedIn self.old self.new rs ks rec.now result }
         ensures slot { IfOk result (λ slot. IsNewSlot self.old.table self.new.table rec.now.id slot) }
         ensures keeps { KeepsSlots self.old.table self.new.table }
         ensures limits { self.new.table.limits ≡ self.old.table.limits }
@@ -169,7 +172,8 @@ impl RecordStore {
     /// The cost grows with the parents and with the writes, for each as a read of its key does.
     pub fn record_of(&self, slot: Slot) -> Result<Record, NoMemory>
         requires { IsTrue (is_slot self.now.table slot) }
-        ensures { (rs : List Record) (ks : List StateId) → StoreStands self.now rs ks → (x : StateId) → id_at self.now.table slot ≡ Some x → StandsAlone rs ks x → IfOk result (λ rec. record_at rs x ≡ Some rec) }
+        ensures { (rs : List Record) (ks : List StateId) → StoreStands self.now rs ks → (x : StateId) → id_at self.now.table slot ≡ Some x
+            → StandsAlone rs ks x → IfOk result (λ rec. record_at rs x ≡ Some rec) }
     {
         let parents = Vec::from_slice(self.alloc, self.dag.parents(slot))?;
         let id = self.dag.id_of(slot);
@@ -187,7 +191,8 @@ impl RecordStore {
     /// that had arrived when the state did and are newer than the one found.
     pub fn read_at(&self, slot: Slot, key: &Key) -> Found<'_>
         requires { IsTrue (is_slot self.now.table slot) }
-        ensures { (rs : List Record) (ks : List StateId) → StoreStands self.now rs ks → (x : StateId) → id_at self.now.table slot ≡ Some x → found result ≡ read rs key.now x }
+        ensures { (rs : List Record) (ks : List StateId) → StoreStands self.now rs ks → (x : StateId) → id_at self.now.table slot ≡ Some x
+            → found result ≡ read rs key.now x }
     {
         let _ = &self.dag;
         self.versions.latest(&self.dag, key, slot)
@@ -201,7 +206,8 @@ impl RecordStore {
     pub fn is_news(&self, from: Slot, child: Slot, key: &Key) -> bool
         requires from { IsTrue (is_slot self.now.table from) }
         requires child { IsTrue (is_slot self.now.table child) }
-        ensures { (rs : List Record) (ks : List StateId) → StoreStands self.now rs ks → (x c : StateId) → id_at self.now.table from ≡ Some x → id_at self.now.table child ≡ Some c → result ≡ is_news rs x c key.now }
+        ensures { (rs : List Record) (ks : List StateId) → StoreStands self.now rs ks → (x c : StateId) → id_at self.now.table from ≡ Some x
+            → id_at self.now.table child ≡ Some c → result ≡ is_news rs x c key.now }
     {
         match self.holder_at(child, key) {
             Some(holder) => !self.dag.is_ancestor(holder, from),
@@ -216,7 +222,8 @@ impl RecordStore {
     pub fn holder_at(&self, slot: Slot, key: &Key) -> Option<Slot>
         requires { IsTrue (is_slot self.now.table slot) }
         ensures slot { IfSome result (λ h. IsTrue (is_slot self.now.table h)) }
-        ensures holder { (rs : List Record) (ks : List StateId) → StoreStands self.now rs ks → (x : StateId) → id_at self.now.table slot ≡ Some x → option_and_then (id_at self.now.table) result ≡ option_map (stand_in rs ks) (latest_writer rs key.now x) }
+        ensures holder { (rs : List Record) (ks : List StateId) → StoreStands self.now rs ks → (x : StateId) → id_at self.now.table slot ≡ Some x
+            → option_and_then (id_at self.now.table) result ≡ option_map (stand_in rs ks) (latest_writer rs key.now x) }
     {
         let _ = &self.dag;
         self.versions.holder(&self.dag, key, slot)
@@ -225,7 +232,8 @@ impl RecordStore {
     /// The keys that the state of this slot holds: those that are written by a state that it stands in for.
     pub fn keys_at(&self, slot: Slot) -> &[Key]
         requires { IsTrue (is_slot self.now.table slot) }
-        ensures { (rs : List Record) (ks : List StateId) → StoreStands self.now rs ks → (x : StateId) → id_at self.now.table slot ≡ Some x → (k : List ℕ) → is_key_among k result.now ≡ holds_key rs ks k x }
+        ensures { (rs : List Record) (ks : List StateId) → StoreStands self.now rs ks → (x : StateId) → id_at self.now.table slot ≡ Some x
+            → (k : List ℕ) → is_key_among k result.now ≡ holds_key rs ks k x }
     {
         let _ = &self.dag;
         self.versions.keys_at(slot)
@@ -234,7 +242,8 @@ impl RecordStore {
     /// What is read, at the state of this slot, of the keys with a version there.
     fn writes_at(&self, slot: Slot) -> Result<WriteSet, NoMemory>
         requires { IsTrue (is_slot self.now.table slot) }
-        ensures { (rs : List Record) (ks : List StateId) → StoreStands self.now rs ks → (x : StateId) → id_at self.now.table slot ≡ Some x → StandsAlone rs ks x → (r : Record) → record_at rs x ≡ Some r → IfOk result (λ writes. writes ≡ r.writes) }
+        ensures { (rs : List Record) (ks : List StateId) → StoreStands self.now rs ks → (x : StateId) → id_at self.now.table slot ≡ Some x
+            → StandsAlone rs ks x → (r : Record) → record_at rs x ≡ Some r → IfOk result (λ writes. writes ≡ r.writes) }
     {
         let _ = &self.dag;
         let mut writes = WriteSet::new(self.alloc);

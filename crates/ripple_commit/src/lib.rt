@@ -34,8 +34,12 @@ pub fn landing(
 ) -> Slot
     requires { IsTrue (is_slot store.now.table read) }
     ensures slot { IsTrue (is_slot store.now.table result) }
-    ensures landing { (rs : List Record) (ks : List StateId) → StoreStands store.now rs ks → (x : StateId) → id_at store.now.table read ≡ Some x → ((y : StateId) → IsTrue (is_above rs x y) → IsFalse (is_among y ks)) → id_at store.now.table result ≡ Some (landing rs (guarded flags reads.now (keys_of writes.now)) x) }
-    ensures commit { (rs : List Record) (ks : List StateId) → StoreStands store.now rs ks → (x : StateId) → id_at store.now.table read ≡ Some x → ((y : StateId) → IsTrue (is_above rs x y) → IsFalse (is_among y ks)) → (y : StateId) → id_at store.now.table result ≡ Some y → IsTrueAt rs flags reads.now (keys_of writes.now) x y }
+    ensures landing { (rs : List Record) (ks : List StateId) → StoreStands store.now rs ks → (x : StateId) → id_at store.now.table read ≡ Some x
+        → ((y : StateId) → IsTrue (is_above rs x y) → IsFalse (is_among y ks))
+        → id_at store.now.table result ≡ Some (landing rs (guarded flags reads.now (keys_of writes.now)) x) }
+    ensures commit { (rs : List Record) (ks : List StateId) → StoreStands store.now rs ks → (x : StateId) → id_at store.now.table read ≡ Some x
+        → ((y : StateId) → IsTrue (is_above rs x y) → IsFalse (is_among y ks)) → (y : StateId) → id_at store.now.table result ≡ Some y
+        → IsTrueAt rs flags reads.now (keys_of writes.now) x y }
 {
     let mut at = read;
     for _reached in store.dag().arrival(read)..store.dag().known() {
@@ -57,7 +61,9 @@ fn first_passing(
 ) -> Option<Slot>
     requires { IsTrue (is_slot store.now.table from) }
     ensures slot { IfSome result (λ s. IsTrue (is_slot store.now.table s)) }
-    ensures first { (rs : List Record) (ks : List StateId) → StoreStands store.now rs ks → (x : StateId) → id_at store.now.table from ≡ Some x → ((c : StateId) → IsTrue (is_among c (children rs x)) → IsFalse (is_among c ks)) → option_and_then (id_at store.now.table) result ≡ first_passing rs (guarded flags reads.now (keys_of writes.now)) x }
+    ensures first { (rs : List Record) (ks : List StateId) → StoreStands store.now rs ks → (x : StateId) → id_at store.now.table from ≡ Some x
+        → ((c : StateId) → IsTrue (is_among c (children rs x)) → IsFalse (is_among c ks))
+        → option_and_then (id_at store.now.table) result ≡ first_passing rs (guarded flags reads.now (keys_of writes.now)) x }
 {
     for child in store.dag().child_slots(from) {
         if !has_news(store, from, *child, flags, reads, writes) {
@@ -78,7 +84,8 @@ fn has_news(
 ) -> bool
     requires from { IsTrue (is_slot store.now.table from) }
     requires child { IsTrue (is_slot store.now.table child) }
-    ensures { (rs : List Record) (ks : List StateId) → StoreStands store.now rs ks → (x c : StateId) → id_at store.now.table from ≡ Some x → id_at store.now.table child ≡ Some c → result ≡ list_any (is_news rs x c) (guarded flags reads.now (keys_of writes.now)) }
+    ensures { (rs : List Record) (ks : List StateId) → StoreStands store.now rs ks → (x c : StateId) → id_at store.now.table from ≡ Some x
+        → id_at store.now.table child ≡ Some c → result ≡ list_any (is_news rs x c) (guarded flags reads.now (keys_of writes.now)) }
 {
     if flags.contains(EndFlags::SER) && is_read_news(store, from, child, reads.as_slice()) {
         return true;
@@ -89,7 +96,8 @@ fn has_news(
 fn is_read_news(store: &RecordStore, from: Slot, child: Slot, keys: &[Key]) -> bool
     requires from { IsTrue (is_slot store.now.table from) }
     requires child { IsTrue (is_slot store.now.table child) }
-    ensures { (rs : List Record) (ks : List StateId) → StoreStands store.now rs ks → (x c : StateId) → id_at store.now.table from ≡ Some x → id_at store.now.table child ≡ Some c → result ≡ list_any (is_news rs x c) keys.now }
+    ensures { (rs : List Record) (ks : List StateId) → StoreStands store.now rs ks → (x c : StateId) → id_at store.now.table from ≡ Some x
+        → id_at store.now.table child ≡ Some c → result ≡ list_any (is_news rs x c) keys.now }
 {
     for key in keys {
         if store.is_news(from, child, key) {
@@ -102,7 +110,8 @@ fn is_read_news(store: &RecordStore, from: Slot, child: Slot, keys: &[Key]) -> b
 fn is_written_news(store: &RecordStore, from: Slot, child: Slot, writes: &[(Key, Write)]) -> bool
     requires from { IsTrue (is_slot store.now.table from) }
     requires child { IsTrue (is_slot store.now.table child) }
-    ensures { (rs : List Record) (ks : List StateId) → StoreStands store.now rs ks → (x c : StateId) → id_at store.now.table from ≡ Some x → id_at store.now.table child ≡ Some c → result ≡ list_any (is_news rs x c) (keys_of writes.now) }
+    ensures { (rs : List Record) (ks : List StateId) → StoreStands store.now rs ks → (x c : StateId) → id_at store.now.table from ≡ Some x
+        → id_at store.now.table child ≡ Some c → result ≡ list_any (is_news rs x c) (keys_of writes.now) }
 {
     for write in writes {
         if store.is_news(from, child, &write.0) {

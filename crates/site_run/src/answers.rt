@@ -34,9 +34,11 @@ pub(crate) fn answer_piece<T, R: Responder<T>, O: Sink>(
     requires none { gathered.old.bytes ≡ [] }
     requires room { R.MOST ≤ gathered.old.room }
     ensures served { IfOk result (λ next. IsBehind next cutter.new
-        × Serves R.may Whole (R.stands subject.old) (R.stands subject.new) (O.given output.old) (O.given output.new) [] [] (cutter.old ++ piece.now) cutter.new) }
+        × Serves R.may Whole (R.stands subject.old) (R.stands subject.new)
+        (O.given output.old) (O.given output.new) [] [] (cutter.old ++ piece.now) cutter.new) }
     ensures broken { OnErr result ((rest : List ℕ)
-        × Serves R.may (Front gathered.old.room) (R.stands subject.old) (R.stands subject.new) (O.given output.old) (O.given output.new) [] [] (cutter.old ++ piece.now) rest) }
+        × Serves R.may (Front gathered.old.room) (R.stands subject.old) (R.stands subject.new)
+        (O.given output.old) (O.given output.new) [] [] (cutter.old ++ piece.now) rest) }
     ensures none { OnOk result (gathered.new.bytes ≡ []) }
     ensures room { gathered.new.room ≡ gathered.old.room }
     ensures cause { HasCause (O.faults output.old) (O.faults output.new) result }
@@ -63,9 +65,11 @@ pub(crate) fn answer_held<T, R: Responder<T>, O: Sink>(
 ) -> Result<Next, WriteFault>
     requires { length gathered.old.bytes + R.MOST ≤ gathered.old.room }
     ensures served { IfOk result (λ next. IsBehind next cutter.new
-        × Serves R.may Whole (R.stands subject.old) (R.stands subject.new) (O.given output.old) (O.given output.new) gathered.old.bytes gathered.new.bytes cutter.old cutter.new) }
+        × Serves R.may Whole (R.stands subject.old) (R.stands subject.new)
+        (O.given output.old) (O.given output.new) gathered.old.bytes gathered.new.bytes cutter.old cutter.new) }
     ensures broken { OnErr result ((rest : List ℕ)
-        × Serves R.may (Front gathered.old.room) (R.stands subject.old) (R.stands subject.new) (O.given output.old) (O.given output.new) gathered.old.bytes [] cutter.old rest) }
+        × Serves R.may (Front gathered.old.room) (R.stands subject.old) (R.stands subject.new)
+        (O.given output.old) (O.given output.new) gathered.old.bytes [] cutter.old rest) }
     ensures room { gathered.new.room ≡ gathered.old.room }
     ensures cause { HasCause (O.faults output.old) (O.faults output.new) result }
     ensures kept { O.kept output.new ≡ O.kept output.old }

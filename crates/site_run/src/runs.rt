@@ -119,7 +119,8 @@ pub fn answer_frames<T, R: Responder<T>, D: Duplex>(
     device: &mut D,
 ) -> Status
     ensures outcome { WhileTold (D.left device.old) (D.left device.new) (λ first left. Outcome result (R.stands subject.old)
-        (λ s bodies. AnsweredBy R.may (shape_within (1048576 + R.MOST) result) (R.stands subject.new) (D.given device.old) (D.given device.new) [] [] s bodies) first left) }
+        (λ s bodies. AnsweredBy R.may (shape_within (1048576 + R.MOST) result) (R.stands subject.new)
+        (D.given device.old) (D.given device.new) [] [] s bodies) first left) }
     ensures prompt { EachTake (D.takes device.old) (D.takes device.new) (λ moment. WhileTold (D.left device.old) moment.left (UpToDate (R.stands subject.old)
         (λ s bodies. AnsweredBy R.may Whole (λ _. Unit {0}) (D.given device.old) moment.given [] [] s bodies))) }
     ensures exact { WhileTold (D.left device.old) (D.left device.new) (λ first left. (all : List (List ℕ)) (rest : List ℕ)
@@ -150,7 +151,8 @@ fn answer_input<T, R: Responder<T>, D: Duplex>(
 ) -> Status
     requires { IsFresh buffers.old R.MOST }
     ensures outcome { WhileTold (D.left device.old) (D.left device.new) (λ first left. Outcome result (R.stands subject.old)
-        (λ s bodies. AnsweredBy R.may (shape_within (1048576 + R.MOST) result) (R.stands subject.new) (D.given device.old) (D.given device.new) [] [] s bodies) first left) }
+        (λ s bodies. AnsweredBy R.may (shape_within (1048576 + R.MOST) result) (R.stands subject.new)
+        (D.given device.old) (D.given device.new) [] [] s bodies) first left) }
     ensures prompt { EachTake (D.takes device.old) (D.takes device.new) (λ moment. WhileTold (D.left device.old) moment.left (UpToDate (R.stands subject.old)
         (λ s bodies. AnsweredBy R.may Whole (λ _. Unit {0}) (D.given device.old) moment.given [] [] s bodies))) }
     ensures status { IsRunEnd result }

@@ -20,7 +20,8 @@ pub fn grow(nodes: &mut Vec<Node>, parents: &[Slot], gains: &[Gain], id: StateId
     ensures count { length nodes.new.items ≡ length nodes.old.items }
     ensures room { vec_len nodes.new ≡ vec_len nodes.old }
     ensures capacity { vec_capacity nodes.new ≡ vec_capacity nodes.old }
-    ensures each { (k : ℕ) (d : Node) → k < length nodes.old.items → HasGrown gains.now parents.now id slot k (slice_index_or nodes.old.items k d) (slice_index_or nodes.new.items k d) }
+    ensures each { (k : ℕ) (d : Node) → k < length nodes.old.items
+        → HasGrown gains.now parents.now id slot k (slice_index_or nodes.old.items k d) (slice_index_or nodes.new.items k d) }
 {
     grow_paths(nodes, gains);
     add_children(nodes, parents, id, slot);
@@ -33,7 +34,8 @@ fn grow_paths(nodes: &mut Vec<Node>, gains: &[Gain])
     ensures count { length nodes.new.items ≡ length nodes.old.items }
     ensures room { vec_len nodes.new ≡ vec_len nodes.old }
     ensures capacity { vec_capacity nodes.new ≡ vec_capacity nodes.old }
-    ensures each { (k : ℕ) (d : Node) → k < length nodes.old.items → HasGained gains.now k (slice_index_or nodes.old.items k d) (slice_index_or nodes.new.items k d) }
+    ensures each { (k : ℕ) (d : Node) → k < length nodes.old.items
+        → HasGained gains.now k (slice_index_or nodes.old.items k d) (slice_index_or nodes.new.items k d) }
 {
     for gain in gains {
         nodes[gain.at.0 as usize].path.with_pair(gain.fork.0, 0);
@@ -47,11 +49,20 @@ fn add_children(nodes: &mut Vec<Node>, parents: &[Slot], id: StateId, slot: Slot
     ensures count { length nodes.new.items ≡ length nodes.old.items }
     ensures room { vec_len nodes.new ≡ vec_len nodes.old }
     ensures capacity { vec_capacity nodes.new ≡ vec_capacity nodes.old }
-    ensures rest { (k : ℕ) (d : Node) → (slice_index_or nodes.new.items k d) ≡ record (slice_index_or nodes.old.items k d) { children = (slice_index_or nodes.new.items k d).children; stand_ins = (slice_index_or nodes.new.items k d).stand_ins } }
-    ensures each { AreDistinct parents.now → (k : ℕ) (d : Node) → k < length nodes.old.items → HasChild id slot parents.now k (slice_index_or nodes.old.items k d) (slice_index_or nodes.new.items k d) }
-    ensures parent { (k : ℕ) (d : Node) → k < length nodes.old.items → IsTrue (is_slot_among (record { 0 = k }) parents.now) → 1 ≤ length (slice_index_or nodes.new.items k d).children.items }
-    ensures other { (k : ℕ) (d : Node) → is_slot_among (record { 0 = k }) parents.now ≡ false → (slice_index_or nodes.new.items k d) ≡ (slice_index_or nodes.old.items k d) }
-    ensures slots { (test : Slot → Bool) (k : ℕ) (d : Node) → k < length nodes.old.items → IsTrue (list_all test (slice_index_or nodes.old.items k d).stand_ins.items) → IsTrue (test slot) → IsTrue (list_all test (slice_index_or nodes.new.items k d).stand_ins.items) }
+    ensures rest { (k : ℕ) (d : Node) → (slice_index_or nodes.new.items k d)
+        ≡ record (slice_index_or nodes.old.items k d) {
+          children = (slice_index_or nodes.new.items k d).children;
+          stand_ins = (slice_index_or nodes.new.items k d).stand_ins;
+        } }
+    ensures each { AreDistinct parents.now → (k : ℕ) (d : Node) → k < length nodes.old.items
+        → HasChild id slot parents.now k (slice_index_or nodes.old.items k d) (slice_index_or nodes.new.items k d) }
+    ensures parent { (k : ℕ) (d : Node) → k < length nodes.old.items → IsTrue (is_slot_among (record { 0 = k }) parents.now)
+        → 1 ≤ length (slice_index_or nodes.new.items k d).children.items }
+    ensures other { (k : ℕ) (d : Node) → is_slot_among (record { 0 = k }) parents.now ≡ false
+        → (slice_index_or nodes.new.items k d) ≡ (slice_index_or nodes.old.items k d) }
+    ensures slots { (test : Slot → Bool) (k : ℕ) (d : Node) → k < length nodes.old.items
+        → IsTrue (list_all test (slice_index_or nodes.old.items k d).stand_ins.items) → IsTrue (test slot)
+        → IsTrue (list_all test (slice_index_or nodes.new.items k d).stand_ins.items) }
 {
     for parent in parents {
         add_child(&mut nodes[parent.0 as usize], id, slot);
@@ -64,7 +75,8 @@ fn add_child(node: &mut Node, id: StateId, slot: Slot)
     ensures children { vec_len node.old.children < vec_capacity node.old.children → node.new.children.items ≡ node.old.children.items ++ id ∷ [] }
     ensures stand_ins { vec_len node.old.stand_ins < vec_capacity node.old.stand_ins → node.new.stand_ins.items ≡ node.old.stand_ins.items ++ slot ∷ [] }
     ensures longer { length node.old.children.items ≤ length node.new.children.items }
-    ensures slots { (test : Slot → Bool) → IsTrue (list_all test node.old.stand_ins.items) → IsTrue (test slot) → IsTrue (list_all test node.new.stand_ins.items) }
+    ensures slots { (test : Slot → Bool) → IsTrue (list_all test node.old.stand_ins.items) → IsTrue (test slot)
+        → IsTrue (list_all test node.new.stand_ins.items) }
 {
     let _ = node.children.push(id);
     let _ = node.stand_ins.push(slot);

@@ -101,7 +101,8 @@ pub fn gains(
     requires in_order { IsNonDecreasingBy (arrival_at (table_of nodes.now)) slots.now }
     requires short { IsTrue (list_all (λ s. nat_le (length (path_at (table_of nodes.now) s)) limits.now.max_path) slots.now) }
     ensures gains { IfOk result (λ gains. gains.items ≡ all_gains (table_of nodes.now) parents.now slots.now) }
-    ensures long { MatchResult result (λ gains. find (is_long (table_of nodes.now) limits.now.max_path parents.now) slots.now ≡ None) (λ fault. TellsLong (table_of nodes.now) parents.now (find (is_long (table_of nodes.now) limits.now.max_path parents.now) slots.now) fault) }
+    ensures long { MatchResult result (λ gains. find (is_long (table_of nodes.now) limits.now.max_path parents.now) slots.now
+        ≡ None) (λ fault. TellsLong (table_of nodes.now) parents.now (find (is_long (table_of nodes.now) limits.now.max_path parents.now) slots.now) fault) }
 {
     let mut gains = Vec::new(alloc);
     for place in first_led(nodes, slots, parents)..slots.len() {

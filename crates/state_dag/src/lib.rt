@@ -112,7 +112,8 @@ impl StateDag {
         requires first { 1 ≤ id.site }
         requires last { id.site ≤ self.old.limits.sites }
         requires next { id.sequence ≡ unwrap_or (slice_get self.old.counts (id.site - 1)) 0 + 1 }
-        ensures added { (rs : List Record) (ks : List StateId) (r : Record) → Stands self.old rs ks → r.id ≡ id → MayBeAdded self.old rs ks r parents.now → AddedTo self.old self.new rs ks r result }
+        ensures added { (rs : List Record) (ks : List StateId) (r : Record) → Stands self.old rs ks → r.id ≡ id
+            → MayBeAdded self.old rs ks r parents.now → AddedTo self.old self.new rs ks r result }
         ensures slot { IfOk result (λ slot. IsNewSlot self.old self.new id slot) }
         ensures keeps { KeepsSlots self.old self.new }
         ensures kept { (s : Slot) → IsTrue (is_kept_at self.old s) → IsTrue (is_kept_at self.new s) × (arrival_at self.new s ≡ arrival_at self.old s) }
@@ -225,7 +226,8 @@ impl StateDag {
     pub fn kept_slots(&self) -> &[Slot]
         ensures slots { IsTrue (list_all (is_slot self.now) result.now) }
         ensures is { result.now ≡ map (λ e. e.slot) self.now.entries }
-        ensures kept { (rs : List Record) (ks : List StateId) → Stands self.now rs ks → map (id_at self.now) result.now ≡ map (λ x. Some x) (kept_states rs ks) }
+        ensures kept { (rs : List Record) (ks : List StateId) → Stands self.now rs ks
+            → map (id_at self.now) result.now ≡ map (λ x. Some x) (kept_states rs ks) }
     {
         self.kept.as_slice()
     }
@@ -250,7 +252,8 @@ impl StateDag {
     pub fn arrival(&self, slot: Slot) -> u64
         requires { IsTrue (is_slot self.now slot) }
         ensures is { result ≡ arrival_at self.now slot }
-        ensures arrival { (rs : List Record) (ks : List StateId) → Stands self.now rs ks → (x : StateId) → id_at self.now slot ≡ Some x → result ≡ arrival rs x }
+        ensures arrival { (rs : List Record) (ks : List StateId) → Stands self.now rs ks → (x : StateId) → id_at self.now slot ≡ Some x
+            → result ≡ arrival rs x }
     {
         self.node(slot).arrival
     }
@@ -262,7 +265,8 @@ impl StateDag {
         requires first { IsTrue (is_slot self.now a) }
         requires second { IsTrue (is_slot self.now b) }
         ensures is { result ≡ is_slot_above self.now a b }
-        ensures above { (rs : List Record) (ks : List StateId) → Stands self.now rs ks → (x y : StateId) → id_at self.now a ≡ Some x → id_at self.now b ≡ Some y → result ≡ is_above rs x y }
+        ensures above { (rs : List Record) (ks : List StateId) → Stands self.now rs ks → (x y : StateId) → id_at self.now a ≡ Some x
+            → id_at self.now b ≡ Some y → result ≡ is_above rs x y }
     {
         if a == b {
             return true;
@@ -283,7 +287,8 @@ impl StateDag {
     pub fn child_slots(&self, slot: Slot) -> &[Slot]
         requires { IsTrue (is_slot self.now slot) }
         ensures slots { IsTrue (list_all (is_slot self.now) result.now) }
-        ensures stand_ins { (rs : List Record) (ks : List StateId) → Stands self.now rs ks → (x : StateId) → id_at self.now slot ≡ Some x → map (id_at self.now) result.now ≡ map (λ c. Some (stand_in rs ks c)) (children rs x) }
+        ensures stand_ins { (rs : List Record) (ks : List StateId) → Stands self.now rs ks → (x : StateId) → id_at self.now slot ≡ Some x
+            → map (id_at self.now) result.now ≡ map (λ c. Some (stand_in rs ks c)) (children rs x) }
     {
         self.node(slot).stand_ins.as_slice()
     }
@@ -294,7 +299,8 @@ impl StateDag {
     /// The cost grows with the number of children.
     pub fn shared_stand_in(&self, slot: Slot) -> Option<Slot>
         requires { IsTrue (is_slot self.now slot) }
-        ensures shared { (rs : List Record) (ks : List StateId) → Stands self.now rs ks → (x : StateId) → id_at self.now slot ≡ Some x → option_map (id_at self.now) result ≡ option_map (λ c. Some c) (shared_stand_in rs ks x) }
+        ensures shared { (rs : List Record) (ks : List StateId) → Stands self.now rs ks → (x : StateId) → id_at self.now slot ≡ Some x
+            → option_map (id_at self.now) result ≡ option_map (λ c. Some c) (shared_stand_in rs ks x) }
         ensures kept { (rs : List Record) (ks : List StateId) → Stands self.now rs ks → IfSome result (λ s. IsTrue (is_kept_at self.now s)) }
     {
         let _ = &self.limits;
@@ -315,8 +321,10 @@ impl StateDag {
         requires { IfSome slot (λ s. IsTrue (is_slot self.now s)) }
         ensures slots { IfSome result (λ s. IsTrue (is_slot self.now s)) }
         ensures is { result ≡ slot_after self.now.entries slot }
-        ensures first { slot ≡ None → (rs : List Record) (ks : List StateId) → Stands self.now rs ks → option_and_then (id_at self.now) result ≡ next_of (kept_states rs ks) None }
-        ensures next { (rs : List Record) (ks : List StateId) → Stands self.now rs ks → (s : Slot) (x : StateId) → slot ≡ Some s → id_at self.now s ≡ Some x → option_and_then (id_at self.now) result ≡ next_of (kept_states rs ks) (Some x) }
+        ensures first { slot ≡ None → (rs : List Record) (ks : List StateId) → Stands self.now rs ks
+            → option_and_then (id_at self.now) result ≡ next_of (kept_states rs ks) None }
+        ensures next { (rs : List Record) (ks : List StateId) → Stands self.now rs ks → (s : Slot) (x : StateId) → slot ≡ Some s
+            → id_at self.now s ≡ Some x → option_and_then (id_at self.now) result ≡ next_of (kept_states rs ks) (Some x) }
     {
         let count = self.nodes.len();
         match slot {
@@ -338,8 +346,10 @@ impl StateDag {
         ensures slots { IfSome result (λ s. IsTrue (is_slot self.now s)) }
         ensures is { slot_after self.now.entries result ≡ slot }
         ensures earlier { IfSome result (λ s. (t : Slot) → slot ≡ Some t → arrival_at self.now s < arrival_at self.now t) }
-        ensures last { slot ≡ None → (rs : List Record) (ks : List StateId) → Stands self.now rs ks → option_and_then (id_at self.now) result ≡ Some (last_arrived rs) }
-        ensures before { (rs : List Record) (ks : List StateId) → Stands self.now rs ks → (s : Slot) (x : StateId) → slot ≡ Some s → id_at self.now s ≡ Some x → next_of (kept_states rs ks) (option_and_then (id_at self.now) result) ≡ Some x }
+        ensures last { slot ≡ None → (rs : List Record) (ks : List StateId) → Stands self.now rs ks
+            → option_and_then (id_at self.now) result ≡ Some (last_arrived rs) }
+        ensures before { (rs : List Record) (ks : List StateId) → Stands self.now rs ks → (s : Slot) (x : StateId) → slot ≡ Some s
+            → id_at self.now s ≡ Some x → next_of (kept_states rs ks) (option_and_then (id_at self.now) result) ≡ Some x }
     {
         match slot {
             None => Some(Slot((self.nodes.len() - 1) as u32)),
@@ -368,7 +378,8 @@ impl StateDag {
     /// The cost grows with the number of pairs.
     pub fn path(&self, slot: Slot) -> Result<PathList, NoMemory>
         requires { IsTrue (is_slot self.now slot) }
-        ensures { (rs : List Record) (ks : List StateId) → Stands self.now rs ks → (x : StateId) → id_at self.now slot ≡ Some x → IfOk result (λ path. path ≡ fork_path rs ks x) }
+        ensures { (rs : List Record) (ks : List StateId) → Stands self.now rs ks → (x : StateId) → id_at self.now slot ≡ Some x
+            → IfOk result (λ path. path ≡ fork_path rs ks x) }
     {
         named_path(
             *self.nodes.allocator(),

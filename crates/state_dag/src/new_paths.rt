@@ -28,7 +28,8 @@ pub fn new_path(alloc: Global, nodes: &[Node], parents: &[Slot]) -> Result<ForkP
 /// Adds the branches that lead to a parent.
 fn unite_paths(path: &mut ForkPath, nodes: &[Node], parents: &[Slot]) -> Result<(), NoMemory>
     requires { IsTrue (are_places nodes.now parents.now) }
-    ensures pairs { OnOk result ((pair : ℕ × ℕ) → has_pair pair path.new.pairs ≡ (list_any (λ p. has_pair pair (path_at (table_of nodes.now) p)) parents.now || has_pair pair path.old.pairs)) }
+    ensures pairs { OnOk result ((pair : ℕ × ℕ)
+        → has_pair pair path.new.pairs ≡ (list_any (λ p. has_pair pair (path_at (table_of nodes.now) p)) parents.now || has_pair pair path.old.pairs)) }
     ensures ascending { IsTrue (are_ascending_pairs path.old.pairs) → IsTrue (are_ascending_pairs path.new.pairs) }
 {
     for parent in parents {
@@ -40,7 +41,9 @@ fn unite_paths(path: &mut ForkPath, nodes: &[Node], parents: &[Slot]) -> Result<
 /// Adds the first branches of parents that lead to a parent.
 fn add_first_branches(path: &mut ForkPath, nodes: &[Node], parents: &[Slot]) -> Result<(), NoMemory>
     requires { IsTrue (are_places nodes.now parents.now) }
-    ensures pairs { OnOk result ((pair : ℕ × ℕ) → has_pair pair path.new.pairs ≡ (list_any (λ p. is_same_pair pair (p.0, 0) && leads_to_some (table_of nodes.now) parents.now p) parents.now || has_pair pair path.old.pairs)) }
+    ensures pairs { OnOk result ((pair : ℕ × ℕ)
+        → has_pair pair path.new.pairs ≡ (list_any (λ p. is_same_pair pair (p.0, 0) && leads_to_some (table_of nodes.now) parents.now p) parents.now
+        || has_pair pair path.old.pairs)) }
     ensures ascending { IsTrue (are_ascending_pairs path.old.pairs) → IsTrue (are_ascending_pairs path.new.pairs) }
 {
     for parent in parents {
@@ -68,7 +71,8 @@ fn leads_to_some(nodes: &[Node], parents: &[Slot], fork: Slot) -> bool
 /// Adds the branch of each parent that has children already to the new state.
 fn add_last_branches(path: &mut ForkPath, nodes: &[Node], parents: &[Slot]) -> Result<(), NoMemory>
     requires { IsTrue (are_places nodes.now parents.now) }
-    ensures pairs { OnOk result ((pair : ℕ × ℕ) → has_pair pair path.new.pairs ≡ (is_last_branch (table_of nodes.now) parents.now pair || has_pair pair path.old.pairs)) }
+    ensures pairs { OnOk result ((pair : ℕ × ℕ)
+        → has_pair pair path.new.pairs ≡ (is_last_branch (table_of nodes.now) parents.now pair || has_pair pair path.old.pairs)) }
     ensures ascending { IsTrue (are_ascending_pairs path.old.pairs) → IsTrue (are_ascending_pairs path.new.pairs) }
 {
     for parent in parents {

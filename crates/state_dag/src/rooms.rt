@@ -30,7 +30,8 @@ pub fn make_room(nodes: &mut Vec<Node>, parents: &[Slot], gains: &[Gain]) -> Res
 fn make_path_room(nodes: &mut Vec<Node>, gains: &[Gain], pairs: usize) -> Result<(), NoMemory>
     requires { IsTrue (have_places nodes.old.items gains.now) }
     ensures same { entries_from 0 nodes.new.items ≡ entries_from 0 nodes.old.items }
-    ensures room { OnOk result ((k : ℕ) (d : Node) → k < length nodes.new.items → IsTrue (is_gaining k gains.now) → pairs ≤ (slice_index_or nodes.new.items k d).path.room) }
+    ensures room { OnOk result ((k : ℕ) (d : Node) → k < length nodes.new.items → IsTrue (is_gaining k gains.now)
+        → pairs ≤ (slice_index_or nodes.new.items k d).path.room) }
 {
     let room = in_u32(pairs)?;
     for gain in gains {

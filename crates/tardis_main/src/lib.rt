@@ -44,8 +44,10 @@ pub fn tardis<I: Source, O: Sink>(
 ) -> Status
     ensures usage { (result ≡ Status.Usage) ↔ (AreRun (map (λ w. string_bytes w) words.now) → ⊥) }
     ensures unused { result ≡ Status.Usage → (input.new ≡ input.old) × (output.new ≡ output.old) }
-    ensures headline { AreRun (map (λ w. string_bytes w) words.now) → WhileTold (I.left input.old) (I.left input.new) (RunFrom (opening (program_limits 1) 1) result (O.given output.old) (O.given output.new)) }
-    ensures exact { AreRun (map (λ w. string_bytes w) words.now) → WhileTold (I.left input.old) (I.left input.new) (λ first left. (all : List (List ℕ)) (rest : List ℕ)
+    ensures headline { AreRun (map (λ w. string_bytes w) words.now)
+        → WhileTold (I.left input.old) (I.left input.new) (RunFrom (opening (program_limits 1) 1) result (O.given output.old) (O.given output.new)) }
+    ensures exact { AreRun (map (λ w. string_bytes w) words.now)
+        → WhileTold (I.left input.old) (I.left input.new) (λ first left. (all : List (List ℕ)) (rest : List ℕ)
         → IsCut first all rest → length first < most_taken
         → (Rose (I.faults input.old) (I.faults input.new) → ⊥) → (Rose (O.faults output.old) (O.faults output.new) → ⊥)
         → EndsAs rest result) }

@@ -34,7 +34,8 @@ pub fn carry_out<I: Source, O: Sink>(
         → ((result ≡ Status.Ok) ⊎ ((result ≡ Status.WriteFault) ⊎ (result ≡ Status.NoMemory))) × (input.new ≡ input.old) }
     ensures headline { AreRun (map (λ w. string_bytes w) (drop 1 (into_iter_items args)))
         → WhileTold (I.left input.old) (I.left input.new) (RunFrom (opening (program_limits 1) 1) result (O.given output.old) (O.given output.new)) }
-    ensures exact { AreRun (map (λ w. string_bytes w) (drop 1 (into_iter_items args))) → WhileTold (I.left input.old) (I.left input.new) (λ first left. (all : List (List ℕ)) (rest : List ℕ)
+    ensures exact { AreRun (map (λ w. string_bytes w) (drop 1 (into_iter_items args)))
+        → WhileTold (I.left input.old) (I.left input.new) (λ first left. (all : List (List ℕ)) (rest : List ℕ)
         → IsCut first all rest → length first < most_taken
         → (Rose (I.faults input.old) (I.faults input.new) → ⊥) → (Rose (O.faults output.old) (O.faults output.new) → ⊥)
         → EndsAs rest result) }
@@ -78,8 +79,10 @@ fn command<I: Source, O: Sink>(
     ensures none { AreNone (map (λ w. string_bytes w) words.now) → (result ≡ Status.Usage) × (input.new ≡ input.old) × (output.new ≡ output.old) }
     ensures help { AskUsage (map (λ w. string_bytes w) words.now) ⊎ AskVersion (map (λ w. string_bytes w) words.now)
         → ((result ≡ Status.Ok) ⊎ (result ≡ Status.WriteFault)) × (input.new ≡ input.old) }
-    ensures headline { AreRun (map (λ w. string_bytes w) words.now) → WhileTold (I.left input.old) (I.left input.new) (RunFrom (opening (program_limits 1) 1) result (O.given output.old) (O.given output.new)) }
-    ensures exact { AreRun (map (λ w. string_bytes w) words.now) → WhileTold (I.left input.old) (I.left input.new) (λ first left. (all : List (List ℕ)) (rest : List ℕ)
+    ensures headline { AreRun (map (λ w. string_bytes w) words.now)
+        → WhileTold (I.left input.old) (I.left input.new) (RunFrom (opening (program_limits 1) 1) result (O.given output.old) (O.given output.new)) }
+    ensures exact { AreRun (map (λ w. string_bytes w) words.now)
+        → WhileTold (I.left input.old) (I.left input.new) (λ first left. (all : List (List ℕ)) (rest : List ℕ)
         → IsCut first all rest → length first < most_taken
         → (Rose (I.faults input.old) (I.faults input.new) → ⊥) → (Rose (O.faults output.old) (O.faults output.new) → ⊥)
         → EndsAs rest result) }

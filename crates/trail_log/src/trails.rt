@@ -35,7 +35,8 @@ impl<M: Machine> Model for Trailed<M> {
 
     ghost view = { λ t. record { machine = t.machine; trail = t.log.trail; max_trail = t.max_trail } };
 
-    ghost invariant = { λ t. (t.bytes ≡ bytes_of t.log.trail) × (t.bytes ≤ t.max_trail) × M.stands t.machine (state_after M.plain (M.opening t.machine) t.log.trail) };
+    ghost invariant = { λ t. (t.bytes ≡ bytes_of t.log.trail) × (t.bytes ≤ t.max_trail)
+        × M.stands t.machine (state_after M.plain (M.opening t.machine) t.log.trail) };
 }
 
 impl<M: Machine> Trailed<M> {

@@ -117,7 +117,8 @@ impl KeyLists {
     pub(crate) fn make_room(&mut self, writes: &WriteSet) -> Result<(), NoMemory>
         ensures room { OnOk result (IsTrue (have_room_in self.new writes.now)) }
         ensures listed { OnOk result (keys_in self.new ≡ keys_in self.old ++ new_keys (keys_in self.old) writes.now) }
-        ensures unused { OnOk result ((k : List ℕ) → IsTrue (is_key_among k (drop (length (keys_in self.old)) (keys_in self.new))) → versions_in self.new k ≡ []) }
+        ensures unused { OnOk result ((k : List ℕ) → IsTrue (is_key_among k (drop (length (keys_in self.old)) (keys_in self.new)))
+            → versions_in self.new k ≡ []) }
         ensures not_listed { OnErr result (keys_in self.new ≡ keys_in self.old) }
         ensures same { (k : List ℕ) → versions_in self.new k ≡ versions_in self.old k }
         ensures kept { (k : List ℕ) → IsTrue (has_room_in self.old k) → IsTrue (has_room_in self.new k) }

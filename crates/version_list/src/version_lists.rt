@@ -65,7 +65,8 @@ impl VersionList {
     pub fn make_room(&mut self, writes: &WriteSet) -> Result<(), NoMemory>
         ensures room { OnOk result (IsTrue (has_room_for self.new writes.now)) }
         ensures listed { OnOk result (listed_keys self.new ≡ listed_keys self.old ++ new_keys (listed_keys self.old) writes.now) }
-        ensures unused { OnOk result ((k : List ℕ) → IsTrue (is_key_among k (drop (length (listed_keys self.old)) (listed_keys self.new))) → versions_of self.new k ≡ []) }
+        ensures unused { OnOk result ((k : List ℕ) → IsTrue (is_key_among k (drop (length (listed_keys self.old)) (listed_keys self.new)))
+            → versions_of self.new k ≡ []) }
         ensures not_listed { OnErr result (listed_keys self.new ≡ listed_keys self.old) }
         ensures same { (k : List ℕ) → versions_of self.new k ≡ versions_of self.old k }
         ensures kept { (k : List ℕ) → IsTrue (has_room self.old k) → IsTrue (has_room self.new k) }
