@@ -1,8 +1,8 @@
 -- A transaction commits.
 use Rattle.std.proofs.Common.{◌≡◌, ◌≢◌, ℕ, ◌+◌, ◌≤◌, true, false, ◌==◌, List, [], ◌∷◌, map, filter_map, length, Option, Some, None, Err, IsTrue, IsFalse, refl, sym, ap, ap₂, subst, ◌∙◌, arith}
-use Rattle.std.specs.Option.{option_map}
+use Rattle.std.specs.Option.{option_map, option_map_or}
 use Rattle.std.specs.Prelude.{min}
-use Rattle.std.proofs.lemmas.Option.{same_Some}
+use Rattle.std.proofs.lemmas.Option.{none-some, same_Some}
 use Rattle.std.proofs.lemmas.Bool.{and_parts, both_ways, false_from_ne_true, ne_eqb}
 use Rattle.tardis_base.specs.declared.faults.AddFault.{AddFault}
 use Rattle.tardis_base.specs.declared.faults.AddFault.TheVariants.{Full, PathFull, NoMemory as OutOfMemory}
@@ -32,8 +32,8 @@ use Rattle.end_rule.specs.declared.Branches.{Branches}
 use Rattle.end_rule.specs.Checks.{CheckedAs}
 use Rattle.merge_txn.specs.declared.Txn.{Txn as Kept}
 use Rattle.merge_txn.specs.declared.Txn.TheVariants.{Single as KeptSingle, Merge as KeptMerge}
-use Rattle.merge_txn.specs.Txns.{writes_of as kept_writes}
-use Rattle.session_core.specs.Txns.{IsNamed}
+use Rattle.merge_txn.specs.Txns.{writes_of as kept_writes, with_writes}
+use Rattle.session_core.specs.Txns.{IsNamed, has_slots}
 use Rattle.ceiling_book.specs.Book.{Book, known_floor, sessions_of}
 use Rattle.ceiling_book.specs.Places.{AreSlots, ArePlaced}
 use Rattle.ceiling_book.specs.Answers.{KeepsRest}
@@ -53,6 +53,7 @@ use Rattle.session_core.specs.Stands.{CoreStands, txn_of}
 use Rattle.session_core.specs.Gives.{IsGiven, Stops}
 use Rattle.session_core.specs.Stops.{add_stop}
 use Rattle.session_core.proofs.Answers.{skip, skip-found, stop-found, as-given}
+use Rattle.session_core.proofs.Entries.{without-changed}
 use Rattle.session_core.proofs.Standing.{txn-ended}
 use Rattle.session_core.proofs.Growing.{txn-slots-stay, txn-names-stay}
 use Rattle.session_core.proofs.Memory.{ended-held}
@@ -74,6 +75,16 @@ same-table-stands core site store stands same store_stands =
       txns = stands.txns;
       slots = λ n h e. subst (λ t. IsNamed t h) back (stands.slots n h e);
     }
+
+pub not-added-held : (a : Inside) (store : Store) (es : List (ℕ × Kept)) → IsHeld a → store.table ≡ a.store.table → es ≡ a.txns → IsHeld (record a { store = store; txns = es })
+not-added-held a store es held same e =
+    let back : a.store.table ≡ store.table = sym same in
+    subst (λ z. IsHeld (record a { store = store; txns = z })) (sym e)
+    (record {
+      places = subst (λ t. AreSlots a.book t) back held.places;
+      slots = λ m h f. subst (λ t. IsTrue (has_slots t h)) back (held.slots m h f);
+      floors = held.floors ∙ ap (λ t. t.limits.sites) back;
+    })
 
 -- a table that has grown
 pub grown-held : (a : Inside) (store : Store) (book : Book) (n : ℕ) (es : List (ℕ × Kept)) → IsHeld a → KeepsSlots a.store.table store.table → store.table.limits ≡ a.store.table.limits →
@@ -203,12 +214,21 @@ writes-kept : (t : Kept) → kept_writes t ≡ writes_of (txn_of t)
 writes-kept (KeptSingle t) = refl
 writes-kept (KeptMerge t) = refl
 
-module _ (core : Core) (site : Site) (stands : CoreStands core site) (n : ℕ) (h : Kept) (t : Txn) (at : entry_of n core.txns ≡ Some h) (found : entry_of n site.txns ≡ Some t) where
-  pub kept-as : txn_of h ≡ t
-  kept-as = same_Some (txn_of h) t (sym (ap (option_map txn_of) at) ∙ stands.txns n ∙ found)
+-- what is taken out of the session's transaction is what it has written
+pub writes-as : (core : Core) (site : Site) → CoreStands core site → (n : ℕ) (t : Txn) → entry_of n site.txns ≡ Some t → (ws : List KeyWrite) → ws ≡ option_map_or kept_writes (entry_of n core.txns) [] → ws ≡ writes_of t
+writes-as core site stands n t found ws taken = taken ∙ go (entry_of n core.txns) (stands.txns n ∙ found)
+  where
+    go : (o : Option Kept) → option_map txn_of o ≡ Some t → option_map_or kept_writes o [] ≡ writes_of t
+    go None e = absurd (none-some t e)
+    go (Some h) e = writes-kept h ∙ ap writes_of (same_Some (txn_of h) t e)
 
-  pub writes-as : kept_writes h ≡ writes_of t
-  writes-as = writes-kept h ∙ ap writes_of kept-as
+-- the transactions as they were, once what was taken is put back
+pub put-back : (n : ℕ) (ws now : List KeyWrite) (es taken after : List (ℕ × Kept)) → changed n (with_writes ws) taken ≡ es → now ≡ ws → after ≡ changed n (with_writes now) taken → after ≡ es
+put-back n ws now es taken after back left put = put ∙ ap (λ (vs : List KeyWrite). changed n (with_writes vs) taken) left ∙ back
+
+-- the transaction ends after what it wrote was taken
+pub ended-taken : (n : ℕ) (f : Kept → Kept) (es taken after : List (ℕ × Kept)) → taken ≡ changed n f es → after ≡ without_entry n taken → after ≡ without_entry n es
+ended-taken n f es taken after left ended = ended ∙ ap (without_entry n) left ∙ without-changed n f es
 
 -- ===== Commit, row by row
 

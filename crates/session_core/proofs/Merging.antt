@@ -1,7 +1,6 @@
 -- A merge begins.
-use Rattle.std.proofs.Common.{◌≡◌, ◌≤◌, ◌<◌, ℕ, false, nat_lt, List, [], ◌∷◌, length, take, map, Option, Some, None, Result, Ok, Err, IsTrue, refl, sym, ap, ap₂, subst, ◌∙◌, arith}
+use Rattle.std.proofs.Common.{◌≡◌, ◌≤◌, ◌<◌, ℕ, false, nat_lt, List, [], ◌∷◌, length, map, Option, Some, None, Result, Ok, Err, IsTrue, refl, sym, ap, ap₂, subst, ◌∙◌, arith}
 use Rattle.std.proofs.lemmas.Option.{same_Some}
-use Rattle.std.proofs.lemmas.List.{take_all}
 use Rattle.std.proofs.lemmas.Bool.{false_from_ne_true, ltb-true, lt-ltb}
 use Rattle.tardis_base.specs.declared.ids.StateId.{StateId}
 use Rattle.tardis_base.specs.declared.ids.Slot.{Slot}
@@ -116,7 +115,3 @@ chosen-under core site stands sound n s is table same ceiling limit xs result ch
     let here = subst (λ t. Stands t site.dag site.collected) (sym same) stands.store.table in
     let placed = subst (λ t. ArePlaced core.book t site.dag site.collected) (sym same) stands.placed in
     chooses site.dag site.collected here s.ceiling (limit table site.dag site.collected placed s (ap (entry_of n) stands.sessions ∙ is)) (collected-above so_far site n s sound is)
-
--- a page of few states is all of them
-pub whole-page : (xs page : List StateId) → length xs ≤ 8 → page ≡ take 256 xs → page ≡ xs
-whole-page xs page few is = is ∙ take_all 256 xs (omega arith)

@@ -1,9 +1,8 @@
 //! Transactions end: they commit, or are given up.
 
-ghost use Rattle.std.specs.Prelude.{◌≡◌, is_some, Some, IsTrue, IfOk};
+ghost use Rattle.std.specs.Prelude.{◌≡◌, Some, IsTrue, IfOk};
 ghost use Rattle.std.specs.List.{list_all};
 ghost use Rattle.tardis_base.specs.declared.ids.StateId.{StateId};
-ghost use Rattle.plain_dag.specs.Entries.{entry_of};
 ghost use Rattle.state_dag.specs.Table.{is_slot};
 ghost use Rattle.ceiling_book.specs.Book.{is_open};
 ghost use Rattle.plain_site.specs.Site.{Site};
@@ -19,7 +18,7 @@ ghost use Rattle.session_core.specs.Txns.{IsNamed};
 use crate::Parts;
 use crate::merges::states_of;
 use crate::stops::Stop;
-use conflict_keys::first_open;
+use conflict_keys::open_conflict;
 use merge_txn::{MergeTxn, SingleTxn, Txn};
 use tardis_base::{EndFlags, ListOf, Refusal, Reply, Slot, StateId};
 
@@ -32,8 +31,8 @@ impl Parts {
     /// (Branches), the site has given out its last number (SeqEnd), or there is no room (Full, PathFull). After a refusal,
     /// and with no memory, the transaction is still open.
     ///
-    /// The cost is that of `RecordStore::add_state`, and before it that of `ripple_commit::landing`, or for a merge that of
-    /// `conflict_keys::first_open`. Where a single one wrote nothing, it is that of looking the transaction up.
+    /// The cost is that of `RecordStore::commit`, and before it that of `ripple_commit::landing`, or for a merge that of
+    /// `conflict_keys::open_conflict`. Where a single one wrote nothing, it is that of looking the transaction up.
     pub(crate) fn commit(&mut self, actor: u16, flags: EndFlags, k: u16) -> Result<Reply, Stop>
         ensures { Answers self.old self.new result (λ site. with_txn site actor (λ s t. commit_txn so_far site actor t flags k)) }
     {
@@ -64,7 +63,12 @@ impl Parts {
         if flags.0 != 0 {
             return Err(Stop::Refused(Refusal::WrongMode));
         }
-        match first_open(&self.store, merge.slots.as_slice(), &merge.writes) {
+        match open_conflict(
+            self.alloc,
+            &self.store,
+            merge.slots.as_slice(),
+            &merge.writes,
+        )? {
             Some(key) => Err(Stop::Refused(Refusal::OpenConflict { key: key.copy()? })),
             None => Ok(merge.slots.copy()?),
         }
@@ -103,7 +107,6 @@ impl Parts {
         k: u16,
     ) -> Result<Reply, Stop>
         requires open { IsTrue (is_open self.old.book actor) }
-        requires some { IsTrue (is_some (entry_of actor self.old.txns)) }
         requires slot { IsTrue (is_slot self.old.store.table landing) }
         ensures { CommitsAt self.old self.new actor landing flags k result }
     {
@@ -111,10 +114,10 @@ impl Parts {
         self.commit_below(actor, &[landing])
     }
 
-    /// Commits the transaction below the states of these slots, as the next state of the site.
+    /// Commits the transaction below the states of these slots, as the next state of the site. What it has written is moved
+    /// into the store; where the state isn't added, it is put back.
     fn commit_below(&mut self, actor: u16, below: &[Slot]) -> Result<Reply, Stop>
         requires open { IsTrue (is_open self.old.book actor) }
-        requires some { IsTrue (is_some (entry_of actor self.old.txns)) }
         requires slots { IsTrue (list_all (is_slot self.old.store.table) below.now) }
         ensures { CommitsBelow self.old self.new actor below.now result }
     {
@@ -128,14 +131,18 @@ impl Parts {
             sequence: count + 1,
         };
         let parents = states_of(self.alloc, self.store.dag(), below)?;
-        let txn = match self.txns.get(actor) {
-            Some(txn) => txn,
-            None => unreachable!(),
-        };
-        let slot = self.store.add_state(id, below, txn.writes())?;
-        self.book.committed(self.store.dag(), actor, slot);
-        self.txns.end(actor);
-        Ok(Reply::Committed { id, parents })
+        let mut writes = self.txns.take_writes(self.alloc, actor);
+        match self.store.commit(id, below, &mut writes) {
+            Ok(slot) => {
+                self.book.committed(self.store.dag(), actor, slot);
+                self.txns.end(actor);
+                Ok(Reply::Committed { id, parents })
+            },
+            Err(fault) => {
+                self.txns.set_writes(actor, writes);
+                Err(Stop::from(fault))
+            },
+        }
     }
 
     /// Gives the actor's transaction up. It takes no memory.

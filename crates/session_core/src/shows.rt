@@ -79,7 +79,7 @@ impl Parts {
         })
     }
 
-    /// The leaves: how many, and the first 256 in arrival order. The cost grows with the number of kept states.
+    /// The leaves: how many, and the first 256 in arrival order. The cost is that of what it shows.
     pub(crate) fn leaves(&self) -> Result<Reply, Stop>
         ensures { Answers self.now self.now result (λ site. show_leaves site) }
     {

@@ -1,15 +1,16 @@
 //! The open transactions.
 
 ghost use Rattle.std.specs.Prelude.{◌≡◌, [], is_some, OnOk, OnErr};
-ghost use Rattle.std.specs.Option.{option_copied};
-ghost use Rattle.plain_dag.specs.Entries.{entry_of, with_entry, without_entry};
+ghost use Rattle.std.specs.Option.{option_copied, option_map_or};
+ghost use Rattle.plain_dag.specs.Entries.{entry_of, with_entry, without_entry, changed};
+ghost use Rattle.merge_txn.specs.Txns.{writes_of, with_writes};
 ghost use Rattle.session_core.specs.Txns.{NotedAs, PutAs};
 
 use merge_txn::{Txn, TxnFault};
 use std::alloc::Global;
 use std::collections::BTreeMap;
 use std::marker::Model;
-use tardis_base::{Key, NoMemory, Write};
+use tardis_base::{Key, NoMemory, Write, WriteSet};
 
 /// The open transactions, by the numbers of their sessions.
 #[derive(Drop)]
@@ -76,6 +77,29 @@ impl TxnBook {
         match self.entries.get_mut(&session) {
             Some(txn) => Some(txn.put(key, write)),
             None => None,
+        }
+    }
+
+    /// What the session's transaction has written is taken out, and it has written nothing; of no transaction nothing is
+    /// taken. It takes no memory.
+    pub fn take_writes(&mut self, alloc: Global, session: u16) -> WriteSet
+        ensures taken { result ≡ option_map_or writes_of (entry_of session self.old) [] }
+        ensures left { self.new ≡ changed session (with_writes []) self.old }
+        ensures back { changed session (with_writes result) self.new ≡ self.old }
+    {
+        match self.entries.get_mut(&session) {
+            Some(txn) => txn.take_writes(alloc),
+            None => WriteSet::new(alloc),
+        }
+    }
+
+    /// The session's transaction, if it has one, has written this, in place of what it had. It takes no memory.
+    pub fn set_writes(&mut self, session: u16, writes: WriteSet)
+        ensures { self.new ≡ changed session (with_writes writes) self.old }
+    {
+        match self.entries.get_mut(&session) {
+            Some(txn) => txn.set_writes(writes),
+            None => {},
         }
     }
 

@@ -1,7 +1,7 @@
 -- What two histories with one store read alike.
 use Rattle.std.proofs.Common.{◌≡◌, ℕ, ◌+◌, ◌≤◌, zero, suc, Bool, false, not, ◌||◌, List, [], ◌∷◌, length, find, filter_map, Option, Some, None, is_some, is_none, IsTrue, IsFalse, IsSome, refl, sym, ap, ap₂, ◌∙◌, arith}
 use Rattle.std.specs.List.{list_any, cons_option}
-use Rattle.std.specs.Option.{option_map, option_and_then}
+use Rattle.std.specs.Option.{option_map, option_map_or, option_and_then}
 use Rattle.std.proofs.lemmas.Bool.{and_parts, and_from, both_ways, not_from_false}
 use Rattle.std.proofs.lemmas.Option.{same_Some}
 use Rattle.tardis_base.specs.declared.ids.StateId.{StateId}
@@ -27,7 +27,8 @@ use Rattle.plain_dag.proofs.Landing.{lands-by-first-children}
 use Rattle.state_dag.proofs.Standing.{kept-has_slot}
 use Rattle.record_store.specs.Store.{Store}
 use Rattle.record_store.specs.Stands.{StoreStands}
-use Rattle.record_store.proofs.Reading.{found-is_read, between-is_news}
+use Rattle.record_store.proofs.Holders.{news-told}
+use Rattle.record_store.proofs.Reading.{found-is_read}
 use Rattle.record_store.proofs.LatestHolders.{holder-is_stand_in}
 use Rattle.conflict_keys.proofs.Choices.{IsRead, are-read, read-is_known, above-told, read-told}
 use Rattle.conflict_keys.proofs.Least.{same-keys}
@@ -105,13 +106,30 @@ module _ (store : Store) (ra : List Record) (ka : List StateId) (rb : List Recor
       ∙ sym (latest-is_reader rb sb.table.dag k x (and_parts (is_known rb x) (not (is_among x kb)) (in_b x kept)).0))
 
   -- the same state stands in for a latest writer
+  holders-alike : (k : List ℕ) (x : StateId) → IsTrue (is_kept ra ka x) → option_map (stand_in ra ka) (latest_writer ra k x) ≡ option_map (stand_in rb kb) (latest_writer rb k x)
+  holders-alike k x kept =
+      let s = kept-has_slot store.table ra ka sa.table x kept in
+      sym (holder-is_stand_in store ra ka sa s.0 x s.1 k) ∙ holder-is_stand_in store rb kb sb s.0 x s.1 k
+
   holder-alike : (k : List ℕ) (x w : StateId) → IsTrue (is_kept ra ka x) → latest_writer ra k x ≡ Some w → stand_in ra ka w ≡ stand_in rb kb w
   holder-alike k x w kept e =
-      let s = kept-has_slot store.table ra ka sa.table x kept in
-      let both : option_map (stand_in ra ka) (latest_writer ra k x) ≡ option_map (stand_in rb kb) (latest_writer rb k x) =
-      sym (holder-is_stand_in store ra ka sa s.0 x s.1 k) ∙ holder-is_stand_in store rb kb sb s.0 x s.1 k in
       same_Some (stand_in ra ka w) (stand_in rb kb w)
-      (sym (ap (option_map (stand_in ra ka)) e) ∙ (both ∙ ap (option_map (stand_in rb kb)) (sym (latest-alike k x kept) ∙ e)))
+      (sym (ap (option_map (stand_in ra ka)) e) ∙ (holders-alike k x kept ∙ ap (option_map (stand_in rb kb)) (sym (latest-alike k x kept) ∙ e)))
+
+  -- a key is news of a kept state to another in both or in neither
+  news-alike : (x c : StateId) → IsTrue (is_kept ra ka x) → IsTrue (is_kept ra ka c) → (k : List ℕ) → is_news ra x c k ≡ is_news rb x c k
+  news-alike x c kept_x kept_c k =
+      sym (news-told ra ka sa.table.dag sa.table.shared k x c kept_x kept_c)
+      ∙ held (latest_writer ra k c) refl
+      ∙ ap (λ h. option_map_or (λ y. not (is_above rb y x)) h false) (holders-alike k c kept_c)
+      ∙ news-told rb kb sb.table.dag sb.table.shared k x c (in_b x kept_x) (in_b c kept_c)
+    where
+      held : (o : Option StateId) → latest_writer ra k c ≡ o →
+          option_map_or (λ y. not (is_above ra y x)) (option_map (stand_in ra ka) o) false ≡ option_map_or (λ y. not (is_above rb y x)) (option_map (stand_in ra ka) o) false
+      held None e = refl
+      held (Some w) e =
+          let known = read-is_known ra ka sa.table.dag sa.table.shared k w (c, kept_c, e) in
+          ap not (alike.same_above (stand_in ra ka w) x ((stands-in-well ra ka sa.table.dag sa.table.shared).kept w known) kept_x)
 
   -- ===== Several states
 
@@ -179,11 +197,7 @@ module _ (store : Store) (ra : List Record) (ka : List StateId) (rb : List Recor
 
     -- the same children pass
     passes-alike : (x c : StateId) → IsTrue (is_kept ra ka x) → IsTrue (is_kept ra ka c) → passes ra keys x c ≡ passes rb keys x c
-    passes-alike x c kept_x kept_c =
-        ap not (any-alike (is_news ra x c) (is_news rb x c) keys (λ k.
-        let s = kept-has_slot store.table ra ka sa.table x kept_x in
-        let t = kept-has_slot store.table ra ka sa.table c kept_c in
-        sym (between-is_news store ra ka sa s.0 t.0 x c s.1 t.1 k) ∙ between-is_news store rb kb sb s.0 t.0 x c s.1 t.1 k))
+    passes-alike x c kept_x kept_c = ap not (any-alike (is_news ra x c) (is_news rb x c) keys (news-alike x c kept_x kept_c))
 
     first-alike : (x : StateId) → IsTrue (is_kept ra ka x) → IsFree ra ka x → first_passing ra keys x ≡ first_passing rb keys x
     first-alike x kept free =

@@ -5,7 +5,7 @@ use Rattle.std.proofs.lemmas.Option.{none-some, same_Some}
 use Rattle.tardis_base.specs.declared.ids.StateId.{StateId}
 use Rattle.tardis_base.specs.declared.records.Record.{Record}
 use Rattle.tardis_base.specs.Ids.{same_id, is_among}
-use Rattle.plain_dag.specs.States.{states, arrival, is_known, children, count_of_site}
+use Rattle.plain_dag.specs.States.{states, arrived, arrival, is_known, children, count_of_site}
 use Rattle.plain_dag.specs.Above.{is_above, is_proper_ancestor}
 use Rattle.plain_dag.specs.Forks.{is_leaf, leaves}
 use Rattle.plain_dag.specs.Begin.{is_admitted, last_arrived, last_below}
@@ -13,11 +13,11 @@ use Rattle.plain_dag.specs.Collection.{is_kept, kept_states, stand_in}
 use Rattle.plain_dag.proofs.Ids.{same_test, not-both, same_id-true, same_id_self, among-cases}
 use Rattle.plain_dag.proofs.Histories.{Grows, dag-grows, known-before, known-isnt-newest, arrival-newest, arrival-before, arrival_is_below}
 use Rattle.plain_dag.proofs.Order.{above-reflexive}
-use Rattle.plain_dag.proofs.Searches.{found-passes, finds-passing, filter-agrees}
+use Rattle.plain_dag.proofs.Searches.{found-passes, finds-passing, filtered-passes, filter-agrees}
 use Rattle.plain_dag.proofs.Leaves.{begins-at-leaves}
 use Rattle.state_dag.specs.Table.{Entry, Table}
 use Rattle.state_dag.specs.Stands.{Shows, Stands}
-use Rattle.state_dag.proofs.Known.{kept-is_listed, listed-is_kept, last-kept, knows-root, knows-none, knows-counted}
+use Rattle.state_dag.proofs.Known.{arrived-is_known, kept-is_listed, listed-is_kept, last-kept, knows-root, knows-none, knows-counted}
 use Rattle.state_dag.proofs.Calls.{counted}
 use Rattle.state_dag.proofs.Standing.{entry-of_id, shown, kept-has_slot, slots-tell}
 use Rattle.fork_points.proofs.Asked.{among-kept, leaf-is_kept, leaf-told}
@@ -204,8 +204,9 @@ module _ (table : Table) (ra : List Record) (ka : List StateId) (rb : List Recor
       let is = last-below-is table ra ka sa last known_a in
       let above : (z : StateId) → IsTrue (is_kept ra ka z) → is_above ra last z ≡ is_above rb last z = λ z kept. above-alike ra ka rb kb ha hb tables-alike last last z known_a known_b same kept in
       newest-found table rb kb sb last known_b n (there n is.kept) (sym (below-stand-in table rb kb sb last known_b n (there n is.kept)) ∙ (sym (above n is.kept) ∙ is.below))
-      (λ z kept later.
-      let kept_a = back z kept in
+      (λ z leaf later.
+      let leaf_b = filtered-passes (is_leaf rb) (arrived rb) z leaf in
+      let kept_a = back z (leaf-is_kept table rb kb sb z (arrived-is_known rb z leaf_b.0) leaf_b.1) in
       let here = arrival-alike n is.kept in
       let behind = arrival-alike z kept_a in
       sym (above z kept_a) ∙ is.latest z kept_a (omega arith))
