@@ -1,11 +1,11 @@
 -- Lists of states in the order of their arrival, and what of them arrived before a bound and since.
 use Rattle.std.proofs.Common.{◌≡◌, ℕ, zero, suc, ◌+◌, ◌<◌, ◌≤◌, Bool, true, false, ◌&&◌, not, leb, ltb, List, [], ◌∷◌, ◌++◌, length, take, filter, slice_get, Some, IsTrue, IsFalse, inl, inr, refl, sym, ap, subst, ◌∙◌, arith}
-use Rattle.std.proofs.lemmas.Bool.{and_parts, and_from, and_left, and_right, cases_Bool, both_ways, false_from_ne_true, le-leb, leb-true, leb-false, ltb-true, lt-ltb}
+use Rattle.std.proofs.lemmas.Bool.{and_parts, and_from, and_left, and_right, cases_Bool, false_from_ne_true, le-leb, leb-true, leb-false, ltb-true, lt-ltb}
 use Rattle.std.proofs.lemmas.Option.{none-some, same_Some}
 use Rattle.tardis_base.specs.declared.ids.StateId.{StateId}
 use Rattle.tardis_base.specs.declared.records.Record.{Record}
-use Rattle.tardis_base.specs.Ids.{same_id, is_among}
-use Rattle.plain_dag.specs.States.{arrived, arrival, is_known}
+use Rattle.tardis_base.specs.Ids.{is_among}
+use Rattle.plain_dag.specs.States.{arrived, arrival}
 use Rattle.plain_dag.specs.Dag.{IsDag}
 use Rattle.plain_dag.specs.Collection.{kept_states}
 use Rattle.plain_dag.proofs.States.{Grows, dag-grows, known-isnt-newest, arrival-newest, arrival-before, arrival_is_below, same_id_self, same_test, not-both, among-first, among-later, among-cases, among-append}

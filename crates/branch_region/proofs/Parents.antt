@@ -1,5 +1,5 @@
 -- Above a stand-in there is a collected state.
-use Rattle.std.proofs.Common.{◌≡◌, ◌&&◌, Bool, false, List, [], ◌∷◌, IsTrue, IsFalse, ◌⊎◌, inl, inr, refl, sym, ap, subst, ◌∙◌, if◌then◌else◌}
+use Rattle.std.proofs.Common.{◌≡◌, ◌&&◌, false, List, [], ◌∷◌, IsTrue, IsFalse, ◌⊎◌, inl, inr, refl, sym, subst, ◌∙◌}
 use Rattle.std.proofs.lemmas.Bool.{and_parts, cases_Bool, cond-true, cond-false, both_ways, false_from_ne_true}
 use Rattle.tardis_base.specs.declared.ids.StateId.{StateId}
 use Rattle.tardis_base.specs.declared.records.Record.{Record}

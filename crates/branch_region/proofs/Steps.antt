@@ -1,8 +1,8 @@
 -- The walk up from several states, step by step.
-use Rattle.std.proofs.Common.{◌≡◌, ℕ, suc, ◌+◌, ◌<◌, ◌≤◌, Bool, true, false, ◌&&◌, ◌||◌, not, eqb, leb, List, [], ◌∷◌, ◌++◌, length, reverse, map, filter, Option, Some, None, IsTrue, IsFalse, ◌⊎◌, inl, inr, refl, sym, ap, subst, ◌∙◌, eqb-true, eq-eqb, arith}
+use Rattle.std.proofs.Common.{◌≡◌, ℕ, ◌+◌, ◌<◌, ◌≤◌, Bool, false, ◌&&◌, ◌||◌, not, eqb, leb, List, [], ◌∷◌, ◌++◌, length, reverse, map, filter, Option, Some, IsTrue, IsFalse, ◌⊎◌, inl, inr, refl, sym, ap, subst, ◌∙◌, eqb-true, eq-eqb, arith}
 use Rattle.std.specs.List.{list_any, list_all}
-use Rattle.std.proofs.lemmas.Bool.{and_parts, and_from, and_left, or_cases, or_left, or_right, cases_Bool, both_ways, not_from_false, not-true, false_from_ne_true, le-leb, leb-true, leb-false}
-use Rattle.std.proofs.lemmas.Option.{none-some, same_Some}
+use Rattle.std.proofs.lemmas.Bool.{and_parts, and_from, or_cases, or_left, or_right, cases_Bool, both_ways, not_from_false, not-true, false_from_ne_true, leb-true, leb-false}
+use Rattle.std.proofs.lemmas.Option.{same_Some}
 use Rattle.std.proofs.lemmas.List.{reverse-append}
 use Rattle.tardis_base.specs.declared.ids.StateId.{StateId}
 use Rattle.tardis_base.specs.declared.ids.Slot.{Slot}
@@ -11,7 +11,6 @@ use Rattle.tardis_base.specs.Ids.{same_id, is_among}
 use Rattle.plain_dag.specs.States.{parents_of, children, arrival, is_known}
 use Rattle.plain_dag.specs.Above.{is_above, is_above_all}
 use Rattle.plain_dag.specs.Collection.{is_kept, kept_states, stand_in}
-use Rattle.plain_dag.specs.Laws.{StandsInWell}
 use Rattle.plain_dag.proofs.States.{dag-grows, not-both, child_is_known, child_arrives_later, children_know_parent, parent_is_above, arrival_is_below, same_id-true}
 use Rattle.plain_dag.proofs.Ids.{any-witness, any-from}
 use Rattle.plain_dag.proofs.Order.{above-reflexive, above-transitive, ancestors-arrive-earlier, arrivals-differ, above-along-edges}
@@ -21,7 +20,7 @@ use Rattle.state_dag.proofs.Standing.{slot-is_kept}
 use Rattle.state_dag.proofs.Known.{kept-is_listed, listed-is_kept}
 use Rattle.branch_region.specs.Regions.{is_above_part, is_last_shared}
 use Rattle.branch_region.specs.Walks.{is_since, Waits, IsWaiting, AreSince, IsNoted, IsWalk, HasThese, AreWaiting}
-use Rattle.branch_region.proofs.Orders.{filter-agrees, filter-none, kept-ascend, none-between, one-more, count-more, count-all}
+use Rattle.branch_region.proofs.Orders.{filter-none, kept-ascend, none-between, one-more, count-more, count-all}
 use Rattle.branch_region.proofs.Told.{well, stand-in-part}
 use Rattle.branch_region.proofs.Parents.{stand_in-parent}
 

@@ -13,7 +13,6 @@ use Rattle.plain_dag.specs.Above.{is_above}
 use Rattle.plain_dag.specs.Collection.{is_kept, kept_states}
 use Rattle.state_dag.specs.Table.{Table, id_at, is_slot}
 use Rattle.branch_region.specs.Regions.{is_above_part, is_last_shared}
-use Rattle.branch_region.specs.declared.parts.Region.{Region}
 use Rattle.branch_region.specs.declared.walks.Walk.{Walk}
 use Rattle.branch_region.specs.declared.walks.Step.{Step}
 use Rattle.branch_region.specs.declared.walks.Step.TheVariants.{Noted, Over, Behind}

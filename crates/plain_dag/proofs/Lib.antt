@@ -12,6 +12,7 @@ pub mod ConflictKeys
 pub mod Leaves
 pub mod Landing
 pub mod StandIns
+pub mod StandInWriters
 pub mod Collected
 pub mod Paths
 pub mod Known

@@ -191,6 +191,11 @@ pub record StandsInWell (rs : List Record) (ks : List StateId) : Type 0 where
   pub stays : (x : StateId) → IsTrue (is_kept rs ks x) → stand_in rs ks x ≡ x
   pub tells : (z x : StateId) → IsTrue (is_known rs z) → IsTrue (is_kept rs ks x) → is_above rs z x ≡ is_above rs (stand_in rs ks z) x
 
+-- where some writer of a key has a stand-in, the key has a latest writer there, and it has that stand-in too
+abbrev pub LatestWritersStandInThere : List Record → List StateId → Type 0
+LatestWritersStandInThere rs ks = (k : List ℕ) (w : StateId) → IsTrue (writes_key rs k w) →
+    (v : StateId) × (latest_writer rs k (stand_in rs ks w) ≡ Some v) × (stand_in rs ks v ≡ stand_in rs ks w)
+
 -- for kept states, a is at or above b exactly where a arrived no later and each branch of a kept fork taken to a is taken to b
 abbrev pub ForkPathsTell : List Record → List StateId → Type 0
 ForkPathsTell rs ks = (a b : StateId) → IsTrue (is_kept rs ks a) → IsTrue (is_kept rs ks b) →

@@ -7,7 +7,7 @@ ghost use Rattle.tardis_base.specs.declared.requests.EndFlags.{EndFlags};
 ghost use Rattle.plain_dag.specs.States.{is_known};
 ghost use Rattle.plain_dag.specs.Floors.{Floor};
 ghost use Rattle.plain_dag.specs.Dag.{IsDag};
-ghost use Rattle.plain_dag.specs.Laws.{LeavesAreAdmitted, BeginsAtLeaves, LandsByFirstChildren, LandsBelow, LandsWithoutNews, LandsWithSameReads, IsTrueCommit, AreCollected, CollectedAreAboveCeilings, StaysKept, CollectedGetNoChild, StandInsAreShared, CollectedShareStandIns, StandsInWell, ForkPathsTell};
+ghost use Rattle.plain_dag.specs.Laws.{LeavesAreAdmitted, BeginsAtLeaves, LandsByFirstChildren, LandsBelow, LandsWithoutNews, LandsWithSameReads, IsTrueCommit, AreCollected, CollectedAreAboveCeilings, StaysKept, CollectedGetNoChild, StandInsAreShared, CollectedShareStandIns, StandsInWell, LatestWritersStandInThere, ForkPathsTell};
 
 /// A leaf may be read under every ceiling, and a transaction that may begin anywhere, or anywhere below its session's
 /// last commit, begins at a leaf. So no ceiling keeps such a transaction from beginning.
@@ -46,10 +46,13 @@ pub fn collected_states_are_out_of_the_way()
 {}
 
 /// A rightly collected state has its child's stand-in. Where each child of a collected state has that state's stand-in, all
-/// stand-ins are kept, a kept state is its own, and a state is at or above a kept one exactly where its stand-in is.
+/// stand-ins are kept, a kept state is its own, and a state is at or above a kept one exactly where its stand-in is. Where
+/// some writer of a key stands in, so does the latest writer of the key there: one version a state serves all that it
+/// stands for.
 pub fn stand_ins_stand_in()
     ensures shared { (rs : List Record) (floors : List Floor) (ks : List StateId) → IsDag rs → CollectedShareStandIns rs floors ks }
     ensures well { (rs : List Record) (ks : List StateId) → IsDag rs → StandInsAreShared rs ks → StandsInWell rs ks }
+    ensures latest { (rs : List Record) (ks : List StateId) → IsDag rs → StandInsAreShared rs ks → LatestWritersStandInThere rs ks }
 {}
 
 /// Of two kept states the one is at or above the other exactly where it arrived no later and each branch of a kept fork

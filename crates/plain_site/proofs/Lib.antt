@@ -32,3 +32,4 @@ pub mod RepliesOfMerges
 pub mod RepliesOfExchange
 pub mod RepliesFit
 pub mod RepliesToBytes
+pub mod ClosedStates

@@ -1,5 +1,5 @@
 -- What holds of each element of a list holds of what is found, kept or taken of it.
-pub use Rattle.tardis_base.proofs.Tests.{first, second}
+pub use Rattle.tardis_base.proofs.TestParts.{first, second}
 use Rattle.std.proofs.Common.{◌≡◌, ℕ, zero, suc, ◌≤◌, Bool, List, [], ◌∷◌, ◌++◌, length, filter, find, take, unwrap_or, Option, Some, None, IsTrue, refl, sym, ◌∙◌, ap, subst, inl, inr, arith}
 use Rattle.std.proofs.lemmas.Bool.{and_from, cases_Bool, cond-true, cond-false}
 use Rattle.std.proofs.lemmas.Option.{none-some, same_Some}

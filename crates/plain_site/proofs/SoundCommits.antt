@@ -233,23 +233,35 @@ pub conflicts-written : (rs : List Record) (xs : List StateId) (ws : List KeyWri
     (k : List ℕ) → IsTrue (is_conflict_key rs xs k) → IsTrue (has_key k ws)
 conflicts-written rs xs ws e k h = unfound-key ws (conflict_keys rs xs) k e ((lists-conflict-keys rs xs).complete k ∙ h)
 
-merge-keeps : (built : Built) (site : Site) (n : ℕ) (s : Session) (t : MergeTxn) (flags : EndFlags) → entry_of n site.sessions ≡ Some s →
-    IsSoundTxn site.dag s.ceiling (Merge t) → IsSound built site → IsSound built (commit_merge built site n t flags).0
-merge-keeps built site n s t flags has txn sound =
+-- what a merge writes may join below its states, once none of their conflict keys is missing
+pub merge-joins : (built : Built) (site : Site) (n : ℕ) (s : Session) (t : MergeTxn) → entry_of n site.sessions ≡ Some s →
+    IsSoundTxn site.dag s.ceiling (Merge t) → IsSound built site → open_conflict site.dag t.states t.writes ≡ None → MayJoin site t.states t.writes
+merge-joins built site n s t has txn sound none =
     let shape = and_parts (are_parents t.states) (are_writes t.writes) txn.shape in
-    let flagged = refuse (not (flags.0 == 0)) WrongMode in
-    let missing = open_conflict site.dag t.states t.writes in
-    commit_below-keeps built site n t.states t.writes (flagged ∷ refuse_found OpenConflict missing ∷ []) sound
-    (λ none.
-    let second = none-parts (refuse_found OpenConflict missing) [] (none-parts flagged (refuse_found OpenConflict missing ∷ []) none).1 in
     record {
       parents_valid = shape.0;
       writes_valid = shape.1;
       known = txn.known;
       apart = txn.apart;
-      merges = conflicts-written site.dag t.states t.writes (found-none OpenConflict missing second.0);
+      merges = conflicts-written site.dag t.states t.writes none;
       free = λ p m. admitted-isnt_closed built site n s p sound has (all-at (is_admitted site.dag s.ceiling) t.states p txn.admitted m);
-    })
+    }
+
+-- what a merge is refused for, before it joins
+abbrev pub merge_refusals : Site → MergeTxn → EndFlags → List (Option Reply)
+merge_refusals site t flags = refuse (not (flags.0 == 0)) WrongMode ∷ refuse_found OpenConflict (open_conflict site.dag t.states t.writes) ∷ []
+
+pub unrefused-joins : (built : Built) (site : Site) (n : ℕ) (s : Session) (t : MergeTxn) (flags : EndFlags) → entry_of n site.sessions ≡ Some s →
+    IsSoundTxn site.dag s.ceiling (Merge t) → IsSound built site → AreNone (merge_refusals site t flags) → MayJoin site t.states t.writes
+unrefused-joins built site n s t flags has txn sound none =
+    let missing = open_conflict site.dag t.states t.writes in
+    let second = none-parts (refuse_found OpenConflict missing) [] (none-parts (refuse (not (flags.0 == 0)) WrongMode) (refuse_found OpenConflict missing ∷ []) none).1 in
+    merge-joins built site n s t has txn sound (found-none OpenConflict missing second.0)
+
+merge-keeps : (built : Built) (site : Site) (n : ℕ) (s : Session) (t : MergeTxn) (flags : EndFlags) → entry_of n site.sessions ≡ Some s →
+    IsSoundTxn site.dag s.ceiling (Merge t) → IsSound built site → IsSound built (commit_merge built site n t flags).0
+merge-keeps built site n s t flags has txn sound =
+    commit_below-keeps built site n t.states t.writes (merge_refusals site t flags) sound (unrefused-joins built site n s t flags has txn sound)
 
 -- ===== Commit
 

@@ -33,12 +33,12 @@ use Rattle.plain_site.proofs.SoundFloors.{floor-keeps}
 -- ===== A record
 
 -- what the judgements leave of a record
-record IsWelcome (site : Site) (r : Record) : Type 0 where
-  of_a_site : r.id.site ≤ site.limits.sites
-  next : IsNext site.dag r
-  free : find (is_closed site.dag site.floors) r.parents ≡ None
+pub record IsWelcome (site : Site) (r : Record) : Type 0 where
+  pub of_a_site : r.id.site ≤ site.limits.sites
+  pub next : IsNext site.dag r
+  pub free : find (is_closed site.dag site.floors) r.parents ≡ None
 
-welcome : (built : Built) (site : Site) (r : Record) → IsTrue (is_record r) → IsSound built site → AreNone (judgements site r) → IsWelcome site r
+pub welcome : (built : Built) (site : Site) (r : Record) → IsTrue (is_record r) → IsSound built site → AreNone (judgements site r) → IsWelcome site r
 welcome built site r valid sound none =
     let rs = site.dag in
     let count = count_of_site rs r.id.site in

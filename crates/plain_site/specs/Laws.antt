@@ -1,6 +1,7 @@
 -- What follows from the plain step, as statements. The functions of this crate have them as contracts.
 use Rattle.std.specs.Prelude.{ℕ, ◌≤◌, ◌≡◌, ◌≢◌, List, length, IsTrue}
 use Rattle.std.specs.List.{list_all}
+use Rattle.tardis_base.specs.declared.ids.StateId.{StateId}
 use Rattle.tardis_base.specs.declared.records.Limits.{Limits}
 use Rattle.tardis_base.specs.declared.requests.Request.{Request}
 use Rattle.tardis_base.specs.declared.replies.Reply.TheVariants.{NoMemory}
@@ -8,6 +9,8 @@ use Rattle.tardis_base.specs.Plain.{Event, no_memory, state_after}
 use Rattle.tardis_base.specs.Valid.{is_u16, is_within, are_limits}
 use Rattle.wire_talk.specs.Valid.{is_request, is_reply}
 use Rattle.wire_talk.specs.Spellings.{reply_spelling}
+use Rattle.plain_dag.specs.States.{children}
+use Rattle.plain_dag.specs.Floors.{is_closed}
 use Rattle.plain_site.specs.Site.{Site, opening}
 use Rattle.plain_site.specs.Built.{Built}
 use Rattle.plain_site.specs.Answers.{leaves_site}
@@ -30,6 +33,11 @@ BytesKeepSound built = (site : Site) (event : Event) → IsTrue (is_u16 event.0)
 abbrev pub RunsKeepSound : Built → Type 0
 RunsKeepSound built = (site : Site) (events : List Event) → IsTrue (list_all (λ event. is_u16 event.0) events) → IsSound built site →
     IsSound built (state_after (site_machine built) site events)
+
+-- a state that is closed here gets no further child here, whatever is asked
+abbrev pub ClosedGetNoChild : Built → Request → Type 0
+ClosedGetNoChild built q = (site : Site) (n : ℕ) (x : StateId) → IsTrue (is_request q) → IsSound built site → IsTrue (is_closed site.dag site.floors x) →
+    children (step built site n q).0.dag x ≡ children site.dag x
 
 -- a refusal, Known and Early leave the site as it was, an open transaction included
 abbrev pub RefusalsLeaveSite : Built → Type 0

@@ -2,7 +2,7 @@
 
 ghost use Rattle.tardis_base.specs.declared.requests.Request.{Request};
 ghost use Rattle.plain_site.specs.Built.{Built};
-ghost use Rattle.plain_site.specs.Laws.{BytesKeepSound, KeepsSound, OpeningIsSound, RunsKeepSound};
+ghost use Rattle.plain_site.specs.Laws.{BytesKeepSound, ClosedGetNoChild, KeepsSound, OpeningIsSound, RunsKeepSound};
 
 use wire_talk::talk_has_one_spelling;
 
@@ -17,6 +17,12 @@ pub fn opening_is_sound()
 /// The own floor stays at or above every ceiling. What is collected stays closed, keeps its one child and gets no other.
 pub fn every_request_keeps_sound()
     ensures { (built : Built) (q : Request) → KeepsSound built q }
+{}
+
+/// A closed state gets no further child here: what a transaction commits below is admitted under its session's ceiling, and
+/// a delivered record with a closed parent is refused.
+pub fn closed_states_get_no_child()
+    ensures { (built : Built) (q : Request) → ClosedGetNoChild built q }
 {}
 
 /// Whatever bytes actors send, a sound site stays sound: bytes that spell no request change nothing, and what is read from

@@ -13,14 +13,10 @@ use Rattle.plain_site.specs.Sound.{IsSound}
 use Rattle.session_core.specs.declared.stops.Stop.{Stop}
 use Rattle.session_core.specs.declared.stops.Stop.TheVariants.{Refused, NoMemory}
 use Rattle.session_core.specs.Core.{Core}
-use Rattle.session_core.specs.Machine.{SiteStands, IsTold, WritesOrStops, reading, opened_with}
+use Rattle.session_core.specs.Machine.{SiteStands, IsTold, WritesOrStops, Wrote, reading, opened_with}
 use Rattle.session_core.specs.Stands.{CoreStands, StandsForSite}
 use Rattle.session_core.proofs.Settings.{step-same, opened-same}
 use Rattle.session_core.proofs.Telling.{stays-sound, step-told}
-
--- the parts wrote the reply to a read, or stopped
-abbrev pub Wrote : Core → Core → ℕ → List ℕ → Result (Unit {0}) Stop → List ℕ → Type 0
-Wrote old new n k result out = (site : Site) → CoreStands old site → IsSound so_far site → WritesOrStops (CoreStands new) (reading site n k) site result out
 
 module _ (old : Core) (n : ℕ) (k : List ℕ) (valid : IsTrue (is_key k)) (before : StandsForSite old) where
   -- the reply to a read can be told

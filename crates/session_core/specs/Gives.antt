@@ -1,10 +1,16 @@
 -- What a request gives.
-use Rattle.std.specs.Prelude.{◌≡◌, ⊤, Result, Ok, Err}
+use Rattle.std.specs.Prelude.{◌≡◌, ⊤, ℕ, Some, Result, Ok, Err}
 use Rattle.tardis_base.specs.declared.faults.NoMemory.{NoMemory as OutOfMemory}
 use Rattle.tardis_base.specs.declared.replies.Reply.{Reply}
 use Rattle.tardis_base.specs.declared.replies.Reply.TheVariants.{Refused as RefusedWith}
+use Rattle.plain_dag.specs.Entries.{entry_of}
+use Rattle.plain_dag.specs.Floors.{Session}
 use Rattle.plain_site.specs.Site.{Site}
 use Rattle.plain_site.specs.Answers.{Answer, refused}
+use Rattle.plain_site.specs.Built.{so_far}
+use Rattle.plain_site.specs.Sound.{IsSound}
+use Rattle.session_core.specs.Core.{Core}
+use Rattle.session_core.specs.Stands.{CoreStands}
 use Rattle.session_core.specs.declared.stops.Stop.{Stop}
 use Rattle.session_core.specs.declared.stops.Stop.TheVariants.{Refused, NoMemory}
 
@@ -26,6 +32,15 @@ Stops stands answer old NoMemory = stands old
 abbrev pub GivesOrStops : (Site → Type 0) → Answer → Site → Result Reply Stop → Type 0
 GivesOrStops stands answer old (Ok reply) = IsGiven stands answer reply
 GivesOrStops stands answer old (Err stop) = Stops stands answer old stop
+
+-- for each sound site that it stood for, it gives the plain answer, or stops
+abbrev pub Answers : Core → Core → Result Reply Stop → (Site → Answer) → Type 0
+Answers old new result answer = (site : Site) → CoreStands old site → IsSound so_far site → GivesOrStops (CoreStands new) (answer site) site result
+
+-- so for its open session
+abbrev pub AnswersIn : Core → Core → ℕ → Result Reply Stop → (Site → Session → Answer) → Type 0
+AnswersIn old new n result answer =
+    (site : Site) → CoreStands old site → IsSound so_far site → (s : Session) → entry_of n site.sessions ≡ Some s → GivesOrStops (CoreStands new) (answer site s) site result
 
 -- it isn't memory that is wanting
 abbrev pub NeedsNoMemory : {A : Type 0} → Result A Stop → Type 0

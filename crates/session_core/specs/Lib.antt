@@ -6,6 +6,8 @@ pub mod Stands
 pub mod Stops
 pub mod Guards
 pub mod Gives
+pub mod Begins
+pub mod Commits
 pub mod Reads
 pub mod Merges
 pub mod Machine

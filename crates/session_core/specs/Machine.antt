@@ -1,5 +1,5 @@
 -- What the machine over the parts stands for, and what it answers.
-use Rattle.std.specs.Prelude.{◌≡◌, ◌≤◌, ℕ, List, [], length, Some, Result, Ok, Err, IsTrue}
+use Rattle.std.specs.Prelude.{◌≡◌, ◌≤◌, ℕ, List, [], length, Some, None, Result, Ok, Err, IsTrue}
 use Rattle.tardis_base.specs.declared.replies.Refusal.{Refusal}
 use Rattle.tardis_base.specs.declared.replies.Reply.{Reply}
 use Rattle.tardis_base.specs.declared.replies.Reply.TheVariants.{NoMemory}
@@ -11,7 +11,11 @@ use Rattle.tardis_base.specs.declared.requests.Request.TheVariants.{Put, Delete}
 use Rattle.wire_talk.specs.Spellings.{reply_spelling}
 use Rattle.wire_talk.specs.Valid.{is_request, is_refusal, is_reply}
 use Rattle.wire_talk.specs.RequestReadings.{request_of}
+use Rattle.tardis_base.specs.Keys.{write_of}
+use Rattle.plain_dag.specs.Entries.{entry_of}
 use Rattle.plain_dag.specs.Writers.{read}
+use Rattle.merge_txn.specs.declared.SingleTxn.{SingleTxn as OneKept}
+use Rattle.merge_txn.specs.declared.Txn.TheVariants.{Single as KeptSingle}
 use Rattle.plain_site.specs.Site.{Site, opening, with_txn_changed}
 use Rattle.plain_site.specs.Built.{so_far}
 use Rattle.plain_site.specs.Sound.{IsSound}
@@ -66,3 +70,13 @@ abbrev pub NotesOrStops : (Site → Type 0) → Site → ℕ → List ℕ → St
 NotesOrStops stands site n k x (Ok done) =
     (reading site n k ≡ (with_txn_changed n (having_read k) site, found (read site.dag k x))) × stands (with_txn_changed n (having_read k) site)
 NotesOrStops stands site n k x (Err stop) = Stops stands (reading site n k) site stop
+
+-- the session's single transaction, which hasn't written to the key, reads it, and the read is noted
+abbrev pub NotesRead : Core → Core → ℕ → List ℕ → Result (Unit {0}) Stop → Type 0
+NotesRead old new n k result =
+    (site : Site) → CoreStands old site → IsSound so_far site → (t : OneKept) → entry_of n old.txns ≡ Some (KeptSingle t) → write_of k t.writes ≡ None →
+    NotesOrStops (CoreStands new) site n k t.state result
+
+-- the reply to a read of the key is written, or a stop and no byte
+abbrev pub Wrote : Core → Core → ℕ → List ℕ → Result (Unit {0}) Stop → List ℕ → Type 0
+Wrote old new n k result out = (site : Site) → CoreStands old site → IsSound so_far site → WritesOrStops (CoreStands new) (reading site n k) site result out

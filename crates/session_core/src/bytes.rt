@@ -16,7 +16,7 @@ ghost use Rattle.plain_site.specs.Answers.{found as reply_to};
 ghost use Rattle.plain_site.specs.Step.{step, is_sure};
 ghost use Rattle.session_core.specs.Stands.{CoreStands, StandsForSite};
 ghost use Rattle.session_core.specs.Guards.{HasTxn};
-ghost use Rattle.session_core.specs.Machine.{AsksFor, SiteStands, GivesBytes, WritesOrStops, reading, opened_with};
+ghost use Rattle.session_core.specs.Machine.{AsksFor, SiteStands, GivesBytes, opened_with, Wrote};
 
 use crate::dispatch::is_built;
 use crate::reads_and_writes::own_write;
@@ -79,7 +79,7 @@ impl Parts {
         requires key { IsTrue (is_key key.now) }
         requires empty { out.old ≡ [] }
         requires stands { StandsForSite self.old }
-        ensures { (site : Site) → CoreStands self.old site → IsSound so_far site → WritesOrStops (CoreStands self.new) (reading site actor key.now) site result out.new }
+        ensures { Wrote self.old self.new actor key.now result out.new }
     {
         let slot = match self.open_txn(actor)? {
             Txn::Single(single) => match single.writes.get(key) {
@@ -109,7 +109,7 @@ impl Parts {
         requires empty { out.old ≡ [] }
         requires stands { StandsForSite self.now }
         requires found { (site : Site) → CoreStands self.now site → IsSound so_far site → HasTxn self.now.store.table site actor (Txn.Merge merge.now) }
-        ensures { (site : Site) → CoreStands self.now site → IsSound so_far site → WritesOrStops (CoreStands self.now) (reading site actor key.now) site result out.new }
+        ensures { Wrote self.now self.now actor key.now result out.new }
     {
         match self.found_over(merge, key) {
             Over::Found(found) => {

@@ -1,24 +1,20 @@
 //! Transactions end: they commit, or are given up.
 
-ghost use Rattle.std.specs.Prelude.{◌≡◌, ◌≢◌, List, [], ◌∷◌, map, is_some, Some, IsTrue, IsFalse, IfOk};
+ghost use Rattle.std.specs.Prelude.{◌≡◌, is_some, Some, IsTrue, IfOk};
 ghost use Rattle.std.specs.List.{list_all};
 ghost use Rattle.tardis_base.specs.declared.ids.StateId.{StateId};
-ghost use Rattle.tardis_base.specs.Ids.{is_among};
-ghost use Rattle.tardis_base.specs.Keys.{keys_of};
-ghost use Rattle.plain_dag.specs.Above.{is_above};
 ghost use Rattle.plain_dag.specs.Entries.{entry_of};
-ghost use Rattle.plain_dag.specs.Landing.{landing as landing_of, guarded};
-ghost use Rattle.state_dag.specs.Table.{id_at, is_slot};
-ghost use Rattle.record_store.specs.Answers.{MayArrive};
+ghost use Rattle.state_dag.specs.Table.{is_slot};
 ghost use Rattle.ceiling_book.specs.Book.{is_open};
-ghost use Rattle.plain_site.specs.Site.{Site, Txn as PlainTxn, SingleTxn as PlainSingle, Single, own_count, writes_of, next_record};
+ghost use Rattle.plain_site.specs.Site.{Site};
 ghost use Rattle.plain_site.specs.Built.{so_far};
-ghost use Rattle.plain_site.specs.Sound.{IsSound};
 ghost use Rattle.plain_site.specs.Answers.{with_txn};
-ghost use Rattle.plain_site.specs.Commits.{commit as commit_txn, commit_at as committed_at, commit_below as committed_below, abort, without_txn_of};
+ghost use Rattle.plain_site.specs.Commits.{commit as commit_txn, abort, without_txn_of};
 ghost use Rattle.session_core.specs.Stands.{CoreStands};
-ghost use Rattle.session_core.specs.Gives.{IsGiven, GivesOrStops, NeedsNoMemory};
+ghost use Rattle.session_core.specs.Gives.{Answers, IsGiven, NeedsNoMemory};
 ghost use Rattle.session_core.specs.Merges.{MayMerge};
+ghost use Rattle.session_core.specs.Commits.{IsLandingOf, CommitsAt, CommitsBelow};
+ghost use Rattle.session_core.specs.Txns.{IsNamed};
 
 use crate::Parts;
 use crate::merges::states_of;
@@ -39,7 +35,7 @@ impl Parts {
     /// The cost is that of `RecordStore::add_state`, and before it that of `ripple_commit::landing`, or for a merge that of
     /// `conflict_keys::first_open`. Where a single one wrote nothing, it is that of looking the transaction up.
     pub(crate) fn commit(&mut self, actor: u16, flags: EndFlags, k: u16) -> Result<Reply, Stop>
-        ensures { (site : Site) → CoreStands self.old site → IsSound so_far site → GivesOrStops (CoreStands self.new) (with_txn site actor (λ s t. commit_txn so_far site actor t flags k)) site result }
+        ensures { Answers self.old self.new result (λ site. with_txn site actor (λ s t. commit_txn so_far site actor t flags k)) }
     {
         self.session(actor)?;
         match self.open_txn(actor)? {
@@ -63,7 +59,7 @@ impl Parts {
     fn joined_slots(&self, merge: &MergeTxn, flags: EndFlags) -> Result<ListOf<Slot>, Stop>
         requires { IsTrue (list_all (is_slot self.now.store.table) merge.now.slots) }
         ensures slots { IfOk result (λ slots. slots ≡ merge.now.slots) }
-        ensures may { (site : Site) → CoreStands self.now site → map (id_at self.now.store.table) merge.now.slots ≡ map (λ x. Some x) merge.now.states → MayMerge site merge.now.states merge.now.writes flags result }
+        ensures may { (site : Site) → CoreStands self.now site → IsNamed self.now.store.table (Txn.Merge merge.now) → MayMerge site merge.now.states merge.now.writes flags result }
     {
         if flags.0 != 0 {
             return Err(Stop::Refused(Refusal::WrongMode));
@@ -86,7 +82,7 @@ impl Parts {
     fn landing(&self, single: &SingleTxn, flags: EndFlags) -> Slot
         requires { IsTrue (is_slot self.now.store.table single.now.slot) }
         ensures slot { IsTrue (is_slot self.now.store.table result) }
-        ensures landing { (site : Site) → CoreStands self.now site → id_at self.now.store.table single.now.slot ≡ Some single.now.state → ((y : StateId) → IsTrue (is_above site.dag single.now.state y) → IsFalse (is_among y site.collected)) → id_at self.now.store.table result ≡ Some (landing_of site.dag (guarded flags single.now.reads (keys_of single.now.writes)) single.now.state) }
+        ensures landing { IsLandingOf self.now single.now flags result }
     {
         ripple_commit::landing(
             &self.store,
@@ -109,7 +105,7 @@ impl Parts {
         requires open { IsTrue (is_open self.old.book actor) }
         requires some { IsTrue (is_some (entry_of actor self.old.txns)) }
         requires slot { IsTrue (is_slot self.old.store.table landing) }
-        ensures { (site : Site) → CoreStands self.old site → IsSound so_far site → (t : PlainSingle) (x : StateId) → entry_of actor site.txns ≡ Some (Single t) → id_at self.old.store.table landing ≡ Some x → (own_count site ≢ 4294967295 → MayArrive site.limits.sites site.dag site.collected (next_record site (x ∷ []) t.writes)) → GivesOrStops (CoreStands self.new) (committed_at so_far site actor t flags k x) site result }
+        ensures { CommitsAt self.old self.new actor landing flags k result }
     {
         end_rule::check(self.store.dag(), landing, flags, k)?;
         self.commit_below(actor, &[landing])
@@ -120,7 +116,7 @@ impl Parts {
         requires open { IsTrue (is_open self.old.book actor) }
         requires some { IsTrue (is_some (entry_of actor self.old.txns)) }
         requires slots { IsTrue (list_all (is_slot self.old.store.table) below.now) }
-        ensures { (site : Site) → CoreStands self.old site → (t : PlainTxn) (xs : List StateId) → entry_of actor site.txns ≡ Some t → map (id_at self.old.store.table) below.now ≡ map (λ x. Some x) xs → (own_count site ≢ 4294967295 → MayArrive site.limits.sites site.dag site.collected (next_record site xs (writes_of t))) → GivesOrStops (CoreStands self.new) (committed_below so_far site actor xs (writes_of t) []) site result }
+        ensures { CommitsBelow self.old self.new actor below.now result }
     {
         let own = self.book.own_site();
         let count = self.store.dag().count(own);
@@ -146,7 +142,7 @@ impl Parts {
     ///
     /// Refused where no session is open (NotOpen) or it has no transaction (NoTxn).
     pub(crate) fn abort(&mut self, actor: u16) -> Result<Reply, Stop>
-        ensures given { (site : Site) → CoreStands self.old site → IsSound so_far site → GivesOrStops (CoreStands self.new) (with_txn site actor (λ s t. abort site actor)) site result }
+        ensures given { Answers self.old self.new result (λ site. with_txn site actor (λ s t. abort site actor)) }
         ensures sure { NeedsNoMemory result }
     {
         self.open_txn(actor)?;

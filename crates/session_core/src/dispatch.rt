@@ -5,10 +5,8 @@ ghost use Rattle.wire_talk.specs.Codes as codes;
 ghost use Rattle.wire_talk.specs.Valid.{is_request};
 ghost use Rattle.plain_site.specs.Site.{Site};
 ghost use Rattle.plain_site.specs.Built.{so_far};
-ghost use Rattle.plain_site.specs.Sound.{IsSound};
 ghost use Rattle.plain_site.specs.Step.{step, is_sure};
-ghost use Rattle.session_core.specs.Stands.{CoreStands};
-ghost use Rattle.session_core.specs.Gives.{Gives, GivesOrStops, IsGiven, NeedsNoMemory, ToldAs};
+ghost use Rattle.session_core.specs.Gives.{Answers, Gives, IsGiven, NeedsNoMemory, ToldAs};
 ghost use Rattle.session_core.specs.Machine.{SiteStands, IsTold, opened_with, writing};
 
 use crate::stops::Stop;
@@ -55,7 +53,7 @@ impl Parts {
     /// Answers the actor's request by its own method. What isn't built is refused before all else.
     fn serve(&mut self, actor: u16, request: &Request) -> Result<Reply, Stop>
         requires { IsTrue (is_request request.now) }
-        ensures given { (site : Site) → CoreStands self.old site → IsSound so_far site → GivesOrStops (CoreStands self.new) (step so_far site actor request.now) site result }
+        ensures given { Answers self.old self.new result (λ site. step so_far site actor request.now) }
         ensures sure { IsTrue (is_sure request.now) → NeedsNoMemory result }
     {
         match request {

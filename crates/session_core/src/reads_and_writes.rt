@@ -1,23 +1,20 @@
 //! Transactions read and write.
 
-ghost use Rattle.std.specs.Prelude.{◌≡◌, None, Some, map, IsTrue, IfOk};
+ghost use Rattle.std.specs.Prelude.{◌≡◌, None, Some, IsTrue, IfOk};
 ghost use Rattle.std.specs.List.{list_all};
 ghost use Rattle.tardis_base.specs.Ids.{root};
 ghost use Rattle.tardis_base.specs.Keys.{write_of};
-ghost use Rattle.plain_dag.specs.Entries.{entry_of};
-ghost use Rattle.state_dag.specs.Table.{id_at, is_slot};
+ghost use Rattle.state_dag.specs.Table.{is_slot};
 ghost use Rattle.version_list.specs.Reads.{found};
-ghost use Rattle.merge_txn.specs.declared.SingleTxn.{SingleTxn};
 ghost use Rattle.plain_site.specs.Site.{Site};
-ghost use Rattle.plain_site.specs.Built.{so_far};
-ghost use Rattle.plain_site.specs.Sound.{IsSound};
 ghost use Rattle.plain_site.specs.Answers.{with_txn, found as reply_to};
 ghost use Rattle.plain_site.specs.Reads.{get, set_key, get_for as got_for};
 ghost use Rattle.session_core.specs.Stands.{CoreStands};
-ghost use Rattle.session_core.specs.Gives.{GivesOrStops};
+ghost use Rattle.session_core.specs.Gives.{Answers, GivesOrStops};
 ghost use Rattle.session_core.specs.Guards.{HasTxn};
-ghost use Rattle.session_core.specs.Machine.{NotesOrStops};
+ghost use Rattle.session_core.specs.Machine.{NotesRead, reading};
 ghost use Rattle.session_core.specs.Reads.{ReadsAs};
+ghost use Rattle.session_core.specs.Txns.{IsNamed};
 
 use crate::Parts;
 use crate::merges::slot_among;
@@ -42,7 +39,7 @@ impl Parts {
     /// The cost is that of a search of the own writes; where the key isn't among them, also that of
     /// `RecordStore::read_at` and of `Txn::note_read`, or for a merge of `conflict_keys::value_over`.
     pub(crate) fn get(&mut self, actor: u16, key: &Key) -> Result<Reply, Stop>
-        ensures { (site : Site) → CoreStands self.old site → IsSound so_far site → GivesOrStops (CoreStands self.new) (with_txn site actor (λ s t. get site actor t key.now)) site result }
+        ensures { Answers self.old self.new result (λ site. with_txn site actor (λ s t. get site actor t key.now)) }
     {
         let slot = match self.open_txn(actor)? {
             Txn::Single(single) => match single.writes.get(key) {
@@ -58,7 +55,7 @@ impl Parts {
 
     /// Notes that the actor's transaction, a single one that hasn't written to the key, reads it.
     pub(crate) fn note_read(&mut self, actor: u16, key: &Key) -> Result<(), Stop>
-        ensures noted { (site : Site) → CoreStands self.old site → IsSound so_far site → (t : SingleTxn) → entry_of actor self.old.txns ≡ Some (Txn.Single t) → write_of key.now t.writes ≡ None → NotesOrStops (CoreStands self.new) site actor key.now t.state result }
+        ensures noted { NotesRead self.old self.new actor key.now result }
         ensures store { self.new.store ≡ self.old.store }
     {
         match self.txns.note_read(actor, key) {
@@ -71,7 +68,7 @@ impl Parts {
     /// Reads the key in a merge. The value is a copy.
     fn get_over(&self, actor: u16, merge: &MergeTxn, key: &Key) -> Result<Reply, Stop>
         requires { IsTrue (list_all (is_slot self.now.store.table) merge.now.slots) }
-        ensures { (site : Site) → CoreStands self.now site → HasTxn self.now.store.table site actor (Txn.Merge merge.now) → GivesOrStops (CoreStands self.now) (with_txn site actor (λ s t. get site actor t key.now)) site result }
+        ensures { (site : Site) → CoreStands self.now site → HasTxn self.now.store.table site actor (Txn.Merge merge.now) → GivesOrStops (CoreStands self.now) (reading site actor key.now) site result }
     {
         match self.found_over(merge, key) {
             Over::Found(found) => Ok(reply_of(found)?),
@@ -82,7 +79,7 @@ impl Parts {
     /// What a merge reads of the key: its own write first; then what is read over its states, which are joined once.
     pub(crate) fn found_over<'a>(&'a self, merge: &'a MergeTxn, key: &Key) -> Over<'a>
         requires { IsTrue (list_all (is_slot self.now.store.table) merge.now.slots) }
-        ensures { (site : Site) → CoreStands self.now site → map (id_at self.now.store.table) merge.now.slots ≡ map (λ x. Some x) merge.now.states → ReadsAs site.dag merge.now.states key.now (write_of key.now merge.now.writes) result }
+        ensures { (site : Site) → CoreStands self.now site → IsNamed self.now.store.table (Txn.Merge merge.now) → ReadsAs site.dag merge.now.states key.now (write_of key.now merge.now.writes) result }
     {
         match merge.writes.get(key) {
             Some(write) => Over::Found(own_write(write)),
@@ -95,7 +92,7 @@ impl Parts {
     /// Refused where no session is open (NotOpen), it has no transaction (NoTxn), or 64 other keys are written (TooMany).
     /// The cost is that of `Txn::put`, and of looking the transaction up; key and value are moved in.
     pub(crate) fn put(&mut self, actor: u16, key: Key, write: Write) -> Result<Reply, Stop>
-        ensures { (site : Site) → CoreStands self.old site → IsSound so_far site → GivesOrStops (CoreStands self.new) (with_txn site actor (λ s t. set_key site actor t key write)) site result }
+        ensures { Answers self.old self.new result (λ site. with_txn site actor (λ s t. set_key site actor t key write)) }
     {
         match self.txns.put(actor, key, write) {
             Some(Ok(())) => Ok(Reply::Done),
@@ -111,7 +108,7 @@ impl Parts {
     ///
     /// Refused as `merge_of` says, and where the merge doesn't read that state (NotRead).
     pub(crate) fn get_for(&self, actor: u16, key: &Key, state: StateId) -> Result<Reply, Stop>
-        ensures { (site : Site) → CoreStands self.now site → IsSound so_far site → GivesOrStops (CoreStands self.now) (with_txn site actor (λ s t. got_for site t key.now state)) site result }
+        ensures { Answers self.now self.now result (λ site. with_txn site actor (λ s t. got_for site t key.now state)) }
     {
         let merge = self.merge_of(actor)?;
         match slot_among(self.store.dag(), merge.slots.as_slice(), state) {

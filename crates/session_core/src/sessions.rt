@@ -1,20 +1,12 @@
 //! Sessions open and close, and transactions begin in them.
 
-ghost use Rattle.std.specs.Prelude.{◌≡◌, None, Some, IsTrue, IfOk};
-ghost use Rattle.tardis_base.specs.declared.ids.StateId.{StateId};
-ghost use Rattle.plain_dag.specs.Begin.{begin_state};
-ghost use Rattle.plain_dag.specs.Entries.{entry_of};
-ghost use Rattle.plain_dag.specs.Floors.{Session};
-ghost use Rattle.state_dag.specs.Table.{id_at, is_slot};
+ghost use Rattle.std.specs.Prelude.{IsTrue, IfOk};
+ghost use Rattle.state_dag.specs.Table.{is_slot};
 ghost use Rattle.ceiling_book.specs.Book.{is_open};
-ghost use Rattle.begin_rule.specs.Choices.{ChosenAs};
-ghost use Rattle.plain_site.specs.Site.{Site};
-ghost use Rattle.plain_site.specs.Built.{so_far};
-ghost use Rattle.plain_site.specs.Sound.{IsSound};
 ghost use Rattle.plain_site.specs.Answers.{with_session, without_txn};
-ghost use Rattle.plain_site.specs.Sessions.{open_session, close_session, begin as begin_txn, begun};
-ghost use Rattle.session_core.specs.Stands.{CoreStands};
-ghost use Rattle.session_core.specs.Gives.{GivesOrStops, NeedsNoMemory};
+ghost use Rattle.plain_site.specs.Sessions.{open_session, close_session, begin as begin_txn};
+ghost use Rattle.session_core.specs.Gives.{Answers, NeedsNoMemory};
+ghost use Rattle.session_core.specs.Begins.{ChoosesFor, BeginsAt};
 
 use crate::Parts;
 use crate::stops::Stop;
@@ -27,7 +19,7 @@ impl Parts {
     ///
     /// Refused where it is open (AlreadyOpen), and where as many are open as may be (SessionsFull).
     pub(crate) fn open(&mut self, actor: u16, follow: bool) -> Result<Reply, Stop>
-        ensures { (site : Site) → CoreStands self.old site → IsSound so_far site → GivesOrStops (CoreStands self.new) (open_session site actor follow) site result }
+        ensures { Answers self.old self.new result (λ site. open_session site actor follow) }
     {
         let ceiling = self.book.open_session(actor, follow)?;
         Ok(Reply::Opened {
@@ -39,7 +31,7 @@ impl Parts {
     ///
     /// Refused where no session is open (NotOpen).
     pub(crate) fn close(&mut self, actor: u16) -> Result<Reply, Stop>
-        ensures given { (site : Site) → CoreStands self.old site → IsSound so_far site → GivesOrStops (CoreStands self.new) (with_session site actor (λ s. close_session site actor)) site result }
+        ensures given { Answers self.old self.new result (λ site. with_session site actor (λ s. close_session site actor)) }
         ensures sure { NeedsNoMemory result }
     {
         self.session(actor)?;
@@ -54,7 +46,7 @@ impl Parts {
     /// (Unknown), and where the state is a proper ancestor of the session's ceiling (Below). The cost is that of
     /// `begin_rule::choose`, and of looking the session up.
     pub(crate) fn begin(&mut self, actor: u16, begin: &Begin) -> Result<Reply, Stop>
-        ensures { (site : Site) → CoreStands self.old site → IsSound so_far site → GivesOrStops (CoreStands self.new) (without_txn site actor (λ s. begin_txn site actor s begin.now)) site result }
+        ensures { Answers self.old self.new result (λ site. without_txn site actor (λ s. begin_txn site actor s begin.now)) }
     {
         self.no_txn(actor)?;
         let slot = self.choose(actor, begin)?;
@@ -65,7 +57,7 @@ impl Parts {
     fn choose(&self, actor: u16, begin: &Begin) -> Result<Slot, BeginFault>
         requires { IsTrue (is_open self.now.book actor) }
         ensures slot { IfOk result (λ slot. IsTrue (is_slot self.now.store.table slot)) }
-        ensures chosen { (site : Site) → CoreStands self.now site → IsSound so_far site → (s : Session) → entry_of actor site.sessions ≡ Some s → ChosenAs self.now.store.table site.dag s.ceiling (begin_state site.dag s.last begin.now) result }
+        ensures chosen { ChoosesFor self.now actor begin.now result }
     {
         let (last, last_slot) = self.book.last(actor);
         let ceiling = self.book.ceiling(actor);
@@ -75,7 +67,7 @@ impl Parts {
     /// Begins the transaction at the state of this slot.
     fn begin_at(&mut self, actor: u16, slot: Slot) -> Result<Reply, Stop>
         requires { IsTrue (is_slot self.old.store.table slot) }
-        ensures { (site : Site) → CoreStands self.old site → (x : StateId) → id_at self.old.store.table slot ≡ Some x → GivesOrStops (CoreStands self.new) (begun site actor x) site result }
+        ensures { BeginsAt self.old self.new actor slot result }
     {
         let state = self.store.dag().id_of(slot);
         self.txns

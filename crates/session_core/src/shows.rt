@@ -8,7 +8,7 @@ ghost use Rattle.plain_site.specs.Built.{so_far};
 ghost use Rattle.plain_site.specs.Sound.{IsSound};
 ghost use Rattle.plain_site.specs.Shows.{stat as stat_of, show as show_of, site_lines as lines_of, show_leaves, line_of};
 ghost use Rattle.session_core.specs.Stands.{CoreStands};
-ghost use Rattle.session_core.specs.Gives.{IsGiven, GivesOrStops};
+ghost use Rattle.session_core.specs.Gives.{Answers, IsGiven};
 
 use crate::Parts;
 use crate::stops::Stop;
@@ -61,7 +61,7 @@ impl Parts {
     /// Refused where there is no such state (Unknown) and where it is collected (Collected). The cost grows with the number
     /// of its children, with the length of its fork path, and with the logarithm of the number of kept states.
     pub(crate) fn show(&self, state: StateId) -> Result<Reply, Stop>
-        ensures { (site : Site) → CoreStands self.now site → IsSound so_far site → GivesOrStops (CoreStands self.now) (show_of site state) site result }
+        ensures { Answers self.now self.now result (λ site. show_of site state) }
     {
         let dag = self.store.dag();
         if !dag.knows(state) {
@@ -81,7 +81,7 @@ impl Parts {
 
     /// The leaves: how many, and the first 256 in arrival order. The cost grows with the number of kept states.
     pub(crate) fn leaves(&self) -> Result<Reply, Stop>
-        ensures { (site : Site) → CoreStands self.now site → IsSound so_far site → GivesOrStops (CoreStands self.now) (show_leaves site) site result }
+        ensures { Answers self.now self.now result (λ site. show_leaves site) }
     {
         let page = fork_points::leaf_page(self.alloc, self.store.dag())?;
         Ok(Reply::States {

@@ -21,8 +21,9 @@ seen a = record {
 }
 
 -- the limits are valid; there is a node, and no more than may be; they stand in arrival order, and all have arrived; their
--- paths ascend and are short; so many have no child as is counted; there is a count of 32 bits for each site, and with the
--- root as many have arrived as are counted; each state's slot is the last place that has its id
+-- paths ascend and are short; their slots are listed, and apart those of the nodes without a child; children stand in
+-- places of nodes; there is a count of 32 bits for each site, and with the root as many have arrived as are counted; each
+-- state's slot is the last place that has its id
 pub record IsHeld (a : Inside) : Type 0 where
   pub valid : IsTrue (are_limits a.limits)
   pub some : 0 < length a.nodes.items

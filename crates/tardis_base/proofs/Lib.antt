@@ -3,4 +3,4 @@ pub mod KeyOrder
 pub mod KeySets
 pub mod WriteSets
 pub mod Searches
-pub mod Tests
+pub mod TestParts

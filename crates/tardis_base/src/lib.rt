@@ -29,8 +29,8 @@ pub use replies::{Refusal, Reply, SiteLine, SiteLines};
 pub use reply_bufs::ReplyBuf;
 pub use requests::{Begin, EndFlags, MergeOf, Request};
 pub use sizes::{
-    MAX_FRAME, MAX_KEPT, MAX_KEY, MAX_NAMED, MAX_PARENTS, MAX_PATH, MAX_SESSIONS, MAX_SITES, MAX_TRAIL,
-    MAX_VALUE, MAX_WRITES,
+    MAX_FRAME, MAX_KEPT, MAX_KEY, MAX_NAMED, MAX_PARENTS, MAX_PATH, MAX_SESSIONS, MAX_SITES,
+    MAX_TRAIL, MAX_VALUE, MAX_WRITES,
 };
 
 #[cfg(test)]

@@ -1,8 +1,8 @@
 ghost use Rattle.std.specs.Prelude.{◌≤◌, IfOk};
 
 use crate::{
-    CountSink, Duplex, Failed, MemorySink, MemorySource, Pair, ReaderSource, Sink, Source, Status, StdIn, StdOut,
-    SteadySource, WriteFault, WriterSink, write_all,
+    CountSink, Duplex, Failed, MemorySink, MemorySource, Pair, ReaderSource, Sink, Source, Status,
+    StdIn, StdOut, SteadySource, WriteFault, WriterSink, write_all,
 };
 use std::alloc::Global;
 use std::io;
@@ -277,6 +277,9 @@ fn faults_have_texts(rt: HostRuntime) -> Result<(), Fail> {
     let failed = format!(in rt.alloc(); "{}", Failed)?;
     assert_eq!(rt; failed.as_str(), "a read or a write failed");
     let write = format!(in rt.alloc(); "{}", WriteFault)?;
-    assert_eq!(rt; write.as_str(), "writing failed before all bytes were written");
+    assert_eq!(rt;
+        write.as_str(),
+        "writing failed before all bytes were written"
+    );
     Ok(())
 }

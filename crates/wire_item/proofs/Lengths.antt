@@ -13,7 +13,7 @@ use Rattle.tardis_base.specs.Valid.{are_bytes, is_within, is_id, is_key, is_writ
 use Rattle.wire_item.specs.Spellings.{id_spelling, key_spelling, write_spelling, key_write_spelling, parents_spelling, writes_spelling}
 use Rattle.wire_item.specs.Lengths.{write_length, key_write_length}
 use Rattle.wire_item.specs.Laws.{RecordsHaveTheirLength, RecordsAreBounded, ConsentsHaveSixteenBytes}
-use Rattle.tardis_base.proofs.Tests.{first, second}
+use Rattle.tardis_base.proofs.TestParts.{first, second}
 
 pub write-length : (w : Write) → length (write_spelling w) ≡ write_length w
 write-length (Put value) = omega arith

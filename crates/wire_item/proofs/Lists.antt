@@ -2,7 +2,7 @@
 use Rattle.std.proofs.Common.{◌≡◌, ℕ, suc, ◌+◌, ◌-◌, ◌<◌, ◌≤◌, List, [], ◌∷◌, ◌++◌, length, nat_le, Option, Some, None, ap, sym, ◌∙◌, refl, arith}
 use Rattle.std.specs.Prelude.{option_map}
 use Rattle.tardis_base.specs.Valid.{are_bytes, is_within, is_key, is_value}
-use Rattle.tardis_base.proofs.Tests.{and-true}
+use Rattle.tardis_base.proofs.TestParts.{and-true}
 use Rattle.wire_item.specs.Fronts.{Front, bytes_front, both, times}
 use Rattle.wire_item.proofs.Fronts.{bytes_front-source, made-read, made-source, some-parts, after-source}
 use Rattle.wire_item.proofs.Takings.{made-none, after-none, after-then_none, after-then}

@@ -6,7 +6,7 @@ use Rattle.std.specs.Prelude.{option_map, option_and_then, Result, IfOk}
 use Rattle.std.specs.Bool.{then_some}
 use Rattle.tardis_base.specs.declared.faults.NoMemory.{NoMemory}
 use Rattle.tardis_base.specs.Valid.{are_bytes}
-use Rattle.tardis_base.proofs.Tests.{and-true}
+use Rattle.tardis_base.proofs.TestParts.{and-true}
 use Rattle.wire_item.specs.Fronts.{Front, bytes_front, made, only_if, after, times, counted}
 use Rattle.wire_item.specs.Takings.{Takes, Makes}
 use Rattle.wire_item.proofs.Fronts.{made-read, only_if-read, only_if-source, after-read}

@@ -12,7 +12,7 @@ use Rattle.tardis_base.specs.declared.records.Item.TheVariants.{State, Promise}
 use Rattle.tardis_base.specs.Ids.{root, same_id, are_ascending}
 use Rattle.tardis_base.specs.Keys.{KeyWrite, keys_of, are_ascending_keys}
 use Rattle.tardis_base.specs.Valid.{is_u16, is_u32, are_bytes, is_within, is_id, is_key, is_value, is_write, are_parents, are_writes, is_record}
-use Rattle.tardis_base.proofs.Tests.{first, second}
+use Rattle.tardis_base.proofs.TestParts.{first, second}
 use Rattle.wire_item.specs.Spellings.{id_spelling, key_spelling, value_spelling, write_spelling, parents_spelling, writes_spelling, record_spelling, consent_spelling, item_spelling, records_spelling, consents_spelling, batch_spelling}
 use Rattle.wire_item.specs.Valid.{is_u8, is_consent, is_item, are_records, are_consents, is_batch}
 use Rattle.wire_item.specs.Readings.{id_front, key_front, value_front, write_rows, write_front, parents_front, writes_front, record_front, consent_front, item_rows, item_front, records_front, consents_front, batch_front}

@@ -71,39 +71,15 @@ fn things_are_read_and_written(rt: HostRuntime) -> Result<(), Fail> {
     Ok(())
 }
 
-/// The record of state 1.1 below the root with one write to a key and a value of so many bytes.
-fn record_of_lengths(alloc: Global, key: usize, value: usize) -> Result<Vec<u8>, Fail>
-    requires key_fits { key ≤ 255 }
-    requires value_fits { value ≤ 65535 }
-{
-    let mut bytes = Vec::from_slice(alloc, &[0, 1, 0, 0, 0, 1, 1, 0, 0, 0, 0, 0, 0, 1])?;
-    bytes.push(key as u8)?;
-    bytes.extend_from_slice(vec![in alloc; 7u8; key]?.as_slice())?;
-    bytes.push(1)?;
-    bytes.extend_from_slice(&(value as u16).to_be_bytes())?;
-    bytes.extend_from_slice(vec![in alloc; 7u8; value]?.as_slice())?;
-    Ok(bytes)
-}
-
-#[test]
-fn lengths_are_bounded(rt: HostRuntime) -> Result<(), Fail> {
-    let alloc = rt.alloc();
-    for (key, value, is_record) in [
-        (1, 0, true),
-        (128, 4096, true),
-        (0, 1, false),
-        (129, 1, false),
-        (1, 4097, false),
-    ] {
-        let bytes = record_of_lengths(alloc, key, value)?;
-        let read = read_record(alloc, bytes.as_slice());
-        assert_eq!(rt; read.is_ok(), is_record, "{key} {value}");
+fn is_malformed(alloc: Global, bytes: &[u8]) -> bool {
+    match read_record(alloc, bytes) {
+        Err(ReadFault::Malformed) => true,
+        _ => false,
     }
-    Ok(())
 }
 
 #[test]
-fn other_bytes_are_malformed(rt: HostRuntime) -> Result<(), Fail> {
+fn other_bytes_are_no_record(rt: HostRuntime) {
     let alloc = rt.alloc();
     for bytes in [
         // nothing
@@ -126,22 +102,6 @@ fn other_bytes_are_malformed(rt: HostRuntime) -> Result<(), Fail> {
         &[0, 1, 0, 0, 0, 1, 1, 0, 0, 0, 0, 0, 0],
         &[0, 1, 0, 0, 0, 1, 1, 0, 0, 0, 0, 0, 0, 0, 0],
     ] {
-        assert!(rt;
-            matches!(read_record(alloc, bytes), Err(ReadFault::Malformed)),
-            "{bytes:?}"
-        );
+        assert!(rt; is_malformed(alloc, bytes));
     }
-    assert!(rt; matches!(read_item(alloc, &[3]), Err(ReadFault::Malformed)));
-    let mut number_of_zero = CONSENT;
-    number_of_zero[5] = 0;
-    assert!(rt; matches!(read_consent(&number_of_zero), Err(ReadFault::Malformed)));
-    let mut one_site_twice = BATCH;
-    one_site_twice[4] = 2;
-    assert!(rt;
-        matches!(
-            read_batch(alloc, &one_site_twice),
-            Err(ReadFault::Malformed)
-        )
-    );
-    Ok(())
 }

@@ -16,7 +16,7 @@ use Rattle.wire_item.specs.Fronts.{only_if}
 use Rattle.wire_item.specs.Readings.{u8_front}
 use Rattle.wire_item.proofs.Ways.{Reads, reads-both, reads-made, reads-only_if, reads-counted, many-times, RowsRead, row-nothing_but, row-made, by_code-only, made-back}
 use Rattle.wire_item.proofs.Numbers.{reads-u8, reads-u16, reads-u32, reads-u64}
-use Rattle.tardis_base.proofs.Tests.{first, second}
+use Rattle.tardis_base.proofs.TestParts.{first, second}
 use Rattle.wire_item.proofs.Things.{fits, reads-id, reads-key, reads-value, reads-parents, reads-batch}
 use Rattle.wire_talk.specs.Spellings.{refusal_spelling, first_ids_spelling, first_keys_spelling, site_line_spelling, site_lines_spelling, children_spelling, path_spelling, reply_spelling}
 use Rattle.wire_talk.specs.Valid.{is_what, is_constraint, is_refusal, is_first_of, are_first_ids, are_first_keys, is_site_line, are_site_lines, are_children, is_path, is_reply}

@@ -6,7 +6,7 @@ use Rattle.tardis_base.specs.declared.ids.StateId.{StateId}
 use Rattle.tardis_base.specs.declared.replies.SiteLine.{SiteLine}
 use Rattle.tardis_base.specs.Keys.{is_key_before, are_ascending_keys}
 use Rattle.tardis_base.specs.Valid.{is_u32, is_within, is_id, is_key}
-use Rattle.tardis_base.proofs.Tests.{and-true}
+use Rattle.tardis_base.proofs.TestParts.{and-true}
 use Rattle.wire_item.specs.Fronts.{Front, after, both, counted, only_if, times}
 use Rattle.wire_item.specs.Readings.{id_front, key_front}
 use Rattle.wire_item.specs.Takings.{Takes}

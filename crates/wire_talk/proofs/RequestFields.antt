@@ -5,7 +5,7 @@ use Rattle.std.specs.List.{list_all}
 use Rattle.std.specs.Prelude.{Result}
 use Rattle.tardis_base.specs.declared.faults.NoMemory.{NoMemory}
 use Rattle.tardis_base.specs.Valid.{are_bytes, is_u32, is_within}
-use Rattle.tardis_base.proofs.Tests.{and-true}
+use Rattle.tardis_base.proofs.TestParts.{and-true}
 use Rattle.wire_item.specs.Fronts.{Front, after, bytes_front, counted, front_of_code, times}
 use Rattle.wire_item.specs.Readings.{u32_front}
 use Rattle.wire_item.specs.Takings.{Makes}

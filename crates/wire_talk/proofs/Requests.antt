@@ -15,7 +15,7 @@ use Rattle.wire_item.specs.Spellings.{u8_spelling, u16_spelling}
 use Rattle.wire_item.specs.Valid.{is_u8}
 use Rattle.wire_item.proofs.Ways.{Reads, reads-both, reads-made, reads-only_if, reads-counted, many-times, many-bytes, RowsRead, row-nothing_but, row-made, by_code-only, made-back}
 use Rattle.wire_item.proofs.Numbers.{reads-u8, reads-u16, reads-u32}
-use Rattle.tardis_base.proofs.Tests.{first, second}
+use Rattle.tardis_base.proofs.TestParts.{first, second}
 use Rattle.wire_item.proofs.Things.{fits, reads-id, reads-key, reads-value, reads-item}
 use Rattle.wire_talk.specs.Spellings.{flag_spelling, begin_spelling, merge_of_spelling, after_spelling, counts_spelling, request_spelling}
 use Rattle.wire_talk.specs.Valid.{is_begin, is_commit, is_merge_of, is_after, are_counts, is_request}

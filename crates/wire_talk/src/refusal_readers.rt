@@ -22,6 +22,8 @@ pub(crate) fn refusal(reader: &mut Reader<'_>, alloc: Global) -> Option<Result<R
     let code = reader.u8()?;
     if code < 15 {
         low_refusal(reader, alloc, code)
+    } else if code < 23 {
+        middle_refusal(reader, code)
     } else {
         high_refusal(reader, code)
     }
@@ -78,9 +80,10 @@ fn low_refusal(
     }
 }
 
-/// The refusal of a code from 15 on.
-fn high_refusal(reader: &mut Reader<'_>, code: u8) -> Option<Result<Refusal, NoMemory>>
-    requires { 15 ≤ code }
+/// The refusal of a code from 15 to 22.
+fn middle_refusal(reader: &mut Reader<'_>, code: u8) -> Option<Result<Refusal, NoMemory>>
+    requires from { 15 ≤ code }
+    requires to { code < 23 }
     ensures makes { Makes (front_of_code code refusal_rows) reader.old result reader.new }
     ensures sure { (e : NoMemory) → result ≡ Some (Err e) → ⊥ }
 {
@@ -120,6 +123,17 @@ fn high_refusal(reader: &mut Reader<'_>, code: u8) -> Option<Result<Refusal, NoM
             }))
         },
         22 => Some(Ok(Refusal::SeqEnd)),
+        _ => None,
+    }
+}
+
+/// The refusal of a code from 23 on.
+fn high_refusal(reader: &mut Reader<'_>, code: u8) -> Option<Result<Refusal, NoMemory>>
+    requires { 23 ≤ code }
+    ensures makes { Makes (front_of_code code refusal_rows) reader.old result reader.new }
+    ensures sure { (e : NoMemory) → result ≡ Some (Err e) → ⊥ }
+{
+    match code {
         23 => Some(Ok(Refusal::BadSite {
             site: reader.u16()?,
         })),

@@ -1,19 +1,16 @@
-use Rattle.std.proofs.Common.{◌≡◌, ◌∙◌, ℕ, ◌+◌, ◌≤◌, List, [], ◌∷◌, ◌++◌, Bool, true, Some, map, filter, reverse, IsTrue, IfOk, Result, Ok, Err, Option, sym, ap, ap₂, subst, arith}
+use Rattle.std.proofs.Common.{◌≡◌, ◌∙◌, ℕ, List, ◌++◌, Bool, Some, map, filter, reverse, IsTrue, IfOk, Result, Ok, Err, Option, sym, ap, ap₂, subst, arith}
 use Rattle.std.specs.List.{list_all}
 use Rattle.std.proofs.lemmas.List.{map-append}
 use Rattle.tardis_base.specs.declared.ids.StateId.{StateId}
 use Rattle.tardis_base.specs.declared.ids.Slot.{Slot}
-use Rattle.tardis_base.specs.declared.faults.NoMemory.{NoMemory}
 use Rattle.tardis_base.specs.declared.records.Record.{Record}
 use Rattle.plain_dag.specs.States.{arrival}
 use Rattle.plain_dag.specs.Collection.{kept_states}
 use Rattle.state_dag.specs.Table.{Table, id_at, is_slot}
 use Rattle.state_dag.specs.Stands.{Stands}
 use Rattle.branch_region.specs.Regions.{is_above_part, is_last_shared, apart_states, shared_states}
-use Rattle.branch_region.specs.Walks.{is_since, is_until, AreSince, waits_at, HasSlots, IsNotedAt, StepsTo}
+use Rattle.branch_region.specs.Walks.{is_since, is_until, AreSince, waits_at, StepsTo}
 use Rattle.branch_region.specs.declared.parts.Region.{Region}
-use Rattle.branch_region.specs.declared.walks.Step.{Step}
-use Rattle.branch_region.specs.declared.walks.Step.TheVariants.{Noted, Over, Behind}
 use Rattle.branch_region.proofs.Orders.{kept-ascend, parted, since-first}
 use Rattle.branch_region.proofs.Told.{named-are_kept}
 use Rattle.branch_region.proofs.Named.{all-reversed, all-both}

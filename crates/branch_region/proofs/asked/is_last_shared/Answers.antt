@@ -1,7 +1,5 @@
 use Rattle.std.proofs.Common.{◌≡◌, ◌∙◌, true, ◌&&◌, ◌||◌, eqb, ap₂, sym}
 use Rattle.std.specs.List.{list_any}
-use Rattle.std.proofs.lemmas.Bool.{and_left, and_from, or_left}
-use Rattle.plain_dag.specs.States.{children}
 use Rattle.branch_region.specs.Slots.{is_slot_above_all, is_slot_above_part}
 use Rattle.branch_region.proofs.Told.{shared-told, all-told, one-told, not-last, one-is_last}
 use Rattle.branch_region.proofs.asked.is_last_shared.Goals as goal

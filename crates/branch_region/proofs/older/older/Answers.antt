@@ -1,10 +1,8 @@
-use Rattle.std.proofs.Common.{◌≡◌, ◌∙◌, ℕ, ◌≤◌, ◌<◌, ◌+◌, ◌&&◌, ltb, List, [], ◌∷◌, ◌++◌, Bool, true, Some, map, filter, take, get_or, Vec, Global, IsTrue, IsFalse, sym, ap, subst, arith, take_all}
+use Rattle.std.proofs.Common.{◌≡◌, ◌∙◌, ◌<◌, ◌+◌, Bool, Some, map, filter, take, get_or, Vec, Global, IsTrue, sym, ap, subst, arith, take_all}
 use Rattle.std.specs.List.{list_all}
-use Rattle.std.proofs.lemmas.Bool.{and_from, and_left, and_parts, both_ways, false_from_ne_true, lt-ltb, not-true}
 use Rattle.tardis_base.specs.declared.ids.StateId.{StateId}
 use Rattle.tardis_base.specs.declared.ids.Slot.{Slot}
-use Rattle.tardis_base.specs.declared.records.Record.{Record}
-use Rattle.plain_dag.specs.States.{arrival, children}
+use Rattle.plain_dag.specs.States.{arrival}
 use Rattle.plain_dag.specs.Collection.{kept_states}
 use Rattle.state_dag.specs.Table.{id_at, is_slot}
 use Rattle.branch_region.specs.Regions.{is_above_part, is_last_shared}

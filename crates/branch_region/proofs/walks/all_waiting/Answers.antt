@@ -1,8 +1,8 @@
-use Rattle.std.proofs.Common.{◌≡◌, ◌∙◌, ◌+◌, take, map, Some, sym, subst, arith, take_all}
+use Rattle.std.proofs.Common.{take, sym, subst, arith, take_all}
 use Rattle.state_dag.specs.Table.{id_at}
 use Rattle.branch_region.specs.Walks.{waits_at, AreWaiting}
 use Rattle.branch_region.proofs.Named.{named-next, named-length}
-use Rattle.branch_region.proofs.Waiting.{waiting-next, none-waiting}
+use Rattle.branch_region.proofs.Waiting.{waiting-next}
 use Rattle.branch_region.proofs.walks.all_waiting.Goals as goal
 
 pub loop-state-preserved : goal.loop-state-preserved

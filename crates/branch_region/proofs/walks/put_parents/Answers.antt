@@ -1,4 +1,4 @@
-use Rattle.std.proofs.Common.{◌≡◌, ◌∙◌, ◌+◌, take, sym, subst, arith, take_all}
+use Rattle.std.proofs.Common.{take, sym, subst}
 use Rattle.branch_region.specs.Walks.{waits_at, HasThese}
 use Rattle.branch_region.proofs.Named.{take-got}
 use Rattle.branch_region.proofs.Waiting.{these-next}

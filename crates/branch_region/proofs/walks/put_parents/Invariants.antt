@@ -1,9 +1,6 @@
-use Rattle.std.proofs.Common.{◌≡◌, List, Some, IsTrue, map, take}
+use Rattle.std.proofs.Common.{List, take}
 use Rattle.tardis_base.specs.declared.ids.StateId.{StateId}
-use Rattle.tardis_base.specs.declared.ids.Slot.{Slot}
 use Rattle.tardis_base.specs.declared.records.Record.{Record}
-use Rattle.plain_dag.specs.States.{parents_of}
-use Rattle.state_dag.specs.Table.{id_at}
 use Rattle.state_dag.specs.Stands.{Stands}
 use Rattle.branch_region.specs.Walks.{waits_at, AreSlots, HasThese}
 use Rattle.branch_region.proofs.walks.put_parents.Given as goal

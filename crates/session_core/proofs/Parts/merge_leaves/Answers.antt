@@ -17,4 +17,4 @@ returns c = λ site stands sound s is.
     let few : length xs ≤ 8 = omega (arith, count, c.if-count-gt-MOST_STATES.false) in
     let all = c.as_slice.ensures ∙ whole-page xs c.in_ok-page.page.first few page.1 in
     subst (λ ys. GivesOrStops (CoreStands c.merge_states.new.self) (merge_at site c.args.actor s.ceiling ys) site c.merge_states.result) all
-    (c.merge_states.ensures site stands sound s is (subst (λ ys. length ys ≤ 8) (sym all) few))
+    (c.merge_states.ensures (subst (λ ys. length ys ≤ 8) (sym all) few) site stands sound s is)

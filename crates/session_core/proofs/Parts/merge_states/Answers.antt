@@ -9,7 +9,7 @@ use Rattle.session_core.proofs.Merging.{all-chosen, merge-stops, chosen-under}
 use Rattle.session_core.proofs.Parts.merge_states.Goals as goal
 
 pub returns-in_err-slots : goal.returns-in_err-slots
-returns-in_err-slots c = λ site stands sound s is few.
+returns-in_err-slots c = λ few site stands sound s is.
     let here = subst (λ v. CoreStands v site) (sym c.self.view_is) stands in
     let xs = c.args.states.now in
     let fault = c.in_err-slots.field-0.0 in
@@ -18,7 +18,7 @@ returns-in_err-slots c = λ site stands sound s is few.
     (merge-stops site c.args.actor s.ceiling xs few c.dag.result.now fault chosen (CoreStands c.args.self.now) stands)
 
 pub returns : goal.returns
-returns c = λ site stands sound s is few.
+returns c = λ few site stands sound s is.
     let here = subst (λ v. CoreStands v site) (sym c.self.view_is) stands in
     let xs = c.args.states.now in
     let chosen = chosen-under (seen c.self.inside) site here sound c.args.actor s is c.dag.result.now c.dag.ensures c.ceiling-ceiling.result c.ceiling-ceiling.ensures.ceiling xs (Ok c.in_ok-slots.slots) c.in_ok-slots.ensures.chosen in

@@ -1,4 +1,4 @@
-use Rattle.std.proofs.Common.{◌≡◌, length, [], sym, subst}
+use Rattle.std.proofs.Common.{length, [], sym, subst}
 use Rattle.branch_region.specs.Walks.{waits_at, IsWalk}
 use Rattle.branch_region.proofs.Told.{named-are_kept}
 use Rattle.branch_region.proofs.Steps.{begin}

@@ -1,12 +1,5 @@
-use Rattle.std.proofs.Common.{◌≡◌, ◌∙◌, ◌+◌, ◌∷◌, [], ◌++◌, Option, None, sym, ap, subst}
-use Rattle.std.specs.List.{list_all}
-use Rattle.std.specs.Ordering.{nat_cmp}
-use Rattle.std.specs.Map.{lookup}
-use Rattle.std.specs.BTreeMap.{is_at}
-use Rattle.std.proofs.lemmas.Option.{none-some}
-use Rattle.plain_dag.specs.States.{parents_of}
-use Rattle.plain_dag.specs.Above.{is_above_all}
-use Rattle.branch_region.specs.Walks.{waits_at, IsWalk, IsNoted, HasThese}
+use Rattle.std.proofs.Common.{◌∙◌, ◌+◌, sym, subst}
+use Rattle.branch_region.specs.Walks.{waits_at, IsWalk, IsNoted}
 use Rattle.branch_region.proofs.Told.{named-are_kept, all-told}
 use Rattle.branch_region.proofs.Steps.{all-noted, noted-apart, walk-shared, walk-apart}
 use Rattle.branch_region.proofs.Waiting.{newest-of, gone-from, stays-in, none-left}

@@ -1,0 +1,210 @@
+-- A closed state gets no further child.
+use Rattle.std.proofs.Common.{Bool, IsFalse, IsTrue, List, None, Option, Some, [], is_some, length, not, refl, ℕ, ◌++◌, ◌∷◌, ◌≡◌}
+use Rattle.std.proofs.lemmas.Bool.{both_ways, false_from_ne_true}
+use Rattle.std.specs.Prelude.{nat_lt, ◌&&◌, ◌==◌}
+use Rattle.tardis_base.specs.Ids.{is_among, root}
+use Rattle.tardis_base.specs.Keys.{KeyWrite, has_key, is_key_among, keys_of, write_of}
+use Rattle.tardis_base.specs.Valid.{is_record}
+use Rattle.tardis_base.specs.declared.ids.StateId.{StateId}
+use Rattle.tardis_base.specs.declared.records.Consent.{Consent}
+use Rattle.tardis_base.specs.declared.records.Item.{Item}
+use Rattle.tardis_base.specs.declared.records.Item.TheVariants.{Promise, State}
+use Rattle.tardis_base.specs.declared.records.Record.{Record}
+use Rattle.tardis_base.specs.declared.records.Write.{Write}
+use Rattle.tardis_base.specs.declared.records.Write.TheVariants.{Delete as Deletion, Put as Value}
+use Rattle.tardis_base.specs.declared.replies.Refusal.TheVariants.{AlreadyOpen, BadSite, Below, Branches, CeilingBack, Collected, Comparable, ConflictKey, FloorBack, Held, NotRead, SeqEnd, SessionsFull, TooMany, Unknown}
+use Rattle.tardis_base.specs.declared.replies.Reply.{Reply}
+use Rattle.tardis_base.specs.declared.replies.Reply.TheVariants.{Applied, Batch as BatchIs, Done, Ended, Opened, Shown}
+use Rattle.tardis_base.specs.declared.requests.EndFlags.{EndFlags}
+use Rattle.tardis_base.specs.declared.requests.Request.{Request}
+use Rattle.tardis_base.specs.declared.requests.Request.TheVariants.{Abort, Begin as BeginAt, BeginMerge, Ceiling, Close, Commit, Conflicts, Delete, Deliver, ForkPoints, Get, GetFor, Leaves, Open, Pull, Put, Raise, RaiseAuto, Show, Stat, Tidy}
+use Rattle.wire_item.specs.Valid.{is_item}
+use Rattle.wire_talk.specs.Valid.{is_request}
+use Rattle.plain_dag.specs.Above.{comparable_pair, is_above}
+use Rattle.plain_dag.specs.Begin.{begin_state, is_admitted}
+use Rattle.plain_dag.specs.Conflicts.{is_conflict_key, value_over}
+use Rattle.plain_dag.specs.Entries.{changed, entry_of, with_entry}
+use Rattle.plain_dag.specs.Floors.{Session, automatic_floor, holding_session, is_closed, opening_session, with_ceiling, with_floor}
+use Rattle.plain_dag.specs.Landing.{broken, guarded, landing}
+use Rattle.plain_dag.specs.Paths.{fork_path}
+use Rattle.plain_dag.specs.States.{arrival, children, is_known, states}
+use Rattle.plain_dag.specs.Writers.{read}
+use Rattle.plain_dag.proofs.States.{children-before}
+use Rattle.plain_site.proofs.SoundAnswers.{AreNone, given-keeps, no_txn-keeps, none-appended, session-keeps, step-keeps, txn-keeps, unless-keeps}
+use Rattle.plain_site.proofs.SoundCommits.{MayJoin, merge_refusals, single-joins, unrefused-joins}
+use Rattle.plain_site.proofs.SoundHistories.{unfound-at}
+use Rattle.plain_site.proofs.SoundDeliveries.{welcome}
+use Rattle.plain_site.specs.Answers.{Answer, found, refuse, refuse_found, shown}
+use Rattle.plain_site.specs.Built.{Built}
+use Rattle.plain_site.specs.Commits.{abort, commit, commit_below, commit_single, commit_writes, committed, growth_refusals, with_record, without_txn_of}
+use Rattle.plain_site.specs.Exchange.{batch_for, consent_judgements, deliver, deliver_consent, deliver_record, judgements, pull}
+use Rattle.plain_site.specs.FloorSteps.{raise, raise_to, raised}
+use Rattle.plain_site.specs.Laws.{ClosedGetNoChild}
+use Rattle.plain_site.specs.Merges.{begin_merge, conflicts_of, first_below, first_unknown, fork_points_of, in_order, merge_at, merging, states_to_merge}
+use Rattle.plain_site.specs.Reads.{get, get_for, having_read, having_written, read_in, set_key}
+use Rattle.plain_site.specs.Sessions.{begin, begin_at, begun, close_session, open_session, set_ceiling}
+use Rattle.plain_site.specs.Shows.{show}
+use Rattle.plain_site.specs.Site.{Merge, Single, SingleTxn, Site, Txn, next_record, own_count, own_floor, with_txn_changed, writes_of}
+use Rattle.plain_site.specs.Sound.{IsSound, IsSoundTxn}
+use Rattle.plain_site.specs.Step.{served}
+
+module _ (built : Built) (site : Site) (n : ℕ) (x : StateId) where
+  -- the state has the children that it had
+  abbrev Stays : Site → Type 0
+  Stays new = children new.dag x ≡ children site.dag x
+
+  -- ===== Requests that add no record
+
+  open-stays : (follow : Bool) → Stays (open_session site n follow).0
+  open-stays follow =
+      let number_open = length site.sessions in
+      let ceiling = (own_floor site).state in
+      unless-keeps Stays site refl
+      (refuse (is_some (entry_of n site.sessions)) AlreadyOpen ∷ refuse (number_open == site.limits.max_sessions) (SessionsFull number_open) ∷ [])
+      (record site { sessions = with_entry n (opening_session follow ceiling) site.sessions }, Opened ceiling) (λ none. refl)
+
+  begin-stays : (ceiling y : StateId) → Stays (begin_at site n ceiling y).0
+  begin-stays ceiling y =
+      unless-keeps Stays site refl (refuse (not (is_known site.dag y)) (Unknown y) ∷ refuse (not (is_admitted site.dag ceiling y)) (Below y ceiling) ∷ [])
+      (begun site n y) (λ none. refl)
+
+  set-stays : (s : Session) (y : StateId) → Stays (set_ceiling site n s y).0
+  set-stays s y =
+      unless-keeps Stays site refl (refuse (not (is_known site.dag y)) (Unknown y) ∷ refuse (not (is_above site.dag s.ceiling y)) (CeilingBack s.ceiling) ∷ [])
+      (record site { sessions = changed n (with_ceiling y) site.sessions }, Done) (λ none. refl)
+
+  read-stays : (t : Txn) (k : List ℕ) → Stays (read_in site n t k).0
+  read-stays (Single t) k =
+      unless-keeps Stays site refl (refuse (length t.reads == 256 && not (is_key_among k t.reads)) (TooMany 2 257) ∷ [])
+      (with_txn_changed n (having_read k) site, found (read site.dag k t.state)) (λ none. refl)
+  read-stays (Merge t) k =
+      unless-keeps Stays site refl (refuse (is_conflict_key site.dag t.states k) (ConflictKey k) ∷ []) (site, found (value_over site.dag t.states k)) (λ none. refl)
+
+  get-stays : (t : Txn) (k : List ℕ) → Stays (get site n t k).0
+  get-stays t k = given-keeps Stays site refl (write_of k (writes_of t)) (read_in site n t k) (λ w. (site, shown root w)) (λ none. read-stays t k) (λ w e. refl)
+
+  write-stays : (t : Txn) (k : List ℕ) (w : Write) → Stays (set_key site n t k w).0
+  write-stays t k w =
+      unless-keeps Stays site refl (refuse (length (writes_of t) == 64 && not (has_key k (writes_of t))) (TooMany 1 65) ∷ [])
+      (with_txn_changed n (having_written k w) site, Done) (λ none. refl)
+
+  get_for-stays : (t : Txn) (k : List ℕ) (y : StateId) → Stays (get_for site t k y).0
+  get_for-stays (Single t) k y = refl
+  get_for-stays (Merge t) k y = unless-keeps Stays site refl (refuse (not (is_among y t.states)) (NotRead y) ∷ []) (site, found (read site.dag k y)) (λ none. refl)
+
+  forks-stay : (t : Txn) → Stays (fork_points_of site t).0
+  forks-stay (Single t) = refl
+  forks-stay (Merge t) = refl
+
+  conflicts-stay : (t : Txn) (after : List ℕ) → Stays (conflicts_of site t after).0
+  conflicts-stay (Single t) after = refl
+  conflicts-stay (Merge t) after = refl
+
+  show-stays : (y : StateId) → Stays (show site y).0
+  show-stays y =
+      unless-keeps Stays site refl (refuse (not (is_known site.dag y)) (Unknown y) ∷ refuse (is_among y site.collected) (Collected y) ∷ [])
+      (site, Shown (arrival site.dag y) (children site.dag y) (fork_path site.dag site.collected y)) (λ none. refl)
+
+  pull-stays : (counts : List ℕ) → Stays (pull site counts).0
+  pull-stays counts = unless-keeps Stays site refl (refuse (not (length counts == site.limits.sites)) (BadSite (length counts)) ∷ []) (site, BatchIs (batch_for site counts)) (λ none. refl)
+
+  raise-stays : (y : StateId) (refusals : List (Option Reply)) → Stays (raise_to site y refusals).0
+  raise-stays y refusals = unless-keeps Stays site refl (refusals ++ refuse ((own_floor site).number == 4294967295) SeqEnd ∷ []) (raised site y) (λ none. refl)
+
+  raise-any : (y : StateId) → Stays (raise site y).0
+  raise-any y =
+      let floor = (own_floor site).state in
+      raise-stays y
+      (refuse (not (is_known site.dag y)) (Unknown y)
+      ∷ refuse (not (is_above site.dag floor y)) (FloorBack floor)
+      ∷ refuse_found (λ (s : ℕ × Session). Held s.0 s.1.ceiling) (holding_session site.dag site.sessions y)
+      ∷ [])
+
+  merge-stays : (ceiling : StateId) (xs : List StateId) → Stays (merge_at site n ceiling xs).0
+  merge-stays ceiling xs =
+      unless-keeps Stays site refl
+      (refuse (nat_lt 8 (length xs)) (TooMany 3 (length xs))
+      ∷ refuse_found Unknown (first_unknown site.dag xs)
+      ∷ refuse_found (λ (y : StateId). Below y ceiling) (first_below site.dag ceiling xs)
+      ∷ refuse_found (λ (pair : StateId × StateId). Comparable pair.0 pair.1) (comparable_pair site.dag xs)
+      ∷ [])
+      (merging site n (in_order xs)) (λ none. refl)
+
+  consent-stays : (c : Consent) → Stays (deliver_consent site c).0
+  consent-stays c =
+      unless-keeps Stays site refl (consent_judgements site c)
+      (record site { floors = with_floor site.floors c.site (record { state = c.floor; number = c.number; stated = c.count }) }, Applied) (λ none. refl)
+
+  -- ===== Records whose parents aren't closed
+
+  module _ (sound : IsSound built site) (closed : IsTrue (is_closed site.dag site.floors x)) where
+    joined-stays : (r : Record) → ((p : StateId) → IsTrue (is_among p r.parents) → IsFalse (is_closed site.dag site.floors p)) → children (r ∷ site.dag) x ≡ children site.dag x
+    joined-stays r free = children-before site.dag r x (false_from_ne_true (is_among x r.parents) (λ m. both_ways (is_closed site.dag site.floors x) (free x m) closed))
+
+    below-stays : (parents : List StateId) (writes : List KeyWrite) (refusals : List (Option Reply)) → (AreNone refusals → MayJoin site parents writes) →
+        Stays (commit_below built site n parents writes refusals).0
+    below-stays parents writes refusals joins =
+        let r = next_record site parents writes in
+        let others = refuse (own_count site == 4294967295) SeqEnd ∷ growth_refusals built site r in
+        unless-keeps Stays site refl (refusals ++ others) (committed site n r) (λ none. joined-stays r (joins (none-appended refusals others none).0).free)
+
+    single-stays : (s : Session) (t : SingleTxn) (flags : EndFlags) (k : ℕ) → entry_of n site.sessions ≡ Some s → IsSoundTxn site.dag s.ceiling (Single t) →
+        Stays (commit_single built site n t flags k).0
+    single-stays s t flags k has txn = go t.writes
+      where
+        at : StateId
+        at = landing site.dag (guarded flags t.reads (keys_of t.writes)) t.state
+
+        number : ℕ
+        number = length (children site.dag at)
+
+        go : (ws : List KeyWrite) → Stays (elim ws as (λ v. Answer) [ [] ↦ (without_txn_of n site, Ended t.state) | w ∷ vs ↦ commit_writes built site n t flags k ]).0
+        go [] = refl
+        go (w ∷ ws) = below-stays (at ∷ []) t.writes (refuse_found (λ c. Branches c at number) (broken flags k number) ∷ []) (λ none. single-joins built site n s t flags has txn sound)
+
+    commit-stays : (t : Txn) (flags : EndFlags) (k : ℕ) → entry_of n site.txns ≡ Some t → Stays (commit built site n t flags k).0
+    commit-stays t flags k has = let was = sound.each_txn n t has in go was.0 t was.1 was.2
+      where
+        go : (s : Session) (t : Txn) → entry_of n site.sessions ≡ Some s → IsSoundTxn site.dag s.ceiling t → Stays (commit built site n t flags k).0
+        go s (Single t) opened txn = single-stays s t flags k opened txn
+        go s (Merge t) opened txn = below-stays t.states t.writes (merge_refusals site t flags) (unrefused-joins built site n s t flags opened txn sound)
+
+    record-stays : (r : Record) → IsTrue (is_record r) → Stays (deliver_record built site r).0
+    record-stays r valid =
+        unless-keeps Stays site refl (judgements site r ++ growth_refusals built site r) (with_record r site, Applied)
+        (λ none.
+        let is_welcome = welcome built site r valid sound (none-appended (judgements site r) (growth_refusals built site r) none).0 in
+        joined-stays r (λ p m. unfound-at (is_closed site.dag site.floors) r.parents p is_welcome.free m))
+
+    deliver-stays : (item : Item) → IsTrue (is_item item) → Stays (deliver built site item).0
+    deliver-stays (State r) valid = record-stays r valid
+    deliver-stays (Promise c) valid = consent-stays c
+
+    -- ===== Each request
+
+    served-stays : (q : Request) → IsTrue (is_request q) → Stays (served built site n q).0
+    served-stays (Open follow) valid = open-stays follow
+    served-stays (BeginAt b) valid = no_txn-keeps Stays site refl n (λ s. begin site n s b) (λ s e none. begin-stays s.ceiling (begin_state site.dag s.last b))
+    served-stays (Get k) valid = txn-keeps Stays site refl n (λ s t. get site n t k) (λ s e t f. get-stays t k)
+    served-stays (Put k v) valid = txn-keeps Stays site refl n (λ s t. set_key site n t k (Value v)) (λ s e t f. write-stays t k (Value v))
+    served-stays (Delete k) valid = txn-keeps Stays site refl n (λ s t. set_key site n t k Deletion) (λ s e t f. write-stays t k Deletion)
+    served-stays (Commit flags k) valid = txn-keeps Stays site refl n (λ s t. commit built site n t flags k) (λ s e t f. commit-stays t flags k f)
+    served-stays Abort valid = txn-keeps Stays site refl n (λ s t. abort site n) (λ s e t f. refl)
+    served-stays (BeginMerge of) valid = no_txn-keeps Stays site refl n (λ s. begin_merge site n s of) (λ s e none. merge-stays s.ceiling (states_to_merge site of))
+    served-stays ForkPoints valid = txn-keeps Stays site refl n (λ s t. fork_points_of site t) (λ s e t f. forks-stay t)
+    served-stays (Conflicts after) valid = txn-keeps Stays site refl n (λ s t. conflicts_of site t after) (λ s e t f. conflicts-stay t after)
+    served-stays (GetFor k y) valid = txn-keeps Stays site refl n (λ s t. get_for site t k y) (λ s e t f. get_for-stays t k y)
+    served-stays (Ceiling y) valid = no_txn-keeps Stays site refl n (λ s. set_ceiling site n s y) (λ s e none. set-stays s y)
+    served-stays (Raise y) valid = raise-any y
+    served-stays RaiseAuto valid = raise-stays (automatic_floor site.dag (own_floor site).state site.sessions) []
+    served-stays (Tidy count) valid = refl
+    served-stays Stat valid = refl
+    served-stays (Show y) valid = show-stays y
+    served-stays Leaves valid = refl
+    served-stays (Pull counts) valid = pull-stays counts
+    served-stays (Deliver item) valid = deliver-stays item valid
+    served-stays Close valid = session-keeps Stays site refl n (λ s. close_session site n) (λ s e. refl)
+
+pub closed-get-no-child : (built : Built) (q : Request) → ClosedGetNoChild built q
+closed-get-no-child built q site n x valid sound closed =
+    step-keeps (Stays built site n x) site refl built n q (served-stays built site n x sound closed q valid)
