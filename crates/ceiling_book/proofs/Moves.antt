@@ -1,5 +1,5 @@
 -- How ceilings and floors move.
-use Rattle.std.proofs.Common.{◌≡◌, ℕ, ◌-◌, ◌<◌, ◌≤◌, Bool, true, false, not, List, [], ◌∷◌, length, map, find, take, get_or, Some, Option, IsTrue, IsFalse, inl, inr, refl, sym, ap, subst, ◌∙◌, take_all, arith}
+use Rattle.std.proofs.Common.{◌≡◌, ℕ, ◌-◌, ◌<◌, ◌≤◌, Bool, true, false, not, List, [], ◌∷◌, length, map, find, take, get_or, Some, inl, inr, refl, sym, ap, subst, ◌∙◌, take_all, arith}
 use Rattle.std.specs.Option.{option_map, unwrap_or}
 use Rattle.std.specs.List.{All, list_all}
 use Rattle.std.specs.Map.{values_of}

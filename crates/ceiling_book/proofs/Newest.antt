@@ -1,7 +1,5 @@
 -- The last-arrived state that passes a test, among the states that are kept.
-use Rattle.std.proofs.Common.{◌≡◌, ℕ, ◌+◌, ◌<◌, ◌≤◌, Bool, true, false, not, ◌&&◌, List, [], ◌∷◌, ◌++◌, length, map, find, filter, take, get_or, Option, Some, None, is_some, is_none, if◌then◌else◌, IsTrue, IsFalse, inl, inr, refl, sym, ap, subst, ◌∙◌, append-nil, arith}
-use Rattle.std.specs.Option.{option_map, unwrap_or}
-use Rattle.std.specs.List.{list_all}
+use Rattle.std.proofs.Common.{◌≡◌, ℕ, ◌+◌, ◌<◌, Bool, true, false, not, ◌&&◌, List, [], ◌∷◌, ◌++◌, length, map, find, filter, take, get_or, Option, Some, None, is_some, is_none, if◌then◌else◌, IsTrue, IsFalse, inl, inr, refl, sym, ap, ◌∙◌, append-nil, arith}
 use Rattle.std.proofs.lemmas.Bool.{cases_Bool, cond-true, cond-false, and_parts, both_ways, false_from_ne_true}
 use Rattle.std.proofs.lemmas.List.{length-map, get_or-map, take_more}
 use Rattle.tardis_base.specs.declared.ids.StateId.{StateId}
@@ -11,7 +9,7 @@ use Rattle.tardis_base.specs.Ids.{root, is_among}
 use Rattle.plain_dag.specs.States.{states, arrived}
 use Rattle.plain_dag.specs.Above.{is_above, is_proper_ancestor}
 use Rattle.plain_dag.specs.Dag.{IsDag}
-use Rattle.plain_dag.specs.Floors.{Session, Sessions, is_above_ceilings}
+use Rattle.plain_dag.specs.Floors.{Sessions, is_above_ceilings}
 use Rattle.plain_dag.specs.Collection.{kept_states}
 use Rattle.plain_dag.proofs.Collected.{proper-above, proper-of-itself}
 use Rattle.state_dag.proofs.Known.{filter-last}

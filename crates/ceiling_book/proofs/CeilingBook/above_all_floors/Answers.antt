@@ -1,7 +1,5 @@
-use Rattle.std.proofs.Common.{◌∙◌, length, sym, arith}
-use Rattle.tardis_base.specs.Ids.{root}
+use Rattle.std.proofs.Common.{◌∙◌, sym, arith}
 use Rattle.plain_dag.specs.Above.{is_above}
-use Rattle.ceiling_book.specs.declared.parts.KnownFloor.{KnownFloor}
 use Rattle.ceiling_book.specs.Places.{IsAt, HasStandIn}
 use Rattle.ceiling_book.proofs.Moves.{one-fails, all-pass, floor-at, no_floor}
 use Rattle.ceiling_book.proofs.CeilingBook.above_all_floors.Goals as goal

@@ -1,4 +1,4 @@
-use Rattle.std.proofs.Common.{◌≡◌, ◌∙◌, ℕ, ◌+◌, ◌-◌, ◌&&◌, length, take, take_all, Some, sym, ap, subst, arith}
+use Rattle.std.proofs.Common.{◌≡◌, ◌∙◌, ◌+◌, ◌-◌, ◌&&◌, length, take, take_all, Some, sym, ap, arith}
 use Rattle.std.specs.Option.{unwrap_or}
 use Rattle.plain_dag.specs.Above.{is_above}
 use Rattle.plain_dag.specs.Floors.{is_above_ceilings}

@@ -1,7 +1,6 @@
-use Rattle.std.proofs.Common.{◌∙◌, Some, length, get_or, sym, ap, subst, arith}
+use Rattle.std.proofs.Common.{◌∙◌, get_or, sym, ap, arith}
 use Rattle.std.proofs.lemmas.Option.{same_Some}
 use Rattle.plain_dag.specs.Above.{is_proper_ancestor}
-use Rattle.state_dag.specs.Table.{id_at}
 use Rattle.ceiling_book.specs.Places.{IsAt, HasStandIn}
 use Rattle.ceiling_book.proofs.Moves.{one-fails, all-pass, floor-at, no_floor}
 use Rattle.ceiling_book.proofs.CeilingBook.closed.Goals as goal

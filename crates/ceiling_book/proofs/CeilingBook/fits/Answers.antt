@@ -1,5 +1,4 @@
-use Rattle.std.proofs.Common.{◌≡◌, ◌∙◌, ◌&&◌, is_none, sym, ap}
-use Rattle.plain_dag.specs.Above.{is_above}
+use Rattle.std.proofs.Common.{◌∙◌, ◌&&◌, is_none, sym, ap}
 use Rattle.plain_dag.specs.Floors.{is_above_ceilings}
 use Rattle.ceiling_book.specs.Book.{sessions_of}
 use Rattle.ceiling_book.proofs.Moves.{holder-told}

@@ -1,7 +1,6 @@
-use Rattle.std.proofs.Common.{◌≡◌, ℕ, not, find, Option}
+use Rattle.std.proofs.Common.{◌≡◌}
 use Rattle.std.specs.List.{All}
 use Rattle.std.specs.Map.{values_of}
-use Rattle.state_dag.specs.Table.{is_slot_above}
 use Rattle.ceiling_book.specs.declared.parts.OpenSession.{OpenSession}
 use Rattle.ceiling_book.specs.Floors.{slot_holder}
 use Rattle.ceiling_book.specs.Places.{IsSlotOf}

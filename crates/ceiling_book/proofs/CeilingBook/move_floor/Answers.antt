@@ -1,8 +1,8 @@
-use Rattle.std.proofs.Common.{◌≡◌, ◌∙◌, ℕ, ◌+◌, ◌-◌, ◌<◌, ◌==◌, false, length, Some, refl, sym, ap, ap₂, subst, eqb-true, arith}
+use Rattle.std.proofs.Common.{◌≡◌, ◌∙◌, ◌+◌, ◌-◌, ◌<◌, ◌==◌, length, sym, ap, ap₂, eqb-true, arith}
 use Rattle.std.proofs.lemmas.Bool.{false_from_ne_true}
 use Rattle.std.proofs.lemmas.Option.{same_Some}
 use Rattle.plain_dag.specs.States.{count_of_site}
-use Rattle.plain_dag.specs.Floors.{Floor, with_floor}
+use Rattle.plain_dag.specs.Floors.{with_floor}
 use Rattle.ceiling_book.specs.declared.parts.KnownFloor.{KnownFloor}
 use Rattle.ceiling_book.specs.Book.{floors_of, own_floor}
 use Rattle.ceiling_book.specs.Held.{seen}

@@ -1,6 +1,5 @@
-use Rattle.std.proofs.Common.{◌≡◌, ◌∙◌, refl, sym, ap}
+use Rattle.std.proofs.Common.{◌∙◌, refl, sym, ap}
 use Rattle.plain_dag.specs.Above.{is_above}
-use Rattle.ceiling_book.specs.Book.{own_floor}
 use Rattle.ceiling_book.proofs.Moves.{holder-told}
 use Rattle.ceiling_book.proofs.CeilingBook.raise.Goals as goal
 
