@@ -126,7 +126,8 @@ impl SiteCore {
     fn get(&mut self, actor: u16, key: &Key, out: &mut ReplyBuf) -> Result<(), NoMemory>
         requires key { IsTrue (is_key key.now) }
         requires empty { out.old ≡ [] }
-        ensures given { (site : Site) → SiteStands self.old site → GivesBytes (SiteStands self.new) (step so_far site actor (Request.Get key.now)) site result out.new }
+        ensures given { (site : Site) → SiteStands self.old site
+            → GivesBytes (SiteStands self.new) (step so_far site actor (Request.Get key.now)) site result out.new }
         ensures opening { opened_with self.new ≡ opened_with self.old }
     {
         match self.parts.get_into(actor, key, out) {

@@ -58,7 +58,8 @@ impl Parts {
     fn joined_slots(&self, merge: &MergeTxn, flags: EndFlags) -> Result<ListOf<Slot>, Stop>
         requires { IsTrue (list_all (is_slot self.now.store.table) merge.now.slots) }
         ensures slots { IfOk result (λ slots. slots ≡ merge.now.slots) }
-        ensures may { (site : Site) → CoreStands self.now site → IsNamed self.now.store.table (Txn.Merge merge.now) → MayMerge site merge.now.states merge.now.writes flags result }
+        ensures may { (site : Site) → CoreStands self.now site → IsNamed self.now.store.table (Txn.Merge merge.now)
+            → MayMerge site merge.now.states merge.now.writes flags result }
     {
         if flags.0 != 0 {
             return Err(Stop::Refused(Refusal::WrongMode));

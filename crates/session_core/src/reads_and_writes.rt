@@ -68,7 +68,8 @@ impl Parts {
     /// Reads the key in a merge. The value is a copy.
     fn get_over(&self, actor: u16, merge: &MergeTxn, key: &Key) -> Result<Reply, Stop>
         requires { IsTrue (list_all (is_slot self.now.store.table) merge.now.slots) }
-        ensures { (site : Site) → CoreStands self.now site → HasTxn self.now.store.table site actor (Txn.Merge merge.now) → GivesOrStops (CoreStands self.now) (reading site actor key.now) site result }
+        ensures { (site : Site) → CoreStands self.now site → HasTxn self.now.store.table site actor (Txn.Merge merge.now)
+            → GivesOrStops (CoreStands self.now) (reading site actor key.now) site result }
     {
         match self.found_over(merge, key) {
             Over::Found(found) => Ok(reply_of(found)?),
@@ -79,7 +80,8 @@ impl Parts {
     /// What a merge reads of the key: its own write first; then what is read over its states, which are joined once.
     pub(crate) fn found_over<'a>(&'a self, merge: &'a MergeTxn, key: &Key) -> Over<'a>
         requires { IsTrue (list_all (is_slot self.now.store.table) merge.now.slots) }
-        ensures { (site : Site) → CoreStands self.now site → IsNamed self.now.store.table (Txn.Merge merge.now) → ReadsAs site.dag merge.now.states key.now (write_of key.now merge.now.writes) result }
+        ensures { (site : Site) → CoreStands self.now site → IsNamed self.now.store.table (Txn.Merge merge.now)
+            → ReadsAs site.dag merge.now.states key.now (write_of key.now merge.now.writes) result }
     {
         match merge.writes.get(key) {
             Some(write) => Over::Found(own_write(write)),
