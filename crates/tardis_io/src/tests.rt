@@ -215,13 +215,36 @@ impl Write for Slow<'_> {
     }
 }
 
+/// How many bytes a run takes at once at most.
+const PIECE: usize = 65_536;
+
 /// How many bytes a call of a slow device moves at most.
 const PACES: [usize; 4] = [200_000, 65_537, 4_097, 1_000];
+
+/// What so many takes give, until one gives nothing or fails.
+fn all_taken(
+    alloc: Global,
+    source: &mut ReaderSource<Slow<'_>>,
+    buf: &mut [u8],
+    takes: usize,
+) -> Result<Vec<u8>, Fail> {
+    let mut taken = Vec::new(alloc);
+    for _ in 0..takes {
+        if buf.is_empty() {
+            return Ok(taken);
+        }
+        match source.take(buf) {
+            Ok(0) | Err(Failed) => return Ok(taken),
+            Ok(count) => taken.extend_from_slice(&buf[..count])?,
+        }
+    }
+    Ok(taken)
+}
 
 #[test]
 fn a_reader_loses_no_byte(rt: HostRuntime) -> Result<(), Fail> {
     let bytes = many_bytes(rt.alloc())?;
-    let mut buf = vec![in rt.alloc(); 0; 65_536]?;
+    let mut buf = vec![in rt.alloc(); 0; PIECE]?;
     for most in PACES {
         let mut unused = Vec::new(rt.alloc());
         let mut source = ReaderSource::new(Slow {
@@ -229,13 +252,7 @@ fn a_reader_loses_no_byte(rt: HostRuntime) -> Result<(), Fail> {
             seen: &mut unused,
             most,
         });
-        let mut taken = Vec::new(rt.alloc());
-        for _ in 0..bytes.len() {
-            match source.take(buf.as_mut_slice()) {
-                Ok(0) | Err(Failed) => break,
-                Ok(count) => taken.extend_from_slice(&buf[..count])?,
-            }
-        }
+        let taken = all_taken(rt.alloc(), &mut source, buf.as_mut_slice(), bytes.len())?;
         assert!(rt; taken == bytes, "takes of {most}");
     }
     Ok(())
