@@ -1,5 +1,5 @@
 -- What the calls that move ceilings and floors answer.
-use Rattle.std.specs.Prelude.{◌≡◌, ℕ, ◌+◌, ◌==◌, not, List, find, Option, None, Some, Result, Ok, Err, IsTrue, IsFalse}
+use Rattle.std.specs.Prelude.{◌≡◌, ℕ, ◌+◌, ◌==◌, not, List, length, find, Option, None, Some, Result, Ok, Err, IsTrue, IsFalse}
 use Rattle.std.specs.Option.{option_map}
 use Rattle.tardis_base.specs.declared.ids.StateId.{StateId}
 use Rattle.tardis_base.specs.declared.ids.Slot.{Slot}
@@ -16,12 +16,13 @@ use Rattle.ceiling_book.specs.declared.floors.RaiseFault.{RaiseFault}
 use Rattle.ceiling_book.specs.declared.floors.RaiseFault.TheVariants.{FloorBack, Held, SeqEnd}
 use Rattle.ceiling_book.specs.Book.{Book, sessions_of, floors_of, own_floor}
 
--- all but the floors is as before
+-- all but the floors is as before, and there are as many of these
 pub record KeepsSessions (old new : Book) : Type 0 where
   pub own : new.own ≡ old.own
   pub max_sessions : new.max_sessions ≡ old.max_sessions
   pub root : new.root ≡ old.root
   pub sessions : new.sessions ≡ old.sessions
+  pub sites : length new.floors ≡ length old.floors
 
 -- the session's ceiling was at or above x and is x now; or it wasn't, and the book is as before
 abbrev pub CeilingSetIn : List Record → Book → Book → ℕ → Session → StateId → Result Unit CeilingBack → Type 0

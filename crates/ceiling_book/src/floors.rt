@@ -1,6 +1,6 @@
 //! Ceilings and floors move.
 
-ghost use Rattle.std.specs.Prelude.{◌≡◌, ◌≤◌, ◌&&◌, List, Some, IsTrue, OnErr};
+ghost use Rattle.std.specs.Prelude.{◌≡◌, ◌&&◌, List, length, Some, IsTrue, OnErr};
 ghost use Rattle.tardis_base.specs.declared.ids.StateId.{StateId};
 ghost use Rattle.tardis_base.specs.declared.records.Record.{Record};
 ghost use Rattle.tardis_base.specs.Ids.{same_id, is_among};
@@ -115,7 +115,7 @@ impl CeilingBook {
     pub fn raise(&mut self, dag: &StateDag, slot: Slot) -> Result<u32, RaiseFault>
         requires slots { AreSlots self.old dag.now }
         requires slot { IsTrue (is_slot dag.now slot) }
-        requires own { self.old.own ≤ dag.now.limits.sites }
+        requires sites { length (floors_of self.old) ≡ dag.now.limits.sites }
         ensures raised { (rs : List Record) (ks : List StateId) → Stands dag.now rs ks → ArePlaced self.old dag.now rs ks → (x : StateId) → id_at dag.now slot ≡ Some x → RaisedIn rs self.old self.new x result }
         ensures same { OnErr result (self.new ≡ self.old) }
         ensures rest { KeepsSessions self.old self.new }
@@ -142,7 +142,7 @@ impl CeilingBook {
     /// or above with the number of open sessions too; each ancestry that is asked costs what `StateDag::is_ancestor` does.
     pub fn raise_auto(&mut self, dag: &StateDag) -> Result<(Slot, u32), SeqEnd>
         requires slots { AreSlots self.old dag.now }
-        requires own { self.old.own ≤ dag.now.limits.sites }
+        requires sites { length (floors_of self.old) ≡ dag.now.limits.sites }
         ensures raised { (rs : List Record) (ks : List StateId) → Stands dag.now rs ks → ArePlaced self.old dag.now rs ks → ((x : StateId) → IsTrue (is_among x ks) → IsTrue (is_proper_ancestor rs x (own_floor self.old).state)) → AutoRaisedIn rs dag.now self.old self.new result }
         ensures same { OnErr result (self.new ≡ self.old) }
         ensures rest { KeepsSessions self.old self.new }
@@ -248,7 +248,7 @@ impl CeilingBook {
     fn move_floor(&mut self, dag: &StateDag, slot: Slot) -> Result<u32, SeqEnd>
         requires slots { AreSlots self.old dag.now }
         requires slot { IsTrue (is_slot dag.now slot) }
-        requires own { self.old.own ≤ dag.now.limits.sites }
+        requires sites { length (floors_of self.old) ≡ dag.now.limits.sites }
         ensures moved { (rs : List Record) (ks : List StateId) → Stands dag.now rs ks → (x : StateId) → id_at dag.now slot ≡ Some x → FloorMoved rs self.old self.new x result }
         ensures same { OnErr result (self.new ≡ self.old) }
         ensures rest { KeepsSessions self.old self.new }

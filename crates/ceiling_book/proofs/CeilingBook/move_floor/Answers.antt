@@ -1,10 +1,11 @@
 use Rattle.std.proofs.Common.{◌≡◌, ◌∙◌, ◌+◌, ◌-◌, ◌<◌, ◌==◌, length, sym, ap, ap₂, eqb-true, arith}
 use Rattle.std.proofs.lemmas.Bool.{false_from_ne_true}
 use Rattle.std.proofs.lemmas.Option.{same_Some}
+use Rattle.std.proofs.lemmas.List.{length-map, length-set}
 use Rattle.plain_dag.specs.States.{count_of_site}
 use Rattle.plain_dag.specs.Floors.{with_floor}
 use Rattle.ceiling_book.specs.declared.parts.KnownFloor.{KnownFloor}
-use Rattle.ceiling_book.specs.Book.{floors_of, own_floor}
+use Rattle.ceiling_book.specs.Book.{known_floor, floors_of, own_floor}
 use Rattle.ceiling_book.specs.Held.{seen}
 use Rattle.ceiling_book.specs.Places.{IsSlotOf, IsAt, HasStandIn}
 use Rattle.ceiling_book.proofs.Moves.{own-floor-known, own-floor-written, floor-keeps}
@@ -36,3 +37,20 @@ pub returns-clause-placed : goal.returns-clause-placed
 returns-clause-placed c = λ rs ks stands placed.
     let f : KnownFloor = record { place = record { state = c.id_of.result; slot = c.args.slot }; number = c.index.result.now.number + 1; stated = c.count.result } in
     floor-keeps (seen c.self.inside) c.args.self.now c.self.view_is (IsAt c.args.dag.now) (HasStandIn c.args.dag.now rs ks) f placed c.id_of.ensures.is
+
+pub count-requires-clause-last : goal.count-requires-clause-last
+count-requires-clause-last c =
+    let sites : length c.self.inside.floors.items ≡ c.args.dag.now.limits.sites = sym (length-map c.self.inside.floors.items known_floor) ∙ ap (λ b. length (floors_of b)) c.self.view_is ∙ c.requires.sites in
+    let last = c.self.invariant.last in
+    omega arith
+
+pub returns-clause-rest : goal.returns-clause-rest
+returns-clause-rest c =
+    let f : KnownFloor = record { place = record { state = c.id_of.result; slot = c.args.slot }; number = c.index.result.now.number + 1; stated = c.count.result } in
+    record {
+      own = ap (λ b. b.own) c.self.view_is;
+      max_sessions = ap (λ b. b.max_sessions) c.self.view_is;
+      root = ap (λ b. b.root) c.self.view_is;
+      sessions = ap (λ b. b.sessions) c.self.view_is;
+      sites = length-set c.self.inside.floors.items (c.self.inside.own - 1) f ∙ ap (λ b. length b.floors) c.self.view_is;
+    }
