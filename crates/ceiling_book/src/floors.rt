@@ -1,6 +1,6 @@
 //! Ceilings and floors move.
 
-ghost use Rattle.std.specs.Prelude.{◌≡◌, ◌&&◌, List, length, Some, IsTrue, OnErr};
+ghost use Rattle.std.specs.Prelude.{◌≡◌, ◌&&◌, List, length, Some, IsTrue, IfOk, OnErr};
 ghost use Rattle.tardis_base.specs.declared.ids.StateId.{StateId};
 ghost use Rattle.tardis_base.specs.declared.records.Record.{Record};
 ghost use Rattle.tardis_base.specs.Ids.{same_id, is_among};
@@ -144,6 +144,7 @@ impl CeilingBook {
         requires slots { AreSlots self.old dag.now }
         requires sites { length (floors_of self.old) ≡ dag.now.limits.sites }
         ensures raised { (rs : List Record) (ks : List StateId) → Stands dag.now rs ks → ArePlaced self.old dag.now rs ks → ((x : StateId) → IsTrue (is_among x ks) → IsTrue (is_proper_ancestor rs x (own_floor self.old).state)) → AutoRaisedIn rs dag.now self.old self.new result }
+        ensures slot { IfOk result (λ raised. IsTrue (is_slot dag.now raised.0)) }
         ensures same { OnErr result (self.new ≡ self.old) }
         ensures rest { KeepsSessions self.old self.new }
         ensures slots { AreSlots self.new dag.now }
