@@ -110,7 +110,7 @@ module _ (core : Core) (book : Book) (site : Site) (x : StateId) (stands : CoreS
   number-left number (left, is, are) rest placed =
       let next : number ≡ (site_floor site).number + 1 = is ∙ ap (λ k. k + 1) same-number in
       let floors = are ∙ ap₂ (λ own (fs : List Floor). with_floor fs own (record { state = x; number = number; stated = count_of_site site.dag own })) stands.own stands.floors
-        ∙ ap (λ k. with_floor site.floors site.own (record { state = x; number = k; stated = own_count site })) next in
+      ∙ ap (λ k. with_floor site.floors site.own (record { state = x; number = k; stated = own_count site })) next in
       as-given (CoreStands (record core { book = book })) (unless site no-number (raised site x)) (raised site x) (Raised x number)
       (skip site (Refused SeqEnd) [] (raised site x) ((site_floor site).number == 4294967295) (ap (λ k. k == 4294967295) (sym same-number) ∙ left))
       (with-floors core book site (raised site x).0.floors stands rest placed floors, ap (Raised x) next)

@@ -46,7 +46,7 @@ returns-clause-given c = λ site stands sound.
     let known = sym (c.knows.ensures site.dag site.collected table) ∙ c.if-not-knows.false in
     let told = c.raise.ensures.raised site.dag site.collected table (subst (λ t. ArePlaced core.book t site.dag site.collected) (sym c.dag-dag.ensures) here.placed) x c.in-Some.ensures.found in
     let placed = subst (λ t. ArePlaced book t site.dag site.collected) c.dag-dag.ensures
-      (c.raise.ensures.placed site.dag site.collected table (subst (λ t. ArePlaced core.book t site.dag site.collected) (sym c.dag-dag.ensures) here.placed)) in
+    (c.raise.ensures.placed site.dag site.collected table (subst (λ t. ArePlaced core.book t site.dag site.collected) (sym c.dag-dag.ensures) here.placed)) in
     elim c.match-raise.branch [
       | in-Ok w ↦
           subst (λ r. GivesOrStops (CoreStands (record core { book = book })) (raise site x) site r) (sym w.result-is)

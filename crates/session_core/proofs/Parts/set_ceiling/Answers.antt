@@ -28,8 +28,7 @@ returns-in-None-clause-given c = λ site stands sound.
     let apart = gone-above site.dag sound.dag site.collected x s.value.ceiling known gone (collected-above so_far site n s.value sound s.is) in
     let named = c.ceiling.ensures.ceiling core.store.table site.dag site.collected here.placed s.value (ap (λ ss. entry_of n ss) here.sessions ∙ s.is) in
     let told = subst (λ t. id_at t c.ceiling.result ≡ Some c.id_of.result) c.dag-dag.ensures c.id_of.ensures.is in
-    let same = same_Some s.value.ceiling c.id_of.result (sym named ∙ told) in
-    (
+    let same = same_Some s.value.ceiling c.id_of.result (sym named ∙ told) in (
       stands,
       no-txn-answer site n (λ r. set_ceiling site n r x) s.value s.is (none-kept now site stands n c.in_ok-no_txn.ensures.none) ∙ back-ceiling core core.book site n s.value x here known apart
           ∙ ap (λ y. refused site (CeilingBack y)) same,
