@@ -24,9 +24,9 @@ WriteIsReadBackByTheWhole = TalkInBytes everything lone_site put_and_read
 
 -- ===== What isn't built, and what is no request
 
--- Ceiling, spelled right, isn't built: that is said before that no session is open
+-- Tidy, spelled right, isn't built: that is said before all else
 abbrev pub UnbuiltIsUnsupported : Type 0
-UnbuiltIsUnsupported = TalkInBytes so_far lone_site (1 sends hex "0c 0000 00000000" => hex "15 1b 0c" ∷ [])
+UnbuiltIsUnsupported = TalkInBytes so_far lone_site (1 sends hex "0f 00000001" => hex "15 1b 0f" ∷ [])
 
 -- an operation that isn't built is told by its code, whatever follows
 abbrev pub UnbuiltOperationIsTold : Type 0

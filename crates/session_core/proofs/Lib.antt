@@ -21,3 +21,4 @@ pub mod Asking
 pub mod Ordering
 pub mod MergeShows
 pub mod Merging
+pub mod FloorMoves

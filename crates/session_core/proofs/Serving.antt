@@ -26,6 +26,9 @@ pub record IsOther (q : Request) : Type 0 where
   pub fork_points : q ≡ ForkPoints → ⊥
   pub conflicts : (after : List ℕ) → q ≡ Conflicts after → ⊥
   pub get_for : (k : List ℕ) (x : StateId) → q ≡ GetFor k x → ⊥
+  pub ceiling : (x : StateId) → q ≡ Ceiling x → ⊥
+  pub raise : (x : StateId) → q ≡ Raise x → ⊥
+  pub raise_auto : q ≡ RaiseAuto → ⊥
   pub stat : q ≡ Stat → ⊥
   pub show : (x : StateId) → q ≡ Show x → ⊥
   pub leaves : q ≡ Leaves → ⊥
@@ -43,9 +46,9 @@ other-unsupported site n (BeginMerge of) other = absurd (other.begin_merge of re
 other-unsupported site n ForkPoints other = absurd (other.fork_points refl)
 other-unsupported site n (Conflicts after) other = absurd (other.conflicts after refl)
 other-unsupported site n (GetFor k x) other = absurd (other.get_for k x refl)
-other-unsupported site n (Ceiling x) other = refl
-other-unsupported site n (Raise x) other = refl
-other-unsupported site n RaiseAuto other = refl
+other-unsupported site n (Ceiling x) other = absurd (other.ceiling x refl)
+other-unsupported site n (Raise x) other = absurd (other.raise x refl)
+other-unsupported site n RaiseAuto other = absurd (other.raise_auto refl)
 other-unsupported site n (Tidy count) other = refl
 other-unsupported site n Stat other = absurd (other.stat refl)
 other-unsupported site n (Show x) other = absurd (other.show x refl)

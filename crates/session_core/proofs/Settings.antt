@@ -7,17 +7,17 @@ use Rattle.tardis_base.specs.declared.ids.StateId.{StateId}
 use Rattle.tardis_base.specs.declared.records.Record.{Record}
 use Rattle.tardis_base.specs.declared.records.Write.{Write}
 use Rattle.tardis_base.specs.declared.records.Write.TheVariants.{Put as Value, Delete as Deletion}
-use Rattle.tardis_base.specs.declared.replies.Refusal.TheVariants.{AlreadyOpen, SessionsFull, TooMany, ConflictKey, Unknown, Below, Collected, SeqEnd, WrongMode, OpenConflict, Branches, NotRead, Comparable}
+use Rattle.tardis_base.specs.declared.replies.Refusal.TheVariants.{AlreadyOpen, SessionsFull, TooMany, ConflictKey, Unknown, Below, Collected, SeqEnd, WrongMode, OpenConflict, Branches, NotRead, Comparable, CeilingBack, FloorBack, Held}
 use Rattle.tardis_base.specs.declared.replies.Reply.{Reply}
 use Rattle.tardis_base.specs.declared.replies.Reply.TheVariants.{Opened, Begun, Merging, Done, Shown, Ended}
 use Rattle.tardis_base.specs.declared.requests.EndFlags.{EndFlags}
 use Rattle.tardis_base.specs.declared.requests.Request.{Request}
 use Rattle.tardis_base.specs.declared.requests.Request.TheVariants.{Open, Begin as BeginAt, Get, Put, Delete, Commit, Abort, BeginMerge, ForkPoints, Conflicts, GetFor, Ceiling, Raise, RaiseAuto, Tidy, Stat, Show, Leaves, Pull, Deliver, Close}
-use Rattle.plain_dag.specs.Above.{comparable_pair}
+use Rattle.plain_dag.specs.Above.{is_above, comparable_pair}
 use Rattle.plain_dag.specs.Begin.{is_admitted, begin_state}
 use Rattle.plain_dag.specs.Conflicts.{is_conflict_key, value_over, open_conflict}
-use Rattle.plain_dag.specs.Entries.{entry_of, with_entry}
-use Rattle.plain_dag.specs.Floors.{opening_session}
+use Rattle.plain_dag.specs.Entries.{entry_of, with_entry, changed}
+use Rattle.plain_dag.specs.Floors.{opening_session, with_ceiling, holding_session, automatic_floor}
 use Rattle.plain_dag.specs.Landing.{landing, guarded, broken}
 use Rattle.plain_dag.specs.Paths.{fork_path}
 use Rattle.plain_dag.specs.States.{is_known, arrival, children}
@@ -27,7 +27,8 @@ use Rattle.plain_site.specs.Built.{so_far}
 use Rattle.plain_site.specs.Commits.{abort, commit, commit_below, commit_writes, commit_single, committed, growth_refusals, without_txn_of}
 use Rattle.plain_site.specs.Merges.{in_order, states_to_merge, merge_at, begin_merge, fork_points_of, conflicts_of}
 use Rattle.plain_site.specs.Reads.{get, get_for, set_key, read_in, having_read, having_written}
-use Rattle.plain_site.specs.Sessions.{open_session, close_session, begin, begin_at}
+use Rattle.plain_site.specs.Sessions.{open_session, close_session, begin, begin_at, set_ceiling}
+use Rattle.plain_site.specs.FloorSteps.{raised, raise_to}
 use Rattle.plain_site.specs.Site.{Site, SingleTxn, Txn, Single, Merge, opening, own_floor, own_count, next_id, writes_of, with_txn_changed}
 use Rattle.plain_site.specs.Step.{step}
 use Rattle.plain_site.proofs.SoundAnswers.{unless-keeps, given-keeps, session-keeps, txn-keeps, no_txn-keeps, step-keeps}
@@ -112,6 +113,9 @@ module _ (site : Site) (n : ℕ) where
   get_for-same (Single t) k x = old
   get_for-same (Merge t) k x = unless-keeps P site old (refuse (not (is_among x t.states)) (NotRead x) ∷ []) (site, found (read site.dag k x)) (λ none. old)
 
+  raised-same : (x : StateId) (refusals : List (Option Reply)) → P (raise_to site x refusals).0
+  raised-same x refusals = unless-keeps P site old (refusals ++ refuse ((own_floor site).number == 4294967295) SeqEnd ∷ []) (raised site x) (λ none. (refl, refl))
+
   -- what isn't built changes nothing
   pub step-same : (q : Request) → P (step so_far site n q).0
   step-same (Open follow) = step-keeps P site old so_far n (Open follow) (open-same follow)
@@ -127,9 +131,18 @@ module _ (site : Site) (n : ℕ) where
   step-same ForkPoints = step-keeps P site old so_far n ForkPoints (txn-keeps P site old n (λ s t. fork_points_of site t) (λ s e t f. fork_points-same t))
   step-same (Conflicts after) = step-keeps P site old so_far n (Conflicts after) (txn-keeps P site old n (λ s t. conflicts_of site t after) (λ s e t f. conflicts-same t after))
   step-same (GetFor k x) = step-keeps P site old so_far n (GetFor k x) (txn-keeps P site old n (λ s t. get_for site t k x) (λ s e t f. get_for-same t k x))
-  step-same (Ceiling x) = old
-  step-same (Raise x) = old
-  step-same RaiseAuto = old
+  step-same (Ceiling x) =
+      step-keeps P site old so_far n (Ceiling x)
+      (no_txn-keeps P site old n (λ s. set_ceiling site n s x) (λ s e none. unless-keeps P site old (refuse (not (is_known site.dag x)) (Unknown x) ∷ refuse (not (is_above site.dag s.ceiling x)) (CeilingBack s.ceiling) ∷ [])
+      (record site { sessions = changed n (with_ceiling x) site.sessions }, Done) (λ none. (refl, refl))))
+  step-same (Raise x) =
+      step-keeps P site old so_far n (Raise x)
+      (raised-same x
+      (refuse (not (is_known site.dag x)) (Unknown x)
+      ∷ refuse (not (is_above site.dag (own_floor site).state x)) (FloorBack (own_floor site).state)
+      ∷ refuse_found (λ s. Held s.0 s.1.ceiling) (holding_session site.dag site.sessions x)
+      ∷ []))
+  step-same RaiseAuto = step-keeps P site old so_far n RaiseAuto (raised-same (automatic_floor site.dag (own_floor site).state site.sessions) [])
   step-same (Tidy count) = old
   step-same Stat = step-keeps P site old so_far n Stat old
   step-same (Show x) =

@@ -1,13 +1,16 @@
 -- Why a request stops, by the fault that is met.
 use Rattle.tardis_base.specs.declared.faults.AddFault.{AddFault}
 use Rattle.tardis_base.specs.declared.faults.AddFault.TheVariants.{Full, PathFull, NoMemory as NoMemoryToAdd}
-use Rattle.tardis_base.specs.declared.replies.Refusal.TheVariants.{Unknown as IsUnknown, Below as IsBelow, Comparable as AreComparable, AlreadyOpen as IsOpen, SessionsFull as AreFull, TooMany as AreTooMany, Branches as HasBranches, Full as IsFull, PathFull as IsPathFull}
+use Rattle.tardis_base.specs.declared.replies.Refusal.TheVariants.{Unknown as IsUnknown, Below as IsBelow, Comparable as AreComparable, AlreadyOpen as IsOpen, SessionsFull as AreFull, TooMany as AreTooMany, Branches as HasBranches, Full as IsFull, PathFull as IsPathFull, FloorBack as IsFloorBack, Held as IsHeld, SeqEnd as HasNoNumber}
+use Rattle.tardis_base.specs.declared.replies.Refusal.{Refusal}
 use Rattle.begin_rule.specs.declared.BeginFault.{BeginFault}
 use Rattle.begin_rule.specs.declared.BeginFault.TheVariants.{Unknown, Below}
 use Rattle.begin_rule.specs.declared.merges.MergeFault.{MergeFault}
 use Rattle.begin_rule.specs.declared.merges.MergeFault.TheVariants.{Unknown as OneUnknown, Below as OneBelow, Comparable, NoMemory as NoMemoryToMerge}
 use Rattle.ceiling_book.specs.declared.OpenFault.{OpenFault}
 use Rattle.ceiling_book.specs.declared.OpenFault.TheVariants.{AlreadyOpen, SessionsFull, NoMemory as NoMemoryToOpen}
+use Rattle.ceiling_book.specs.declared.floors.RaiseFault.{RaiseFault}
+use Rattle.ceiling_book.specs.declared.floors.RaiseFault.TheVariants.{FloorBack, Held, SeqEnd}
 use Rattle.end_rule.specs.declared.Branches.{Branches}
 use Rattle.merge_txn.specs.declared.TxnFault.{TxnFault}
 use Rattle.merge_txn.specs.declared.TxnFault.TheVariants.{TooMany, NoMemory as NoMemoryToNote}
@@ -40,3 +43,9 @@ abbrev pub add_stop : AddFault → Stop
 add_stop (Full kept) = Refused (IsFull kept)
 add_stop (PathFull x n) = Refused (IsPathFull x n)
 add_stop NoMemoryToAdd = NoMemory
+
+-- why the floor doesn't move
+abbrev pub refusal_of : RaiseFault → Refusal
+refusal_of (FloorBack floor) = IsFloorBack floor
+refusal_of (Held n ceiling) = IsHeld n ceiling
+refusal_of SeqEnd = HasNoNumber

@@ -17,7 +17,7 @@ use tardis_base::{Key, NoMemory, Refusal, Reply, Request, Write};
 pub fn is_built(op: u8) -> bool
     ensures { result ≡ so_far.operation op }
 {
-    matches!(op, 1..=11 | 16..=18 | 21)
+    matches!(op, 1..=14 | 16..=18 | 21)
 }
 
 /// The code of the request's operation.
@@ -70,6 +70,9 @@ impl Parts {
             Request::ForkPoints => self.fork_points(actor),
             Request::Conflicts { after } => self.conflicts(actor, after),
             Request::GetFor { key, state } => self.get_for(actor, key, *state),
+            Request::Ceiling { state } => self.set_ceiling(actor, *state),
+            Request::Raise { state } => self.raise(*state),
+            Request::RaiseAuto => self.raise_auto(),
             Request::Stat => Ok(self.stat()),
             Request::Show { state } => self.show(*state),
             Request::Leaves => self.leaves(),

@@ -13,6 +13,7 @@ ghost use Rattle.session_core.specs.Stands.{CoreStands};
 mod bytes;
 mod commits;
 mod dispatch;
+mod floors;
 mod merges;
 mod reads_and_writes;
 mod sessions;

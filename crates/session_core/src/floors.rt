@@ -1,0 +1,107 @@
+//! Ceilings and floors move.
+
+ghost use Rattle.std.specs.Prelude.{◌≡◌};
+ghost use Rattle.plain_site.specs.Site.{Site};
+ghost use Rattle.plain_site.specs.Built.{so_far};
+ghost use Rattle.plain_site.specs.Sound.{IsSound};
+ghost use Rattle.plain_site.specs.Answers.{without_txn};
+ghost use Rattle.plain_site.specs.Sessions.{set_ceiling as set_ceiling_of};
+ghost use Rattle.plain_site.specs.FloorSteps.{raise as raise_of, raise_auto as raise_auto_of};
+ghost use Rattle.session_core.specs.Stops.{refusal_of};
+ghost use Rattle.session_core.specs.Stands.{CoreStands};
+ghost use Rattle.session_core.specs.Gives.{GivesOrStops, NeedsNoMemory};
+
+use crate::Parts;
+use crate::stops::Stop;
+use ceiling_book::RaiseFault;
+use tardis_base::{Refusal, Reply, SeqEnd, StateId};
+
+impl Parts {
+    /// Moves the ceiling of the actor's session down to the state. It takes no memory.
+    ///
+    /// Refused where no session is open (NotOpen), where it has a transaction (TxnOpen), where there is no such state
+    /// (Unknown), and where the ceiling isn't at or above it (CeilingBack). A collected state is above every ceiling.
+    pub(crate) fn set_ceiling(&mut self, actor: u16, state: StateId) -> Result<Reply, Stop>
+        ensures given { (site : Site) → CoreStands self.old site → IsSound so_far site → GivesOrStops (CoreStands self.new) (without_txn site actor (λ s. set_ceiling_of site actor s state)) site result }
+        ensures sure { NeedsNoMemory result }
+    {
+        self.no_txn(actor)?;
+        let dag = self.store.dag();
+        if !dag.knows(state) {
+            return Err(Stop::Refused(Refusal::Unknown { state }));
+        }
+        let slot = match dag.slot_of(state) {
+            Some(slot) => slot,
+            None => {
+                return Err(Stop::Refused(Refusal::CeilingBack {
+                    ceiling: dag.id_of(self.book.ceiling(actor)),
+                }));
+            },
+        };
+        match self.book.set_ceiling(dag, actor, slot) {
+            Ok(()) => Ok(Reply::Done),
+            Err(fault) => Err(Stop::Refused(Refusal::CeilingBack {
+                ceiling: fault.ceiling,
+            })),
+        }
+    }
+
+    /// Moves the own floor down to the state, and numbers the consent that says so. It takes no memory.
+    ///
+    /// Refused where there is no such state (Unknown), where the floor isn't at or above it (FloorBack), where it isn't at
+    /// or above the ceiling of an open session (Held), and where no number is left (SeqEnd). A collected state is above
+    /// every floor. The cost is that of `CeilingBook::raise`.
+    pub(crate) fn raise(&mut self, state: StateId) -> Result<Reply, Stop>
+        ensures given { (site : Site) → CoreStands self.old site → IsSound so_far site → GivesOrStops (CoreStands self.new) (raise_of site state) site result }
+        ensures sure { NeedsNoMemory result }
+    {
+        let dag = self.store.dag();
+        if !dag.knows(state) {
+            return Err(Stop::Refused(Refusal::Unknown { state }));
+        }
+        let slot = match dag.slot_of(state) {
+            Some(slot) => slot,
+            None => {
+                let (floor, _, _) = self.book.floor(self.book.own_site());
+                return Err(Stop::Refused(Refusal::FloorBack {
+                    floor: dag.id_of(floor),
+                }));
+            },
+        };
+        match self.book.raise(dag, slot) {
+            Ok(number) => Ok(Reply::Raised {
+                floor: state,
+                number,
+            }),
+            Err(fault) => Err(Stop::Refused(raise_refusal(fault))),
+        }
+    }
+
+    /// Moves the own floor to the automatic floor. It takes no memory.
+    ///
+    /// Refused where no number is left (SeqEnd). The cost is that of `CeilingBook::raise_auto`.
+    pub(crate) fn raise_auto(&mut self) -> Result<Reply, Stop>
+        ensures given { (site : Site) → CoreStands self.old site → IsSound so_far site → GivesOrStops (CoreStands self.new) (raise_auto_of site) site result }
+        ensures sure { NeedsNoMemory result }
+    {
+        let dag = self.store.dag();
+        match self.book.raise_auto(dag) {
+            Ok((slot, number)) => Ok(Reply::Raised {
+                floor: dag.id_of(slot),
+                number,
+            }),
+            Err(SeqEnd) => Err(Stop::Refused(Refusal::SeqEnd)),
+        }
+    }
+}
+
+/// What is answered where the floor does not move.
+fn raise_refusal(fault: RaiseFault) -> Refusal
+    ensures { result ≡ refusal_of fault }
+{
+    match fault {
+        RaiseFault::FloorBack { floor } => Refusal::FloorBack { floor },
+        RaiseFault::Held { session, ceiling } => Refusal::Held { session, ceiling },
+        RaiseFault::SeqEnd => Refusal::SeqEnd,
+    }
+}
