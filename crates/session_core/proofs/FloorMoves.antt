@@ -1,12 +1,10 @@
 -- Ceilings and floors move.
-use Rattle.std.proofs.Common.{◌≡◌, ℕ, ◌+◌, ◌==◌, not, List, [], ◌∷◌, ◌++◌, Option, Some, None, Ok, Err, IsTrue, IsFalse, Bool, true, false, ◌&&◌, refl, sym, ap, ap₂, subst, ◌∙◌}
+use Rattle.std.proofs.Common.{◌≡◌, ℕ, ◌+◌, ◌==◌, not, List, [], ◌∷◌, Option, Some, None, Ok, Err, IsTrue, IsFalse, Bool, true, false, ◌&&◌, refl, sym, ap, ap₂, ◌∙◌}
 use Rattle.std.specs.Option.{option_map}
-use Rattle.std.proofs.lemmas.Bool.{and_parts, false_from_ne_true, not_from_true, not_from_false}
+use Rattle.std.proofs.lemmas.Bool.{false_from_ne_true, not_from_true, not_from_false}
 use Rattle.std.proofs.lemmas.Option.{same_Some, none-some}
 use Rattle.tardis_base.specs.declared.ids.StateId.{StateId}
-use Rattle.tardis_base.specs.declared.ids.Slot.{Slot}
 use Rattle.tardis_base.specs.declared.records.Record.{Record}
-use Rattle.tardis_base.specs.declared.faults.SeqEnd.{SeqEnd as NumbersEnd}
 use Rattle.tardis_base.specs.declared.replies.Refusal.TheVariants.{Unknown, CeilingBack, FloorBack, Held, SeqEnd}
 use Rattle.tardis_base.specs.declared.replies.Reply.{Reply}
 use Rattle.tardis_base.specs.declared.replies.Reply.TheVariants.{Done, Raised, Refused}
@@ -14,29 +12,27 @@ use Rattle.tardis_base.specs.Ids.{is_among}
 use Rattle.plain_dag.specs.States.{is_known, count_of_site}
 use Rattle.plain_dag.specs.Above.{is_above, is_proper_ancestor}
 use Rattle.plain_dag.specs.Dag.{IsDag}
-use Rattle.plain_dag.specs.Entries.{entry_of, changed}
-use Rattle.plain_dag.specs.Floors.{Session, Sessions, Floor, with_ceiling, with_floor, holding_session, automatic_floor}
+use Rattle.plain_dag.specs.Entries.{changed}
+use Rattle.plain_dag.specs.Floors.{Session, Sessions, Floor, with_ceiling, with_floor, holding_session}
 use Rattle.plain_dag.specs.Collection.{is_kept}
 use Rattle.plain_dag.proofs.Collected.{proper-above, proper-of-itself}
-use Rattle.state_dag.specs.Table.{Table, id_at}
-use Rattle.ceiling_book.specs.declared.floors.CeilingBack.{CeilingBack as BackFault}
 use Rattle.ceiling_book.specs.declared.floors.RaiseFault.{RaiseFault}
 use Rattle.ceiling_book.specs.declared.floors.RaiseFault.TheVariants.{FloorBack as IsBack, Held as HoldsIt, SeqEnd as NoNumber}
 use Rattle.ceiling_book.specs.Book.{Book, session_of, sessions_of, floors_of, own_floor}
 use Rattle.ceiling_book.specs.Places.{ArePlaced}
 use Rattle.ceiling_book.specs.Answers.{KeepsRest}
-use Rattle.ceiling_book.specs.Floors.{KeepsSessions, CeilingSetIn, FloorMoved, RaisedIn, AutoRaisedIn, holder}
+use Rattle.ceiling_book.specs.Floors.{KeepsSessions, CeilingSetIn, FloorMoved, RaisedIn, holder}
 use Rattle.ceiling_book.proofs.Entries.{mapped}
 use Rattle.plain_site.specs.Site.{Site, own_count, own_floor as site_floor}
-use Rattle.plain_site.specs.Answers.{Answer, refused, refuse, refuse_found, unless, without_txn}
+use Rattle.plain_site.specs.Answers.{Answer, refused, refuse, refuse_found, unless}
 use Rattle.plain_site.specs.Sessions.{set_ceiling}
-use Rattle.plain_site.specs.FloorSteps.{raised, raise_to, raise, raise_auto}
+use Rattle.plain_site.specs.FloorSteps.{raised, raise}
 use Rattle.session_core.specs.Core.{Core}
 use Rattle.session_core.specs.Stands.{CoreStands}
 use Rattle.session_core.specs.Gives.{IsGiven, Stops}
 use Rattle.session_core.specs.Stops.{refusal_of}
 use Rattle.session_core.specs.declared.stops.Stop.TheVariants.{Refused as RefusedAs}
-use Rattle.session_core.proofs.Answers.{skip, stop, skip-found, stop-found, as-given}
+use Rattle.session_core.proofs.Answers.{skip, stop, as-given}
 use Rattle.session_core.proofs.OpenSessions.{same-floor, with-sessions, same-book}
 
 -- a known state without a slot is collected, so it isn't below what every collected state is above

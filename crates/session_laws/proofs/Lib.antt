@@ -9,4 +9,5 @@ pub mod Sites
 pub mod Requests
 pub mod Shows
 pub mod Commits
+pub mod Floors
 pub mod OneReply

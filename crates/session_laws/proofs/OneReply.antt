@@ -10,7 +10,7 @@ use Rattle.plain_site.specs.Built.{so_far}
 use Rattle.plain_site.specs.Commits.{abort, commit}
 use Rattle.plain_site.specs.Merges.{begin_merge, fork_points_of, conflicts_of}
 use Rattle.plain_site.specs.Reads.{get, set_key, get_for}
-use Rattle.plain_site.specs.Sessions.{begin, close_session}
+use Rattle.plain_site.specs.Sessions.{begin, set_ceiling, close_session}
 use Rattle.plain_site.specs.Site.{Site, Txn}
 use Rattle.plain_site.specs.Step.{step}
 use Rattle.session_core.specs.Core.{Core}
@@ -21,6 +21,7 @@ use Rattle.session_laws.proofs.Sites.{sessions-alike, txns-alike}
 use Rattle.session_laws.proofs.Requests.{open-alike, begin-alike, get-alike, set-alike, get-for-alike, begin-merge-alike}
 use Rattle.session_laws.proofs.Shows.{fork-points-alike, conflicts-alike, stat-alike, show-alike, leaves-shown-alike}
 use Rattle.session_laws.proofs.Commits.{commit-alike}
+use Rattle.session_laws.proofs.Floors.{ceiling-alike, raise-alike, raise-auto-alike}
 
 module _ (core : Core) (a b : Site) (on_a : SiteStands core a) (on_b : SiteStands core b) (n : ℕ) where
   sessions : entry_of n a.sessions ≡ entry_of n b.sessions
@@ -57,9 +58,10 @@ module _ (core : Core) (a b : Site) (on_a : SiteStands core a) (on_b : SiteStand
       (for-txn (λ s t. conflicts_of a t after) (λ s t. conflicts_of b t after) (λ s t e d. conflicts-alike core a b on_a on_b n t d after))
   one-reply (GetFor k x) =
       step-alike a b so_far n (GetFor k x) (for-txn (λ s t. get_for a t k x) (λ s t. get_for b t k x) (λ s t e d. get-for-alike core a b on_a on_b n t d k x))
-  one-reply (Ceiling x) = refl
-  one-reply (Raise x) = refl
-  one-reply RaiseAuto = refl
+  one-reply (Ceiling x) =
+      step-alike a b so_far n (Ceiling x) (for-none (λ s. set_ceiling a n s x) (λ s. set_ceiling b n s x) (λ s e. ceiling-alike core a b on_a on_b n s e x))
+  one-reply (Raise x) = step-alike a b so_far n (Raise x) (raise-alike core a b on_a on_b x)
+  one-reply RaiseAuto = step-alike a b so_far n RaiseAuto (raise-auto-alike core a b on_a on_b)
   one-reply (Tidy count) = refl
   one-reply Stat = step-alike a b so_far n Stat (stat-alike core a b on_a on_b n)
   one-reply (Show x) = step-alike a b so_far n (Show x) (show-alike core a b on_a on_b n x)

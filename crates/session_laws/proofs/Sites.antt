@@ -66,7 +66,7 @@ open-for book n s e = go (entry_of n book.sessions) refl
     go (Some k) f = record { kept = k; found = f; same = same_Some (session_of k) s (sym (entry-mapped session_of n book.sessions ∙ ap (option_map session_of) f) ∙ e) }
 
 -- a session's ceiling is kept
-ceiling-is_kept : (core : Core) (site : Site) → CoreStands core site → (n : ℕ) (s : Session) → entry_of n site.sessions ≡ Some s → IsTrue (is_kept site.dag site.collected s.ceiling)
+pub ceiling-is_kept : (core : Core) (site : Site) → CoreStands core site → (n : ℕ) (s : Session) → entry_of n site.sessions ≡ Some s → IsTrue (is_kept site.dag site.collected s.ceiling)
 ceiling-is_kept core site stands n s e =
     let table = core.store.table in
     let o = open-for core.book n s (ap (entry_of n) stands.sessions ∙ e) in

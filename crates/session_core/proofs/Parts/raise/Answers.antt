@@ -1,11 +1,9 @@
 use Rattle.std.proofs.Common.{◌≡◌, ◌∙◌, Some, refl, sym, ap, ap₂, subst}
 use Rattle.std.proofs.lemmas.Option.{same_Some}
 use Rattle.tardis_base.specs.declared.replies.Refusal.TheVariants.{FloorBack}
-use Rattle.tardis_base.specs.declared.replies.Reply.TheVariants.{Raised}
 use Rattle.plain_dag.specs.Floors.{floor_of}
 use Rattle.state_dag.specs.Table.{id_at}
 use Rattle.state_dag.specs.Stands.{Stands}
-use Rattle.ceiling_book.specs.Book.{floors_of}
 use Rattle.ceiling_book.specs.Places.{ArePlaced}
 use Rattle.ceiling_book.specs.Floors.{RaisedIn}
 use Rattle.plain_site.specs.Built.{so_far}

@@ -1,10 +1,8 @@
-use Rattle.std.proofs.Common.{◌≡◌, ◌∙◌, Some, Ok, Err, true, sym, ap, ap₂, subst}
+use Rattle.std.proofs.Common.{◌≡◌, ◌∙◌, Some, Ok, true, sym, ap, ap₂, subst}
 use Rattle.std.proofs.lemmas.Option.{same_Some}
-use Rattle.tardis_base.specs.declared.ids.StateId.{StateId}
 use Rattle.tardis_base.specs.declared.replies.Reply.TheVariants.{Raised}
 use Rattle.plain_dag.specs.Above.{is_proper_ancestor}
 use Rattle.plain_dag.specs.Floors.{Floor, Sessions, automatic_floor}
-use Rattle.state_dag.specs.Table.{id_at}
 use Rattle.state_dag.specs.Stands.{Stands}
 use Rattle.ceiling_book.specs.Places.{ArePlaced}
 use Rattle.ceiling_book.specs.Floors.{AutoRaisedIn, FloorMoved}
