@@ -103,6 +103,10 @@ fn run<I: Source, O: Sink>(
 }
 
 #[cfg(test)]
+mod floor_rows;
+#[cfg(test)]
+mod floor_tests;
+#[cfg(test)]
 mod limit_tests;
 #[cfg(test)]
 mod merge_rows;

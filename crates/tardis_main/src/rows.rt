@@ -15,7 +15,8 @@ pub const TALK: &str = "\
 1 020100       1501                         a byte is left over => refused malformed
 1 06010001     1501                         a number without its flag => refused malformed
 2 0201         1502                         begin ancestor => refused notopen
-2 0c00000000   151b0c                       ceiling => refused unsupported
+2 0c00000000   1501                         a state of four bytes => refused malformed
+2 0f00000001   151b0f                       tidy => refused unsupported
 2 14ffff       151b14                       deliver => refused unsupported";
 
 /// Two sessions read both keys, and each writes another one. Then the second commits.

@@ -1,6 +1,7 @@
 //! Worked rows asked of the site's step, over requests and replies and not over their bytes.
 
 use crate::LIMITS;
+use crate::floor_rows::{BESIDE, CEILINGS, FOLLOWED, RAISED_CHAIN};
 use crate::limit_tests::note_chain;
 use crate::merge_rows::{APART, BRANCHED, CART, JOINED, MERGED_TWICE, ONE_STATE, PAST_MERGES};
 use crate::rows::{
@@ -63,7 +64,18 @@ fn steps(alloc: Global, talk: &Talk) -> Result<bool, Fail> {
 #[test]
 fn each_request_is_a_step(rt: HostRuntime) -> Result<(), Fail> {
     let alloc = rt.alloc();
-    for rows in [RIPPLE, COUNTED, LAST_COMMITS, NO_STATE, CART, PAST_MERGES] {
+    for rows in [
+        RIPPLE,
+        COUNTED,
+        LAST_COMMITS,
+        NO_STATE,
+        CART,
+        PAST_MERGES,
+        CEILINGS,
+        RAISED_CHAIN,
+        FOLLOWED,
+        BESIDE,
+    ] {
         assert!(rt; steps(alloc, &Talk::of(alloc, &[rows])?)?);
     }
     for ends in [SER_FORKS, SI_PASSES, NB_REFUSES] {

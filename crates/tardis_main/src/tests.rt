@@ -1,3 +1,4 @@
+use crate::floor_rows::{BESIDE, CEILINGS, FOLLOWED, RAISED_CHAIN};
 use crate::rows::{
     ANY_AFTER, AT_AFTER, BEHIND, COUNTED, LAST_COMMITS, NB_REFUSES, NO_STATE, RIPPLE, SER_FORKS,
     SI_PASSES, SKEWED, TALK,
@@ -165,7 +166,17 @@ fn answers(alloc: Global, tables: &[&str]) -> Result<bool, Fail> {
 #[test]
 fn worked_rows_are_answered(rt: HostRuntime) -> Result<(), Fail> {
     let alloc = rt.alloc();
-    for rows in [TALK, RIPPLE, COUNTED, LAST_COMMITS, NO_STATE] {
+    for rows in [
+        TALK,
+        RIPPLE,
+        COUNTED,
+        LAST_COMMITS,
+        NO_STATE,
+        CEILINGS,
+        RAISED_CHAIN,
+        FOLLOWED,
+        BESIDE,
+    ] {
         assert!(rt; answers(alloc, &[rows])?);
     }
     for ends in [SER_FORKS, SI_PASSES, NB_REFUSES] {
