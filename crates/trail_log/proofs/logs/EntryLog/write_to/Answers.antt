@@ -1,4 +1,4 @@
-use Rattle.std.proofs.Common.{◌≡◌, ◌+◌, ◌++◌, ℕ, List, take, ap, ◌∙◌, arith}
+use Rattle.std.proofs.Common.{◌≡◌, ◌+◌, ◌++◌, ◌≤◌, ℕ, List, length, take, ap, ◌∙◌, arith}
 use Rattle.std.specs.List.{concat}
 use Rattle.tardis_io.proofs.Told.{then}
 use Rattle.trail_log.specs.Frames.{trail_frames}
@@ -25,7 +25,7 @@ returns-in-Err-clause-bytes g c =
     let i = c.loop-chunk.chunk-index in
     then (g.O.Sink.given c.args.output.now) (g.O.Sink.given c.loop-chunk.output) (g.O.Sink.given c.write_all.new.output)
     (λ before after. after ≡ before ++ concat (take i chunks))
-    (λ before after. (lost : List ℕ) × (after ++ lost ≡ before ++ c.bytes.result.now))
+    (λ before after. (lost : List ℕ) × ((after ++ lost ≡ before ++ c.bytes.result.now) × (length lost ≤ length c.bytes.result.now)))
     (λ before after. (lost : List ℕ) × (after ++ lost ≡ before ++ trail_frames c.args.self.now.trail))
     c.loop-chunk.invariant.told c.in-Err.ensures.bytes
-    (λ x y z p q. given_part x y z (trail_frames c.args.self.now.trail) chunks i c.chunk-item.result c.loop-chunk-test.true c.chunk-item.is c.loop-chunk.invariant.all p (q.0, q.1 ∙ ap (λ t. y ++ t) c.bytes.ensures))
+    (λ x y z p q. given_part x y z (trail_frames c.args.self.now.trail) chunks i c.chunk-item.result c.loop-chunk-test.true c.chunk-item.is c.loop-chunk.invariant.all p (q.0, q.1.0 ∙ ap (λ t. y ++ t) c.bytes.ensures))
