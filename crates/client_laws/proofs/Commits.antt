@@ -20,7 +20,7 @@ use Rattle.plain_dag.specs.Landing.{landing, guarded, broken}
 use Rattle.plain_dag.specs.Entries.{entry_of, with_entry}
 use Rattle.plain_dag.specs.Floors.{Session}
 use Rattle.wire_talk.specs.Codes.{code_of}
-use Rattle.plain_site.specs.Site.{Site, SingleTxn, Txn, Single, Merge, own_count, writes_of}
+use Rattle.plain_site.specs.Site.{Site, SingleTxn, Txn, Single, Merge, own_count, writes_of, next_record}
 use Rattle.plain_site.specs.Built.{Built, is_built}
 use Rattle.plain_site.specs.Answers.{Answer, refuse, refuse_found, unless}
 use Rattle.plain_site.specs.Sessions.{begin}
@@ -28,7 +28,6 @@ use Rattle.plain_site.specs.Commits.{without_txn_of, growth_refusals, committed,
 use Rattle.plain_site.specs.Step.{served, step}
 use Rattle.plain_site.proofs.RepliesFrame.{by-txn, by-no-txn}
 use Rattle.plain_site.proofs.SoundAnswers.{AreNone, when-none, none-parts, none-appended}
-use Rattle.plain_site.proofs.SoundCommits.{next_record}
 use Rattle.client_laws.proofs.Effects.{OnlyRefuse, refuse-only, found-only, both-only}
 
 -- what holds of each refusal, and of the answer where none refuses

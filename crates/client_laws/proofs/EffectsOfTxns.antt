@@ -27,7 +27,7 @@ use Rattle.plain_dag.specs.Landing.{landing, guarded, broken}
 use Rattle.plain_dag.specs.Entries.{entry_of, with_entry, changed, without_entry}
 use Rattle.plain_dag.specs.Floors.{Session, after_commit}
 use Rattle.plain_dag.proofs.Keys.{has-new-key}
-use Rattle.plain_site.specs.Site.{Site, SingleTxn, Txn, Single, Merge, own_count, writes_of, read_states, with_txn_changed}
+use Rattle.plain_site.specs.Site.{Site, SingleTxn, Txn, Single, Merge, own_count, writes_of, read_states, with_txn_changed, next_record}
 use Rattle.plain_site.specs.Built.{Built}
 use Rattle.plain_site.specs.Answers.{Answer, refuse, refuse_found, shown, found}
 use Rattle.plain_site.specs.Sessions.{begin_at}
@@ -37,7 +37,6 @@ use Rattle.plain_site.specs.Merges.{in_order, merge_at}
 use Rattle.plain_site.specs.ClientRuns.{Told, begun, is_shown, having_got, having_put, retold, regrown, resession}
 use Rattle.plain_site.proofs.RepliesFrame.{given-good}
 use Rattle.plain_site.proofs.SoundEntries.{entry-changed, entry-changed_other, entry-with_entry, entry-with_entry_other, entry-without_entry, entry-without_entry_other}
-use Rattle.plain_site.proofs.SoundCommits.{next_record}
 use Rattle.client_laws.proofs.Dags.{value-over-one}
 use Rattle.client_laws.proofs.Records.{write-has-key, no-write-no-key}
 use Rattle.client_laws.proofs.Tellings.{KeepsReads, is_merge, IsTold, Tells, kept-more, tells-changed}

@@ -18,7 +18,7 @@ use Rattle.plain_dag.specs.Landing.{landing, guarded, broken}
 use Rattle.plain_dag.specs.Writers.{read}
 use Rattle.plain_dag.specs.Entries.{entry_of}
 use Rattle.wire_talk.specs.Codes.{code_of}
-use Rattle.plain_site.specs.Site.{Site, SingleTxn, Txn, Single, Merge, own_count}
+use Rattle.plain_site.specs.Site.{Site, SingleTxn, Txn, Single, Merge, own_count, next_record}
 use Rattle.plain_site.specs.Built.{Built, is_built}
 use Rattle.plain_site.specs.Answers.{Answer, refuse, refuse_found, unless}
 use Rattle.plain_site.specs.Commits.{with_record, without_txn_of, growth_refusals, committed, commit_below, commit_writes, commit_single, commit}
@@ -28,7 +28,6 @@ use Rattle.plain_site.specs.RowWords.{◌asks◌=>◌}
 use Rattle.plain_site.specs.ClientRuns.{history, site_after, told}
 use Rattle.plain_site.specs.ClientLaws.{ReadersEndWhereTheyRead, DeliveriesAreKept}
 use Rattle.plain_site.proofs.RepliesFrame.{by-txn}
-use Rattle.plain_site.proofs.SoundCommits.{next_record}
 use Rattle.client_laws.proofs.Dags.{value-over-one}
 use Rattle.client_laws.proofs.Records.{record-of-newest, record-stays}
 use Rattle.client_laws.proofs.Tellings.{shows-alike}

@@ -1,13 +1,13 @@
 -- The kept states that hold a key, and what is read by them.
-use Rattle.std.proofs.Common.{◌≡◌, ℕ, ◌<◌, ◌≤◌, true, false, ltb, ◌&&◌, not, List, [], ◌∷◌, filter, Option, Some, None, IsTrue, IsSome, ◌⊎◌, inl, inr, refl, sym, ap, subst, ◌∙◌, if◌then◌else◌, arith}
+use Rattle.std.proofs.Common.{◌≡◌, ℕ, ◌<◌, ◌≤◌, true, false, ltb, ◌&&◌, ◌||◌, not, List, [], ◌∷◌, filter, Option, Some, None, IsTrue, IsFalse, IsSome, ◌⊎◌, inl, inr, refl, sym, ap, subst, ◌∙◌, if◌then◌else◌, arith}
 use Rattle.std.specs.List.{list_any}
 use Rattle.std.specs.Option.{option_map, option_map_or, option_and_then}
-use Rattle.std.proofs.lemmas.Bool.{and_parts, and_from, cases_Bool, both_ways, false_from_ne_true, cond-true, cond-false, ltb-true, ltb-false}
+use Rattle.std.proofs.lemmas.Bool.{and_parts, and_from, or_cases, or_left, or_right, not-true, not_from_false, cases_Bool, both_ways, false_from_ne_true, cond-true, cond-false, ltb-true, ltb-false}
 use Rattle.std.proofs.lemmas.Option.{none-some, same_Some}
 use Rattle.tardis_base.specs.declared.ids.StateId.{StateId}
 use Rattle.tardis_base.specs.declared.records.Record.{Record}
 use Rattle.tardis_base.specs.Ids.{same_id, is_among}
-use Rattle.plain_dag.specs.States.{states, is_known, arrival, writes_key}
+use Rattle.plain_dag.specs.States.{states, is_known, arrival, writes_key, parents_of}
 use Rattle.plain_dag.specs.Above.{is_above}
 use Rattle.plain_dag.specs.Writers.{is_writer, latest_writer, version_at, read}
 use Rattle.plain_dag.specs.Landing.{is_between, is_news}
@@ -16,7 +16,8 @@ use Rattle.plain_dag.specs.Dag.{IsDag}
 use Rattle.plain_dag.specs.Laws.{IsLatestWriter, HasOneLatestWriter, StandInsAreShared, StandsInWell}
 use Rattle.plain_dag.proofs.Ids.{same_test, not-both, same_id-true, same_id_self, among-first, among-later, among-cases, any-witness, any-from}
 use Rattle.plain_dag.proofs.Searches.{filtered-passes, among-filter}
-use Rattle.plain_dag.proofs.Order.{above-reflexive, above-transitive, ancestors-arrive-earlier, ancestors-are-known}
+use Rattle.plain_dag.proofs.Order.{above-reflexive, above-transitive, above-antisymmetric, above-along-edges, ancestors-arrive-earlier, ancestors-are-known}
+use Rattle.plain_dag.proofs.States.{child_arrives_later, children_know_parent}
 use Rattle.plain_dag.proofs.LatestWriter.{one-latest-writer}
 use Rattle.plain_dag.proofs.StandIns.{stands-in-well}
 use Rattle.state_dag.proofs.Known.{kept-is_listed, listed-is_kept}
@@ -277,3 +278,41 @@ module _ (rs : List Record) (ks : List StateId) (dag : IsDag rs) (shared : Stand
                 ∙ sym (any-from (λ w. writes_key rs k w && is_between rs s c w) (states rs) l here
                 (and_from (writes_key rs k l) (is_between rs s c l) parts.0 (and_from (is_above rs l c) (not (is_above rs l s)) parts.1 (ap not f))))
           ]
+
+  -- of a kept state whose only parent is kept, the key is news to that parent exactly where the state holds it
+  pub child-news : (k : List ℕ) (s c : StateId) → IsTrue (is_kept rs ks s) → IsTrue (is_kept rs ks c) → parents_of rs c ≡ s ∷ [] → holds_key rs ks k c ≡ is_news rs s c k
+  child-news k s c kept_s kept_c lone = same_test (holds_key rs ks k c) (is_news rs s c k) told held
+    where
+      -- what is at or above the child is the child or at or above the parent
+      split : (w : StateId) → is_above rs w c ≡ (same_id w c || (is_above rs w s || false))
+      split w = above-along-edges rs dag w c ∙ ap (λ ps. same_id w c || list_any (is_above rs w) ps) lone
+
+      -- the child isn't at or above its parent
+      apart : IsFalse (is_above rs c s)
+      apart = false_from_ne_true (is_above rs c s) (λ h.
+          let down : IsTrue (is_above rs s c) = split s ∙ or_right (same_id s c) (is_above rs s s || false) (or_left (is_above rs s s) false (above-reflexive rs s)) in
+          let one = above-antisymmetric rs dag c s h down in
+          let later = child_arrives_later rs dag s c (children_know_parent rs dag s c ∙ (ap (λ ps. is_among s ps) lone ∙ among-first s [])) in
+          absurd (let same : arrival rs c ≡ arrival rs s = ap (arrival rs) one in omega arith))
+
+      told : IsTrue (holds_key rs ks k c) → IsTrue (is_news rs s c k)
+      told h =
+          let w = holder-writes k c h in
+          let here = well.tells w.0 c w.1 kept_c ∙ subst (λ y. IsTrue (is_above rs y c)) (sym w.3) (above-reflexive rs c) in
+          let there = well.tells w.0 s w.1 kept_s ∙ subst (λ y. IsFalse (is_above rs y s)) (sym w.3) apart in
+          any-from (λ w. writes_key rs k w && is_between rs s c w) (states rs) w.0 w.1
+          (and_from (writes_key rs k w.0) (is_between rs s c w.0) w.2 (and_from (is_above rs w.0 c) (not (is_above rs w.0 s)) here (not_from_false (is_above rs w.0 s) there)))
+
+      held : IsTrue (is_news rs s c k) → IsTrue (holds_key rs ks k c)
+      held h =
+          let w = any-witness (λ w. writes_key rs k w && is_between rs s c w) (states rs) h in
+          let parts = and_parts (writes_key rs k w.0) (is_between rs s c w.0) w.2 in
+          let between = and_parts (is_above rs w.0 c) (not (is_above rs w.0 s)) parts.1 in
+          let is_child : w.0 ≡ c = elim (or_cases (same_id w.0 c) (is_above rs w.0 s || false) (sym (split w.0) ∙ between.0)) [
+            | inl e ↦ same_id-true w.0 c e
+            | inr n ↦ elim (or_cases (is_above rs w.0 s) false n) [
+              | inl there ↦ not-both (is_above rs w.0 s) there (not-true (is_above rs w.0 s) between.1)
+              | inr none ↦ not-both true refl (sym none)
+            ]
+          ] in
+          subst (λ y. IsTrue (holds_key rs ks k y)) (ap (stand_in rs ks) is_child ∙ well.stays c kept_c) (writer-holds k w.0 w.1 parts.0)

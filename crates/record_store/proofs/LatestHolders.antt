@@ -1,7 +1,6 @@
 -- The holders that reads find, and the keys that a state holds.
-use Rattle.std.proofs.Common.{◌≡◌, ℕ, Bool, true, false, ltb, List, [], ◌∷◌, map, filter, Option, Some, None, is_some, IsTrue, IfSome, inl, inr, refl, sym, ap, subst, ◌∙◌}
+use Rattle.std.proofs.Common.{◌≡◌, ℕ, Bool, true, false, ltb, List, [], ◌∷◌, filter, Option, Some, None, is_some, IsTrue, IfSome, inl, inr, refl, sym, ap, subst, ◌∙◌}
 use Rattle.std.specs.Option.{option_map, option_map_or, option_and_then}
-use Rattle.std.specs.Prelude.{if◌then◌else◌}
 use Rattle.std.proofs.lemmas.Bool.{cases_Bool, cond-true, cond-false, both_ways}
 use Rattle.std.proofs.lemmas.Option.{same_Some}
 use Rattle.tardis_base.specs.declared.ids.StateId.{StateId}
@@ -12,7 +11,7 @@ use Rattle.tardis_base.specs.Ids.{is_among}
 use Rattle.plain_dag.specs.States.{arrival}
 use Rattle.plain_dag.specs.Above.{is_above}
 use Rattle.plain_dag.specs.Writers.{latest_writer}
-use Rattle.plain_dag.specs.Collection.{is_kept, stand_in}
+use Rattle.plain_dag.specs.Collection.{stand_in}
 use Rattle.plain_dag.proofs.Ids.{same_test}
 use Rattle.state_dag.specs.Table.{Entry, Table, entry_at, id_at, is_slot, is_entry_above, is_slot_above, arrival_at, arrive_in_order}
 use Rattle.state_dag.proofs.Standing.{slot-is_kept}

@@ -3,7 +3,7 @@
 //! What a read, a write and a new state mean is stated in `docs/MODEL.md`.
 #![tactic(auto)]
 
-ghost use Rattle.std.specs.Prelude.{◌≡◌, ◌+◌, ◌-◌, ◌≤◌, ℕ, List, [], ◌∷◌, length, map, take, Option, Some, None, slice_get, unwrap_or, IsTrue, IfOk, IfSome, OnOk, OnErr};
+ghost use Rattle.std.specs.Prelude.{◌≡◌, true, ◌+◌, ◌-◌, ◌≤◌, ℕ, List, [], ◌∷◌, length, map, take, Option, Some, None, slice_get, unwrap_or, IsTrue, IfOk, IfSome, OnOk, OnErr};
 ghost use Rattle.std.specs.List.{list_all};
 ghost use Rattle.std.specs.Option.{option_map, option_and_then};
 ghost use Rattle.tardis_base.specs.declared.ids.StateId.{StateId};
@@ -11,7 +11,7 @@ ghost use Rattle.tardis_base.specs.declared.ids.Slot.{Slot};
 ghost use Rattle.tardis_base.specs.declared.records.Record.{Record};
 ghost use Rattle.tardis_base.specs.Keys.{is_key_among};
 ghost use Rattle.tardis_base.specs.Valid.{are_limits};
-ghost use Rattle.plain_dag.specs.States.{root_record, record_at};
+ghost use Rattle.plain_dag.specs.States.{root_record, record_at, parents_of};
 ghost use Rattle.plain_dag.specs.Writers.{read, latest_writer};
 ghost use Rattle.plain_dag.specs.Landing.{is_news};
 ghost use Rattle.plain_dag.specs.Collection.{stand_in};
@@ -201,9 +201,34 @@ impl RecordStore {
     /// Whether the key is news of the child to the state at `from`: whether a state at or above the child, and not at or
     /// above `from`, writes it.
     ///
-    /// Only the latest writer at the child is asked, since all others there are at or above it. The cost is that of `read_at`
+    /// Of a child with no other parent only its own writes are news, so the cost is that of looking its keys up. Of any other
+    /// only the latest writer at the child is asked, since all others there are at or above it: the cost is that of `read_at`
     /// at the child, and of one question of ancestry.
     pub fn is_news(&self, from: Slot, child: Slot, key: &Key) -> bool
+        requires from { IsTrue (is_slot self.now.table from) }
+        requires child { IsTrue (is_slot self.now.table child) }
+        ensures { (rs : List Record) (ks : List StateId) → StoreStands self.now rs ks → (x c : StateId) → id_at self.now.table from ≡ Some x
+            → id_at self.now.table child ≡ Some c → result ≡ is_news rs x c key.now }
+    {
+        if self.is_only_parent(from, child) {
+            is_one_of(key, self.keys_at(child))
+        } else {
+            self.is_latest_news(from, child, key)
+        }
+    }
+
+    /// Whether the state at `from` is the child's parent, and the only one.
+    fn is_only_parent(&self, from: Slot, child: Slot) -> bool
+        requires from { IsTrue (is_slot self.now.table from) }
+        requires child { IsTrue (is_slot self.now.table child) }
+        ensures { result ≡ true → (rs : List Record) (ks : List StateId) → StoreStands self.now rs ks → (x c : StateId)
+            → id_at self.now.table from ≡ Some x → id_at self.now.table child ≡ Some c → parents_of rs c ≡ x ∷ [] }
+    {
+        is_lone(self.dag.id_of(from), self.dag.parents(child))
+    }
+
+    /// Whether the latest writer of the key at the child isn't at or above `from`.
+    fn is_latest_news(&self, from: Slot, child: Slot, key: &Key) -> bool
         requires from { IsTrue (is_slot self.now.table from) }
         requires child { IsTrue (is_slot self.now.table child) }
         ensures { (rs : List Record) (ks : List StateId) → StoreStands self.now rs ks → (x c : StateId) → id_at self.now.table from ≡ Some x
@@ -270,6 +295,20 @@ impl RecordStore {
         }
         slots
     }
+}
+
+/// Whether the state stands alone among these.
+fn is_lone(state: StateId, states: &[StateId]) -> bool
+    ensures { result ≡ true → states.now ≡ state ∷ [] }
+{
+    states.len() == 1 && states[0] == state
+}
+
+/// Whether the key is one of these.
+fn is_one_of(key: &Key, keys: &[Key]) -> bool
+    ensures { result ≡ is_key_among key.now keys.now }
+{
+    keys.iter().any(|own| key == own)
 }
 
 /// What was written where this was found.

@@ -1,4 +1,4 @@
-use Rattle.std.proofs.Common.{◌≡◌, ◌++◌, List, IsTrue, length, take, refl, sym, ap, ap₂, subst, ◌∙◌, Err}
+use Rattle.std.proofs.Common.{◌++◌, List, IsTrue, take, refl, sym, ap₂, subst, ◌∙◌, Err}
 use Rattle.std.proofs.Math.Seq.{take-append_seam}
 use Rattle.tardis_base.specs.Keys.{KeyWrite, write_of}
 use Rattle.state_dag.specs.Table.{is_kept_at, arrival_at}
