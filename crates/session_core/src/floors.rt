@@ -22,7 +22,8 @@ impl Parts {
     /// Refused where no session is open (NotOpen), where it has a transaction (TxnOpen), where there is no such state
     /// (Unknown), and where the ceiling isn't at or above it (CeilingBack). A collected state is above every ceiling.
     pub(crate) fn set_ceiling(&mut self, actor: u16, state: StateId) -> Result<Reply, Stop>
-        ensures given { (site : Site) → CoreStands self.old site → IsSound so_far site → GivesOrStops (CoreStands self.new) (without_txn site actor (λ s. set_ceiling_of site actor s state)) site result }
+        ensures given { (site : Site) → CoreStands self.old site → IsSound so_far site
+            → GivesOrStops (CoreStands self.new) (without_txn site actor (λ s. set_ceiling_of site actor s state)) site result }
         ensures sure { NeedsNoMemory result }
     {
         self.no_txn(actor)?;
