@@ -4,6 +4,7 @@ pub mod Following
 pub mod Rising
 pub mod LeafSlots
 pub mod KeptSlots
+pub mod KeptEntries
 pub mod Known
 pub mod Counting
 pub mod Branches

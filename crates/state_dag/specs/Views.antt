@@ -1,6 +1,7 @@
 -- How the table reads its memory.
 use Rattle.std.specs.Prelude.{ℕ, ◌+◌, Bool, ◌==◌, length, List, [], ◌∷◌, Option, Some, None, slice_get, if◌then◌else◌}
 use Rattle.std.specs.Option.{option_map}
+use Rattle.std.specs.List.{cons_option}
 use Rattle.tardis_base.specs.declared.ids.StateId.{StateId}
 use Rattle.tardis_base.specs.declared.ids.Slot.{Slot}
 use Rattle.tardis_base.specs.Ids.{same_id}
@@ -23,6 +24,11 @@ entry_of place node = record {
 abbrev pub entries_from : ℕ → List Node → List Entry
 entries_from place [] = []
 entries_from place (node ∷ nodes) = entry_of place node ∷ entries_from (place + 1) nodes
+
+-- the entries of the nodes in these slots
+abbrev pub entries_in : List Node → List Slot → List Entry
+entries_in nodes [] = []
+entries_in nodes (slot ∷ slots) = cons_option (option_map (entry_of slot.0) (slice_get nodes slot.0)) (entries_in nodes slots)
 
 -- the entry's state has no child
 abbrev pub is_childless : Entry → Bool

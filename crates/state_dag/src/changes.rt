@@ -79,3 +79,14 @@ pub fn set_count(counts: &mut Vec<u32>, site: u16, count: u32)
 {
     counts[site as usize - 1] = count;
 }
+
+/// Puts the node into the slot, where there is room: the place of a node that says nothing, or the one behind all, which is
+/// listed then.
+pub fn put_node(nodes: &mut Vec<Node>, order: &mut Vec<Slot>, slot: Slot, node: Node) {
+    if (slot.0 as usize) < nodes.len() {
+        nodes[slot.0 as usize] = node;
+    } else {
+        let _ = nodes.push(node);
+        let _ = order.push(slot);
+    }
+}

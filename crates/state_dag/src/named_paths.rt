@@ -9,36 +9,47 @@ use fork_path::ForkPath;
 use std::alloc::{AllocError, Global};
 use tardis_base::{NoMemory, PathList, StateId};
 
-/// The pairs of the path in their order, each with the id of the node at its fork's place.
+/// A branch of a fork that has a node.
+#[derive(Clone, Copy)]
+struct NamedPair {
+    arrival: u64,
+    branch: u32,
+    fork: StateId,
+}
+
+/// The pairs of the path, each with the id of the node in its fork's slot, by the fork's arrival and then by number.
 ///
 /// A pair whose fork has no node is left out. A table that stands for a history has no such pair.
-pub fn named_path(alloc: Global, nodes: &[Node], path: &ForkPath) -> Result<PathList, NoMemory>
-    ensures { IfOk result (λ list. list ≡ filter_map (named_pair nodes.now) path.now.pairs) }
-{
-    let pairs = named_pairs(alloc, nodes, path.as_slice())?;
+pub fn named_path(alloc: Global, nodes: &[Node], path: &ForkPath) -> Result<PathList, NoMemory> {
+    let mut named = named_pairs(alloc, nodes, path.as_slice())?;
+    named.sort_by_key(|pair| (pair.arrival, pair.branch))?;
+    let pairs = named
+        .iter()
+        .map(|pair| (pair.fork, pair.branch))
+        .collect(alloc)?;
     Ok(PathList::from_vec(pairs))
 }
 
-/// The pairs in their order, each with the id of the node at its fork's place, without those that have no such node.
+/// The pairs in their order, each with what the node in its fork's slot says, without those that have no such node.
 fn named_pairs(
     alloc: Global,
     nodes: &[Node],
     pairs: &[(u32, u32)],
-) -> Result<Vec<(StateId, u32)>, AllocError>
-    ensures { IfOk result (λ named. named.items ≡ filter_map (named_pair nodes.now) pairs.now) }
-{
+) -> Result<Vec<NamedPair>, AllocError> {
     pairs
         .iter()
         .filter_map(|pair| pair_named(nodes, *pair))
         .collect(alloc)
 }
 
-/// The pair with the id of the node at its fork's place, if there is one.
-fn pair_named(nodes: &[Node], pair: (u32, u32)) -> Option<(StateId, u32)>
-    ensures { result ≡ named_pair nodes.now pair }
-{
-    let (place, branch) = pair;
-    nodes.get(place as usize).map(|node| (node.id, branch))
+/// The pair with what the node in its fork's slot says, if there is one.
+fn pair_named(nodes: &[Node], pair: (u32, u32)) -> Option<NamedPair> {
+    let (slot, branch) = pair;
+    nodes.get(slot as usize).map(|node| NamedPair {
+        arrival: node.arrival,
+        branch,
+        fork: node.id,
+    })
 }
 
 #[cfg(test)]
