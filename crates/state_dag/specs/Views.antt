@@ -39,6 +39,13 @@ abbrev pub slot_or : Option Slot → Option Slot → Option Slot
 slot_or (Some slot) other = Some slot
 slot_or None other = other
 
+-- the last of these slots that has the state
+abbrev pub slot_of_id : List Entry → StateId → Option Slot
+slot_of_id [] x = None
+slot_of_id (e ∷ es) x =
+    let later = slot_of_id es x in
+    slot_or later (if same_id x e.id then Some e.slot else None)
+
 -- the last place, from this one on, of the state
 abbrev pub place_of_id : ℕ → List Node → StateId → Option Slot
 place_of_id place [] x = None
