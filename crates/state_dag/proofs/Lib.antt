@@ -5,6 +5,10 @@ pub mod Rising
 pub mod LeafSlots
 pub mod KeptSlots
 pub mod KeptEntries
+pub mod Memory
+pub mod NextSlot
+pub mod Became
+pub mod KeptTables
 pub mod Known
 pub mod Counting
 pub mod Branches

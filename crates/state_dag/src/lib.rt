@@ -1,7 +1,7 @@
 //! The table of states: their order by arrival numbers and fork paths.
 #![tactic(auto)]
 
-ghost use Rattle.std.specs.Prelude.{◌≡◌, ℕ, ◌+◌, ◌-◌, ◌≤◌, ◌<◌, false, unwrap_or, slice_get, Some, None, List, [], ◌∷◌, length, map, IsTrue, IfOk, IfSome, OnErr};
+ghost use Rattle.std.specs.Prelude.{◌≡◌, ℕ, ◌+◌, ◌-◌, ◌≤◌, ◌<◌, false, unwrap_or, slice_get, slice_index_or, Some, None, List, [], ◌∷◌, length, map, IsTrue, IfOk, IfSome, OnErr};
 ghost use Rattle.std.specs.List.{list_all};
 ghost use Rattle.std.specs.Option.{option_and_then, option_map};
 ghost use Rattle.tardis_base.specs.declared.ids.StateId.{StateId};
@@ -15,7 +15,7 @@ ghost use Rattle.plain_dag.specs.Forks.{leaves};
 ghost use Rattle.plain_dag.specs.Begin.{last_arrived};
 ghost use Rattle.plain_dag.specs.Collection.{is_kept, kept_states, stand_in};
 ghost use Rattle.plain_dag.specs.Paths.{fork_path};
-ghost use Rattle.state_dag.specs.Table.{entry_at, id_at, is_slot, is_kept_at, arrival_at, is_slot_above};
+ghost use Rattle.state_dag.specs.Table.{Entry, entry_at, id_at, is_slot, is_kept_at, arrival_at, is_slot_above};
 ghost use Rattle.state_dag.specs.Views.{entry_of};
 ghost use Rattle.state_dag.specs.Stands.{Stands};
 ghost use Rattle.state_dag.specs.Shared.{shared_stand_in};
@@ -39,7 +39,7 @@ use leads::gains;
 use named_paths::named_path;
 use nodes::{Node, ROOT, first_from, is_node_above, node_at, root_node};
 use rooms::make_room;
-use slots::{common_slot, drop_slots, make_slot_room, put_slot, slot_in};
+use slots::{common_slot, drop_slots, list_slot, make_slot_room, next_slot, put_slot, slot_at, slot_in};
 use std::alloc::Global;
 use std::collections::BTreeMap;
 use std::marker::Model;
@@ -131,22 +131,18 @@ impl StateDag {
         }
         let alloc = *self.nodes.allocator();
         let node = new_node(alloc, &self.nodes, parents, id, self.known)?;
-        let gains = gains(
-            alloc,
-            &self.nodes,
-            self.kept_slots(),
-            parents,
-            &self.limits,
-        )?;
+        let kept = &self.order[..self.kept as usize];
+        let gains = gains(alloc, &self.nodes, kept, parents, &self.limits)?;
         check_path(&node, &self.limits)?;
         make_room(&mut self.nodes, parents, &gains)?;
         make_slot_room(&mut self.order)?;
         make_slot_room(&mut self.leaves)?;
-        let slot = self.next_slot();
+        let slot = next_slot(&self.order, self.kept);
         put_slot(&mut self.slots, id, slot)?;
         drop_slots(&self.nodes, &mut self.leaves, parents);
         grow(&mut self.nodes, parents, &gains, id, slot);
-        put_node(&mut self.nodes, &mut self.order, slot, node);
+        put_node(&mut self.nodes, slot, node);
+        list_slot(&mut self.order, self.kept, slot);
         self.leaves.push_reserved(slot);
         self.kept += 1;
         set_count(&mut self.counts, id.site, id.sequence);
@@ -189,22 +185,22 @@ impl StateDag {
         ensures { result ≡ is_slot self.now slot }
     {
         match node_at(&self.nodes, slot) {
-            Some(node) => self.kept_slots().get(self.place(node.arrival)) == Some(&slot),
+            Some(node) => {
+                let kept = self.kept_slots();
+                let place = first_from(&self.nodes, kept, node.arrival);
+                place < kept.len() && kept[place] == slot
+            },
             None => false,
         }
     }
 
-    /// The slot that the next state gets: one in which no state is kept, or else a new one.
-    fn next_slot(&self) -> Slot {
-        match self.order.get(self.kept as usize) {
-            Some(slot) => *slot,
-            None => Slot(self.kept),
-        }
-    }
-
-    /// How many kept states arrived before so many others had.
-    fn place(&self, arrival: u64) -> usize {
-        first_from(&self.nodes, self.kept_slots(), arrival)
+    /// How many of the kept states arrived before the one at the slot.
+    fn place(&self, slot: Slot) -> usize
+        requires { IsTrue (is_slot self.now slot) }
+        ensures within { result < length self.now.entries }
+        ensures at { (d : Entry) → (slice_index_or self.now.entries result d).slot ≡ slot }
+    {
+        first_from(&self.nodes, self.kept_slots(), self.node(slot).arrival)
     }
 
     /// Which state is kept at the slot, in constant time.
@@ -268,6 +264,7 @@ impl StateDag {
     /// The slot of the state that arrived last, in constant time.
     pub fn last(&self) -> Slot
         ensures slot { IsTrue (is_slot self.now result) }
+        ensures end { slot_after self.now.entries (Some result) ≡ None }
         ensures last { (rs : List Record) (ks : List StateId) → Stands self.now rs ks → id_at self.now result ≡ Some (last_arrived rs) }
     {
         self.order[self.kept as usize - 1]
@@ -346,10 +343,10 @@ impl StateDag {
         ensures next { (rs : List Record) (ks : List StateId) → Stands self.now rs ks → (s : Slot) (x : StateId) → slot ≡ Some s → id_at self.now s ≡ Some x → option_and_then (id_at self.now) result ≡ next_of (kept_states rs ks) (Some x) }
     {
         match slot {
-            None => self.kept_slots().first().copied(),
+            None => slot_at(self.kept_slots(), 0),
             Some(slot) => {
-                let place = self.place(self.node(slot).arrival);
-                self.kept_slots().get(place + 1).copied()
+                let place = self.place(slot);
+                slot_at(self.kept_slots(), place + 1)
             },
         }
     }
@@ -365,9 +362,9 @@ impl StateDag {
         ensures before { (rs : List Record) (ks : List StateId) → Stands self.now rs ks → (s : Slot) (x : StateId) → slot ≡ Some s → id_at self.now s ≡ Some x → next_of (kept_states rs ks) (option_and_then (id_at self.now) result) ≡ Some x }
     {
         match slot {
-            None => self.kept_slots().last().copied(),
+            None => Some(self.last()),
             Some(slot) => {
-                let place = self.place(self.node(slot).arrival);
+                let place = self.place(slot);
                 if place == 0 {
                     None
                 } else {
