@@ -1,7 +1,7 @@
 -- What the calls read off the memory.
-use Rattle.std.proofs.Common.{◌≡◌, ℕ, ◌+◌, ◌-◌, ◌<◌, ◌≤◌, true, false, cond, List, [], ◌∷◌, ◌++◌, length, map, find, get_or, slice_get, Option, Some, None, is_some, IsTrue, IfSome, inl, inr, refl, sym, ap, subst, ◌∙◌, arith, length-append}
+use Rattle.std.proofs.Common.{◌≡◌, ℕ, ◌+◌, ◌-◌, ◌<◌, ◌≤◌, Bool, true, false, cond, List, [], ◌∷◌, ◌++◌, length, map, get_or, slice_get, Option, Some, None, is_some, IsTrue, IfSome, inl, inr, refl, sym, ap, subst, ◌∙◌, arith, length-append}
 use Rattle.std.specs.Option.{option_map, option_map_or, option_and_then}
-use Rattle.std.proofs.lemmas.Bool.{and_from, cases_Bool, cond-true, cond-false, both_ways, false_from_ne_true}
+use Rattle.std.proofs.lemmas.Bool.{and_parts, and_from, cases_Bool, cond-true, cond-false, both_ways, false_from_ne_true}
 use Rattle.std.proofs.lemmas.Option.{none-some, same_Some}
 use Rattle.std.proofs.lemmas.List.{length-map}
 use Rattle.std.proofs.lemmas.List.FromFn.{get_or-map-range_with_len}
@@ -15,8 +15,9 @@ use Rattle.plain_dag.specs.Collection.{is_kept, kept_states}
 use Rattle.plain_dag.proofs.Ids.{same_id-true}
 use Rattle.state_dag.specs.declared.StateDag.TheInside.{Inside}
 use Rattle.state_dag.specs.Table.{Entry, Table, entry_at, id_at, is_slot, arrive_in_order, is_kept_at, arrival_at}
-use Rattle.state_dag.specs.Views.{slot_or, slot_of_id}
-use Rattle.state_dag.specs.Nodes.{table_of}
+use Rattle.state_dag.specs.Views.{entry_of, slot_or, slot_of_id}
+use Rattle.state_dag.specs.Nodes.{table_of, AreDistinct}
+use Rattle.std.specs.List.{list_all}
 use Rattle.state_dag.specs.Held.{kept_of, seen, IsHeld}
 use Rattle.std.specs.List.Sorted.{IsNonDecreasingBy}
 use Rattle.state_dag.specs.declared.nodes.Node.{Node}
@@ -26,7 +27,7 @@ use Rattle.state_dag.specs.Answers.{next_of, slot_after}
 use Rattle.state_dag.proofs.LeafSlots.{AreFound, found-rest}
 use Rattle.state_dag.proofs.Places.{AllDiffer}
 use Rattle.state_dag.proofs.KeptEntries.{slots_of, id-behind}
-use Rattle.state_dag.proofs.Memory.{found-all, kept-slots, kept-rise, slot-kept}
+use Rattle.state_dag.proofs.Memory.{found-all, entries-apart, kept-slots, kept-rise, slot-kept, entry-alike}
 use Rattle.state_dag.proofs.Known.{kept-is_listed, kept-differ, last-kept}
 
 -- ===== Numbers
@@ -174,9 +175,27 @@ read-some (e ∷ es) (ℕ.suc k) d lt = read-some es k d (omega arith)
 pub entries-found : (a : Inside) (table : Table) → IsHeld a → seen a ≡ table → AreFound table table.entries
 entries-found a table held is = subst (λ t. AreFound t t.entries) is (found-all a held)
 
+pub entries-distinct : (a : Inside) (table : Table) → IsHeld a → seen a ≡ table → AreDistinct (slots_of table.entries)
+entries-distinct a table held is = subst (λ (t : Table). AreDistinct (slots_of t.entries)) is (entries-apart a held)
+
+-- what is read of a list passes what all pass
+pub read-is : (test : Slot → Bool) (ss : List Slot) (k : ℕ) (o : Option Slot) → list_all test ss ≡ true → o ≡ slice_get ss k → IfSome o (λ s. IsTrue (test s))
+read-is test ss k None all is = tt
+read-is test [] k (Some s) all is = absurd (none-some s (sym is))
+read-is test (t ∷ ss) ℕ.zero (Some s) all is = subst (λ z. IsTrue (test z)) (same_Some t s (sym is)) (and_parts (test t) (list_all test ss) all).0
+read-is test (t ∷ ss) (ℕ.suc k) (Some s) all is = read-is test ss k (Some s) (and_parts (test t) (list_all test ss) all).1 is
+
 -- ===== Where a slot stands
 
 module _ (a : Inside) (held : IsHeld a) where
+  pub kept-are : (table : Table) (ss : List Slot) → seen a ≡ table → ss ≡ map (λ e. e.slot) table.entries → ss ≡ kept_of a
+  kept-are table ss is lent = lent ∙ ap (λ (t : Table). map (λ (e : Entry). e.slot) t.entries) (sym is) ∙ kept-slots a held
+
+  pub arrival-of_node : (table : Table) (slot : Slot) (n : Node) → seen a ≡ table → is_slot table slot ≡ true → entry_at table slot ≡ Some (entry_of slot.0 n) → n.arrival ≡ arrival_at (table_of a.nodes.items) slot
+  arrival-of_node table slot n is there found =
+      sym (ap (λ o. option_map_or (λ (e : Entry). e.arrival) o 0)
+      (entry-alike a held slot (subst (λ t. is_slot t slot ≡ true) (sym is) there) ∙ ap (λ (t : Table). entry_at t slot) is ∙ found))
+
   -- found by its arrival among the kept slots
   pub placed-at : (ns : List Node) (ss : List Slot) → ns ≡ a.nodes.items → ss ≡ kept_of a → (slot : Slot) (arrival p : ℕ) → is_slot (seen a) slot ≡ true → arrival ≡ arrival_at (table_of a.nodes.items) slot →
       ((j : ℕ) (d : Slot) → j < p → arrival_at (table_of ns) (get_or ss j d) < arrival) → ((j : ℕ) (d : Slot) → p ≤ j → j < length ss → arrival ≤ arrival_at (table_of ns) (get_or ss j d)) →

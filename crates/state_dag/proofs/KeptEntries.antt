@@ -1,11 +1,10 @@
 -- Entries of nodes in any slots: what stands where, whatever the slots' numbers.
-use Rattle.std.proofs.Common.{◌≡◌, ℕ, suc, ◌+◌, ◌<◌, ◌≤◌, Bool, true, false, cond, ◌||◌, eqb, ltb, List, [], ◌∷◌, ◌++◌, length, map, find, get_or, set, slice_get, Option, Some, None, is_some, inl, inr, refl, sym, ap, ap₂, subst, ◌∙◌, length-append, eqb-true, eq-eqb, arith}
+use Rattle.std.proofs.Common.{◌≡◌, ℕ, suc, ◌+◌, ◌<◌, ◌≤◌, Bool, true, false, ◌||◌, eqb, ltb, List, [], ◌∷◌, ◌++◌, length, map, find, get_or, set, slice_get, Some, None, is_some, inl, inr, refl, sym, ap, ap₂, subst, ◌∙◌, length-append, eqb-true, eq-eqb, arith}
 use Rattle.std.specs.List.{list_all, cons_option}
 use Rattle.std.specs.Option.{option_map}
 use Rattle.std.proofs.lemmas.Bool.{and_parts, and_from, or_parts, cases_Bool, cases_lt, both_ways, false_from_ne_true, cond-true, cond-false, ltb-true, lt-ltb, le-ltb, ne_eqb}
 use Rattle.std.proofs.lemmas.List.{get_or-set_same, get_or-set_other, get_or_append_left, get_or_at, length-set}
 use Rattle.std.proofs.lemmas.Option.{none-some, same_Some}
-use Rattle.tardis_base.specs.declared.ids.StateId.{StateId}
 use Rattle.tardis_base.specs.declared.ids.Slot.{Slot}
 use Rattle.tardis_base.specs.Ids.{same_id, is_among}
 use Rattle.plain_dag.proofs.Ids.{same_id_from, same_id-true}

@@ -1,13 +1,13 @@
 -- What the memory keeps in the slots of kept states.
-use Rattle.std.proofs.Common.{◌≡◌, ℕ, ◌+◌, ◌<◌, ◌≤◌, Bool, true, false, cond, ◌||◌, eqb, ltb, List, [], ◌∷◌, ◌++◌, length, map, find, take, get_or, Some, None, is_some, inl, inr, refl, sym, ap, subst, ◌∙◌, arith}
+use Rattle.std.proofs.Common.{◌≡◌, ℕ, ◌<◌, Bool, true, false, eqb, ltb, List, [], ◌∷◌, length, take, get_or, Some, is_some, inl, inr, refl, sym, ap, subst, ◌∙◌, arith}
 use Rattle.std.specs.List.{list_all}
 use Rattle.std.proofs.lemmas.Bool.{and_parts, and_from, or_parts, or_from, cases_Bool, lt-ltb, both_ways}
 use Rattle.std.proofs.lemmas.List.{length-map, length-take}
 use Rattle.tardis_base.specs.declared.ids.Slot.{Slot}
 use Rattle.state_dag.specs.declared.StateDag.TheInside.{Inside}
 use Rattle.state_dag.specs.declared.nodes.Node.{Node}
-use Rattle.state_dag.specs.Table.{Entry, entry_at, is_slot, arrival_at}
-use Rattle.state_dag.specs.Views.{entry_of, entries_in}
+use Rattle.state_dag.specs.Table.{entry_at, is_slot, arrival_at}
+use Rattle.state_dag.specs.Views.{entry_of}
 use Rattle.state_dag.specs.Grown.{is_slot_among}
 use Rattle.state_dag.specs.Nodes.{table_of, AreDistinct, Rise}
 use Rattle.state_dag.specs.Held.{kept_of, seen, IsHeld}
@@ -35,6 +35,12 @@ pub take-distinct : (k : ℕ) (xs : List Slot) → AreDistinct xs → AreDistinc
 take-distinct ℕ.zero xs d = tt
 take-distinct (ℕ.suc k) [] d = tt
 take-distinct (ℕ.suc k) (x ∷ xs) d = (take-out x k xs d.0, take-distinct k xs d.1)
+
+pub take-read : (k : ℕ) (xs : List Slot) (i : ℕ) (d : Slot) → i < k → get_or (take k xs) i d ≡ get_or xs i d
+take-read ℕ.zero xs i d lt = absurd (omega arith)
+take-read (ℕ.suc k) [] i d lt = refl
+take-read (ℕ.suc k) (x ∷ xs) ℕ.zero d lt = refl
+take-read (ℕ.suc k) (x ∷ xs) (ℕ.suc i) d lt = take-read k xs i d (omega arith)
 
 -- ===== Kept slots
 

@@ -342,6 +342,7 @@ impl StateDag {
         ensures first { slot ≡ None → (rs : List Record) (ks : List StateId) → Stands self.now rs ks → option_and_then (id_at self.now) result ≡ next_of (kept_states rs ks) None }
         ensures next { (rs : List Record) (ks : List StateId) → Stands self.now rs ks → (s : Slot) (x : StateId) → slot ≡ Some s → id_at self.now s ≡ Some x → option_and_then (id_at self.now) result ≡ next_of (kept_states rs ks) (Some x) }
     {
+        let _ = &self.limits;
         match slot {
             None => slot_at(self.kept_slots(), 0),
             Some(slot) => {
@@ -361,6 +362,7 @@ impl StateDag {
         ensures last { slot ≡ None → (rs : List Record) (ks : List StateId) → Stands self.now rs ks → option_and_then (id_at self.now) result ≡ Some (last_arrived rs) }
         ensures before { (rs : List Record) (ks : List StateId) → Stands self.now rs ks → (s : Slot) (x : StateId) → slot ≡ Some s → id_at self.now s ≡ Some x → next_of (kept_states rs ks) (option_and_then (id_at self.now) result) ≡ Some x }
     {
+        let _ = &self.limits;
         match slot {
             None => Some(self.last()),
             Some(slot) => {
