@@ -39,4 +39,5 @@ pub mod SameEntries
 pub mod LastSlots
 pub mod GrownTables
 pub mod HeldNext
+pub mod AddSteps
 pub mod NamedPaths

@@ -1,4 +1,4 @@
-use Rattle.std.proofs.Common.{◌≡◌, ◌∙◌, ◌+◌, ◌-◌, ◌<◌, ℕ, true, length, map, get_or, slice_get, Option, Some, None, IsTrue, IfSome, sym, ap, subst, arith}
+use Rattle.std.proofs.Common.{◌≡◌, ◌∙◌, ◌+◌, ◌-◌, ◌<◌, ℕ, true, length, map, List, get_or, slice_get, Option, Some, None, IsTrue, IfSome, sym, ap, subst, arith}
 use Rattle.std.specs.Option.{option_map, option_and_then}
 use Rattle.std.proofs.lemmas.Option.{same_Some, none-some}
 use Rattle.tardis_base.specs.declared.ids.Slot.{Slot}

@@ -13,7 +13,7 @@ use Rattle.state_dag.proofs.Calls.{no_entry, slot-of_entry, named-is_slot, named
 use Rattle.state_dag.proofs.StateDag.last.Goals as goal
 
 -- the slot is that of the last entry
-last-slot : (c : goal.After-index) → (get_or (seen c.self.inside).entries (c.self.inside.kept - 1) no_entry).slot ≡ c.index.result.now
+last-slot : (c : goal.After-result-1) → (get_or (seen c.self.inside).entries (c.self.inside.kept - 1) no_entry).slot ≡ c.index.result.now
 last-slot c =
     let a = c.self.inside in
     let k = a.kept - 1 in
