@@ -46,6 +46,11 @@ module _ (a b : Inside) (held : IsHeld a) (limits : b.limits ≡ a.limits) (coun
   pub seen-same : (seen b).entries ≡ (seen a).entries
   seen-same = ap (entries_in b.nodes.items) (ap₂ (λ (k : ℕ) (ss : List Slot). take k ss) kept order) ∙ entries-same b.nodes.items a.nodes.items same (kept_of a) (kept-placed a held)
 
+  pub view-same : (table : Table) → seen a ≡ table → seen b ≡ table
+  view-same table view =
+      ap₂ (λ (l : Limits) (es : List Entry). record { limits = l; counts = b.counts.items; known = b.known; entries = es }) limits seen-same
+      ∙ ap₂ (λ (cs : List ℕ) (k : ℕ). record { limits = a.limits; counts = cs; known = k; entries = (seen a).entries }) (ap (λ v. v.items) counts) known ∙ view
+
   pub held-stays : IsHeld b
   held-stays =
       let count = same-count b.nodes.items a.nodes.items same in

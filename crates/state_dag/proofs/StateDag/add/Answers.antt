@@ -1,4 +1,4 @@
-use Rattle.std.proofs.Common.{◌≡◌, ◌∙◌, ◌+◌, ◌-◌, ◌++◌, ◌∷◌, [], not, ◌<◌, ◌≤◌, ℕ, true, List, leb, ltb, length, map, filter, find, take, get_or, unwrap_or, slice_get, slice_set, Option, None, Result, Ok, Err, IsTrue, refl, sym, ap, ap₂, subst, arith}
+use Rattle.std.proofs.Common.{◌≡◌, ◌∙◌, ◌+◌, ◌-◌, ◌++◌, ◌∷◌, [], not, ◌<◌, ◌≤◌, ℕ, true, List, leb, ltb, length, map, filter, find, take, get_or, unwrap_or, slice_get, slice_set, Option, None, Result, Ok, Err, OnErr, IsTrue, refl, sym, ap, ap₂, subst, arith}
 use Rattle.std.specs.List.{list_all}
 use Rattle.std.proofs.lemmas.Bool.{ne_eqb}
 use Rattle.std.proofs.lemmas.Option.{unwrap_or-slice_get}
@@ -27,16 +27,16 @@ use Rattle.state_dag.proofs.SameEntries.{same-count, sum-within}
 use Rattle.state_dag.proofs.NextSlot.{IsNext, next-slot}
 use Rattle.state_dag.proofs.LastSlots.{slots-kept, last-named, kept-stays, last-arrives, arrives-last}
 use Rattle.state_dag.proofs.GrownTables.{distinct-from_differ, refused-alike, table-grown}
-use Rattle.state_dag.proofs.HeldNext.{seen-same, held-stays, entries-after, slot-fresh, held-next}
+use Rattle.state_dag.proofs.HeldNext.{view-same, held-stays, entries-after, slot-fresh, held-next}
 use Rattle.state_dag.proofs.AddSteps.{parents-placed, short-kept, gains-seen, none-seen, long-seen, entry-seen, gains-at_places, few-gains, all-grown, leaves-in_order, fault-answered}
 use Rattle.state_dag.proofs.Known.{limits-parts}
 use Rattle.state_dag.proofs.StateDag.add.Goals as goal
 
-pub returns-then-self-self-clause-added : goal.returns-then-self-self-clause-added
-returns-then-self-self-clause-added c = λ rs ks r stands is may.
+pub returns-then-self-clause-added : goal.returns-then-self-clause-added
+returns-then-self-clause-added c = λ rs ks r stands is may.
     let a = c.self.inside in
     let old = c.args.self.now in
-    let is_full = c.if-self-self.true in
+    let is_full = c.if-self.true in
     let equal : a.kept ≡ a.limits.max_kept = omega arith in
     full old old rs ks r c.args.parents.now stands a.kept (sym (entries-long a c.self.invariant) ∙ ap (λ (t : Table). length t.entries) c.self.view_is) (equal ∙ ap (λ (t : Table). t.limits.max_kept) c.self.view_is) refl
 
@@ -64,7 +64,7 @@ returns-in_err-gains-clause-added c = λ rs ks r stands is may.
     let fault = c.in_err-gains.field-0.0 in
     let p = err_from_is_err_and c.from_residual-in_err-gains.result c.from_residual-in_err-gains.ensures.1 in
     let wrong : AddFault → Result Slot AddFault = λ f. Err f in
-    let has_room = c.if-self-self.false in
+    let has_room = c.if-self.false in
     subst (λ (z : Result Slot AddFault). AddedTo old old rs ks r z) (sym (p.1 ∙ ap wrong p.2))
     (fault-answered a c.self.invariant old parents n c.args.id c.self.view_is (entry-seen c.self.inside c.self.invariant c.args.self.now c.self.view_is c.args.parents.now c.requires.slots c.deref.result.now c.args.id (record { 0 = 0 }) (entry_of 0 c.in_ok-node.node) c.deref.ensures.value (c.in_ok-node.ensures 0)) (λ e. omega arith) fault
     (long-told (seen a) parents n.id (length n.path.pairs) (found-all a c.self.invariant) fault (long-seen c.self.inside c.self.invariant c.args.self.now c.self.view_is c.args.parents.now c.requires.slots c.deref-3.result.now (take c.self.inside.kept c.deref-2.result.now) c.deref-3.ensures.value (ap (take c.self.inside.kept) c.deref-2.ensures.value) fault c.in_err-gains.ensures.long)) rs ks r stands is may)
@@ -78,7 +78,7 @@ returns-in_err-check_path-clause-added c = λ rs ks r stands is may.
     let fault = c.in_err-check_path.field-0.0 in
     let p = err_from_is_err_and c.from_residual-in_err-check_path.result c.from_residual-in_err-check_path.ensures.1 in
     let wrong : AddFault → Result Slot AddFault = λ f. Err f in
-    let has_room = c.if-self-self.false in
+    let has_room = c.if-self.false in
     subst (λ (z : Result Slot AddFault). AddedTo old old rs ks r z) (sym (p.1 ∙ ap wrong p.2))
     (fault-answered a c.self.invariant old parents n c.args.id c.self.view_is (entry-seen c.self.inside c.self.invariant c.args.self.now c.self.view_is c.args.parents.now c.requires.slots c.deref.result.now c.args.id (record { 0 = 0 }) (entry_of 0 c.in_ok-node.node) c.deref.ensures.value (c.in_ok-node.ensures 0)) (λ e. omega arith) fault
     (own-told (seen a) parents n.id (length n.path.pairs) (found-all a c.self.invariant) fault (none-seen c.self.inside c.self.invariant c.args.self.now c.self.view_is c.args.parents.now c.requires.slots c.deref-3.result.now (take c.self.inside.kept c.deref-2.result.now) c.deref-3.ensures.value (ap (take c.self.inside.kept) c.deref-2.ensures.value) c.in_ok-gains.ensures.long) c.in_err-check_path.ensures) rs ks r stands is may)
@@ -128,18 +128,165 @@ invariant_of-self-in_err-put_slot c =
 
 pub overflow_add-self : goal.overflow_add-self
 overflow_add-self c =
+    let within = c.self.invariant.within in
+    let most = (limits-parts c.self.inside.limits c.self.invariant.valid).kept in
+    let has_room = c.if-self.false in
+    omega arith
+
+pub overflow_add-self-2 : goal.overflow_add-self-2
+overflow_add-self-2 c =
     let sums = sum-within c.self.inside.counts.items c.self.invariant.fit in
     let sites = c.self.invariant.sites in
     let few = (limits-parts c.self.inside.limits c.self.invariant.valid).sites in
     let counted = c.self.invariant.counted in
     omega arith
 
+on_err : (r : Result Slot AddFault) (P : Type 0) → P → OnErr r P
+on_err (Ok s) P p = tt
+on_err (Err f) P p = p
+
+pub returns-in_err-make_room-clause-same : goal.returns-in_err-make_room-clause-same
+returns-in_err-make_room-clause-same c =
+    let a = c.self.inside in
+    let old = c.args.self.now in
+    let b : Inside = record { limits = a.limits; counts = a.counts; known = a.known; nodes = c.make_room.new.nodes; order = a.order; kept = a.kept; leaves = a.leaves; slots = a.slots } in
+    let stays : seen b ≡ old = view-same a b c.self.invariant refl refl refl refl refl refl c.make_room.ensures.same (λ x. refl) old c.self.view_is in
+    on_err c.from_residual-in_err-make_room.result (seen b ≡ old) stays
+
+pub returns-in_err-make_room-clause-keeps : goal.returns-in_err-make_room-clause-keeps
+returns-in_err-make_room-clause-keeps c =
+    let a = c.self.inside in
+    let old = c.args.self.now in
+    let b : Inside = record { limits = a.limits; counts = a.counts; known = a.known; nodes = c.make_room.new.nodes; order = a.order; kept = a.kept; leaves = a.leaves; slots = a.slots } in
+    let stays : seen b ≡ old = view-same a b c.self.invariant refl refl refl refl refl refl c.make_room.ensures.same (λ x. refl) old c.self.view_is in
+    subst (λ (t : Table). KeepsSlots old t) (sym stays) (λ s x h. h)
+
+pub returns-in_err-make_room-clause-kept : goal.returns-in_err-make_room-clause-kept
+returns-in_err-make_room-clause-kept c =
+    let a = c.self.inside in
+    let old = c.args.self.now in
+    let b : Inside = record { limits = a.limits; counts = a.counts; known = a.known; nodes = c.make_room.new.nodes; order = a.order; kept = a.kept; leaves = a.leaves; slots = a.slots } in
+    let stays : seen b ≡ old = view-same a b c.self.invariant refl refl refl refl refl refl c.make_room.ensures.same (λ x. refl) old c.self.view_is in
+    subst (λ (t : Table). (s : Slot) → IsTrue (is_kept_at old s) → IsTrue (is_kept_at t s) × (arrival_at t s ≡ arrival_at old s)) (sym stays) (λ s h. (h, refl))
+
+pub returns-in_err-make_room-clause-added : goal.returns-in_err-make_room-clause-added
+returns-in_err-make_room-clause-added c = λ rs ks r stands is may.
+    let a = c.self.inside in
+    let old = c.args.self.now in
+    let b : Inside = record { limits = a.limits; counts = a.counts; known = a.known; nodes = c.make_room.new.nodes; order = a.order; kept = a.kept; leaves = a.leaves; slots = a.slots } in
+    let stays : seen b ≡ old = view-same a b c.self.invariant refl refl refl refl refl refl c.make_room.ensures.same (λ x. refl) old c.self.view_is in
+    let p = err_from_is_err_and c.from_residual-in_err-make_room.result c.from_residual-in_err-make_room.ensures.1 in
+    let wrong : AddFault → Result Slot AddFault = λ f. Err f in
+    subst (λ (z : Result Slot AddFault). AddedTo old (seen b) rs ks r z) (sym (p.1 ∙ ap wrong p.2)) stays
+
+pub returns-in_err-make_slot_room-clause-same : goal.returns-in_err-make_slot_room-clause-same
+returns-in_err-make_slot_room-clause-same c =
+    let a = c.self.inside in
+    let old = c.args.self.now in
+    let b : Inside = record { limits = a.limits; counts = a.counts; known = a.known; nodes = c.make_room.new.nodes; order = c.make_slot_room.new.slots; kept = a.kept; leaves = a.leaves; slots = a.slots } in
+    let stays : seen b ≡ old = view-same a b c.self.invariant refl refl refl refl c.make_slot_room.ensures.items refl c.make_room.ensures.same (λ x. refl) old c.self.view_is in
+    on_err c.from_residual-in_err-make_slot_room.result (seen b ≡ old) stays
+
+pub returns-in_err-make_slot_room-clause-keeps : goal.returns-in_err-make_slot_room-clause-keeps
+returns-in_err-make_slot_room-clause-keeps c =
+    let a = c.self.inside in
+    let old = c.args.self.now in
+    let b : Inside = record { limits = a.limits; counts = a.counts; known = a.known; nodes = c.make_room.new.nodes; order = c.make_slot_room.new.slots; kept = a.kept; leaves = a.leaves; slots = a.slots } in
+    let stays : seen b ≡ old = view-same a b c.self.invariant refl refl refl refl c.make_slot_room.ensures.items refl c.make_room.ensures.same (λ x. refl) old c.self.view_is in
+    subst (λ (t : Table). KeepsSlots old t) (sym stays) (λ s x h. h)
+
+pub returns-in_err-make_slot_room-clause-kept : goal.returns-in_err-make_slot_room-clause-kept
+returns-in_err-make_slot_room-clause-kept c =
+    let a = c.self.inside in
+    let old = c.args.self.now in
+    let b : Inside = record { limits = a.limits; counts = a.counts; known = a.known; nodes = c.make_room.new.nodes; order = c.make_slot_room.new.slots; kept = a.kept; leaves = a.leaves; slots = a.slots } in
+    let stays : seen b ≡ old = view-same a b c.self.invariant refl refl refl refl c.make_slot_room.ensures.items refl c.make_room.ensures.same (λ x. refl) old c.self.view_is in
+    subst (λ (t : Table). (s : Slot) → IsTrue (is_kept_at old s) → IsTrue (is_kept_at t s) × (arrival_at t s ≡ arrival_at old s)) (sym stays) (λ s h. (h, refl))
+
+pub returns-in_err-make_slot_room-clause-added : goal.returns-in_err-make_slot_room-clause-added
+returns-in_err-make_slot_room-clause-added c = λ rs ks r stands is may.
+    let a = c.self.inside in
+    let old = c.args.self.now in
+    let b : Inside = record { limits = a.limits; counts = a.counts; known = a.known; nodes = c.make_room.new.nodes; order = c.make_slot_room.new.slots; kept = a.kept; leaves = a.leaves; slots = a.slots } in
+    let stays : seen b ≡ old = view-same a b c.self.invariant refl refl refl refl c.make_slot_room.ensures.items refl c.make_room.ensures.same (λ x. refl) old c.self.view_is in
+    let p = err_from_is_err_and c.from_residual-in_err-make_slot_room.result c.from_residual-in_err-make_slot_room.ensures.1 in
+    let wrong : AddFault → Result Slot AddFault = λ f. Err f in
+    subst (λ (z : Result Slot AddFault). AddedTo old (seen b) rs ks r z) (sym (p.1 ∙ ap wrong p.2)) stays
+
+pub returns-in_err-make_slot_room-2-clause-same : goal.returns-in_err-make_slot_room-2-clause-same
+returns-in_err-make_slot_room-2-clause-same c =
+    let a = c.self.inside in
+    let old = c.args.self.now in
+    let b : Inside = record { limits = a.limits; counts = a.counts; known = a.known; nodes = c.make_room.new.nodes; order = c.make_slot_room.new.slots; kept = a.kept; leaves = c.make_slot_room-2.new.slots; slots = a.slots } in
+    let stays : seen b ≡ old = view-same a b c.self.invariant refl refl refl c.make_slot_room-2.ensures.items c.make_slot_room.ensures.items refl c.make_room.ensures.same (λ x. refl) old c.self.view_is in
+    on_err c.from_residual-in_err-make_slot_room-2.result (seen b ≡ old) stays
+
+pub returns-in_err-make_slot_room-2-clause-keeps : goal.returns-in_err-make_slot_room-2-clause-keeps
+returns-in_err-make_slot_room-2-clause-keeps c =
+    let a = c.self.inside in
+    let old = c.args.self.now in
+    let b : Inside = record { limits = a.limits; counts = a.counts; known = a.known; nodes = c.make_room.new.nodes; order = c.make_slot_room.new.slots; kept = a.kept; leaves = c.make_slot_room-2.new.slots; slots = a.slots } in
+    let stays : seen b ≡ old = view-same a b c.self.invariant refl refl refl c.make_slot_room-2.ensures.items c.make_slot_room.ensures.items refl c.make_room.ensures.same (λ x. refl) old c.self.view_is in
+    subst (λ (t : Table). KeepsSlots old t) (sym stays) (λ s x h. h)
+
+pub returns-in_err-make_slot_room-2-clause-kept : goal.returns-in_err-make_slot_room-2-clause-kept
+returns-in_err-make_slot_room-2-clause-kept c =
+    let a = c.self.inside in
+    let old = c.args.self.now in
+    let b : Inside = record { limits = a.limits; counts = a.counts; known = a.known; nodes = c.make_room.new.nodes; order = c.make_slot_room.new.slots; kept = a.kept; leaves = c.make_slot_room-2.new.slots; slots = a.slots } in
+    let stays : seen b ≡ old = view-same a b c.self.invariant refl refl refl c.make_slot_room-2.ensures.items c.make_slot_room.ensures.items refl c.make_room.ensures.same (λ x. refl) old c.self.view_is in
+    subst (λ (t : Table). (s : Slot) → IsTrue (is_kept_at old s) → IsTrue (is_kept_at t s) × (arrival_at t s ≡ arrival_at old s)) (sym stays) (λ s h. (h, refl))
+
+pub returns-in_err-make_slot_room-2-clause-added : goal.returns-in_err-make_slot_room-2-clause-added
+returns-in_err-make_slot_room-2-clause-added c = λ rs ks r stands is may.
+    let a = c.self.inside in
+    let old = c.args.self.now in
+    let b : Inside = record { limits = a.limits; counts = a.counts; known = a.known; nodes = c.make_room.new.nodes; order = c.make_slot_room.new.slots; kept = a.kept; leaves = c.make_slot_room-2.new.slots; slots = a.slots } in
+    let stays : seen b ≡ old = view-same a b c.self.invariant refl refl refl c.make_slot_room-2.ensures.items c.make_slot_room.ensures.items refl c.make_room.ensures.same (λ x. refl) old c.self.view_is in
+    let p = err_from_is_err_and c.from_residual-in_err-make_slot_room-2.result c.from_residual-in_err-make_slot_room-2.ensures.1 in
+    let wrong : AddFault → Result Slot AddFault = λ f. Err f in
+    subst (λ (z : Result Slot AddFault). AddedTo old (seen b) rs ks r z) (sym (p.1 ∙ ap wrong p.2)) stays
+
+pub returns-in_err-put_slot-clause-same : goal.returns-in_err-put_slot-clause-same
+returns-in_err-put_slot-clause-same c =
+    let a = c.self.inside in
+    let old = c.args.self.now in
+    let b : Inside = record { limits = a.limits; counts = a.counts; known = a.known; nodes = c.make_room.new.nodes; order = c.make_slot_room.new.slots; kept = a.kept; leaves = c.make_slot_room-2.new.slots; slots = c.put_slot.new.slots } in
+    let stays : seen b ≡ old = view-same a b c.self.invariant refl refl refl c.make_slot_room-2.ensures.items c.make_slot_room.ensures.items refl c.make_room.ensures.same c.in_err-put_slot.ensures.same old c.self.view_is in
+    on_err c.from_residual-in_err-put_slot.result (seen b ≡ old) stays
+
+pub returns-in_err-put_slot-clause-keeps : goal.returns-in_err-put_slot-clause-keeps
+returns-in_err-put_slot-clause-keeps c =
+    let a = c.self.inside in
+    let old = c.args.self.now in
+    let b : Inside = record { limits = a.limits; counts = a.counts; known = a.known; nodes = c.make_room.new.nodes; order = c.make_slot_room.new.slots; kept = a.kept; leaves = c.make_slot_room-2.new.slots; slots = c.put_slot.new.slots } in
+    let stays : seen b ≡ old = view-same a b c.self.invariant refl refl refl c.make_slot_room-2.ensures.items c.make_slot_room.ensures.items refl c.make_room.ensures.same c.in_err-put_slot.ensures.same old c.self.view_is in
+    subst (λ (t : Table). KeepsSlots old t) (sym stays) (λ s x h. h)
+
+pub returns-in_err-put_slot-clause-kept : goal.returns-in_err-put_slot-clause-kept
+returns-in_err-put_slot-clause-kept c =
+    let a = c.self.inside in
+    let old = c.args.self.now in
+    let b : Inside = record { limits = a.limits; counts = a.counts; known = a.known; nodes = c.make_room.new.nodes; order = c.make_slot_room.new.slots; kept = a.kept; leaves = c.make_slot_room-2.new.slots; slots = c.put_slot.new.slots } in
+    let stays : seen b ≡ old = view-same a b c.self.invariant refl refl refl c.make_slot_room-2.ensures.items c.make_slot_room.ensures.items refl c.make_room.ensures.same c.in_err-put_slot.ensures.same old c.self.view_is in
+    subst (λ (t : Table). (s : Slot) → IsTrue (is_kept_at old s) → IsTrue (is_kept_at t s) × (arrival_at t s ≡ arrival_at old s)) (sym stays) (λ s h. (h, refl))
+
+pub returns-in_err-put_slot-clause-added : goal.returns-in_err-put_slot-clause-added
+returns-in_err-put_slot-clause-added c = λ rs ks r stands is may.
+    let a = c.self.inside in
+    let old = c.args.self.now in
+    let b : Inside = record { limits = a.limits; counts = a.counts; known = a.known; nodes = c.make_room.new.nodes; order = c.make_slot_room.new.slots; kept = a.kept; leaves = c.make_slot_room-2.new.slots; slots = c.put_slot.new.slots } in
+    let stays : seen b ≡ old = view-same a b c.self.invariant refl refl refl c.make_slot_room-2.ensures.items c.make_slot_room.ensures.items refl c.make_room.ensures.same c.in_err-put_slot.ensures.same old c.self.view_is in
+    let p = err_from_is_err_and c.from_residual-in_err-put_slot.result c.from_residual-in_err-put_slot.ensures.1 in
+    let wrong : AddFault → Result Slot AddFault = λ f. Err f in
+    subst (λ (z : Result Slot AddFault). AddedTo old (seen b) rs ks r z) (sym (p.1 ∙ ap wrong p.2)) stays
+
 -- the slot is the next one
 is-next : (c : goal.After-drop-gains-2) → IsNext c.self.inside c.next_slot-slot.result c.grow.new.nodes.items c.in_ok-node.node
 is-next c =
     let a = c.self.inside in
     let within = c.self.invariant.within in
-    let has_room = c.if-self-self.false in
+    let has_room = c.if-self.false in
     let one = (same-count c.make_room.new.nodes.items c.self.inside.nodes.items c.make_room.ensures.same) in
     let two = c.grow.ensures.count in
     next-slot a c.self.invariant c.next_slot-slot.result (c.next_slot-slot.ensures ∙ ap (λ (ss : List Slot). slot_after_all ss a.kept) (c.deref-5.ensures.value ∙ c.make_slot_room.ensures.items)) c.grow.new.nodes.items c.in_ok-node.node (omega arith) (omega arith)
@@ -173,7 +320,7 @@ pub put_node-requires-clause-slot : goal.put_node-requires-clause-slot
 put_node-requires-clause-slot c =
     let a = c.self.inside in
     let within = c.self.invariant.within in
-    let has_room = c.if-self-self.false in
+    let has_room = c.if-self.false in
     let one = (same-count c.make_room.new.nodes.items c.self.inside.nodes.items c.make_room.ensures.same) in
     let two = c.grow.ensures.count in
     let next = next-slot a c.self.invariant c.next_slot-slot.result (c.next_slot-slot.ensures ∙ ap (λ (ss : List Slot). slot_after_all ss a.kept) (c.deref-5.ensures.value ∙ c.make_slot_room.ensures.items)) c.grow.new.nodes.items c.in_ok-node.node (omega arith) (omega arith) in
@@ -192,7 +339,7 @@ invariant_of-self-2 c =
     let within = c.self.invariant.within in
     let sites = c.self.invariant.sites in
     let most = ap (λ (t : Table). t.limits.sites) c.self.view_is in
-    let has_room = c.if-self-self.false in
+    let has_room = c.if-self.false in
     held-next a (inside-next c) c.self.invariant c.grow.new.nodes.items n id slot parents (is-next c) (same-nodes c) c.put_node.ensures (listed c) refl (follows c) i id.sequence refl refl c.set_count.ensures.set
     c.in_ok-put_slot.ensures.put
     (c.push_reserved.ensures.items ∙ ap (λ (ss : List Slot). ss ++ slot ∷ []) (c.drop_slots.ensures.items ∙ ap (filter (λ (s : Slot). not (is_slot_among s parents))) c.make_slot_room-2.ensures.items))
@@ -253,7 +400,7 @@ returns-clause-added c = λ rs ks r stands is may.
     let kept : a.kept ≡ length old.entries = sym (entries-long a c.self.invariant) ∙ ap (λ (t : Table). length t.entries) c.self.view_is in
     let room = ne_eqb (length old.entries) old.limits.max_kept (λ e.
     let equal : a.kept ≡ a.limits.max_kept = kept ∙ e ∙ sym (ap (λ (t : Table). t.limits.max_kept) c.self.view_is) in
-    let has_room = c.if-self-self.false in
+    let has_room = c.if-self.false in
     omega arith) in
     let told = nothing-told (seen a) parents n.id (length n.path.pairs) (found-all a c.self.invariant) (none-seen c.self.inside c.self.invariant c.args.self.now c.self.view_is c.args.parents.now c.requires.slots c.deref-3.result.now (take c.self.inside.kept c.deref-2.result.now) c.deref-3.ensures.value (ap (take c.self.inside.kept) c.deref-2.ensures.value) c.in_ok-gains.ensures.long) c.in_ok-check_path.ensures in
     let seen_told = subst (λ (t : Table). path_refusal t n.id parents (length n.path.pairs) ≡ None) c.self.view_is told in
