@@ -1,5 +1,9 @@
-use Rattle.std.proofs.Common.{◌≡◌, ◌∙◌, ◌+◌, ◌++◌, ℕ, true, leb, ltb, List, [], ◌∷◌, length, map, find, take, is_some, eqb, ap₂, sum, replicate, refl, subst, sym, ap, arith, rules}
+use Rattle.std.proofs.Common.{◌≡◌, ◌∙◌, ◌+◌, ◌++◌, ℕ, true, leb, ltb, List, [], ◌∷◌, length, map, find, take, cond, Some, None, is_some, eqb, ap₂, sum, replicate, refl, subst, sym, ap, arith, rules}
 use Rattle.std.specs.List.{list_all}
+use Rattle.std.specs.BTreeMap.{get}
+use Rattle.state_dag.specs.Ids.{id_cmp}
+use Rattle.tardis_base.specs.Ids.{root, same_id}
+use Rattle.tardis_base.specs.declared.ids.StateId.{StateId}
 use Rattle.std.proofs.lemmas.Bool.{and_from, lt-ltb, le-leb}
 use Rattle.std.proofs.lemmas.List.{length-replicate}
 use Rattle.tardis_base.specs.declared.ids.Slot.{Slot}
@@ -11,7 +15,7 @@ use Rattle.state_dag.specs.Nodes.{AreDistinct}
 use Rattle.state_dag.proofs.Following.{childless_slots, leaves-last}
 use Rattle.state_dag.proofs.Known.{limits-parts}
 use Rattle.state_dag.proofs.SameEntries.{sum-none}
-use Rattle.state_dag.specs.Views.{entry_of, entries_in}
+use Rattle.state_dag.specs.Views.{entry_of, entries_in, slot_of_id}
 use Rattle.state_dag.specs.Stands.{Stands}
 use Rattle.state_dag.proofs.Opening.{root-entry, stands-opening}
 use Rattle.state_dag.proofs.StateDag.new.Goals as goal
@@ -69,5 +73,7 @@ invariant_of-result c =
       sites = ap length zeros ∙ length-replicate limits.sites 0;
       fit = subst (λ cs. list_all (λ m. ltb m 4294967296) cs ≡ true) (sym zeros) (fits-none limits.sites);
       counted = sym (ap (λ cs. sum cs + 1) zeros ∙ ap (λ m. m + 1) (sum-none limits.sites));
-      indexed = λ x. ?;
+      indexed = λ x.
+          (let put : get id_cmp c.insert.new.self x ≡ cond (same_id x root) (Some (record { 0 = 0 })) None = search rules in put)
+          ∙ sym (ap (λ es. slot_of_id es x) view ∙ ap (λ (i : StateId). cond (same_id x i) (Some (record { 0 = 0 })) None) r.id);
     }
