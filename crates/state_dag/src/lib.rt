@@ -39,7 +39,9 @@ use leads::gains;
 use named_paths::named_path;
 use nodes::{Node, ROOT, first_from, is_node_above, node_at, root_node};
 use rooms::make_room;
-use slots::{common_slot, drop_slots, list_slot, make_slot_room, next_slot, put_slot, slot_at, slot_in};
+use slots::{
+    common_slot, drop_slots, list_slot, make_slot_room, next_slot, put_slot, slot_at, slot_in,
+};
 use std::alloc::Global;
 use std::collections::BTreeMap;
 use std::marker::Model;

@@ -85,6 +85,7 @@ mod tests {
         };
         let mut node = root_node(rt.alloc());
         node.id = second;
+        node.arrival = 1;
         let mut nodes = Vec::new(rt.alloc());
         nodes.push(root_node(rt.alloc())).expect(&rt, "room");
         nodes.push(node).expect(&rt, "room");
