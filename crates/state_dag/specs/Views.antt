@@ -1,10 +1,11 @@
 -- How the table reads its memory.
-use Rattle.std.specs.Prelude.{ℕ, ◌+◌, Bool, ◌==◌, length, List, [], ◌∷◌, Option, Some, None, slice_get, if◌then◌else◌}
+use Rattle.std.specs.Prelude.{ℕ, ◌+◌, Bool, ◌==◌, length, filter, map, List, [], ◌∷◌, Option, Some, None, slice_get, if◌then◌else◌}
 use Rattle.std.specs.Option.{option_map}
-use Rattle.std.specs.List.{cons_option}
+use Rattle.std.specs.List.{cons_option, range_with_len}
 use Rattle.tardis_base.specs.declared.ids.StateId.{StateId}
 use Rattle.tardis_base.specs.declared.ids.Slot.{Slot}
 use Rattle.tardis_base.specs.Ids.{same_id}
+use Rattle.fork_path.specs.Pairs.{has_pair}
 use Rattle.state_dag.specs.declared.nodes.Node.{Node}
 use Rattle.state_dag.specs.Table.{Entry}
 
@@ -53,6 +54,7 @@ place_of_id place (node ∷ nodes) x =
     let later = place_of_id (place + 1) nodes x in
     slot_or later (if same_id x node.id then Some (record { 0 = place }) else None)
 
--- the pair with the id of the node at its fork's place, if there is one
-abbrev pub named_pair : List Node → ℕ × ℕ → Option (StateId × ℕ)
-named_pair nodes pair = option_map (λ n. (n.id, pair.1)) (slice_get nodes pair.0)
+-- the branches of the entry's state that are among these pairs, each with the state's id
+abbrev pub named_branches : List (ℕ × ℕ) → Entry → List (StateId × ℕ)
+named_branches pairs e =
+    filter (λ (b : StateId × ℕ). has_pair (e.slot.0, b.1) pairs) (map (λ n. (e.id, n)) (range_with_len 0 (length e.children)))

@@ -390,7 +390,8 @@ impl StateDag {
     /// The fork path of the state at the slot: each kept fork on a way to it with the number of the branch taken, by the
     /// fork's arrival and then by number.
     ///
-    /// The cost grows with the number of pairs.
+    /// The cost grows with the number of kept states, and for each of their children with the logarithm of the number of
+    /// pairs.
     pub fn path(&self, slot: Slot) -> Result<PathList, NoMemory>
         requires { IsTrue (is_slot self.now slot) }
         ensures { (rs : List Record) (ks : List StateId) → Stands self.now rs ks → (x : StateId) → id_at self.now slot ≡ Some x → IfOk result (λ path. path ≡ fork_path rs ks x) }
@@ -398,6 +399,7 @@ impl StateDag {
         named_path(
             *self.nodes.allocator(),
             self.nodes.as_slice(),
+            self.kept_slots(),
             &self.node(slot).path,
         )
     }

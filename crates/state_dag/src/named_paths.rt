@@ -1,55 +1,52 @@
 //! Fork paths by the ids of their forks.
 
-ghost use Rattle.std.specs.Prelude.{◌≡◌, ℕ, List, Option, slice_get, IfOk};
-ghost use Rattle.std.specs.List.{filter_map};
-ghost use Rattle.state_dag.specs.Views.{named_pair};
+ghost use Rattle.std.specs.Prelude.{◌≡◌, ◌++◌, IsTrue, IfOk, OnOk};
+ghost use Rattle.std.specs.List.{flat_map};
+ghost use Rattle.state_dag.specs.Nodes.{are_places};
+ghost use Rattle.state_dag.specs.Views.{entry_of, entries_in, named_branches};
 
 use crate::nodes::Node;
+use crate::sums::in_u32;
 use fork_path::ForkPath;
-use std::alloc::{AllocError, Global};
-use tardis_base::{NoMemory, PathList, StateId};
+use std::alloc::Global;
+use tardis_base::{NoMemory, PathList, Slot, StateId};
 
-/// A branch of a fork that has a node.
-#[derive(Clone, Copy)]
-struct NamedPair {
-    arrival: u64,
-    branch: u32,
-    fork: StateId,
-}
-
-/// The pairs of the path, each with the id of the node in its fork's slot, by the fork's arrival and then by number.
+/// The pairs of the path that are branches of the nodes in these slots, in the order of the slots and then by number, each
+/// with its node's id.
 ///
-/// A pair whose fork has no node is left out. A table that stands for a history has no such pair.
-pub fn named_path(alloc: Global, nodes: &[Node], path: &ForkPath) -> Result<PathList, NoMemory> {
-    let mut named = named_pairs(alloc, nodes, path.as_slice())?;
-    named.sort_by_key(|pair| (pair.arrival, pair.branch))?;
-    let pairs = named
-        .iter()
-        .map(|pair| (pair.fork, pair.branch))
-        .collect(alloc)?;
-    Ok(PathList::from_vec(pairs))
-}
-
-/// The pairs in their order, each with what the node in its fork's slot says, without those that have no such node.
-fn named_pairs(
+/// The cost grows with the number of slots, and for each child of their nodes with the logarithm of the number of pairs.
+pub fn named_path(
     alloc: Global,
     nodes: &[Node],
-    pairs: &[(u32, u32)],
-) -> Result<Vec<NamedPair>, AllocError> {
-    pairs
-        .iter()
-        .filter_map(|pair| pair_named(nodes, *pair))
-        .collect(alloc)
+    slots: &[Slot],
+    path: &ForkPath,
+) -> Result<PathList, NoMemory>
+    requires { IsTrue (are_places nodes.now slots.now) }
+    ensures { IfOk result (λ list. list ≡ flat_map (named_branches path.now.pairs) (entries_in nodes.now slots.now)) }
+{
+    let mut named = Vec::new(alloc);
+    for slot in slots {
+        add_branches(&mut named, &nodes[slot.0 as usize], *slot, path)?;
+    }
+    Ok(PathList::from_vec(named))
 }
 
-/// The pair with what the node in its fork's slot says, if there is one.
-fn pair_named(nodes: &[Node], pair: (u32, u32)) -> Option<NamedPair> {
-    let (slot, branch) = pair;
-    nodes.get(slot as usize).map(|node| NamedPair {
-        arrival: node.arrival,
-        branch,
-        fork: node.id,
-    })
+/// Adds the branches of the node that are pairs of the path, each with the node's id.
+fn add_branches(
+    named: &mut Vec<(StateId, u32)>,
+    node: &Node,
+    slot: Slot,
+    path: &ForkPath,
+) -> Result<(), NoMemory>
+    ensures { OnOk result (named.new.items ≡ named.old.items ++ named_branches path.now.pairs (entry_of slot.0 node.now)) }
+{
+    let children = in_u32(node.children.len())?;
+    for branch in 0..children {
+        if path.contains(slot.0, branch) {
+            named.push((node.id, branch))?;
+        }
+    }
+    Ok(())
 }
 
 #[cfg(test)]
