@@ -1,5 +1,5 @@
 -- What the steps of an addition tell of the table.
-use Rattle.std.proofs.Common.{◌≡◌, ℕ, ◌+◌, ◌-◌, ◌<◌, ◌≤◌, Bool, true, false, leb, ltb, List, [], ◌∷◌, ◌++◌, length, map, find, take, get_or, Option, Some, None, Result, Ok, Err, IsTrue, refl, sym, ap, subst, ◌∙◌, arith}
+use Rattle.std.proofs.Common.{◌≡◌, ℕ, ◌<◌, ◌≤◌, true, leb, ltb, List, [], ◌∷◌, length, find, get_or, Some, None, Err, refl, sym, ap, subst, ◌∙◌, arith}
 use Rattle.std.specs.List.{list_all}
 use Rattle.std.specs.Option.{option_map_or}
 use Rattle.std.proofs.lemmas.Bool.{and_from, and_parts, ne_eqb}
@@ -14,7 +14,7 @@ use Rattle.state_dag.specs.Table.{Entry, Table, entry_at, is_slot, arrival_at}
 use Rattle.state_dag.specs.Views.{entry_of, entries_from, entries_in}
 use Rattle.state_dag.specs.Stands.{Stands}
 use Rattle.state_dag.specs.Answers.{MayBeAdded, AddedTo}
-use Rattle.state_dag.specs.Grown.{path_at, is_slot_among, IsNewEntry}
+use Rattle.state_dag.specs.Grown.{path_at, IsNewEntry}
 use Rattle.state_dag.specs.Nodes.{table_of, table_after, all_gains, is_long, have_places, gains_of, TellsLong, HasGrown, path_refusal, TellsRefusal, Rise}
 use Rattle.state_dag.specs.Held.{kept_of, seen, IsHeld}
 use Rattle.state_dag.proofs.Following.{Follow, childless_slots}

@@ -1,17 +1,15 @@
 -- What became of the entries of a table that grew, one for one.
-use Rattle.std.proofs.Common.{◌≡◌, ℕ, suc, ◌+◌, ◌<◌, ◌≤◌, Bool, true, false, not, ◌&&◌, ◌||◌, cond, eqb, leb, ltb, List, [], ◌∷◌, ◌++◌, length, map, filter, find, get_or, Option, Some, None, IsTrue, inl, inr, refl, sym, ap, ap₂, subst, ◌∙◌, arith}
-use Rattle.std.specs.List.{list_all, cons_option}
-use Rattle.std.specs.Option.{option_map}
+use Rattle.std.proofs.Common.{◌≡◌, ℕ, ◌<◌, ◌≤◌, Bool, true, false, not, ◌&&◌, ◌||◌, cond, eqb, ltb, List, [], ◌∷◌, ◌++◌, length, find, get_or, Option, Some, None, IsTrue, inl, inr, refl, sym, ap, ap₂, subst, ◌∙◌, arith}
+use Rattle.std.specs.List.{list_all}
 use Rattle.std.proofs.lemmas.Bool.{cases_Bool, and_parts, and_from, and_right, eq-eqb, ne_eqb, ltb-true, lt-ltb}
-use Rattle.std.proofs.lemmas.Option.{none-some, same_Some}
 use Rattle.tardis_base.specs.declared.ids.StateId.{StateId}
 use Rattle.tardis_base.specs.declared.ids.Slot.{Slot}
 use Rattle.tardis_base.specs.Ids.{same_id}
 use Rattle.fork_path.specs.Pairs.{are_ascending_pairs, has_pair}
 use Rattle.state_dag.specs.declared.nodes.Node.{Node}
 use Rattle.state_dag.specs.Table.{Entry, Table, arrive_in_order}
-use Rattle.state_dag.specs.Views.{entry_of, entries_in, is_childless, slot_or, slot_of_id}
-use Rattle.state_dag.specs.Grown.{is_slot_among, leads_first, is_first_branch, grown_length, only_if, IsGrownEntry, AreGrownEntries}
+use Rattle.state_dag.specs.Views.{entry_of, entries_in, slot_or, slot_of_id}
+use Rattle.state_dag.specs.Grown.{is_slot_among, is_first_branch, grown_length, only_if, IsGrownEntry, AreGrownEntries}
 use Rattle.state_dag.specs.Nodes.{AreDistinct, IsGrownNode}
 use Rattle.state_dag.proofs.Following.{Follow, LosesLeaf}
 use Rattle.state_dag.proofs.KeptEntries.{placed, entries-first}

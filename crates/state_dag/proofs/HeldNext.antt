@@ -1,5 +1,5 @@
 -- The memory of a table stays well-formed.
-use Rattle.std.proofs.Common.{◌≡◌, ℕ, ◌+◌, ◌-◌, ◌<◌, ◌≤◌, Bool, true, false, not, cond, eqb, leb, ltb, List, [], ◌∷◌, ◌++◌, length, map, filter, find, sum, take, get_or, set, Some, None, is_some, IsTrue, inl, inr, refl, sym, ap, ap₂, subst, ◌∙◌, arith}
+use Rattle.std.proofs.Common.{◌≡◌, ℕ, ◌+◌, ◌<◌, ◌≤◌, Bool, true, not, cond, eqb, leb, ltb, List, [], ◌∷◌, ◌++◌, length, filter, find, sum, take, get_or, set, Some, None, is_some, IsTrue, inl, inr, refl, sym, ap, ap₂, subst, ◌∙◌, arith}
 use Rattle.std.specs.List.{list_all}
 use Rattle.std.specs.BTreeMap.{get}
 use Rattle.std.proofs.lemmas.Bool.{and_parts, and_from, cases_Bool, cond-true, cond-false, ltb-true, ltb-false, leb-true, le-leb, lt-ltb}
@@ -18,7 +18,7 @@ use Rattle.state_dag.specs.Table.{Entry, Table, entry_at, is_slot, arrive_in_ord
 use Rattle.state_dag.specs.Views.{entry_of, entries_from, entries_in, slot_of_id}
 use Rattle.state_dag.specs.Held.{kept_of, seen, IsHeld}
 use Rattle.state_dag.specs.Grown.{is_slot_among, grown_length, too_long}
-use Rattle.state_dag.specs.Nodes.{with_node, with_slot, AreDistinct, are_places}
+use Rattle.state_dag.specs.Nodes.{with_node, with_slot, AreDistinct}
 use Rattle.state_dag.proofs.Following.{Follow, LosesLeaf, childless_slots, leaves-follow, leaves-last}
 use Rattle.state_dag.proofs.LongPaths.{none-from_map}
 use Rattle.state_dag.proofs.SameEntries.{all-last, same-count, same-at, sum-set, all-set}

@@ -1,5 +1,5 @@
 -- What two tables tell alike where they have the same entries at some slots.
-use Rattle.std.proofs.Common.{◌≡◌, ℕ, ◌+◌, ◌≤◌, Bool, true, false, ◌||◌, ◌&&◌, eqb, leb, ltb, List, [], ◌∷◌, ◌++◌, length, map, filter, find, slice_get, Option, Some, None, inl, inr, refl, sym, ap, ap₂, subst, ◌∙◌, eq-eqb, arith}
+use Rattle.std.proofs.Common.{◌≡◌, ℕ, ◌+◌, Bool, true, false, ◌||◌, ◌&&◌, eqb, leb, ltb, List, [], ◌∷◌, ◌++◌, length, map, filter, find, slice_get, Option, Some, None, inl, inr, refl, sym, ap, ap₂, subst, ◌∙◌}
 use Rattle.std.specs.List.{list_any, list_all}
 use Rattle.std.specs.Option.{option_map, option_map_or, option_and_then}
 use Rattle.std.proofs.lemmas.Bool.{and_parts, cases_Bool, cond-true, cond-false}
@@ -11,8 +11,8 @@ use Rattle.tardis_base.specs.declared.faults.AddFault.TheVariants.{Full, PathFul
 use Rattle.fork_path.specs.Pairs.{is_same_pair, has_pair}
 use Rattle.state_dag.specs.declared.leads.Gain.{Gain}
 use Rattle.state_dag.specs.Table.{Entry, Table, entry_at, id_at, is_slot_above, is_entry_above}
-use Rattle.state_dag.specs.Grown.{path_at, number_of_children, first_child, leads_first, is_first_branch, is_last_branch, is_new_pair, IsNewPath, IsNewEntry}
-use Rattle.state_dag.specs.Nodes.{length_after, is_long, gains_at, all_gains, TellsLong}
+use Rattle.state_dag.specs.Grown.{path_at, number_of_children, leads_first, is_first_branch, is_last_branch, is_new_pair, IsNewPath, IsNewEntry}
+use Rattle.state_dag.specs.Nodes.{length_after, is_long, all_gains, TellsLong}
 
 -- ===== Tests that agree on what passes another
 

@@ -1,5 +1,5 @@
 -- What slots name when entries have grown and one more came last.
-use Rattle.std.proofs.Common.{◌≡◌, ℕ, ◌<◌, true, false, cond, refl, ltb, eqb, List, [], ◌∷◌, ◌++◌, length, find, Option, Some, None, is_some, IsTrue, sym, ap, subst, ◌∙◌, arith}
+use Rattle.std.proofs.Common.{◌≡◌, ℕ, ◌<◌, true, false, cond, refl, ltb, eqb, List, [], ◌∷◌, ◌++◌, find, Option, Some, None, is_some, IsTrue, sym, ap, subst, ◌∙◌, arith}
 use Rattle.std.specs.List.{list_all}
 use Rattle.std.specs.Option.{option_map, option_map_or}
 use Rattle.std.proofs.lemmas.Bool.{and_parts, and_from, both_ways, cond-true, eq-eqb, ltb-true}

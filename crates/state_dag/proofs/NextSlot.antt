@@ -1,7 +1,7 @@
 -- The slot that one more state gets.
-use Rattle.std.proofs.Common.{◌≡◌, ℕ, suc, ◌+◌, ◌<◌, ◌≤◌, Bool, true, false, cond, ◌||◌, eqb, ltb, List, [], ◌∷◌, ◌++◌, length, get_or, set, slice_get, take, unwrap_or, Some, None, inl, inr, refl, sym, ap, ap₂, subst, ◌∙◌, length-append, arith}
+use Rattle.std.proofs.Common.{◌≡◌, ℕ, suc, ◌+◌, ◌<◌, ◌≤◌, true, false, eqb, ltb, List, [], ◌∷◌, ◌++◌, length, get_or, set, slice_get, take, unwrap_or, Some, inl, inr, refl, sym, ap, subst, ◌∙◌, length-append, arith}
 use Rattle.std.specs.List.{list_all}
-use Rattle.std.proofs.lemmas.Bool.{and_parts, and_from, or_parts, or_from, cases_Bool, cases_lt, cond-true, cond-false, lt-ltb, le-ltb, ltb-true, ne_eqb, eq-eqb, both_ways}
+use Rattle.std.proofs.lemmas.Bool.{and_parts, and_from, or_parts, or_from, cases_lt, cond-true, cond-false, lt-ltb, le-ltb, ltb-true, ne_eqb, eq-eqb, both_ways}
 use Rattle.std.proofs.lemmas.List.{length-set}
 use Rattle.std.proofs.lemmas.Option.{slice_get_past}
 use Rattle.tardis_base.specs.declared.ids.Slot.{Slot}
@@ -10,9 +10,8 @@ use Rattle.state_dag.specs.declared.nodes.Node.{Node}
 use Rattle.state_dag.specs.Grown.{is_slot_among}
 use Rattle.state_dag.specs.Nodes.{with_node, slot_after_all, with_slot, AreDistinct}
 use Rattle.state_dag.specs.Held.{kept_of, IsHeld}
-use Rattle.state_dag.proofs.KeptEntries.{placed, placed-wider}
+use Rattle.state_dag.proofs.KeptEntries.{placed-wider}
 use Rattle.state_dag.proofs.Passing.{all-at}
-use Rattle.state_dag.proofs.Memory.{kept-placed, kept-long}
 
 read-at : (xs : List Slot) (k : ℕ) (d : Slot) → k < length xs → slice_get xs k ≡ Some (get_or xs k d)
 read-at [] k d lt = absurd (omega arith)

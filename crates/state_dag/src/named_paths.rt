@@ -52,50 +52,35 @@ fn add_branches(
 #[cfg(test)]
 mod tests {
     use super::*;
-    use crate::StateDag;
-    use crate::nodes::root_node;
-    use tardis_base::Limits;
+    use crate::nodes::{ROOT, root_node};
 
     #[test]
-    fn the_root_alone_has_no_pairs(rt: HostRuntime) {
-        let limits = Limits {
-            sites: 1,
-            max_kept: 2,
-            max_path: 1,
-            max_sessions: 1,
-            max_trail: 0,
-        };
-        let table = StateDag::new(rt.alloc(), &limits).expect(&rt, "room");
-        let path = table.path(table.last()).expect(&rt, "room");
-        assert!(rt; path.is_empty());
-    }
-
-    #[test]
-    fn pairs_are_named_by_their_nodes(rt: HostRuntime) {
-        let first = StateId {
-            site: 0,
-            sequence: 0,
-        };
-        let second = StateId {
+    fn branches_go_by_the_order_of_the_slots(rt: HostRuntime) {
+        let later = StateId {
             site: 3,
             sequence: 5,
         };
+        let mut root = root_node(rt.alloc());
+        root.children.push(later).expect(&rt, "room");
+        root.children.push(later).expect(&rt, "room");
         let mut node = root_node(rt.alloc());
-        node.id = second;
-        node.arrival = 1;
+        node.id = later;
+        node.children.push(later).expect(&rt, "room");
         let mut nodes = Vec::new(rt.alloc());
-        nodes.push(root_node(rt.alloc())).expect(&rt, "room");
         nodes.push(node).expect(&rt, "room");
+        nodes.push(root).expect(&rt, "room");
         let mut path = ForkPath::new(rt.alloc());
         path.reserve(4).expect(&rt, "room");
         path.with_pair(1, 0);
-        path.with_pair(0, 1);
         path.with_pair(0, 0);
+        path.with_pair(1, 1);
         path.with_pair(2, 0);
-        let named = named_path(rt.alloc(), nodes.as_slice(), &path).expect(&rt, "room");
+        let slots = [Slot(1), Slot(0)];
+        let named = named_path(rt.alloc(), nodes.as_slice(), slots.as_slice(), &path)
+            .expect(&rt, "room");
         assert_eq!(rt;
             named.as_slice(),
-            [(first, 0), (first, 1), (second, 0)].as_slice()
+            [(ROOT, 0), (ROOT, 1), (later, 0)].as_slice()
         );
     }
 }

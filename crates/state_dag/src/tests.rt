@@ -204,39 +204,30 @@ fn ancestors_of_200_states_are_those_along_parents(rt: HostRuntime) {
     }
 }
 
-/// Whether the state of this arrival number is an ancestor of exactly those of the last 4,096 that arrived no sooner.
-fn agrees(dag: &StateDag, state: Slot, arrival: u32, first: Slot) -> bool
+/// Whether the state is an ancestor of exactly those of the states from place 12,288 on that arrived no sooner.
+fn agrees(dag: &StateDag, state: Slot, slots: &[Slot]) -> bool
     requires state { IsTrue (is_slot dag.now state) }
-    requires first { IsTrue (is_slot dag.now first) }
+    requires slots { IsTrue (list_all (is_slot dag.now) slots.now) }
 {
-    let mut next = Some(first);
-    for later in 12_288..16_384u32 {
-        let Some(slot) = next else {
-            return false;
-        };
-        if dag.is_ancestor(state, slot) != (arrival <= later) {
+    for place in 12_288..slots.len() {
+        let slot = slots[place];
+        if dag.is_ancestor(state, slot) != (dag.arrival(state) <= dag.arrival(slot)) {
             return false;
         }
-        next = dag.kept_after(next);
     }
-    next.is_none()
+    true
 }
 
-/// Whether that is so of each of 16,384 states.
-fn all_agree(dag: &StateDag, first: Slot) -> bool
-    requires { IsTrue (is_slot dag.now first) }
+/// Whether that is so of each of the states.
+fn all_agree(dag: &StateDag, slots: &[Slot]) -> bool
+    requires { IsTrue (list_all (is_slot dag.now) slots.now) }
 {
-    let mut next = dag.kept_after(None);
-    for arrival in 0..16_384u32 {
-        let Some(slot) = next else {
-            return false;
-        };
-        if !agrees(dag, slot, arrival, first) {
+    for slot in slots {
+        if !agrees(dag, *slot, slots) {
             return false;
         }
-        next = dag.kept_after(next);
     }
-    next.is_none()
+    true
 }
 
 #[test]
@@ -246,6 +237,6 @@ fn ancestry_in_a_chain_of_16384_takes_no_walk(rt: HostRuntime) {
         let last = dag.last();
         assert!(rt; add(&mut dag, &[last]).is_ok());
     }
-    let first = dag.slot_of(state(12_288)).expect(&rt, "a slot");
-    assert!(rt; all_agree(&dag, first));
+    assert_eq!(rt; dag.kept_slots().len(), 16_384);
+    assert!(rt; all_agree(&dag, dag.kept_slots()));
 }

@@ -1,4 +1,4 @@
-use Rattle.std.proofs.Common.{◌≡◌, ◌∙◌, ◌+◌, ◌-◌, ◌++◌, ◌∷◌, [], not, ◌<◌, ◌≤◌, ℕ, true, List, leb, ltb, length, map, filter, find, take, get_or, unwrap_or, slice_get, slice_set, Option, None, Result, Ok, Err, OnErr, IsTrue, refl, sym, ap, ap₂, subst, arith}
+use Rattle.std.proofs.Common.{◌≡◌, ◌∙◌, ◌+◌, ◌-◌, ◌++◌, ◌∷◌, [], not, ◌<◌, ℕ, true, List, ltb, length, filter, take, get_or, unwrap_or, slice_get, slice_set, Option, None, Result, Ok, Err, OnErr, IsTrue, refl, sym, ap, subst, arith}
 use Rattle.std.specs.List.{list_all}
 use Rattle.std.proofs.lemmas.Bool.{ne_eqb}
 use Rattle.std.proofs.lemmas.Option.{unwrap_or-slice_get}
@@ -11,12 +11,12 @@ use Rattle.state_dag.specs.declared.StateDag.TheInside.{Inside}
 use Rattle.state_dag.specs.declared.nodes.Node.{Node}
 use Rattle.fork_path.specs.Pairs.{are_ascending_pairs}
 use Rattle.state_dag.specs.Table.{Entry, Table, entry_at, arrival_at, is_kept_at}
-use Rattle.state_dag.specs.Views.{entry_of, entries_from, entries_in}
+use Rattle.state_dag.specs.Views.{entry_of, entries_in}
 use Rattle.state_dag.specs.Stands.{Stands}
 use Rattle.state_dag.specs.Answers.{MayBeAdded, AddedTo, IsNewSlot, KeepsSlots}
 use Rattle.state_dag.specs.Grown.{is_slot_among, refusal_of, IsNewEntry, IsGrown}
 use Rattle.state_dag.specs.Nodes.{path_refusal, slot_after_all, with_slot}
-use Rattle.state_dag.specs.Held.{kept_of, seen, IsHeld}
+use Rattle.state_dag.specs.Held.{kept_of, seen}
 use Rattle.state_dag.proofs.Following.{Follow}
 use Rattle.state_dag.proofs.Became.{Became}
 use Rattle.state_dag.proofs.Memory.{entries-long, found-all, kept-placed}

@@ -1,4 +1,4 @@
-use Rattle.std.proofs.Common.{◌≡◌, ◌∙◌, ◌<◌, ◌≤◌, true, false, List, map, eqb, ltb, length, get_or, ℕ, Option, Some, None, is_some, inl, inr, refl, sym, ap, subst, eqb-true, eq-eqb, arith}
+use Rattle.std.proofs.Common.{◌≡◌, ◌∙◌, ◌<◌, ◌≤◌, true, List, map, eqb, length, get_or, ℕ, Option, Some, None, is_some, inl, inr, sym, ap, subst, eqb-true, eq-eqb, arith}
 use Rattle.std.specs.Option.{option_map, option_map_or, option_copied}
 use Rattle.std.proofs.lemmas.Bool.{cases_Bool, both_ways, false_from_ne_true, le-ltb}
 use Rattle.tardis_base.specs.declared.ids.Slot.{Slot}

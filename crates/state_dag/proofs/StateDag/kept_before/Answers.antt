@@ -1,13 +1,12 @@
-use Rattle.std.proofs.Common.{◌≡◌, ◌∙◌, ◌+◌, ◌-◌, ◌<◌, ℕ, true, length, map, List, get_or, slice_get, Option, Some, None, IsTrue, IfSome, sym, ap, subst, arith}
+use Rattle.std.proofs.Common.{◌≡◌, ◌∙◌, ◌-◌, ◌<◌, ℕ, true, length, map, List, get_or, Some, sym, ap, subst, arith}
 use Rattle.std.specs.Option.{option_map, option_and_then}
-use Rattle.std.proofs.lemmas.Option.{same_Some, none-some}
+use Rattle.std.proofs.lemmas.Option.{same_Some}
 use Rattle.tardis_base.specs.declared.ids.Slot.{Slot}
-use Rattle.tardis_base.specs.declared.ids.StateId.{StateId}
 use Rattle.plain_dag.specs.Collection.{kept_states}
-use Rattle.state_dag.specs.Table.{Entry, Table, id_at, is_slot, arrival_at, arrive_in_order}
+use Rattle.state_dag.specs.Table.{Entry, Table, id_at, arrival_at, arrive_in_order}
 use Rattle.state_dag.specs.Answers.{next_of, slot_after}
 use Rattle.state_dag.proofs.KeptEntries.{slot-behind, arrives-before}
-use Rattle.state_dag.proofs.Calls.{no_entry, slot-of_entry, entries-found, entries-distinct, read-some, read-slot, first-is, next-is, named-entry, arrival-entry}
+use Rattle.state_dag.proofs.Calls.{no_entry, slot-of_entry, entries-found, entries-distinct, read-some, first-is, next-is, named-entry, arrival-entry}
 use Rattle.state_dag.proofs.StateDag.kept_before.Goals as goal
 
 pub returns-then-place-eq0-clause-before : goal.returns-then-place-eq0-clause-before

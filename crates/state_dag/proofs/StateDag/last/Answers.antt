@@ -1,4 +1,4 @@
-use Rattle.std.proofs.Common.{◌≡◌, ◌∙◌, ◌+◌, ◌-◌, ◌<◌, true, length, take, get_or, Option, Some, None, sym, ap, subst, arith}
+use Rattle.std.proofs.Common.{◌≡◌, ◌∙◌, ◌-◌, true, get_or, Option, Some, None, sym, ap, subst, arith}
 use Rattle.std.specs.Option.{option_map}
 use Rattle.std.proofs.lemmas.Option.{slice_get_past}
 use Rattle.tardis_base.specs.declared.ids.Slot.{Slot}
@@ -6,9 +6,9 @@ use Rattle.state_dag.specs.Table.{Entry, Table, id_at, is_slot}
 use Rattle.state_dag.specs.Stands.{Stands}
 use Rattle.plain_dag.specs.Begin.{last_arrived}
 use Rattle.state_dag.specs.Answers.{slot_after}
-use Rattle.state_dag.specs.Held.{kept_of, seen}
-use Rattle.state_dag.proofs.KeptEntries.{slots_of, slot-behind}
-use Rattle.state_dag.proofs.Memory.{kept-slots, kept-long, entries-long, entries-apart, found-all, take-read}
+use Rattle.state_dag.specs.Held.{seen}
+use Rattle.state_dag.proofs.KeptEntries.{slot-behind}
+use Rattle.state_dag.proofs.Memory.{kept-slots, entries-long, entries-apart, found-all, take-read}
 use Rattle.state_dag.proofs.Calls.{no_entry, slot-of_entry, named-is_slot, named-entry, last-is}
 use Rattle.state_dag.proofs.StateDag.last.Goals as goal
 

@@ -1,4 +1,4 @@
-use Rattle.std.proofs.Common.{◌≡◌, ◌∙◌, ◌+◌, ◌++◌, ℕ, true, leb, ltb, List, [], ◌∷◌, length, map, find, take, cond, Some, None, is_some, eqb, ap₂, sum, replicate, refl, subst, sym, ap, arith, rules}
+use Rattle.std.proofs.Common.{◌≡◌, ◌∙◌, ◌+◌, ◌++◌, ℕ, true, leb, ltb, List, [], ◌∷◌, length, find, take, cond, Some, None, is_some, eqb, ap₂, sum, replicate, refl, subst, sym, ap, arith, rules}
 use Rattle.std.specs.List.{list_all}
 use Rattle.std.specs.BTreeMap.{get}
 use Rattle.state_dag.specs.Ids.{id_cmp}

@@ -1,4 +1,4 @@
-use Rattle.std.proofs.Common.{◌≡◌, IfOk, true, flat_map, sym, ap, ap₂, subst, ◌∙◌}
+use Rattle.std.proofs.Common.{◌≡◌, IfOk, flat_map, ap, ap₂, subst, ◌∙◌}
 use Rattle.state_dag.specs.Table.{Table}
 use Rattle.state_dag.specs.Views.{entry_of, entries_in, named_branches}
 use Rattle.state_dag.specs.Nodes.{are_places}

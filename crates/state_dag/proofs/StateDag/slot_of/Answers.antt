@@ -1,5 +1,4 @@
-use Rattle.std.proofs.Common.{◌≡◌, ◌∙◌, true, Option, ap, subst}
-use Rattle.tardis_base.specs.declared.ids.Slot.{Slot}
+use Rattle.std.proofs.Common.{◌≡◌, ◌∙◌, true, ap, subst}
 use Rattle.state_dag.specs.Table.{Table, arrive_in_order}
 use Rattle.state_dag.specs.Views.{slot_of_id}
 use Rattle.state_dag.proofs.Calls.{entries-found, searched-names, searched-is_kept, searched-unlisted, searched-none}
