@@ -76,8 +76,9 @@ mod tests {
         path.with_pair(1, 1);
         path.with_pair(2, 0);
         let slots = [Slot(1), Slot(0)];
-        let named = named_path(rt.alloc(), nodes.as_slice(), slots.as_slice(), &path)
-            .expect(&rt, "room");
+        let named = named_path(rt.alloc(), nodes.as_slice(), slots.as_slice(), &path).expect(
+            &rt, "room",
+        );
         assert_eq!(rt;
             named.as_slice(),
             [(ROOT, 0), (ROOT, 1), (later, 0)].as_slice()

@@ -1,6 +1,6 @@
 //! What tables answer as they grow.
 
-ghost use Rattle.std.specs.Prelude.{◌≡◌, IsTrue};
+ghost use Rattle.std.specs.Prelude.{◌<◌, length, IsTrue};
 ghost use Rattle.std.specs.List.{list_all};
 ghost use Rattle.state_dag.specs.Table.{is_slot};
 
@@ -204,14 +204,14 @@ fn ancestors_of_200_states_are_those_along_parents(rt: HostRuntime) {
     }
 }
 
-/// Whether the state is an ancestor of exactly those of the states from place 12,288 on that arrived no sooner.
-fn agrees(dag: &StateDag, state: Slot, slots: &[Slot]) -> bool
-    requires state { IsTrue (is_slot dag.now state) }
+/// Whether the state at this place is an ancestor of exactly those of the last 256 that don't stand before it.
+fn agrees(dag: &StateDag, slots: &[Slot], place: usize) -> bool
     requires slots { IsTrue (list_all (is_slot dag.now) slots.now) }
+    requires within { place < length slots.now }
 {
-    for place in 12_288..slots.len() {
-        let slot = slots[place];
-        if dag.is_ancestor(state, slot) != (dag.arrival(state) <= dag.arrival(slot)) {
+    let state = slots[place];
+    for later in 16_128..slots.len() {
+        if dag.is_ancestor(state, slots[later]) != (place <= later) {
             return false;
         }
     }
@@ -222,8 +222,8 @@ fn agrees(dag: &StateDag, state: Slot, slots: &[Slot]) -> bool
 fn all_agree(dag: &StateDag, slots: &[Slot]) -> bool
     requires { IsTrue (list_all (is_slot dag.now) slots.now) }
 {
-    for slot in slots {
-        if !agrees(dag, *slot, slots) {
+    for place in 0..slots.len() {
+        if !agrees(dag, slots, place) {
             return false;
         }
     }
