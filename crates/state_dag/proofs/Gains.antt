@@ -12,7 +12,7 @@ use Rattle.state_dag.specs.declared.nodes.Node.{Node}
 use Rattle.state_dag.specs.declared.leads.Gain.{Gain}
 use Rattle.state_dag.specs.Table.{Table}
 use Rattle.state_dag.specs.Grown.{is_slot_among, leads_first, is_first_branch}
-use Rattle.state_dag.specs.Nodes.{table_of, have_places, is_gaining, gains_at, all_gains, gains_of, is_gain, AreDistinct, HasGrown, IsGrownNode}
+use Rattle.state_dag.specs.Nodes.{have_places, is_gaining, gains_at, all_gains, gains_of, is_gain, AreDistinct, HasGrown, IsGrownNode}
 
 later : (a b : Bool) → a ≡ false → (a || b) ≡ true → b ≡ true
 later true b f t = absurd (both_ways true f refl)
@@ -117,29 +117,29 @@ module _ (table : Table) (parents : List Slot) where
       ∙ and_from (list_all (λ (g : Gain). ltb g.at.0 n) (gains_at table parents s)) (list_all (λ (g : Gain). ltb g.at.0 n) (all_gains table parents slots))
       (own-places n s (filter (leads_first table s) parents) parts.0) (all-placed slots n parts.1)
 
-module _ (ns : List Node) (parents slots : List Slot) (gains : List Gain) (is : gains ≡ all_gains (table_of ns) parents slots) where
-  pub gains-counted : (k : ℕ) → AreDistinct slots → is_slot_among (record { 0 = k }) slots ≡ true → gains_of k gains ≡ length (filter (leads_first (table_of ns) (record { 0 = k })) parents)
-  gains-counted k distinct there = ap (gains_of k) is ∙ count-at (table_of ns) parents slots k distinct there
+module _ (table : Table) (parents slots : List Slot) (gains : List Gain) (is : gains ≡ all_gains table parents slots) where
+  pub gains-counted : (k : ℕ) → AreDistinct slots → is_slot_among (record { 0 = k }) slots ≡ true → gains_of k gains ≡ length (filter (leads_first table (record { 0 = k })) parents)
+  gains-counted k distinct there = ap (gains_of k) is ∙ count-at table parents slots k distinct there
 
-  pub gains-told : (k : ℕ) (pair : ℕ × ℕ) → AreDistinct slots → is_slot_among (record { 0 = k }) slots ≡ true → is_gain k gains pair ≡ is_first_branch (table_of ns) parents (record { 0 = k }) pair
-  gains-told k pair distinct there = ap (λ gs. is_gain k gs pair) is ∙ gain-at (table_of ns) parents slots k pair distinct there
+  pub gains-told : (k : ℕ) (pair : ℕ × ℕ) → AreDistinct slots → is_slot_among (record { 0 = k }) slots ≡ true → is_gain k gains pair ≡ is_first_branch table parents (record { 0 = k }) pair
+  gains-told k pair distinct there = ap (λ gs. is_gain k gs pair) is ∙ gain-at table parents slots k pair distinct there
 
-  pub gains-placed : list_all (λ (s : Slot). ltb s.0 (length ns)) slots ≡ true → have_places ns gains ≡ true
-  gains-placed placed = ap (have_places ns) is ∙ all-placed (table_of ns) parents slots (length ns) placed
+  pub gains-placed : (ns : List Node) → list_all (λ (s : Slot). ltb s.0 (length ns)) slots ≡ true → have_places ns gains ≡ true
+  gains-placed ns placed = ap (have_places ns) is ∙ all-placed table parents slots (length ns) placed
 
   -- no more than there are parents
   pub gains-few : AreDistinct slots → (k : ℕ) → gains_of k gains ≤ length parents
   gains-few distinct k = elim (cases_Bool (is_slot_among (record { 0 = k }) slots)) [
     | inl t ↦
         let counted = gains-counted k distinct t in
-        let as_count = length-filter (leads_first (table_of ns) (record { 0 = k })) parents in
-        let few = count_by-le-length (leads_first (table_of ns) (record { 0 = k })) parents in
+        let as_count = length-filter (leads_first table (record { 0 = k })) parents in
+        let few = count_by-le-length (leads_first table (record { 0 = k })) parents in
         omega arith
-    | inr f ↦ (let none = ap (gains_of k) is ∙ none-out (table_of ns) parents slots k f in omega arith)
+    | inr f ↦ (let none = ap (gains_of k) is ∙ none-out table parents slots k f in omega arith)
   ]
 
   -- what became of a node with these gains became of it in a table that grew
-  pub grown-as : (x : StateId) (slot : Slot) (k : ℕ) (old new : Node) → AreDistinct slots → is_slot_among (record { 0 = k }) slots ≡ true → HasGrown gains parents x slot k old new → IsGrownNode (table_of ns) parents x slot k old new
+  pub grown-as : (x : StateId) (slot : Slot) (k : ℕ) (old new : Node) → AreDistinct slots → is_slot_among (record { 0 = k }) slots ≡ true → HasGrown gains parents x slot k old new → IsGrownNode table parents x slot k old new
   grown-as x slot k old new distinct there h = record {
     id_stays = h.id_stays;
     arrival_stays = h.arrival_stays;
@@ -147,7 +147,7 @@ module _ (ns : List Node) (parents slots : List Slot) (gains : List Gain) (is : 
     ascending = h.ascending;
     pairs = λ pair.
         h.pairs pair ∙ ap (λ b. b || has_pair pair old.path.pairs) (gains-told k pair distinct there)
-        ∙ or-turn (is_first_branch (table_of ns) parents (record { 0 = k }) pair) (has_pair pair old.path.pairs);
+        ∙ or-turn (is_first_branch table parents (record { 0 = k }) pair) (has_pair pair old.path.pairs);
     longer = (let longer = h.longer in let counted = gains-counted k distinct there in omega arith);
     child = h.child;
     parent = h.parent;

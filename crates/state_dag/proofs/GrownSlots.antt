@@ -15,7 +15,7 @@ abbrev pub or_else : Option Entry → Option Entry → Option Entry
 or_else (Some e) other = Some e
 or_else None other = other
 
-find-after : (k : ℕ) (es : List Entry) (e : Entry) → find (λ f. eqb f.slot.0 k) (es ++ e ∷ []) ≡ or_else (find (λ f. eqb f.slot.0 k) es) (cond (eqb e.slot.0 k) (Some e) None)
+pub find-after : (k : ℕ) (es : List Entry) (e : Entry) → find (λ f. eqb f.slot.0 k) (es ++ e ∷ []) ≡ or_else (find (λ f. eqb f.slot.0 k) es) (cond (eqb e.slot.0 k) (Some e) None)
 find-after k [] e = refl
 find-after k (f ∷ es) e = elim (cases_Bool (eqb f.slot.0 k)) [
   | inl t ↦ rw t refl

@@ -1,72 +1,84 @@
--- What slots name when nodes have changed in their places and one more came last.
-use Rattle.std.proofs.Common.{◌≡◌, ℕ, ◌<◌, true, ltb, eqb, List, [], ◌∷◌, ◌++◌, length, find, get_or, Some, None, is_some, IsTrue, sym, ap, subst, ◌∙◌, length-append, arith}
+-- What slots name when entries have grown and one more came last.
+use Rattle.std.proofs.Common.{◌≡◌, ℕ, ◌<◌, true, false, cond, refl, ltb, eqb, List, [], ◌∷◌, ◌++◌, find, Option, Some, None, is_some, IsTrue, sym, ap, subst, ◌∙◌, arith}
 use Rattle.std.specs.List.{list_all}
 use Rattle.std.specs.Option.{option_map, option_map_or}
-use Rattle.std.proofs.lemmas.Bool.{and_parts, and_from, ltb-true}
-use Rattle.std.proofs.lemmas.List.{get_or_append_left, get_or_at}
+use Rattle.std.proofs.lemmas.Bool.{and_parts, and_from, both_ways, cond-true, eq-eqb, ltb-true}
+use Rattle.std.proofs.lemmas.Option.{none-some, same_Some}
 use Rattle.tardis_base.specs.declared.ids.StateId.{StateId}
 use Rattle.tardis_base.specs.declared.ids.Slot.{Slot}
-use Rattle.state_dag.specs.declared.nodes.Node.{Node}
-use Rattle.state_dag.specs.Table.{Entry, Table, entry_at, is_slot, arrive_in_order, is_kept_at, arrival_at}
-use Rattle.state_dag.specs.Views.{entry_of, entries_from}
+use Rattle.state_dag.specs.Table.{Entry, Table, entry_at, id_at, is_slot, arrive_in_order, is_kept_at, arrival_at}
 use Rattle.state_dag.specs.Answers.{IsNewSlot, KeepsSlots}
-use Rattle.state_dag.proofs.Calls.{named-is_slot}
-use Rattle.state_dag.proofs.Places.{entry-found, find-beyond, place-of_slot}
-use Rattle.state_dag.proofs.Passing.{all-at}
+use Rattle.state_dag.proofs.Following.{Follow}
+use Rattle.state_dag.proofs.GrownSlots.{or_else, find-after}
+use Rattle.state_dag.proofs.KeptEntries.{all-found}
+use Rattle.state_dag.proofs.Became.{Became, FoundBoth, follow-found}
 
-module _ (old new : Table) (ms ns : List Node) (n : Node) (slot : Slot) (count : length ns ≡ length ms) (place : slot.0 ≡ length ms)
-    (before : old.entries ≡ entries_from 0 ms) (after : new.entries ≡ entries_from 0 (ns ++ n ∷ [])) where
-  found-old : (s : Slot) → s.0 < length ms → entry_at old s ≡ Some (entry_of s.0 (get_or ms s.0 n))
-  found-old s lt = ap (find (λ (e : Entry). eqb e.slot.0 s.0)) before ∙ entry-found ms s.0 n lt
+some-entry : (o : Option Entry) → is_some o ≡ true → (e : Entry) × (o ≡ Some e)
+some-entry None t = absurd (both_ways false refl t)
+some-entry (Some e) t = (e, refl)
 
-  found-new : (s : Slot) → s.0 < length ms → entry_at new s ≡ Some (entry_of s.0 (get_or ns s.0 n))
-  found-new s lt =
-      let long = length-append ns (n ∷ []) in
-      ap (find (λ (e : Entry). eqb e.slot.0 s.0)) after ∙ entry-found (ns ++ n ∷ []) s.0 n (omega arith)
-      ∙ ap (λ (m : Node). Some (entry_of s.0 m)) (get_or_append_left ns (n ∷ []) n s.0 (omega arith))
+module _ (old new table : Table) (parents : List Slot) (x : StateId) (slot : Slot) (gs : List Entry) (e : Entry) (f : Follow (Became table parents x slot) old.entries gs)
+    (after : new.entries ≡ gs ++ e ∷ []) (own : e.slot ≡ slot) (fresh : entry_at old slot ≡ None) where
+  looked : (s : Slot) → entry_at new s ≡ or_else (find (λ g. eqb g.slot.0 s.0) gs) (cond (eqb e.slot.0 s.0) (Some e) None)
+  looked s = ap (find (λ g. eqb g.slot.0 s.0)) after ∙ find-after s.0 gs e
 
-  found-last : entry_at new slot ≡ Some (entry_of slot.0 n)
-  found-last =
-      let long = length-append ns (n ∷ []) in
-      ap (find (λ (e : Entry). eqb e.slot.0 slot.0)) after ∙ entry-found (ns ++ n ∷ []) slot.0 n (omega arith)
-      ∙ ap (λ (m : Node). Some (entry_of slot.0 m)) (get_or_at ns n [] n slot.0 (omega arith))
+  both : (s : Slot) → FoundBoth (Became table parents x slot) (entry_at old s) (find (λ g. eqb g.slot.0 s.0) gs)
+  both s = follow-found (Became table parents x slot) (λ o n h. h.slot_stays) s.0 old.entries gs f
 
-  pub fresh : entry_at old slot ≡ None
-  fresh = ap (find (λ (e : Entry). eqb e.slot.0 slot.0)) before ∙ find-beyond ms 0 slot.0 (omega arith)
+  stays-found : (s : Slot) (o : Entry) → entry_at old s ≡ Some o → (n : Entry) × (entry_at new s ≡ Some n) × Became table parents x slot o n
+  stays-found s o is = go (entry_at old s) (find (λ g. eqb g.slot.0 s.0) gs) (both s) is (looked s)
+    where
+      go : (p q : Option Entry) → FoundBoth (Became table parents x slot) p q → p ≡ Some o → entry_at new s ≡ or_else q (cond (eqb e.slot.0 s.0) (Some e) None) →
+          (n : Entry) × (entry_at new s ≡ Some n) × Became table parents x slot o n
+      go None q b h l = absurd (none-some o h)
+      go (Some p) None b h l = absurd (b)
+      go (Some p) (Some q) b h l = (q, l, subst (λ z. Became table parents x slot z q) (same_Some p o h) b)
 
-  within : (s : Slot) → is_slot old s ≡ true → s.0 < length ms
-  within s h = place-of_slot ms s.0 (subst (λ es. is_some (find (λ (e : Entry). eqb e.slot.0 s.0) es) ≡ true) before h)
+  pub last-found : entry_at new slot ≡ Some e
+  last-found = looked slot ∙ go (entry_at old slot) (find (λ g. eqb g.slot.0 slot.0) gs) (both slot) fresh
+    where
+      go : (p q : Option Entry) → FoundBoth (Became table parents x slot) p q → ◌≡◌ {A = Option Entry} p None → or_else q (cond (eqb e.slot.0 slot.0) (Some e) None) ≡ Some e
+      go None None b h = cond-true (eqb e.slot.0 slot.0) (Some e) None (eq-eqb e.slot.0 slot.0 (ap (λ (s : Slot). s.0) own))
+      go None (Some q) b h = absurd (b)
+      go (Some p) q b h = absurd (none-some p (sym h))
 
-  module _ (stay : (k : ℕ) → k < length ms → ((get_or ns k n).id ≡ (get_or ms k n).id) × ((get_or ns k n).arrival ≡ (get_or ms k n).arrival)) where
-    pub slots-kept : KeepsSlots old new
-    slots-kept s x named =
-        let lt = within s (named-is_slot old s x named) in
-        let was = sym (ap (option_map (λ (e : Entry). e.id)) (found-old s lt)) ∙ named in
-        ap (option_map (λ (e : Entry). e.id)) (found-new s lt) ∙ ap (λ z. Some z) (stay s.0 lt).0 ∙ was
+  pub slot-stays : (s : Slot) → is_slot old s ≡ true → is_slot new s ≡ true
+  slot-stays s there = (let o = some-entry (entry_at old s) there in let w = stays-found s o.0 o.1 in ap is_some w.1)
 
-    pub last-named : (x : StateId) → n.id ≡ x → IsNewSlot old new x slot
-    last-named x is = (ap (option_map (λ (e : Entry). e.id)) fresh, ap (option_map (λ (e : Entry). e.id)) found-last ∙ ap (λ z. Some z) is)
+  pub slots-kept : KeepsSlots old new
+  slots-kept s y named = go (entry_at old s) refl named
+    where
+      go : (o : Option Entry) → entry_at old s ≡ o → option_map (λ g. g.id) o ≡ Some y → id_at new s ≡ Some y
+      go None is h = absurd (none-some y h)
+      go (Some o) is h =
+          let w = stays-found s o is in
+          ap (option_map (λ (g : Entry). g.id)) w.1 ∙ ap (λ z. Some z) w.2.id_stays ∙ h
 
-    arrives-new : (s : Slot) → s.0 < length ms → arrival_at new s ≡ (get_or ms s.0 n).arrival
-    arrives-new s lt = ap (λ o. option_map_or (λ (e : Entry). e.arrival) o 0) (found-new s lt) ∙ (stay s.0 lt).1
+  pub last-named : (y : StateId) → e.id ≡ y → IsNewSlot old new y slot
+  last-named y is = (ap (option_map (λ (g : Entry). g.id)) fresh, ap (option_map (λ (g : Entry). g.id)) last-found ∙ ap (λ z. Some z) is)
 
-    pub kept-stays : arrive_in_order new.entries ≡ true → (s : Slot) → IsTrue (is_kept_at old s) → IsTrue (is_kept_at new s) × (arrival_at new s ≡ arrival_at old s)
-    kept-stays up s h =
-        let lt = within s (and_parts (is_slot old s) (arrive_in_order old.entries) h).0 in (
-          and_from (is_slot new s) (arrive_in_order new.entries) (ap is_some (found-new s lt)) up,
-          arrives-new s lt ∙ sym (ap (λ o. option_map_or (λ (e : Entry). e.arrival) o 0) (found-old s lt)),
-        )
+  arrives-as : (s : Slot) (o : Entry) → entry_at old s ≡ Some o → arrival_at new s ≡ o.arrival
+  arrives-as s o is = (let w = stays-found s o is in ap (λ p. option_map_or (λ (g : Entry). g.arrival) p 0) w.1 ∙ w.2.arrival_stays)
 
-    pub last-arrives : arrive_in_order new.entries ≡ true → IsTrue (is_kept_at new slot) × (arrival_at new slot ≡ n.arrival)
-    last-arrives up = (
-      and_from (is_slot new slot) (arrive_in_order new.entries) (ap is_some found-last) up,
-      ap (λ o. option_map_or (λ (e : Entry). e.arrival) o 0) found-last,
-    )
+  pub kept-stays : arrive_in_order new.entries ≡ true → (s : Slot) → IsTrue (is_kept_at old s) → IsTrue (is_kept_at new s) × (arrival_at new s ≡ arrival_at old s)
+  kept-stays up s h =
+      let there = (and_parts (is_slot old s) (arrive_in_order old.entries) h).0 in
+      let o = some-entry (entry_at old s) there in (
+        and_from (is_slot new s) (arrive_in_order new.entries) (slot-stays s there) up,
+        arrives-as s o.0 o.1 ∙ sym (ap (λ p. option_map_or (λ (g : Entry). g.arrival) p 0) o.1),
+      )
 
-    pub arrives-last : (known : ℕ) → n.arrival ≡ known → list_all (λ m. ltb m.arrival known) ms ≡ true → (s : Slot) → IsTrue (is_kept_at old s) → arrival_at new s < arrival_at new slot
-    arrives-last known is all s h =
-        let lt = within s (and_parts (is_slot old s) (arrive_in_order old.entries) h).0 in
-        let here = arrives-new s lt in
-        let before = ltb-true (get_or ms s.0 n).arrival known (all-at (λ (m : Node). ltb m.arrival known) ms s.0 n all lt) in
-        let last = ap (λ o. option_map_or (λ (e : Entry). e.arrival) o 0) found-last in
-        omega arith
+  pub last-arrives : arrive_in_order new.entries ≡ true → IsTrue (is_kept_at new slot) × (arrival_at new slot ≡ e.arrival)
+  last-arrives up = (
+    and_from (is_slot new slot) (arrive_in_order new.entries) (ap is_some last-found) up,
+    ap (λ p. option_map_or (λ (g : Entry). g.arrival) p 0) last-found,
+  )
+
+  pub arrives-last : (known : ℕ) → e.arrival ≡ known → list_all (λ m. ltb m.arrival known) old.entries ≡ true → (s : Slot) → IsTrue (is_kept_at old s) → arrival_at new s < arrival_at new slot
+  arrives-last known is all s h =
+      let there = (and_parts (is_slot old s) (arrive_in_order old.entries) h).0 in
+      let o = some-entry (entry_at old s) there in
+      let here = arrives-as s o.0 o.1 in
+      let before = ltb-true o.0.arrival known (all-found (λ m. ltb m.arrival known) old.entries s.0 o.0 o.1 all) in
+      let last = ap (λ p. option_map_or (λ (g : Entry). g.arrival) p 0) last-found in
+      omega arith

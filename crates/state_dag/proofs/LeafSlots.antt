@@ -136,3 +136,32 @@ leaves-rise table (e ∷ es) found up =
     in-order : (fs : List Entry) → arrive_in_order (e ∷ fs) ≡ true → arrive_in_order fs ≡ true
     in-order [] u = refl
     in-order (f ∷ fs) u = (and_parts (ltb e.arrival f.arrival) (arrive_in_order (f ∷ fs)) u).1
+
+-- so do those of all entries
+slots-later : (table : Table) (p : Entry) (es : List Entry) → AreFound table es → arrive_in_order (p ∷ es) ≡ true → list_all (λ s. ltb p.arrival (arrival_at table s)) (map (λ e. e.slot) es) ≡ true
+slots-later table p [] found up = refl
+slots-later table p (e ∷ es) found up =
+    let parts = and_parts (ltb p.arrival e.arrival) (arrive_in_order (e ∷ es)) up in
+    let here : arrival_at table e.slot ≡ e.arrival = ap (λ o. option_map_or (λ (f : Entry). f.arrival) o 0) (found 0 e (omega arith)) in
+    and_from (ltb p.arrival (arrival_at table e.slot)) (list_all (λ s. ltb p.arrival (arrival_at table s)) (map (λ (f : Entry). f.slot) es)) (ap (ltb p.arrival) here ∙ parts.0)
+    (slots-later table p es (found-rest table e es found) (skips es parts.0 parts.1))
+  where
+    skips : (fs : List Entry) → ltb p.arrival e.arrival ≡ true → arrive_in_order (e ∷ fs) ≡ true → arrive_in_order (p ∷ fs) ≡ true
+    skips [] one two = refl
+    skips (f ∷ fs) one two =
+        let parts = and_parts (ltb e.arrival f.arrival) (arrive_in_order (f ∷ fs)) two in
+        let first = ltb-true p.arrival e.arrival one in
+        let second = ltb-true e.arrival f.arrival parts.0 in
+        and_from (ltb p.arrival f.arrival) (arrive_in_order (f ∷ fs)) (lt-ltb p.arrival f.arrival (omega arith)) parts.1
+
+pub slots-rise : (table : Table) (es : List Entry) → AreFound table es → arrive_in_order es ≡ true → Rise (arrival_at table) (map (λ e. e.slot) es)
+slots-rise table [] found up = tt
+slots-rise table (e ∷ es) found up =
+    let here : arrival_at table e.slot ≡ e.arrival = ap (λ o. option_map_or (λ (f : Entry). f.arrival) o 0) (found 0 e (omega arith)) in (
+      subst (λ m. list_all (λ s. ltb m (arrival_at table s)) (map (λ (f : Entry). f.slot) es) ≡ true) (sym here) (slots-later table e es (found-rest table e es found) up),
+      slots-rise table es (found-rest table e es found) (in-order es up),
+    )
+  where
+    in-order : (fs : List Entry) → arrive_in_order (e ∷ fs) ≡ true → arrive_in_order fs ≡ true
+    in-order [] u = refl
+    in-order (f ∷ fs) u = (and_parts (ltb e.arrival f.arrival) (arrive_in_order (f ∷ fs)) u).1

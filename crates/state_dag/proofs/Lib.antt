@@ -4,6 +4,11 @@ pub mod Following
 pub mod Rising
 pub mod LeafSlots
 pub mod KeptSlots
+pub mod KeptEntries
+pub mod Memory
+pub mod NextSlot
+pub mod Became
+pub mod KeptTables
 pub mod Known
 pub mod Counting
 pub mod Branches
@@ -34,4 +39,5 @@ pub mod SameEntries
 pub mod LastSlots
 pub mod GrownTables
 pub mod HeldNext
+pub mod AddSteps
 pub mod NamedPaths

@@ -1,8 +1,9 @@
 -- Slots with rising numbers.
-use Rattle.std.proofs.Common.{◌≡◌, ℕ, ◌<◌, ◌≤◌, Bool, true, false, not, ◌&&◌, eqb, ltb, List, [], ◌∷◌, length, filter, get_or, remove, inl, inr, refl, sym, ap, ap₂, ◌∙◌, eq-eqb, arith}
+use Rattle.std.proofs.Common.{◌≡◌, ℕ, ◌<◌, ◌≤◌, Bool, true, false, not, ◌&&◌, eqb, ltb, List, [], ◌∷◌, length, filter, get_or, remove, inl, inr, refl, sym, ap, ap₂, ◌∙◌, eq-eqb, eqb-true, arith}
 use Rattle.std.specs.List.{list_all}
 use Rattle.std.specs.List.Sorted.{IsNonDecreasingBy}
-use Rattle.std.proofs.lemmas.Bool.{and_parts, and_from, cases_Bool, cases_lt, ltb-true, ne_eqb}
+use Rattle.std.proofs.lemmas.Bool.{and_parts, and_from, cases_Bool, cases_lt, both_ways, ltb-true, ne_eqb}
+use Rattle.state_dag.specs.Grown.{is_slot_among}
 use Rattle.tardis_base.specs.declared.ids.Slot.{Slot}
 use Rattle.state_dag.specs.Nodes.{Rise}
 use Rattle.state_dag.proofs.Passing.{all-at}
@@ -91,6 +92,33 @@ module _ (number : Slot → ℕ) where
       get_or_same [] m a b lt = absurd (omega arith)
       get_or_same (y ∷ ys) ℕ.zero a b lt = refl
       get_or_same (y ∷ ys) (ℕ.suc m) a b lt = get_or_same ys m a b (omega arith)
+
+-- one that is there has a place
+pub among-index : (xs : List Slot) (g : Slot) → is_slot_among g xs ≡ true → (j : ℕ) × (j < length xs) × ((d : Slot) → get_or xs j d ≡ g)
+among-index [] g there = absurd (both_ways false refl there)
+among-index (x ∷ xs) g there = elim (cases_Bool (eqb x.0 g.0)) [
+  | inl t ↦ (0, omega arith, λ d. (let named : ℕ → Slot = λ n. record { 0 = n } in ap named (eqb-true x.0 g.0 t)))
+  | inr f ↦ (let w = among-index xs g (rw f at there) in (ℕ.suc w.0, omega arith, λ d. w.2 d))
+]
+
+-- it is the first whose number is no lower
+pub rising-place : (number : Slot → ℕ) (xs : List Slot) (g : Slot) (p : ℕ) → Rise number xs → is_slot_among g xs ≡ true → ((j : ℕ) (d : Slot) → j < p → number (get_or xs j d) < number g) →
+    ((j : ℕ) (d : Slot) → p ≤ j → j < length xs → number g ≤ number (get_or xs j d)) → (p < length xs) × ((d : Slot) → get_or xs p d ≡ g)
+rising-place number xs g p up there before from =
+    let w = among-index xs g there in
+    let same = ap number (w.2 g) in
+    let place : p ≡ w.0 = elim (cases_lt w.0 p) [
+      | inl less ↦ absurd (let lower = before w.0 g less in omega arith)
+      | inr le ↦ elim (cases_lt p w.0) [
+        | inl less ↦
+            absurd (let rises = rising-at number xs p w.0 g up less w.1 in
+            let inside = w.1 in
+            let least = from p g (omega arith) (omega arith) in
+            omega arith)
+        | inr more ↦ omega arith
+      ]
+    ] in
+    (let inside = w.1 in omega arith, λ d. ap (λ (m : ℕ). get_or xs m d) place ∙ w.2 d)
 
 -- one test after another
 pub filter-both : (p q r : Slot → Bool) (xs : List Slot) → ((x : Slot) → r x ≡ (p x && q x)) → filter q (filter p xs) ≡ filter r xs

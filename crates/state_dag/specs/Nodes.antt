@@ -1,5 +1,5 @@
 -- What the nodes of a table get as it grows.
-use Rattle.std.specs.Prelude.{◌≡◌, ℕ, ◌+◌, ◌≤◌, ◌<◌, Bool, false, ◌==◌, ◌&&◌, ◌||◌, List, [], ◌∷◌, ◌++◌, length, map, filter, Option, Some, None, Result, Ok, Err, IsTrue, nat_lt, nat_le, vec_len, vec_capacity, slice_index_or, if◌then◌else◌, ⊤}
+use Rattle.std.specs.Prelude.{◌≡◌, ℕ, ◌+◌, ◌≤◌, ◌<◌, Bool, false, ◌==◌, ◌&&◌, ◌||◌, List, [], ◌∷◌, ◌++◌, length, map, filter, Option, Some, None, Result, Ok, Err, IsTrue, nat_lt, nat_le, vec_len, vec_capacity, slice_get, slice_set, slice_index_or, unwrap_or, if◌then◌else◌, ⊤}
 use Rattle.std.specs.List.{list_any, list_all, flat_map}
 use Rattle.std.specs.Option.{option_map_or}
 use Rattle.tardis_base.specs.declared.ids.StateId.{StateId}
@@ -32,6 +32,18 @@ table_within limits nodes = record (table_of nodes) { limits = limits }
 -- and with the number of states that have arrived
 abbrev pub table_after : ℕ → List Node → Table
 table_after known nodes = record (table_of nodes) { known = known }
+
+-- the nodes with this one in the place, or behind all
+abbrev pub with_node : List Node → ℕ → Node → List Node
+with_node nodes place node = if nat_lt place (length nodes) then slice_set nodes place node else nodes ++ node ∷ []
+
+-- the first of the slots behind so many, or else that of the next number
+abbrev pub slot_after_all : List Slot → ℕ → Slot
+slot_after_all slots used = unwrap_or (slice_get slots used) (record { 0 = used })
+
+-- the slots, and this one behind them where all are used
+abbrev pub with_slot : List Slot → ℕ → Slot → List Slot
+with_slot slots used slot = if nat_lt used (length slots) then slots else slots ++ slot ∷ []
 
 -- each slot is the place of a node
 abbrev pub are_places : List Node → List Slot → Bool

@@ -1,9 +1,11 @@
 -- How the table reads its memory.
-use Rattle.std.specs.Prelude.{ℕ, ◌+◌, Bool, ◌==◌, length, List, [], ◌∷◌, Option, Some, None, slice_get, if◌then◌else◌}
+use Rattle.std.specs.Prelude.{ℕ, ◌+◌, Bool, ◌==◌, length, filter, map, List, [], ◌∷◌, Option, Some, None, slice_get, if◌then◌else◌}
 use Rattle.std.specs.Option.{option_map}
+use Rattle.std.specs.List.{cons_option, range_with_len}
 use Rattle.tardis_base.specs.declared.ids.StateId.{StateId}
 use Rattle.tardis_base.specs.declared.ids.Slot.{Slot}
 use Rattle.tardis_base.specs.Ids.{same_id}
+use Rattle.fork_path.specs.Pairs.{has_pair}
 use Rattle.state_dag.specs.declared.nodes.Node.{Node}
 use Rattle.state_dag.specs.Table.{Entry}
 
@@ -24,6 +26,11 @@ abbrev pub entries_from : ℕ → List Node → List Entry
 entries_from place [] = []
 entries_from place (node ∷ nodes) = entry_of place node ∷ entries_from (place + 1) nodes
 
+-- the entries of the nodes in these slots
+abbrev pub entries_in : List Node → List Slot → List Entry
+entries_in nodes [] = []
+entries_in nodes (slot ∷ slots) = cons_option (option_map (entry_of slot.0) (slice_get nodes slot.0)) (entries_in nodes slots)
+
 -- the entry's state has no child
 abbrev pub is_childless : Entry → Bool
 is_childless e = length e.children == 0
@@ -33,6 +40,13 @@ abbrev pub slot_or : Option Slot → Option Slot → Option Slot
 slot_or (Some slot) other = Some slot
 slot_or None other = other
 
+-- the last of these slots that has the state
+abbrev pub slot_of_id : List Entry → StateId → Option Slot
+slot_of_id [] x = None
+slot_of_id (e ∷ es) x =
+    let later = slot_of_id es x in
+    slot_or later (if same_id x e.id then Some e.slot else None)
+
 -- the last place, from this one on, of the state
 abbrev pub place_of_id : ℕ → List Node → StateId → Option Slot
 place_of_id place [] x = None
@@ -40,6 +54,7 @@ place_of_id place (node ∷ nodes) x =
     let later = place_of_id (place + 1) nodes x in
     slot_or later (if same_id x node.id then Some (record { 0 = place }) else None)
 
--- the pair with the id of the node at its fork's place, if there is one
-abbrev pub named_pair : List Node → ℕ × ℕ → Option (StateId × ℕ)
-named_pair nodes pair = option_map (λ n. (n.id, pair.1)) (slice_get nodes pair.0)
+-- the branches of the entry's state that are among these pairs, each with the state's id
+abbrev pub named_branches : List (ℕ × ℕ) → Entry → List (StateId × ℕ)
+named_branches pairs e =
+    filter (λ (b : StateId × ℕ). has_pair (e.slot.0, b.1) pairs) (map (λ n. (e.id, n)) (range_with_len 0 (length e.children)))

@@ -5,7 +5,7 @@ ghost use Rattle.std.specs.List.{list_all};
 ghost use Rattle.tardis_base.specs.declared.ids.Slot.{Slot};
 ghost use Rattle.state_dag.specs.declared.nodes.Node.{Node};
 ghost use Rattle.state_dag.specs.Grown.{is_slot_among};
-ghost use Rattle.state_dag.specs.Nodes.{are_places, have_places, AreDistinct, HasPathRoom, HasChildRoom, HasGained, HasChild, HasGrown};
+ghost use Rattle.state_dag.specs.Nodes.{are_places, have_places, with_node, AreDistinct, HasPathRoom, HasChildRoom, HasGained, HasChild, HasGrown};
 
 use crate::leads::Gain;
 use crate::nodes::Node;
@@ -90,4 +90,17 @@ pub fn set_count(counts: &mut Vec<u32>, site: u16, count: u32)
     ensures fits { count < 2 ^ 32 }
 {
     counts[site as usize - 1] = count;
+}
+
+/// Puts the node into the slot: in place of a node that says nothing, or behind all, where there is room.
+pub fn put_node(nodes: &mut Vec<Node>, slot: Slot, node: Node)
+    requires slot { slot.0 ≤ length nodes.old.items }
+    requires room { vec_len nodes.old < vec_capacity nodes.old }
+    ensures { nodes.new.items ≡ with_node nodes.old.items slot.0 node }
+{
+    if (slot.0 as usize) < nodes.len() {
+        nodes[slot.0 as usize] = node;
+    } else {
+        nodes.push_reserved(node);
+    }
 }

@@ -1,7 +1,7 @@
 //! The table of states: their order by arrival numbers and fork paths.
 #![tactic(auto)]
 
-ghost use Rattle.std.specs.Prelude.{◌≡◌, ℕ, ◌+◌, ◌-◌, ◌≤◌, ◌<◌, false, unwrap_or, slice_get, Some, None, List, [], ◌∷◌, length, map, IsTrue, IfOk, IfSome, OnErr};
+ghost use Rattle.std.specs.Prelude.{◌≡◌, ℕ, ◌+◌, ◌-◌, ◌≤◌, ◌<◌, false, unwrap_or, slice_get, slice_index_or, Some, None, List, [], ◌∷◌, length, map, IsTrue, IfOk, IfSome, OnErr};
 ghost use Rattle.std.specs.List.{list_all};
 ghost use Rattle.std.specs.Option.{option_and_then, option_map};
 ghost use Rattle.tardis_base.specs.declared.ids.StateId.{StateId};
@@ -15,7 +15,7 @@ ghost use Rattle.plain_dag.specs.Forks.{leaves};
 ghost use Rattle.plain_dag.specs.Begin.{last_arrived};
 ghost use Rattle.plain_dag.specs.Collection.{is_kept, kept_states, stand_in};
 ghost use Rattle.plain_dag.specs.Paths.{fork_path};
-ghost use Rattle.state_dag.specs.Table.{entry_at, id_at, is_slot, is_kept_at, arrival_at, is_slot_above};
+ghost use Rattle.state_dag.specs.Table.{Entry, entry_at, id_at, is_slot, is_kept_at, arrival_at, is_slot_above};
 ghost use Rattle.state_dag.specs.Views.{entry_of};
 ghost use Rattle.state_dag.specs.Stands.{Stands};
 ghost use Rattle.state_dag.specs.Shared.{shared_stand_in};
@@ -33,13 +33,15 @@ mod sums;
 #[cfg(test)]
 mod tests;
 
-use changes::{grow, set_count};
+use changes::{grow, put_node, set_count};
 use growth::{check_path, new_node};
 use leads::gains;
 use named_paths::named_path;
-use nodes::{Node, ROOT, is_node_above, root_node};
+use nodes::{Node, ROOT, first_from, is_node_above, node_at, root_node};
 use rooms::make_room;
-use slots::{common_slot, drop_slots, make_slot_room, put_slot, slot_in};
+use slots::{
+    common_slot, drop_slots, list_slot, make_slot_room, next_slot, put_slot, slot_at, slot_in,
+};
 use std::alloc::Global;
 use std::collections::BTreeMap;
 use std::marker::Model;
@@ -47,14 +49,18 @@ use tardis_base::{Above, AddFault, Limits, NoMemory, PathList, Slot, StateId};
 
 /// The states of one site, by the slots in which the kept ones stand.
 ///
-/// A slot is a place in this table alone. It says nothing of arrival.
+/// A slot is a place in this table alone. It says nothing of arrival, and is used again once its state has gone.
 #[derive(Drop)]
 pub struct StateDag {
     limits: Limits,
     counts: Vec<u32>,
     known: u64,
+    /// By slot. A node in whose slot no state is kept says nothing.
     nodes: Vec<Node>,
-    kept: Vec<Slot>,
+    /// All slots: those of the kept states in arrival order, and then those in which no state is kept.
+    order: Vec<Slot>,
+    /// How many states are kept.
+    kept: u32,
     leaves: Vec<Slot>,
     slots: BTreeMap<StateId, Slot>,
 }
@@ -81,8 +87,8 @@ impl StateDag {
         let counts = vec![in alloc; 0u32; limits.sites as usize]?;
         let mut nodes = Vec::new(alloc);
         nodes.push(root_node(alloc))?;
-        let mut kept = Vec::new(alloc);
-        kept.push(Slot(0))?;
+        let mut order = Vec::new(alloc);
+        order.push(Slot(0))?;
         let mut leaves = Vec::new(alloc);
         leaves.push(Slot(0))?;
         let mut slots = BTreeMap::new(alloc);
@@ -92,7 +98,8 @@ impl StateDag {
             counts,
             known: 1,
             nodes,
-            kept,
+            order,
+            kept: 1,
             leaves,
             slots,
         })
@@ -122,26 +129,28 @@ impl StateDag {
         ensures limits { self.new.limits ≡ self.old.limits }
         ensures same { OnErr result (self.new ≡ self.old) }
     {
-        let kept = self.nodes.len() as u32;
-        if kept == self.limits.max_kept {
-            return Err(AddFault::Full { kept });
+        if self.kept == self.limits.max_kept {
+            return Err(AddFault::Full { kept: self.kept });
         }
         let alloc = *self.nodes.allocator();
         let node = new_node(alloc, &self.nodes, parents, id, self.known)?;
-        let gains = gains(alloc, &self.nodes, &self.kept, parents, &self.limits)?;
+        let kept = &self.order[..self.kept as usize];
+        let gains = gains(alloc, &self.nodes, kept, parents, &self.limits)?;
         check_path(&node, &self.limits)?;
         make_room(&mut self.nodes, parents, &gains)?;
-        make_slot_room(&mut self.kept)?;
+        make_slot_room(&mut self.order)?;
         make_slot_room(&mut self.leaves)?;
-        put_slot(&mut self.slots, id, Slot(kept))?;
+        let slot = next_slot(&self.order, self.kept);
+        put_slot(&mut self.slots, id, slot)?;
         drop_slots(&self.nodes, &mut self.leaves, parents);
-        grow(&mut self.nodes, parents, &gains, id, Slot(kept));
-        self.nodes.push_reserved(node);
-        self.leaves.push_reserved(Slot(kept));
-        self.kept.push_reserved(Slot(kept));
+        grow(&mut self.nodes, parents, &gains, id, slot);
+        put_node(&mut self.nodes, slot, node);
+        list_slot(&mut self.order, self.kept, slot);
+        self.leaves.push_reserved(slot);
+        self.kept += 1;
         set_count(&mut self.counts, id.site, id.sequence);
         self.known += 1;
-        Ok(Slot(kept))
+        Ok(slot)
     }
 
     /// The limits with which the table was made, in constant time.
@@ -174,11 +183,27 @@ impl StateDag {
         slot_in(&self.slots, id)
     }
 
-    /// Whether a state is kept at the slot. It takes constant time.
+    /// Whether a state is kept at the slot. The cost grows with the logarithm of the number of kept states.
     pub fn has_slot(&self, slot: Slot) -> bool
         ensures { result ≡ is_slot self.now slot }
     {
-        (slot.0 as usize) < self.nodes.len()
+        match node_at(&self.nodes, slot) {
+            Some(node) => {
+                let kept = self.kept_slots();
+                let place = first_from(&self.nodes, kept, node.arrival);
+                place < kept.len() && kept[place] == slot
+            },
+            None => false,
+        }
+    }
+
+    /// How many of the kept states arrived before the one at the slot.
+    fn place(&self, slot: Slot) -> usize
+        requires { IsTrue (is_slot self.now slot) }
+        ensures within { result < length self.now.entries }
+        ensures at { (d : Entry) → (slice_index_or self.now.entries result d).slot ≡ slot }
+    {
+        first_from(&self.nodes, self.kept_slots(), self.node(slot).arrival)
     }
 
     /// Which state is kept at the slot, in constant time.
@@ -212,7 +237,7 @@ impl StateDag {
     pub fn kept(&self) -> u32
         ensures { (rs : List Record) (ks : List StateId) → Stands self.now rs ks → result ≡ length (kept_states rs ks) }
     {
-        self.nodes.len() as u32
+        self.kept
     }
 
     /// How many states have no child, in constant time.
@@ -229,7 +254,7 @@ impl StateDag {
         ensures kept { (rs : List Record) (ks : List StateId) → Stands self.now rs ks
             → map (id_at self.now) result.now ≡ map (λ x. Some x) (kept_states rs ks) }
     {
-        self.kept.as_slice()
+        &self.order[..self.kept as usize]
     }
 
     /// The slots of the states that have no child, in arrival order. They are lent, in constant time.
@@ -243,9 +268,10 @@ impl StateDag {
     /// The slot of the state that arrived last, in constant time.
     pub fn last(&self) -> Slot
         ensures slot { IsTrue (is_slot self.now result) }
+        ensures end { slot_after self.now.entries (Some result) ≡ None }
         ensures last { (rs : List Record) (ks : List StateId) → Stands self.now rs ks → id_at self.now result ≡ Some (last_arrived rs) }
     {
-        Slot((self.nodes.len() - 1) as u32)
+        self.order[self.kept as usize - 1]
     }
 
     /// How many states had arrived before the one at the slot. It takes constant time.
@@ -315,8 +341,8 @@ impl StateDag {
         self.node(slot).parents.as_slice()
     }
 
-    /// The slot of the kept state that arrived next after the one at this slot, or first of all; None at the end. It takes
-    /// constant time.
+    /// The slot of the kept state that arrived next after the one at this slot, or first of all; None at the end. The cost
+    /// grows with the logarithm of the number of kept states.
     pub fn kept_after(&self, slot: Option<Slot>) -> Option<Slot>
         requires { IfSome slot (λ s. IsTrue (is_slot self.now s)) }
         ensures slots { IfSome result (λ s. IsTrue (is_slot self.now s)) }
@@ -326,21 +352,18 @@ impl StateDag {
         ensures next { (rs : List Record) (ks : List StateId) → Stands self.now rs ks → (s : Slot) (x : StateId) → slot ≡ Some s
             → id_at self.now s ≡ Some x → option_and_then (id_at self.now) result ≡ next_of (kept_states rs ks) (Some x) }
     {
-        let count = self.nodes.len();
+        let _ = &self.limits;
         match slot {
-            None => Some(Slot(0)),
+            None => slot_at(self.kept_slots(), 0),
             Some(slot) => {
-                if (slot.0 as usize) + 1 < count {
-                    Some(Slot(slot.0 + 1))
-                } else {
-                    None
-                }
+                let place = self.place(slot);
+                slot_at(self.kept_slots(), place + 1)
             },
         }
     }
 
-    /// The slot of the kept state that arrived last before the one at this slot, or last of all; None at the beginning. It
-    /// takes constant time.
+    /// The slot of the kept state that arrived last before the one at this slot, or last of all; None at the beginning. The
+    /// cost grows with the logarithm of the number of kept states.
     pub fn kept_before(&self, slot: Option<Slot>) -> Option<Slot>
         requires { IfSome slot (λ s. IsTrue (is_slot self.now s)) }
         ensures slots { IfSome result (λ s. IsTrue (is_slot self.now s)) }
@@ -351,13 +374,15 @@ impl StateDag {
         ensures before { (rs : List Record) (ks : List StateId) → Stands self.now rs ks → (s : Slot) (x : StateId) → slot ≡ Some s
             → id_at self.now s ≡ Some x → next_of (kept_states rs ks) (option_and_then (id_at self.now) result) ≡ Some x }
     {
+        let _ = &self.limits;
         match slot {
-            None => Some(Slot((self.nodes.len() - 1) as u32)),
+            None => Some(self.last()),
             Some(slot) => {
-                if slot.0 == 0 {
+                let place = self.place(slot);
+                if place == 0 {
                     None
                 } else {
-                    Some(Slot(slot.0 - 1))
+                    Some(self.kept_slots()[place - 1])
                 }
             },
         }
@@ -375,7 +400,8 @@ impl StateDag {
     /// The fork path of the state at the slot: each kept fork on a way to it with the number of the branch taken, by the
     /// fork's arrival and then by number.
     ///
-    /// The cost grows with the number of pairs.
+    /// The cost grows with the number of kept states, and for each of their children with the logarithm of the number of
+    /// pairs.
     pub fn path(&self, slot: Slot) -> Result<PathList, NoMemory>
         requires { IsTrue (is_slot self.now slot) }
         ensures { (rs : List Record) (ks : List StateId) → Stands self.now rs ks → (x : StateId) → id_at self.now slot ≡ Some x
@@ -384,6 +410,7 @@ impl StateDag {
         named_path(
             *self.nodes.allocator(),
             self.nodes.as_slice(),
+            self.kept_slots(),
             &self.node(slot).path,
         )
     }

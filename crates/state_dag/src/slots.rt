@@ -1,6 +1,6 @@
 //! Which slot each kept state has.
 
-ghost use Rattle.std.specs.Prelude.{◌≡◌, ℕ, ◌==◌, ◌≤◌, ◌<◌, not, filter, Some, OnErr, OnOk, vec_len, vec_capacity, if◌then◌else◌};
+ghost use Rattle.std.specs.Prelude.{◌≡◌, ℕ, ◌==◌, ◌≤◌, ◌<◌, not, filter, slice_get, Some, OnErr, OnOk, vec_len, vec_capacity, if◌then◌else◌};
 ghost use Rattle.std.specs.BTreeMap.{get};
 ghost use Rattle.tardis_base.specs.declared.ids.StateId.{StateId};
 ghost use Rattle.tardis_base.specs.Ids.{same_id};
@@ -8,7 +8,7 @@ ghost use Rattle.state_dag.specs.Ids.{id_cmp};
 ghost use Rattle.state_dag.specs.Shared.{common};
 ghost use Rattle.state_dag.specs.Table.{arrival_at};
 ghost use Rattle.state_dag.specs.Grown.{is_slot_among};
-ghost use Rattle.state_dag.specs.Nodes.{table_of, Rise};
+ghost use Rattle.state_dag.specs.Nodes.{table_of, slot_after_all, with_slot, Rise};
 
 use crate::nodes::{Node, arrival_in, first_from};
 use std::collections::BTreeMap;
@@ -42,6 +42,33 @@ pub fn make_slot_room(slots: &mut Vec<Slot>) -> Result<(), NoMemory>
 {
     slots.reserve(1)?;
     Ok(())
+}
+
+/// The slot that one more gets where so many of these are in use: the first of the others, or else the next number.
+pub fn next_slot(order: &[Slot], used: u32) -> Slot
+    ensures { result ≡ slot_after_all order.now used }
+{
+    match order.get(used as usize) {
+        Some(slot) => *slot,
+        None => Slot(used),
+    }
+}
+
+/// The slot at the place, if there is one.
+pub fn slot_at(slots: &[Slot], place: usize) -> Option<Slot>
+    ensures { result ≡ slice_get slots.now place }
+{
+    slots.get(place).copied()
+}
+
+/// Lists the slot behind so many that are in use, where it isn't there yet.
+pub fn list_slot(order: &mut Vec<Slot>, used: u32, slot: Slot)
+    requires { vec_len order.old < vec_capacity order.old }
+    ensures { order.new.items ≡ with_slot order.old.items used slot }
+{
+    if used as usize >= order.len() {
+        order.push_reserved(slot);
+    }
 }
 
 /// Takes these out of the slots, each by a binary search. The slots stand in arrival order.

@@ -1,6 +1,6 @@
 //! What tables answer as they grow.
 
-ghost use Rattle.std.specs.Prelude.{◌≡◌, IsTrue};
+ghost use Rattle.std.specs.Prelude.{◌<◌, length, IsTrue};
 ghost use Rattle.std.specs.List.{list_all};
 ghost use Rattle.state_dag.specs.Table.{is_slot};
 
@@ -204,39 +204,30 @@ fn ancestors_of_200_states_are_those_along_parents(rt: HostRuntime) {
     }
 }
 
-/// Whether the state of this arrival number is an ancestor of exactly those of the last 4,096 that arrived no sooner.
-fn agrees(dag: &StateDag, state: Slot, arrival: u32, first: Slot) -> bool
-    requires state { IsTrue (is_slot dag.now state) }
-    requires first { IsTrue (is_slot dag.now first) }
+/// Whether the state at this place is an ancestor of exactly those of the last 256 that don't stand before it.
+fn agrees(dag: &StateDag, slots: &[Slot], place: usize) -> bool
+    requires slots { IsTrue (list_all (is_slot dag.now) slots.now) }
+    requires within { place < length slots.now }
 {
-    let mut next = Some(first);
-    for later in 12_288..16_384u32 {
-        let Some(slot) = next else {
-            return false;
-        };
-        if dag.is_ancestor(state, slot) != (arrival <= later) {
+    let state = slots[place];
+    for later in 16_128..slots.len() {
+        if dag.is_ancestor(state, slots[later]) != (place <= later) {
             return false;
         }
-        next = dag.kept_after(next);
     }
-    next.is_none()
+    true
 }
 
-/// Whether that is so of each of 16,384 states.
-fn all_agree(dag: &StateDag, first: Slot) -> bool
-    requires { IsTrue (is_slot dag.now first) }
+/// Whether that is so of each of the states.
+fn all_agree(dag: &StateDag, slots: &[Slot]) -> bool
+    requires { IsTrue (list_all (is_slot dag.now) slots.now) }
 {
-    let mut next = dag.kept_after(None);
-    for arrival in 0..16_384u32 {
-        let Some(slot) = next else {
-            return false;
-        };
-        if !agrees(dag, slot, arrival, first) {
+    for place in 0..slots.len() {
+        if !agrees(dag, slots, place) {
             return false;
         }
-        next = dag.kept_after(next);
     }
-    next.is_none()
+    true
 }
 
 #[test]
@@ -246,6 +237,6 @@ fn ancestry_in_a_chain_of_16384_takes_no_walk(rt: HostRuntime) {
         let last = dag.last();
         assert!(rt; add(&mut dag, &[last]).is_ok());
     }
-    let first = dag.slot_of(state(12_288)).expect(&rt, "a slot");
-    assert!(rt; all_agree(&dag, first));
+    assert_eq!(rt; dag.kept_slots().len(), 16_384);
+    assert!(rt; all_agree(&dag, dag.kept_slots()));
 }

@@ -1,27 +1,23 @@
-use Rattle.std.proofs.Common.{◌≡◌, ◌∙◌, true, ltb, length, Some, sym, ap, subst, arith}
-use Rattle.std.proofs.lemmas.Bool.{and_from}
-use Rattle.state_dag.specs.Table.{entry_at, is_slot, arrive_in_order}
+use Rattle.std.proofs.Common.{◌≡◌, ◌∙◌, true, Some, sym, ap, subst, arith}
 use Rattle.std.specs.List.{list_all}
-use Rattle.tardis_base.specs.declared.ids.Slot.{Slot}
-use Rattle.state_dag.specs.declared.nodes.Node.{Node}
-use Rattle.state_dag.proofs.Passing.{all-at}
-use Rattle.state_dag.proofs.Calls.{slots-of_places}
+use Rattle.std.proofs.lemmas.Bool.{and_from}
+use Rattle.state_dag.specs.Table.{Entry, Table, entry_at, is_slot, arrive_in_order}
 use Rattle.state_dag.specs.Views.{entry_of}
-use Rattle.state_dag.proofs.Places.{entry-found, place-of_slot}
+use Rattle.state_dag.proofs.Memory.{slot-place, entry-kept}
+use Rattle.state_dag.proofs.KeptEntries.{all-found}
 use Rattle.state_dag.proofs.StateDag.node.Goals as goal
 
 pub index-requires : goal.index-requires
 index-requires c =
-    let lt = place-of_slot c.self.inside.nodes.items c.args.slot.0 (subst (λ t. is_slot t c.args.slot ≡ true) (sym c.self.view_is) c.requires) in
+    let lt = slot-place c.self.inside c.self.invariant c.args.slot (subst (λ t. is_slot t c.args.slot ≡ true) (sym c.self.view_is) c.requires) in
     omega (arith, c.self.inside.nodes.ok.0)
 
 pub returns-clause-entry : goal.returns-clause-entry
 returns-clause-entry c =
-    let nodes = c.self.inside.nodes.items in
     let k = c.args.slot.0 in
-    let lt = place-of_slot nodes k (subst (λ t. is_slot t c.args.slot ≡ true) (sym c.self.view_is) c.requires) in
     subst (λ t. entry_at t c.args.slot ≡ Some (entry_of k c.index.result.now)) c.self.view_is
-    (entry-found nodes k c.index.result.now lt ∙ ap (λ n. Some (entry_of k n)) (sym c.index.ensures))
+    (entry-kept c.self.inside c.self.invariant c.args.slot c.index.result.now (subst (λ t. is_slot t c.args.slot ≡ true) (sym c.self.view_is) c.requires)
+    ∙ ap (λ n. Some (entry_of k n)) (sym c.index.ensures))
 
 pub returns-clause-kept : goal.returns-clause-kept
 returns-clause-kept c =
@@ -30,9 +26,6 @@ returns-clause-kept c =
 
 pub returns-clause-stand_ins : goal.returns-clause-stand_ins
 returns-clause-stand_ins c =
-    let nodes = c.self.inside.nodes.items in
-    let k = c.args.slot.0 in
-    let lt = place-of_slot nodes k (subst (λ t. is_slot t c.args.slot ≡ true) (sym c.self.view_is) c.requires) in
-    slots-of_places c.self.inside c.args.self.now c.self.view_is c.index.result.now.stand_ins.items
-    (subst (λ (n : Node). list_all (λ (s : Slot). ltb s.0 (length nodes)) n.stand_ins.items ≡ true) (sym c.index.ensures)
-    (all-at (λ (n : Node). list_all (λ (s : Slot). ltb s.0 (length nodes)) n.stand_ins.items) nodes k c.index.result.now c.self.invariant.stand_ins lt))
+    let table = c.args.self.now in
+    all-found (λ (e : Entry). list_all (is_slot table) e.stand_ins) table.entries c.args.slot.0 (entry_of c.args.slot.0 c.index.result.now) (returns-clause-entry c)
+    (subst (λ (t : Table). list_all (λ (e : Entry). list_all (is_slot t) e.stand_ins) t.entries ≡ true) c.self.view_is c.self.invariant.stand_ins)
