@@ -15,7 +15,9 @@ use Rattle.plain_dag.proofs.Ids.{not-both, among-first, among-later}
 use Rattle.state_dag.specs.Table.{Entry, Table, id_at}
 use Rattle.begin_rule.specs.declared.BeginFault.{BeginFault}
 use Rattle.begin_rule.specs.declared.BeginFault.TheVariants.{Unknown, Below}
-use Rattle.begin_rule.specs.Choices.{ChosenAs, AdmittedAllAs, first_unknown, first_below, is_listed}
+use Rattle.begin_rule.specs.Choices.{ChosenAs, AdmittedAllAs}
+use Rattle.plain_dag.specs.Begin.{first_unknown, first_below}
+use Rattle.state_dag.specs.Table.{is_listed}
 use Rattle.begin_rule.proofs.NamedStates.{found-here, found-behind, none-passes}
 
 -- a state that a slot names is listed

@@ -6,7 +6,7 @@ use Rattle.tardis_base.specs.declared.records.Record.{Record}
 use Rattle.tardis_base.specs.Ids.{is_among}
 use Rattle.plain_dag.specs.States.{is_known}
 use Rattle.plain_dag.specs.Above.{comparable_pair}
-use Rattle.plain_dag.specs.Begin.{is_admitted}
+use Rattle.plain_dag.specs.Begin.{is_admitted, first_unknown, first_below}
 use Rattle.state_dag.specs.Table.{Table, id_at}
 use Rattle.begin_rule.specs.declared.BeginFault.{BeginFault}
 use Rattle.begin_rule.specs.declared.BeginFault.TheVariants.{Unknown, Below}
@@ -18,14 +18,6 @@ abbrev pub ChosenAs : Table → List Record → StateId → StateId → Result S
 ChosenAs table rs c x (Ok slot) = (id_at table slot ≡ Some x) × IsTrue (is_known rs x) × IsTrue (is_admitted rs c x)
 ChosenAs table rs c x (Err (Unknown y)) = (y ≡ x) × IsFalse (is_known rs x)
 ChosenAs table rs c x (Err (Below y d)) = (y ≡ x) × (d ≡ c) × IsTrue (is_known rs x) × IsFalse (is_admitted rs c x)
-
--- the first of these states that is unknown
-abbrev pub first_unknown : List Record → List StateId → Option StateId
-first_unknown rs xs = find (λ x. not (is_known rs x)) xs
-
--- the first of these states that isn't admitted under the ceiling c
-abbrev pub first_below : List Record → StateId → List StateId → Option StateId
-first_below rs c xs = find (λ x. not (is_admitted rs c x)) xs
 
 -- all are known, admitted under the ceiling c and apart, and these are their slots; or else what is told is the first
 -- unknown one, or the first that isn't admitted, or the first comparable pair, each where there is none of the former; or
@@ -43,7 +35,3 @@ abbrev pub AdmittedAllAs : List Record → StateId → List StateId → Result U
 AdmittedAllAs rs c xs (Ok done) = first_below rs c xs ≡ None
 AdmittedAllAs rs c xs (Err (Unknown y)) = ⊥
 AdmittedAllAs rs c xs (Err (Below y d)) = (first_below rs c xs ≡ Some y) × (d ≡ c)
-
--- the table keeps a state of this id
-abbrev pub is_listed : Table → StateId → Bool
-is_listed table x = is_among x (map (λ e. e.id) table.entries)

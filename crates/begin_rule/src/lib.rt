@@ -15,7 +15,7 @@ ghost use Rattle.begin_rule.specs.Choices.{ChosenAs};
 
 mod merges;
 
-pub use merges::{MergeFault, choose_all};
+pub use merges::{MergeFault, choose_all, comparable_pair};
 use state_dag::StateDag;
 use std::error::Error;
 use std::fmt;

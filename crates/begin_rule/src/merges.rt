@@ -7,9 +7,10 @@ ghost use Rattle.tardis_base.specs.declared.ids.StateId.{StateId};
 ghost use Rattle.tardis_base.specs.declared.records.Record.{Record};
 ghost use Rattle.tardis_base.specs.Ids.{is_among};
 ghost use Rattle.plain_dag.specs.Above.{is_proper_ancestor, are_comparable, comparable_pair};
-ghost use Rattle.state_dag.specs.Table.{id_at, is_slot};
+ghost use Rattle.state_dag.specs.Table.{id_at, is_slot, is_listed};
 ghost use Rattle.state_dag.specs.Stands.{Stands};
-ghost use Rattle.begin_rule.specs.Choices.{ChosenAllAs, AdmittedAllAs, first_unknown, is_listed};
+ghost use Rattle.plain_dag.specs.Begin.{first_unknown};
+ghost use Rattle.begin_rule.specs.Choices.{ChosenAllAs, AdmittedAllAs};
 
 use crate::{BeginFault, admitted};
 use state_dag::StateDag;
@@ -143,8 +144,10 @@ fn slots_of(alloc: Global, dag: &StateDag, states: &[StateId]) -> Result<ListOf<
     Ok(slots)
 }
 
-/// The first two of these states that are comparable, by the place of the one and then of the other.
-fn comparable_pair(dag: &StateDag, slots: &[Slot]) -> Option<(StateId, StateId)>
+/// The first two of these states that are comparable, by the place of the one and then of the other. It takes no memory.
+///
+/// Of each two an ancestry is asked in both directions.
+pub fn comparable_pair(dag: &StateDag, slots: &[Slot]) -> Option<(StateId, StateId)>
     requires { IsTrue (list_all (is_slot dag.now) slots.now) }
     ensures { (rs : List Record) (ks : List StateId) → Stands dag.now rs ks → (xs : List StateId)
         → map (id_at dag.now) slots.now ≡ map (λ x. Some x) xs → result ≡ comparable_pair rs xs }

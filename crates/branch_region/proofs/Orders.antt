@@ -3,18 +3,9 @@ use Rattle.std.proofs.Common.{◌≡◌, ℕ, zero, suc, ◌+◌, ◌<◌, ◌�
 use Rattle.std.proofs.lemmas.Bool.{and_parts, and_from, and_left, and_right, cases_Bool, false_from_ne_true, le-leb, leb-true, leb-false, ltb-true, lt-ltb}
 use Rattle.std.proofs.lemmas.Option.{none-some, same_Some}
 use Rattle.tardis_base.specs.declared.ids.StateId.{StateId}
-use Rattle.tardis_base.specs.declared.records.Record.{Record}
 use Rattle.tardis_base.specs.Ids.{is_among}
-use Rattle.plain_dag.specs.States.{arrived, arrival}
-use Rattle.plain_dag.specs.Dag.{IsDag}
-use Rattle.plain_dag.specs.Collection.{kept_states}
-use Rattle.plain_dag.proofs.States.{Grows, dag-grows, known-isnt-newest, arrival-newest, arrival-before, arrival_is_below, same_id_self, same_test, not-both, among-first, among-later, among-cases, among-append}
-use Rattle.state_dag.proofs.Known.{arrived-is_known}
-
--- each arrived before all that stand behind it
-abbrev pub Ascends : (StateId → ℕ) → List StateId → Type 0
-Ascends arr [] = Unit {0}
-Ascends arr (x ∷ xs) = ((y : StateId) → IsTrue (is_among y xs) → arr x < arr y) × Ascends arr xs
+use Rattle.plain_dag.proofs.States.{same_test, not-both, among-first, among-later, among-cases}
+use Rattle.plain_dag.proofs.Rising.{Rising}
 
 -- ===== What is kept of a list
 
@@ -32,66 +23,6 @@ filter-agrees p q (x ∷ xs) f =
 pub filter-none : (p : StateId → Bool) (xs : List StateId) → ((x : StateId) → IsTrue (is_among x xs) → IsFalse (p x)) → filter p xs ≡ []
 filter-none p [] f = refl
 filter-none p (x ∷ xs) f = rw (f x (among-first x xs)) (filter-none p xs (λ y m. f y (among-later y x xs m)))
-
-filtered-is_among : (p : StateId → Bool) (xs : List StateId) (y : StateId) → IsTrue (is_among y (filter p xs)) → IsTrue (is_among y xs)
-filtered-is_among p [] y h = h
-filtered-is_among p (x ∷ xs) y h = elim (cases_Bool (p x)) [
-  | inl t ↦
-      let h2 : IsTrue (is_among y (x ∷ filter p xs)) = rw t at h in
-      elim (among-cases y x (filter p xs) h2) [
-        | inl e ↦ subst (λ z. IsTrue (is_among z (x ∷ xs))) (sym e) (among-first x xs)
-        | inr m ↦ among-later y x xs (filtered-is_among p xs y m)
-      ]
-  | inr n ↦ (let h2 : IsTrue (is_among y (filter p xs)) = rw n at h in among-later y x xs (filtered-is_among p xs y h2))
-]
-
--- ===== Kept states ascend
-
-ascends-last : (arr : StateId → ℕ) (xs : List StateId) (y : StateId) → Ascends arr xs → ((x : StateId) → IsTrue (is_among x xs) → arr x < arr y) → Ascends arr (xs ++ y ∷ [])
-ascends-last arr [] y up before = (λ z m. not-both false m refl, tt)
-ascends-last arr (x ∷ xs) y up before = (
-  λ z m. elim (cases_Bool (is_among z xs)) [
-    | inl t ↦ up.0 z t
-    | inr n ↦
-        let last : IsTrue (is_among z (y ∷ [])) = rw n at (sym (among-append z xs (y ∷ [])) ∙ m) in
-        elim (among-cases z y [] last) [
-          | inl e ↦ subst (λ w. arr x < arr w) (sym e) (before x (among-first x xs))
-          | inr none ↦ not-both false none refl
-        ]
-  ],
-  ascends-last arr xs y up.1 (λ z m. before z (among-later z x xs m)),
-)
-
-ascends-same : (arr brr : StateId → ℕ) (xs : List StateId) → ((x : StateId) → IsTrue (is_among x xs) → brr x ≡ arr x) → Ascends arr xs → Ascends brr xs
-ascends-same arr brr [] same up = tt
-ascends-same arr brr (x ∷ xs) same up = (
-  λ y m. let a = up.0 y m in let e = same x (among-first x xs) in let f = same y (among-later y x xs m) in omega arith,
-  ascends-same arr brr xs (λ y m. same y (among-later y x xs m)) up.1,
-)
-
-ascends-filter : (arr : StateId → ℕ) (p : StateId → Bool) (xs : List StateId) → Ascends arr xs → Ascends arr (filter p xs)
-ascends-filter arr p [] up = tt
-ascends-filter arr p (x ∷ xs) up = elim (cases_Bool (p x)) [
-  | inl t ↦ rw t (λ y m. up.0 y (filtered-is_among p xs y m), ascends-filter arr p xs up.1)
-  | inr n ↦ rw n (ascends-filter arr p xs up.1)
-]
-
-arrived-ascends : (rs : List Record) → Grows rs → Ascends (arrival rs) (arrived rs)
-arrived-ascends [] g = tt
-arrived-ascends (r ∷ rs) g =
-    ascends-last (arrival (r ∷ rs)) (arrived rs) r.id
-    (ascends-same (arrival rs) (arrival (r ∷ rs)) (arrived rs) (λ x m. old x m) (arrived-ascends rs g.1))
-    (λ x m.
-    let e = old x m in
-    let l = arrival_is_below rs x (arrived-is_known rs x m) in
-    let n = arrival-newest rs r r.id (same_id_self r.id) in
-    omega arith)
-  where
-    old : (x : StateId) → IsTrue (is_among x (arrived rs)) → arrival (r ∷ rs) x ≡ arrival rs x
-    old x m = arrival-before rs r x (known-isnt-newest rs r x g.0 (arrived-is_known rs x m))
-
-pub kept-ascend : (rs : List Record) (ks : List StateId) → IsDag rs → Ascends (arrival rs) (kept_states rs ks)
-kept-ascend rs ks dag = ascends-filter (arrival rs) (λ x. not (is_among x ks)) (arrived rs) (arrived-ascends rs (dag-grows rs dag))
 
 -- ===== Since a bound, and before it
 
@@ -175,7 +106,7 @@ module _ (arr : StateId → ℕ) where
         and_from (q x) (leb a (arr x)) parts.0 (le-leb a (arr x) (omega arith))))
 
     -- since a state that passes there are it and those since a later bound, where none is between
-    pub one-more : (a b : ℕ) (xs : List StateId) (p : StateId) → Ascends arr xs → IsTrue (is_among p xs) → arr p ≡ a → a < b → IsTrue (q p) →
+    pub one-more : (a b : ℕ) (xs : List StateId) (p : StateId) → Rising arr xs → IsTrue (is_among p xs) → arr p ≡ a → a < b → IsTrue (q p) →
         ((x : StateId) → IsTrue (is_among x xs) → IsTrue (q x) → a < arr x → arr x < b → ⊥) →
         filter (λ x. q x && leb a (arr x)) xs ≡ p ∷ filter (λ x. q x && leb b (arr x)) xs
     one-more a b [] p up m is lt t gap = not-both false m refl
@@ -200,7 +131,7 @@ module _ (arr : StateId → ℕ) where
     until-isnt b x le = and_right (q x) (ltb (arr x) b) (false_from_ne_true (ltb (arr x) b) (λ u. let m = ltb-true (arr x) b u in omega arith))
 
     -- all that pass are those before a bound and those since
-    pub parted : (b : ℕ) (xs : List StateId) → Ascends arr xs → filter q xs ≡ filter (λ x. q x && ltb (arr x) b) xs ++ filter (λ x. q x && leb b (arr x)) xs
+    pub parted : (b : ℕ) (xs : List StateId) → Rising arr xs → filter q xs ≡ filter (λ x. q x && ltb (arr x) b) xs ++ filter (λ x. q x && leb b (arr x)) xs
     parted b [] up = refl
     parted b (z ∷ zs) up = elim (cases_Bool (leb b (arr z))) [
       | inl t ↦
@@ -225,7 +156,7 @@ module _ (arr : StateId → ℕ) where
         all-since x le = elim (cases_Bool (q x)) [ inl t ↦ t ∙ sym (since-is b x t le) | inr o ↦ o ∙ sym (and_left (q x) (leb b (arr x)) o) ]
 
     -- those before the bound stand in front of the first that isn't
-    pub until-front : (b : ℕ) (xs : List StateId) (i : ℕ) (x : StateId) → Ascends arr xs → slice_get xs i ≡ Some x → b ≤ arr x → filter (λ y. q y && ltb (arr y) b) xs ≡ filter (λ y. q y && ltb (arr y) b) (take i xs)
+    pub until-front : (b : ℕ) (xs : List StateId) (i : ℕ) (x : StateId) → Rising arr xs → slice_get xs i ≡ Some x → b ≤ arr x → filter (λ y. q y && ltb (arr y) b) xs ≡ filter (λ y. q y && ltb (arr y) b) (take i xs)
     until-front b [] i x up e le = absurd (none-some x e)
     until-front b (z ∷ zs) zero x up e le =
         let same = same_Some z x e in

@@ -20,7 +20,8 @@ use Rattle.state_dag.proofs.Standing.{slot-is_kept}
 use Rattle.state_dag.proofs.Known.{kept-is_listed, listed-is_kept}
 use Rattle.branch_region.specs.Regions.{is_above_part, is_last_shared}
 use Rattle.branch_region.specs.Walks.{is_since, Waits, IsWaiting, AreSince, IsNoted, IsWalk, HasThese, AreWaiting}
-use Rattle.branch_region.proofs.Orders.{filter-none, kept-ascend, none-between, one-more, count-more, count-all}
+use Rattle.plain_dag.proofs.Rising.{kept-rise}
+use Rattle.branch_region.proofs.Orders.{filter-none, none-between, one-more, count-more, count-all}
 use Rattle.branch_region.proofs.Told.{well, stand-in-part}
 use Rattle.branch_region.proofs.Parents.{stand_in-parent}
 
@@ -199,14 +200,14 @@ module _ (table : Table) (rs : List Record) (ks : List StateId) (stands : Stands
         noted-shared all = record {
           apart_are = noted-same a b (λ x. is_above_part rs x xs) apart w.noted.apart_are (none-from (λ x. is_above_part rs x xs) (false_from_ne_true (is_above_part rs p xs) (λ q. part-isnt-all p q all)) apart-between);
           shared_are = noted-more a b (is_last_shared rs xs) shared s p w.noted.shared_are p_named
-              (one-more (arrival rs) (is_last_shared rs xs) a b (kept_states rs ks) p (kept-ascend rs ks stands.dag) (kept-is_listed rs ks p p_kept) p_arrived it.0 (is-last all) shared-between);
+              (one-more (arrival rs) (is_last_shared rs xs) a b (kept_states rs ks) p (kept-rise rs ks stands.dag) (kept-is_listed rs ks p p_kept) p_arrived it.0 (is-last all) shared-between);
         }
 
         -- it is apart
         pub noted-apart : IsFalse (is_above_all rs p xs) → IsNoted table rs ks xs a (apart ++ s ∷ []) shared
         noted-apart some = record {
           apart_are = noted-more a b (λ x. is_above_part rs x xs) apart s p w.noted.apart_are p_named
-              (one-more (arrival rs) (λ x. is_above_part rs x xs) a b (kept_states rs ks) p (kept-ascend rs ks stands.dag) (kept-is_listed rs ks p p_kept) p_arrived it.0 (is-part some) apart-between);
+              (one-more (arrival rs) (λ x. is_above_part rs x xs) a b (kept_states rs ks) p (kept-rise rs ks stands.dag) (kept-is_listed rs ks p p_kept) p_arrived it.0 (is-part some) apart-between);
           shared_are = noted-same a b (is_last_shared rs xs) shared w.noted.shared_are (none-from (is_last_shared rs xs) (false_from_ne_true (is_last_shared rs xs p) (λ l. both_ways (is_above_all rs p xs) some (last-is-all p l))) shared-between);
         }
 

@@ -59,7 +59,7 @@ slots-grow book old new keeps = all-follow (IsSlotOf old) (IsSlotOf old) (IsSlot
         named-is_slot new p.slot w.0 (keeps p.slot w.0 w.1)
 
 -- a kept state isn't collected
-kept-is_uncollected : (rs : List Record) (ks : List StateId) (x : StateId) → IsTrue (is_kept rs ks x) → IsFalse (is_among x ks)
+pub kept-is_uncollected : (rs : List Record) (ks : List StateId) (x : StateId) → IsTrue (is_kept rs ks x) → IsFalse (is_among x ks)
 kept-is_uncollected rs ks x kept = not-true (is_among x ks) (and_parts (is_known rs x) (not (is_among x ks)) kept).1
 
 -- a kept state stands for itself

@@ -4,3 +4,6 @@ pub mod Keeping
 pub mod Growth
 pub mod Moves
 pub mod Newest
+pub mod Late
+pub mod Consenting
+pub mod Renames

@@ -1,5 +1,6 @@
 -- What the calls that move ceilings and floors answer.
-use Rattle.std.specs.Prelude.{◌≡◌, ℕ, ◌+◌, ◌==◌, not, List, length, find, Option, None, Some, Result, Ok, Err, IsTrue, IsFalse}
+use Rattle.std.specs.Prelude.{◌≡◌, ℕ, Bool, ◌+◌, ◌==◌, not, List, length, find, Option, None, Some, Result, Ok, Err, IsTrue, IsFalse}
+use Rattle.std.specs.List.{list_all}
 use Rattle.std.specs.Option.{option_map}
 use Rattle.tardis_base.specs.declared.ids.StateId.{StateId}
 use Rattle.tardis_base.specs.declared.ids.Slot.{Slot}
@@ -61,3 +62,7 @@ AutoRaisedIn rs table old new (Err end) = IsTrue ((own_floor old).number == 4294
 abbrev pub slot_holder : Table → List (ℕ × OpenSession) → Slot → Option (ℕ × StateId)
 slot_holder table sessions slot =
     option_map (λ (s : ℕ × OpenSession). (s.0, s.1.ceiling.state)) (find (λ (s : ℕ × OpenSession). not (is_slot_above table slot s.1.ceiling.slot)) sessions)
+
+-- the test holds at the slot of each open ceiling
+abbrev pub each_ceiling : (Slot → Bool) → List (ℕ × OpenSession) → Bool
+each_ceiling test sessions = list_all (λ (s : ℕ × OpenSession). test s.1.ceiling.slot) sessions

@@ -4,3 +4,5 @@ pub mod Places
 pub mod Held
 pub mod Answers
 pub mod Floors
+pub mod Consents
+pub mod Renaming

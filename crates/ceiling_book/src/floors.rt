@@ -1,18 +1,19 @@
 //! Ceilings and floors move.
 
-ghost use Rattle.std.specs.Prelude.{◌≡◌, ◌&&◌, List, length, Some, IsTrue, IfOk, OnErr};
+ghost use Rattle.std.specs.Prelude.{◌≡◌, ◌≤◌, ◌<◌, ℕ, Bool, false, ◌&&◌, List, length, slice_index_or, Some, IsTrue, IfOk, IfSome, OnErr};
 ghost use Rattle.tardis_base.specs.declared.ids.StateId.{StateId};
 ghost use Rattle.tardis_base.specs.declared.records.Record.{Record};
 ghost use Rattle.tardis_base.specs.Ids.{same_id, is_among};
 ghost use Rattle.plain_dag.specs.Above.{is_above, is_proper_ancestor};
 ghost use Rattle.plain_dag.specs.Entries.{entry_of};
 ghost use Rattle.plain_dag.specs.Floors.{Session, automatic_floor, is_closed, is_above_ceilings, is_above_floors};
+ghost use Rattle.plain_dag.specs.Collection.{kept_states};
 ghost use Rattle.state_dag.specs.Table.{Table, id_at, is_slot};
 ghost use Rattle.state_dag.specs.Stands.{Stands};
 ghost use Rattle.ceiling_book.specs.Book.{sessions_of, floors_of, own_floor, is_open};
 ghost use Rattle.ceiling_book.specs.Places.{IsAt, AreSlots, ArePlaced};
 ghost use Rattle.ceiling_book.specs.Answers.{KeepsRest};
-ghost use Rattle.ceiling_book.specs.Floors.{KeepsSessions, CeilingSetIn, FloorMoved, RaisedIn, AutoRaisedIn, slot_holder};
+ghost use Rattle.ceiling_book.specs.Floors.{KeepsSessions, CeilingSetIn, FloorMoved, RaisedIn, AutoRaisedIn, slot_holder, each_ceiling};
 
 use crate::CeilingBook;
 use crate::parts::{KnownFloor, OpenSession, Place};
@@ -141,8 +142,10 @@ impl CeilingBook {
     /// Moves the own floor to the last-arrived state that it is at or above and that is at or above every open session's
     /// ceiling. Answers the slot of that state and the number of the consent.
     ///
-    /// The cost grows with the number of the kept states that arrived after that state, and for those that the floor is at
-    /// or above with the number of open sessions too; each ancestry that is asked costs what `StateDag::is_ancestor` does.
+    /// No state that arrived after an open ceiling is at or above it. So the states are tried backwards from the open ceiling
+    /// that arrived first, or from the newest where no session is open, up to the first that fits: the cost grows with the
+    /// number of the kept states between these two, and for those that the floor is at or above with the number of open
+    /// sessions too; each ancestry that is asked costs what `StateDag::is_ancestor` does.
     pub fn raise_auto(&mut self, dag: &StateDag) -> Result<(Slot, u32), SeqEnd>
         requires slots { AreSlots self.old dag.now }
         requires sites { length (floors_of self.old) ≡ dag.now.limits.sites }
@@ -233,12 +236,43 @@ impl CeilingBook {
     {
         let floor = self.own_place();
         let kept = dag.kept_slots();
-        for place in (0..kept.len()).rev() {
+        for place in (0..self.first_late(dag)).rev() {
             if self.fits(dag, floor, kept[place]) {
                 return kept[place];
             }
         }
         floor.slot
+    }
+
+    /// The place, among the kept states, behind the open ceiling that arrived first: no state from there on is at or above it.
+    /// Where no session is open, the number of kept states.
+    fn first_late(&self, dag: &StateDag) -> usize
+        requires slots { AreSlots self.now dag.now }
+        ensures within { result ≤ length dag.now.entries }
+        ensures late { (rs : List Record) (ks : List StateId) → Stands dag.now rs ks → ArePlaced self.now dag.now rs ks → (k : ℕ) (d : StateId)
+            → result ≤ k → k < length (kept_states rs ks)
+            → is_above_ceilings rs (sessions_of self.now) (slice_index_or (kept_states rs ks) k d) ≡ false }
+    {
+        let kept = dag.kept_slots().len();
+        match self.first_ceiling(dag) {
+            Some(slot) => dag.place(slot) + 1,
+            None => kept,
+        }
+    }
+
+    /// The slot of the open ceiling that arrived first.
+    fn first_ceiling(&self, dag: &StateDag) -> Option<Slot>
+        requires { AreSlots self.now dag.now }
+        ensures { (test : Slot → Bool) → IsTrue (each_ceiling test self.now.sessions) → IfSome result (λ slot. IsTrue (test slot)) }
+    {
+        let mut first = None;
+        for (_, held) in self.sessions.iter() {
+            let slot = held.ceiling.slot;
+            if is_earlier(dag, slot, first) {
+                first = Some(slot);
+            }
+        }
+        first
     }
 
     /// Whether the floor is at or above the state at the slot, and that at or above every ceiling.
@@ -281,6 +315,17 @@ impl CeilingBook {
             stated: dag.count(self.own),
         };
         Ok(number + 1)
+    }
+}
+
+/// Whether the state at the slot arrived before the other, if there is one.
+fn is_earlier(dag: &StateDag, slot: Slot, other: Option<Slot>) -> bool
+    requires slot { IsTrue (is_slot dag.now slot) }
+    requires other { IfSome other (λ s. IsTrue (is_slot dag.now s)) }
+{
+    match other {
+        Some(other) => dag.arrival(slot) < dag.arrival(other),
+        None => true,
     }
 }
 

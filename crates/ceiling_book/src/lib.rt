@@ -1,7 +1,7 @@
 //! The book of ceilings: the open sessions with their ceilings and last commits, and what is known of each site's floor.
 #![tactic(auto)]
 
-ghost use Rattle.std.specs.Prelude.{◌≡◌, ◌≤◌, List, [], replicate, length, Some, IsTrue, IfOk, OnErr};
+ghost use Rattle.std.specs.Prelude.{◌≡◌, ◌≤◌, List, [], ◌∷◌, replicate, length, Some, IsTrue, IfOk, OnErr};
 ghost use Rattle.tardis_base.specs.declared.ids.StateId.{StateId};
 ghost use Rattle.tardis_base.specs.declared.records.Record.{Record};
 ghost use Rattle.tardis_base.specs.Ids.{root as the_root};
@@ -14,10 +14,13 @@ ghost use Rattle.state_dag.specs.Stands.{Stands};
 ghost use Rattle.ceiling_book.specs.Book.{sessions_of, floors_of, own_floor, is_open};
 ghost use Rattle.ceiling_book.specs.Places.{AreSlots, ArePlaced};
 ghost use Rattle.ceiling_book.specs.Answers.{KeepsRest, OpenedIn};
+ghost use Rattle.ceiling_book.specs.Renaming.{renamed, is_free, GivesUp};
 
+mod consents;
 mod floors;
 mod parts;
 
+pub use consents::ConsentEnd;
 pub use floors::{CeilingBack, RaiseFault};
 use parts::{KnownFloor, OpenSession, Place};
 use state_dag::StateDag;
@@ -225,6 +228,23 @@ impl CeilingBook {
         if let Some(held) = self.sessions.get_mut(&session) {
             *held = held.after_commit(dag, commit);
         }
+    }
+
+    /// Moves what stands in for last commits and for the root from the one slot to the other; all else stays. So the book
+    /// stands where a state is collected that is no ceiling and no floor.
+    ///
+    /// It takes no memory. The cost grows with the number of open sessions.
+    pub fn rename(&mut self, from: Slot, to: Slot)
+        ensures renamed { self.new ≡ renamed from to self.old }
+        ensures sessions { sessions_of self.new ≡ sessions_of self.old }
+        ensures placed { (old new : Table) (rs : List Record) (ks : List StateId) (x s : StateId) → Stands old rs ks → GivesUp old new rs ks from to x s
+            → IsTrue (is_free self.old x) → ArePlaced self.old old rs ks → ArePlaced self.new new rs (x ∷ ks) }
+    {
+        self.root = parts::renamed(self.root, from, to);
+        self.sessions.retain(|_, held| {
+            *held = held.renamed(from, to);
+            true
+        });
     }
 
     /// The slot of the site's floor as known here, the number of its consent, and the count stated with it.

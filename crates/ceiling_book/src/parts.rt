@@ -8,6 +8,7 @@ ghost use Rattle.state_dag.specs.Table.{is_slot};
 ghost use Rattle.state_dag.specs.Stands.{Stands};
 ghost use Rattle.ceiling_book.specs.Book.{session_of};
 ghost use Rattle.ceiling_book.specs.Places.{IsAt};
+ghost use Rattle.ceiling_book.specs.Renaming.{renamed_slot, renamed_session};
 
 use state_dag::StateDag;
 use tardis_base::{Slot, StateId};
@@ -60,4 +61,22 @@ impl OpenSession {
     {
         OpenSession { ceiling, ..*self }
     }
+
+    /// The session with the slot of its last commit renamed.
+    pub fn renamed(&self, from: Slot, to: Slot) -> OpenSession
+        ensures { result ≡ renamed_session from to self.now }
+    {
+        let last = Place {
+            state: self.last.state,
+            slot: renamed(self.last.slot, from, to),
+        };
+        OpenSession { last, ..*self }
+    }
+}
+
+/// The slot, or `to` in the place of `from`.
+pub fn renamed(slot: Slot, from: Slot, to: Slot) -> Slot
+    ensures { result ≡ renamed_slot from to slot }
+{
+    if slot == from { to } else { slot }
 }

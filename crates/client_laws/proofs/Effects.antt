@@ -16,11 +16,15 @@ use Rattle.plain_site.specs.ClientRuns.{Told, retold, regrown, resession}
 use Rattle.plain_site.proofs.RepliesFrame.{RefusesWell}
 use Rattle.client_laws.proofs.Tellings.{Tells}
 
--- the history stays or has one record more, as the request and its reply tell; the other actors' transactions and sessions stay; the actor's session is as the
+-- the site without its sessions, their transactions, and what is collected: what lines tell of it beside these
+abbrev pub bare : Site → Site
+bare site = record site { collected = []; sessions = []; txns = [] }
+
+-- the history stays or has one record more; history, floors and waiting room are as the request and its reply tell; the other actors' transactions and sessions stay; the actor's session is as the
 -- request and its reply tell; and if its transaction was as its lines told, it is as these and the request with its reply tell
 pub record Does (site : Site) (n : ℕ) (q : Request) (answer : Answer) : Type 0 where
   pub grows : (answer.0.dag ≡ site.dag) ⊎ ((r : Record) × (answer.0.dag ≡ r ∷ site.dag))
-  pub dag : (seen : Option Told) → Tells site.dag (entry_of n site.txns) seen → answer.0.dag ≡ regrown q answer.1 seen site.dag
+  pub shared : (seen : Option Told) → Tells site.dag (entry_of n site.txns) seen → bare answer.0 ≡ regrown q answer.1 seen (bare site)
   pub other_txns : (m : ℕ) → (m ≡ n → ⊥) → entry_of m answer.0.txns ≡ entry_of m site.txns
   pub other_sessions : (m : ℕ) → (m ≡ n → ⊥) → entry_of m answer.0.sessions ≡ entry_of m site.sessions
   pub txn : (seen : Option Told) → Tells answer.0.dag (entry_of n site.txns) seen → Tells answer.0.dag (entry_of n answer.0.txns) (retold q answer.1 seen)
@@ -52,13 +56,13 @@ pub wanting-leaves-session : (q : Request) (rs : List Record) (s : Option Sessio
 wanting-leaves-session (Get k) rs s = refl
 wanting-leaves-session q rs s = refl
 
-pub refused-records-nothing : (q : Request) (refusal : Refusal) (seen : Option Told) (rs : List Record) → regrown q (Refused refusal) seen rs ≡ rs
+pub refused-records-nothing : (q : Request) (refusal : Refusal) (seen : Option Told) (s : Site) → regrown q (Refused refusal) seen s ≡ s
 refused-records-nothing (Deliver (State r)) refusal seen rs = refl
 refused-records-nothing (Deliver (Promise c)) refusal seen rs = refl
 refused-records-nothing (Get k) refusal seen rs = refl
 refused-records-nothing q refusal seen rs = refl
 
-pub wanting-records-nothing : (q : Request) (seen : Option Told) (rs : List Record) → regrown q NoMemory seen rs ≡ rs
+pub wanting-records-nothing : (q : Request) (seen : Option Told) (s : Site) → regrown q NoMemory seen s ≡ s
 wanting-records-nothing (Deliver (State r)) seen rs = refl
 wanting-records-nothing (Deliver (Promise c)) seen rs = refl
 wanting-records-nothing (Get k) seen rs = refl
@@ -67,11 +71,11 @@ wanting-records-nothing q seen rs = refl
 -- ===== Answers that leave transactions and sessions
 
 pub same-books : (site : Site) (n : ℕ) (q : Request) (next : Site) (reply : Reply) → (next.dag ≡ site.dag) ⊎ ((r : Record) × (next.dag ≡ r ∷ site.dag)) →
-    ((seen : Option Told) → next.dag ≡ regrown q reply seen site.dag) → next.txns ≡ site.txns → next.sessions ≡ site.sessions → ((seen : Option Told) → retold q reply seen ≡ seen) → ((rs : List Record) (s : Option Session) → resession rs q reply s ≡ s) →
+    ((seen : Option Told) → bare next ≡ regrown q reply seen (bare site)) → next.txns ≡ site.txns → next.sessions ≡ site.sessions → ((seen : Option Told) → retold q reply seen ≡ seen) → ((rs : List Record) (s : Option Session) → resession rs q reply s ≡ s) →
     Does site n q (next, reply)
 same-books site n q next reply grows records txns sessions tells keeps = record {
   grows = grows;
-  dag = λ seen h. records seen;
+  shared = λ seen h. records seen;
   other_txns = λ m differ. ap (entry_of m) txns;
   other_sessions = λ m differ. ap (entry_of m) sessions;
   txn = λ seen h. subst (λ ts. Tells next.dag (entry_of n ts) (retold q reply seen)) (sym txns) (subst (Tells next.dag (entry_of n site.txns)) (sym (tells seen)) h);
@@ -80,8 +84,8 @@ same-books site n q next reply grows records txns sessions tells keeps = record 
 
 -- nothing is done, and the reply tells nothing
 pub does-nothing : (site : Site) (n : ℕ) (q : Request) (reply : Reply) → ((seen : Option Told) → retold q reply seen ≡ seen) → ((rs : List Record) (s : Option Session) → resession rs q reply s ≡ s) →
-    ((seen : Option Told) (rs : List Record) → regrown q reply seen rs ≡ rs) → Does site n q (site, reply)
-does-nothing site n q reply tells keeps records = same-books site n q site reply (inl refl) (λ seen. sym (records seen site.dag)) refl refl tells keeps
+    ((seen : Option Told) (s : Site) → regrown q reply seen s ≡ s) → Does site n q (site, reply)
+does-nothing site n q reply tells keeps records = same-books site n q site reply (inl refl) (λ seen. sym (records seen (bare site))) refl refl tells keeps
 
 pub does-refused : (site : Site) (n : ℕ) (q : Request) (refusal : Refusal) → Does site n q (site, Refused refusal)
 does-refused site n q refusal =

@@ -1,13 +1,15 @@
 -- What the other requests do, and so what each request does.
-use Rattle.std.proofs.Common.{◌≡◌, ℕ, Bool, not, List, [], ◌∷◌, ◌++◌, length, Option, None, is_some, inl, inr, refl, sym, subst}
-use Rattle.std.specs.Prelude.{◌==◌, nat_lt, nat_le, find}
+use Rattle.std.proofs.Common.{◌≡◌, ℕ, Bool, true, not, List, [], ◌∷◌, ◌++◌, length, Option, Some, None, is_some, IsTrue, IsFalse, inl, inr, refl, sym, ap, subst}
+use Rattle.std.proofs.lemmas.Bool.{both_ways, cond_both}
+use Rattle.std.specs.Prelude.{◌==◌, ◌||◌, nat_lt, nat_le, find}
 use Rattle.tardis_base.specs.declared.ids.StateId.{StateId}
 use Rattle.tardis_base.specs.declared.records.Record.{Record}
+use Rattle.tardis_base.specs.declared.records.Consent.{Consent}
 use Rattle.tardis_base.specs.declared.records.Item.{Item}
 use Rattle.tardis_base.specs.declared.records.Item.TheVariants.{State, Promise}
 use Rattle.tardis_base.specs.declared.records.Write.TheVariants.{Put as Value, Delete as Deletion}
 use Rattle.tardis_base.specs.declared.requests.Request.{Request}
-use Rattle.tardis_base.specs.declared.requests.Request.TheVariants.{Open, Begin, Get, Put, Delete, Commit, Abort, BeginMerge, ForkPoints, Conflicts, GetFor, Ceiling, Raise, RaiseAuto, Tidy, Stat, Show, Leaves, Pull, Deliver, Close}
+use Rattle.tardis_base.specs.declared.requests.Request.TheVariants.{Open, Begin, Get, Put, Delete, Commit, Abort, BeginMerge, ForkPoints, Conflicts, GetFor, Ceiling, Raise, RaiseAuto, Tidy, Stat, Show, Leaves, Pull, Deliver, Settle, Close}
 use Rattle.tardis_base.specs.declared.replies.Refusal.TheVariants.{AlreadyOpen, SessionsFull, Unknown, CeilingBack, WrongMode, NotRead, FloorBack, Held, SeqEnd, Unsupported, Collected, BadSite, OwnItem, ClosedParent, Comparable, OpenConflict}
 use Rattle.tardis_base.specs.declared.replies.Reply.{Reply}
 use Rattle.tardis_base.specs.declared.replies.Reply.TheVariants.{Opened, Done, Applied, Known, Early, Shown, Batch as BatchIs}
@@ -20,24 +22,25 @@ use Rattle.plain_dag.specs.Paths.{fork_path}
 use Rattle.plain_dag.specs.Writers.{read}
 use Rattle.plain_dag.specs.Begin.{begin_state}
 use Rattle.plain_dag.specs.Entries.{entry_of, with_entry, changed}
-use Rattle.plain_dag.specs.Floors.{Session, is_closed, with_floor, opening_session, with_ceiling, holding_session, automatic_floor}
+use Rattle.plain_dag.specs.Floors.{Session, floor_of, is_closed, with_floor, opening_session, with_ceiling, holding_session, automatic_floor}
 use Rattle.wire_talk.specs.Codes.{code_of}
 use Rattle.plain_site.specs.Site.{Site, Txn, Single, Merge, own_floor}
 use Rattle.plain_site.specs.Built.{Built, is_built}
-use Rattle.plain_site.specs.Answers.{when, refuse, refuse_found, found}
+use Rattle.plain_site.specs.Answers.{Answer, says_early, when, refuse, refuse_found, found}
 use Rattle.plain_site.specs.Sessions.{open_session, close_session, begin, set_ceiling}
 use Rattle.plain_site.specs.Reads.{get, set_key, get_for}
 use Rattle.plain_site.specs.Commits.{with_record, growth_refusals, abort, commit}
 use Rattle.plain_site.specs.Merges.{states_to_merge, begin_merge, fork_points_of, conflicts_of}
 use Rattle.plain_site.specs.FloorSteps.{raised, raise_to, raise, tidy}
 use Rattle.plain_site.specs.Shows.{show}
-use Rattle.plain_site.specs.Exchange.{is_early, judgements, consent_judgements, deliver, pull, batch_for}
+use Rattle.plain_site.specs.Exchange.{is_early, judgements, take_record, with_held, deliver_record, consent_judgements, deliver, pull, batch_for, first_fit_record, with_settled, settle_record, settle}
 use Rattle.plain_site.specs.Step.{served, step}
-use Rattle.plain_site.specs.ClientRuns.{Told, retold, regrown, resession}
-use Rattle.plain_site.proofs.RepliesFrame.{by-session, by-txn, by-no-txn}
+use Rattle.plain_site.specs.ClientRuns.{Told, having_settled, retold, regrown, resession}
+use Rattle.plain_site.proofs.SoundDeliveries.{taken-stays}
+use Rattle.plain_site.proofs.RepliesFrame.{given-good, by-session, by-txn, by-no-txn}
 use Rattle.plain_site.proofs.SoundEntries.{entry-changed, entry-changed_other, entry-with_entry, entry-with_entry_other, entry-without_entry, entry-without_entry_other}
 use Rattle.client_laws.proofs.Tellings.{Tells}
-use Rattle.client_laws.proofs.Effects.{Does, same-books, does-nothing, does-refused, refuses-does, refuse-only, unless-any, unless-does, AreNoTaking, when-no-taking, refuse-no-taking, found-no-taking, both-no-taking, unless-no-taking}
+use Rattle.client_laws.proofs.Effects.{bare, Does, same-books, does-nothing, does-refused, refuses-does, OnlyRefuse, refuse-only, found-only, both-only, unless-any, unless-does, AreNoTaking, when-no-taking, refuse-no-taking, found-no-taking, both-no-taking, unless-no-taking}
 use Rattle.client_laws.proofs.EffectsOfTxns.{begin-does, merge-does, get-does, set-does, abort-does, commit-does}
 
 -- the judgements of a record take none
@@ -74,7 +77,7 @@ module _ (site : Site) (n : ℕ) where
       (refuse-only there AlreadyOpen (refuse full (SessionsFull number_open) ∷ []) (refuse-only full (SessionsFull number_open) [] tt))
       (record {
         grows = inl refl;
-        dag = λ seen h. refl;
+        shared = λ seen h. refl;
         other_txns = λ m differ. refl;
         other_sessions = λ m differ. entry-with_entry_other n m s site.sessions differ;
         txn = λ seen h. h;
@@ -84,7 +87,7 @@ module _ (site : Site) (n : ℕ) where
   close-does : Does site n Close (close_session site n)
   close-does = record {
     grows = inl refl;
-    dag = λ seen h. refl;
+    shared = λ seen h. refl;
     other_txns = λ m differ. entry-without_entry_other n m site.txns differ;
     other_sessions = λ m differ. entry-without_entry_other n m site.sessions differ;
     txn = λ seen h. subst (λ (o : Option Txn). Tells site.dag o None) (sym (entry-without_entry n site.txns)) tt;
@@ -99,7 +102,7 @@ module _ (site : Site) (n : ℕ) where
       (refuse-only unknown (Unknown x) (refuse back (CeilingBack s.ceiling) ∷ []) (refuse-only back (CeilingBack s.ceiling) [] tt))
       (record {
         grows = inl refl;
-        dag = λ seen h. refl;
+        shared = λ seen h. refl;
         other_txns = λ m differ. refl;
         other_sessions = λ m differ. entry-changed_other n m (with_ceiling x) site.sessions differ;
         txn = λ seen h. h;
@@ -108,39 +111,91 @@ module _ (site : Site) (n : ℕ) where
 
   -- ===== Floors and collection
 
-  raise_to-does : (q : Request) (x : StateId) (refusals : List (Option Reply)) → ((reply : Reply) (seen : Option Told) → retold q reply seen ≡ seen) →
-      ((reply : Reply) (rs : List Record) (s : Option Session) → resession rs q reply s ≡ s) → ((reply : Reply) (seen : Option Told) (rs : List Record) → regrown q reply seen rs ≡ rs) → Does site n q (raise_to site x refusals)
-  raise_to-does q x refusals tells keeps records =
+  raise_to-does : (q : Request) (x : StateId) (refusals : List (Option Reply)) → OnlyRefuse refusals → ((reply : Reply) (seen : Option Told) → retold q reply seen ≡ seen) →
+      ((reply : Reply) (rs : List Record) (s : Option Session) → resession rs q reply s ≡ s) → ((seen : Option Told) → bare (raised site x).0 ≡ regrown q (raised site x).1 seen (bare site)) →
+      Does site n q (raise_to site x refusals)
+  raise_to-does q x refusals only tells keeps moves =
       let next = raised site x in
-      unless-any (Does site n q) site (refusals ++ refuse ((own_floor site).number == 4294967295) SeqEnd ∷ []) next
-      (λ reply. does-nothing site n q reply (tells reply) (keeps reply) (records reply))
-      (same-books site n q next.0 next.1 (inl refl) (λ seen. sym (records next.1 seen site.dag)) refl refl (tells next.1) (keeps next.1))
+      let over = (own_floor site).number == 4294967295 in
+      unless-does site n q (refusals ++ refuse over SeqEnd ∷ []) next (both-only refusals (refuse over SeqEnd ∷ []) only (refuse-only over SeqEnd [] tt))
+      (same-books site n q next.0 next.1 (inl refl) moves refl refl (tells next.1) (keeps next.1))
 
   -- ===== Exchange
 
-  -- a record isn't taken where the reply isn't Applied
-  untaken : (r : Record) (reply : Reply) → (reply ≡ Applied → ⊥) → (seen : Option Told) (rs : List Record) → regrown (Deliver (State r)) reply seen rs ≡ rs
-  untaken r Applied other seen rs = absurd (other refl)
-  untaken r reply other seen rs = refl
+  -- a record isn't taken where the reply isn't Applied, and doesn't wait where it isn't Early
+  untaken : (r : Record) (reply : Reply) → (reply ≡ Applied → ⊥) → IsFalse (says_early reply) → (seen : Option Told) (s : Site) → regrown (Deliver (State r)) reply seen s ≡ s
+  untaken r Applied other late seen s = absurd (other refl)
+  untaken r (Early have) other late seen s = absurd (both_ways true late refl)
+  untaken r reply other late seen s = refl
 
-  tells-nothing : (r : Record) (reply : Reply) → (reply ≡ Applied → ⊥) → Does site n (Deliver (State r)) (site, reply)
-  tells-nothing r reply other = does-nothing site n (Deliver (State r)) reply (λ seen. refl) (λ rs s. refl) (untaken r reply other)
+  held : (r : Record) (reply : Reply) → IsTrue (says_early reply) → (seen : Option Told) (s : Site) → regrown (Deliver (State r)) reply seen s ≡ with_held r s
+  held r (Early have) early seen s = refl
+  held r reply early seen s = absurd (cc)
 
-  deliver-does : (built : Built) (item : Item) → Does site n (Deliver item) (deliver built site item)
-  deliver-does built (State r) =
-      unless-no-taking (Does site n (Deliver (State r))) site (judgements site r ++ growth_refusals built site r) (with_record r site, Applied)
+  tells-nothing : (r : Record) (reply : Reply) → (reply ≡ Applied → ⊥) → IsFalse (says_early reply) → Does site n (Deliver (State r)) (site, reply)
+  tells-nothing r reply other late = does-nothing site n (Deliver (State r)) reply (λ seen. refl) (λ rs s. refl) (untaken r reply other late)
+
+  -- a record that isn't early
+  take-does : (built : Built) (r : Record) → IsFalse (says_early (take_record built site r).1) → Does site n (Deliver (State r)) (take_record built site r)
+  take-does built r late =
+      unless-no-taking (λ answer. IsFalse (says_early answer.1) → Does site n (Deliver (State r)) answer) site (judgements site r ++ growth_refusals built site r) (with_record r site, Applied)
       (both-no-taking (judgements site r) (growth_refusals built site r) (judged-no-taking site r)
       (found-no-taking (λ f. f) (growth_refusal built.path_limits site.limits site.collected site.dag r) [] tt)) (tells-nothing r)
-      (same-books site n (Deliver (State r)) (with_record r site) Applied (inr (r, refl)) (λ seen. refl) refl refl (λ seen. refl) (λ rs s. refl))
+      (λ never. same-books site n (Deliver (State r)) (with_record r site) Applied (inr (r, refl)) (λ seen. refl) refl refl (λ seen. refl) (λ rs s. refl)) late
+
+  record-does : (built : Built) (r : Record) → Does site n (Deliver (State r)) (deliver_record built site r)
+  record-does built r =
+      let answer : Answer = take_record built site r in
+      cond_both (says_early answer.1) (with_held r answer.0) answer.0 (λ (next : Site). Does site n (Deliver (State r)) (next, answer.1))
+      (λ early.
+      subst (λ (next : Site). Does site n (Deliver (State r)) (with_held r next, answer.1)) (sym (taken-stays built site r early))
+      (same-books site n (Deliver (State r)) (with_held r site) answer.1 (inl refl) (λ seen. sym (held r answer.1 early seen (bare site))) refl refl (λ seen. refl) (λ rs s. refl)))
+      (λ late. take-does built r late)
+
+  -- a consent isn't taken where the reply isn't Applied
+  untaken-consent : (c : Consent) (reply : Reply) → (reply ≡ Applied → ⊥) → (seen : Option Told) (s : Site) → regrown (Deliver (Promise c)) reply seen s ≡ s
+  untaken-consent c Applied other seen s = absurd (other refl)
+  untaken-consent c reply other seen s = refl
+
+  consent-no-taking : (c : Consent) → AreNoTaking (consent_judgements site c)
+  consent-no-taking c =
+      let f = floor_of site.floors c.site in
+      let count = count_of_site site.dag c.site in
+      let ahead = nat_lt count c.count || not (is_known site.dag c.floor) in
+      let back = not (is_above site.dag f.state c.floor) in
+      let fifth : List (Option Reply) = refuse back (FloorBack f.state) ∷ [] in
+      let fourth : List (Option Reply) = when ahead (Early count) ∷ fifth in
+      let third : List (Option Reply) = refuse (c.site == site.own) (OwnItem c.site c.number) ∷ fourth in
+      let second : List (Option Reply) = when (nat_le c.number f.number) Known ∷ third in
+      refuse-no-taking (nat_lt site.limits.sites c.site) (BadSite c.site) second
+      (when-no-taking (nat_le c.number f.number) Known third (λ e. absurd (cc))
+      (refuse-no-taking (c.site == site.own) (OwnItem c.site c.number) fourth
+      (when-no-taking ahead (Early count) fifth (λ e. absurd (cc)) (refuse-no-taking back (FloorBack f.state) [] tt))))
+
+  deliver-does : (built : Built) (item : Item) → Does site n (Deliver item) (deliver built site item)
+  deliver-does built (State r) = record-does built r
   deliver-does built (Promise c) =
       let next = record site { floors = with_floor site.floors c.site (record { state = c.floor; number = c.number; stated = c.count }) } in
-      unless-any (Does site n (Deliver (Promise c))) site (consent_judgements site c) (next, Applied)
-      (λ reply. does-nothing site n (Deliver (Promise c)) reply (λ seen. refl) (λ rs s. refl) (λ seen rs. refl))
+      unless-no-taking (Does site n (Deliver (Promise c))) site (consent_judgements site c) (next, Applied) (consent-no-taking c)
+      (λ reply other. does-nothing site n (Deliver (Promise c)) reply (λ seen. refl) (λ rs s. refl) (untaken-consent c reply other))
       (same-books site n (Deliver (Promise c)) next Applied (inl refl) (λ seen. refl) refl refl (λ seen. refl) (λ rs s. refl))
+
+  -- what is found in the room is what lines tell of
+  settled-told : (found : ℕ × Record) → first_fit_record site ≡ Some found → bare (with_settled found site) ≡ having_settled (bare site)
+  settled-told found is = sym (ap (λ (o : Option (ℕ × Record)). elim o as (λ u. Site) [ None ↦ bare site | Some f ↦ with_settled f (bare site) ]) is)
+
+  settle-does : (built : Built) → Does site n Settle (settle built site)
+  settle-does built =
+      given-good (Does site n Settle) (first_fit_record site) (site, Done) (settle_record built site)
+      (λ none. does-nothing site n Settle Done (λ seen. refl) (λ rs s. refl) (λ seen s. refl))
+      (λ found is.
+      unless-does site n Settle (growth_refusals built site found.1) (with_settled found site, Applied)
+      (found-only (λ f. f) (growth_refusal built.path_limits site.limits site.collected site.dag found.1) [] tt)
+      (same-books site n Settle (with_settled found site) Applied (inr (found.1, refl)) (λ seen. settled-told found is) refl refl (λ seen. refl) (λ rs s. refl)))
 
   -- ===== What only shows
 
-  shows : (q : Request) (reply : Reply) → ((r : Reply) (seen : Option Told) → retold q r seen ≡ seen) → ((r : Reply) (rs : List Record) (s : Option Session) → resession rs q r s ≡ s) → ((r : Reply) (seen : Option Told) (rs : List Record) → regrown q r seen rs ≡ rs) → Does site n q (site, reply)
+  shows : (q : Request) (reply : Reply) → ((r : Reply) (seen : Option Told) → retold q r seen ≡ seen) → ((r : Reply) (rs : List Record) (s : Option Session) → resession rs q r s ≡ s) → ((r : Reply) (seen : Option Told) (s : Site) → regrown q r seen s ≡ s) → Does site n q (site, reply)
   shows q reply tells keeps records = does-nothing site n q reply (tells reply) (keeps reply) (records reply)
 
   fork-points-does : (t : Txn) → Does site n ForkPoints (fork_points_of site t)
@@ -173,11 +228,14 @@ module _ (site : Site) (n : ℕ) where
   raise-does : (x : StateId) → Does site n (Raise x) (raise site x)
   raise-does x =
       let floor = (own_floor site).state in
-      raise_to-does (Raise x) x
-      (refuse (not (is_known site.dag x)) (Unknown x)
-      ∷ refuse (not (is_above site.dag floor x)) (FloorBack floor)
-      ∷ refuse_found (λ (s : ℕ × Session). Held s.0 s.1.ceiling) (holding_session site.dag site.sessions x)
-      ∷ []) (λ r seen. refl) (λ r rs s. refl) (λ r seen rs. refl)
+      let unknown = not (is_known site.dag x) in
+      let back = not (is_above site.dag floor x) in
+      let holding = holding_session site.dag site.sessions x in
+      let third : List (Option Reply) = refuse_found (λ (s : ℕ × Session). Held s.0 s.1.ceiling) holding ∷ [] in
+      let second : List (Option Reply) = refuse back (FloorBack floor) ∷ third in
+      raise_to-does (Raise x) x (refuse unknown (Unknown x) ∷ second)
+      (refuse-only unknown (Unknown x) second (refuse-only back (FloorBack floor) third (found-only (λ (s : ℕ × Session). Held s.0 s.1.ceiling) holding [] tt)))
+      (λ r seen. refl) (λ r rs s. refl) (λ seen. refl)
 
   -- ===== Each request
 
@@ -203,7 +261,7 @@ module _ (site : Site) (n : ℕ) where
   served-does built (Ceiling x) = by-no-txn (refuses-does site n (Ceiling x)) n (λ s. set_ceiling site n s x) (λ s e. ceiling-does s x)
   served-does built (Raise x) = raise-does x
   served-does built RaiseAuto =
-      raise_to-does RaiseAuto (automatic_floor site.dag (own_floor site).state site.sessions) [] (λ r seen. refl) (λ r rs s. refl) (λ r seen rs. refl)
+      raise_to-does RaiseAuto (automatic_floor site.dag (own_floor site).state site.sessions) [] tt (λ r seen. refl) (λ r rs s. refl) (λ seen. refl)
   served-does built (Tidy count) =
       let next = tidy site count in
       same-books site n (Tidy count) next.0 next.1 (inl refl) (λ seen. refl) refl refl (λ seen. refl) (λ rs s. refl)
@@ -212,6 +270,7 @@ module _ (site : Site) (n : ℕ) where
   served-does built Leaves = shows Leaves (served built site n Leaves).1 (λ r seen. refl) (λ r rs s. refl) (λ r seen rs. refl)
   served-does built (Pull counts) = pull-does counts
   served-does built (Deliver item) = deliver-does built item
+  served-does built Settle = settle-does built
   served-does built Close = by-session (refuses-does site n Close) n (λ s. close_session site n) (λ s e. close-does)
 
   pub step-does : (built : Built) (q : Request) → Does site n q (step built site n q)

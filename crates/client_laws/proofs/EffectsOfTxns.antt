@@ -32,7 +32,7 @@ use Rattle.plain_site.specs.Built.{Built}
 use Rattle.plain_site.specs.Answers.{Answer, refuse, refuse_found, shown, found}
 use Rattle.plain_site.specs.Sessions.{begin_at}
 use Rattle.plain_site.specs.Reads.{having_read, having_written, read_in, get, set_key}
-use Rattle.plain_site.specs.Commits.{without_txn_of, abort, growth_refusals, committed, commit_below, commit_at, commit_writes, commit_single, commit}
+use Rattle.plain_site.specs.Commits.{with_record, without_txn_of, abort, growth_refusals, committed, commit_below, commit_at, commit_writes, commit_single, commit}
 use Rattle.plain_site.specs.Merges.{in_order, merge_at}
 use Rattle.plain_site.specs.ClientRuns.{Told, begun, is_shown, having_got, having_put, retold, regrown, resession}
 use Rattle.plain_site.proofs.RepliesFrame.{given-good}
@@ -40,7 +40,7 @@ use Rattle.plain_site.proofs.SoundEntries.{entry-changed, entry-changed_other, e
 use Rattle.client_laws.proofs.Dags.{value-over-one}
 use Rattle.client_laws.proofs.Records.{write-has-key, no-write-no-key}
 use Rattle.client_laws.proofs.Tellings.{KeepsReads, is_merge, IsTold, Tells, kept-more, tells-changed}
-use Rattle.client_laws.proofs.Effects.{Does, OnlyRefuse, refuse-only, found-only, both-only, unless-does}
+use Rattle.client_laws.proofs.Effects.{bare, Does, OnlyRefuse, refuse-only, found-only, both-only, unless-does}
 
 -- ===== Reads that are told
 
@@ -71,11 +71,11 @@ module _ (site : Site) (n : ℕ) where
 
   -- a transaction begins at these states
   begun-does : (q : Request) (t : Txn) (reply : Reply) (states : List StateId) → ((seen : Option Told) → retold q reply seen ≡ Some (begun (is_merge t) states)) → read_states t ≡ states →
-      writes_of t ≡ [] → KeepsReads t [] → ((rs : List Record) (s : Option Session) → resession rs q reply s ≡ s) → ((seen : Option Told) (rs : List Record) → regrown q reply seen rs ≡ rs) →
+      writes_of t ≡ [] → KeepsReads t [] → ((rs : List Record) (s : Option Session) → resession rs q reply s ≡ s) → ((seen : Option Told) (s : Site) → regrown q reply seen s ≡ s) →
       Does site n q (record site { txns = with_entry n t site.txns }, reply)
   begun-does q t reply states tells at none kept keeps records = record {
     grows = inl refl;
-    dag = λ seen h. sym (records seen site.dag);
+    shared = λ seen h. sym (records seen (bare site));
     other_txns = λ m differ. entry-with_entry_other n m t site.txns differ;
     other_sessions = λ m differ. refl;
     txn = λ seen h.
@@ -116,7 +116,7 @@ module _ (site : Site) (n : ℕ) where
   own-read-does : (t : Txn) (k : List ℕ) (w : Write) → entry_of n site.txns ≡ Some t → write_of k (writes_of t) ≡ Some w → Does site n (Get k) (site, shown root w)
   own-read-does t k w e own = record {
     grows = inl refl;
-    dag = λ seen h. refl;
+    shared = λ seen h. refl;
     other_txns = λ m differ. refl;
     other_sessions = λ m differ. refl;
     txn =
@@ -135,7 +135,7 @@ module _ (site : Site) (n : ℕ) where
       (refuse-only (length t.reads == 256 && not (is_key_among k t.reads)) (TooMany 2 257) [] tt)
       (record {
         grows = inl refl;
-        dag = λ seen h. refl;
+        shared = λ seen h. refl;
         other_txns = λ m differ. entry-changed_other n m (having_read k) site.txns differ;
         other_sessions = λ m differ. refl;
         txn =
@@ -160,7 +160,7 @@ module _ (site : Site) (n : ℕ) where
       (refuse-only (is_conflict_key site.dag t.states k) (ConflictKey k) [] tt)
       (record {
         grows = inl refl;
-        dag = λ seen h. refl;
+        shared = λ seen h. refl;
         other_txns = λ m differ. refl;
         other_sessions = λ m differ. refl;
         txn =
@@ -179,13 +179,13 @@ module _ (site : Site) (n : ℕ) where
       (λ w own. own-read-does t k w e own)
 
   pub set-does : (q : Request) (t : Txn) (k : List ℕ) (w : Write) → ((seen : Option Told) → retold q Done seen ≡ option_map (having_put k w) seen) →
-      ((rs : List Record) (s : Option Session) → resession rs q Done s ≡ s) → ((seen : Option Told) (rs : List Record) → regrown q Done seen rs ≡ rs) → entry_of n site.txns ≡ Some t → Does site n q (set_key site n t k w)
+      ((rs : List Record) (s : Option Session) → resession rs q Done s ≡ s) → ((seen : Option Told) (s : Site) → regrown q Done seen s ≡ s) → entry_of n site.txns ≡ Some t → Does site n q (set_key site n t k w)
   set-does q t k w tells keeps records e =
       let full = length (writes_of t) == 64 && not (has_key k (writes_of t)) in
       unless-does site n q (refuse full (TooMany 1 65) ∷ []) (with_txn_changed n (having_written k w) site, Done) (refuse-only full (TooMany 1 65) [] tt)
       (record {
         grows = inl refl;
-        dag = λ seen h. sym (records seen site.dag);
+        shared = λ seen h. sym (records seen (bare site));
         other_txns = λ m differ. entry-changed_other n m (having_written k w) site.txns differ;
         other_sessions = λ m differ. refl;
         txn = λ seen h.
@@ -201,11 +201,11 @@ module _ (site : Site) (n : ℕ) where
   gone-is-told : (rs : List Record) → Tells rs (entry_of n (without_entry n site.txns)) None
   gone-is-told rs = subst (λ (o : Option Txn). Tells rs o None) (sym (entry-without_entry n site.txns)) tt
 
-  ended-does : (q : Request) (reply : Reply) → ((seen : Option Told) → retold q reply seen ≡ None) → ((rs : List Record) (s : Option Session) → resession rs q reply s ≡ s) → ((seen : Option Told) (rs : List Record) → regrown q reply seen rs ≡ rs) →
+  ended-does : (q : Request) (reply : Reply) → ((seen : Option Told) → retold q reply seen ≡ None) → ((rs : List Record) (s : Option Session) → resession rs q reply s ≡ s) → ((seen : Option Told) (s : Site) → regrown q reply seen s ≡ s) →
       Does site n q (without_txn_of n site, reply)
   ended-does q reply tells keeps records = record {
     grows = inl refl;
-    dag = λ seen h. sym (records seen site.dag);
+    shared = λ seen h. sym (records seen (bare site));
     other_txns = λ m differ. entry-without_entry_other n m site.txns differ;
     other_sessions = λ m differ. refl;
     txn = λ seen h. subst (Tells site.dag (entry_of n (without_entry n site.txns))) (sym (tells seen)) (gone-is-told site.dag);
@@ -218,18 +218,18 @@ module _ (site : Site) (n : ℕ) where
   module _ (built : Built) (flags : EndFlags) (k : ℕ) where
     -- the record is as the actor's lines and the reply tell
     recorded : (t : Txn) → entry_of n site.txns ≡ Some t → (r : Record) → r.writes ≡ writes_of t → (seen : Option Told) → Tells site.dag (entry_of n site.txns) seen →
-        r ∷ site.dag ≡ regrown (Commit flags k) (Committed r.id r.parents) seen site.dag
+        with_record r (bare site) ≡ regrown (Commit flags k) (Committed r.id r.parents) seen (bare site)
     recorded t there r writes None h = absurd (subst (λ o. Tells site.dag o None) there h)
     recorded t there r writes (Some u) h =
         let its : IsTold site.dag t u = subst (λ o. Tells site.dag o (Some u)) there h in
-        ap (λ (ws : List KeyWrite). record r { writes = ws } ∷ site.dag) (writes ∙ sym its.writes)
+        ap (λ (ws : List KeyWrite). with_record (record r { writes = ws }) (bare site)) (writes ∙ sym its.writes)
 
     committed-does : (t : Txn) → entry_of n site.txns ≡ Some t → (r : Record) → r.writes ≡ writes_of t → Does site n (Commit flags k) (committed site n r)
     committed-does t there r writes =
         let after : Session → Session = after_commit (r ∷ site.dag) r.id in
         record {
           grows = inr (r, refl);
-          dag = recorded t there r writes;
+          shared = recorded t there r writes;
           other_txns = λ m differ. entry-without_entry_other n m site.txns differ;
           other_sessions = λ m differ. entry-changed_other n m after site.sessions differ;
           txn = λ seen h. gone-is-told (r ∷ site.dag);

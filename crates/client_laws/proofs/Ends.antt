@@ -1,15 +1,16 @@
 -- Transactions that wrote nothing, and records of other sites.
 use Rattle.std.proofs.Common.{◌≡◌, ℕ, not, List, [], ◌∷◌, ◌++◌, length, Option, Some, None, refl, sym, ap, subst, ◌∙◌}
 use Rattle.std.specs.Prelude.{◌==◌}
+use Rattle.std.proofs.lemmas.Bool.{cond_both}
 use Rattle.tardis_base.specs.declared.ids.StateId.{StateId}
 use Rattle.tardis_base.specs.declared.records.Record.{Record}
 use Rattle.tardis_base.specs.declared.records.Item.TheVariants.{State}
 use Rattle.tardis_base.specs.declared.requests.EndFlags.{EndFlags}
-use Rattle.tardis_base.specs.declared.requests.Request.TheVariants.{Commit, Deliver}
+use Rattle.tardis_base.specs.declared.requests.Request.TheVariants.{Commit, Deliver, Settle}
 use Rattle.tardis_base.specs.declared.replies.Refusal.{Refusal}
 use Rattle.tardis_base.specs.declared.replies.Refusal.TheVariants.{NotOpen, TxnOpen, NoTxn, WrongMode, OpenConflict, Branches, SeqEnd, Unsupported}
 use Rattle.tardis_base.specs.declared.replies.Reply.{Reply}
-use Rattle.tardis_base.specs.declared.replies.Reply.TheVariants.{Ended, Applied, Refused}
+use Rattle.tardis_base.specs.declared.replies.Reply.TheVariants.{Done, Ended, Applied, Refused}
 use Rattle.tardis_base.specs.Keys.{KeyWrite, keys_of}
 use Rattle.plain_dag.specs.States.{children, record_at}
 use Rattle.plain_dag.specs.Conflicts.{open_conflict, value_over}
@@ -20,20 +21,20 @@ use Rattle.plain_dag.specs.Entries.{entry_of}
 use Rattle.wire_talk.specs.Codes.{code_of}
 use Rattle.plain_site.specs.Site.{Site, SingleTxn, Txn, Single, Merge, own_count, next_record}
 use Rattle.plain_site.specs.Built.{Built, is_built}
-use Rattle.plain_site.specs.Answers.{Answer, refuse, refuse_found, unless}
+use Rattle.plain_site.specs.Answers.{Answer, says_early, refuse, refuse_found, unless}
 use Rattle.plain_site.specs.Commits.{with_record, without_txn_of, growth_refusals, committed, commit_below, commit_writes, commit_single, commit}
-use Rattle.plain_site.specs.Exchange.{judgements}
+use Rattle.plain_site.specs.Exchange.{judgements, take_record, with_held, first_fit_record, with_settled, settle_record, settle}
 use Rattle.plain_site.specs.Step.{served, step}
 use Rattle.plain_site.specs.RowWords.{◌asks◌=>◌}
 use Rattle.plain_site.specs.ClientRuns.{history, site_after, told}
-use Rattle.plain_site.specs.ClientLaws.{ReadersEndWhereTheyRead, DeliveriesAreKept}
-use Rattle.plain_site.proofs.RepliesFrame.{by-txn}
+use Rattle.plain_site.specs.ClientLaws.{ReadersEndWhereTheyRead, DeliveriesAreKept, SettledAreKept}
+use Rattle.plain_site.proofs.RepliesFrame.{given-good, by-txn}
 use Rattle.client_laws.proofs.Dags.{value-over-one}
 use Rattle.client_laws.proofs.Records.{record-of-newest, record-stays}
 use Rattle.client_laws.proofs.Tellings.{shows-alike}
 use Rattle.client_laws.proofs.Effects.{AreNoTaking, refuse-no-taking, found-no-taking, both-no-taking, OnlyRefuse, refuse-only, found-only, both-only, unless-refused}
 use Rattle.client_laws.proofs.EffectsOfSites.{judged-no-taking}
-use Rattle.client_laws.proofs.Held.{history-is-told, run-holds, run-before}
+use Rattle.client_laws.proofs.Held.{dag-is-told, run-holds, run-before}
 use Rattle.client_laws.proofs.Laws.{was-answered, tells-seen}
 use Rattle.client_laws.proofs.Kept.{keeps-on, older-run}
 
@@ -92,7 +93,7 @@ readers-end-where-they-read built start older n flags k x run =
     let line = n asks Commit flags k => Ended x in
     let h = run-holds built start older (run-before built start line older run) in
     let at = (step-ends built site n flags k).told x (sym (was-answered built site line run.answered.1 refl)) in
-    let rs = history older in
+    let rs = history start older in
     let u = tells-seen site.dag (entry_of n site.txns) (told n older) (Single at.0) at.1 (h.txn n) in (
       u.0,
       u.1,
@@ -116,12 +117,18 @@ unless-taken site r (Some reply ∷ more) answer none h = record { taken = λ e.
 step-takes : (built : Built) (site : Site) (n : ℕ) (r : Record) → TellsTaken site r (step built site n (Deliver (State r)))
 step-takes built site n r =
     let unbuilt = not (is_built built (Deliver (State r))) in
-    unless-taken site r (refuse unbuilt (Unsupported (code_of (Deliver (State r)))) ∷ []) (served built site n (Deliver (State r)))
-    (refuse-no-taking unbuilt (Unsupported (code_of (Deliver (State r)))) [] tt)
-    (unless-taken site r (judgements site r ++ growth_refusals built site r) (with_record r site, Applied)
+    let answer : Answer = take_record built site r in
+    let taken : TellsTaken site r answer =
+    unless-taken site r (judgements site r ++ growth_refusals built site r) (with_record r site, Applied)
     (both-no-taking (judgements site r) (growth_refusals built site r) (judged-no-taking site r)
     (found-no-taking (λ f. f) (growth_refusal built.path_limits site.limits site.collected site.dag r) [] tt))
-    (record { taken = λ e. refl }))
+    (record { taken = λ e. refl }) in
+    unless-taken site r (refuse unbuilt (Unsupported (code_of (Deliver (State r)))) ∷ []) (served built site n (Deliver (State r)))
+    (refuse-no-taking unbuilt (Unsupported (code_of (Deliver (State r)))) [] tt)
+    (record {
+      taken = λ e.
+          cond_both (says_early answer.1) (with_held r answer.0) answer.0 (λ (next : Site). next.dag ≡ r ∷ site.dag) (λ early. taken.taken e) (λ late. taken.taken e);
+    })
 
 pub deliveries-are-kept : (built : Built) → DeliveriesAreKept (step built)
 deliveries-are-kept built start newer older n r run =
@@ -129,6 +136,41 @@ deliveries-are-kept built start newer older n r run =
     let site = site_after (step built) start older in
     let own = older-run built start newer (line ∷ older) run in
     let grown = (step-takes built site n r).taken (sym (was-answered built site line own.answered.1 refl)) in
-    subst (λ rs. record_at rs r.id ≡ Some r) (history-is-told built start (newer ++ line ∷ older) run)
+    subst (λ rs. record_at rs r.id ≡ Some r) (dag-is-told built start (newer ++ line ∷ older) run)
     (keeps-on built (λ rs. record_at rs r.id ≡ Some r) (λ rs q dag f e. record-stays rs q f r.id r e) start newer (line ∷ older) run
     (subst (λ rs. record_at rs r.id ≡ Some r) (sym grown) (record-of-newest site.dag r)))
+
+-- ===== What waited
+
+-- where Settle is answered Applied, the newest record is the first waiting one that was fit
+record TellsSettled (site : Site) (answer : Answer) : Type 0 where
+  settled : answer.1 ≡ Applied → (found : ℕ × Record) × (first_fit_record site ≡ Some found) × (answer.0.dag ≡ found.1 ∷ site.dag)
+
+unless-settled : (site : Site) (replies : List (Option Reply)) (answer : Answer) → AreNoTaking replies → TellsSettled site answer → TellsSettled site (unless site replies answer)
+unless-settled site [] answer none h = h
+unless-settled site (None ∷ more) answer none h = unless-settled site more answer none h
+unless-settled site (Some reply ∷ more) answer none h = record { settled = λ e. absurd (none.0 e) }
+
+step-settles : (built : Built) (site : Site) (n : ℕ) → TellsSettled site (step built site n Settle)
+step-settles built site n =
+    let unbuilt = not (is_built built Settle) in
+    unless-settled site (refuse unbuilt (Unsupported (code_of Settle)) ∷ []) (settle built site) (refuse-no-taking unbuilt (Unsupported (code_of Settle)) [] tt)
+    (given-good (TellsSettled site) (first_fit_record site) (site, Done) (settle_record built site) (λ none. record { settled = λ e. absurd (cc) })
+    (λ found is.
+    unless-settled site (growth_refusals built site found.1) (with_settled found site, Applied)
+    (found-no-taking (λ f. f) (growth_refusal built.path_limits site.limits site.collected site.dag found.1) [] tt) (record { settled = λ e. (found, is, refl) })))
+
+pub settled-are-kept : (built : Built) → SettledAreKept (step built)
+settled-are-kept built start newer older n run =
+    let line = n asks Settle => Applied in
+    let site = site_after (step built) start older in
+    let own = older-run built start newer (line ∷ older) run in
+    let h = run-holds built start older (run-before built start line older own) in
+    let at = (step-settles built site n).settled (sym (was-answered built site line own.answered.1 refl)) in
+    let r : Record = at.0.1 in (
+      at.0,
+      ap first_fit_record (sym h.shared) ∙ at.1,
+      subst (λ rs. record_at rs r.id ≡ Some r) (dag-is-told built start (newer ++ line ∷ older) run)
+          (keeps-on built (λ rs. record_at rs r.id ≡ Some r) (λ rs q dag f e. record-stays rs q f r.id r e) start newer (line ∷ older) run
+          (subst (λ rs. record_at rs r.id ≡ Some r) (sym at.2) (record-of-newest site.dag r))),
+    )

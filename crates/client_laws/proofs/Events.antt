@@ -31,7 +31,7 @@ AsksOf built site n bytes answer =
 
 asks-of : (built : Built) (site : Site) (n : ℕ) (bytes : List ℕ) → AsksOf built site n bytes (step_over_bytes built site (n, bytes))
 asks-of built site n [] = inl (refl, refl)
-asks-of built site n (op ∷ fields) = go (is_within 1 21 op && not (built.operation op)) (request_of (op ∷ fields)) refl
+asks-of built site n (op ∷ fields) = go (is_within 1 22 op && not (built.operation op)) (request_of (op ∷ fields)) refl
   where
     go : (test : Bool) (o : Option Request) → request_of (op ∷ fields) ≡ o →
         IsTrue (test || is_none o) × ((elim test as (λ b. Answer) [ true ↦ refused site (Unsupported op) | false ↦ given o (refused site Malformed) (step built site n) ]).0 ≡ site)
@@ -44,7 +44,7 @@ asks-of built site n (op ∷ fields) = go (is_within 1 21 op && not (built.opera
 -- whether it asks something, without the site
 asks-at-all : (built : Built) (bytes : List ℕ) → IsTrue (asks_nothing built bytes) ⊎ ((q : Request) × (request_of bytes ≡ Some q))
 asks-at-all built [] = inl refl
-asks-at-all built (op ∷ fields) = go (is_within 1 21 op && not (built.operation op)) (request_of (op ∷ fields)) refl
+asks-at-all built (op ∷ fields) = go (is_within 1 22 op && not (built.operation op)) (request_of (op ∷ fields)) refl
   where
     go : (test : Bool) (o : Option Request) → request_of (op ∷ fields) ≡ o → IsTrue (test || is_none o) ⊎ ((q : Request) × (request_of (op ∷ fields) ≡ Some q))
     go true o e = inl refl

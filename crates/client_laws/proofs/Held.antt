@@ -17,21 +17,22 @@ use Rattle.plain_site.specs.Built.{Built}
 use Rattle.plain_site.specs.Step.{step}
 use Rattle.plain_site.specs.Sound.{IsSound}
 use Rattle.plain_site.specs.RowWords.{Line}
-use Rattle.plain_site.specs.ClientRuns.{wants_memory, after_line, site_after, is_asked, IsAnswered, AreAnswered, IsRun, retold, told, regrown, history, resession, told_session}
+use Rattle.plain_site.specs.ClientRuns.{wants_memory, after_line, site_after, is_asked, IsAnswered, AreAnswered, IsRun, retold, told, regrown, told_site, history, resession, told_session}
 use Rattle.plain_site.specs.ClientLaws.{HistoryIsTold}
 use Rattle.plain_site.proofs.SoundBooks.{at-each}
 use Rattle.plain_site.proofs.SoundOpening.{opening-is-sound}
 use Rattle.plain_site.proofs.SoundRequests.{request-keeps-sound}
 use Rattle.client_laws.proofs.Tellings.{Tells, tells-later}
-use Rattle.client_laws.proofs.Effects.{wanting-tells-nothing, wanting-leaves-session, wanting-records-nothing}
+use Rattle.client_laws.proofs.Effects.{bare, wanting-tells-nothing, wanting-leaves-session, wanting-records-nothing}
 use Rattle.client_laws.proofs.EffectsOfSites.{step-does}
 
 -- the site is sound, and its transactions and sessions are as the lines tell
 pub record Holds (built : Built) (start site : Site) (lines : List Line) : Type 0 where
   pub sound : IsSound built site
-  pub dag : site.dag ≡ history lines
+  pub shared : bare site ≡ told_site start lines
+  pub dag : site.dag ≡ history start lines
   pub txn : (n : ℕ) → Tells site.dag (entry_of n site.txns) (told n lines)
-  pub session : (n : ℕ) → entry_of n site.sessions ≡ told_session n lines
+  pub session : (n : ℕ) → entry_of n site.sessions ≡ told_session start n lines
 
 -- ===== The history grows
 
@@ -66,16 +67,16 @@ wanting-is reply t = absurd (cc)
 
 module _ (built : Built) (start : Site) where
   module _ (line : Line) (older : List Line) (h : Holds built start (site_after (step built) start older) older) where
-    session-here : (rs : List Record) → rs ≡ history (line ∷ older) → told_session line.actor (line ∷ older) ≡ resession rs line.request line.reply (told_session line.actor older)
+    session-here : (rs : List Record) → rs ≡ history start (line ∷ older) → told_session start line.actor (line ∷ older) ≡ resession rs line.request line.reply (told_session start line.actor older)
     session-here rs e =
-        let before = told_session line.actor older in
-        cond-true (line.actor == line.actor) (resession (history (line ∷ older)) line.request line.reply before) before (eq-eqb line.actor line.actor refl)
+        let before = told_session start line.actor older in
+        cond-true (line.actor == line.actor) (resession (history start (line ∷ older)) line.request line.reply before) before (eq-eqb line.actor line.actor refl)
         ∙ ap (λ qs. resession qs line.request line.reply before) (sym e)
 
-    session-other : (m : ℕ) → (m ≡ line.actor → ⊥) → told_session m (line ∷ older) ≡ told_session m older
+    session-other : (m : ℕ) → (m ≡ line.actor → ⊥) → told_session start m (line ∷ older) ≡ told_session start m older
     session-other m differ =
-        let before = told_session m older in
-        cond-false (line.actor == m) (resession (history (line ∷ older)) line.request line.reply before) before (ne_eqb line.actor m (λ e. differ (sym e)))
+        let before = told_session start m older in
+        cond-false (line.actor == m) (resession (history start (line ∷ older)) line.request line.reply before) before (ne_eqb line.actor m (λ e. differ (sym e)))
 
     -- memory was wanting, and nothing was done
     holds-wanting : IsTrue (wants_memory line.reply) → Holds built start (site_after (step built) start older) (line ∷ older)
@@ -83,10 +84,13 @@ module _ (built : Built) (start : Site) where
         let site = site_after (step built) start older in
         let n = line.actor in
         let e = wanting-is line.reply wants in
-        let same : site.dag ≡ history (line ∷ older) =
-        h.dag ∙ sym (ap (λ r. regrown line.request r (told n older) (history older)) e ∙ wanting-records-nothing line.request (told n older) (history older)) in
+        let as_told = told_site start older in
+        let whole : bare site ≡ told_site start (line ∷ older) =
+        h.shared ∙ sym (ap (λ r. regrown line.request r (told n older) as_told) e ∙ wanting-records-nothing line.request (told n older) as_told) in
+        let same : site.dag ≡ history start (line ∷ older) = ap (λ (s : Site). s.dag) whole in
         record {
           sound = h.sound;
+          shared = whole;
           dag = same;
           txn =
               at-each (λ i. Tells site.dag (entry_of i site.txns) (told i (line ∷ older))) n
@@ -94,10 +98,10 @@ module _ (built : Built) (start : Site) where
               (sym (told-here line older ∙ (ap (λ r. retold line.request r (told n older)) e ∙ wanting-tells-nothing line.request (told n older)))) (h.txn n))
               (λ i differ. subst (Tells site.dag (entry_of i site.txns)) (sym (told-other line older i differ)) (h.txn i));
           session =
-              at-each (λ i. entry_of i site.sessions ≡ told_session i (line ∷ older)) n
+              at-each (λ i. entry_of i site.sessions ≡ told_session start i (line ∷ older)) n
               (h.session n
               ∙ sym (session-here site.dag same
-              ∙ (ap (λ r. resession site.dag line.request r (told_session n older)) e ∙ wanting-leaves-session line.request site.dag (told_session n older))))
+              ∙ (ap (λ r. resession site.dag line.request r (told_session start n older)) e ∙ wanting-leaves-session line.request site.dag (told_session start n older))))
               (λ i differ. h.session i ∙ sym (session-other i differ));
         }
 
@@ -115,14 +119,16 @@ module _ (built : Built) (start : Site) where
         let does = step-does site n built line.request in
         let parts = and_parts (is_u16 n) (is_request line.request) asked in
         let sound = request-keeps-sound built line.request site n parts.0 parts.1 h.sound in
-        let same : next.dag ≡ history (line ∷ older) =
-        does.dag (told n older) (h.txn n)
-        ∙ (ap (λ r. regrown line.request r (told n older) site.dag) (sym e) ∙ ap (regrown line.request line.reply (told n older)) h.dag) in
+        let whole : bare next ≡ told_site start (line ∷ older) =
+        does.shared (told n older) (h.txn n)
+        ∙ (ap (λ r. regrown line.request r (told n older) (bare site)) (sym e) ∙ ap (regrown line.request line.reply (told n older)) h.shared) in
+        let same : next.dag ≡ history start (line ∷ older) = ap (λ (s : Site). s.dag) whole in
         let before : (i : ℕ) → Tells next.dag (entry_of i site.txns) (told i older) =
         λ i. stays-later (λ rs. Tells rs (entry_of i site.txns) (told i older)) site.dag next.dag does.grows h.sound.dag sound.dag
         (λ r f t. tells-later site.dag r f (dag-grows site.dag h.sound.dag) (entry_of i site.txns) (told i older) (open-is-known i) t) (h.txn i) in
         record {
           sound = sound;
+          shared = whole;
           dag = same;
           txn =
               at-each (λ i. Tells next.dag (entry_of i next.txns) (told i (line ∷ older))) n
@@ -131,7 +137,7 @@ module _ (built : Built) (start : Site) where
               subst (λ o. Tells next.dag o (told i (line ∷ older))) (sym (does.other_txns i differ))
               (subst (Tells next.dag (entry_of i site.txns)) (sym (told-other line older i differ)) (before i)));
           session =
-              at-each (λ i. entry_of i next.sessions ≡ told_session i (line ∷ older)) n
+              at-each (λ i. entry_of i next.sessions ≡ told_session start i (line ∷ older)) n
               (does.session
               ∙ (ap (λ r. resession next.dag line.request r (entry_of n site.sessions)) (sym e)
               ∙ (ap (resession next.dag line.request line.reply) (h.session n) ∙ sym (session-here next.dag same))))
@@ -159,7 +165,8 @@ module _ (built : Built) (start : Site) where
   opening-holds : IsSound built start → start ≡ opening start.limits start.own → Holds built start start []
   opening-holds sound e = record {
     sound = sound;
-    dag = ap (λ (s : Site). s.dag) e;
+    shared = subst (λ (s : Site). bare s ≡ s) (sym e) refl;
+    dag = refl;
     txn = λ n. subst (λ (s : Site). Tells s.dag (entry_of n s.txns) None) (sym e) tt;
     session = λ n. ap (λ (s : Site). entry_of n s.sessions) e;
   }
@@ -180,5 +187,10 @@ module _ (built : Built) (start : Site) where
 abbrev pub dag_after : Built → Site → List Line → List Record
 dag_after built start lines = (site_after (step built) start lines).dag
 
+pub dag-is-told : (built : Built) (start : Site) (lines : List Line) → IsRun (step built) start lines → dag_after built start lines ≡ history start lines
+dag-is-told built start lines run = (run-holds built start lines run).dag
+
 pub history-is-told : (built : Built) → HistoryIsTold (step built)
-history-is-told built start lines run = (run-holds built start lines run).dag
+history-is-told built start lines run =
+    let whole = (run-holds built start lines run).shared in
+    (ap (λ (s : Site). s.dag) whole, ap (λ (s : Site). s.floors) whole, ap (λ (s : Site). s.waiting) whole)

@@ -36,7 +36,7 @@ use Rattle.plain_site.specs.ClientLaws.{DoneCommit, as_line, CommitsAreKept, Com
 use Rattle.client_laws.proofs.Records.{record-of-newest, record-stays, shown-below, joined, no-conflict}
 use Rattle.client_laws.proofs.Tellings.{is_merge}
 use Rattle.client_laws.proofs.EffectsOfSites.{step-does}
-use Rattle.client_laws.proofs.Held.{dag_after, history-is-told, Later, stays-later, run-holds, run-before}
+use Rattle.client_laws.proofs.Held.{dag_after, dag-is-told, Later, stays-later, run-holds, run-before}
 use Rattle.client_laws.proofs.Commits.{IsPlaced, step-tells-begin}
 use Rattle.client_laws.proofs.Laws.{was-answered, before, is-commit, is-told}
 
@@ -87,7 +87,7 @@ module _ (built : Built) where
   commits-are-kept start newer older d run =
       let kept = record-is-kept start newer older d run in
       let r : Record = record { id = d.state; parents = d.parents; writes = kept.0.writes } in
-      (kept.0, kept.1, subst (λ rs. record_at rs d.state ≡ Some r) (history-is-told built start (newer ++ as_line d ∷ older) run) kept.2)
+      (kept.0, kept.1, subst (λ rs. record_at rs d.state ≡ Some r) (dag-is-told built start (newer ++ as_line d ∷ older) run) kept.2)
 
   pub told-record : (start : Site) (newer older : List Line) (d : DoneCommit) (t : Told) → IsRun (step built) start (newer ++ as_line d ∷ older) → told d.actor older ≡ Some t →
       record_at (dag_after built start (newer ++ as_line d ∷ older)) d.state ≡ Some (record { id = d.state; parents = d.parents; writes = t.writes })
@@ -96,25 +96,25 @@ module _ (built : Built) where
       kept.2 ∙ ap (λ (u : Told). Some (record { id = d.state; parents = d.parents; writes = u.writes })) (same_Some kept.0 t (sym kept.1 ∙ e))
 
   -- what lines tell of a history is one
-  told-dag : (start : Site) (lines : List Line) → IsRun (step built) start lines → IsDag (history lines)
+  told-dag : (start : Site) (lines : List Line) → IsRun (step built) start lines → IsDag (history start lines)
   told-dag start lines run = let h = run-holds built start lines run in subst IsDag h.dag h.sound.dag
 
   told-at : (start : Site) (newer older : List Line) (d : DoneCommit) (t : Told) → IsRun (step built) start (newer ++ as_line d ∷ older) → told d.actor older ≡ Some t →
-      record_at (history (newer ++ as_line d ∷ older)) d.state ≡ Some (record { id = d.state; parents = d.parents; writes = t.writes })
+      record_at (history start (newer ++ as_line d ∷ older)) d.state ≡ Some (record { id = d.state; parents = d.parents; writes = t.writes })
   told-at start newer older d t run e =
       let r : Record = record { id = d.state; parents = d.parents; writes = t.writes } in
-      subst (λ rs. record_at rs d.state ≡ Some r) (history-is-told built start (newer ++ as_line d ∷ older) run) (told-record start newer older d t run e)
+      subst (λ rs. record_at rs d.state ≡ Some r) (dag-is-told built start (newer ++ as_line d ∷ older) run) (told-record start newer older d t run e)
 
   pub commits-are-shown : CommitsAreShown (step built)
   commits-are-shown start newer older d t run e key w y writes known above none =
       let lines = newer ++ as_line d ∷ older in
-      shown-below (history lines) (told-dag start lines run) key d.state y (record { id = d.state; parents = d.parents; writes = t.writes }) w
+      shown-below (history start lines) (told-dag start lines run) key d.state y (record { id = d.state; parents = d.parents; writes = t.writes }) w
       (told-at start newer older d t run e) writes known above none
 
   pub other-keys-are-joined : OtherKeysAreJoined (step built)
   other-keys-are-joined start newer older d t run e key lacks =
       let lines = newer ++ as_line d ∷ older in
-      let rs = history lines in
+      let rs = history start lines in
       let dag = told-dag start lines run in
       let q : Record = record { id = d.state; parents = d.parents; writes = t.writes } in
       let at = told-at start newer older d t run e in
@@ -166,7 +166,7 @@ module _ (built : Built) where
       let at : IsTrue (is_known (dag_after built start (line ∷ older)) d.state) × IsTrue (are_above (dag_after built start (line ∷ older)) t.states d.state) =
       subst (λ qs. IsTrue (is_known qs d.state) × IsTrue (are_above qs t.states d.state)) (sym c.grown)
       (newest-is-known rs r, subst (λ xs. IsTrue (are_above (r ∷ rs) xs d.state)) states j.0) in (
-        subst (λ qs. IsTrue (are_above qs t.states d.state)) (history-is-told built start (newer ++ line ∷ older) run)
+        subst (λ qs. IsTrue (are_above qs t.states d.state)) (dag-is-told built start (newer ++ line ∷ older) run)
             (keeps-on (λ qs. IsTrue (is_known qs d.state) × IsTrue (are_above qs t.states d.state)) (above-stay d.state t.states) start newer (line ∷ older) run at).1,
         λ m. j.1 (sym merges ∙ m) ∙ states,
       )
@@ -175,7 +175,7 @@ module _ (built : Built) where
 
   -- a transaction begins where it is told to, by the session's last commit, and not above its ceiling
   begun-at : (b : Begin) (start : Site) (older : List Line) (n : ℕ) (x : StateId) → IsRun (step built) start (n asks BeginAt b => Begun x ∷ older) →
-      (s : Session) × (told_session n older ≡ Some s) × (begin_state (history older) s.last b ≡ x) × IsTrue (is_admitted (history older) s.ceiling x)
+      (s : Session) × (told_session start n older ≡ Some s) × (begin_state (history start older) s.last b ≡ x) × IsTrue (is_admitted (history start older) s.ceiling x)
   begun-at b start older n x run =
       let site = site_after (step built) start older in
       let line = n asks BeginAt b => Begun x in
@@ -198,17 +198,17 @@ module _ (built : Built) where
 
   pub ancestor-reads-the-last : AncestorReadsTheLastCommit (step built)
   ancestor-reads-the-last start older n x run =
-      let rs = history older in
+      let rs = history start older in
       let at = begun-at Ancestor start older n x run in
       (at.0, at.1, subst (λ z. IsTrue (is_above rs at.0.last z)) at.2 (above-last-below rs at.0.last))
 
   pub any-reads-the-last : AnyReadsTheLastCommit (step built)
   any-reads-the-last start older n x run =
-      let rs = history older in
+      let rs = history start older in
       let at = begun-at Any start older n x run in
       (at.0, at.1, (λ h. subst (λ z. IsTrue (is_above rs at.0.last z)) (sym at.2) h, λ h. subst (λ z. IsTrue (is_above rs at.0.last z)) at.2 h))
 
   pub sessions-stay-under-ceilings : SessionsStayUnderCeilings (step built)
   sessions-stay-under-ceilings start older n b x run =
       let at = begun-at b start older n x run in
-      (at.0, at.1, not-true (is_proper_ancestor (history older) x at.0.ceiling) at.3)
+      (at.0, at.1, not-true (is_proper_ancestor (history start older) x at.0.ceiling) at.3)

@@ -26,7 +26,7 @@ use Rattle.plain_site.specs.ClientRuns.{wants_memory, site_after, history, IsAns
 use Rattle.plain_site.specs.ClientLaws.{DoneCommit, as_line, ReadsOneSnapshot, ReadsAtItsState, SerializableReadsHold, SnapshotsOverwriteNothingUnseen}
 use Rattle.client_laws.proofs.Dags.{value-over-one}
 use Rattle.client_laws.proofs.Tellings.{IsTold, Tells, shows-alike, shows-kept-alike}
-use Rattle.client_laws.proofs.Held.{dag_after, history-is-told, Holds, run-holds, run-before}
+use Rattle.client_laws.proofs.Held.{dag_after, dag-is-told, Holds, run-holds, run-before}
 use Rattle.client_laws.proofs.Commits.{IsPlaced, IsCommit, step-tells-commit}
 
 -- ===== What is told of an open transaction
@@ -62,7 +62,7 @@ module _ (built : Built) where
 
   pub reads-at-its-state : ReadsAtItsState (step built)
   reads-at-its-state start lines n t s run e at =
-      let rs = history lines in
+      let rs = history start lines in
       shows-alike (value_over rs t.states) (λ key. read rs key s) t.reads (λ key. ap (λ xs. value_over rs xs key) at ∙ value-over-one rs s key)
       (reads-one-snapshot start lines n t run e)
 
@@ -127,7 +127,7 @@ module _ (built : Built) where
   pub serializable-reads-hold : SerializableReadsHold (step built)
   serializable-reads-hold start older d run ser =
       let h = ser-parent start older d run ser in
-      let e = history-is-told built start older (run-before built start (as_line d) older run) in
+      let e = dag-is-told built start older (run-before built start (as_line d) older run) in
       (h.0, h.2, h.1, h.4, subst (λ rs. ReadsShow (λ key. read rs key h.2) h.0.reads) e h.5)
 
   -- ===== SI
@@ -156,7 +156,7 @@ module _ (built : Built) where
       let sound = (before start older d run).sound in
       let rs = dag_after built start older in
       let p = si-holds rs sound.dag d.flags c.txn d.parents u.0 (sound.each_txn d.actor c.txn c.open_there).2.known si c.placed u.2 in
-      let e = history-is-told built start older (run-before built start (as_line d) older run) in (
+      let e = dag-is-told built start older (run-before built start (as_line d) older run) in (
         u.0,
         p.0,
         p.1,

@@ -12,14 +12,14 @@ use Rattle.plain_site.proofs.RepliesSite.{refusals-leave-site}
 
 module _ (built : Built) where
   -- a refusal leaves the site as it was
-  refused-leaves : (site : Site) (line : Line) → IsTrue (leaves_site line.reply) → IsAnswered (step built) site line → after_line (step built) site line ≡ site
+  refused-leaves : (site : Site) (line : Line) → IsTrue (leaves_site line.request line.reply) → IsAnswered (step built) site line → after_line (step built) site line ≡ site
   refused-leaves site line leaves (inr wants) = cond-true (wants_memory line.reply) site (step built site line.actor line.request).0 wants
   refused-leaves site line leaves (inl e) =
       let next = (step built site line.actor line.request).0 in
       cond_both (wants_memory line.reply) site next (λ s. s ≡ site) (λ t. refl)
-      (λ f. refusals-leave-site built site line.actor line.request (subst (λ reply. IsTrue (leaves_site reply)) e leaves))
+      (λ f. refusals-leave-site built site line.actor line.request (subst (λ reply. IsTrue (leaves_site line.request reply)) e leaves))
 
-  module _ (start : Site) (older : List Line) (line : Line) (leaves : IsTrue (leaves_site line.reply)) where
+  module _ (start : Site) (older : List Line) (line : Line) (leaves : IsTrue (leaves_site line.request line.reply)) where
     same-without : (newer : List Line) → AreAnswered (step built) start (newer ++ line ∷ older) →
         site_after (step built) start (newer ++ line ∷ older) ≡ site_after (step built) start (newer ++ older)
     same-without [] answered = refused-leaves (site_after (step built) start older) line leaves answered.1

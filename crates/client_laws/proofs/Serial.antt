@@ -18,7 +18,7 @@ use Rattle.plain_site.specs.ClientRuns.{IsRun, Told, told, ReadsShow}
 use Rattle.plain_site.specs.ClientLaws.{DoneCommit, as_line, IsBranch, one_after_another, IsSerial, BranchesAreSerial}
 use Rattle.client_laws.proofs.Records.{record-is-of, branch-is-read}
 use Rattle.client_laws.proofs.Tellings.{shows-alike}
-use Rattle.client_laws.proofs.Held.{dag_after, history-is-told, run-holds}
+use Rattle.client_laws.proofs.Held.{dag_after, dag-is-told, run-holds}
 use Rattle.client_laws.proofs.Laws.{ser-parent}
 use Rattle.client_laws.proofs.Kept.{keeps-on, older-run, told-record}
 
@@ -75,4 +75,4 @@ module _ (built : Built) where
 
   pub branches-are-serial : BranchesAreSerial (step built)
   branches-are-serial start lines branch x run is_branch =
-      serial-branch start lines run branch x (subst (λ rs. IsBranch rs branch x) (sym (history-is-told built start lines run)) is_branch)
+      serial-branch start lines run branch x (subst (λ rs. IsBranch rs branch x) (sym (dag-is-told built start lines run)) is_branch)

@@ -1,5 +1,5 @@
 -- Each wrong step breaks a law.
-use Rattle.std.proofs.Common.{◌≡◌, ℕ, true, false, List, [], ◌∷◌, ◌++◌, length, Some, IsTrue, IsFalse, inl, inr, refl, sym, ap, subst, ◌∙◌, ◌⊎◌, arith}
+use Rattle.std.proofs.Common.{◌≡◌, ℕ, true, false, List, [], ◌∷◌, ◌++◌, length, Some, None, IsTrue, IsFalse, inl, inr, refl, sym, ap, subst, ◌∙◌, ◌⊎◌, arith}
 use Rattle.std.specs.Prelude.{codes}
 use Rattle.std.proofs.lemmas.Bool.{and_parts}
 use Rattle.std.proofs.lemmas.Option.{none-some, same_Some}
@@ -20,8 +20,8 @@ use Rattle.plain_dag.specs.Writers.{is_writer, read}
 use Rattle.plain_dag.specs.Floors.{Session}
 use Rattle.plain_site.specs.RowWords.{Line, lone_site, ◌·◌, ◌asks◌=>◌, put, none, ser, si, commit, merge_leaves, value}
 use Rattle.plain_site.specs.ClientRuns.{Service, IsRun, AreAnswered, Told, told, told_session, history, ReadsShow}
-use Rattle.plain_site.specs.ClientLaws.{DoneCommit, as_line, HistoryIsTold, ReadsOneSnapshot, ReadsAtItsState, ReadersEndWhereTheyRead, DeliveriesAreKept, SerializableReadsHold, BranchesAreSerial, SnapshotsOverwriteNothingUnseen, CommitsAreKept, CommitsAreShown, OtherKeysAreJoined, CommitsJoinWhatTheyRead, OwnWritesAreRead, ParentReadsTheLastCommit, AncestorReadsTheLastCommit, AnyReadsTheLastCommit, MergesShowEachSide, SessionsStayUnderCeilings, RefusalsHideNothing}
-use Rattle.plain_site.specs.WrongSteps.{IsBrokenBy, forgets_reads, forgets_constraints, reads_newest, forgets_own_writes, forgets_collected, leaves_conflicts, drops_sides, forgets_commits, shows_newest_side, stays_with_own, forked, other_branch_read, newest_missed, other_side_shown, forgets_ceilings, ends_refused, followed, read_above, ends_at_newest, forgets_deliveries, ended_elsewhere, begun_three, first_site, of_second_site, delivered, delivered_again, raced, begun_both, both_wrote, stale_read, lost_update, unstable_read, own_write_missed, own_commit_missed, refused_commit, commit_after_refusal, after_conflict, merging_both, written_again, collected, name_given_twice}
+use Rattle.plain_site.specs.ClientLaws.{DoneCommit, as_line, HistoryIsTold, SettledAreKept, ReadsOneSnapshot, ReadsAtItsState, ReadersEndWhereTheyRead, DeliveriesAreKept, SerializableReadsHold, BranchesAreSerial, SnapshotsOverwriteNothingUnseen, CommitsAreKept, CommitsAreShown, OtherKeysAreJoined, CommitsJoinWhatTheyRead, OwnWritesAreRead, ParentReadsTheLastCommit, AncestorReadsTheLastCommit, AnyReadsTheLastCommit, MergesShowEachSide, SessionsStayUnderCeilings, RefusalsHideNothing}
+use Rattle.plain_site.specs.WrongSteps.{IsBrokenBy, forgets_reads, forgets_constraints, reads_newest, forgets_own_writes, forgets_collected, leaves_conflicts, drops_sides, forgets_commits, shows_newest_side, stays_with_own, forked, other_branch_read, newest_missed, other_side_shown, forgets_ceilings, ends_refused, followed, read_above, ends_at_newest, forgets_deliveries, forgets_waiting, forgets_settled, came_early, settled_nothing, ended_elsewhere, begun_three, first_site, of_second_site, delivered, delivered_again, raced, begun_both, both_wrote, stale_read, lost_update, unstable_read, own_write_missed, own_commit_missed, refused_commit, commit_after_refusal, after_conflict, merging_both, written_again, collected, name_given_twice}
 
 -- lines of the only site that were answered are a run
 run-of : (service : Service) (lines : List Line) → AreAnswered service lone_site lines → IsRun service lone_site lines
@@ -47,7 +47,7 @@ pub forgotten-reads-break : IsBrokenBy SerializableReadsHold forgets_reads
 forgotten-reads-break law =
     let h = law lone_site raced (done 1 ser (1 · 2) (1 · 1 ∷ [])) stale-run refl in
     let told-one : told 1 raced ≡ Some of_one = refl in
-    let rs = history raced in
+    let rs = history lone_site raced in
     let at : ReadsShow (λ key. read rs key (1 · 1)) h.0.reads = subst (λ p. ReadsShow (λ key. read rs key p) h.0.reads) (same-parent (1 · 1) h.1 h.3) h.4 in
     let shows = subst (λ (o : Told). ReadsShow (λ key. read rs key (1 · 1)) o.reads)
     (same_Some h.0 of_one (sym h.2 ∙ told-one)) at in
@@ -106,7 +106,7 @@ lost-run = run-of forgets_constraints lost_update (refl, inl refl, (refl, inl re
 pub forgotten-constraints-break : IsBrokenBy SnapshotsOverwriteNothingUnseen forgets_constraints
 forgotten-constraints-break law =
     let h = law lone_site both_wrote (done 1 si (1 · 2) (1 · 1 ∷ [])) lost-run refl in
-    let rs = history both_wrote in
+    let rs = history lone_site both_wrote in
     let t : Told = record { merges = false; states = 0 · 0 ∷ []; reads = (codes "x", Absent) ∷ []; writes = (codes "x", Put (codes "1")) ∷ (codes "y", Put (codes "1")) ∷ [] } in
     let it : told 1 both_wrote ≡ Some t = refl in
     let same : t ≡ h.0 = same_Some t h.0 (sym it ∙ h.3) in
@@ -129,13 +129,30 @@ forgotten-deliveries-break law =
     let lengths : ◌≡◌ {A = ℕ} 1 0 = ap (λ (r : Record). length r.writes) same in
     absurd (omega arith)
 
+came-early-run : IsRun forgets_waiting first_site (came_early ∷ [])
+came-early-run = record { limits = refl; own = refl; opens = refl; answered = (refl, inl refl, tt) }
+
+pub forgotten-waiting-breaks : IsBrokenBy HistoryIsTold forgets_waiting
+forgotten-waiting-breaks law =
+    let lengths : ◌≡◌ {A = ℕ} 0 1 = ap (λ (rs : List Record). length rs) (law first_site (came_early ∷ []) came-early-run).2 in
+    absurd (omega arith)
+
+settled-nothing-run : IsRun forgets_settled first_site (settled_nothing ∷ [])
+settled-nothing-run = record { limits = refl; own = refl; opens = refl; answered = (refl, inl refl, tt) }
+
+pub forgotten-settled-break : IsBrokenBy SettledAreKept forgets_settled
+forgotten-settled-break law =
+    let h = law first_site [] [] 0 settled-nothing-run in
+    let none : None ≡ Some h.0 = h.1 in
+    absurd (none-some h.0 none)
+
 collecting-run : IsRun forgets_collected lone_site (collected ++ as_line (done 1 none (1 · 2) (1 · 1 ∷ [])) ∷ written_again)
 collecting-run = run-of forgets_collected (collected ++ as_line (done 1 none (1 · 2) (1 · 1 ∷ [])) ∷ written_again) (refl, inl refl, (refl, inl refl, (refl, inl refl, (refl, inl refl, (refl, inl refl, (refl, inl refl, (refl, inl refl, (refl, inl refl, (refl, inl refl, tt)))))))))
 
 pub forgotten-records-break-history : IsBrokenBy HistoryIsTold forgets_collected
 forgotten-records-break-history law =
     let lengths : ◌≡◌ {A = ℕ} 2 3 =
-    ap (λ (rs : List Record). length rs) (law lone_site (collected ++ as_line (done 1 none (1 · 2) (1 · 1 ∷ [])) ∷ written_again) collecting-run) in
+    ap (λ (rs : List Record). length rs) (law lone_site (collected ++ as_line (done 1 none (1 · 2) (1 · 1 ∷ [])) ∷ written_again) collecting-run).0 in
     absurd (omega arith)
 
 name-given-twice-run : IsRun forgets_collected lone_site (name_given_twice ++ as_line (done 1 none (1 · 2) (1 · 1 ∷ [])) ∷ written_again)
@@ -164,7 +181,7 @@ open-conflicts-break-joins law =
 
 -- 1.1, 1.2 beside it, and 1.3 that joins them without x
 abbrev conflicting : List Record
-conflicting = history (after_conflict ++ as_line (done 2 none (1 · 1) (0 · 0 ∷ [])) ∷ begun_both)
+conflicting = history lone_site (after_conflict ++ as_line (done 2 none (1 · 1) (0 · 0 ∷ [])) ∷ begun_both)
 
 -- no state below 1.1 writes x
 none-below : (z : StateId) → IsTrue (is_proper_ancestor conflicting (1 · 1) z) → IsTrue (is_writer conflicting (codes "x") (1 · 3) z) → ⊥
@@ -220,7 +237,7 @@ pub forgotten-commits-break : IsBrokenBy ParentReadsTheLastCommit forgets_commit
 forgotten-commits-break law =
     let h = law lone_site raced 2 (0 · 0) missed-run in
     let made : Session = record { follow = false; ceiling = 0 · 0; last = 1 · 1 } in
-    let it : told_session 2 raced ≡ Some made = refl in
+    let it : told_session lone_site 2 raced ≡ Some made = refl in
     let at : 0 · 0 ≡ 1 · 1 = h.2 ∙ ap (λ (s : Session). s.last) (same_Some h.0 made (sym h.1 ∙ it)) in
     let none : ◌≡◌ {A = ℕ} 0 1 = ap (λ (x : StateId). x.site) at in
     absurd (omega arith)
@@ -235,8 +252,8 @@ other-branch-run = run-of forgets_commits other_branch_read (refl, inl refl, (re
 pub forgotten-commits-break-ancestor : IsBrokenBy AncestorReadsTheLastCommit forgets_commits
 forgotten-commits-break-ancestor law =
     let h = law lone_site forked 2 (1 · 2) other-branch-run in
-    let it : told_session 2 forked ≡ Some of_two = refl in
-    let none : IsTrue false = subst (λ (s : Session). IsTrue (is_above (history forked) s.last (1 · 2))) (same_Some h.0 of_two (sym h.1 ∙ it)) h.2 in
+    let it : told_session lone_site 2 forked ≡ Some of_two = refl in
+    let none : IsTrue false = subst (λ (s : Session). IsTrue (is_above (history lone_site forked) s.last (1 · 2))) (same_Some h.0 of_two (sym h.1 ∙ it)) h.2 in
     absurd (cc)
 
 newest-missed-run : IsRun stays_with_own lone_site newest_missed
@@ -245,10 +262,10 @@ newest-missed-run = run-of stays_with_own newest_missed (refl, inl refl, (refl, 
 pub own-beginnings-break : IsBrokenBy AnyReadsTheLastCommit stays_with_own
 own-beginnings-break law =
     let h = law lone_site forked 2 (1 · 1) newest-missed-run in
-    let it : told_session 2 forked ≡ Some of_two = refl in
+    let it : told_session lone_site 2 forked ≡ Some of_two = refl in
     let same = same_Some h.0 of_two (sym h.1 ∙ it) in
-    let newest : IsTrue (is_above (history forked) h.0.last (1 · 2)) = h.2.0 (subst (λ (s : Session). IsTrue (is_above (history forked) s.last (1 · 1))) (sym same) refl) in
-    let none : IsTrue false = subst (λ (s : Session). IsTrue (is_above (history forked) s.last (1 · 2))) same newest in
+    let newest : IsTrue (is_above (history lone_site forked) h.0.last (1 · 2)) = h.2.0 (subst (λ (s : Session). IsTrue (is_above (history lone_site forked) s.last (1 · 1))) (sym same) refl) in
+    let none : IsTrue false = subst (λ (s : Session). IsTrue (is_above (history lone_site forked) s.last (1 · 2))) same newest in
     absurd (cc)
 
 above-run : IsRun forgets_ceilings lone_site read_above
@@ -258,8 +275,8 @@ pub forgotten-ceilings-break : IsBrokenBy SessionsStayUnderCeilings forgets_ceil
 forgotten-ceilings-break law =
     let h = law lone_site followed 1 (At (0 · 0)) (0 · 0) above-run in
     let made : Session = record { follow = true; ceiling = 1 · 1; last = 1 · 1 } in
-    let it : told_session 1 followed ≡ Some made = refl in
-    let none : true ≡ false = subst (λ (s : Session). IsFalse (is_proper_ancestor (history followed) (0 · 0) s.ceiling)) (same_Some h.0 made (sym h.1 ∙ it)) h.2 in
+    let it : told_session lone_site 1 followed ≡ Some made = refl in
+    let none : true ≡ false = subst (λ (s : Session). IsFalse (is_proper_ancestor (history lone_site followed) (0 · 0) s.ceiling)) (same_Some h.0 made (sym h.1 ∙ it)) h.2 in
     absurd (cc)
 
 -- ===== Refusals

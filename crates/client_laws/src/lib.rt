@@ -7,9 +7,9 @@
 ghost use Rattle.plain_site.specs.Built.{Built};
 ghost use Rattle.plain_site.specs.Step.{step};
 ghost use Rattle.plain_site.specs.EventRuns.{EventsAreRuns};
-ghost use Rattle.plain_site.specs.ClientLaws.{ReadsOneSnapshot, ReadsAtItsState, OwnWritesAreRead, MergesShowEachSide, ReadersEndWhereTheyRead, SerializableReadsHold, BranchesAreSerial, SnapshotsOverwriteNothingUnseen, HistoryIsTold, CommitsAreKept, DeliveriesAreKept, CommitsAreShown, OtherKeysAreJoined, CommitsJoinWhatTheyRead, ParentReadsTheLastCommit, AncestorReadsTheLastCommit, AnyReadsTheLastCommit, SessionsStayUnderCeilings, RefusalsHideNothing};
+ghost use Rattle.plain_site.specs.ClientLaws.{ReadsOneSnapshot, ReadsAtItsState, OwnWritesAreRead, MergesShowEachSide, ReadersEndWhereTheyRead, SerializableReadsHold, BranchesAreSerial, SnapshotsOverwriteNothingUnseen, HistoryIsTold, CommitsAreKept, DeliveriesAreKept, SettledAreKept, CommitsAreShown, OtherKeysAreJoined, CommitsJoinWhatTheyRead, ParentReadsTheLastCommit, AncestorReadsTheLastCommit, AnyReadsTheLastCommit, SessionsStayUnderCeilings, RefusalsHideNothing};
 ghost use Rattle.plain_site.specs.RowsOfClients.{ReadersFork, WritersFork, ReadsAreOld, WantingIsSentAgain, WeakerIsSentAfter, CommitsAreFound, FollowersStayBelow, SidesAreJoined, LinesTell};
-ghost use Rattle.plain_site.specs.WrongSteps.{IsBrokenBy, reads_newest, forgets_own_writes, shows_newest_side, ends_at_newest, forgets_reads, forgets_constraints, forgets_collected, forgets_deliveries, leaves_conflicts, drops_sides, forgets_commits, stays_with_own, forgets_ceilings, ends_refused};
+ghost use Rattle.plain_site.specs.WrongSteps.{IsBrokenBy, reads_newest, forgets_own_writes, shows_newest_side, ends_at_newest, forgets_reads, forgets_constraints, forgets_collected, forgets_deliveries, forgets_waiting, forgets_settled, leaves_conflicts, drops_sides, forgets_commits, stays_with_own, forgets_ceilings, ends_refused};
 
 use wire_talk::talk_has_one_spelling;
 
@@ -54,21 +54,24 @@ pub fn snapshots_overwrite_nothing_unseen()
     ensures forgotten_breaks { IsBrokenBy SnapshotsOverwriteNothingUnseen forgets_constraints }
 {}
 
-/// Nothing committed is lost, whatever comes, and nothing is made up: the site's history is what requests and replies tell of
-/// commits and deliveries. A commit's state stays known with its parents and its writes, as does a record that another site
-/// made, and its writes are shown to all below it until one of these writes the key. It stands below all that its
-/// transaction read, a merge just below all its read states; and it shows each key that it didn't write as the one value over
-/// its parents.
+/// Nothing committed is lost, whatever comes, and nothing is made up: the site's history, its floors and its waiting room are
+/// what requests and replies tell of commits, deliveries, floors and Settle. A commit's state stays known with its parents
+/// and its writes, as does a record that another site made, be it delivered or taken from the waiting room, and its writes
+/// are shown to all below it until one of these writes the key. It stands below all that its transaction read, a merge just
+/// below all its read states; and it shows each key that it didn't write as the one value over its parents.
 pub fn nothing_committed_is_lost()
     ensures history { (built : Built) → HistoryIsTold (step built) }
     ensures kept { (built : Built) → CommitsAreKept (step built) }
     ensures deliveries { (built : Built) → DeliveriesAreKept (step built) }
+    ensures settled { (built : Built) → SettledAreKept (step built) }
     ensures shown { (built : Built) → CommitsAreShown (step built) }
     ensures joins { (built : Built) → CommitsJoinWhatTheyRead (step built) }
     ensures others { (built : Built) → OtherKeysAreJoined (step built) }
     ensures forgotten_breaks_history { IsBrokenBy HistoryIsTold forgets_collected }
     ensures forgotten_breaks { IsBrokenBy CommitsAreKept forgets_collected }
     ensures forgotten_breaks_deliveries { IsBrokenBy DeliveriesAreKept forgets_deliveries }
+    ensures forgotten_breaks_waiting { IsBrokenBy HistoryIsTold forgets_waiting }
+    ensures forgotten_breaks_settled { IsBrokenBy SettledAreKept forgets_settled }
     ensures conflicts_break { IsBrokenBy CommitsAreShown leaves_conflicts }
     ensures dropped_breaks { IsBrokenBy CommitsJoinWhatTheyRead drops_sides }
     ensures conflicts_break_others { IsBrokenBy OtherKeysAreJoined leaves_conflicts }

@@ -1,12 +1,12 @@
 -- The pairs of two ascending lists as one.
-use Rattle.std.proofs.Common.{◌≡◌, ℕ, ◌+◌, ◌-◌, ◌<◌, ◌≤◌, Bool, true, false, ◌||◌, List, [], ◌∷◌, ◌++◌, length, get_or, take, drop, IsTrue, refl, sym, ◌∙◌, ap, subst, arith}
+use Rattle.std.proofs.Common.{◌≡◌, ℕ, ◌+◌, ◌-◌, ◌<◌, ◌≤◌, Bool, true, false, ◌||◌, List, [], ◌∷◌, ◌++◌, length, get_or, take, drop, IsTrue, refl, sym, ◌∙◌, ap, ap₂, subst, arith}
 use Rattle.std.specs.List.{AllWithin, list_all}
 use Rattle.std.proofs.lemmas.List.{take_rest, take-append-drop}
 use Rattle.std.proofs.Math.Seq.{drop-cons}
 use Rattle.std.proofs.lemmas.Bool.{and_parts, and_from}
 use Rattle.fork_path.specs.Pairs.{is_pair_before, are_ascending_pairs, is_same_pair, has_pair, with_pair, with_each}
 use Rattle.fork_path.proofs.PairOrder.{before_trans, ascending-rest, before-rest, has-at}
-use Rattle.fork_path.proofs.PairSets.{with_pair-after, with_pair-insert, with_pair-found, ascending-with_pair, has-with_pair}
+use Rattle.fork_path.proofs.PairSets.{with_pair-here, with_pair-after, with_pair-insert, with_pair-found, ascending-with_pair, has-with_pair}
 
 -- ===== What is united
 
@@ -84,14 +84,14 @@ ascending-drop : (n : ℕ) (ps : List (ℕ × ℕ)) → are_ascending_pairs ps �
 ascending-drop n ps up = ascending-behind (take n ps) (drop n ps) (subst (λ zs. are_ascending_pairs zs ≡ true) (sym (take-append-drop n ps)) up)
 
 -- where the walk is: so much is out, and the rest stands in order
-pub record Merging (own others out rest : List (ℕ × ℕ)) (index : ℕ) : Type 0 where
+pub record Merging (base own others out rest : List (ℕ × ℕ)) (index : ℕ) : Type 0 where
   pub ascending : are_ascending_pairs rest ≡ true
-  pub whole : with_each others own ≡ out ++ with_each (drop index others) rest
+  pub whole : base ++ with_each others own ≡ out ++ with_each (drop index others) rest
 
-pub merging-more : (own others out rest front behind mid new : List (ℕ × ℕ)) (index : ℕ) → are_ascending_pairs others ≡ true → index < length others → Merging own others out rest index →
+pub merging-more : (base own others out rest front behind mid new : List (ℕ × ℕ)) (index : ℕ) → are_ascending_pairs others ≡ true → index < length others → Merging base own others out rest index →
     (IsTrue (are_ascending_pairs rest) → with_pair (get_or others index (0, 0)) rest ≡ front ++ get_or others index (0, 0) ∷ behind) → mid ≡ out ++ front → new ≡ mid ++ get_or others index (0, 0) ∷ [] →
-    Merging own others new behind (index + 1)
-merging-more own others out rest front behind mid new index up lt m put e₁ e₂ =
+    Merging base own others new behind (index + 1)
+merging-more base own others out rest front behind mid new index up lt m put e₁ e₂ =
     let q = get_or others index (0, 0) in
     let next : ℕ.suc index ≡ index + 1 = omega arith in
     let qs = drop (index + 1) others in
@@ -107,3 +107,32 @@ merging-more own others out rest front behind mid new index up lt m put e₁ e�
           ∙ sym (joined out front (with_each qs behind) q)
           ∙ ap (λ zs. zs ++ with_each qs behind) (sym (e₂ ∙ ap (λ zs. zs ++ q ∷ []) e₁));
     }
+
+-- ===== What both lists begin with
+
+-- what both ascending lists begin with stays in front
+with_each-front : (front ps qs : List (ℕ × ℕ)) → are_ascending_pairs (front ++ ps) ≡ true → with_each (front ++ ps) (front ++ qs) ≡ front ++ with_each ps qs
+with_each-front [] ps qs up = refl
+with_each-front (f ∷ fs) ps qs up =
+    ap (with_each (fs ++ ps)) (with_pair-here f (fs ++ qs))
+    ∙ first-stays_first f (fs ++ ps) (fs ++ qs) (before-rest f (fs ++ ps) up)
+    ∙ ap (λ zs. f ∷ zs) (with_each-front fs ps qs (ascending-rest f (fs ++ ps) up))
+
+-- the same where the front is cut off
+merged-front : (own others : List (ℕ × ℕ)) (n : ℕ) → are_ascending_pairs others ≡ true → take n own ≡ take n others → take n own ++ with_each (drop n others) (drop n own) ≡ with_each others own
+merged-front own others n up e =
+    let whole : take n own ++ drop n others ≡ others = ap (λ zs. zs ++ drop n others) e ∙ take-append-drop n others in
+    sym (with_each-front (take n own) (drop n others) (drop n own) (subst (λ zs. are_ascending_pairs zs ≡ true) (sym whole) up))
+    ∙ ap (λ zs. with_each zs (take n own ++ drop n own)) whole
+    ∙ ap (with_each others) (take-append-drop n own)
+
+pub merged-whole : (own others start out new : List (ℕ × ℕ)) (n : ℕ) → are_ascending_pairs own ≡ true → are_ascending_pairs others ≡ true → take n own ≡ take n others → start ≡ [] → out ≡ start ++ take n own →
+    (are_ascending_pairs (take (length own - n) (drop n own)) ≡ true → are_ascending_pairs (take (length others - n) (drop n others)) ≡ true →
+    new ≡ out ++ with_each (take (length others - n) (drop n others)) (take (length own - n) (drop n own))) → new ≡ with_each others own
+merged-whole own others start out new n up up₂ same e₀ e₁ made =
+    let a = take_rest own n in
+    let b = take_rest others n in
+    made (subst (λ zs. are_ascending_pairs zs ≡ true) (sym a) (ascending-drop n own up)) (subst (λ zs. are_ascending_pairs zs ≡ true) (sym b) (ascending-drop n others up₂))
+    ∙ ap₂ (λ xs ys. out ++ with_each xs ys) b a
+    ∙ ap (λ zs. zs ++ with_each (drop n others) (drop n own)) (e₁ ∙ ap (λ zs. zs ++ take n own) e₀)
+    ∙ merged-front own others n up₂ same

@@ -5,7 +5,7 @@ use Rattle.std.proofs.lemmas.List.{take_more, get_or_default, length-take-le}
 use Rattle.std.proofs.lemmas.List.Recursion.{and_push}
 use Rattle.std.proofs.lemmas.Bool.{and_parts, and_from, or_left, or_right, both_ways, false_from_ne_true, cases_lt}
 use Rattle.fork_path.specs.Pairs.{is_pair_before, are_ascending_pairs, is_same_pair, has_pair, has_pairs}
-use Rattle.fork_path.proofs.PairOrder.{cases_pair, before_trans, before-isnt_same, after-isnt_same, same_pair_from, ascending-rest, before-rest, has-before, before-at}
+use Rattle.fork_path.proofs.PairOrder.{cases_pair, before_trans, before-isnt_same, after-isnt_same, same_pair_from, same_pair-true, ascending-rest, before-rest, has-before, before-at}
 
 -- ===== Where a pair is looked for
 
@@ -161,3 +161,55 @@ found-none ps qs end place some le none =
     nothing : (b : Bool) → (b && false) ≡ false
     nothing true = refl
     nothing false = refl
+
+-- ===== Where both lists have the same pair at one place
+
+more-has_pairs : (p : ℕ × ℕ) (ps qs : List (ℕ × ℕ)) → has_pairs ps qs ≡ true → has_pairs (p ∷ ps) qs ≡ true
+more-has_pairs p ps [] h = refl
+more-has_pairs p ps (q ∷ qs) h =
+    let parts = and_parts (has_pair q ps) (has_pairs ps qs) h in
+    and_from (has_pair q (p ∷ ps)) (has_pairs (p ∷ ps) qs) (or_right (is_same_pair q p) (has_pair q ps) parts.0) (more-has_pairs p ps qs parts.1)
+
+pub has_pairs_self : (ps : List (ℕ × ℕ)) → has_pairs ps ps ≡ true
+has_pairs_self [] = refl
+has_pairs_self (p ∷ ps) =
+    and_from (has_pair p (p ∷ ps)) (has_pairs (p ∷ ps) ps) (or_left (is_same_pair p p) (has_pair p ps) (same_pair_from p p refl)) (more-has_pairs p ps ps (has_pairs_self ps))
+
+-- of as many ascending pairs all are there only if the lists are the same
+pub has_as_many : (ps qs : List (ℕ × ℕ)) → are_ascending_pairs ps ≡ true → are_ascending_pairs qs ≡ true → length ps ≡ length qs → has_pairs ps qs ≡ true → ps ≡ qs
+has_as_many [] [] up up₂ len h = refl
+has_as_many [] (q ∷ qs) up up₂ len h = absurd (both_ways false refl h)
+has_as_many (p ∷ ps) [] up up₂ len h = absurd (omega arith)
+has_as_many (p ∷ ps) (q ∷ qs) up up₂ len h =
+    let parts = and_parts (has_pair q (p ∷ ps)) (has_pairs (p ∷ ps) qs) h in
+    elim (cases_pair p q) [
+      | inl e ↦
+          let each = before-rest p (q ∷ qs) (and_from (is_pair_before p q) (are_ascending_pairs (q ∷ qs)) e up₂) in
+          let le = no_more ps (q ∷ qs) (ascending-rest p ps up) up₂ (sym (drop-first p ps (q ∷ qs) each) ∙ h) in
+          absurd (omega arith)
+      | inr (inl e) ↦ absurd (both_ways (has_pair q (p ∷ ps)) (has-before q p ps up e) parts.0)
+      | inr (inr e) ↦
+          let each : list_all (is_pair_before p) qs ≡ true = subst (λ z. list_all (is_pair_before z) qs ≡ true) (sym e) (before-rest q qs up₂) in
+          let rest = has_as_many ps qs (ascending-rest p ps up) (ascending-rest q qs up₂) (omega arith) (sym (drop-first p ps qs each) ∙ parts.1) in
+          ap₂ (λ z zs. z ∷ zs) e rest
+    ]
+
+-- the walk ends at a place where both have one pair: the pairs in front of it are compared
+pub same-place : (ps qs : List (ℕ × ℕ)) (end place : ℕ) (b : Bool) → are_ascending_pairs ps ≡ true → are_ascending_pairs qs ≡ true → end ≤ length ps → 0 < place → place ≤ length qs → place ≤ end →
+    is_same_pair (get_or ps (place - 1) (0, 0)) (get_or qs (place - 1) (0, 0)) ≡ true → (b ≡ true → take (place - 1) ps ≡ take (place - 1) qs) → (b ≡ false → take (place - 1) ps ≡ take (place - 1) qs → ⊥) →
+    b ≡ has_pairs (take end ps) (take place qs)
+same-place ps qs end place b up up₂ le some le₂ le₃ here same differ =
+    let n = place - 1 in
+    let l₁ : n < length ps = omega arith in
+    let l₂ : n < length qs = omega arith in
+    let q = get_or qs n (0, 0) in
+    let at : get_or ps n q ≡ q = get_or_default ps n q (0, 0) l₁ ∙ same_pair-true (get_or ps n (0, 0)) q here in
+    let e = found-more ps qs end place n up up₂ le some le₂ (omega arith) at in
+    go b refl ∙ sym e
+  where
+    go : (a : Bool) → a ≡ b → a ≡ has_pairs (take (place - 1) ps) (take (place - 1) qs)
+    go true t = sym (subst (λ zs. has_pairs (take (place - 1) ps) zs ≡ true) (same (sym t)) (has_pairs_self (take (place - 1) ps)))
+    go false f = sym (false_from_ne_true (has_pairs (take (place - 1) ps) (take (place - 1) qs)) (λ h.
+        let len₁ = length-take-le (place - 1) ps (omega arith) in
+        let len₂ = length-take-le (place - 1) qs (omega arith) in
+        differ (sym f) (has_as_many (take (place - 1) ps) (take (place - 1) qs) (ascending-take (place - 1) ps up) (ascending-take (place - 1) qs up₂) (omega arith) h)))

@@ -73,7 +73,8 @@ impl ForkPath {
     /// Whether every pair of `other` is one of these.
     ///
     /// It walks both from the last pair on, and ends at the first pair of `other` that isn't here, or where fewer pairs are
-    /// left here than there: at once where `other` has more. At most it passes each pair of the two once.
+    /// left here than there: at once where `other` has more. Where both have the same pair at one place, all pairs in front
+    /// of it have to be the same, and they are compared one by one. At most it passes each pair of the two once.
     pub fn includes(&self, other: &ForkPath) -> bool
         ensures { result ≡ has_pairs self.now.pairs other.now.pairs }
     {
@@ -84,6 +85,9 @@ impl ForkPath {
             if end <= place {
                 return false;
             }
+            if is_same(own[place], others[place]) {
+                return are_same(&own[..place], &others[..place]);
+            }
             match place_among(own, end, others[place]) {
                 Some(found) => end = found,
                 None => return false,
@@ -92,13 +96,13 @@ impl ForkPath {
         true
     }
 
-    /// Makes room for so many more pairs. With no memory the pairs and the room stay.
+    /// Makes room for so many more pairs, and for no others. With no memory the pairs and the room stay.
     pub fn reserve(&mut self, pairs: u32) -> Result<(), NoMemory>
         ensures same { self.new.pairs ≡ self.old.pairs }
         ensures room { OnOk result (pairs ≤ self.new.room) }
         ensures more { self.old.room ≤ self.new.room }
     {
-        self.pairs.reserve(pairs as usize)?;
+        self.pairs.reserve_exact(pairs as usize)?;
         Ok(())
     }
 
@@ -127,14 +131,17 @@ impl ForkPath {
 
     /// Puts every pair of `other` in its place. With no memory the pairs stay.
     ///
-    /// The cost grows with the two numbers of pairs. Where there are none yet, those of `other` are copied at once.
+    /// The cost grows with the two numbers of pairs: the pairs that both begin with are compared and then copied at once.
+    /// Where there are none yet, those of `other` are copied at once. There is room for two more then.
     pub fn unite(&mut self, other: &ForkPath) -> Result<(), NoMemory>
         ensures pairs { OnOk result ((p : ℕ × ℕ) → has_pair p self.new.pairs ≡ (has_pair p other.now.pairs || has_pair p self.old.pairs)) }
         ensures same { OnErr result (self.new.pairs ≡ self.old.pairs) }
         ensures ascending { IsTrue (are_ascending_pairs self.new.pairs) }
     {
         if self.pairs.is_empty() {
-            self.pairs.extend_from_slice(other.pairs.as_slice())?;
+            let others = other.pairs.as_slice();
+            self.pairs.reserve_exact(with_spare(others.len()))?;
+            self.pairs.extend_from_slice(others)?;
             return Ok(());
         }
         let alloc = *self.pairs.allocator();
@@ -214,6 +221,36 @@ fn place_among(pairs: &[(u32, u32)], end: usize, pair: (u32, u32)) -> Option<usi
     None
 }
 
+/// How many pairs at the front of the two lists are the same.
+fn common_front(a: &[(u32, u32)], b: &[(u32, u32)]) -> usize
+    ensures first { result ≤ length a.now }
+    ensures second { result ≤ length b.now }
+    ensures same { take result a.now ≡ take result b.now }
+    ensures other { result < length a.now → result < length b.now → slice_index_or a.now result (0, 0) ≡ slice_index_or b.now result (0, 0) → ⊥ }
+{
+    let most = a.len().min(b.len());
+    for place in 0..most {
+        if !is_same(a[place], b[place]) {
+            return place;
+        }
+    }
+    most
+}
+
+/// Whether two lists of as many pairs are the same.
+fn are_same(a: &[(u32, u32)], b: &[(u32, u32)]) -> bool
+    requires { length a.now ≡ length b.now }
+    ensures same { result ≡ true → a.now ≡ b.now }
+    ensures other { result ≡ false → a.now ≡ b.now → ⊥ }
+{
+    common_front(a, b) == a.len()
+}
+
+/// So many pairs, and a few that may come later: the branch by which a state is reached, and its first gain.
+fn with_spare(pairs: usize) -> usize {
+    pairs.saturating_add(2)
+}
+
 /// The pairs of both lists, which are ascending, each once.
 fn merged(
     alloc: Global,
@@ -223,8 +260,26 @@ fn merged(
     ensures { IsTrue (are_ascending_pairs own.now) → IsTrue (are_ascending_pairs others.now)
         → IfOk result (λ pairs. pairs.items ≡ with_each others.now own.now) }
 {
-    let mut pairs = Vec::new(alloc);
-    pairs.reserve(own.len())?;
+    let front = common_front(own, others);
+    let (own_rest, others_rest) = (&own[front..], &others[front..]);
+    let mut pairs = Vec::with_capacity(
+        alloc,
+        with_spare(own.len().saturating_add(others_rest.len())),
+    )?;
+    pairs.extend_from_slice(&own[..front])?;
+    add_merged(&mut pairs, own_rest, others_rest)?;
+    Ok(pairs)
+}
+
+/// Puts the pairs of both lists, which are ascending, behind these, each once.
+fn add_merged(
+    pairs: &mut Vec<(u32, u32)>,
+    own: &[(u32, u32)],
+    others: &[(u32, u32)],
+) -> Result<(), NoMemory>
+    ensures { IsTrue (are_ascending_pairs own.now) → IsTrue (are_ascending_pairs others.now)
+        → OnOk result (pairs.new.items ≡ pairs.old.items ++ with_each others.now own.now) }
+{
     let mut rest = own;
     for pair in others {
         let (before, behind) = around(rest, *pair);
@@ -233,7 +288,7 @@ fn merged(
         rest = behind;
     }
     pairs.extend_from_slice(rest)?;
-    Ok(pairs)
+    Ok(())
 }
 
 /// The place of the first pair that doesn't stand before this one, looked for from the first on.

@@ -14,11 +14,10 @@ use Rattle.plain_dag.proofs.Ids.{not-both, among-first, among-later}
 use Rattle.plain_dag.proofs.States.{child_is_known, any-witness, any-from}
 use Rattle.plain_dag.proofs.Leaves.{leaf-is-childless}
 use Rattle.plain_dag.proofs.StandIns.{stands-in-well}
-use Rattle.state_dag.specs.Table.{Table, id_at, is_slot, is_slot_above}
+use Rattle.state_dag.specs.Table.{Table, id_at, is_slot_above}
 use Rattle.state_dag.specs.Stands.{Stands}
 use Rattle.state_dag.proofs.Standing.{slot-is_kept, slots-tell}
-use Rattle.state_dag.proofs.Known.{arrived-is_known}
-use Rattle.state_dag.proofs.Calls.{named-is_slot}
+use Rattle.plain_dag.proofs.Known.{arrived-is_known}
 use Rattle.fork_points.proofs.Walks.{filter-behind}
 
 module _ (table : Table) (rs : List Record) (ks : List StateId) (stands : Stands table rs ks) where
@@ -51,28 +50,28 @@ module _ (table : Table) (rs : List Record) (ks : List StateId) (stands : Stands
 
   -- so it is with children
   one-above_all : (ss : List Slot) (xs : List StateId) → map (id_at table) ss ≡ map (λ y. Some y) xs → (cs : List Slot) (ds : List StateId) → map (id_at table) cs ≡ map (λ d. Some (stand_in rs ks d)) ds →
-      ((d : StateId) → IsTrue (is_among d ds) → IsTrue (is_known rs d)) → list_any (λ c. is_slot table c && list_all (is_slot_above table c) ss) cs ≡ list_any (λ d. is_above_all rs d xs) ds
+      ((d : StateId) → IsTrue (is_among d ds) → IsTrue (is_known rs d)) → list_any (λ c. list_all (is_slot_above table c) ss) cs ≡ list_any (λ d. is_above_all rs d xs) ds
   one-above_all ss xs are [] [] e known = refl
   one-above_all ss xs are [] (d ∷ ds) e known = absurd (let bad : ⊥ = cc in bad)
   one-above_all ss xs are (c ∷ cs) [] e known = absurd (let bad : ⊥ = cc in bad)
   one-above_all ss xs are (c ∷ cs) (d ∷ ds) e known =
       let here : id_at table c ≡ Some (stand_in rs ks d) = cc in
       let rest : map (id_at table) cs ≡ map (λ z. Some (stand_in rs ks z)) ds = cc in
-      let one = ap₂ ◌&&◌ (named-is_slot table c (stand_in rs ks d) here) (slot-above_all c (stand_in rs ks d) here ss xs are ∙ stand-in-above_all d (known d (among-first d ds)) xs (named-are_kept ss xs are)) in
+      let one = slot-above_all c (stand_in rs ks d) here ss xs are ∙ stand-in-above_all d (known d (among-first d ds)) xs (named-are_kept ss xs are) in
       ap₂ ◌||◌ one (one-above_all ss xs are cs ds rest (λ z m. known z (among-later z d ds m)))
 
   fork-point-told : (slot : Slot) (x : StateId) → id_at table slot ≡ Some x → (ss : List Slot) (xs : List StateId) → map (id_at table) ss ≡ map (λ y. Some y) xs → (cs : List Slot) →
       map (id_at table) cs ≡ map (λ d. Some (stand_in rs ks d)) (children rs x) →
-      (list_all (is_slot_above table slot) ss && not (list_any (λ c. is_slot table c && list_all (is_slot_above table c) ss) cs)) ≡ is_fork_point rs xs x
+      (list_all (is_slot_above table slot) ss && not (list_any (λ c. list_all (is_slot_above table c) ss) cs)) ≡ is_fork_point rs xs x
   fork-point-told slot x named ss xs are cs e =
       ap₂ ◌&&◌ (slot-above_all slot x named ss xs are) (ap not (one-above_all ss xs are cs (children rs x) e (λ d m. child_is_known rs x d m)))
 
   -- of a state at or above all of these, what is asked of its children tells whether it is a fork point
   pub shared-asked : (slot : Slot) (x : StateId) → id_at table slot ≡ Some x → (ss : List Slot) (xs : List StateId) → map (id_at table) ss ≡ map (λ y. Some y) xs → (cs : List Slot) →
-      map (id_at table) cs ≡ map (λ d. Some (stand_in rs ks d)) (children rs x) → (below : Bool) → below ≡ list_any (λ c. is_slot table c && list_all (is_slot_above table c) ss) cs →
+      map (id_at table) cs ≡ map (λ d. Some (stand_in rs ks d)) (children rs x) → (below : Bool) → below ≡ list_any (λ c. list_all (is_slot_above table c) ss) cs →
       IsTrue (is_above_all rs x xs) → not below ≡ is_fork_point rs xs x
   shared-asked slot x named ss xs are cs e below is_below all =
-      ap not is_below ∙ (sym (ap (λ b. b && not (list_any (λ c. is_slot table c && list_all (is_slot_above table c) ss) cs)) (slot-above_all slot x named ss xs are ∙ all)) ∙ fork-point-told slot x named ss xs are cs e)
+      ap not is_below ∙ (sym (ap (λ b. b && not (list_any (λ c. list_all (is_slot_above table c) ss) cs)) (slot-above_all slot x named ss xs are ∙ all)) ∙ fork-point-told slot x named ss xs are cs e)
 
   -- ===== All of them
 

@@ -1,7 +1,7 @@
 //! Where the ways to several states part, and which states have no child. The rule is stated in `docs/MODEL.md`.
 #![tactic(auto)]
 
-ghost use Rattle.std.specs.Prelude.{◌≡◌, ◌≤◌, ◌&&◌, Some, List, length, map, take, IsTrue, IfOk};
+ghost use Rattle.std.specs.Prelude.{◌≡◌, ◌≤◌, Some, List, length, map, take, IsTrue, IfOk};
 ghost use Rattle.std.specs.List.{list_all, list_any};
 ghost use Rattle.tardis_base.specs.declared.ids.StateId.{StateId};
 ghost use Rattle.tardis_base.specs.declared.ids.Slot.{Slot};
@@ -97,13 +97,14 @@ fn is_above_all(dag: &StateDag, slot: Slot, states: &[Slot]) -> bool
     true
 }
 
-/// Whether a state is kept at one of these slots that is at or above all of the states.
+/// Whether the state of one of these slots is at or above all of the states.
 fn is_one_above_all(dag: &StateDag, slots: &[Slot], states: &[Slot]) -> bool
-    requires { IsTrue (list_all (is_slot dag.now) states.now) }
-    ensures { result ≡ list_any (λ c. is_slot dag.now c && list_all (is_slot_above dag.now c) states.now) slots.now }
+    requires slots { IsTrue (list_all (is_slot dag.now) slots.now) }
+    requires states { IsTrue (list_all (is_slot dag.now) states.now) }
+    ensures { result ≡ list_any (λ c. list_all (is_slot_above dag.now c) states.now) slots.now }
 {
     for slot in slots {
-        if dag.has_slot(*slot) && is_above_all(dag, *slot, states) {
+        if is_above_all(dag, *slot, states) {
             return true;
         }
     }

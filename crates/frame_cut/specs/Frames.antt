@@ -2,6 +2,7 @@
 use Rattle.std.specs.Prelude.{◌≡◌, ℕ, ◌+◌, ◌<◌, ◌≤◌, List, ◌++◌, length, take, ◌⊎◌, flat_map}
 use Rattle.std.specs.Int.{w32, to_be_bytes, from_be_bytes}
 use Rattle.std.specs.List.{AllByRecursion}
+use Rattle.tardis_base.specs.Sizes.{longest_frame}
 
 -- a body behind its length word
 unfoldable pub frame : List ℕ → List ℕ
@@ -13,15 +14,15 @@ word bytes = from_be_bytes w32 (take 4 bytes)
 
 -- as long as a body may be
 abbrev pub IsBody : List ℕ → Type 0
-IsBody body = length body ≤ 1048576
+IsBody body = length body ≤ longest_frame
 
 -- nothing, or fewer bytes than the frame has; fewer than four are that, whatever they are
 abbrev pub IsPartial : List ℕ → Type 0
-IsPartial bytes = (length bytes < 4) ⊎ ((word bytes ≤ 1048576) × (length bytes < 4 + word bytes))
+IsPartial bytes = (length bytes < 4) ⊎ ((word bytes ≤ longest_frame) × (length bytes < 4 + word bytes))
 
 -- a length word that is too large is next
 abbrev pub IsLong : List ℕ → ℕ → Type 0
-IsLong bytes len = (4 ≤ length bytes) × (word bytes ≡ len) × (1048576 < len)
+IsLong bytes len = (4 ≤ length bytes) × (word bytes ≡ len) × (longest_frame < len)
 
 -- no whole frame is next
 abbrev pub IsEnd : List ℕ → Type 0

@@ -1,6 +1,6 @@
 //! Frames out of pieces of any size.
 
-ghost use Rattle.std.specs.Prelude.{◌≡◌, ◌+◌, ◌-◌, ◌<◌, ◌≤◌, ◌++◌, ◌==◌, [], length, take, min, not, IfOk};
+ghost use Rattle.std.specs.Prelude.{◌≡◌, ◌-◌, ◌<◌, ◌≤◌, ◌++◌, ◌==◌, [], length, take, min, not, IfOk};
 ghost use Rattle.std.specs.Borrow.{sem};
 ghost use Rattle.std.specs.Io.BufRead.{Rests};
 ghost use Rattle.frame_cut.specs.Frames.{IsPartial};
@@ -8,7 +8,7 @@ ghost use Rattle.frame_cut.specs.Cuts.{IsNext, Leaves};
 ghost use Rattle.frame_cut.specs.contracts.cutters.FrameCutter.{the_row};
 
 use crate::heads::{Size, frame_size};
-use crate::moves::{move_to_front, put_at};
+use crate::moves::keep_rest;
 use std::alloc::Global;
 use std::marker::Model;
 use tardis_base::NoMemory;
@@ -30,22 +30,23 @@ pub enum Cut<'a> {
 /// Cuts a stream of bytes into the bodies of its frames, whatever the pieces in which the bytes come. It is seen as the
 /// bytes that were fed to it and that no body handed out has used.
 ///
-/// A body is lent where it stands. Bytes that are left over move at most once for each piece.
+/// A body is lent where it stands. Bytes that are left over move at most once for each piece. All room is reserved at
+/// first and none of it touched before bytes need it, so that a system which hands out pages when they are touched spends
+/// few of them on a cutter whose pieces are small.
 #[derive(Drop)]
 pub struct FrameCutter {
     buf: Vec<u8>,
     start: usize,
-    end: usize,
 }
 
 impl Model for FrameCutter {
-    ghost use Rattle.std.specs.Prelude.{List, ℕ, ◌≡◌, ◌-◌, ◌≤◌, length, take, drop};
+    ghost use Rattle.std.specs.Prelude.{List, ℕ, ◌≤◌, length, drop, vec_capacity};
 
     ghost Value = { List ℕ };
 
-    ghost view = { λ c. take (c.end - c.start) (drop c.start c.buf.items) };
+    ghost view = { λ c. drop c.start c.buf.items };
 
-    ghost invariant = { λ c. (c.start ≤ c.end) × (c.end ≤ 1114116) × (length c.buf.items ≡ 1114116) };
+    ghost invariant = { λ c. (c.start ≤ length c.buf.items) × (length c.buf.items ≤ 1114116) × (1114116 ≤ vec_capacity c.buf) };
 }
 
 impl FrameCutter {
@@ -53,12 +54,8 @@ impl FrameCutter {
     pub fn new(alloc: Global) -> Result<FrameCutter, NoMemory>
         ensures { IfOk result (λ c. c ≡ []) }
     {
-        match vec![in alloc; 0; ROOM] {
-            Ok(buf) => Ok(FrameCutter {
-                buf,
-                start: 0,
-                end: 0,
-            }),
+        match Vec::with_capacity(alloc, ROOM) {
+            Ok(buf) => Ok(FrameCutter { buf, start: 0 }),
             Err(_) => Err(NoMemory),
         }
     }
@@ -72,13 +69,11 @@ impl FrameCutter {
         ensures some { IsPartial self.old → 0 < length piece.now → 0 < result }
     {
         if self.start > 0 {
-            move_to_front(self.buf.as_mut_slice(), self.start, self.end);
-            self.end -= self.start;
+            keep_rest(&mut self.buf, self.start);
             self.start = 0;
         }
-        let count = piece.len().min(ROOM - self.end);
-        put_at(self.buf.as_mut_slice(), self.end, &piece[..count]);
-        self.end += count;
+        let count = piece.len().min(ROOM - self.buf.len());
+        let _ = self.buf.extend_from_slice(&piece[..count]);
         count
     }
 
@@ -87,7 +82,7 @@ impl FrameCutter {
         ensures* after { sem 𝓛 (Rests the_row self.entry (λ held. Leaves self.old result held)) }
         ensures cut { IsNext self.old result }
     {
-        match frame_size(&self.buf[self.start..self.end]) {
+        match frame_size(&self.buf[self.start..]) {
             Size::Body(count) => {
                 let body = self.start + 4;
                 self.start = body + count;
@@ -102,6 +97,6 @@ impl FrameCutter {
     pub fn holds_any(&self) -> bool
         ensures { result ≡ not (length self.now == 0) }
     {
-        self.start < self.end
+        self.start < self.buf.len()
     }
 }

@@ -1,11 +1,14 @@
 //! The length word of a frame.
 
 ghost use Rattle.std.specs.Prelude.{◌≡◌, ◌≤◌, ◌++◌, length};
+ghost use Rattle.tardis_base.specs.Sizes.{longest_frame};
 ghost use Rattle.frame_cut.specs.Frames.{frame};
 ghost use Rattle.frame_cut.specs.Sizes.{IsSize};
 
+use tardis_base::MAX_FRAME;
+
 /// The longest body of a frame.
-pub(crate) const LONGEST: u32 = 1_048_576;
+pub(crate) const LONGEST: u32 = MAX_FRAME as u32;
 
 /// How long the body of the frame at the front is.
 #[derive(Clone, Copy)]
@@ -38,7 +41,7 @@ pub(crate) fn frame_size(bytes: &[u8]) -> Size
 
 /// Writes the length word that stands before this body in a frame.
 pub fn put_frame(body: &[u8], head: &mut [u8; 4])
-    requires { length body.now ≤ 1048576 }
+    requires { length body.now ≤ longest_frame }
     ensures { head.new ++ body.now ≡ frame body.now }
 {
     *head = (body.len() as u32).to_be_bytes();

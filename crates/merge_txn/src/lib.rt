@@ -4,7 +4,8 @@
 ghost use Rattle.std.specs.Prelude.{◌≡◌, ◌≤◌, ◌==◌, ◌&&◌, ◌↔◌, not, [], ◌∷◌, length, if◌then◌else◌, IsTrue, IsOk, IfOk, IfErr, OnOk, OnErr};
 ghost use Rattle.std.specs.Option.{option_copied};
 ghost use Rattle.tardis_base.specs.Keys.{is_key_among, has_key, with_key, write_of, with_write};
-ghost use Rattle.merge_txn.specs.Txns.{writes_of, reads_of, with_writes, with_reads, has_no_place_to_write, has_no_place_to_read, too_many_writes, too_many_reads, put_fault, read_fault};
+ghost use Rattle.merge_txn.specs.Txns.{writes_of, reads_of, with_writes, with_reads, has_no_place_to_write, has_no_place_to_read, too_many_writes};
+ghost use Rattle.merge_txn.specs.Txns.{too_many_reads, put_fault, read_fault};
 
 use std::alloc::Global;
 use std::error::Error;

@@ -1,7 +1,7 @@
 -- Which ids are known, how many states each site has, and which states are kept.
 use Rattle.std.proofs.Common.{◌≡◌, ℕ, ◌+◌, ◌≤◌, true, not, List, [], ◌∷◌, IsTrue, IsFalse, inl, inr, refl, sym, ap, subst, ◌∙◌, arith}
 use Rattle.std.specs.Prelude.{◌==◌, ◌&&◌}
-use Rattle.std.proofs.lemmas.Bool.{and_parts, or_left, or_right, cond_both, cond-true, not-true, eq-eqb}
+use Rattle.std.proofs.lemmas.Bool.{and_parts, or_cases, or_left, or_right, cond_both, cond-true, not-true, eq-eqb}
 use Rattle.tardis_base.specs.declared.ids.StateId.{StateId}
 use Rattle.tardis_base.specs.declared.records.Record.{Record}
 use Rattle.tardis_base.specs.Ids.{root, same_id, is_among}
@@ -9,8 +9,8 @@ use Rattle.tardis_base.specs.Valid.{is_id, is_record, are_parents, are_writes}
 use Rattle.plain_dag.specs.States.{arrived, is_known, count_of_site}
 use Rattle.plain_dag.specs.Dag.{IsDag}
 use Rattle.plain_dag.specs.Collection.{is_kept, kept_states}
-use Rattle.plain_dag.proofs.Ids.{not-both, among-append, among-first}
-use Rattle.plain_dag.proofs.Histories.{known-stays, known-cases}
+use Rattle.plain_dag.proofs.Ids.{not-both, among-append, among-first, among-cases}
+use Rattle.plain_dag.proofs.Histories.{known-stays, known-cases, newest-is-known}
 use Rattle.plain_dag.proofs.Searches.{among-filter}
 
 pub root-is-known : (rs : List Record) → IsDag rs → IsTrue (is_known rs root)
@@ -89,3 +89,13 @@ pub kept-is_listed : (rs : List Record) (ks : List StateId) (x : StateId) → Is
 kept-is_listed rs ks x h =
     let parts = and_parts (is_known rs x) (not (is_among x ks)) h in
     among-filter (λ z. not (is_among z ks)) (arrived rs) x (known-is_arrived rs x parts.0) parts.1
+
+pub arrived-is_known : (rs : List Record) (x : StateId) → IsTrue (is_among x (arrived rs)) → IsTrue (is_known rs x)
+arrived-is_known [] x h = h
+arrived-is_known (r ∷ rs) x h = elim (or_cases (is_among x (arrived rs)) (is_among x (r.id ∷ [])) (sym (among-append x (arrived rs) (r.id ∷ [])) ∙ h)) [
+  | inl old ↦ known-stays rs r x (arrived-is_known rs x old)
+  | inr new ↦ elim (among-cases x r.id [] new) [
+    | inl e ↦ subst (λ z. IsTrue (is_known (r ∷ rs) z)) (sym e) (newest-is-known rs r)
+    | inr none ↦ not-both true refl (sym none)
+  ]
+]

@@ -13,8 +13,11 @@ pub mod Leaves
 pub mod Landing
 pub mod StandIns
 pub mod StandInWriters
+pub mod Joining
+pub mod Tidying
 pub mod Collected
 pub mod Paths
 pub mod Known
+pub mod Rising
 pub mod Newest
 pub mod Places

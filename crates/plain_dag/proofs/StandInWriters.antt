@@ -1,12 +1,12 @@
 -- The latest writer at a writer's stand-in.
-use Rattle.std.proofs.Common.{◌≡◌, ℕ, true, List, Option, Some, None, IsTrue, IsSome, refl, sym, subst, ◌∙◌}
+use Rattle.std.proofs.Common.{◌≡◌, true, List, Option, Some, None, IsTrue, IsSome, refl, sym, ◌∙◌}
 use Rattle.std.proofs.lemmas.Bool.{and_parts, and_from}
 use Rattle.tardis_base.specs.declared.ids.StateId.{StateId}
 use Rattle.tardis_base.specs.declared.records.Record.{Record}
 use Rattle.plain_dag.specs.States.{is_known, writes_key}
 use Rattle.plain_dag.specs.Above.{is_above}
-use Rattle.plain_dag.specs.Writers.{is_writer, latest_writer}
-use Rattle.plain_dag.specs.Collection.{is_kept, stand_in}
+use Rattle.plain_dag.specs.Writers.{latest_writer}
+use Rattle.plain_dag.specs.Collection.{stand_in}
 use Rattle.plain_dag.specs.Dag.{IsDag}
 use Rattle.plain_dag.specs.Laws.{StandInsAreShared, LatestWritersStandInThere}
 use Rattle.plain_dag.proofs.States.{not-both}

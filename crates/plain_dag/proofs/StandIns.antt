@@ -1,17 +1,18 @@
 -- Stand-ins: what a collected state leaves behind, and that nothing is lost by it.
-use Rattle.std.proofs.Common.{◌≡◌, ℕ, zero, suc, ◌+◌, ◌≤◌, true, ◌&&◌, not, List, [], ◌∷◌, ◌++◌, length, ◌==◌, IsTrue, IsFalse, if◌then◌else◌, inl, inr, refl, sym, ap, subst, ◌∙◌, eqb-true, arith}
+use Rattle.std.proofs.Common.{◌≡◌, ℕ, zero, suc, ◌+◌, ◌≤◌, true, ◌&&◌, not, List, [], ◌∷◌, ◌++◌, length, map, Option, Some, None, is_some, IsTrue, IsFalse, if◌then◌else◌, inl, inr, refl, sym, ap, subst, ◌∙◌, arith}
 use Rattle.std.proofs.lemmas.Bool.{and_parts, and_from, and_left, and_right, cases_Bool, both_ways, not-true, not_from_false, false_from_ne_true, cond-true, cond-false}
-use Rattle.std.specs.List.{list_any}
+use Rattle.std.proofs.lemmas.Option.{none-some, same_Some}
+use Rattle.std.specs.List.{list_any, list_all}
 use Rattle.tardis_base.specs.declared.ids.StateId.{StateId}
 use Rattle.tardis_base.specs.declared.records.Record.{Record}
-use Rattle.tardis_base.specs.Ids.{is_among}
+use Rattle.tardis_base.specs.Ids.{same_id, is_among}
 use Rattle.plain_dag.specs.States.{is_known, children, arrival}
 use Rattle.plain_dag.specs.Above.{is_above}
 use Rattle.plain_dag.specs.Floors.{Floor}
-use Rattle.plain_dag.specs.Collection.{is_kept, stand_in}
+use Rattle.plain_dag.specs.Collection.{is_kept, stand_in, common, shared_stand_in, is_absorbed}
 use Rattle.plain_dag.specs.Dag.{IsDag}
 use Rattle.plain_dag.specs.Laws.{StandInsAreShared, CollectedShareStandIns, StandsInWell}
-use Rattle.plain_dag.proofs.States.{Grows, dag-grows, same_test, not-both, among-first, among-cases, any-witness, arrival_is_below, parent-is-known, known-stays, children-of-parent, children-before, child_is_known, child_arrives_later, parent_is_above, proper_goes_by_child}
+use Rattle.plain_dag.proofs.States.{Grows, dag-grows, same_test, not-both, same_id-true, same_id_from, among-first, among-later, among-cases, any-witness, arrival_is_below, parent-is-known, known-stays, children-of-parent, children-before, child_is_known, child_arrives_later, parent_is_above, proper_goes_by_child}
 use Rattle.plain_dag.proofs.Order.{above-transitive}
 
 -- ===== One state, and two
@@ -23,12 +24,6 @@ only x z h = elim (among-cases z x [] h) [
   | inr none ↦ not-both true refl (sym none)
 ]
 
--- of exactly one state any two are one
-only-one : (cs : List StateId) → IsTrue (length cs == 1) → (c d : StateId) → IsTrue (is_among c cs) → IsTrue (is_among d cs) → c ≡ d
-only-one [] one c d m n = not-both true refl (sym m)
-only-one (x ∷ []) one c d m n = only x c m ∙ sym (only x d n)
-only-one (x ∷ y ∷ cs) one c d m n = absurd (let two = eqb-true (length (x ∷ y ∷ cs)) 1 one in omega arith)
-
 -- of two that differ there are two
 pub two-of : (cs : List StateId) (c d : StateId) → IsTrue (is_among c cs) → IsTrue (is_among d cs) → (c ≡ d → ⊥) → 2 ≤ length cs
 two-of [] c d m n other = not-both true refl (sym m)
@@ -36,7 +31,7 @@ two-of (x ∷ []) c d m n other = absurd (other (only x c m ∙ sym (only x d n)
 two-of (x ∷ y ∷ cs) c d m n other = omega arith
 
 -- what the first of these gives, or x where there is none
-abbrev by_first : (StateId → StateId) → StateId → List StateId → StateId
+abbrev pub by_first : (StateId → StateId) → StateId → List StateId → StateId
 by_first f x [] = x
 by_first f x (c ∷ cs) = f c
 
@@ -44,13 +39,13 @@ module _ (ks : List StateId) where
   -- ===== One more record
 
   -- where the stand-in is collected and has the new state as a child, the new state takes its place
-  moves-on : (rs : List Record) (r : Record) (x : StateId) → IsTrue (is_among (stand_in rs ks x) ks) → IsTrue (is_among (stand_in rs ks x) r.parents) → stand_in (r ∷ rs) ks x ≡ r.id
+  pub moves-on : (rs : List Record) (r : Record) (x : StateId) → IsTrue (is_among (stand_in rs ks x) ks) → IsTrue (is_among (stand_in rs ks x) r.parents) → stand_in (r ∷ rs) ks x ≡ r.id
   moves-on rs r x gone child =
       let here = stand_in rs ks x in
       cond-true (is_among here ks && is_among here r.parents) r.id here (and_from (is_among here ks) (is_among here r.parents) gone child)
 
   -- else it stays
-  stays-put : (rs : List Record) (r : Record) (x : StateId) → IsFalse (is_among (stand_in rs ks x) ks && is_among (stand_in rs ks x) r.parents) → stand_in (r ∷ rs) ks x ≡ stand_in rs ks x
+  pub stays-put : (rs : List Record) (r : Record) (x : StateId) → IsFalse (is_among (stand_in rs ks x) ks && is_among (stand_in rs ks x) r.parents) → stand_in (r ∷ rs) ks x ≡ stand_in rs ks x
   stays-put rs r x f = let here = stand_in rs ks x in cond-false (is_among here ks && is_among here r.parents) r.id here f
 
   -- two states with one stand-in keep having one
@@ -65,7 +60,7 @@ module _ (ks : List StateId) where
       stays-put rs r x (and_left (is_among (stand_in rs ks x) ks) (is_among (stand_in rs ks x) r.parents) (subst (λ z. IsFalse (is_among z ks)) (sym here) out)) ∙ here
 
   -- so does one that isn't known
-  unknown-stands-for-itself : (rs : List Record) → Grows rs → (x : StateId) → IsFalse (is_known rs x) → stand_in rs ks x ≡ x
+  pub unknown-stands-for-itself : (rs : List Record) → Grows rs → (x : StateId) → IsFalse (is_known rs x) → stand_in rs ks x ≡ x
   unknown-stands-for-itself [] g x out = refl
   unknown-stands-for-itself (r ∷ rs) g x out =
       let older = false_from_ne_true (is_known rs x) (λ k. both_ways (is_known (r ∷ rs) x) out (known-stays rs r x k)) in
@@ -99,14 +94,82 @@ module _ (ks : List StateId) where
 
 -- ===== Shared stand-ins
 
+module _ (f : StateId → StateId) where
+  -- where all of these have one in common there are some, and each has it
+  pub common-is : (cs : List StateId) (s : StateId) → common same_id (map f cs) ≡ Some s →
+      IsTrue (list_any (λ c. true) cs) × ((c : StateId) → IsTrue (is_among c cs) → f c ≡ s)
+  common-is [] s e = absurd (none-some s e)
+  common-is (d ∷ ds) s e = elim (cases_Bool (list_all (λ y. same_id y (f d)) (map f ds))) [
+    | inl t ↦
+        let first : f d ≡ s = same_Some (f d) s (sym (cond-true (list_all (λ y. same_id y (f d)) (map f ds)) (Some (f d)) None t) ∙ e) in (
+          refl,
+          λ c m. elim (among-cases c d ds m) [
+            | inl is ↦ ap f is ∙ first
+            | inr later ↦ each ds c t later ∙ first
+          ],
+        )
+    | inr n ↦ absurd (none-some s (sym (cond-false (list_all (λ y. same_id y (f d)) (map f ds)) (Some (f d)) None n) ∙ e))
+  ]
+    where
+      each : (cs : List StateId) (c : StateId) → IsTrue (list_all (λ y. same_id y (f d)) (map f cs)) → IsTrue (is_among c cs) → f c ≡ f d
+      each [] c t m = not-both true refl (sym m)
+      each (b ∷ bs) c t m =
+          let parts = and_parts (same_id (f b) (f d)) (list_all (λ y. same_id y (f d)) (map f bs)) t in
+          elim (among-cases c b bs m) [
+            | inl is ↦ ap f is ∙ same_id-true (f b) (f d) parts.0
+            | inr later ↦ each bs c parts.1 later
+          ]
+
+  -- where there are some and each has s, they have it in common
+  pub common-from : (cs : List StateId) (s : StateId) → IsTrue (list_any (λ c. true) cs) → ((c : StateId) → IsTrue (is_among c cs) → f c ≡ s) →
+      common same_id (map f cs) ≡ Some s
+  common-from [] s some each = not-both true refl (sym some)
+  common-from (d ∷ ds) s some each =
+      let first = each d (among-first d ds) in
+      cond-true (list_all (λ y. same_id y (f d)) (map f ds)) (Some (f d)) None (all ds (λ c m. each c (among-later c d ds m) ∙ sym first)) ∙ ap (λ z. Some z) first
+    where
+      all : (cs : List StateId) → ((c : StateId) → IsTrue (is_among c cs) → f c ≡ f d) → IsTrue (list_all (λ y. same_id y (f d)) (map f cs))
+      all [] each = refl
+      all (b ∷ bs) each =
+          and_from (same_id (f b) (f d)) (list_all (λ y. same_id y (f d)) (map f bs)) (same_id_from (f b) (f d) (each b (among-first b bs)))
+          (all bs (λ c m. each c (among-later c b bs m)))
+
+-- what is there
+pub some-there : (o : Option StateId) → IsTrue (is_some o) → (s : StateId) × (o ≡ Some s)
+some-there (Some s) t = (s, refl)
+some-there None t = not-both true refl (sym t)
+
+-- an absorbed state has children, and they share one stand-in
+pub absorbed-parts : (rs : List Record) (ks : List StateId) (x : StateId) → IsTrue (is_absorbed rs ks x) →
+    (s : StateId) × (shared_stand_in rs ks x ≡ Some s) × IsTrue (list_any (λ c. true) (children rs x)) × ((c : StateId) → IsTrue (is_among c (children rs x)) → stand_in rs ks c ≡ s)
+absorbed-parts rs ks x absorbed =
+    let there = some-there (shared_stand_in rs ks x) absorbed in
+    let parts = common-is (stand_in rs ks) (children rs x) there.0 there.1 in
+    (there.0, there.1, parts.0, parts.1)
+
+-- a collected state's stand-in is the one that its children share
+pub stands-in-shared : (rs : List Record) (ks : List StateId) → Grows rs → (x s : StateId) → IsTrue (is_among x ks) →
+    IsTrue (list_any (λ c. true) (children rs x)) → ((c : StateId) → IsTrue (is_among c (children rs x)) → stand_in rs ks c ≡ s) → stand_in rs ks x ≡ s
+stands-in-shared rs ks g x s gone some each = go (children rs x) (goes-by-first-child ks rs g x gone) some each
+  where
+    go : (cs : List StateId) → stand_in rs ks x ≡ by_first (stand_in rs ks) x cs → IsTrue (list_any (λ c. true) cs) →
+        ((c : StateId) → IsTrue (is_among c cs) → stand_in rs ks c ≡ s) → stand_in rs ks x ≡ s
+    go [] e some each = not-both true refl (sym some)
+    go (d ∷ ds) e some each = e ∙ each d (among-first d ds)
+
+-- an absorbed state that gets no child stays absorbed: what its children shared moves on as one
+pub absorbed-before : (rs : List Record) (r : Record) (ks : List StateId) (x : StateId) → IsFalse (is_among x r.parents) → IsTrue (is_absorbed rs ks x) → IsTrue (is_absorbed (r ∷ rs) ks x)
+absorbed-before rs r ks x childless absorbed =
+    let was = absorbed-parts rs ks x absorbed in
+    let s = was.0 in
+    subst (λ cs. IsTrue (is_some (common same_id (map (stand_in (r ∷ rs) ks) cs)))) (sym (children-before rs r x childless))
+    (ap is_some (common-from (stand_in (r ∷ rs) ks) (children rs x) (if is_among s ks && is_among s r.parents then r.id else s) was.2 (λ c m.
+    ap (λ here. if is_among here ks && is_among here r.parents then r.id else here) (was.3 c m))))
+
 pub collected-share-stand-ins : (rs : List Record) (floors : List Floor) (ks : List StateId) → IsDag rs → CollectedShareStandIns rs floors ks
 collected-share-stand-ins rs floors ks dag collected x gone =
-    shared (children rs x) (goes-by-first-child ks rs (dag-grows rs dag) x gone) (collected.absorbed x gone)
-  where
-    shared : (cs : List StateId) → stand_in rs ks x ≡ by_first (stand_in rs ks) x cs → IsTrue (length cs == 1) →
-        IsTrue (list_any (λ c. true) cs) × ((c : StateId) → IsTrue (is_among c cs) → stand_in rs ks c ≡ stand_in rs ks x)
-    shared [] e one = not-both true refl (sym one)
-    shared (d ∷ ds) e one = (refl, λ c m. ap (stand_in rs ks) (only-one (d ∷ ds) one c d m (among-first d ds)) ∙ sym e)
+    let parts = absorbed-parts rs ks x (collected.absorbed x gone) in
+    (parts.2, λ c m. parts.3 c m ∙ sym (stands-in-shared rs ks (dag-grows rs dag) x parts.0 gone parts.2 parts.3))
 
 -- ===== Nothing is lost
 

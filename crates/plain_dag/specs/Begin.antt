@@ -1,16 +1,24 @@
 -- Where a transaction may begin.
-use Rattle.std.specs.Prelude.{Bool, not, List, [], ◌∷◌, find, unwrap_or}
+use Rattle.std.specs.Prelude.{Bool, not, List, [], ◌∷◌, find, unwrap_or, Option}
 use Rattle.tardis_base.specs.declared.ids.StateId.{StateId}
 use Rattle.tardis_base.specs.declared.records.Record.{Record}
 use Rattle.tardis_base.specs.declared.requests.Begin.{Begin}
 use Rattle.tardis_base.specs.declared.requests.Begin.TheVariants.{Any, Ancestor, Parent, At}
 use Rattle.tardis_base.specs.Ids.{root}
-use Rattle.plain_dag.specs.States.{states}
+use Rattle.plain_dag.specs.States.{states, is_known}
 use Rattle.plain_dag.specs.Above.{is_above, is_proper_ancestor}
 
 -- the state isn't a proper ancestor of the ceiling
 abbrev pub is_admitted : List Record → StateId → StateId → Bool
 is_admitted rs ceiling x = not (is_proper_ancestor rs x ceiling)
+
+-- the first of these states that is unknown
+abbrev pub first_unknown : List Record → List StateId → Option StateId
+first_unknown rs xs = find (λ x. not (is_known rs x)) xs
+
+-- the first of these states that isn't admitted under the ceiling
+abbrev pub first_below : List Record → StateId → List StateId → Option StateId
+first_below rs ceiling xs = find (λ x. not (is_admitted rs ceiling x)) xs
 
 -- the state that arrived last
 abbrev pub last_arrived : List Record → StateId

@@ -1,5 +1,5 @@
 -- What follows from the definitions, as statements. The functions of this crate have them as contracts.
-use Rattle.std.specs.Prelude.{◌≡◌, ℕ, ◌<◌, ◌≤◌, ◌↔◌, ◌⊎◌, true, ◌&&◌, ◌||◌, not, List, [], ◌∷◌, Some, None, IsTrue, IsFalse, IsSome}
+use Rattle.std.specs.Prelude.{◌≡◌, ℕ, ◌<◌, ◌≤◌, ◌↔◌, ◌⊎◌, true, ◌&&◌, ◌||◌, not, List, [], ◌∷◌, filter, Some, None, IsTrue, IsFalse, IsSome, if◌then◌else◌}
 use Rattle.std.specs.List.{list_any, list_all}
 use Rattle.tardis_base.specs.declared.ids.StateId.{StateId}
 use Rattle.tardis_base.specs.declared.records.Record.{Record}
@@ -16,8 +16,8 @@ use Rattle.plain_dag.specs.Forks.{is_leaf, is_fork_point}
 use Rattle.plain_dag.specs.Begin.{is_admitted, begin_state}
 use Rattle.plain_dag.specs.Landing.{first_passing, landing, guarded, is_ser, is_si}
 use Rattle.plain_dag.specs.Floors.{Floor, is_closed}
-use Rattle.plain_dag.specs.Collection.{is_kept, is_absorbed, stand_in}
-use Rattle.plain_dag.specs.Paths.{is_fork, leads_to}
+use Rattle.plain_dag.specs.Collection.{is_kept, kept_states, stand_in, is_absorbed, is_collectable, tidied}
+use Rattle.plain_dag.specs.Paths.{is_fork, leads_to, fork_path}
 
 -- ===== The order of states
 
@@ -202,3 +202,27 @@ ForkPathsTell rs ks = (a b : StateId) → IsTrue (is_kept rs ks a) → IsTrue (i
     IsTrue (is_above rs a b)
     ↔ ((arrival rs a ≤ arrival rs b)
     × ((p : StateId) (n : ℕ) → IsTrue (is_kept rs ks p) → IsTrue (is_fork rs p) → IsTrue (leads_to rs a (p, n)) → IsTrue (leads_to rs b (p, n))))
+
+-- ===== One collected state more
+
+-- once x is collected, the one that its children share stands in for all that x stood in for; stand-ins that were shared
+-- still are, and what was absorbed still is; the kept states are those without x, and fork paths lose x's branches
+pub record HandsOver (rs : List Record) (ks : List StateId) (x s : StateId) : Type 0 where
+  pub stand_ins : (z : StateId) → stand_in rs (x ∷ ks) z ≡ (if same_id (stand_in rs ks z) x then s else stand_in rs ks z)
+  pub shared : StandInsAreShared rs ks → StandInsAreShared rs (x ∷ ks)
+  pub absorbed : (y : StateId) → IsTrue (is_absorbed rs ks y) → IsTrue (is_absorbed rs (x ∷ ks) y)
+  pub kept : kept_states rs (x ∷ ks) ≡ filter (λ z. not (same_id z x)) (kept_states rs ks)
+  pub paths : (z : StateId) → fork_path rs (x ∷ ks) z ≡ filter (λ (b : StateId × ℕ). not (same_id b.0 x)) (fork_path rs ks z)
+
+-- none of the states that arrived after x is collectable
+abbrev pub NoLaterCollectable : List Record → List Floor → List StateId → StateId → Type 0
+NoLaterCollectable rs floors ks x = (y : StateId) → IsTrue (is_known rs y) → arrival rs x < arrival rs y → IsFalse (is_collectable rs floors ks y)
+
+-- states are collected in one walk from the newest to the oldest: one that is collectable when it is reached joins, and
+-- neither it nor any that arrived after it is collectable then; where none is collectable it ends
+pub record TidiesInOneWalk (rs : List Record) (floors : List Floor) (ks : List StateId) : Type 0 where
+  pub joins : (n : ℕ) (x : StateId) → IsTrue (is_known rs x) → IsTrue (is_collectable rs floors ks x) → NoLaterCollectable rs floors ks x →
+      tidied (ℕ.suc n) rs floors ks ≡ tidied n rs floors (x ∷ ks)
+  pub goes_on : (x y : StateId) → IsTrue (is_known rs x) → IsTrue (is_collectable rs floors ks x) → NoLaterCollectable rs floors ks x →
+      IsTrue (is_known rs y) → arrival rs x ≤ arrival rs y → IsFalse (is_collectable rs floors (x ∷ ks) y)
+  pub ends : (n : ℕ) → ((y : StateId) → IsTrue (is_known rs y) → IsFalse (is_collectable rs floors ks y)) → tidied n rs floors ks ≡ ks

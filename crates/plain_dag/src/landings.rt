@@ -1,13 +1,15 @@
 //! Where transactions begin and land, what may be collected, and what fork paths tell: what holds of every history.
 
-ghost use Rattle.std.specs.Prelude.{ℕ, List, [], IsTrue};
+ghost use Rattle.std.specs.Prelude.{◌≡◌, ℕ, List, [], ◌∷◌, Some, IsTrue, IsFalse};
 ghost use Rattle.tardis_base.specs.declared.ids.StateId.{StateId};
 ghost use Rattle.tardis_base.specs.declared.records.Record.{Record};
 ghost use Rattle.tardis_base.specs.declared.requests.EndFlags.{EndFlags};
 ghost use Rattle.plain_dag.specs.States.{is_known};
 ghost use Rattle.plain_dag.specs.Floors.{Floor};
+ghost use Rattle.plain_dag.specs.Collection.{shared_stand_in, is_collectable};
+ghost use Rattle.tardis_base.specs.Ids.{is_among};
 ghost use Rattle.plain_dag.specs.Dag.{IsDag};
-ghost use Rattle.plain_dag.specs.Laws.{LeavesAreAdmitted, BeginsAtLeaves, LandsByFirstChildren, LandsBelow, LandsWithoutNews, LandsWithSameReads, IsTrueCommit, AreCollected, CollectedAreAboveCeilings, StaysKept, CollectedGetNoChild, StandInsAreShared, CollectedShareStandIns, StandsInWell, LatestWritersStandInThere, ForkPathsTell};
+ghost use Rattle.plain_dag.specs.Laws.{LeavesAreAdmitted, BeginsAtLeaves, LandsByFirstChildren, LandsBelow, LandsWithoutNews, LandsWithSameReads, IsTrueCommit, AreCollected, CollectedAreAboveCeilings, StaysKept, CollectedGetNoChild, StandInsAreShared, CollectedShareStandIns, StandsInWell, LatestWritersStandInThere, ForkPathsTell, HandsOver, TidiesInOneWalk};
 
 /// A leaf may be read under every ceiling, and a transaction that may begin anywhere, or anywhere below its session's
 /// last commit, begins at a leaf. So no ceiling keeps such a transaction from beginning.
@@ -45,10 +47,10 @@ pub fn collected_states_are_out_of_the_way()
     ensures childless { (rs : List Record) (floors : List Floor) (ks : List StateId) → IsDag rs → AreCollected rs floors ks → CollectedGetNoChild rs floors ks }
 {}
 
-/// A rightly collected state has its child's stand-in. Where each child of a collected state has that state's stand-in, all
-/// stand-ins are kept, a kept state is its own, and a state is at or above a kept one exactly where its stand-in is. Where
-/// some writer of a key stands in, so does the latest writer of the key there: one version a state serves all that it
-/// stands for.
+/// A rightly collected state has the stand-in of each of its children. Where each child of a collected state has that
+/// state's stand-in, all stand-ins are kept, a kept state is its own, and a state is at or above a kept one exactly where
+/// its stand-in is. Where some writer of a key stands in, so does the latest writer of the key there: one version a state
+/// serves all that it stands for.
 pub fn stand_ins_stand_in()
     ensures shared { (rs : List Record) (floors : List Floor) (ks : List StateId) → IsDag rs → CollectedShareStandIns rs floors ks }
     ensures well { (rs : List Record) (ks : List StateId) → IsDag rs → StandInsAreShared rs ks → StandsInWell rs ks }
@@ -62,4 +64,21 @@ pub fn fork_paths_tell_ancestry()
     ensures shared { (rs : List Record) (ks : List StateId) → IsDag rs → StandInsAreShared rs ks → ForkPathsTell rs ks }
     ensures collected { (rs : List Record) (floors : List Floor) (ks : List StateId) → IsDag rs → AreCollected rs floors ks → ForkPathsTell rs ks }
     ensures uncollected { (rs : List Record) → IsDag rs → ForkPathsTell rs [] }
+{}
+
+/// Once a state is collected, the stand-in that its children share stands in for all that it stood in for, and nothing else
+/// changes of stand-ins; the state leaves the kept states, and its branches all fork paths. What is rightly collected stays
+/// so when a collectable state joins.
+pub fn a_collected_state_hands_over()
+    ensures hands_over { (rs : List Record) (ks : List StateId) (x s : StateId) → IsDag rs → IsFalse (is_among x ks) → shared_stand_in rs ks x ≡ Some s
+        → HandsOver rs ks x s }
+    ensures collected { (rs : List Record) (floors : List Floor) (ks : List StateId) (x : StateId) → IsDag rs → AreCollected rs floors ks
+        → IsTrue (is_collectable rs floors ks x) → AreCollected rs floors (x ∷ ks) }
+{}
+
+/// Collection goes once through the states, from the newest to the oldest, and each that is collectable when it is reached
+/// joins: a state that joins makes none collectable that didn't arrive before it. So a walk over the kept states alone, that
+/// stops after so many, collects the same states in the same order.
+pub fn tidying_is_one_walk()
+    ensures walk { (rs : List Record) (floors : List Floor) (ks : List StateId) → IsDag rs → TidiesInOneWalk rs floors ks }
 {}

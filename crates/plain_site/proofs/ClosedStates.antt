@@ -1,6 +1,6 @@
 -- A closed state gets no further child.
-use Rattle.std.proofs.Common.{Bool, IsFalse, IsTrue, List, None, Option, Some, [], is_some, length, not, refl, ℕ, ◌++◌, ◌∷◌, ◌≡◌}
-use Rattle.std.proofs.lemmas.Bool.{both_ways, false_from_ne_true}
+use Rattle.std.proofs.Common.{Bool, IsFalse, IsTrue, List, Option, Some, [], is_some, length, not, refl, ℕ, ◌++◌, ◌∷◌, ◌≡◌}
+use Rattle.std.proofs.lemmas.Bool.{both_ways, cond_both, false_from_ne_true}
 use Rattle.std.specs.Prelude.{nat_lt, ◌&&◌, ◌==◌}
 use Rattle.tardis_base.specs.Ids.{is_among, root}
 use Rattle.tardis_base.specs.Keys.{KeyWrite, has_key, is_key_among, keys_of, write_of}
@@ -17,7 +17,7 @@ use Rattle.tardis_base.specs.declared.replies.Reply.{Reply}
 use Rattle.tardis_base.specs.declared.replies.Reply.TheVariants.{Applied, Batch as BatchIs, Done, Ended, Opened, Shown}
 use Rattle.tardis_base.specs.declared.requests.EndFlags.{EndFlags}
 use Rattle.tardis_base.specs.declared.requests.Request.{Request}
-use Rattle.tardis_base.specs.declared.requests.Request.TheVariants.{Abort, Begin as BeginAt, BeginMerge, Ceiling, Close, Commit, Conflicts, Delete, Deliver, ForkPoints, Get, GetFor, Leaves, Open, Pull, Put, Raise, RaiseAuto, Show, Stat, Tidy}
+use Rattle.tardis_base.specs.declared.requests.Request.TheVariants.{Abort, Begin as BeginAt, BeginMerge, Ceiling, Close, Commit, Conflicts, Delete, Deliver, ForkPoints, Get, GetFor, Leaves, Open, Pull, Put, Raise, RaiseAuto, Settle, Show, Stat, Tidy}
 use Rattle.wire_item.specs.Valid.{is_item}
 use Rattle.wire_talk.specs.Valid.{is_request}
 use Rattle.plain_dag.specs.Above.{comparable_pair, is_above}
@@ -27,17 +27,18 @@ use Rattle.plain_dag.specs.Entries.{changed, entry_of, with_entry}
 use Rattle.plain_dag.specs.Floors.{Session, automatic_floor, holding_session, is_closed, opening_session, with_ceiling, with_floor}
 use Rattle.plain_dag.specs.Landing.{broken, guarded, landing}
 use Rattle.plain_dag.specs.Paths.{fork_path}
-use Rattle.plain_dag.specs.States.{arrival, children, is_known, states}
+use Rattle.plain_dag.specs.States.{arrival, children, is_known}
 use Rattle.plain_dag.specs.Writers.{read}
 use Rattle.plain_dag.proofs.States.{children-before}
 use Rattle.plain_site.proofs.SoundAnswers.{AreNone, given-keeps, no_txn-keeps, none-appended, session-keeps, step-keeps, txn-keeps, unless-keeps}
 use Rattle.plain_site.proofs.SoundCommits.{MayJoin, merge_refusals, single-joins, unrefused-joins}
 use Rattle.plain_site.proofs.SoundHistories.{unfound-at}
-use Rattle.plain_site.proofs.SoundDeliveries.{welcome}
-use Rattle.plain_site.specs.Answers.{Answer, found, refuse, refuse_found, shown}
+use Rattle.plain_site.proofs.SoundDeliveries.{waiting-is-record, welcome}
+use Rattle.plain_site.proofs.SoundRooms.{first-is-fit}
+use Rattle.plain_site.specs.Answers.{Answer, found, refuse, refuse_found, says_early, shown}
 use Rattle.plain_site.specs.Built.{Built}
 use Rattle.plain_site.specs.Commits.{abort, commit, commit_below, commit_single, commit_writes, committed, growth_refusals, with_record, without_txn_of}
-use Rattle.plain_site.specs.Exchange.{batch_for, consent_judgements, deliver, deliver_consent, deliver_record, judgements, pull}
+use Rattle.plain_site.specs.Exchange.{batch_for, consent_judgements, deliver, deliver_consent, deliver_record, first_fit_record, is_fit, judgements, pull, settle, settle_record, take_record, with_held, with_settled}
 use Rattle.plain_site.specs.FloorSteps.{raise, raise_to, raised}
 use Rattle.plain_site.specs.Laws.{ClosedGetNoChild}
 use Rattle.plain_site.specs.Merges.{begin_merge, conflicts_of, first_below, first_unknown, fork_points_of, in_order, merge_at, merging, states_to_merge}
@@ -45,7 +46,7 @@ use Rattle.plain_site.specs.Reads.{get, get_for, having_read, having_written, re
 use Rattle.plain_site.specs.Sessions.{begin, begin_at, begun, close_session, open_session, set_ceiling}
 use Rattle.plain_site.specs.Shows.{show}
 use Rattle.plain_site.specs.Site.{Merge, Single, SingleTxn, Site, Txn, next_record, own_count, own_floor, with_txn_changed, writes_of}
-use Rattle.plain_site.specs.Sound.{IsSound, IsSoundTxn}
+use Rattle.plain_site.specs.Sound.{IsSound, IsSoundTxn, may_wait}
 use Rattle.plain_site.specs.Step.{served}
 
 module _ (built : Built) (site : Site) (n : ℕ) (x : StateId) where
@@ -169,12 +170,27 @@ module _ (built : Built) (site : Site) (n : ℕ) (x : StateId) where
         go s (Single t) opened txn = single-stays s t flags k opened txn
         go s (Merge t) opened txn = below-stays t.states t.writes (merge_refusals site t flags) (unrefused-joins built site n s t flags opened txn sound)
 
-    record-stays : (r : Record) → IsTrue (is_record r) → Stays (deliver_record built site r).0
-    record-stays r valid =
+    take-stays : (r : Record) → IsTrue (is_record r) → Stays (take_record built site r).0
+    take-stays r valid =
         unless-keeps Stays site refl (judgements site r ++ growth_refusals built site r) (with_record r site, Applied)
         (λ none.
         let is_welcome = welcome built site r valid sound (none-appended (judgements site r) (growth_refusals built site r) none).0 in
         joined-stays r (λ p m. unfound-at (is_closed site.dag site.floors) r.parents p is_welcome.free m))
+
+    record-stays : (r : Record) → IsTrue (is_record r) → Stays (deliver_record built site r).0
+    record-stays r valid =
+        let answer : Answer = take_record built site r in
+        cond_both (says_early answer.1) (with_held r answer.0) answer.0 (λ (next : Site). Stays next) (λ early. take-stays r valid) (λ late. take-stays r valid)
+
+    settle-stays : Stays (settle built site).0
+    settle-stays =
+        given-keeps Stays site refl (first_fit_record site) (site, Done) (settle_record built site) (λ none. refl)
+        (λ found is. unless-keeps Stays site refl (growth_refusals built site found.1) (with_settled found site, Applied)
+        (λ none.
+        let fit = first-is-fit (is_fit site) site.waiting found is in
+        let valid = waiting-is-record site found.1 (fit.as_all (may_wait site.limits.sites site.own) sound.waiting.each) in
+        let is_welcome = welcome built site found.1 valid sound fit.passes in
+        joined-stays found.1 (λ p m. unfound-at (is_closed site.dag site.floors) found.1.parents p is_welcome.free m)))
 
     deliver-stays : (item : Item) → IsTrue (is_item item) → Stays (deliver built site item).0
     deliver-stays (State r) valid = record-stays r valid
@@ -203,6 +219,7 @@ module _ (built : Built) (site : Site) (n : ℕ) (x : StateId) where
     served-stays Leaves valid = refl
     served-stays (Pull counts) valid = pull-stays counts
     served-stays (Deliver item) valid = deliver-stays item valid
+    served-stays Settle valid = settle-stays
     served-stays Close valid = session-keeps Stays site refl n (λ s. close_session site n) (λ s e. refl)
 
 pub closed-get-no-child : (built : Built) (q : Request) → ClosedGetNoChild built q

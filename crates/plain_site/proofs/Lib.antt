@@ -12,6 +12,7 @@ pub mod SoundRequests
 pub mod SoundFloors
 pub mod SoundTidies
 pub mod SoundMerges
+pub mod SoundRooms
 pub mod SoundDeliveries
 pub mod SoundRuns
 pub mod RepliesSite
@@ -33,3 +34,4 @@ pub mod RepliesOfExchange
 pub mod RepliesFit
 pub mod RepliesToBytes
 pub mod ClosedStates
+pub mod CollectedStates

@@ -3,7 +3,7 @@ use Rattle.std.proofs.Common.{ℕ, not, [], ◌∷◌, IsTrue, refl}
 use Rattle.std.proofs.lemmas.Bool.{true_from_ne_false, not_from_false, both_ways}
 use Rattle.tardis_base.specs.declared.records.Write.TheVariants.{Put as Value, Delete as Deletion}
 use Rattle.tardis_base.specs.declared.requests.Request.{Request}
-use Rattle.tardis_base.specs.declared.requests.Request.TheVariants.{Open, Begin as BeginAt, Get, Put, Delete, Commit, Abort, BeginMerge, ForkPoints, Conflicts, GetFor, Ceiling, Raise, RaiseAuto, Tidy, Stat, Show, Leaves, Pull, Deliver, Close}
+use Rattle.tardis_base.specs.declared.requests.Request.TheVariants.{Open, Begin as BeginAt, Get, Put, Delete, Commit, Abort, BeginMerge, ForkPoints, Conflicts, GetFor, Ceiling, Raise, RaiseAuto, Tidy, Stat, Show, Leaves, Pull, Deliver, Settle, Close}
 use Rattle.tardis_base.specs.declared.replies.Refusal.TheVariants.{Unsupported}
 use Rattle.tardis_base.specs.declared.replies.Reply.TheVariants.{Done, Refused}
 use Rattle.tardis_base.specs.Valid.{is_id, is_key}
@@ -30,7 +30,7 @@ use Rattle.plain_site.proofs.RepliesOfCommits.{commit-fits}
 use Rattle.plain_site.proofs.RepliesOfShows.{stat-fits, show-fits, leaves-fit}
 use Rattle.plain_site.proofs.RepliesOfFloors.{raise-fits, raise-auto-fits, tidy-fits}
 use Rattle.plain_site.proofs.RepliesOfMerges.{begin-merge-fits, fork-points-fit, conflicts-fit}
-use Rattle.plain_site.proofs.RepliesOfExchange.{pull-fits, deliver-fits}
+use Rattle.plain_site.proofs.RepliesOfExchange.{pull-fits, deliver-fits, settle-fits}
 
 served-fits : (built : Built) → ShowsShortPaths built → (site : Site) (n : ℕ) (q : Request) → IsTrue (is_request q) → IsTrue (is_built built q) → IsSound built site → IsRanged site → Replies Fits (served built site n q)
 served-fits built shows site n (Open follow) h b sound ranged = open-fits site n follow ranged
@@ -58,6 +58,7 @@ served-fits built shows site n (Show x) h b sound ranged = show-fits built site 
 served-fits built shows site n Leaves h b sound ranged = leaves-fit built site sound ranged
 served-fits built shows site n (Pull counts) h b sound ranged = pull-fits site counts sound.dag ranged sound.one_floor_each h
 served-fits built shows site n (Deliver item) h b sound ranged = deliver-fits built site item ranged h
+served-fits built shows site n Settle h b sound ranged = settle-fits built site sound ranged
 served-fits built shows site n Close h b sound ranged = by-session (refuses-fit site) n (λ s. close_session site n) (λ s e. close-fits site n)
 
 code-is-byte : (q : Request) → IsTrue (is_u8 (code_of q))
@@ -81,6 +82,7 @@ code-is-byte (Show x) = refl
 code-is-byte Leaves = refl
 code-is-byte (Pull counts) = refl
 code-is-byte (Deliver item) = refl
+code-is-byte Settle = refl
 code-is-byte Close = refl
 
 pub step-fits : (built : Built) → ShowsShortPaths built → (site : Site) (n : ℕ) (q : Request) → IsTrue (is_request q) → IsSound built site → Replies Fits (step built site n q)

@@ -2,12 +2,13 @@
 use Rattle.std.proofs.Common.{◌≡◌, ℕ, Bool, true, false, ◌&&◌, not, List, [], ◌∷◌, Option, Some, None, refl, ap, ◌≢◌, get_or, arith}
 use Rattle.tardis_base.specs.declared.ids.StateId.{StateId}
 use Rattle.tardis_base.specs.declared.records.Write.{Write}
+use Rattle.tardis_base.specs.declared.records.Record.{Record}
 use Rattle.tardis_base.specs.declared.records.Write.TheVariants.{Put as Value, Delete as Deletion}
 use Rattle.tardis_base.specs.declared.records.Consent.{Consent}
 use Rattle.tardis_base.specs.declared.records.Item.{Item}
 use Rattle.tardis_base.specs.declared.records.Item.TheVariants.{State, Promise}
 use Rattle.tardis_base.specs.declared.requests.Request.{Request}
-use Rattle.tardis_base.specs.declared.requests.Request.TheVariants.{Open, Begin, Get, Put, Delete, Commit, Abort, BeginMerge, ForkPoints, Conflicts, GetFor, Ceiling, Raise, RaiseAuto, Tidy, Stat, Show, Leaves, Pull, Deliver, Close}
+use Rattle.tardis_base.specs.declared.requests.Request.TheVariants.{Open, Begin, Get, Put, Delete, Commit, Abort, BeginMerge, ForkPoints, Conflicts, GetFor, Ceiling, Raise, RaiseAuto, Tidy, Stat, Show, Leaves, Pull, Deliver, Settle, Close}
 use Rattle.tardis_base.specs.declared.requests.EndFlags.{EndFlags}
 use Rattle.tardis_base.specs.declared.replies.Refusal.{Refusal}
 use Rattle.tardis_base.specs.declared.replies.Refusal.TheVariants.{Malformed, Unsupported, NotOpen, NoTxn, TxnOpen, WrongMode}
@@ -29,7 +30,7 @@ use Rattle.plain_site.specs.Sessions.{begin, set_ceiling, close_session}
 use Rattle.plain_site.specs.Reads.{get, get_for, read_in, set_key}
 use Rattle.plain_site.specs.Merges.{begin_merge, fork_points_of, conflicts_of}
 use Rattle.plain_site.specs.Commits.{with_record, without_txn_of, growth_refusals, abort, commit, commit_single}
-use Rattle.plain_site.specs.Exchange.{judgements, consent_judgements, deliver}
+use Rattle.plain_site.specs.Exchange.{judgements, take_record, consent_judgements, deliver, first_fit_record, settle_record, settle}
 use Rattle.plain_site.specs.Step.{served, step, step_over_bytes}
 use Rattle.plain_site.specs.Laws.{NeverWantsMemory}
 use Rattle.plain_site.proofs.RepliesFrame.{Replies, RefusesWell, good-none, good-when, good-reply, unless-good, unless-both-good, given-good, by-session, by-txn, by-no-txn, good_replies}
@@ -100,12 +101,20 @@ surely-commit built site n (Merge t) flags k = search surely depth 10
 abbrev taken : Site → Consent → Site
 taken site c = record site { floors = with_floor site.floors c.site (record { state = c.floor; number = c.number; stated = c.count }) }
 
-surely-deliver : (built : Built) (site : Site) (item : Item) → Replies IsSure (deliver built site item)
-surely-deliver built site (State r) =
+surely-take : (built : Built) (site : Site) (r : Record) → Replies IsSure (take_record built site r)
+surely-take built site r =
     unless-both-good site (judgements site r) (growth_refusals built site r) (with_record r site, Applied) (search surely depth 16) (λ none.
     search surely)
+
+surely-deliver : (built : Built) (site : Site) (item : Item) → Replies IsSure (deliver built site item)
+surely-deliver built site (State r) = record { reply = (surely-take built site r).reply }
 surely-deliver built site (Promise c) =
     unless-good site (consent_judgements site c) (taken site c, Applied) (search surely depth 12) (λ none. good-reply (taken site c) Applied (says-other Applied refl))
+
+surely-settle : (built : Built) (site : Site) → Replies IsSure (settle built site)
+surely-settle built site =
+    given-good (Replies IsSure) (first_fit_record site) (site, Done) (settle_record built site) (λ e. good-reply site Done (says-other Done refl))
+    (λ found e. search surely)
 
 surely-served : (built : Built) (site : Site) (n : ℕ) (q : Request) → Replies IsSure (served built site n q)
 surely-served built site n (Open follow) = search surely
@@ -128,6 +137,7 @@ surely-served built site n (Show x) = search surely
 surely-served built site n Leaves = search surely
 surely-served built site n (Pull counts) = search surely
 surely-served built site n (Deliver item) = surely-deliver built site item
+surely-served built site n Settle = surely-settle built site
 surely-served built site n Close = by-session (refuse-surely site) n (λ s. close_session site n) (λ s e. search surely)
 
 surely-step : (built : Built) (site : Site) (n : ℕ) (q : Request) → Replies IsSure (step built site n q)
@@ -138,7 +148,7 @@ surely-step built site n q =
 
 surely-bytes : (built : Built) (site : Site) (n : ℕ) (bytes : List ℕ) → Replies IsSure (step_over_bytes built site (n, bytes))
 surely-bytes built site n [] = refuses-surely site Malformed
-surely-bytes built site n (op ∷ fields) = known (is_within 1 21 op && not (built.operation op))
+surely-bytes built site n (op ∷ fields) = known (is_within 1 22 op && not (built.operation op))
   where
     known : (b : Bool) → Replies IsSure (elim b [ true ↦ refused site (Unsupported op) | false ↦ given (request_of (op ∷ fields)) (refused site Malformed) (step built site n) ])
     known true = refuses-surely site (Unsupported op)

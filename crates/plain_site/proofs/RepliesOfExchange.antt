@@ -10,7 +10,7 @@ use Rattle.tardis_base.specs.declared.records.Item.{Item}
 use Rattle.tardis_base.specs.declared.records.Item.TheVariants.{State, Promise}
 use Rattle.tardis_base.specs.declared.replies.Refusal.TheVariants.{BadSite, OwnItem, ClosedParent, Comparable, OpenConflict}
 use Rattle.tardis_base.specs.declared.replies.Reply.{Reply}
-use Rattle.tardis_base.specs.declared.replies.Reply.TheVariants.{Batch as BatchIs, Known, Early, Applied, Refused}
+use Rattle.tardis_base.specs.declared.replies.Reply.TheVariants.{Batch as BatchIs, Done, Known, Early, Applied, Refused}
 use Rattle.tardis_base.specs.Ids.{root, same_id, are_ascending}
 use Rattle.tardis_base.specs.Valid.{is_u16, is_u32, is_id, is_within, is_record}
 use Rattle.wire_item.specs.Spellings.{id_spelling, parents_spelling, writes_spelling, record_spelling, records_spelling, consents_spelling}
@@ -26,11 +26,14 @@ use Rattle.plain_site.specs.Site.{Site}
 use Rattle.plain_site.specs.Built.{Built}
 use Rattle.plain_site.specs.Answers.{refuse, refuse_found, when}
 use Rattle.plain_site.specs.Commits.{with_record, growth_refusals}
-use Rattle.plain_site.specs.Exchange.{fitting, is_news_for, in_arrival_order, consents_from, batch_for, pull, is_early, judgements, deliver_record, consent_judgements, deliver}
+use Rattle.plain_site.specs.Exchange.{fitting, is_news_for, in_arrival_order, consents_from, batch_for, pull, is_early, judgements, take_record, deliver_record, consent_judgements, deliver, is_fit, first_fit_record, with_settled, settle_record, settle}
+use Rattle.plain_site.specs.Sound.{may_wait, IsSound}
+use Rattle.plain_site.proofs.SoundRooms.{first-is-fit}
+use Rattle.plain_site.proofs.SoundDeliveries.{waiting-is-record}
 use Rattle.plain_site.proofs.RepliesLengths.{ids-length, consents-length, parents-some, Fits, fitting_replies, refusal-fits, reply-fits}
 use Rattle.plain_site.proofs.RepliesLists.{first, second, all-append, all-found}
 use Rattle.plain_site.proofs.RepliesHistory.{IsShaped, record-shape, shape-stored, id-sequence-fits}
-use Rattle.plain_site.proofs.RepliesFrame.{AllGood, Replies, good-none, good-when, good-found, good-reply, unless-good, unless-both-good}
+use Rattle.plain_site.proofs.RepliesFrame.{AllGood, Replies, good-none, good-when, good-found, good-reply, unless-good, unless-both-good, given-good}
 use Rattle.plain_site.proofs.RepliesSound.{IsRanged, is_ranged_floor, floor-ranged}
 use Rattle.plain_site.proofs.RepliesOfCommits.{growth-fits, open-conflict-is-key}
 use Rattle.plain_site.proofs.RepliesOfMerges.{comparable-fits}
@@ -260,11 +263,23 @@ judgements-fit site r ranged shape =
     (refusal-fits (OwnItem r.id.site r.id.sequence) (and_from (is_u16 r.id.site) (is_u32 r.id.sequence) place sequence))
     (good-when (is_early site r) (Early here) d (reply-fits (Early here) refl count) (faults-fit site r ranged shape))))
 
-pub deliver-record-fits : (built : Built) (site : Site) (r : Record) → IsRanged site → IsTrue (is_record r) → Replies Fits (deliver_record built site r)
-deliver-record-fits built site r ranged h =
+take-record-fits : (built : Built) (site : Site) (r : Record) → IsRanged site → IsTrue (is_record r) → Replies Fits (take_record built site r)
+take-record-fits built site r ranged h =
     unless-both-good site (judgements site r) (growth_refusals built site r) (with_record r site, Applied) (judgements-fit site r ranged (record-shape r h)) (λ none.
     unless-good site (growth_refusals built site r) (with_record r site, Applied) (growth-fits built site r ranged (shape-stored r h))
     (λ more. good-reply (with_record r site) Applied (reply-fits Applied refl refl)))
+
+pub deliver-record-fits : (built : Built) (site : Site) (r : Record) → IsRanged site → IsTrue (is_record r) → Replies Fits (deliver_record built site r)
+deliver-record-fits built site r ranged h = record { reply = (take-record-fits built site r ranged h).reply }
+
+pub settle-fits : (built : Built) (site : Site) → IsSound built site → IsRanged site → Replies Fits (settle built site)
+settle-fits built site sound ranged =
+    given-good (Replies Fits) (first_fit_record site) (site, Done) (settle_record built site) (λ e. good-reply site Done (reply-fits Done refl refl))
+    (λ found is.
+    let fit = first-is-fit (is_fit site) site.waiting found is in
+    let valid = waiting-is-record site found.1 (fit.as_all (may_wait site.limits.sites site.own) sound.waiting.each) in
+    unless-good site (growth_refusals built site found.1) (with_settled found site, Applied) (growth-fits built site found.1 ranged (shape-stored found.1 valid))
+    (λ none. good-reply (with_settled found site) Applied (reply-fits Applied refl refl)))
 
 consent-judgements-fit : (site : Site) (c : Consent) → IsRanged site → IsTrue (is_consent c) → AllGood Fits (consent_judgements site c)
 consent-judgements-fit site c ranged h =

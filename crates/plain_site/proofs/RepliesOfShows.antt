@@ -1,8 +1,8 @@
 -- The replies to Stat, Show and Leaves fit.
-use Rattle.std.proofs.Common.{◌≡◌, ℕ, ◌+◌, ◌≤◌, ◌<◌, ◌^◌, ◌&&◌, not, List, [], ◌∷◌, length, take, min, IsTrue, refl, ◌∙◌, ap, inl, inr, arith, nat_le, lt-ltb, le-leb, eq-eqb, eqb-true, length-append}
+use Rattle.std.proofs.Common.{◌≡◌, ℕ, ◌+◌, ◌≤◌, ◌<◌, ◌^◌, ◌&&◌, true, not, List, [], ◌∷◌, length, take, min, IsTrue, refl, ◌∙◌, ap, inl, inr, arith, nat_le, lt-ltb, le-leb, eq-eqb, length-append}
 use Rattle.std.proofs.lemmas.Bool.{and_from, cases_Bool, cond-true, cond-false, false_from_ne_true, true_from_ne_false, not_from_false, both_ways}
 use Rattle.std.proofs.lemmas.List.{length-take}
-use Rattle.std.specs.List.{list_all}
+use Rattle.std.specs.List.{list_any, list_all}
 use Rattle.tardis_base.specs.declared.ids.StateId.{StateId}
 use Rattle.tardis_base.specs.declared.records.Record.{Record}
 use Rattle.tardis_base.specs.declared.replies.Refusal.TheVariants.{Unknown, Collected}
@@ -19,6 +19,7 @@ use Rattle.plain_dag.specs.Collection.{is_kept, kept_states}
 use Rattle.plain_dag.specs.Paths.{fork_path}
 use Rattle.plain_dag.specs.Laws.{AreCollected}
 use Rattle.plain_dag.proofs.Leaves.{leaf-is-childless}
+use Rattle.plain_dag.proofs.StandIns.{absorbed-parts}
 use Rattle.plain_site.specs.Site.{Site}
 use Rattle.plain_site.specs.Built.{Built}
 use Rattle.plain_site.specs.Answers.{refuse}
@@ -52,9 +53,8 @@ module _ (rs : List Record) (floors : List Floor) (ks : List StateId) (collected
   leaf-is-uncollected : (x : StateId) → IsTrue (is_leaf rs x) → IsTrue (not (is_among x ks))
   leaf-is-uncollected x leaf =
       not_from_false (is_among x ks) (false_from_ne_true (is_among x ks) (λ among.
-      let one = eqb-true (length (children rs x)) 1 (collected.absorbed x among) in
-      let none = ap length (leaf-is-childless rs x leaf) in
-      absurd (omega arith)))
+      let some = (absorbed-parts rs ks x (collected.absorbed x among)).2 in
+      both_ways (list_any (λ c. true) (children rs x)) (ap (list_any (λ c. true)) (leaf-is-childless rs x leaf)) some))
 
   -- leaves are kept
   pub few-leaves : IsTrue (list_all is_stored rs) → length (leaves rs) ≤ length (kept_states rs ks)

@@ -19,9 +19,9 @@ use Rattle.plain_site.proofs.RepliesFrame.{Replies, given-good}
 use Rattle.plain_site.proofs.RepliesFit.{step-fits}
 
 -- the code of an operation is a byte
-code-fits : (op : ℕ) → IsTrue (is_within 1 21 op) → IsTrue (is_u8 op)
+code-fits : (op : ℕ) → IsTrue (is_within 1 22 op) → IsTrue (is_u8 op)
 code-fits op h =
-    let below = leb-true op 21 (and_parts (nat_le 1 op) (nat_le op 21) h).1 in
+    let below = leb-true op 22 (and_parts (nat_le 1 op) (nat_le op 22) h).1 in
     let small : op < 256 = omega (arith, below) in
     lt-true op small
   where
@@ -30,11 +30,11 @@ code-fits op h =
 
 bytes-fit : RequestsHaveOneSpelling → (built : Built) → ShowsShortPaths built → (site : Site) (event : Event) → IsSound built site → Replies Fits (step_over_bytes built site event)
 bytes-fit read built shows site (n, []) sound = refuses site Malformed refl
-bytes-fit read built shows site (n, op ∷ fields) sound = go (is_within 1 21 op && not (built.operation op)) refl
+bytes-fit read built shows site (n, op ∷ fields) sound = go (is_within 1 22 op && not (built.operation op)) refl
   where
-    go : (test : Bool) → (is_within 1 21 op && not (built.operation op)) ≡ test
+    go : (test : Bool) → (is_within 1 22 op && not (built.operation op)) ≡ test
         → Replies Fits (elim test as (λ b. Answer) [ true ↦ refused site (Unsupported op) | false ↦ given (request_of (op ∷ fields)) (refused site Malformed) (step built site n) ])
-    go true e = refuses site (Unsupported op) (code-fits op (and_parts (is_within 1 21 op) (not (built.operation op)) e).0)
+    go true e = refuses site (Unsupported op) (code-fits op (and_parts (is_within 1 22 op) (not (built.operation op)) e).0)
     go false e =
         given-good (Replies Fits) (request_of (op ∷ fields)) (refused site Malformed) (step built site n) (λ none. refuses site Malformed refl)
         (λ q some. step-fits built shows site n q ((read.some (op ∷ fields) q).0 some).0 sound)

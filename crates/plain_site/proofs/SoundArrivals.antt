@@ -26,6 +26,7 @@ use Rattle.plain_dag.proofs.Histories.{known-stays, next-is-dag}
 use Rattle.plain_dag.proofs.Order.{apart-means-incomparable}
 use Rattle.plain_dag.proofs.States.{children-of-parent, children-before, parent_is_above}
 use Rattle.plain_dag.proofs.Growth.{old-states-stay}
+use Rattle.plain_dag.proofs.StandIns.{absorbed-before}
 use Rattle.plain_site.specs.Site.{Site, Txn, read_states, own_floor}
 use Rattle.plain_site.specs.Built.{Built}
 use Rattle.plain_site.specs.Commits.{with_record}
@@ -141,7 +142,7 @@ module _ (rs : List Record) (r : Record) (dag : IsDag rs) (next : IsNext rs r) w
     absorbed = λ x m.
         let childless : IsFalse (is_among x r.parents) =
         false_from_ne_true (is_among x r.parents) (λ t. both_ways (is_closed rs floors x) (free x t) (collected.closed x m)) in
-        ap (λ (cs : List StateId). length cs == 1) (children-before rs r x childless) ∙ collected.absorbed x m;
+        absorbed-before rs r ks x childless (collected.absorbed x m);
   }
 
   -- the children of a state that isn't closed are kept
@@ -198,4 +199,5 @@ arrival-keeps built site r sound next of_a_site free grows =
       under_floor = ceilings-stay rs r dag next (own_floor site).state site.sessions sound.each_session sound.under_floor;
       collected = collected-stay rs r dag next site.floors site.collected sound.each_floor free sound.collected;
       collected_once = sound.collected_once;
+      waiting = sound.waiting;
     }

@@ -112,6 +112,7 @@ book-keeps built site sessions txns sound book = record {
   under_floor = book.under_floor;
   collected = sound.collected;
   collected_once = sound.collected_once;
+  waiting = sound.waiting;
 }
 
 -- the same, where the transactions alone are others

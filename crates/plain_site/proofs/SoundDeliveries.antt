@@ -1,15 +1,16 @@
 -- What is delivered keeps a sound site sound.
-use Rattle.std.proofs.Common.{◌≡◌, ◌+◌, ◌≤◌, not, [], ◌∷◌, ◌++◌, find, is_none, None, IsTrue, ap}
+use Rattle.std.proofs.Common.{◌≡◌, ℕ, ◌+◌, ◌≤◌, Bool, true, false, not, List, [], ◌∷◌, ◌++◌, find, is_none, Option, Some, None, IsTrue, IsFalse, refl, sym, ap, subst}
 use Rattle.std.specs.Prelude.{◌==◌, ◌&&◌, ◌||◌, nat_le, nat_lt}
 use Rattle.std.specs.List.{list_all}
-use Rattle.std.proofs.lemmas.Bool.{and_parts, or_parts, not-false, ltb-false, leb-true, eqb-true, eqb-false}
+use Rattle.std.proofs.lemmas.Bool.{and_parts, and_from, or_parts, both_ways, cond_both, not-false, not_from_false, ltb-false, leb-true, le-leb, eqb-true, eqb-false}
 use Rattle.tardis_base.specs.declared.ids.StateId.{StateId}
 use Rattle.tardis_base.specs.declared.records.Record.{Record}
 use Rattle.tardis_base.specs.declared.records.Consent.{Consent}
 use Rattle.tardis_base.specs.declared.records.Item.{Item}
 use Rattle.tardis_base.specs.declared.records.Item.TheVariants.{State, Promise}
 use Rattle.tardis_base.specs.declared.replies.Refusal.TheVariants.{BadSite, OwnItem, ClosedParent, Comparable, OpenConflict, FloorBack}
-use Rattle.tardis_base.specs.declared.replies.Reply.TheVariants.{Known, Early, Applied}
+use Rattle.tardis_base.specs.declared.replies.Reply.{Reply}
+use Rattle.tardis_base.specs.declared.replies.Reply.TheVariants.{Done, Known, Early, Applied, Refused}
 use Rattle.tardis_base.specs.Valid.{is_u16, is_u32, is_id, is_record}
 use Rattle.wire_item.specs.Valid.{is_consent, is_item}
 use Rattle.plain_dag.specs.States.{is_known, count_of_site}
@@ -20,15 +21,17 @@ use Rattle.plain_dag.specs.Floors.{floor_of, with_floor, is_closed}
 use Rattle.plain_dag.specs.Growth.{growth_refusal}
 use Rattle.plain_site.specs.Site.{Site}
 use Rattle.plain_site.specs.Built.{Built}
-use Rattle.plain_site.specs.Answers.{when, refuse, refuse_found}
+use Rattle.plain_site.specs.Answers.{Answer, says_early, when, refuse, refuse_found, unless}
 use Rattle.plain_site.specs.Commits.{with_record, growth_refusals}
-use Rattle.plain_site.specs.Exchange.{is_early, judgements, deliver_record, consent_judgements, deliver_consent, deliver}
-use Rattle.plain_site.specs.Sound.{IsSound}
-use Rattle.plain_site.proofs.SoundAnswers.{AreNone, when-none, found-none, none-parts, none-appended, unless-keeps}
+use Rattle.plain_site.specs.WaitingRoom.{hold, without}
+use Rattle.plain_site.specs.Exchange.{is_early, judgements, take_record, with_held, deliver_record, consent_judgements, deliver_consent, deliver, is_fit, first_fit_record, with_settled, settle_record, settle}
+use Rattle.plain_site.specs.Sound.{may_wait, IsSoundRoom, IsSound}
+use Rattle.plain_site.proofs.SoundAnswers.{AreNone, when-none, found-none, none-parts, none-appended, unless-keeps, given-keeps}
 use Rattle.plain_site.proofs.SoundHistories.{next-is_new, unfound-at}
 use Rattle.plain_site.proofs.SoundArrivals.{arrival-keeps}
 use Rattle.plain_site.proofs.SoundCommits.{conflicts-written}
 use Rattle.plain_site.proofs.SoundFloors.{floor-keeps}
+use Rattle.plain_site.proofs.SoundRooms.{room-without, room-holds, first-is-fit}
 
 -- ===== A record
 
@@ -72,8 +75,8 @@ welcome built site r valid sound none =
       free = found-none ClosedParent (find (is_closed rs site.floors) r.parents) fifth.0;
     }
 
-record-keeps : (built : Built) (site : Site) (r : Record) → IsTrue (is_record r) → IsSound built site → IsSound built (deliver_record built site r).0
-record-keeps built site r valid sound =
+take-keeps : (built : Built) (site : Site) (r : Record) → IsTrue (is_record r) → IsSound built site → IsSound built (take_record built site r).0
+take-keeps built site r valid sound =
     let grown = growth_refusal built.path_limits site.limits site.collected site.dag r in
     unless-keeps (IsSound built) site sound (judgements site r ++ growth_refusals built site r) (with_record r site, Applied)
     (λ none.
@@ -82,6 +85,98 @@ record-keeps built site r valid sound =
     arrival-keeps built site r sound is_welcome.next is_welcome.of_a_site
     (λ p m. unfound-at (is_closed site.dag site.floors) r.parents p is_welcome.free m)
     (found-none (λ f. f) grown (none-parts (refuse_found (λ f. f) grown) [] parts.1).0))
+
+-- ===== A record that waits
+
+-- what is early isn't refused before, and leaves the site as it was
+past-when : (site : Site) (test : Bool) (reply : Reply) (more : List (Option Reply)) (answer : Answer) → IsFalse (says_early reply) →
+    IsTrue (says_early (unless site (when test reply ∷ more) answer).1) → IsFalse test × IsTrue (says_early (unless site more answer).1)
+past-when site true reply more answer other early = absurd (both_ways (says_early reply) other early)
+past-when site false reply more answer other early = (refl, early)
+
+pub early-stays : (site : Site) (replies : List (Option Reply)) (answer : Answer) → IsFalse (says_early answer.1) →
+    IsTrue (says_early (unless site replies answer).1) → (unless site replies answer).0 ≡ site
+early-stays site [] answer other early = absurd (both_ways (says_early answer.1) other early)
+early-stays site (None ∷ more) answer other early = early-stays site more answer other early
+early-stays site (Some reply ∷ more) answer other early = refl
+
+pub taken-stays : (built : Built) (site : Site) (r : Record) → IsTrue (says_early (take_record built site r).1) → (take_record built site r).0 ≡ site
+taken-stays built site r early = early-stays site (judgements site r ++ growth_refusals built site r) (with_record r site, Applied) refl early
+
+early-may-wait : (built : Built) (site : Site) (r : Record) → IsTrue (is_record r) → IsTrue (says_early (take_record built site r).1) → IsTrue (may_wait site.limits.sites site.own r)
+early-may-wait built site r valid early =
+    let rs = site.dag in
+    let count = count_of_site rs r.id.site in
+    let answer : Answer = (with_record r site, Applied) in
+    let five = refuse_found ClosedParent (find (is_closed rs site.floors) r.parents) in
+    let six = refuse_found (λ (pair : StateId × StateId). Comparable pair.0 pair.1) (comparable_pair rs r.parents) in
+    let seven = refuse_found OpenConflict (open_conflict rs r.parents r.writes) in
+    let third : List (Option Reply) = (when (is_early site r) (Early count) ∷ five ∷ six ∷ seven ∷ []) ++ growth_refusals built site r in
+    let second : List (Option Reply) = refuse (r.id.site == site.own) (OwnItem r.id.site r.id.sequence) ∷ third in
+    let first : List (Option Reply) = when (nat_le r.id.sequence count) Known ∷ second in
+    let a = past-when site (nat_lt site.limits.sites r.id.site) (Refused (BadSite r.id.site)) first answer refl early in
+    let b = past-when site (nat_le r.id.sequence count) Known second answer refl a.1 in
+    let c = past-when site (r.id.site == site.own) (Refused (OwnItem r.id.site r.id.sequence)) third answer refl b.1 in
+    and_from (is_record r && nat_le r.id.site site.limits.sites) (not (r.id.site == site.own))
+    (and_from (is_record r) (nat_le r.id.site site.limits.sites) valid (le-leb r.id.site site.limits.sites (ltb-false site.limits.sites r.id.site a.0)))
+    (not_from_false (r.id.site == site.own) c.0)
+
+-- a site with another sound room is sound
+pub room-keeps : (built : Built) (site : Site) (room : List Record) → IsSound built site → IsSoundRoom site.limits.sites site.own room → IsSound built (record site { waiting = room })
+room-keeps built site room sound room_sound = record {
+  limits = sound.limits;
+  own = sound.own;
+  dag = sound.dag;
+  of_the_sites = sound.of_the_sites;
+  few_kept = sound.few_kept;
+  short_paths = sound.short_paths;
+  few_children = sound.few_children;
+  few_sessions = sound.few_sessions;
+  session_numbers = sound.session_numbers;
+  each_session = sound.each_session;
+  txn_numbers = sound.txn_numbers;
+  each_txn = sound.each_txn;
+  one_floor_each = sound.one_floor_each;
+  each_floor = sound.each_floor;
+  under_floor = sound.under_floor;
+  collected = sound.collected;
+  collected_once = sound.collected_once;
+  waiting = room_sound;
+}
+
+record-keeps : (built : Built) (site : Site) (r : Record) → IsTrue (is_record r) → IsSound built site → IsSound built (deliver_record built site r).0
+record-keeps built site r valid sound =
+    let answer : Answer = take_record built site r in
+    cond_both (says_early answer.1) (with_held r answer.0) answer.0 (λ (next : Site). IsSound built next)
+    (λ early.
+    subst (λ (next : Site). IsSound built (with_held r next)) (sym (taken-stays built site r early))
+    (room-keeps built site (hold r site.waiting) sound
+    (room-holds site.limits.sites site.own site.waiting r sound.waiting (early-may-wait built site r valid early))))
+    (λ late. take-keeps built site r valid sound)
+
+pub waiting-is-record : (site : Site) (r : Record) → IsTrue (may_wait site.limits.sites site.own r) → IsTrue (is_record r)
+waiting-is-record site r may =
+    (and_parts (is_record r) (nat_le r.id.site site.limits.sites) (and_parts (is_record r && nat_le r.id.site site.limits.sites) (not (r.id.site == site.own)) may).0).0
+
+settled-keeps : (built : Built) (site : Site) (found : ℕ × Record) → IsSound built site → first_fit_record site ≡ Some found →
+    growth_refusal built.path_limits site.limits site.collected site.dag found.1 ≡ None → IsSound built (with_settled found site)
+settled-keeps built site found sound is grows =
+    let r = found.1 in
+    let rest = without found.0 site.waiting in
+    let fit = first-is-fit (is_fit site) site.waiting found is in
+    let valid = waiting-is-record site r (fit.as_all (may_wait site.limits.sites site.own) sound.waiting.each) in
+    let is_welcome = welcome built site r valid sound fit.passes in
+    let left = room-keeps built site rest sound (room-without site.limits.sites site.own found.0 site.waiting sound.waiting) in
+    arrival-keeps built (record site { waiting = rest }) r left is_welcome.next is_welcome.of_a_site
+    (λ p m. unfound-at (is_closed site.dag site.floors) r.parents p is_welcome.free m) grows
+
+pub settle-keeps : (built : Built) (site : Site) → IsSound built site → IsSound built (settle built site).0
+settle-keeps built site sound =
+    given-keeps (IsSound built) site sound (first_fit_record site) (site, Done) (settle_record built site) (λ none. sound)
+    (λ found is.
+    let grown = growth_refusal built.path_limits site.limits site.collected site.dag found.1 in
+    unless-keeps (IsSound built) site sound (growth_refusals built site found.1) (with_settled found site, Applied)
+    (λ none. settled-keeps built site found sound is (found-none (λ f. f) grown (none-parts (refuse_found (λ f. f) grown) [] none).0)))
 
 -- ===== A consent
 

@@ -159,6 +159,7 @@ floor-keeps built site n f sound least most is_sound down ceilings =
         absorbed = sound.collected.absorbed;
       };
       collected_once = sound.collected_once;
+      waiting = sound.waiting;
     }
 
 -- ===== Raise

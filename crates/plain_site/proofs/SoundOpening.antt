@@ -63,4 +63,5 @@ opening-is-sound built limits own h of_a_site = record {
   under_floor = refl;
   collected = record { known = λ x m. not-both true refl (sym m); closed = λ x m. not-both true refl (sym m); absorbed = λ x m. not-both true refl (sym m) };
   collected_once = refl;
+  waiting = record { few = omega arith; once = refl; each = refl };
 }

@@ -8,7 +8,7 @@ use Rattle.tardis_base.specs.declared.requests.EndFlags.{EndFlags}
 use Rattle.tardis_base.specs.declared.requests.MergeOf.{MergeOf}
 use Rattle.tardis_base.specs.declared.records.Item.{Item}
 use Rattle.tardis_base.specs.declared.requests.Request.{Request}
-use Rattle.tardis_base.specs.declared.requests.Request.TheVariants.{Open, Begin as BeginAt, Get, Put, Delete, Commit, Abort, BeginMerge, ForkPoints, Conflicts, GetFor, Ceiling, Raise, RaiseAuto, Tidy, Stat, Show, Leaves, Pull, Deliver, Close}
+use Rattle.tardis_base.specs.declared.requests.Request.TheVariants.{Open, Begin as BeginAt, Get, Put, Delete, Commit, Abort, BeginMerge, ForkPoints, Conflicts, GetFor, Ceiling, Raise, RaiseAuto, Tidy, Stat, Show, Leaves, Pull, Deliver, Settle, Close}
 use Rattle.tardis_base.specs.declared.ids.StateId.{StateId}
 use Rattle.tardis_base.specs.Ids.{is_among}
 use Rattle.tardis_base.specs.Valid.{is_key, is_value}
@@ -34,7 +34,7 @@ use Rattle.plain_site.proofs.SoundCommits.{commit-keeps}
 use Rattle.plain_site.proofs.SoundMerges.{begin_merge-keeps}
 use Rattle.plain_site.proofs.SoundFloors.{ceiling-keeps, raise-keeps, raise_auto-keeps}
 use Rattle.plain_site.proofs.SoundTidies.{tidy-keeps}
-use Rattle.plain_site.proofs.SoundDeliveries.{deliver-keeps}
+use Rattle.plain_site.proofs.SoundDeliveries.{deliver-keeps, settle-keeps}
 
 open-keeps-sound : (built : Built) (follow : Bool) → KeepsSound built (Open follow)
 open-keeps-sound built follow site n small valid sound =
@@ -152,6 +152,9 @@ deliver-keeps-sound : (built : Built) (item : Item) → KeepsSound built (Delive
 deliver-keeps-sound built item site n small valid sound =
     step-keeps (IsSound built) site sound built n (Deliver item) (deliver-keeps built site item valid sound)
 
+settle-keeps-sound : (built : Built) → KeepsSound built Settle
+settle-keeps-sound built site n small valid sound = step-keeps (IsSound built) site sound built n Settle (settle-keeps built site sound)
+
 -- ===== Each request
 
 pub request-keeps-sound : (built : Built) (q : Request) → KeepsSound built q
@@ -175,4 +178,5 @@ request-keeps-sound built (Show x) = show-keeps-sound built x
 request-keeps-sound built Leaves = leaves-keep-sound built
 request-keeps-sound built (Pull counts) = pull-keeps-sound built counts
 request-keeps-sound built (Deliver item) = deliver-keeps-sound built item
+request-keeps-sound built Settle = settle-keeps-sound built
 request-keeps-sound built Close = close-keeps-sound built

@@ -19,7 +19,7 @@ use Rattle.plain_site.proofs.SoundRequests.{request-keeps-sound}
 -- what is read from bytes is a request, so its step keeps the site sound
 pub bytes-keep-sound : RequestsHaveOneSpelling → (built : Built) → BytesKeepSound built
 bytes-keep-sound read built site (n, []) small sound = sound
-bytes-keep-sound read built site (n, op ∷ fields) small sound = go (is_within 1 21 op && not (built.operation op))
+bytes-keep-sound read built site (n, op ∷ fields) small sound = go (is_within 1 22 op && not (built.operation op))
   where
     go : (test : Bool) → IsSound built (elim test as (λ b. Answer) [ true ↦ refused site (Unsupported op) | false ↦ given (request_of (op ∷ fields)) (refused site Malformed) (step built site n) ]).0
     go true = sound

@@ -1,5 +1,5 @@
 -- Collection keeps a sound site sound.
-use Rattle.std.proofs.Common.{◌≡◌, ℕ, zero, suc, ◌+◌, ◌≤◌, Bool, not, List, [], ◌∷◌, ◌++◌, length, filter, find, Option, Some, None, IsTrue, inl, inr, refl, sym, ap, subst, ◌∙◌, arith, length-append}
+use Rattle.std.proofs.Common.{◌≡◌, ℕ, zero, suc, ◌+◌, ◌≤◌, Bool, not, List, [], ◌∷◌, ◌++◌, length, filter, find, Option, Some, None, IsTrue, inl, inr, refl, ap, ◌∙◌, arith, length-append}
 use Rattle.std.specs.Prelude.{◌&&◌, flat_map}
 use Rattle.std.proofs.lemmas.Bool.{and_parts, and_from, cases_Bool, cond-true, cond-false, or_parts, not-true, not_from_false}
 use Rattle.std.proofs.lemmas.List.Elements.{filter-append}
@@ -10,8 +10,8 @@ use Rattle.plain_dag.specs.States.{states, arrived, is_known}
 use Rattle.plain_dag.specs.Floors.{is_closed}
 use Rattle.plain_dag.specs.Collection.{is_absorbed, is_collectable, tidied}
 use Rattle.plain_dag.specs.Paths.{is_fork, branches_of, leads_to}
-use Rattle.plain_dag.proofs.Ids.{among-cases}
 use Rattle.plain_dag.proofs.Searches.{found-passes}
+use Rattle.plain_dag.proofs.Joining.{collected-join}
 use Rattle.plain_site.specs.Site.{Site}
 use Rattle.plain_site.specs.Built.{Built}
 use Rattle.plain_site.specs.FloorSteps.{tidy}
@@ -105,14 +105,13 @@ module _ (rs : List Record) (z : StateId) where
 still-kept : (x : StateId) (ks : List StateId) (y : StateId) → IsTrue (not (is_among y (x ∷ ks))) → IsTrue (not (is_among y ks))
 still-kept x ks y t = not_from_false (is_among y ks) (or_parts (same_id y x) (is_among y ks) (not-true (is_among y (x ∷ ks)) t)).1
 
-collected-keeps : (built : Built) (site : Site) (x : StateId) → IsSound built site → IsTrue (is_known site.dag x) →
+collected-keeps : (built : Built) (site : Site) (x : StateId) → IsSound built site →
     IsTrue (is_collectable site.dag site.floors site.collected x) → IsSound built (record site { collected = x ∷ site.collected })
-collected-keeps built site x sound known collectable =
+collected-keeps built site x sound collectable =
     let rs = site.dag in
     let ks = site.collected in
     let fresh = not (is_among x ks) in
-    let parts = and_parts (fresh && is_closed rs site.floors x) (is_absorbed rs ks x) collectable in
-    let first = and_parts fresh (is_closed rs site.floors x) parts.0 in
+    let first = and_parts fresh (is_closed rs site.floors x) (and_parts (fresh && is_closed rs site.floors x) (is_absorbed rs ks x) collectable).0 in
     let few = sound.few_kept in
     let fewer = filters-fewer (λ y. not (is_among y (x ∷ ks))) (λ y. not (is_among y ks)) (still-kept x ks) (arrived rs) in
     record {
@@ -135,21 +134,9 @@ collected-keeps built site x sound known collectable =
       one_floor_each = sound.one_floor_each;
       each_floor = sound.each_floor;
       under_floor = sound.under_floor;
-      collected = record {
-        known = λ y m. elim (among-cases y x ks m) [
-          | inl e ↦ subst (λ w. IsTrue (is_known rs w)) (sym e) known
-          | inr old ↦ sound.collected.known y old
-        ];
-        closed = λ y m. elim (among-cases y x ks m) [
-          | inl e ↦ subst (λ w. IsTrue (is_closed rs site.floors w)) (sym e) first.1
-          | inr old ↦ sound.collected.closed y old
-        ];
-        absorbed = λ y m. elim (among-cases y x ks m) [
-          | inl e ↦ subst (λ w. IsTrue (is_absorbed rs ks w)) (sym e) parts.1
-          | inr old ↦ sound.collected.absorbed y old
-        ];
-      };
+      collected = collected-join rs site.floors ks x sound.dag sound.collected collectable;
       collected_once = and_from fresh (are_distinct ks) first.0 sound.collected_once;
+      waiting = sound.waiting;
     }
 
 tidied-keeps : (built : Built) (n : ℕ) (site : Site) → IsSound built site → IsSound built (record site { collected = tidied n site.dag site.floors site.collected })
@@ -163,7 +150,7 @@ tidied-keeps built (suc n) site sound =
     go later None e = sound
     go later (Some x) e =
         let found = found-passes (is_collectable site.dag site.floors site.collected) (states site.dag) x e in
-        later (record site { collected = x ∷ site.collected }) (collected-keeps built site x sound found.0 found.1)
+        later (record site { collected = x ∷ site.collected }) (collected-keeps built site x sound found.1)
 
 pub tidy-keeps : (built : Built) (site : Site) (n : ℕ) → IsSound built site → IsSound built (tidy site n).0
 tidy-keeps built site n sound = tidied-keeps built n site sound

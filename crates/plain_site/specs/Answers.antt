@@ -1,8 +1,11 @@
 -- The words in which the step is told: a site with a reply, and what goes before it.
-use Rattle.std.specs.Prelude.{ℕ, Bool, true, false, List, [], ◌∷◌, Option, Some, None}
+use Rattle.std.specs.Prelude.{ℕ, Bool, true, false, not, List, [], ◌∷◌, Option, Some, None}
 use Rattle.tardis_base.specs.declared.ids.StateId.{StateId}
 use Rattle.tardis_base.specs.declared.records.Write.{Write}
 use Rattle.tardis_base.specs.declared.records.Write.TheVariants.{Put, Delete}
+use Rattle.tardis_base.specs.declared.records.Item.TheVariants.{State}
+use Rattle.tardis_base.specs.declared.requests.Request.{Request}
+use Rattle.tardis_base.specs.declared.requests.Request.TheVariants.{Deliver}
 use Rattle.tardis_base.specs.declared.replies.Refusal.{Refusal}
 use Rattle.tardis_base.specs.declared.replies.Refusal.TheVariants.{NotOpen, TxnOpen, NoTxn}
 use Rattle.tardis_base.specs.declared.replies.Reply.{Reply}
@@ -66,9 +69,23 @@ abbrev pub found : Option (StateId × Write) → Reply
 found None = Absent
 found (Some version) = shown version.0 version.1
 
--- the replies that say that nothing was changed
-abbrev pub leaves_site : Reply → Bool
-leaves_site (Refused refusal) = true
-leaves_site Known = true
-leaves_site (Early have) = true
-leaves_site _ = false
+-- the reply says that what was delivered came before what it needs
+abbrev pub says_early : Reply → Bool
+says_early (Early have) = true
+says_early _ = false
+
+-- the request delivers a record
+abbrev pub delivers_record : Request → Bool
+delivers_record (Deliver (State r)) = true
+delivers_record _ = false
+
+-- the reply says that nothing was changed; so does Early, unless it answers the delivery of a record, which then waits
+abbrev pub says_unchanged : Bool → Reply → Bool
+says_unchanged of_record (Refused refusal) = true
+says_unchanged of_record Known = true
+says_unchanged of_record (Early have) = not of_record
+says_unchanged of_record _ = false
+
+-- the reply to this request says that nothing was changed
+abbrev pub leaves_site : Request → Reply → Bool
+leaves_site q reply = says_unchanged (delivers_record q) reply

@@ -18,11 +18,11 @@ pub record Built : Type 0 where
 abbrev pub everything : Built
 everything = record { operation = λ op. true; begin = λ b. true; flags = λ f. true; path_limits = true }
 
--- what the program has today: all but what forgets closed states, and what sites send to each other
+-- what the program has today: all but what forgets closed states
 abbrev pub so_far : Built
 so_far =
     record {
-      operation = λ op. list_any (λ built. op == built) (1 ∷ 2 ∷ 3 ∷ 4 ∷ 5 ∷ 6 ∷ 7 ∷ 8 ∷ 9 ∷ 10 ∷ 11 ∷ 12 ∷ 13 ∷ 14 ∷ 16 ∷ 17 ∷ 18 ∷ 21 ∷ []);
+      operation = λ op. list_any (λ built. op == built) (1 ∷ 2 ∷ 3 ∷ 4 ∷ 5 ∷ 6 ∷ 7 ∷ 8 ∷ 9 ∷ 10 ∷ 11 ∷ 12 ∷ 13 ∷ 14 ∷ 16 ∷ 17 ∷ 18 ∷ 19 ∷ 20 ∷ 21 ∷ 22 ∷ []);
       begin = λ b. true;
       flags = λ f. true;
       path_limits = true;

@@ -5,18 +5,19 @@ use Rattle.tardis_base.specs.declared.ids.StateId.{StateId}
 use Rattle.tardis_base.specs.declared.records.Record.{Record}
 use Rattle.tardis_base.specs.declared.records.Write.{Write}
 use Rattle.tardis_base.specs.declared.records.Write.TheVariants.{Put as Value, Delete as Deletion}
-use Rattle.tardis_base.specs.declared.records.Item.TheVariants.{State}
+use Rattle.tardis_base.specs.declared.records.Item.TheVariants.{State, Promise}
 use Rattle.tardis_base.specs.declared.requests.Request.{Request}
-use Rattle.tardis_base.specs.declared.requests.Request.TheVariants.{Open, Begin, Get, Put, Delete, Commit, Abort, BeginMerge, Ceiling, Deliver, Close}
+use Rattle.tardis_base.specs.declared.requests.Request.TheVariants.{Open, Begin, Get, Put, Delete, Commit, Abort, BeginMerge, Ceiling, Raise, RaiseAuto, Deliver, Settle, Close}
 use Rattle.tardis_base.specs.declared.replies.Reply.{Reply}
-use Rattle.tardis_base.specs.declared.replies.Reply.TheVariants.{Opened, Begun, Merging, Value as Holds, Deleted, Absent, Done, Committed, Ended, Applied, Closed, NoMemory}
+use Rattle.tardis_base.specs.declared.replies.Reply.TheVariants.{Opened, Begun, Merging, Value as Holds, Deleted, Absent, Done, Committed, Ended, Raised, Applied, Early, Closed, NoMemory}
 use Rattle.tardis_base.specs.Keys.{KeyWrite, has_key, with_write}
 use Rattle.tardis_base.specs.Valid.{is_u16, is_within, are_limits}
 use Rattle.wire_talk.specs.Valid.{is_request}
-use Rattle.plain_dag.specs.States.{root_record}
-use Rattle.plain_dag.specs.Floors.{Session, opening_session, after_commit, with_ceiling}
-use Rattle.plain_site.specs.Site.{Site, opening}
+use Rattle.plain_dag.specs.Floors.{Floor, Session, opening_session, after_commit, with_ceiling, with_floor}
+use Rattle.plain_site.specs.Site.{Site, opening, own_count}
 use Rattle.plain_site.specs.Answers.{Answer, found}
+use Rattle.plain_site.specs.Commits.{with_record}
+use Rattle.plain_site.specs.Exchange.{with_held, first_fit_record, with_settled}
 use Rattle.plain_site.specs.RowWords.{Line}
 
 -- ===== Runs. Lines stand newest first.
@@ -113,18 +114,39 @@ abbrev pub ReadsShow : (List ℕ → Option (StateId × Write)) → List (List �
 ReadsShow shows [] = Unit {0}
 ReadsShow shows (got ∷ earlier) = (got.1 ≡ found (shows got.0)) × ReadsShow shows earlier
 
--- ===== What the lines tell of the history
+-- ===== What the lines tell of the history, of the floors and of the waiting room
+
+-- the site with this floor of a site
+abbrev pub with_floor_of : ℕ → Floor → Site → Site
+with_floor_of n f site = record site { floors = with_floor site.floors n f }
+
+-- the own floor was raised: the consent states the own count
+abbrev pub having_raised : StateId → ℕ → Site → Site
+having_raised floor number site = with_floor_of site.own (record { state = floor; number = number; stated = own_count site }) site
+
+-- a waiting record was taken: the first one that is fit
+abbrev pub having_settled : Site → Site
+having_settled site = elim (first_fit_record site) [ None ↦ site | Some found ↦ with_settled found site ]
 
 -- one more request of an actor and its reply, where its transaction was this one
-abbrev pub regrown : Request → Reply → Option Told → List Record → List Record
-regrown (Commit flags k) (Committed x parents) (Some t) rs = record { id = x; parents = parents; writes = t.writes } ∷ rs
-regrown (Deliver (State r)) Applied t rs = r ∷ rs
-regrown _ _ _ rs = rs
+abbrev pub regrown : Request → Reply → Option Told → Site → Site
+regrown (Commit flags k) (Committed x parents) (Some t) site = with_record (record { id = x; parents = parents; writes = t.writes }) site
+regrown (Deliver (State r)) Applied t site = with_record r site
+regrown (Deliver (State r)) (Early have) t site = with_held r site
+regrown (Deliver (Promise c)) Applied t site = with_floor_of c.site (record { state = c.floor; number = c.number; stated = c.count }) site
+regrown (Raise x) (Raised floor number) t site = having_raised floor number site
+regrown RaiseAuto (Raised floor number) t site = having_raised floor number site
+regrown Settle Applied t site = having_settled site
+regrown _ _ _ site = site
 
--- the history: the root, what was committed, and what was applied
-abbrev pub history : List Line → List Record
-history [] = root_record ∷ []
-history (line ∷ older) = regrown line.request line.reply (told line.actor older) (history older)
+-- the site as the lines tell it: its history, its floors and its waiting room. The rest stays that of a site that opens
+abbrev pub told_site : Site → List Line → Site
+told_site start [] = start
+told_site start (line ∷ older) = regrown line.request line.reply (told line.actor older) (told_site start older)
+
+-- the history: the root, what was committed, and what was applied, be it delivered or from the waiting room
+abbrev pub history : Site → List Line → List Record
+history start lines = (told_site start lines).dag
 
 -- ===== What they tell of the session of an actor
 
@@ -137,8 +159,8 @@ resession rs Close Closed s = None
 resession _ _ _ s = s
 
 -- the actor's open session: whether it follows, its ceiling, and what it committed last
-abbrev pub told_session : ℕ → List Line → Option Session
-told_session n [] = None
-told_session n (line ∷ older) =
-    let before = told_session n older in
-    if line.actor == n then resession (history (line ∷ older)) line.request line.reply before else before
+abbrev pub told_session : Site → ℕ → List Line → Option Session
+told_session start n [] = None
+told_session start n (line ∷ older) =
+    let before = told_session start n older in
+    if line.actor == n then resession (history start (line ∷ older)) line.request line.reply before else before

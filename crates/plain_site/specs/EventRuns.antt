@@ -17,7 +17,7 @@ use Rattle.plain_site.specs.ClientRuns.{IsRun, site_after}
 -- the bytes spell no request, or one of an operation that isn't built
 abbrev pub asks_nothing : Built → List ℕ → Bool
 asks_nothing built [] = true
-asks_nothing built (op ∷ fields) = is_within 1 21 op && not (built.operation op) || is_none (request_of (op ∷ fields))
+asks_nothing built (op ∷ fields) = is_within 1 22 op && not (built.operation op) || is_none (request_of (op ∷ fields))
 
 -- what an event and the bytes of its reply are as a line; none, where the event asks nothing
 abbrev pub IsLineOf : Built → Event → List ℕ → List Line → Type 0

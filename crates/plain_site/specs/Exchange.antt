@@ -1,5 +1,5 @@
 -- Sites give each other their news, and take it.
-use Rattle.std.specs.Prelude.{ℕ, Bool, ◌==◌, ◌+◌, ◌-◌, ◌&&◌, ◌||◌, not, nat_lt, nat_le, List, [], ◌∷◌, ◌++◌, length, filter, find, unwrap_or, slice_get, Option, if◌then◌else◌}
+use Rattle.std.specs.Prelude.{ℕ, Bool, ◌==◌, ◌+◌, ◌-◌, ◌&&◌, ◌||◌, not, nat_lt, nat_le, List, [], ◌∷◌, ◌++◌, length, filter, find, is_none, unwrap_or, slice_get, Option, if◌then◌else◌}
 use Rattle.std.specs.List.{list_all}
 use Rattle.tardis_base.specs.declared.records.Record.{Record}
 use Rattle.tardis_base.specs.declared.records.Consent.{Consent}
@@ -8,7 +8,7 @@ use Rattle.tardis_base.specs.declared.records.Item.{Item}
 use Rattle.tardis_base.specs.declared.records.Item.TheVariants.{State, Promise}
 use Rattle.tardis_base.specs.declared.replies.Refusal.TheVariants.{BadSite, OwnItem, ClosedParent, Comparable, OpenConflict, FloorBack}
 use Rattle.tardis_base.specs.declared.replies.Reply.{Reply}
-use Rattle.tardis_base.specs.declared.replies.Reply.TheVariants.{Batch as BatchIs, Known, Early, Applied}
+use Rattle.tardis_base.specs.declared.replies.Reply.TheVariants.{Batch as BatchIs, Done, Known, Early, Applied}
 use Rattle.wire_item.specs.Spellings.{record_spelling}
 use Rattle.plain_dag.specs.States.{is_known, count_of_site}
 use Rattle.plain_dag.specs.Above.{is_above, comparable_pair}
@@ -16,7 +16,8 @@ use Rattle.plain_dag.specs.Conflicts.{open_conflict}
 use Rattle.plain_dag.specs.Floors.{Floor, floor_of, with_floor, is_closed, is_above_floors}
 use Rattle.plain_site.specs.Site.{Site}
 use Rattle.plain_site.specs.Built.{Built}
-use Rattle.plain_site.specs.Answers.{Answer, when, refuse, refuse_found, unless}
+use Rattle.plain_site.specs.WaitingRoom.{hold, first_fit, without}
+use Rattle.plain_site.specs.Answers.{Answer, says_early, when, refuse, refuse_found, unless, given}
 use Rattle.plain_site.specs.Commits.{with_record, growth_refusals}
 
 -- ===== A batch
@@ -79,8 +80,18 @@ judgements site r =
     ∷ []
 
 -- a record of another site arrives, where nothing speaks against it
+abbrev pub take_record : Built → Site → Record → Answer
+take_record built site r = unless site (judgements site r ++ growth_refusals built site r) (with_record r site, Applied)
+
+-- the record is held in the waiting room
+abbrev pub with_held : Record → Site → Site
+with_held r site = record site { waiting = hold r site.waiting }
+
+-- the record is taken, or the reply says why not; one that is early is held
 abbrev pub deliver_record : Built → Site → Record → Answer
-deliver_record built site r = unless site (judgements site r ++ growth_refusals built site r) (with_record r site, Applied)
+deliver_record built site r =
+    let answer = take_record built site r in
+    (if says_early answer.1 then with_held r answer.0 else answer.0, answer.1)
 
 -- how a consent is judged
 abbrev pub consent_judgements : Site → Consent → List (Option Reply)
@@ -102,3 +113,25 @@ deliver_consent site c =
 abbrev pub deliver : Built → Site → Item → Answer
 deliver built site (State r) = deliver_record built site r
 deliver built site (Promise c) = deliver_consent site c
+
+-- ===== What waits
+
+-- the record is fit: no judgement speaks against it
+abbrev pub is_fit : Site → Record → Bool
+is_fit site r = list_all is_none (judgements site r)
+
+-- the first of the waiting records that is fit, behind its place
+abbrev pub first_fit_record : Site → Option (ℕ × Record)
+first_fit_record site = first_fit (is_fit site) site.waiting
+
+-- the record leaves its place in the waiting room, and arrives
+abbrev pub with_settled : ℕ × Record → Site → Site
+with_settled found site = with_record found.1 (record site { waiting = without found.0 site.waiting })
+
+-- the waiting record is taken, where the site may grow by it
+abbrev pub settle_record : Built → Site → ℕ × Record → Answer
+settle_record built site found = unless site (growth_refusals built site found.1) (with_settled found site, Applied)
+
+-- the first waiting record that is fit is taken; where none is, nothing is done
+abbrev pub settle : Built → Site → Answer
+settle built site = given (first_fit_record site) (site, Done) (settle_record built site)

@@ -1,19 +1,26 @@
 -- What follows from the plain step, as statements. The functions of this crate have them as contracts.
-use Rattle.std.specs.Prelude.{ℕ, ◌≤◌, ◌≡◌, ◌≢◌, List, length, IsTrue}
+use Rattle.std.specs.Prelude.{ℕ, ◌≤◌, ◌≡◌, ◌≢◌, Bool, false, List, length, Some, IsTrue}
 use Rattle.std.specs.List.{list_all}
+use Rattle.std.specs.Option.{option_map_or}
+use Rattle.tardis_base.specs.Sizes.{longest_frame}
 use Rattle.tardis_base.specs.declared.ids.StateId.{StateId}
 use Rattle.tardis_base.specs.declared.records.Limits.{Limits}
+use Rattle.tardis_base.specs.declared.records.Record.{Record}
+use Rattle.tardis_base.specs.declared.records.Item.TheVariants.{State}
 use Rattle.tardis_base.specs.declared.requests.Request.{Request}
-use Rattle.tardis_base.specs.declared.replies.Reply.TheVariants.{NoMemory}
+use Rattle.tardis_base.specs.declared.requests.Request.TheVariants.{Deliver}
+use Rattle.tardis_base.specs.declared.replies.Reply.TheVariants.{Early, NoMemory}
 use Rattle.tardis_base.specs.Plain.{Event, no_memory, state_after}
 use Rattle.tardis_base.specs.Valid.{is_u16, is_within, are_limits}
 use Rattle.wire_talk.specs.Valid.{is_request, is_reply}
 use Rattle.wire_talk.specs.Spellings.{reply_spelling}
+use Rattle.wire_talk.specs.RequestReadings.{request_of}
 use Rattle.plain_dag.specs.States.{children}
 use Rattle.plain_dag.specs.Floors.{is_closed}
 use Rattle.plain_site.specs.Site.{Site, opening}
 use Rattle.plain_site.specs.Built.{Built}
-use Rattle.plain_site.specs.Answers.{leaves_site}
+use Rattle.plain_site.specs.WaitingRoom.{hold}
+use Rattle.plain_site.specs.Answers.{delivers_record, says_unchanged, leaves_site}
 use Rattle.plain_site.specs.Step.{step, step_over_bytes, site_machine}
 use Rattle.plain_site.specs.Sound.{IsSound}
 
@@ -39,13 +46,30 @@ abbrev pub ClosedGetNoChild : Built → Request → Type 0
 ClosedGetNoChild built q = (site : Site) (n : ℕ) (x : StateId) → IsTrue (is_request q) → IsSound built site → IsTrue (is_closed site.dag site.floors x) →
     children (step built site n q).0.dag x ≡ children site.dag x
 
--- a refusal, Known and Early leave the site as it was, an open transaction included
+-- a refusal, Known and a consent's Early leave the site as it was, an open transaction included
 abbrev pub RefusalsLeaveSite : Built → Type 0
-RefusalsLeaveSite built = (site : Site) (n : ℕ) (q : Request) → IsTrue (leaves_site (step built site n q).1) → (step built site n q).0 ≡ site
+RefusalsLeaveSite built = (site : Site) (n : ℕ) (q : Request) → IsTrue (leaves_site q (step built site n q).1) → (step built site n q).0 ≡ site
+
+-- these bytes deliver a record
+abbrev pub bytes_deliver_record : List ℕ → Bool
+bytes_deliver_record bytes = option_map_or delivers_record (request_of bytes) false
 
 -- the same over bytes
 abbrev pub RefusedBytesLeaveSite : Built → Type 0
-RefusedBytesLeaveSite built = (site : Site) (event : Event) → IsTrue (leaves_site (step_over_bytes built site event).1) → (step_over_bytes built site event).0 ≡ site
+RefusedBytesLeaveSite built = (site : Site) (event : Event) →
+    IsTrue (says_unchanged (bytes_deliver_record event.1) (step_over_bytes built site event).1) → (step_over_bytes built site event).0 ≡ site
+
+-- a record's Early changes the waiting room alone: there the record is held
+abbrev pub EarlyRecordsWait : Built → Type 0
+EarlyRecordsWait built = (site : Site) (n : ℕ) (r : Record) (have : ℕ) →
+    let answer = step built site n (Deliver (State r)) in
+    answer.1 ≡ Early have → answer.0 ≡ record site { waiting = hold r site.waiting }
+
+-- the same over bytes
+abbrev pub EarlyBytesWait : Built → Type 0
+EarlyBytesWait built = (site : Site) (event : Event) (r : Record) (have : ℕ) →
+    let answer = step_over_bytes built site event in
+    request_of event.1 ≡ Some (Deliver (State r)) → answer.1 ≡ Early have → answer.0 ≡ record site { waiting = hold r site.waiting }
 
 -- no reply says that memory is wanting, and none is spelled so
 pub record NeverWantsMemory (built : Built) : Type 0 where
@@ -59,9 +83,9 @@ ShowsShortPaths built = IsTrue (built.operation 17) → IsTrue built.path_limits
 -- each reply of a sound site is one that can be spelled, and fits a frame
 pub record RepliesFit (built : Built) : Type 0 where
   pub valid : (site : Site) (n : ℕ) (q : Request) → IsTrue (is_request q) → IsSound built site → IsTrue (is_reply (step built site n q).1)
-  pub short : (site : Site) (n : ℕ) (q : Request) → IsTrue (is_request q) → IsSound built site → length (reply_spelling (step built site n q).1) ≤ 1048576
+  pub short : (site : Site) (n : ℕ) (q : Request) → IsTrue (is_request q) → IsSound built site → length (reply_spelling (step built site n q).1) ≤ longest_frame
 
 -- so does each reply to bytes, whatever they spell
 pub record RepliesToBytesFit (built : Built) : Type 0 where
   pub valid : (site : Site) (event : Event) → IsSound built site → IsTrue (is_reply (step_over_bytes built site event).1)
-  pub short : (site : Site) (event : Event) → IsSound built site → length (reply_spelling (step_over_bytes built site event).1) ≤ 1048576
+  pub short : (site : Site) (event : Event) → IsSound built site → length (reply_spelling (step_over_bytes built site event).1) ≤ longest_frame

@@ -1,4 +1,5 @@
 -- The whole plain site: what it holds, what it answers, and what holds of it after every step.
+pub mod WaitingRoom
 pub mod Site
 pub mod Built
 pub mod Answers
@@ -12,6 +13,7 @@ pub mod Exchange
 pub mod Step
 pub mod Sound
 pub mod Laws
+pub mod CollectionLaws
 pub mod RowWords
 pub mod RowsOfCommits
 pub mod RowsOfMerges
@@ -19,7 +21,9 @@ pub mod RowsOfFloors
 pub mod RowByteWords
 pub mod RowsOfBytes
 pub mod RowsOfExchange
+pub mod RowsOfWaiting
 pub mod RowsOfLimits
+pub mod RowsOfCollection
 pub mod RowsOfChoices
 pub mod RowsOfLandings
 pub mod RowsOfOperations

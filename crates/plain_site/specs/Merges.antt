@@ -11,7 +11,7 @@ use Rattle.tardis_base.specs.Ids.{is_before}
 use Rattle.tardis_base.specs.Keys.{is_key_before}
 use Rattle.plain_dag.specs.States.{is_known}
 use Rattle.plain_dag.specs.Above.{comparable_pair}
-use Rattle.plain_dag.specs.Begin.{is_admitted}
+pub use Rattle.plain_dag.specs.Begin.{first_unknown, first_below}
 use Rattle.plain_dag.specs.Conflicts.{conflict_keys}
 use Rattle.plain_dag.specs.Forks.{leaves, fork_points}
 use Rattle.plain_dag.specs.Entries.{with_entry}
@@ -35,14 +35,6 @@ in_order (x ∷ xs) = with_state x (in_order xs)
 abbrev pub states_to_merge : Site → MergeOf → List StateId
 states_to_merge site Leaves = leaves site.dag
 states_to_merge site (TheseStates xs) = xs
-
--- the first of these states that is unknown
-abbrev pub first_unknown : List Record → List StateId → Option StateId
-first_unknown rs xs = find (λ x. not (is_known rs x)) xs
-
--- the first of these states that isn't admitted under the ceiling
-abbrev pub first_below : List Record → StateId → List StateId → Option StateId
-first_below rs ceiling xs = find (λ x. not (is_admitted rs ceiling x)) xs
 
 -- the session has a merge of these states that has written nothing
 abbrev pub merging : Site → ℕ → List StateId → Answer

@@ -30,7 +30,7 @@ UnbuiltIsUnsupported = TalkInBytes so_far lone_site (1 sends hex "0f 00000001" =
 
 -- an operation that isn't built is told by its code, whatever follows
 abbrev pub UnbuiltOperationIsTold : Type 0
-UnbuiltOperationIsTold = TalkInBytes so_far lone_site (1 sends hex "14 ff ff" => hex "15 1b 14" ∷ [])
+UnbuiltOperationIsTold = TalkInBytes so_far lone_site (1 sends hex "0f ff ff" => hex "15 1b 0f" ∷ 1 sends hex "0f" => hex "15 1b 0f" ∷ [])
 
 -- what is built is told that there is no session for it
 abbrev pub BuiltIsNotOpen : Type 0
@@ -55,6 +55,7 @@ WholeIsNotOpen =
 abbrev pub malformed_lines : List ByteLine
 malformed_lines =
     1 sends hex "ff" => hex "15 01"
+    ∷ 1 sends hex "17" => hex "15 01"
     ∷ 1 sends hex "02 04" => hex "15 01"
     ∷ 1 sends hex "02 01 00" => hex "15 01"
     ∷ 1 sends hex "06 01 0001" => hex "15 01"

@@ -10,6 +10,7 @@ use Rattle.plain_site.specs.Built.{everything}
 use Rattle.plain_site.specs.RowWords.{Line, Talk, site_after, lone_site, program_limits, ◌·◌, ◌asks◌=>◌, opens, opens_following, begin_any, begin_at, get, put, none, ser, nb, commit, commit_kb, merge_leaves, merge, value}
 use Rattle.plain_site.specs.RowsOfCommits.{two_open, skewed}
 use Rattle.plain_site.specs.RowsOfFloors.{raised_chain}
+use Rattle.plain_site.specs.RowsOfCollection.{three_branches}
 use Rattle.plain_site.specs.RowsOfExchange.{first_of_two}
 
 -- ===== Commits
@@ -138,10 +139,11 @@ FloorIsKept =
     ∷ 0 asks Show (1 · 5) => Shown 5 (1 · 6 ∷ []) []
     ∷ [])
 
--- a site of which 1.1, 1.2 and their merge 1.3 are collected, and the root and 1.4 are kept
-abbrev pub merged_and_tidied : List Line
-merged_and_tidied =
-    forked
+-- 1.1, 1.2 and their merge 1.3 are collected, and with them the root, whose children both stand in at 1.4
+abbrev pub CollectsMergedBranches : Type 0
+CollectsMergedBranches =
+    Talk everything lone_site
+    (forked
     ++ 1 asks merge_leaves => Merging (1 · 1 ∷ 1 · 2 ∷ [])
     ∷ 1 asks commit none => Committed (1 · 3) (1 · 1 ∷ 1 · 2 ∷ [])
     ∷ 1 asks begin_any => Begun (1 · 3)
@@ -150,20 +152,30 @@ merged_and_tidied =
     ∷ 1 asks Ceiling (1 · 4) => Done
     ∷ 2 asks Ceiling (1 · 4) => Done
     ∷ 0 asks RaiseAuto => Raised (1 · 4) 1
+    ∷ 0 asks Tidy 255 => Tidied 4
+    ∷ 0 asks Show (1 · 4) => Shown 4 [] []
+    ∷ [])
+
+-- 1.2 and its merge 1.4 with 1.1 are collected, as is 1.1; the root is kept, since 1.3 is another child of it, and so are 1.3 and 1.5
+abbrev pub two_of_three_tidied : List Line
+two_of_three_tidied =
+    three_branches
+    ++ 1 asks begin_any => Begun (1 · 4)
+    ∷ 1 asks put "y" "1" => Done
+    ∷ 1 asks commit ser => Committed (1 · 5) (1 · 4 ∷ [])
+    ∷ 1 asks Ceiling (1 · 5) => Done
+    ∷ 0 asks RaiseAuto => Raised (1 · 5) 1
     ∷ 0 asks Tidy 255 => Tidied 3
     ∷ []
 
-abbrev pub CollectsMergedBranches : Type 0
-CollectsMergedBranches = Talk everything lone_site merged_and_tidied
-
--- Only kept states have fork paths that may be too long: 1.4 is named, not 1.3, which arrived before it and was reached by the
+-- Only kept states have fork paths that may be too long: 1.5 is named, not 1.4, which arrived before it and was reached by the
 -- same branches. No steps lead here, since a path doesn't grow once its state is closed: the limit is another one than before.
 abbrev pub LongPathOfAKeptStateIsNamed : Type 0
 LongPathOfAKeptStateIsNamed =
-    Talk everything (record (site_after everything lone_site merged_and_tidied) { limits = record (program_limits 1) { max_path = 1 } })
-    (1 asks begin_any => Begun (1 · 4)
+    Talk everything (record (site_after everything lone_site two_of_three_tidied) { limits = record (program_limits 1) { max_path = 1 } })
+    (1 asks begin_any => Begun (1 · 5)
     ∷ 1 asks put "y" "2" => Done
-    ∷ 1 asks commit ser => Refused (PathFull (1 · 4) 2)
+    ∷ 1 asks commit ser => Refused (PathFull (1 · 5) 2)
     ∷ [])
 
 -- ===== Deliveries

@@ -57,4 +57,4 @@ abbrev pub LinesTell : Type 0
 LinesTell =
     let t : Told = record { merges = false; states = 0 · 0 ∷ []; reads = (codes "x", Absent) ∷ []; writes = (codes "y", Put (codes "1")) ∷ [] } in
     let s : Session = record { follow = false; ceiling = 0 · 0; last = 1 · 1 } in
-    (told 1 raced ≡ Some t) × (told_session 2 raced ≡ Some s)
+    (told 1 raced ≡ Some t) × (told_session lone_site 2 raced ≡ Some s)

@@ -24,7 +24,8 @@ pub data Txn : Type 0 where
   Merge : (txn : MergeTxn) → Txn
 
 -- A site: its limits and its own number; its history, newest first; what it knows of each site's floor; the collected
--- states; the open sessions by their numbers, and the open transactions by the numbers of their sessions.
+-- states; the open sessions by their numbers, and the open transactions by the numbers of their sessions; and the records
+-- that wait for others.
 pub record Site : Type 0 where
   pub limits : Limits
   pub own : ℕ
@@ -33,8 +34,9 @@ pub record Site : Type 0 where
   pub collected : List StateId
   pub sessions : Sessions
   pub txns : List (ℕ × Txn)
+  pub waiting : List Record
 
--- a site that opens: the root alone, floors at the root, no session
+-- a site that opens: the root alone, floors at the root, no session, and nothing that waits
 abbrev pub opening : Limits → ℕ → Site
 opening limits own =
     record {
@@ -45,6 +47,7 @@ opening limits own =
       collected = [];
       sessions = [];
       txns = [];
+      waiting = [];
     }
 
 -- the site's own floor

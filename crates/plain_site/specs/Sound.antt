@@ -1,11 +1,11 @@
 -- What holds of a site after every step.
-use Rattle.std.specs.Prelude.{ℕ, ◌+◌, ◌≤◌, ◌≡◌, Bool, true, ◌&&◌, not, nat_le, List, [], ◌∷◌, length, Some, IsTrue}
+use Rattle.std.specs.Prelude.{ℕ, ◌+◌, ◌≤◌, ◌≡◌, ◌==◌, Bool, true, ◌&&◌, not, nat_le, List, [], ◌∷◌, length, Some, IsTrue}
 use Rattle.std.specs.List.{list_all}
 use Rattle.tardis_base.specs.declared.ids.StateId.{StateId}
 use Rattle.tardis_base.specs.declared.records.Record.{Record}
 use Rattle.tardis_base.specs.Ids.{is_among}
 use Rattle.tardis_base.specs.Keys.{are_ascending_keys}
-use Rattle.tardis_base.specs.Valid.{is_u16, is_u32, is_within, is_key, are_parents, are_writes, are_limits}
+use Rattle.tardis_base.specs.Valid.{is_u16, is_u32, is_within, is_key, is_record, are_parents, are_writes, are_limits}
 use Rattle.plain_dag.specs.States.{states, is_known, children, count_of_site}
 use Rattle.plain_dag.specs.Above.{are_apart}
 use Rattle.plain_dag.specs.Dag.{IsDag}
@@ -15,6 +15,7 @@ use Rattle.plain_dag.specs.Floors.{Floor, Session, is_above_ceilings}
 use Rattle.plain_dag.specs.Collection.{is_kept, kept_states}
 use Rattle.plain_dag.specs.Paths.{fork_path}
 use Rattle.plain_dag.specs.Laws.{AreCollected}
+use Rattle.plain_site.specs.WaitingRoom.{most_waiting}
 use Rattle.plain_site.specs.Site.{Site, Txn, Single, Merge, read_states, own_floor}
 use Rattle.plain_site.specs.Built.{Built}
 
@@ -44,6 +45,16 @@ abbrev pub are_distinct : List StateId → Bool
 are_distinct [] = true
 are_distinct (x ∷ xs) = not (is_among x xs) && are_distinct xs
 
+-- a record that waits is such as a request may carry, of one of the sites and not of the own one
+abbrev pub may_wait : ℕ → ℕ → Record → Bool
+may_wait sites own r = is_record r && nat_le r.id.site sites && not (r.id.site == own)
+
+-- the waiting room of a site with so many sites and this number: at most 256 records, each id once
+pub record IsSoundRoom (sites : ℕ) (own : ℕ) (room : List Record) : Type 0 where
+  pub few : length room ≤ most_waiting
+  pub once : IsTrue (are_distinct (states room))
+  pub each : IsTrue (list_all (may_wait sites own) room)
+
 pub record IsSound (built : Built) (site : Site) : Type 0 where
   pub limits : IsTrue (are_limits site.limits)
   pub own : IsTrue (is_within 1 site.limits.sites site.own)
@@ -65,3 +76,5 @@ pub record IsSound (built : Built) (site : Site) : Type 0 where
   pub under_floor : IsTrue (is_above_ceilings site.dag site.sessions (own_floor site).state)
   pub collected : AreCollected site.dag site.floors site.collected
   pub collected_once : IsTrue (are_distinct site.collected)
+  -- what waits
+  pub waiting : IsSoundRoom site.limits.sites site.own site.waiting

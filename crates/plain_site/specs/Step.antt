@@ -3,7 +3,7 @@ use Rattle.std.specs.Prelude.{ℕ, Bool, true, false, ◌&&◌, not, [], ◌∷�
 use Rattle.std.specs.Option.{option_map_or}
 use Rattle.tardis_base.specs.declared.records.Write.TheVariants.{Put as Value, Delete as Deletion}
 use Rattle.tardis_base.specs.declared.requests.Request.{Request}
-use Rattle.tardis_base.specs.declared.requests.Request.TheVariants.{Open, Begin, Get, Put, Delete, Commit, Abort, BeginMerge, ForkPoints, Conflicts, GetFor, Ceiling, Raise, RaiseAuto, Tidy, Stat, Show, Leaves, Pull, Deliver, Close}
+use Rattle.tardis_base.specs.declared.requests.Request.TheVariants.{Open, Begin, Get, Put, Delete, Commit, Abort, BeginMerge, ForkPoints, Conflicts, GetFor, Ceiling, Raise, RaiseAuto, Tidy, Stat, Show, Leaves, Pull, Deliver, Settle, Close}
 use Rattle.tardis_base.specs.declared.replies.Refusal.TheVariants.{Malformed, Unsupported}
 use Rattle.tardis_base.specs.Plain.{Event, PlainMachine}
 use Rattle.tardis_base.specs.Valid.{is_within}
@@ -19,7 +19,7 @@ use Rattle.plain_site.specs.Commits.{abort, commit}
 use Rattle.plain_site.specs.Merges.{begin_merge, fork_points_of, conflicts_of}
 use Rattle.plain_site.specs.FloorSteps.{raise, raise_auto, tidy}
 use Rattle.plain_site.specs.Shows.{stat, show, show_leaves}
-use Rattle.plain_site.specs.Exchange.{pull, deliver}
+use Rattle.plain_site.specs.Exchange.{pull, deliver, settle}
 
 -- what a request of the actor does, once it is built
 abbrev pub served : Built → Site → ℕ → Request → Answer
@@ -43,6 +43,7 @@ served built site n (Show x) = show site x
 served built site n Leaves = show_leaves site
 served built site n (Pull counts) = pull site counts
 served built site n (Deliver item) = deliver built site item
+served built site n Settle = settle built site
 served built site n Close = with_session site n (λ s. close_session site n)
 
 -- the plain step: what isn't built is refused before all else
@@ -54,7 +55,7 @@ step built site n q = unless site (refuse (not (is_built built q)) (Unsupported 
 abbrev pub step_over_bytes : Built → Site → Event → Answer
 step_over_bytes built site (n, []) = refused site Malformed
 step_over_bytes built site (n, op ∷ fields) =
-    elim (is_within 1 21 op && not (built.operation op)) [
+    elim (is_within 1 22 op && not (built.operation op)) [
       | true ↦ refused site (Unsupported op)
       | false ↦ given (request_of (op ∷ fields)) (refused site Malformed) (step built site n)
     ]

@@ -5,10 +5,10 @@ use Rattle.tardis_base.specs.declared.records.Record.{Record}
 use Rattle.tardis_base.specs.declared.records.Write.TheVariants.{Put as Value}
 use Rattle.tardis_base.specs.declared.records.Item.TheVariants.{State}
 use Rattle.tardis_base.specs.declared.requests.Begin.TheVariants.{Any, Parent}
-use Rattle.tardis_base.specs.declared.requests.Request.TheVariants.{Begin, Get, GetFor, Commit, Tidy, Raise, Deliver}
+use Rattle.tardis_base.specs.declared.requests.Request.TheVariants.{Begin, Get, GetFor, Commit, Tidy, Raise, Deliver, Settle}
 use Rattle.tardis_base.specs.declared.replies.Refusal.TheVariants.{NoTxn, Branches}
 use Rattle.tardis_base.specs.declared.replies.Reply.{Reply}
-use Rattle.tardis_base.specs.declared.replies.Reply.TheVariants.{Opened, Begun, Merging, Absent, Done, Committed, Ended, Raised, Tidied, Applied, Refused}
+use Rattle.tardis_base.specs.declared.replies.Reply.TheVariants.{Opened, Begun, Merging, Absent, Done, Committed, Ended, Raised, Tidied, Applied, Early, Refused}
 use Rattle.tardis_base.specs.Ids.{root, is_among}
 use Rattle.plain_dag.specs.Begin.{last_arrived}
 use Rattle.plain_dag.specs.Entries.{changed}
@@ -71,6 +71,18 @@ abbrev pub forgets_deliveries : Service
 forgets_deliveries site n (Deliver item) = (site, Applied)
 forgets_deliveries site n q = step everything site n q
 
+-- a record that came early doesn't wait
+abbrev pub forgets_waiting : Service
+forgets_waiting site n (Deliver item) =
+    let answer = step everything site n (Deliver item) in
+    (record answer.0 { waiting = site.waiting }, answer.1)
+forgets_waiting site n q = step everything site n q
+
+-- what waits isn't taken, whatever the reply says
+abbrev pub forgets_settled : Service
+forgets_settled site n Settle = (site, Applied)
+forgets_settled site n q = step everything site n q
+
 abbrev pub moved_end : StateId → Reply → Reply
 moved_end x (Ended y) = Ended x
 moved_end x reply = reply
@@ -119,7 +131,7 @@ forgets_ceilings site n q = step everything site n q
 abbrev pub ends_refused : Service
 ends_refused site n (Commit flags k) =
     let answer = step everything site n (Commit flags k) in
-    if leaves_site answer.1 then (without_txn_of n answer.0, answer.1) else answer
+    if leaves_site (Commit flags k) answer.1 then (without_txn_of n answer.0, answer.1) else answer
 ends_refused site n q = step everything site n q
 
 -- ===== Runs, newest line first
@@ -202,6 +214,17 @@ of_second_site = record { id = 2 · 1; parents = 0 · 0 ∷ []; writes = [] }
 
 abbrev pub delivered : Line
 delivered = 0 asks Deliver (State of_second_site) => Applied
+
+-- one that came before its parent, and so waits
+abbrev pub waiting_record : Record
+waiting_record = record { id = 2 · 2; parents = 2 · 1 ∷ []; writes = [] }
+
+abbrev pub came_early : Line
+came_early = 0 asks Deliver (State waiting_record) => Early 0
+
+-- nothing waits, and yet something is taken
+abbrev pub settled_nothing : Line
+settled_nothing = 0 asks Settle => Applied
 
 -- another record under the same id, taken too
 abbrev pub delivered_again : Line

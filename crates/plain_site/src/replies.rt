@@ -1,15 +1,22 @@
 //! What is true of every reply.
 
 ghost use Rattle.plain_site.specs.Built.{Built};
-ghost use Rattle.plain_site.specs.Laws.{RefusalsLeaveSite, RefusedBytesLeaveSite, NeverWantsMemory, ShowsShortPaths, RepliesFit, RepliesToBytesFit};
+ghost use Rattle.plain_site.specs.Laws.{RefusalsLeaveSite, RefusedBytesLeaveSite, EarlyRecordsWait, EarlyBytesWait, NeverWantsMemory, ShowsShortPaths, RepliesFit, RepliesToBytesFit};
 
 use wire_talk::talk_has_one_spelling;
 
 /// After a refusal, after Known and after Early the site is as it was, an open transaction included: over requests, and
-/// over their bytes.
+/// over their bytes. The one exception is the Early of a record, which `early_records_wait` speaks of.
 pub fn refusals_leave_site()
     ensures requests { (built : Built) → RefusalsLeaveSite built }
     ensures bytes { (built : Built) → RefusedBytesLeaveSite built }
+{}
+
+/// A record that is told Early changes the waiting room alone, which holds it from then on: over requests, and over their
+/// bytes.
+pub fn early_records_wait()
+    ensures requests { (built : Built) → EarlyRecordsWait built }
+    ensures bytes { (built : Built) → EarlyBytesWait built }
 {}
 
 /// The plain site never says that memory is wanting, and spells no reply so. What says it is the machine that runs the

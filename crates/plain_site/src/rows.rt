@@ -3,7 +3,9 @@
 ghost use Rattle.plain_site.specs.RowsOfCommits.{WriteSkewForks, WriteSkewPassesUnderSnapshots, NoBranchRefusesTheFork, OldReadForks, AnyBeginsAtTheFork, CommitRipplesDown, BranchesAreCounted, BeginsFollowTheLastCommit, ReadingMakesNoState};
 ghost use Rattle.plain_site.specs.RowsOfMerges.{MergeJoinsBranches, TwoMergesConflict, MergesNeedStatesApart, NineLeavesAreTooMany};
 ghost use Rattle.plain_site.specs.RowsOfFloors.{CeilingsHoldReadsAndFloors, FloorsHoldTheSite, CollectionKeepsReads};
+ghost use Rattle.plain_site.specs.RowsOfCollection.{ForkThatGrewTogetherIsCollected, ForkOfThreeStays};
 ghost use Rattle.plain_site.specs.RowsOfExchange.{RecordsComeInOrder, ConsentsCloseStates, LyingPeersAreRefused, SitesPastTheLimitAreBad};
+ghost use Rattle.plain_site.specs.RowsOfWaiting.{EarlyRecordIsSettled, NothingIsSettled, EachWaitsOnce, FirstFitOneIsTaken, KnownOneStays, FitOneWaitsForRoom, FullRoomLosesTheFirst};
 ghost use Rattle.plain_site.specs.RowsOfLimits.{WritesAreLimited, ReadsAreLimited, FullSiteRefuses, SecondSessionIsRefused, LongPathIsRefused};
 ghost use Rattle.plain_site.specs.RowsOfBytes.{WriteIsReadBack, WriteIsReadBackByTheWhole, UnbuiltIsUnsupported, UnbuiltOperationIsTold, BuiltIsNotOpen, WholeIsNotOpen, OtherBytesAreMalformed, OtherBytesStayMalformed, LongestKeyAndValueArePut, LongerOnesAreMalformed};
 ghost use Rattle.plain_site.specs.RowsOfChoices.{NoBranchIsNamedFirst, OwnWritesAreNotRead, MergesBringNews, ValueIsTheLowestWriters, MergeTriesOneThingAtATime, CeilingStaysOnItsBranch, TidyTakesTheLastArrived, FloorIsKept, CollectsMergedBranches, LongPathOfAKeptStateIsNamed, OwnRecordIsKnown, ClosedParentIsNamedFirst};
@@ -37,6 +39,8 @@ pub fn floors_answer_as_told()
     ensures ceilings { CeilingsHoldReadsAndFloors }
     ensures floors { FloorsHoldTheSite }
     ensures collection { CollectionKeepsReads }
+    ensures grown_together { ForkThatGrewTogetherIsCollected }
+    ensures two_of_three { ForkOfThreeStays }
 {}
 
 /// What other sites deliver.
@@ -45,6 +49,17 @@ pub fn exchange_answers_as_told()
     ensures consents { ConsentsCloseStates }
     ensures lies { LyingPeersAreRefused }
     ensures bad_sites { SitesPastTheLimitAreBad }
+{}
+
+/// Records that came before others that they need.
+pub fn waiting_answers_as_told()
+    ensures settled { EarlyRecordIsSettled }
+    ensures nothing { NothingIsSettled }
+    ensures once { EachWaitsOnce }
+    ensures first_fit { FirstFitOneIsTaken }
+    ensures known { KnownOneStays }
+    ensures growth { FitOneWaitsForRoom }
+    ensures full_room { FullRoomLosesTheFirst }
 {}
 
 /// Limits of transactions and of the site.

@@ -2,6 +2,7 @@
 
 ghost use Rattle.tardis_base.specs.declared.requests.Request.{Request};
 ghost use Rattle.plain_site.specs.Built.{Built};
+ghost use Rattle.plain_site.specs.CollectionLaws.{BelowCollectedIsTurnedAway, CollectedAreNeverAdmitted};
 ghost use Rattle.plain_site.specs.Laws.{BytesKeepSound, ClosedGetNoChild, KeepsSound, OpeningIsSound, RunsKeepSound};
 
 use wire_talk::talk_has_one_spelling;
@@ -14,7 +15,8 @@ pub fn opening_is_sound()
 /// Each request, done or refused, leaves a sound site sound. So a history stays a history, and stays within its limits:
 /// what a commit or a delivery adds is the next record of its site, with known parents that are apart. Each open
 /// transaction reads at states that are known, admitted and apart, whatever other sessions and other sites do meanwhile.
-/// The own floor stays at or above every ceiling. What is collected stays closed, keeps its one child and gets no other.
+/// The own floor stays at or above every ceiling. What is collected stays closed and gets no further child, and
+/// its children share a stand-in.
 pub fn every_request_keeps_sound()
     ensures { (built : Built) (q : Request) → KeepsSound built q }
 {}
@@ -33,3 +35,11 @@ pub fn every_run_keeps_sound()
 {
     talk_has_one_spelling();
 }
+
+/// What is collected is left alone: no open session's transaction may begin or read at it, and a delivered record with a
+/// collected parent is never applied. Such a record is refused with ClosedParent, unless its site is no other one of the
+/// sites, or it is known or early.
+pub fn collected_states_are_left_alone()
+    ensures admitted { (built : Built) → CollectedAreNeverAdmitted built }
+    ensures delivered { (built : Built) → BelowCollectedIsTurnedAway built }
+{}

@@ -32,7 +32,8 @@ use Rattle.version_list.specs.declared.histories.Version.{Version}
 use Rattle.version_list.specs.Versions.{versions_of, same_slot, has_version_at}
 use Rattle.record_store.specs.Store.{Store}
 use Rattle.record_store.specs.Stands.{holds_key, shown_version, StoreStands}
-use Rattle.record_store.specs.Answers.{StandsAlone, is_listed, write_found}
+use Rattle.record_store.specs.Answers.{StandsAlone, write_found}
+use Rattle.state_dag.specs.Table.{is_listed}
 use Rattle.record_store.proofs.Holders.{holders, holder-writes, writer-holds, holder-parts, holder-from, read-of_writer}
 use Rattle.record_store.proofs.Reading.{read_with}
 

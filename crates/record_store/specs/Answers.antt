@@ -39,10 +39,6 @@ pub record MayArrive (sites : ℕ) (rs : List Record) (ks : List StateId) (r : R
   pub site : r.id.site ≤ sites
   pub kept : (p x : StateId) → IsTrue (is_among p r.parents) → IsTrue (is_above rs p x) → IsFalse (is_among x ks)
 
--- a state of this id is kept in the table
-abbrev pub is_listed : Table → StateId → Bool
-is_listed table x = is_among x (map (λ e. e.id) table.entries)
-
 -- no other state stands in where x does
 abbrev pub StandsAlone : List Record → List StateId → StateId → Type 0
 StandsAlone rs ks x = (w : StateId) → IsTrue (is_known rs w) → stand_in rs ks w ≡ x → w ≡ x

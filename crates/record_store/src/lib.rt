@@ -3,7 +3,8 @@
 //! What a read, a write and a new state mean is stated in `docs/MODEL.md`.
 #![tactic(auto)]
 
-ghost use Rattle.std.specs.Prelude.{◌≡◌, true, ◌+◌, ◌-◌, ◌≤◌, ℕ, List, [], ◌∷◌, length, map, take, Option, Some, None, slice_get, unwrap_or, IsTrue, IfOk, IfSome, OnOk, OnErr};
+ghost use Rattle.std.specs.Prelude.{◌≡◌, true, ◌+◌, ◌-◌, ◌≤◌, ℕ, List, [], ◌∷◌, length, map, take, Option, Some, None, slice_get, unwrap_or, IsTrue};
+ghost use Rattle.std.specs.Prelude.{IfOk, IfSome, OnOk, OnErr};
 ghost use Rattle.std.specs.List.{list_all};
 ghost use Rattle.std.specs.Option.{option_map, option_and_then};
 ghost use Rattle.tardis_base.specs.declared.ids.StateId.{StateId};
@@ -15,12 +16,12 @@ ghost use Rattle.plain_dag.specs.States.{root_record, record_at, parents_of};
 ghost use Rattle.plain_dag.specs.Writers.{read, latest_writer};
 ghost use Rattle.plain_dag.specs.Landing.{is_news};
 ghost use Rattle.plain_dag.specs.Collection.{stand_in};
-ghost use Rattle.state_dag.specs.Table.{id_at, is_slot, is_kept_at, arrival_at};
+ghost use Rattle.state_dag.specs.Table.{id_at, is_slot, is_listed, is_kept_at, arrival_at};
 ghost use Rattle.state_dag.specs.Answers.{MayBeAdded, IsNewSlot, KeepsSlots};
 ghost use Rattle.version_list.specs.Versions.{IsInOrder};
 ghost use Rattle.version_list.specs.Reads.{found};
 ghost use Rattle.record_store.specs.Stands.{StoreStands, holds_key};
-ghost use Rattle.record_store.specs.Answers.{AddedIn, IsSameStore, MayArrive, StandsAlone, is_listed, write_found};
+ghost use Rattle.record_store.specs.Answers.{AddedIn, IsSameStore, MayArrive, StandsAlone, write_found};
 
 use state_dag::StateDag;
 use std::alloc::Global;
@@ -280,8 +281,10 @@ impl RecordStore {
         Ok(writes)
     }
 
-    /// The slots of these states, in their order and in front.
-    fn slots_of(&self, states: &[StateId]) -> [Slot; PARENTS]
+    /// The slots of these kept states, in their order and in front. It takes no memory.
+    ///
+    /// The cost grows for each of them with the logarithm of the number of kept states.
+    pub fn slots_of(&self, states: &[StateId]) -> [Slot; PARENTS]
         requires few { length states.now ≤ 8 }
         requires listed { IsTrue (list_all (is_listed self.now.table) states.now) }
         ensures { map (id_at self.now.table) (take (length states.now) result) ≡ map (λ x. Some x) states.now }

@@ -2,7 +2,7 @@
 
 ghost use Rattle.std.specs.Prelude.{◌≡◌, ◌+◌, ◌≤◌, slice_get, unwrap_or, IsTrue};
 ghost use Rattle.state_dag.specs.Table.{is_slot};
-ghost use Rattle.record_store.specs.Answers.{is_listed};
+ghost use Rattle.state_dag.specs.Table.{is_listed};
 
 use crate::RecordStore;
 use std::alloc::Global;

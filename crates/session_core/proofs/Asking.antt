@@ -2,7 +2,7 @@
 use Rattle.std.proofs.Common.{◌≡◌, ℕ, List, false, true, Some, IsTrue, refl, subst}
 use Rattle.std.specs.Option.{option_map_or}
 use Rattle.tardis_base.specs.declared.requests.Request.{Request}
-use Rattle.tardis_base.specs.declared.requests.Request.TheVariants.{Open, Begin as BeginAt, Get, Put, Delete, Commit, Abort, BeginMerge, ForkPoints, Conflicts, GetFor, Ceiling, Raise, RaiseAuto, Tidy, Stat, Show, Leaves, Pull, Deliver, Close}
+use Rattle.tardis_base.specs.declared.requests.Request.TheVariants.{Open, Begin as BeginAt, Get, Put, Delete, Commit, Abort, BeginMerge, ForkPoints, Conflicts, GetFor, Ceiling, Raise, RaiseAuto, Tidy, Stat, Show, Leaves, Pull, Deliver, Settle, Close}
 use Rattle.wire_talk.specs.Memory.{takes_no_memory}
 use Rattle.wire_talk.specs.RequestReadings.{request_of}
 use Rattle.plain_site.specs.Step.{is_sure}
@@ -32,4 +32,5 @@ sure-takes_none (Show x) sure = refl
 sure-takes_none Leaves sure = refl
 sure-takes_none (Pull counts) sure = sure
 sure-takes_none (Deliver item) sure = sure
+sure-takes_none Settle sure = refl
 sure-takes_none Close sure = refl

@@ -74,6 +74,7 @@ same-table-stands core site store stands same store_stands =
       placed = subst (λ t. ArePlaced core.book t site.dag site.collected) back stands.placed;
       txns = stands.txns;
       slots = λ n h e. subst (λ t. IsNamed t h) back (stands.slots n h e);
+      waiting = stands.waiting;
     }
 
 pub not-added-held : (a : Inside) (store : Store) (es : List (ℕ × Kept)) → IsHeld a → store.table ≡ a.store.table → es ≡ a.txns → IsHeld (record a { store = store; txns = es })
@@ -84,6 +85,7 @@ not-added-held a store es held same e =
       places = subst (λ t. AreSlots a.book t) back held.places;
       slots = λ m h f. subst (λ t. IsTrue (has_slots t h)) back (held.slots m h f);
       floors = held.floors ∙ ap (λ t. t.limits.sites) back;
+      room = held.room;
     })
 
 -- a table that has grown
@@ -95,6 +97,7 @@ grown-held a store book n es held keeps limits rest slots e =
       places = slots;
       slots = λ m h f. txn-slots-stay a.store.table store.table keeps h (held.slots m h f);
       floors = ap (λ fs. length (map known_floor fs)) rest.floors ∙ held.floors ∙ ap (λ l. l.sites) (sym limits);
+      room = held.room;
     }) n es e
 
 pub grown-stands : (core : Core) (site : Site) (r : Record) (store : Store) (book : Book) (n : ℕ) (es : List (ℕ × Kept)) → CoreStands core site → StoreStands store (r ∷ site.dag) site.collected →
@@ -114,6 +117,7 @@ grown-stands core site r store book n es stands store_stands keeps limits rest s
       placed = placed;
       txns = stands.txns;
       slots = λ m h f. txn-names-stay core.store.table store.table keeps h (stands.slots m h f);
+      waiting = stands.waiting;
     }) n es e
 
 -- ===== The plain answers
@@ -171,7 +175,7 @@ module _ (site : Site) (n : ℕ) (t : SingleTxn) (flags : EndFlags) (k : ℕ) wh
 
 module _ (site : Site) (sound : IsSound so_far site) where
   -- nothing below what isn't closed is collected
-  below-open : (x : StateId) → IsFalse (is_closed site.dag site.floors x) → (y : StateId) → IsTrue (is_above site.dag x y) → IsFalse (is_among y site.collected)
+  pub below-open : (x : StateId) → IsFalse (is_closed site.dag site.floors x) → (y : StateId) → IsTrue (is_above site.dag x y) → IsFalse (is_among y site.collected)
   below-open x opened y above =
       false_from_ne_true (is_among y site.collected) (λ among.
       both_ways (is_closed site.dag site.floors x) opened (above-closed site.dag sound.dag site.floors x y above (sound.collected.closed y among)))

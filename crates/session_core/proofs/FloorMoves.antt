@@ -48,7 +48,7 @@ gone-above rs dag ks x c known gone under =
     not-kept false b e f = (cc)
 
 -- after a change of the floors alone
-with-floors : (core : Core) (book : Book) (site : Site) (floors : List Floor) → CoreStands core site → KeepsSessions core.book book → ArePlaced book core.store.table site.dag site.collected → floors_of book ≡ floors →
+pub with-floors : (core : Core) (book : Book) (site : Site) (floors : List Floor) → CoreStands core site → KeepsSessions core.book book → ArePlaced book core.store.table site.dag site.collected → floors_of book ≡ floors →
     CoreStands (record core { book = book }) (record site { floors = floors })
 with-floors core book site floors stands rest placed are = record {
   store = stands.store;
@@ -60,6 +60,7 @@ with-floors core book site floors stands rest placed are = record {
   placed = placed;
   txns = stands.txns;
   slots = stands.slots;
+  waiting = stands.waiting;
 }
   where
     sessions-of : sessions_of book ≡ sessions_of core.book

@@ -12,7 +12,6 @@ pub mod Growing
 pub mod Committing
 pub mod MergeCommitting
 pub mod Showing
-pub mod Serving
 pub mod Settings
 pub mod Telling
 pub mod Getting
@@ -22,3 +21,4 @@ pub mod Ordering
 pub mod MergeShows
 pub mod Merging
 pub mod FloorMoves
+pub mod Exchanging

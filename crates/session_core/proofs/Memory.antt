@@ -17,7 +17,7 @@ use Rattle.session_core.proofs.Entries.{each-with, each-without, each-changed}
 
 module _ (a : Inside) (held : IsHeld a) where
   with-txns : (es : List (ℕ × Txn)) → ((m : ℕ) (h : Txn) → entry_of m es ≡ Some h → IsTrue (has_slots a.store.table h)) → IsHeld (record a { txns = es })
-  with-txns es slots = record { places = held.places; slots = slots; floors = held.floors }
+  with-txns es slots = record { places = held.places; slots = slots; floors = held.floors; room = held.room }
 
   -- a transaction ends
   pub ended-held : (n : ℕ) (es : List (ℕ × Txn)) → es ≡ without_entry n a.txns → IsHeld (record a { txns = es })
@@ -43,7 +43,7 @@ module _ (a : Inside) (held : IsHeld a) where
 
   -- the sessions change
   pub sessions-held : (book : Book) → KeepsRest a.book book → (AreSlots a.book a.store.table → AreSlots book a.store.table) → IsHeld (record a { book = book })
-  sessions-held book rest slots = record { places = slots held.places; slots = held.slots; floors = ap (λ fs. length (map known_floor fs)) rest.floors ∙ held.floors }
+  sessions-held book rest slots = record { places = slots held.places; slots = held.slots; floors = ap (λ fs. length (map known_floor fs)) rest.floors ∙ held.floors; room = held.room }
 
   as-held : (n : ℕ) (g : Txn → Txn) (full : Bool) (too_many : TxnFault) (es : List (ℕ × Txn)) (r : Result (Unit {0}) TxnFault) → ((h : Txn) → has_slots a.store.table (g h) ≡ has_slots a.store.table h) →
       ChangedAs a.txns es n g full too_many r → IsHeld (record a { txns = es })

@@ -44,6 +44,7 @@ with-sessions core book site sessions stands rest placed are = record {
   placed = placed stands.placed;
   txns = stands.txns;
   slots = stands.slots;
+  waiting = stands.waiting;
 }
 
 -- the book is as before

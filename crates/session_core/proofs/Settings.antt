@@ -5,26 +5,30 @@ use Rattle.tardis_base.specs.Ids.{root, is_among}
 use Rattle.tardis_base.specs.Keys.{KeyWrite, is_key_among, has_key, write_of, keys_of}
 use Rattle.tardis_base.specs.declared.ids.StateId.{StateId}
 use Rattle.tardis_base.specs.declared.records.Record.{Record}
+use Rattle.tardis_base.specs.declared.records.Item.{Item}
+use Rattle.tardis_base.specs.declared.records.Item.TheVariants.{State, Promise}
+use Rattle.std.proofs.lemmas.Bool.{cond_both}
 use Rattle.tardis_base.specs.declared.records.Write.{Write}
 use Rattle.tardis_base.specs.declared.records.Write.TheVariants.{Put as Value, Delete as Deletion}
-use Rattle.tardis_base.specs.declared.replies.Refusal.TheVariants.{AlreadyOpen, SessionsFull, TooMany, ConflictKey, Unknown, Below, Collected, SeqEnd, WrongMode, OpenConflict, Branches, NotRead, Comparable, CeilingBack, FloorBack, Held}
+use Rattle.tardis_base.specs.declared.replies.Refusal.TheVariants.{AlreadyOpen, SessionsFull, TooMany, ConflictKey, Unknown, Below, Collected, SeqEnd, WrongMode, OpenConflict, Branches, NotRead, Comparable, CeilingBack, FloorBack, Held, BadSite}
 use Rattle.tardis_base.specs.declared.replies.Reply.{Reply}
-use Rattle.tardis_base.specs.declared.replies.Reply.TheVariants.{Opened, Begun, Merging, Done, Shown, Ended}
+use Rattle.tardis_base.specs.declared.replies.Reply.TheVariants.{Opened, Begun, Merging, Done, Shown, Ended, Applied, Batch as BatchIs}
 use Rattle.tardis_base.specs.declared.requests.EndFlags.{EndFlags}
 use Rattle.tardis_base.specs.declared.requests.Request.{Request}
-use Rattle.tardis_base.specs.declared.requests.Request.TheVariants.{Open, Begin as BeginAt, Get, Put, Delete, Commit, Abort, BeginMerge, ForkPoints, Conflicts, GetFor, Ceiling, Raise, RaiseAuto, Tidy, Stat, Show, Leaves, Pull, Deliver, Close}
+use Rattle.tardis_base.specs.declared.requests.Request.TheVariants.{Open, Begin as BeginAt, Get, Put, Delete, Commit, Abort, BeginMerge, ForkPoints, Conflicts, GetFor, Ceiling, Raise, RaiseAuto, Tidy, Stat, Show, Leaves, Pull, Deliver, Settle, Close}
 use Rattle.plain_dag.specs.Above.{is_above, comparable_pair}
 use Rattle.plain_dag.specs.Begin.{is_admitted, begin_state}
 use Rattle.plain_dag.specs.Conflicts.{is_conflict_key, value_over, open_conflict}
 use Rattle.plain_dag.specs.Entries.{entry_of, with_entry, changed}
-use Rattle.plain_dag.specs.Floors.{opening_session, with_ceiling, holding_session, automatic_floor}
+use Rattle.plain_dag.specs.Floors.{opening_session, with_ceiling, with_floor, holding_session, automatic_floor}
 use Rattle.plain_dag.specs.Landing.{landing, guarded, broken}
 use Rattle.plain_dag.specs.Paths.{fork_path}
 use Rattle.plain_dag.specs.States.{is_known, arrival, children}
 use Rattle.plain_dag.specs.Writers.{read}
-use Rattle.plain_site.specs.Answers.{Answer, refuse, refuse_found, shown, found}
+use Rattle.plain_site.specs.Answers.{Answer, says_early, refuse, refuse_found, shown, found}
 use Rattle.plain_site.specs.Built.{so_far}
-use Rattle.plain_site.specs.Commits.{abort, commit, commit_below, commit_writes, commit_single, committed, growth_refusals, without_txn_of}
+use Rattle.plain_site.specs.Commits.{abort, commit, commit_below, commit_writes, commit_single, committed, with_record, growth_refusals, without_txn_of}
+use Rattle.plain_site.specs.Exchange.{judgements, take_record, with_held, consent_judgements, deliver, first_fit_record, with_settled, settle_record, settle, batch_for}
 use Rattle.plain_site.specs.Merges.{in_order, states_to_merge, merge_at, begin_merge, fork_points_of, conflicts_of}
 use Rattle.plain_site.specs.Reads.{get, get_for, set_key, read_in, having_read, having_written}
 use Rattle.plain_site.specs.Sessions.{open_session, close_session, begin, begin_at, set_ceiling}
@@ -116,6 +120,20 @@ module _ (site : Site) (n : ℕ) where
   raised-same : (x : StateId) (refusals : List (Option Reply)) → P (raise_to site x refusals).0
   raised-same x refusals = unless-keeps P site old (refusals ++ refuse ((own_floor site).number == 4294967295) SeqEnd ∷ []) (raised site x) (λ none. (refl, refl))
 
+  deliver-same : (item : Item) → P (deliver so_far site item).0
+  deliver-same (State r) =
+      let answer : Answer = take_record so_far site r in
+      let taken : P answer.0 = unless-keeps P site old (judgements site r ++ growth_refusals so_far site r) (with_record r site, Applied) (λ none. (refl, refl)) in
+      cond_both (says_early answer.1) (with_held r answer.0) answer.0 P (λ early. taken) (λ late. taken)
+  deliver-same (Promise c) =
+      unless-keeps P site old (consent_judgements site c)
+      (record site { floors = with_floor site.floors c.site (record { state = c.floor; number = c.number; stated = c.count }) }, Applied) (λ none. (refl, refl))
+
+  settle-same : P (settle so_far site).0
+  settle-same =
+      given-keeps P site old (first_fit_record site) (site, Done) (settle_record so_far site) (λ none. old)
+      (λ found is. unless-keeps P site old (growth_refusals so_far site found.1) (with_settled found site, Applied) (λ none. (refl, refl)))
+
   -- what isn't built changes nothing
   pub step-same : (q : Request) → P (step so_far site n q).0
   step-same (Open follow) = step-keeps P site old so_far n (Open follow) (open-same follow)
@@ -150,8 +168,11 @@ module _ (site : Site) (n : ℕ) where
       (unless-keeps P site old (refuse (not (is_known site.dag x)) (Unknown x) ∷ refuse (is_among x site.collected) (Collected x) ∷ [])
       (site, Shown (arrival site.dag x) (children site.dag x) (fork_path site.dag site.collected x)) (λ none. old))
   step-same Leaves = step-keeps P site old so_far n Leaves old
-  step-same (Pull counts) = old
-  step-same (Deliver item) = old
+  step-same (Pull counts) =
+      step-keeps P site old so_far n (Pull counts)
+      (unless-keeps P site old (refuse (not (length counts == site.limits.sites)) (BadSite (length counts)) ∷ []) (site, BatchIs (batch_for site counts)) (λ none. old))
+  step-same (Deliver item) = step-keeps P site old so_far n (Deliver item) (deliver-same item)
+  step-same Settle = step-keeps P site old so_far n Settle settle-same
   step-same Close = step-keeps P site old so_far n Close (session-keeps P site old n (λ s. close_session site n) (λ s e. (refl, refl)))
 
 -- what stands for sites of the same settings opened with the same

@@ -122,6 +122,7 @@ module _ (core : Core) (site : Site) (stands : CoreStands core site) (n : ℕ) w
     placed = stands.placed;
     txns = txns;
     slots = slots;
+    waiting = stands.waiting;
   }
 
   -- a transaction ends

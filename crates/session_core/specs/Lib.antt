@@ -10,4 +10,5 @@ pub mod Begins
 pub mod Commits
 pub mod Reads
 pub mod Merges
+pub mod Exchange
 pub mod Machine

@@ -1,5 +1,6 @@
 -- What the machine over the parts stands for, and what it answers.
 use Rattle.std.specs.Prelude.{◌≡◌, ◌≤◌, ℕ, List, [], length, Some, None, Result, Ok, Err, IsTrue}
+use Rattle.tardis_base.specs.Sizes.{longest_frame}
 use Rattle.tardis_base.specs.declared.replies.Refusal.{Refusal}
 use Rattle.tardis_base.specs.declared.replies.Reply.{Reply}
 use Rattle.tardis_base.specs.declared.replies.Reply.TheVariants.{NoMemory}
@@ -38,7 +39,7 @@ opened_with core = opening core.store.table.limits core.book.own
 -- the reply can be spelled, it fits a frame, and it doesn't say that memory is wanting
 pub record IsTold (reply : Reply) : Type 0 where
   pub valid : IsTrue (is_reply reply)
-  pub short : length (reply_spelling reply) ≤ 1048576
+  pub short : length (reply_spelling reply) ≤ longest_frame
   pub other : reply ≡ NoMemory → ⊥
 
 -- the plain answer, its reply in bytes; or there was no memory, and no byte

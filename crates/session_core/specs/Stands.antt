@@ -20,7 +20,7 @@ txn_of (KeptMerge t) = Merge (record { states = t.states; writes = t.writes })
 
 -- Part by part: the store stands for the history, beside the collected states; limits, own number, sessions and floors are
 -- the same; the places of the book are right; each session has the transaction that is kept for it, and the slots of that
--- are those of the states that it reads, in their order.
+-- are those of the states that it reads, in their order. The same records wait.
 pub record CoreStands (core : Core) (site : Site) : Type 0 where
   pub store : StoreStands core.store site.dag site.collected
   pub limits : core.store.table.limits ≡ site.limits
@@ -31,6 +31,7 @@ pub record CoreStands (core : Core) (site : Site) : Type 0 where
   pub placed : ArePlaced core.book core.store.table site.dag site.collected
   pub txns : (n : ℕ) → option_map txn_of (entry_of n core.txns) ≡ entry_of n site.txns
   pub slots : (n : ℕ) (t : Kept) → entry_of n core.txns ≡ Some t → IsNamed core.store.table t
+  pub waiting : core.waiting ≡ site.waiting
 
 -- it stands for some plain site that is sound
 pub record StandsForSite (core : Core) : Type 0 where

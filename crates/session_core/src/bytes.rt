@@ -2,6 +2,7 @@
 
 ghost use Rattle.std.specs.Prelude.{◌≡◌, ◌≤◌, Some, [], length, IsTrue, IsOk, IfOk};
 ghost use Rattle.std.specs.List.{list_all};
+ghost use Rattle.tardis_base.specs.Sizes.{longest_frame};
 ghost use Rattle.tardis_base.specs.declared.requests.Request.{Request};
 ghost use Rattle.tardis_base.specs.Valid.{is_key};
 ghost use Rattle.state_dag.specs.Table.{is_slot};
@@ -37,7 +38,7 @@ fn asked(alloc: Global, bytes: &[u8]) -> Result<Result<Request, Refusal>, NoMemo
 {
     talk_has_one_spelling();
     if let Some(op) = bytes.first() {
-        if (1..=21).contains(op) && !is_built(*op) {
+        if (1..=22).contains(op) && !is_built(*op) {
             return Ok(Err(Refusal::Unsupported { op: *op }));
         }
     }
@@ -52,7 +53,7 @@ fn asked(alloc: Global, bytes: &[u8]) -> Result<Result<Request, Refusal>, NoMemo
 fn give(reply: Reply, out: &mut ReplyBuf)
     requires empty { out.old ≡ [] }
     requires valid { IsTrue (is_reply reply) }
-    requires short { length (reply_spelling reply) ≤ 1048576 }
+    requires short { length (reply_spelling reply) ≤ longest_frame }
     ensures { out.new ≡ reply_spelling reply }
 {
     write_reply(&reply, out);
@@ -62,7 +63,7 @@ fn give(reply: Reply, out: &mut ReplyBuf)
 fn give_found(what: Found<'_>, out: &mut ReplyBuf)
     requires empty { out.old ≡ [] }
     requires valid { IsTrue (is_reply (reply_to (found what))) }
-    requires short { length (reply_spelling (reply_to (found what))) ≤ 1048576 }
+    requires short { length (reply_spelling (reply_to (found what))) ≤ longest_frame }
     ensures { out.new ≡ reply_spelling (reply_to (found what.entry)) }
 {
     match what {
@@ -157,6 +158,11 @@ impl SiteCore {
             },
             Request::Delete { key } => {
                 let reply = self.put(actor, key, Write::Delete)?;
+                give(reply, out);
+                Ok(())
+            },
+            Request::Deliver { item } => {
+                let reply = self.deliver(item)?;
                 give(reply, out);
                 Ok(())
             },

@@ -1,52 +1,24 @@
 //! Which operations there are, which of them are built, and the step of a site: a request, and the reply to it.
 
 ghost use Rattle.std.specs.Prelude.{◌≡◌, IsTrue, IsOk, IfOk, OnOk, OnErr};
-ghost use Rattle.wire_talk.specs.Codes as codes;
+ghost use Rattle.wire_item.specs.Valid.{is_item};
 ghost use Rattle.wire_talk.specs.Valid.{is_request};
 ghost use Rattle.plain_site.specs.Site.{Site};
 ghost use Rattle.plain_site.specs.Built.{so_far};
 ghost use Rattle.plain_site.specs.Step.{step, is_sure};
+ghost use Rattle.plain_site.specs.Exchange.{deliver};
 ghost use Rattle.session_core.specs.Gives.{Answers, Gives, IsGiven, NeedsNoMemory, ToldAs};
 ghost use Rattle.session_core.specs.Machine.{SiteStands, IsTold, opened_with, writing};
 
 use crate::stops::Stop;
 use crate::{Parts, SiteCore};
-use tardis_base::{Key, NoMemory, Refusal, Reply, Request, Write};
+use tardis_base::{Item, Key, NoMemory, Refusal, Reply, Request, Write};
 
 /// Whether the operation of this code is built.
 pub fn is_built(op: u8) -> bool
     ensures { result ≡ so_far.operation op }
 {
-    matches!(op, 1..=14 | 16..=18 | 21)
-}
-
-/// The code of the request's operation.
-pub fn code_of(request: &Request) -> u8
-    ensures { result ≡ codes.code_of request.now }
-{
-    match request {
-        Request::Open { .. } => 1,
-        Request::Begin { .. } => 2,
-        Request::Get { .. } => 3,
-        Request::Put { .. } => 4,
-        Request::Delete { .. } => 5,
-        Request::Commit { .. } => 6,
-        Request::Abort => 7,
-        Request::BeginMerge { .. } => 8,
-        Request::ForkPoints => 9,
-        Request::Conflicts { .. } => 10,
-        Request::GetFor { .. } => 11,
-        Request::Ceiling { .. } => 12,
-        Request::Raise { .. } => 13,
-        Request::RaiseAuto => 14,
-        Request::Tidy { .. } => 15,
-        Request::Stat => 16,
-        Request::Show { .. } => 17,
-        Request::Leaves => 18,
-        Request::Pull { .. } => 19,
-        Request::Deliver { .. } => 20,
-        Request::Close => 21,
-    }
+    matches!(op, 1..=14 | 16..=22)
 }
 
 impl Parts {
@@ -76,10 +48,11 @@ impl Parts {
             Request::Stat => Ok(self.stat()),
             Request::Show { state } => self.show(*state),
             Request::Leaves => self.leaves(),
+            Request::Pull { counts } => self.pull(counts.as_slice()),
+            Request::Deliver { item } => self.deliver(item.copy()?),
+            Request::Settle => self.settle(),
             Request::Close => self.close(actor),
-            _ => Err(Stop::Refused(Refusal::Unsupported {
-                op: code_of(request),
-            })),
+            Request::Tidy { .. } => Err(Stop::Refused(Refusal::Unsupported { op: 15 })),
         }
     }
 }
@@ -117,14 +90,24 @@ impl SiteCore {
         told(self.parts.put(actor, key, write))
     }
 
+    /// The reply to the delivery of the item, which is done. A record is moved in.
+    pub(crate) fn deliver(&mut self, item: Item) -> Result<Reply, NoMemory>
+        requires { IsTrue (is_item item) }
+        ensures given { (site : Site) → SiteStands self.old site → Gives (SiteStands self.new) (deliver so_far site item) site result }
+        ensures told { IfOk result (λ reply. IsTold reply) }
+        ensures opening { opened_with self.new ≡ opened_with self.old }
+    {
+        told(self.parts.deliver(item))
+    }
+
     /// Does the actor's request, and replies to it.
     ///
     /// With no memory the site is as before. Abort, Close, Ceiling, Raise, RaiseAuto, Tidy and Stat never want memory.
     ///
     /// The cost grows with the logarithm of the number of open sessions, and else is that of the request's own call: of a
     /// Get a read of its key, of a Put a copy of the value and a place among the transaction's writes, of a Commit the landing
-    /// and the adding of the record. The leaves, and a merge's fork points, conflict keys and Commit, cost more with each
-    /// kept state.
+    /// and the adding of the record. The leaves, a Pull, and a merge's fork points, conflict keys and Commit, cost more with
+    /// each kept state. A Settle judges the waiting records up to the first fit one.
     pub fn step(&mut self, actor: u16, request: &Request, reply: &mut Reply) -> Result<(), NoMemory>
         requires { IsTrue (is_request request.now) }
         ensures done { OnOk result ((site : Site) → SiteStands self.old site → IsGiven (SiteStands self.new) (step so_far site actor request.now) reply.new) }

@@ -13,6 +13,7 @@ ghost use Rattle.session_core.specs.Stands.{CoreStands};
 mod bytes;
 mod commits;
 mod dispatch;
+mod exchange;
 mod floors;
 mod merges;
 mod reads_and_writes;
@@ -23,12 +24,13 @@ mod transactions;
 
 use ceiling_book::CeilingBook;
 use record_store::RecordStore;
+use site_exchange::WaitRoom;
 use std::alloc::Global;
 use std::marker::Model;
 use tardis_base::{Limits, NoMemory};
 use transactions::TxnBook;
 
-/// One site: its history, its sessions and its open transactions.
+/// One site: its history, its sessions, its open transactions, and what waits.
 #[derive(Drop)]
 pub struct SiteCore {
     parts: Parts,
@@ -47,7 +49,7 @@ impl Model for SiteCore {
 }
 
 impl SiteCore {
-    /// A site that opens: the root alone, and no session.
+    /// A site that opens: the root alone, no session, and nothing that waits. The room for what waits is taken here.
     pub fn new(alloc: Global, limits: Limits, own: u16) -> Result<SiteCore, NoMemory>
         requires limits { IsTrue (are_limits limits) }
         requires first { 1 ≤ own }
@@ -60,13 +62,14 @@ impl SiteCore {
     }
 }
 
-/// The history of a site, its sessions and its open transactions.
+/// The history of a site, its sessions, its open transactions, and the records that wait for others.
 #[derive(Drop)]
 pub(crate) struct Parts {
     pub(crate) alloc: Global,
     pub(crate) store: RecordStore,
     pub(crate) book: CeilingBook,
     pub(crate) txns: TxnBook,
+    pub(crate) waiting: WaitRoom,
 }
 
 impl Model for Parts {
@@ -82,7 +85,7 @@ impl Model for Parts {
 }
 
 impl Parts {
-    /// Those of a site that opens: the root alone, and no session.
+    /// Those of a site that opens: the root alone, no session, and nothing that waits.
     fn new(alloc: Global, limits: &Limits, own: u16) -> Result<Parts, NoMemory>
         requires limits { IsTrue (are_limits limits.now) }
         requires first { 1 ≤ own }
@@ -93,11 +96,13 @@ impl Parts {
         let root = store.dag().last();
         let book = CeilingBook::new(alloc, limits, own, root)?;
         let txns = TxnBook::new(alloc);
+        let waiting = WaitRoom::new(alloc)?;
         Ok(Parts {
             alloc,
             store,
             book,
             txns,
+            waiting,
         })
     }
 }

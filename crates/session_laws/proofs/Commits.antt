@@ -33,12 +33,12 @@ use Rattle.session_laws.proofs.Answers.{ReplyAlike, unrefused, first-alike, seve
 use Rattle.session_laws.proofs.Sites.{limits-alike, own-count-alike, next-id-alike, txns-alike, sites-alike, one-kept, all-kept}
 
 -- what may arrive at the store
-arrives : (sites : ℕ) (rs : List Record) (ks : List StateId) (r : Record) → MayArrive sites rs ks r → Arrives rs ks r
+pub arrives : (sites : ℕ) (rs : List Record) (ks : List StateId) (r : Record) → MayArrive sites rs ks r → Arrives rs ks r
 arrives sites rs ks r may = record { next = may.next; free = may.kept }
 
 module _ (core : Core) (a b : Site) (on_a : SiteStands core a) (on_b : SiteStands core b) (n : ℕ) where
   -- both sites grow by the record, or neither does
-  growth-alike : (r : Record) → Arrives a.dag a.collected r → Arrives b.dag b.collected r → growth_refusals so_far a r ≡ growth_refusals so_far b r
+  pub growth-alike : (r : Record) → Arrives a.dag a.collected r → Arrives b.dag b.collected r → growth_refusals so_far a r ≡ growth_refusals so_far b r
   growth-alike r at_a at_b =
       let table = core.store.table in
       let ha = history table a.dag a.collected on_a.0.store.table in

@@ -40,7 +40,7 @@ none-beneath : (rs : List Record) → IsDag rs → (ks : List StateId) (c x : St
 none-beneath rs dag ks c x under above = false_from_ne_true (is_among x ks) (λ gone. proper-of-itself rs x (proper-above rs dag x c x (under x gone) above))
 
 -- so a known state there is kept
-kept-beneath : (rs : List Record) → IsDag rs → (ks : List StateId) (c x : StateId) → ((y : StateId) → IsTrue (is_among y ks) → IsTrue (is_proper_ancestor rs y c)) → IsTrue (is_known rs x) → IsTrue (is_above rs c x) →
+pub kept-beneath : (rs : List Record) → IsDag rs → (ks : List StateId) (c x : StateId) → ((y : StateId) → IsTrue (is_among y ks) → IsTrue (is_proper_ancestor rs y c)) → IsTrue (is_known rs x) → IsTrue (is_above rs c x) →
     IsTrue (is_kept rs ks x)
 kept-beneath rs dag ks c x under known above = and_from (is_known rs x) (not (is_among x ks)) known (not_from_false (is_among x ks) (none-beneath rs dag ks c x under above))
 
@@ -61,7 +61,7 @@ own-is_kept site sound =
 
 module _ (core : Core) (a b : Site) (on_a : SiteStands core a) (on_b : SiteStands core b) where
   -- a state that all collected ones are above is at or above a known one in both or in neither
-  above-same : (c x : StateId) → IsTrue (is_kept a.dag a.collected c) → IsTrue (is_known a.dag x) → ((y : StateId) → IsTrue (is_among y a.collected) → IsTrue (is_proper_ancestor a.dag y c)) →
+  pub above-same : (c x : StateId) → IsTrue (is_kept a.dag a.collected c) → IsTrue (is_known a.dag x) → ((y : StateId) → IsTrue (is_among y a.collected) → IsTrue (is_proper_ancestor a.dag y c)) →
       ((y : StateId) → IsTrue (is_among y b.collected) → IsTrue (is_proper_ancestor b.dag y c)) → is_above a.dag c x ≡ is_above b.dag c x
   above-same c x kept known under_a under_b = same_test (is_above a.dag c x) (is_above b.dag c x)
       (λ above. sym ((sites-alike core a b on_a on_b).same_above c x kept (kept-beneath a.dag on_a.1.dag a.collected c x under_a known above)) ∙ above)

@@ -11,3 +11,6 @@ pub mod Shows
 pub mod Commits
 pub mod Floors
 pub mod OneReply
+pub mod Judged
+pub mod Deliveries
+pub mod Pulls

@@ -1,7 +1,7 @@
 -- All plain sites of one running site give one reply.
-use Rattle.std.proofs.Common.{◌≡◌, ℕ, Some, refl, ap}
+use Rattle.std.proofs.Common.{◌≡◌, ℕ, Some, IsTrue, refl, ap}
 use Rattle.tardis_base.specs.declared.requests.Request.{Request}
-use Rattle.tardis_base.specs.declared.requests.Request.TheVariants.{Open, Begin, Get, Put, Delete, Commit, Abort, BeginMerge, ForkPoints, Conflicts, GetFor, Ceiling, Raise, RaiseAuto, Tidy, Stat, Show, Leaves, Pull, Deliver, Close}
+use Rattle.tardis_base.specs.declared.requests.Request.TheVariants.{Open, Begin, Get, Put, Delete, Commit, Abort, BeginMerge, ForkPoints, Conflicts, GetFor, Ceiling, Raise, RaiseAuto, Tidy, Stat, Show, Leaves, Pull, Deliver, Settle, Close}
 use Rattle.tardis_base.specs.declared.records.Write.TheVariants.{Put as Value, Delete as Deletion}
 use Rattle.plain_dag.specs.Entries.{entry_of}
 use Rattle.plain_dag.specs.Floors.{Session}
@@ -15,13 +15,15 @@ use Rattle.plain_site.specs.Site.{Site, Txn}
 use Rattle.plain_site.specs.Step.{step}
 use Rattle.session_core.specs.Core.{Core}
 use Rattle.session_core.specs.Machine.{SiteStands}
-use Rattle.session_laws.specs.Laws.{GivesOneReply}
+use Rattle.session_laws.specs.Laws.{can_be_asked, GivesOneReply}
 use Rattle.session_laws.proofs.Answers.{ReplyAlike, session-alike, txn-alike, no-txn-alike, step-alike}
 use Rattle.session_laws.proofs.Sites.{sessions-alike, txns-alike}
 use Rattle.session_laws.proofs.Requests.{open-alike, begin-alike, get-alike, set-alike, get-for-alike, begin-merge-alike}
 use Rattle.session_laws.proofs.Shows.{fork-points-alike, conflicts-alike, stat-alike, show-alike, leaves-shown-alike}
 use Rattle.session_laws.proofs.Commits.{commit-alike}
 use Rattle.session_laws.proofs.Floors.{ceiling-alike, raise-alike, raise-auto-alike}
+use Rattle.session_laws.proofs.Deliveries.{deliver-alike, settle-alike}
+use Rattle.session_laws.proofs.Pulls.{pull-alike}
 
 module _ (core : Core) (a b : Site) (on_a : SiteStands core a) (on_b : SiteStands core b) (n : ℕ) where
   sessions : entry_of n a.sessions ≡ entry_of n b.sessions
@@ -36,39 +38,40 @@ module _ (core : Core) (a b : Site) (on_a : SiteStands core a) (on_b : SiteStand
   for-none : (f g : Session → Answer) → ((s : Session) → entry_of n a.sessions ≡ Some s → ReplyAlike (f s) (g s)) → ReplyAlike (without_txn a n f) (without_txn b n g)
   for-none f g each = no-txn-alike a b n sessions f g (txns-alike core a b on_a on_b n) each
 
-  one-reply : (q : Request) → (step so_far a n q).1 ≡ (step so_far b n q).1
-  one-reply (Open follow) = step-alike a b so_far n (Open follow) (open-alike core a b on_a on_b n follow)
-  one-reply (Begin at) =
+  one-reply : (q : Request) → IsTrue (can_be_asked q) → (step so_far a n q).1 ≡ (step so_far b n q).1
+  one-reply (Open follow) valid = step-alike a b so_far n (Open follow) (open-alike core a b on_a on_b n follow)
+  one-reply (Begin at) valid =
       step-alike a b so_far n (Begin at) (for-none (λ s. begin a n s at) (λ s. begin b n s at) (λ s e. begin-alike core a b on_a on_b n s e at))
-  one-reply (Get k) = step-alike a b so_far n (Get k) (for-txn (λ s t. get a n t k) (λ s t. get b n t k) (λ s t e d. get-alike core a b on_a on_b n t d k))
-  one-reply (Put k v) =
+  one-reply (Get k) valid = step-alike a b so_far n (Get k) (for-txn (λ s t. get a n t k) (λ s t. get b n t k) (λ s t e d. get-alike core a b on_a on_b n t d k))
+  one-reply (Put k v) valid =
       step-alike a b so_far n (Put k v) (for-txn (λ s t. set_key a n t k (Value v)) (λ s t. set_key b n t k (Value v)) (λ s t e d. set-alike core a b on_a on_b n t k (Value v)))
-  one-reply (Delete k) =
+  one-reply (Delete k) valid =
       step-alike a b so_far n (Delete k) (for-txn (λ s t. set_key a n t k Deletion) (λ s t. set_key b n t k Deletion) (λ s t e d. set-alike core a b on_a on_b n t k Deletion))
-  one-reply (Commit flags k) =
+  one-reply (Commit flags k) valid =
       step-alike a b so_far n (Commit flags k)
       (for-txn (λ s t. commit so_far a n t flags k) (λ s t. commit so_far b n t flags k) (λ s t e d. commit-alike core a b on_a on_b n t d flags k))
-  one-reply Abort = step-alike a b so_far n Abort (for-txn (λ s t. abort a n) (λ s t. abort b n) (λ s t e d. refl))
-  one-reply (BeginMerge of) =
+  one-reply Abort valid = step-alike a b so_far n Abort (for-txn (λ s t. abort a n) (λ s t. abort b n) (λ s t e d. refl))
+  one-reply (BeginMerge of) valid =
       step-alike a b so_far n (BeginMerge of) (for-none (λ s. begin_merge a n s of) (λ s. begin_merge b n s of) (λ s e. begin-merge-alike core a b on_a on_b n s e of))
-  one-reply ForkPoints =
+  one-reply ForkPoints valid =
       step-alike a b so_far n ForkPoints (for-txn (λ s t. fork_points_of a t) (λ s t. fork_points_of b t) (λ s t e d. fork-points-alike core a b on_a on_b n t d))
-  one-reply (Conflicts after) =
+  one-reply (Conflicts after) valid =
       step-alike a b so_far n (Conflicts after)
       (for-txn (λ s t. conflicts_of a t after) (λ s t. conflicts_of b t after) (λ s t e d. conflicts-alike core a b on_a on_b n t d after))
-  one-reply (GetFor k x) =
+  one-reply (GetFor k x) valid =
       step-alike a b so_far n (GetFor k x) (for-txn (λ s t. get_for a t k x) (λ s t. get_for b t k x) (λ s t e d. get-for-alike core a b on_a on_b n t d k x))
-  one-reply (Ceiling x) =
+  one-reply (Ceiling x) valid =
       step-alike a b so_far n (Ceiling x) (for-none (λ s. set_ceiling a n s x) (λ s. set_ceiling b n s x) (λ s e. ceiling-alike core a b on_a on_b n s e x))
-  one-reply (Raise x) = step-alike a b so_far n (Raise x) (raise-alike core a b on_a on_b x)
-  one-reply RaiseAuto = step-alike a b so_far n RaiseAuto (raise-auto-alike core a b on_a on_b)
-  one-reply (Tidy count) = refl
-  one-reply Stat = step-alike a b so_far n Stat (stat-alike core a b on_a on_b n)
-  one-reply (Show x) = step-alike a b so_far n (Show x) (show-alike core a b on_a on_b n x)
-  one-reply Leaves = step-alike a b so_far n Leaves (leaves-shown-alike core a b on_a on_b n)
-  one-reply (Pull counts) = refl
-  one-reply (Deliver item) = refl
-  one-reply Close = step-alike a b so_far n Close (for-session (λ s. close_session a n) (λ s. close_session b n) (λ s e. refl))
+  one-reply (Raise x) valid = step-alike a b so_far n (Raise x) (raise-alike core a b on_a on_b x)
+  one-reply RaiseAuto valid = step-alike a b so_far n RaiseAuto (raise-auto-alike core a b on_a on_b)
+  one-reply (Tidy count) valid = refl
+  one-reply Stat valid = step-alike a b so_far n Stat (stat-alike core a b on_a on_b n)
+  one-reply (Show x) valid = step-alike a b so_far n (Show x) (show-alike core a b on_a on_b n x)
+  one-reply Leaves valid = step-alike a b so_far n Leaves (leaves-shown-alike core a b on_a on_b n)
+  one-reply (Pull counts) valid = step-alike a b so_far n (Pull counts) (pull-alike core a b on_a on_b counts)
+  one-reply (Deliver item) valid = step-alike a b so_far n (Deliver item) (deliver-alike core a b on_a on_b item valid)
+  one-reply Settle valid = step-alike a b so_far n Settle (settle-alike core a b on_a on_b)
+  one-reply Close valid = step-alike a b so_far n Close (for-session (λ s. close_session a n) (λ s. close_session b n) (λ s e. refl))
 
 pub gives-one-reply : (core : Core) → GivesOneReply core
-gives-one-reply core a b on_a on_b n q = one-reply core a b on_a on_b n q
+gives-one-reply core a b on_a on_b n q valid = one-reply core a b on_a on_b n q valid

@@ -118,7 +118,7 @@ module _ (core : Core) (a b : Site) (on_a : SiteStands core a) (on_b : SiteStand
   -- ===== Merges
 
   -- the first comparable pair of kept states is the same
-  pair-alike : (xs : List StateId) → ((x : StateId) → IsTrue (is_among x xs) → IsTrue (is_kept a.dag a.collected x)) → comparable_pair a.dag xs ≡ comparable_pair b.dag xs
+  pub pair-alike : (xs : List StateId) → ((x : StateId) → IsTrue (is_among x xs) → IsTrue (is_kept a.dag a.collected x)) → comparable_pair a.dag xs ≡ comparable_pair b.dag xs
   pair-alike [] kept = refl
   pair-alike (x ∷ ys) kept =
       let Pair : Type 0 = StateId × StateId in

@@ -5,7 +5,7 @@ use Rattle.std.proofs.lemmas.Option.{none-some, same_Some}
 use Rattle.tardis_base.specs.declared.ids.StateId.{StateId}
 use Rattle.tardis_base.specs.declared.records.Record.{Record}
 use Rattle.tardis_base.specs.Ids.{same_id, is_among}
-use Rattle.plain_dag.specs.States.{states, arrived, arrival, is_known, children, count_of_site}
+use Rattle.plain_dag.specs.States.{states, arrived, arrival, is_known, parents_of, children, count_of_site}
 use Rattle.plain_dag.specs.Above.{is_above, is_proper_ancestor}
 use Rattle.plain_dag.specs.Forks.{is_leaf, leaves}
 use Rattle.plain_dag.specs.Begin.{is_admitted, last_arrived, last_below}
@@ -17,7 +17,8 @@ use Rattle.plain_dag.proofs.Searches.{found-passes, finds-passing, filtered-pass
 use Rattle.plain_dag.proofs.Leaves.{begins-at-leaves}
 use Rattle.state_dag.specs.Table.{Entry, Table}
 use Rattle.state_dag.specs.Stands.{Shows, Stands}
-use Rattle.state_dag.proofs.Known.{arrived-is_known, kept-is_listed, listed-is_kept, last-kept, knows-root, knows-none, knows-counted}
+use Rattle.plain_dag.proofs.Known.{arrived-is_known}
+use Rattle.state_dag.proofs.Known.{kept-is_listed, listed-is_kept, last-kept, knows-root, knows-none, knows-counted}
 use Rattle.state_dag.proofs.Calls.{counted}
 use Rattle.state_dag.proofs.Standing.{entry-of_id, shown, kept-has_slot, slots-tell}
 use Rattle.fork_points.proofs.Asked.{among-kept, leaf-is_kept, leaf-told}
@@ -101,6 +102,10 @@ module _ (table : Table) (ra : List Record) (ka : List StateId) (rb : List Recor
   -- it arrived after as many, and has the same children
   pub arrival-alike : (x : StateId) → IsTrue (is_kept ra ka x) → arrival ra x ≡ arrival rb x
   arrival-alike x kept = (let w = both-shown x kept in sym w.1.arrived ∙ w.2.arrived)
+
+  -- the same parents
+  pub parents-alike : (x : StateId) → IsTrue (is_kept ra ka x) → parents_of ra x ≡ parents_of rb x
+  parents-alike x kept = (let w = both-shown x kept in sym w.1.has_parents ∙ w.2.has_parents)
 
   same-children : (x : StateId) → IsTrue (is_kept ra ka x) → children ra x ≡ children rb x
   same-children x kept = (let w = both-shown x kept in sym w.1.has_children ∙ w.2.has_children)

@@ -5,3 +5,7 @@ mod Ends
 mod Replies
 mod Takings
 mod Prompts
+mod LineServes
+mod LineEnds
+mod LineTakings
+mod LineLasts

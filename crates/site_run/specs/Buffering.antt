@@ -1,5 +1,6 @@
 -- The buffers of a loop.
 use Rattle.std.specs.Prelude.{◌≡◌, ℕ, ◌+◌, ◌≤◌, [], length}
+use Rattle.tardis_base.specs.Sizes.{longest_frame}
 use Rattle.site_run.specs.declared.runs.Buffers.{Buffers}
 
 -- no bytes are in use, and there is room for a longest answer, and a mebibyte more at most
@@ -8,4 +9,4 @@ pub record IsFresh (b : Buffers) (most : ℕ) : Type 0 where
   pub cutter : b.cutter ≡ []
   pub gathered : b.gathered.bytes ≡ []
   pub room : most ≤ b.gathered.room
-  pub bounded : b.gathered.room ≤ 1048576 + most
+  pub bounded : b.gathered.room ≤ longest_frame + most

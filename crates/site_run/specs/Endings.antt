@@ -1,5 +1,6 @@
 -- How a run ends.
 use Rattle.std.specs.Prelude.{◌≡◌, ◌≢◌, ℕ, ◌+◌, ◌<◌, ◌≤◌, List, [], ◌++◌, length}
+use Rattle.tardis_base.specs.Sizes.{longest_frame}
 use Rattle.tardis_io.specs.declared.statuses.Status.{Status}
 use Rattle.tardis_io.specs.declared.statuses.Status.TheVariants.{Ok, ReadFault, WriteFault, Cut, LongFrame, NoMemory, Spent}
 use Rattle.frame_cut.specs.Frames.{IsPartial, IsLong, Cuts, IsCut}
@@ -13,7 +14,7 @@ most_taken = 1099511627776
 abbrev pub IsRunEnd : Status → Type 0
 IsRunEnd Ok = Unit {0}
 IsRunEnd Cut = Unit {0}
-IsRunEnd (LongFrame len) = 1048576 < len
+IsRunEnd (LongFrame len) = longest_frame < len
 IsRunEnd ReadFault = Unit {0}
 IsRunEnd WriteFault = Unit {0}
 IsRunEnd NoMemory = Unit {0}

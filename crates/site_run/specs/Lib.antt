@@ -6,3 +6,7 @@ pub mod Machines
 pub mod Nexts
 pub mod Endings
 pub mod Prompt
+pub mod LineServing
+pub mod LineNexts
+pub mod LineBuffering
+pub mod LineEndings

@@ -1,6 +1,7 @@
 //! The answers of the frames that a piece of the input completes.
 
 ghost use Rattle.std.specs.Prelude.{◌≡◌, ◌+◌, ◌≤◌, ◌++◌, [], ◌∷◌, ℕ, List, length, IfOk, OnOk, OnErr};
+ghost use Rattle.tardis_base.specs.Sizes.{longest_frame};
 ghost use Rattle.tardis_io.specs.Faults.{HasCause};
 ghost use Rattle.frame_cut.specs.Frames.{IsPartial};
 ghost use Rattle.site_run.specs.Responses.{AnsweredBy, Serves, Whole, Front};
@@ -95,7 +96,7 @@ pub(crate) fn answer_body<T, R: Responder<T>, O: Sink>(
     gathered: &mut Gathered,
     output: &mut O,
 ) -> Result<(), WriteFault>
-    requires body { length body.now ≤ 1048576 }
+    requires body { length body.now ≤ longest_frame }
     requires room { length gathered.old.bytes + R.MOST ≤ gathered.old.room }
     ensures answered { OnOk result ((s : R.State) → R.stands subject.old s
         → AnsweredBy R.may Whole (R.stands subject.new) (O.given output.old) (O.given output.new) gathered.old.bytes gathered.new.bytes s (body.now ∷ [])) }

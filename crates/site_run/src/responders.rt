@@ -1,6 +1,7 @@
 //! What answers bodies, and what a loop may rely on of it.
 
 ghost use Rattle.std.specs.Prelude.{◌≡◌, ◌+◌, ◌≤◌, ◌++◌, ℕ, List, length};
+ghost use Rattle.tardis_base.specs.Sizes.{longest_frame};
 ghost use Rattle.frame_cut.specs.Frames.{frame};
 ghost use Rattle.site_run.specs.Responses.{Responded};
 ghost use Rattle.site_run.specs.Machines.{MachineMay};
@@ -32,7 +33,7 @@ pub trait Responder<T> {
 
     /// Answers a body: puts the answer's bytes behind those that were gathered.
     fn respond(&mut self, subject: &mut T, body: &[u8], out: &mut Gathered)
-        requires body { length body.now ≤ 1048576 }
+        requires body { length body.now ≤ longest_frame }
         requires room { length out.old.bytes + MOST ≤ out.old.room }
         ensures answer { (s : State) → stands subject.old s → Responded may (stands subject.new) s body.now out.old.bytes out.new.bytes }
         ensures room { out.new.room ≡ out.old.room }
@@ -80,7 +81,7 @@ impl<M: Machine> Responder<M> for MachineReplies {
 
 /// Puts the frame of a reply behind what was gathered.
 fn put_reply(reply: &[u8], out: &mut Gathered)
-    requires reply { length reply.now ≤ 1048576 }
+    requires reply { length reply.now ≤ longest_frame }
     requires room { length out.old.bytes + 1048580 ≤ out.old.room }
     ensures bytes { out.new.bytes ≡ out.old.bytes ++ frame reply.now }
     ensures room { out.new.room ≡ out.old.room }

@@ -1,6 +1,7 @@
 //! Runs: the loop over the pieces of an input, and what its pieces are answered by.
 
 ghost use Rattle.std.specs.Prelude.{◌≡◌, ◌+◌, ◌≤◌, ◌<◌, [], List, ℕ, length, map, IfOk};
+ghost use Rattle.tardis_base.specs.Sizes.{longest_frame};
 ghost use Rattle.tardis_io.specs.Told.{WhileTold, Takes};
 ghost use Rattle.tardis_io.specs.Moments.{with_take};
 ghost use Rattle.tardis_io.specs.Faults.{Rose, HasCause};
@@ -17,7 +18,7 @@ use crate::gathered::Gathered;
 use crate::responders::{MachineReplies, Responder};
 use frame_cut::FrameCutter;
 use std::alloc::Global;
-use tardis_base::{Machine, NoMemory};
+use tardis_base::{MAX_FRAME, Machine, NoMemory};
 use tardis_io::{Duplex, Failed, Pair, Sink, Source, Status, WriteFault};
 
 /// Answers the frames of an input by the frames of a machine's replies. All buffers are taken first; where they aren't
@@ -73,13 +74,13 @@ pub fn run_device<M: Machine, D: Duplex>(alloc: Global, machine: &mut M, device:
 }
 
 /// How many bytes are taken at most: 1 TiB.
-const MOST_TAKEN: u64 = 1_099_511_627_776;
+pub(crate) const MOST_TAKEN: u64 = 1_099_511_627_776;
 
 /// How many bytes one take asks for at most.
-const PIECE: usize = 65_536;
+pub(crate) const PIECE: usize = 65_536;
 
 /// How many bytes of answers may be gathered before they are written.
-const GATHERED: usize = 1_048_576;
+pub(crate) const GATHERED: usize = MAX_FRAME;
 
 /// The buffers of a loop.
 #[derive(Drop)]
@@ -119,7 +120,7 @@ pub fn answer_frames<T, R: Responder<T>, D: Duplex>(
     device: &mut D,
 ) -> Status
     ensures outcome { WhileTold (D.left device.old) (D.left device.new) (λ first left. Outcome result (R.stands subject.old)
-        (λ s bodies. AnsweredBy R.may (shape_within (1048576 + R.MOST) result) (R.stands subject.new)
+        (λ s bodies. AnsweredBy R.may (shape_within (longest_frame + R.MOST) result) (R.stands subject.new)
         (D.given device.old) (D.given device.new) [] [] s bodies) first left) }
     ensures prompt { EachTake (D.takes device.old) (D.takes device.new) (λ moment. WhileTold (D.left device.old) moment.left (UpToDate (R.stands subject.old)
         (λ s bodies. AnsweredBy R.may Whole (λ _. Unit {0}) (D.given device.old) moment.given [] [] s bodies))) }
@@ -151,7 +152,7 @@ fn answer_input<T, R: Responder<T>, D: Duplex>(
 ) -> Status
     requires { IsFresh buffers.old R.MOST }
     ensures outcome { WhileTold (D.left device.old) (D.left device.new) (λ first left. Outcome result (R.stands subject.old)
-        (λ s bodies. AnsweredBy R.may (shape_within (1048576 + R.MOST) result) (R.stands subject.new)
+        (λ s bodies. AnsweredBy R.may (shape_within (longest_frame + R.MOST) result) (R.stands subject.new)
         (D.given device.old) (D.given device.new) [] [] s bodies) first left) }
     ensures prompt { EachTake (D.takes device.old) (D.takes device.new) (λ moment. WhileTold (D.left device.old) moment.left (UpToDate (R.stands subject.old)
         (λ s bodies. AnsweredBy R.may Whole (λ _. Unit {0}) (D.given device.old) moment.given [] [] s bodies))) }
@@ -198,7 +199,11 @@ fn answer_input<T, R: Responder<T>, D: Duplex>(
 }
 
 /// Takes at most so many bytes into the front of a buffer.
-fn take_front<D: Duplex>(device: &mut D, buf: &mut [u8], most: usize) -> Result<usize, Failed>
+pub(crate) fn take_front<D: Duplex>(
+    device: &mut D,
+    buf: &mut [u8],
+    most: usize,
+) -> Result<usize, Failed>
     requires some { 0 < most }
     requires room { most ≤ length buf.old }
     ensures bound { IfOk result (λ n. n ≤ most) }

@@ -1,21 +1,22 @@
 -- The memory of a table stays well-formed.
-use Rattle.std.proofs.Common.{◌≡◌, ℕ, ◌+◌, ◌<◌, ◌≤◌, Bool, true, not, cond, eqb, leb, ltb, List, [], ◌∷◌, ◌++◌, length, filter, find, sum, take, get_or, set, Some, None, is_some, IsTrue, inl, inr, refl, sym, ap, ap₂, subst, ◌∙◌, arith}
+use Rattle.std.proofs.Common.{◌≡◌, ℕ, ◌+◌, ◌-◌, ◌<◌, ◌≤◌, Bool, true, false, not, ◌&&◌, cond, eqb, leb, ltb, List, [], ◌∷◌, ◌++◌, length, map, filter, find, sum, take, get_or, set, Some, None, is_some, IsTrue, inl, inr, refl, sym, ap, ap₂, subst, ◌∙◌, arith}
 use Rattle.std.specs.List.{list_all}
+use Rattle.std.specs.Option.{option_map_or}
 use Rattle.std.specs.BTreeMap.{get}
-use Rattle.std.proofs.lemmas.Bool.{and_parts, and_from, cases_Bool, cond-true, cond-false, ltb-true, ltb-false, leb-true, le-leb, lt-ltb}
-use Rattle.std.proofs.lemmas.List.{length-set}
+use Rattle.std.proofs.lemmas.Bool.{cases_eq, or_from, false_from_ne_true, and_parts, and_from, cases_Bool, cond-true, cond-false, ltb-true, ltb-false, leb-true, le-leb, lt-ltb}
+use Rattle.std.proofs.lemmas.List.{length-set, get_or-set_same, get_or-set_other}
 use Rattle.std.proofs.lemmas.Option.{none-some}
 use Rattle.tardis_base.specs.declared.ids.StateId.{StateId}
 use Rattle.tardis_base.specs.declared.ids.Slot.{Slot}
 use Rattle.tardis_base.specs.declared.records.Limits.{Limits}
-use Rattle.tardis_base.specs.Ids.{same_id}
+use Rattle.tardis_base.specs.Ids.{same_id, is_among}
 use Rattle.tardis_base.specs.Valid.{are_limits}
 use Rattle.fork_path.specs.Pairs.{are_ascending_pairs}
 use Rattle.state_dag.specs.declared.StateDag.TheInside.{Inside}
 use Rattle.state_dag.specs.declared.nodes.Node.{Node}
 use Rattle.state_dag.specs.Ids.{id_cmp}
-use Rattle.state_dag.specs.Table.{Entry, Table, entry_at, is_slot, arrive_in_order}
-use Rattle.state_dag.specs.Views.{entry_of, entries_from, entries_in, slot_of_id}
+use Rattle.state_dag.specs.Table.{Entry, Table, entry_at, is_slot, arrive_in_order, arrival_at}
+use Rattle.state_dag.specs.Views.{entry_of, entries_from, entries_in, slot_of_id, is_counted, AllDiffer}
 use Rattle.state_dag.specs.Held.{kept_of, seen, IsHeld}
 use Rattle.state_dag.specs.Grown.{is_slot_among, grown_length, too_long}
 use Rattle.state_dag.specs.Nodes.{with_node, with_slot, AreDistinct}
@@ -26,7 +27,9 @@ use Rattle.state_dag.proofs.KeptEntries.{placed, first-read, entries-first, entr
 use Rattle.state_dag.proofs.Memory.{kept-placed}
 use Rattle.state_dag.proofs.NextSlot.{IsNext}
 use Rattle.state_dag.proofs.Became.{Became, follow-all, follow-as, loses-leaf, slots-of_id, order-last, slot-of_id-last}
-use Rattle.state_dag.proofs.LastSlots.{slot-stays, last-found}
+use Rattle.state_dag.proofs.LastSlots.{slot-stays, last-found, slot-arrives}
+use Rattle.state_dag.proofs.Known.{differ-last}
+use Rattle.plain_dag.proofs.Ids.{same_id-true}
 
 -- ===== The same entries
 
@@ -73,10 +76,13 @@ module _ (a b : Inside) (held : IsHeld a) (limits : b.limits ≡ a.limits) (coun
         short = subst (λ (l : Limits). list_all (λ (e : Entry). leb (length e.path) l.max_path) (seen b).entries ≡ true) (sym limits)
             (subst (λ es. list_all (λ (e : Entry). leb (length e.path) a.limits.max_path) es ≡ true) (sym seen-same) held.short);
         stand_ins = subst (λ (es : List Entry). list_all (λ (e : Entry). list_all (λ (s : Slot). is_some (find (λ (f : Entry). eqb f.slot.0 s.0) es)) e.stand_ins) es ≡ true) (sym seen-same) held.stand_ins;
+        later = subst (λ (es : List Entry). list_all (λ (e : Entry). list_all (λ (s : Slot). ltb e.arrival (option_map_or (λ (f : Entry). f.arrival) (find (λ (f : Entry). eqb f.slot.0 s.0) es) 0)) e.stand_ins) es ≡ true) (sym seen-same) held.later;
         childless = leaves ∙ held.childless ∙ ap childless_slots (sym seen-same);
         sites = ap (λ v. length v.items) counts ∙ held.sites ∙ sym (ap (λ (l : Limits). l.sites) limits);
         fit = subst (λ v. list_all (λ n. ltb n 4294967296) v.items ≡ true) (sym counts) held.fit;
         counted = known ∙ held.counted ∙ sym (ap (λ v. sum v.items + 1) counts);
+        among_counted = subst (λ v. list_all (λ (e : Entry). is_counted v.items e.id) (seen b).entries ≡ true) (sym counts) (subst (λ es. list_all (λ (e : Entry). is_counted a.counts.items e.id) es ≡ true) (sym seen-same) held.among_counted);
+        once = subst (λ (es : List Entry). AllDiffer (map (λ (e : Entry). e.id) es)) (sym seen-same) held.once;
         indexed = λ x. slots x ∙ held.indexed x ∙ sym (ap (λ es. slot_of_id es x) seen-same);
       }
 
@@ -97,6 +103,57 @@ all-implied : (p q : Slot → Bool) → ((s : Slot) → p s ≡ true → q s ≡
 all-implied p q turns [] all = refl
 all-implied p q turns (s ∷ ss) all = (let parts = and_parts (p s) (list_all p ss) all in and_from (q s) (list_all q ss) (turns s parts.0) (all-implied p q turns ss parts.1))
 
+all-two : (p q r : Slot → Bool) → ((s : Slot) → p s ≡ true → q s ≡ true → r s ≡ true) → (ss : List Slot) → list_all p ss ≡ true → list_all q ss ≡ true → list_all r ss ≡ true
+all-two p q r turns [] all also = refl
+all-two p q r turns (s ∷ ss) all also =
+    let parts = and_parts (p s) (list_all p ss) all in
+    let more = and_parts (q s) (list_all q ss) also in
+    and_from (r s) (list_all r ss) (turns s parts.0 more.0) (all-two p q r turns ss parts.1 more.1)
+
+all-both : (p q : Entry → Bool) (es : List Entry) → list_all p es ≡ true → list_all q es ≡ true → list_all (λ e. p e && q e) es ≡ true
+all-both p q [] all also = refl
+all-both p q (e ∷ es) all also =
+    let parts = and_parts (p e) (list_all p es) all in
+    let more = and_parts (q e) (list_all q es) also in
+    and_from (p e && q e) (list_all (λ f. p f && q f) es) (and_from (p e) (q e) parts.0 more.0) (all-both p q es parts.1 more.1)
+
+-- ===== Ids that are counted
+
+-- the next of a site is none of those counted
+fresh-id : (cs : List ℕ) (x : StateId) → x.sequence ≡ get_or cs (x.site - 1) 0 + 1 → (es : List Entry) → list_all (λ e. is_counted cs e.id) es ≡ true → is_among x (map (λ e. e.id) es) ≡ false
+fresh-id cs x next [] all = refl
+fresh-id cs x next (e ∷ es) all =
+    let parts = and_parts (is_counted cs e.id) (list_all (λ (f : Entry). is_counted cs f.id) es) all in
+    or_from (same_id x e.id) (is_among x (map (λ (f : Entry). f.id) es))
+    (false_from_ne_true (same_id x e.id) (λ t.
+    let within = leb-true x.sequence (get_or cs (x.site - 1) 0) (subst (λ z. is_counted cs z ≡ true) (sym (same_id-true x e.id t)) parts.0) in
+    omega arith))
+    (fresh-id cs x next es parts.1)
+
+-- what is counted is so with one more
+counted-more : (cs : List ℕ) (i c : ℕ) (x : StateId) → i < length cs → c ≡ get_or cs i 0 + 1 → is_counted cs x ≡ true → is_counted (set cs i c) x ≡ true
+counted-more cs i c x inside more t =
+    let within = leb-true x.sequence (get_or cs (x.site - 1) 0) t in
+    elim (cases_eq (x.site - 1) i) [
+      | inl e ↦
+          let now = ap (λ (m : ℕ). get_or (set cs i c) m 0) e ∙ get_or-set_same cs i c 0 inside in
+          let was = ap (λ (m : ℕ). get_or cs m 0) e in
+          le-leb x.sequence (get_or (set cs i c) (x.site - 1) 0) (omega arith)
+      | inr ne ↦
+          let same = get_or-set_other cs i (x.site - 1) c 0 ne in
+          le-leb x.sequence (get_or (set cs i c) (x.site - 1) 0) (omega arith)
+    ]
+
+ids-became : (table : Table) (parents : List Slot) (id : StateId) (slot : Slot) (os ns : List Entry) → Follow (Became table parents id slot) os ns → map (λ e. e.id) ns ≡ map (λ e. e.id) os
+ids-became table parents id slot [] [] f = refl
+ids-became table parents id slot [] (n ∷ ns) f = absurd (f)
+ids-became table parents id slot (o ∷ os) [] f = absurd (f)
+ids-became table parents id slot (o ∷ os) (n ∷ ns) f = ap₂ (λ (i : StateId) (is : List StateId). i ∷ is) f.0.id_stays (ids-became table parents id slot os ns f.1)
+
+ids-last : (es : List Entry) (e : Entry) → map (λ f. f.id) (es ++ e ∷ []) ≡ map (λ f. f.id) es ++ e.id ∷ []
+ids-last [] e = refl
+ids-last (f ∷ es) e = ap (λ is. f.id ∷ is) (ids-last es e)
+
 module _ (a b : Inside) (held : IsHeld a) (ns : List Node) (n : Node) (id : StateId) (slot : Slot) (parents : List Slot) (next : IsNext a slot ns n) (count : length ns ≡ length a.nodes.items)
     (nodes : b.nodes.items ≡ with_node ns slot.0 n) (order : b.order.items ≡ with_slot a.order.items a.kept slot) (kept : b.kept ≡ a.kept + 1) where
   pub entries-after : (seen b).entries ≡ entries_in ns (kept_of a) ++ entry_of slot.0 n ∷ []
@@ -111,8 +168,8 @@ module _ (a b : Inside) (held : IsHeld a) (ns : List Node) (n : Node) (id : Stat
     pub held-next : (i c : ℕ) → b.limits ≡ a.limits → b.known ≡ a.known + 1 → b.counts.items ≡ set a.counts.items i c → ((x : StateId) → get id_cmp b.slots x ≡ cond (same_id x id) (Some slot) (get id_cmp a.slots x)) →
         b.leaves.items ≡ filter (λ s. not (is_slot_among s parents)) a.leaves.items ++ slot ∷ [] → a.kept < a.limits.max_kept →
         n.id ≡ id → n.arrival ≡ a.known → n.children.items ≡ [] → n.stand_ins.items ≡ [] → are_ascending_pairs n.path.pairs ≡ true →
-        too_long (seen a) parents ≡ None → length n.path.pairs ≤ a.limits.max_path → i < length a.counts.items → c ≡ get_or a.counts.items i 0 + 1 → c < 4294967296 → IsHeld b
-    held-next i c limits known counts slots leaves room is arrival leaf stands ups short shorts inside fresh fits =
+        too_long (seen a) parents ≡ None → length n.path.pairs ≤ a.limits.max_path → i < length a.counts.items → c ≡ get_or a.counts.items i 0 + 1 → c < 4294967296 → i ≡ id.site - 1 → c ≡ id.sequence → IsHeld b
+    held-next i c limits known counts slots leaves room is arrival leaf stands ups short shorts inside fresh fits at_site is_last =
         let es = (seen a).entries in
         let gs = entries_in ns (kept_of a) in
         let e = entry_of slot.0 n in
@@ -154,6 +211,23 @@ module _ (a b : Inside) (held : IsHeld a) (ns : List Node) (n : Node) (id : Stat
               (follow-all R (λ (z : Entry). list_all (is_slot (seen a)) z.stand_ins) (λ (z : Entry). list_all (is_slot (seen b)) z.stand_ins) (λ o m h t.
               h.slots (is_slot (seen b)) (all-implied (is_slot (seen a)) (is_slot (seen b)) stays o.stand_ins t) (ap is_some own)) es gs f held.stand_ins)
               (ap (list_all (is_slot (seen b))) stands));
+          later = subst (λ ls. list_all (λ (z : Entry). list_all (λ (s : Slot). ltb z.arrival (arrival_at (seen b) s)) z.stand_ins) ls ≡ true) (sym entries-after)
+              (all-last (λ (z : Entry). list_all (λ (s : Slot). ltb z.arrival (arrival_at (seen b) s)) z.stand_ins) gs e
+              (follow-all R (λ (z : Entry). list_all (is_slot (seen a)) z.stand_ins && (list_all (λ (s : Slot). ltb z.arrival (arrival_at (seen a) s)) z.stand_ins && ltb z.arrival a.known))
+              (λ (z : Entry). list_all (λ (s : Slot). ltb z.arrival (arrival_at (seen b) s)) z.stand_ins) (λ o m h t.
+              let lists = and_parts (list_all (is_slot (seen a)) o.stand_ins) (list_all (λ (s : Slot). ltb o.arrival (arrival_at (seen a) s)) o.stand_ins && ltb o.arrival a.known) t in
+              let more = and_parts (list_all (λ (s : Slot). ltb o.arrival (arrival_at (seen a) s)) o.stand_ins) (ltb o.arrival a.known) lists.1 in
+              let last : arrival_at (seen b) slot ≡ n.arrival = ap (λ p. option_map_or (λ (g : Entry). g.arrival) p 0) own in
+              let before = ltb-true o.arrival a.known more.1 in
+              let stay = h.arrival_stays in
+              h.slots (λ s. ltb m.arrival (arrival_at (seen b) s))
+              (all-two (is_slot (seen a)) (λ s. ltb o.arrival (arrival_at (seen a) s)) (λ s. ltb m.arrival (arrival_at (seen b) s))
+              (λ s there less. ap₂ (λ x y. ltb x y) stay (slot-arrives (seen a) (seen b) (seen a) parents id slot gs e f entries-after refl slot-fresh s there) ∙ less)
+              o.stand_ins lists.0 more.0)
+              (lt-ltb m.arrival (arrival_at (seen b) slot) (omega arith))) es gs f
+              (all-both (λ (z : Entry). list_all (is_slot (seen a)) z.stand_ins) (λ (z : Entry). list_all (λ (s : Slot). ltb z.arrival (arrival_at (seen a) s)) z.stand_ins && ltb z.arrival a.known) es held.stand_ins
+              (all-both (λ (z : Entry). list_all (λ (s : Slot). ltb z.arrival (arrival_at (seen a) s)) z.stand_ins) (λ (z : Entry). ltb z.arrival a.known) es held.later held.arrived)))
+              (ap (list_all (λ (s : Slot). ltb n.arrival (arrival_at (seen b) s))) stands));
           childless = leaves ∙ ap (λ (ss : List Slot). filter (λ s. not (is_slot_among s parents)) ss ++ slot ∷ []) held.childless
               ∙ ap (λ (ss : List Slot). ss ++ slot ∷ []) (sym (leaves-follow parents es gs (follow-as R (LosesLeaf parents) (loses-leaf (seen a) parents id slot) es gs f)))
               ∙ sym (ap childless_slots entries-after ∙ leaves-last gs e leaf);
@@ -165,6 +239,20 @@ module _ (a b : Inside) (held : IsHeld a) (ns : List Node) (n : Node) (id : Stat
               let sums = ap sum counts in
               omega arith
               );
+          among_counted = subst (λ ls. list_all (λ (z : Entry). is_counted b.counts.items z.id) ls ≡ true) (sym entries-after)
+              (subst (λ cs. list_all (λ (z : Entry). is_counted cs z.id) (gs ++ e ∷ []) ≡ true) (sym counts)
+              (all-last (λ (z : Entry). is_counted (set a.counts.items i c) z.id) gs e
+              (follow-all R (λ (z : Entry). is_counted a.counts.items z.id) (λ (z : Entry). is_counted (set a.counts.items i c) z.id) (λ o m h t.
+              subst (λ z. is_counted (set a.counts.items i c) z ≡ true) (sym h.id_stays) (counted-more a.counts.items i c o.id inside fresh t)) es gs f held.among_counted)
+              (subst (λ z. is_counted (set a.counts.items i c) z ≡ true) (sym is)
+              (let now = ap (λ (m : ℕ). get_or (set a.counts.items i c) m 0) (sym at_site) ∙ get_or-set_same a.counts.items i c 0 inside in
+              le-leb id.sequence (get_or (set a.counts.items i c) (id.site - 1) 0) (omega arith)))));
+          once = subst (λ (ls : List Entry). AllDiffer (map (λ (z : Entry). z.id) ls)) (sym entries-after)
+              (subst AllDiffer (sym (ids-last gs e))
+              (subst (λ is. AllDiffer (is ++ n.id ∷ [])) (sym (ids-became (seen a) parents id slot es gs f))
+              (differ-last (map (λ (z : Entry). z.id) es) n.id held.once
+              (subst (λ z. is_among z (map (λ (w : Entry). w.id) es) ≡ false) (sym is)
+              (fresh-id a.counts.items id (let here = ap (λ (m : ℕ). get_or a.counts.items m 0) at_site in omega arith) es held.among_counted)))));
           indexed = λ x.
               slots x
               ∙ ap (λ o. cond (same_id x id) (Some slot) o) (held.indexed x ∙ sym (slots-of_id (seen a) parents id slot es gs f x))

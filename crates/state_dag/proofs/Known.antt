@@ -16,6 +16,7 @@ use Rattle.plain_dag.specs.Collection.{is_kept, kept_states}
 use Rattle.plain_dag.proofs.States.{Grows, dag-grows, any-witness, arrival-newest, arrival_is_below, child_is_known, child_arrives_later}
 use Rattle.plain_dag.proofs.Ids.{same_test, not-both, same_id_turns, same_id-true, same_id_self, among-append, among-first, among-cases}
 use Rattle.plain_dag.proofs.Histories.{known-stays, known-cases, newest-is-known}
+use Rattle.plain_dag.proofs.Known.{arrived-is_known}
 use Rattle.plain_dag.proofs.Searches.{among-filter, filtered-passes}
 use Rattle.state_dag.proofs.Places.{AllDiffer}
 
@@ -170,16 +171,6 @@ known-is_arrived (r ∷ rs) x h =
       | inr m ↦ or_left (is_among x (arrived rs)) (is_among x (r.id ∷ [])) (known-is_arrived rs x m)
     ]
 
-pub arrived-is_known : (rs : List Record) (x : StateId) → IsTrue (is_among x (arrived rs)) → IsTrue (is_known rs x)
-arrived-is_known [] x h = h
-arrived-is_known (r ∷ rs) x h = elim (or_cases (is_among x (arrived rs)) (is_among x (r.id ∷ [])) (sym (among-append x (arrived rs) (r.id ∷ [])) ∙ h)) [
-  | inl old ↦ known-stays rs r x (arrived-is_known rs x old)
-  | inr new ↦ elim (among-cases x r.id [] new) [
-    | inl e ↦ subst (λ z. IsTrue (is_known (r ∷ rs) z)) (sym e) (newest-is-known rs r)
-    | inr none ↦ not-both true refl (sym none)
-  ]
-]
-
 pub kept-is_listed : (rs : List Record) (ks : List StateId) (x : StateId) → IsTrue (is_kept rs ks x) → IsTrue (is_among x (kept_states rs ks))
 kept-is_listed rs ks x h =
     let parts = and_parts (is_known rs x) (not (is_among x ks)) h in
@@ -205,14 +196,14 @@ kept-newest rs ks r out =
 
 -- ===== States that differ
 
-differ-last : (xs : List StateId) (y : StateId) → AllDiffer xs → is_among y xs ≡ false → AllDiffer (xs ++ y ∷ [])
+pub differ-last : (xs : List StateId) (y : StateId) → AllDiffer xs → is_among y xs ≡ false → AllDiffer (xs ++ y ∷ [])
 differ-last [] y d out = (refl, tt)
 differ-last (x ∷ xs) y d out =
     let turned : same_id x y ≡ false = same_id_turns x y ∙ false_from_ne_true (same_id y x) (λ t. both_ways (is_among y (x ∷ xs)) out (or_left (same_id y x) (is_among y xs) t)) in
     let later : is_among y xs ≡ false = false_from_ne_true (is_among y xs) (λ t. both_ways (is_among y (x ∷ xs)) out (or_right (same_id y x) (is_among y xs) t)) in
     (among-append x xs (y ∷ []) ∙ rw (d.0, turned) refl, differ-last xs y d.1 later)
 
-differ-filter : (p : StateId → Bool) (xs : List StateId) → AllDiffer xs → AllDiffer (filter p xs)
+pub differ-filter : (p : StateId → Bool) (xs : List StateId) → AllDiffer xs → AllDiffer (filter p xs)
 differ-filter p [] d = tt
 differ-filter p (x ∷ xs) d = elim (cases_Bool (p x)) [
   | inl t ↦ rw t (false_from_ne_true (is_among x (filter p xs)) (λ h. both_ways (is_among x xs) d.0 (filtered-passes p xs x h).0), differ-filter p xs d.1)

@@ -60,6 +60,11 @@ module _ (old new table : Table) (parents : List Slot) (x : StateId) (slot : Slo
   arrives-as : (s : Slot) (o : Entry) → entry_at old s ≡ Some o → arrival_at new s ≡ o.arrival
   arrives-as s o is = (let w = stays-found s o is in ap (λ p. option_map_or (λ (g : Entry). g.arrival) p 0) w.1 ∙ w.2.arrival_stays)
 
+  pub slot-arrives : (s : Slot) → is_slot old s ≡ true → arrival_at new s ≡ arrival_at old s
+  slot-arrives s there =
+      let o = some-entry (entry_at old s) there in
+      arrives-as s o.0 o.1 ∙ sym (ap (λ p. option_map_or (λ (g : Entry). g.arrival) p 0) o.1)
+
   pub kept-stays : arrive_in_order new.entries ≡ true → (s : Slot) → IsTrue (is_kept_at old s) → IsTrue (is_kept_at new s) × (arrival_at new s ≡ arrival_at old s)
   kept-stays up s h =
       let there = (and_parts (is_slot old s) (arrive_in_order old.entries) h).0 in

@@ -3,7 +3,6 @@ pub mod Places
 pub mod Following
 pub mod Rising
 pub mod LeafSlots
-pub mod KeptSlots
 pub mod KeptEntries
 pub mod Memory
 pub mod NextSlot
@@ -25,9 +24,7 @@ pub mod GrownEntries
 pub mod GrownCounts
 pub mod Growing
 pub mod Added
-pub mod GrownNodes
 pub mod Opening
-pub mod FirstBranches
 pub mod Passing
 pub mod NodeLists
 pub mod LongPaths
@@ -41,3 +38,8 @@ pub mod GrownTables
 pub mod HeldNext
 pub mod AddSteps
 pub mod NamedPaths
+pub mod LeftNodes
+pub mod LeftEntries
+pub mod LeftTables
+pub mod LeftSlots
+pub mod LeftMemory

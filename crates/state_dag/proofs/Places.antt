@@ -1,4 +1,5 @@
 -- Entries by the places of their nodes.
+pub use Rattle.state_dag.specs.Views.{AllDiffer}
 use Rattle.std.proofs.Common.{◌≡◌, ℕ, ◌+◌, ◌<◌, ◌≤◌, true, false, cond, ◌≢◌, List, [], ◌∷◌, ◌++◌, length, map, get_or, find, Option, Some, None, is_some, eqb, refl, sym, ◌∙◌, ap, subst, inl, inr, eq-eqb, eqb-true, arith}
 use Rattle.std.proofs.lemmas.Bool.{cases_Bool, both_ways, false_from_ne_true, or_left, or_right, cases_lt, cond-true, cond-false}
 use Rattle.std.specs.Option.{option_map}
@@ -10,7 +11,7 @@ use Rattle.tardis_base.specs.Ids.{same_id, is_among}
 use Rattle.plain_dag.proofs.Ids.{same_id-true, same_id_from}
 use Rattle.state_dag.specs.declared.nodes.Node.{Node}
 use Rattle.state_dag.specs.Table.{Entry}
-use Rattle.state_dag.specs.Views.{entry_of, entries_from, slot_or, place_of_id}
+use Rattle.state_dag.specs.Views.{entry_of, entries_from}
 use Rattle.state_dag.specs.Answers.{next_of, slot_after}
 
 -- at the number of a place its entry is found
@@ -36,13 +37,6 @@ entry-found ns k d lt =
     let same : 0 + k ≡ k = omega arith in
     subst (λ m. find (λ e. eqb e.slot.0 m) (entries_from 0 ns) ≡ Some (entry_of m (get_or ns k d))) same (find-place ns 0 k d lt)
 
--- what is found is at a place
-pub place-of_slot : (ns : List Node) (k : ℕ) → is_some (find (λ e. eqb e.slot.0 k) (entries_from 0 ns)) ≡ true → k < length ns
-place-of_slot ns k there = elim (cases_lt k (length ns)) [
-  | inl lt ↦ lt
-  | inr le ↦ absurd (both_ways (is_some (find (λ e. eqb e.slot.0 k) (entries_from 0 ns))) (ap is_some (find-beyond ns 0 k (omega arith))) there)
-]
-
 pub length-entries : (ns : List Node) (p : ℕ) → length (entries_from p ns) ≡ length ns
 length-entries [] p = refl
 length-entries (n ∷ ns) p = let e = length-entries ns (p + 1) in omega arith
@@ -52,47 +46,6 @@ length-entries (n ∷ ns) p = let e = length-entries ns (p + 1) in omega arith
 -- the ids of the nodes from a place on
 abbrev pub ids_from : ℕ → List Node → List StateId
 ids_from p ns = map (λ e. e.id) (entries_from p ns)
-
--- the last place that has an id has it
-pub place-found : (ns : List Node) (p : ℕ) (x : StateId) (s : Slot) → place_of_id p ns x ≡ Some s →
-    (p ≤ s.0) × (option_map (λ e. e.id) (find (λ e. eqb e.slot.0 s.0) (entries_from p ns)) ≡ Some x)
-place-found [] p x s h = absurd (none-some s h)
-place-found (n ∷ ns) p x s h = go (place-found ns (p + 1) x s) (place_of_id (p + 1) ns x) refl h
-  where
-    go : (place_of_id (p + 1) ns x ≡ Some s → (p + 1 ≤ s.0) × (option_map (λ e. e.id) (find (λ e. eqb e.slot.0 s.0) (entries_from (p + 1) ns)) ≡ Some x)) →
-        (o : Option Slot) → place_of_id (p + 1) ns x ≡ o → slot_or o (cond (same_id x n.id) (Some (record { 0 = p })) None) ≡ Some s →
-        (p ≤ s.0) × (option_map (λ e. e.id) (find (λ e. eqb e.slot.0 s.0) (entries_from p (n ∷ ns))) ≡ Some x)
-    go further (Some t) is e =
-        let rest = further (is ∙ e) in
-        let behind = rest.0 in
-        let other : eqb p s.0 ≡ false = false_from_ne_true (eqb p s.0) (λ t. let m = eqb-true p s.0 t in omega arith) in
-        (omega arith, rw other rest.1)
-    go further None is e = elim (cases_Bool (same_id x n.id)) [
-      | inl t ↦
-          let slot : Slot = record { 0 = p } in
-          let same : slot ≡ s = same_Some slot s (sym (cond-true (same_id x n.id) (Some slot) None t) ∙ e) in
-          let place : p ≡ s.0 = ap (λ (z : Slot). z.0) same in
-          (omega arith, rw (eq-eqb p s.0 place) (ap (λ z. Some z) (sym (same_id-true x n.id t))))
-      | inr f ↦
-          let slot : Slot = record { 0 = p } in
-          absurd (none-some s (sym (cond-false (same_id x n.id) (Some slot) None f) ∙ e))
-    ]
-
--- an id without a place is none of the ids
-pub place-missing : (ns : List Node) (p : ℕ) (x : StateId) → ◌≡◌ {A = Option Slot} (place_of_id p ns x) None → is_among x (ids_from p ns) ≡ false
-place-missing [] p x h = refl
-place-missing (n ∷ ns) p x h = go (place-missing ns (p + 1) x) (place_of_id (p + 1) ns x) refl h
-  where
-    go : (◌≡◌ {A = Option Slot} (place_of_id (p + 1) ns x) None → is_among x (ids_from (p + 1) ns) ≡ false) →
-        (o : Option Slot) → place_of_id (p + 1) ns x ≡ o → slot_or o (cond (same_id x n.id) (Some (record { 0 = p })) None) ≡ None →
-        is_among x (ids_from p (n ∷ ns)) ≡ false
-    go further (Some t) is e = absurd (none-some t (sym e))
-    go further None is e = elim (cases_Bool (same_id x n.id)) [
-      | inl t ↦
-          let slot : Slot = record { 0 = p } in
-          absurd (none-some slot (sym e ∙ cond-true (same_id x n.id) (Some slot) None t))
-      | inr f ↦ rw f (further is)
-    ]
 
 -- the id behind so many others is that at so many places further on
 pub named-at : (ns : List Node) (p : ℕ) (zs ys : List StateId) (x : StateId) → ids_from p ns ≡ zs ++ x ∷ ys →
@@ -137,11 +90,6 @@ after-last (n ∷ m ∷ ns) p k e =
     rw other (after-last (m ∷ ns) (p + 1) k (omega arith))
 
 -- ===== Ids that differ
-
--- none of these is there twice
-abbrev pub AllDiffer : List StateId → Type 0
-AllDiffer [] = Unit {0}
-AllDiffer (x ∷ xs) = (is_among x xs ≡ false) × AllDiffer xs
 
 first-named : (ns : List Node) (p : ℕ) → slice_get (ids_from p ns) 0 ≡ option_map (λ e. e.id) (find (λ e. eqb e.slot.0 p) (entries_from p ns))
 first-named [] p = refl

@@ -7,15 +7,10 @@ use Rattle.std.proofs.lemmas.List.{map-id}
 use Rattle.tardis_base.specs.declared.ids.StateId.{StateId}
 use Rattle.state_dag.specs.declared.nodes.Node.{Node}
 use Rattle.state_dag.specs.Table.{Entry}
-use Rattle.state_dag.specs.Views.{entry_of, entries_from, place_of_id}
+use Rattle.state_dag.specs.Views.{entry_of, entries_from}
 use Rattle.state_dag.proofs.Places.{length-entries}
 use Rattle.state_dag.proofs.Passing.{all-at}
 use Rattle.state_dag.proofs.NodeLists.{entry-in}
-use Rattle.state_dag.proofs.GrownNodes.{place-stays}
-
-pub all-from-at : {X : Type 0} (test : X → Bool) (xs : List X) → ((k : ℕ) (d : X) → k < length xs → test (get_or xs k d) ≡ true) → list_all test xs ≡ true
-all-from-at test [] each = refl
-all-from-at test (x ∷ xs) each = and_from (test x) (list_all test xs) (each 0 x (omega arith)) (all-from-at test xs (λ k d lt. each (suc k) d (omega arith)))
 
 pub all-last : {X : Type 0} (test : X → Bool) (xs : List X) (x : X) → list_all test xs ≡ true → test x ≡ true → list_all test (xs ++ x ∷ []) ≡ true
 all-last test [] x all t = and_from (test x) true t refl
@@ -31,15 +26,6 @@ module _ (ns ms : List Node) (same : entries_from 0 ns ≡ entries_from 0 ms) wh
   same-at k d lt =
       let count = same-count in
       sym (entry-in ns k d (entry_of 0 d) lt) ∙ ap (λ es. get_or es k (entry_of 0 d)) same ∙ entry-in ms k d (entry_of 0 d) (omega arith)
-
-  -- a test of entries is passed alike
-  pub all-same : (test : Entry → Bool) → list_all (λ n. test (entry_of 0 n)) ms ≡ true → ((k : ℕ) (n : Node) → test (entry_of k n) ≡ test (entry_of 0 n)) → list_all (λ n. test (entry_of 0 n)) ns ≡ true
-  all-same test all plain = all-from-at (λ n. test (entry_of 0 n)) ns (λ k d lt.
-      let count = same-count in
-      sym (plain k (get_or ns k d)) ∙ ap test (same-at k d lt) ∙ plain k (get_or ms k d) ∙ all-at (λ n. test (entry_of 0 n)) ms k d all (omega arith))
-
-  pub places-same : (x : StateId) → place_of_id 0 ns x ≡ place_of_id 0 ms x
-  places-same x = place-stays 0 ms ns x same-count (λ k d lt. let count = same-count in ap (λ (e : Entry). e.id) (same-at k d (omega arith)))
 
 -- ===== Counts
 

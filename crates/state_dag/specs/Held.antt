@@ -8,8 +8,8 @@ use Rattle.tardis_base.specs.Valid.{are_limits}
 use Rattle.fork_path.specs.Pairs.{are_ascending_pairs}
 use Rattle.state_dag.specs.declared.StateDag.TheInside.{Inside}
 use Rattle.state_dag.specs.Ids.{id_cmp}
-use Rattle.state_dag.specs.Table.{Table, is_slot, arrive_in_order}
-use Rattle.state_dag.specs.Views.{entries_in, is_childless, slot_of_id}
+use Rattle.state_dag.specs.Table.{Table, is_slot, arrive_in_order, arrival_at}
+use Rattle.state_dag.specs.Views.{entries_in, is_childless, slot_of_id, is_counted, AllDiffer}
 use Rattle.state_dag.specs.Nodes.{are_places, AreDistinct}
 
 -- the slots of the kept states
@@ -27,9 +27,9 @@ seen a = record {
 
 -- the limits are valid; there is a kept state, and there are no more than may be; as many slots are listed as there are
 -- nodes, each the place of another node, and no more than states may be kept; the kept states stand in arrival order, and
--- all have arrived; their paths ascend and are short; their children stand in slots of kept states; the leaves are those
--- without a child; there is a count of 32 bits for each site, and with the root as many have arrived as are counted; each
--- state's slot is the last that has its id
+-- all have arrived; their paths ascend and are short; their children stand in slots of kept states that arrived later; the
+-- leaves are those without a child; there is a count of 32 bits for each site, and with the root as many have arrived as are
+-- counted, all that are kept among them; no state is kept twice, and each state's slot is the last that has its id
 pub record IsHeld (a : Inside) : Type 0 where
   pub valid : IsTrue (are_limits a.limits)
   pub some : 0 < a.kept
@@ -44,8 +44,11 @@ pub record IsHeld (a : Inside) : Type 0 where
   pub ascending : IsTrue (list_all (λ e. are_ascending_pairs e.path) (seen a).entries)
   pub short : IsTrue (list_all (λ e. nat_le (length e.path) a.limits.max_path) (seen a).entries)
   pub stand_ins : IsTrue (list_all (λ e. list_all (is_slot (seen a)) e.stand_ins) (seen a).entries)
+  pub later : IsTrue (list_all (λ e. list_all (λ s. nat_lt e.arrival (arrival_at (seen a) s)) e.stand_ins) (seen a).entries)
   pub childless : a.leaves.items ≡ map (λ e. e.slot) (filter is_childless (seen a).entries)
   pub sites : length a.counts.items ≡ a.limits.sites
   pub fit : IsTrue (list_all (λ n. nat_lt n (2 ^ 32)) a.counts.items)
   pub counted : a.known ≡ sum a.counts.items + 1
+  pub among_counted : IsTrue (list_all (λ e. is_counted a.counts.items e.id) (seen a).entries)
+  pub once : AllDiffer (map (λ e. e.id) (seen a).entries)
   pub indexed : (x : StateId) → get id_cmp a.slots x ≡ slot_of_id (seen a).entries x

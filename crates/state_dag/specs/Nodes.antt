@@ -25,10 +25,6 @@ table_of nodes = record {
   entries = entries_from 0 nodes;
 }
 
--- and with limits
-abbrev pub table_within : Limits → List Node → Table
-table_within limits nodes = record (table_of nodes) { limits = limits }
-
 -- and with the number of states that have arrived
 abbrev pub table_after : ℕ → List Node → Table
 table_after known nodes = record (table_of nodes) { known = known }
@@ -58,10 +54,6 @@ AreDistinct (slot ∷ slots) = (is_slot_among slot slots ≡ false) × AreDistin
 abbrev pub Rise : (Slot → ℕ) → List Slot → Type 0
 Rise number [] = Unit {0}
 Rise number (slot ∷ slots) = IsTrue (list_all (λ s. nat_lt (number slot) (number s)) slots) × Rise number slots
-
--- no path has more than so many pairs
-abbrev pub are_short : ℕ → List Node → Bool
-are_short most nodes = list_all (λ n. nat_le (length n.path.pairs) most) nodes
 
 -- this child, if there is one, is at or above the state at the slot
 abbrev pub is_child_above : Table → Slot → Option Node → Bool

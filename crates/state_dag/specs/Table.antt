@@ -1,9 +1,10 @@
 -- What the table of states keeps.
-use Rattle.std.specs.Prelude.{ℕ, Bool, true, false, ◌==◌, ◌&&◌, List, [], ◌∷◌, find, Option, is_some, nat_le, nat_lt}
+use Rattle.std.specs.Prelude.{ℕ, Bool, true, false, ◌==◌, ◌&&◌, List, [], ◌∷◌, find, Option, is_some, nat_le, nat_lt, map}
 use Rattle.std.specs.Option.{option_map, option_map_or}
 use Rattle.tardis_base.specs.declared.ids.StateId.{StateId}
 use Rattle.tardis_base.specs.declared.ids.Slot.{Slot}
 use Rattle.tardis_base.specs.declared.records.Limits.{Limits}
+use Rattle.tardis_base.specs.Ids.{is_among}
 use Rattle.fork_path.specs.Pairs.{has_pairs}
 
 -- of one kept state: its slot, its id, how many states had arrived before it, its parents, all its children, the slots in
@@ -35,6 +36,10 @@ id_at table slot = option_map (λ e. e.id) (entry_at table slot)
 -- a state is kept at the slot
 abbrev pub is_slot : Table → Slot → Bool
 is_slot table slot = is_some (entry_at table slot)
+
+-- a state of this id is kept in the table
+abbrev pub is_listed : Table → StateId → Bool
+is_listed table x = is_among x (map (λ e. e.id) table.entries)
 
 -- each arrived before the next
 abbrev pub arrive_in_order : List Entry → Bool

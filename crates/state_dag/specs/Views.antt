@@ -1,10 +1,10 @@
 -- How the table reads its memory.
-use Rattle.std.specs.Prelude.{ℕ, ◌+◌, Bool, ◌==◌, length, filter, map, List, [], ◌∷◌, Option, Some, None, slice_get, if◌then◌else◌}
+use Rattle.std.specs.Prelude.{◌≡◌, ℕ, ◌+◌, ◌-◌, Bool, false, ◌==◌, nat_le, slice_index_or, length, filter, map, List, [], ◌∷◌, Option, Some, None, slice_get, if◌then◌else◌}
 use Rattle.std.specs.Option.{option_map}
 use Rattle.std.specs.List.{cons_option, range_with_len}
 use Rattle.tardis_base.specs.declared.ids.StateId.{StateId}
 use Rattle.tardis_base.specs.declared.ids.Slot.{Slot}
-use Rattle.tardis_base.specs.Ids.{same_id}
+use Rattle.tardis_base.specs.Ids.{same_id, is_among}
 use Rattle.fork_path.specs.Pairs.{has_pair}
 use Rattle.state_dag.specs.declared.nodes.Node.{Node}
 use Rattle.state_dag.specs.Table.{Entry}
@@ -47,12 +47,14 @@ slot_of_id (e ∷ es) x =
     let later = slot_of_id es x in
     slot_or later (if same_id x e.id then Some e.slot else None)
 
--- the last place, from this one on, of the state
-abbrev pub place_of_id : ℕ → List Node → StateId → Option Slot
-place_of_id place [] x = None
-place_of_id place (node ∷ nodes) x =
-    let later = place_of_id (place + 1) nodes x in
-    slot_or later (if same_id x node.id then Some (record { 0 = place }) else None)
+-- none of these is there twice
+abbrev pub AllDiffer : List StateId → Type 0
+AllDiffer [] = Unit {0}
+AllDiffer (x ∷ xs) = (is_among x xs ≡ false) × AllDiffer xs
+
+-- the state is one of those counted, or the root
+abbrev pub is_counted : List ℕ → StateId → Bool
+is_counted counts x = nat_le x.sequence (slice_index_or counts (x.site - 1) 0)
 
 -- the branches of the entry's state that are among these pairs, each with the state's id
 abbrev pub named_branches : List (ℕ × ℕ) → Entry → List (StateId × ℕ)

@@ -1,7 +1,7 @@
 //! The table of states: their order by arrival numbers and fork paths.
 #![tactic(auto)]
 
-ghost use Rattle.std.specs.Prelude.{◌≡◌, ℕ, ◌+◌, ◌-◌, ◌≤◌, ◌<◌, false, unwrap_or, slice_get, slice_index_or, Some, None, List, [], ◌∷◌, length, map, IsTrue, IfOk, IfSome, OnErr};
+ghost use Rattle.std.specs.Prelude.{◌≡◌, ℕ, ◌+◌, ◌-◌, ◌≤◌, ◌<◌, false, unwrap_or, slice_get, slice_index_or, Some, None, List, [], ◌∷◌, length, map, IsTrue, IsSome, IfOk, IfSome, OnErr};
 ghost use Rattle.std.specs.List.{list_all};
 ghost use Rattle.std.specs.Option.{option_and_then, option_map};
 ghost use Rattle.tardis_base.specs.declared.ids.StateId.{StateId};
@@ -19,9 +19,11 @@ ghost use Rattle.state_dag.specs.Table.{Entry, entry_at, id_at, is_slot, is_kept
 ghost use Rattle.state_dag.specs.Views.{entry_of};
 ghost use Rattle.state_dag.specs.Stands.{Stands};
 ghost use Rattle.state_dag.specs.Shared.{shared_stand_in};
+ghost use Rattle.state_dag.specs.Detached.{shared_slot, without_slot};
 ghost use Rattle.state_dag.specs.Answers.{MayBeAdded, AddedTo, IsNewSlot, KeepsSlots, next_of, slot_after};
 
 mod changes;
+mod collection;
 mod growth;
 mod leads;
 mod named_paths;
@@ -34,13 +36,15 @@ mod sums;
 mod tests;
 
 use changes::{grow, put_node, set_count};
+use collection::{free_slot, hand_over};
 use growth::{check_path, new_node};
 use leads::gains;
 use named_paths::named_path;
 use nodes::{Node, ROOT, first_from, is_node_above, node_at, root_node};
 use rooms::make_room;
 use slots::{
-    common_slot, drop_slots, list_slot, make_slot_room, next_slot, put_slot, slot_at, slot_in,
+    common_slot, drop_id, drop_slot, drop_slots, list_slot, make_slot_room, next_slot, put_slot,
+    slot_at, slot_in,
 };
 use std::alloc::Global;
 use std::collections::BTreeMap;
@@ -153,6 +157,50 @@ impl StateDag {
         Ok(slot)
     }
 
+    /// Lets the state at the slot join the collected ones, and answers the slot of its stand-in, which is the one that all
+    /// its children share.
+    ///
+    /// From then on the slot names no state; a state that is added may get it. Children that stood there stand where the
+    /// stand-in is, and a fork's branches are in no path any more. Records stay: the state is still a parent of its children
+    /// and a child of its parents.
+    ///
+    /// It takes no memory. The cost grows with the number of slots, with the children of the states that are kept before
+    /// this one, and for a fork with the paths of those kept behind it.
+    pub fn detach(&mut self, slot: Slot) -> Slot
+        requires { IsSome (shared_slot self.old slot) }
+        ensures stand_in { shared_slot self.old slot ≡ Some result }
+        ensures detached { (rs : List Record) (ks : List StateId) → Stands self.old rs ks → (x : StateId) → id_at self.old slot ≡ Some x
+            → Stands self.new rs (x ∷ ks) }
+        ensures shared { (rs : List Record) (ks : List StateId) → Stands self.old rs ks → (x : StateId) → id_at self.old slot ≡ Some x
+            → id_at self.old result ≡ shared_stand_in rs ks x }
+        ensures above { (rs : List Record) (ks : List StateId) → Stands self.old rs ks → (x : StateId) → id_at self.old slot ≡ Some x
+            → (s t : Slot) → (s ≡ slot → ⊥) → (t ≡ slot → ⊥) → IsTrue (is_slot self.old s) → IsTrue (is_slot self.old t)
+            → is_slot_above self.new s t ≡ is_slot_above self.old s t }
+        ensures gone { id_at self.new slot ≡ None }
+        ensures names { (s : Slot) → (s ≡ slot → ⊥) → id_at self.new s ≡ id_at self.old s }
+        ensures others { (s : Slot) → (s ≡ slot → ⊥) → is_slot self.new s ≡ is_slot self.old s }
+        ensures kept { (s : Slot) → (s ≡ slot → ⊥) → is_kept_at self.new s ≡ is_kept_at self.old s }
+        ensures arrivals { (s : Slot) → (s ≡ slot → ⊥) → arrival_at self.new s ≡ arrival_at self.old s }
+        ensures stays { IsTrue (is_kept_at self.new result) }
+        ensures slots { map (λ e. e.slot) self.new.entries ≡ without_slot slot (map (λ e. e.slot) self.old.entries) }
+        ensures limits { self.new.limits ≡ self.old.limits }
+        ensures counts { self.new.counts ≡ self.old.counts }
+        ensures known { self.new.known ≡ self.old.known }
+    {
+        let place = self.place(slot);
+        let node = self.node(slot);
+        let id = node.id;
+        let heir = node.stand_ins[0];
+        let is_fork = node.children.len() > 1;
+        drop_slot(&self.nodes, &mut self.leaves, slot);
+        drop_id(&mut self.slots, id);
+        let kept = &self.order[..self.kept as usize];
+        hand_over(&mut self.nodes, kept, place, slot, heir, is_fork);
+        free_slot(&mut self.order, place);
+        self.kept -= 1;
+        heir
+    }
+
     /// The limits with which the table was made, in constant time.
     pub fn limits(&self) -> &Limits
         ensures { result.now ≡ self.now.limits }
@@ -197,8 +245,9 @@ impl StateDag {
         }
     }
 
-    /// How many of the kept states arrived before the one at the slot.
-    fn place(&self, slot: Slot) -> usize
+    /// The place of the state at the slot among the kept ones: how many of these arrived before it. The cost grows with the
+    /// logarithm of the number of kept states.
+    pub fn place(&self, slot: Slot) -> usize
         requires { IsTrue (is_slot self.now slot) }
         ensures within { result < length self.now.entries }
         ensures at { (d : Entry) → (slice_index_or self.now.entries result d).slot ≡ slot }
@@ -313,6 +362,7 @@ impl StateDag {
     pub fn child_slots(&self, slot: Slot) -> &[Slot]
         requires { IsTrue (is_slot self.now slot) }
         ensures slots { IsTrue (list_all (is_slot self.now) result.now) }
+        ensures is { option_map (λ e. e.stand_ins) (entry_at self.now slot) ≡ Some result.now }
         ensures stand_ins { (rs : List Record) (ks : List StateId) → Stands self.now rs ks → (x : StateId) → id_at self.now slot ≡ Some x
             → map (id_at self.now) result.now ≡ map (λ c. Some (stand_in rs ks c)) (children rs x) }
     {
@@ -325,6 +375,7 @@ impl StateDag {
     /// The cost grows with the number of children.
     pub fn shared_stand_in(&self, slot: Slot) -> Option<Slot>
         requires { IsTrue (is_slot self.now slot) }
+        ensures is { result ≡ shared_slot self.now slot }
         ensures shared { (rs : List Record) (ks : List StateId) → Stands self.now rs ks → (x : StateId) → id_at self.now slot ≡ Some x
             → option_map (id_at self.now) result ≡ option_map (λ c. Some c) (shared_stand_in rs ks x) }
         ensures kept { (rs : List Record) (ks : List StateId) → Stands self.now rs ks → IfSome result (λ s. IsTrue (is_kept_at self.now s)) }

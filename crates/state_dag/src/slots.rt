@@ -1,6 +1,6 @@
 //! Which slot each kept state has.
 
-ghost use Rattle.std.specs.Prelude.{◌≡◌, ℕ, ◌==◌, ◌≤◌, ◌<◌, not, filter, slice_get, Some, OnErr, OnOk, vec_len, vec_capacity, if◌then◌else◌};
+ghost use Rattle.std.specs.Prelude.{◌≡◌, ℕ, ◌==◌, ◌≤◌, ◌<◌, not, filter, slice_get, Some, None, OnErr, OnOk, vec_len, vec_capacity, if◌then◌else◌};
 ghost use Rattle.std.specs.BTreeMap.{get};
 ghost use Rattle.tardis_base.specs.declared.ids.StateId.{StateId};
 ghost use Rattle.tardis_base.specs.Ids.{same_id};
@@ -32,6 +32,13 @@ pub fn put_slot(
 {
     slots.insert(id, slot)?;
     Ok(())
+}
+
+/// The state has no slot any more.
+pub fn drop_id(slots: &mut BTreeMap<StateId, Slot>, id: StateId)
+    ensures { (x : StateId) → get id_cmp slots.new x ≡ (if same_id x id then None else get id_cmp slots.old x) }
+{
+    let _ = slots.remove(&id);
 }
 
 /// Makes room for one more slot.
@@ -84,7 +91,7 @@ pub fn drop_slots(nodes: &[Node], slots: &mut Vec<Slot>, gone: &[Slot])
 }
 
 /// Takes this one out, if it is among them.
-fn drop_slot(nodes: &[Node], slots: &mut Vec<Slot>, gone: Slot)
+pub fn drop_slot(nodes: &[Node], slots: &mut Vec<Slot>, gone: Slot)
     requires { Rise (arrival_at (table_of nodes.now)) slots.old.items }
     ensures items { slots.new.items ≡ filter (λ s. not (gone.0 == s.0)) slots.old.items }
     ensures len { vec_len slots.new ≤ vec_len slots.old }

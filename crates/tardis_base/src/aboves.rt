@@ -24,7 +24,8 @@ pub trait Above {
         requires { IsTrue (is_kept self.now slot) }
         ensures { result ≡ arrival_of self.now slot };
 
-    ghost arrivals_differ: { (table : Self) (a b : Slot) → IsTrue (is_kept table a) → IsTrue (is_kept table b) → arrival_of table a ≡ arrival_of table b → a ≡ b };
+    ghost arrivals_differ: { (table : Self) (a b : Slot) → IsTrue (is_kept table a) → IsTrue (is_kept table b)
+        → arrival_of table a ≡ arrival_of table b → a ≡ b };
 
     ghost above_came_first: { (table : Self) (a b : Slot) → IsTrue (is_above table a b) → arrival_of table a ≤ arrival_of table b };
 }

@@ -83,4 +83,5 @@ pub enum Request {
     Pull { counts: CountList },
     Deliver { item: Item },
     Close,
+    Settle,
 }

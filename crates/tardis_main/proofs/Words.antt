@@ -1,8 +1,9 @@
--- Lists of one word.
-use Rattle.std.proofs.Common.{List, [], ◌∷◌, ◌≡◌, length, map, get_or, sym, ap, arith}
+-- The limits of the program.
+use Rattle.std.proofs.Common.{ℕ, ◌≤◌, ◌&&◌, leb, IsTrue, ◌≡◌, refl}
+use Rattle.std.proofs.lemmas.Bool.{le-leb}
+use Rattle.tardis_base.specs.Valid.{are_limits}
+use Rattle.tardis_main.specs.Runs.{program_limits}
 
--- the function's values at a list of one item are the value at that item
-pub of_one : {A B : Type 0} (f : A → B) (xs : List A) (a : A) → length xs ≡ 1 → a ≡ get_or xs 0 a → map f xs ≡ f a ∷ []
-of_one f [] a one here = absurd (omega (arith, one))
-of_one f (x ∷ []) a one here = ap (λ y. f y ∷ []) (sym here)
-of_one f (x ∷ y ∷ ys) a one here = absurd (omega (arith, one))
+-- the program's limits are such
+pub limits_hold : (sites : ℕ) → 1 ≤ sites → sites ≤ 16 → IsTrue (are_limits (program_limits sites))
+limits_hold sites some most = rw (le-leb 1 sites some) (rw (le-leb sites 16 most) refl)

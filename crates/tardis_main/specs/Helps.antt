@@ -1,6 +1,6 @@
 -- The words that ask for help, and those that ask for nothing.
 use Rattle.std.specs.Prelude.{◌≡◌, ℕ, List, [], ◌∷◌, codes}
-use Rattle.tardis_main.specs.Words.{AreRun}
+use Rattle.tardis_main.specs.Words.{AreUnknown}
 
 -- the bytes of the words are those of the one word `--help`
 abbrev pub AskUsage : List (List ℕ) → Type 0
@@ -10,6 +10,6 @@ AskUsage words = words ≡ codes "--help" ∷ []
 abbrev pub AskVersion : List (List ℕ) → Type 0
 AskVersion words = words ≡ codes "--version" ∷ []
 
--- the words have none of the forms of a command
+-- the words are neither a command that is carried out nor ask for help
 abbrev pub AreNone : List (List ℕ) → Type 0
-AreNone words = (AreRun words → ⊥) × (AskUsage words → ⊥) × (AskVersion words → ⊥)
+AreNone words = AreUnknown words × (AskUsage words → ⊥) × (AskVersion words → ⊥)

@@ -1,6 +1,12 @@
--- The words of a command.
-use Rattle.std.specs.Prelude.{◌≡◌, ℕ, List, [], ◌∷◌, codes}
+-- The words of a command that is carried out.
+use Rattle.std.specs.Prelude.{◌≡◌, ℕ, List, Some}
+use Rattle.command_words.specs.declared.commands.Place.{Place}
+use Rattle.command_words.specs.Forms.{form, AsRun}
 
--- the bytes of the words are those of the one word `run`
-abbrev pub AreRun : List (List ℕ) → Type 0
-AreRun words = words ≡ codes "run" ∷ []
+-- the words are a form of `run` at this place
+abbrev pub AreRun : List (List ℕ) → Place → Type 0
+AreRun words place = form words ≡ Some (AsRun place)
+
+-- The words are no command that is carried out: none of the forms, or one of a command that isn't built yet.
+abbrev pub AreUnknown : List (List ℕ) → Type 0
+AreUnknown words = (place : Place) → AreRun words place → ⊥

@@ -24,8 +24,10 @@ impl Help {
 const USAGE: &str = "\
 tardis: one site of a branch-and-merge key-value store
 
-usage: tardis run         read frames of requests from standard input, and write a
-                          frame with the reply to each on standard output
+usage: tardis run [--sites M] [--site N]
+                          read frames of requests from standard input, and write a
+                          frame with the reply to each on standard output, as site N
+                          of M sites (1 of 1)
        tardis --help      this text
        tardis --version   the version
 

@@ -11,12 +11,14 @@ ghost use Rattle.tardis_io.specs.Faults.{Rose};
 ghost use Rattle.frame_cut.specs.Frames.{IsCut};
 ghost use Rattle.site_run.specs.Endings.{EndsAs, IsRunEnd, most_taken};
 ghost use Rattle.plain_site.specs.Site.{opening};
-ghost use Rattle.tardis_main.specs.Words.{AreRun};
+ghost use Rattle.command_words.specs.declared.commands.Place.{Place};
+ghost use Rattle.tardis_main.specs.Words.{AreRun, AreUnknown};
 ghost use Rattle.tardis_main.specs.Runs.{RunFrom, program_limits};
 
 mod helps;
 mod programs;
 
+use command_words::{Command, read_words};
 pub use helps::{Help, help_of};
 pub use programs::carry_out;
 use session_core::SiteCore;
@@ -25,7 +27,7 @@ use std::alloc::Global;
 use tardis_base::{Limits, NoMemory};
 use tardis_io::{Sink, Source, Status};
 
-/// The limits of a site of the program, among so many sites.
+/// The limits of a site of the program that is alone.
 const LIMITS: Limits = Limits {
     sites: 1,
     max_kept: 16_384,
@@ -34,43 +36,42 @@ const LIMITS: Limits = Limits {
     max_trail: 1_073_741_824,
 };
 
-/// Carries out the command that the words name: today `run` alone, which runs site 1 of 1. Any other words are
-/// `Status::Usage`, and then nothing is read or written.
+/// The limits of a site of the program, among so many sites.
+fn limits_of(sites: u16) -> Limits
+    ensures { result ≡ program_limits sites }
+{
+    Limits { sites, ..LIMITS }
+}
+
+/// Carries out the command that the words name, at the place among the sites that they name. Words without a form, and
+/// those of a command that isn't built yet, are `Status::Usage`, and then nothing is read or written.
 pub fn tardis<I: Source, O: Sink>(
     alloc: Global,
     words: &[String],
     input: &mut I,
     output: &mut O,
 ) -> Status
-    ensures usage { (result ≡ Status.Usage) ↔ (AreRun (map (λ w. string_bytes w) words.now) → ⊥) }
+    ensures usage { (result ≡ Status.Usage) ↔ AreUnknown (map (λ w. string_bytes w) words.now) }
     ensures unused { result ≡ Status.Usage → (input.new ≡ input.old) × (output.new ≡ output.old) }
-    ensures headline { AreRun (map (λ w. string_bytes w) words.now)
-        → WhileTold (I.left input.old) (I.left input.new) (RunFrom (opening (program_limits 1) 1) result (O.given output.old) (O.given output.new)) }
-    ensures exact { AreRun (map (λ w. string_bytes w) words.now)
+    ensures headline { (place : Place) → AreRun (map (λ w. string_bytes w) words.now) place
+        → WhileTold (I.left input.old) (I.left input.new) (RunFrom (opening (program_limits place.sites) place.site) result (O.given output.old) (O.given output.new)) }
+    ensures exact { (place : Place) → AreRun (map (λ w. string_bytes w) words.now) place
         → WhileTold (I.left input.old) (I.left input.new) (λ first left. (all : List (List ℕ)) (rest : List ℕ)
         → IsCut first all rest → length first < most_taken
         → (Rose (I.faults input.old) (I.faults input.new) → ⊥) → (Rose (O.faults output.old) (O.faults output.new) → ⊥)
         → EndsAs rest result) }
-    ensures status { AreRun (map (λ w. string_bytes w) words.now) → IsRunEnd result }
+    ensures status { (place : Place) → AreRun (map (λ w. string_bytes w) words.now) place → IsRunEnd result }
     ensures read_later { I.faults input.old ≤ I.faults input.new }
     ensures write_later { O.faults output.old ≤ O.faults output.new }
     ensures read { result ≡ Status.ReadFault → Rose (I.faults input.old) (I.faults input.new) }
     ensures write { result ≡ Status.WriteFault → Rose (O.faults output.old) (O.faults output.new) }
     ensures nothing { result ≡ Status.NoMemory → (input.new ≡ input.old) × (output.new ≡ output.old) }
 {
-    if is_run(words) {
-        run(alloc, LIMITS, 1, input, output)
-    } else {
-        Status::Usage
+    match read_words(alloc, words) {
+        Ok(Command::Run(place)) => run(alloc, limits_of(place.sites), place.site, input, output),
+        // the other commands aren't built yet
+        Ok(_) | Err(_) => Status::Usage,
     }
-}
-
-/// Whether these are the one word `run`.
-fn is_run(words: &[String]) -> bool
-    ensures yes { result ≡ true → AreRun (map (λ w. string_bytes w) words.now) }
-    ensures no { result ≡ false → AreRun (map (λ w. string_bytes w) words.now) → ⊥ }
-{
-    words.len() == 1 && words[0].as_str() == "run"
 }
 
 /// Runs the site of this number, with these limits.
@@ -102,6 +103,10 @@ fn run<I: Source, O: Sink>(
     }
 }
 
+#[cfg(test)]
+mod exchange_rows;
+#[cfg(test)]
+mod exchange_tests;
 #[cfg(test)]
 mod floor_rows;
 #[cfg(test)]

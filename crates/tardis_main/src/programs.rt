@@ -8,12 +8,14 @@ ghost use Rattle.tardis_io.specs.Faults.{Rose};
 ghost use Rattle.frame_cut.specs.Frames.{IsCut};
 ghost use Rattle.site_run.specs.Endings.{EndsAs, IsRunEnd, most_taken};
 ghost use Rattle.plain_site.specs.Site.{opening};
+ghost use Rattle.command_words.specs.declared.commands.Place.{Place};
 ghost use Rattle.tardis_main.specs.Words.{AreRun};
 ghost use Rattle.tardis_main.specs.Helps.{AskUsage, AskVersion, AreNone};
 ghost use Rattle.tardis_main.specs.Runs.{RunFrom, program_limits};
 
 use crate::helps::{Help, help_of};
 use crate::tardis;
+use command_words::runs_at_a_site;
 use std::alloc::Global;
 use std::env::Args;
 use tardis_base::NoMemory;
@@ -32,14 +34,14 @@ pub fn carry_out<I: Source, O: Sink>(
         → ((result ≡ Status.Usage) ⊎ (result ≡ Status.NoMemory)) × (input.new ≡ input.old) × (output.new ≡ output.old) }
     ensures help { AskUsage (map (λ w. string_bytes w) (drop 1 (into_iter_items args))) ⊎ AskVersion (map (λ w. string_bytes w) (drop 1 (into_iter_items args)))
         → ((result ≡ Status.Ok) ⊎ ((result ≡ Status.WriteFault) ⊎ (result ≡ Status.NoMemory))) × (input.new ≡ input.old) }
-    ensures headline { AreRun (map (λ w. string_bytes w) (drop 1 (into_iter_items args)))
-        → WhileTold (I.left input.old) (I.left input.new) (RunFrom (opening (program_limits 1) 1) result (O.given output.old) (O.given output.new)) }
-    ensures exact { AreRun (map (λ w. string_bytes w) (drop 1 (into_iter_items args)))
+    ensures headline { (place : Place) → AreRun (map (λ w. string_bytes w) (drop 1 (into_iter_items args))) place
+        → WhileTold (I.left input.old) (I.left input.new) (RunFrom (opening (program_limits place.sites) place.site) result (O.given output.old) (O.given output.new)) }
+    ensures exact { (place : Place) → AreRun (map (λ w. string_bytes w) (drop 1 (into_iter_items args))) place
         → WhileTold (I.left input.old) (I.left input.new) (λ first left. (all : List (List ℕ)) (rest : List ℕ)
         → IsCut first all rest → length first < most_taken
         → (Rose (I.faults input.old) (I.faults input.new) → ⊥) → (Rose (O.faults output.old) (O.faults output.new) → ⊥)
         → EndsAs rest result) }
-    ensures status { AreRun (map (λ w. string_bytes w) (drop 1 (into_iter_items args))) → IsRunEnd result }
+    ensures status { (place : Place) → AreRun (map (λ w. string_bytes w) (drop 1 (into_iter_items args))) place → IsRunEnd result }
     ensures read_later { I.faults input.old ≤ I.faults input.new }
     ensures write_later { O.faults output.old ≤ O.faults output.new }
     ensures read { result ≡ Status.ReadFault → Rose (I.faults input.old) (I.faults input.new) }
@@ -48,7 +50,10 @@ pub fn carry_out<I: Source, O: Sink>(
 {
     match words_behind_name(alloc, args) {
         Ok(words) => command(alloc, words.as_slice(), input, output),
-        Err(NoMemory) => Status::NoMemory,
+        Err(NoMemory) => {
+            runs_at_a_site();
+            Status::NoMemory
+        }
     }
 }
 
@@ -79,14 +84,14 @@ fn command<I: Source, O: Sink>(
     ensures none { AreNone (map (λ w. string_bytes w) words.now) → (result ≡ Status.Usage) × (input.new ≡ input.old) × (output.new ≡ output.old) }
     ensures help { AskUsage (map (λ w. string_bytes w) words.now) ⊎ AskVersion (map (λ w. string_bytes w) words.now)
         → ((result ≡ Status.Ok) ⊎ (result ≡ Status.WriteFault)) × (input.new ≡ input.old) }
-    ensures headline { AreRun (map (λ w. string_bytes w) words.now)
-        → WhileTold (I.left input.old) (I.left input.new) (RunFrom (opening (program_limits 1) 1) result (O.given output.old) (O.given output.new)) }
-    ensures exact { AreRun (map (λ w. string_bytes w) words.now)
+    ensures headline { (place : Place) → AreRun (map (λ w. string_bytes w) words.now) place
+        → WhileTold (I.left input.old) (I.left input.new) (RunFrom (opening (program_limits place.sites) place.site) result (O.given output.old) (O.given output.new)) }
+    ensures exact { (place : Place) → AreRun (map (λ w. string_bytes w) words.now) place
         → WhileTold (I.left input.old) (I.left input.new) (λ first left. (all : List (List ℕ)) (rest : List ℕ)
         → IsCut first all rest → length first < most_taken
         → (Rose (I.faults input.old) (I.faults input.new) → ⊥) → (Rose (O.faults output.old) (O.faults output.new) → ⊥)
         → EndsAs rest result) }
-    ensures status { AreRun (map (λ w. string_bytes w) words.now) → IsRunEnd result }
+    ensures status { (place : Place) → AreRun (map (λ w. string_bytes w) words.now) place → IsRunEnd result }
     ensures read_later { I.faults input.old ≤ I.faults input.new }
     ensures write_later { O.faults output.old ≤ O.faults output.new }
     ensures read { result ≡ Status.ReadFault → Rose (I.faults input.old) (I.faults input.new) }

@@ -17,7 +17,7 @@ pub const TALK: &str = "\
 2 0201         1502                         begin ancestor => refused notopen
 2 0c00000000   1501                         a state of four bytes => refused malformed
 2 0f00000001   151b0f                       tidy => refused unsupported
-2 14ffff       151b14                       deliver => refused unsupported";
+2 0fffff       151b0f                       tidy => refused unsupported";
 
 /// Two sessions read both keys, and each writes another one. Then the second commits.
 pub const SKEWED: &str = "\

@@ -12,7 +12,7 @@ use crate::talks::Talk;
 use session_core::SiteCore;
 use std::alloc::Global;
 use std::test::Fail;
-use tardis_base::{NoMemory, Reply, ReplyBuf};
+use tardis_base::{Limits, NoMemory, Reply, ReplyBuf};
 use wire_talk::{read_request, write_reply};
 
 /// What replies to requests.
@@ -56,6 +56,14 @@ fn answers<S: Site>(alloc: Global, mut site: S, talk: &Talk) -> Result<bool, Fai
 /// Whether a site that opens does.
 fn steps(alloc: Global, talk: &Talk) -> Result<bool, Fail> {
     match SiteCore::new(alloc, LIMITS, 1) {
+        Ok(site) => answers(alloc, site, talk),
+        Err(NoMemory) => Ok(false),
+    }
+}
+
+/// Whether a site that opens as the first of two does.
+pub(crate) fn steps_of_two(alloc: Global, talk: &Talk) -> Result<bool, Fail> {
+    match SiteCore::new(alloc, Limits { sites: 2, ..LIMITS }, 1) {
         Ok(site) => answers(alloc, site, talk),
         Err(NoMemory) => Ok(false),
     }

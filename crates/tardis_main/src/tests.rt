@@ -26,6 +26,14 @@ const REPLIES: &[u8] = b"\0\0\0\x07\x01\0\0\0\0\0\0\
 \0\0\0\x07\x02\0\x01\0\0\0\x01\
 \0\0\0\x0a\x04\0\x01\0\0\0\x01\0\x011";
 
+/// The same replies of site 2.
+const REPLIES_OF_2: &[u8] = b"\0\0\0\x07\x01\0\0\0\0\0\0\
+\0\0\0\x07\x02\0\0\0\0\0\0\
+\0\0\0\x01\x07\
+\0\0\0\x0e\x08\0\x02\0\0\0\x01\x01\0\0\0\0\0\0\
+\0\0\0\x07\x02\0\x02\0\0\0\x01\
+\0\0\0\x0a\x04\0\x02\0\0\0\x01\0\x011";
+
 /// How much a call moves at most, and which calls of the source and of the sink fail.
 #[derive(Drop)]
 struct Devices<'a> {
@@ -128,6 +136,7 @@ fn other_words_are_no_command(rt: HostRuntime) -> Result<(), Fail> {
         "run --sites=2",
         "run --sites 1 --sites 1",
         "serve --links 2",
+        "world --sites 2",
         "Run",
         "runs",
     ] {
@@ -200,8 +209,9 @@ fn args_of(alloc: Global, line: &str) -> Result<Args, Fail> {
 #[test]
 fn a_program_is_its_words(rt: HostRuntime) -> Result<(), Fail> {
     let alloc = rt.alloc();
-    let ends: [(&str, Status, &[u8]); 6] = [
+    let ends: [(&str, Status, &[u8]); 7] = [
         ("run", Status::Ok, REPLIES),
+        ("run --site 2 --sites 3", Status::Ok, REPLIES_OF_2),
         ("", Status::Usage, b""),
         ("run extra", Status::Usage, b""),
         ("--help run", Status::Usage, b""),

@@ -4,3 +4,5 @@ pub mod Rooms
 pub mod Adds
 pub mod Noted
 pub mod Listing
+pub mod Promotes
+pub mod Handed

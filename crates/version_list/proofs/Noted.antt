@@ -39,7 +39,7 @@ noted-step keys ws w k =
     go false false true = refl
     go false false false = refl
 
-slots-from_same : (a b : Slot) → same_slot a b ≡ true → a ≡ b
+pub slots-from_same : (a b : Slot) → same_slot a b ≡ true → a ≡ b
 slots-from_same a b e = ap (λ n. let s : Slot = record { 0 = n } in s) (eqb-true a.0 b.0 e)
 
 -- no version before a state is at it

@@ -1,7 +1,7 @@
 -- Lists of versions in the order of their arrival, and walks over them from the newest on.
-use Rattle.std.proofs.Common.{◌≡◌, ℕ, ◌<◌, ◌≤◌, Bool, true, false, ◌&&◌, List, [], ◌∷◌, ◌++◌, Some, length, get_or, drop, filter, nat_lt, refl, inl, inr, arith}
+use Rattle.std.proofs.Common.{◌≡◌, ℕ, ◌<◌, ◌≤◌, Bool, true, false, ◌&&◌, List, [], ◌∷◌, ◌++◌, Some, length, get_or, take, drop, filter, nat_lt, nat_le, refl, inl, inr, arith}
 use Rattle.std.specs.List.{list_all, list_any}
-use Rattle.std.proofs.lemmas.Bool.{and_parts, or_parts, or_left, or_right, cases_Bool, false_from_ne_true, ltb-true}
+use Rattle.std.proofs.lemmas.Bool.{and_parts, and_from, or_parts, or_left, or_right, cases_Bool, false_from_ne_true, ltb-true, le-leb}
 use Rattle.tardis_base.specs.declared.ids.Slot.{Slot}
 use Rattle.version_list.specs.declared.histories.Version.{Version}
 use Rattle.version_list.specs.Lists.{are_in_order, have_come_before}
@@ -36,7 +36,7 @@ module _ {X : Type 0} (p : X → Bool) where
       rw parts.0 (filter-none xs parts.1)
 
 module _ (kept : Slot → Bool) (arrival : Slot → ℕ) where
-  order-parts : (v : Version) (vs : List Version) → are_in_order kept arrival (v ∷ vs) ≡ true → (kept v.slot ≡ true) × (list_all (λ w. nat_lt (arrival v.slot) (arrival w.slot)) vs ≡ true) × (are_in_order kept arrival vs ≡ true)
+  pub order-parts : (v : Version) (vs : List Version) → are_in_order kept arrival (v ∷ vs) ≡ true → (kept v.slot ≡ true) × (list_all (λ w. nat_lt (arrival v.slot) (arrival w.slot)) vs ≡ true) × (are_in_order kept arrival vs ≡ true)
   order-parts v vs ordered =
       let before = list_all (λ (w : Version). nat_lt (arrival v.slot) (arrival w.slot)) vs in
       let outer = and_parts (kept v.slot && before) (are_in_order kept arrival vs) ordered in
@@ -89,3 +89,15 @@ module _ (kept : Slot → Bool) (arrival : Slot → ℕ) where
           let l = ltb-true (arrival v.slot) (arrival w.slot) parts.0 in
           rw (none w.slot (omega arith)) (rest ws parts.1)
   none-later above by early (v ∷ vs) (ℕ.suc i) d ordered lt later = none-later above by early vs i d (order-parts v vs ordered).2 (omega arith) later
+
+  -- of versions in order those up to one that arrived by then arrived by then
+  pub all-earlier : (by : ℕ) (vs : List Version) (i : ℕ) (d : Version) → are_in_order kept arrival vs ≡ true → i < length vs → arrival (get_or vs i d).slot ≤ by → list_all (λ v. nat_le (arrival v.slot) by) (take (ℕ.suc i) vs) ≡ true
+  all-earlier by [] i d ordered lt le = absurd (omega arith)
+  all-earlier by (v ∷ vs) ℕ.zero d ordered lt le = rw (le-leb (arrival v.slot) by le) refl
+  all-earlier by (v ∷ vs) (ℕ.suc i) d ordered lt le =
+      let parts = order-parts v vs ordered in
+      let first : nat_lt (arrival v.slot) (arrival (get_or vs i d).slot) ≡ true = all-at (λ (w : Version). nat_lt (arrival v.slot) (arrival w.slot)) vs i d parts.1 (omega arith) in
+      let before = ltb-true (arrival v.slot) (arrival (get_or vs i d).slot) first in
+      let here : arrival v.slot ≤ by = omega (arith, before, le) in
+      and_from (nat_le (arrival v.slot) by) (list_all (λ w. nat_le (arrival w.slot) by) (take (ℕ.suc i) vs)) (le-leb (arrival v.slot) by here)
+      (all-earlier by vs i d parts.2 (omega arith) le)

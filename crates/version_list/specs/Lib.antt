@@ -2,3 +2,4 @@
 pub mod Lists
 pub mod Versions
 pub mod Reads
+pub mod Promoted

@@ -1,12 +1,16 @@
 //! The versions of each key: one history a key.
 
-ghost use Rattle.std.specs.Prelude.{◌≡◌, ◌≤◌, ◌<◌, ◌+◌, ◌||◌, [], ◌∷◌, ◌++◌, ℕ, List, false, length, take, drop, slice_get, bytes_eq, vec_len, IsTrue, IfOk, OnOk, OnErr};
-ghost use Rattle.std.specs.List.{list_any, IsDistinct};
+ghost use Rattle.std.specs.Prelude.{◌≡◌, ◌≤◌, ◌<◌, ◌+◌, ◌||◌, [], ◌∷◌, ◌++◌, ℕ, List, false, length, take, drop, slice_get, bytes_eq, vec_len};
+ghost use Rattle.std.specs.Prelude.{IsTrue, IfOk, IfSome, OnOk, OnErr, None, nat_le, get_or};
+ghost use Rattle.std.specs.List.{list_any, list_all, IsDistinct};
 ghost use Rattle.std.specs.Option.{option_copied};
 ghost use Rattle.std.specs.Vec.{vec_capacity};
 ghost use Rattle.tardis_base.specs.Keys.{is_key_among, has_key, write_of};
-ghost use Rattle.version_list.specs.Lists.{no_lists, keys_in, listed_in, versions_in, has_room_in, have_room_in, with_listed, new_keys, version_by, are_in_order, AllInOrder, AllBefore};
+ghost use Rattle.version_list.specs.Lists.{no_lists, keys_in, listed_in, versions_in, has_room_in, have_room_in, with_listed, new_keys, version_by};
+ghost use Rattle.version_list.specs.Lists.{are_in_order, AllInOrder, AllBefore};
 ghost use Rattle.version_list.specs.Reads.{latest_version};
+ghost use Rattle.version_list.specs.Versions.{has_version_at};
+ghost use Rattle.version_list.specs.Promoted.{promoted};
 
 use indexmap::IndexMap;
 use std::alloc::Global;
@@ -74,6 +78,32 @@ impl History {
         ensures { result.now ≡ self.now.versions }
     {
         self.versions.as_slice()
+    }
+
+    /// Moves the version at `from`, if there is one, to `to`, or takes it away where that has one. It takes no memory.
+    fn promote<A: Above>(&mut self, dag: &A, from: Slot, to: Slot)
+        requires order { IsTrue (are_in_order (A.is_kept dag.now) (A.arrival_of dag.now) self.old.versions) }
+        requires from { IsTrue (A.is_kept dag.now from) }
+        requires to { IsTrue (A.is_kept dag.now to) }
+        requires before { A.arrival_of dag.now from < A.arrival_of dag.now to }
+        ensures promoted { self.new.versions ≡ promoted (A.arrival_of dag.now) from to self.old.versions }
+        ensures room { self.old.room ≤ self.new.room }
+    {
+        if let Some(place) = place_of(dag, &self.versions, from) {
+            if has_version(dag, &self.versions, to) {
+                self.versions.remove(place);
+            } else {
+                let end = arrived_by(dag, &self.versions, to);
+                let moved = Version {
+                    slot: to,
+                    ..self.versions.remove(place)
+                };
+                match self.versions.insert(end - 1, moved) {
+                    Ok(()) => {},
+                    Err(_) => unreachable!(),
+                }
+            }
+        }
     }
 }
 
@@ -175,6 +205,37 @@ impl KeyLists {
         }
     }
 
+    /// Moves the key's version at `from`, if there is one, to `to`, or takes it away where that has one. It takes no memory.
+    ///
+    /// The cost is that of a look-up of the key and of three binary searches among its versions, and grows with the number
+    /// of those that arrived after `from`, which are moved.
+    pub(crate) fn promote<A: Above>(&mut self, dag: &A, key: &Key, from: Slot, to: Slot)
+        requires order { AllInOrder (A.is_kept dag.now) (A.arrival_of dag.now) self.old }
+        requires from { IsTrue (A.is_kept dag.now from) }
+        requires to { IsTrue (A.is_kept dag.now to) }
+        requires before { A.arrival_of dag.now from < A.arrival_of dag.now to }
+        ensures promoted { versions_in self.new key.now ≡ promoted (A.arrival_of dag.now) from to (versions_in self.old key.now) }
+        ensures others { (k : List ℕ) → bytes_eq key.now k ≡ false → listed_in self.new k ≡ listed_in self.old k }
+        ensures keys { keys_in self.new ≡ keys_in self.old }
+        ensures order { AllInOrder (A.is_kept dag.now) (A.arrival_of dag.now) self.new }
+    {
+        self.hand_on(dag, key, from, to);
+    }
+
+    fn hand_on<A: Above>(&mut self, dag: &A, key: &Key, from: Slot, to: Slot)
+        requires order { IsTrue (are_in_order (A.is_kept dag.now) (A.arrival_of dag.now) (versions_in self.old key.now)) }
+        requires from { IsTrue (A.is_kept dag.now from) }
+        requires to { IsTrue (A.is_kept dag.now to) }
+        requires before { A.arrival_of dag.now from < A.arrival_of dag.now to }
+        ensures promoted { versions_in self.new key.now ≡ promoted (A.arrival_of dag.now) from to (versions_in self.old key.now) }
+        ensures others { (k : List ℕ) → bytes_eq key.now k ≡ false → listed_in self.new k ≡ listed_in self.old k }
+        ensures keys { keys_in self.new ≡ keys_in self.old }
+    {
+        if let Some(history) = self.lists.get_mut(key) {
+            history.promote(dag, from, to);
+        }
+    }
+
     /// Adds what the state of this slot wrote, and puts the keys that it wrote behind these. It takes no memory.
     pub(crate) fn add<A: Above>(
         &mut self,
@@ -249,6 +310,33 @@ pub(crate) fn latest<'a, A: Above>(
     None
 }
 
+/// The place of the version at the state, if there is one.
+fn place_of<A: Above>(dag: &A, versions: &[Version], at: Slot) -> Option<usize>
+    requires order { IsTrue (are_in_order (A.is_kept dag.now) (A.arrival_of dag.now) versions.now) }
+    requires kept { IsTrue (A.is_kept dag.now at) }
+    ensures there { IfSome result (λ place. (place < length versions.now) × ((v : Version) → (get_or versions.now place v).slot ≡ at)) }
+    ensures none { result ≡ None → has_version_at at versions.now ≡ false }
+{
+    let end = arrived_by(dag, versions, at);
+    if end > 0 && versions[end - 1].slot == at {
+        Some(end - 1)
+    } else {
+        None
+    }
+}
+
+/// Whether there is a version at the state.
+fn has_version<A: Above>(dag: &A, versions: &[Version], at: Slot) -> bool
+    requires order { IsTrue (are_in_order (A.is_kept dag.now) (A.arrival_of dag.now) versions.now) }
+    requires kept { IsTrue (A.is_kept dag.now at) }
+    ensures { result ≡ has_version_at at versions.now }
+{
+    match place_of(dag, versions, at) {
+        Some(_) => true,
+        None => false,
+    }
+}
+
 /// How many of the versions had arrived when the state did: all, or as a binary search finds. None behind them is at or
 /// above it.
 fn arrived_by<A: Above>(dag: &A, versions: &[Version], at: Slot) -> usize
@@ -256,6 +344,8 @@ fn arrived_by<A: Above>(dag: &A, versions: &[Version], at: Slot) -> usize
     requires kept { IsTrue (A.is_kept dag.now at) }
     ensures bound { result ≤ length versions.now }
     ensures behind { list_any (λ v. A.is_above dag.now v.slot at) (drop result versions.now) ≡ false }
+    ensures early { IsTrue (list_all (λ v. nat_le (A.arrival_of dag.now v.slot) (A.arrival_of dag.now at)) (take result versions.now)) }
+    ensures late { list_any (λ v. nat_le (A.arrival_of dag.now v.slot) (A.arrival_of dag.now at)) (drop result versions.now) ≡ false }
 {
     let arrival = dag.arrival(at);
     let count = versions.len();

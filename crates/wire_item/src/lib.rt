@@ -14,6 +14,6 @@ pub use readers::Reader;
 pub use spelling_laws::{spellings_have_their_lengths, things_have_one_spelling};
 pub use whole_readers::{read_batch, read_consent, read_item, read_record, whole};
 pub use writers::{
-    record_len, write_batch, write_consent, write_id, write_ids, write_item, write_key,
-    write_parents, write_record, write_u8, write_u16, write_u32, write_u64, write_value,
+    key_write_len, record_len, write_batch, write_consent, write_id, write_ids, write_item,
+    write_key, write_parents, write_record, write_u8, write_u16, write_u32, write_u64, write_value,
 };

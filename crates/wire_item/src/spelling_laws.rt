@@ -1,6 +1,7 @@
 //! The laws of spellings. Each function is empty, and its contract is laws.
 
-ghost use Rattle.wire_item.specs.Laws.{BatchesHaveOneSpelling, ConsentsHaveOneSpelling, ConsentsHaveSixteenBytes, ItemsHaveOneSpelling, RecordsAreBounded, RecordsHaveOneSpelling, RecordsHaveTheirLength};
+ghost use Rattle.wire_item.specs.Laws.{BatchesHaveOneSpelling, ConsentsHaveOneSpelling, ConsentsHaveSixteenBytes, ItemsHaveOneSpelling};
+ghost use Rattle.wire_item.specs.Laws.{RecordsAreBounded, RecordsHaveOneSpelling, RecordsHaveTheirLength};
 
 /// Each thing has one spelling, and bytes are read as the one thing of a kind that they spell.
 pub fn things_have_one_spelling()

@@ -12,7 +12,8 @@ ghost use Rattle.tardis_base.specs.Valid.{is_within};
 ghost use Rattle.tardis_base.specs.declared.ids.StateId.{StateId};
 ghost use Rattle.tardis_base.specs.declared.records.Write.{Write};
 ghost use Rattle.wire_item.specs.Fronts.{both, only_if, times};
-ghost use Rattle.wire_item.specs.Readings.{batch_front, consent_front, consents_front, id_front, item_front, key_front, parents_front, record_front, records_front, write_front, writes_front};
+ghost use Rattle.wire_item.specs.Readings.{batch_front, consent_front, consents_front, id_front, item_front, key_front, parents_front, record_front};
+ghost use Rattle.wire_item.specs.Readings.{records_front, write_front, writes_front};
 ghost use Rattle.wire_item.specs.Takings.{Makes, Takes};
 
 use crate::readers::Reader;

@@ -7,7 +7,9 @@ ghost use Rattle.std.specs.List.{list_all};
 ghost use Rattle.tardis_base.specs.Sizes.{longest_frame, most_writes};
 ghost use Rattle.tardis_base.specs.Valid.{are_parents, are_writes, is_record};
 ghost use Rattle.wire_item.specs.Lengths.{key_write_length};
-ghost use Rattle.wire_item.specs.Spellings.{batch_spelling, consent_spelling, consents_spelling, id_spelling, item_spelling, key_spelling, key_write_spelling, parents_spelling, record_spelling, records_spelling, u16_spelling, u32_spelling, u64_spelling, u8_spelling, value_spelling, write_spelling, writes_spelling};
+ghost use Rattle.wire_item.specs.Spellings.{batch_spelling, consent_spelling, consents_spelling, id_spelling, item_spelling, key_spelling};
+ghost use Rattle.wire_item.specs.Spellings.{key_write_spelling, parents_spelling, record_spelling, records_spelling, u16_spelling, u32_spelling};
+ghost use Rattle.wire_item.specs.Spellings.{u64_spelling, u8_spelling, value_spelling, write_spelling, writes_spelling};
 ghost use Rattle.wire_item.specs.Valid.{is_batch, is_consent, is_item};
 
 use tardis_base::{
@@ -218,7 +220,8 @@ fn writes_len(writes: &[(Key, Write)]) -> u32
     total
 }
 
-fn key_write_len(pair: &(Key, Write)) -> u32
+/// How many bytes the key and what is written to it take in the spelling of a record.
+pub fn key_write_len(pair: &(Key, Write)) -> u32
     ensures count { result ≡ key_write_length pair.now }
     ensures bound { result ≤ 4228 }
 {

@@ -9,7 +9,7 @@ use Rattle.tardis_base.specs.declared.requests.Begin.TheVariants.{Any, Ancestor,
 use Rattle.tardis_base.specs.declared.requests.MergeOf.{MergeOf}
 use Rattle.tardis_base.specs.declared.requests.MergeOf.TheVariants.{Leaves as AllLeaves, States as TheseStates}
 use Rattle.tardis_base.specs.declared.requests.Request.{Request}
-use Rattle.tardis_base.specs.declared.requests.Request.TheVariants.{Open, Begin as BeginAt, Get, Put, Delete, Commit, Abort, BeginMerge, ForkPoints, Conflicts, GetFor, Ceiling, Raise, RaiseAuto, Tidy, Stat, Show, Leaves, Pull, Deliver, Close}
+use Rattle.tardis_base.specs.declared.requests.Request.TheVariants.{Open, Begin as BeginAt, Get, Put, Delete, Commit, Abort, BeginMerge, ForkPoints, Conflicts, GetFor, Ceiling, Raise, RaiseAuto, Tidy, Stat, Show, Leaves, Pull, Deliver, Close, Settle}
 use Rattle.tardis_base.specs.Valid.{is_u16, is_u32, is_within, are_bytes, is_id}
 use Rattle.wire_item.specs.Spellings.{u8_spelling, u16_spelling}
 use Rattle.wire_item.specs.Valid.{is_u8}
@@ -158,7 +158,7 @@ reads-request = record { back = back; only = by_code-only is_request request_spe
                                           row-made is_request request_spelling 19 Pull reads-counts (λ a h. h) (λ a. refl),
                                           (
                                             row-made is_request request_spelling 20 Deliver reads-item (λ a h. h) (λ a. refl),
-                                            (row-nothing_but is_request request_spelling 21 Close refl refl, tt),
+                                            (row-nothing_but is_request request_spelling 21 Close refl refl, (row-nothing_but is_request request_spelling 22 Settle refl refl, tt)),
                                           ),
                                         ),
                                       ),
@@ -202,6 +202,7 @@ reads-request = record { back = back; only = by_code-only is_request request_spe
     back (Pull counts) rest h = made-back reads-counts Pull counts rest h
     back (Deliver item) rest h = made-back reads-item Deliver item rest h
     back Close rest h = refl
+    back Settle rest h = refl
 
     bytes : (x : Request) → IsTrue (is_request x) → IsTrue (are_bytes (request_spelling x))
     bytes (Open follow) h = reads-flag.bytes follow h
@@ -225,3 +226,4 @@ reads-request = record { back = back; only = by_code-only is_request request_spe
     bytes (Pull counts) h = reads-counts.bytes counts h
     bytes (Deliver item) h = reads-item.bytes item h
     bytes Close h = refl
+    bytes Settle h = refl

@@ -1,7 +1,7 @@
 -- The codes with which requests begin.
 use Rattle.std.specs.Prelude.{ℕ}
 use Rattle.tardis_base.specs.declared.requests.Request.{Request}
-use Rattle.tardis_base.specs.declared.requests.Request.TheVariants.{Open, Begin, Get, Put, Delete, Commit, Abort, BeginMerge, ForkPoints, Conflicts, GetFor, Ceiling, Raise, RaiseAuto, Tidy, Stat, Show, Leaves, Pull, Deliver, Close}
+use Rattle.tardis_base.specs.declared.requests.Request.TheVariants.{Open, Begin, Get, Put, Delete, Commit, Abort, BeginMerge, ForkPoints, Conflicts, GetFor, Ceiling, Raise, RaiseAuto, Tidy, Stat, Show, Leaves, Pull, Deliver, Close, Settle}
 
 -- the code of the request
 abbrev pub code_of : Request → ℕ
@@ -26,3 +26,4 @@ code_of Leaves = 18
 code_of (Pull counts) = 19
 code_of (Deliver item) = 20
 code_of Close = 21
+code_of Settle = 22

@@ -6,7 +6,7 @@ use Rattle.tardis_base.specs.declared.requests.Begin.TheVariants.{Any, Ancestor,
 use Rattle.tardis_base.specs.declared.requests.MergeOf.{MergeOf}
 use Rattle.tardis_base.specs.declared.requests.MergeOf.TheVariants.{Leaves as AllLeaves, States as TheseStates}
 use Rattle.tardis_base.specs.declared.requests.Request.{Request}
-use Rattle.tardis_base.specs.declared.requests.Request.TheVariants.{Open, Begin as BeginAt, Get, Put, Delete, Commit, Abort, BeginMerge, ForkPoints, Conflicts, GetFor, Ceiling, Raise, RaiseAuto, Tidy, Stat, Show, Leaves, Pull, Deliver, Close}
+use Rattle.tardis_base.specs.declared.requests.Request.TheVariants.{Open, Begin as BeginAt, Get, Put, Delete, Commit, Abort, BeginMerge, ForkPoints, Conflicts, GetFor, Ceiling, Raise, RaiseAuto, Tidy, Stat, Show, Leaves, Pull, Deliver, Close, Settle}
 use Rattle.wire_item.specs.Fronts.{Front, nothing_but, bytes_front, made, only_if, both, times, counted, by_code, whole}
 use Rattle.wire_item.specs.Readings.{u8_front, u16_front, u32_front, id_front, key_front, value_front, item_front}
 use Rattle.wire_talk.specs.Valid.{is_commit, is_after, are_counts}
@@ -63,7 +63,8 @@ request_rows =
     (18, nothing_but Leaves) ∷
     (19, made Pull counts_front) ∷
     (20, made Deliver item_front) ∷
-    (21, nothing_but Close) ∷ []
+    (21, nothing_but Close) ∷
+    (22, nothing_but Settle) ∷ []
 
 abbrev pub request_front : Front Request
 request_front = by_code request_rows

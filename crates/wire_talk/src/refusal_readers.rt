@@ -17,7 +17,8 @@ use wire_item::Reader;
 /// A refusal. The reader goes on behind it where memory is wanting for it.
 pub(crate) fn refusal(reader: &mut Reader<'_>, alloc: Global) -> Option<Result<Refusal, NoMemory>>
     ensures makes { Makes refusal_front reader.old result reader.new }
-    ensures sure { (x : Refusal) (rest : List ℕ) (e : NoMemory) → refusal_front reader.old ≡ Some (x, rest) → IsTrue (refusal_takes_no_memory x) → result ≡ Some (Err e) → ⊥ }
+    ensures sure { (x : Refusal) (rest : List ℕ) (e : NoMemory) → refusal_front reader.old ≡ Some (x, rest)
+        → IsTrue (refusal_takes_no_memory x) → result ≡ Some (Err e) → ⊥ }
 {
     let code = reader.u8()?;
     if code < 15 {
@@ -37,7 +38,8 @@ fn low_refusal(
 ) -> Option<Result<Refusal, NoMemory>>
     requires { code < 15 }
     ensures makes { Makes (front_of_code code refusal_rows) reader.old result reader.new }
-    ensures sure { (x : Refusal) (rest : List ℕ) (e : NoMemory) → front_of_code code refusal_rows reader.old ≡ Some (x, rest) → IsTrue (refusal_takes_no_memory x) → result ≡ Some (Err e) → ⊥ }
+    ensures sure { (x : Refusal) (rest : List ℕ) (e : NoMemory) → front_of_code code refusal_rows reader.old ≡ Some (x, rest)
+        → IsTrue (refusal_takes_no_memory x) → result ≡ Some (Err e) → ⊥ }
 {
     match code {
         1 => Some(Ok(Refusal::Malformed)),

@@ -65,7 +65,8 @@ pub fn read_keys(alloc: Global, reader: &mut Reader) -> Option<Result<Reply, NoM
 }
 
 pub fn read_statistics(reader: &mut Reader) -> Option<Reply>
-    ensures { Takes (made (λ p. Reply.Stat p.0.0.0.0 p.0.0.0.1 p.0.0.1 p.0.1 p.1) (both (both (both (both u64_front u32_front) u32_front) u16_front) site_lines_front)) reader.old result reader.new }
+    ensures { Takes (made (λ p. Reply.Stat p.0.0.0.0 p.0.0.0.1 p.0.0.1 p.0.1 p.1)
+        (both (both (both (both u64_front u32_front) u32_front) u16_front) site_lines_front)) reader.old result reader.new }
 {
     let known = reader.u64()?;
     let kept = reader.u32()?;
@@ -99,7 +100,8 @@ pub fn read_batch(alloc: Global, reader: &mut Reader) -> Option<Result<Reply, No
 
 pub fn read_refused(alloc: Global, reader: &mut Reader) -> Option<Result<Reply, NoMemory>>
     ensures makes { Makes (made Reply.Refused refusal_front) reader.old result reader.new }
-    ensures sure { (x : Refusal) (rest : List ℕ) (e : NoMemory) → refusal_front reader.old ≡ Some (x, rest) → IsTrue (refusal_takes_no_memory x) → result ≡ Some (Err e) → ⊥ }
+    ensures sure { (x : Refusal) (rest : List ℕ) (e : NoMemory) → refusal_front reader.old ≡ Some (x, rest)
+        → IsTrue (refusal_takes_no_memory x) → result ≡ Some (Err e) → ⊥ }
 {
     let refusal = refusal(reader, alloc)?;
     Some(refused(refusal))

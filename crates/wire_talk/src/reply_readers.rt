@@ -34,7 +34,8 @@ pub fn read_reply(alloc: Global, bytes: &[u8]) -> Result<Reply, ReadFault>
 
 fn reply(alloc: Global, reader: &mut Reader) -> Option<Result<Reply, NoMemory>>
     ensures read { Makes reply_front reader.old result reader.new }
-    ensures sure { (r : Reply) (e : NoMemory) → reply_of reader.old ≡ Some r → IsTrue (reply_takes_no_memory r) → result ≡ Some (Err e) → ⊥ }
+    ensures sure { (r : Reply) (e : NoMemory) → reply_of reader.old ≡ Some r
+        → IsTrue (reply_takes_no_memory r) → result ≡ Some (Err e) → ⊥ }
 {
     let code = reader.u8()?;
     if code < 12 {
@@ -48,7 +49,8 @@ fn reply(alloc: Global, reader: &mut Reader) -> Option<Result<Reply, NoMemory>>
 fn low_reply(alloc: Global, code: u8, reader: &mut Reader) -> Option<Result<Reply, NoMemory>>
     requires { code < 12 }
     ensures read { Makes (front_of_code code reply_rows) reader.old result reader.new }
-    ensures sure { (r : Reply) (rest : List ℕ) (e : NoMemory) → front_of_code code reply_rows reader.old ≡ Some (r, rest) → IsTrue (reply_takes_no_memory r) → result ≡ Some (Err e) → ⊥ }
+    ensures sure { (r : Reply) (rest : List ℕ) (e : NoMemory) → front_of_code code reply_rows reader.old ≡ Some (r, rest)
+        → IsTrue (reply_takes_no_memory r) → result ≡ Some (Err e) → ⊥ }
 {
     match code {
         1 => Some(Ok(Reply::Opened {
@@ -78,7 +80,8 @@ fn low_reply(alloc: Global, code: u8, reader: &mut Reader) -> Option<Result<Repl
 fn high_reply(alloc: Global, code: u8, reader: &mut Reader) -> Option<Result<Reply, NoMemory>>
     requires { 12 ≤ code }
     ensures read { Makes (front_of_code code reply_rows) reader.old result reader.new }
-    ensures sure { (r : Reply) (rest : List ℕ) (e : NoMemory) → front_of_code code reply_rows reader.old ≡ Some (r, rest) → IsTrue (reply_takes_no_memory r) → result ≡ Some (Err e) → ⊥ }
+    ensures sure { (r : Reply) (rest : List ℕ) (e : NoMemory) → front_of_code code reply_rows reader.old ≡ Some (r, rest)
+        → IsTrue (reply_takes_no_memory r) → result ≡ Some (Err e) → ⊥ }
 {
     match code {
         12 => {

@@ -5,7 +5,8 @@ ghost use Rattle.tardis_base.specs.Sizes.{longest_frame};
 ghost use Rattle.wire_item.specs.Spellings.{batch_spelling, id_spelling, key_spelling, parents_spelling, u16_spelling, u32_spelling, u64_spelling};
 ghost use Rattle.wire_item.specs.Valid.{is_batch};
 ghost use Rattle.tardis_base.specs.Valid.{are_parents};
-ghost use Rattle.wire_talk.specs.Spellings.{children_spelling, first_ids_spelling, first_keys_spelling, pair_spelling, path_spelling, refusal_spelling, reply_spelling, site_line_spelling, site_lines_spelling};
+ghost use Rattle.wire_talk.specs.Spellings.{children_spelling, first_ids_spelling, first_keys_spelling, pair_spelling, path_spelling};
+ghost use Rattle.wire_talk.specs.Spellings.{refusal_spelling, reply_spelling, site_line_spelling, site_lines_spelling};
 ghost use Rattle.wire_talk.specs.Valid.{are_children, are_first_ids, are_first_keys, is_path, is_refusal, is_reply};
 
 use crate::field_writers::{write_code_with_id, write_code_with_id_and_u32, write_code_with_u32};

@@ -72,6 +72,7 @@ fn fields(alloc: Global, code: u8, reader: &mut Reader) -> Option<Result<Request
         19 => read_pull(alloc, reader),
         20 => read_deliver(alloc, reader),
         21 => Some(Ok(Request::Close)),
+        22 => Some(Ok(Request::Settle)),
         _ => None,
     }
 }

@@ -140,5 +140,6 @@ pub fn write_request(request: &Request, out: &mut ReplyBuf)
         Request::Pull { counts } => write_pull(counts, out),
         Request::Deliver { item } => write_deliver(item, out),
         Request::Close => out.push_byte(21),
+        Request::Settle => out.push_byte(22),
     }
 }

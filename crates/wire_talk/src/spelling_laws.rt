@@ -1,7 +1,8 @@
 //! The laws of spellings. Each function is empty, and its contract is laws or worked spellings.
 
 ghost use Rattle.wire_talk.specs.Laws.{NoMemoryIsSpelled, RepliesHaveOneSpelling, RequestsBeginWithTheirCode, RequestsHaveOneSpelling};
-ghost use Rattle.wire_talk.specs.Rows.{BeginAtIsRead, CommitIsRead, CommitWithNumberIsRead, DeliverIsRead, EmptyKeyIsNone, FourthKindIsNone, LongBeginIsNone, MergeOfLeavesIsRead, NumberWithoutFlagIsNone, PutIsRead};
+ghost use Rattle.wire_talk.specs.Rows.{BeginAtIsRead, CommitIsRead, CommitWithNumberIsRead, DeliverIsRead, EmptyKeyIsNone, FourthKindIsNone};
+ghost use Rattle.wire_talk.specs.Rows.{LongBeginIsNone, MergeOfLeavesIsRead, NumberWithoutFlagIsNone, PutIsRead};
 
 /// Each request and each reply has one spelling, and bytes are read as the one request, and the one reply, that they
 /// spell.

@@ -6,7 +6,7 @@ use std::test::Fail;
 use tardis_base::{ReadFault, ReplyBuf};
 
 /// One request of each kind, as it is spelled.
-const REQUESTS: [&[u8]; 24] = [
+const REQUESTS: [&[u8]; 25] = [
     &[1, 0],
     &[1, 1],
     &[2, 0],
@@ -31,6 +31,7 @@ const REQUESTS: [&[u8]; 24] = [
     &[18],
     &[19, 2, 0, 0, 0, 3, 0, 0, 0, 0],
     &[21],
+    &[22],
 ];
 
 /// State 2.1 below the root, which puts 1 to the key a, as it is delivered.
@@ -42,7 +43,7 @@ const DELIVERY: [u8; 22] = [
 const MALFORMED: [&[u8]; 12] = [
     &[],
     &[0],
-    &[22],
+    &[23],
     &[255],
     &[1, 2],
     &[2, 4],

@@ -9,7 +9,8 @@ use Rattle.plain_dag.proofs.Ids.{not-both, among-cases}
 use Rattle.state_dag.specs.Table.{id_at}
 use Rattle.state_dag.proofs.Standing.{slot-is_kept}
 use Rattle.begin_rule.proofs.NamedStates.{named-next, named-length}
-use Rattle.begin_rule.proofs.Rising.{leaves-rise, stands-behind}
+use Rattle.plain_dag.proofs.Rising.{leaves-rise}
+use Rattle.begin_rule.proofs.Rising.{stands-behind}
 use Rattle.begin_rule.proofs.Newest.{below-stand-in, some-leaf, newest-found}
 use Rattle.begin_rule.proofs.newest_below.Goals as goal
 

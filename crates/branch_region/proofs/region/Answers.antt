@@ -11,7 +11,8 @@ use Rattle.state_dag.specs.Stands.{Stands}
 use Rattle.branch_region.specs.Regions.{is_above_part, is_last_shared, apart_states, shared_states}
 use Rattle.branch_region.specs.Walks.{is_since, is_until, AreSince, waits_at, StepsTo}
 use Rattle.branch_region.specs.declared.parts.Region.{Region}
-use Rattle.branch_region.proofs.Orders.{kept-ascend, parted, since-first}
+use Rattle.plain_dag.proofs.Rising.{kept-rise}
+use Rattle.branch_region.proofs.Orders.{parted, since-first}
 use Rattle.branch_region.proofs.Told.{named-are_kept}
 use Rattle.branch_region.proofs.Named.{all-reversed, all-both}
 use Rattle.branch_region.proofs.Steps.{ended}
@@ -46,7 +47,7 @@ all-joined table rs ks stands passes b both first turned newest is turns older a
     ∙ map-append (id_at table) first turned
     ∙ ap₂ (λ a b. a ++ b) older (ap (map (id_at table)) turns ∙ are)
     ∙ sym (map-append some (filter (is_until rs b passes) (kept_states rs ks)) (filter (is_since rs b passes) (kept_states rs ks)))
-    ∙ ap (map some) (sym (parted (arrival rs) passes b (kept_states rs ks) (kept-ascend rs ks stands.dag)))
+    ∙ ap (map some) (sym (parted (arrival rs) passes b (kept_states rs ks) (kept-rise rs ks stands.dag)))
 
 pub returns-in-Over-clause-slots : goal.returns-in-Over-clause-slots
 returns-in-Over-clause-slots c = (

@@ -1,7 +1,7 @@
-use Rattle.client_laws.proofs.Ends.{deliveries-are-kept}
+use Rattle.client_laws.proofs.Ends.{deliveries-are-kept, settled-are-kept}
 use Rattle.client_laws.proofs.Held.{history-is-told}
 use Rattle.client_laws.proofs.Kept.{commits-are-kept, commits-are-shown, commits-join-what-they-read, other-keys-are-joined}
-use Rattle.client_laws.proofs.Wrong.{forgotten-records-break-history, forgotten-deliveries-break, forgotten-records-break, open-conflicts-break, dropped-sides-break, open-conflicts-break-joins}
+use Rattle.client_laws.proofs.Wrong.{forgotten-records-break-history, forgotten-deliveries-break, forgotten-waiting-breaks, forgotten-settled-break, forgotten-records-break, open-conflicts-break, dropped-sides-break, open-conflicts-break-joins}
 use Rattle.client_laws.proofs.nothing_committed_is_lost.Goals as goal
 
 pub returns-clause-kept : goal.returns-clause-kept
@@ -39,3 +39,12 @@ returns-clause-history c = history-is-told
 
 pub returns-clause-forgotten_breaks_history : goal.returns-clause-forgotten_breaks_history
 returns-clause-forgotten_breaks_history c = forgotten-records-break-history
+
+pub returns-clause-settled : goal.returns-clause-settled
+returns-clause-settled c = settled-are-kept
+
+pub returns-clause-forgotten_breaks_waiting : goal.returns-clause-forgotten_breaks_waiting
+returns-clause-forgotten_breaks_waiting c = forgotten-waiting-breaks
+
+pub returns-clause-forgotten_breaks_settled : goal.returns-clause-forgotten_breaks_settled
+returns-clause-forgotten_breaks_settled c = forgotten-settled-break

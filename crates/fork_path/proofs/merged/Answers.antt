@@ -1,10 +1,7 @@
-use Rattle.std.proofs.Common.{◌<◌, length, arith}
-use Rattle.fork_path.proofs.Merges.{merging-more}
+use Rattle.fork_path.proofs.Merges.{merged-whole}
 use Rattle.fork_path.proofs.merged.Goals as goal
 
-pub loop-pair-preserved : goal.loop-pair-preserved
-loop-pair-preserved c = λ up up₂.
-    let others = c.args.others.now in
-    let lt : c.loop-pair.pair-index < length others = omega arith in
-    merging-more c.args.own.now others c.loop-pair.pairs.items c.loop-pair.rest.now c.around.result.0.now c.around.result.1.now c.extend_from_slice.new.self.items c.push.new.self.items c.loop-pair.pair-index
-    up₂ lt (c.loop-pair.invariant up up₂) c.around.ensures c.in_ok-extend_from_slice.ensures.items c.in_ok-push.ensures.items
+pub returns : goal.returns
+returns c = λ up up₂.
+    merged-whole c.args.own.now c.args.others.now c.in_ok-pairs.pairs.items c.extend_from_slice.new.self.items c.add_merged.new.pairs.items c.common_front-front.result
+    up up₂ c.common_front-front.ensures.same c.in_ok-pairs.ensures.items c.in_ok-extend_from_slice.ensures.items c.in_ok-add_merged.ensures

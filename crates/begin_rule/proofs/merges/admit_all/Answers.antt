@@ -3,7 +3,7 @@ use Rattle.std.specs.List.{list_all}
 use Rattle.std.proofs.lemmas.Bool.{and_from}
 use Rattle.std.proofs.lemmas.List.Folds.{list_all_more}
 use Rattle.tardis_base.specs.Ids.{root}
-use Rattle.begin_rule.specs.Choices.{is_listed}
+use Rattle.state_dag.specs.Table.{is_listed}
 use Rattle.begin_rule.proofs.Admissions.{known-at, refusal-told, admitted-next, named-is_listed}
 use Rattle.begin_rule.proofs.merges.admit_all.Goals as goal
 

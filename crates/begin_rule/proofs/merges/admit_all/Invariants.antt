@@ -6,7 +6,8 @@ use Rattle.tardis_base.specs.Ids.{is_among}
 use Rattle.plain_dag.specs.Above.{is_proper_ancestor}
 use Rattle.state_dag.specs.Table.{id_at}
 use Rattle.state_dag.specs.Stands.{Stands}
-use Rattle.begin_rule.specs.Choices.{first_unknown, first_below, is_listed}
+use Rattle.plain_dag.specs.Begin.{first_unknown, first_below}
+use Rattle.state_dag.specs.Table.{is_listed}
 use Rattle.begin_rule.proofs.merges.admit_all.Given as goal
 
 abbrev pub invariant-loop-state : goal.invariant-loop-state

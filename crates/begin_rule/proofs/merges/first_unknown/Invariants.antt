@@ -2,7 +2,7 @@ use Rattle.std.proofs.Common.{◌≡◌, List, drop}
 use Rattle.tardis_base.specs.declared.ids.StateId.{StateId}
 use Rattle.tardis_base.specs.declared.records.Record.{Record}
 use Rattle.state_dag.specs.Stands.{Stands}
-use Rattle.begin_rule.specs.Choices.{first_unknown}
+use Rattle.plain_dag.specs.Begin.{first_unknown}
 use Rattle.begin_rule.proofs.merges.first_unknown.Given as goal
 
 abbrev pub invariant-loop-state : goal.invariant-loop-state

@@ -7,7 +7,8 @@ use Rattle.plain_dag.specs.Collection.{kept_states}
 use Rattle.state_dag.specs.Table.{id_at, is_slot}
 use Rattle.branch_region.specs.Regions.{is_above_part, is_last_shared}
 use Rattle.branch_region.specs.Walks.{is_until}
-use Rattle.branch_region.proofs.Orders.{kept-ascend, until-is, until-front}
+use Rattle.plain_dag.proofs.Rising.{kept-rise}
+use Rattle.branch_region.proofs.Orders.{until-is, until-front}
 use Rattle.branch_region.proofs.Named.{named-next, named-length, passing-more, passing-same, all-got, all-more}
 use Rattle.branch_region.proofs.Told.{part-told, part-isnt_last}
 use Rattle.branch_region.proofs.older.older.Goals as goal
@@ -18,7 +19,7 @@ returns-then-bound-arrival-clause-apart c = λ rs ks stands xs are.
     let i = c.loop-slot.slot-index in
     let n = named-next (id_at c.args.dag.now) c.kept_slots-slot-items.result.now (kept_states rs ks) i (record { 0 = 0 }) (c.kept_slots-slot-items.ensures.kept rs ks stands) c.loop-slot-test.true in
     let at = c.arrival.ensures.arrival rs ks stands n.state n.named in
-    let front = until-front (arrival rs) (λ x. is_above_part rs x xs) c.args.bound (kept_states rs ks) i n.state (kept-ascend rs ks stands.dag) n.got (let le = c.if-bound-arrival.true in omega arith) in
+    let front = until-front (arrival rs) (λ x. is_above_part rs x xs) c.args.bound (kept_states rs ks) i n.state (kept-rise rs ks stands.dag) n.got (let le = c.if-bound-arrival.true in omega arith) in
     (c.loop-slot.invariant.both rs ks stands xs are).0 ∙ ap (map (λ x. Some x)) (sym front)
 
 pub returns-then-bound-arrival-clause-shared : goal.returns-then-bound-arrival-clause-shared
@@ -26,7 +27,7 @@ returns-then-bound-arrival-clause-shared c = λ rs ks stands xs are.
     let i = c.loop-slot.slot-index in
     let n = named-next (id_at c.args.dag.now) c.kept_slots-slot-items.result.now (kept_states rs ks) i (record { 0 = 0 }) (c.kept_slots-slot-items.ensures.kept rs ks stands) c.loop-slot-test.true in
     let at = c.arrival.ensures.arrival rs ks stands n.state n.named in
-    let front = until-front (arrival rs) (is_last_shared rs xs) c.args.bound (kept_states rs ks) i n.state (kept-ascend rs ks stands.dag) n.got (let le = c.if-bound-arrival.true in omega arith) in
+    let front = until-front (arrival rs) (is_last_shared rs xs) c.args.bound (kept_states rs ks) i n.state (kept-rise rs ks stands.dag) n.got (let le = c.if-bound-arrival.true in omega arith) in
     (c.loop-slot.invariant.both rs ks stands xs are).1 ∙ ap (map (λ x. Some x)) (sym front)
 
 pub loop-slot-preserved : goal.loop-slot-preserved

@@ -1,20 +1,25 @@
-use Rattle.std.proofs.Common.{◌≡◌, ◌∙◌, ◌+◌, ◌-◌, ◌&&◌, length, take, take_all, Some, sym, ap, arith}
+use Rattle.std.proofs.Common.{◌≡◌, ◌∙◌, ◌+◌, ◌-◌, ◌&&◌, length, take, get_or, Some, sym, ap, arith}
 use Rattle.std.specs.Option.{unwrap_or}
+use Rattle.std.proofs.lemmas.List.{length-map}
+use Rattle.std.proofs.lemmas.Bool.{and_right}
 use Rattle.plain_dag.specs.Above.{is_above}
 use Rattle.plain_dag.specs.Floors.{is_above_ceilings}
 use Rattle.plain_dag.specs.Collection.{kept_states}
-use Rattle.state_dag.specs.Table.{id_at}
+use Rattle.state_dag.specs.Table.{Entry, id_at}
 use Rattle.ceiling_book.specs.Book.{sessions_of, own_floor}
-use Rattle.ceiling_book.proofs.Newest.{fits, last_passing, last-passes, last-fails, newest-is_last, fitting-is_kept, lengths-agree, placed-at}
+use Rattle.ceiling_book.proofs.Newest.{fits, last_passing, last-passes, last-fails, newest-is_last, fitting-is_kept, placed-at}
+use Rattle.ceiling_book.proofs.Late.{last-before}
 use Rattle.ceiling_book.proofs.CeilingBook.automatic_floor.Goals as goal
 
 pub loop-place-init : goal.loop-place-init
 loop-place-init c = λ rs ks stands placed under.
     let now = c.args.self.now in
-    let p = fits rs (own_floor now).state (sessions_of now) in
-    let len = lengths-agree (id_at c.args.dag.now) c.kept_slots-kept.result.now (kept_states rs ks) (c.kept_slots-kept.ensures.kept rs ks stands) in
-    newest-is_last p rs ks (fitting-is_kept rs stands.dag ks (own_floor now).state (sessions_of now) under)
-    ∙ ap (last_passing p) (sym (take_all (length c.kept_slots-kept.result.now) (kept_states rs ks) (omega arith)))
+    let floor = (own_floor now).state in
+    let p = fits rs floor (sessions_of now) in
+    let kept = kept_states rs ks in
+    newest-is_last p rs ks (fitting-is_kept rs stands.dag ks floor (sessions_of now) under)
+    ∙ last-before p kept c.first_late-place.result (λ k d le lt.
+    and_right (is_above rs floor (get_or kept k d)) (is_above_ceilings rs (sessions_of now) (get_or kept k d)) (c.first_late-place.ensures.late rs ks stands placed k d le lt))
 
 pub loop-place-preserved : goal.loop-place-preserved
 loop-place-preserved c = λ rs ks stands placed under.
@@ -24,7 +29,9 @@ loop-place-preserved c = λ rs ks stands placed under.
     let kept = kept_states rs ks in
     let i = c.loop-place.place - 1 in
     let more = c.loop-place-test.true in
-    let n = placed-at (id_at table) c.kept_slots-kept.result.now kept i (record { 0 = 0 }) (c.kept_slots-kept.ensures.kept rs ks stands) (let le = c.loop-place.auto.place in omega arith) in
+    let many = ap length c.kept_slots-kept.ensures.is in
+    let same = length-map table.entries (λ (e : Entry). e.slot) in
+    let n = placed-at (id_at table) c.kept_slots-kept.result.now kept i (record { 0 = 0 }) (c.kept_slots-kept.ensures.kept rs ks stands) (let le = c.loop-place.auto.place in let within = c.first_late-place.ensures.within in omega arith) in
     let place : c.loop-place.place ≡ i + 1 = omega arith in
     let told = c.fits.ensures rs ks stands placed (c.own_place-floor.ensures.floor table rs ks placed) n.state n.named in
     let fails = ap (λ y. is_above rs y n.state && is_above_ceilings rs (sessions_of now) n.state) (sym c.own_place-floor.ensures.state) ∙ sym told ∙ c.if-fits.false in
@@ -42,7 +49,9 @@ returns-then-fits-clause-floor c = λ rs ks stands placed under.
     let kept = kept_states rs ks in
     let i = c.loop-place.place - 1 in
     let more = c.loop-place-test.true in
-    let n = placed-at (id_at table) c.kept_slots-kept.result.now kept i (record { 0 = 0 }) (c.kept_slots-kept.ensures.kept rs ks stands) (let le = c.loop-place.auto.place in omega arith) in
+    let many = ap length c.kept_slots-kept.ensures.is in
+    let same = length-map table.entries (λ (e : Entry). e.slot) in
+    let n = placed-at (id_at table) c.kept_slots-kept.result.now kept i (record { 0 = 0 }) (c.kept_slots-kept.ensures.kept rs ks stands) (let le = c.loop-place.auto.place in let within = c.first_late-place.ensures.within in omega arith) in
     let place : c.loop-place.place ≡ i + 1 = omega arith in
     let told = c.fits.ensures rs ks stands placed (c.own_place-floor.ensures.floor table rs ks placed) n.state n.named in
     let passes = ap (λ y. is_above rs y n.state && is_above_ceilings rs (sessions_of now) n.state) (sym c.own_place-floor.ensures.state) ∙ sym told ∙ c.if-fits.true in

@@ -1,4 +1,6 @@
-use Rattle.std.proofs.Common.{◌≡◌, [], ◌∷◌, Some, IsTrue, sym, subst}
+use Rattle.std.proofs.Common.{◌≡◌, [], ◌∷◌, Some, IsTrue, refl, sym, subst}
+use Rattle.std.specs.List.{list_all}
+use Rattle.tardis_base.specs.Valid.{is_record}
 use Rattle.plain_dag.specs.States.{root_record}
 use Rattle.state_dag.specs.Table.{is_slot, id_at}
 use Rattle.state_dag.specs.Stands.{Stands}
@@ -15,6 +17,7 @@ invariant_of-result c =
       places = c.in_ok-book.ensures.slots store.table (subst (λ t. IsTrue (is_slot t c.last-root.result)) c.dag.ensures c.last-root.ensures.slot);
       slots = none-held (λ n held. IsTrue (has_slots store.table held)) c.new-txns.result c.new-txns.ensures;
       floors = floors-open book c.args.limits.now store.table.limits c.in_ok-book.ensures.floors c.in_ok-store.ensures.limits;
+      room = subst (λ room. IsTrue (list_all is_record room)) (sym c.in_ok-waiting.ensures) refl;
     }
 
 pub returns : goal.returns
@@ -34,5 +37,6 @@ returns c =
             (c.last-root.ensures.last (root_record ∷ []) [] (subst (λ t. Stands t (root_record ∷ []) []) (sym c.dag.ensures) c.in_ok-store.ensures.stands.table)));
         txns = none-kept c.new-txns.result c.new-txns.ensures;
         slots = none-held (λ n held. IsNamed store.table held) c.new-txns.result c.new-txns.ensures;
+        waiting = c.in_ok-waiting.ensures;
       };
     }

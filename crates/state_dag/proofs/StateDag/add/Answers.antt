@@ -345,7 +345,7 @@ invariant_of-self-2 c =
     (c.push_reserved.ensures.items ∙ ap (λ (ss : List Slot). ss ++ slot ∷ []) (c.drop_slots.ensures.items ∙ ap (filter (λ (s : Slot). not (is_slot_among s parents))) c.make_slot_room-2.ensures.items))
     (omega arith) entry.id_is (entry.arrival_is ∙ sym (ap (λ (t : Table). t.known) c.self.view_is)) entry.no_children entry.no_stand_ins entry.path.ascending
     (short-told (seen a) parents n.id (length n.path.pairs) (found-all a c.self.invariant) (none-seen c.self.inside c.self.invariant c.args.self.now c.self.view_is c.args.parents.now c.requires.slots c.deref-3.result.now (take c.self.inside.kept c.deref-2.result.now) c.deref-3.ensures.value (ap (take c.self.inside.kept) c.deref-2.ensures.value) c.in_ok-gains.ensures.long)) c.in_ok-check_path.ensures (let first = c.requires.first in let last = c.requires.last in omega arith)
-    (c.requires.next ∙ ap (λ (m : ℕ). m + 1) (unwrap_or-slice_get c.args.self.now.counts i 0 ∙ ap (λ (t : Table). get_or t.counts i 0) (sym c.self.view_is))) c.set_count.ensures.fits
+    (c.requires.next ∙ ap (λ (m : ℕ). m + 1) (unwrap_or-slice_get c.args.self.now.counts i 0 ∙ ap (λ (t : Table). get_or t.counts i 0) (sym c.self.view_is))) c.set_count.ensures.fits refl refl
 
 pub returns-clause-slot : goal.returns-clause-slot
 returns-clause-slot c = subst (λ (t : Table). IsNewSlot t (seen (inside-next c)) c.args.id c.next_slot-slot.result) c.self.view_is (last-named (seen c.self.inside) (seen (inside-next c)) (seen c.self.inside) c.args.parents.now c.args.id c.next_slot-slot.result (entries_in c.grow.new.nodes.items (kept_of c.self.inside)) (entry_of c.next_slot-slot.result.0 c.in_ok-node.node) (follows c) (entries-next c) refl (is-fresh c) c.args.id (new-entry c).id_is)

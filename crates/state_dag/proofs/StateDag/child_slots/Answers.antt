@@ -1,6 +1,7 @@
-use Rattle.std.proofs.Common.{◌≡◌, ◌∙◌, true, map, sym, ap, subst}
+use Rattle.std.proofs.Common.{◌≡◌, ◌∙◌, true, map, Some, sym, ap, subst}
+use Rattle.std.specs.Option.{option_map}
 use Rattle.std.specs.List.{list_all}
-use Rattle.state_dag.specs.Table.{id_at, is_slot}
+use Rattle.state_dag.specs.Table.{Entry, id_at, is_slot}
 use Rattle.state_dag.specs.Views.{entry_of}
 use Rattle.state_dag.proofs.Standing.{shown}
 use Rattle.state_dag.proofs.StateDag.child_slots.Goals as goal
@@ -12,3 +13,6 @@ returns-clause-stand_ins c = λ rs ks stands x named.
 
 pub returns-clause-slots : goal.returns-clause-slots
 returns-clause-slots c = subst (λ ss. list_all (is_slot c.args.self.now) ss ≡ true) (sym c.as_slice.ensures.value) c.node.ensures.stand_ins
+
+pub returns-clause-is : goal.returns-clause-is
+returns-clause-is c = ap (option_map (λ (e : Entry). e.stand_ins)) c.node.ensures.entry ∙ ap (λ z. Some z) (sym c.as_slice.ensures.value)

@@ -1,5 +1,6 @@
-use Rattle.std.proofs.Common.{◌≡◌, ◌∙◌, ◌+◌, ◌++◌, ℕ, true, leb, ltb, List, [], ◌∷◌, length, find, take, cond, Some, None, is_some, eqb, ap₂, sum, replicate, refl, subst, sym, ap, arith, rules}
+use Rattle.std.proofs.Common.{◌≡◌, ◌∙◌, ◌+◌, ◌++◌, ℕ, true, leb, ltb, List, [], ◌∷◌, length, map, get_or, find, take, cond, Some, None, is_some, eqb, ap₂, sum, replicate, refl, subst, sym, ap, arith, rules}
 use Rattle.std.specs.List.{list_all}
+use Rattle.std.specs.Option.{option_map_or}
 use Rattle.std.specs.BTreeMap.{get}
 use Rattle.state_dag.specs.Ids.{id_cmp}
 use Rattle.tardis_base.specs.Ids.{root, same_id}
@@ -15,7 +16,7 @@ use Rattle.state_dag.specs.Nodes.{AreDistinct}
 use Rattle.state_dag.proofs.Following.{childless_slots, leaves-last}
 use Rattle.state_dag.proofs.Known.{limits-parts}
 use Rattle.state_dag.proofs.SameEntries.{sum-none}
-use Rattle.state_dag.specs.Views.{entry_of, entries_in, slot_of_id}
+use Rattle.state_dag.specs.Views.{entry_of, entries_in, slot_of_id, is_counted, AllDiffer}
 use Rattle.state_dag.specs.Stands.{Stands}
 use Rattle.state_dag.proofs.Opening.{root-entry, stands-opening}
 use Rattle.state_dag.proofs.StateDag.new.Goals as goal
@@ -69,10 +70,15 @@ invariant_of-result c =
       short = subst (λ es. list_all (λ (e : Entry). leb (length e.path) limits.max_path) es ≡ true) (sym view) (and_from (leb (length n.path.pairs) limits.max_path) true (le-leb (length n.path.pairs) limits.max_path (omega arith)) refl);
       stand_ins = subst (λ (es : List Entry). list_all (λ (e : Entry). list_all (λ (s : Slot). is_some (find (λ (f : Entry). eqb f.slot.0 s.0) es)) e.stand_ins) es ≡ true) (sym view)
           (and_from (list_all (λ (s : Slot). is_some (find (λ (f : Entry). eqb f.slot.0 s.0) (entry_of 0 n ∷ []))) n.stand_ins.items) true (ap (list_all (λ (s : Slot). is_some (find (λ (f : Entry). eqb f.slot.0 s.0) (entry_of 0 n ∷ [])))) r.stand_ins) refl);
+      later = subst (λ (es : List Entry). list_all (λ (e : Entry). list_all (λ (s : Slot). ltb e.arrival (option_map_or (λ (f : Entry). f.arrival) (find (λ (f : Entry). eqb f.slot.0 s.0) es) 0)) e.stand_ins) es ≡ true) (sym view)
+          (and_from (list_all (λ (s : Slot). ltb n.arrival (option_map_or (λ (f : Entry). f.arrival) (find (λ (f : Entry). eqb f.slot.0 s.0) (entry_of 0 n ∷ [])) 0)) n.stand_ins.items) true (ap (list_all (λ (s : Slot). ltb n.arrival (option_map_or (λ (f : Entry). f.arrival) (find (λ (f : Entry). eqb f.slot.0 s.0) (entry_of 0 n ∷ [])) 0))) r.stand_ins) refl);
       childless = c.in_ok-push-3.ensures.items ∙ ap (λ ss. ss ++ record { 0 = 0 } ∷ []) c.new-leaves.ensures.items ∙ sym (ap childless_slots view ∙ leaves-last [] (entry_of 0 n) r.children);
       sites = ap length zeros ∙ length-replicate limits.sites 0;
       fit = subst (λ cs. list_all (λ m. ltb m 4294967296) cs ≡ true) (sym zeros) (fits-none limits.sites);
       counted = sym (ap (λ cs. sum cs + 1) zeros ∙ ap (λ m. m + 1) (sum-none limits.sites));
+      among_counted = subst (λ es. list_all (λ (e : Entry). is_counted c.in_ok-counts.counts.items e.id) es ≡ true) (sym view)
+          (and_from (is_counted c.in_ok-counts.counts.items n.id) true (subst (λ z. is_counted c.in_ok-counts.counts.items z ≡ true) (sym r.id) (le-leb 0 (get_or c.in_ok-counts.counts.items 0 0) (omega arith))) refl);
+      once = subst (λ (es : List Entry). AllDiffer (map (λ (e : Entry). e.id) es)) (sym view) (refl, tt);
       indexed = λ x.
           (let put : get id_cmp c.insert.new.self x ≡ cond (same_id x root) (Some (record { 0 = 0 })) None = search rules in put)
           ∙ sym (ap (λ es. slot_of_id es x) view ∙ ap (λ (i : StateId). cond (same_id x i) (Some (record { 0 = 0 })) None) r.id);

@@ -1,5 +1,5 @@
 use Rattle.std.proofs.Common.{refl, None, Ok, ◌∙◌, ap, arith}
-use Rattle.tardis_base.specs.declared.requests.Request.TheVariants.{Open, Begin, Commit, Abort, ForkPoints, Ceiling, Raise, RaiseAuto, Tidy, Stat, Show, Leaves, Close}
+use Rattle.tardis_base.specs.declared.requests.Request.TheVariants.{Open, Begin, Commit, Abort, ForkPoints, Ceiling, Raise, RaiseAuto, Tidy, Stat, Show, Leaves, Close, Settle}
 use Rattle.wire_item.specs.Fronts.{made, front_of_code}
 use Rattle.wire_item.specs.Readings.{id_front, u16_front}
 use Rattle.wire_item.proofs.Fronts.{made-read}
@@ -113,7 +113,11 @@ pub returns-in-21-clause-read : goal.returns-in-21-clause-read
 returns-in-21-clause-read c =
     makes (front_of_code c.args.code request_rows) c.args.reader.now c.args.reader.now (Ok Close) Close (ap (λ k. front_of_code k request_rows c.args.reader.now) c.in-21.is) refl
 
+pub returns-in-22-clause-read : goal.returns-in-22-clause-read
+returns-in-22-clause-read c =
+    makes (front_of_code c.args.code request_rows) c.args.reader.now c.args.reader.now (Ok Settle) Settle (ap (λ k. front_of_code k request_rows c.args.reader.now) c.in-22.is) refl
+
 pub returns-in_default-clause-read : goal.returns-in_default-clause-read
 returns-in_default-clause-read c =
     makes-none (front_of_code c.args.code request_rows) c.args.reader.now c.args.reader.now None refl
-    (rows-other request_rows 1 21 c.args.code c.args.reader.now refl (λ m low high e. omega (arith, low, high, e)))
+    (rows-other request_rows 1 22 c.args.code c.args.reader.now refl (λ m low high e. omega (arith, low, high, e)))

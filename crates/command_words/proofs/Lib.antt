@@ -1,0 +1,6 @@
+-- Lemmas on words.
+pub mod Lists
+pub mod Numerals
+pub mod Givens
+pub mod Serves
+pub mod Runs

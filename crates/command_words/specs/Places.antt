@@ -1,0 +1,21 @@
+-- Which places there are.
+use Rattle.std.specs.Prelude.{ℕ, ◌≤◌}
+use Rattle.command_words.specs.declared.commands.Place.{Place}
+use Rattle.command_words.specs.declared.commands.Command.{Command}
+use Rattle.command_words.specs.declared.commands.Command.TheVariants.{Run, Shell, Audit, World, Serve, Load}
+
+-- a site of 1 to 16 sites
+pub record IsPlace (place : Place) : Type 0 where
+  pub some : 1 ≤ place.sites
+  pub most : place.sites ≤ 16
+  pub first : 1 ≤ place.site
+  pub last : place.site ≤ place.sites
+
+-- the command's place is one
+abbrev pub HasPlace : Command → Type 0
+HasPlace (Run place) = IsPlace place
+HasPlace (Shell place) = IsPlace place
+HasPlace (Audit place) = IsPlace place
+HasPlace (World sites) = (1 ≤ sites) × (sites ≤ 16)
+HasPlace (Serve plan) = IsPlace plan.place
+HasPlace (Load start steps) = Unit {0}

@@ -1,0 +1,18 @@
+//! The words of a command: which have a form, and what they say.
+//!
+//! The forms are stated in `docs/COMMANDS.md`.
+#![tactic(auto)]
+
+mod commands;
+mod forms;
+mod laws;
+mod numbers;
+mod peers;
+mod reading;
+mod settings;
+#[cfg(test)]
+mod tests;
+
+pub use commands::{Command, Place, ServePlan, WordsFault};
+pub use laws::runs_at_a_site;
+pub use reading::read_words;

@@ -1,0 +1,58 @@
+//! Reading the words of a command.
+
+ghost use Rattle.std.specs.Prelude.{◌≡◌, ℕ, List, IfOk, IfSome, Some, None, Err, false, map, option_map, bytes_eq, codes};
+ghost use Rattle.std.specs.String.{string_bytes};
+ghost use Rattle.command_words.specs.Settings.{settings};
+ghost use Rattle.command_words.specs.Forms.{form, form_behind, Serving, AsServe};
+ghost use Rattle.command_words.specs.Commands.{form_of};
+ghost use Rattle.command_words.specs.Places.{HasPlace};
+
+use crate::commands::{Command, WordsFault};
+use crate::forms::{read_load, read_place_alone, read_serving, read_world};
+use std::alloc::Global;
+
+/// Reads the words behind the program's name. Only `serve` takes memory. The time is in proportion to how many words
+/// there are.
+pub fn read_words(alloc: Global, words: &[String]) -> Result<Command, WordsFault>
+    ensures form { IfOk result (λ command. form (map (λ w. string_bytes w) words.now) ≡ Some (form_of command)) }
+    ensures place { IfOk result (λ command. HasPlace command) }
+    ensures usage { result ≡ Err WordsFault.Usage → form (map (λ w. string_bytes w) words.now) ≡ None }
+    ensures memory { result ≡ Err WordsFault.NoMemory → (plan : Serving) × (form (map (λ w. string_bytes w) words.now) ≡ Some (AsServe plan)) }
+{
+    let [command, options @ ..] = words else {
+        return Err(WordsFault::Usage);
+    };
+    if command.as_str() == "serve" {
+        return match read_serving(alloc, options) {
+            Ok(plan) => Ok(Command::Serve(plan)),
+            Err(WordsFault::Usage) => Err(WordsFault::Usage),
+            Err(WordsFault::NoMemory) => Err(WordsFault::NoMemory),
+        };
+    }
+    match read_other(command.as_str(), options) {
+        Some(command) => Ok(command),
+        None => Err(WordsFault::Usage),
+    }
+}
+
+/// Reads the options of a command other than `serve`.
+fn read_other(command: &str, options: &[String]) -> Option<Command>
+    ensures place { IfSome result (λ read. HasPlace read) }
+    ensures form { bytes_eq command.now (codes "serve") ≡ false
+        → option_map form_of result ≡ form_behind command.now (settings (map (λ w. string_bytes w) options.now)) }
+{
+    match command {
+        "run" => Some(Command::Run(read_place_alone(options)?)),
+        "shell" => Some(Command::Shell(read_place_alone(options)?)),
+        "audit" => Some(Command::Audit(read_place_alone(options)?)),
+        "world" => {
+            let sites = read_world(options)?;
+            Some(Command::World { sites })
+        }
+        "load" => {
+            let (start, steps) = read_load(options)?;
+            Some(Command::Load { start, steps })
+        }
+        _ => None,
+    }
+}

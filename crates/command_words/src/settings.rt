@@ -1,0 +1,108 @@
+//! The options behind the word of a command.
+
+ghost use Rattle.std.specs.Prelude.{◌≡◌, ◌<◌, ◌++◌, ℕ, List, [], ◌∷◌, Option, Some, None, length, map, IfOk, filter_map, option_map, bytes_eq};
+ghost use Rattle.std.specs.List.{list_any};
+ghost use Rattle.std.specs.String.{string_bytes};
+ghost use Rattle.command_words.specs.Settings.{settings, values, are_only};
+ghost use Rattle.command_words.specs.Given.{IsGiven};
+ghost use Rattle.command_words.specs.Splits.{IsSplit};
+
+use std::alloc::Global;
+use tardis_base::NoMemory;
+
+/// The first option, and the words behind it.
+#[derive(Clone, Copy)]
+pub(crate) struct Split<'a> {
+    pub(crate) name: &'a str,
+    pub(crate) value: Option<&'a str>,
+    pub(crate) rest: &'a [String],
+}
+
+/// How often an option is given, and its value.
+#[derive(Clone, Copy)]
+pub(crate) enum Given<'a> {
+    Absent,
+    /// Once, without a value.
+    Bare,
+    /// Once, with this value.
+    Value(&'a str),
+    /// Twice or more.
+    Twice,
+}
+
+/// Splits off the first option: `--tidy` alone, or any other word with the one behind it.
+pub(crate) fn split_first(words: &[String]) -> Option<Split<'_>>
+    ensures { IsSplit (map (λ w. string_bytes w) words.now) result }
+{
+    match words {
+        [] => None,
+        [name] => Some(Split {
+            name: name.as_str(),
+            value: None,
+            rest: &words[1..],
+        }),
+        [name, value, ..] => {
+            let name = name.as_str();
+            if name == "--tidy" {
+                Some(Split {
+                    name,
+                    value: None,
+                    rest: &words[1..],
+                })
+            } else {
+                Some(Split {
+                    name,
+                    value: Some(value.as_str()),
+                    rest: &words[2..],
+                })
+            }
+        }
+    }
+}
+
+/// How often the option of this name is given, and its value.
+pub(crate) fn how_given<'a>(words: &'a [String], name: &str) -> Given<'a>
+    ensures { IsGiven (values name.now (settings (map (λ w. string_bytes w) words.now))) result }
+{
+    let mut found = Given::Absent;
+    let mut left = words;
+    while let Some(first) = split_first(left) {
+        if first.name == name {
+            found = with_value(found, first.value);
+        }
+        left = first.rest;
+    }
+    found
+}
+
+/// What is given where one more value is.
+fn with_value<'a>(found: Given<'a>, value: Option<&'a str>) -> Given<'a>
+    ensures { (before : List (Option (List ℕ))) → IsGiven before found.entry → IsGiven (before ++ option_map (λ v. v.now) value.entry ∷ []) result }
+{
+    match (found, value) {
+        (Given::Absent, Some(value)) => Given::Value(value),
+        (Given::Absent, None) => Given::Bare,
+        _ => Given::Twice,
+    }
+}
+
+/// Whether each option has one of these names.
+pub(crate) fn are_only(words: &[String], names: &[&str]) -> bool
+    ensures { result ≡ are_only (map (λ n. n.now) names.now) (settings (map (λ w. string_bytes w) words.now)) }
+{
+    let mut left = words;
+    while let Some(first) = split_first(left) {
+        if !is_among(first.name, names) {
+            return false;
+        }
+        left = first.rest;
+    }
+    true
+}
+
+/// Whether the word is one of these.
+fn is_among(word: &str, names: &[&str]) -> bool
+    ensures { result ≡ list_any (λ name. bytes_eq word.now name) (map (λ n. n.now) names.now) }
+{
+    names.iter().any(|name| word == *name)
+}

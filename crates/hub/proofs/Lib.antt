@@ -1,0 +1,6 @@
+-- Lemmas on what a hub answers, and on its turns.
+mod Serving
+mod Holding
+mod Turning
+mod Leading
+mod Trails

@@ -1,0 +1,12 @@
+use Rattle.std.proofs.Common.{◌≡◌, length}
+use Rattle.hub.specs.Answering.{Serves}
+use Rattle.hub.proofs.answers.answer_held.Given as goal
+
+abbrev pub invariant-loop-cutter : goal.invariant-loop-cutter
+invariant-loop-cutter g l = record {
+  served : Serves g.M.Machine.plain (g.M.Machine.stands l.fn.machine) (g.M.Machine.stands l.machine) l.fn.actor l.fn.cutter l.cutter l.fn.waiting l.waiting;
+  opening : g.M.Machine.opening l.machine ≡ g.M.Machine.opening l.fn.machine;
+}
+
+abbrev pub decreases-loop-cutter : goal.decreases-loop-cutter
+decreases-loop-cutter g l = length l.cutter

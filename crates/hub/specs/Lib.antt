@@ -1,0 +1,10 @@
+-- What a hub answers, what each of its connections has of it, and what its edge sees.
+pub mod Answering
+pub mod Lines
+pub mod Telling
+pub mod Talks
+pub mod Turns
+pub mod Runs
+pub mod Keeping
+pub mod Laws
+pub mod Memory

@@ -1,0 +1,66 @@
+//! The answers to what came of one connection.
+
+ghost use Rattle.std.specs.Prelude.{◌≡◌, ◌≤◌, true, length};
+ghost use Rattle.hub.specs.Answering.{Replied, Serves};
+ghost use Rattle.hub.specs.Lines.{IsStopped, most_waiting};
+ghost use Rattle.hub.specs.Runs.{close};
+
+use crate::lines::MOST_WAITING;
+use crate::waitings::Waiting;
+use frame_cut::{Cut, FrameCutter};
+use tardis_base::{Machine, NoMemory, ReplyBuf};
+
+/// The reply that memory is wanting.
+const WANTING: [u8; 1] = [22];
+
+/// The request that closes a session.
+const CLOSE: [u8; 1] = [21];
+
+/// Answers the requests that are held, until much waits. Answers whether the frame that is next is too long.
+pub(crate) fn answer_held<M: Machine>(
+    machine: &mut M,
+    actor: u16,
+    cutter: &mut FrameCutter,
+    waiting: &mut Waiting,
+    reply: &mut ReplyBuf,
+) -> bool
+    ensures served { Serves M.plain (M.stands machine.old) (M.stands machine.new) actor cutter.old cutter.new waiting.old waiting.new }
+    ensures stopped { IsStopped result cutter.new waiting.new }
+    ensures opening { M.opening machine.new ≡ M.opening machine.old }
+{
+    while waiting.len() <= MOST_WAITING {
+        match cutter.next() {
+            Cut::Frame(body) => answer_body(machine, actor, body, waiting, reply),
+            Cut::NeedMore => return false,
+            Cut::Long { .. } => return true,
+        }
+    }
+    false
+}
+
+/// Answers one request. Where the machine finds no memory the reply says so.
+pub(crate) fn answer_body<M: Machine>(
+    machine: &mut M,
+    actor: u16,
+    body: &[u8],
+    waiting: &mut Waiting,
+    reply: &mut ReplyBuf,
+)
+    requires few { length waiting.old ≤ most_waiting }
+    ensures answered { (s : M.Plain) → M.stands machine.old s → Replied M.plain (M.stands machine.new) waiting.old waiting.new s (actor, body.now) }
+    ensures opening { M.opening machine.new ≡ M.opening machine.old }
+{
+    match machine.act(actor, body, reply) {
+        Ok(()) => waiting.put(reply.bytes()),
+        Err(NoMemory) => waiting.put(&WANTING),
+    }
+}
+
+/// Closes the session of the actor, and leaves the reply.
+pub(crate) fn close_session<M: Machine>(machine: &mut M, actor: u16, reply: &mut ReplyBuf)
+    requires { M.plain.is_sure (actor, close) ≡ true }
+    ensures stepped { (s : M.Plain) → M.stands machine.old s → M.stands machine.new (M.plain.step s (actor, close)) }
+    ensures opening { M.opening machine.new ≡ M.opening machine.old }
+{
+    let _ = machine.act(actor, &CLOSE, reply);
+}

@@ -1,0 +1,87 @@
+//! The edge of a hub: connections that come, are ready, and end.
+
+ghost use Rattle.std.specs.Prelude.{◌≡◌, ◌≤◌, List, [], ◌∷◌, Option, length, take};
+ghost use Rattle.hub.specs.Telling.{Tells};
+
+use crate::lines::Line;
+use tardis_base::ByteList;
+
+/// What is ready at the edge.
+#[derive(Clone, Copy)]
+pub enum Ready {
+    /// A connection may have come.
+    Accept,
+    /// Bytes may have come of the connection in this slot.
+    Read(usize),
+    /// The connection in this slot may take bytes.
+    Write(usize),
+    /// The connection in this slot is over.
+    Close(usize),
+    /// The hub is to end.
+    Stop,
+}
+
+/// A call that the edge saw, as it tells of it.
+#[derive(Drop)]
+pub enum Seen {
+    /// It was asked what is ready, and offered this.
+    Offered(Ready),
+    /// It was to bring a connection into the slot, and one came or didn't.
+    Accepted {
+        slot: usize,
+        came: bool,
+    },
+    /// It was to turn a connection away.
+    Declined,
+    /// It was to give bytes of the connection in the slot into so much room, and gave these.
+    ReadFrom {
+        slot: usize,
+        room: usize,
+        bytes: ByteList,
+    },
+    /// It was offered so many bytes for the connection in the slot, and took these.
+    WroteTo {
+        slot: usize,
+        offered: usize,
+        bytes: ByteList,
+    },
+    /// It was to end the connection in the slot.
+    Closed {
+        slot: usize,
+    },
+}
+
+/// The edge, which holds the connections. It may tell of the calls that it saw.
+pub trait Ports {
+    ghost use Rattle.hub.specs.declared.ports.Seen.{Seen};
+
+    ghost seen: { Self → Option (List Seen) };
+
+    /// Waits until something is ready. The lines show what each connection wants: whether more is read of it and what
+    /// waits to be written to it. Nothing is promised of what is offered.
+    fn ready(&mut self, lines: &[Option<Line>]) -> Ready
+        ensures told { Tells (seen self.old) (seen self.new) (Seen.Offered result ∷ []) };
+
+    /// Brings the next connection into the slot. `false` means that none came after all.
+    fn accept(&mut self, slot: usize) -> bool
+        ensures told { Tells (seen self.old) (seen self.new) (Seen.Accepted slot result ∷ []) };
+
+    /// Turns the next connection away.
+    fn decline(&mut self)
+        ensures told { Tells (seen self.old) (seen self.new) (Seen.Declined ∷ []) };
+
+    /// Gives bytes that came of the connection in the slot, and answers how many. 0 means that none came for now.
+    fn read(&mut self, slot: usize, buf: &mut [u8]) -> usize
+        ensures bound { result ≤ length buf.new }
+        ensures room { length buf.new ≡ length buf.old }
+        ensures told { Tells (seen self.old) (seen self.new) (Seen.ReadFrom slot (length buf.old) (take result buf.new) ∷ []) };
+
+    /// Takes a front of the bytes for the connection in the slot, and answers how many. 0 means none for now.
+    fn write(&mut self, slot: usize, bytes: &[u8]) -> usize
+        ensures bound { result ≤ length bytes.now }
+        ensures told { Tells (seen self.old) (seen self.new) (Seen.WroteTo slot (length bytes.now) (take result bytes.now) ∷ []) };
+
+    /// Ends the connection in the slot.
+    fn close(&mut self, slot: usize)
+        ensures told { Tells (seen self.old) (seen self.new) (Seen.Closed slot ∷ []) };
+}

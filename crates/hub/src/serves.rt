@@ -1,0 +1,101 @@
+//! The loop of a hub.
+
+ghost use Rattle.std.specs.Prelude.{◌≡◌, ◌<◌, ℕ, ◌+◌, true, None, length, IfOk, OnErr};
+ghost use Rattle.hub.specs.Lines.{line_at};
+ghost use Rattle.hub.specs.Runs.{close, IsRun};
+
+use crate::lines::Line;
+use crate::ports::Ports;
+use crate::turns::{SLOTS, turn};
+use std::alloc::Global;
+use tardis_base::{Machine, NoMemory, ReplyBuf};
+
+/// Why a hub ended.
+#[derive(Clone, Copy, PartialEq, Eq)]
+pub enum End {
+    /// The edge said so.
+    Stopped,
+    /// It made 18,446,744,073,709,551,615 turns.
+    Spent,
+}
+
+/// So many bytes are read at once.
+const PIECE: usize = 65_536;
+
+/// Serves the connections of an edge: each in a slot of 256, its requests those of the actor that is the slot's number
+/// and one more. Frames hold requests without an actor, and a reply's frame answers each.
+///
+/// It makes one turn for each offer of the edge, until that says stop. All that came of a connection is answered in that
+/// turn, unless more than 65,536 bytes wait to be written to it: then it isn't read from until they are fewer, which
+/// costs the others nothing. When a connection ends its session is closed, whatever was open in it. The edge is shown the
+/// lines at each turn, and has to end a connection whose frame that is next is too long.
+///
+/// A turn's cost doesn't grow with the connections, but for a search of the slots when one comes. The buffers of the hub
+/// are taken first; without memory for them nothing is done. A connection's are taken when it comes, and one for which
+/// there is no memory is turned away.
+pub fn serve<M: Machine, P: Ports>(
+    alloc: Global,
+    machine: &mut M,
+    ports: &mut P,
+) -> Result<End, NoMemory>
+    requires sure { (n : ℕ) → n < 256 → M.plain.is_sure (n + 1, close) ≡ true }
+    ensures served { IfOk result (λ end. (s : M.Plain) → M.stands machine.old s
+        → IsRun M.plain (M.stands machine.new) s end (P.seen ports.old) (P.seen ports.new)) }
+    ensures nothing { OnErr result ((machine.new ≡ machine.old) × (ports.new ≡ ports.old)) }
+    ensures opening { M.opening machine.new ≡ M.opening machine.old }
+{
+    let mut lines = free_lines(alloc)?;
+    let mut reply = ReplyBuf::new(alloc)?;
+    match vec![in alloc; 0; PIECE] {
+        Ok(mut piece) => Ok(serve_lines(
+            alloc,
+            machine,
+            lines.as_mut_slice(),
+            ports,
+            piece.as_mut_slice(),
+            &mut reply,
+        )),
+        Err(_) => Err(NoMemory),
+    }
+}
+
+/// Makes turns until the edge says stop.
+#[tactic(auto, using(crate::proofs::Leading::led_start, crate::proofs::Leading::led_more, crate::proofs::Leading::run_stopped, crate::proofs::Leading::run_spent))]
+fn serve_lines<M: Machine, P: Ports>(
+    alloc: Global,
+    machine: &mut M,
+    lines: &mut [Option<Line>],
+    ports: &mut P,
+    piece: &mut [u8],
+    reply: &mut ReplyBuf,
+) -> End
+    requires slots { length lines.old ≡ 256 }
+    requires free { (n : ℕ) → line_at lines.old n ≡ None }
+    requires room { length piece.old ≡ 65536 }
+    requires sure { (n : ℕ) → n < 256 → M.plain.is_sure (n + 1, close) ≡ true }
+    ensures served { (s : M.Plain) → M.stands machine.old s
+        → IsRun M.plain (M.stands machine.new) s result (P.seen ports.old) (P.seen ports.new) }
+    ensures opening { M.opening machine.new ≡ M.opening machine.old }
+{
+    let mut turns: u64 = 0;
+    while turns < u64::MAX {
+        if !turn(alloc, machine, lines, ports, piece, reply) {
+            return End::Stopped;
+        }
+        turns += 1;
+    }
+    End::Spent
+}
+
+/// Slots that no connection has.
+#[tactic(auto, using(crate::proofs::Leading::free_more))]
+fn free_lines(alloc: Global) -> Result<Vec<Option<Line>>, NoMemory>
+    ensures slots { IfOk result (λ lines. length lines.items ≡ 256) }
+    ensures free { IfOk result (λ lines. (n : ℕ) → line_at lines.items n ≡ None) }
+{
+    let mut lines = Vec::with_capacity(alloc, SLOTS)?;
+    for _ in 0..SLOTS {
+        lines.push(None)?;
+    }
+    Ok(lines)
+}

@@ -1,0 +1,95 @@
+//! Bytes that wait to be written to a connection.
+
+ghost use Rattle.std.specs.Prelude.{◌≡◌, ◌-◌, ◌≤◌, ◌++◌, [], length, take, drop, vec_capacity, IfOk};
+ghost use Rattle.tardis_base.specs.Sizes.{longest_frame};
+ghost use Rattle.frame_cut.specs.Frames.{frame};
+
+use frame_cut::put_frame;
+use std::alloc::Global;
+use std::marker::Model;
+use tardis_base::NoMemory;
+
+/// A longest frame behind 65,536 bytes.
+const ROOM: usize = 1_114_116;
+
+/// The bytes of replies that weren't written yet, in room that was reserved once. It is seen as these bytes.
+#[derive(Drop)]
+pub struct Waiting {
+    bytes: Vec<u8>,
+}
+
+impl Model for Waiting {
+    ghost use Rattle.std.specs.Prelude.{List, ℕ, ◌≤◌, length, vec_capacity};
+
+    ghost Value = { List ℕ };
+
+    ghost view = { λ w. w.bytes.items };
+
+    ghost invariant = { λ w. (length w.bytes.items ≤ 1114116) × (1114116 ≤ vec_capacity w.bytes) };
+}
+
+impl Waiting {
+    /// No bytes. It reserves all its room now.
+    pub(crate) fn new(alloc: Global) -> Result<Waiting, NoMemory>
+        ensures { IfOk result (λ w. w ≡ []) }
+    {
+        match Vec::with_capacity(alloc, ROOM) {
+            Ok(bytes) => Ok(Waiting { bytes }),
+            Err(_) => Err(NoMemory),
+        }
+    }
+
+    pub fn bytes(&self) -> &[u8]
+        ensures { result.now ≡ self.now }
+    {
+        self.bytes.as_slice()
+    }
+
+    pub fn len(&self) -> usize
+        ensures { result ≡ length self.now }
+    {
+        self.bytes.len()
+    }
+
+    /// Puts the frame of a reply behind the bytes that wait.
+    pub(crate) fn put(&mut self, reply: &[u8])
+        requires few { length self.old ≤ 65536 }
+        requires reply { length reply.now ≤ longest_frame }
+        ensures { self.new ≡ self.old ++ frame reply.now }
+    {
+        let mut head = [0; 4];
+        put_frame(reply, &mut head);
+        let _ = self.bytes.extend_from_slice(&head);
+        let _ = self.bytes.extend_from_slice(reply);
+    }
+
+    /// Forgets the first bytes, which were written.
+    pub(crate) fn pass(&mut self, count: usize)
+        requires { count ≤ length self.old }
+        ensures { self.new ≡ drop count self.old }
+    {
+        keep_rest(&mut self.bytes, count);
+    }
+}
+
+/// Keeps the bytes from `start` on, and the room.
+#[tactic(auto, using(std::proofs::lemmas::List::take_rest))]
+fn keep_rest(bytes: &mut Vec<u8>, start: usize)
+    requires { start ≤ length bytes.old.items }
+    ensures rest { bytes.new.items ≡ drop start bytes.old.items }
+    ensures room { vec_capacity bytes.new ≡ vec_capacity bytes.old }
+{
+    let end = bytes.len();
+    move_to_front(bytes.as_mut_slice(), start, end);
+    bytes.truncate(end - start);
+}
+
+/// Moves the bytes from `start` to `end` to the front.
+fn move_to_front(bytes: &mut [u8], start: usize, end: usize)
+    requires order { start ≤ end }
+    requires within { end ≤ length bytes.old }
+    ensures front { take (end - start) bytes.new ≡ take (end - start) (drop start bytes.old) }
+    ensures room { length bytes.new ≡ length bytes.old }
+{
+    bytes.copy_within(start..end, 0);
+}

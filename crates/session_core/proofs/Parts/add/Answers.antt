@@ -1,0 +1,54 @@
+use Rattle.std.proofs.Common.{◌≡◌, List, Some, IsTrue, length, map, take, refl, sym, subst}
+use Rattle.std.specs.List.{list_all}
+use Rattle.tardis_base.specs.declared.ids.StateId.{StateId}
+use Rattle.tardis_base.specs.declared.replies.Reply.TheVariants.{Applied}
+use Rattle.state_dag.specs.Table.{id_at, is_slot}
+use Rattle.record_store.proofs.Records.{named-are_slots}
+use Rattle.plain_site.specs.Built.{so_far}
+use Rattle.plain_site.specs.Answers.{unless}
+use Rattle.plain_site.specs.Commits.{with_record, growth_refusals}
+use Rattle.session_core.specs.Held.{seen}
+use Rattle.session_core.specs.Stands.{CoreStands}
+use Rattle.session_core.specs.Stops.{add_stop}
+use Rattle.session_core.proofs.Answers.{as-given, stopped}
+use Rattle.session_core.proofs.Exchanging.{fit-arrives, fit-may-be-added, grown-site, grown-parts, growth-free, growth-stops}
+use Rattle.session_core.proofs.Parts.add.Goals as goal
+
+pub commit-requires-clause-slots : goal.commit-requires-clause-slots
+commit-requires-clause-slots c =
+    let table = c.self.inside.store.table in
+    let ps = c.args.rec.parents in
+    let named = subst (λ (xs : List StateId). map (id_at table) (take (length xs) c.slots_of-slots.result) ≡ map (λ x. Some x) xs) c.as_slice.ensures c.slots_of-slots.ensures in
+    subst (λ n. IsTrue (list_all (is_slot table) (take n c.slots_of-slots.result))) (sym c.len.ensures) (named-are_slots table (take (length ps) c.slots_of-slots.result) ps named)
+
+pub invariant_of-self-2 : goal.invariant_of-self-2
+invariant_of-self-2 c = grown-parts c.self.inside c.commit.new.self c.self.invariant c.commit.ensures.keeps c.commit.ensures.limits
+
+pub returns-in_err-commit : goal.returns-in_err-commit
+returns-in_err-commit c = λ site stands sound fit.
+    let here = subst (λ v. CoreStands v site) (sym c.self.view_is) stands in
+    let core = seen c.self.inside in
+    let table = core.store.table in
+    let r = c.args.rec in
+    let below = take c.len.result c.slots_of-slots.result in
+    let told = subst (λ (xs : List StateId). map (id_at table) (take (length xs) c.slots_of-slots.result) ≡ map (λ x. Some x) xs) c.as_slice.ensures c.slots_of-slots.ensures in
+    let named = subst (λ n. map (id_at table) (take n c.slots_of-slots.result) ≡ map (λ x. Some x) r.parents) (sym c.len.ensures) told in
+    let may = fit-may-be-added core site r below here (fit-arrives site r sound c.requires.valid fit) named in
+    let added = c.in_err-commit.ensures.added site.dag site.collected r here.store refl refl may in
+    stopped (CoreStands (record core { store = c.commit.new.self })) (unless site (growth_refusals so_far site r) (with_record r site, Applied)) site (add_stop c.in_err-commit.field-0.0) c.from_residual.result c.from_residual.ensures.1
+    (growth-stops core site r c.commit.new.self here (with_record r site, Applied) c.in_err-commit.field-0.0 added c.in_err-commit.ensures.same.table)
+
+pub returns : goal.returns
+returns c = λ site stands sound fit.
+    let here = subst (λ v. CoreStands v site) (sym c.self.view_is) stands in
+    let core = seen c.self.inside in
+    let table = core.store.table in
+    let r = c.args.rec in
+    let below = take c.len.result c.slots_of-slots.result in
+    let told = subst (λ (xs : List StateId). map (id_at table) (take (length xs) c.slots_of-slots.result) ≡ map (λ x. Some x) xs) c.as_slice.ensures c.slots_of-slots.ensures in
+    let named = subst (λ n. map (id_at table) (take n c.slots_of-slots.result) ≡ map (λ x. Some x) r.parents) (sym c.len.ensures) told in
+    let may = fit-may-be-added core site r below here (fit-arrives site r sound c.requires.valid fit) named in
+    let added = c.in_ok-commit.ensures.added site.dag site.collected r here.store refl refl may in
+    as-given (CoreStands (record core { store = c.commit.new.self })) (unless site (growth_refusals so_far site r) (with_record r site, Applied)) (with_record r site, Applied) Applied
+    (growth-free core site r c.commit.new.self here (with_record r site, Applied) c.in_ok-commit.field-0 added)
+    (grown-site core site r c.commit.new.self here added.1 c.commit.ensures.keeps c.commit.ensures.limits, refl)

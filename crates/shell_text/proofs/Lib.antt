@@ -1,0 +1,5 @@
+-- The laws of the lines of requests and replies.
+pub mod RequestsRead
+pub mod RepliesRead
+pub mod Lengths
+pub mod Rows

@@ -1,0 +1,188 @@
+//! The edge of a hub over sockets.
+
+ghost use Rattle.std.specs.Prelude.{◌≡◌, ◌≤◌, ◌∷◌, [], None, length, take};
+
+use crate::doors::Door;
+use crate::plugs::{Plug, Work};
+use hub::{Line, Ports, Ready};
+use mio::{Events, Poll, Token};
+use std::alloc::Global;
+use std::io;
+use std::net::Net;
+
+/// The slots of a hub.
+const SLOTS: usize = 256;
+
+/// The name of the door among the events of the system.
+const DOOR: usize = 256;
+
+/// So many events are taken at once.
+const MOST_EVENTS: usize = 257;
+
+/// The connections that came through a door. Each is offered in its turn what it is ready for: one read, then the write of
+/// its replies, and then the next has its turn. When the peer has sent all, the connection ends once its replies are
+/// written.
+///
+/// It tells nothing of what it saw, and ends only where the system can't be waited for.
+#[derive(Drop)]
+pub struct SocketPorts {
+    poll: Poll,
+    events: Events,
+    door: Door,
+    /// A connection may wait at the door.
+    knocked: bool,
+    plugs: Vec<Option<Plug>>,
+    /// How many connections there are, and no slot from `high` on has one.
+    open: usize,
+    high: usize,
+    /// The slot whose turn is next.
+    next: usize,
+    /// The slot that was offered a read last, so that its replies go out at once.
+    heard: Option<usize>,
+}
+
+impl SocketPorts {
+    /// The connections that will come through this door.
+    pub fn new(net: &impl Net, alloc: Global, door: Door) -> io::Result<SocketPorts> {
+        let poll = Poll::new(net)?;
+        let events = Events::with_capacity(alloc, MOST_EVENTS)?;
+        let mut door = door;
+        door.register(poll.registry(), Token(DOOR))?;
+        let mut plugs = Vec::with_capacity(alloc, SLOTS)?;
+        for _ in 0..SLOTS {
+            plugs.push(None)?;
+        }
+        Ok(SocketPorts {
+            poll,
+            events,
+            door,
+            knocked: true,
+            plugs,
+            open: 0,
+            high: 0,
+            next: 0,
+            heard: None,
+        })
+    }
+
+    /// What is ready by what is known, if anything is.
+    fn offer(&mut self, lines: &[Option<Line>]) -> Option<Ready> {
+        if let Some(slot) = self.heard.take() {
+            if let Some(Work::Write) = self.work(lines, slot) {
+                return Some(Ready::Write(slot));
+            }
+        }
+        for _ in 0..=self.high {
+            if self.next >= self.high {
+                self.next = 0;
+                if self.knocked && self.open < SLOTS {
+                    self.knocked = false;
+                    return Some(Ready::Accept);
+                }
+            }
+            let slot = self.next;
+            self.next = slot.saturating_add(1);
+            match self.work(lines, slot) {
+                Some(Work::Read) => {
+                    self.heard = Some(slot);
+                    return Some(Ready::Read(slot));
+                }
+                Some(Work::Write) => return Some(Ready::Write(slot)),
+                Some(Work::Close) => return Some(Ready::Close(slot)),
+                None => {}
+            }
+        }
+        None
+    }
+
+    /// What there is to do for the connection in the slot.
+    fn work(&self, lines: &[Option<Line>], slot: usize) -> Option<Work> {
+        match (self.plugs.get(slot), lines.get(slot)) {
+            (Some(Some(plug)), Some(Some(line))) => plug.work(line),
+            _ => None,
+        }
+    }
+
+    /// Waits for the system to tell of something, and notes it.
+    fn wait(&mut self) -> io::Result<()> {
+        self.poll.poll(&mut self.events, None)?;
+        for event in self.events.iter() {
+            let Token(slot) = event.token();
+            if slot == DOOR {
+                self.knocked = true;
+            } else if let Some(Some(plug)) = self.plugs.get_mut(slot) {
+                plug.note(event, self.poll.registry());
+            }
+        }
+        Ok(())
+    }
+
+    /// Brings a connection into the slot, if one waits.
+    fn admit(&mut self, slot: usize) -> bool {
+        let Ok(stream) = self.door.accept() else {
+            return false;
+        };
+        self.knocked = true;
+        let Ok(plug) = Plug::new(stream, self.poll.registry(), Token(slot)) else {
+            return false;
+        };
+        match self.plugs.get_mut(slot) {
+            Some(place) => *place = Some(plug),
+            None => return false,
+        }
+        self.open = self.open.saturating_add(1);
+        self.high = self.high.max(slot.saturating_add(1));
+        true
+    }
+}
+
+impl Ports for SocketPorts {
+    ghost seen = { λ p. None };
+
+    fn ready(&mut self, lines: &[Option<Line>]) -> Ready {
+        for _ in 0..u64::MAX {
+            if let Some(offer) = self.offer(lines) {
+                return offer;
+            }
+            if self.wait().is_err() {
+                return Ready::Stop;
+            }
+        }
+        Ready::Stop
+    }
+
+    fn accept(&mut self, slot: usize) -> bool {
+        self.admit(slot)
+    }
+
+    fn decline(&mut self) {
+        if self.door.accept().is_ok() {
+            self.knocked = true;
+        }
+    }
+
+    fn read(&mut self, slot: usize, buf: &mut [u8]) -> usize {
+        match self.plugs.get_mut(slot) {
+            Some(Some(plug)) => plug.read(buf),
+            _ => 0,
+        }
+    }
+
+    fn write(&mut self, slot: usize, bytes: &[u8]) -> usize {
+        match self.plugs.get_mut(slot) {
+            Some(Some(plug)) => plug.write(bytes, self.poll.registry()),
+            _ => 0,
+        }
+    }
+
+    fn close(&mut self, slot: usize) {
+        if let Some(place) = self.plugs.get_mut(slot) {
+            *place = None;
+        }
+        self.open = self.open.saturating_sub(1);
+        if self.open == 0 {
+            self.high = 0;
+        }
+        self.knocked = true;
+    }
+}

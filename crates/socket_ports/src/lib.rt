@@ -1,0 +1,12 @@
+//! The edge of a hub over sockets of the system: by readiness, in one thread.
+//!
+//! What a system reports isn't stated by any contract, so this crate is part of what is trusted; what it hands over is
+//! served as the hub's contract says.
+#![tactic(auto)]
+
+mod doors;
+mod edges;
+mod plugs;
+
+pub use doors::{Door, DoorFault, is_address, open_door};
+pub use edges::SocketPorts;

@@ -1,0 +1,155 @@
+//! A connection and what is known of it.
+
+ghost use Rattle.std.specs.Prelude.{◌≡◌, ◌≤◌, length};
+
+use crate::doors::Stream;
+use hub::Line;
+use mio::event::Event;
+use mio::{Interest, Registry, Token};
+use std::io;
+
+/// What a connection may be ready for.
+#[derive(Clone, Copy)]
+pub(crate) enum Work {
+    Read,
+    Write,
+    Close,
+}
+
+/// A connection and what is known of it.
+#[derive(Drop)]
+pub(crate) struct Plug {
+    stream: Stream,
+    token: Token,
+    /// A read may give bytes.
+    readable: bool,
+    /// A write may take bytes.
+    writable: bool,
+    /// The system is to tell when a write may take bytes.
+    asked: bool,
+    /// The peer said that it sends no more, and what it sent may be unread.
+    closing: bool,
+    /// All that the peer sent was read.
+    ended: bool,
+    /// No more can be read or written.
+    gone: bool,
+}
+
+impl Plug {
+    /// A connection of which the system tells when something comes.
+    pub(crate) fn new(mut stream: Stream, registry: &Registry, token: Token) -> io::Result<Plug> {
+        stream.register(registry, token, Interest::READABLE)?;
+        Ok(Plug {
+            stream,
+            token,
+            readable: true,
+            writable: true,
+            asked: false,
+            closing: false,
+            ended: false,
+            gone: false,
+        })
+    }
+
+    /// Notes what the system told.
+    pub(crate) fn note(&mut self, event: &Event, registry: &Registry) {
+        if event.is_read_closed() {
+            self.closing = true;
+        }
+        if event.is_readable() || event.is_read_closed() || event.is_error() {
+            self.readable = true;
+        }
+        if event.is_writable() || event.is_write_closed() || event.is_error() {
+            self.writable = true;
+            if self.asked {
+                self.asked = false;
+                self.ask(registry, Interest::READABLE);
+            }
+        }
+    }
+
+    /// What there is to do, by what its line wants.
+    pub(crate) fn work(&self, line: &Line) -> Option<Work> {
+        if self.gone || line.is_over() {
+            Some(Work::Close)
+        } else if line.has_to_write() {
+            if self.writable {
+                Some(Work::Write)
+            } else if self.may_read(line) {
+                Some(Work::Read)
+            } else {
+                None
+            }
+        } else if self.ended {
+            Some(Work::Close)
+        } else if self.may_read(line) {
+            Some(Work::Read)
+        } else {
+            None
+        }
+    }
+
+    fn may_read(&self, line: &Line) -> bool {
+        self.readable && !self.ended && line.wants_read()
+    }
+
+    /// Reads once. After a read that didn't fill the buffer nothing is left, unless the peer said that it sends no more:
+    /// then the end is still to be read.
+    pub(crate) fn read(&mut self, buf: &mut [u8]) -> usize
+        ensures bound { result ≤ length buf.new }
+        ensures room { length buf.new ≡ length buf.old }
+    {
+        let room = buf.len();
+        match self.stream.read(buf) {
+            Ok(0) => {
+                self.ended = true;
+                0
+            }
+            Ok(count) => {
+                if count < room && !self.closing {
+                    self.readable = false;
+                }
+                count
+            }
+            Err(error) => {
+                match error.kind() {
+                    io::ErrorKind::WouldBlock => self.readable = false,
+                    io::ErrorKind::Interrupted => {}
+                    _ => self.gone = true,
+                }
+                0
+            }
+        }
+    }
+
+    /// Writes once. Where no byte can be written now the system is asked to tell when one can.
+    pub(crate) fn write(&mut self, bytes: &[u8], registry: &Registry) -> usize
+        ensures bound { result ≤ length bytes.now }
+    {
+        match self.stream.write(bytes) {
+            Ok(count) => count,
+            Err(error) => {
+                match error.kind() {
+                    io::ErrorKind::WouldBlock => {
+                        self.writable = false;
+                        self.asked = true;
+                        self.ask(registry, Interest::READABLE | Interest::WRITABLE);
+                    }
+                    io::ErrorKind::Interrupted => {}
+                    _ => self.gone = true,
+                }
+                0
+            }
+        }
+    }
+
+    fn ask(&mut self, registry: &Registry, interest: Interest) {
+        if self
+            .stream
+            .reregister(registry, self.token, interest)
+            .is_err()
+        {
+            self.gone = true;
+        }
+    }
+}

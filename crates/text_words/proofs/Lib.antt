@@ -1,0 +1,7 @@
+-- Words are read back from text.
+pub mod Bytes
+pub mod Untils
+pub mod WordsRead
+pub mod Putting
+pub mod TextReads
+pub mod IdsPrinted

@@ -1,0 +1,33 @@
+-- Writing words from bytes: what is left of the bytes, and the line so far.
+use Rattle.std.specs.Prelude.{ℕ, ◌+◌, List, ◌∷◌, ◌++◌, length, Option, Some, None, nat_le, option_and_then}
+use Rattle.std.specs.Bool.{then_some}
+use Rattle.wire_item.specs.Fronts.{Front}
+use Rattle.text_words.specs.Words.{Word}
+
+-- the most bytes of a line: four for each byte of the longest spelling, and 64 more
+abbrev pub longest_line : ℕ
+longest_line = 4194368
+
+-- what is left and the line; None once something other than the spelling was met, or the line was too long
+abbrev pub Putting : Type 0
+Putting = Option (List ℕ × List ℕ)
+
+abbrev pub putting : Option (List ℕ) → List ℕ → Putting
+putting None line = None
+putting (Some left) line = Some (left, line)
+
+-- the text behind the line, where there is room for it
+abbrev pub with_text : List ℕ → List ℕ → List ℕ → Putting
+with_text text left line = then_some (nat_le (length line + length text) longest_line) (left, line ++ text)
+
+-- the text is written
+abbrev pub says : List ℕ → Putting → Putting
+says text state = option_and_then (λ s. with_text text s.0 s.1) state
+
+-- a thing is read from the front of what is left, and its text is written
+abbrev pub puts : {A : Type 0} → Front A → (A → List ℕ) → Putting → Putting
+puts front text state = option_and_then (λ s. option_and_then (λ read. with_text (text read.0) read.1 s.1) (front s.0)) state
+
+-- a word behind a space
+abbrev pub spaced : Word → List ℕ
+spaced word = 32 ∷ word

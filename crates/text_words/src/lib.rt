@@ -1,0 +1,12 @@
+//! The words of lines: how numbers, ids and bytes are written in text and read back.
+#![tactic(auto)]
+
+mod line_bufs;
+#[cfg(test)]
+mod tests;
+mod unread;
+mod word_laws;
+
+pub use line_bufs::LineBuf;
+pub use unread::Unread;
+pub use word_laws::words_are_read;
