@@ -14,11 +14,6 @@ const LIMITS: Limits = Limits {
     max_trail: 0,
 };
 
-const ROOT: StateId = StateId {
-    site: 0,
-    sequence: 0,
-};
-
 const FIRST: StateId = StateId {
     site: 1,
     sequence: 1,
@@ -42,7 +37,7 @@ fn add_below_root(dag: &mut StateDag) -> Result<Slot, AddFault> {
     let Some(sequence) = dag.count(1).checked_add(1) else {
         return Err(AddFault::NoMemory);
     };
-    let Some(root) = dag.slot_of(ROOT) else {
+    let Some(root) = dag.slot_of(StateId::ROOT) else {
         return Err(AddFault::NoMemory);
     };
     dag.add(StateId { site: 1, sequence }, &[root])
@@ -66,11 +61,11 @@ fn a_lone_root_is_chosen(rt: HostRuntime) -> Result<(), Fail> {
         (Begin::Any, Ok(slot)),
         (Begin::Ancestor, Ok(slot)),
         (Begin::Parent, Ok(slot)),
-        (Begin::At(ROOT), Ok(slot)),
+        (Begin::At(StateId::ROOT), Ok(slot)),
         (Begin::At(FIRST), Err(BeginFault::Unknown { state: FIRST })),
     ];
     for (begin, answer) in rows {
-        assert_eq!(rt; choose(&dag, &begin, ROOT, slot, slot), answer);
+        assert_eq!(rt; choose(&dag, &begin, StateId::ROOT, slot, slot), answer);
     }
     Ok(())
 }
@@ -80,21 +75,24 @@ fn a_merge_begins_where_no_state_is_refused(rt: HostRuntime) -> Result<(), Fail>
     let mut dag = StateDag::new(rt.alloc(), &LIMITS)?;
     let one = add_below_root(&mut dag).expect(&rt, "room");
     let other = add_below_root(&mut dag).expect(&rt, "room");
-    match chosen(rt.alloc(), &dag, &[FIRST, SECOND], ROOT) {
+    match chosen(rt.alloc(), &dag, &[FIRST, SECOND], StateId::ROOT) {
         Some(Ok(slots)) => assert_eq!(rt; slots.as_slice(), [one, other].as_slice()),
         _ => assert!(rt; false, "both are known, admitted and apart"),
     }
     let unknown = MergeFault::Unknown { state: THIRD };
     let below = MergeFault::Below {
-        state: ROOT,
+        state: StateId::ROOT,
         ceiling: FIRST,
     };
-    let comparable = MergeFault::Comparable { a: ROOT, b: SECOND };
+    let comparable = MergeFault::Comparable {
+        a: StateId::ROOT,
+        b: SECOND,
+    };
     let rows = [
-        ([SECOND, THIRD], ROOT, unknown),
-        ([ROOT, THIRD], FIRST, unknown),
-        ([SECOND, ROOT], FIRST, below),
-        ([ROOT, SECOND], ROOT, comparable),
+        ([SECOND, THIRD], StateId::ROOT, unknown),
+        ([StateId::ROOT, THIRD], FIRST, unknown),
+        ([SECOND, StateId::ROOT], FIRST, below),
+        ([StateId::ROOT, SECOND], StateId::ROOT, comparable),
     ];
     for (states, ceiling, fault) in rows {
         match chosen(rt.alloc(), &dag, &states, ceiling) {
@@ -114,13 +112,16 @@ fn faults_say_what_to_do(rt: HostRuntime) -> Result<(), Fail> {
         ),
         (
             MergeFault::Below {
-                state: ROOT,
+                state: StateId::ROOT,
                 ceiling: FIRST,
             },
             "the state 0.0 is above the session's ceiling 1.1: begin at the ceiling, or at a state that is not above it",
         ),
         (
-            MergeFault::Comparable { a: ROOT, b: SECOND },
+            MergeFault::Comparable {
+                a: StateId::ROOT,
+                b: SECOND,
+            },
             "of the states 0.0 and 1.2 one is at or above the other: merge without one of them",
         ),
         (MergeFault::NoMemory, "out of memory"),

@@ -7,9 +7,16 @@
 ghost use Rattle.plain_site.specs.Built.{Built};
 ghost use Rattle.plain_site.specs.Step.{step};
 ghost use Rattle.plain_site.specs.EventRuns.{EventsAreRuns};
-ghost use Rattle.plain_site.specs.ClientLaws.{ReadsOneSnapshot, ReadsAtItsState, OwnWritesAreRead, MergesShowEachSide, ReadersEndWhereTheyRead, SerializableReadsHold, BranchesAreSerial, SnapshotsOverwriteNothingUnseen, HistoryIsTold, CommitsAreKept, DeliveriesAreKept, SettledAreKept, CommitsAreShown, OtherKeysAreJoined, CommitsJoinWhatTheyRead, ParentReadsTheLastCommit, AncestorReadsTheLastCommit, AnyReadsTheLastCommit, SessionsStayUnderCeilings, RefusalsHideNothing};
-ghost use Rattle.plain_site.specs.RowsOfClients.{ReadersFork, WritersFork, ReadsAreOld, WantingIsSentAgain, WeakerIsSentAfter, CommitsAreFound, FollowersStayBelow, SidesAreJoined, LinesTell};
-ghost use Rattle.plain_site.specs.WrongSteps.{IsBrokenBy, reads_newest, forgets_own_writes, shows_newest_side, ends_at_newest, forgets_reads, forgets_constraints, forgets_collected, forgets_deliveries, forgets_waiting, forgets_settled, leaves_conflicts, drops_sides, forgets_commits, stays_with_own, forgets_ceilings, ends_refused};
+ghost use Rattle.plain_site.specs.ClientLaws.{ReadsOneSnapshot, ReadsAtItsState, OwnWritesAreRead, MergesShowEachSide, ReadersEndWhereTheyRead};
+ghost use Rattle.plain_site.specs.ClientLaws.{SerializableReadsHold, BranchesAreSerial, SnapshotsOverwriteNothingUnseen, HistoryIsTold};
+ghost use Rattle.plain_site.specs.ClientLaws.{CommitsAreKept, DeliveriesAreKept, SettledAreKept, CommitsAreShown, OtherKeysAreJoined};
+ghost use Rattle.plain_site.specs.ClientLaws.{CommitsJoinWhatTheyRead, ParentReadsTheLastCommit, AncestorReadsTheLastCommit, AnyReadsTheLastCommit};
+ghost use Rattle.plain_site.specs.ClientLaws.{SessionsStayUnderCeilings, RefusalsHideNothing};
+ghost use Rattle.plain_site.specs.RowsOfClients.{ReadersFork, WritersFork, ReadsAreOld, WantingIsSentAgain, WeakerIsSentAfter, CommitsAreFound};
+ghost use Rattle.plain_site.specs.RowsOfClients.{FollowersStayBelow, SidesAreJoined, LinesTell};
+ghost use Rattle.plain_site.specs.WrongSteps.{IsBrokenBy, reads_newest, forgets_own_writes, shows_newest_side, ends_at_newest, forgets_reads};
+ghost use Rattle.plain_site.specs.WrongSteps.{forgets_constraints, forgets_collected, forgets_deliveries, forgets_waiting, forgets_settled};
+ghost use Rattle.plain_site.specs.WrongSteps.{leaves_conflicts, drops_sides, forgets_commits, stays_with_own, forgets_ceilings, ends_refused};
 
 use wire_talk::talk_has_one_spelling;
 

@@ -63,7 +63,8 @@ pub(crate) fn copies_of(
     words: &[String],
     name: &str,
 ) -> Result<Vec<String>, NoMemory>
-    ensures { IfOk result (λ copies. map (λ w. string_bytes w) copies.items ≡ filter_map (λ v. v) (values name.now (settings (map (λ w. string_bytes w) words.now)))) }
+    ensures { IfOk result (λ copies. map (λ w. string_bytes w) copies.items
+        ≡ filter_map (λ v. v) (values name.now (settings (map (λ w. string_bytes w) words.now)))) }
 {
     let mut copies = Vec::new(alloc);
     let mut left = words;
@@ -78,7 +79,8 @@ pub(crate) fn copies_of(
 
 /// Puts a copy of a value that is there behind the others.
 fn push_copy(alloc: Global, copies: &mut Vec<String>, value: Option<&str>) -> Result<(), NoMemory>
-    ensures { OnOk result (map (λ w. string_bytes w) copies.new.items ≡ map (λ w. string_bytes w) copies.old.items ++ option_to_list (option_map (λ v. v.now) value.entry)) }
+    ensures { OnOk result (map (λ w. string_bytes w) copies.new.items ≡ map (λ w. string_bytes w) copies.old.items
+        ++ option_to_list (option_map (λ v. v.now) value.entry)) }
 {
     match value {
         Some(word) => match String::from_str(alloc, word) {

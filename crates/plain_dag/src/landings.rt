@@ -9,7 +9,9 @@ ghost use Rattle.plain_dag.specs.Floors.{Floor};
 ghost use Rattle.plain_dag.specs.Collection.{shared_stand_in, is_collectable};
 ghost use Rattle.tardis_base.specs.Ids.{is_among};
 ghost use Rattle.plain_dag.specs.Dag.{IsDag};
-ghost use Rattle.plain_dag.specs.Laws.{LeavesAreAdmitted, BeginsAtLeaves, LandsByFirstChildren, LandsBelow, LandsWithoutNews, LandsWithSameReads, IsTrueCommit, AreCollected, CollectedAreAboveCeilings, StaysKept, CollectedGetNoChild, StandInsAreShared, CollectedShareStandIns, StandsInWell, LatestWritersStandInThere, ForkPathsTell, HandsOver, TidiesInOneWalk};
+ghost use Rattle.plain_dag.specs.Laws.{LeavesAreAdmitted, BeginsAtLeaves, LandsByFirstChildren, LandsBelow, LandsWithoutNews, LandsWithSameReads};
+ghost use Rattle.plain_dag.specs.Laws.{IsTrueCommit, AreCollected, CollectedAreAboveCeilings, StaysKept, CollectedGetNoChild, StandInsAreShared};
+ghost use Rattle.plain_dag.specs.Laws.{CollectedShareStandIns, StandsInWell, LatestWritersStandInThere, ForkPathsTell, HandsOver, TidiesInOneWalk};
 
 /// A leaf may be read under every ceiling, and a transaction that may begin anywhere, or anywhere below its session's
 /// last commit, begins at a leaf. So no ceiling keeps such a transaction from beginning.
@@ -35,14 +37,16 @@ pub fn landings_have_no_news()
 /// What the flags promise a transaction: a serializable one finds every key that it read unchanged where it lands, and
 /// under snapshot isolation nothing in between wrote a key that it wrote.
 pub fn commits_are_true()
-    ensures flags { (rs : List Record) (flags : EndFlags) (reads written : List (List ℕ)) (s : StateId) → IsDag rs → IsTrue (is_known rs s) → IsTrueCommit rs flags reads written s }
+    ensures flags { (rs : List Record) (flags : EndFlags) (reads written : List (List ℕ)) (s : StateId) → IsDag rs → IsTrue (is_known rs s)
+        → IsTrueCommit rs flags reads written s }
 {}
 
 /// A rightly collected state is a proper ancestor of each ceiling under a floor. So whatever a transaction may still need
 /// is kept: read states, ceilings, floors, landings and fork points. And a record whose parent is admitted under such a
 /// ceiling, or isn't closed, is no child of a collected state.
 pub fn collected_states_are_out_of_the_way()
-    ensures above_ceilings { (rs : List Record) (floors : List Floor) (ks : List StateId) → IsDag rs → AreCollected rs floors ks → CollectedAreAboveCeilings rs floors ks }
+    ensures above_ceilings { (rs : List Record) (floors : List Floor) (ks : List StateId) → IsDag rs → AreCollected rs floors ks
+        → CollectedAreAboveCeilings rs floors ks }
     ensures kept { (rs : List Record) (floors : List Floor) (ks : List StateId) → IsDag rs → AreCollected rs floors ks → StaysKept rs floors ks }
     ensures childless { (rs : List Record) (floors : List Floor) (ks : List StateId) → IsDag rs → AreCollected rs floors ks → CollectedGetNoChild rs floors ks }
 {}

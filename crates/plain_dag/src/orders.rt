@@ -4,7 +4,9 @@ ghost use Rattle.std.specs.Prelude.{List};
 ghost use Rattle.tardis_base.specs.declared.ids.StateId.{StateId};
 ghost use Rattle.tardis_base.specs.declared.records.Record.{Record};
 ghost use Rattle.plain_dag.specs.Dag.{IsNext, IsDag};
-ghost use Rattle.plain_dag.specs.Laws.{AboveIsReflexive, AboveIsTransitive, AboveIsAntisymmetric, AncestorsArriveEarlier, AncestorsAreKnown, ArrivalsDiffer, ApartMeansIncomparable, AboveGoesAlongEdges, AboveIsTheWay, OldStatesStay, OldReadsStay, NewStateIsBelowParents, WritersHaveOneLatest, NextWritesConflicts, ListsConflictKeys};
+ghost use Rattle.plain_dag.specs.Laws.{AboveIsReflexive, AboveIsTransitive, AboveIsAntisymmetric, AncestorsArriveEarlier, AncestorsAreKnown};
+ghost use Rattle.plain_dag.specs.Laws.{ArrivalsDiffer, ApartMeansIncomparable, AboveGoesAlongEdges, AboveIsTheWay, OldStatesStay, OldReadsStay};
+ghost use Rattle.plain_dag.specs.Laws.{NewStateIsBelowParents, WritersHaveOneLatest, NextWritesConflicts, ListsConflictKeys};
 
 /// "At or above" is an order of the states, and arrival goes with it: what is at or above a known state is known, and
 /// arrived earlier unless the two are one. Known states that arrived together are one. States are apart where no two of

@@ -1,7 +1,8 @@
 //! What is true of every reply.
 
 ghost use Rattle.plain_site.specs.Built.{Built};
-ghost use Rattle.plain_site.specs.Laws.{RefusalsLeaveSite, RefusedBytesLeaveSite, EarlyRecordsWait, EarlyBytesWait, NeverWantsMemory, ShowsShortPaths, RepliesFit, RepliesToBytesFit};
+ghost use Rattle.plain_site.specs.Laws.{RefusalsLeaveSite, RefusedBytesLeaveSite, EarlyRecordsWait, EarlyBytesWait, NeverWantsMemory};
+ghost use Rattle.plain_site.specs.Laws.{ShowsShortPaths, RepliesFit, RepliesToBytesFit};
 
 use wire_talk::talk_has_one_spelling;
 

@@ -1,16 +1,28 @@
 //! Worked rows: what the plain site replies to these requests, line by line.
 
-ghost use Rattle.plain_site.specs.RowsOfCommits.{WriteSkewForks, WriteSkewPassesUnderSnapshots, NoBranchRefusesTheFork, OldReadForks, AnyBeginsAtTheFork, CommitRipplesDown, BranchesAreCounted, BeginsFollowTheLastCommit, ReadingMakesNoState};
+ghost use Rattle.plain_site.specs.RowsOfCommits.{WriteSkewForks, WriteSkewPassesUnderSnapshots, NoBranchRefusesTheFork, OldReadForks};
+ghost use Rattle.plain_site.specs.RowsOfCommits.{AnyBeginsAtTheFork, CommitRipplesDown, BranchesAreCounted, BeginsFollowTheLastCommit, ReadingMakesNoState};
 ghost use Rattle.plain_site.specs.RowsOfMerges.{MergeJoinsBranches, TwoMergesConflict, MergesNeedStatesApart, NineLeavesAreTooMany};
 ghost use Rattle.plain_site.specs.RowsOfFloors.{CeilingsHoldReadsAndFloors, FloorsHoldTheSite, CollectionKeepsReads};
 ghost use Rattle.plain_site.specs.RowsOfCollection.{ForkThatGrewTogetherIsCollected, ForkOfThreeStays};
 ghost use Rattle.plain_site.specs.RowsOfExchange.{RecordsComeInOrder, ConsentsCloseStates, LyingPeersAreRefused, SitesPastTheLimitAreBad};
-ghost use Rattle.plain_site.specs.RowsOfWaiting.{EarlyRecordIsSettled, NothingIsSettled, EachWaitsOnce, FirstFitOneIsTaken, KnownOneStays, FitOneWaitsForRoom, FullRoomLosesTheFirst};
+ghost use Rattle.plain_site.specs.RowsOfWaiting.{EarlyRecordIsSettled, NothingIsSettled, EachWaitsOnce, FirstFitOneIsTaken, KnownOneStays};
+ghost use Rattle.plain_site.specs.RowsOfWaiting.{FitOneWaitsForRoom, FullRoomLosesTheFirst};
 ghost use Rattle.plain_site.specs.RowsOfLimits.{WritesAreLimited, ReadsAreLimited, FullSiteRefuses, SecondSessionIsRefused, LongPathIsRefused};
-ghost use Rattle.plain_site.specs.RowsOfBytes.{WriteIsReadBack, WriteIsReadBackByTheWhole, UnbuiltIsUnsupported, UnbuiltOperationIsTold, BuiltIsNotOpen, WholeIsNotOpen, OtherBytesAreMalformed, OtherBytesStayMalformed, LongestKeyAndValueArePut, LongerOnesAreMalformed};
-ghost use Rattle.plain_site.specs.RowsOfChoices.{NoBranchIsNamedFirst, OwnWritesAreNotRead, MergesBringNews, ValueIsTheLowestWriters, MergeTriesOneThingAtATime, CeilingStaysOnItsBranch, TidyTakesTheLastArrived, FloorIsKept, CollectsMergedBranches, LongPathOfAKeptStateIsNamed, OwnRecordIsKnown, ClosedParentIsNamedFirst};
-ghost use Rattle.plain_site.specs.RowsOfLandings.{SnapshotsForkOnWrites, SerializableForksOnReads, BothForkOnEither, WithoutConstraintsNothingForks, FirstPassingChildIsTaken, OldWritesAreNoNews, ReadersAlwaysEnd, AncestorKeepsToItsBranch, AbortedWritesAreGone};
-ghost use Rattle.plain_site.specs.RowsOfOperations.{DeletionsAreRead, ClosedSessionsAreGone, OpenSessionIsToldFirst, ConflictsComeInPages, EightStatesAreMerged, PagesHaveTheFirst, SingleTransactionsShowNoBranches, LeavesAreShown, UnknownStatesAreToldFirst, AutomaticFloorStaysAboveCeilings, FloorIsToldBeforeSessions, NumbersRunOut, RoomIsLookedAtBetween, BatchesHaveTheNews, BatchesLeaveOutWhatAllHave, OneFloorClosesNothing, BatchesAreFilled, BatchesStopWhereTheyAreFull, ConsentsWaitForBoth};
+ghost use Rattle.plain_site.specs.RowsOfBytes.{WriteIsReadBack, WriteIsReadBackByTheWhole, UnbuiltIsUnsupported, UnbuiltOperationIsTold};
+ghost use Rattle.plain_site.specs.RowsOfBytes.{BuiltIsNotOpen, WholeIsNotOpen, OtherBytesAreMalformed, OtherBytesStayMalformed};
+ghost use Rattle.plain_site.specs.RowsOfBytes.{LongestKeyAndValueArePut, LongerOnesAreMalformed};
+ghost use Rattle.plain_site.specs.RowsOfChoices.{NoBranchIsNamedFirst, OwnWritesAreNotRead, MergesBringNews, ValueIsTheLowestWriters};
+ghost use Rattle.plain_site.specs.RowsOfChoices.{MergeTriesOneThingAtATime, CeilingStaysOnItsBranch, TidyTakesTheLastArrived, FloorIsKept};
+ghost use Rattle.plain_site.specs.RowsOfChoices.{CollectsMergedBranches, LongPathOfAKeptStateIsNamed, OwnRecordIsKnown, ClosedParentIsNamedFirst};
+ghost use Rattle.plain_site.specs.RowsOfLandings.{SnapshotsForkOnWrites, SerializableForksOnReads, BothForkOnEither, WithoutConstraintsNothingForks};
+ghost use Rattle.plain_site.specs.RowsOfLandings.{FirstPassingChildIsTaken, OldWritesAreNoNews, ReadersAlwaysEnd, AncestorKeepsToItsBranch};
+ghost use Rattle.plain_site.specs.RowsOfLandings.{AbortedWritesAreGone};
+ghost use Rattle.plain_site.specs.RowsOfOperations.{DeletionsAreRead, ClosedSessionsAreGone, OpenSessionIsToldFirst, ConflictsComeInPages};
+ghost use Rattle.plain_site.specs.RowsOfOperations.{EightStatesAreMerged, PagesHaveTheFirst, SingleTransactionsShowNoBranches, LeavesAreShown};
+ghost use Rattle.plain_site.specs.RowsOfOperations.{UnknownStatesAreToldFirst, AutomaticFloorStaysAboveCeilings, FloorIsToldBeforeSessions};
+ghost use Rattle.plain_site.specs.RowsOfOperations.{NumbersRunOut, RoomIsLookedAtBetween, BatchesHaveTheNews, BatchesLeaveOutWhatAllHave};
+ghost use Rattle.plain_site.specs.RowsOfOperations.{OneFloorClosesNothing, BatchesAreFilled, BatchesStopWhereTheyAreFull, ConsentsWaitForBoth};
 ghost use Rattle.plain_site.specs.RowsOfWideMerges.{WideBranchesAreMade, WideMergeIsRefused, WideBranchesAreJoinedInSteps};
 
 /// Where transactions begin, and where they commit.

@@ -11,7 +11,8 @@ ghost use Rattle.site_exchange.specs.Judgements.{reply_of, first_reply, IsAddabl
 ghost use Rattle.plain_site.specs.Site.{Site};
 ghost use Rattle.plain_site.specs.Built.{so_far};
 ghost use Rattle.plain_site.specs.Answers.{refuse_found};
-ghost use Rattle.plain_site.specs.Exchange.{pull as pulled, deliver as delivered, deliver_record as record_delivered, deliver_consent as consent_delivered, settle as settled};
+ghost use Rattle.plain_site.specs.Exchange.{pull as pulled, deliver as delivered, deliver_record as record_delivered};
+ghost use Rattle.plain_site.specs.Exchange.{deliver_consent as consent_delivered, settle as settled};
 ghost use Rattle.session_core.specs.Stands.{CoreStands};
 ghost use Rattle.session_core.specs.Gives.{Answers};
 ghost use Rattle.session_core.specs.Exchange.{consent_reply, JudgedAs, ArrivesAs, MaySettle, FindsFit, SettlesAt};
@@ -90,7 +91,8 @@ impl Parts {
         requires few { length rec.now.parents ≤ 8 }
         requires listed { IsTrue (list_all (is_listed self.now.store.table) rec.now.parents) }
         ensures { (site : Site) → CoreStands self.now site
-            → IfOk result (λ judged. reply_of judged ≡ first_reply (refuse_found Refusal.OpenConflict (open_conflict site.dag rec.now.parents rec.now.writes) ∷ [])) }
+            → IfOk result (λ judged. reply_of judged
+            ≡ first_reply (refuse_found Refusal.OpenConflict (open_conflict site.dag rec.now.parents rec.now.writes) ∷ [])) }
     {
         let slots = self.store.slots_of(rec.parents.as_slice());
         match open_conflict(

@@ -23,12 +23,6 @@ use conflict_keys::value_over;
 use merge_txn::{MergeTxn, Txn};
 use tardis_base::{Found, Key, NoMemory, Over, Refusal, Reply, StateId, Write};
 
-/// The state from which all others descend. It stands for the writer of what a transaction itself has written.
-const ROOT: StateId = StateId {
-    site: 0,
-    sequence: 0,
-};
-
 impl Parts {
     /// Reads the key in the actor's transaction: its own write first, with the root as its writer; then what is read at its
     /// state, and the read is noted; or over the states of a merge, which notes none. The value is a copy.
@@ -126,10 +120,12 @@ pub fn own_write(write: &Write) -> Found<'_>
 {
     match write {
         Write::Put(value) => Found::Value {
-            writer: ROOT,
+            writer: StateId::ROOT,
             value,
         },
-        Write::Delete => Found::Deleted { writer: ROOT },
+        Write::Delete => Found::Deleted {
+            writer: StateId::ROOT,
+        },
     }
 }
 

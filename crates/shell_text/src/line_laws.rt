@@ -1,7 +1,10 @@
 //! The laws of lines. Each function is empty, and its contract is laws or worked lines.
 
 ghost use Rattle.shell_text.specs.Laws.{RepliesHaveOneLine, ReplyLinesFit, RequestLinesFit, RequestsHaveOneLine};
-ghost use Rattle.shell_text.specs.Rows.{CommitLineIsRead, CommittedLineIsRead, EmptyAfterIsNoLine, GetForLineIsRead, HexOfPlainIsNoLine, LeadingZeroIsNoLine, LongNumberIsNoLine, MergeLineIsRead, OpenLineIsRead, OtherOrderIsNoLine, PullLineIsRead, PutLineIsRead, RaiseAutoLineIsRead, RefusedLineIsRead, SettleLineIsRead, SpaceBehindIsNoLine, StatisticsLineIsRead, TwoSpacesAreNoLine, UpperCaseIsNoLine};
+ghost use Rattle.shell_text.specs.Rows.{CommitLineIsRead, CommittedLineIsRead, EmptyAfterIsNoLine, GetForLineIsRead, HexOfPlainIsNoLine};
+ghost use Rattle.shell_text.specs.Rows.{LeadingZeroIsNoLine, LongNumberIsNoLine, MergeLineIsRead, OpenLineIsRead, OtherOrderIsNoLine, PullLineIsRead};
+ghost use Rattle.shell_text.specs.Rows.{PutLineIsRead, RaiseAutoLineIsRead, RefusedLineIsRead, SettleLineIsRead, SpaceBehindIsNoLine};
+ghost use Rattle.shell_text.specs.Rows.{StatisticsLineIsRead, TwoSpacesAreNoLine, UpperCaseIsNoLine};
 
 /// Each request of an actor and each reply has one line, no two have the same, and a line is read as the one request, or
 /// the one reply, of which it is the line.

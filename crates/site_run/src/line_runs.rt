@@ -62,7 +62,8 @@ pub fn answer_lines<T, R: Responder<T>, D: Duplex>(
     ensures outcome { WhileTold (D.left device.old) (D.left device.new) (λ first left. LineOutcome result (R.stands subject.old)
         (λ s lines. AnsweredBy R.may (shape_within (longest_frame + R.MOST) result) (R.stands subject.new)
         (D.given device.old) (D.given device.new) [] [] s lines) first left) }
-    ensures prompt { EachTake (D.takes device.old) (D.takes device.new) (λ moment. WhileTold (D.left device.old) moment.left (UpToDateLines (R.stands subject.old)
+    ensures prompt { EachTake (D.takes device.old) (D.takes device.new) (λ moment.
+        WhileTold (D.left device.old) moment.left (UpToDateLines (R.stands subject.old)
         (λ s lines. AnsweredBy R.may Whole (λ _. Unit {0}) (D.given device.old) moment.given [] [] s lines))) }
     ensures exact { WhileTold (D.left device.old) (D.left device.new) (λ first left. (all : List (List ℕ)) (rest : List ℕ)
         → IsCut first all rest → length first < most_taken
@@ -94,7 +95,8 @@ fn answer_line_input<T, R: Responder<T>, D: Duplex>(
     ensures outcome { WhileTold (D.left device.old) (D.left device.new) (λ first left. LineOutcome result (R.stands subject.old)
         (λ s lines. AnsweredBy R.may (shape_within (longest_frame + R.MOST) result) (R.stands subject.new)
         (D.given device.old) (D.given device.new) [] [] s lines) first left) }
-    ensures prompt { EachTake (D.takes device.old) (D.takes device.new) (λ moment. WhileTold (D.left device.old) moment.left (UpToDateLines (R.stands subject.old)
+    ensures prompt { EachTake (D.takes device.old) (D.takes device.new) (λ moment.
+        WhileTold (D.left device.old) moment.left (UpToDateLines (R.stands subject.old)
         (λ s lines. AnsweredBy R.may Whole (λ _. Unit {0}) (D.given device.old) moment.given [] [] s lines))) }
     ensures status { IsLineEnd result }
     ensures read_later { D.take_faults device.old ≤ D.take_faults device.new }

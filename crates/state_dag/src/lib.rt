@@ -1,7 +1,8 @@
 //! The table of states: their order by arrival numbers and fork paths.
 #![tactic(auto)]
 
-ghost use Rattle.std.specs.Prelude.{◌≡◌, ℕ, ◌+◌, ◌-◌, ◌≤◌, ◌<◌, false, unwrap_or, slice_get, slice_index_or, Some, None, List, [], ◌∷◌, length, map, IsTrue, IsSome, IfOk, IfSome, OnErr};
+ghost use Rattle.std.specs.Prelude.{◌≡◌, ℕ, ◌+◌, ◌-◌, ◌≤◌, ◌<◌, false, unwrap_or, slice_get, slice_index_or, Some, None, List, [], ◌∷◌, length, map};
+ghost use Rattle.std.specs.Prelude.{IsTrue, IsSome, IfOk, IfSome, OnErr};
 ghost use Rattle.std.specs.List.{list_all};
 ghost use Rattle.std.specs.Option.{option_and_then, option_map};
 ghost use Rattle.tardis_base.specs.declared.ids.StateId.{StateId};
@@ -40,7 +41,7 @@ use collection::{free_slot, hand_over};
 use growth::{check_path, new_node};
 use leads::gains;
 use named_paths::named_path;
-use nodes::{Node, ROOT, first_from, is_node_above, node_at, root_node};
+use nodes::{Node, first_from, is_node_above, node_at, root_node};
 use rooms::make_room;
 use slots::{
     common_slot, drop_id, drop_slot, drop_slots, list_slot, make_slot_room, next_slot, put_slot,
@@ -96,7 +97,7 @@ impl StateDag {
         let mut leaves = Vec::new(alloc);
         leaves.push(Slot(0))?;
         let mut slots = BTreeMap::new(alloc);
-        slots.insert(ROOT, Slot(0))?;
+        slots.insert(StateId::ROOT, Slot(0))?;
         Ok(StateDag {
             limits: *limits,
             counts,

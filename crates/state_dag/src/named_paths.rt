@@ -52,7 +52,7 @@ fn add_branches(
 #[cfg(test)]
 mod tests {
     use super::*;
-    use crate::nodes::{ROOT, root_node};
+    use crate::nodes::root_node;
 
     #[test]
     fn branches_go_by_the_order_of_the_slots(rt: HostRuntime) {
@@ -81,7 +81,7 @@ mod tests {
         );
         assert_eq!(rt;
             named.as_slice(),
-            [(ROOT, 0), (ROOT, 1), (later, 0)].as_slice()
+            [(StateId::ROOT, 0), (StateId::ROOT, 1), (later, 0)].as_slice()
         );
     }
 }

@@ -13,12 +13,6 @@ use fork_path::ForkPath;
 use std::alloc::Global;
 use tardis_base::{Slot, StateId};
 
-/// The state from which all others descend.
-pub const ROOT: StateId = StateId {
-    site: 0,
-    sequence: 0,
-};
-
 /// A kept state.
 #[derive(Drop)]
 pub struct Node {
@@ -40,7 +34,7 @@ pub fn root_node(alloc: Global) -> Node
     ensures path { result.path.pairs ≡ [] }
 {
     Node {
-        id: ROOT,
+        id: StateId::ROOT,
         arrival: 0,
         parents: Vec::new(alloc),
         children: Vec::new(alloc),

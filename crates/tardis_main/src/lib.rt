@@ -54,7 +54,8 @@ pub fn tardis<I: Source, O: Sink>(
     ensures usage { (result ≡ Status.Usage) ↔ AreUnknown (map (λ w. string_bytes w) words.now) }
     ensures unused { result ≡ Status.Usage → (input.new ≡ input.old) × (output.new ≡ output.old) }
     ensures headline { (place : Place) → AreRun (map (λ w. string_bytes w) words.now) place
-        → WhileTold (I.left input.old) (I.left input.new) (RunFrom (opening (program_limits place.sites) place.site) result (O.given output.old) (O.given output.new)) }
+        → WhileTold (I.left input.old) (I.left input.new)
+        (RunFrom (opening (program_limits place.sites) place.site) result (O.given output.old) (O.given output.new)) }
     ensures exact { (place : Place) → AreRun (map (λ w. string_bytes w) words.now) place
         → WhileTold (I.left input.old) (I.left input.new) (λ first left. (all : List (List ℕ)) (rest : List ℕ)
         → IsCut first all rest → length first < most_taken

@@ -35,7 +35,8 @@ pub fn carry_out<I: Source, O: Sink>(
     ensures help { AskUsage (map (λ w. string_bytes w) (drop 1 (into_iter_items args))) ⊎ AskVersion (map (λ w. string_bytes w) (drop 1 (into_iter_items args)))
         → ((result ≡ Status.Ok) ⊎ ((result ≡ Status.WriteFault) ⊎ (result ≡ Status.NoMemory))) × (input.new ≡ input.old) }
     ensures headline { (place : Place) → AreRun (map (λ w. string_bytes w) (drop 1 (into_iter_items args))) place
-        → WhileTold (I.left input.old) (I.left input.new) (RunFrom (opening (program_limits place.sites) place.site) result (O.given output.old) (O.given output.new)) }
+        → WhileTold (I.left input.old) (I.left input.new)
+        (RunFrom (opening (program_limits place.sites) place.site) result (O.given output.old) (O.given output.new)) }
     ensures exact { (place : Place) → AreRun (map (λ w. string_bytes w) (drop 1 (into_iter_items args))) place
         → WhileTold (I.left input.old) (I.left input.new) (λ first left. (all : List (List ℕ)) (rest : List ℕ)
         → IsCut first all rest → length first < most_taken
@@ -85,7 +86,8 @@ fn command<I: Source, O: Sink>(
     ensures help { AskUsage (map (λ w. string_bytes w) words.now) ⊎ AskVersion (map (λ w. string_bytes w) words.now)
         → ((result ≡ Status.Ok) ⊎ (result ≡ Status.WriteFault)) × (input.new ≡ input.old) }
     ensures headline { (place : Place) → AreRun (map (λ w. string_bytes w) words.now) place
-        → WhileTold (I.left input.old) (I.left input.new) (RunFrom (opening (program_limits place.sites) place.site) result (O.given output.old) (O.given output.new)) }
+        → WhileTold (I.left input.old) (I.left input.new)
+        (RunFrom (opening (program_limits place.sites) place.site) result (O.given output.old) (O.given output.new)) }
     ensures exact { (place : Place) → AreRun (map (λ w. string_bytes w) words.now) place
         → WhileTold (I.left input.old) (I.left input.new) (λ first left. (all : List (List ℕ)) (rest : List ℕ)
         → IsCut first all rest → length first < most_taken
