@@ -1,5 +1,9 @@
 //! What no clause says: that memory is had where there is enough.
 
+ghost use Rattle.std.specs.Prelude.{IfOk, IsTrue};
+ghost use Rattle.std.specs.List.{list_all};
+ghost use Rattle.state_dag.specs.Table.{is_slot};
+
 use crate::{conflicts, first_open, open_conflict, value_over};
 use record_store::RecordStore;
 use std::alloc::Global;
@@ -52,20 +56,33 @@ fn deletes(alloc: Global, keys: &[&[u8]]) -> Result<WriteSet, NoMemory> {
     Ok(writes)
 }
 
+/// A store of two states below the root, with their slots. Both delete c and d, the first a, and the second b.
+fn forked(alloc: Global) -> Result<(RecordStore, [Slot; 2]), AddFault>
+    ensures { IfOk result (λ made. IsTrue (list_all (is_slot made.0.table) made.1)) }
+{
+    let mut store = RecordStore::new(alloc, &LIMITS)?;
+    add_below_root(&mut store, &deletes(alloc, &[b"a", b"c", b"d"])?)?;
+    add_below_root(&mut store, &deletes(alloc, &[b"b", b"c", b"d"])?)?;
+    match (store.dag().slot_of(state(1)), store.dag().slot_of(state(2))) {
+        (Some(one), Some(other)) => Ok((store, [one, other])),
+        _ => Err(AddFault::NoMemory),
+    }
+}
+
 #[test]
 fn two_states_conflict_in_what_both_write(rt: HostRuntime) -> Result<(), Fail> {
-    let alloc = rt.alloc();
-    let mut store = RecordStore::new(alloc, &LIMITS)?;
-    assert!(rt; add_below_root(&mut store, &deletes(alloc, &[b"a", b"c", b"d"])?).is_ok());
-    assert!(rt; add_below_root(&mut store, &deletes(alloc, &[b"b", b"c", b"d"])?).is_ok());
-    let one = store.dag().slot_of(state(1)).expect(&rt, "kept");
-    let other = store.dag().slot_of(state(2)).expect(&rt, "kept");
-    let states = [one, other];
+    let (store, states) = forked(rt.alloc()).expect(&rt, "memory");
     for (after, total) in [(b"".as_slice(), 2), (b"c", 1), (b"d", 0)] {
-        let page = conflicts(alloc, &store, &states, after)?;
+        let page = conflicts(rt.alloc(), &store, &states, after)?;
         assert_eq!(rt; page.total, total);
         assert_eq!(rt; page.first.len(), total as usize);
     }
+    Ok(())
+}
+
+#[test]
+fn a_key_is_read_over_two_states(rt: HostRuntime) -> Result<(), Fail> {
+    let (store, states) = forked(rt.alloc()).expect(&rt, "memory");
     let over = [
         (
             b"a".as_slice(),
@@ -76,8 +93,18 @@ fn two_states_conflict_in_what_both_write(rt: HostRuntime) -> Result<(), Fail> {
         (b"e", Over::Found(Found::Absent)),
     ];
     for (bytes, value) in over {
-        assert_eq!(rt; value_over(&store, &states, &key(alloc, bytes)?), value);
+        assert_eq!(rt;
+            value_over(&store, &states, &key(rt.alloc(), bytes)?),
+            value
+        );
     }
+    Ok(())
+}
+
+#[test]
+fn what_is_not_written_again_stays_open(rt: HostRuntime) -> Result<(), Fail> {
+    let alloc = rt.alloc();
+    let (store, states) = forked(alloc).expect(&rt, "memory");
     let least = key(alloc, b"d")?;
     let written = deletes(alloc, &[b"c"])?;
     assert!(rt; first_open(&store, &states, &written) == Some(&least));
