@@ -1,5 +1,5 @@
 -- How requests are read back from bytes.
-use Rattle.std.specs.Prelude.{ℕ, Bool, true, false, List, [], ◌∷◌, Option}
+use Rattle.std.specs.Prelude.{ℕ, Bool, true, false, List, [], ◌∷◌, Option, Some, None}
 use Rattle.tardis_base.specs.declared.ids.StateId.{StateId}
 use Rattle.tardis_base.specs.declared.requests.Begin.{Begin}
 use Rattle.tardis_base.specs.declared.requests.Begin.TheVariants.{Any, Ancestor, Parent, At}
@@ -72,3 +72,8 @@ request_front = by_code request_rows
 -- the request that the bytes spell
 abbrev pub request_of : List ℕ → Option Request
 request_of = whole request_front
+
+-- the key that a Get asks for; none of another request
+abbrev pub key_got : Request → Option (List ℕ)
+key_got (Get key) = Some key
+key_got _ = None

@@ -20,7 +20,7 @@ mod tests;
 pub use refusal_writers::write_refusal;
 pub use reply_readers::read_reply;
 pub use reply_writers::{write_reply, write_value_reply};
-pub use request_readers::read_request;
+pub use request_readers::{key_of_get, read_request};
 pub use request_writers::write_request;
 pub use spelling_laws::{
     no_memory_is_spelled, requests_are_read, requests_begin_with_their_code, talk_has_one_spelling,

@@ -2,14 +2,15 @@
 //!
 //! How requests are spelled is stated in `docs/FORMATS.md`. The cost grows with the number of bytes.
 
-ghost use Rattle.std.specs.Prelude.{◌≡◌, ◌↔◌, None, Some, Err, IfOk, IsTrue};
+ghost use Rattle.std.specs.Prelude.{◌≡◌, ◌↔◌, None, Some, Err, IfOk, IsTrue, option_and_then};
+ghost use Rattle.std.specs.Option.{option_copied};
 ghost use Rattle.tardis_base.specs.declared.faults.NoMemory.{NoMemory};
 ghost use Rattle.tardis_base.specs.declared.requests.Request.{Request};
 ghost use Rattle.wire_item.specs.Fronts.{front_of_code};
 ghost use Rattle.wire_item.specs.Takings.{Makes};
 ghost use Rattle.wire_talk.specs.Codes.{code_of};
 ghost use Rattle.wire_talk.specs.Memory.{takes_no_memory};
-ghost use Rattle.wire_talk.specs.RequestReadings.{request_front, request_of, request_rows};
+ghost use Rattle.wire_talk.specs.RequestReadings.{key_got, request_front, request_of, request_rows};
 ghost use Rattle.wire_talk.specs.Spelled.{SpellsRequest};
 
 use crate::request_field_readers::{
@@ -29,6 +30,21 @@ pub fn read_request(alloc: Global, bytes: &[u8]) -> Result<Request, ReadFault>
     let mut reader = Reader::new(bytes);
     let taken = request(alloc, &mut reader);
     whole(taken, reader.is_done())
+}
+
+/// The key of the Get that the bytes spell; None of any other bytes. It is lent from them, and takes no memory.
+///
+/// `read_request` tells the same of all requests. A `Request` is as large as the fields of all of them together, so a machine
+/// that asks for a Get first needn't move one.
+pub fn key_of_get(bytes: &[u8]) -> Option<&[u8]>
+    ensures { option_copied result ≡ option_and_then key_got (request_of bytes.now) }
+{
+    let mut reader = Reader::new(bytes);
+    if reader.u8()? != 3 {
+        return None;
+    }
+    let key = reader.key()?;
+    if reader.is_done() { Some(key) } else { None }
 }
 
 fn request(alloc: Global, reader: &mut Reader) -> Option<Result<Request, NoMemory>>
