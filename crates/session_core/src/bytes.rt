@@ -1,7 +1,8 @@
 //! The site as a machine over bytes.
 
-ghost use Rattle.std.specs.Prelude.{◌≡◌, ◌≤◌, Some, [], length, IsTrue, IsOk, IfOk};
+ghost use Rattle.std.specs.Prelude.{◌≡◌, ◌≤◌, Some, Ok, [], true, false, length, IsTrue, IsOk, IfOk, IfSome};
 ghost use Rattle.std.specs.List.{list_all};
+ghost use Rattle.std.specs.Option.{option_map_or};
 ghost use Rattle.tardis_base.specs.Sizes.{longest_frame};
 ghost use Rattle.tardis_base.specs.declared.requests.Request.{Request};
 ghost use Rattle.tardis_base.specs.Valid.{is_key};
@@ -14,7 +15,7 @@ ghost use Rattle.plain_site.specs.Site.{Site};
 ghost use Rattle.plain_site.specs.Built.{so_far};
 ghost use Rattle.plain_site.specs.Sound.{IsSound};
 ghost use Rattle.plain_site.specs.Answers.{found as reply_to};
-ghost use Rattle.plain_site.specs.Step.{step, is_sure};
+ghost use Rattle.plain_site.specs.Step.{step, step_over_bytes, is_sure};
 ghost use Rattle.session_core.specs.Stands.{CoreStands, StandsForSite};
 ghost use Rattle.session_core.specs.Guards.{HasTxn};
 ghost use Rattle.session_core.specs.Machine.{AsksFor, SiteStands, GivesBytes, opened_with, Wrote};
@@ -26,9 +27,10 @@ use crate::{Parts, SiteCore};
 use merge_txn::{MergeTxn, Txn};
 use std::alloc::Global;
 use tardis_base::{
-    Found, Key, Machine, NoMemory, Over, ReadFault, Refusal, Reply, ReplyBuf, Request, Write,
+    BytesFault, Found, Key, Machine, NoMemory, Over, ReadFault, Refusal, Reply, ReplyBuf, Request,
+    Write,
 };
-use wire_talk::{read_request, talk_has_one_spelling, write_reply, write_value_reply};
+use wire_talk::{key_of_get, read_request, talk_has_one_spelling, write_reply, write_value_reply};
 
 /// The request that the bytes spell, or why they are refused. An operation that isn't built is told by its first byte,
 /// whatever follows; other bytes that spell no request are malformed.
@@ -46,6 +48,24 @@ fn asked(alloc: Global, bytes: &[u8]) -> Result<Result<Request, Refusal>, NoMemo
         Ok(request) => Ok(Ok(request)),
         Err(ReadFault::Malformed) => Ok(Err(Refusal::Malformed)),
         Err(ReadFault::NoMemory) => Err(NoMemory),
+    }
+}
+
+/// The key that the bytes ask for, where they spell a Get; None of other bytes.
+///
+/// A Get is told apart first, since a `Request` is as large as the fields of all of them, and dear to move.
+fn asked_key(alloc: Global, bytes: &[u8]) -> Result<Option<Key>, NoMemory>
+    ensures key { IfOk result (λ asked. IfSome asked (λ key. AsksFor bytes.now (Ok (Request.Get key)))) }
+    ensures sure { (q : Request) → request_of bytes.now ≡ Some q → IsTrue (is_sure q) → IsOk result }
+{
+    talk_has_one_spelling();
+    match key_of_get(bytes) {
+        Some(key) => match Key::new(alloc, key) {
+            Ok(key) => Ok(Some(key)),
+            Err(BytesFault::NoMemory) => Err(NoMemory),
+            Err(BytesFault::Length) => Ok(None),
+        },
+        None => Ok(None),
     }
 }
 
@@ -175,6 +195,30 @@ impl SiteCore {
     }
 }
 
+impl SiteCore {
+    /// Writes the reply to the request that the bytes spell, which is done, or to bytes that spell none.
+    fn reply_to_bytes(
+        &mut self,
+        actor: u16,
+        request: &[u8],
+        out: &mut ReplyBuf,
+    ) -> Result<(), NoMemory>
+        requires empty { out.old ≡ [] }
+        ensures given { (site : Site) → SiteStands self.old site
+            → GivesBytes (SiteStands self.new) (step_over_bytes so_far site (actor, request.now)) site result out.new }
+        ensures sure { option_map_or is_sure (request_of request.now) false ≡ true → IsOk result }
+        ensures opening { opened_with self.new ≡ opened_with self.old }
+    {
+        match asked(self.parts.alloc, request)? {
+            Ok(request) => self.reply(actor, request, out),
+            Err(refusal) => {
+                give(Reply::Refused { refusal }, out);
+                Ok(())
+            },
+        }
+    }
+}
+
 impl Machine for SiteCore {
     ghost use Rattle.plain_site.specs.Site.{Site};
     ghost use Rattle.plain_site.specs.Built.{so_far};
@@ -191,12 +235,9 @@ impl Machine for SiteCore {
 
     fn act(&mut self, actor: u16, request: &[u8], out: &mut ReplyBuf) -> Result<(), NoMemory> {
         out.clear();
-        match asked(self.parts.alloc, request)? {
-            Ok(request) => self.reply(actor, request, out),
-            Err(refusal) => {
-                give(Reply::Refused { refusal }, out);
-                Ok(())
-            },
+        match asked_key(self.parts.alloc, request)? {
+            Some(key) => self.get(actor, &key, out),
+            None => self.reply_to_bytes(actor, request, out),
         }
     }
 }
