@@ -49,24 +49,38 @@ fn an_end_has_a_line_and_a_number(rt: HostRuntime) -> Result<(), Fail> {
     Ok(())
 }
 
+/// A session that puts a key and commits, as frames of a connection.
+const ASKED: &str = "000000020100000000020200000000060401780001310000000406010000";
+
+/// What it is to be told by site 2.
+const TOLD: &str = concat!(
+    "000000070100000000000000000007020000000000000000000107",
+    "0000000e0800020000000101000000000000"
+);
+
 #[test]
 fn a_site_is_served_at_its_place(rt: HostRuntime) -> Result<(), Fail> {
     let alloc = rt.alloc();
-    // open a session, begin, put x, commit
-    let asked = hex::decode(
-        alloc,
-        "0000000201000000000202000000000604017800013100000004060100000",
-    )?;
     let mut moves = Vec::new(alloc);
     moves.push(Move::Accept { comes: true })?;
     moves.push(Move::Read {
         slot: 0,
-        bytes: ByteList::from_vec(asked),
+        bytes: ByteList::from_vec(hex::decode(alloc, ASKED)?),
     })?;
     moves.push(Move::Write { slot: 0, most: 100 })?;
     let mut ports = MemoryPorts::new(alloc, moves);
     let place = Place { sites: 3, site: 2 };
-    let ended = serve_place(alloc, place, &mut ports)?;
-    assert!(rt; ended == End::Stopped);
+    match serve_place(alloc, place, &mut ports) {
+        Ok(end) => assert!(rt; end == End::Stopped),
+        Err(_) => return Err(Fail::new("memory")),
+    }
+    let told = hex::decode(alloc, TOLD)?;
+    let Some(calls) = ports.seen() else {
+        return Err(Fail::new("memory"));
+    };
+    let wrote = calls.iter().filter(|call| {
+        matches!(call, Seen::WroteTo { bytes, .. } if bytes.as_slice() == told.as_slice())
+    });
+    assert_eq!(rt; wrote.count(), 1);
     Ok(())
 }
