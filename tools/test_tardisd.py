@@ -188,6 +188,26 @@ class Words(unittest.TestCase):
         with second.connect() as connection:
             self.assertEqual(ask(connection, OPEN), [OPENED])
 
+    def test_a_file_that_is_no_socket_stays(self):
+        path = os.path.join(self.folder, "s")
+        with open(path, "w") as file:
+            file.write("kept")
+        self.assertEqual(run_words("--listen", self.address), (7, "", "tardisd: gate fault: a file that is no socket stands there\n"))
+        with open(path) as file:
+            self.assertEqual(file.read(), "kept")
+
+    def test_a_server_that_was_halted_goes_on(self):
+        server = Server(self.address)
+        self.addCleanup(server.end)
+        with server.connect() as connection:
+            self.assertEqual(ask(connection, OPEN), [OPENED])
+            for _ in range(3):
+                server.process.send_signal(signal.SIGSTOP)
+                time.sleep(0.05)
+                server.process.send_signal(signal.SIGCONT)
+                time.sleep(0.05)
+                self.assertEqual(ask(connection, BEGIN, b"\x07")[0], BEGUN)
+
     def test_a_port_that_is_taken(self):
         address = "127.0.0.1:%d" % free_port()
         first = Server(address)

@@ -90,6 +90,7 @@ fn open_ports(rt: &HostRuntime, address: &str) -> Result<SocketPorts, GateFault>
         },
         Err(DoorFault::NoAddress) => Err(GateFault::NoAddress),
         Err(DoorFault::InUse) => Err(GateFault::InUse),
+        Err(DoorFault::Occupied) => Err(GateFault::Occupied),
         Err(DoorFault::Refused) => Err(GateFault::Refused),
     }
 }

@@ -12,6 +12,8 @@ pub enum GateFault {
     NoAddress,
     /// A server that lives has the address.
     InUse,
+    /// Something else than a socket stands at the path.
+    Occupied,
     /// The system refused to listen there.
     Refused,
     /// The system can't be waited for.
@@ -80,6 +82,7 @@ impl fmt::Display for GateFault {
                 )
             }
             GateFault::InUse => write!(f, "another server listens there"),
+            GateFault::Occupied => write!(f, "a file that is no socket stands there"),
             GateFault::Refused => write!(f, "the system doesn't let it listen there"),
             GateFault::Lost => write!(f, "the system can't be waited for"),
         }
