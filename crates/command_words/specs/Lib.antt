@@ -8,3 +8,4 @@ pub mod Splits
 pub mod Servings
 pub mod Places
 pub mod Laws
+pub mod Daemons

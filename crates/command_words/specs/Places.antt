@@ -1,5 +1,6 @@
 -- Which places there are.
 use Rattle.std.specs.Prelude.{ℕ, ◌≤◌}
+use Rattle.tardis_base.specs.declared.records.Limits.{Limits}
 use Rattle.command_words.specs.declared.commands.Place.{Place}
 use Rattle.command_words.specs.declared.commands.Command.{Command}
 use Rattle.command_words.specs.declared.commands.Command.TheVariants.{Run, Shell, Audit, World, Serve, Load}
@@ -19,3 +20,7 @@ HasPlace (Audit place) = IsPlace place
 HasPlace (World sites) = (1 ≤ sites) × (sites ≤ 16)
 HasPlace (Serve plan) = IsPlace plan.place
 HasPlace (Load start steps) = Unit {0}
+
+-- the limits of a site that a program runs, by how many sites there are
+abbrev pub program_limits : ℕ → Limits
+program_limits sites = record { sites = sites; max_kept = 16384; max_path = 4096; max_sessions = 256; max_trail = 1073741824 }

@@ -47,7 +47,7 @@ fn read_number_or(words: &[String], name: &str, default: u32, least: u32, most: 
 }
 
 /// Whether `--tidy` is there, unless it is more than once.
-fn read_tidy(words: &[String]) -> Option<bool>
+pub(crate) fn read_tidy(words: &[String]) -> Option<bool>
     ensures { result ≡ flag (values (codes "--tidy") (settings (map (λ w. string_bytes w) words.now))) }
 {
     match how_given(words, "--tidy") {
@@ -59,7 +59,7 @@ fn read_tidy(words: &[String]) -> Option<bool>
 }
 
 /// The address of an option that must be there.
-fn read_address<'a>(words: &'a [String], name: &str) -> Option<&'a str>
+pub(crate) fn read_address<'a>(words: &'a [String], name: &str) -> Option<&'a str>
     ensures { option_map (λ word. word.now) result ≡ address (values name.now (settings (map (λ w. string_bytes w) words.now))) }
 {
     match how_given(words, name) {
@@ -71,7 +71,7 @@ fn read_address<'a>(words: &'a [String], name: &str) -> Option<&'a str>
 }
 
 /// `--sites M` and `--site N`.
-fn read_place(words: &[String]) -> Option<Place>
+pub(crate) fn read_place(words: &[String]) -> Option<Place>
     ensures form { result ≡ place (settings (map (λ w. string_bytes w) words.now)) }
     ensures place { IfSome result (λ p. IsPlace p) }
 {

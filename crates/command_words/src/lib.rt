@@ -4,8 +4,10 @@
 #![tactic(auto)]
 
 mod commands;
+mod daemons;
 mod forms;
 mod laws;
+mod limits;
 mod numbers;
 mod peers;
 mod reading;
@@ -14,5 +16,6 @@ mod settings;
 mod tests;
 
 pub use commands::{Command, Place, ServePlan, WordsFault};
+pub use daemons::{DaemonPlan, read_daemon};
 pub use laws::runs_at_a_site;
 pub use reading::read_words;

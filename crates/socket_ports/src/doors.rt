@@ -9,6 +9,7 @@ use mio::{Interest, Registry, Token};
 use std::fs::{self, Files};
 use std::io::{self, Read, Write};
 use std::net::{Net, SocketAddr, ToSocketAddrs};
+use std::os::unix::fs::FileTypeExt;
 
 /// No connection can come at an address.
 #[derive(Clone, Copy, PartialEq, Eq)]
@@ -17,6 +18,8 @@ pub enum DoorFault {
     NoAddress,
     /// A server that lives has the address.
     InUse,
+    /// Something else than a socket stands at the path.
+    Occupied,
     /// The system refused.
     Refused,
 }
@@ -35,24 +38,8 @@ pub(crate) enum Stream {
     Tcp(TcpStream),
 }
 
-/// The longest address.
-const LONGEST_ADDRESS: usize = 200;
-
 /// What an address of a Unix socket begins with.
 const UNIX: &str = "unix:";
-
-/// Whether the word has the form of an address: 1 to 200 bytes from `!` to `~`, the first of them no `-`.
-pub fn is_address(word: &str) -> bool {
-    let bytes = word.as_bytes();
-    match bytes.first() {
-        None => false,
-        Some(first) => {
-            *first != b'-'
-                && bytes.len() <= LONGEST_ADDRESS
-                && bytes.iter().all(|byte| byte.is_ascii_graphic())
-        }
-    }
-}
 
 /// Opens the door at an address: `unix:` and a path, or `HOST:PORT`. A path that a dead server left is taken over, and a
 /// living one's isn't.
@@ -85,12 +72,18 @@ fn open_unix<R: Files + Net>(rt: &R, path: &str) -> Result<Door, DoorFault> {
     }
 }
 
-/// Takes over a path that nobody listens at.
+/// Takes over a path that nobody listens at. What stands there and is no socket stays.
 fn take_over<R: Files + Net>(rt: &R, path: &str) -> Result<Door, DoorFault> {
     match UnixStream::connect(rt, path) {
         Ok(_) => return Err(DoorFault::InUse),
         Err(error) if error.kind() == io::ErrorKind::ConnectionRefused => {}
+        Err(error) if error.kind() == io::ErrorKind::PermissionDenied => {
+            return Err(DoorFault::Refused);
+        }
         Err(_) => return Err(DoorFault::InUse),
+    }
+    if !is_socket_at(rt, path) {
+        return Err(DoorFault::Occupied);
     }
     let Ok(()) = fs::remove_file(rt, path) else {
         return Err(DoorFault::Refused);
@@ -98,6 +91,14 @@ fn take_over<R: Files + Net>(rt: &R, path: &str) -> Result<Door, DoorFault> {
     match UnixListener::bind(rt, path) {
         Ok(listener) => Ok(Door::Unix(listener)),
         Err(_) => Err(DoorFault::Refused),
+    }
+}
+
+/// Whether a socket stands at the path itself.
+fn is_socket_at<R: Files>(rt: &R, path: &str) -> bool {
+    match fs::symlink_metadata(rt, path) {
+        Ok(found) => found.file_type().is_socket(),
+        Err(_) => false,
     }
 }
 
@@ -118,7 +119,7 @@ impl Door {
             }
             Door::Tcp(listener) => {
                 let (stream, _) = listener.accept()?;
-                stream.set_nodelay(true)?;
+                let _ = stream.set_nodelay(true);
                 Ok(Stream::Tcp(stream))
             }
         }

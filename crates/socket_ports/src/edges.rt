@@ -119,8 +119,13 @@ impl SocketPorts {
 
     /// Brings a connection into the slot, if one waits.
     fn admit(&mut self, slot: usize) -> bool {
-        let Ok(stream) = self.door.accept() else {
-            return false;
+        let stream = match self.door.accept() {
+            Ok(stream) => stream,
+            Err(error) => {
+                // the one that was next is gone, and others may wait behind it
+                self.knocked = is_passing(&error);
+                return false;
+            }
         };
         self.knocked = true;
         let Ok(plug) = Plug::new(stream, self.poll.registry(), Token(slot)) else {
@@ -136,6 +141,14 @@ impl SocketPorts {
     }
 }
 
+/// Whether the call may be made again: a signal came, or the connection that it was about is gone.
+fn is_passing(error: &io::Error) -> bool {
+    matches!(
+        error.kind(),
+        io::ErrorKind::Interrupted | io::ErrorKind::ConnectionAborted
+    )
+}
+
 impl Ports for SocketPorts {
     ghost seen = { λ p. None };
 
@@ -144,8 +157,10 @@ impl Ports for SocketPorts {
             if let Some(offer) = self.offer(lines) {
                 return offer;
             }
-            if self.wait().is_err() {
-                return Ready::Stop;
+            match self.wait() {
+                Ok(()) => {}
+                Err(error) if is_passing(&error) => {}
+                Err(_) => return Ready::Stop,
             }
         }
         Ready::Stop

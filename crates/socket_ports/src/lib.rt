@@ -8,5 +8,5 @@ mod doors;
 mod edges;
 mod plugs;
 
-pub use doors::{Door, DoorFault, is_address, open_door};
+pub use doors::{Door, DoorFault, open_door};
 pub use edges::SocketPorts;

@@ -1,0 +1,197 @@
+#!/usr/bin/env python3
+"""Measures `tardisd` beside `redis-server`, over Unix sockets, in the same run.
+
+usage: bench/serve.py TARDISD [REDIS-SERVER]
+
+Each line is a shape: the connections, whether requests are pipelined (all sent at once) or each waits for the reply to
+the one before, and for each server so many transactions or reads a second, the best of three runs. A transaction of
+`tardisd` is begin, get, put, commit; one of Redis is WATCH, GET, MULTI, SET, EXEC. Each connection has its own key of a
+value of 32 bytes. Redis keeps all in memory, without snapshots or a log. The client is one process in Python, which
+bounds what can be seen with many connections; it counts bytes, since the length of each reply is known.
+"""
+
+import os
+import select
+import shutil
+import socket
+import struct
+import subprocess
+import sys
+import tempfile
+import time
+
+VALUE = b"v" * 32
+OPEN, BEGIN, COMMIT = b"\x01\x00", b"\x02\x00", b"\x06\x01\x00\x00"
+TRANSACTIONS, READS = 12_000, 60_000
+
+
+def frame(body):
+    return struct.pack(">I", len(body)) + body
+
+
+class Tardis:
+    name = "tardisd"
+
+    def __init__(self, program, path):
+        self.words = [program, "--listen", "unix:" + path]
+
+    def transaction(self, key):
+        named = bytes([len(key)]) + key
+        put = b"\x04" + named + struct.pack(">H", len(VALUE)) + VALUE
+        return [(frame(BEGIN), 11), (frame(b"\x03" + named), 45), (frame(put), 5), (frame(COMMIT), 18)]
+
+    def first(self, key):
+        """What comes first: a session, and a transaction that puts the key."""
+        begin, _, put, commit = self.transaction(key)
+        return [(frame(OPEN), 11), begin, put, commit]
+
+    def before_reads(self):
+        return [(frame(BEGIN), 11)]
+
+    def read(self, key):
+        return (frame(b"\x03" + bytes([len(key)]) + key), 45)
+
+
+def command(*words):
+    return b"*%d\r\n" % len(words) + b"".join(b"$%d\r\n%s\r\n" % (len(word), word) for word in words)
+
+
+class Redis:
+    name = "redis-server"
+
+    def __init__(self, program, path):
+        self.words = [program, "--port", "0", "--unixsocket", path, "--save", "", "--appendonly", "no", "--dir", os.path.dirname(path)]
+
+    def transaction(self, key):
+        return [(command(b"WATCH", key), 5), self.read(key), (command(b"MULTI"), 5), (command(b"SET", key, VALUE), 9), (command(b"EXEC"), 9)]
+
+    def first(self, key):
+        return [(command(b"SET", key, VALUE), 5)]
+
+    def before_reads(self):
+        return []
+
+    def read(self, key):
+        return (command(b"GET", key), 39)
+
+
+def connect(path):
+    end = time.monotonic() + 20
+    while True:
+        made = socket.socket(socket.AF_UNIX, socket.SOCK_STREAM)
+        try:
+            made.connect(path)
+            return made
+        except OSError:
+            made.close()
+            if time.monotonic() > end:
+                raise
+            time.sleep(0.05)
+
+
+def take(connection, count):
+    while count > 0:
+        more = len(connection.recv(min(count, 1 << 20)))
+        if more == 0:
+            raise AssertionError("the connection ended")
+        count -= more
+    return count
+
+
+def pipelined(connection, steps):
+    """Sends all the steps as fast as they are taken, and reads until all replies came."""
+    asked = memoryview(b"".join(request for request, _ in steps))
+    wanted = sum(length for _, length in steps)
+    connection.setblocking(False)
+    began = time.monotonic()
+    while wanted:
+        _, _, _ = select.select([connection], [connection] if asked else [], [], 10)
+        if asked:
+            try:
+                asked = asked[connection.send(asked[:65536]):]
+            except BlockingIOError:
+                pass
+        try:
+            more = len(connection.recv(1 << 20))
+            assert more, "the connection ended"
+            wanted -= more
+        except BlockingIOError:
+            pass
+    spent = time.monotonic() - began
+    connection.setblocking(True)
+    return spent
+
+
+def by_turns(connections, steps_of):
+    """Each connection sends a step once the reply to the one before came."""
+    poll = select.epoll()
+    at = {}
+    for connection, steps in zip(connections, steps_of):
+        poll.register(connection, select.EPOLLIN)
+        at[connection.fileno()] = [connection, steps, 0, steps[0][1]]
+    left = len(connections)
+    began = time.monotonic()
+    for connection, steps in zip(connections, steps_of):
+        connection.send(steps[0][0])
+    while left:
+        for number, _ in poll.poll(10):
+            here = at[number]
+            here[3] -= len(here[0].recv(4096))
+            if here[3] == 0:
+                here[2] += 1
+                if here[2] == len(here[1]):
+                    left -= 1
+                else:
+                    request, here[3] = here[1][here[2]]
+                    here[0].send(request)
+    spent = time.monotonic() - began
+    poll.close()
+    return spent
+
+
+def measure(made, program, count, many, reads, at_once):
+    """So many transactions or reads a second, over a server that is started for this alone."""
+    folder = tempfile.mkdtemp()
+    path = os.path.join(folder, "s")
+    server = made(program, path)
+    process = subprocess.Popen(server.words, stdin=subprocess.DEVNULL, stdout=subprocess.DEVNULL, stderr=subprocess.DEVNULL)
+    try:
+        connections = [connect(path) for _ in range(many)]
+        keys = [b"key%05d" % place for place in range(many)]
+        each = max(1, count // many)
+        for connection, key in zip(connections, keys):
+            by_turns([connection], [server.first(key) + (server.before_reads() if reads else [])])
+        steps_of = [[server.read(key)] * each if reads else server.transaction(key) * each for key in keys]
+        if at_once:
+            spent = pipelined(connections[0], steps_of[0])
+        else:
+            spent = by_turns(connections, steps_of)
+        for connection in connections:
+            connection.close()
+        return each * many / spent
+    finally:
+        process.kill()
+        process.wait()
+        shutil.rmtree(folder)
+
+
+def main():
+    words = sys.argv[1:]
+    if not 1 <= len(words) <= 2:
+        sys.exit(__doc__)
+    programs = [(Tardis, words[0])]
+    redis = words[1] if len(words) > 1 else shutil.which("redis-server")
+    if redis:
+        programs.append((Redis, redis))
+    for at_once, many in (True, 1), (False, 1), (False, 8), (False, 50), (False, 250):
+        for reads, count in (False, TRANSACTIONS), (True, READS * (5 if at_once else 1)):
+            told = []
+            for made, program in programs:
+                best = max(measure(made, program, count, many, reads, at_once) for _ in range(3))
+                told.append("%s %d" % (made.name, best))
+            what = "%3d %s, %s" % (many, "pipelined" if at_once else "by turns", "reads" if reads else "transactions")
+            print("%-32s %s" % (what, "   ".join(told)), flush=True)
+
+
+if __name__ == "__main__":
+    main()

@@ -1,0 +1,2 @@
+-- Lemmas on what is served.
+pub mod Runs

@@ -1,0 +1,16 @@
+//! The server: one site over the connections of an edge, what its words ask for, and how it ends.
+//!
+//! The words and the statuses are stated in `docs/COMMANDS.md`.
+#![tactic(auto)]
+
+mod asks;
+mod endings;
+mod helps;
+mod sites;
+#[cfg(test)]
+mod tests;
+
+pub use asks::plan_of;
+pub use endings::{DaemonEnd, GateFault};
+pub use helps::{Help, help_of};
+pub use sites::serve_place;

@@ -1,0 +1,455 @@
+#!/usr/bin/env python3
+"""Tests `tardisd` over real sockets, Unix and TCP on this machine's loopback.
+
+usage: tools/test_tardisd.py [TARDISD [TARDIS]]
+
+The programs are ./tardisd and ./tardis of this repository, unless others are named. Each wait has an end, and the whole
+run ends after five minutes at the latest. Nothing is left behind: the servers are killed, and their sockets lie in a
+folder that is removed.
+"""
+
+import os
+import random
+import select
+import shutil
+import signal
+import socket
+import struct
+import subprocess
+import sys
+import tempfile
+import time
+import unittest
+
+TOP = os.path.dirname(os.path.dirname(os.path.abspath(__file__)))
+TARDISD = os.path.join(TOP, "tardisd")
+TARDIS = os.path.join(TOP, "tardis")
+PATIENCE = 20
+LONGEST_FRAME = 1_048_576
+
+OPEN, BEGIN, CLOSE = b"\x01\x00", b"\x02\x00", b"\x15"
+COMMIT, COMMIT_FREELY = b"\x06\x01\x00\x00", b"\x06\x00\x00\x00"
+OPENED, BEGUN = b"\x01" + bytes(6), b"\x02" + bytes(6)
+DONE = b"\x07"
+
+
+def key(name):
+    return bytes([len(name)]) + name
+
+
+def get(name):
+    return b"\x03" + key(name)
+
+
+def put(name, value):
+    return b"\x04" + key(name) + struct.pack(">H", len(value)) + value
+
+
+def state(site, sequence):
+    return struct.pack(">HI", site, sequence)
+
+
+def frame(body):
+    return struct.pack(">I", len(body)) + body
+
+
+def frames(bodies):
+    return b"".join(map(frame, bodies))
+
+
+def bodies_of(data):
+    """The bodies of whole frames, and how many bytes are left."""
+    bodies, place = [], 0
+    while place + 4 <= len(data):
+        (length,) = struct.unpack_from(">I", data, place)
+        if place + 4 + length > len(data):
+            break
+        bodies.append(data[place + 4:place + 4 + length])
+        place += 4 + length
+    return bodies, len(data) - place
+
+
+class Server:
+    """A server that runs, at a path or at a port of the loopback."""
+
+    def __init__(self, address, words=()):
+        self.process = subprocess.Popen(
+            [TARDISD, "--listen", address, *words],
+            stdin=subprocess.DEVNULL, stdout=subprocess.PIPE, stderr=subprocess.PIPE)
+        self.address = address
+        self.line = self.first_line()
+
+    def first_line(self):
+        line, end = b"", time.monotonic() + PATIENCE
+        while not line.endswith(b"\n"):
+            ready, _, _ = select.select([self.process.stderr], [], [], max(0, end - time.monotonic()))
+            more = os.read(self.process.stderr.fileno(), 1000) if ready else b""
+            if not more:
+                self.end()
+                raise AssertionError("the server didn't listen: %r" % line)
+            line += more
+        return line.decode()
+
+    def connect(self):
+        if self.address.startswith("unix:"):
+            made = socket.socket(socket.AF_UNIX, socket.SOCK_STREAM)
+            made.settimeout(PATIENCE)
+            made.connect(self.address[len("unix:"):])
+        else:
+            host, port = self.address.rsplit(":", 1)
+            made = socket.create_connection((host, int(port)), PATIENCE)
+            made.setsockopt(socket.IPPROTO_TCP, socket.TCP_NODELAY, 1)
+        return made
+
+    def end(self):
+        self.process.kill()
+        self.process.wait(PATIENCE)
+        self.process.stdout.close()
+        self.process.stderr.close()
+
+
+def free_port():
+    with socket.socket() as probe:
+        probe.bind(("127.0.0.1", 0))
+        return probe.getsockname()[1]
+
+
+def read_bodies(connection, count):
+    """So many replies."""
+    data = b""
+    while True:
+        bodies, left = bodies_of(data)
+        if len(bodies) >= count:
+            assert len(bodies) == count and left == 0, "more came than was asked for"
+            return bodies
+        more = connection.recv(65536)
+        assert more, "the connection ended after %d of %d replies" % (len(bodies), count)
+        data += more
+
+
+def read_to_end(connection):
+    data = b""
+    while True:
+        more = connection.recv(65536)
+        if not more:
+            return data
+        data += more
+
+
+def ask(connection, *bodies):
+    connection.sendall(frames(bodies))
+    return read_bodies(connection, len(bodies))
+
+
+def run_words(*words):
+    """The status, the output, and the line on standard error of words that are no server."""
+    done = subprocess.run([TARDISD, *words], stdin=subprocess.DEVNULL, capture_output=True, timeout=PATIENCE)
+    return done.returncode, done.stdout.decode(), done.stderr.decode()
+
+
+class Words(unittest.TestCase):
+    def setUp(self):
+        self.folder = tempfile.mkdtemp()
+        self.addCleanup(shutil.rmtree, self.folder)
+        self.address = "unix:" + os.path.join(self.folder, "s")
+
+    def test_help_and_version(self):
+        status, told, line = run_words("--help")
+        self.assertEqual((status, line), (0, ""))
+        self.assertIn("--listen ADDR", told)
+        self.assertEqual(run_words("--version"), (0, "tardisd 0.1.0\n", ""))
+
+    def test_words_without_a_form_open_nothing(self):
+        for words in (), ("--sites", "2"), ("--listen", self.address, "--sites", "17"), ("--listen",), ("--listen", "-a"), ("x",):
+            status, told, line = run_words(*words)
+            self.assertEqual((status, told), (1, ""), words)
+            self.assertTrue(line.startswith("usage: tardisd --listen ADDR"), line)
+        status, told, line = run_words("--listen", self.address, "--tidy")
+        self.assertEqual((status, told, line), (1, "", "tardisd: --tidy isn't built yet\n"))
+        self.assertEqual(os.listdir(self.folder), [])
+
+    def test_gate_faults_are_named(self):
+        for address in "nowhere", "unix:" + os.path.join(self.folder, "no", "s"):
+            status, told, line = run_words("--listen", address)
+            self.assertEqual((status, told), (7, ""), address)
+            self.assertTrue(line.startswith("tardisd: gate fault: "), line)
+
+    def test_a_living_servers_address_is_kept_and_a_dead_ones_taken(self):
+        first = Server(self.address)
+        self.addCleanup(first.end)
+        self.assertEqual(run_words("--listen", self.address), (7, "", "tardisd: gate fault: another server listens there\n"))
+        with first.connect() as connection:
+            self.assertEqual(ask(connection, OPEN), [OPENED])
+        first.process.kill()
+        first.process.wait(PATIENCE)
+        self.assertTrue(os.path.exists(os.path.join(self.folder, "s")))
+        second = Server(self.address)
+        self.addCleanup(second.end)
+        with second.connect() as connection:
+            self.assertEqual(ask(connection, OPEN), [OPENED])
+
+    def test_a_file_that_is_no_socket_stays(self):
+        path = os.path.join(self.folder, "s")
+        with open(path, "w") as file:
+            file.write("kept")
+        self.assertEqual(run_words("--listen", self.address), (7, "", "tardisd: gate fault: a file that is no socket stands there\n"))
+        with open(path) as file:
+            self.assertEqual(file.read(), "kept")
+
+    def test_a_server_that_was_halted_goes_on(self):
+        server = Server(self.address)
+        self.addCleanup(server.end)
+        with server.connect() as connection:
+            self.assertEqual(ask(connection, OPEN), [OPENED])
+            for _ in range(3):
+                server.process.send_signal(signal.SIGSTOP)
+                time.sleep(0.05)
+                server.process.send_signal(signal.SIGCONT)
+                time.sleep(0.05)
+                self.assertEqual(ask(connection, BEGIN, b"\x07")[0], BEGUN)
+
+    def test_a_port_that_is_taken(self):
+        address = "127.0.0.1:%d" % free_port()
+        first = Server(address)
+        self.addCleanup(first.end)
+        self.assertEqual(run_words("--listen", address), (7, "", "tardisd: gate fault: another server listens there\n"))
+
+    def test_the_site_is_that_of_the_words(self):
+        server = Server(self.address, ("--sites", "3", "--site", "2"))
+        self.addCleanup(server.end)
+        self.assertEqual(server.line, "tardisd: site 2 of 3 listens at %s\n" % self.address)
+        with server.connect() as connection:
+            told = ask(connection, OPEN, BEGIN, put(b"x", b"1"), COMMIT)
+        self.assertEqual(told, [OPENED, BEGUN, DONE, b"\x08" + state(2, 1) + b"\x01" + state(0, 0)])
+
+
+class Connections:
+    """What holds of a server at any address."""
+
+    def setUp(self):
+        self.server = self.start()
+        self.addCleanup(self.server.end)
+
+    def connect(self):
+        connection = self.server.connect()
+        self.addCleanup(connection.close)
+        return connection
+
+    def session(self, connection, name=b"x", value=b"1"):
+        """A session in which a key is put."""
+        return ask(connection, OPEN, BEGIN, put(name, value), COMMIT)
+
+    def test_byte_by_byte(self):
+        connection = self.connect()
+        for byte in frames([OPEN, BEGIN, put(b"x", b"1"), COMMIT, BEGIN, get(b"x")]):
+            connection.sendall(bytes([byte]))
+        one = state(1, 1)
+        self.assertEqual(read_bodies(connection, 6), [
+            OPENED, BEGUN, DONE, b"\x08" + one + b"\x01" + state(0, 0), b"\x02" + one, b"\x04" + one + b"\x00\x011"])
+
+    def test_after_a_half_close_all_replies_come(self):
+        connection = self.connect()
+        connection.sendall(frames([OPEN] + [b"\x10"] * 10_000))
+        connection.shutdown(socket.SHUT_WR)
+        told, left = bodies_of(read_to_end(connection))
+        self.assertEqual((len(told), left, told[0]), (10_001, 0, OPENED))
+
+    def test_a_cut_frame_ends_the_connection_alone(self):
+        other = self.connect()
+        self.assertEqual(ask(other, OPEN), [OPENED])
+        for cut in b"\x00", frame(BEGIN)[:-1], struct.pack(">I", LONGEST_FRAME) + b"x" * 1000:
+            connection = self.connect()
+            connection.sendall(frame(OPEN) + cut)
+            connection.shutdown(socket.SHUT_WR)
+            self.assertEqual(read_to_end(connection), frame(OPENED))
+        self.assertEqual(ask(other, BEGIN), [BEGUN])
+
+    def test_a_long_frame_ends_the_connection_alone(self):
+        other = self.connect()
+        self.assertEqual(ask(other, OPEN), [OPENED])
+        connection = self.connect()
+        connection.sendall(frame(OPEN) + struct.pack(">I", LONGEST_FRAME + 1))
+        self.assertEqual(read_to_end(connection), frame(OPENED))
+        self.assertEqual(ask(other, BEGIN), [BEGUN])
+
+    def test_a_longest_frame_is_answered(self):
+        connection = self.connect()
+        connection.sendall(frame(b"\x03" + bytes(LONGEST_FRAME - 1)))
+        self.assertEqual(len(read_bodies(connection, 1)), 1)
+        self.assertEqual(ask(connection, OPEN), [OPENED])
+
+    def test_an_abrupt_end_closes_the_session(self):
+        for _ in range(300):
+            connection = self.server.connect()
+            self.assertEqual(ask(connection, OPEN, BEGIN, put(b"x", b"lost"))[0], OPENED)
+            connection.sendall(frame(put(b"y", b"cut"))[:-2])
+            connection.setsockopt(socket.SOL_SOCKET, socket.SO_LINGER, struct.pack("ii", 1, 0))
+            connection.close()
+        connection = self.connect()
+        self.assertEqual(ask(connection, OPEN, BEGIN, get(b"x")), [OPENED, BEGUN, b"\x06"])
+
+    def test_a_slow_reader_costs_the_others_nothing(self):
+        slow, quick = self.connect(), self.connect()
+        self.session(slow, b"big", b"v" * 4096)
+        ask(slow, BEGIN)
+        slow.setblocking(False)
+        sent, asked = 0, frames([get(b"big")] * 4000)
+        end = time.monotonic() + 2
+        while sent < len(asked) and time.monotonic() < end:
+            try:
+                sent += slow.send(asked[sent:])
+            except BlockingIOError:
+                time.sleep(0.01)
+        self.assertEqual(ask(quick, OPEN)[0][0], 1)
+        began = time.monotonic()
+        for _ in range(1000):
+            ask(quick, BEGIN, b"\x07")
+        self.assertLess(time.monotonic() - began, 10)
+        slow.settimeout(PATIENCE)
+        data, end = b"", time.monotonic() + PATIENCE
+        whole = 4000 * (4 + 1 + 6 + 2 + 4096)
+        while len(data) < whole and time.monotonic() < end:
+            if sent < len(asked):
+                _, writable, _ = select.select([], [slow], [], 0)
+                if writable:
+                    sent += slow.send(asked[sent:sent + 4096])
+            readable, _, _ = select.select([slow], [], [], 0.05)
+            if readable:
+                data += slow.recv(1_000_000)
+        told, left = bodies_of(data)
+        self.assertEqual((len(told), left, len(set(told))), (4000, 0, 1))
+
+    def test_the_client_above_256_waits_for_a_slot(self):
+        held = [self.connect() for _ in range(256)]
+        for connection in held:
+            self.assertEqual(ask(connection, OPEN), [OPENED])
+        waiting = self.connect()
+        waiting.sendall(frame(OPEN))
+        readable, _, _ = select.select([waiting], [], [], 0.5)
+        self.assertEqual(readable, [])
+        self.assertEqual(ask(held[9], BEGIN), [BEGUN])
+        held[100].close()
+        self.assertEqual(read_bodies(waiting, 1), [OPENED])
+
+    def test_three_thousand_connections_one_after_another(self):
+        for place in range(3000):
+            connection = self.server.connect()
+            told = ask(connection, OPEN, BEGIN)
+            self.assertEqual((told[0], told[1]), (OPENED, BEGUN), place)
+            connection.close()
+
+    def test_replies_to_many_are_those_of_one_trail(self):
+        choose = random.Random(20)
+        asked = [requests_of(choose, actor) for actor in range(1, 21)]
+        told = talk_in_pieces(choose, [self.connect() for _ in asked], asked)
+        trail = trail_of(asked, told)
+        self.assertEqual(len(trail), sum(map(len, asked)))
+        given = b"".join(frame(struct.pack(">H", actor) + body) for actor, body, _ in trail)
+        done = subprocess.run([TARDIS, "run"], input=given, capture_output=True, timeout=PATIENCE)
+        self.assertEqual(done.returncode, 0, done.stderr)
+        self.assertEqual(bodies_of(done.stdout)[0], [reply for _, _, reply in trail])
+
+
+class OverUnix(Connections, unittest.TestCase):
+    def start(self):
+        folder = tempfile.mkdtemp()
+        self.addCleanup(shutil.rmtree, folder)
+        return Server("unix:" + os.path.join(folder, "s"))
+
+
+class OverTcp(Connections, unittest.TestCase):
+    def start(self):
+        return Server("127.0.0.1:%d" % free_port())
+
+
+def requests_of(choose, actor):
+    """A session of fifty transactions, each of which reads and puts keys of all sessions, and commits."""
+    bodies = [OPEN]
+    for place in range(50):
+        bodies.append(BEGIN)
+        for _ in range(choose.randrange(3)):
+            bodies.append(get(b"k%d" % choose.randrange(8)))
+        for _ in range(1 + choose.randrange(2)):
+            bodies.append(put(b"k%d" % choose.randrange(8), b"%d of %d" % (place, actor)))
+        bodies.append(choose.choice((COMMIT, COMMIT_FREELY)))
+    return bodies
+
+
+def talk_in_pieces(choose, connections, asked):
+    """Sends each its requests in pieces of any lengths, by turns of any order, and gives the replies."""
+    left = [frames(bodies) for bodies in asked]
+    came = [b""] * len(connections)
+    wanted = [len(bodies) for bodies in asked]
+    end = time.monotonic() + PATIENCE
+    place_of = {connection: place for place, connection in enumerate(connections)}
+    for connection in connections:
+        connection.setblocking(False)
+    while any(len(bodies_of(data)[0]) < count for data, count in zip(came, wanted)):
+        assert time.monotonic() < end, "replies are wanting"
+        readable, writable, _ = select.select(connections, [c for c in connections if left[place_of[c]]], [], 1)
+        for connection in readable:
+            more = connection.recv(65536)
+            assert more, "a connection ended"
+            came[place_of[connection]] += more
+        if writable:
+            place = place_of[choose.choice(writable)]
+            sent = connections[place].send(left[place][:1 + choose.randrange(40)])
+            left[place] = left[place][sent:]
+    return [bodies_of(data)[0] for data in came]
+
+
+def trail_of(asked, told):
+    """One order of all requests, with the replies, that the replies allow. A commit tells its place among the commits, a
+    begin the commit that was last before it, and the other requests depend on their own session alone."""
+    trail, commits = [], 0
+    next_of = [0] * len(asked)
+
+    def may_go(place):
+        at = next_of[place]
+        if at == len(asked[place]):
+            return False
+        body, reply = asked[place][at], told[place][at]
+        if body[0] == 2:
+            assert reply[0] == 2, reply
+            return struct.unpack(">I", reply[3:7])[0] == commits
+        if body[0] == 6:
+            assert reply[0] == 8, reply
+            return struct.unpack(">I", reply[3:7])[0] == commits + 1
+        return True
+
+    def go(place):
+        at = next_of[place]
+        trail.append((place + 1, asked[place][at], told[place][at]))
+        next_of[place] = at + 1
+
+    going = True
+    while going:
+        going = False
+        for place in range(len(asked)):
+            while may_go(place) and asked[place][next_of[place]][0] != 6:
+                go(place)
+                going = True
+        for place in range(len(asked)):
+            if may_go(place):
+                go(place)
+                commits += 1
+                going = True
+                break
+    return trail
+
+
+def main():
+    global TARDISD, TARDIS
+    words = sys.argv[1:]
+    if len(words) > 2 or any(word.startswith("-") for word in words):
+        sys.exit(__doc__)
+    TARDISD, TARDIS = (words + [TARDISD, TARDIS][len(words):])[:2]
+    for program in TARDISD, TARDIS:
+        # builds it, where that is needed
+        subprocess.run([program, "--version"], check=True, stdout=subprocess.DEVNULL, timeout=7200)
+    signal.alarm(300)
+    unittest.main(argv=[sys.argv[0]])
+
+
+if __name__ == "__main__":
+    main()
