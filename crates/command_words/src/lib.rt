@@ -14,5 +14,5 @@ mod settings;
 mod tests;
 
 pub use commands::{Command, Place, ServePlan, WordsFault};
-pub use laws::runs_at_a_site;
+pub use laws::commands_are_at_a_site;
 pub use reading::read_words;
