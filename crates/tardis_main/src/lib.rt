@@ -9,17 +9,21 @@ ghost use Rattle.tardis_base.specs.Valid.{are_limits};
 ghost use Rattle.tardis_io.specs.Told.{WhileTold};
 ghost use Rattle.tardis_io.specs.Faults.{Rose};
 ghost use Rattle.frame_cut.specs.Frames.{IsCut};
+ghost use Rattle.line_cut.specs.Lines.{IsCut as AreLines};
 ghost use Rattle.site_run.specs.Endings.{EndsAs, IsRunEnd, most_taken};
+ghost use Rattle.site_run.specs.LineEndings.{IsLineEnd, LinesEndAs};
 ghost use Rattle.plain_site.specs.Site.{opening};
 ghost use Rattle.command_words.specs.declared.commands.Place.{Place};
-ghost use Rattle.tardis_main.specs.Words.{AreRun, AreUnknown};
-ghost use Rattle.tardis_main.specs.Runs.{RunFrom, program_limits};
+ghost use Rattle.tardis_main.specs.Words.{AreAudit, AreRun, AreShell, AreUnknown};
+ghost use Rattle.tardis_main.specs.Runs.{AuditFrom, RunFrom, ShellFrom, program_limits};
 
 mod helps;
+mod lines;
 mod programs;
 
 use command_words::{Command, read_words};
 pub use helps::{Help, help_of};
+use lines::{audit_frames, shell};
 pub use programs::carry_out;
 use session_core::SiteCore;
 use site_run::run_site;
@@ -62,6 +66,24 @@ pub fn tardis<I: Source, O: Sink>(
         → (Rose (I.faults input.old) (I.faults input.new) → ⊥) → (Rose (O.faults output.old) (O.faults output.new) → ⊥)
         → EndsAs rest result) }
     ensures status { (place : Place) → AreRun (map (λ w. string_bytes w) words.now) place → IsRunEnd result }
+    ensures shell { (place : Place) → AreShell (map (λ w. string_bytes w) words.now) place
+        → WhileTold (I.left input.old) (I.left input.new)
+        (ShellFrom (opening (program_limits place.sites) place.site) result (O.given output.old) (O.given output.new)) }
+    ensures shell_exact { (place : Place) → AreShell (map (λ w. string_bytes w) words.now) place
+        → WhileTold (I.left input.old) (I.left input.new) (λ first left. (all : List (List ℕ)) (rest : List ℕ)
+        → AreLines first all rest → length first < most_taken
+        → (Rose (I.faults input.old) (I.faults input.new) → ⊥) → (Rose (O.faults output.old) (O.faults output.new) → ⊥)
+        → LinesEndAs rest result) }
+    ensures shell_status { (place : Place) → AreShell (map (λ w. string_bytes w) words.now) place → IsLineEnd result }
+    ensures audit { (place : Place) → AreAudit (map (λ w. string_bytes w) words.now) place
+        → WhileTold (I.left input.old) (I.left input.new)
+        (AuditFrom (opening (program_limits place.sites) place.site) result (O.given output.old) (O.given output.new)) }
+    ensures audit_exact { (place : Place) → AreAudit (map (λ w. string_bytes w) words.now) place
+        → WhileTold (I.left input.old) (I.left input.new) (λ first left. (all : List (List ℕ)) (rest : List ℕ)
+        → IsCut first all rest → length first < most_taken
+        → (Rose (I.faults input.old) (I.faults input.new) → ⊥) → (Rose (O.faults output.old) (O.faults output.new) → ⊥)
+        → EndsAs rest result) }
+    ensures audit_status { (place : Place) → AreAudit (map (λ w. string_bytes w) words.now) place → IsRunEnd result }
     ensures read_later { I.faults input.old ≤ I.faults input.new }
     ensures write_later { O.faults output.old ≤ O.faults output.new }
     ensures read { result ≡ Status.ReadFault → Rose (I.faults input.old) (I.faults input.new) }
@@ -70,6 +92,12 @@ pub fn tardis<I: Source, O: Sink>(
 {
     match read_words(alloc, words) {
         Ok(Command::Run(place)) => run(alloc, limits_of(place.sites), place.site, input, output),
+        Ok(Command::Shell(place)) => {
+            shell(alloc, limits_of(place.sites), place.site, input, output)
+        }
+        Ok(Command::Audit(place)) => {
+            audit_frames(alloc, limits_of(place.sites), place.site, input, output)
+        }
         // the other commands aren't built yet
         Ok(_) | Err(_) => Status::Usage,
     }
