@@ -6,6 +6,8 @@ mod audits;
 mod laws;
 mod runs;
 mod shells;
+#[cfg(test)]
+mod tests;
 
 pub use audits::AuditLines;
 pub use laws::requests_fit_a_frame;
