@@ -143,6 +143,10 @@ mod floor_tests;
 #[cfg(test)]
 mod limit_tests;
 #[cfg(test)]
+mod line_rows;
+#[cfg(test)]
+mod line_tests;
+#[cfg(test)]
 mod merge_rows;
 #[cfg(test)]
 mod merge_tests;
