@@ -1,4 +1,4 @@
--- The place of a form of `run`.
+-- The place of a form of `run`, `shell` or `audit`.
 use Rattle.std.proofs.Common.{◌≡◌, ◌∙◌, ℕ, ◌≤◌, Bool, true, false, ◌&&◌, leb, cond, List, [], ◌∷◌, Option, Some, None, bytes_eq, codes, option_map, option_and_then, refl, sym, ap, subst, inl, inr, arith}
 use Rattle.std.specs.Str.Parse.{digits_value}
 use Rattle.std.proofs.lemmas.Bool.{and_parts, leb-true, cases_Bool, cond-true, cond-false}
@@ -6,8 +6,9 @@ use Rattle.tardis_base.specs.Bytes.{is_within}
 use Rattle.command_words.specs.declared.commands.Place.{Place}
 use Rattle.command_words.specs.Settings.{Setting, settings, are_only}
 use Rattle.command_words.specs.Values.{is_numeral, number, needed, number_or}
-use Rattle.command_words.specs.Forms.{Form, AsRun, AsShell, AsAudit, AsWorld, AsServe, AsLoad, of, place, place_alone, world, serving, load, form, form_behind}
+use Rattle.command_words.specs.Forms.{Form, AsRun, AsShell, AsAudit, AsWorld, AsServe, AsLoad, of, place, place_alone, world, serving, load, form}
 use Rattle.command_words.specs.Places.{IsPlace}
+use Rattle.command_words.specs.Laws.{RunsAtASite, ShellsAtASite, AuditsAtASite}
 
 none_some : {A : Type 0} (a : A) → None ≡ Some a → ⊥
 none_some {A} a e = let n : 0 ≡ 1 = ap is e in absurd (omega (arith, n))
@@ -73,81 +74,55 @@ alone_is found p e =
       | inr f ↦ absurd (none_some p (sym (cond-false only (place found) None f) ∙ e))
     ]
 
--- a form, told by a number
-tag : Option Form → ℕ
-tag None = 0
-tag (Some (AsRun p)) = 1
-tag (Some (AsShell p)) = 2
-tag (Some (AsAudit p)) = 2
-tag (Some (AsWorld n)) = 2
-tag (Some (AsServe s)) = 2
-tag (Some (AsLoad a b)) = 2
+-- a form of a command with a place alone is at a site
+abbrev AtASite : Option Form → Type 0
+AtASite None = Unit {0}
+AtASite (Some (AsRun p)) = IsPlace p
+AtASite (Some (AsShell p)) = IsPlace p
+AtASite (Some (AsAudit p)) = IsPlace p
+AtASite (Some (AsWorld n)) = Unit {0}
+AtASite (Some (AsServe s)) = Unit {0}
+AtASite (Some (AsLoad a b)) = Unit {0}
 
-place_in : Place → Form → Place
-place_in p (AsRun q) = q
-place_in p (AsShell q) = p
-place_in p (AsAudit q) = p
-place_in p (AsWorld n) = p
-place_in p (AsServe s) = p
-place_in p (AsLoad a b) = p
+-- whichever is chosen
+chosen : (b : Bool) (here rest : Option Form) → AtASite here → AtASite rest → AtASite (cond b here rest)
+chosen true here rest p q = p
+chosen false here rest p q = q
 
--- another command is none
-not_run : {A : Type 0} (make : A → Form) → ((a : A) → tag (Some (make a)) ≡ 2) → (o : Option A) (p : Place) → option_map make o ≡ Some (AsRun p) → ⊥
-unfolding tag
-not_run make other None p e = none_some (AsRun p) e
-not_run make other (Some a) p e = let n : 2 ≡ 1 = sym (other a) ∙ ap tag e in absurd (omega (arith, n))
+made : {A : Type 0} (make : A → Form) (o : Option A) → ((a : A) → o ≡ Some a → AtASite (Some (make a))) → AtASite (option_map make o)
+made make None at = tt
+made make (Some a) at = at a refl
 
--- so the rest of the choice is it
-passed : (b : Bool) (here rest : Option Form) (p : Place) → (here ≡ Some (AsRun p) → ⊥) → cond b here rest ≡ Some (AsRun p) → rest ≡ Some (AsRun p)
-passed true here rest p other e = absurd (other e)
-passed false here rest p other e = e
+loaded : (starts steps : Option ℕ) → AtASite (option_and_then (λ (start : ℕ). option_map (λ (n : ℕ). AsLoad start n) steps) starts)
+loaded None steps = tt
+loaded (Some start) None = tt
+loaded (Some start) (Some n) = tt
 
-load_is_other : (found : List Setting) (p : Place) → load found ≡ Some (AsRun p) → ⊥
-unfolding tag
-load_is_other found p e =
-    let only : Bool = are_only (codes "--start" ∷ codes "--steps" ∷ []) found in
-    let starts = needed 0 4294967295 (of found (codes "--start")) in
-    let steps = needed 0 10000 (of found (codes "--steps")) in
-    let made = option_and_then (λ (start : ℕ). option_map (λ (n : ℕ). AsLoad start n) steps) starts in
-    elim (cases_Bool only) [
-      | inl t ↦
-          let first = then_some (λ (start : ℕ). option_map (λ (n : ℕ). AsLoad start n) steps) starts (AsRun p) (sym (cond-true only made None t) ∙ e) in
-          not_run (λ (n : ℕ). AsLoad first.0 n) (λ n. refl) steps p first.1.1
-      | inr f ↦ none_some (AsRun p) (sym (cond-false only made None f) ∙ e)
-    ]
-
--- what stands behind a word that isn't `run`
-others : (command : List ℕ) (found : List Setting) (p : Place) →
-    cond (bytes_eq command (codes "shell")) (option_map AsShell (place_alone found))
-    (cond (bytes_eq command (codes "audit")) (option_map AsAudit (place_alone found))
-    (cond (bytes_eq command (codes "world")) (option_map AsWorld (world found))
-    (cond (bytes_eq command (codes "load")) (load found) None))) ≡ Some (AsRun p) → ⊥
-unfolding tag
-others command found p e =
-    let fourth : Option Form = cond (bytes_eq command (codes "load")) (load found) None in
-    let third : Option Form = cond (bytes_eq command (codes "world")) (option_map AsWorld (world found)) fourth in
-    let second : Option Form = cond (bytes_eq command (codes "audit")) (option_map AsAudit (place_alone found)) third in
-    let a = passed (bytes_eq command (codes "shell")) (option_map AsShell (place_alone found)) second p (not_run (λ (q : Place). AsShell q) (λ q. refl) (place_alone found) p) e in
-    let b = passed (bytes_eq command (codes "audit")) (option_map AsAudit (place_alone found)) third p (not_run (λ (q : Place). AsAudit q) (λ q. refl) (place_alone found) p) a in
-    let c = passed (bytes_eq command (codes "world")) (option_map AsWorld (world found)) fourth p (not_run (λ (n : ℕ). AsWorld n) (λ n. refl) (world found) p) b in
-    none_some (AsRun p) (passed (bytes_eq command (codes "load")) (load found) None p (load_is_other found p) c)
-
-run_or : (b : Bool) (o : Option Place) (rest : Option Form) (p : Place) → (rest ≡ Some (AsRun p) → ⊥) → cond b (option_map (λ (q : Place). AsRun q) o) rest ≡ Some (AsRun p) → o ≡ Some p
-unfolding place_in
-run_or true o rest p other e =
-    let made = map_some (λ (q : Place). AsRun q) o (AsRun p) e in
-    made.1.0 ∙ ap Some (ap (place_in p) made.1.1)
-run_or false o rest p other e = absurd (other e)
-
-pub run_is_at_a_site : (words : List (List ℕ)) (p : Place) → form words ≡ Some (AsRun p) → IsPlace p
-unfolding tag
-run_is_at_a_site [] p e = absurd (none_some (AsRun p) e)
-run_is_at_a_site (command ∷ rest) p e =
+form_at : (words : List (List ℕ)) → AtASite (form words)
+form_at [] = tt
+form_at (command ∷ rest) =
     let found = settings rest in
-    let behind : Option Form = cond (bytes_eq command (codes "shell")) (option_map AsShell (place_alone found))
-    (cond (bytes_eq command (codes "audit")) (option_map AsAudit (place_alone found))
-    (cond (bytes_eq command (codes "world")) (option_map AsWorld (world found))
-    (cond (bytes_eq command (codes "load")) (load found) None))) in
-    let runs : Option Form = cond (bytes_eq command (codes "run")) (option_map AsRun (place_alone found)) behind in
-    let a = passed (bytes_eq command (codes "serve")) (option_map AsServe (serving found)) runs p (not_run (λ s. AsServe s) (λ s. refl) (serving found) p) e in
-    alone_is found p (run_or (bytes_eq command (codes "run")) (place_alone found) behind p (others command found p) a)
+    let steps = needed 0 10000 (of found (codes "--steps")) in
+    let starts = needed 0 4294967295 (of found (codes "--start")) in
+    let fifth : Option Form = cond (bytes_eq command (codes "load")) (load found) None in
+    let fourth : Option Form = cond (bytes_eq command (codes "world")) (option_map AsWorld (world found)) fifth in
+    let third : Option Form = cond (bytes_eq command (codes "audit")) (option_map AsAudit (place_alone found)) fourth in
+    let second : Option Form = cond (bytes_eq command (codes "shell")) (option_map AsShell (place_alone found)) third in
+    let first : Option Form = cond (bytes_eq command (codes "run")) (option_map AsRun (place_alone found)) second in
+    let loads : AtASite (load found) =
+    chosen (are_only (codes "--start" ∷ codes "--steps" ∷ []) found) (option_and_then (λ (start : ℕ). option_map (λ (n : ℕ). AsLoad start n) steps) starts) None (loaded starts steps) tt in
+    let e : AtASite fifth = chosen (bytes_eq command (codes "load")) (load found) None loads tt in
+    let d : AtASite fourth = chosen (bytes_eq command (codes "world")) (option_map AsWorld (world found)) fifth (made (λ (n : ℕ). AsWorld n) (world found) (λ n is. tt)) e in
+    let c : AtASite third = chosen (bytes_eq command (codes "audit")) (option_map AsAudit (place_alone found)) fourth (made (λ (q : Place). AsAudit q) (place_alone found) (λ q is. alone_is found q is)) d in
+    let b : AtASite second = chosen (bytes_eq command (codes "shell")) (option_map AsShell (place_alone found)) third (made (λ (q : Place). AsShell q) (place_alone found) (λ q is. alone_is found q is)) c in
+    let a : AtASite first = chosen (bytes_eq command (codes "run")) (option_map AsRun (place_alone found)) second (made (λ (q : Place). AsRun q) (place_alone found) (λ q is. alone_is found q is)) b in
+    chosen (bytes_eq command (codes "serve")) (option_map AsServe (serving found)) first (made (λ s. AsServe s) (serving found) (λ s is. tt)) a
+
+pub runs_at_a_site : RunsAtASite
+runs_at_a_site words place are = subst AtASite are (form_at words)
+
+pub shells_at_a_site : ShellsAtASite
+shells_at_a_site words place are = subst AtASite are (form_at words)
+
+pub audits_at_a_site : AuditsAtASite
+audits_at_a_site words place are = subst AtASite are (form_at words)

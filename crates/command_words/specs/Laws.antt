@@ -1,9 +1,17 @@
 -- What holds of all forms.
 use Rattle.std.specs.Prelude.{◌≡◌, ℕ, List, Some}
 use Rattle.command_words.specs.declared.commands.Place.{Place}
-use Rattle.command_words.specs.Forms.{form, AsRun}
+use Rattle.command_words.specs.Forms.{form, AsRun, AsShell, AsAudit}
 use Rattle.command_words.specs.Places.{IsPlace}
 
 -- the place of a form of `run` is a site of 1 to 16 sites
 abbrev pub RunsAtASite : Type 0
 RunsAtASite = (words : List (List ℕ)) (place : Place) → form words ≡ Some (AsRun place) → IsPlace place
+
+-- and so is that of a form of `shell`
+abbrev pub ShellsAtASite : Type 0
+ShellsAtASite = (words : List (List ℕ)) (place : Place) → form words ≡ Some (AsShell place) → IsPlace place
+
+-- and of `audit`
+abbrev pub AuditsAtASite : Type 0
+AuditsAtASite = (words : List (List ℕ)) (place : Place) → form words ≡ Some (AsAudit place) → IsPlace place

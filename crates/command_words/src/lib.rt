@@ -17,5 +17,5 @@ mod tests;
 
 pub use commands::{Command, Place, ServePlan, WordsFault};
 pub use daemons::{DaemonPlan, read_daemon};
-pub use laws::runs_at_a_site;
+pub use laws::commands_are_at_a_site;
 pub use reading::read_words;

@@ -1,3 +1,4 @@
 -- Lemmas on runs of the program.
 pub mod Runs
 pub mod Words
+pub mod LineRuns

@@ -1,21 +1,27 @@
--- What a run of the program does.
+-- What a run of the program does, and a shell and an audit.
 use Rattle.std.specs.Prelude.{◌≡◌, ℕ, List, Option, map}
-use Rattle.tardis_base.specs.declared.records.Limits.{Limits}
 use Rattle.tardis_io.specs.declared.statuses.Status.{Status}
+pub use Rattle.command_words.specs.Places.{program_limits}
 use Rattle.frame_cut.specs.Events.{event_of}
 use Rattle.site_run.specs.Machines.{Answered}
 use Rattle.site_run.specs.Endings.{Outcome, shape_of}
+use Rattle.shell_run.specs.Outcomes.{ShellOutcome, AuditOutcome}
 use Rattle.plain_site.specs.Site.{Site}
 use Rattle.plain_site.specs.Built.{so_far}
 use Rattle.plain_site.specs.Step.{site_machine}
 use Rattle.plain_site.specs.Sound.{IsSound}
-
--- the program's limits, for so many sites
-abbrev pub program_limits : ℕ → Limits
-program_limits sites = record { sites = sites; max_kept = 16384; max_path = 4096; max_sessions = 256; max_trail = 1073741824 }
 
 -- Over what was left of the input at first: bodies were cut from its front, and replies that answer their events, from the
 -- plain site of this number that opens, were given as frames, all of them unless writing failed.
 abbrev pub RunFrom : Site → Status → Option (List ℕ) → Option (List ℕ) → List ℕ → List ℕ → Type 0
 RunFrom site status old new first left =
     Outcome status (λ s. s ≡ site) (λ s bodies. Answered (site_machine so_far) (shape_of status) (IsSound so_far) old new s (map event_of bodies)) first left
+
+-- Lines were cut from its front, and the lines of replies that answer what they ask, from the plain site of this number that
+-- opens, were given, all of them unless writing failed.
+abbrev pub ShellFrom : Site → Status → Option (List ℕ) → Option (List ℕ) → List ℕ → List ℕ → Type 0
+ShellFrom site status old new first left = ShellOutcome (site_machine so_far) status (λ s. s ≡ site) (IsSound so_far) old new first left
+
+-- Bodies were cut from its front, and the lines that tell what they ask, and replies that answer it, were given likewise.
+abbrev pub AuditFrom : Site → Status → Option (List ℕ) → Option (List ℕ) → List ℕ → List ℕ → Type 0
+AuditFrom site status old new first left = AuditOutcome (site_machine so_far) status (λ s. s ≡ site) (IsSound so_far) old new first left

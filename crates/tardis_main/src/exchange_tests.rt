@@ -1,6 +1,6 @@
 //! Worked rows of what sites give each other, through the top call and through the site's step.
 
-use crate::LIMITS;
+use crate::limit_tests::LIMITS;
 use crate::exchange_rows::{
     CONSENTS, IN_ORDER, LYING_PEERS, NEWS, NO_PATH, NO_ROOM, NONE_WAITS, SETTLED, TWO_RECORDS,
 };

@@ -1,6 +1,6 @@
 //! A floor that 256 open sessions hold.
 
-use crate::LIMITS;
+use crate::limit_tests::LIMITS;
 use crate::floor_rows::{FIRST_HOLDS, LAST_HOLDS};
 use crate::limit_tests::answers;
 use crate::talks::Talk;

@@ -24,14 +24,22 @@ impl Help {
 const USAGE: &str = "\
 tardis: one site of a branch-and-merge key-value store
 
-usage: tardis run [--sites M] [--site N]
-                          read frames of requests from standard input, and write a
-                          frame with the reply to each on standard output, as site N
-                          of M sites (1 of 1)
+usage: tardis shell [--sites M] [--site N]
+                          read lines of requests from standard input, and write a
+                          line with the reply to each on standard output
+       tardis run [--sites M] [--site N]
+                          the same for frames of requests and of replies
+       tardis audit [--sites M] [--site N]
+                          read frames, and write for each a line with the request,
+                          an arrow and the reply
        tardis --help      this text
        tardis --version   the version
 
-The frames are described in docs/FORMATS.md, statuses in docs/COMMANDS.md.
+Each answers as site N, from 1 to M, of M sites, from 1 to 16; both are 1 where they
+are left out. Try: printf '1 open\n1 begin any\n1 put cart milk\n' | tardis shell
+
+Lines and frames are described in docs/FORMATS.md, the commands, with a session of
+lines, and the statuses in docs/COMMANDS.md.
 ";
 
 /// The help that these words ask for: `--help` or `--version`, alone.

@@ -9,39 +9,27 @@ ghost use Rattle.tardis_base.specs.Valid.{are_limits};
 ghost use Rattle.tardis_io.specs.Told.{WhileTold};
 ghost use Rattle.tardis_io.specs.Faults.{Rose};
 ghost use Rattle.frame_cut.specs.Frames.{IsCut};
+ghost use Rattle.line_cut.specs.Lines.{IsCut as AreLines};
 ghost use Rattle.site_run.specs.Endings.{EndsAs, IsRunEnd, most_taken};
+ghost use Rattle.site_run.specs.LineEndings.{IsLineEnd, LinesEndAs};
 ghost use Rattle.plain_site.specs.Site.{opening};
 ghost use Rattle.command_words.specs.declared.commands.Place.{Place};
-ghost use Rattle.tardis_main.specs.Words.{AreRun, AreUnknown};
-ghost use Rattle.tardis_main.specs.Runs.{RunFrom, program_limits};
+ghost use Rattle.tardis_main.specs.Words.{AreAudit, AreRun, AreShell, AreUnknown};
+ghost use Rattle.tardis_main.specs.Runs.{AuditFrom, RunFrom, ShellFrom, program_limits};
 
 mod helps;
+mod lines;
 mod programs;
 
 use command_words::{Command, read_words};
 pub use helps::{Help, help_of};
+use lines::{audit_frames, shell};
 pub use programs::carry_out;
 use session_core::SiteCore;
 use site_run::run_site;
 use std::alloc::Global;
 use tardis_base::{Limits, NoMemory};
 use tardis_io::{Sink, Source, Status};
-
-/// The limits of a site of the program that is alone.
-const LIMITS: Limits = Limits {
-    sites: 1,
-    max_kept: 16_384,
-    max_path: 4_096,
-    max_sessions: 256,
-    max_trail: 1_073_741_824,
-};
-
-/// The limits of a site of the program, among so many sites.
-fn limits_of(sites: u16) -> Limits
-    ensures { result ≡ program_limits sites }
-{
-    Limits { sites, ..LIMITS }
-}
 
 /// Carries out the command that the words name, at the place among the sites that they name. Words without a form, and
 /// those of a command that isn't built yet, are `Status::Usage`, and then nothing is read or written.
@@ -62,6 +50,24 @@ pub fn tardis<I: Source, O: Sink>(
         → (Rose (I.faults input.old) (I.faults input.new) → ⊥) → (Rose (O.faults output.old) (O.faults output.new) → ⊥)
         → EndsAs rest result) }
     ensures status { (place : Place) → AreRun (map (λ w. string_bytes w) words.now) place → IsRunEnd result }
+    ensures shell { (place : Place) → AreShell (map (λ w. string_bytes w) words.now) place
+        → WhileTold (I.left input.old) (I.left input.new)
+        (ShellFrom (opening (program_limits place.sites) place.site) result (O.given output.old) (O.given output.new)) }
+    ensures shell_exact { (place : Place) → AreShell (map (λ w. string_bytes w) words.now) place
+        → WhileTold (I.left input.old) (I.left input.new) (λ first left. (all : List (List ℕ)) (rest : List ℕ)
+        → AreLines first all rest → length first < most_taken
+        → (Rose (I.faults input.old) (I.faults input.new) → ⊥) → (Rose (O.faults output.old) (O.faults output.new) → ⊥)
+        → LinesEndAs rest result) }
+    ensures shell_status { (place : Place) → AreShell (map (λ w. string_bytes w) words.now) place → IsLineEnd result }
+    ensures audit { (place : Place) → AreAudit (map (λ w. string_bytes w) words.now) place
+        → WhileTold (I.left input.old) (I.left input.new)
+        (AuditFrom (opening (program_limits place.sites) place.site) result (O.given output.old) (O.given output.new)) }
+    ensures audit_exact { (place : Place) → AreAudit (map (λ w. string_bytes w) words.now) place
+        → WhileTold (I.left input.old) (I.left input.new) (λ first left. (all : List (List ℕ)) (rest : List ℕ)
+        → IsCut first all rest → length first < most_taken
+        → (Rose (I.faults input.old) (I.faults input.new) → ⊥) → (Rose (O.faults output.old) (O.faults output.new) → ⊥)
+        → EndsAs rest result) }
+    ensures audit_status { (place : Place) → AreAudit (map (λ w. string_bytes w) words.now) place → IsRunEnd result }
     ensures read_later { I.faults input.old ≤ I.faults input.new }
     ensures write_later { O.faults output.old ≤ O.faults output.new }
     ensures read { result ≡ Status.ReadFault → Rose (I.faults input.old) (I.faults input.new) }
@@ -69,7 +75,13 @@ pub fn tardis<I: Source, O: Sink>(
     ensures nothing { result ≡ Status.NoMemory → (input.new ≡ input.old) × (output.new ≡ output.old) }
 {
     match read_words(alloc, words) {
-        Ok(Command::Run(place)) => run(alloc, limits_of(place.sites), place.site, input, output),
+        Ok(Command::Run(place)) => run(alloc, place.limits(), place.site, input, output),
+        Ok(Command::Shell(place)) => {
+            shell(alloc, place.limits(), place.site, input, output)
+        }
+        Ok(Command::Audit(place)) => {
+            audit_frames(alloc, place.limits(), place.site, input, output)
+        }
         // the other commands aren't built yet
         Ok(_) | Err(_) => Status::Usage,
     }
@@ -114,6 +126,10 @@ mod floor_rows;
 mod floor_tests;
 #[cfg(test)]
 mod limit_tests;
+#[cfg(test)]
+mod line_rows;
+#[cfg(test)]
+mod line_tests;
 #[cfg(test)]
 mod merge_rows;
 #[cfg(test)]

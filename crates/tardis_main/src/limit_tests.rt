@@ -7,11 +7,20 @@ use crate::rows::{
     BEGUN, FULL_SITE, LONG_PATH, LOOKING_BACK, ONE_OF_16, PAST_LIMITS, SECOND_SESSION,
 };
 use crate::talks::Talk;
-use crate::{LIMITS, run};
+use crate::run;
 use std::alloc::Global;
 use std::test::Fail;
 use tardis_base::Limits;
 use tardis_io::{MemorySink, MemorySource, Status};
+
+/// The limits of the program's site, where it is alone.
+pub(crate) const LIMITS: Limits = Limits {
+    sites: 1,
+    max_kept: 16_384,
+    max_path: 4_096,
+    max_sessions: 256,
+    max_trail: 1_073_741_824,
+};
 
 /// Whether the site of this number, with these limits, answers the requests by these replies.
 pub(crate) fn answers(alloc: Global, limits: Limits, own: u16, talk: &Talk) -> Result<bool, Fail>

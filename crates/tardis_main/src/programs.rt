@@ -6,16 +6,18 @@ ghost use Rattle.std.specs.Vec.Iter.{into_iter_items};
 ghost use Rattle.tardis_io.specs.Told.{WhileTold};
 ghost use Rattle.tardis_io.specs.Faults.{Rose};
 ghost use Rattle.frame_cut.specs.Frames.{IsCut};
+ghost use Rattle.line_cut.specs.Lines.{IsCut as AreLines};
 ghost use Rattle.site_run.specs.Endings.{EndsAs, IsRunEnd, most_taken};
+ghost use Rattle.site_run.specs.LineEndings.{IsLineEnd, LinesEndAs};
 ghost use Rattle.plain_site.specs.Site.{opening};
 ghost use Rattle.command_words.specs.declared.commands.Place.{Place};
-ghost use Rattle.tardis_main.specs.Words.{AreRun};
+ghost use Rattle.tardis_main.specs.Words.{AreAudit, AreRun, AreShell};
 ghost use Rattle.tardis_main.specs.Helps.{AskUsage, AskVersion, AreNone};
-ghost use Rattle.tardis_main.specs.Runs.{RunFrom, program_limits};
+ghost use Rattle.tardis_main.specs.Runs.{AuditFrom, RunFrom, ShellFrom, program_limits};
 
 use crate::helps::{Help, help_of};
 use crate::tardis;
-use command_words::runs_at_a_site;
+use command_words::commands_are_at_a_site;
 use std::alloc::Global;
 use std::env::Args;
 use tardis_base::NoMemory;
@@ -43,6 +45,24 @@ pub fn carry_out<I: Source, O: Sink>(
         → (Rose (I.faults input.old) (I.faults input.new) → ⊥) → (Rose (O.faults output.old) (O.faults output.new) → ⊥)
         → EndsAs rest result) }
     ensures status { (place : Place) → AreRun (map (λ w. string_bytes w) (drop 1 (into_iter_items args))) place → IsRunEnd result }
+    ensures shell { (place : Place) → AreShell (map (λ w. string_bytes w) (drop 1 (into_iter_items args))) place
+        → WhileTold (I.left input.old) (I.left input.new)
+        (ShellFrom (opening (program_limits place.sites) place.site) result (O.given output.old) (O.given output.new)) }
+    ensures shell_exact { (place : Place) → AreShell (map (λ w. string_bytes w) (drop 1 (into_iter_items args))) place
+        → WhileTold (I.left input.old) (I.left input.new) (λ first left. (all : List (List ℕ)) (rest : List ℕ)
+        → AreLines first all rest → length first < most_taken
+        → (Rose (I.faults input.old) (I.faults input.new) → ⊥) → (Rose (O.faults output.old) (O.faults output.new) → ⊥)
+        → LinesEndAs rest result) }
+    ensures shell_status { (place : Place) → AreShell (map (λ w. string_bytes w) (drop 1 (into_iter_items args))) place → IsLineEnd result }
+    ensures audit { (place : Place) → AreAudit (map (λ w. string_bytes w) (drop 1 (into_iter_items args))) place
+        → WhileTold (I.left input.old) (I.left input.new)
+        (AuditFrom (opening (program_limits place.sites) place.site) result (O.given output.old) (O.given output.new)) }
+    ensures audit_exact { (place : Place) → AreAudit (map (λ w. string_bytes w) (drop 1 (into_iter_items args))) place
+        → WhileTold (I.left input.old) (I.left input.new) (λ first left. (all : List (List ℕ)) (rest : List ℕ)
+        → IsCut first all rest → length first < most_taken
+        → (Rose (I.faults input.old) (I.faults input.new) → ⊥) → (Rose (O.faults output.old) (O.faults output.new) → ⊥)
+        → EndsAs rest result) }
+    ensures audit_status { (place : Place) → AreAudit (map (λ w. string_bytes w) (drop 1 (into_iter_items args))) place → IsRunEnd result }
     ensures read_later { I.faults input.old ≤ I.faults input.new }
     ensures write_later { O.faults output.old ≤ O.faults output.new }
     ensures read { result ≡ Status.ReadFault → Rose (I.faults input.old) (I.faults input.new) }
@@ -52,7 +72,7 @@ pub fn carry_out<I: Source, O: Sink>(
     match words_behind_name(alloc, args) {
         Ok(words) => command(alloc, words.as_slice(), input, output),
         Err(NoMemory) => {
-            runs_at_a_site();
+            commands_are_at_a_site();
             Status::NoMemory
         }
     }
@@ -94,6 +114,24 @@ fn command<I: Source, O: Sink>(
         → (Rose (I.faults input.old) (I.faults input.new) → ⊥) → (Rose (O.faults output.old) (O.faults output.new) → ⊥)
         → EndsAs rest result) }
     ensures status { (place : Place) → AreRun (map (λ w. string_bytes w) words.now) place → IsRunEnd result }
+    ensures shell { (place : Place) → AreShell (map (λ w. string_bytes w) words.now) place
+        → WhileTold (I.left input.old) (I.left input.new)
+        (ShellFrom (opening (program_limits place.sites) place.site) result (O.given output.old) (O.given output.new)) }
+    ensures shell_exact { (place : Place) → AreShell (map (λ w. string_bytes w) words.now) place
+        → WhileTold (I.left input.old) (I.left input.new) (λ first left. (all : List (List ℕ)) (rest : List ℕ)
+        → AreLines first all rest → length first < most_taken
+        → (Rose (I.faults input.old) (I.faults input.new) → ⊥) → (Rose (O.faults output.old) (O.faults output.new) → ⊥)
+        → LinesEndAs rest result) }
+    ensures shell_status { (place : Place) → AreShell (map (λ w. string_bytes w) words.now) place → IsLineEnd result }
+    ensures audit { (place : Place) → AreAudit (map (λ w. string_bytes w) words.now) place
+        → WhileTold (I.left input.old) (I.left input.new)
+        (AuditFrom (opening (program_limits place.sites) place.site) result (O.given output.old) (O.given output.new)) }
+    ensures audit_exact { (place : Place) → AreAudit (map (λ w. string_bytes w) words.now) place
+        → WhileTold (I.left input.old) (I.left input.new) (λ first left. (all : List (List ℕ)) (rest : List ℕ)
+        → IsCut first all rest → length first < most_taken
+        → (Rose (I.faults input.old) (I.faults input.new) → ⊥) → (Rose (O.faults output.old) (O.faults output.new) → ⊥)
+        → EndsAs rest result) }
+    ensures audit_status { (place : Place) → AreAudit (map (λ w. string_bytes w) words.now) place → IsRunEnd result }
     ensures read_later { I.faults input.old ≤ I.faults input.new }
     ensures write_later { O.faults output.old ≤ O.faults output.new }
     ensures read { result ≡ Status.ReadFault → Rose (I.faults input.old) (I.faults input.new) }

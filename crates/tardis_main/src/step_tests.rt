@@ -1,6 +1,6 @@
 //! Worked rows asked of the site's step, over requests and replies and not over their bytes.
 
-use crate::LIMITS;
+use crate::limit_tests::LIMITS;
 use crate::floor_rows::{BESIDE, CEILINGS, FOLLOWED, RAISED_CHAIN};
 use crate::limit_tests::note_chain;
 use crate::merge_rows::{APART, BRANCHED, CART, JOINED, MERGED_TWICE, ONE_STATE, PAST_MERGES};

@@ -226,7 +226,13 @@ fn a_program_is_its_words(rt: HostRuntime) -> Result<(), Fail> {
         assert!(rt; sink.bytes() == output);
     }
     let help = Help::Usage.text();
-    for command in ["tardis run ", "tardis --help ", "tardis --version "] {
+    for command in [
+        "tardis shell ",
+        "tardis run ",
+        "tardis audit ",
+        "tardis --help ",
+        "tardis --version ",
+    ] {
         assert!(rt; help.contains(command));
     }
     Ok(())

@@ -1,0 +1,11 @@
+use Rattle.command_words.proofs.Runs.{runs_at_a_site, shells_at_a_site, audits_at_a_site}
+use Rattle.command_words.proofs.laws.commands_are_at_a_site.Goals as goal
+
+pub returns-clause-run : goal.returns-clause-run
+returns-clause-run c = runs_at_a_site
+
+pub returns-clause-shell : goal.returns-clause-shell
+returns-clause-shell c = shells_at_a_site
+
+pub returns-clause-audit : goal.returns-clause-audit
+returns-clause-audit c = audits_at_a_site
