@@ -8,6 +8,7 @@ use Rattle.tardis_base.specs.Ids.{same_id, is_among}
 use Rattle.plain_dag.proofs.Ids.{not-both, same_id-true, among-first, among-later, among-cases}
 use Rattle.plain_dag.proofs.Places.{got-is_among}
 use Rattle.plain_dag.proofs.Rising.{Rising}
+use Rattle.state_dag.specs.Table.{Entry}
 
 -- which state a slot at a place names
 pub record IsPlaced (name : Slot → Option StateId) (xs : List StateId) (i : ℕ) (slot : Slot) : Type 0 where
@@ -27,6 +28,17 @@ pub got-within : (xs : List StateId) (i : ℕ) (x : StateId) → slice_get xs i 
 got-within [] i x e = absurd (none-some x e)
 got-within (y ∷ xs) zero x e = omega arith
 got-within (y ∷ xs) (suc i) x e = let rest = got-within xs i x e in omega arith
+
+-- which state stands at the place of a slot
+pub placed-got : (name : Slot → Option StateId) (es : List Entry) (xs : List StateId) (p : ℕ) (slot : Slot) (x : StateId) → map (λ e. name e.slot) es ≡ map (λ e. Some e.id) es → map (λ e. e.id) es ≡ xs →
+    ((e : Entry) → (get_or es p e).slot ≡ slot) → p < length es → name slot ≡ Some x → slice_get xs p ≡ Some x
+placed-got name [] xs p slot x slots ids at within named = absurd (let bad : ⊥ = omega arith in bad)
+placed-got name (e ∷ es) [] p slot x slots ids at within named = absurd (let bad : ⊥ = cc in bad)
+placed-got name (e ∷ es) (y ∷ xs) zero slot x slots ids at within named =
+    let here : name e.slot ≡ Some e.id = cc in
+    let is : e.id ≡ y = cc in
+    ap (λ z. Some z) (sym is) ∙ sym here ∙ ap name (at e) ∙ named
+placed-got name (e ∷ es) (y ∷ xs) (suc p) slot x slots ids at within named = placed-got name es xs p slot x (let rest = slots in cc) (let rest = ids in cc) at (omega arith) named
 
 module _ (f : StateId → ℕ) where
   -- what stands before a place doesn't lose by the state there

@@ -1,5 +1,5 @@
 -- How far the walk has come, and what a step of it changes.
-use Rattle.std.proofs.Common.{◌≡◌, ℕ, suc, ◌+◌, ◌-◌, ◌<◌, ◌≤◌, Bool, true, false, leb, slice_get, option_map, ap₂, ◌&&◌, not, List, [], ◌∷◌, ◌++◌, length, map, take, get_or, Option, Some, None, is_some, IsTrue, IsFalse, inl, inr, refl, sym, ap, subst, ◌∙◌, take_all, arith}
+use Rattle.std.proofs.Common.{◌≡◌, ℕ, zero, suc, unwrap_or, ◌+◌, ◌-◌, ◌<◌, ◌≤◌, Bool, true, false, leb, slice_get, option_map, ap₂, ◌&&◌, not, List, [], ◌∷◌, ◌++◌, length, map, take, get_or, Option, Some, None, is_some, IsTrue, IsFalse, inl, inr, refl, sym, ap, subst, ◌∙◌, take_all, arith}
 use Rattle.std.specs.List.{list_any, list_all}
 use Rattle.std.proofs.lemmas.Bool.{and_parts, and_from, both_ways, not-true, not_from_false, false_from_ne_true, cases_Bool, or_cases, or_parts, leb-true, leb-false}
 use Rattle.std.proofs.lemmas.Option.{none-some, same_Some}
@@ -10,13 +10,14 @@ use Rattle.tardis_base.specs.declared.records.Record.{Record}
 use Rattle.tardis_base.specs.Ids.{same_id, is_among}
 use Rattle.plain_dag.specs.States.{is_known, arrival}
 use Rattle.plain_dag.specs.Above.{is_above, is_proper_ancestor}
-use Rattle.plain_dag.specs.Floors.{Session, Sessions, Floor, is_closed}
+use Rattle.plain_dag.specs.Floors.{Session, Sessions, Floor, opening_floor, floor_of, is_closed}
 use Rattle.plain_dag.specs.Collection.{kept_states, shared_stand_in, is_absorbed, is_collectable, tidied}
 use Rattle.plain_dag.specs.Dag.{IsDag}
 use Rattle.plain_dag.specs.Laws.{NoLaterCollectable}
 use Rattle.plain_dag.proofs.Ids.{among-cases, among-append, same_id-true, same_id_from}
 use Rattle.plain_dag.proofs.Places.{take-suc, got-is_among}
 use Rattle.plain_dag.proofs.Rising.{kept-rise}
+use Rattle.plain_dag.proofs.Order.{ancestors-arrive-earlier}
 use Rattle.plain_dag.proofs.Known.{kept-is_listed}
 use Rattle.plain_dag.proofs.Collected.{closed-above, proper-parts}
 use Rattle.plain_dag.proofs.Joining.{kept-without}
@@ -32,8 +33,9 @@ use Rattle.record_store.specs.Stands.{StoreStands}
 use Rattle.ceiling_book.specs.Book.{Book, sessions_of, floors_of}
 use Rattle.ceiling_book.specs.Places.{AreSlots, ArePlaced}
 use Rattle.ceiling_book.specs.Renaming.{is_free, GivesUp}
+use Rattle.path_compress.specs.Places.{NoneCollectable}
 use Rattle.path_compress.specs.Together.{are_under_floors, StandTogether, KeepsUncollected}
-use Rattle.path_compress.proofs.Lists.{IsPlaced, placed-at, take-without, within-without, up-to, before-place}
+use Rattle.path_compress.proofs.Lists.{IsPlaced, placed-at, placed-got, take-without, within-without, up-to, before-place}
 
 -- ===== The book
 
@@ -92,7 +94,7 @@ pub record Walk (old store : Store) (book : Book) (rs : List Record) (ks : List 
   pub rest : tidied n rs floors ks ≡ tidied (n - count) rs floors now
   pub many : length now ≡ length ks + count
   pub within : place ≤ length (kept_states rs now)
-  pub passed : (y : StateId) → IsTrue (is_known rs y) → IsFalse (is_among y (take place (kept_states rs now))) → IsFalse (is_collectable rs floors now y)
+  pub passed : NoneCollectable rs floors now place
   pub uncollected : KeepsUncollected old.table store.table now
 
 -- what the walk ends with
@@ -101,25 +103,57 @@ pub record Tidied (old store : Store) (book : Book) (rs : List Record) (ks : Lis
   pub many : count ≡ length (tidied n rs floors ks) - length ks
   pub uncollected : KeepsUncollected old.table store.table (tidied n rs floors ks)
 
-module _ (old : Store) (rs : List Record) (ks : List StateId) (floors : List Floor) (n : ℕ) where
-  -- what isn't kept isn't collectable
-  unkept-isnt : (now : List StateId) (y : StateId) → IsTrue (is_known rs y) → IsFalse (is_among y (kept_states rs now)) → IsFalse (is_collectable rs floors now y)
-  unkept-isnt now y known out = elim (cases_Bool (is_among y now)) [
-    | inl gone ↦ collected-isnt rs floors now y gone
-    | inr here ↦ absurd (both_ways (is_among y (kept_states rs now)) out (kept-is_listed rs now y (and_from (is_known rs y) (not (is_among y now)) known (not_from_false (is_among y now) here))))
-  ]
+-- ===== Where it begins
 
-  -- it begins behind all kept states
-  pub walk-begins : (book : Book) (place : ℕ) → place ≡ length old.table.entries → StandTogether old book rs ks → Walk old old book rs ks floors n 0 place
-  walk-begins book place all together =
-      let long : place ≡ length (kept_states rs ks) = all ∙ sym (length-map old.table.entries _) ∙ ap length together.history.table.ids in
+-- what isn't kept isn't collectable
+unkept-isnt : (rs : List Record) (floors : List Floor) (ks : List StateId) (y : StateId) → IsTrue (is_known rs y) → IsFalse (is_among y (kept_states rs ks)) → IsFalse (is_collectable rs floors ks y)
+unkept-isnt rs floors ks y known out = elim (cases_Bool (is_among y ks)) [
+  | inl gone ↦ collected-isnt rs floors ks y gone
+  | inr here ↦ absurd (both_ways (is_among y (kept_states rs ks)) out (kept-is_listed rs ks y (and_from (is_known rs y) (not (is_among y ks)) known (not_from_false (is_among y ks) here))))
+]
+
+-- behind all kept states there is none
+pub none-behind : (table : Table) (rs : List Record) (floors : List Floor) (ks : List StateId) (place : ℕ) → Stands table rs ks → place ≡ length table.entries → NoneCollectable rs floors ks place
+none-behind table rs floors ks place stands all y known out =
+    let long = sym (ap length stands.ids) ∙ length-map table.entries (λ (e : Entry). e.id) in
+    unkept-isnt rs floors ks y known (sym (ap (is_among y) (take_all place (kept_states rs ks) (omega arith))) ∙ out)
+
+-- a closed state is a proper ancestor of each floor
+closed-at : (rs : List Record) (x : StateId) (fs : List Floor) (i : ℕ) → i < length fs → IsTrue (is_closed rs fs x) → IsTrue (is_proper_ancestor rs x (unwrap_or (slice_get fs i) opening_floor).state)
+closed-at rs x [] i lt closed = absurd (let bad : ⊥ = omega arith in bad)
+closed-at rs x (f ∷ fs) zero lt closed = (and_parts (is_proper_ancestor rs x f.state) (is_closed rs fs x) closed).0
+closed-at rs x (f ∷ fs) (suc i) lt closed = closed-at rs x fs i (omega arith) (and_parts (is_proper_ancestor rs x f.state) (is_closed rs fs x) closed).1
+
+-- from a floor on there is none
+pub none-from_floor : (table : Table) (rs : List Record) (floors : List Floor) (ks : List StateId) (site : ℕ) (slot : Slot) (place : ℕ) → Stands table rs ks → 1 ≤ site → site ≤ length floors →
+    id_at table slot ≡ Some (floor_of floors site).state → place < length table.entries → ((e : Entry) → (get_or table.entries place e).slot ≡ slot) → NoneCollectable rs floors ks place
+none-from_floor table rs floors ks site slot place stands first last named within at y known out =
+    let f = (floor_of floors site).state in
+    let kept = kept_states rs ks in
+    let got = placed-got (id_at table) table.entries kept place slot f stands.slots stands.ids at within named in
+    false_from_ne_true (is_collectable rs floors ks y) (λ t.
+    let parts = collectable-parts rs floors ks y t in
+    let proper = proper-parts rs y f (closed-at rs y floors (site - 1) (omega arith) parts.1) in
+    let listed = kept-is_listed rs ks y (and_from (is_known rs y) (not (is_among y ks)) known (not_from_false (is_among y ks) parts.0)) in
+    elim (ancestors-arrive-earlier rs stands.dag y f proper.0) [
+      | inl same ↦ proper.1 same
+      | inr lt ↦ both_ways (is_among y (take place kept)) out (before-place (arrival rs) kept place f y (kept-rise rs ks stands.dag) got listed lt)
+    ])
+
+-- ===== Its steps
+
+module _ (old : Store) (rs : List Record) (ks : List StateId) (floors : List Floor) (n : ℕ) where
+  -- where none is collectable but those before the place, it begins there
+  pub walk-begins : (book : Book) (place : ℕ) → place ≤ length old.table.entries → StandTogether old book rs ks → NoneCollectable rs floors ks place → Walk old old book rs ks floors n 0 place
+  walk-begins book place within together none =
+      let long = sym (ap length together.history.table.ids) ∙ length-map old.table.entries (λ (e : Entry). e.id) in
       record {
         now = ks;
         together = together;
         rest = (let whole : n ≡ n - 0 = omega arith in ap (λ m. tidied m rs floors ks) whole);
         many = omega arith;
         within = omega arith;
-        passed = λ y known out. unkept-isnt ks y known (sym (ap (is_among y) (take_all place (kept_states rs ks) (omega arith))) ∙ out);
+        passed = none;
         uncollected = λ slot x named out. named;
       }
 

@@ -12,6 +12,7 @@ ghost use Rattle.state_dag.specs.Stands.{Stands};
 ghost use Rattle.state_dag.specs.Detached.{shared_slot};
 ghost use Rattle.ceiling_book.specs.Book.{floors_of};
 ghost use Rattle.ceiling_book.specs.Places.{AreSlots, ArePlaced};
+ghost use Rattle.path_compress.specs.Places.{NoneCollectable};
 ghost use Rattle.path_compress.specs.Together.{StandTogether, StandForHistory, KeepsNumbers, KeepsPromises, KeepsUncollected};
 
 use ceiling_book::CeilingBook;
@@ -21,9 +22,9 @@ use tardis_base::Slot;
 
 /// Collects up to `n` states, the collectable one that arrived last first, and answers how many. It takes no memory.
 ///
-/// It goes once over the kept states, from the newest to the oldest, until `n` are collected. The cost grows for each that
-/// it passes with the number of its children and of the sites, for each of these with an ancestry, and for each that is
-/// collected with what `RecordStore::collect` and `CeilingBook::rename` cost.
+/// It goes once over the states that are kept before the first floor, from the newest to the oldest, until `n` are collected.
+/// For each that it passes the cost grows with the number of its children, and with that of the sites, for each of which an
+/// ancestry is asked; for each that is collected also by what `RecordStore::collect` and `CeilingBook::rename` cost.
 pub fn tidy(store: &mut RecordStore, book: &mut CeilingBook, n: u16) -> u32
     requires { StandForHistory store.old book.old }
     ensures tidied { (rs : List Record) (ks : List StateId) → StandTogether store.old book.old rs ks
@@ -38,7 +39,7 @@ pub fn tidy(store: &mut RecordStore, book: &mut CeilingBook, n: u16) -> u32
     ensures within { result ≤ n }
 {
     let mut count = 0;
-    for place in (0..store.dag().kept_slots().len()).rev() {
+    for place in (0..first_floor(store.dag(), book)).rev() {
         if count == n as u32 {
             return count;
         }
@@ -61,4 +62,24 @@ fn is_collectable(dag: &StateDag, book: &CeilingBook, slot: Slot) -> bool
     ensures shared { result ≡ true → IsSome (shared_slot dag.now slot) }
 {
     dag.shared_stand_in(slot).is_some() && book.closed(dag, slot)
+}
+
+/// The place, among the kept states, of the floor that arrived first: no state from there on is closed.
+///
+/// The cost grows for each site with the logarithm of the number of kept states.
+fn first_floor(dag: &StateDag, book: &CeilingBook) -> usize
+    requires { AreSlots book.now dag.now }
+    ensures within { result ≤ length dag.now.entries }
+    ensures open { (rs : List Record) (ks : List StateId) → Stands dag.now rs ks → ArePlaced book.now dag.now rs ks
+        → NoneCollectable rs (floors_of book.now) ks result }
+{
+    let mut first = dag.kept_slots().len();
+    for site in 1..book.sites() + 1 {
+        let (floor, _, _) = book.floor(site);
+        let place = dag.place(floor);
+        if place < first {
+            first = place;
+        }
+    }
+    first
 }

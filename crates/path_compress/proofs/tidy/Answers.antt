@@ -3,18 +3,26 @@ use Rattle.std.proofs.lemmas.Bool.{and_parts}
 use Rattle.std.proofs.lemmas.List.{length-map}
 use Rattle.plain_dag.specs.Collection.{is_collectable}
 use Rattle.state_dag.specs.Table.{Table, Entry, is_slot, arrive_in_order}
+use Rattle.state_dag.specs.Stands.{Stands}
 use Rattle.state_dag.proofs.Calls.{named-is_slot}
 use Rattle.ceiling_book.specs.Book.{Book, floors_of}
-use Rattle.ceiling_book.specs.Places.{AreSlots}
+use Rattle.ceiling_book.specs.Places.{AreSlots, ArePlaced}
 use Rattle.path_compress.proofs.Walks.{placed-slots, closed-is_free, collectable-parts, walk-begins, walk-fills, walk-ends, walk-passes, walk-collects, gives-up, together-renamed, stays-named, one-more, ended, reached, judged}
 use Rattle.path_compress.proofs.tidy.Goals as goal
+
+pub first_floor-place-requires : goal.first_floor-place-requires
+first_floor-place-requires c =
+    let start = c.requires.together in
+    subst (AreSlots c.args.book.now) (sym c.dag.ensures) (placed-slots c.args.book.now c.args.store.now.table c.requires.records c.requires.collected start.placed)
 
 pub loop-place-init : goal.loop-place-init
 loop-place-init c = record {
   walk = λ rs ks together.
-      walk-begins c.args.store.now rs ks (floors_of c.args.book.now) c.args.n c.args.book.now (length c.kept_slots-place.result.now)
-      (ap length c.kept_slots-place.ensures.is ∙ length-map c.dag.result.now.entries (λ (e : Entry). e.slot) ∙ ap (λ (t : Table). length t.entries) c.dag.ensures)
-      together;
+      let is = c.dag.ensures in
+      walk-begins c.args.store.now rs ks (floors_of c.args.book.now) c.args.n c.args.book.now c.first_floor-place.result
+      (let within = c.first_floor-place.ensures.within in let same = ap (λ (t : Table). length t.entries) is in omega arith)
+      together
+      (c.first_floor-place.ensures.open rs ks (subst (λ t. Stands t rs ks) (sym is) together.history.table) (subst (λ t. ArePlaced c.args.book.now t rs ks) (sym is) together.placed));
   numbers = record { limits = refl; counts = refl; known = refl };
   promises = record { own = refl; max_sessions = refl; sessions = refl; floors = refl };
   few = omega arith;
