@@ -61,7 +61,8 @@ fn is_collectable(dag: &StateDag, book: &CeilingBook, slot: Slot) -> bool
         → id_at dag.now slot ≡ Some x → result ≡ is_collectable rs (floors_of book.now) ks x }
     ensures shared { result ≡ true → IsSome (shared_slot dag.now slot) }
 {
-    dag.shared_stand_in(slot).is_some() && book.closed(dag, slot)
+    let shared = dag.shared_stand_in(slot).is_some();
+    shared && book.closed(dag, slot)
 }
 
 /// The place, among the kept states, of the floor that arrived first: no state from there on is closed.
