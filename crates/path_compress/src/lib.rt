@@ -65,7 +65,7 @@ fn is_collectable(dag: &StateDag, book: &CeilingBook, slot: Slot) -> bool
     shared && book.closed(dag, slot)
 }
 
-/// The place, among the kept states, of the floor that arrived first: no state from there on is closed.
+/// The place, among the kept states, of the floor that arrived first: no state from there on is closed, so none may go.
 ///
 /// The cost grows for each site with the logarithm of the number of kept states.
 fn first_floor(dag: &StateDag, book: &CeilingBook) -> usize
