@@ -3,7 +3,7 @@
 //! What a read, a write and a new state mean is stated in `docs/MODEL.md`.
 #![tactic(auto)]
 
-ghost use Rattle.std.specs.Prelude.{◌≡◌, true, ◌+◌, ◌-◌, ◌≤◌, ℕ, List, [], ◌∷◌, length, map, take, Option, Some, None, slice_get, unwrap_or, IsTrue, IsSome};
+ghost use Rattle.std.specs.Prelude.{◌≡◌, true, ◌+◌, ◌-◌, ◌≤◌, ℕ, List, [], ◌∷◌, length, map, take, Option, Some, None, slice_get, unwrap_or, IsTrue};
 ghost use Rattle.std.specs.Prelude.{IfOk, IfSome, OnOk, OnErr};
 ghost use Rattle.std.specs.List.{list_all};
 ghost use Rattle.std.specs.Option.{option_map, option_and_then};
@@ -16,9 +16,7 @@ ghost use Rattle.plain_dag.specs.States.{root_record, record_at, parents_of};
 ghost use Rattle.plain_dag.specs.Writers.{read, latest_writer};
 ghost use Rattle.plain_dag.specs.Landing.{is_news};
 ghost use Rattle.plain_dag.specs.Collection.{stand_in};
-ghost use Rattle.state_dag.specs.Shared.{shared_stand_in};
-ghost use Rattle.state_dag.specs.Detached.{shared_slot, without_slot};
-ghost use Rattle.state_dag.specs.Table.{id_at, is_slot, is_listed, is_kept_at, arrival_at, is_slot_above};
+ghost use Rattle.state_dag.specs.Table.{id_at, is_slot, is_listed, is_kept_at, arrival_at};
 ghost use Rattle.state_dag.specs.Answers.{MayBeAdded, IsNewSlot, KeepsSlots};
 ghost use Rattle.version_list.specs.Versions.{IsInOrder};
 ghost use Rattle.version_list.specs.Reads.{found};
@@ -148,32 +146,6 @@ impl RecordStore {
                 Err(fault)
             },
         }
-    }
-
-    /// Lets the state at the slot join the collected ones, and answers the slot of its stand-in, which is the one that all
-    /// its children share.
-    pub fn collect(&mut self, slot: Slot) -> Slot
-        requires { IsSome (shared_slot self.old.table slot) }
-        ensures stand_in { shared_slot self.old.table slot ≡ Some result }
-        ensures collected { (rs : List Record) (ks : List StateId) → StoreStands self.old rs ks → (x : StateId) → id_at self.old.table slot ≡ Some x
-            → StoreStands self.new rs (x ∷ ks) }
-        ensures shared { (rs : List Record) (ks : List StateId) → StoreStands self.old rs ks → (x : StateId) → id_at self.old.table slot ≡ Some x
-            → id_at self.old.table result ≡ shared_stand_in rs ks x }
-        ensures above { (rs : List Record) (ks : List StateId) → StoreStands self.old rs ks → (x : StateId) → id_at self.old.table slot ≡ Some x
-            → (s t : Slot) → (s ≡ slot → ⊥) → (t ≡ slot → ⊥) → IsTrue (is_slot self.old.table s) → IsTrue (is_slot self.old.table t)
-            → is_slot_above self.new.table s t ≡ is_slot_above self.old.table s t }
-        ensures gone { id_at self.new.table slot ≡ None }
-        ensures names { (s : Slot) → (s ≡ slot → ⊥) → id_at self.new.table s ≡ id_at self.old.table s }
-        ensures others { (s : Slot) → (s ≡ slot → ⊥) → is_slot self.new.table s ≡ is_slot self.old.table s }
-        ensures kept { (s : Slot) → (s ≡ slot → ⊥) → is_kept_at self.new.table s ≡ is_kept_at self.old.table s }
-        ensures arrivals { (s : Slot) → (s ≡ slot → ⊥) → arrival_at self.new.table s ≡ arrival_at self.old.table s }
-        ensures stays { IsTrue (is_kept_at self.new.table result) }
-        ensures slots { map (λ e. e.slot) self.new.table.entries ≡ without_slot slot (map (λ e. e.slot) self.old.table.entries) }
-        ensures limits { self.new.table.limits ≡ self.old.table.limits }
-        ensures counts { self.new.table.counts ≡ self.old.table.counts }
-        ensures known { self.new.table.known ≡ self.old.table.known }
-    {
-        self.dag.detach(slot)
     }
 
     /// Adds the record, whose parents are kept, as the next state of a site.
