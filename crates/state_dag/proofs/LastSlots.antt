@@ -2,7 +2,7 @@
 use Rattle.std.proofs.Common.{◌≡◌, ℕ, ◌<◌, true, false, cond, refl, ltb, eqb, List, [], ◌∷◌, ◌++◌, find, Option, Some, None, is_some, IsTrue, sym, ap, subst, ◌∙◌, arith}
 use Rattle.std.specs.List.{list_all}
 use Rattle.std.specs.Option.{option_map, option_map_or}
-use Rattle.std.proofs.lemmas.Bool.{and_parts, and_from, both_ways, cond-true, eq-eqb, ltb-true}
+use Rattle.std.proofs.lemmas.Bool.{and_parts, and_from, both_ways, false_from_ne_true, cond-true, cond-false, eq-eqb, eqb-true, ltb-true}
 use Rattle.std.proofs.lemmas.Option.{none-some, same_Some}
 use Rattle.tardis_base.specs.declared.ids.StateId.{StateId}
 use Rattle.tardis_base.specs.declared.ids.Slot.{Slot}
@@ -44,6 +44,18 @@ module _ (old new table : Table) (parents : List Slot) (x : StateId) (slot : Slo
 
   pub slot-stays : (s : Slot) → is_slot old s ≡ true → is_slot new s ≡ true
   slot-stays s there = (let o = some-entry (entry_at old s) there in let w = stays-found s o.0 o.1 in ap is_some w.1)
+
+  -- and no other slot but the last one's is new
+  pub slot-was : (s : Slot) → (s ≡ slot → ⊥) → is_slot new s ≡ true → is_slot old s ≡ true
+  slot-was s differ there = go (entry_at old s) (find (λ g. eqb g.slot.0 s.0) gs) (both s) (looked s)
+    where
+      other : eqb e.slot.0 s.0 ≡ false
+      other = false_from_ne_true (eqb e.slot.0 s.0) (λ t. differ (sym (ap (λ n. let z : Slot = record { 0 = n } in z) (sym (ap (λ (z : Slot). z.0) own) ∙ eqb-true e.slot.0 s.0 t))))
+
+      go : (p q : Option Entry) → FoundBoth (Became table parents x slot) p q → entry_at new s ≡ or_else q (cond (eqb e.slot.0 s.0) (Some e) None) → is_some p ≡ true
+      go (Some p) q b l = refl
+      go None (Some q) b l = absurd (b)
+      go None None b l = absurd (both_ways true (sym there ∙ ap is_some (l ∙ cond-false (eqb e.slot.0 s.0) (Some e) None other)) refl)
 
   pub slots-kept : KeepsSlots old new
   slots-kept s y named = go (entry_at old s) refl named

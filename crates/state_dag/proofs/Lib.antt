@@ -43,3 +43,4 @@ pub mod LeftEntries
 pub mod LeftTables
 pub mod LeftSlots
 pub mod LeftMemory
+pub mod Heirs

@@ -131,6 +131,7 @@ impl StateDag {
         ensures kept { (s : Slot) → IsTrue (is_kept_at self.old s) → IsTrue (is_kept_at self.new s) × (arrival_at self.new s ≡ arrival_at self.old s) }
         ensures arrived { IfOk result (λ slot. IsTrue (is_kept_at self.new slot) × (arrival_at self.new slot ≡ self.old.known)) }
         ensures newest { IfOk result (λ slot. (s : Slot) → IsTrue (is_kept_at self.old s) → arrival_at self.new s < arrival_at self.new slot) }
+        ensures others { IfOk result (λ slot. (s : Slot) → (s ≡ slot → ⊥) → IsTrue (is_slot self.new s) → IsTrue (is_slot self.old s)) }
         ensures limits { self.new.limits ≡ self.old.limits }
         ensures same { OnErr result (self.new ≡ self.old) }
     {
@@ -379,7 +380,8 @@ impl StateDag {
         ensures is { result ≡ shared_slot self.now slot }
         ensures shared { (rs : List Record) (ks : List StateId) → Stands self.now rs ks → (x : StateId) → id_at self.now slot ≡ Some x
             → option_map (id_at self.now) result ≡ option_map (λ c. Some c) (shared_stand_in rs ks x) }
-        ensures kept { (rs : List Record) (ks : List StateId) → Stands self.now rs ks → IfSome result (λ s. IsTrue (is_kept_at self.now s)) }
+        ensures kept { IfSome result (λ s. IsTrue (is_kept_at self.now s)) }
+        ensures later { IfSome result (λ s. arrival_at self.now slot < arrival_at self.now s) }
     {
         let _ = &self.limits;
         common_slot(self.child_slots(slot))

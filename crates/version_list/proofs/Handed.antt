@@ -1,6 +1,6 @@
 -- At which states a key has versions once one was handed on.
 use Rattle.std.proofs.Common.{◌≡◌, ℕ, Bool, true, false, ◌||◌, nat_lt, if◌then◌else◌, List, [], ◌∷◌, Option, Some, None, is_some, refl, sym, ◌∙◌, ap, ap₂, inl, inr}
-use Rattle.std.proofs.lemmas.Bool.{cases_Bool}
+use Rattle.std.proofs.lemmas.Bool.{cases_Bool, eq-eqb}
 use Rattle.tardis_base.specs.declared.ids.Slot.{Slot}
 use Rattle.version_list.specs.declared.histories.Version.{Version}
 use Rattle.version_list.specs.Versions.{same_slot, has_version_at}
@@ -50,3 +50,15 @@ module _ (arrival : Slot → ℕ) (from to : Slot) (vs : List Version) (apart : 
   -- other states have versions where they had
   pub others-have : (q : Slot) → same_slot from q ≡ false → same_slot to q ≡ false → has_version_at q (promoted arrival from to vs) ≡ has_version_at q vs
   others-have q from_other to_other = placed (version_at from vs) q to_other ∙ has-without from q vs from_other
+
+  to-placed : (o : Option Version) → has_version_at to (handed_on arrival to (without_version from vs) o) ≡ (has_version_at to (without_version from vs) || is_some o)
+  to-placed None = sym (or-false (has_version_at to (without_version from vs)))
+  to-placed (Some v) = go (has_version_at to (without_version from vs)) refl
+    where
+      go : (b : Bool) → has_version_at to (without_version from vs) ≡ b → has_version_at to (if b then without_version from vs else in_its_place arrival (at_state to v) (without_version from vs)) ≡ (b || true)
+      go true e = e
+      go false e = has-placed arrival to (at_state to v) (without_version from vs) ∙ ap (λ b. b || has_version_at to (without_version from vs)) (eq-eqb to.0 to.0 refl)
+
+  -- the other has one where one of the two had
+  pub other-has : has_version_at to (promoted arrival from to vs) ≡ (has_version_at to vs || has_version_at from vs)
+  other-has = to-placed (version_at from vs) ∙ ap₂ (λ a b. a || b) (has-without from to vs apart) (found-at from vs)

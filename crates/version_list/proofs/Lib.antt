@@ -6,3 +6,5 @@ pub mod Noted
 pub mod Listing
 pub mod Promotes
 pub mod Handed
+pub mod Chunks
+pub mod Moves

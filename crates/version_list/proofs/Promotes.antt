@@ -1,5 +1,5 @@
 -- What becomes of a key's versions when a state hands them on.
-use Rattle.std.proofs.Common.{◌≡◌, ℕ, ◌<◌, ◌≤◌, Bool, true, false, ◌||◌, ◌&&◌, not, nat_lt, nat_le, List, [], ◌∷◌, ◌++◌, Option, Some, None, length, get_or, take, drop, if◌then◌else◌, refl, sym, ◌∙◌, ap, subst, inl, inr, arith}
+use Rattle.std.proofs.Common.{◌≡◌, ℕ, ◌<◌, ◌≤◌, Bool, true, false, ◌||◌, ◌&&◌, nat_lt, nat_le, List, [], ◌∷◌, Option, Some, None, length, get_or, take, drop, if◌then◌else◌, refl, ◌∙◌, ap, inl, inr, arith}
 use Rattle.std.specs.List.{list_all, list_any, remove, insert}
 use Rattle.std.proofs.lemmas.Bool.{and_parts, and_from, or_parts, cases_Bool, false_from_ne_true, lt-ltb, ltb-true, ltb-false, leb-true, leb-false, le-leb, both_ways, eq-eqb}
 use Rattle.tardis_base.specs.declared.ids.Slot.{Slot}

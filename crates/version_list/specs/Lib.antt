@@ -1,5 +1,6 @@
 -- The versions of keys, and what is read of them.
 pub mod Lists
+pub mod Notes
 pub mod Versions
 pub mod Reads
 pub mod Promoted

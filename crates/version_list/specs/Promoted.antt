@@ -1,5 +1,5 @@
 -- The versions of a key once a state gives up its slot, and another one stands in for it.
-use Rattle.std.specs.Prelude.{ℕ, Bool, not, List, [], ◌∷◌, Option, None, Some, find, filter, nat_lt, if◌then◌else◌}
+use Rattle.std.specs.Prelude.{ℕ, Bool, not, ◌&&◌, List, [], ◌∷◌, Option, None, Some, find, filter, nat_lt, if◌then◌else◌}
 use Rattle.tardis_base.specs.declared.ids.Slot.{Slot}
 use Rattle.version_list.specs.declared.histories.Version.{Version}
 use Rattle.version_list.specs.Versions.{same_slot, has_version_at}
@@ -29,3 +29,11 @@ handed_on arrival to vs (Some v) = if has_version_at to vs then vs else in_its_p
 -- the versions of a key once what the one state has went to the other, or is gone where that has the key
 abbrev pub promoted : (Slot → ℕ) → Slot → Slot → List Version → List Version
 promoted arrival from to vs = handed_on arrival to (without_version from vs) (version_at from vs)
+
+-- that, where this is so; the versions as they were where it isn't
+abbrev pub promoted_if : Bool → (Slot → ℕ) → Slot → Slot → List Version → List Version
+promoted_if b arrival from to vs = if b then promoted arrival from to vs else vs
+
+-- there is a version at the one state, and none at the other
+abbrev pub moves : Slot → Slot → List Version → Bool
+moves from to vs = has_version_at from vs && not (has_version_at to vs)

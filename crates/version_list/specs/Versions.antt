@@ -1,18 +1,18 @@
 -- The versions of each key, the keys with a version at each state, and the room for more.
-use Rattle.std.specs.Prelude.{◌≡◌, ℕ, Bool, ◌==◌, ◌&&◌, List, [], nat_lt, nat_le, length}
+use Rattle.std.specs.Prelude.{◌≡◌, ℕ, Bool, ◌&&◌, List, nat_lt, nat_le, length}
 use Rattle.std.specs.List.{list_any}
-use Rattle.std.specs.Map.{lookup}
-use Rattle.std.specs.Option.{option_map_or}
 use Rattle.tardis_base.specs.declared.ids.Slot.{Slot}
-use Rattle.tardis_base.specs.Keys.{KeyWrite, is_key_among}
+use Rattle.tardis_base.specs.Keys.{KeyWrite}
 use Rattle.version_list.specs.declared.histories.Version.{Version}
+pub use Rattle.version_list.specs.Notes.{Chunks, same_slot, is_key_in}
+use Rattle.version_list.specs.Notes.{Noted, chunks_for, is_noted_in}
 pub use Rattle.version_list.specs.Lists.{new_keys, version_by, have_come_before, are_in_order}
 use Rattle.version_list.specs.Lists.{Lists, keys_in, versions_in, has_room_in, have_room_in, AllInOrder, AllBefore}
 
--- the versions of the listed keys, how many more states there is room for, and for how many keys of the next one
+-- the versions of the listed keys, the keys noted for each state, and for how many keys of the next state there is room
 pub record Versions : Type 0 where
   pub lists : Lists
-  pub states : ℕ
+  pub notes : Noted
   pub keys : ℕ
 
 abbrev pub listed_keys : Versions → List (List ℕ)
@@ -28,7 +28,7 @@ has_room vs k = has_room_in vs.lists k
 
 -- there is room for one more state with these writes
 abbrev pub has_room_for : Versions → List KeyWrite → Bool
-has_room_for vs ws = nat_lt 0 vs.states && nat_le (length ws) vs.keys && have_room_in vs.lists ws
+has_room_for vs ws = nat_lt 0 vs.notes.states && nat_lt 0 vs.notes.chunks && nat_le (length ws) vs.keys && have_room_in vs.lists ws
 
 -- the versions of each key stand in order
 abbrev pub IsInOrder : (Slot → Bool) → (Slot → ℕ) → Versions → Type 0
@@ -38,17 +38,14 @@ IsInOrder kept arrival vs = AllInOrder kept arrival vs.lists
 abbrev pub IsBefore : (Slot → ℕ) → Slot → Versions → Type 0
 IsBefore arrival slot vs = AllBefore arrival slot vs.lists
 
-abbrev pub same_slot : Slot → Slot → Bool
-same_slot a b = a.0 == b.0
-
 -- one of these versions is at the state
 abbrev pub has_version_at : Slot → List Version → Bool
 has_version_at slot vs = list_any (λ v. same_slot v.slot slot) vs
 
--- the keys noted for the state; none where none are
-abbrev pub keys_for : Slot → List (Slot × List (List ℕ)) → List (List ℕ)
-keys_for slot es = option_map_or (λ ks. ks) (lookup (same_slot slot) es) []
+-- something was noted for the state, were it no key at all
+abbrev pub is_noted : Versions → Slot → Bool
+is_noted vs slot = is_noted_in slot vs.notes.by_slot
 
 -- for each state exactly the keys are noted that have a version there
-abbrev pub AreNoted : Lists → List (Slot × List (List ℕ)) → Type 0
-AreNoted ls es = (slot : Slot) (k : List ℕ) → is_key_among k (keys_for slot es) ≡ has_version_at slot (versions_in ls k)
+abbrev pub AreNoted : Lists → List (Slot × Chunks) → Type 0
+AreNoted ls es = (slot : Slot) (k : List ℕ) → is_key_in k (chunks_for slot es) ≡ has_version_at slot (versions_in ls k)

@@ -1,6 +1,6 @@
 //! The versions of each key: one history a key.
 
-ghost use Rattle.std.specs.Prelude.{◌≡◌, ◌≤◌, ◌<◌, ◌+◌, ◌||◌, [], ◌∷◌, ◌++◌, ℕ, List, false, length, take, drop, slice_get, bytes_eq, vec_len};
+ghost use Rattle.std.specs.Prelude.{◌≡◌, ◌≤◌, ◌<◌, ◌+◌, ◌&&◌, ◌||◌, [], ◌∷◌, ◌++◌, ℕ, List, false, length, take, drop, slice_get, bytes_eq, vec_len};
 ghost use Rattle.std.specs.Prelude.{IsTrue, IfOk, IfSome, OnOk, OnErr, None, nat_le, get_or};
 ghost use Rattle.std.specs.List.{list_any, list_all, IsDistinct};
 ghost use Rattle.std.specs.Option.{option_copied};
@@ -10,12 +10,16 @@ ghost use Rattle.version_list.specs.Lists.{no_lists, keys_in, listed_in, version
 ghost use Rattle.version_list.specs.Lists.{are_in_order, AllInOrder, AllBefore};
 ghost use Rattle.version_list.specs.Reads.{latest_version};
 ghost use Rattle.version_list.specs.Versions.{has_version_at};
-ghost use Rattle.version_list.specs.Promoted.{promoted};
+ghost use Rattle.version_list.specs.Notes.{is_key_in};
+ghost use Rattle.version_list.specs.Promoted.{promoted, promoted_if, moves};
 
+use crate::notes::{KeyChunks, keep, take_first};
 use indexmap::IndexMap;
 use std::alloc::Global;
+use std::collections::LinkedList;
 use std::marker::Model;
-use tardis_base::{Above, Key, NoMemory, Slot, StateId, Write, WriteSet};
+use std::mem;
+use tardis_base::{Above, Key, KeyList, NoMemory, Slot, StateId, Write, WriteSet};
 
 /// What a state wrote to a key.
 #[derive(Debug, Drop)]
@@ -220,6 +224,108 @@ impl KeyLists {
         ensures order { AllInOrder (A.is_kept dag.now) (A.arrival_of dag.now) self.new }
     {
         self.hand_on(dag, key, from, to);
+    }
+
+    /// Whether the key has a version at `from` and none at `to`.
+    fn moves<A: Above>(&self, dag: &A, key: &Key, from: Slot, to: Slot) -> bool
+        requires order { AllInOrder (A.is_kept dag.now) (A.arrival_of dag.now) self.now }
+        requires from { IsTrue (A.is_kept dag.now from) }
+        requires to { IsTrue (A.is_kept dag.now to) }
+        ensures { result ≡ moves from to (versions_in self.now key.now) }
+    {
+        let versions = self.versions(key);
+        has_version(dag, versions, from) && !has_version(dag, versions, to)
+    }
+
+    /// Promotes each of these keys, and keeps those whose version moved.
+    fn promote_keys<A: Above>(&mut self, dag: &A, keys: &mut Vec<Key>, from: Slot, to: Slot)
+        requires order { AllInOrder (A.is_kept dag.now) (A.arrival_of dag.now) self.old }
+        requires from { IsTrue (A.is_kept dag.now from) }
+        requires to { IsTrue (A.is_kept dag.now to) }
+        requires before { A.arrival_of dag.now from < A.arrival_of dag.now to }
+        ensures promoted { (k : List ℕ) → versions_in self.new k
+            ≡ promoted_if (is_key_among k keys.old.items) (A.arrival_of dag.now) from to (versions_in self.old k) }
+        ensures kept { (k : List ℕ) → is_key_among k keys.new.items ≡ (is_key_among k keys.old.items && moves from to (versions_in self.old k)) }
+        ensures keys { keys_in self.new ≡ keys_in self.old }
+        ensures order { AllInOrder (A.is_kept dag.now) (A.arrival_of dag.now) self.new }
+    {
+        let mut place = 0;
+        while place < keys.len() {
+            let moves = self.moves(dag, &keys[place], from, to);
+            self.promote(dag, &keys[place], from, to);
+            if moves {
+                place += 1;
+            } else {
+                keys.swap_remove(place);
+            }
+        }
+    }
+
+    /// Promotes each key of the chunk, and keeps those whose version moved.
+    fn promote_chunk<A: Above>(&mut self, dag: &A, chunk: &mut KeyList, from: Slot, to: Slot)
+        requires order { AllInOrder (A.is_kept dag.now) (A.arrival_of dag.now) self.old }
+        requires from { IsTrue (A.is_kept dag.now from) }
+        requires to { IsTrue (A.is_kept dag.now to) }
+        requires before { A.arrival_of dag.now from < A.arrival_of dag.now to }
+        ensures promoted { (k : List ℕ) → versions_in self.new k
+            ≡ promoted_if (is_key_among k chunk.old) (A.arrival_of dag.now) from to (versions_in self.old k) }
+        ensures kept { (k : List ℕ) → is_key_among k chunk.new ≡ (is_key_among k chunk.old && moves from to (versions_in self.old k)) }
+        ensures keys { keys_in self.new ≡ keys_in self.old }
+        ensures order { AllInOrder (A.is_kept dag.now) (A.arrival_of dag.now) self.new }
+    {
+        let alloc = *self.lists.allocator();
+        let mut keys = mem::replace(chunk, KeyList::new(alloc)).into_vec();
+        self.promote_keys(dag, &mut keys, from, to);
+        *chunk = KeyList::from_vec(keys);
+    }
+
+    /// Promotes each key of this one chunk, and keeps those whose version moved.
+    fn promote_first<A: Above>(&mut self, dag: &A, chunks: &mut KeyChunks, from: Slot, to: Slot)
+        requires one { length chunks.old ≡ 1 }
+        requires order { AllInOrder (A.is_kept dag.now) (A.arrival_of dag.now) self.old }
+        requires from { IsTrue (A.is_kept dag.now from) }
+        requires to { IsTrue (A.is_kept dag.now to) }
+        requires before { A.arrival_of dag.now from < A.arrival_of dag.now to }
+        ensures promoted { (k : List ℕ) → versions_in self.new k
+            ≡ promoted_if (is_key_in k chunks.old) (A.arrival_of dag.now) from to (versions_in self.old k) }
+        ensures kept { (k : List ℕ) → is_key_in k chunks.new ≡ (is_key_in k chunks.old && moves from to (versions_in self.old k)) }
+        ensures one { length chunks.new ≡ 1 }
+        ensures keys { keys_in self.new ≡ keys_in self.old }
+        ensures order { AllInOrder (A.is_kept dag.now) (A.arrival_of dag.now) self.new }
+    {
+        match chunks.front_mut() {
+            Some(chunk) => self.promote_chunk(dag, chunk, from, to),
+            None => unreachable!(),
+        }
+    }
+
+    /// Promotes each key of these chunks, and answers those whose version moved. It takes no memory.
+    pub(crate) fn promote_chunks<A: Above>(
+        &mut self,
+        dag: &A,
+        chunks: KeyChunks,
+        from: Slot,
+        to: Slot,
+    ) -> KeyChunks
+        requires order { AllInOrder (A.is_kept dag.now) (A.arrival_of dag.now) self.old }
+        requires from { IsTrue (A.is_kept dag.now from) }
+        requires to { IsTrue (A.is_kept dag.now to) }
+        requires before { A.arrival_of dag.now from < A.arrival_of dag.now to }
+        ensures promoted { (k : List ℕ) → versions_in self.new k
+            ≡ promoted_if (is_key_in k chunks) (A.arrival_of dag.now) from to (versions_in self.old k) }
+        ensures kept { (k : List ℕ) → is_key_in k result ≡ (is_key_in k chunks && moves from to (versions_in self.old k)) }
+        ensures count { length result ≤ length chunks }
+        ensures keys { keys_in self.new ≡ keys_in self.old }
+        ensures order { AllInOrder (A.is_kept dag.now) (A.arrival_of dag.now) self.new }
+    {
+        let mut rest = chunks;
+        let mut moved = LinkedList::new(*rest.allocator());
+        for _ in 0..rest.len() {
+            let mut first = take_first(&mut rest);
+            self.promote_first(dag, &mut first, from, to);
+            keep(&mut moved, first);
+        }
+        moved
     }
 
     fn hand_on<A: Above>(&mut self, dag: &A, key: &Key, from: Slot, to: Slot)

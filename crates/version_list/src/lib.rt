@@ -2,9 +2,11 @@
 #![tactic(auto)]
 
 mod histories;
+mod notes;
 mod version_lists;
 
 pub use histories::Version;
+pub use notes::KeyChunks;
 pub use version_lists::VersionList;
 
 #[cfg(test)]

@@ -1,9 +1,9 @@
 //! What no clause says: that each call which takes memory gets it, and a row of reads on two branches.
 
-ghost use Rattle.std.specs.Prelude.{◌≡◌, ◌+◌, ◌<◌, ◌==◌, ◌&&◌, not, nat_eq, nat_lt, nat_le, OnOk};
+ghost use Rattle.std.specs.Prelude.{◌≡◌, ◌+◌, ◌<◌, ◌==◌, ◌&&◌, not, nat_eq, nat_lt, nat_le, IsTrue, OnOk};
 ghost use Rattle.std.proofs.Common.{ap};
 ghost use Rattle.std.proofs.lemmas.Bool.{and_parts, leb-true};
-ghost use Rattle.version_list.specs.Versions.{IsInOrder, IsBefore};
+ghost use Rattle.version_list.specs.Versions.{IsInOrder, IsBefore, is_noted};
 
 use crate::*;
 use std::alloc::Global;
@@ -53,6 +53,7 @@ fn wrote(
     requires kept { slot < 4 }
     ensures order { OnOk result (IsInOrder (λ s. nat_lt s.0 4) (λ s. s.0) list.new) }
     ensures newest { OnOk result (IsBefore (λ s. s.0) (record { 0 = slot + 1 }) list.new) }
+    ensures noted { OnOk result (IsTrue (is_noted list.new (record { 0 = slot }))) }
 {
     let mut writes = WriteSet::new(alloc);
     writes.insert(key.copy()?, write)?;
@@ -87,5 +88,9 @@ fn branches_read_their_own(rt: HostRuntime) -> Result<(), Fail> {
     assert_eq!(rt; list.keys(), 1);
     assert_eq!(rt; list.keys_at(Slot(2)).len(), 1);
     assert!(rt; list.keys_at(Slot(3)).is_empty());
+    wrote(alloc, &mut list, 3, &Key::new(alloc, b"y")?, Write::Delete)?;
+    list.promote(&Branches, Slot(1), Slot(3));
+    assert_eq!(rt; list.latest(&Branches, &key, Slot(3)), mine);
+    assert_eq!(rt; list.keys_at(Slot(3)).len(), 2);
     Ok(())
 }

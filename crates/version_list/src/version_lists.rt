@@ -1,13 +1,14 @@
 //! The versions of all keys.
 
-ghost use Rattle.std.specs.Prelude.{◌≡◌, ◌<◌, ◌++◌, [], ℕ, List, false, length, take, drop, slice_get, bytes_eq, option_map, IsTrue, OnOk, OnErr};
+ghost use Rattle.std.specs.Prelude.{◌≡◌, ◌<◌, ◌||◌, ◌++◌, [], ℕ, List, false, length, take, drop, slice_get, bytes_eq, option_map, IsTrue, OnOk, OnErr};
 ghost use Rattle.std.specs.List.{IsDistinct};
 ghost use Rattle.tardis_base.specs.Keys.{is_key_among, write_of};
-ghost use Rattle.version_list.specs.Versions.{listed_keys, new_keys, versions_of, has_room, has_room_for, version_by, has_version_at, IsInOrder, IsBefore};
+ghost use Rattle.version_list.specs.Versions.{listed_keys, new_keys, versions_of, has_room, has_room_for, version_by, has_version_at, is_noted, is_key_in, same_slot, IsInOrder, IsBefore};
+ghost use Rattle.version_list.specs.Promoted.{promoted};
 ghost use Rattle.version_list.specs.Reads.{latest_version, written, found};
 
 use crate::histories::{self, KeyLists, Version};
-use indexmap::IndexMap;
+use crate::notes::{KeyChunks, Notes};
 use std::alloc::Global;
 use std::marker::Model;
 use std::mem;
@@ -20,7 +21,7 @@ use tardis_base::{Above, Found, Key, KeyList, NoMemory, Slot, StateId, Write, Wr
 pub struct VersionList {
     lists: KeyLists,
     /// The keys with a version at each state.
-    keys: IndexMap<Slot, KeyList>,
+    notes: Notes,
     /// Room for the keys of the next state.
     next: Vec<Key>,
 }
@@ -28,14 +29,13 @@ pub struct VersionList {
 impl Model for VersionList {
     ghost use Rattle.std.specs.Prelude.{◌≡◌, []};
     ghost use Rattle.std.specs.Vec.{vec_capacity};
-    ghost use Rattle.indexmap.specs.IndexMap.{spare};
     ghost use Rattle.version_list.specs.Versions.{Versions, AreNoted};
 
     ghost Value = { Versions };
 
-    ghost view = { λ s. record { lists = s.lists; states = spare s.keys; keys = vec_capacity s.next } };
+    ghost view = { λ s. record { lists = s.lists; notes = s.notes; keys = vec_capacity s.next } };
 
-    ghost invariant = { λ s. (s.next.items ≡ []) × AreNoted s.lists s.keys.entries };
+    ghost invariant = { λ s. (s.next.items ≡ []) × AreNoted s.lists s.notes.by_slot };
 }
 
 impl VersionList {
@@ -46,7 +46,7 @@ impl VersionList {
     {
         VersionList {
             lists: KeyLists::new(alloc),
-            keys: IndexMap::new(alloc),
+            notes: Notes::new(alloc),
             next: Vec::new(alloc),
         }
     }
@@ -70,8 +70,9 @@ impl VersionList {
         ensures not_listed { OnErr result (listed_keys self.new ≡ listed_keys self.old) }
         ensures same { (k : List ℕ) → versions_of self.new k ≡ versions_of self.old k }
         ensures kept { (k : List ℕ) → IsTrue (has_room self.old k) → IsTrue (has_room self.new k) }
+        ensures noted { (s : Slot) → is_noted self.new s ≡ is_noted self.old s }
     {
-        self.keys.reserve(1)?;
+        self.notes.make_room()?;
         self.next.reserve(writes.len())?;
         self.lists.make_room(writes)
     }
@@ -85,6 +86,7 @@ impl VersionList {
         ensures listed { listed_keys self.new ≡ take place (listed_keys self.old) }
         ensures same { (k : List ℕ) → versions_of self.new k ≡ versions_of self.old k }
         ensures kept { (k : List ℕ) → IsTrue (is_key_among k (take place (listed_keys self.old))) → has_room self.new k ≡ has_room self.old k }
+        ensures noted { (s : Slot) → is_noted self.new s ≡ is_noted self.old s }
     {
         self.lists.withdraw(place);
     }
@@ -100,14 +102,12 @@ impl VersionList {
         ensures added { (k : List ℕ) → versions_of self.new k ≡ versions_of self.old k ++ version_by slot writer (write_of k writes) }
         ensures keys { listed_keys self.new ≡ listed_keys self.old }
         ensures order { IsInOrder (A.is_kept dag.now) (A.arrival_of dag.now) self.new }
+        ensures noted { (s : Slot) → is_noted self.new s ≡ (same_slot slot s || is_noted self.old s) }
     {
         self.lists.add(dag, slot, writer, writes, &mut self.next);
         let alloc = *self.next.allocator();
         let keys = mem::replace(&mut self.next, Vec::new(alloc));
-        match self.keys.insert(slot, KeyList::from_vec(keys)) {
-            Ok(_) => {},
-            Err(_) => unreachable!(),
-        }
+        self.notes.put(slot, KeyList::from_vec(keys));
     }
 
     /// What is read of the key at the state: the version of greatest arrival among those at or above it.
@@ -162,13 +162,30 @@ impl VersionList {
         self.lists.key_at(place)
     }
 
-    /// The keys with a version at this state. The cost is that of a look-up of the slot.
-    pub fn keys_at(&self, slot: Slot) -> &[Key]
-        ensures { (k : List ℕ) → is_key_among k result.now ≡ has_version_at slot (versions_of self.now k) }
+    /// Moves each version at `from` to `to`, or takes it away where `to` has a version of that key. It takes no memory.
+    ///
+    /// The cost grows with the number of the keys that have a version at `from`, for each with a look-up of it, with binary
+    /// searches among its versions and with the number of those that arrived after `from`, which are moved.
+    pub fn promote<A: Above>(&mut self, dag: &A, from: Slot, to: Slot)
+        requires order { IsInOrder (A.is_kept dag.now) (A.arrival_of dag.now) self.old }
+        requires from { IsTrue (A.is_kept dag.now from) }
+        requires to { IsTrue (A.is_kept dag.now to) }
+        requires before { A.arrival_of dag.now from < A.arrival_of dag.now to }
+        requires noted { IsTrue (is_noted self.old to) }
+        ensures promoted { (k : List ℕ) → versions_of self.new k ≡ promoted (A.arrival_of dag.now) from to (versions_of self.old k) }
+        ensures keys { listed_keys self.new ≡ listed_keys self.old }
+        ensures order { IsInOrder (A.is_kept dag.now) (A.arrival_of dag.now) self.new }
+        ensures noted { (s : Slot) → is_noted self.new s ≡ is_noted self.old s }
     {
-        match self.keys.get(&slot) {
-            Some(keys) => keys.as_slice(),
-            None => &[],
-        }
+        let chunks = self.notes.take(from);
+        let moved = self.lists.promote_chunks(dag, chunks, from, to);
+        self.notes.give(to, moved);
+    }
+
+    /// The keys with a version at this state, in chunks. The cost is that of a look-up of the slot.
+    pub fn keys_at(&self, slot: Slot) -> &KeyChunks
+        ensures { (k : List ℕ) → is_key_in k result.now ≡ has_version_at slot (versions_of self.now k) }
+    {
+        self.notes.at(slot)
     }
 }

@@ -10,7 +10,7 @@ use Rattle.tardis_base.specs.declared.faults.AddFault.{AddFault}
 use Rattle.state_dag.specs.declared.StateDag.TheInside.{Inside}
 use Rattle.state_dag.specs.declared.nodes.Node.{Node}
 use Rattle.fork_path.specs.Pairs.{are_ascending_pairs}
-use Rattle.state_dag.specs.Table.{Entry, Table, entry_at, arrival_at, is_kept_at}
+use Rattle.state_dag.specs.Table.{Entry, Table, entry_at, arrival_at, is_slot, is_kept_at}
 use Rattle.state_dag.specs.Views.{entry_of, entries_in}
 use Rattle.state_dag.specs.Stands.{Stands}
 use Rattle.state_dag.specs.Answers.{MayBeAdded, AddedTo, IsNewSlot, KeepsSlots}
@@ -25,7 +25,7 @@ use Rattle.state_dag.proofs.LongPaths.{short-told, long-told, own-told, nothing-
 use Rattle.state_dag.proofs.Added.{full, added, parents-differ}
 use Rattle.state_dag.proofs.SameEntries.{same-count, sum-within}
 use Rattle.state_dag.proofs.NextSlot.{IsNext, next-slot}
-use Rattle.state_dag.proofs.LastSlots.{slots-kept, last-named, kept-stays, last-arrives, arrives-last}
+use Rattle.state_dag.proofs.LastSlots.{slots-kept, slot-was, last-named, kept-stays, last-arrives, arrives-last}
 use Rattle.state_dag.proofs.GrownTables.{distinct-from_differ, refused-alike, table-grown}
 use Rattle.state_dag.proofs.HeldNext.{view-same, held-stays, entries-after, slot-fresh, held-next}
 use Rattle.state_dag.proofs.AddSteps.{parents-placed, short-kept, gains-seen, none-seen, long-seen, entry-seen, gains-at_places, few-gains, all-grown, leaves-in_order, fault-answered}
@@ -367,6 +367,11 @@ pub returns-clause-newest : goal.returns-clause-newest
 returns-clause-newest c =
     subst (λ (t : Table). (s : Slot) → IsTrue (is_kept_at t s) → arrival_at (seen (inside-next c)) s < arrival_at (seen (inside-next c)) c.next_slot-slot.result) c.self.view_is
     (arrives-last (seen c.self.inside) (seen (inside-next c)) (seen c.self.inside) c.args.parents.now c.args.id c.next_slot-slot.result (entries_in c.grow.new.nodes.items (kept_of c.self.inside)) (entry_of c.next_slot-slot.result.0 c.in_ok-node.node) (follows c) (entries-next c) refl (is-fresh c) c.self.inside.known ((new-entry c).arrival_is ∙ sym (ap (λ (t : Table). t.known) c.self.view_is)) c.self.invariant.arrived)
+
+pub returns-clause-others : goal.returns-clause-others
+returns-clause-others c =
+    subst (λ (t : Table). (s : Slot) → (s ≡ c.next_slot-slot.result → ⊥) → IsTrue (is_slot (seen (inside-next c)) s) → IsTrue (is_slot t s)) c.self.view_is
+    (slot-was (seen c.self.inside) (seen (inside-next c)) (seen c.self.inside) c.args.parents.now c.args.id c.next_slot-slot.result (entries_in c.grow.new.nodes.items (kept_of c.self.inside)) (entry_of c.next_slot-slot.result.0 c.in_ok-node.node) (follows c) (entries-next c) refl (is-fresh c))
 
 -- a table that has grown by the state of a record
 added-as : (old new : Table) (rs : List Record) (ks : List StateId) (r : Record) (parents : List Slot) → Stands old rs ks → MayBeAdded old rs ks r parents → (slot : Slot) (x : StateId) (e : Entry) → r.id ≡ x →

@@ -1,7 +1,6 @@
-use Rattle.std.proofs.Common.{◌≡◌, ℕ, ◌-◌, get_or, ap, subst, ◌∙◌, arith}
+use Rattle.std.proofs.Common.{◌≡◌, ◌-◌, get_or, ap, subst, ◌∙◌, arith}
 use Rattle.std.proofs.lemmas.Bool.{both_ways, eq-eqb}
 use Rattle.tardis_base.specs.declared.ids.Slot.{Slot}
-use Rattle.version_list.specs.declared.histories.Version.{Version}
 use Rattle.version_list.proofs.Promotes.{own-none, any_version}
 use Rattle.version_list.proofs.histories.place_of.Goals as goal
 use Rattle.version_list.proofs.histories.place_of.Goals.{else-end-gt0-via-then-end-gt0+else-eq, else-end-gt0-via-else-end-gt0}

@@ -1,4 +1,4 @@
-use Rattle.std.proofs.Common.{◌≡◌, ℕ, ◌-◌, ◌<◌, ◌≤◌, false, true, List, IsTrue, take, drop, get_or, length, nat_le, refl, sym, ap, subst, ◌∙◌, arith}
+use Rattle.std.proofs.Common.{◌≡◌, ℕ, ◌-◌, ◌<◌, ◌≤◌, false, true, List, take, drop, get_or, length, nat_le, refl, sym, ap, subst, ◌∙◌, arith}
 use Rattle.std.specs.List.{list_all, list_any, remove, insert}
 use Rattle.version_list.specs.declared.histories.Version.{Version}
 use Rattle.version_list.specs.Lists.{Listed}

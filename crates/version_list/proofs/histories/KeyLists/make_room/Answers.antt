@@ -1,9 +1,9 @@
-use Rattle.std.proofs.Common.{◌≡◌, ◌++◌, true, false, nat_lt, List, ℕ, IsTrue, length, take, get_or, sym, ◌∙◌, ap, subst, refl, arith}
+use Rattle.std.proofs.Common.{◌≡◌, ◌++◌, true, false, nat_lt, IsTrue, length, take, get_or, sym, ◌∙◌, ap, subst, refl, arith}
 use Rattle.std.specs.Option.{option_map_or}
 use Rattle.std.proofs.lemmas.List.{take_more, take_all, length-map}
 use Rattle.std.proofs.lemmas.Slice.Eq.{bytes_eq-Decides}
 use Rattle.tardis_base.specs.Keys.{KeyWrite, are_ascending_keys, is_key_among, keys_of}
-use Rattle.version_list.specs.Lists.{Listed, keys_in, has_room_in, have_room_in, with_listed, new_keys}
+use Rattle.version_list.specs.Lists.{Listed, keys_in, has_room_in, have_room_in, new_keys}
 use Rattle.version_list.proofs.Rooms.{all-push, all-weaken}
 use Rattle.version_list.proofs.Listing.{listed-more, new-unused, taken_back, room-listed}
 use Rattle.version_list.proofs.histories.KeyLists.make_room.Goals as goal

@@ -1,4 +1,4 @@
-use Rattle.std.proofs.Common.{List, ℕ, [], bytes_eq, IsTrue, inl, inr, sym, ap, subst}
+use Rattle.std.proofs.Common.{List, ℕ, [], bytes_eq, IsTrue, inl, inr, sym, subst}
 use Rattle.std.specs.Option.{option_map_or}
 use Rattle.std.proofs.lemmas.Bool.{cases_Bool}
 use Rattle.std.proofs.lemmas.Slice.Eq.{bytes_eq-Decides}

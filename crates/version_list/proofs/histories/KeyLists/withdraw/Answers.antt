@@ -1,4 +1,4 @@
-use Rattle.std.proofs.Common.{◌≡◌, take, ap, ◌∙◌}
+use Rattle.std.proofs.Common.{take, ap, ◌∙◌}
 use Rattle.version_list.proofs.Listing.{cut-keys, cut-found, cut-same}
 use Rattle.version_list.proofs.histories.KeyLists.withdraw.Goals as goal
 

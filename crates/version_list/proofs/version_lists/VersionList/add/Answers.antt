@@ -8,7 +8,7 @@ pub invariant_of-self : goal.invariant_of-self
 invariant_of-self g c =
     let arrival = g.A.Above.arrival_of c.args.dag.now in (
       ap (λ v. v.items) c.replace-keys.ensures.after ∙ c.new.ensures.items,
-      noted-added arrival c.self.inside.lists c.add.new.self c.self.inside.keys.entries c.insert.new.self.entries c.args.slot c.args.writer c.args.writes c.from_vec.result
+      noted-added arrival c.self.inside.lists c.add.new.self c.self.inside.notes.by_slot c.put.new.self.by_slot c.args.slot c.args.writer c.args.writes c.from_vec.result
           c.self.invariant.1
           c.add.ensures.added
           (λ k.
@@ -16,5 +16,5 @@ invariant_of-self g c =
           ∙ c.add.ensures.written k
           ∙ ap (λ ks. is_key_among k ks || has_key k c.args.writes) c.self.invariant.0)
           (λ k. subst (λ (vs : Versions). IsTrue (have_come_before arrival c.args.slot (versions_of vs k))) (sym c.self.view_is) (c.requires.newest k))
-          (λ q. c.in-Ok.ensures.updates.0 q),
+          c.put.ensures,
     )

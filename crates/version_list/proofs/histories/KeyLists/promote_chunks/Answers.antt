@@ -1,0 +1,37 @@
+use Rattle.std.proofs.Common.{◌≡◌, ◌<◌, ◌+◌, ◌||◌, ◌&&◌, ℕ, List, length, sym, ap, ap₂, ◌∙◌, arith}
+use Rattle.version_list.specs.Lists.{versions_in}
+use Rattle.version_list.specs.Notes.{Chunks, is_key_in}
+use Rattle.version_list.specs.Promoted.{promoted_if, moves}
+use Rattle.version_list.proofs.Chunks.{in-first, one-fewer}
+use Rattle.version_list.proofs.Moves.{promoted-step, kept-step}
+use Rattle.version_list.proofs.histories.KeyLists.promote_chunks.Goals as goal
+
+pub loop-preserved : goal.loop-preserved
+loop-preserved g c =
+    let arrival = g.A.Above.arrival_of c.args.dag.now in
+    let from = c.args.from in
+    let to = c.args.to in
+    let old = c.loop.self in
+    let new = c.promote_first.new.self in
+    let first = c.take_first-first.result in
+    let rest = c.take_first-first.new.chunks in
+    let moved = c.loop.moved in
+    let split = λ (k : List ℕ). in-first k c.loop.rest ∙ ap₂ (λ (xs ys : Chunks). is_key_in k xs || is_key_in k ys) (sym c.take_first-first.ensures.first) (sym c.take_first-first.ensures.rest) in
+    let some : 0 < length c.loop.rest = omega (arith, c.loop.invariant.left, c.loop-test.true, c.len-end.ensures.value) in
+    let fewer : length rest + 1 ≡ length c.loop.rest = ap (λ (xs : Chunks). length xs + 1) c.take_first-first.ensures.rest ∙ one-fewer c.loop.rest some in
+    let one = c.promote_first.ensures.one in
+    record {
+      promoted = λ k.
+          promoted-step arrival from to c.requires.before (is_key_in k first) (is_key_in k rest) (versions_in old k) (versions_in new k) (c.promote_first.ensures.promoted k)
+          ∙ ap (λ b. promoted_if b arrival from to (versions_in old k)) (sym (split k))
+          ∙ c.loop.invariant.promoted k;
+      kept = λ k.
+          ap (λ b. b || (is_key_in k rest && moves from to (versions_in new k))) (c.keep.ensures.keys k ∙ ap (λ b. is_key_in k moved || b) (c.promote_first.ensures.kept k))
+          ∙ kept-step arrival from to c.requires.before (is_key_in k moved) (is_key_in k first) (is_key_in k rest) (versions_in old k) (versions_in new k) (c.promote_first.ensures.promoted k)
+          ∙ ap (λ b. is_key_in k moved || (b && moves from to (versions_in old k))) (sym (split k))
+          ∙ c.loop.invariant.kept k;
+      left = omega (arith, fewer, c.loop.invariant.left);
+      count = omega (arith, fewer, one, c.keep.ensures.count, c.loop.invariant.count);
+      keys = c.promote_first.ensures.keys ∙ c.loop.invariant.keys;
+      order = c.promote_first.ensures.order;
+    }

@@ -1,0 +1,17 @@
+use Rattle.std.proofs.Common.{◌≡◌, ◌≤◌, ◌+◌, ◌&&◌, ◌||◌, ℕ, List, length}
+use Rattle.version_list.specs.Lists.{keys_in, versions_in, AllInOrder}
+use Rattle.version_list.specs.Notes.{is_key_in}
+use Rattle.version_list.specs.Promoted.{promoted_if, moves}
+use Rattle.version_list.proofs.histories.KeyLists.promote_chunks.Given as goal
+
+abbrev pub invariant-loop : goal.invariant-loop
+invariant-loop g l = record {
+  promoted : (k : List ℕ) → promoted_if (is_key_in k l.rest) (g.A.Above.arrival_of l.dag) l.from l.to (versions_in l.self k)
+      ≡ promoted_if (is_key_in k l.fn.chunks) (g.A.Above.arrival_of l.dag) l.from l.to (versions_in l.fn.self k);
+  kept : (k : List ℕ) → (is_key_in k l.moved || (is_key_in k l.rest && moves l.from l.to (versions_in l.self k)))
+      ≡ (is_key_in k l.fn.chunks && moves l.from l.to (versions_in l.fn.self k));
+  left : l.counter + length l.rest ≡ length l.fn.chunks;
+  count : length l.moved + length l.rest ≤ length l.fn.chunks;
+  keys : keys_in l.self ≡ keys_in l.fn.self;
+  order : AllInOrder (g.A.Above.is_kept l.dag) (g.A.Above.arrival_of l.dag) l.self;
+}
