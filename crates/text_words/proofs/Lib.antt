@@ -5,3 +5,4 @@ pub mod WordsRead
 pub mod Putting
 pub mod TextReads
 pub mod IdsPrinted
+pub mod Sequences
