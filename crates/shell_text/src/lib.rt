@@ -1,6 +1,7 @@
 //! The lines of requests and replies.
 #![tactic(auto)]
 
+mod field_words;
 mod line_laws;
 
 pub use line_laws::{lines_are_read, lines_fit_their_room, lines_have_one_reading};
