@@ -3,3 +3,4 @@ pub mod RequestsRead
 pub mod RepliesRead
 pub mod Lengths
 pub mod Rows
+pub mod Arms
