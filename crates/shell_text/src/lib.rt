@@ -3,6 +3,7 @@
 
 mod field_words;
 mod line_laws;
+mod list_lines;
 mod refusal_lines;
 
 pub use line_laws::{lines_are_read, lines_fit_their_room, lines_have_one_reading};

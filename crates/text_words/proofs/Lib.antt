@@ -6,3 +6,4 @@ pub mod Putting
 pub mod TextReads
 pub mod IdsPrinted
 pub mod Sequences
+pub mod Ordered

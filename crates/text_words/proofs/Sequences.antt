@@ -1,6 +1,7 @@
 -- What is put one after another: what was taken first, lists, and lists of a number that was taken.
 use Rattle.std.proofs.Common.{◌≡◌, ℕ, suc, ◌+◌, ◌-◌, ◌≤◌, Bool, true, false, List, [], ◌∷◌, ◌++◌, Option, Some, None, ap, sym, ◌∙◌, refl, arith, append_assoc, append-nil}
-use Rattle.std.specs.Prelude.{option_and_then, flat_map}
+use Rattle.std.specs.Prelude.{option_and_then, flat_map, is_none}
+use Rattle.std.specs.Bool.{then_some}
 use Rattle.wire_item.specs.Fronts.{Front, nothing_but, only_if, both, after, times, counted, by_code, front_of_code}
 use Rattle.wire_item.specs.Readings.{u8_front}
 use Rattle.wire_item.proofs.Fronts.{made-read}
@@ -8,7 +9,7 @@ use Rattle.wire_item.proofs.Takings.{made-none, only_if-none, only_if-fails, aft
 use Rattle.wire_item.proofs.Fronts.{only_if-read}
 use Rattle.wire_item.proofs.Codes.{are_codes, code-read, code-none}
 use Rattle.wire_item.proofs.Lists.{more, more-none, more-some, times-first, times-more, times-none}
-use Rattle.text_words.specs.Puts.{Putting, putting, with_text, says, puts, TakesNext}
+use Rattle.text_words.specs.Puts.{Putting, putting, with_text, says, puts, texts, TakesNext}
 use Rattle.text_words.proofs.Putting.{says-puts}
 
 pub says-nothing : {B : Type 0} (b : B) (text : B → List ℕ) (s : Putting) → says (text b) s ≡ puts (nothing_but b) text s
@@ -73,24 +74,14 @@ none-longer {A} front (ℕ.suc n) start e = go (λ start e. none-longer front n 
         ∙ ap (more (read.0 ∷ [])) (again read.1 (none-less read.0 (times front n read.1) (sym (times-first front n start read.0 read.1 is) ∙ e)))
         ∙ more-none (read.0 ∷ [])
 
--- so many texts behind a first
-pub texts : {A : Type 0} → List ℕ → (A → List ℕ) → List A → List ℕ
-texts lead text xs = lead ++ flat_map text xs
-
 pub texts-none : {A : Type 0} (lead : List ℕ) (text : A → List ℕ) → texts lead text [] ≡ lead
-unfolding texts
 texts-none lead text = append-nil lead
-
-pub texts-are : {A : Type 0} (lead : List ℕ) (text : A → List ℕ) (xs : List A) → texts lead text xs ≡ lead ++ flat_map text xs
-unfolding texts
-texts-are lead text xs = refl
 
 flat-push : {A : Type 0} (text : A → List ℕ) (xs : List A) (x : A) → flat_map text (xs ++ x ∷ []) ≡ flat_map text xs ++ text x
 flat-push text [] x = append-nil (text x)
 flat-push text (y ∷ xs) x = ap (λ z. text y ++ z) (flat-push text xs x) ∙ sym (append_assoc (text y) (flat_map text xs) (text x))
 
 pub texts-push : {A : Type 0} (lead : List ℕ) (text : A → List ℕ) (xs : List A) (x : A) → texts lead text xs ++ text x ≡ texts lead text (xs ++ x ∷ [])
-unfolding texts
 texts-push lead text xs x = append_assoc lead (flat_map text xs) (text x) ∙ ap (λ z. lead ++ z) (sym (flat-push text xs x))
 
 pub times-start : {A : Type 0} (front : Front A) (lead : List ℕ) (text : A → List ℕ) (s : Putting) → says lead s ≡ puts (times front 0) (texts lead text) s
@@ -192,3 +183,50 @@ counted-refused {A} number front test text old n new line h fails =
     go left rest e None is = only_if-none test (counted number (times front)) left (counted-read number front left n rest e ∙ is)
     go left rest e (Some read) is =
         only_if-fails test (counted number (times front)) left read.0 read.1 (counted-read number front left n rest e ∙ is) (fails rest read.0 read.1 is)
+
+-- where the number passes, the things are tested by their order alone
+pub counted-ordered : {A : Type 0} (number : Front ℕ) (front : Front A) (test ascends : List A → Bool) (text : List A → List ℕ) (old : Option (List ℕ)) (n : ℕ) (new : Option (List ℕ)) (line : List ℕ)
+    → TakesNext number old (Some n) new → ((mid : List ℕ) (xs : List A) (rest : List ℕ) → times front n mid ≡ Some (xs, rest) → test xs ≡ ascends xs)
+    → puts (only_if ascends (times front n)) text (putting new line) ≡ puts (only_if test (counted number (times front))) text (putting old line)
+counted-ordered {A} number front test ascends text old n new line h same =
+    let x = next-some number old n new h in
+    ap (λ o. puts (only_if ascends (times front n)) text (putting o line)) x.to
+    ∙ sym (ap (option_and_then (λ read. with_text (text read.0) read.1 line)) (go x.left x.rest x.reads (times front n x.rest) refl))
+    ∙ ap (λ o. puts (only_if test (counted number (times front))) text (putting o line)) (sym x.from)
+  where
+    go : (left rest : List ℕ) → number left ≡ Some (n, rest) → (o : Option (List A × List ℕ)) → times front n rest ≡ o
+        → only_if test (counted number (times front)) left ≡ only_if ascends (times front n) rest
+    go left rest e None is =
+        only_if-none test (counted number (times front)) left (counted-read number front left n rest e ∙ is)
+        ∙ sym (only_if-none ascends (times front n) rest is)
+    go left rest e (Some read) is =
+        ap (option_and_then (λ r. then_some (test r.0) r)) (counted-read number front left n rest e ∙ is)
+        ∙ ap (λ t. then_some t read) (same rest read.0 read.1 is)
+        ∙ sym (ap (option_and_then (λ r. then_some (ascends r.0) r)) is)
+
+-- texts that are equal for what is read
+pub puts-read-same : {A : Type 0} (front : Front A) (t u : A → List ℕ) → ((left : List ℕ) (a : A) (rest : List ℕ) → front left ≡ Some (a, rest) → t a ≡ u a)
+    → (s : Putting) → puts front t s ≡ puts front u s
+puts-read-same front t u same None = refl
+puts-read-same {A} front t u same (Some s) = go (front s.0) refl
+  where
+    go : (o : Option (A × List ℕ)) → front s.0 ≡ o
+        → option_and_then {U = List ℕ × List ℕ} (λ read. with_text (t read.0) read.1 s.1) (front s.0) ≡ option_and_then (λ read. with_text (u read.0) read.1 s.1) (front s.0)
+    go None e =
+        ap (option_and_then (λ read. with_text (t read.0) read.1 s.1)) e ∙ sym (ap (option_and_then (λ read. with_text (u read.0) read.1 s.1)) e)
+    go (Some read) e =
+        ap (option_and_then (λ read. with_text (t read.0) read.1 s.1)) e ∙ ap (λ z. with_text z read.1 s.1) (same s.0 read.0 read.1 e)
+        ∙ sym (ap (option_and_then (λ read. with_text (u read.0) read.1 s.1)) e)
+
+-- fronts that read the same
+pub puts-front-same : {A : Type 0} (f g : Front A) (text : A → List ℕ) → ((left : List ℕ) → f left ≡ g left) → (s : Putting) → puts f text s ≡ puts g text s
+puts-front-same f g text same None = refl
+puts-front-same f g text same (Some s) = ap (option_and_then (λ read. with_text (text read.0) read.1 s.1)) (same s.0)
+
+pub none-lost : (o : Option (List ℕ)) → is_none o ≡ true → o ≡ None
+none-lost None e = refl
+none-lost (Some left) e = absurd (cc)
+
+pub some-left : (o : Option (List ℕ)) → is_none o ≡ false → (left : List ℕ) × (o ≡ Some left)
+some-left None e = absurd (cc)
+some-left (Some left) e = (left, refl)

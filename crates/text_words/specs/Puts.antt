@@ -1,5 +1,5 @@
 -- Writing words from bytes: what is left of the bytes, and the line so far.
-use Rattle.std.specs.Prelude.{◌≡◌, ℕ, ◌+◌, ◌==◌, Bool, false, List, ◌∷◌, ◌++◌, length, Option, Some, None, nat_le, option_and_then}
+use Rattle.std.specs.Prelude.{◌≡◌, ℕ, ◌+◌, ◌==◌, Bool, false, List, ◌∷◌, ◌++◌, length, Option, Some, None, flat_map, nat_le, option_and_then}
 use Rattle.std.specs.Bool.{then_some}
 use Rattle.wire_item.specs.Fronts.{Front}
 use Rattle.text_words.specs.Words.{Word}
@@ -41,3 +41,7 @@ TakesNext front old (Some a) new = (rest : List ℕ) × (option_and_then front o
 abbrev pub is_read : Option (List ℕ) → Bool
 is_read None = false
 is_read (Some left) = length left == 0
+
+-- a text, and then those of the things
+abbrev pub texts : {A : Type 0} → List ℕ → (A → List ℕ) → List A → List ℕ
+texts lead text things = lead ++ flat_map text things
