@@ -1,12 +1,20 @@
 //! Writing a name and the fields behind it from the bytes of a spelling.
 
 ghost use Rattle.std.specs.Prelude.{◌≡◌, ◌++◌};
-ghost use Rattle.text_words.specs.Puts.{putting, puts, spaced};
+ghost use Rattle.text_words.specs.Puts.{putting, puts, says, spaced};
 ghost use Rattle.text_words.specs.Words.{byte_word, id_word, number_word};
 ghost use Rattle.wire_item.specs.Fronts.{both};
 ghost use Rattle.wire_item.specs.Readings.{id_front, key_front, u16_front, u32_front, u64_front, u8_front, value_front};
 
 use text_words::{LineBuf, Unread};
+
+/// Writes a name and a number.
+pub fn say_numbered(name: &[u8], number: u64, unread: &mut Unread, out: &mut LineBuf)
+    ensures { putting unread.new out.new ≡ says (name.now ++ spaced (number_word number)) (putting unread.old out.old) }
+{
+    unread.say(name, out);
+    unread.say_number(number, out);
+}
 
 pub fn put_u8(name: &[u8], unread: &mut Unread, out: &mut LineBuf)
     ensures { putting unread.new out.new ≡ puts u8_front (λ x. name.now ++ spaced (number_word x)) (putting unread.old out.old) }

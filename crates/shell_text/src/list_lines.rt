@@ -82,7 +82,7 @@ pub fn put_pairs(lead: &[u8], count: u32, unread: &mut Unread, out: &mut LineBuf
 }
 
 /// Writes the text, and then so many ids in ascending order.
-fn put_ascending_ids(lead: &[u8], count: u8, unread: &mut Unread, out: &mut LineBuf)
+pub fn put_ascending_ids(lead: &[u8], count: u8, unread: &mut Unread, out: &mut LineBuf)
     ensures { putting unread.new out.new
         ≡ puts (only_if are_ascending (times id_front count)) (texts lead.now (λ x. spaced (id_word x))) (putting unread.old out.old) }
 {
@@ -106,7 +106,7 @@ fn put_ascending_ids(lead: &[u8], count: u8, unread: &mut Unread, out: &mut Line
 }
 
 /// Writes the text, and then so many keys in ascending order.
-fn put_ascending_keys(lead: &[u8], count: u16, unread: &mut Unread, out: &mut LineBuf)
+pub fn put_ascending_keys(lead: &[u8], count: u16, unread: &mut Unread, out: &mut LineBuf)
     ensures { putting unread.new out.new
         ≡ puts (only_if are_ascending_keys (times key_front count)) (texts lead.now (λ k. spaced (byte_word k))) (putting unread.old out.old) }
 {
