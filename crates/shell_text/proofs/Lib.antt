@@ -5,3 +5,6 @@ pub mod Lengths
 pub mod Rows
 pub mod Arms
 pub mod LineTexts
+pub mod Passings
+pub mod Finished
+pub mod ReplyFits

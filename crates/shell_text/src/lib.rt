@@ -5,8 +5,10 @@ mod field_words;
 mod line_laws;
 mod list_fields;
 mod list_lines;
+mod passing;
 mod refusal_lines;
 mod reply_lines;
 
 pub use line_laws::{lines_are_read, lines_fit_their_room, lines_have_one_reading};
+pub use reply_lines::put_reply_line;
 pub use text_words::LineBuf;

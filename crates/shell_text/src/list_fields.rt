@@ -110,7 +110,7 @@ pub fn put_first_keys(total: u32, unread: &mut Unread, out: &mut LineBuf)
     }
 }
 
-fn is_parent_count(count: u8) -> bool
+pub fn is_parent_count(count: u8) -> bool
     ensures { result ≡ is_within 1 most_parents count }
 {
     (1..=MAX_PARENTS).contains(&usize::from(count))

@@ -1,6 +1,10 @@
-//! Writing replies from the bytes that spell them.
+//! Writing the lines of replies from the bytes that spell them. It takes no memory.
+//!
+//! How lines are written is stated in `docs/FORMATS.md`. The cost grows with the number of bytes.
 
-ghost use Rattle.std.specs.Prelude.{◌≡◌, ◌<◌, ◌≤◌, ◌++◌, codes, length};
+ghost use Rattle.std.specs.Prelude.{◌≡◌, ◌+◌, ◌<◌, ◌≤◌, [], ◌∷◌, ◌++◌, codes, length};
+ghost use Rattle.shell_text.specs.Spelled.{reply_line_of};
+ghost use Rattle.tardis_base.specs.Sizes.{longest_frame};
 ghost use Rattle.shell_text.specs.ReplyLines.{pair_word, refusal_words, reply_line, site_line_word};
 ghost use Rattle.text_words.specs.Puts.{putting, puts, spaced, texts};
 ghost use Rattle.text_words.specs.Words.{byte_word, id_word, line, number_word};
@@ -12,14 +16,60 @@ use crate::field_words::{put_id, put_id_and_u32, put_id_and_value, put_u16, put_
 use crate::list_fields::{
     put_children, put_first_ids, put_first_keys, put_parents, put_path, put_sites,
 };
+use crate::passing::pass_batch;
 use crate::refusal_lines::put_refusal;
 use text_words::{LineBuf, Unread};
+use wire_item::Reader;
 
-/// The code of the reply that has a batch, which is written by itself.
-pub const BATCH: u8 = 16;
+/// The code of the reply that has a batch, which is written in hexadecimal as it stands.
+const BATCH: u8 = 16;
+
+/// Writes the line of the reply that the bytes spell, and nothing where they spell none. What the buffer held is forgotten.
+pub fn put_reply_line(reply: &[u8], out: &mut LineBuf)
+    requires { length reply.now ≤ longest_frame }
+    ensures { out.new ≡ reply_line_of reply.now }
+{
+    out.clear();
+    if let Some((code, fields)) = reply.split_first() {
+        if *code == BATCH {
+            put_batch_line(fields, out);
+        } else {
+            put_fields_line(*code, fields, out);
+        }
+    }
+}
+
+/// The line of the reply with the code, which isn't that of a batch.
+fn put_fields_line(code: u8, fields: &[u8], out: &mut LineBuf)
+    requires other { code ≡ 16 → ⊥ }
+    requires empty { out.old ≡ [] }
+    requires fits { length fields.now + 1 ≤ longest_frame }
+    ensures { out.new ≡ reply_line_of (code ∷ fields.now) }
+{
+    let mut unread = Unread::new(fields);
+    put_coded_reply(code, &mut unread, out);
+    if !unread.is_read() {
+        out.clear();
+    }
+}
+
+/// The line of the reply with a batch.
+fn put_batch_line(batch: &[u8], out: &mut LineBuf)
+    requires empty { out.old ≡ [] }
+    requires fits { length batch.now + 1 ≤ longest_frame }
+    ensures { out.new ≡ reply_line_of (16 ∷ batch.now) }
+{
+    let mut reader = Reader::new(batch);
+    if pass_batch(&mut reader) {
+        if reader.is_done() {
+            let mut unread = Unread::new(b"");
+            unread.say_hex(b"batch ", batch, out);
+        }
+    }
+}
 
 /// The reply of the code, which isn't that of a batch.
-pub fn put_coded_reply(code: u8, unread: &mut Unread, out: &mut LineBuf)
+fn put_coded_reply(code: u8, unread: &mut Unread, out: &mut LineBuf)
     requires { code ≡ 16 → ⊥ }
     ensures { putting unread.new out.new ≡ puts (front_of_code code reply_rows) reply_line (putting unread.old out.old) }
 {
