@@ -1,7 +1,7 @@
 -- What is passed over.
-use Rattle.std.proofs.Common.{◌≡◌, ℕ, Bool, true, false, List, Option, Some, None, Result, Err, ◌∙◌, refl}
+use Rattle.std.proofs.Common.{◌≡◌, ℕ, Bool, true, false, List, Some, None, Result, Err, ◌∙◌, refl}
 use Rattle.tardis_base.specs.declared.faults.NoMemory.{NoMemory}
-use Rattle.wire_item.specs.Fronts.{Front, made, only_if, times, counted}
+use Rattle.wire_item.specs.Fronts.{Front, made, only_if}
 use Rattle.tardis_base.specs.declared.records.Record.{Record}
 use Rattle.wire_item.specs.Readings.{records_front, consents_front, batch_front}
 use Rattle.wire_item.specs.Takings.{Makes}

@@ -1,14 +1,12 @@
 -- A reply that bytes of a frame spell has a line that fits.
 use Rattle.std.proofs.Common.{◌≡◌, ℕ, ◌+◌, ◌≤◌, Bool, true, false, List, [], ◌∷◌, ◌++◌, length, Option, Some, None, ap, sym, ◌∙◌, refl, arith, codes}
-use Rattle.std.specs.Option.{option_map_or}
 use Rattle.tardis_base.specs.Sizes.{longest_frame}
 use Rattle.tardis_base.specs.declared.replies.Reply.{Reply}
-use Rattle.wire_item.specs.Fronts.{front_of_code, whole}
 use Rattle.wire_item.proofs.Laws.{whole-source}
-use Rattle.wire_talk.specs.ReplyReadings.{reply_rows, reply_front, reply_of}
+use Rattle.wire_talk.specs.ReplyReadings.{reply_front, reply_of}
 use Rattle.wire_talk.specs.Spellings.{reply_spelling}
 use Rattle.wire_talk.proofs.Replies.{reads-reply}
-use Rattle.text_words.specs.Puts.{longest_line, putting, puts}
+use Rattle.text_words.specs.Puts.{longest_line}
 use Rattle.shell_text.specs.ReplyLines.{reply_line}
 use Rattle.shell_text.proofs.Lengths.{reply-lines-fit}
 
