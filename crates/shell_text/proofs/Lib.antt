@@ -8,3 +8,4 @@ pub mod LineTexts
 pub mod Passings
 pub mod Finished
 pub mod ReplyFits
+pub mod RequestFits

@@ -54,7 +54,7 @@ line-refused (BagFull batches) = refl
 
 -- ---- numbers of things
 
-times-length : {A : Type 0} (front : Front A) (n : ℕ) (left : List ℕ) (xs : List A) (rest : List ℕ) → times front n left ≡ Some (xs, rest) → length xs ≡ n
+pub times-length : {A : Type 0} (front : Front A) (n : ℕ) (left : List ℕ) (xs : List A) (rest : List ℕ) → times front n left ≡ Some (xs, rest) → length xs ≡ n
 times-length front ℕ.zero left xs rest e = ap length (sym (some-parts [] xs left rest e).0)
 times-length front (ℕ.suc n) left xs rest e =
     let m = made-source (λ read. read.0 ∷ read.1) (both front (times front n)) left xs rest e in
