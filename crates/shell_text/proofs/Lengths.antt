@@ -43,7 +43,7 @@ word-length w = length-append w (32 ∷ [])
 u8-length : (n : ℕ) → IsTrue (is_u8 n) → length (number_word n) ≤ 3
 u8-length n h = let b = ltb-true n 256 h in length-decimal-le 3 n (omega arith) (omega arith) (omega arith)
 
-u16-length : (n : ℕ) → IsTrue (is_u16 n) → length (number_word n) ≤ 5
+pub u16-length : (n : ℕ) → IsTrue (is_u16 n) → length (number_word n) ≤ 5
 u16-length n h = let b = ltb-true n (2 ^ 16) h in length-decimal-le 5 n (omega arith) (omega arith) (omega arith)
 
 u32-length : (n : ℕ) → IsTrue (is_u32 n) → length (number_word n) ≤ 10

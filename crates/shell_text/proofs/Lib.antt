@@ -3,3 +3,9 @@ pub mod RequestsRead
 pub mod RepliesRead
 pub mod Lengths
 pub mod Rows
+pub mod Arms
+pub mod LineTexts
+pub mod Passings
+pub mod Finished
+pub mod ReplyFits
+pub mod RequestFits

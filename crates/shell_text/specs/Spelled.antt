@@ -26,7 +26,10 @@ SpellsReplyLine = Spells is_reply reply_line
 abbrev pub reply_line_of : List ℕ → List ℕ
 reply_line_of bytes = option_map_or reply_line (reply_of bytes) []
 
--- the line of the request that the bytes spell; the actor and a word where they spell none
+-- what stands for bytes that spell no request: the actor and a word
+abbrev pub malformed_line : ℕ → List ℕ
+malformed_line actor = line (number_word actor ∷ codes "malformed" ∷ [])
+
+-- the line of the request that the bytes spell
 abbrev pub request_line_of : ℕ → List ℕ → List ℕ
-request_line_of actor bytes =
-    option_map_or (λ request. request_line (actor, request)) (request_of bytes) (line (number_word actor ∷ codes "malformed" ∷ []))
+request_line_of actor bytes = option_map_or (λ request. request_line (actor, request)) (request_of bytes) (malformed_line actor)

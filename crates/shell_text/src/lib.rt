@@ -1,7 +1,17 @@
 //! The lines of requests and replies.
 #![tactic(auto)]
 
+mod field_words;
 mod line_laws;
+mod list_fields;
+mod list_lines;
+mod passing;
+mod refusal_lines;
+mod reply_lines;
+mod request_fields;
+mod request_lines;
 
 pub use line_laws::{lines_are_read, lines_fit_their_room, lines_have_one_reading};
+pub use reply_lines::put_reply_line;
+pub use request_lines::put_request_line;
 pub use text_words::LineBuf;

@@ -5,3 +5,5 @@ pub mod WordsRead
 pub mod Putting
 pub mod TextReads
 pub mod IdsPrinted
+pub mod Sequences
+pub mod Ordered

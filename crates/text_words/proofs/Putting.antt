@@ -1,10 +1,13 @@
 -- Texts that are written one after another.
-use Rattle.std.proofs.Common.{◌≡◌, ℕ, ◌+◌, Bool, true, false, List, ◌++◌, length, nat_le, ◌<◌, Option, Some, None, ap, ap₂, sym, ◌∙◌, refl, arith, append_assoc, length-append, if◌then◌else◌}
+use Rattle.std.proofs.Common.{◌≡◌, ℕ, ◌+◌, Bool, true, false, not, Bor, List, ◌++◌, length, nat_le, ◌<◌, Option, Some, None, ap, ap₂, sym, ◌∙◌, refl, arith, append_assoc, length-append, if◌then◌else◌}
 use Rattle.std.proofs.lemmas.Bool.{lt-leb, leb-false}
-use Rattle.std.specs.Prelude.{option_map, option_and_then}
+use Rattle.std.specs.Prelude.{option_map, option_and_then, is_some}
+use Rattle.std.specs.Option.{option_copied}
 use Rattle.std.specs.Bool.{then_some}
 use Rattle.wire_item.specs.Fronts.{Front, made, both, after}
-use Rattle.text_words.specs.Puts.{Putting, putting, with_text, says, puts, longest_line}
+use Rattle.wire_item.specs.Takings.{Takes}
+use Rattle.wire_item.proofs.Takings.{taken, untaken}
+use Rattle.text_words.specs.Puts.{Putting, putting, with_text, says, puts, longest_line, TakesNext}
 
 -- two texts are written as one
 pub with_text-twice : (x y left line : List ℕ) → says y (with_text x left line) ≡ with_text (x ++ y) left line
@@ -114,3 +117,25 @@ still lost left e = ap (λ t. if t then None else Some left) e
 
 pub found : (lost : Bool) (left : List ℕ) (view : Option (List ℕ)) → (if lost then None else Some left) ≡ view → lost ≡ false → view ≡ Some left
 found lost left view is e = sym is ∙ still lost left e
+
+-- ---- what is taken and not written at once
+
+pub next-lost : {A : Type 0} (front : Front A) (lost : Bool) (left : List ℕ) (view : Option (List ℕ)) → (if lost then None else Some left) ≡ view → lost ≡ true
+    → TakesNext front view None view
+unfolding TakesNext
+next-lost front lost left view is e =
+    let none : view ≡ None = sym is ∙ ap (λ t. if t then None else Some left) e in
+    (ap (option_and_then front) none, none)
+
+-- what was taken, where nothing was lost before
+pub next-read : {A : Type 0} (front : Front A) (left : List ℕ) (view : Option (List ℕ)) (a : Option A) (new : List ℕ) (t : Bool) → view ≡ Some left
+    → Takes front left a new → is_some a ≡ not t → TakesNext front view a (if t then None else Some new)
+unfolding TakesNext
+next-read front left view None new true is h e = (ap (option_and_then front) is ∙ untaken front left new h, refl)
+next-read front left view None new false is h e = absurd (cc)
+next-read front left view (Some a) new true is h e = absurd (cc)
+next-read front left view (Some a) new false is h e = (new, ap (option_and_then front) is ∙ taken front left new a h, refl)
+
+pub copied-some : {T : Type 0} (o : Option (Bor T)) → is_some (option_copied o) ≡ is_some o
+copied-some None = refl
+copied-some (Some b) = refl

@@ -1,5 +1,5 @@
 -- Writing words from bytes: what is left of the bytes, and the line so far.
-use Rattle.std.specs.Prelude.{ℕ, ◌+◌, List, ◌∷◌, ◌++◌, length, Option, Some, None, nat_le, option_and_then}
+use Rattle.std.specs.Prelude.{◌≡◌, ℕ, ◌+◌, ◌==◌, Bool, false, List, ◌∷◌, ◌++◌, length, Option, Some, None, flat_map, nat_le, option_and_then}
 use Rattle.std.specs.Bool.{then_some}
 use Rattle.wire_item.specs.Fronts.{Front}
 use Rattle.text_words.specs.Words.{Word}
@@ -31,3 +31,17 @@ puts front text state = option_and_then (λ s. option_and_then (λ read. with_te
 -- a word behind a space
 abbrev pub spaced : Word → List ℕ
 spaced word = 32 ∷ word
+
+-- the thing at the front of what is left, and then what stands behind it is left; once none stood there, nothing is
+unfoldable pub TakesNext : {A : Type 0} → Front A → Option (List ℕ) → Option A → Option (List ℕ) → Type 0
+TakesNext front old None new = (option_and_then front old ≡ None) × (new ≡ None)
+TakesNext front old (Some a) new = (rest : List ℕ) × (option_and_then front old ≡ Some (a, rest)) × (new ≡ Some rest)
+
+-- nothing else was met, and no bytes are left
+abbrev pub is_read : Option (List ℕ) → Bool
+is_read None = false
+is_read (Some left) = length left == 0
+
+-- a text, and then those of the things
+abbrev pub texts : {A : Type 0} → List ℕ → (A → List ℕ) → List A → List ℕ
+texts lead text things = lead ++ flat_map text things

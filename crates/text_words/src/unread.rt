@@ -1,8 +1,10 @@
 //! The bytes of a spelling from which words are written.
 
-ghost use Rattle.std.specs.Prelude.{◌≡◌, ◌++◌, Some};
-ghost use Rattle.text_words.specs.Puts.{putting, puts, says, spaced};
+ghost use Rattle.std.specs.Prelude.{◌≡◌, ◌++◌, None, Some, is_none};
+ghost use Rattle.std.specs.Option.{option_copied};
+ghost use Rattle.text_words.specs.Puts.{TakesNext, is_read, putting, puts, says, spaced};
 ghost use Rattle.text_words.specs.Words.{are_printed, byte_word, hex_word, id_word, is_plain, number_word};
+ghost use Rattle.wire_item.specs.Fronts.{bytes_front};
 ghost use Rattle.wire_item.specs.Readings.{id_front, key_front, u16_front, u32_front, u64_front, u8_front, value_front};
 
 use crate::line_bufs::LineBuf;
@@ -36,6 +38,95 @@ impl<'a> Unread<'a> {
         }
     }
 
+    /// Whether nothing else was met, and no bytes are left.
+    pub fn is_read(&self) -> bool
+        ensures { result ≡ is_read self.now }
+    {
+        !self.is_lost && self.reader.is_done()
+    }
+
+    /// Whether something else than the spelling was met, or the line was too long.
+    pub fn is_lost(&self) -> bool
+        ensures { result ≡ is_none self.now }
+    {
+        self.is_lost
+    }
+
+    /// Something else than the spelling was met.
+    pub fn lose(&mut self)
+        ensures { self.new ≡ None }
+    {
+        self.is_lost = true;
+    }
+
+    pub fn u8(&mut self) -> Option<u8>
+        ensures { TakesNext u8_front self.old result self.new }
+    {
+        if self.is_lost {
+            return None;
+        }
+        let taken = self.reader.u8();
+        self.is_lost = taken.is_none();
+        taken
+    }
+
+    pub fn u16(&mut self) -> Option<u16>
+        ensures { TakesNext u16_front self.old result self.new }
+    {
+        if self.is_lost {
+            return None;
+        }
+        let taken = self.reader.u16();
+        self.is_lost = taken.is_none();
+        taken
+    }
+
+    pub fn u32(&mut self) -> Option<u32>
+        ensures { TakesNext u32_front self.old result self.new }
+    {
+        if self.is_lost {
+            return None;
+        }
+        let taken = self.reader.u32();
+        self.is_lost = taken.is_none();
+        taken
+    }
+
+    pub fn id(&mut self) -> Option<StateId>
+        ensures { TakesNext id_front self.old result self.new }
+    {
+        if self.is_lost {
+            return None;
+        }
+        let taken = self.reader.id();
+        self.is_lost = taken.is_none();
+        taken
+    }
+
+    /// The bytes of a key.
+    pub fn key(&mut self) -> Option<&'a [u8]>
+        ensures { TakesNext key_front self.old (option_copied result) self.new }
+    {
+        if self.is_lost {
+            return None;
+        }
+        let taken = self.reader.key();
+        self.is_lost = taken.is_none();
+        taken
+    }
+
+    /// So many bytes.
+    pub fn counted_bytes(&mut self, count: u8) -> Option<&'a [u8]>
+        ensures { TakesNext (bytes_front count) self.old (option_copied result) self.new }
+    {
+        if self.is_lost {
+            return None;
+        }
+        let taken = self.reader.bytes(usize::from(count));
+        self.is_lost = taken.is_none();
+        taken
+    }
+
     /// Writes the text.
     pub fn say(&mut self, text: &[u8], out: &mut LineBuf)
         ensures { putting self.new out.new ≡ says text.now (putting self.old out.old) }
@@ -46,7 +137,7 @@ impl<'a> Unread<'a> {
     }
 
     /// Writes the text, and then the bytes in hexadecimal.
-    fn say_hex(&mut self, lead: &[u8], bytes: &[u8], out: &mut LineBuf)
+    pub fn say_hex(&mut self, lead: &[u8], bytes: &[u8], out: &mut LineBuf)
         ensures { putting self.new out.new ≡ says (lead.now ++ hex_word bytes.now) (putting self.old out.old) }
     {
         self.say(lead, out);
@@ -55,6 +146,15 @@ impl<'a> Unread<'a> {
             let _ = hex::encode_to_slice([*byte], &mut digits);
             self.say(&digits, out);
         }
+    }
+
+    /// Writes the text, and then the number behind it.
+    pub fn say_digits(&mut self, lead: &[u8], number: u64, out: &mut LineBuf)
+        ensures { putting self.new out.new ≡ says (lead.now ++ number_word number) (putting self.old out.old) }
+    {
+        let mut digits = Buffer::new();
+        self.say(lead, out);
+        self.say(digits.format(number).as_bytes(), out);
     }
 
     /// Writes the number as a word.
@@ -85,6 +185,35 @@ impl<'a> Unread<'a> {
             self.say(bytes, out);
         } else {
             self.say_hex(b" #", bytes, out);
+        }
+    }
+
+    /// Writes the text, and then the number behind it.
+    pub fn put_u32_behind(&mut self, lead: &[u8], out: &mut LineBuf)
+        ensures { putting self.new out.new ≡ puts u32_front (λ n. lead.now ++ number_word n) (putting self.old out.old) }
+    {
+        if self.is_lost {
+            return;
+        }
+        match self.reader.u32() {
+            Some(number) => self.say_digits(lead, u64::from(number), out),
+            None => self.is_lost = true,
+        }
+    }
+
+    /// Writes the text, and then the id behind it.
+    pub fn put_id_behind(&mut self, lead: &[u8], out: &mut LineBuf)
+        ensures { putting self.new out.new ≡ puts id_front (λ x. lead.now ++ id_word x) (putting self.old out.old) }
+    {
+        if self.is_lost {
+            return;
+        }
+        match self.reader.id() {
+            Some(id) => {
+                self.say_digits(lead, u64::from(id.site), out);
+                self.say_digits(b".", u64::from(id.sequence), out);
+            },
+            None => self.is_lost = true,
         }
     }
 
