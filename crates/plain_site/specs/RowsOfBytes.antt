@@ -1,6 +1,6 @@
 -- Worked rows: requests and replies in bytes.
 use Rattle.std.specs.Prelude.{List, [], ◌∷◌, ◌++◌, replicate}
-use Rattle.plain_site.specs.Built.{everything, so_far}
+use Rattle.plain_site.specs.Built.{everything, so_far, all_but_tidy}
 use Rattle.plain_site.specs.RowWords.{lone_site}
 use Rattle.plain_site.specs.RowByteWords.{ByteLine, TalkInBytes, ◌sends◌=>◌, hex}
 
@@ -24,13 +24,13 @@ WriteIsReadBackByTheWhole = TalkInBytes everything lone_site put_and_read
 
 -- ===== What isn't built, and what is no request
 
--- Tidy, spelled right, isn't built: that is said before all else
+-- where Tidy isn't built, that is said before all else
 abbrev pub UnbuiltIsUnsupported : Type 0
-UnbuiltIsUnsupported = TalkInBytes so_far lone_site (1 sends hex "0f 00000001" => hex "15 1b 0f" ∷ [])
+UnbuiltIsUnsupported = TalkInBytes all_but_tidy lone_site (1 sends hex "0f 00000001" => hex "15 1b 0f" ∷ [])
 
 -- an operation that isn't built is told by its code, whatever follows
 abbrev pub UnbuiltOperationIsTold : Type 0
-UnbuiltOperationIsTold = TalkInBytes so_far lone_site (1 sends hex "0f ff ff" => hex "15 1b 0f" ∷ 1 sends hex "0f" => hex "15 1b 0f" ∷ [])
+UnbuiltOperationIsTold = TalkInBytes all_but_tidy lone_site (1 sends hex "0f ff ff" => hex "15 1b 0f" ∷ 1 sends hex "0f" => hex "15 1b 0f" ∷ [])
 
 -- what is built is told that there is no session for it
 abbrev pub BuiltIsNotOpen : Type 0

@@ -21,4 +21,5 @@ pub mod Ordering
 pub mod MergeShows
 pub mod Merging
 pub mod FloorMoves
+pub mod Tidying
 pub mod Exchanging

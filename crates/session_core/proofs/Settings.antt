@@ -161,7 +161,7 @@ module _ (site : Site) (n : ℕ) where
       ∷ refuse_found (λ s. Held s.0 s.1.ceiling) (holding_session site.dag site.sessions x)
       ∷ []))
   step-same RaiseAuto = step-keeps P site old so_far n RaiseAuto (raised-same (automatic_floor site.dag (own_floor site).state site.sessions) [])
-  step-same (Tidy count) = old
+  step-same (Tidy count) = step-keeps P site old so_far n (Tidy count) (refl, refl)
   step-same Stat = step-keeps P site old so_far n Stat old
   step-same (Show x) =
       step-keeps P site old so_far n (Show x)

@@ -8,23 +8,25 @@ ghost use Rattle.plain_site.specs.Built.{so_far};
 ghost use Rattle.plain_site.specs.Step.{step, is_sure};
 ghost use Rattle.plain_site.specs.Exchange.{deliver};
 ghost use Rattle.session_core.specs.Gives.{Answers, Gives, IsGiven, NeedsNoMemory, ToldAs};
+ghost use Rattle.session_core.specs.Stands.{StandsForSite};
 ghost use Rattle.session_core.specs.Machine.{SiteStands, IsTold, opened_with, writing};
 
 use crate::stops::Stop;
 use crate::{Parts, SiteCore};
-use tardis_base::{Item, Key, NoMemory, Refusal, Reply, Request, Write};
+use tardis_base::{Item, Key, NoMemory, Reply, Request, Write};
 
 /// Whether the operation of this code is built.
 pub fn is_built(op: u8) -> bool
     ensures { result ≡ so_far.operation op }
 {
-    matches!(op, 1..=14 | 16..=22)
+    matches!(op, 1..=22)
 }
 
 impl Parts {
     /// Answers the actor's request by its own method. What isn't built is refused before all else.
     fn serve(&mut self, actor: u16, request: &Request) -> Result<Reply, Stop>
-        requires { IsTrue (is_request request.now) }
+        requires request { IsTrue (is_request request.now) }
+        requires stands { StandsForSite self.old }
         ensures given { Answers self.old self.new result (λ site. step so_far site actor request.now) }
         ensures sure { IsTrue (is_sure request.now) → NeedsNoMemory result }
     {
@@ -52,7 +54,7 @@ impl Parts {
             Request::Deliver { item } => self.deliver(item.copy()?),
             Request::Settle => self.settle(),
             Request::Close => self.close(actor),
-            Request::Tidy { .. } => Err(Stop::Refused(Refusal::Unsupported { op: 15 })),
+            Request::Tidy { n } => Ok(self.tidy(*n)),
         }
     }
 }

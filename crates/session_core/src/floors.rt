@@ -6,10 +6,10 @@ ghost use Rattle.plain_site.specs.Built.{so_far};
 ghost use Rattle.plain_site.specs.Sound.{IsSound};
 ghost use Rattle.plain_site.specs.Answers.{without_txn};
 ghost use Rattle.plain_site.specs.Sessions.{set_ceiling as set_ceiling_of};
-ghost use Rattle.plain_site.specs.FloorSteps.{raise as raise_of, raise_auto as raise_auto_of};
+ghost use Rattle.plain_site.specs.FloorSteps.{raise as raise_of, raise_auto as raise_auto_of, tidy as tidy_of};
 ghost use Rattle.session_core.specs.Stops.{refusal_of};
-ghost use Rattle.session_core.specs.Stands.{CoreStands};
-ghost use Rattle.session_core.specs.Gives.{GivesOrStops, NeedsNoMemory};
+ghost use Rattle.session_core.specs.Stands.{CoreStands, StandsForSite};
+ghost use Rattle.session_core.specs.Gives.{GivesOrStops, IsGiven, NeedsNoMemory};
 
 use crate::Parts;
 use crate::stops::Stop;
@@ -93,6 +93,17 @@ impl Parts {
             }),
             Err(SeqEnd) => Err(Stop::Refused(Refusal::SeqEnd)),
         }
+    }
+
+    /// Collects up to `n` closed states, the collectable one that arrived last first, and tells how many. It takes no memory.
+    ///
+    /// The cost is that of `path_compress::tidy`.
+    pub(crate) fn tidy(&mut self, n: u16) -> Reply
+        requires { StandsForSite self.old }
+        ensures { (site : Site) → CoreStands self.old site → IsSound so_far site → IsGiven (CoreStands self.new) (tidy_of site n) result }
+    {
+        let collected = path_compress::tidy(&mut self.store, &mut self.book, n);
+        Reply::Tidied { collected }
     }
 }
 

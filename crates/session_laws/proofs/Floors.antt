@@ -45,7 +45,7 @@ pub kept-beneath : (rs : List Record) → IsDag rs → (ks : List StateId) (c x 
 kept-beneath rs dag ks c x under known above = and_from (is_known rs x) (not (is_among x ks)) known (not_from_false (is_among x ks) (none-beneath rs dag ks c x under above))
 
 -- tests that agree pass the same last
-last-agrees : (p q : StateId → Bool) (xs : List StateId) → ((x : StateId) → IsTrue (is_among x xs) → p x ≡ q x) → last_passing p xs ≡ last_passing q xs
+pub last-agrees : (p q : StateId → Bool) (xs : List StateId) → ((x : StateId) → IsTrue (is_among x xs) → p x ≡ q x) → last_passing p xs ≡ last_passing q xs
 last-agrees p q [] same = refl
 last-agrees p q (x ∷ xs) same = ap₂ or_else (last-agrees p q xs (λ z m. same z (among-later z x xs m))) (ap (λ t. cond t (Some x) None) (same x (among-first x xs)))
 

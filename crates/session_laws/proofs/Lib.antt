@@ -10,6 +10,7 @@ pub mod Requests
 pub mod Shows
 pub mod Commits
 pub mod Floors
+pub mod Tidies
 pub mod OneReply
 pub mod Judged
 pub mod Deliveries

@@ -22,6 +22,7 @@ use Rattle.session_laws.proofs.Requests.{open-alike, begin-alike, get-alike, set
 use Rattle.session_laws.proofs.Shows.{fork-points-alike, conflicts-alike, stat-alike, show-alike, leaves-shown-alike}
 use Rattle.session_laws.proofs.Commits.{commit-alike}
 use Rattle.session_laws.proofs.Floors.{ceiling-alike, raise-alike, raise-auto-alike}
+use Rattle.session_laws.proofs.Tidies.{tidy-alike}
 use Rattle.session_laws.proofs.Deliveries.{deliver-alike, settle-alike}
 use Rattle.session_laws.proofs.Pulls.{pull-alike}
 
@@ -64,7 +65,7 @@ module _ (core : Core) (a b : Site) (on_a : SiteStands core a) (on_b : SiteStand
       step-alike a b so_far n (Ceiling x) (for-none (λ s. set_ceiling a n s x) (λ s. set_ceiling b n s x) (λ s e. ceiling-alike core a b on_a on_b n s e x))
   one-reply (Raise x) valid = step-alike a b so_far n (Raise x) (raise-alike core a b on_a on_b x)
   one-reply RaiseAuto valid = step-alike a b so_far n RaiseAuto (raise-auto-alike core a b on_a on_b)
-  one-reply (Tidy count) valid = refl
+  one-reply (Tidy count) valid = step-alike a b so_far n (Tidy count) (tidy-alike core a b on_a on_b count)
   one-reply Stat valid = step-alike a b so_far n Stat (stat-alike core a b on_a on_b n)
   one-reply (Show x) valid = step-alike a b so_far n (Show x) (show-alike core a b on_a on_b n x)
   one-reply Leaves valid = step-alike a b so_far n Leaves (leaves-shown-alike core a b on_a on_b n)

@@ -63,6 +63,19 @@ pub const RAISED_CHAIN: &str = "\
 2 0202           150a000100000003000100000005 begin parent => refused below 1.3 1.5
 2 0201           02000100000005               begin ancestor => begun 1.5";
 
+/// After the raised chain: what is above the floor is collected, the one that arrived last first, and all reads stay.
+pub const COLLECTED_CHAIN: &str = "\
+0 0f0002         0d00000002                                             tidy 2 => tidied 2
+0 11000100000004 1513000100000004                                       show 1.4 => refused collected 1.4
+0 11000100000002 0f00000000000000020000000100010000000300000000         show 1.2 => shown 2 children 1 1.3 path 0
+0 0f00ff         0d00000003                                             tidy 255 => tidied 3
+0 0f0001         0d00000000                                             tidy 1 => tidied 0
+0 10             0e000000000000000600000001000000010002010000000500010000000500000002 stat => 6 known 1 kept
+0 11000100000003 1513000100000003                                       show 1.3 => refused collected 1.3
+2 030178         04000100000004000134                                   get x => value 1.4 4
+1 0200           02000100000005                                         begin any => begun 1.5
+1 030179         04000100000002000132                                   get y => value 1.2 2";
+
 /// The ceiling of a session that follows goes with its commits, and the automatic floor with it. New sessions open under it.
 pub const FOLLOWED: &str = "\
 1 0101         01000000000000               open follow => opened 0.0

@@ -1,6 +1,6 @@
 //! Worked rows: an actor, the bytes of its request, those of the reply, and both in words.
 
-/// Bytes that are answered, some of them malformed, some of operations that aren't built.
+/// Bytes that are answered, some of them malformed.
 pub const TALK: &str = "\
 1 0100         01000000000000               open => opened 0.0
 1 0200         02000000000000               begin any => begun 0.0
@@ -16,8 +16,8 @@ pub const TALK: &str = "\
 1 06010001     1501                         a number without its flag => refused malformed
 2 0201         1502                         begin ancestor => refused notopen
 2 0c00000000   1501                         a state of four bytes => refused malformed
-2 0f00000001   151b0f                       tidy => refused unsupported
-2 0fffff       151b0f                       tidy => refused unsupported";
+2 0f00000001   1501                         tidy, two bytes left over => refused malformed
+2 0fffff       0d00000000                   tidy 65535 => tidied 0";
 
 /// Two sessions read both keys, and each writes another one. Then the second commits.
 pub const SKEWED: &str = "\

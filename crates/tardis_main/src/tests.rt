@@ -1,4 +1,4 @@
-use crate::floor_rows::{BESIDE, CEILINGS, FOLLOWED, RAISED_CHAIN};
+use crate::floor_rows::{BESIDE, CEILINGS, COLLECTED_CHAIN, FOLLOWED, RAISED_CHAIN};
 use crate::rows::{
     ANY_AFTER, AT_AFTER, BEHIND, COUNTED, LAST_COMMITS, NB_REFUSES, NO_STATE, RIPPLE, SER_FORKS,
     SI_PASSES, SKEWED, TALK,
@@ -188,6 +188,7 @@ fn worked_rows_are_answered(rt: HostRuntime) -> Result<(), Fail> {
     ] {
         assert!(rt; answers(alloc, &[rows])?);
     }
+    assert!(rt; answers(alloc, &[RAISED_CHAIN, COLLECTED_CHAIN])?);
     for ends in [SER_FORKS, SI_PASSES, NB_REFUSES] {
         assert!(rt; answers(alloc, &[SKEWED, ends])?);
     }
