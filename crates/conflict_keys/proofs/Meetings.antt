@@ -1,14 +1,14 @@
 -- Where conflict keys are met.
-use Rattle.std.proofs.Common.{◌≡◌, ℕ, ◌+◌, Bool, true, false, ◌&&◌, ◌||◌, not, List, [], ◌∷◌, take, Some, IsTrue, IsFalse, inl, inr, refl, sym, ap, ap₂, ◌∙◌}
+use Rattle.std.proofs.Common.{◌≡◌, ℕ, ◌+◌, Bool, true, false, ◌&&◌, ◌||◌, not, List, [], ◌∷◌, ◌++◌, take, Some, IsTrue, IsFalse, inl, inr, refl, sym, ap, ◌∙◌}
 use Rattle.std.specs.List.{list_any, list_all}
 use Rattle.std.specs.Prelude.{slice_get}
 use Rattle.std.proofs.lemmas.Bool.{and_parts, and_from, or_cases, or_left, or_right, cases_Bool, both_ways, not_from_false}
 use Rattle.std.proofs.lemmas.List.Folds.{list_any-append}
 use Rattle.tardis_base.specs.declared.ids.StateId.{StateId}
-use Rattle.tardis_base.specs.declared.ids.Slot.{Slot}
 use Rattle.tardis_base.specs.declared.records.Record.{Record}
 use Rattle.tardis_base.specs.Ids.{same_id, is_among}
 use Rattle.tardis_base.specs.Keys.{is_key_among}
+use Rattle.version_list.specs.Versions.{Chunks, is_key_in}
 use Rattle.plain_dag.specs.States.{writes_key}
 use Rattle.plain_dag.specs.Above.{is_above, is_above_all}
 use Rattle.plain_dag.specs.Writers.{latest_writer}
@@ -19,9 +19,8 @@ use Rattle.plain_dag.proofs.Ids.{not-both, among-first, any-witness, any-from, a
 use Rattle.plain_dag.proofs.Searches.{among-filter, mapped-from}
 use Rattle.plain_dag.proofs.LatestWriter.{has-lowest, lowest-is-unsplit, split-has-one, latest-is-latest}
 use Rattle.plain_dag.proofs.StandIns.{stands-in-well}
-use Rattle.state_dag.specs.Table.{Table, id_at, is_slot_above}
+use Rattle.state_dag.specs.Table.{Table}
 use Rattle.state_dag.specs.Stands.{Stands}
-use Rattle.state_dag.proofs.Standing.{slots-tell}
 use Rattle.state_dag.proofs.Known.{kept-is_listed}
 use Rattle.record_store.specs.Stands.{holds_key}
 use Rattle.record_store.proofs.Holders.{writer-holds}
@@ -94,12 +93,12 @@ module _ (rs : List Record) (ks xs zs : List StateId) (i : ℕ) (k : List ℕ) w
       ∙ list_any-append (λ y. is_above_part rs y xs && holds_key rs ks k y) (take i zs) (x ∷ [])
 
   -- what is met with it was met or is held by it
-  pub met-here : (x : StateId) (keys : List (List ℕ)) → slice_get zs i ≡ Some x → is_key_among k keys ≡ holds_key rs ks k x → IsTrue (is_met rs ks xs (take (i + 1) zs) k) →
-      IsTrue (is_met rs ks xs (take i zs) k || is_key_among k keys)
-  met-here x keys e holds m = elim (or_cases (is_met rs ks xs (take i zs) k) (is_above_part rs x xs && holds_key rs ks k x || false) (sym (met-more x e) ∙ m)) [
-    | inl old ↦ or_left (is_met rs ks xs (take i zs) k) (is_key_among k keys) old
+  pub met-here : (x : StateId) (chunks : Chunks) → slice_get zs i ≡ Some x → is_key_in k chunks ≡ holds_key rs ks k x → IsTrue (is_met rs ks xs (take (i + 1) zs) k) →
+      IsTrue (is_met rs ks xs (take i zs) k || is_key_in k chunks)
+  met-here x chunks e holds m = elim (or_cases (is_met rs ks xs (take i zs) k) (is_above_part rs x xs && holds_key rs ks k x || false) (sym (met-more x e) ∙ m)) [
+    | inl old ↦ or_left (is_met rs ks xs (take i zs) k) (is_key_in k chunks) old
     | inr new ↦ elim (or_cases (is_above_part rs x xs && holds_key rs ks k x) false new) [
-      | inl both ↦ or_right (is_met rs ks xs (take i zs) k) (is_key_among k keys) (holds ∙ (and_parts (is_above_part rs x xs) (holds_key rs ks k x) both).1)
+      | inl both ↦ or_right (is_met rs ks xs (take i zs) k) (is_key_in k chunks) (holds ∙ (and_parts (is_above_part rs x xs) (holds_key rs ks k x) both).1)
       | inr none ↦ not-both false none refl
     ]
   ]
@@ -113,3 +112,19 @@ module _ (rs : List Record) (ks xs zs : List StateId) (i : ℕ) (k : List ℕ) w
       | inr none ↦ not-both false none refl
     ]
   ]
+
+-- ===== One more chunk
+
+-- what is met or in one more chunk is met, in those before, or in that one
+pub chunk-met : (met : List ℕ → Bool) (done : Chunks) (chunk keys : List (List ℕ)) → keys ≡ chunk → (k : List ℕ) → IsTrue (met k || is_key_in k (done ++ chunk ∷ [])) → IsTrue ((met k || is_key_in k done) || is_key_among k keys)
+chunk-met met done chunk keys is k m =
+    ap (λ (js : List (List ℕ)). (met k || is_key_in k done) || is_key_among k js) is
+    ∙ turned (met k) (is_key_in k done) (is_key_among k chunk)
+    ∙ ap (λ b. met k || b) (sym (list_any-append (is_key_among k) done (chunk ∷ [])))
+    ∙ m
+  where
+    turned : (a b c : Bool) → ((a || b) || c) ≡ (a || (b || (c || false)))
+    turned true b c = refl
+    turned false true c = refl
+    turned false false true = refl
+    turned false false false = refl

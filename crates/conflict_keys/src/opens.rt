@@ -8,12 +8,13 @@ ghost use Rattle.tardis_base.specs.declared.records.Record.{Record};
 ghost use Rattle.tardis_base.specs.Keys.{is_key_among};
 ghost use Rattle.plain_dag.specs.Conflicts.{open_conflict};
 ghost use Rattle.state_dag.specs.Table.{id_at, is_slot};
+ghost use Rattle.version_list.specs.Versions.{is_key_in};
 ghost use Rattle.record_store.specs.Stands.{StoreStands};
 ghost use Rattle.conflict_keys.specs.Opens.{IsLeast, is_open_conflict, is_less};
 
 use crate::values::is_conflict;
 use branch_region::{is_above_part, region};
-use record_store::RecordStore;
+use record_store::{KeyChunks, RecordStore};
 use std::alloc::Global;
 use tardis_base::{Key, NoMemory, Slot, WriteSet};
 
@@ -31,7 +32,7 @@ pub fn first_open<'a>(store: &'a RecordStore, states: &[Slot], writes: &WriteSet
     let mut least = None;
     for slot in store.dag().kept_slots() {
         if is_above_part(store.dag(), *slot, states) {
-            least = least_open(store, states, writes, store.keys_at(*slot), least);
+            least = least_held(store, states, writes, store.keys_at(*slot), least);
         }
     }
     least
@@ -55,9 +56,30 @@ pub fn open_conflict<'a>(
     let above = region(alloc, store.dag(), states)?;
     let mut least = None;
     for slot in above.apart.as_slice() {
-        least = least_open(store, states, writes, store.keys_at(*slot), least);
+        least = least_held(store, states, writes, store.keys_at(*slot), least);
     }
     Ok(least)
+}
+
+/// The least of the one found before and of the keys in these chunks that the states conflict in and that aren't written.
+fn least_held<'a>(
+    store: &RecordStore,
+    states: &[Slot],
+    writes: &WriteSet,
+    chunks: &'a KeyChunks,
+    found: Option<&'a Key>,
+) -> Option<&'a Key>
+    requires { IsTrue (list_all (is_slot store.now.table) states.now) }
+    ensures { (rs : List Record) (ks : List StateId) → StoreStands store.now rs ks → (xs : List StateId)
+        → map (id_at store.now.table) states.now ≡ map (λ x. Some x) xs → (met : List ℕ → Bool)
+        → IsLeast (is_open_conflict rs xs writes.now) met (option_copied found.entry)
+        → IsLeast (is_open_conflict rs xs writes.now) (λ k. met k || is_key_in k chunks.now) (option_copied result) }
+{
+    let mut least = found;
+    for chunk in chunks {
+        least = least_open(store, states, writes, chunk.as_slice(), least);
+    }
+    least
 }
 
 /// The least of the one found before and of these keys that the states conflict in and that aren't written.

@@ -7,12 +7,13 @@ ghost use Rattle.tardis_base.specs.declared.records.Record.{Record};
 ghost use Rattle.tardis_base.specs.Keys.{is_key_before, is_key_among};
 ghost use Rattle.plain_dag.specs.Conflicts.{conflict_keys};
 ghost use Rattle.state_dag.specs.Table.{id_at, is_slot};
+ghost use Rattle.version_list.specs.Versions.{is_key_in};
 ghost use Rattle.record_store.specs.Stands.{StoreStands};
 ghost use Rattle.conflict_keys.specs.Pages.{IsPageOf, AreNoted, is_conflict_behind};
 
 use crate::values::is_conflict;
 use branch_region::region;
-use record_store::RecordStore;
+use record_store::{KeyChunks, RecordStore};
 use std::alloc::Global;
 use std::collections::BTreeSet;
 use tardis_base::{Key, KeyList, NoMemory, Slot};
@@ -45,9 +46,29 @@ pub fn conflicts(
     let mut noted = BTreeSet::new(alloc);
     let above = region(alloc, store.dag(), states)?;
     for slot in above.apart.as_slice() {
-        note_conflicts(store, states, after, store.keys_at(*slot), &mut noted)?;
+        note_held(store, states, after, store.keys_at(*slot), &mut noted)?;
     }
     page_of(alloc, &noted)
+}
+
+/// Notes each key in these chunks that is behind the bytes and that the states conflict in.
+fn note_held(
+    store: &RecordStore,
+    states: &[Slot],
+    after: &[u8],
+    chunks: &KeyChunks,
+    noted: &mut BTreeSet<Key>,
+) -> Result<(), NoMemory>
+    requires { IsTrue (list_all (is_slot store.now.table) states.now) }
+    ensures { (rs : List Record) (ks : List StateId) → StoreStands store.now rs ks → (xs : List StateId)
+        → map (id_at store.now.table) states.now ≡ map (λ x. Some x) xs → (met : List ℕ → Bool)
+        → AreNoted (is_conflict_behind rs xs after.now) met noted.old.keys
+        → OnOk result (AreNoted (is_conflict_behind rs xs after.now) (λ k. met k || is_key_in k chunks.now) noted.new.keys) }
+{
+    for chunk in chunks {
+        note_conflicts(store, states, after, chunk.as_slice(), noted)?;
+    }
+    Ok(())
 }
 
 /// Notes each of these keys that is behind the bytes and that the states conflict in.

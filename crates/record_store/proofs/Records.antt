@@ -29,10 +29,10 @@ use Rattle.state_dag.specs.Table.{Entry, Table, entry_at, id_at, is_slot, arrive
 use Rattle.state_dag.specs.Orders.{arrivals-differ}
 use Rattle.state_dag.proofs.Standing.{slots-arrive, slot-is_kept}
 use Rattle.version_list.specs.declared.histories.Version.{Version}
-use Rattle.version_list.specs.Versions.{versions_of, same_slot, has_version_at}
+use Rattle.version_list.specs.Versions.{Chunks, versions_of, same_slot, is_key_in, has_version_at}
 use Rattle.record_store.specs.Store.{Store}
 use Rattle.record_store.specs.Stands.{holds_key, shown_version, StoreStands}
-use Rattle.record_store.specs.Answers.{StandsAlone, write_found}
+use Rattle.record_store.specs.Answers.{StandsAlone, HasReads, read_write, write_found}
 use Rattle.state_dag.specs.Table.{is_listed}
 use Rattle.record_store.proofs.Holders.{holders, holder-writes, writer-holds, holder-parts, holder-from, read-of_writer}
 use Rattle.record_store.proofs.Reading.{read_with}
@@ -122,57 +122,63 @@ same-writes (v ∷ vs) (w ∷ ws) up up_too same = elim (cases_key v.0 w.0) [
           sym (write_of-there k v vs f) ∙ (same k ∙ write_of-there k w ws (subst (λ j. bytes_eq k j ≡ false) e f))
     ]
 
--- of these keys exactly what is read is written
-abbrev pub HasReads : (List ℕ → Option Write) → List (List ℕ) → List KeyWrite → Type 0
-HasReads reads keys ws = (k : List ℕ) → write_of k ws ≡ (if is_key_among k keys then reads k else None)
+module _ (reads : List ℕ → Option Write) (met more : List ℕ → Bool) (key : List ℕ) (ws : List KeyWrite) (has : HasReads reads met ws) (adds : (k : List ℕ) → more k ≡ (met k || bytes_eq k key)) where
+  is-more : (k : List ℕ) → bytes_eq k key ≡ true → more k ≡ true
+  is-more k t = adds k ∙ (ap (λ b. met k || b) t ∙ or_right (met k) true refl)
 
--- what is written where the key is read at the state
-abbrev pub read_write : List Record → StateId → List ℕ → Option Write
-read_write rs x k = write_found (read rs k x)
+  is-before : (k : List ℕ) → bytes_eq k key ≡ false → more k ≡ met k
+  is-before k f = adds k ∙ (ap (λ b. met k || b) f ∙ none (met k))
+    where
+      none : (b : Bool) → (b || false) ≡ b
+      none true = refl
+      none false = refl
 
--- nothing either way
-none-either_way : (b : Bool) (o : Option Write) → o ≡ None → (if b then o else None) ≡ None
-none-either_way true o e = e
-none-either_way false o e = refl
-
-module _ (reads : List ℕ → Option Write) (keys : List (List ℕ)) (key : List ℕ) (ws : List KeyWrite) (has : HasReads reads keys ws) where
-  among-more : (k : List ℕ) (b : Bool) → bytes_eq k key ≡ b → is_key_among k (keys ++ key ∷ []) ≡ (is_key_among k keys || (b || false))
-  among-more k b e = list_any-append (bytes_eq k) keys (key ∷ []) ∙ ap (λ c. is_key_among k keys || (c || false)) e
-
-  among-before : (k : List ℕ) → bytes_eq k key ≡ false → is_key_among k (keys ++ key ∷ []) ≡ is_key_among k keys
-  among-before k f = among-more k false f ∙ or-false (is_key_among k keys)
-
-  reads-more : (w : Write) → reads key ≡ Some w → HasReads reads (keys ++ key ∷ []) (with_write key w ws)
-  reads-more w is k = elim (cases_Bool (bytes_eq k key)) [
+  -- one more key, that is written
+  pub key-written : (w : Write) → reads key ≡ Some w → HasReads reads more (with_write key w ws)
+  key-written w is k = elim (cases_Bool (bytes_eq k key)) [
     | inl t ↦
         let same : k ≡ key = (bytes_eq-Decides k key).0 t in
         ap (λ j. write_of j (with_write key w ws)) same
-        ∙ (write_of-with_write key w ws
-        ∙ sym (cond-true (is_key_among k (keys ++ key ∷ [])) (reads k) None (among-more k true t ∙ or_right (is_key_among k keys) true refl) ∙ (ap reads same ∙ is)))
+        ∙ (write_of-with_write key w ws ∙ sym (cond-true (more k) (reads k) None (is-more k t) ∙ (ap reads same ∙ is)))
     | inr f ↦
         write_of-with_write_other k key w ws (λ e. both_ways (bytes_eq k key) f ((bytes_eq-Decides k key).1 e))
-        ∙ (has k ∙ ap (λ b. if b then reads k else None) (sym (among-before k f)))
+        ∙ (has k ∙ ap (λ b. if b then reads k else None) (sym (is-before k f)))
   ]
 
-  reads-no_more : reads key ≡ None → HasReads reads (keys ++ key ∷ []) ws
-  reads-no_more is k = elim (cases_Bool (bytes_eq k key)) [
+  -- or isn't
+  pub key-absent : reads key ≡ None → HasReads reads more ws
+  key-absent is k = elim (cases_Bool (bytes_eq k key)) [
     | inl t ↦
         let none : reads k ≡ None = ap reads ((bytes_eq-Decides k key).0 t) ∙ is in
-        has k ∙ (none-either_way (is_key_among k keys) (reads k) none ∙ sym (none-either_way (is_key_among k (keys ++ key ∷ [])) (reads k) none))
-    | inr f ↦ has k ∙ ap (λ b. if b then reads k else None) (sym (among-before k f))
+        has k ∙ (neither (met k) (reads k) none ∙ sym (neither (more k) (reads k) none))
+    | inr f ↦ has k ∙ ap (λ b. if b then reads k else None) (sym (is-before k f))
   ]
+    where
+      neither : (b : Bool) (o : Option Write) → o ≡ None → (if b then o else None) ≡ None
+      neither true o e = e
+      neither false o e = refl
 
--- one more key, that is written
-pub key-written : (reads : List ℕ → Option Write) (keys : List (List ℕ)) (i : ℕ) (key : List ℕ) (ws : List KeyWrite) (w : Write) → i < length keys → key ≡ get_or keys i key → reads key ≡ Some w → HasReads reads (take i keys) ws →
-    HasReads reads (take (i + 1) keys) (with_write key w ws)
-key-written reads keys i key ws w within is read has =
-    subst (λ ks. HasReads reads ks (with_write key w ws)) (sym (take_more keys i key within ∙ ap (λ k. take i keys ++ k ∷ []) (sym is))) (reads-more reads (take i keys) key ws has w read)
+-- one more of the keys that are walked
+pub one-more : (met : List ℕ → Bool) (keys : List (List ℕ)) (i : ℕ) (key : List ℕ) → i < length keys → key ≡ get_or keys i key → (k : List ℕ) →
+    (met k || is_key_among k (take (i + 1) keys)) ≡ ((met k || is_key_among k (take i keys)) || bytes_eq k key)
+one-more met keys i key within is k =
+    ap (λ ks. met k || is_key_among k ks) (take_more keys i key within ∙ ap (λ j. take i keys ++ j ∷ []) (sym is))
+    ∙ ap (λ b. met k || b) (list_any-append (bytes_eq k) (take i keys) (key ∷ []))
+    ∙ turned (met k) (is_key_among k (take i keys)) (bytes_eq k key)
+  where
+    turned : (a b c : Bool) → (a || (b || (c || false))) ≡ ((a || b) || c)
+    turned true b c = refl
+    turned false true c = refl
+    turned false false true = refl
+    turned false false false = refl
 
--- or isn't
-pub key-absent : (reads : List ℕ → Option Write) (keys : List (List ℕ)) (i : ℕ) (key : List ℕ) (ws : List KeyWrite) → i < length keys → key ≡ get_or keys i key → reads key ≡ None → HasReads reads (take i keys) ws →
-    HasReads reads (take (i + 1) keys) ws
-key-absent reads keys i key ws within is read has =
-    subst (λ ks. HasReads reads ks ws) (sym (take_more keys i key within ∙ ap (λ k. take i keys ++ k ∷ []) (sym is))) (reads-no_more reads (take i keys) key ws has read)
+-- one more chunk
+pub chunk-more : (done : Chunks) (chunk : List (List ℕ)) (k : List ℕ) → is_key_in k (done ++ chunk ∷ []) ≡ (is_key_in k done || is_key_among k chunk)
+chunk-more done chunk k = list_any-append (is_key_among k) done (chunk ∷ []) ∙ ap (λ b. is_key_in k done || b) (none (is_key_among k chunk))
+  where
+    none : (b : Bool) → (b || false) ≡ b
+    none true = refl
+    none false = refl
 
 -- ===== Records
 
@@ -304,9 +310,9 @@ module _ (store : Store) (rs : List Record) (ks : List StateId) (stands : StoreS
         unpaired None = refl
         unpaired (Some w) = refl
 
-    pub writes-are : (keys : List (List ℕ)) (ws : List KeyWrite) → ((k : List ℕ) → is_key_among k keys ≡ has_version_at slot (versions_of store.versions k)) → IsTrue (are_ascending_keys (keys_of ws)) → HasReads (read_write rs x) keys ws →
+    pub writes-are : (met : List ℕ → Bool) (ws : List KeyWrite) → ((k : List ℕ) → met k ≡ has_version_at slot (versions_of store.versions k)) → IsTrue (are_ascending_keys (keys_of ws)) → HasReads (read_write rs x) met ws →
         ws ≡ r.writes
-    writes-are keys ws listed up has =
+    writes-are met ws listed up has =
         same-writes ws r.writes up (record-says rs stands.table.dag x r is).ascending (λ k.
         has k ∙ (ap (λ b. if b then read_write rs x k else None) (listed k ∙ version-tells k) ∙ reads-are_writes k))
 

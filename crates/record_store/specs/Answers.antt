@@ -1,5 +1,5 @@
 -- What the calls of a store answer.
-use Rattle.std.specs.Prelude.{◌≡◌, ◌≤◌, ℕ, Bool, true, List, ◌∷◌, map, Option, Some, None, Result, Ok, Err, IsTrue, IsFalse}
+use Rattle.std.specs.Prelude.{◌≡◌, ◌≤◌, ℕ, Bool, true, List, ◌∷◌, map, Option, Some, None, Result, Ok, Err, IsTrue, IsFalse, if◌then◌else◌}
 use Rattle.std.specs.Option.{option_map}
 use Rattle.tardis_base.specs.declared.ids.StateId.{StateId}
 use Rattle.tardis_base.specs.declared.ids.Slot.{Slot}
@@ -9,8 +9,10 @@ use Rattle.tardis_base.specs.declared.faults.AddFault.{AddFault}
 use Rattle.tardis_base.specs.declared.faults.AddFault.TheVariants.{Full, PathFull, NoMemory}
 use Rattle.tardis_base.specs.declared.replies.Refusal.TheVariants.{Full as IsFull, PathFull as IsPathFull}
 use Rattle.tardis_base.specs.Ids.{is_among}
+use Rattle.tardis_base.specs.Keys.{KeyWrite, write_of}
 use Rattle.plain_dag.specs.States.{is_known}
 use Rattle.plain_dag.specs.Above.{is_above}
+use Rattle.plain_dag.specs.Writers.{read}
 use Rattle.plain_dag.specs.Collection.{stand_in}
 use Rattle.plain_dag.specs.Dag.{IsNext}
 use Rattle.plain_dag.specs.Growth.{growth_refusal}
@@ -46,3 +48,11 @@ StandsAlone rs ks x = (w : StateId) → IsTrue (is_known rs w) → stand_in rs k
 -- what was written where something was found
 abbrev pub write_found : Option (StateId × Write) → Option Write
 write_found read = option_map (λ w. w.1) read
+
+-- what is written where the key is read at the state
+abbrev pub read_write : List Record → StateId → List ℕ → Option Write
+read_write rs x k = write_found (read rs k x)
+
+-- of the keys that were met exactly what is read is written
+abbrev pub HasReads : (List ℕ → Option Write) → (List ℕ → Bool) → List KeyWrite → Type 0
+HasReads reads met ws = (k : List ℕ) → write_of k ws ≡ (if met k then reads k else None)

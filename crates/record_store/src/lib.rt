@@ -3,14 +3,14 @@
 //! What a read, a write and a new state mean is stated in `docs/MODEL.md`.
 #![tactic(auto)]
 
-ghost use Rattle.std.specs.Prelude.{◌≡◌, true, ◌+◌, ◌-◌, ◌≤◌, ℕ, List, [], ◌∷◌, length, map, take, Option, Some, None, slice_get, unwrap_or, IsTrue};
+ghost use Rattle.std.specs.Prelude.{◌≡◌, true, ◌+◌, ◌-◌, ◌≤◌, ◌||◌, ℕ, Bool, List, [], ◌∷◌, length, map, take, Option, Some, None, slice_get, unwrap_or, IsTrue};
 ghost use Rattle.std.specs.Prelude.{IfOk, IfSome, OnOk, OnErr};
 ghost use Rattle.std.specs.List.{list_all};
 ghost use Rattle.std.specs.Option.{option_map, option_and_then};
 ghost use Rattle.tardis_base.specs.declared.ids.StateId.{StateId};
 ghost use Rattle.tardis_base.specs.declared.ids.Slot.{Slot};
 ghost use Rattle.tardis_base.specs.declared.records.Record.{Record};
-ghost use Rattle.tardis_base.specs.Keys.{is_key_among};
+ghost use Rattle.tardis_base.specs.Keys.{are_ascending_keys, is_key_among, keys_of};
 ghost use Rattle.tardis_base.specs.Valid.{are_limits};
 ghost use Rattle.plain_dag.specs.States.{root_record, record_at, parents_of};
 ghost use Rattle.plain_dag.specs.Writers.{read, latest_writer};
@@ -22,10 +22,10 @@ ghost use Rattle.state_dag.specs.Detached.{shared_slot, without_slot};
 ghost use Rattle.state_dag.specs.Table.{is_slot_above};
 ghost use Rattle.state_dag.specs.Table.{id_at, is_slot, is_listed, is_kept_at, arrival_at};
 ghost use Rattle.state_dag.specs.Answers.{MayBeAdded, IsNewSlot, KeepsSlots};
-ghost use Rattle.version_list.specs.Versions.{IsInOrder};
+ghost use Rattle.version_list.specs.Versions.{IsInOrder, is_key_in};
 ghost use Rattle.version_list.specs.Reads.{found};
 ghost use Rattle.record_store.specs.Stands.{StoreStands, holds_key};
-ghost use Rattle.record_store.specs.Answers.{AddedIn, IsSameStore, MayArrive, StandsAlone, write_found};
+ghost use Rattle.record_store.specs.Answers.{AddedIn, IsSameStore, MayArrive, StandsAlone, HasReads, read_write, write_found};
 
 use state_dag::StateDag;
 use std::alloc::Global;
@@ -34,6 +34,7 @@ use std::mem;
 use tardis_base::{
     AddFault, Found, Key, Limits, NoMemory, Record, Slot, StateId, StateList, Write, WriteSet,
 };
+pub use version_list::KeyChunks;
 use version_list::VersionList;
 
 /// The kept states of one site, and the versions of the keys at them.
@@ -254,7 +255,7 @@ impl RecordStore {
             → id_at self.now.table child ≡ Some c → result ≡ is_news rs x c key.now }
     {
         if self.is_only_parent(from, child) {
-            is_one_of(key, self.keys_at(child))
+            is_in(key, self.keys_at(child))
         } else {
             self.is_latest_news(from, child, key)
         }
@@ -298,10 +299,11 @@ impl RecordStore {
     }
 
     /// The keys that the state of this slot holds: those that are written by a state that it stands in for.
-    pub fn keys_at(&self, slot: Slot) -> &[Key]
+    /// They stand in chunks, as each of these states brought its own.
+    pub fn keys_at(&self, slot: Slot) -> &KeyChunks
         requires { IsTrue (is_slot self.now.table slot) }
         ensures { (rs : List Record) (ks : List StateId) → StoreStands self.now rs ks → (x : StateId) → id_at self.now.table slot ≡ Some x
-            → (k : List ℕ) → is_key_among k result.now ≡ holds_key rs ks k x }
+            → (k : List ℕ) → is_key_in k result.now ≡ holds_key rs ks k x }
     {
         let _ = &self.dag;
         self.versions.keys_at(slot)
@@ -315,12 +317,26 @@ impl RecordStore {
     {
         let _ = &self.dag;
         let mut writes = WriteSet::new(self.alloc);
-        for key in self.versions.keys_at(slot) {
+        for chunk in self.versions.keys_at(slot) {
+            self.add_reads(slot, chunk.as_slice(), &mut writes)?;
+        }
+        Ok(writes)
+    }
+
+    /// Adds what is read of these keys at the state of this slot, where anything is.
+    fn add_reads(&self, slot: Slot, keys: &[Key], writes: &mut WriteSet) -> Result<(), NoMemory>
+        requires { IsTrue (is_slot self.now.table slot) }
+        ensures ascending { IsTrue (are_ascending_keys (keys_of writes.old)) → OnOk result (IsTrue (are_ascending_keys (keys_of writes.new))) }
+        ensures reads { (rs : List Record) (ks : List StateId) → StoreStands self.now rs ks → (x : StateId) → id_at self.now.table slot ≡ Some x
+            → (met : List ℕ → Bool) → HasReads (read_write rs x) met writes.old
+            → OnOk result (HasReads (read_write rs x) (λ k. met k || is_key_among k keys.now) writes.new) }
+    {
+        for key in keys {
             if let Some(write) = written(self.read_at(slot, key))? {
                 writes.insert(key.copy()?, write)?;
             }
         }
-        Ok(writes)
+        Ok(())
     }
 
     /// The slots of these kept states, in their order and in front. It takes no memory.
@@ -347,6 +363,13 @@ fn is_lone(state: StateId, states: &[StateId]) -> bool
     ensures { result ≡ true → states.now ≡ state ∷ [] }
 {
     states.len() == 1 && states[0] == state
+}
+
+/// Whether the key is in one of the chunks.
+fn is_in(key: &Key, chunks: &KeyChunks) -> bool
+    ensures { result ≡ is_key_in key.now chunks.now }
+{
+    chunks.iter().any(|chunk| is_one_of(key, chunk.as_slice()))
 }
 
 /// Whether the key is one of these.

@@ -1,15 +1,15 @@
-use Rattle.std.proofs.Common.{◌≡◌, ◌∙◌, ◌+◌, ◌||◌, not, ℕ, Bool, false, List, [], Some, IsTrue, IsFalse, map, take, get_or, refl, sym, ap, subst, arith, take_all}
-use Rattle.std.specs.List.{list_all}
+use Rattle.std.proofs.Common.{◌≡◌, ◌∙◌, ◌+◌, ◌||◌, not, ℕ, Bool, false, List, Some, IsFalse, map, take, get_or, refl, sym, subst, arith, take_all}
 use Rattle.std.specs.Option.{option_copied}
 use Rattle.tardis_base.specs.declared.ids.StateId.{StateId}
 use Rattle.tardis_base.specs.declared.ids.Slot.{Slot}
 use Rattle.tardis_base.specs.declared.records.Record.{Record}
-use Rattle.tardis_base.specs.Keys.{is_key_among, has_key}
+use Rattle.tardis_base.specs.Keys.{has_key}
+use Rattle.version_list.specs.Versions.{is_key_in}
 use Rattle.plain_dag.specs.Conflicts.{is_conflict_key, conflict_keys}
 use Rattle.plain_dag.specs.Collection.{kept_states}
-use Rattle.state_dag.specs.Table.{Table, id_at, is_slot}
+use Rattle.state_dag.specs.Table.{Table, id_at}
 use Rattle.state_dag.specs.Stands.{Stands}
-use Rattle.branch_region.specs.Regions.{is_above_part, apart_states}
+use Rattle.branch_region.specs.Regions.{is_above_part}
 use Rattle.conflict_keys.specs.Regions.{is_met}
 use Rattle.plain_dag.proofs.ConflictKeys.{lists-conflict-keys}
 use Rattle.plain_dag.proofs.Ids.{not-both}
@@ -41,10 +41,10 @@ loop-slot-preserved c = λ rs ks stands xs are.
     elim c.if-is_above_part.branch [
       | then-is_above_part v ↦
           let keys = v.keys_at.result.now in
-          let wider : List ℕ → Bool = λ k. was k || is_key_among k keys in
-          let new = v.least_open-least.ensures rs ks stands xs are was (c.loop-slot.invariant rs ks stands xs are) in
+          let wider : List ℕ → Bool = λ k. was k || is_key_in k keys in
+          let new = v.least_held-least.ensures rs ks stands xs are was (c.loop-slot.invariant rs ks stands xs are) in
           subst (λ z. IsLeast p more (option_copied z)) (sym v.least-is)
-          (least-of_fewer p wider more (option_copied v.least_open-least.result) (λ k m. met-here rs ks xs zs i k n.state keys n.got (v.keys_at.ensures rs ks stands n.state n.named k) m) new)
+          (least-of_fewer p wider more (option_copied v.least_held-least.result) (λ k m. met-here rs ks xs zs i k n.state keys n.got (v.keys_at.ensures rs ks stands n.state n.named k) m) new)
       | else-is_above_part v ↦
           let asked = (subst (λ (t : Table). TellsPart t slots i c.args.states.now c.is_above_part.result) c.dag-in-loop-slot.ensures c.is_above_part.ensures) rs ks stands.table n.state n.named xs are in
           let apart : IsFalse (is_above_part rs n.state xs) = sym asked ∙ v.if-is_above_part.false in

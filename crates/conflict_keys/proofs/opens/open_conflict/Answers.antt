@@ -1,14 +1,10 @@
-use Rattle.std.proofs.Common.{◌≡◌, ◌∙◌, ◌+◌, ◌||◌, not, ℕ, Bool, false, List, [], Some, IsTrue, IsFalse, map, take, refl, sym, ap, subst, arith, take_all}
-use Rattle.std.specs.List.{list_all}
+use Rattle.std.proofs.Common.{◌≡◌, ◌∙◌, ◌+◌, ◌||◌, not, ℕ, Bool, false, List, Some, map, take, refl, ap, subst, arith, take_all}
 use Rattle.std.specs.Option.{option_copied}
-use Rattle.tardis_base.specs.declared.ids.StateId.{StateId}
-use Rattle.tardis_base.specs.declared.ids.Slot.{Slot}
-use Rattle.tardis_base.specs.Keys.{is_key_among, has_key}
+use Rattle.tardis_base.specs.Keys.{has_key}
+use Rattle.version_list.specs.Versions.{is_key_in}
 use Rattle.plain_dag.specs.Conflicts.{is_conflict_key, conflict_keys}
-use Rattle.plain_dag.specs.Collection.{kept_states}
-use Rattle.state_dag.specs.Table.{Table, id_at, is_slot}
-use Rattle.state_dag.specs.Stands.{Stands}
-use Rattle.branch_region.specs.Regions.{is_above_part, apart_states}
+use Rattle.state_dag.specs.Table.{Table, id_at}
+use Rattle.branch_region.specs.Regions.{apart_states}
 use Rattle.conflict_keys.specs.Regions.{is_met}
 use Rattle.plain_dag.proofs.ConflictKeys.{lists-conflict-keys}
 use Rattle.plain_dag.proofs.Ids.{not-both}
@@ -32,9 +28,9 @@ loop-slot-preserved c = λ rs ks stands xs are.
     let n = named-next (id_at table) slots zs i (record { 0 = 0 }) named c.loop-slot-test.true in
     let was = is_met rs ks xs (take i zs) in
     let keys = c.keys_at.result.now in
-    let wider : List ℕ → Bool = λ k. was k || is_key_among k keys in
-    let new = c.least_open-least.ensures rs ks stands xs are was (c.loop-slot.invariant rs ks stands xs are) in
-    least-of_fewer (is_open_conflict rs xs c.args.writes.now) wider (is_met rs ks xs (take (i + 1) zs)) (option_copied c.least_open-least.result)
+    let wider : List ℕ → Bool = λ k. was k || is_key_in k keys in
+    let new = c.least_held-least.ensures rs ks stands xs are was (c.loop-slot.invariant rs ks stands xs are) in
+    least-of_fewer (is_open_conflict rs xs c.args.writes.now) wider (is_met rs ks xs (take (i + 1) zs)) (option_copied c.least_held-least.result)
     (λ k m. met-here rs ks xs zs i k n.state keys n.got (c.keys_at.ensures rs ks stands n.state n.named k) m) new
 
 pub returns : goal.returns

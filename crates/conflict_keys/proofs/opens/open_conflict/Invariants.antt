@@ -1,8 +1,7 @@
-use Rattle.std.proofs.Common.{◌≡◌, List, Some, IsTrue, map, take}
-use Rattle.std.specs.List.{list_all}
+use Rattle.std.proofs.Common.{◌≡◌, List, Some, map, take}
 use Rattle.tardis_base.specs.declared.ids.StateId.{StateId}
 use Rattle.tardis_base.specs.declared.records.Record.{Record}
-use Rattle.state_dag.specs.Table.{id_at, is_slot}
+use Rattle.state_dag.specs.Table.{id_at}
 use Rattle.record_store.specs.Stands.{StoreStands}
 use Rattle.branch_region.specs.Regions.{apart_states}
 use Rattle.conflict_keys.specs.Regions.{is_met}

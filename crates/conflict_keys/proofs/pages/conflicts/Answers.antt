@@ -1,16 +1,10 @@
-use Rattle.std.proofs.Common.{◌≡◌, ◌∙◌, ◌+◌, ◌||◌, ℕ, Bool, List, [], Some, IfOk, IsTrue, map, take, refl, sym, ap, subst, arith, take_all}
-use Rattle.std.specs.List.{list_all}
-use Rattle.tardis_base.specs.declared.ids.StateId.{StateId}
-use Rattle.tardis_base.specs.declared.ids.Slot.{Slot}
-use Rattle.tardis_base.specs.Keys.{is_key_among, has_key}
-use Rattle.plain_dag.specs.Conflicts.{is_conflict_key, conflict_keys}
-use Rattle.plain_dag.specs.Collection.{kept_states}
-use Rattle.state_dag.specs.Table.{Table, id_at, is_slot}
-use Rattle.state_dag.specs.Stands.{Stands}
-use Rattle.branch_region.specs.Regions.{is_above_part, apart_states}
+use Rattle.std.proofs.Common.{◌≡◌, ◌∙◌, ◌+◌, ◌||◌, ℕ, Bool, List, [], Some, IfOk, map, take, sym, ap, subst, arith, take_all}
+use Rattle.version_list.specs.Versions.{is_key_in}
+use Rattle.state_dag.specs.Table.{Table, id_at}
+use Rattle.branch_region.specs.Regions.{apart_states}
 use Rattle.conflict_keys.specs.Regions.{is_met}
 use Rattle.conflict_keys.specs.Pages.{IsPageOf, AreNoted, is_conflict_behind}
-use Rattle.conflict_keys.proofs.Walks.{named-next, named-length, named-are_kept, all-got, GivesApart}
+use Rattle.conflict_keys.proofs.Walks.{named-next, named-length, named-are_kept, GivesApart}
 use Rattle.conflict_keys.proofs.Meetings.{conflict-is_met, apart-is_met, met-here}
 use Rattle.conflict_keys.proofs.Noted.{none-noted, noted-of_fewer, noted-are_all}
 use Rattle.conflict_keys.proofs.pages.conflicts.Goals as goal
@@ -29,9 +23,9 @@ loop-slot-preserved c = λ rs ks stands xs are.
     let n = named-next (id_at table) slots zs i (record { 0 = 0 }) named c.loop-slot-test.true in
     let was = is_met rs ks xs (take i zs) in
     let keys = c.keys_at.result.now in
-    let wider : List ℕ → Bool = λ k. was k || is_key_among k keys in
-    let new = c.in_ok-note_conflicts.ensures rs ks stands xs are was (c.loop-slot.invariant rs ks stands xs are) in
-    noted-of_fewer (is_conflict_behind rs xs c.args.after.now) wider (is_met rs ks xs (take (i + 1) zs)) c.note_conflicts.new.noted.keys
+    let wider : List ℕ → Bool = λ k. was k || is_key_in k keys in
+    let new = c.in_ok-note_held.ensures rs ks stands xs are was (c.loop-slot.invariant rs ks stands xs are) in
+    noted-of_fewer (is_conflict_behind rs xs c.args.after.now) wider (is_met rs ks xs (take (i + 1) zs)) c.note_held.new.noted.keys
     (λ k m. met-here rs ks xs zs i k n.state keys n.got (c.keys_at.ensures rs ks stands n.state n.named k) m) new
 
 pub returns : goal.returns
