@@ -1,17 +1,20 @@
 -- What the calls read off the store's memory, and what they leave there.
-use Rattle.std.proofs.Common.{◌≡◌, ℕ, ◌++◌, List, Result, Ok, Err, IsTrue, IsErrAnd, refl, sym, subst}
-use Rattle.std.proofs.lemmas.Bool.{and_from}
+use Rattle.std.proofs.Common.{◌≡◌, ℕ, ◌≤◌, ◌++◌, List, Result, Ok, Err, IsTrue, IsErrAnd, ◌∷◌, [], Option, Some, None, inl, inr, refl, sym, subst, ◌∙◌}
+use Rattle.std.specs.Option.{option_map_or}
+use Rattle.std.proofs.lemmas.Bool.{and_from, cases_Bool, cond-true, cond-false}
 use Rattle.tardis_base.specs.declared.ids.StateId.{StateId}
 use Rattle.tardis_base.specs.declared.ids.Slot.{Slot}
 use Rattle.tardis_base.specs.declared.records.Record.{Record}
 use Rattle.tardis_base.specs.declared.faults.AddFault.{AddFault}
 use Rattle.tardis_base.specs.declared.faults.AddFault.TheVariants.{NoMemory}
 use Rattle.tardis_base.specs.Keys.{KeyWrite, write_of}
-use Rattle.state_dag.specs.Table.{Table, is_slot, arrive_in_order, is_kept_at, arrival_at}
+use Rattle.tardis_base.specs.Ids.{same_id}
+use Rattle.plain_dag.specs.States.{root_record, arrival}
+use Rattle.state_dag.specs.Table.{Entry, Table, entry_at, is_slot, arrive_in_order, is_kept_at, arrival_at}
 use Rattle.state_dag.specs.Stands.{Stands}
 use Rattle.state_dag.specs.Answers.{MayBeAdded, AddedTo, IsNewSlot, KeepsSlots}
 use Rattle.version_list.specs.declared.histories.Version.{Version}
-use Rattle.version_list.specs.Versions.{Versions, listed_keys, versions_of, version_by, are_in_order}
+use Rattle.version_list.specs.Versions.{Versions, listed_keys, versions_of, version_by, are_in_order, is_noted}
 use Rattle.record_store.specs.declared.RecordStore.TheInside.{Inside}
 use Rattle.record_store.specs.Store.{Store}
 use Rattle.record_store.specs.Held.{seen, IsHeld}
@@ -33,12 +36,14 @@ module _ (a : Inside) (store : Store) (is : seen a ≡ store) where
   seen-may rs ks r parents may = subst (λ (s : Store). MayBeAdded s.table rs ks r parents) (sym is) may
 
   -- what holds of the memory holds where nothing but room changed
-  pub still-held : (dag : Table) (vs : Versions) → IsHeld a → dag ≡ a.dag → ((k : List ℕ) → versions_of vs k ≡ versions_of a.versions k) → IsHeld (record a { dag = dag; versions = vs })
-  still-held dag vs held same versions = record {
+  pub still-held : (dag : Table) (vs : Versions) → IsHeld a → dag ≡ a.dag → ((k : List ℕ) → versions_of vs k ≡ versions_of a.versions k) → ((s : Slot) → is_noted vs s ≡ is_noted a.versions s) →
+      IsHeld (record a { dag = dag; versions = vs })
+  still-held dag vs held same versions notes = record {
     in_order = subst (λ (t : Table). IsTrue (arrive_in_order t.entries)) (sym same) held.in_order;
     versions = λ k.
         subst (λ (l : List Version). IsTrue (are_in_order (is_kept_at dag) (arrival_at dag) l)) (sym (versions k))
         (subst (λ (t : Table). IsTrue (are_in_order (is_kept_at t) (arrival_at t) (versions_of a.versions k))) (sym same) (held.versions k));
+    noted = λ s kept arrived. notes s ∙ held.noted s (subst (λ (t : Table). IsTrue (is_kept_at t s)) same kept) (subst (λ (t : Table). 1 ≤ arrival_at t s) same arrived);
   }
 
   -- there was no memory
@@ -72,3 +77,19 @@ module _ (a : Inside) (store : Store) (is : seen a ≡ store) where
       let allowed = seen-may rs ks r parents may in
       subst (λ s. AddedIn s new rs ks r (Ok slot)) is
       (added-one (seen a) new rs ks r id writes parents slot held id_is writes_is allowed (added held.table allowed) slot_is keeps versions)
+
+-- ===== Notes
+
+-- in an empty history the one kept state arrived first
+pub first-arrived : (table : Table) → Stands table (root_record ∷ []) [] → (s : Slot) → arrival_at table s ≡ 0
+first-arrived table stands s = go (entry_at table s) refl
+  where
+    none-before : (x : StateId) → arrival (root_record ∷ []) x ≡ 0
+    none-before x = elim (cases_Bool (same_id x root_record.id)) [
+      | inl t ↦ cond-true (same_id x root_record.id) 0 0 t
+      | inr f ↦ cond-false (same_id x root_record.id) 0 0 f
+    ]
+
+    go : (o : Option Entry) → entry_at table s ≡ o → option_map_or (λ e. e.arrival) o 0 ≡ 0
+    go None is = refl
+    go (Some e) is = (stands.shows s e is).arrived ∙ none-before e.id

@@ -5,3 +5,4 @@ pub mod Adding
 pub mod Holding
 pub mod Records
 pub mod LatestHolders
+pub mod Collecting

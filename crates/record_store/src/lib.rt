@@ -16,6 +16,10 @@ ghost use Rattle.plain_dag.specs.States.{root_record, record_at, parents_of};
 ghost use Rattle.plain_dag.specs.Writers.{read, latest_writer};
 ghost use Rattle.plain_dag.specs.Landing.{is_news};
 ghost use Rattle.plain_dag.specs.Collection.{stand_in};
+ghost use Rattle.std.specs.Prelude.{IsSome};
+ghost use Rattle.state_dag.specs.Shared.{shared_stand_in};
+ghost use Rattle.state_dag.specs.Detached.{shared_slot, without_slot};
+ghost use Rattle.state_dag.specs.Table.{is_slot_above};
 ghost use Rattle.state_dag.specs.Table.{id_at, is_slot, is_listed, is_kept_at, arrival_at};
 ghost use Rattle.state_dag.specs.Answers.{MayBeAdded, IsNewSlot, KeepsSlots};
 ghost use Rattle.version_list.specs.Versions.{IsInOrder, is_key_in};
@@ -167,6 +171,44 @@ impl RecordStore {
     {
         let slots = self.slots_of(rec.parents.as_slice());
         self.add_state(rec.id, &slots[..rec.parents.len()], &rec.writes)
+    }
+
+    /// Lets the state at the slot join the collected ones, and answers the slot of its stand-in, which is the one that all
+    /// its children share.
+    ///
+    /// What is read at the kept states stays: each key that the state held is held by its stand-in from then on, with the
+    /// version that was read there before. The slot names no state any more; a state that is added may get it.
+    ///
+    /// It takes no memory. The cost is that of `detach`, and for each key that the state held that of a look-up, of binary
+    /// searches among its versions and of moving those that arrived after the state.
+    pub fn collect(&mut self, slot: Slot) -> Slot
+        requires { IsSome (shared_slot self.old.table slot) }
+        ensures stand_in { shared_slot self.old.table slot ≡ Some result }
+        ensures collected { (rs : List Record) (ks : List StateId) → StoreStands self.old rs ks → (x : StateId) → id_at self.old.table slot ≡ Some x
+            → StoreStands self.new rs (x ∷ ks) }
+        ensures shared { (rs : List Record) (ks : List StateId) → StoreStands self.old rs ks → (x : StateId) → id_at self.old.table slot ≡ Some x
+            → id_at self.old.table result ≡ shared_stand_in rs ks x }
+        ensures above { (rs : List Record) (ks : List StateId) → StoreStands self.old rs ks → (x : StateId) → id_at self.old.table slot ≡ Some x
+            → (s t : Slot) → (s ≡ slot → ⊥) → (t ≡ slot → ⊥) → IsTrue (is_slot self.old.table s) → IsTrue (is_slot self.old.table t)
+            → is_slot_above self.new.table s t ≡ is_slot_above self.old.table s t }
+        ensures gone { id_at self.new.table slot ≡ None }
+        ensures names { (s : Slot) → (s ≡ slot → ⊥) → id_at self.new.table s ≡ id_at self.old.table s }
+        ensures others { (s : Slot) → (s ≡ slot → ⊥) → is_slot self.new.table s ≡ is_slot self.old.table s }
+        ensures kept { (s : Slot) → (s ≡ slot → ⊥) → is_kept_at self.new.table s ≡ is_kept_at self.old.table s }
+        ensures arrivals { (s : Slot) → (s ≡ slot → ⊥) → arrival_at self.new.table s ≡ arrival_at self.old.table s }
+        ensures stays { IsTrue (is_kept_at self.new.table result) }
+        ensures slots { map (λ e. e.slot) self.new.table.entries ≡ without_slot slot (map (λ e. e.slot) self.old.table.entries) }
+        ensures limits { self.new.table.limits ≡ self.old.table.limits }
+        ensures counts { self.new.table.counts ≡ self.old.table.counts }
+        ensures known { self.new.table.known ≡ self.old.table.known }
+    {
+        match self.dag.shared_stand_in(slot) {
+            Some(heir) => {
+                self.versions.promote(&self.dag, slot, heir);
+                self.dag.detach(slot)
+            },
+            None => unreachable!(),
+        }
     }
 
     /// The record of the state at this slot, where no other state stands in there.

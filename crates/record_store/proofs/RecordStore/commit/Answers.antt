@@ -9,7 +9,7 @@ use Rattle.record_store.proofs.Holding.{still-held, short-of_memory, refused-by_
 use Rattle.record_store.proofs.RecordStore.commit.Goals as goal
 
 pub invariant_of-self : goal.invariant_of-self
-invariant_of-self c = still-held c.self.inside c.args.self.now c.self.view_is c.self.inside.dag c.make_room.new.self c.self.invariant refl c.make_room.ensures.same
+invariant_of-self c = still-held c.self.inside c.args.self.now c.self.view_is c.self.inside.dag c.make_room.new.self c.self.invariant refl c.make_room.ensures.same c.make_room.ensures.noted
 
 pub returns-in_err-make_room-clause-added : goal.returns-in_err-make_room-clause-added
 returns-in_err-make_room-clause-added c = λ rs ks r stands _ _ _.
@@ -18,6 +18,7 @@ returns-in_err-make_room-clause-added c = λ rs ks r stands _ _ _.
 pub invariant_of-self-in-Err : goal.invariant_of-self-in-Err
 invariant_of-self-in-Err c =
     still-held c.self.inside c.args.self.now c.self.view_is c.add.new.self c.withdraw.new.self c.self.invariant c.in-Err.ensures.same (λ k. c.withdraw.ensures.same k ∙ c.make_room.ensures.same k)
+    (λ s. c.withdraw.ensures.noted s ∙ c.make_room.ensures.noted s)
 
 pub returns-in-Err-clause-added : goal.returns-in-Err-clause-added
 returns-in-Err-clause-added c = λ rs ks r stands id_is _ may.

@@ -1,0 +1,38 @@
+use Rattle.std.proofs.Common.{◌≡◌, ◌≤◌, Some, sym, ap, subst, ◌∙◌}
+use Rattle.std.proofs.lemmas.Bool.{and_parts}
+use Rattle.std.proofs.lemmas.Option.{same_Some}
+use Rattle.state_dag.specs.Table.{id_at, is_slot, arrival_at, arrive_in_order}
+use Rattle.version_list.specs.Versions.{versions_of, has_version_at}
+use Rattle.version_list.proofs.Moves.{left-at}
+use Rattle.record_store.specs.Store.{Store}
+use Rattle.record_store.specs.Held.{seen}
+use Rattle.record_store.proofs.Holding.{seen-stands}
+use Rattle.record_store.proofs.Collecting.{collected-stands, kept-is_other, order-agrees}
+use Rattle.record_store.proofs.RecordStore.collect.Goals as goal
+
+pub invariant_of-self : goal.invariant_of-self
+invariant_of-self c =
+    let old = c.self.inside.dag in
+    let new = c.detach.new.self in
+    record {
+      in_order = (and_parts (is_slot new c.detach.result) (arrive_in_order new.entries) c.detach.ensures.stays).1;
+      versions = λ k.
+          order-agrees old new c.args.slot c.detach.ensures.kept c.detach.ensures.arrivals (versions_of c.promote.new.self k)
+          (ap (has_version_at c.args.slot) (c.promote.ensures.promoted k) ∙ left-at (arrival_at old) c.args.slot c.in-Some.heir c.in-Some.ensures.later (versions_of c.self.inside.versions k))
+          ∙ c.promote.ensures.order k;
+      noted = λ s kept arrived.
+          let other = kept-is_other new c.args.slot c.detach.ensures.gone s kept in
+          c.promote.ensures.noted s
+          ∙ c.self.invariant.noted s (sym (c.detach.ensures.kept s other) ∙ kept) (subst (λ n. 1 ≤ n) (c.detach.ensures.arrivals s other) arrived);
+    }
+
+pub returns-clause-collected : goal.returns-clause-collected
+returns-clause-collected c = λ rs ks stands x named.
+    let a = c.self.inside in
+    let held = seen-stands a c.args.self.now c.self.view_is rs ks stands in
+    let here = subst (λ (s : Store). id_at s.table c.args.slot ≡ Some x) (sym c.self.view_is) named in
+    let same = same_Some c.in-Some.heir c.detach.result (sym c.in-Some.is ∙ (c.shared_stand_in.ensures.is ∙ c.detach.ensures.stand_in)) in
+    collected-stands (seen a) c.detach.new.self c.promote.new.self rs ks held c.self.invariant.in_order c.args.slot c.in-Some.heir x here
+    c.in-Some.ensures.kept c.in-Some.ensures.later c.detach.ensures.names c.detach.ensures.gone
+    (ap (id_at a.dag) same ∙ c.detach.ensures.shared rs ks held.table x here)
+    (c.detach.ensures.detached rs ks held.table x here) c.promote.ensures.promoted
