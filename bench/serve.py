@@ -4,7 +4,8 @@
 usage: bench/serve.py TARDISD [REDIS-SERVER]
 
 Each line is a shape: the connections, whether requests are pipelined (all sent at once) or each waits for the reply to
-the one before, and for each server so many transactions or reads a second, the best of three runs. A transaction of
+the one before; and for each server so many transactions or reads a second, and the microseconds of a processor that one
+took of it, each the best of three runs. The second figure hardly depends on what else the machine does. A transaction of
 `tardisd` is begin, get, put, commit; one of Redis is WATCH, GET, MULTI, SET, EXEC. Each connection has its own key of a
 value of 32 bytes. Redis keeps all in memory, without snapshots or a log. The client is one process in Python, which
 bounds what can be seen with many connections; it counts bytes, since the length of each reply is known.
@@ -22,7 +23,7 @@ import time
 
 VALUE = b"v" * 32
 OPEN, BEGIN, COMMIT = b"\x01\x00", b"\x02\x00", b"\x06\x01\x00\x00"
-TRANSACTIONS, READS = 12_000, 60_000
+TRANSACTIONS, READS = 15_000, 100_000
 
 
 def frame(body):
@@ -89,15 +90,6 @@ def connect(path):
             time.sleep(0.05)
 
 
-def take(connection, count):
-    while count > 0:
-        more = len(connection.recv(min(count, 1 << 20)))
-        if more == 0:
-            raise AssertionError("the connection ended")
-        count -= more
-    return count
-
-
 def pipelined(connection, steps):
     """Sends all the steps as fast as they are taken, and reads until all replies came."""
     asked = memoryview(b"".join(request for request, _ in steps))
@@ -149,8 +141,16 @@ def by_turns(connections, steps_of):
     return spent
 
 
+def processor_time(process):
+    """The seconds of a processor that a process took so far."""
+    with open("/proc/%d/stat" % process.pid) as file:
+        fields = file.read().rsplit(") ", 1)[1].split()
+    return (int(fields[11]) + int(fields[12])) / os.sysconf("SC_CLK_TCK")
+
+
 def measure(made, program, count, many, reads, at_once):
-    """So many transactions or reads a second, over a server that is started for this alone."""
+    """So many transactions or reads a second, and the seconds of a processor for each, over a server that is started for
+    this alone."""
     folder = tempfile.mkdtemp()
     path = os.path.join(folder, "s")
     server = made(program, path)
@@ -162,13 +162,15 @@ def measure(made, program, count, many, reads, at_once):
         for connection, key in zip(connections, keys):
             by_turns([connection], [server.first(key) + (server.before_reads() if reads else [])])
         steps_of = [[server.read(key)] * each if reads else server.transaction(key) * each for key in keys]
+        before = processor_time(process)
         if at_once:
             spent = pipelined(connections[0], steps_of[0])
         else:
             spent = by_turns(connections, steps_of)
+        taken = processor_time(process) - before
         for connection in connections:
             connection.close()
-        return each * many / spent
+        return each * many / spent, taken / (each * many)
     finally:
         process.kill()
         process.wait()
@@ -187,8 +189,8 @@ def main():
         for reads, count in (False, TRANSACTIONS), (True, READS * (5 if at_once else 1)):
             told = []
             for made, program in programs:
-                best = max(measure(made, program, count, many, reads, at_once) for _ in range(3))
-                told.append("%s %d" % (made.name, best))
+                runs = [measure(made, program, count, many, reads, at_once) for _ in range(3)]
+                told.append("%s %d (%.1f us)" % (made.name, max(run[0] for run in runs), 1e6 * min(run[1] for run in runs)))
             what = "%3d %s, %s" % (many, "pipelined" if at_once else "by turns", "reads" if reads else "transactions")
             print("%-32s %s" % (what, "   ".join(told)), flush=True)
 

@@ -1,5 +1,5 @@
 -- Runs of a hub over a site.
-use Rattle.std.proofs.Common.{ℕ, List, Option, Result, Ok, Err, IfOk}
+use Rattle.std.proofs.Common.{List, Option, Result, Ok, Err, IfOk}
 use Rattle.tardis_base.specs.Plain.{PlainMachine}
 use Rattle.command_words.specs.declared.commands.Place.{Place}
 use Rattle.command_words.specs.Places.{program_limits}

@@ -1,4 +1,4 @@
-use Rattle.std.proofs.Common.{◌≡◌, subst, sym}
+use Rattle.std.proofs.Common.{subst}
 use Rattle.plain_site.specs.Site.{opening}
 use Rattle.session_core.specs.Machine.{SiteStands}
 use Rattle.tardisd_main.proofs.Runs.{serves_place}
