@@ -1,10 +1,9 @@
 //! Worked rows of what sites give each other, through the top call and through the site's step.
 
-use crate::limit_tests::LIMITS;
 use crate::exchange_rows::{
     CONSENTS, IN_ORDER, LYING_PEERS, NEWS, NO_PATH, NO_ROOM, NONE_WAITS, SETTLED, TWO_RECORDS,
 };
-use crate::limit_tests::answers;
+use crate::limit_tests::{LIMITS, answers};
 use crate::step_tests::steps_of_two;
 use crate::talks::Talk;
 use std::test::Fail;

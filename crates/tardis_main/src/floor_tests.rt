@@ -1,8 +1,7 @@
 //! A floor that 256 open sessions hold.
 
-use crate::limit_tests::LIMITS;
 use crate::floor_rows::{FIRST_HOLDS, LAST_HOLDS};
-use crate::limit_tests::answers;
+use crate::limit_tests::{LIMITS, answers};
 use crate::talks::Talk;
 use std::test::Fail;
 

@@ -76,9 +76,7 @@ pub fn tardis<I: Source, O: Sink>(
 {
     match read_words(alloc, words) {
         Ok(Command::Run(place)) => run(alloc, place.limits(), place.site, input, output),
-        Ok(Command::Shell(place)) => {
-            shell(alloc, place.limits(), place.site, input, output)
-        }
+        Ok(Command::Shell(place)) => { shell(alloc, place.limits(), place.site, input, output) }
         Ok(Command::Audit(place)) => {
             audit_frames(alloc, place.limits(), place.site, input, output)
         }
@@ -116,6 +114,10 @@ fn run<I: Source, O: Sink>(
     }
 }
 
+#[cfg(test)]
+mod collection_rows;
+#[cfg(test)]
+mod collection_tests;
 #[cfg(test)]
 mod exchange_rows;
 #[cfg(test)]

@@ -6,8 +6,8 @@ ghost use Rattle.tardis_base.specs.Valid.{are_limits};
 use crate::rows::{
     BEGUN, FULL_SITE, LONG_PATH, LOOKING_BACK, ONE_OF_16, PAST_LIMITS, SECOND_SESSION,
 };
-use crate::talks::Talk;
 use crate::run;
+use crate::talks::Talk;
 use std::alloc::Global;
 use std::test::Fail;
 use tardis_base::Limits;
@@ -31,7 +31,8 @@ pub(crate) fn answers(alloc: Global, limits: Limits, own: u16, talk: &Talk) -> R
     let input = talk.input()?;
     let output = talk.output()?;
     let mut source = MemorySource::new(alloc, input.as_slice(), 65_536, &[])?;
-    let mut sink = MemorySink::new(alloc, 16_384, 65_536, &[])?;
+    let room = u32::try_from(output.len()).unwrap_or(u32::MAX);
+    let mut sink = MemorySink::new(alloc, room, 65_536, &[])?;
     let ended = run(alloc, limits, own, &mut source, &mut sink);
     Ok(ended == Status::Ok && sink.bytes() == output.as_slice())
 }

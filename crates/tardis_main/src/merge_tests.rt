@@ -1,7 +1,6 @@
 //! Branches are joined by merges.
 
-use crate::limit_tests::LIMITS;
-use crate::limit_tests::answers;
+use crate::limit_tests::{LIMITS, answers};
 use crate::merge_rows::{
     APART, BRANCHED, CART, JOINED, MERGED_TWICE, NINE_LEAVES, ONE_STATE, PAST_MERGES, STEP_ONE,
     STEP_TWO, WIDE_BEGUN, WIDE_FIRST, WIDE_OPEN, WIDE_SECOND,

@@ -1,8 +1,7 @@
 //! Worked rows asked of the site's step, over requests and replies and not over their bytes.
 
-use crate::limit_tests::LIMITS;
 use crate::floor_rows::{BESIDE, CEILINGS, FOLLOWED, RAISED_CHAIN};
-use crate::limit_tests::note_chain;
+use crate::limit_tests::{LIMITS, note_chain};
 use crate::merge_rows::{APART, BRANCHED, CART, JOINED, MERGED_TWICE, ONE_STATE, PAST_MERGES};
 use crate::rows::{
     ANY_AFTER, AT_AFTER, BEHIND, COUNTED, LAST_COMMITS, LOOKING_BACK, NB_REFUSES, NO_STATE, RIPPLE,
@@ -54,7 +53,7 @@ fn answers<S: Site>(alloc: Global, mut site: S, talk: &Talk) -> Result<bool, Fai
 }
 
 /// Whether a site that opens does.
-fn steps(alloc: Global, talk: &Talk) -> Result<bool, Fail> {
+pub(crate) fn steps(alloc: Global, talk: &Talk) -> Result<bool, Fail> {
     match SiteCore::new(alloc, LIMITS, 1) {
         Ok(site) => answers(alloc, site, talk),
         Err(NoMemory) => Ok(false),
