@@ -10,7 +10,7 @@ mod shells;
 mod tests;
 
 pub use audits::AuditLines;
-pub use laws::requests_fit_a_frame;
+pub use laws::{own_replies_have_lines, requests_fit_a_frame};
 pub use runs::{audit, audit_device, run_shell, run_shell_device};
 pub use shells::ShellReplies;
 

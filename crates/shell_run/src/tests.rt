@@ -54,7 +54,7 @@ fn runs_to(
     acts: u8,
 ) -> Result<bool, Fail> {
     let mut clerk = Clerk { acts: 0 };
-    let mut source = MemorySource::new(alloc, input, 9, &[])?;
+    let mut source = MemorySource::new(alloc, input, 4_096, &[])?;
     let mut sink = MemorySink::new(alloc, 1_000, 1_000, &[])?;
     let ended = if is_shell {
         run_shell(alloc, &mut clerk, &mut source, &mut sink)

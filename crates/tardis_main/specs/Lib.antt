@@ -2,3 +2,4 @@
 pub mod Words
 pub mod Helps
 pub mod Runs
+pub mod Laws

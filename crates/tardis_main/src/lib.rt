@@ -18,11 +18,13 @@ ghost use Rattle.tardis_main.specs.Words.{AreAudit, AreRun, AreShell, AreUnknown
 ghost use Rattle.tardis_main.specs.Runs.{AuditFrom, RunFrom, ShellFrom, program_limits};
 
 mod helps;
+mod laws;
 mod lines;
 mod programs;
 
 use command_words::{Command, read_words};
 pub use helps::{Help, help_of};
+pub use laws::replies_have_lines;
 use lines::{audit_frames, shell};
 pub use programs::carry_out;
 use session_core::SiteCore;
