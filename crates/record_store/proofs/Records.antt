@@ -18,10 +18,9 @@ use Rattle.tardis_base.specs.Valid.{is_id, are_parents, are_writes, is_key, is_w
 use Rattle.tardis_base.proofs.KeyOrder.{cases_key, before-trans, bytes_eq-before}
 use Rattle.tardis_base.proofs.WriteSets.{write_of-here, write_of-there, write_of-with_write, write_of-with_write_other, write_of-missing}
 use Rattle.plain_dag.specs.States.{is_known, parents_of, arrival, record_at, writes_key, write_at}
-use Rattle.plain_dag.specs.Writers.{read}
 use Rattle.plain_dag.specs.Collection.{is_kept}
 use Rattle.plain_dag.specs.Dag.{IsDag}
-use Rattle.plain_dag.proofs.Ids.{or-false, same_test, not-both, same_id-true, same_id_from}
+use Rattle.plain_dag.proofs.Ids.{same_test, not-both, same_id-true, same_id_from}
 use Rattle.plain_dag.proofs.Histories.{known-before, parents-newest, parents-before}
 use Rattle.plain_dag.proofs.Keys.{ascending-parts}
 use Rattle.plain_dag.proofs.StandIns.{stands-in-well}

@@ -3,8 +3,8 @@
 //! What a read, a write and a new state mean is stated in `docs/MODEL.md`.
 #![tactic(auto)]
 
-ghost use Rattle.std.specs.Prelude.{◌≡◌, true, ◌+◌, ◌-◌, ◌≤◌, ◌||◌, ℕ, Bool, List, [], ◌∷◌, length, map, take, Option, Some, None, slice_get, unwrap_or, IsTrue};
-ghost use Rattle.std.specs.Prelude.{IfOk, IfSome, OnOk, OnErr};
+ghost use Rattle.std.specs.Prelude.{◌≡◌, true, ◌+◌, ◌-◌, ◌≤◌, ◌||◌, ℕ, Bool, List, [], ◌∷◌, length, map, take, Option, Some, None, slice_get, unwrap_or};
+ghost use Rattle.std.specs.Prelude.{IsTrue, IsSome, IfOk, IfSome, OnOk, OnErr};
 ghost use Rattle.std.specs.List.{list_all};
 ghost use Rattle.std.specs.Option.{option_map, option_and_then};
 ghost use Rattle.tardis_base.specs.declared.ids.StateId.{StateId};
@@ -16,7 +16,6 @@ ghost use Rattle.plain_dag.specs.States.{root_record, record_at, parents_of};
 ghost use Rattle.plain_dag.specs.Writers.{read, latest_writer};
 ghost use Rattle.plain_dag.specs.Landing.{is_news};
 ghost use Rattle.plain_dag.specs.Collection.{stand_in};
-ghost use Rattle.std.specs.Prelude.{IsSome};
 ghost use Rattle.state_dag.specs.Shared.{shared_stand_in};
 ghost use Rattle.state_dag.specs.Detached.{shared_slot, without_slot};
 ghost use Rattle.state_dag.specs.Table.{is_slot_above};
