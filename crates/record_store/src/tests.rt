@@ -130,16 +130,6 @@ fn full(rt: &impl Abort, alloc: Global, store: &mut RecordStore)
     assert_eq!(rt; fresh.len(), 2);
 }
 
-/// Lets this state join the collected ones, and leave what it held to the other one.
-fn collected(rt: &impl Abort, store: &mut RecordStore, sequence: u32, heir: u32) {
-    let slot = at(rt, store, sequence);
-    let shared = store.dag().shared_stand_in(slot);
-    assert!(rt; shared.is_some());
-    let stand_in = store.collect(slot);
-    assert!(rt; store.dag().slot_of(state(sequence)).is_none());
-    assert!(rt; at(rt, store, heir) == stand_in);
-}
-
 /// What is read of the key at this state: who wrote it, if anyone, and the value, unless it was deleted.
 fn reads(
     rt: &impl Abort,
@@ -207,22 +197,4 @@ fn a_merge_comes_back_and_a_full_store_keeps_its_reads(rt: HostRuntime) {
     reads(&rt, alloc, &store, 4, b"y", Some(3), Some(b"3"));
     assert!(rt; news(&rt, alloc, &store, 2, 4, b"y"));
     assert_eq!(rt; store.versions().keys(), 2);
-}
-
-#[test]
-fn what_a_collected_state_held_is_read_at_its_stand_in(rt: HostRuntime) {
-    let alloc = rt.alloc();
-    let mut store = RecordStore::new(alloc, &LIMITS).expect(&rt, "room");
-    added(&rt, &mut store, 1, 0, &writes(&rt, alloc, b"1"));
-    let mut other = WriteSet::new(alloc);
-    put(&rt, alloc, &mut other, b"y", b"2");
-    added(&rt, &mut store, 2, 1, &other);
-    added(&rt, &mut store, 3, 2, &writes(&rt, alloc, b"3"));
-    collected(&rt, &mut store, 1, 2);
-    reads(&rt, alloc, &store, 2, b"x", Some(1), Some(b"1"));
-    reads(&rt, alloc, &store, 3, b"x", Some(3), Some(b"3"));
-    collected(&rt, &mut store, 2, 3);
-    reads(&rt, alloc, &store, 3, b"x", Some(3), Some(b"3"));
-    reads(&rt, alloc, &store, 3, b"y", Some(2), Some(b"2"));
-    reads(&rt, alloc, &store, 0, b"x", None, None);
 }
