@@ -10,8 +10,12 @@ mod refusal_lines;
 mod reply_lines;
 mod request_fields;
 mod request_lines;
+#[cfg(test)]
+mod tests;
+mod texts;
 
 pub use line_laws::{lines_are_read, lines_fit_their_room, lines_have_one_reading};
 pub use reply_lines::put_reply_line;
 pub use request_lines::put_request_line;
 pub use text_words::LineBuf;
+pub use texts::{Text, line_of, reply_line};

@@ -70,7 +70,8 @@ pub fn put_site_lines(lead: &[u8], count: u8, unread: &mut Unread, out: &mut Lin
 
 /// Writes the text, and then so many pairs of a fork and a branch.
 pub fn put_pairs(lead: &[u8], count: u32, unread: &mut Unread, out: &mut LineBuf)
-    ensures { putting unread.new out.new ≡ puts (times (both id_front u32_front) count) (texts lead.now (λ p. spaced (pair_word p))) (putting unread.old out.old) }
+    ensures { putting unread.new out.new ≡ puts (times (both id_front u32_front) count) (texts lead.now (λ p. spaced (pair_word p)))
+        (putting unread.old out.old) }
 {
     unread.say(lead, out);
     for _place in 0..count {

@@ -69,7 +69,8 @@ fn pass_parents(reader: &mut Reader) -> bool
 
 /// So many keys in ascending order, with what is written to them.
 fn pass_ascending_writes(count: u8, reader: &mut Reader) -> bool
-    ensures { Makes (only_if (λ (ws : List KeyWrite). are_ascending_keys (keys_of ws)) (times (both key_front write_front) count)) reader.old (read_if result) reader.new }
+    ensures { Makes (only_if (λ (ws : List KeyWrite). are_ascending_keys (keys_of ws)) (times (both key_front write_front) count))
+        reader.old (read_if result) reader.new }
 {
     let mut last = None;
     for _place in 0..count {
@@ -158,7 +159,8 @@ fn pass_records(reader: &mut Reader) -> bool
 
 /// So many consents, with their sites in ascending order.
 fn pass_ascending_consents(count: u8, reader: &mut Reader) -> bool
-    ensures { Makes (only_if (λ (cs : List Consent). are_ascending_numbers (map (λ c. c.site) cs)) (times consent_front count)) reader.old (read_if result) reader.new }
+    ensures { Makes (only_if (λ (cs : List Consent). are_ascending_numbers (map (λ c. c.site) cs)) (times consent_front count))
+        reader.old (read_if result) reader.new }
 {
     let mut last = None;
     for _place in 0..count {

@@ -88,7 +88,8 @@ fn put_high_refusal(code: u8, unread: &mut Unread, out: &mut LineBuf)
 /// What there are too many of, and how many.
 fn put_too_many(unread: &mut Unread, out: &mut LineBuf)
     ensures { putting unread.new out.new
-        ≡ puts (both (only_if is_what u8_front) u32_front) (λ p. (codes " toomany" ++ spaced (what_word p.0)) ++ spaced (number_word p.1)) (putting unread.old out.old) }
+        ≡ puts (both (only_if is_what u8_front) u32_front) (λ p. (codes " toomany" ++ spaced (what_word p.0)) ++ spaced (number_word p.1))
+          (putting unread.old out.old) }
 {
     let what = match unread.u8() {
         Some(what) => what,

@@ -45,7 +45,8 @@ pub fn put_begin(unread: &mut Unread, out: &mut LineBuf)
 }
 
 pub fn put_commit(unread: &mut Unread, out: &mut LineBuf)
-    ensures { putting unread.new out.new ≡ puts commit_front (λ p. codes " commit" ++ spaced (flags_word (record { 0 = p.0 }) p.1)) (putting unread.old out.old) }
+    ensures { putting unread.new out.new ≡ puts commit_front (λ p. codes " commit" ++ spaced (flags_word (record { 0 = p.0 }) p.1))
+        (putting unread.old out.old) }
 {
     let flags = match unread.u8() {
         Some(flags) => flags,
