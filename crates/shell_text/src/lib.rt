@@ -3,6 +3,7 @@
 
 mod field_words;
 mod line_laws;
+mod line_word_readers;
 mod list_lines;
 mod refusal_lines;
 
