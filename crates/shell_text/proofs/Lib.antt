@@ -4,3 +4,4 @@ pub mod RepliesRead
 pub mod Lengths
 pub mod Rows
 pub mod Arms
+pub mod LineReads

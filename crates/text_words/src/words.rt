@@ -34,6 +34,16 @@ impl<'a> Words<'a> {
         }
     }
 
+    /// The same text.
+    pub fn again(&self) -> Words<'a>
+        ensures { result ≡ self.now }
+    {
+        Words {
+            left: self.left,
+            is_over: self.is_over,
+        }
+    }
+
     /// Whether nothing is left.
     pub fn is_over(&self) -> bool
         ensures { result ≡ (length self.now == 0) }
