@@ -5,6 +5,8 @@ mod field_words;
 mod line_field_readers;
 mod line_laws;
 mod line_readers;
+#[cfg(test)]
+mod line_tests;
 mod line_word_readers;
 mod list_lines;
 mod refusal_lines;
