@@ -5,11 +5,11 @@ use Rattle.std.proofs.lemmas.Bool.{and_parts, and_from, cases_lt, not-true}
 use Rattle.std.proofs.lemmas.Slice.Eq.{bytes_eq-Decides}
 use Rattle.std.specs.Bool.{then_some}
 use Rattle.std.specs.List.{list_all}
-use Rattle.std.specs.Prelude.{bytes_eq, MatchResult}
+use Rattle.std.specs.Prelude.{MatchResult}
 use Rattle.std.specs.Result.{result_unwrap_or}
-use Rattle.hex.specs.Hex.{decode_of, decode_pairs, decode_sized, encode_with, hex_digit_value, lower_digits, pair_value, value_at, digit_or_error, ◌>>=◌}
+use Rattle.hex.specs.Hex.{decode_of, decode_pairs, decode_sized, encode_with, hex_digit_value, lower_digits, pair_value, digit_or_error, ◌>>=◌}
 use Rattle.hex.specs.declared.error.FromHexError.{FromHexError}
-use Rattle.hex.proofs.HexLemmas.{length-encode_with, decode_of-even, decode_of-odd, decode_sized-twice, decode_of-ok}
+use Rattle.hex.proofs.HexLemmas.{length-encode_with, decode_of-even, decode_sized-twice}
 use Rattle.tardis_base.specs.Valid.{is_within, are_bytes}
 use Rattle.text_words.specs.Words.{Word, hex_word}
 use Rattle.text_words.specs.Texts.{hex_bytes, bytes_from}

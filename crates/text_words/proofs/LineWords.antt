@@ -1,7 +1,7 @@
 -- What is read from the text that is left of a line.
 use Rattle.std.proofs.Common.{◌≡◌, ℕ, zero, suc, ◌+◌, ◌-◌, ◌*◌, ◌^◌, ◌<◌, ◌≤◌, Bool, true, false, not, ◌==◌, ◌&&◌, IsTrue, List, [], ◌∷◌, ◌++◌, length, take, drop, get_or, slice_index, nat_le, nat_lt, Option, Some, None, ap, ap₂, sym, ◌∙◌, subst, refl, arith, if◌then◌else◌, unwrap_or, eqb-true, ltb-true, lt-ltb, take-append-drop}
 use Rattle.std.proofs.Math.Seq.{take-suc}
-use Rattle.std.proofs.lemmas.Bool.{and_parts, and_from}
+use Rattle.std.proofs.lemmas.Bool.{and_parts}
 use Rattle.std.proofs.lemmas.Bool.Decides.{nat_tests}
 use Rattle.std.proofs.lemmas.Int.Digits.{digits_value_more}
 use Rattle.std.proofs.lemmas.Fmt.{decimal_is_IsNumeral}
@@ -11,9 +11,7 @@ use Rattle.std.specs.List.{list_all}
 use Rattle.std.specs.Prelude.{option_map}
 use Rattle.std.specs.Str.Parse.{digits_value, digits_value_after}
 use Rattle.tardis_base.specs.Valid.{is_within}
-use Rattle.text_words.specs.Words.{Word, number_word}
 use Rattle.text_words.specs.Texts.{until, behind, number_of, spaces}
-use Rattle.text_words.proofs.Bytes.{within-parts}
 use Rattle.text_words.proofs.WordsRead.{number-only, number-within}
 use Rattle.text_words.proofs.TextReads.{spaces-append}
 

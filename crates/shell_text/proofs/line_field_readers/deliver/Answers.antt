@@ -1,4 +1,4 @@
-use Rattle.std.proofs.Common.{arith, take}
+use Rattle.std.proofs.Common.{take}
 use Rattle.shell_text.proofs.LineReads.{not-delivered, no-item}
 use Rattle.shell_text.proofs.line_field_readers.deliver.Goals as goal
 

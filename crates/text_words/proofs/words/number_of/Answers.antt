@@ -1,4 +1,4 @@
-use Rattle.std.proofs.Common.{ap, sym, ◌∙◌, ◌≡◌, true, arith, get_or}
+use Rattle.std.proofs.Common.{sym, ◌∙◌, ◌≡◌, true, arith, get_or}
 use Rattle.std.specs.Char.{is_ascii_digit}
 use Rattle.text_words.proofs.LineWords.{no-number, next-value, small-digit}
 use Rattle.text_words.proofs.words.number_of.Goals as goal

@@ -1,4 +1,4 @@
-use Rattle.std.proofs.Common.{ap, sym, ◌∙◌, ◌≡◌, ◌+◌, ◌==◌, suc, arith, get_or, length, take, take_all, [], ◌∷◌, ◌++◌, if◌then◌else◌, eq-eqb, ne_eqb}
+use Rattle.std.proofs.Common.{ap, sym, ◌∙◌, ◌+◌, suc, arith, get_or, take, take_all, [], ◌∷◌, ◌++◌, if◌then◌else◌, eq-eqb, ne_eqb}
 use Rattle.text_words.specs.Texts.{spaces}
 use Rattle.text_words.proofs.LineWords.{spaces-more, spaces-ended}
 use Rattle.text_words.proofs.words.Words.count.Goals as goal

@@ -1,4 +1,4 @@
-use Rattle.std.proofs.Common.{◌++◌, ◌∷◌, [], Some, None, ◌==◌, true, false, ap, sym, ◌∙◌, if◌then◌else◌, arith, eq-eqb, ne_eqb}
+use Rattle.std.proofs.Common.{◌++◌, ◌∷◌, [], Some, None, ap, sym, ◌∙◌, if◌then◌else◌, eq-eqb, ne_eqb}
 use Rattle.text_words.specs.Texts.{until}
 use Rattle.text_words.proofs.LineWords.{until-at, until-none}
 use Rattle.text_words.proofs.words.Words.until.Goals as goal
