@@ -9,3 +9,4 @@ pub mod Passings
 pub mod Finished
 pub mod ReplyFits
 pub mod RequestFits
+pub mod LineReads

@@ -2,6 +2,7 @@
 pub mod RequestLines
 pub mod ReplyLines
 pub mod Spelled
+pub mod Answers
 pub mod RequestTexts
 pub mod ReplyTexts
 pub mod Laws

@@ -2,7 +2,12 @@
 #![tactic(auto)]
 
 mod field_words;
+mod line_field_readers;
 mod line_laws;
+mod line_readers;
+#[cfg(test)]
+mod line_tests;
+mod line_word_readers;
 mod list_fields;
 mod list_lines;
 mod passing;
@@ -15,6 +20,7 @@ mod tests;
 mod texts;
 
 pub use line_laws::{lines_are_read, lines_fit_their_room, lines_have_one_reading};
+pub use line_readers::read_line;
 pub use reply_lines::put_reply_line;
 pub use request_lines::put_request_line;
 pub use text_words::LineBuf;

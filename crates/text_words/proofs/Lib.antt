@@ -7,3 +7,5 @@ pub mod TextReads
 pub mod IdsPrinted
 pub mod Sequences
 pub mod Ordered
+pub mod LineWords
+pub mod Decodings

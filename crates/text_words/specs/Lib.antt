@@ -3,3 +3,4 @@ pub mod Words
 pub mod Texts
 pub mod Laws
 pub mod Puts
+pub mod Decodings

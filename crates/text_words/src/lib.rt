@@ -5,8 +5,12 @@ mod line_bufs;
 #[cfg(test)]
 mod tests;
 mod unread;
+mod word_bytes;
 mod word_laws;
+mod words;
 
 pub use line_bufs::LineBuf;
 pub use unread::Unread;
+pub use word_bytes::{read_bytes, read_hex};
 pub use word_laws::words_are_read;
+pub use words::Words;

@@ -303,7 +303,7 @@ impl<'a> Unread<'a> {
 }
 
 /// Whether the bytes are their own word.
-fn is_plain(bytes: &[u8]) -> bool
+pub(crate) fn is_plain(bytes: &[u8]) -> bool
     ensures { result ≡ is_plain bytes.now }
 {
     match bytes.first() {
@@ -312,7 +312,7 @@ fn is_plain(bytes: &[u8]) -> bool
     }
 }
 
-fn are_printed(bytes: &[u8]) -> bool
+pub(crate) fn are_printed(bytes: &[u8]) -> bool
     ensures { result ≡ are_printed bytes.now }
 {
     bytes.iter().all(|byte| (33..=126).contains(byte))
