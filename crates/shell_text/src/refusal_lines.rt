@@ -89,7 +89,7 @@ fn put_high_refusal(code: u8, unread: &mut Unread, out: &mut LineBuf)
 fn put_too_many(unread: &mut Unread, out: &mut LineBuf)
     ensures { putting unread.new out.new
         ≡ puts (both (only_if is_what u8_front) u32_front) (λ p. (codes " toomany" ++ spaced (what_word p.0)) ++ spaced (number_word p.1))
-          (putting unread.old out.old) }
+        (putting unread.old out.old) }
 {
     let what = match unread.u8() {
         Some(what) => what,
