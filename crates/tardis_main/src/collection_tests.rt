@@ -64,7 +64,7 @@ fn a_long_chain_stays_small(rt: HostRuntime) -> Result<(), Fail> {
         }
     }
     let known = [
-        14, 0, 0, 0, 0, 0, 0, 156, 65, 0, 0, 0, 1, 0, 0, 0, 1, 0, 1, 0, 1,
+        14, 0, 0, 0, 0, 0, 0, 156, 65, 0, 0, 0, 1, 0, 0, 0, 1, 0, 1, 1,
     ];
     let mut told = Vec::from_slice(alloc, &known)?;
     told.extend_from_slice(&[0, 0, 156, 64, 0, 1, 0, 0, 156, 64, 0, 0, 2, 113])?;
