@@ -1,0 +1,4 @@
+-- Why collecting is unseen.
+pub mod Unseen
+pub mod Served
+pub mod Laws

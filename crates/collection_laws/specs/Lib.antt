@@ -1,0 +1,3 @@
+-- What collecting leaves alone.
+pub mod Laws
+pub mod Rows

@@ -1,0 +1,50 @@
+-- A wrong step that shows what is collected, and a run in which room is made.
+use Rattle.std.specs.Prelude.{not, List, [], ◌∷◌, filter}
+use Rattle.tardis_base.specs.declared.requests.Request.TheVariants.{Get, Tidy, Ceiling, RaiseAuto}
+use Rattle.tardis_base.specs.declared.replies.Refusal.TheVariants.{Full}
+use Rattle.tardis_base.specs.declared.replies.Reply.TheVariants.{Opened, Begun, Done, Committed, Raised, Tidied, Refused}
+use Rattle.tardis_base.specs.Ids.{is_among}
+use Rattle.plain_site.specs.Site.{Site, opening}
+use Rattle.plain_site.specs.Built.{everything}
+use Rattle.plain_site.specs.Step.{step}
+use Rattle.plain_site.specs.RowWords.{Line, Talk, site_after, program_limits, ◌·◌, ◌asks◌=>◌, opens, begin_any, put, none, commit}
+use Rattle.plain_site.specs.ClientRuns.{Service}
+
+-- the records of the kept states alone
+abbrev pub with_kept_alone : Site → Site
+with_kept_alone site = record site { dag = filter (λ r. not (is_among r.id site.collected)) site.dag }
+
+-- a Get finds only what kept states wrote
+abbrev pub reads_kept_alone : Service
+reads_kept_alone site n (Get k) = ((step everything site n (Get k)).0, (step everything (with_kept_alone site) n (Get k)).1)
+reads_kept_alone site n q = step everything site n q
+
+-- a site that keeps two states
+abbrev pub two_states : Site
+two_states = opening (record (program_limits 1) { max_kept = 2 }) 1
+
+-- 1 makes 1.1, and the root is closed; then it begins at 1.1
+abbrev pub root_is_closed : List Line
+root_is_closed =
+    1 asks opens => Opened (0 · 0)
+    ∷ 1 asks begin_any => Begun (0 · 0)
+    ∷ 1 asks put "x" "1" => Done
+    ∷ 1 asks commit none => Committed (1 · 1) (0 · 0 ∷ [])
+    ∷ 1 asks Ceiling (1 · 1) => Done
+    ∷ 0 asks RaiseAuto => Raised (1 · 1) 1
+    ∷ 1 asks begin_any => Begun (1 · 1)
+    ∷ []
+
+-- and that site
+abbrev pub closed_above : Site
+closed_above = site_after everything two_states root_is_closed
+
+-- a full site refuses a commit, and once the root is collected the same commit is done
+abbrev pub CollectingMakesRoom : Type 0
+CollectingMakesRoom =
+    Talk everything closed_above
+    (1 asks put "x" "2" => Done
+    ∷ 1 asks commit none => Refused (Full 2)
+    ∷ 0 asks Tidy 1 => Tidied 1
+    ∷ 1 asks commit none => Committed (1 · 2) (1 · 1 ∷ [])
+    ∷ [])

@@ -1,0 +1,20 @@
+//! What collecting leaves alone. The program calls none of it: the function here is empty, and its contract is a law, with a
+//! wrong step that breaks it and a worked row. `docs/MODEL.md` says it in plain words.
+#![tactic(auto)]
+
+ghost use Rattle.plain_site.specs.Built.{Built};
+ghost use Rattle.plain_site.specs.Step.{step};
+ghost use Rattle.plain_site.specs.WrongSteps.{IsBrokenBy};
+ghost use Rattle.collection_laws.specs.Laws.{CollectionIsUnseen, OnlyCollectedChange};
+ghost use Rattle.collection_laws.specs.Rows.{reads_kept_alone, CollectingMakesRoom};
+
+/// Collecting changes nothing that a client can tell, but room: two sites that differ in nothing but which states they have
+/// collected give the same reply to each request, and differ in no more afterwards. Tidy, Stat and Show tell of what is kept,
+/// and change nothing but the collected states. A site that has no room says Full or PathFull where one that collected more
+/// goes on.
+pub fn collection_is_unseen()
+    ensures unseen { (built : Built) → CollectionIsUnseen (step built) }
+    ensures rest_stays { (built : Built) → OnlyCollectedChange (step built) }
+    ensures kept_alone_breaks { IsBrokenBy CollectionIsUnseen reads_kept_alone }
+    ensures makes_room { CollectingMakesRoom }
+{}
