@@ -1,12 +1,11 @@
--- What is collected is unseen, and what breaks that.
+-- What is collected is unseen.
 use Rattle.std.proofs.Common.{◌≡◌, ℕ, true, not, List, [], ◌∷◌, Option, Some, None, IsTrue, IsFalse, refl, sym, ap, subst, ◌∙◌}
-use Rattle.std.specs.Prelude.{codes}
 use Rattle.tardis_base.specs.declared.ids.StateId.{StateId}
 use Rattle.tardis_base.specs.declared.requests.Request.{Request}
-use Rattle.tardis_base.specs.declared.requests.Request.TheVariants.{Get, Tidy, Stat, Show}
+use Rattle.tardis_base.specs.declared.requests.Request.TheVariants.{Tidy, Stat, Show}
 use Rattle.tardis_base.specs.declared.replies.Refusal.TheVariants.{Unknown, Collected, Unsupported}
 use Rattle.tardis_base.specs.declared.replies.Reply.{Reply}
-use Rattle.tardis_base.specs.declared.replies.Reply.TheVariants.{Absent, Shown}
+use Rattle.tardis_base.specs.declared.replies.Reply.TheVariants.{Shown}
 use Rattle.tardis_base.specs.Ids.{is_among}
 use Rattle.plain_dag.specs.States.{is_known, arrival, children}
 use Rattle.plain_dag.specs.Paths.{fork_path}
@@ -17,10 +16,7 @@ use Rattle.plain_site.specs.Answers.{Answer, refuse, unless}
 use Rattle.plain_site.specs.FloorSteps.{tidy}
 use Rattle.plain_site.specs.Shows.{stat, show}
 use Rattle.plain_site.specs.Step.{served, step}
-use Rattle.plain_site.specs.RowWords.{◌·◌, value}
-use Rattle.plain_site.specs.WrongSteps.{IsBrokenBy}
 use Rattle.collection_laws.specs.Laws.{AgreeButCollected, asks_of_kept, CollectionIsUnseen, OnlyCollectedChange}
-use Rattle.collection_laws.specs.Rows.{reads_kept_alone, closed_above, CollectingMakesRoom}
 use Rattle.collection_laws.proofs.Unseen.{other, Unseen}
 use Rattle.collection_laws.proofs.Served.{step-unseen}
 
@@ -55,12 +51,3 @@ module _ (built : Built) where
   pub only-collected-change : OnlyCollectedChange (step built)
   only-collected-change site n q h =
       unless-agrees site (refuse (not (is_built built q)) (Unsupported (code_of q)) ∷ []) (served built site n q) (served-agrees site n q h)
-
--- the root wrote nothing; 1.1 wrote x
-pub kept-alone-breaks : IsBrokenBy CollectionIsUnseen reads_kept_alone
-kept-alone-breaks law =
-    let same : value (1 · 1) "1" ≡ Absent = (law closed_above (record closed_above { collected = 1 · 1 ∷ [] }) 1 (Get (codes "x")) refl refl refl refl).0 in
-    absurd (cc)
-
-pub collecting-makes-room : CollectingMakesRoom
-collecting-makes-room = refl

@@ -2,3 +2,5 @@
 pub mod Unseen
 pub mod Served
 pub mod Laws
+pub mod Runs
+pub mod Wrong

@@ -1,12 +1,13 @@
 -- Collecting is unseen: it changes no reply but those that tell of it, as long as there is room.
-use Rattle.std.specs.Prelude.{◌≡◌, ℕ, Bool, true, false, IsTrue, IsFalse}
+use Rattle.std.specs.Prelude.{◌≡◌, ℕ, Bool, true, false, not, List, [], ◌∷◌, filter, IsTrue, IsFalse}
 use Rattle.tardis_base.specs.declared.requests.Request.{Request}
 use Rattle.tardis_base.specs.declared.requests.Request.TheVariants.{Tidy, Stat, Show}
 use Rattle.tardis_base.specs.declared.replies.Refusal.TheVariants.{Full, PathFull}
 use Rattle.tardis_base.specs.declared.replies.Reply.{Reply}
 use Rattle.tardis_base.specs.declared.replies.Reply.TheVariants.{Refused}
 use Rattle.plain_site.specs.Site.{Site}
-use Rattle.plain_site.specs.ClientRuns.{Service}
+use Rattle.plain_site.specs.RowWords.{Line}
+use Rattle.plain_site.specs.ClientRuns.{Service, site_after, AreAnswered}
 
 -- the second site is the first but for its collected states
 abbrev pub AgreeButCollected : Site → Site → Type 0
@@ -35,3 +36,22 @@ CollectionIsUnseen service = (a b : Site) (n : ℕ) (q : Request) → AgreeButCo
 -- the other requests change no more than the collected states
 abbrev pub OnlyCollectedChange : Service → Type 0
 OnlyCollectedChange service = (site : Site) (n : ℕ) (q : Request) → IsTrue (asks_of_kept q) → AgreeButCollected site (service site n q).0
+
+-- ===== Runs. Lines stand newest first.
+
+-- the lines without those that ask of what is kept
+abbrev pub without_collection : List Line → List Line
+without_collection lines = filter (λ line. not (asks_of_kept line.request)) lines
+
+-- the site has room at each of these lines
+abbrev pub HasRoom : Service → Site → List Line → Type 0
+HasRoom service start [] = Unit {0}
+HasRoom service start (line ∷ older) = IsFalse (tells_full (service (site_after service start older) line.actor line.request).1) × HasRoom service start older
+
+-- where there is room, with collection and without it, all other lines are answered without it as they were with it, and the
+-- site is the same but for its collected states
+abbrev pub RunsGoTheSameWithout : Service → Type 0
+RunsGoTheSameWithout service = (start : Site) (lines : List Line) → AreAnswered service start lines → HasRoom service start lines →
+    HasRoom service start (without_collection lines) →
+    AreAnswered service start (without_collection lines)
+    × AgreeButCollected (site_after service start (without_collection lines)) (site_after service start lines)

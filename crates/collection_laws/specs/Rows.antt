@@ -1,14 +1,15 @@
--- A wrong step that shows what is collected, and a run in which room is made.
+-- A wrong step that shows what is collected, with a run in which it does; and a worked row in which room is made.
 use Rattle.std.specs.Prelude.{not, List, [], ◌∷◌, filter}
 use Rattle.tardis_base.specs.declared.requests.Request.TheVariants.{Get, Tidy, Ceiling, RaiseAuto}
 use Rattle.tardis_base.specs.declared.replies.Refusal.TheVariants.{Full}
-use Rattle.tardis_base.specs.declared.replies.Reply.TheVariants.{Opened, Begun, Done, Committed, Raised, Tidied, Refused}
+use Rattle.tardis_base.specs.declared.replies.Reply.TheVariants.{Opened, Begun, Absent, Done, Committed, Raised, Tidied, Refused}
 use Rattle.tardis_base.specs.Ids.{is_among}
 use Rattle.plain_site.specs.Site.{Site, opening}
 use Rattle.plain_site.specs.Built.{everything}
 use Rattle.plain_site.specs.Step.{step}
-use Rattle.plain_site.specs.RowWords.{Line, Talk, site_after, program_limits, ◌·◌, ◌asks◌=>◌, opens, begin_any, put, none, commit}
+use Rattle.plain_site.specs.RowWords.{Line, Talk, site_after, program_limits, ◌·◌, ◌asks◌=>◌, opens, begin_any, get, put, none, commit}
 use Rattle.plain_site.specs.ClientRuns.{Service}
+use Rattle.plain_site.specs.WrongSteps.{followed}
 
 -- the records of the kept states alone
 abbrev pub with_kept_alone : Site → Site
@@ -18,6 +19,20 @@ with_kept_alone site = record site { dag = filter (λ r. not (is_among r.id site
 abbrev pub reads_kept_alone : Service
 reads_kept_alone site n (Get k) = ((step everything site n (Get k)).0, (step everything (with_kept_alone site) n (Get k)).1)
 reads_kept_alone site n q = step everything site n q
+
+-- after its 1.1 wrote x, a following session makes 1.2; 1.1 is collected, and x isn't found at 1.2
+abbrev pub write_missed : List Line
+write_missed =
+    1 asks get "x" => Absent
+    ∷ 1 asks begin_any => Begun (1 · 2)
+    ∷ 0 asks Tidy 1 => Tidied 1
+    ∷ 0 asks RaiseAuto => Raised (1 · 2) 1
+    ∷ 1 asks commit none => Committed (1 · 2) (1 · 1 ∷ [])
+    ∷ 1 asks put "y" "1" => Done
+    ∷ 1 asks begin_any => Begun (1 · 1)
+    ∷ followed
+
+-- ===== Room
 
 -- a site that keeps two states
 abbrev pub two_states : Site

@@ -4,17 +4,20 @@
 
 ghost use Rattle.plain_site.specs.Built.{Built};
 ghost use Rattle.plain_site.specs.Step.{step};
-ghost use Rattle.plain_site.specs.WrongSteps.{IsBrokenBy};
-ghost use Rattle.collection_laws.specs.Laws.{CollectionIsUnseen, OnlyCollectedChange};
+ghost use Rattle.plain_site.specs.WrongSteps.{IsBrokenBy, forgets_collected};
+ghost use Rattle.collection_laws.specs.Laws.{CollectionIsUnseen, OnlyCollectedChange, RunsGoTheSameWithout};
 ghost use Rattle.collection_laws.specs.Rows.{reads_kept_alone, CollectingMakesRoom};
 
 /// Collecting changes nothing that a client can tell, but room: two sites that differ in nothing but which states they have
 /// collected give the same reply to each request, and differ in no more afterwards. Tidy, Stat and Show tell of what is kept,
-/// and change nothing but the collected states. A site that has no room says Full or PathFull where one that collected more
-/// goes on.
+/// and change nothing but the collected states. So a run goes on without them as it did with them. Only a site that has no
+/// room says Full or PathFull where one that collected more goes on.
 pub fn collection_is_unseen()
     ensures unseen { (built : Built) → CollectionIsUnseen (step built) }
     ensures rest_stays { (built : Built) → OnlyCollectedChange (step built) }
-    ensures kept_alone_breaks { IsBrokenBy CollectionIsUnseen reads_kept_alone }
+    ensures runs { (built : Built) → RunsGoTheSameWithout (step built) }
     ensures makes_room { CollectingMakesRoom }
+    ensures kept_alone_breaks { IsBrokenBy CollectionIsUnseen reads_kept_alone }
+    ensures kept_alone_breaks_runs { IsBrokenBy RunsGoTheSameWithout reads_kept_alone }
+    ensures forgotten_breaks { IsBrokenBy OnlyCollectedChange forgets_collected }
 {}

@@ -1,4 +1,6 @@
-use Rattle.collection_laws.proofs.Laws.{collection-is-unseen, only-collected-change, kept-alone-breaks, collecting-makes-room}
+use Rattle.collection_laws.proofs.Laws.{collection-is-unseen, only-collected-change}
+use Rattle.collection_laws.proofs.Runs.{runs-go-the-same}
+use Rattle.collection_laws.proofs.Wrong.{kept-alone-breaks, kept-alone-breaks-runs, forgotten-breaks, collecting-makes-room}
 use Rattle.collection_laws.proofs.collection_is_unseen.Goals as goal
 
 pub returns-clause-unseen : goal.returns-clause-unseen
@@ -7,8 +9,17 @@ returns-clause-unseen c = collection-is-unseen
 pub returns-clause-rest_stays : goal.returns-clause-rest_stays
 returns-clause-rest_stays c = only-collected-change
 
-pub returns-clause-kept_alone_breaks : goal.returns-clause-kept_alone_breaks
-returns-clause-kept_alone_breaks c = kept-alone-breaks
+pub returns-clause-runs : goal.returns-clause-runs
+returns-clause-runs c = runs-go-the-same
 
 pub returns-clause-makes_room : goal.returns-clause-makes_room
 returns-clause-makes_room c = collecting-makes-room
+
+pub returns-clause-kept_alone_breaks : goal.returns-clause-kept_alone_breaks
+returns-clause-kept_alone_breaks c = kept-alone-breaks
+
+pub returns-clause-forgotten_breaks : goal.returns-clause-forgotten_breaks
+returns-clause-forgotten_breaks c = forgotten-breaks
+
+pub returns-clause-kept_alone_breaks_runs : goal.returns-clause-kept_alone_breaks_runs
+returns-clause-kept_alone_breaks_runs c = kept-alone-breaks-runs
