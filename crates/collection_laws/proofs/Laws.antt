@@ -1,5 +1,5 @@
 -- What is collected is unseen.
-use Rattle.std.proofs.Common.{◌≡◌, ℕ, true, not, List, [], ◌∷◌, Option, Some, None, IsTrue, IsFalse, refl, sym, ap, subst, ◌∙◌}
+use Rattle.std.proofs.Common.{◌≡◌, ℕ, not, List, [], ◌∷◌, Option, Some, None, IsTrue, refl, sym, ap, subst, ◌∙◌}
 use Rattle.tardis_base.specs.declared.ids.StateId.{StateId}
 use Rattle.tardis_base.specs.declared.requests.Request.{Request}
 use Rattle.tardis_base.specs.declared.requests.Request.TheVariants.{Tidy, Stat, Show}
@@ -13,8 +13,6 @@ use Rattle.wire_talk.specs.Codes.{code_of}
 use Rattle.plain_site.specs.Site.{Site}
 use Rattle.plain_site.specs.Built.{Built, is_built}
 use Rattle.plain_site.specs.Answers.{Answer, refuse, unless}
-use Rattle.plain_site.specs.FloorSteps.{tidy}
-use Rattle.plain_site.specs.Shows.{stat, show}
 use Rattle.plain_site.specs.Step.{served, step}
 use Rattle.collection_laws.specs.Laws.{AgreeButCollected, asks_of_kept, CollectionIsUnseen, OnlyCollectedChange}
 use Rattle.collection_laws.proofs.Unseen.{other, Unseen}
@@ -30,7 +28,7 @@ module _ (built : Built) where
       let here = step built a n q in
       let there = step built b n q in
       let h : Unseen b.collected here there =
-          subst (λ (s : Site). Unseen b.collected here (step built s n q)) (sym agree) (step-unseen b.collected a built n q asks) in
+      subst (λ (s : Site). Unseen b.collected here (step built s n q)) (sym agree) (step-unseen b.collected a built n q asks) in
       let e = h f g in
       (sym (ap (λ (answer : Answer). answer.1) e), agree-other here.0 there.0 b.collected (ap (λ (answer : Answer). answer.0) e))
 

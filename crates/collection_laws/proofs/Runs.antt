@@ -1,8 +1,7 @@
 -- A run goes the same without collection.
-use Rattle.std.proofs.Common.{◌≡◌, ℕ, Bool, true, false, not, List, [], ◌∷◌, filter, IsTrue, IsFalse, inl, inr, refl, sym, ap, subst, ◌∙◌}
+use Rattle.std.proofs.Common.{◌≡◌, Bool, true, false, not, List, [], ◌∷◌, IsTrue, IsFalse, inl, inr, refl, sym, ap, subst, ◌∙◌}
 use Rattle.std.specs.Prelude.{if◌then◌else◌}
 use Rattle.std.proofs.lemmas.Bool.{cases_Bool, cond-true, cond-false, cond_both}
-use Rattle.tardis_base.specs.declared.ids.StateId.{StateId}
 use Rattle.plain_site.specs.Site.{Site}
 use Rattle.plain_site.specs.Built.{Built}
 use Rattle.plain_site.specs.Step.{step}
@@ -34,7 +33,7 @@ module _ (service : Service) (unseen : CollectionIsUnseen service) (rest_stays :
   dropped line lines site asks h = (
     h.0,
     agree-through (site_after service start lines) site (after_line service site line) h.1
-    (cond_both (wants_memory line.reply) site (service site line.actor line.request).0 (AgreeButCollected site) (λ t. refl) (λ f. rest_stays site line.actor line.request asks)),
+        (cond_both (wants_memory line.reply) site (service site line.actor line.request).0 (AgreeButCollected site) (λ t. refl) (λ f. rest_stays site line.actor line.request asks)),
   )
 
   kept : (line : Line) (older lines : List Line) → IsFalse (asks_of_kept line.request) → AreAnswered service start (line ∷ older) → HasRoom service start (line ∷ older) →
@@ -42,8 +41,7 @@ module _ (service : Service) (unseen : CollectionIsUnseen service) (rest_stays :
   kept line older lines asks answered room room_without h =
       let a = site_after service start lines in
       let b = site_after service start older in
-      let same = unseen a b line.actor line.request h.1 asks room_without.0 room.0 in
-      (
+      let same = unseen a b line.actor line.request h.1 asks room_without.0 room.0 in (
         (answered.0, still-answered a b line same.0 answered.1, h.0),
         agree-either (wants_memory line.reply) a b (service a line.actor line.request).0 (service b line.actor line.request).0 h.1 same.1,
       )
@@ -57,13 +55,13 @@ module _ (service : Service) (unseen : CollectionIsUnseen service) (rest_stays :
       let site = site_after service start (line ∷ older) in
       elim (cases_Bool asks) [
         | inl t ↦
-          let e = cond-false (not asks) (line ∷ rest) rest (ap not t) in
-          subst (λ (lines : List Line). LeadsTo lines site) (sym e)
-          (dropped line rest (site_after service start older) t (go-on older answered.2 room.1 (subst (HasRoom service start) e room_without)))
+            let e = cond-false (not asks) (line ∷ rest) rest (ap not t) in
+            subst (λ (lines : List Line). LeadsTo lines site) (sym e)
+            (dropped line rest (site_after service start older) t (go-on older answered.2 room.1 (subst (HasRoom service start) e room_without)))
         | inr f ↦
-          let e = cond-true (not asks) (line ∷ rest) rest (ap not f) in
-          let room_there = subst (HasRoom service start) e room_without in
-          subst (λ (lines : List Line). LeadsTo lines site) (sym e) (kept line older rest f answered room room_there (go-on older answered.2 room.1 room_there.1))
+            let e = cond-true (not asks) (line ∷ rest) rest (ap not f) in
+            let room_there = subst (HasRoom service start) e room_without in
+            subst (λ (lines : List Line). LeadsTo lines site) (sym e) (kept line older rest f answered room room_there (go-on older answered.2 room.1 room_there.1))
       ]
 
 pub runs-go-the-same : (built : Built) → RunsGoTheSameWithout (step built)

@@ -1,5 +1,5 @@
 -- What is collected is unseen, request by request.
-use Rattle.std.proofs.Common.{◌≡◌, ℕ, Bool, true, false, not, List, [], ◌∷◌, ◌++◌, length, Option, Some, None, is_some, IsFalse, refl, sym, ap, subst}
+use Rattle.std.proofs.Common.{◌≡◌, ℕ, Bool, true, false, not, List, [], ◌∷◌, ◌++◌, length, Option, is_some, IsFalse, refl, sym, ap, subst}
 use Rattle.std.specs.Prelude.{◌==◌, ◌&&◌, nat_lt, if◌then◌else◌}
 use Rattle.tardis_base.specs.declared.ids.StateId.{StateId}
 use Rattle.tardis_base.specs.declared.records.Record.{Record}
@@ -8,7 +8,6 @@ use Rattle.tardis_base.specs.declared.records.Write.{Write}
 use Rattle.tardis_base.specs.declared.records.Write.TheVariants.{Put as Value, Delete as Deletion}
 use Rattle.tardis_base.specs.declared.records.Item.{Item}
 use Rattle.tardis_base.specs.declared.records.Item.TheVariants.{State, Promise}
-use Rattle.tardis_base.specs.declared.requests.Begin.{Begin}
 use Rattle.tardis_base.specs.declared.requests.EndFlags.{EndFlags}
 use Rattle.tardis_base.specs.declared.requests.MergeOf.{MergeOf}
 use Rattle.tardis_base.specs.declared.requests.MergeOf.TheVariants.{Leaves as AllLeaves, States as These}
@@ -29,17 +28,17 @@ use Rattle.plain_dag.specs.Landing.{landing, guarded, broken}
 use Rattle.plain_dag.specs.Entries.{entry_of, with_entry, changed}
 use Rattle.plain_dag.specs.Floors.{Session, opening_session, with_ceiling, with_floor, holding_session, automatic_floor}
 use Rattle.wire_talk.specs.Codes.{code_of}
-use Rattle.plain_site.specs.Site.{Site, SingleTxn, MergeTxn, Txn, Single, Merge, own_floor, own_count, next_record, writes_of, with_txn_changed}
+use Rattle.plain_site.specs.Site.{Site, SingleTxn, Txn, Single, Merge, own_floor, own_count, next_record, writes_of, with_txn_changed}
 use Rattle.plain_site.specs.Built.{Built, is_built}
-use Rattle.plain_site.specs.Answers.{Answer, refused, refuse, refuse_found, says_early, unless, given, shown, found}
+use Rattle.plain_site.specs.Answers.{Answer, refuse, refuse_found, says_early, unless, shown, found}
 use Rattle.plain_site.specs.Sessions.{open_session, close_session, begun, begin_at, set_ceiling}
-use Rattle.plain_site.specs.Reads.{having_read, having_written, read_at, read_over, read_in, get, set_key, get_for}
-use Rattle.plain_site.specs.Commits.{with_record, growth_refusals, without_txn_of, committed, commit_below, commit_at, commit_writes, commit_single, commit_merge, commit}
+use Rattle.plain_site.specs.Reads.{having_read, having_written, read_in, get, set_key, get_for}
+use Rattle.plain_site.specs.Commits.{with_record, growth_refusals, without_txn_of, committed, commit_below, commit_single, commit}
 use Rattle.plain_site.specs.Merges.{states_to_merge, in_order, merging, merge_at, fork_points_of, conflicts_of}
-use Rattle.plain_site.specs.FloorSteps.{raised, raise_to, raise, raise_auto}
+use Rattle.plain_site.specs.FloorSteps.{raised, raise_to, raise}
 use Rattle.plain_site.specs.Exchange.{judgements, take_record, with_held, deliver_record, consent_judgements, deliver_consent, deliver, pull, batch_for, first_fit_record, with_settled, settle_record, settle}
 use Rattle.plain_site.specs.Step.{served, step}
-use Rattle.collection_laws.specs.Laws.{asks_of_kept, tells_full}
+use Rattle.collection_laws.specs.Laws.{asks_of_kept}
 use Rattle.collection_laws.proofs.Unseen.{other, Unseen, append-unseen, unless-unseen, growth-unseen, given-unseen, by-session, by-txn, by-no-txn}
 
 module _ (ks : List StateId) (site : Site) where

@@ -1,5 +1,5 @@
 -- Wrong steps that break the laws, and the worked row.
-use Rattle.std.proofs.Common.{◌≡◌, ℕ, List, [], ◌∷◌, length, inl, inr, refl, ap}
+use Rattle.std.proofs.Common.{◌≡◌, ℕ, [], ◌∷◌, length, inl, inr, refl, ap}
 use Rattle.std.specs.Prelude.{codes, drop}
 use Rattle.tardis_base.specs.declared.requests.Request.TheVariants.{Get, Tidy}
 use Rattle.tardis_base.specs.declared.replies.Reply.TheVariants.{Absent}
