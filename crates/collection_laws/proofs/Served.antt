@@ -39,21 +39,21 @@ use Rattle.plain_site.specs.FloorSteps.{raised, raise_to, raise}
 use Rattle.plain_site.specs.Exchange.{judgements, take_record, with_held, deliver_record, consent_judgements, deliver_consent, deliver, pull, batch_for, first_fit_record, with_settled, settle_record, settle}
 use Rattle.plain_site.specs.Step.{served, step}
 use Rattle.collection_laws.specs.Laws.{asks_of_kept}
-use Rattle.collection_laws.proofs.Unseen.{other, Unseen, append-unseen, unless-unseen, growth-unseen, given-unseen, by-session, by-txn, by-no-txn}
+use Rattle.collection_laws.proofs.Unseen.{other, Unseen, GrowsToo, append-unseen, unless-unseen, growth-unseen, given-unseen, by-session, by-txn, by-no-txn}
 
-module _ (ks : List StateId) (site : Site) where
+module _ (ks : List StateId) (Seen : Reply → Type 0) (site : Site) (grows : (built : Built) (r : Record) → GrowsToo ks Seen built site r) where
   -- the site that collected something else
   abbrev there : Site
   there = other ks site
 
   -- a reply behind refusals that look at nothing collected
-  refusing : (replies : List (Option Reply)) (x y : Answer) → y ≡ (other ks x.0, x.1) → Unseen ks (unless site replies x) (unless there replies y)
-  refusing replies x y e = unless-unseen ks site replies x y (λ f g. e)
+  refusing : (replies : List (Option Reply)) (x y : Answer) → y ≡ (other ks x.0, x.1) → Unseen ks Seen (unless site replies x) (unless there replies y)
+  refusing replies x y e = unless-unseen ks Seen site replies x y (λ f g. e)
 
   module _ (n : ℕ) where
     -- ===== Sessions and reads
 
-    open-unseen : (follow : Bool) → Unseen ks (open_session site n follow) (open_session there n follow)
+    open-unseen : (follow : Bool) → Unseen ks Seen (open_session site n follow) (open_session there n follow)
     open-unseen follow =
         let number_open = length site.sessions in
         let ceiling = (own_floor site).state in
@@ -61,18 +61,18 @@ module _ (ks : List StateId) (site : Site) where
         refusing (refuse (is_some (entry_of n site.sessions)) AlreadyOpen ∷ refuse (number_open == site.limits.max_sessions) (SessionsFull number_open) ∷ [])
         (record site { sessions = opened }, Opened ceiling) (record there { sessions = opened }, Opened ceiling) refl
 
-    begin-unseen : (ceiling x : StateId) → Unseen ks (begin_at site n ceiling x) (begin_at there n ceiling x)
+    begin-unseen : (ceiling x : StateId) → Unseen ks Seen (begin_at site n ceiling x) (begin_at there n ceiling x)
     begin-unseen ceiling x =
         refusing (refuse (not (is_known site.dag x)) (Unknown x) ∷ refuse (not (is_admitted site.dag ceiling x)) (Below x ceiling) ∷ [])
         (begun site n x) (begun there n x) refl
 
-    ceiling-unseen : (s : Session) (x : StateId) → Unseen ks (set_ceiling site n s x) (set_ceiling there n s x)
+    ceiling-unseen : (s : Session) (x : StateId) → Unseen ks Seen (set_ceiling site n s x) (set_ceiling there n s x)
     ceiling-unseen s x =
         let sessions = changed n (with_ceiling x) site.sessions in
         refusing (refuse (not (is_known site.dag x)) (Unknown x) ∷ refuse (not (is_above site.dag s.ceiling x)) (CeilingBack s.ceiling) ∷ [])
         (record site { sessions = sessions }, Done) (record there { sessions = sessions }, Done) refl
 
-    read-unseen : (t : Txn) (k : List ℕ) → Unseen ks (read_in site n t k) (read_in there n t k)
+    read-unseen : (t : Txn) (k : List ℕ) → Unseen ks Seen (read_in site n t k) (read_in there n t k)
     read-unseen (Single t) k =
         refusing (refuse (length t.reads == 256 && not (is_key_among k t.reads)) (TooMany 2 257) ∷ [])
         (with_txn_changed n (having_read k) site, found (read site.dag k t.state)) (with_txn_changed n (having_read k) there, found (read site.dag k t.state)) refl
@@ -80,24 +80,24 @@ module _ (ks : List StateId) (site : Site) where
         refusing (refuse (is_conflict_key site.dag t.states k) (ConflictKey k) ∷ [])
         (site, found (value_over site.dag t.states k)) (there, found (value_over site.dag t.states k)) refl
 
-    get-unseen : (t : Txn) (k : List ℕ) → Unseen ks (get site n t k) (get there n t k)
+    get-unseen : (t : Txn) (k : List ℕ) → Unseen ks Seen (get site n t k) (get there n t k)
     get-unseen t k =
-        given-unseen ks (write_of k (writes_of t)) (read_in site n t k) (read_in there n t k) (λ w. (site, shown root w)) (λ w. (there, shown root w))
+        given-unseen ks Seen (write_of k (writes_of t)) (read_in site n t k) (read_in there n t k) (λ w. (site, shown root w)) (λ w. (there, shown root w))
         (read-unseen t k) (λ w f g. refl)
 
-    set-unseen : (t : Txn) (k : List ℕ) (w : Write) → Unseen ks (set_key site n t k w) (set_key there n t k w)
+    set-unseen : (t : Txn) (k : List ℕ) (w : Write) → Unseen ks Seen (set_key site n t k w) (set_key there n t k w)
     set-unseen t k w =
         refusing (refuse (length (writes_of t) == 64 && not (has_key k (writes_of t))) (TooMany 1 65) ∷ [])
         (with_txn_changed n (having_written k w) site, Done) (with_txn_changed n (having_written k w) there, Done) refl
 
-    get_for-unseen : (t : Txn) (k : List ℕ) (x : StateId) → Unseen ks (get_for site t k x) (get_for there t k x)
+    get_for-unseen : (t : Txn) (k : List ℕ) (x : StateId) → Unseen ks Seen (get_for site t k x) (get_for there t k x)
     get_for-unseen (Single t) k x = λ f g. refl
     get_for-unseen (Merge t) k x =
         refusing (refuse (not (is_among x t.states)) (NotRead x) ∷ []) (site, found (read site.dag k x)) (there, found (read site.dag k x)) refl
 
     -- ===== Merges
 
-    merge-unseen : (ceiling : StateId) (xs : List StateId) → Unseen ks (merge_at site n ceiling xs) (merge_at there n ceiling xs)
+    merge-unseen : (ceiling : StateId) (xs : List StateId) → Unseen ks Seen (merge_at site n ceiling xs) (merge_at there n ceiling xs)
     merge-unseen ceiling xs =
         refusing
         (refuse (nat_lt 8 (length xs)) (TooMany 3 (length xs))
@@ -107,52 +107,52 @@ module _ (ks : List StateId) (site : Site) where
         ∷ [])
         (merging site n (in_order xs)) (merging there n (in_order xs)) refl
 
-    merge-of-unseen : (ceiling : StateId) (of : MergeOf) → Unseen ks (merge_at site n ceiling (states_to_merge site of)) (merge_at there n ceiling (states_to_merge there of))
+    merge-of-unseen : (ceiling : StateId) (of : MergeOf) → Unseen ks Seen (merge_at site n ceiling (states_to_merge site of)) (merge_at there n ceiling (states_to_merge there of))
     merge-of-unseen ceiling AllLeaves = merge-unseen ceiling (leaves site.dag)
     merge-of-unseen ceiling (These xs) = merge-unseen ceiling xs
 
-    fork-points-unseen : (t : Txn) → Unseen ks (fork_points_of site t) (fork_points_of there t)
+    fork-points-unseen : (t : Txn) → Unseen ks Seen (fork_points_of site t) (fork_points_of there t)
     fork-points-unseen (Single t) = λ f g. refl
     fork-points-unseen (Merge t) = λ f g. refl
 
-    conflicts-unseen : (t : Txn) (after : List ℕ) → Unseen ks (conflicts_of site t after) (conflicts_of there t after)
+    conflicts-unseen : (t : Txn) (after : List ℕ) → Unseen ks Seen (conflicts_of site t after) (conflicts_of there t after)
     conflicts-unseen (Single t) after = λ f g. refl
     conflicts-unseen (Merge t) after = λ f g. refl
 
     -- ===== Commits
 
     below-unseen : (built : Built) (parents : List StateId) (writes : List KeyWrite) (refusals : List (Option Reply)) →
-        Unseen ks (commit_below built site n parents writes refusals) (commit_below built there n parents writes refusals)
+        Unseen ks Seen (commit_below built site n parents writes refusals) (commit_below built there n parents writes refusals)
     below-unseen built parents writes refusals =
         let r = next_record site parents writes in
         let over = refuse (own_count site == 4294967295) SeqEnd in
-        append-unseen ks site refusals (over ∷ growth_refusals built site r) (over ∷ growth_refusals built there r) (committed site n r) (committed there n r)
-        (append-unseen ks site (over ∷ []) (growth_refusals built site r) (growth_refusals built there r) (committed site n r) (committed there n r)
-        (growth-unseen ks built site r (committed site n r) (committed there n r) (λ f g. refl)))
+        append-unseen ks Seen site refusals (over ∷ growth_refusals built site r) (over ∷ growth_refusals built there r) (committed site n r) (committed there n r)
+        (append-unseen ks Seen site (over ∷ []) (growth_refusals built site r) (growth_refusals built there r) (committed site n r) (committed there n r)
+        (growth-unseen ks Seen built site r (committed site n r) (committed there n r) (grows built r) (λ f g. refl)))
 
     single-unseen : (built : Built) (t : SingleTxn) (writes : List KeyWrite) (flags : EndFlags) (k : ℕ) → t.writes ≡ writes →
-        Unseen ks (commit_single built site n t flags k) (commit_single built there n t flags k)
+        Unseen ks Seen (commit_single built site n t flags k) (commit_single built there n t flags k)
     single-unseen built t [] flags k e =
-        subst (λ (ws : List KeyWrite). Unseen ks (commit_single built site n (record t { writes = ws }) flags k) (commit_single built there n (record t { writes = ws }) flags k))
+        subst (λ (ws : List KeyWrite). Unseen ks Seen (commit_single built site n (record t { writes = ws }) flags k) (commit_single built there n (record t { writes = ws }) flags k))
         (sym e) (λ f g. refl)
     single-unseen built t (w ∷ ws) flags k e =
         let x = landing site.dag (guarded flags t.reads (keys_of (w ∷ ws))) t.state in
         let number_of_children = length (children site.dag x) in
-        subst (λ (vs : List KeyWrite). Unseen ks (commit_single built site n (record t { writes = vs }) flags k) (commit_single built there n (record t { writes = vs }) flags k))
+        subst (λ (vs : List KeyWrite). Unseen ks Seen (commit_single built site n (record t { writes = vs }) flags k) (commit_single built there n (record t { writes = vs }) flags k))
         (sym e)
         (below-unseen built (x ∷ []) (w ∷ ws) (refuse_found (λ (c : ℕ). Branches c x number_of_children) (broken flags k number_of_children) ∷ []))
 
-    commit-unseen : (built : Built) (t : Txn) (flags : EndFlags) (k : ℕ) → Unseen ks (commit built site n t flags k) (commit built there n t flags k)
+    commit-unseen : (built : Built) (t : Txn) (flags : EndFlags) (k : ℕ) → Unseen ks Seen (commit built site n t flags k) (commit built there n t flags k)
     commit-unseen built (Single t) flags k = single-unseen built t t.writes flags k refl
     commit-unseen built (Merge t) flags k =
         below-unseen built t.states t.writes (refuse (not (flags.0 == 0)) WrongMode ∷ refuse_found OpenConflict (open_conflict site.dag t.states t.writes) ∷ [])
 
   -- ===== Floors
 
-  raise_to-unseen : (x : StateId) (refusals : List (Option Reply)) → Unseen ks (raise_to site x refusals) (raise_to there x refusals)
+  raise_to-unseen : (x : StateId) (refusals : List (Option Reply)) → Unseen ks Seen (raise_to site x refusals) (raise_to there x refusals)
   raise_to-unseen x refusals = refusing (refusals ++ refuse ((own_floor site).number == 4294967295) SeqEnd ∷ []) (raised site x) (raised there x) refl
 
-  raise-unseen : (x : StateId) → Unseen ks (raise site x) (raise there x)
+  raise-unseen : (x : StateId) → Unseen ks Seen (raise site x) (raise there x)
   raise-unseen x =
       let floor = (own_floor site).state in
       raise_to-unseen x
@@ -163,73 +163,73 @@ module _ (ks : List StateId) (site : Site) where
 
   -- ===== Exchange
 
-  pull-unseen : (counts : List ℕ) → Unseen ks (pull site counts) (pull there counts)
+  pull-unseen : (counts : List ℕ) → Unseen ks Seen (pull site counts) (pull there counts)
   pull-unseen counts =
       refusing (refuse (not (length counts == site.limits.sites)) (BadSite (length counts)) ∷ [])
       (site, BatchIs (batch_for site counts)) (there, BatchIs (batch_for site counts)) refl
 
-  take-unseen : (built : Built) (r : Record) → Unseen ks (take_record built site r) (take_record built there r)
+  take-unseen : (built : Built) (r : Record) → Unseen ks Seen (take_record built site r) (take_record built there r)
   take-unseen built r =
-      append-unseen ks site (judgements site r) (growth_refusals built site r) (growth_refusals built there r) (with_record r site, Applied) (with_record r there, Applied)
-      (growth-unseen ks built site r (with_record r site, Applied) (with_record r there, Applied) (λ f g. refl))
+      append-unseen ks Seen site (judgements site r) (growth_refusals built site r) (growth_refusals built there r) (with_record r site, Applied) (with_record r there, Applied)
+      (growth-unseen ks Seen built site r (with_record r site, Applied) (with_record r there, Applied) (grows built r) (λ f g. refl))
 
   held-there : (early : Bool) (r : Record) (s : Site) → (if early then with_held r (other ks s) else other ks s) ≡ other ks (if early then with_held r s else s)
   held-there true r s = refl
   held-there false r s = refl
 
-  record-unseen : (built : Built) (r : Record) → Unseen ks (deliver_record built site r) (deliver_record built there r)
+  record-unseen : (built : Built) (r : Record) → Unseen ks Seen (deliver_record built site r) (deliver_record built there r)
   record-unseen built r f g =
       let taken = take_record built site r in
       subst (λ (answer : Answer). ◌≡◌ {A = Answer} (if says_early answer.1 then with_held r answer.0 else answer.0, answer.1)
       (other ks (if says_early taken.1 then with_held r taken.0 else taken.0), taken.1))
       (sym (take-unseen built r f g)) (ap (λ (s : Site). (s, taken.1)) (held-there (says_early taken.1) r taken.0))
 
-  consent-unseen : (c : Consent) → Unseen ks (deliver_consent site c) (deliver_consent there c)
+  consent-unseen : (c : Consent) → Unseen ks Seen (deliver_consent site c) (deliver_consent there c)
   consent-unseen c =
       let floors = with_floor site.floors c.site (record { state = c.floor; number = c.number; stated = c.count }) in
       refusing (consent_judgements site c) (record site { floors = floors }, Applied) (record there { floors = floors }, Applied) refl
 
-  deliver-unseen : (built : Built) (item : Item) → Unseen ks (deliver built site item) (deliver built there item)
+  deliver-unseen : (built : Built) (item : Item) → Unseen ks Seen (deliver built site item) (deliver built there item)
   deliver-unseen built (State r) = record-unseen built r
   deliver-unseen built (Promise c) = consent-unseen c
 
-  settle-unseen : (built : Built) → Unseen ks (settle built site) (settle built there)
+  settle-unseen : (built : Built) → Unseen ks Seen (settle built site) (settle built there)
   settle-unseen built =
-      given-unseen ks (first_fit_record site) (site, Done) (there, Done) (settle_record built site) (settle_record built there) (λ f g. refl)
-      (λ place. growth-unseen ks built site place.1 (with_settled place site, Applied) (with_settled place there, Applied) (λ f g. refl))
+      given-unseen ks Seen (first_fit_record site) (site, Done) (there, Done) (settle_record built site) (settle_record built there) (λ f g. refl)
+      (λ place. growth-unseen ks Seen built site place.1 (with_settled place site, Applied) (with_settled place there, Applied) (grows built place.1) (λ f g. refl))
 
   -- ===== The step
 
   module _ (built : Built) (n : ℕ) where
-    served-unseen : (q : Request) → IsFalse (asks_of_kept q) → Unseen ks (served built site n q) (served built there n q)
+    served-unseen : (q : Request) → IsFalse (asks_of_kept q) → Unseen ks Seen (served built site n q) (served built there n q)
     served-unseen (Open follow) h = open-unseen n follow
     served-unseen (BeginAt b) h =
-        by-no-txn ks site n (λ s. begin_at site n s.ceiling (begin_state site.dag s.last b)) (λ s. begin_at there n s.ceiling (begin_state site.dag s.last b))
+        by-no-txn ks Seen site n (λ s. begin_at site n s.ceiling (begin_state site.dag s.last b)) (λ s. begin_at there n s.ceiling (begin_state site.dag s.last b))
         (λ s. begin-unseen n s.ceiling (begin_state site.dag s.last b))
-    served-unseen (Get k) h = by-txn ks site n (λ s t. get site n t k) (λ s t. get there n t k) (λ s t. get-unseen n t k)
-    served-unseen (Put k v) h = by-txn ks site n (λ s t. set_key site n t k (Value v)) (λ s t. set_key there n t k (Value v)) (λ s t. set-unseen n t k (Value v))
-    served-unseen (Delete k) h = by-txn ks site n (λ s t. set_key site n t k Deletion) (λ s t. set_key there n t k Deletion) (λ s t. set-unseen n t k Deletion)
+    served-unseen (Get k) h = by-txn ks Seen site n (λ s t. get site n t k) (λ s t. get there n t k) (λ s t. get-unseen n t k)
+    served-unseen (Put k v) h = by-txn ks Seen site n (λ s t. set_key site n t k (Value v)) (λ s t. set_key there n t k (Value v)) (λ s t. set-unseen n t k (Value v))
+    served-unseen (Delete k) h = by-txn ks Seen site n (λ s t. set_key site n t k Deletion) (λ s t. set_key there n t k Deletion) (λ s t. set-unseen n t k Deletion)
     served-unseen (Commit flags k) h =
-        by-txn ks site n (λ s t. commit built site n t flags k) (λ s t. commit built there n t flags k) (λ s t. commit-unseen n built t flags k)
-    served-unseen Abort h = by-txn ks site n (λ s t. (without_txn_of n site, Done)) (λ s t. (without_txn_of n there, Done)) (λ s t f g. refl)
+        by-txn ks Seen site n (λ s t. commit built site n t flags k) (λ s t. commit built there n t flags k) (λ s t. commit-unseen n built t flags k)
+    served-unseen Abort h = by-txn ks Seen site n (λ s t. (without_txn_of n site, Done)) (λ s t. (without_txn_of n there, Done)) (λ s t f g. refl)
     served-unseen (BeginMerge of) h =
-        by-no-txn ks site n (λ s. merge_at site n s.ceiling (states_to_merge site of)) (λ s. merge_at there n s.ceiling (states_to_merge there of))
+        by-no-txn ks Seen site n (λ s. merge_at site n s.ceiling (states_to_merge site of)) (λ s. merge_at there n s.ceiling (states_to_merge there of))
         (λ s. merge-of-unseen n s.ceiling of)
-    served-unseen ForkPoints h = by-txn ks site n (λ s t. fork_points_of site t) (λ s t. fork_points_of there t) (λ s t. fork-points-unseen n t)
-    served-unseen (Conflicts after) h = by-txn ks site n (λ s t. conflicts_of site t after) (λ s t. conflicts_of there t after) (λ s t. conflicts-unseen n t after)
-    served-unseen (GetFor k x) h = by-txn ks site n (λ s t. get_for site t k x) (λ s t. get_for there t k x) (λ s t. get_for-unseen n t k x)
-    served-unseen (Ceiling x) h = by-no-txn ks site n (λ s. set_ceiling site n s x) (λ s. set_ceiling there n s x) (λ s. ceiling-unseen n s x)
+    served-unseen ForkPoints h = by-txn ks Seen site n (λ s t. fork_points_of site t) (λ s t. fork_points_of there t) (λ s t. fork-points-unseen n t)
+    served-unseen (Conflicts after) h = by-txn ks Seen site n (λ s t. conflicts_of site t after) (λ s t. conflicts_of there t after) (λ s t. conflicts-unseen n t after)
+    served-unseen (GetFor k x) h = by-txn ks Seen site n (λ s t. get_for site t k x) (λ s t. get_for there t k x) (λ s t. get_for-unseen n t k x)
+    served-unseen (Ceiling x) h = by-no-txn ks Seen site n (λ s. set_ceiling site n s x) (λ s. set_ceiling there n s x) (λ s. ceiling-unseen n s x)
     served-unseen (Raise x) h = raise-unseen x
     served-unseen RaiseAuto h = raise_to-unseen (automatic_floor site.dag (own_floor site).state site.sessions) []
     served-unseen Leaves h = λ f g. refl
     served-unseen (Pull counts) h = pull-unseen counts
     served-unseen (Deliver item) h = deliver-unseen built item
     served-unseen Settle h = settle-unseen built
-    served-unseen Close h = by-session ks site n (λ s. close_session site n) (λ s. close_session there n) (λ s f g. refl)
+    served-unseen Close h = by-session ks Seen site n (λ s. close_session site n) (λ s. close_session there n) (λ s f g. refl)
     served-unseen (Tidy count) h = absurd (cc)
     served-unseen Stat h = absurd (cc)
     served-unseen (Show x) h = absurd (cc)
 
-    pub step-unseen : (q : Request) → IsFalse (asks_of_kept q) → Unseen ks (step built site n q) (step built there n q)
+    pub step-unseen : (q : Request) → IsFalse (asks_of_kept q) → Unseen ks Seen (step built site n q) (step built there n q)
     step-unseen q h =
-        unless-unseen ks site (refuse (not (is_built built q)) (Unsupported (code_of q)) ∷ []) (served built site n q) (served built there n q) (served-unseen q h)
+        unless-unseen ks Seen site (refuse (not (is_built built q)) (Unsupported (code_of q)) ∷ []) (served built site n q) (served built there n q) (served-unseen q h)

@@ -40,40 +40,48 @@ growth-is-full tries_paths limits ks rs r =
     cond_both (kept == limits.max_kept) (Some (Full kept)) paths IsFull (λ t. refl)
     (λ f. cond_both tries_paths too_long None IsFull (λ t. path-is-full long) (λ g. tt))
 
-module _ (ks : List StateId) where
-  -- the site with these collected states
-  abbrev pub other : Site → Site
-  other site = record site { collected = ks }
+-- the site with these collected states
+abbrev pub other : List StateId → Site → Site
+other ks site = record site { collected = ks }
 
-  -- the second answer is the first but for the collected states, unless one of them tells of no room
+-- the second site's reply is as it has to be for the law
+module _ (ks : List StateId) (Seen : Reply → Type 0) where
+  -- the second answer is the first but for the collected states, unless the first tells of no room or the second isn't such
   abbrev pub Unseen : Answer → Answer → Type 0
-  Unseen x y = IsFalse (tells_full x.1) → IsFalse (tells_full y.1) → y ≡ (other x.0, x.1)
+  Unseen x y = IsFalse (tells_full x.1) → Seen y.1 → y ≡ (other ks x.0, x.1)
+
+  -- where the first site grows by the record, a refusal of the second isn't such
+  abbrev pub GrowsToo : Built → Site → Record → Type 0
+  GrowsToo built site r = (refusal : Refusal) → growth_refusal built.path_limits site.limits site.collected site.dag r ≡ None →
+      growth_refusal built.path_limits site.limits ks site.dag r ≡ Some refusal → Seen (Refused refusal) → ⊥
 
   -- ===== Several replies, of which the first is given
 
-  pub append-unseen : (site : Site) (first more more_there : List (Option Reply)) (x y : Answer) → Unseen (unless site more x) (unless (other site) more_there y) →
-      Unseen (unless site (first ++ more) x) (unless (other site) (first ++ more_there) y)
+  pub append-unseen : (site : Site) (first more more_there : List (Option Reply)) (x y : Answer) → Unseen (unless site more x) (unless (other ks site) more_there y) →
+      Unseen (unless site (first ++ more) x) (unless (other ks site) (first ++ more_there) y)
   append-unseen site [] more more_there x y h = h
   append-unseen site (None ∷ first) more more_there x y h = append-unseen site first more more_there x y h
   append-unseen site (Some reply ∷ first) more more_there x y h = λ f g. refl
 
-  pub unless-unseen : (site : Site) (replies : List (Option Reply)) (x y : Answer) → Unseen x y → Unseen (unless site replies x) (unless (other site) replies y)
+  pub unless-unseen : (site : Site) (replies : List (Option Reply)) (x y : Answer) → Unseen x y → Unseen (unless site replies x) (unless (other ks site) replies y)
   unless-unseen site [] x y h = h
   unless-unseen site (None ∷ more) x y h = unless-unseen site more x y h
   unless-unseen site (Some reply ∷ more) x y h = λ f g. refl
 
-  room-unseen : (site : Site) (here there : Option Refusal) (x y : Answer) → IsFull here → IsFull there → Unseen x y →
-      Unseen (unless site (refuse_found (λ r. r) here ∷ []) x) (unless (other site) (refuse_found (λ r. r) there ∷ []) y)
-  room-unseen site None None x y full full_there h = h
-  room-unseen site None (Some refusal) x y full full_there h = λ f g. absurd (both_ways (tells_full (Refused refusal)) g full_there)
-  room-unseen site (Some refusal) there x y full full_there h = λ f g. absurd (both_ways (tells_full (Refused refusal)) f full)
+  room-unseen : (site : Site) (here there : Option Refusal) (x y : Answer) → IsFull here →
+      ((refusal : Refusal) → here ≡ None → there ≡ Some refusal → Seen (Refused refusal) → ⊥) → Unseen x y →
+      Unseen (unless site (refuse_found (λ r. r) here ∷ []) x) (unless (other ks site) (refuse_found (λ r. r) there ∷ []) y)
+  room-unseen site None None x y full grows h = h
+  room-unseen site None (Some refusal) x y full grows h = λ f seen. absurd (grows refusal refl refl seen)
+  room-unseen site (Some refusal) there x y full grows h = λ f seen. absurd (both_ways (tells_full (Refused refusal)) f full)
 
-  -- both sites grow, or one has no room
-  pub growth-unseen : (built : Built) (site : Site) (r : Record) (x y : Answer) → Unseen x y →
-      Unseen (unless site (growth_refusals built site r) x) (unless (other site) (growth_refusals built (other site) r) y)
-  growth-unseen built site r x y h =
-      room-unseen site (growth_refusal built.path_limits site.limits site.collected site.dag r) (growth_refusal built.path_limits site.limits ks site.dag r) x y
-      (growth-is-full built.path_limits site.limits site.collected site.dag r) (growth-is-full built.path_limits site.limits ks site.dag r) h
+  -- both sites grow, or the first has no room
+  pub growth-unseen : (built : Built) (site : Site) (r : Record) (x y : Answer) → GrowsToo built site r → Unseen x y →
+      Unseen (unless site (growth_refusals built site r) x) (unless (other ks site) (growth_refusals built (other ks site) r) y)
+  growth-unseen built site r x y grows h =
+      room-unseen site (growth_refusal built.path_limits site.limits site.collected site.dag r)
+      (growth_refusal built.path_limits site.limits ks site.dag r) x y
+      (growth-is-full built.path_limits site.limits site.collected site.dag r) grows h
 
   -- ===== What is there
 
@@ -82,15 +90,15 @@ module _ (ks : List StateId) where
   given-unseen (Some a) x y f g h each = each a
 
   module _ (site : Site) (n : ℕ) where
-    pub by-session : (f g : Session → Answer) → ((s : Session) → Unseen (f s) (g s)) → Unseen (with_session site n f) (with_session (other site) n g)
-    by-session f g h = given-unseen (entry_of n site.sessions) (refused site NotOpen) (refused (other site) NotOpen) f g (λ here there. refl) h
+    pub by-session : (f g : Session → Answer) → ((s : Session) → Unseen (f s) (g s)) → Unseen (with_session site n f) (with_session (other ks site) n g)
+    by-session f g h = given-unseen (entry_of n site.sessions) (refused site NotOpen) (refused (other ks site) NotOpen) f g (λ here there. refl) h
 
-    pub by-txn : (f g : Session → Txn → Answer) → ((s : Session) (t : Txn) → Unseen (f s t) (g s t)) → Unseen (with_txn site n f) (with_txn (other site) n g)
+    pub by-txn : (f g : Session → Txn → Answer) → ((s : Session) (t : Txn) → Unseen (f s t) (g s t)) → Unseen (with_txn site n f) (with_txn (other ks site) n g)
     by-txn f g h =
-        by-session (λ s. given (entry_of n site.txns) (refused site NoTxn) (f s)) (λ s. given (entry_of n site.txns) (refused (other site) NoTxn) (g s))
-        (λ s. given-unseen (entry_of n site.txns) (refused site NoTxn) (refused (other site) NoTxn) (f s) (g s) (λ here there. refl) (h s))
+        by-session (λ s. given (entry_of n site.txns) (refused site NoTxn) (f s)) (λ s. given (entry_of n site.txns) (refused (other ks site) NoTxn) (g s))
+        (λ s. given-unseen (entry_of n site.txns) (refused site NoTxn) (refused (other ks site) NoTxn) (f s) (g s) (λ here there. refl) (h s))
 
-    pub by-no-txn : (f g : Session → Answer) → ((s : Session) → Unseen (f s) (g s)) → Unseen (without_txn site n f) (without_txn (other site) n g)
+    pub by-no-txn : (f g : Session → Answer) → ((s : Session) → Unseen (f s) (g s)) → Unseen (without_txn site n f) (without_txn (other ks site) n g)
     by-no-txn f g h =
-        by-session (λ s. given (entry_of n site.txns) (f s) (λ t. refused site TxnOpen)) (λ s. given (entry_of n site.txns) (g s) (λ t. refused (other site) TxnOpen))
-        (λ s. given-unseen (entry_of n site.txns) (f s) (g s) (λ t. refused site TxnOpen) (λ t. refused (other site) TxnOpen) (h s) (λ t here there. refl))
+        by-session (λ s. given (entry_of n site.txns) (f s) (λ t. refused site TxnOpen)) (λ s. given (entry_of n site.txns) (g s) (λ t. refused (other ks site) TxnOpen))
+        (λ s. given-unseen (entry_of n site.txns) (f s) (g s) (λ t. refused site TxnOpen) (λ t. refused (other ks site) TxnOpen) (h s) (λ t here there. refl))

@@ -5,7 +5,7 @@ use Rattle.tardis_base.specs.declared.requests.Request.TheVariants.{Get, Tidy}
 use Rattle.tardis_base.specs.declared.replies.Reply.TheVariants.{Absent}
 use Rattle.plain_site.specs.Site.{Site}
 use Rattle.plain_site.specs.RowWords.{lone_site, ◌·◌, ◌asks◌=>◌, get, value}
-use Rattle.plain_site.specs.ClientRuns.{site_after, IsAnswered, AreAnswered}
+use Rattle.plain_site.specs.ClientRuns.{site_after, IsAnswered, IsRun}
 use Rattle.plain_site.specs.WrongSteps.{IsBrokenBy, forgets_collected}
 use Rattle.collection_laws.specs.Laws.{CollectionIsUnseen, OnlyCollectedChange, without_collection, HasRoom, RunsGoTheSameWithout}
 use Rattle.collection_laws.specs.Rows.{reads_kept_alone, write_missed, closed_above, CollectingMakesRoom}
@@ -16,21 +16,18 @@ kept-alone-breaks law =
     let same : value (1 · 1) "1" ≡ Absent = (law closed_above (record closed_above { collected = 1 · 1 ∷ [] }) 1 (Get (codes "x")) refl refl refl refl).0 in
     absurd (cc)
 
-write-missed : AreAnswered reads_kept_alone lone_site write_missed
-write-missed = (refl, inl refl, (refl, inl refl, (refl, inl refl, (refl, inl refl, (refl, inl refl, (refl, inl refl, (refl, inl refl, (refl, inl refl, (refl, inl refl, (refl, inl refl, (refl, inl refl, tt)))))))))))
+write-missed : IsRun reads_kept_alone lone_site write_missed
+write-missed = record { limits = refl; own = refl; opens = refl; answered = (refl, inl refl, (refl, inl refl, (refl, inl refl, (refl, inl refl, (refl, inl refl, (refl, inl refl, (refl, inl refl, (refl, inl refl, (refl, inl refl, (refl, inl refl, (refl, inl refl, tt))))))))))) }
 
 found-or-wanting : IsAnswered reads_kept_alone (site_after reads_kept_alone lone_site (without_collection (drop 1 write_missed))) (1 asks get "x" => Absent) → ⊥
 found-or-wanting (inl e) = let same : Absent ≡ value (1 · 1) "1" = e in absurd (cc)
 found-or-wanting (inr wants) = absurd (cc)
 
-room : HasRoom reads_kept_alone lone_site write_missed
-room = (refl, (refl, (refl, (refl, (refl, (refl, (refl, (refl, (refl, (refl, (refl, tt)))))))))))
-
 room-without : HasRoom reads_kept_alone lone_site (without_collection write_missed)
 room-without = (refl, (refl, (refl, (refl, (refl, (refl, (refl, (refl, (refl, (refl, tt))))))))))
 
 pub kept-alone-breaks-runs : IsBrokenBy RunsGoTheSameWithout reads_kept_alone
-kept-alone-breaks-runs law = found-or-wanting (law lone_site write_missed write-missed room room-without).0.1
+kept-alone-breaks-runs law = found-or-wanting (law lone_site write_missed write-missed room-without).0.1
 
 -- where the root is collected, one record of two is left
 pub forgotten-breaks : IsBrokenBy OnlyCollectedChange forgets_collected

@@ -1,13 +1,18 @@
 -- Collecting is unseen: it changes no reply but those that tell of it, as long as there is room.
 use Rattle.std.specs.Prelude.{◌≡◌, ℕ, Bool, true, false, not, List, [], ◌∷◌, filter, IsTrue, IsFalse}
+use Rattle.tardis_base.specs.declared.ids.StateId.{StateId}
 use Rattle.tardis_base.specs.declared.requests.Request.{Request}
 use Rattle.tardis_base.specs.declared.requests.Request.TheVariants.{Tidy, Stat, Show}
 use Rattle.tardis_base.specs.declared.replies.Refusal.TheVariants.{Full, PathFull}
 use Rattle.tardis_base.specs.declared.replies.Reply.{Reply}
 use Rattle.tardis_base.specs.declared.replies.Reply.TheVariants.{Refused}
+use Rattle.tardis_base.specs.Ids.{is_among}
 use Rattle.plain_site.specs.Site.{Site}
+use Rattle.plain_site.specs.Built.{Built}
+use Rattle.plain_site.specs.Sound.{IsSound}
+use Rattle.plain_site.specs.Step.{step}
 use Rattle.plain_site.specs.RowWords.{Line}
-use Rattle.plain_site.specs.ClientRuns.{Service, site_after, AreAnswered}
+use Rattle.plain_site.specs.ClientRuns.{Service, site_after, AreAnswered, IsRun}
 
 -- the second site is the first but for its collected states
 abbrev pub AgreeButCollected : Site → Site → Type 0
@@ -33,6 +38,15 @@ CollectionIsUnseen service = (a b : Site) (n : ℕ) (q : Request) → AgreeButCo
     IsFalse (tells_full (service a n q).1) → IsFalse (tells_full (service b n q).1) →
     ((service a n q).1 ≡ (service b n q).1) × AgreeButCollected (service a n q).0 (service b n q).0
 
+-- the second site collected all that the first did
+abbrev pub CollectedMore : Site → Site → Type 0
+CollectedMore a b = (x : StateId) → IsTrue (is_among x a.collected) → IsTrue (is_among x b.collected)
+
+-- of sites that agree so, the one that collected more has room where the other, which is sound, has
+abbrev pub CollectingTakesNoRoom : Built → Type 0
+CollectingTakesNoRoom built = (a b : Site) (n : ℕ) (q : Request) → IsSound built a → AgreeButCollected a b → CollectedMore a b →
+    IsFalse (asks_of_kept q) → IsFalse (tells_full (step built a n q).1) → IsFalse (tells_full (step built b n q).1)
+
 -- the other requests change no more than the collected states
 abbrev pub OnlyCollectedChange : Service → Type 0
 OnlyCollectedChange service = (site : Site) (n : ℕ) (q : Request) → IsTrue (asks_of_kept q) → AgreeButCollected site (service site n q).0
@@ -48,10 +62,9 @@ abbrev pub HasRoom : Service → Site → List Line → Type 0
 HasRoom service start [] = Unit {0}
 HasRoom service start (line ∷ older) = IsFalse (tells_full (service (site_after service start older) line.actor line.request).1) × HasRoom service start older
 
--- where there is room, with collection and without it, all other lines are answered without it as they were with it, and the
--- site is the same but for its collected states
+-- as long as there is room without collection, all other lines of a run are answered without it as they were with it, and lead
+-- to the same site but for its collected states
 abbrev pub RunsGoTheSameWithout : Service → Type 0
-RunsGoTheSameWithout service = (start : Site) (lines : List Line) → AreAnswered service start lines → HasRoom service start lines →
-    HasRoom service start (without_collection lines) →
+RunsGoTheSameWithout service = (start : Site) (lines : List Line) → IsRun service start lines → HasRoom service start (without_collection lines) →
     AreAnswered service start (without_collection lines)
     × AgreeButCollected (site_after service start (without_collection lines)) (site_after service start lines)

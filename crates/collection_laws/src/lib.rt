@@ -5,7 +5,7 @@
 ghost use Rattle.plain_site.specs.Built.{Built};
 ghost use Rattle.plain_site.specs.Step.{step};
 ghost use Rattle.plain_site.specs.WrongSteps.{IsBrokenBy, forgets_collected};
-ghost use Rattle.collection_laws.specs.Laws.{CollectionIsUnseen, OnlyCollectedChange, RunsGoTheSameWithout};
+ghost use Rattle.collection_laws.specs.Laws.{CollectionIsUnseen, CollectingTakesNoRoom, OnlyCollectedChange, RunsGoTheSameWithout};
 ghost use Rattle.collection_laws.specs.Rows.{reads_kept_alone, CollectingMakesRoom};
 
 /// Collecting changes nothing that a client can tell, but room: two sites that differ in nothing but which states they have
@@ -14,6 +14,7 @@ ghost use Rattle.collection_laws.specs.Rows.{reads_kept_alone, CollectingMakesRo
 /// room says Full or PathFull where one that collected more goes on.
 pub fn collection_is_unseen()
     ensures unseen { (built : Built) → CollectionIsUnseen (step built) }
+    ensures takes_no_room { (built : Built) → CollectingTakesNoRoom built }
     ensures rest_stays { (built : Built) → OnlyCollectedChange (step built) }
     ensures runs { (built : Built) → RunsGoTheSameWithout (step built) }
     ensures makes_room { CollectingMakesRoom }

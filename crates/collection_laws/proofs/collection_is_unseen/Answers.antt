@@ -1,4 +1,4 @@
-use Rattle.collection_laws.proofs.Laws.{collection-is-unseen, only-collected-change}
+use Rattle.collection_laws.proofs.Laws.{collection-is-unseen, collecting-takes-no-room, only-collected-change}
 use Rattle.collection_laws.proofs.Runs.{runs-go-the-same}
 use Rattle.collection_laws.proofs.Wrong.{kept-alone-breaks, kept-alone-breaks-runs, forgotten-breaks, collecting-makes-room}
 use Rattle.collection_laws.proofs.collection_is_unseen.Goals as goal
@@ -23,3 +23,6 @@ returns-clause-forgotten_breaks c = forgotten-breaks
 
 pub returns-clause-kept_alone_breaks_runs : goal.returns-clause-kept_alone_breaks_runs
 returns-clause-kept_alone_breaks_runs c = kept-alone-breaks-runs
+
+pub returns-clause-takes_no_room : goal.returns-clause-takes_no_room
+returns-clause-takes_no_room c = collecting-takes-no-room
