@@ -6,7 +6,6 @@ use Rattle.tardis_base.specs.declared.ids.StateId.{StateId}
 use Rattle.tardis_base.specs.declared.records.Record.{Record}
 use Rattle.tardis_base.specs.declared.requests.Request.{Request}
 use Rattle.tardis_base.specs.declared.requests.Request.TheVariants.{Tidy, Stat, Show}
-use Rattle.tardis_base.specs.declared.replies.Refusal.{Refusal}
 use Rattle.tardis_base.specs.declared.replies.Refusal.TheVariants.{Unknown, Collected, Unsupported}
 use Rattle.tardis_base.specs.declared.replies.Reply.{Reply}
 use Rattle.tardis_base.specs.declared.replies.Reply.TheVariants.{Shown, Refused}
@@ -20,7 +19,8 @@ use Rattle.plain_site.specs.Built.{Built, is_built}
 use Rattle.plain_site.specs.Answers.{Answer, refuse, unless}
 use Rattle.plain_site.specs.Sound.{IsSound}
 use Rattle.plain_site.specs.Step.{served, step}
-use Rattle.collection_laws.specs.Laws.{AgreeButCollected, asks_of_kept, tells_full, CollectionIsUnseen, CollectedMore, CollectingTakesNoRoom, OnlyCollectedChange}
+use Rattle.collection_laws.specs.Laws.{AgreeButCollected, asks_of_kept, tells_full, CollectionIsUnseen, CollectedMore, CollectingTakesNoRoom}
+use Rattle.collection_laws.specs.Laws.{OnlyCollectedChange}
 use Rattle.collection_laws.proofs.Unseen.{IsFull, growth-is-full, other, Unseen, GrowsToo}
 use Rattle.collection_laws.proofs.Room.{grows-too}
 use Rattle.collection_laws.proofs.Served.{step-unseen}
@@ -48,7 +48,8 @@ grows-with-it a b few more built r refusal here there any =
 
 module _ (built : Built) where
   -- the answer of the second site, by what has to be of its reply
-  answer-agrees : (Seen : Reply → Type 0) (a b : Site) (n : ℕ) (q : Request) → ((other_built : Built) (r : Record) → GrowsToo b.collected Seen other_built a r) →
+  answer-agrees : (Seen : Reply → Type 0) (a b : Site) (n : ℕ) (q : Request) →
+      ((other_built : Built) (r : Record) → GrowsToo b.collected Seen other_built a r) →
       AgreeButCollected a b → IsFalse (asks_of_kept q) → Unseen b.collected Seen (step built a n q) (step built b n q)
   answer-agrees Seen a b n q grows agree asks =
       subst (λ (s : Site). Unseen b.collected Seen (step built a n q) (step built s n q)) (sym agree) (step-unseen b.collected Seen a grows built n q asks)
@@ -70,7 +71,7 @@ module _ (built : Built) where
   more-is-unseen a b n q sound agree more asks f =
       both-agree a b n q (answer-agrees AnyReply a b n q (grows-with-it a b sound.few_kept more) agree asks f tt)
 
-  pub collecting-takes-no-room : CollectingTakesNoRoom built
+  pub collecting-takes-no-room : CollectingTakesNoRoom built (step built)
   collecting-takes-no-room a b n q sound agree more asks f =
       subst (λ (reply : Reply). IsFalse (tells_full reply)) (more-is-unseen a b n q sound agree more asks f).0 f
 
@@ -81,7 +82,8 @@ module _ (built : Built) where
       ap (λ (answer : Answer). answer.0.collected) (answer-agrees HasRoomToo site site n q (grows-or-tells site.collected site) refl asks f f)
 
   -- what leaves all but the collected states, or the whole site
-  unless-agrees : (site : Site) (replies : List (Option Reply)) (answer : Answer) → AgreeButCollected site answer.0 → AgreeButCollected site (unless site replies answer).0
+  unless-agrees : (site : Site) (replies : List (Option Reply)) (answer : Answer) → AgreeButCollected site answer.0 →
+      AgreeButCollected site (unless site replies answer).0
   unless-agrees site [] answer h = h
   unless-agrees site (None ∷ more) answer h = unless-agrees site more answer h
   unless-agrees site (Some reply ∷ more) answer h = refl

@@ -1,8 +1,9 @@
 -- Who collected more has more room.
-use Rattle.std.proofs.Common.{◌≡◌, ℕ, ◌+◌, ◌≤◌, Bool, true, false, not, cond, List, [], ◌∷◌, ◌++◌, length, filter, find, Option, Some, None, IsTrue, IsFalse, inl, inr, refl, sym, ap, subst, ◌∙◌, arith}
+use Rattle.std.proofs.Common.{◌≡◌, ℕ, ◌+◌, ◌≤◌, Bool, not, cond, List, [], ◌∷◌, length, filter, find, Option, Some, None, IsTrue, IsFalse, inl, inr}
+use Rattle.std.proofs.Common.{refl, sym, ap, ◌∙◌, arith}
 use Rattle.std.specs.Prelude.{◌==◌, nat_lt, flat_map, if◌then◌else◌}
 use Rattle.std.specs.Option.{option_map}
-use Rattle.std.proofs.lemmas.Bool.{cases_Bool, both_ways, not-true, cond-true, cond-false, eqb-true, eqb-false, ne_eqb, ltb-true, lt-ltb}
+use Rattle.std.proofs.lemmas.Bool.{cases_Bool, both_ways, cond-true, cond-false, eqb-false, ne_eqb, ltb-true, lt-ltb}
 use Rattle.std.proofs.lemmas.List.{length-append}
 use Rattle.std.proofs.lemmas.List.Elements.{filter-append}
 use Rattle.std.proofs.lemmas.List.Concat.{flat_map-cons}
@@ -34,7 +35,8 @@ narrower p q wider (x ∷ xs) =
     ]
 
 -- where nothing is found, nothing is found among fewer, by a narrower test
-finds-no-more : {A : Type 0} (test narrow q : A → Bool) → ((a : A) → IsTrue (narrow a) → IsTrue (test a)) → (xs : List A) → find test xs ≡ None → find narrow (filter q xs) ≡ None
+finds-no-more : {A : Type 0} (test narrow q : A → Bool) → ((a : A) → IsTrue (narrow a) → IsTrue (test a)) → (xs : List A) → find test xs ≡ None →
+    find narrow (filter q xs) ≡ None
 finds-no-more test narrow q wider [] e = refl
 finds-no-more test narrow q wider (x ∷ xs) e =
     elim (cases_Bool (test x)) [
@@ -66,7 +68,8 @@ module _ {A B : Type 0} (fork : A → Bool) (ways : A → List B) (leads : B →
   counts : (x : A) (xs : List A) → count (x ∷ xs) ≡ own x + count xs
   counts x xs = elim (cases_Bool (fork x)) [
     | inl t ↦
-        let all = ap (λ ys. length (filter leads (flat_map ways ys))) (cond-true (fork x) (x ∷ filter fork xs) (filter fork xs) t) ∙ leading x (filter fork xs) in
+        let forks = cond-true (fork x) (x ∷ filter fork xs) (filter fork xs) t in
+        let all = ap (λ ys. length (filter leads (flat_map ways ys))) forks ∙ leading x (filter fork xs) in
         let one = ap (λ ys. length (filter leads (flat_map ways ys))) (cond-true (fork x) (x ∷ []) [] t) ∙ leading x [] in
         omega arith
     | inr f ↦
@@ -128,7 +131,10 @@ module _ (ks js : List StateId) (more : (x : StateId) → IsTrue (is_among x ks)
       let long : StateId → Bool = λ x. nat_lt most (length (fork_path rs ks x)) in
       let long_there : StateId → Bool = λ x. nat_lt most (length (fork_path rs js x)) in
       let longer : (x : StateId) → IsTrue (long_there x) → IsTrue (long x) =
-          λ x h. let shorter = paths-shorter rs x in let above = ltb-true most (length (fork_path rs js x)) h in lt-ltb most (length (fork_path rs ks x)) (omega arith) in
+      λ x h.
+      let shorter = paths-shorter rs x in
+      let above = ltb-true most (length (fork_path rs js x)) h in
+      lt-ltb most (length (fork_path rs ks x)) (omega arith) in
       let none : find long (kept_states rs ks) ≡ None = not-found (find long (kept_states rs ks)) (λ x. (x, length (fork_path rs ks x))) e in
       let none_there = ap (find long_there) (kept-narrower rs) ∙ finds-no-more long long_there stays longer (kept_states rs ks) none in
       ap (option_map (λ (x : StateId). (x, length (fork_path rs js x)))) none_there

@@ -1,5 +1,5 @@
 -- A run goes the same without collection.
-use Rattle.std.proofs.Common.{◌≡◌, ℕ, Bool, true, false, not, List, [], ◌∷◌, IsTrue, IsFalse, inl, inr, refl, sym, ap, subst, ◌∙◌}
+use Rattle.std.proofs.Common.{◌≡◌, Bool, true, false, not, List, [], ◌∷◌, IsTrue, IsFalse, inl, inr, refl, sym, ap, subst, ◌∙◌}
 use Rattle.std.specs.Prelude.{if◌then◌else◌}
 use Rattle.std.proofs.lemmas.Bool.{and_parts, cases_Bool, cond-true, cond-false, cond_both}
 use Rattle.tardis_base.specs.declared.ids.StateId.{StateId}
@@ -44,7 +44,8 @@ module _ (built : Built) (start : Site) where
   still-answered a b line same (inl e) = inl (e ∙ sym same)
   still-answered a b line same (inr wants) = inr wants
 
-  dropped : (line : Line) (lines : List Line) (site : Site) → IsTrue (asks_of_kept line.request) → LeadsTo lines site → LeadsTo lines (after_line (step built) site line)
+  dropped : (line : Line) (lines : List Line) (site : Site) → IsTrue (asks_of_kept line.request) → LeadsTo lines site →
+      LeadsTo lines (after_line (step built) site line)
   dropped line lines site asks h = record {
     answered = h.answered;
     sound = h.sound;
@@ -56,7 +57,8 @@ module _ (built : Built) (start : Site) where
   }
 
   kept : (line : Line) (older lines : List Line) → IsFalse (asks_of_kept line.request) → AreAnswered (step built) start (line ∷ older) →
-      HasRoom (step built) start (line ∷ lines) → LeadsTo lines (site_after (step built) start older) → LeadsTo (line ∷ lines) (site_after (step built) start (line ∷ older))
+      HasRoom (step built) start (line ∷ lines) → LeadsTo lines (site_after (step built) start older) →
+      LeadsTo (line ∷ lines) (site_after (step built) start (line ∷ older))
   kept line older lines asks answered room h =
       let n = line.actor in
       let q = line.request in

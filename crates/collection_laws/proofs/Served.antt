@@ -12,8 +12,12 @@ use Rattle.tardis_base.specs.declared.requests.EndFlags.{EndFlags}
 use Rattle.tardis_base.specs.declared.requests.MergeOf.{MergeOf}
 use Rattle.tardis_base.specs.declared.requests.MergeOf.TheVariants.{Leaves as AllLeaves, States as These}
 use Rattle.tardis_base.specs.declared.requests.Request.{Request}
-use Rattle.tardis_base.specs.declared.requests.Request.TheVariants.{Open, Begin as BeginAt, Get, Put, Delete, Commit, Abort, BeginMerge, ForkPoints, Conflicts, GetFor, Ceiling, Raise, RaiseAuto, Tidy, Stat, Show, Leaves, Pull, Deliver, Settle, Close}
-use Rattle.tardis_base.specs.declared.replies.Refusal.TheVariants.{AlreadyOpen, SessionsFull, Unknown, Below, CeilingBack, WrongMode, NotRead, TooMany, ConflictKey, FloorBack, Held, SeqEnd, Unsupported, BadSite, Comparable, OpenConflict, Branches}
+use Rattle.tardis_base.specs.declared.requests.Request.TheVariants.{Open, Begin as BeginAt, Get, Put, Delete, Commit, Abort, BeginMerge, ForkPoints}
+use Rattle.tardis_base.specs.declared.requests.Request.TheVariants.{Conflicts, GetFor, Ceiling, Raise, RaiseAuto, Tidy, Stat, Show, Leaves, Pull}
+use Rattle.tardis_base.specs.declared.requests.Request.TheVariants.{Deliver, Settle, Close}
+use Rattle.tardis_base.specs.declared.replies.Refusal.TheVariants.{AlreadyOpen, SessionsFull, Unknown, Below, CeilingBack, WrongMode, NotRead}
+use Rattle.tardis_base.specs.declared.replies.Refusal.TheVariants.{TooMany, ConflictKey, FloorBack, Held, SeqEnd, Unsupported, BadSite, Comparable}
+use Rattle.tardis_base.specs.declared.replies.Refusal.TheVariants.{OpenConflict, Branches}
 use Rattle.tardis_base.specs.declared.replies.Reply.{Reply}
 use Rattle.tardis_base.specs.declared.replies.Reply.TheVariants.{Opened, Done, Applied, Batch as BatchIs}
 use Rattle.tardis_base.specs.Ids.{root, is_among}
@@ -36,7 +40,8 @@ use Rattle.plain_site.specs.Reads.{having_read, having_written, read_in, get, se
 use Rattle.plain_site.specs.Commits.{with_record, growth_refusals, without_txn_of, committed, commit_below, commit_single, commit}
 use Rattle.plain_site.specs.Merges.{states_to_merge, in_order, merging, merge_at, fork_points_of, conflicts_of}
 use Rattle.plain_site.specs.FloorSteps.{raised, raise_to, raise}
-use Rattle.plain_site.specs.Exchange.{judgements, take_record, with_held, deliver_record, consent_judgements, deliver_consent, deliver, pull, batch_for, first_fit_record, with_settled, settle_record, settle}
+use Rattle.plain_site.specs.Exchange.{judgements, take_record, with_held, deliver_record, consent_judgements, deliver_consent, deliver, pull}
+use Rattle.plain_site.specs.Exchange.{batch_for, first_fit_record, with_settled, settle_record, settle}
 use Rattle.plain_site.specs.Step.{served, step}
 use Rattle.collection_laws.specs.Laws.{asks_of_kept}
 use Rattle.collection_laws.proofs.Unseen.{other, Unseen, GrowsToo, append-unseen, unless-unseen, growth-unseen, given-unseen, by-session, by-txn, by-no-txn}
@@ -75,7 +80,8 @@ module _ (ks : List StateId) (Seen : Reply → Type 0) (site : Site) (grows : (b
     read-unseen : (t : Txn) (k : List ℕ) → Unseen ks Seen (read_in site n t k) (read_in there n t k)
     read-unseen (Single t) k =
         refusing (refuse (length t.reads == 256 && not (is_key_among k t.reads)) (TooMany 2 257) ∷ [])
-        (with_txn_changed n (having_read k) site, found (read site.dag k t.state)) (with_txn_changed n (having_read k) there, found (read site.dag k t.state)) refl
+        (with_txn_changed n (having_read k) site, found (read site.dag k t.state))
+        (with_txn_changed n (having_read k) there, found (read site.dag k t.state)) refl
     read-unseen (Merge t) k =
         refusing (refuse (is_conflict_key site.dag t.states k) (ConflictKey k) ∷ [])
         (site, found (value_over site.dag t.states k)) (there, found (value_over site.dag t.states k)) refl
@@ -107,7 +113,8 @@ module _ (ks : List StateId) (Seen : Reply → Type 0) (site : Site) (grows : (b
         ∷ [])
         (merging site n (in_order xs)) (merging there n (in_order xs)) refl
 
-    merge-of-unseen : (ceiling : StateId) (of : MergeOf) → Unseen ks Seen (merge_at site n ceiling (states_to_merge site of)) (merge_at there n ceiling (states_to_merge there of))
+    merge-of-unseen : (ceiling : StateId) (of : MergeOf) →
+        Unseen ks Seen (merge_at site n ceiling (states_to_merge site of)) (merge_at there n ceiling (states_to_merge there of))
     merge-of-unseen ceiling AllLeaves = merge-unseen ceiling (leaves site.dag)
     merge-of-unseen ceiling (These xs) = merge-unseen ceiling xs
 
@@ -126,19 +133,22 @@ module _ (ks : List StateId) (Seen : Reply → Type 0) (site : Site) (grows : (b
     below-unseen built parents writes refusals =
         let r = next_record site parents writes in
         let over = refuse (own_count site == 4294967295) SeqEnd in
-        append-unseen ks Seen site refusals (over ∷ growth_refusals built site r) (over ∷ growth_refusals built there r) (committed site n r) (committed there n r)
+        append-unseen ks Seen site refusals (over ∷ growth_refusals built site r) (over ∷ growth_refusals built there r)
+        (committed site n r) (committed there n r)
         (append-unseen ks Seen site (over ∷ []) (growth_refusals built site r) (growth_refusals built there r) (committed site n r) (committed there n r)
         (growth-unseen ks Seen built site r (committed site n r) (committed there n r) (grows built r) (λ f g. refl)))
 
     single-unseen : (built : Built) (t : SingleTxn) (writes : List KeyWrite) (flags : EndFlags) (k : ℕ) → t.writes ≡ writes →
         Unseen ks Seen (commit_single built site n t flags k) (commit_single built there n t flags k)
     single-unseen built t [] flags k e =
-        subst (λ (ws : List KeyWrite). Unseen ks Seen (commit_single built site n (record t { writes = ws }) flags k) (commit_single built there n (record t { writes = ws }) flags k))
+        subst (λ (ws : List KeyWrite). Unseen ks Seen (commit_single built site n (record t { writes = ws }) flags k)
+        (commit_single built there n (record t { writes = ws }) flags k))
         (sym e) (λ f g. refl)
     single-unseen built t (w ∷ ws) flags k e =
         let x = landing site.dag (guarded flags t.reads (keys_of (w ∷ ws))) t.state in
         let number_of_children = length (children site.dag x) in
-        subst (λ (vs : List KeyWrite). Unseen ks Seen (commit_single built site n (record t { writes = vs }) flags k) (commit_single built there n (record t { writes = vs }) flags k))
+        subst (λ (vs : List KeyWrite). Unseen ks Seen (commit_single built site n (record t { writes = vs }) flags k)
+        (commit_single built there n (record t { writes = vs }) flags k))
         (sym e)
         (below-unseen built (x ∷ []) (w ∷ ws) (refuse_found (λ (c : ℕ). Branches c x number_of_children) (broken flags k number_of_children) ∷ []))
 
@@ -170,7 +180,8 @@ module _ (ks : List StateId) (Seen : Reply → Type 0) (site : Site) (grows : (b
 
   take-unseen : (built : Built) (r : Record) → Unseen ks Seen (take_record built site r) (take_record built there r)
   take-unseen built r =
-      append-unseen ks Seen site (judgements site r) (growth_refusals built site r) (growth_refusals built there r) (with_record r site, Applied) (with_record r there, Applied)
+      append-unseen ks Seen site (judgements site r) (growth_refusals built site r) (growth_refusals built there r)
+      (with_record r site, Applied) (with_record r there, Applied)
       (growth-unseen ks Seen built site r (with_record r site, Applied) (with_record r there, Applied) (grows built r) (λ f g. refl))
 
   held-there : (early : Bool) (r : Record) (s : Site) → (if early then with_held r (other ks s) else other ks s) ≡ other ks (if early then with_held r s else s)
@@ -196,7 +207,8 @@ module _ (ks : List StateId) (Seen : Reply → Type 0) (site : Site) (grows : (b
   settle-unseen : (built : Built) → Unseen ks Seen (settle built site) (settle built there)
   settle-unseen built =
       given-unseen ks Seen (first_fit_record site) (site, Done) (there, Done) (settle_record built site) (settle_record built there) (λ f g. refl)
-      (λ place. growth-unseen ks Seen built site place.1 (with_settled place site, Applied) (with_settled place there, Applied) (grows built place.1) (λ f g. refl))
+      (λ place. growth-unseen ks Seen built site place.1 (with_settled place site, Applied) (with_settled place there, Applied)
+      (grows built place.1) (λ f g. refl))
 
   -- ===== The step
 
@@ -204,11 +216,14 @@ module _ (ks : List StateId) (Seen : Reply → Type 0) (site : Site) (grows : (b
     served-unseen : (q : Request) → IsFalse (asks_of_kept q) → Unseen ks Seen (served built site n q) (served built there n q)
     served-unseen (Open follow) h = open-unseen n follow
     served-unseen (BeginAt b) h =
-        by-no-txn ks Seen site n (λ s. begin_at site n s.ceiling (begin_state site.dag s.last b)) (λ s. begin_at there n s.ceiling (begin_state site.dag s.last b))
+        by-no-txn ks Seen site n (λ s. begin_at site n s.ceiling (begin_state site.dag s.last b))
+        (λ s. begin_at there n s.ceiling (begin_state site.dag s.last b))
         (λ s. begin-unseen n s.ceiling (begin_state site.dag s.last b))
     served-unseen (Get k) h = by-txn ks Seen site n (λ s t. get site n t k) (λ s t. get there n t k) (λ s t. get-unseen n t k)
-    served-unseen (Put k v) h = by-txn ks Seen site n (λ s t. set_key site n t k (Value v)) (λ s t. set_key there n t k (Value v)) (λ s t. set-unseen n t k (Value v))
-    served-unseen (Delete k) h = by-txn ks Seen site n (λ s t. set_key site n t k Deletion) (λ s t. set_key there n t k Deletion) (λ s t. set-unseen n t k Deletion)
+    served-unseen (Put k v) h =
+        by-txn ks Seen site n (λ s t. set_key site n t k (Value v)) (λ s t. set_key there n t k (Value v)) (λ s t. set-unseen n t k (Value v))
+    served-unseen (Delete k) h =
+        by-txn ks Seen site n (λ s t. set_key site n t k Deletion) (λ s t. set_key there n t k Deletion) (λ s t. set-unseen n t k Deletion)
     served-unseen (Commit flags k) h =
         by-txn ks Seen site n (λ s t. commit built site n t flags k) (λ s t. commit built there n t flags k) (λ s t. commit-unseen n built t flags k)
     served-unseen Abort h = by-txn ks Seen site n (λ s t. (without_txn_of n site, Done)) (λ s t. (without_txn_of n there, Done)) (λ s t f g. refl)
@@ -216,7 +231,8 @@ module _ (ks : List StateId) (Seen : Reply → Type 0) (site : Site) (grows : (b
         by-no-txn ks Seen site n (λ s. merge_at site n s.ceiling (states_to_merge site of)) (λ s. merge_at there n s.ceiling (states_to_merge there of))
         (λ s. merge-of-unseen n s.ceiling of)
     served-unseen ForkPoints h = by-txn ks Seen site n (λ s t. fork_points_of site t) (λ s t. fork_points_of there t) (λ s t. fork-points-unseen n t)
-    served-unseen (Conflicts after) h = by-txn ks Seen site n (λ s t. conflicts_of site t after) (λ s t. conflicts_of there t after) (λ s t. conflicts-unseen n t after)
+    served-unseen (Conflicts after) h =
+        by-txn ks Seen site n (λ s t. conflicts_of site t after) (λ s t. conflicts_of there t after) (λ s t. conflicts-unseen n t after)
     served-unseen (GetFor k x) h = by-txn ks Seen site n (λ s t. get_for site t k x) (λ s t. get_for there t k x) (λ s t. get_for-unseen n t k x)
     served-unseen (Ceiling x) h = by-no-txn ks Seen site n (λ s. set_ceiling site n s x) (λ s. set_ceiling there n s x) (λ s. ceiling-unseen n s x)
     served-unseen (Raise x) h = raise-unseen x
@@ -232,4 +248,5 @@ module _ (ks : List StateId) (Seen : Reply → Type 0) (site : Site) (grows : (b
 
     pub step-unseen : (q : Request) → IsFalse (asks_of_kept q) → Unseen ks Seen (step built site n q) (step built there n q)
     step-unseen q h =
-        unless-unseen ks Seen site (refuse (not (is_built built q)) (Unsupported (code_of q)) ∷ []) (served built site n q) (served built there n q) (served-unseen q h)
+        unless-unseen ks Seen site (refuse (not (is_built built q)) (Unsupported (code_of q)) ∷ [])
+        (served built site n q) (served built there n q) (served-unseen q h)

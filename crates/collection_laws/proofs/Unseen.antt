@@ -31,7 +31,8 @@ path-is-full : (o : Option (StateId × ℕ)) → IsFull (option_map (λ (p : Sta
 path-is-full None = tt
 path-is-full (Some p) = refl
 
-pub growth-is-full : (tries_paths : Bool) (limits : Limits) (ks : List StateId) (rs : List Record) (r : Record) → IsFull (growth_refusal tries_paths limits ks rs r)
+pub growth-is-full : (tries_paths : Bool) (limits : Limits) (ks : List StateId) (rs : List Record) (r : Record) →
+    IsFull (growth_refusal tries_paths limits ks rs r)
 growth-is-full tries_paths limits ks rs r =
     let kept = length (kept_states rs ks) in
     let long = long_path (r ∷ rs) ks limits.max_path in
@@ -44,9 +45,9 @@ growth-is-full tries_paths limits ks rs r =
 abbrev pub other : List StateId → Site → Site
 other ks site = record site { collected = ks }
 
--- the second site's reply is as it has to be for the law
+-- what the second reply has to be: one that doesn't tell of no room, or any
 module _ (ks : List StateId) (Seen : Reply → Type 0) where
-  -- the second answer is the first but for the collected states, unless the first tells of no room or the second isn't such
+  -- the second answer is the first but for the collected states, unless the first tells of no room, or the second isn't such
   abbrev pub Unseen : Answer → Answer → Type 0
   Unseen x y = IsFalse (tells_full x.1) → Seen y.1 → y ≡ (other ks x.0, x.1)
 
@@ -57,13 +58,15 @@ module _ (ks : List StateId) (Seen : Reply → Type 0) where
 
   -- ===== Several replies, of which the first is given
 
-  pub append-unseen : (site : Site) (first more more_there : List (Option Reply)) (x y : Answer) → Unseen (unless site more x) (unless (other ks site) more_there y) →
+  pub append-unseen : (site : Site) (first more more_there : List (Option Reply)) (x y : Answer) →
+      Unseen (unless site more x) (unless (other ks site) more_there y) →
       Unseen (unless site (first ++ more) x) (unless (other ks site) (first ++ more_there) y)
   append-unseen site [] more more_there x y h = h
   append-unseen site (None ∷ first) more more_there x y h = append-unseen site first more more_there x y h
   append-unseen site (Some reply ∷ first) more more_there x y h = λ f g. refl
 
-  pub unless-unseen : (site : Site) (replies : List (Option Reply)) (x y : Answer) → Unseen x y → Unseen (unless site replies x) (unless (other ks site) replies y)
+  pub unless-unseen : (site : Site) (replies : List (Option Reply)) (x y : Answer) → Unseen x y →
+      Unseen (unless site replies x) (unless (other ks site) replies y)
   unless-unseen site [] x y h = h
   unless-unseen site (None ∷ more) x y h = unless-unseen site more x y h
   unless-unseen site (Some reply ∷ more) x y h = λ f g. refl
@@ -85,7 +88,8 @@ module _ (ks : List StateId) (Seen : Reply → Type 0) where
 
   -- ===== What is there
 
-  pub given-unseen : {A : Type 0} (o : Option A) (x y : Answer) (f g : A → Answer) → Unseen x y → ((a : A) → Unseen (f a) (g a)) → Unseen (given o x f) (given o y g)
+  pub given-unseen : {A : Type 0} (o : Option A) (x y : Answer) (f g : A → Answer) → Unseen x y → ((a : A) → Unseen (f a) (g a)) →
+      Unseen (given o x f) (given o y g)
   given-unseen None x y f g h each = h
   given-unseen (Some a) x y f g h each = each a
 
@@ -100,5 +104,6 @@ module _ (ks : List StateId) (Seen : Reply → Type 0) where
 
     pub by-no-txn : (f g : Session → Answer) → ((s : Session) → Unseen (f s) (g s)) → Unseen (without_txn site n f) (without_txn (other ks site) n g)
     by-no-txn f g h =
-        by-session (λ s. given (entry_of n site.txns) (f s) (λ t. refused site TxnOpen)) (λ s. given (entry_of n site.txns) (g s) (λ t. refused (other ks site) TxnOpen))
+        by-session (λ s. given (entry_of n site.txns) (f s) (λ t. refused site TxnOpen))
+        (λ s. given (entry_of n site.txns) (g s) (λ t. refused (other ks site) TxnOpen))
         (λ s. given-unseen (entry_of n site.txns) (f s) (g s) (λ t. refused site TxnOpen) (λ t. refused (other ks site) TxnOpen) (h s) (λ t here there. refl))

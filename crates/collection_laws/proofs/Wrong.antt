@@ -1,14 +1,17 @@
 -- Wrong steps that break the laws, and the worked row.
-use Rattle.std.proofs.Common.{◌≡◌, ℕ, [], ◌∷◌, length, inl, inr, refl, ap}
+use Rattle.std.proofs.Common.{◌≡◌, ℕ, true, false, [], ◌∷◌, length, inl, inr, refl, ap}
 use Rattle.std.specs.Prelude.{codes, drop}
 use Rattle.tardis_base.specs.declared.requests.Request.TheVariants.{Get, Tidy}
 use Rattle.tardis_base.specs.declared.replies.Reply.TheVariants.{Absent}
 use Rattle.plain_site.specs.Site.{Site}
-use Rattle.plain_site.specs.RowWords.{lone_site, ◌·◌, ◌asks◌=>◌, get, value}
+use Rattle.plain_site.specs.RowWords.{lone_site, program_limits, ◌·◌, ◌asks◌=>◌, get, none, commit, value}
+use Rattle.plain_site.specs.Built.{everything}
+use Rattle.plain_site.proofs.SoundOpening.{opening-is-sound}
+use Rattle.tardis_base.specs.Ids.{root}
 use Rattle.plain_site.specs.ClientRuns.{site_after, IsAnswered, IsRun}
 use Rattle.plain_site.specs.WrongSteps.{IsBrokenBy, forgets_collected}
-use Rattle.collection_laws.specs.Laws.{CollectionIsUnseen, OnlyCollectedChange, without_collection, HasRoom, RunsGoTheSameWithout}
-use Rattle.collection_laws.specs.Rows.{reads_kept_alone, write_missed, closed_above, CollectingMakesRoom}
+use Rattle.collection_laws.specs.Laws.{CollectionIsUnseen, CollectingTakesNoRoom, OnlyCollectedChange, without_collection, HasRoom, RunsGoTheSameWithout}
+use Rattle.collection_laws.specs.Rows.{reads_kept_alone, fills_with_collected, write_missed, closed_above, CollectingMakesRoom}
 
 -- the site where 1.1, which wrote x, is collected
 pub kept-alone-breaks : IsBrokenBy CollectionIsUnseen reads_kept_alone
@@ -17,7 +20,36 @@ kept-alone-breaks law =
     absurd (cc)
 
 write-missed : IsRun reads_kept_alone lone_site write_missed
-write-missed = record { limits = refl; own = refl; opens = refl; answered = (refl, inl refl, (refl, inl refl, (refl, inl refl, (refl, inl refl, (refl, inl refl, (refl, inl refl, (refl, inl refl, (refl, inl refl, (refl, inl refl, (refl, inl refl, (refl, inl refl, tt))))))))))) }
+write-missed = record {
+  limits = refl;
+  own = refl;
+  opens = refl;
+  answered = (
+    refl,
+    inl refl,
+    (
+      refl,
+      inl refl,
+      (
+        refl,
+        inl refl,
+        (
+          refl,
+          inl refl,
+          (
+            refl,
+            inl refl,
+            (
+              refl,
+              inl refl,
+              (refl, inl refl, (refl, inl refl, (refl, inl refl, (refl, inl refl, (refl, inl refl, tt))))),
+            ),
+          ),
+        ),
+      ),
+    ),
+  );
+}
 
 found-or-wanting : IsAnswered reads_kept_alone (site_after reads_kept_alone lone_site (without_collection (drop 1 write_missed))) (1 asks get "x" => Absent) → ⊥
 found-or-wanting (inl e) = let same : Absent ≡ value (1 · 1) "1" = e in absurd (cc)
@@ -28,6 +60,13 @@ room-without = (refl, (refl, (refl, (refl, (refl, (refl, (refl, (refl, (refl, (r
 
 pub kept-alone-breaks-runs : IsBrokenBy RunsGoTheSameWithout reads_kept_alone
 kept-alone-breaks-runs law = found-or-wanting (law lone_site write_missed write-missed room-without).0.1
+
+-- a request that finds no session is answered so where nothing is collected, and Full where the root is
+pub filled-breaks : IsBrokenBy (CollectingTakesNoRoom everything) fills_with_collected
+filled-breaks law =
+    let sound = opening-is-sound everything (program_limits 1) 1 refl refl in
+    let full : true ≡ false = law lone_site (record lone_site { collected = root ∷ [] }) 1 (commit none) sound refl (λ x among. absurd (cc)) refl refl in
+    absurd (cc)
 
 -- where the root is collected, one record of two is left
 pub forgotten-breaks : IsBrokenBy OnlyCollectedChange forgets_collected

@@ -10,7 +10,6 @@ use Rattle.tardis_base.specs.Ids.{is_among}
 use Rattle.plain_site.specs.Site.{Site}
 use Rattle.plain_site.specs.Built.{Built}
 use Rattle.plain_site.specs.Sound.{IsSound}
-use Rattle.plain_site.specs.Step.{step}
 use Rattle.plain_site.specs.RowWords.{Line}
 use Rattle.plain_site.specs.ClientRuns.{Service, site_after, AreAnswered, IsRun}
 
@@ -42,10 +41,10 @@ CollectionIsUnseen service = (a b : Site) (n : ℕ) (q : Request) → AgreeButCo
 abbrev pub CollectedMore : Site → Site → Type 0
 CollectedMore a b = (x : StateId) → IsTrue (is_among x a.collected) → IsTrue (is_among x b.collected)
 
--- of sites that agree so, the one that collected more has room where the other, which is sound, has
-abbrev pub CollectingTakesNoRoom : Built → Type 0
-CollectingTakesNoRoom built = (a b : Site) (n : ℕ) (q : Request) → IsSound built a → AgreeButCollected a b → CollectedMore a b →
-    IsFalse (asks_of_kept q) → IsFalse (tells_full (step built a n q).1) → IsFalse (tells_full (step built b n q).1)
+-- of sites that agree so, one that collected more has room where a sound one has
+abbrev pub CollectingTakesNoRoom : Built → Service → Type 0
+CollectingTakesNoRoom built service = (a b : Site) (n : ℕ) (q : Request) → IsSound built a → AgreeButCollected a b → CollectedMore a b →
+    IsFalse (asks_of_kept q) → IsFalse (tells_full (service a n q).1) → IsFalse (tells_full (service b n q).1)
 
 -- the other requests change no more than the collected states
 abbrev pub OnlyCollectedChange : Service → Type 0
@@ -57,7 +56,7 @@ OnlyCollectedChange service = (site : Site) (n : ℕ) (q : Request) → IsTrue (
 abbrev pub without_collection : List Line → List Line
 without_collection lines = filter (λ line. not (asks_of_kept line.request)) lines
 
--- the site has room at each of these lines
+-- no request of these lines finds the site without room
 abbrev pub HasRoom : Service → Site → List Line → Type 0
 HasRoom service start [] = Unit {0}
 HasRoom service start (line ∷ older) = IsFalse (tells_full (service (site_after service start older) line.actor line.request).1) × HasRoom service start older

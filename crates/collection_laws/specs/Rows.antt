@@ -1,11 +1,12 @@
--- A wrong step that shows what is collected, with a run in which it does; and a worked row in which room is made.
-use Rattle.std.specs.Prelude.{not, List, [], ◌∷◌, filter}
-use Rattle.tardis_base.specs.declared.requests.Request.TheVariants.{Get, Tidy, Ceiling, RaiseAuto}
+-- Wrong steps that let what is collected be seen, and a worked row in which collecting makes room.
+use Rattle.std.specs.Prelude.{◌==◌, not, List, [], ◌∷◌, length, filter, if◌then◌else◌}
+use Rattle.tardis_base.specs.declared.requests.Request.TheVariants.{Get, Commit, Tidy, Ceiling, RaiseAuto}
 use Rattle.tardis_base.specs.declared.replies.Refusal.TheVariants.{Full}
 use Rattle.tardis_base.specs.declared.replies.Reply.TheVariants.{Opened, Begun, Absent, Done, Committed, Raised, Tidied, Refused}
 use Rattle.tardis_base.specs.Ids.{is_among}
 use Rattle.plain_site.specs.Site.{Site, opening}
 use Rattle.plain_site.specs.Built.{everything}
+use Rattle.plain_site.specs.Answers.{refused}
 use Rattle.plain_site.specs.Step.{step}
 use Rattle.plain_site.specs.RowWords.{Line, Talk, site_after, program_limits, ◌·◌, ◌asks◌=>◌, opens, begin_any, get, put, none, commit}
 use Rattle.plain_site.specs.ClientRuns.{Service}
@@ -19,6 +20,12 @@ with_kept_alone site = record site { dag = filter (λ r. not (is_among r.id site
 abbrev pub reads_kept_alone : Service
 reads_kept_alone site n (Get k) = ((step everything site n (Get k)).0, (step everything (with_kept_alone site) n (Get k)).1)
 reads_kept_alone site n q = step everything site n q
+
+-- a commit finds no room where something is collected
+abbrev pub fills_with_collected : Service
+fills_with_collected site n (Commit flags k) =
+    if length site.collected == 0 then step everything site n (Commit flags k) else refused site (Full (length site.dag))
+fills_with_collected site n q = step everything site n q
 
 -- after its 1.1 wrote x, a following session makes 1.2; 1.1 is collected, and x isn't found at 1.2
 abbrev pub write_missed : List Line

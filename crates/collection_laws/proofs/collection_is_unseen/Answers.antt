@@ -1,6 +1,6 @@
 use Rattle.collection_laws.proofs.Laws.{collection-is-unseen, collecting-takes-no-room, only-collected-change}
 use Rattle.collection_laws.proofs.Runs.{runs-go-the-same}
-use Rattle.collection_laws.proofs.Wrong.{kept-alone-breaks, kept-alone-breaks-runs, forgotten-breaks, collecting-makes-room}
+use Rattle.collection_laws.proofs.Wrong.{kept-alone-breaks, kept-alone-breaks-runs, filled-breaks, forgotten-breaks, collecting-makes-room}
 use Rattle.collection_laws.proofs.collection_is_unseen.Goals as goal
 
 pub returns-clause-unseen : goal.returns-clause-unseen
@@ -26,3 +26,6 @@ returns-clause-kept_alone_breaks_runs c = kept-alone-breaks-runs
 
 pub returns-clause-takes_no_room : goal.returns-clause-takes_no_room
 returns-clause-takes_no_room c = collecting-takes-no-room
+
+pub returns-clause-filled_breaks : goal.returns-clause-filled_breaks
+returns-clause-filled_breaks c = filled-breaks
