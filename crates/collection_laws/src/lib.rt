@@ -8,11 +8,11 @@ ghost use Rattle.plain_site.specs.WrongSteps.{IsBrokenBy, forgets_collected};
 ghost use Rattle.collection_laws.specs.Laws.{CollectionIsUnseen, CollectingTakesNoRoom, OnlyCollectedChange, RunsGoTheSameWithout};
 ghost use Rattle.collection_laws.specs.Rows.{reads_kept_alone, fills_with_collected, CollectingMakesRoom};
 
-/// Collecting changes nothing that a client can tell, but room: two sites that differ in nothing but which states they have
-/// collected give the same reply to each request, and differ in no more afterwards. Tidy, Stat and Show tell of what is kept,
-/// and change nothing but the collected states. Room is what a client can tell: a site may say Full or PathFull where one that
-/// collected more goes on, and never the other way round. So as long as there is room without Tidy, Stat and Show, a run goes
-/// without them as it went with them.
+/// Collecting changes nothing that a client can tell, but room. Two sites that differ in nothing but which states they have
+/// collected give the same reply to each request but Tidy, Stat and Show, and differ in no more afterwards, unless one of the
+/// two has no room. Tidy, Stat and Show tell of what is kept, and change nothing but the collected states. A site may say Full
+/// or PathFull where one that collected more goes on; where it is sound, it is never the other way round. So a run goes without
+/// Tidy, Stat and Show as it went with them, as long as there is room without them.
 pub fn collection_is_unseen()
     ensures unseen { (built : Built) → CollectionIsUnseen (step built) }
     ensures takes_no_room { (built : Built) → CollectingTakesNoRoom built (step built) }
