@@ -183,6 +183,41 @@ def refused(states, commits):
         yield frame(1, ABORT)
 
 
+RAISE_AUTO = b"\x0e"
+
+
+def ceiling(site, sequence):
+    return b"\x0c" + struct.pack(">HI", site, sequence)
+
+
+def tidy(count):
+    return b"\x0f" + struct.pack(">H", count)
+
+
+def tidied_chain(commits, kept):
+    """a chain of so many commits; every 64 the ceiling goes to so many states behind the last, the floor after it, and
+    what is closed is collected"""
+    yield frame(1, opens(follow=True))
+    yield frame(2, opens())
+    for place in range(1, commits + 1):
+        for request in (BEGIN_ANY, get("k"), put("k"), SERIALIZABLE):
+            yield frame(1, request)
+        if kept and place % 64 == 0 and place > kept:
+            for request in (ceiling(1, place - kept), RAISE_AUTO, tidy(64)):
+                yield frame(2, request)
+
+
+def one_tidy(states, asked):
+    """a chain of so many states whose floor is its end, and then one Tidy of all of them, or none"""
+    yield frame(1, opens(follow=True))
+    for _ in range(states):
+        for request in (BEGIN_ANY, put("k"), SERIALIZABLE):
+            yield frame(1, request)
+    yield frame(0, RAISE_AUTO)
+    if asked:
+        yield frame(0, tidy(65_535))
+
+
 SHAPES = {
     "gets": [gets()],
     "puts": [puts()],
@@ -200,6 +235,12 @@ SHAPES = {
     "leaves 4,000": [leaves(4_000, 2_000), leaves(4_000, 0)],
     "stale branch 500": [stale(500, 2_000), stale(500, 0)],
     "stale branch 5,000": [stale(5_000, 2_000), stale(5_000, 0)],
+    "chain 15,900, tidied to 1,000": [tidied_chain(15_900, 1_000)],
+    "chain 15,900, never tidied": [tidied_chain(15_900, 0)],
+    "chain 40,000, tidied to 1,000": [tidied_chain(40_000, 1_000)],
+    "chain 40,000, tidied to 15,000": [tidied_chain(40_000, 15_000)],
+    "one Tidy of 16,000": [one_tidy(16_000, True), one_tidy(16_000, False)],
+    "one Tidy of 2,000": [one_tidy(2_000, True), one_tidy(2_000, False)],
     "refused in a full store": [refused(16_383, 4_000), refused(16_383, 0)],
 }
 
