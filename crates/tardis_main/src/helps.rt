@@ -36,7 +36,7 @@ usage: tardis shell [--sites M] [--site N]
        tardis --version   the version
 
 Each answers as site N, from 1 to M, of M sites, from 1 to 16; both are 1 where they
-are left out. Try: printf '1 open\n1 begin any\n1 put cart milk\n' | tardis shell
+are left out. Try: printf '1 open\\n1 begin any\\n1 put cart milk\\n' | tardis shell
 
 Lines and frames are described in docs/FORMATS.md, the commands, with a session of
 lines, and the statuses in docs/COMMANDS.md.
