@@ -72,7 +72,7 @@ fn put_call(log: &mut Vec<u8>, call: &Seen) -> Result<(), Fail> {
 fn calls(alloc: Global, machine: &mut Echo, moves: Vec<Move>) -> Result<Vec<u8>, Fail> {
     let mut ports = MemoryPorts::new(alloc, moves);
     let mut log = Vec::new(alloc);
-    if serve(alloc, machine, &mut ports)? != End::Stopped {
+    if serve(alloc, machine, &mut ports, None)? != End::Stopped {
         return Ok(log);
     }
     let Some(seen) = ports.seen() else {
