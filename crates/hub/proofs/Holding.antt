@@ -1,7 +1,7 @@
 -- What a line tells of a connection.
-use Rattle.std.proofs.Common.{◌≡◌, ◌≢◌, ℕ, ◌+◌, ◌<◌, ◌≤◌, ◌==◌, Bool, true, false, List, [], ◌∷◌, ◌++◌, length, take, drop, Option, Some, None, IfSome, ◌⊎◌, refl, sym, ap, ◌∙◌, subst, inl, inr, arith, append_assoc}
+use Rattle.std.proofs.Common.{◌≡◌, ℕ, ◌<◌, ◌==◌, Bool, true, false, List, [], ◌++◌, length, drop, Option, Some, None, IfSome, ◌⊎◌, refl, sym, ap, ◌∙◌, subst, inl, inr, arith, append_assoc}
 use Rattle.std.proofs.lemmas.Bool.{cases_eq, eq-eqb, eqb-true, false_from_ne_true}
-use Rattle.std.proofs.lemmas.List.{append-nil, drop_at}
+use Rattle.std.proofs.lemmas.List.{drop_at}
 use Rattle.frame_cut.specs.Frames.{frames, Cuts, IsEnd}
 use Rattle.frame_cut.proofs.Joins.{frames-append, more_bodies, more_bytes}
 use Rattle.hub.specs.Lines.{LineState, line_at, OthersStay, IsStopped}

@@ -1,5 +1,5 @@
 -- A run from its start to its end.
-use Rattle.std.proofs.Common.{◌≡◌, ℕ, ◌+◌, ◌-◌, ◌==◌, ◌≤◌, Bool, true, false, ◌⊎◌, inl, inr, List, [], ◌∷◌, ◌++◌, length, Option, Some, None, refl, sym, ap, ◌∙◌, subst, arith, append_assoc}
+use Rattle.std.proofs.Common.{◌≡◌, ℕ, ◌+◌, ◌-◌, ◌==◌, inl, inr, List, [], ◌∷◌, ◌++◌, Option, Some, None, refl, sym, ap, ◌∙◌, subst, arith, append_assoc}
 use Rattle.std.specs.Prelude.{nat_le, if◌then◌else◌}
 use Rattle.std.proofs.lemmas.List.{append-nil}
 use Rattle.std.proofs.lemmas.Bool.{cases_Bool, le-leb, leb-true, eq-eqb, eqb-true, false_from_ne_true}
@@ -17,7 +17,7 @@ use Rattle.hub.specs.Answering.{Asked}
 use Rattle.hub.specs.Turns.{Turn, Rested, Opened, Missed, TurnedAway, Received, Sent, Ended, KeptUp, talk, calls_of, calls_in}
 use Rattle.hub.specs.Timing.{since, due, IsTimely}
 use Rattle.hub.specs.Runs.{IsRun}
-use Rattle.hub.specs.Keeping.{Fits, Keeps, IsNoted, IsTally, GoesOn, Turned, Led}
+use Rattle.hub.specs.Keeping.{Fits, IsNoted, IsTally, GoesOn, Turned, Led}
 use Rattle.hub.proofs.Holding.{each_talk}
 use Rattle.hub.proofs.Turning.{tells_none}
 

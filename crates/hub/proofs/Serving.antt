@@ -7,7 +7,7 @@ use Rattle.std.proofs.lemmas.List.{append-nil, map-append, length-append, length
 use Rattle.std.proofs.lemmas.List.Elements.{filter-append}
 use Rattle.std.proofs.lemmas.Bool.{false_from_ne_true}
 use Rattle.tardis_base.specs.Plain.{Event, PlainMachine, Answers, no_memory}
-use Rattle.frame_cut.specs.Frames.{frame, frames, IsBody, IsPartial, Cuts}
+use Rattle.frame_cut.specs.Frames.{frame, frames, IsBody, Cuts}
 use Rattle.frame_cut.proofs.Joins.{frames-append, more_bodies}
 use Rattle.frame_cut.proofs.Words.{length-frame}
 use Rattle.hub.specs.declared.upkeeps.Tally.{Tally}

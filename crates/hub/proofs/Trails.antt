@@ -1,8 +1,6 @@
 -- The turns of a run are one trail.
-use Rattle.std.proofs.Common.{◌≡◌, ℕ, ◌+◌, List, [], ◌∷◌, ◌++◌, refl, sym, subst, inl}
-use Rattle.std.proofs.lemmas.List.{append-nil}
-use Rattle.tardis_base.specs.Plain.{Event, PlainMachine, Answers}
-use Rattle.hub.specs.Answering.{asks}
+use Rattle.std.proofs.Common.{ℕ, ◌+◌, List, [], ◌∷◌, ◌++◌, refl, inl}
+use Rattle.tardis_base.specs.Plain.{PlainMachine, Answers}
 use Rattle.hub.specs.Turns.{Turn, Rested, Opened, Missed, TurnedAway, Received, Sent, Ended, KeptUp}
 use Rattle.hub.specs.Runs.{close, Ran, Leads}
 use Rattle.hub.specs.Laws.{trail, requests_of}

@@ -1,5 +1,5 @@
 -- A run goes on by one turn.
-use Rattle.std.proofs.Common.{◌≡◌, ℕ, ◌+◌, ◌<◌, ◌≤◌, ◌==◌, false, List, true, [], ◌∷◌, ◌++◌, length, take, drop, Option, Some, None, IsSome, ◌⊎◌, inl, inr, refl, sym, ap, ◌∙◌, subst, arith, append_assoc}
+use Rattle.std.proofs.Common.{◌≡◌, ℕ, ◌+◌, ◌<◌, ◌≤◌, false, List, true, [], ◌∷◌, ◌++◌, length, take, drop, Option, Some, None, IsSome, ◌⊎◌, inl, inr, refl, sym, ◌∙◌, subst, arith}
 use Rattle.std.proofs.lemmas.List.{append-nil, take-append-drop}
 use Rattle.std.proofs.lemmas.Bool.{cases_eq}
 use Rattle.tardis_base.specs.Plain.{PlainMachine}
@@ -12,10 +12,10 @@ use Rattle.hub.specs.declared.ports.Seen.TheVariants.{Accepted, Declined, ReadFr
 use Rattle.hub.specs.Answering.{Serves}
 use Rattle.hub.specs.Lines.{LineState, line_at, OthersStay, IsStopped}
 use Rattle.hub.specs.Telling.{Tells}
-use Rattle.hub.specs.Talks.{Talk, no_talk, waits, held}
-use Rattle.hub.specs.Turns.{Turn, Rested, Opened, Missed, TurnedAway, Received, Sent, Ended, talk, more_of, MayRest, IsShut, HasNothing, IsRight, WaitFew, WaitSoMany}
+use Rattle.hub.specs.Talks.{Talk, no_talk, waits}
+use Rattle.hub.specs.Turns.{Turn, Rested, Opened, Missed, TurnedAway, Received, Sent, Ended, talk, more_of, MayRest, IsShut, HasNothing, WaitFew, WaitSoMany}
 use Rattle.hub.specs.Runs.{close}
-use Rattle.hub.specs.Keeping.{IsLineOf, Fits, Keeps, Went, GoesOn}
+use Rattle.hub.specs.Keeping.{Fits, Keeps, Went, GoesOn}
 use Rattle.hub.proofs.Holding.{waits_is, held_is, each_talk, none_of, fresh_line, line_more, fits_there}
 
 -- nothing more was told

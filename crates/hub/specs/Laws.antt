@@ -1,8 +1,8 @@
 -- Laws of runs.
-use Rattle.std.specs.Prelude.{◌≡◌, ℕ, ◌+◌, List, [], ◌∷◌, ◌++◌}
+use Rattle.std.specs.Prelude.{ℕ, ◌+◌, List, [], ◌∷◌, ◌++◌}
 use Rattle.tardis_base.specs.Plain.{Event, PlainMachine, Answers}
 use Rattle.hub.specs.Answering.{asks}
-use Rattle.hub.specs.Turns.{Turn, Rested, Opened, Missed, TurnedAway, Received, Sent, Ended, KeptUp}
+use Rattle.hub.specs.Turns.{Turn, Received, Sent, Ended, KeptUp}
 use Rattle.hub.specs.Runs.{close, Ran}
 
 abbrev pub requests_of : Turn → List Event

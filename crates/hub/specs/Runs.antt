@@ -1,6 +1,6 @@
 -- Whole runs of a hub: one trail of all requests, and what each connection that ever was has of it.
-use Rattle.std.specs.Prelude.{◌≡◌, ℕ, ◌+◌, List, [], ◌∷◌, ◌++◌, length, Option, Some, None, IfSome}
-use Rattle.tardis_base.specs.Plain.{Event, PlainMachine, Answers}
+use Rattle.std.specs.Prelude.{◌≡◌, ℕ, ◌+◌, List, [], ◌∷◌, ◌++◌, length, Option, None, IfSome}
+use Rattle.tardis_base.specs.Plain.{PlainMachine, Answers}
 use Rattle.hub.specs.declared.ports.Ready.TheVariants.{Stop}
 use Rattle.hub.specs.declared.ports.Seen.{Seen}
 use Rattle.hub.specs.declared.ports.Seen.TheVariants.{Offered}

@@ -1,5 +1,5 @@
 -- The turns of a hub: what the edge offered, and what was done of it.
-use Rattle.std.specs.Prelude.{◌≡◌, ℕ, ◌+◌, ◌<◌, ◌≤◌, ◌==◌, Bool, true, false, List, [], ◌∷◌, ◌++◌, length, Option, Some, None, IsSome, ◌⊎◌}
+use Rattle.std.specs.Prelude.{◌≡◌, ℕ, ◌<◌, ◌≤◌, ◌==◌, Bool, true, false, List, [], ◌∷◌, ◌++◌, length, Option, Some, None, IsSome, ◌⊎◌}
 use Rattle.frame_cut.specs.Frames.{IsLong}
 use Rattle.hub.specs.declared.ports.Ready.{Ready}
 use Rattle.hub.specs.declared.ports.Ready.TheVariants.{Accept, Read, Write, Close, Stop}

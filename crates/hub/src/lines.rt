@@ -75,7 +75,14 @@ impl Line {
         ensures opening { M.opening machine.new ≡ M.opening machine.old }
     {
         let _ = self.cutter.feed(piece);
-        self.long = answer_held(machine, actor, &mut self.cutter, &mut self.waiting, reply, tally);
+        self.long = answer_held(
+            machine,
+            actor,
+            &mut self.cutter,
+            &mut self.waiting,
+            reply,
+            tally,
+        );
     }
 
     /// Forgets bytes that were written to the connection, and answers requests that were held.
@@ -97,7 +104,14 @@ impl Line {
         if self.long {
             return;
         }
-        self.long = answer_held(machine, actor, &mut self.cutter, &mut self.waiting, reply, tally);
+        self.long = answer_held(
+            machine,
+            actor,
+            &mut self.cutter,
+            &mut self.waiting,
+            reply,
+            tally,
+        );
     }
 
     /// The bytes that wait to be written.

@@ -68,7 +68,7 @@ pub fn serve<M: Machine, P: Ports>(
 }
 
 /// Makes turns until the edge says stop, and upkeep between them.
-#[tactic(auto, using(crate::proofs::Leading::led_start, crate::proofs::Leading::led_more, crate::proofs::Leading::led_kept, crate::proofs::Leading::run_stopped, crate::proofs::Leading::run_spent))]
+#[tactic(auto, using(crate::proofs::Leading::led_more, crate::proofs::Leading::led_kept))]
 fn serve_lines<M: Machine, P: Ports>(
     alloc: Global,
     machine: &mut M,

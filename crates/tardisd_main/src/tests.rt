@@ -20,7 +20,9 @@ fn words_are_a_plan_or_refused(rt: HostRuntime) -> Result<(), Fail> {
     let words = words_of(alloc, "--site 2 --tidy --listen unix:s --sites 3")?;
     match plan_of(words.as_slice()) {
         Ok(plan) => {
-            assert!(rt; plan.listen == "unix:s" && plan.place == Place { sites: 3, site: 2 } && plan.tidy);
+            assert!(rt;
+                plan.listen == "unix:s" && plan.place == Place { sites: 3, site: 2 } && plan.tidy
+            );
         }
         Err(_) => return Err(Fail::new("a plan")),
     }

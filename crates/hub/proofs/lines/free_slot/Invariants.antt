@@ -1,4 +1,4 @@
-use Rattle.std.proofs.Common.{◌≡◌, ℕ, ◌<◌, IsSome}
+use Rattle.std.proofs.Common.{ℕ, ◌<◌, IsSome}
 use Rattle.hub.specs.Lines.{line_at}
 use Rattle.hub.proofs.lines.free_slot.Given as goal
 

@@ -1,4 +1,4 @@
-use Rattle.std.proofs.Common.{◌≡◌, ◌+◌, ◌<◌, length, refl, arith}
+use Rattle.std.proofs.Common.{refl, arith}
 use Rattle.hub.specs.declared.ports.Ready.TheVariants.{Accept}
 use Rattle.hub.proofs.Turning.{opened, missed, turned_away, rested, full_rests}
 use Rattle.hub.proofs.turns.enter.Goals as goal

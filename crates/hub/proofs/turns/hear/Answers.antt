@@ -1,4 +1,4 @@
-use Rattle.std.proofs.Common.{◌≡◌, ◌∙◌, length, take, sym, refl}
+use Rattle.std.proofs.Common.{◌∙◌, length, take, sym, refl}
 use Rattle.hub.specs.declared.ports.Ready.TheVariants.{Read}
 use Rattle.hub.proofs.Turning.{received, rested, shut_rests, no_read, all_stay}
 use Rattle.hub.proofs.turns.hear.Goals as goal

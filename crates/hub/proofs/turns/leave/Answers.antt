@@ -1,4 +1,4 @@
-use Rattle.std.proofs.Common.{◌≡◌, ◌∙◌, sym, refl}
+use Rattle.std.proofs.Common.{◌∙◌, sym, refl}
 use Rattle.hub.specs.declared.ports.Ready.TheVariants.{Close}
 use Rattle.hub.proofs.Turning.{ended, rested, no_close, all_stay}
 use Rattle.hub.proofs.turns.leave.Goals as goal

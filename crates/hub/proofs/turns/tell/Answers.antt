@@ -1,4 +1,4 @@
-use Rattle.std.proofs.Common.{◌≡◌, ◌∙◌, [], ◌∷◌, length, take, sym, refl, subst}
+use Rattle.std.proofs.Common.{◌∙◌, [], ◌∷◌, length, take, sym, refl, subst}
 use Rattle.hub.specs.Telling.{Tells}
 use Rattle.hub.specs.declared.ports.Ready.TheVariants.{Write}
 use Rattle.hub.specs.declared.ports.Seen.TheVariants.{WroteTo}

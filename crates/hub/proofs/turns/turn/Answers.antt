@@ -1,4 +1,3 @@
-use Rattle.std.proofs.Common.{refl}
 use Rattle.hub.specs.declared.ports.Ready.TheVariants.{Accept, Read, Write, Close}
 use Rattle.hub.proofs.Leading.{turned}
 use Rattle.hub.proofs.turns.turn.Goals as goal

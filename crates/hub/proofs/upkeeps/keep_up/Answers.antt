@@ -1,4 +1,4 @@
-use Rattle.std.proofs.Common.{◌≡◌, ◌∙◌, ℕ, ◌+◌, List, [], ◌∷◌, ◌++◌, map, take, get_or, refl, subst, sym}
+use Rattle.std.proofs.Common.{◌∙◌, [], ◌∷◌, map, take, get_or, refl, subst, sym}
 use Rattle.hub.specs.Answering.{Asked}
 use Rattle.hub.proofs.Serving.{asked_none, asked_more, one_more, all_of}
 use Rattle.hub.proofs.upkeeps.keep_up.Goals as goal

@@ -1,4 +1,4 @@
-use Rattle.std.proofs.Common.{◌≡◌, List, ℕ, map, take}
+use Rattle.std.proofs.Common.{◌≡◌, map, take}
 use Rattle.hub.specs.Answering.{Asked}
 use Rattle.hub.proofs.upkeeps.keep_up.Given as goal
 
