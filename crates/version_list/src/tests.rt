@@ -7,6 +7,7 @@ ghost use Rattle.version_list.specs.Versions.{IsInOrder, IsBefore, is_noted};
 
 use crate::*;
 use std::alloc::Global;
+use std::hash::RandomState;
 use std::test::Fail;
 use tardis_base::{Above, Found, Key, Slot, StateId, Value, Write, WriteSet};
 
@@ -67,7 +68,7 @@ fn branches_read_their_own(rt: HostRuntime) -> Result<(), Fail> {
     let alloc = rt.alloc();
     let key = Key::new(alloc, b"x")?;
     let value = Value::new(alloc, b"1")?;
-    let mut list = VersionList::new(alloc);
+    let mut list = VersionList::new(alloc, RandomState::new(&rt)?);
     wrote(alloc, &mut list, 0, &key, Write::Delete)?;
     wrote(alloc, &mut list, 1, &key, Write::Put(value.copy()?))?;
     wrote(alloc, &mut list, 2, &key, Write::Delete)?;
