@@ -174,6 +174,7 @@ impl VersionList {
         requires before { A.arrival_of dag.now from < A.arrival_of dag.now to }
         requires noted { IsTrue (is_noted self.old to) }
         ensures promoted { (k : List ℕ) → versions_of self.new k ≡ promoted (A.arrival_of dag.now) from to (versions_of self.old k) }
+        ensures left { (k : List ℕ) → has_version_at from (versions_of self.new k) ≡ false }
         ensures keys { listed_keys self.new ≡ listed_keys self.old }
         ensures order { IsInOrder (A.is_kept dag.now) (A.arrival_of dag.now) self.new }
         ensures noted { (s : Slot) → is_noted self.new s ≡ is_noted self.old s }
