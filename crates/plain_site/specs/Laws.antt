@@ -1,5 +1,5 @@
 -- What follows from the plain step, as statements. The functions of this crate have them as contracts.
-use Rattle.std.specs.Prelude.{ℕ, ◌≤◌, ◌≡◌, ◌≢◌, Bool, false, List, length, Some, IsTrue}
+use Rattle.std.specs.Prelude.{ℕ, ◌≤◌, ◌≡◌, ◌≢◌, Bool, true, false, List, length, Some, IsTrue, IsFalse}
 use Rattle.std.specs.List.{list_all}
 use Rattle.std.specs.Option.{option_map_or}
 use Rattle.tardis_base.specs.Sizes.{longest_frame}
@@ -9,7 +9,9 @@ use Rattle.tardis_base.specs.declared.records.Record.{Record}
 use Rattle.tardis_base.specs.declared.records.Item.TheVariants.{State}
 use Rattle.tardis_base.specs.declared.requests.Request.{Request}
 use Rattle.tardis_base.specs.declared.requests.Request.TheVariants.{Deliver}
-use Rattle.tardis_base.specs.declared.replies.Reply.TheVariants.{Early, NoMemory}
+use Rattle.tardis_base.specs.declared.replies.Refusal.{Refusal}
+use Rattle.tardis_base.specs.declared.replies.Refusal.TheVariants.{TrailFull, Unsupported, NoSuchItem, BagFull}
+use Rattle.tardis_base.specs.declared.replies.Reply.TheVariants.{Early, NoMemory, Refused}
 use Rattle.tardis_base.specs.Plain.{Event, no_memory, state_after}
 use Rattle.tardis_base.specs.Valid.{is_u16, is_within, are_limits}
 use Rattle.wire_talk.specs.Valid.{is_request, is_reply}
@@ -74,6 +76,20 @@ EarlyBytesWait = (site : Site) (event : Event) (r : Record) (have : ℕ) →
 pub record NeverWantsMemory : Type 0 where
   pub reply : (site : Site) (n : ℕ) (q : Request) → (step site n q).1 ≢ NoMemory
   pub spelled : (site : Site) (event : Event) → reply_spelling (step_over_bytes site event).1 ≢ no_memory
+
+-- the refusal is that of a program around a site: its trail is full, it doesn't carry the operation out, or its bag of
+-- batches hasn't what is asked for or is full
+abbrev pub is_of_programs : Refusal → Bool
+is_of_programs (TrailFull bytes) = true
+is_of_programs (Unsupported op) = true
+is_of_programs (NoSuchItem batches) = true
+is_of_programs (BagFull batches) = true
+is_of_programs refusal = false
+
+-- no request is refused so, and no bytes are: a site carries all operations out
+pub record RefusesAsASite : Type 0 where
+  pub requests : (site : Site) (n : ℕ) (q : Request) (refusal : Refusal) → (step site n q).1 ≡ Refused refusal → IsFalse (is_of_programs refusal)
+  pub bytes : (site : Site) (event : Event) (refusal : Refusal) → (step_over_bytes site event).1 ≡ Refused refusal → IsFalse (is_of_programs refusal)
 
 -- each reply of a sound site is one that can be spelled, and fits a frame
 pub record RepliesFit : Type 0 where

@@ -1,7 +1,7 @@
 //! What is true of every reply.
 
 ghost use Rattle.plain_site.specs.Laws.{RefusalsLeaveSite, RefusedBytesLeaveSite, EarlyRecordsWait, EarlyBytesWait, NeverWantsMemory};
-ghost use Rattle.plain_site.specs.Laws.{RepliesFit, RepliesToBytesFit};
+ghost use Rattle.plain_site.specs.Laws.{RefusesAsASite, RepliesFit, RepliesToBytesFit};
 
 use wire_talk::talk_has_one_spelling;
 
@@ -23,6 +23,12 @@ pub fn early_records_wait()
 /// program, and a reader of its replies takes that for nothing else.
 pub fn memory_is_never_wanted()
     ensures { NeverWantsMemory }
+{}
+
+/// The plain site carries all operations out, and knows of no trail and no bag of batches: it refuses nothing as
+/// `Unsupported`, `TrailFull`, `NoSuchItem` or `BagFull`. Whoever is told so, is told by a program around a site.
+pub fn refusals_are_of_a_site()
+    ensures { RefusesAsASite }
 {}
 
 /// Each reply of a sound site is one that can be spelled: its ids are ids, its numbers fit their bits, and its lists have the
