@@ -58,18 +58,18 @@ get-keeps-sound k site n small valid sound =
 put-keeps-sound : (k v : List ℕ) → KeepsSound (Put k v)
 put-keeps-sound k v site n small valid sound =
     let parts = and_parts (is_key k) (is_value v) valid in
-    txn-keeps IsSound site sound n (λ s t. set_key site n t k (Value v)
-    (λ s e t f. set-keeps site n t k (Value v) f parts.0 parts.1 sound))
+    txn-keeps IsSound site sound n (λ s t. set_key site n t k (Value v))
+    (λ s e t f. set-keeps site n t k (Value v) f parts.0 parts.1 sound)
 
 delete-keeps-sound : (k : List ℕ) → KeepsSound (Delete k)
 delete-keeps-sound k site n small valid sound =
-    txn-keeps IsSound site sound n (λ s t. set_key site n t k Deletion
-    (λ s e t f. set-keeps site n t k Deletion f valid refl sound))
+    txn-keeps IsSound site sound n (λ s t. set_key site n t k Deletion)
+    (λ s e t f. set-keeps site n t k Deletion f valid refl sound)
 
 commit-keeps-sound : (flags : EndFlags) (k : ℕ) → KeepsSound (Commit flags k)
 commit-keeps-sound flags k site n small valid sound =
-    txn-keeps IsSound site sound n (λ s t. commit site n t flags k
-    (λ s e t f. commit-keeps site n t flags k f sound))
+    txn-keeps IsSound site sound n (λ s t. commit site n t flags k)
+    (λ s e t f. commit-keeps site n t flags k f sound)
 
 -- ===== Requests that only show
 
@@ -103,16 +103,16 @@ stat-keeps-sound site n small valid sound = sound
 
 show-keeps-sound : (x : StateId) → KeepsSound (Show x)
 show-keeps-sound x site n small valid sound =
-    unless-keeps IsSound site sound (refuse (not (is_known site.dag x)) (Unknown x) ∷ refuse (is_among x site.collected) (Collected x) ∷ []
-    (site, Shown (arrival site.dag x) (children site.dag x) (fork_path site.dag site.collected x)) (λ none. sound))
+    unless-keeps IsSound site sound (refuse (not (is_known site.dag x)) (Unknown x) ∷ refuse (is_among x site.collected) (Collected x) ∷ [])
+    (site, Shown (arrival site.dag x) (children site.dag x) (fork_path site.dag site.collected x)) (λ none. sound)
 
 leaves-keep-sound : KeepsSound Leaves
 leaves-keep-sound site n small valid sound = sound
 
 pull-keeps-sound : (counts : List ℕ) → KeepsSound (Pull counts)
 pull-keeps-sound counts site n small valid sound =
-    unless-keeps IsSound site sound (refuse (not (length counts == site.limits.sites)) (BadSite (length counts)) ∷ []
-    (site, BatchIs (batch_for site counts)) (λ none. sound))
+    unless-keeps IsSound site sound (refuse (not (length counts == site.limits.sites)) (BadSite (length counts)) ∷ [])
+    (site, BatchIs (batch_for site counts)) (λ none. sound)
 
 -- ===== Merges, ceilings, floors, collection, exchange
 

@@ -39,7 +39,7 @@ malformed_lines =
     ∷ 1 sends hex "02 04" => hex "15 01"
     ∷ 1 sends hex "02 01 00" => hex "15 01"
     ∷ 1 sends hex "06 01 0001" => hex "15 01"
-    ∷ 1 sends hex "0f ff ff" => hex "15 01"
+    ∷ 1 sends hex "0f ff" => hex "15 01"
     ∷ 1 sends [] => hex "15 01"
     ∷ []
 
