@@ -21,7 +21,7 @@ use Rattle.plain_dag.specs.Entries.{entry_of}
 use Rattle.plain_site.specs.Site.{Site, SingleTxn, Txn, Single, Merge, own_count, next_record}
 use Rattle.plain_site.specs.Answers.{Answer, says_early, refuse, refuse_found, unless}
 use Rattle.plain_site.specs.Commits.{with_record, without_txn_of, growth_refusals, committed, commit_below, commit_writes, commit_single, commit}
-use Rattle.plain_site.specs.Exchange.{judgements, take_record, with_held, first_fit_record, with_settled, settle_record, settle}
+use Rattle.plain_site.specs.Exchange.{judgements, take_record, with_held, first_fit_record, with_settled, settle_record}
 use Rattle.plain_site.specs.Step.{step}
 use Rattle.plain_site.specs.RowWords.{◌asks◌=>◌}
 use Rattle.plain_site.specs.ClientRuns.{history, site_after, told}
@@ -30,7 +30,7 @@ use Rattle.plain_site.proofs.RepliesFrame.{given-good, by-txn}
 use Rattle.client_laws.proofs.Dags.{value-over-one}
 use Rattle.client_laws.proofs.Records.{record-of-newest, record-stays}
 use Rattle.client_laws.proofs.Tellings.{shows-alike}
-use Rattle.client_laws.proofs.Effects.{AreNoTaking, refuse-no-taking, found-no-taking, both-no-taking, OnlyRefuse, refuse-only, found-only, both-only, unless-refused}
+use Rattle.client_laws.proofs.Effects.{AreNoTaking, found-no-taking, both-no-taking, OnlyRefuse, refuse-only, found-only, both-only, unless-refused}
 use Rattle.client_laws.proofs.EffectsOfSites.{judged-no-taking}
 use Rattle.client_laws.proofs.Held.{dag-is-told, run-holds, run-before}
 use Rattle.client_laws.proofs.Laws.{was-answered, tells-seen}

@@ -22,7 +22,7 @@ use Rattle.plain_site.specs.RowWords.{Line, ◌asks◌=>◌}
 use Rattle.plain_site.specs.ClientRuns.{wants_memory, is_shown, site_after, IsAnswered, told}
 use Rattle.plain_site.specs.ClientLaws.{OwnWritesAreRead, MergesShowEachSide}
 use Rattle.plain_site.proofs.RepliesFrame.{given-good, by-txn}
-use Rattle.client_laws.proofs.Effects.{refuse-only, unless-refused}
+use Rattle.client_laws.proofs.Effects.{refuse-only}
 use Rattle.client_laws.proofs.Held.{run-holds, run-before}
 use Rattle.client_laws.proofs.Laws.{tells-open, tells-seen}
 

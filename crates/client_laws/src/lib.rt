@@ -1,6 +1,6 @@
 //! What a client can rely on, as laws over whole runs: from an opening site on, whatever any actors ask, other sites' records
-//! and promises included, and under any limits. The program calls none of it: each function
-//! here is empty, and its contracts are laws, and beside each a wrong step that breaks it in a run of a few lines.
+//! and promises included, and under any limits. The program calls none of it: each function here is empty, and its contracts
+//! are laws, and beside each a wrong step that breaks it in a run of a few lines.
 //! `docs/MODEL.md` says each law in plain words.
 #![tactic(auto)]
 

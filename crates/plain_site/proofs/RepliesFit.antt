@@ -1,15 +1,12 @@
 -- Each reply of a sound site is one that can be spelled, and fits a frame.
-use Rattle.std.proofs.Common.{ℕ, not, [], ◌∷◌, IsTrue, refl}
-use Rattle.std.proofs.lemmas.Bool.{true_from_ne_false, not_from_false, both_ways}
+use Rattle.std.proofs.Common.{ℕ, IsTrue, refl}
 use Rattle.tardis_base.specs.declared.records.Write.TheVariants.{Put as Value, Delete as Deletion}
 use Rattle.tardis_base.specs.declared.requests.Request.{Request}
 use Rattle.tardis_base.specs.declared.requests.Request.TheVariants.{Open, Begin as BeginAt, Get, Put, Delete, Commit, Abort, BeginMerge, ForkPoints, Conflicts, GetFor, Ceiling, Raise, RaiseAuto, Tidy, Stat, Show, Leaves, Pull, Deliver, Settle, Close}
-use Rattle.tardis_base.specs.declared.replies.Reply.TheVariants.{Done, Refused}
+use Rattle.tardis_base.specs.declared.replies.Reply.TheVariants.{Done}
 use Rattle.tardis_base.specs.Valid.{is_id, is_key}
-use Rattle.wire_item.specs.Valid.{is_u8}
 use Rattle.wire_talk.specs.Valid.{is_request}
 use Rattle.plain_site.specs.Site.{Site}
-use Rattle.plain_site.specs.Answers.{refuse}
 use Rattle.plain_site.specs.Sessions.{begin, set_ceiling, close_session}
 use Rattle.plain_site.specs.Reads.{get, set_key, get_for}
 use Rattle.plain_site.specs.Commits.{without_txn_of, abort, commit}
@@ -18,8 +15,8 @@ use Rattle.plain_site.specs.Sound.{IsSound}
 use Rattle.plain_site.specs.Step.{step}
 use Rattle.plain_site.specs.Laws.{RepliesFit}
 use Rattle.plain_site.proofs.RepliesLists.{second}
-use Rattle.plain_site.proofs.RepliesLengths.{Fits, refusal-fits, refuses-fit, reply-fits}
-use Rattle.plain_site.proofs.RepliesFrame.{Replies, none-when, good-none, good-when, good-reply, unless-good, by-session, by-txn, by-no-txn}
+use Rattle.plain_site.proofs.RepliesLengths.{Fits, refuses-fit, reply-fits}
+use Rattle.plain_site.proofs.RepliesFrame.{Replies, good-reply, by-session, by-txn, by-no-txn}
 use Rattle.plain_site.proofs.RepliesSound.{IsRanged, sound-ranged}
 use Rattle.plain_site.proofs.RepliesOfSessions.{open-fits, begin-fits, ceiling-fits, close-fits}
 use Rattle.plain_site.proofs.RepliesOfReads.{txn-at, get-fits, set-fits, get-for-fits}

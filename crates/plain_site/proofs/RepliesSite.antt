@@ -1,5 +1,5 @@
 -- A refusal, Known and a consent's Early leave the site as it was; a record's Early changes the waiting room alone.
-use Rattle.std.proofs.Common.{◌≡◌, ℕ, Bool, true, false, ◌&&◌, not, List, [], ◌∷◌, ◌++◌, Option, Some, None, IsTrue, refl, sym, ap, subst, ◌∙◌}
+use Rattle.std.proofs.Common.{◌≡◌, ℕ, Bool, true, false, List, [], ◌∷◌, ◌++◌, Option, Some, None, IsTrue, refl, sym, ap, subst, ◌∙◌}
 use Rattle.std.specs.Option.{option_map_or}
 use Rattle.std.proofs.lemmas.Bool.{both_ways, cond_both, cond-true}
 use Rattle.tardis_base.specs.declared.ids.StateId.{StateId}
@@ -11,16 +11,14 @@ use Rattle.tardis_base.specs.declared.records.Item.TheVariants.{State, Promise}
 use Rattle.tardis_base.specs.declared.requests.Request.{Request}
 use Rattle.tardis_base.specs.declared.requests.Request.TheVariants.{Open, Begin, Get, Put, Delete, Commit, Abort, BeginMerge, ForkPoints, Conflicts, GetFor, Ceiling, Raise, RaiseAuto, Tidy, Stat, Show, Leaves, Pull, Deliver, Settle, Close}
 use Rattle.tardis_base.specs.declared.requests.EndFlags.{EndFlags}
-use Rattle.tardis_base.specs.declared.replies.Refusal.{Refusal}
 use Rattle.tardis_base.specs.declared.replies.Refusal.TheVariants.{Malformed, NotOpen, NoTxn, TxnOpen, WrongMode}
 use Rattle.tardis_base.specs.declared.replies.Reply.TheVariants.{Opened, Begun, Merging, Value as ValueIs, Deleted, Absent, Done, Committed, Ended, States, Keys, Raised, Tidied, Stat as Statistics, Shown, Batch as BatchIs, Applied, Known, Early, Closed, Refused, NoMemory}
 use Rattle.tardis_base.specs.declared.replies.Reply.{Reply}
 use Rattle.tardis_base.specs.Ids.{root}
 use Rattle.tardis_base.specs.Keys.{KeyWrite, write_of}
-use Rattle.tardis_base.specs.Valid.{is_within}
 use Rattle.wire_talk.specs.RequestReadings.{request_of}
 use Rattle.plain_site.specs.Site.{Site, Txn, Single, Merge, writes_of}
-use Rattle.plain_site.specs.Answers.{Answer, refused, refuse, unless, given, shown, found, says_early, delivers_record, says_unchanged}
+use Rattle.plain_site.specs.Answers.{Answer, refused, unless, given, shown, found, says_early, delivers_record, says_unchanged}
 use Rattle.plain_site.specs.Sessions.{begin, set_ceiling, close_session}
 use Rattle.plain_site.specs.Reads.{get, get_for, read_in, set_key}
 use Rattle.plain_site.specs.Merges.{begin_merge, fork_points_of, conflicts_of}

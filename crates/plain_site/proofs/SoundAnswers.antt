@@ -10,7 +10,7 @@ use Rattle.plain_dag.proofs.Ids.{not-both}
 use Rattle.plain_dag.specs.Entries.{entry_of}
 use Rattle.plain_dag.specs.Floors.{Session}
 use Rattle.plain_site.specs.Site.{Site, Txn}
-use Rattle.plain_site.specs.Answers.{Answer, refused, when, refuse, refuse_found, unless, given, with_session, with_txn, without_txn}
+use Rattle.plain_site.specs.Answers.{Answer, refused, when, refuse_found, unless, given, with_session, with_txn, without_txn}
 
 -- none of these refuses
 abbrev pub AreNone : List (Option Reply) → Type 0
