@@ -9,16 +9,23 @@ use command_words::Place;
 use hub::{End, Ports, serve};
 use session_core::SiteCore;
 use std::alloc::Global;
+use std::hash::RandomState;
 use tardis_base::{Machine, NoMemory};
 
 /// Serves the connections of an edge as the site at this place, which opens with the root alone: each connection is an
-/// actor, and its requests are answered as `hub::serve` says. Without memory for the site or the buffers nothing is done.
-pub fn serve_place<P: Ports>(alloc: Global, place: Place, ports: &mut P) -> Result<End, NoMemory>
+/// actor, and its requests are answered as `hub::serve` says. Keys are found by hashing with this seed. Without memory for
+/// the site or the buffers nothing is done.
+pub fn serve_place<P: Ports>(
+    alloc: Global,
+    keys: RandomState,
+    place: Place,
+    ports: &mut P,
+) -> Result<End, NoMemory>
     requires place { IsPlace place }
     ensures served { IfOk result (λ end. ServesPlace place end (P.seen ports.old) (P.seen ports.new)) }
     ensures nothing { OnErr result (ports.new ≡ ports.old) }
 {
-    match SiteCore::new(alloc, place.limits(), place.site) {
+    match SiteCore::new(alloc, keys, place.limits(), place.site) {
         Ok(site) => serve_machine(alloc, site, ports),
         Err(NoMemory) => Err(NoMemory),
     }
