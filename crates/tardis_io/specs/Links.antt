@@ -1,5 +1,5 @@
 -- Links, and what hands them out: what a gate and a dial may tell.
-use Rattle.std.specs.Prelude.{◌≡◌, ℕ, ◌+◌, ◌-◌, ◌<◌, List, [], ◌∷◌, ◌++◌, Option, Some, None, Result, Ok, Err, true, false}
+use Rattle.std.specs.Prelude.{◌≡◌, ℕ, ◌+◌, ◌-◌, ◌<◌, List, [], ◌∷◌, ◌++◌, Option, Some, None, Result, Ok, Err, ◌⊎◌, true, false}
 use Rattle.tardis_io.specs.declared.faults.Failed.{Failed}
 use Rattle.tardis_io.specs.declared.links.MemoryLink.{MemoryLink}
 use Rattle.tardis_io.specs.Memory.{Plan, MemoryTakes, MemoryGives, fails_next, after_call, after_fault}
@@ -75,3 +75,23 @@ module _ {L : Type 0} where
   abbrev pub with_hung : Option (ToldDial L) → L → Option (ToldDial L)
   with_hung None link = None
   with_hung (Some t) link = Some (record { left = t.left; back = t.back ++ (link ∷ []); out = t.out - 1 })
+
+-- what contracts see of a gate in memory: what it tells, and its plan
+pub record KeptGate (L : Type 0) : Type 0 where
+  pub links : ToldGate L
+  pub plan : Plan
+
+-- what contracts see of a dial in memory
+pub record KeptDial (L : Type 0) : Type 0 where
+  pub links : ToldDial L
+  pub plan : Plan
+
+-- a call of a gate in memory fails exactly where it is listed
+abbrev pub MemoryAnswers : {A : Type 0} → Plan → Plan → Result A Failed → Type 0
+MemoryAnswers old new (Ok answer) = (fails_next old ≡ false) × (new ≡ after_call old)
+MemoryAnswers old new (Err e) = (fails_next old ≡ true) × (new ≡ after_fault old)
+
+-- a call of a dial in memory fails exactly where it is listed or no link is left
+abbrev pub MemoryCalls : {L : Type 0} → KeptDial L → KeptDial L → Result L Failed → Type 0
+MemoryCalls old new (Ok link) = (fails_next old.plan ≡ false) × (new.plan ≡ after_call old.plan)
+MemoryCalls old new (Err e) = ((fails_next old.plan ≡ true) ⊎ (old.links.left ≡ [])) × (new.plan ≡ after_fault old.plan)
