@@ -1,6 +1,6 @@
 //! Where links come from: those that others ask for, and those that are asked for.
 
-ghost use Rattle.std.specs.Prelude.{◌≡◌, ℕ, ◌≤◌, Option};
+ghost use Rattle.std.specs.Prelude.{◌≡◌, ℕ, Option};
 ghost use Rattle.tardis_io.specs.Faults.{HasCause};
 ghost use Rattle.tardis_io.specs.Links.{ToldGate, ToldDial, HandsNext, HandsCalled, IsOut, IsCalled, with_back, with_hung};
 
@@ -31,7 +31,7 @@ pub trait Gate {
     fn put_back(&mut self, session: u16, link: Self::Link)
         requires out { IsOut (told self.old) }
         requires finished { Self.Link.is_finished link }
-        ensures later { faults self.old ≤ faults self.new }
+        ensures faults { faults self.new ≡ faults self.old }
         ensures told { told self.new ≡ with_back (told self.old) session link };
 }
 
@@ -54,6 +54,6 @@ pub trait Dial {
     fn put_back(&mut self, link: Self::Link)
         requires out { IsCalled (told self.old) }
         requires finished { Self.Link.is_finished link }
-        ensures later { faults self.old ≤ faults self.new }
+        ensures faults { faults self.new ≡ faults self.old }
         ensures told { told self.new ≡ with_hung (told self.old) link };
 }

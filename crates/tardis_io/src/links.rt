@@ -2,7 +2,7 @@
 
 ghost use Rattle.std.specs.Prelude.{◌≡◌, ◌<◌, ◌≤◌, Bool, true, false, Some, length, refl, IfOk};
 ghost use Rattle.std.proofs.Common.{ap};
-ghost use Rattle.tardis_io.specs.Faults.{HasCause};
+ghost use Rattle.tardis_io.specs.Faults.{HasCause, MayRise};
 ghost use Rattle.tardis_io.specs.Links.{LinkTakes, LinkGives, kept_of, no_takes, no_parts};
 ghost use Rattle.tardis_io.specs.Moments.{with_take};
 ghost use Rattle.tardis_io.specs.Memory.{Input};
@@ -26,8 +26,8 @@ pub trait Link: Duplex + Send + Drop {
         ensures given { Self.given self.new ≡ Self.given self.old }
         ensures takes { Self.takes self.new ≡ Self.takes self.old }
         ensures parts { Self.parts self.new ≡ Self.parts self.old }
-        ensures take_faults { Self.take_faults self.old ≤ Self.take_faults self.new }
-        ensures faults { Self.faults self.old ≤ Self.faults self.new };
+        ensures take_faults { Self.take_faults self.new ≡ Self.take_faults self.old }
+        ensures faults { MayRise (Self.faults self.old) (Self.faults self.new) };
 }
 
 /// A link over bytes in memory. It tells what is left and what was given.
@@ -129,8 +129,8 @@ impl Link for MemoryLink {
         ensures given { Some self.new.sink.given ≡ Some self.old.sink.given }
         ensures takes { no_takes ≡ no_takes }
         ensures parts { no_parts ≡ no_parts }
-        ensures take_faults { self.old.source.plan.faults ≤ self.new.source.plan.faults }
-        ensures faults { self.old.sink.plan.faults ≤ self.new.sink.plan.faults }
+        ensures take_faults { self.new.source.plan.faults ≡ self.old.source.plan.faults }
+        ensures faults { MayRise self.old.sink.plan.faults self.new.sink.plan.faults }
         ensures same { (self.new.source ≡ self.old.source) × (self.new.sink ≡ self.old.sink) }
     {
         self.finished = true;

@@ -139,7 +139,7 @@ impl<L: Link> Gate for MemoryGate<L> {
     fn put_back(&mut self, session: u16, link: L)
         requires out { IsOut (Some self.old.links) }
         requires finished { L.is_finished link }
-        ensures later { self.old.plan.faults ≤ self.new.plan.faults }
+        ensures faults { self.new.plan.faults ≡ self.old.plan.faults }
         ensures told { Some self.new.links ≡ with_back (Some self.old.links) session link }
         ensures same { self.new.plan ≡ self.old.plan }
     {
@@ -173,7 +173,7 @@ impl<L: Link> Dial for MemoryDial<L> {
     fn put_back(&mut self, link: L)
         requires out { IsCalled (Some self.old.links) }
         requires finished { L.is_finished link }
-        ensures later { self.old.plan.faults ≤ self.new.plan.faults }
+        ensures faults { self.new.plan.faults ≡ self.old.plan.faults }
         ensures told { Some self.new.links ≡ with_hung (Some self.old.links) link }
         ensures same { self.new.plan ≡ self.old.plan }
     {
