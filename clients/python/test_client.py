@@ -208,6 +208,9 @@ class Serve(OverSockets, unittest.TestCase):
     def setUpClass(cls):
         if not os.access(TARDIS, os.X_OK):
             raise unittest.SkipTest("tardis isn't built")
+        told = subprocess.run([TARDIS, "--help"], stdin=subprocess.DEVNULL, stdout=subprocess.PIPE, timeout=PATIENCE)
+        if b"tardis serve" not in told.stdout:
+            raise unittest.SkipTest("tardis has no command serve")
 
     def words(self, address):
         return [TARDIS, "serve", "--listen", address, "--links", "8"]
