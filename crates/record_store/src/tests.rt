@@ -87,11 +87,6 @@ fn writes(rt: &impl Abort, alloc: Global, bytes: &[u8]) -> WriteSet {
     writes
 }
 
-/// A seed for the hashing of keys.
-fn seed(rt: &HostRuntime) -> RandomState {
-    RandomState::new(rt).expect(rt, "random bytes")
-}
-
 /// 1.1 below the root writes `x`; below it, 1.2 overwrites that, and 1.3 deletes it and writes `y`.
 fn forked(rt: &impl Abort, alloc: Global, keys: RandomState) -> RecordStore
     ensures { 1 ≤ result.table.limits.sites }
@@ -181,7 +176,8 @@ fn news(
 #[test]
 fn branches_read_their_own(rt: HostRuntime) {
     let alloc = rt.alloc();
-    let store = forked(&rt, alloc, seed(&rt));
+    let keys = RandomState::new(&rt).expect(&rt, "random bytes");
+    let store = forked(&rt, alloc, keys);
     reads(&rt, alloc, &store, 0, b"x", None, None);
     reads(&rt, alloc, &store, 1, b"x", Some(1), Some(b"1"));
     reads(&rt, alloc, &store, 2, b"x", Some(2), Some(b"2"));
@@ -196,7 +192,8 @@ fn branches_read_their_own(rt: HostRuntime) {
 #[test]
 fn a_merge_comes_back_and_a_full_store_keeps_its_reads(rt: HostRuntime) {
     let alloc = rt.alloc();
-    let mut store = forked(&rt, alloc, seed(&rt));
+    let keys = RandomState::new(&rt).expect(&rt, "random bytes");
+    let mut store = forked(&rt, alloc, keys);
     merged(&rt, alloc, &mut store);
     full(&rt, alloc, &mut store);
     reads(&rt, alloc, &store, 4, b"x", Some(4), Some(b"4"));

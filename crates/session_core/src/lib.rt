@@ -92,12 +92,7 @@ impl Model for Parts {
 
 impl Parts {
     /// Those of a site that opens: the root alone, no session, and nothing that waits.
-    fn new(
-        alloc: Global,
-        keys: RandomState,
-        limits: &Limits,
-        own: u16,
-    ) -> Result<Parts, NoMemory>
+    fn new(alloc: Global, keys: RandomState, limits: &Limits, own: u16) -> Result<Parts, NoMemory>
         requires limits { IsTrue (are_limits limits.now) }
         requires first { 1 ≤ own }
         requires last { own ≤ limits.now.sites }

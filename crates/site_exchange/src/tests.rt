@@ -78,9 +78,7 @@ fn add(rt: &impl Abort, alloc: Global, store: &mut RecordStore, rec: &Record)
 }
 
 /// How many records a batch for these counts has, after two records of 262,144 bytes and a last one.
-fn given(rt: &HostRuntime, last: usize, counts: &[u32]) -> usize {
-    let alloc = rt.alloc();
-    let keys = RandomState::new(rt).expect(rt, "random bytes");
+fn given(rt: &impl Abort, alloc: Global, keys: RandomState, last: usize, counts: &[u32]) -> usize {
     let mut store = RecordStore::new(alloc, keys, &LIMITS).expect(rt, "room");
     add(rt, alloc, &mut store, &wide_record(rt, alloc, 1, 3762));
     add(rt, alloc, &mut store, &wide_record(rt, alloc, 2, 3762));
@@ -92,9 +90,11 @@ fn given(rt: &HostRuntime, last: usize, counts: &[u32]) -> usize {
 
 #[test]
 fn a_batch_ends_in_front_of_the_byte_that_is_too_many(rt: HostRuntime) -> Result<(), Fail> {
-    assert!(rt; given(&rt, 3762, &[0, 0]) == 3);
-    assert!(rt; given(&rt, 3763, &[0, 0]) == 2);
-    assert!(rt; given(&rt, 3763, &[0, 1]) == 2);
+    let alloc = rt.alloc();
+    let keys = RandomState::new(&rt)?;
+    assert!(rt; given(&rt, alloc, keys, 3762, &[0, 0]) == 3);
+    assert!(rt; given(&rt, alloc, keys, 3763, &[0, 0]) == 2);
+    assert!(rt; given(&rt, alloc, keys, 3763, &[0, 1]) == 2);
     Ok(())
 }
 

@@ -82,7 +82,9 @@ pub fn tardis<I: Source, O: Sink>(
 {
     match read_words(alloc, words) {
         Ok(Command::Run(place)) => run(alloc, keys, place.limits(), place.site, input, output),
-        Ok(Command::Shell(place)) => { shell(alloc, keys, place.limits(), place.site, input, output) }
+        Ok(Command::Shell(place)) => {
+            shell(alloc, keys, place.limits(), place.site, input, output)
+        }
         Ok(Command::Audit(place)) => {
             audit_frames(alloc, keys, place.limits(), place.site, input, output)
         }

@@ -35,7 +35,14 @@ pub(crate) fn answers(rt: &HostRuntime, limits: Limits, own: u16, talk: &Talk) -
     let mut source = MemorySource::new(alloc, input.as_slice(), 65_536, &[])?;
     let room = u32::try_from(output.len()).unwrap_or(u32::MAX);
     let mut sink = MemorySink::new(alloc, room, 65_536, &[])?;
-    let ended = run(alloc, RandomState::new(rt)?, limits, own, &mut source, &mut sink);
+    let ended = run(
+        alloc,
+        RandomState::new(rt)?,
+        limits,
+        own,
+        &mut source,
+        &mut sink,
+    );
     Ok(ended == Status::Ok && sink.bytes() == output.as_slice())
 }
 

@@ -20,7 +20,13 @@ fn ends_as(
     }
     let mut source = MemorySource::new(alloc, input, 4_096, &[])?;
     let mut sink = MemorySink::new(alloc, 4_096, 65_536, &[])?;
-    let ended = tardis(alloc, RandomState::new(rt)?, texts.as_slice(), &mut source, &mut sink);
+    let ended = tardis(
+        alloc,
+        RandomState::new(rt)?,
+        texts.as_slice(),
+        &mut source,
+        &mut sink,
+    );
     Ok((sink.bytes() == output).then_some(ended))
 }
 

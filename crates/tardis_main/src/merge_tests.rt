@@ -21,14 +21,7 @@ fn merges_answer_as_told(rt: HostRuntime) -> Result<(), Fail> {
             &Talk::of(alloc, &[BRANCHED, JOINED, APART])?
         )?
     );
-    assert!(rt;
-        answers(
-            &rt,
-            LIMITS,
-            1,
-            &Talk::of(alloc, &[BRANCHED, MERGED_TWICE])?
-        )?
-    );
+    assert!(rt; answers(&rt, LIMITS, 1, &Talk::of(alloc, &[BRANCHED, MERGED_TWICE])?)?);
     assert!(rt; answers(&rt, LIMITS, 1, &Talk::of(alloc, &[BRANCHED, ONE_STATE])?)?);
     assert!(rt; answers(&rt, LIMITS, 1, &Talk::of(alloc, &[PAST_MERGES])?)?);
     assert!(rt; answers(&rt, LIMITS, 1, &Talk::of(alloc, &[NINE_LEAVES])?)?);

@@ -19,8 +19,8 @@ use crate::helps::{Help, help_of};
 use crate::tardis;
 use command_words::commands_are_at_a_site;
 use std::alloc::Global;
-use std::hash::RandomState;
 use std::env::Args;
+use std::hash::RandomState;
 use tardis_base::NoMemory;
 use tardis_io::{Sink, Source, Status, WriteFault, write_all};
 

@@ -65,7 +65,12 @@ pub(crate) fn steps(rt: &HostRuntime, talk: &Talk) -> Result<bool, Fail> {
 /// Whether a site that opens as the first of two does.
 pub(crate) fn steps_of_two(rt: &HostRuntime, talk: &Talk) -> Result<bool, Fail> {
     let alloc = rt.alloc();
-    match SiteCore::new(alloc, RandomState::new(rt)?, Limits { sites: 2, ..LIMITS }, 1) {
+    match SiteCore::new(
+        alloc,
+        RandomState::new(rt)?,
+        Limits { sites: 2, ..LIMITS },
+        1,
+    ) {
         Ok(site) => answers(alloc, site, talk),
         Err(NoMemory) => Ok(false),
     }

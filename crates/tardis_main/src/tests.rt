@@ -6,8 +6,8 @@ use crate::rows::{
 use crate::talks::Talk;
 use crate::{Help, carry_out, tardis};
 use std::alloc::Global;
-use std::hash::RandomState;
 use std::env::Args;
+use std::hash::RandomState;
 use std::test::Fail;
 use tardis_io::{MemorySink, MemorySource, Status};
 
@@ -57,7 +57,13 @@ fn runs_to(
     let words = vec![in alloc; String::from_str(alloc, "run")?]?;
     let mut source = MemorySource::new(alloc, input, devices.piece.max(1), devices.failing_takes)?;
     let mut sink = MemorySink::new(alloc, 4_000, devices.piece.max(1), devices.failing_gives)?;
-    let ended = tardis(alloc, RandomState::new(rt)?, words.as_slice(), &mut source, &mut sink);
+    let ended = tardis(
+        alloc,
+        RandomState::new(rt)?,
+        words.as_slice(),
+        &mut source,
+        &mut sink,
+    );
     Ok(ended == status && sink.bytes() == output)
 }
 
@@ -146,7 +152,13 @@ fn other_words_are_no_command(rt: HostRuntime) -> Result<(), Fail> {
         let mut source = MemorySource::new(alloc, SESSION, 9, &WELL)?;
         let mut sink = MemorySink::new(alloc, 100, 9, &WELL)?;
         assert_eq!(rt;
-            tardis(alloc, RandomState::new(&rt)?, words.as_slice(), &mut source, &mut sink),
+            tardis(
+                alloc,
+                RandomState::new(&rt)?,
+                words.as_slice(),
+                &mut source,
+                &mut sink
+            ),
             Status::Usage
         );
         assert_eq!(rt; source.left(), SESSION);
@@ -225,7 +237,10 @@ fn a_program_is_its_words(rt: HostRuntime) -> Result<(), Fail> {
         let args = args_of(alloc, line)?;
         let mut source = MemorySource::new(alloc, SESSION, 65_536, &WELL)?;
         let mut sink = MemorySink::new(alloc, 4_000, 65_536, &WELL)?;
-        assert_eq!(rt; carry_out(alloc, RandomState::new(&rt)?, args, &mut source, &mut sink), status);
+        assert_eq!(rt;
+            carry_out(alloc, RandomState::new(&rt)?, args, &mut source, &mut sink),
+            status
+        );
         assert!(rt; sink.bytes() == output);
     }
     let help = Help::Usage.text();

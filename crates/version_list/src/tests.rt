@@ -68,7 +68,13 @@ fn branched(alloc: Global, keys: RandomState, key: &Key) -> Result<VersionList, 
 {
     let mut list = VersionList::new(alloc, keys);
     wrote(alloc, &mut list, 0, key, Write::Delete)?;
-    wrote(alloc, &mut list, 1, key, Write::Put(Value::new(alloc, b"1")?))?;
+    wrote(
+        alloc,
+        &mut list,
+        1,
+        key,
+        Write::Put(Value::new(alloc, b"1")?),
+    )?;
     wrote(alloc, &mut list, 2, key, Write::Delete)?;
     Ok(list)
 }
