@@ -1,0 +1,1 @@
+-- Why sites that tell the truth agree.
