@@ -6,7 +6,6 @@
 ghost use Rattle.std.specs.Prelude.{◌≤◌, IsTrue, IfOk};
 ghost use Rattle.tardis_base.specs.Valid.{are_limits};
 ghost use Rattle.plain_site.specs.Site.{opening};
-ghost use Rattle.plain_site.specs.Built.{so_far};
 ghost use Rattle.plain_site.specs.Sound.{IsSound};
 ghost use Rattle.session_core.specs.Stands.{CoreStands};
 
@@ -55,7 +54,7 @@ impl SiteCore {
         requires first { 1 ≤ own }
         requires last { own ≤ limits.sites }
         ensures stands { IfOk result (λ core. CoreStands core (opening limits own)) }
-        ensures sound { IfOk result (λ _. IsSound so_far (opening limits own)) }
+        ensures sound { IfOk result (λ _. IsSound (opening limits own)) }
     {
         let parts = Parts::new(alloc, &limits, own)?;
         Ok(SiteCore { parts })
