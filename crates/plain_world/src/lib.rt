@@ -3,9 +3,13 @@
 //! `docs/MODEL.md` says them in plain words.
 #![tactic(auto)]
 
-ghost use Rattle.plain_world.specs.Laws.{OpeningIsHonest};
+ghost use Rattle.plain_world.specs.Steps.{step_at, carry_to};
+ghost use Rattle.plain_world.specs.Laws.{OpeningIsHonest, StepsKeepHonest, CarriesKeepHonest};
 
-/// A world that opens is honest.
+/// A world that opens is honest, and each step but a client's delivery and each carry keeps it so: whatever is asked, and whatever
+/// is carried again, in any order, or never.
 pub fn worlds_stay_honest()
     ensures opening { OpeningIsHonest }
+    ensures steps { StepsKeepHonest step_at }
+    ensures carries { CarriesKeepHonest carry_to }
 {}
