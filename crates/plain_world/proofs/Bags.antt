@@ -75,7 +75,7 @@ consent-is-known n (f ∷ fs) c =
 
 -- ===== Items
 
-all-one : {A : Type 0} (p : A → Bool) (xs : List A) (a : A) → IsTrue (list_all p xs) → IsOneOf a xs → IsTrue (p a)
+pub all-one : {A : Type 0} (p : A → Bool) (xs : List A) (a : A) → IsTrue (list_all p xs) → IsOneOf a xs → IsTrue (p a)
 all-one p [] a h m = absurd (m)
 all-one p (x ∷ xs) a h (inl e) = subst (λ z. IsTrue (p z)) (sym e) (and_parts (p x) (list_all p xs) h).0
 all-one p (x ∷ xs) a h (inr m) = all-one p xs a (and_parts (p x) (list_all p xs) h).1 m

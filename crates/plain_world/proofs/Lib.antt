@@ -8,3 +8,5 @@ pub mod Bags
 pub mod Stays
 pub mod Agree
 pub mod Truths
+pub mod Judged
+pub mod Carried
