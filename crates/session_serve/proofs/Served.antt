@@ -1,0 +1,1 @@
+-- Sessions of all that was asked.
