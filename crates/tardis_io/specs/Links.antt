@@ -1,9 +1,13 @@
 -- Links, and what hands them out: what a gate and a dial may tell.
-use Rattle.std.specs.Prelude.{◌≡◌, ℕ, ◌+◌, ◌-◌, ◌<◌, List, [], ◌∷◌, ◌++◌, Option, Some, None, Result, Ok, Err, ◌⊎◌, true, false}
+use Rattle.std.specs.Prelude.{◌≡◌, ℕ, ◌+◌, ◌-◌, ◌<◌, List, [], ◌∷◌, ◌++◌, Option, Some, None, Result, Ok, Err, ◌⊎◌, Bool, true, false}
 use Rattle.tardis_io.specs.declared.faults.Failed.{Failed}
 use Rattle.tardis_io.specs.declared.links.MemoryLink.{MemoryLink}
-use Rattle.tardis_io.specs.Memory.{Plan, MemoryTakes, MemoryGives, fails_next, after_call, after_fault}
+use Rattle.tardis_io.specs.Memory.{Plan, Input, MemoryTakes, MemoryGives, fails_next, after_call, after_fault}
 use Rattle.tardis_io.specs.Moments.{Moment}
+
+-- what no give to a link in memory changes
+abbrev pub kept_of : MemoryLink → Input × Bool
+kept_of l = (l.source, l.finished)
 
 -- a link in memory tells no takes
 abbrev pub no_takes : Option (List Moment)
@@ -14,11 +18,11 @@ no_parts = tt
 
 -- a take from a link in memory is one from its source alone
 abbrev pub LinkTakes : MemoryLink → MemoryLink → List ℕ → List ℕ → Result ℕ Failed → Type 0
-LinkTakes old new before after result = MemoryTakes old.source new.source before after result × (new.sink ≡ old.sink)
+LinkTakes old new before after result = MemoryTakes old.source new.source before after result × (new.sink ≡ old.sink) × (new.finished ≡ old.finished)
 
 -- a give to a link in memory is one to its sink alone
 abbrev pub LinkGives : MemoryLink → MemoryLink → List ℕ → Result ℕ Failed → Type 0
-LinkGives old new bytes result = MemoryGives old.sink new.sink bytes result × (new.source ≡ old.source)
+LinkGives old new bytes result = MemoryGives old.sink new.sink bytes result × (new.source ≡ old.source) × (new.finished ≡ old.finished)
 
 -- what a gate tells: the links that are left, those that were put back with the numbers of their sessions, and how many
 -- were handed out and not put back

@@ -1,6 +1,6 @@
 //! Where links come from: those that others ask for, and those that are asked for.
 
-ghost use Rattle.std.specs.Prelude.{◌≡◌, ℕ, ◌≤◌, Option};
+ghost use Rattle.std.specs.Prelude.{◌≡◌, ℕ, Option};
 ghost use Rattle.tardis_io.specs.Faults.{HasCause};
 ghost use Rattle.tardis_io.specs.Links.{ToldGate, ToldDial, HandsNext, HandsCalled, IsOut, IsCalled, with_back, with_hung};
 
@@ -27,10 +27,11 @@ pub trait Gate {
         ensures cause { HasCause (faults self.old) (faults self.new) result }
         ensures told { HandsNext (told self.old) (told self.new) result };
 
-    /// Takes back a link that was handed out, with the number of its session. It takes no memory.
+    /// Takes back a finished link that was handed out, with the number of its session. It takes no memory.
     fn put_back(&mut self, session: u16, link: Self::Link)
-        requires { IsOut (told self.old) }
-        ensures later { faults self.old ≤ faults self.new }
+        requires out { IsOut (told self.old) }
+        requires finished { Self.Link.is_finished link }
+        ensures faults { faults self.new ≡ faults self.old }
         ensures told { told self.new ≡ with_back (told self.old) session link };
 }
 
@@ -49,9 +50,10 @@ pub trait Dial {
         ensures cause { HasCause (faults self.old) (faults self.new) result }
         ensures told { HandsCalled (told self.old) (told self.new) result };
 
-    /// Takes back a link that was handed out. It takes no memory.
+    /// Takes back a finished link that was handed out. It takes no memory.
     fn put_back(&mut self, link: Self::Link)
-        requires { IsCalled (told self.old) }
-        ensures later { faults self.old ≤ faults self.new }
+        requires out { IsCalled (told self.old) }
+        requires finished { Self.Link.is_finished link }
+        ensures faults { faults self.new ≡ faults self.old }
         ensures told { told self.new ≡ with_hung (told self.old) link };
 }

@@ -1,9 +1,9 @@
 //! Devices that a session is held over, and their form in memory.
 
-ghost use Rattle.std.specs.Prelude.{◌≡◌, ◌<◌, ◌≤◌, Some, length, refl, IfOk};
+ghost use Rattle.std.specs.Prelude.{◌≡◌, ◌<◌, ◌≤◌, Bool, true, false, Some, length, refl, IfOk};
 ghost use Rattle.std.proofs.Common.{ap};
-ghost use Rattle.tardis_io.specs.Faults.{HasCause};
-ghost use Rattle.tardis_io.specs.Links.{LinkTakes, LinkGives, no_takes, no_parts};
+ghost use Rattle.tardis_io.specs.Faults.{HasCause, MayRise};
+ghost use Rattle.tardis_io.specs.Links.{LinkTakes, LinkGives, kept_of, no_takes, no_parts};
 ghost use Rattle.tardis_io.specs.Moments.{with_take};
 ghost use Rattle.tardis_io.specs.Memory.{Input};
 ghost use Rattle.tardis_io.specs.Told.{WhileTold, Takes, Gives};
@@ -16,14 +16,18 @@ use crate::streams::{Sink, Source};
 
 /// A device whose other side hears when no more bytes will be given.
 pub trait Link: Duplex + Send + Drop {
+    // it was said that no more bytes will be given
+    ghost is_finished: { Self → Type 0 };
+
     /// Says that no more bytes will be given. What can't be said is counted as a fault of giving.
     fn finish(&mut self)
+        ensures finished { is_finished self.new }
         ensures left { Self.left self.new ≡ Self.left self.old }
         ensures given { Self.given self.new ≡ Self.given self.old }
         ensures takes { Self.takes self.new ≡ Self.takes self.old }
         ensures parts { Self.parts self.new ≡ Self.parts self.old }
-        ensures take_faults { Self.take_faults self.old ≤ Self.take_faults self.new }
-        ensures faults { Self.faults self.old ≤ Self.faults self.new };
+        ensures take_faults { Self.take_faults self.new ≡ Self.take_faults self.old }
+        ensures faults { MayRise (Self.faults self.old) (Self.faults self.new) };
 }
 
 /// A link over bytes in memory. It tells what is left and what was given.
@@ -31,13 +35,18 @@ pub trait Link: Duplex + Send + Drop {
 pub struct MemoryLink {
     source: MemorySource,
     sink: MemorySink,
+    finished: bool,
 }
 
 impl MemoryLink {
     pub fn new(source: MemorySource, sink: MemorySink) -> MemoryLink
-        ensures { (result.source ≡ source) × (result.sink ≡ sink) }
+        ensures { result ≡ record { source = source; sink = sink; finished = false } }
     {
-        MemoryLink { source, sink }
+        MemoryLink {
+            source,
+            sink,
+            finished: false,
+        }
     }
 
     /// What bytes are taken from.
@@ -53,6 +62,13 @@ impl MemoryLink {
     {
         &self.sink
     }
+
+    /// Whether it was said that no more bytes will be given.
+    pub fn is_finished(&self) -> bool
+        ensures { result ≡ self.now.finished }
+    {
+        self.finished
+    }
 }
 
 impl Sink for MemoryLink {
@@ -60,16 +76,16 @@ impl Sink for MemoryLink {
 
     ghost faults = { λ l. l.sink.plan.faults };
 
-    ghost Kept = { Input };
+    ghost Kept = { Input × Bool };
 
-    ghost kept = { λ l. l.source };
+    ghost kept = { kept_of };
 
     fn give(&mut self, bytes: &[u8]) -> Result<usize, Failed>
         requires { 0 < length bytes.now }
         ensures bound { IfOk result (λ n. (0 < n) × (n ≤ length bytes.now)) }
         ensures bytes { WhileTold (Some self.old.sink.given) (Some self.new.sink.given) (λ before after. Gives before after result bytes.now) }
         ensures cause { HasCause self.old.sink.plan.faults self.new.sink.plan.faults result }
-        ensures kept { self.new.source ≡ self.old.source }
+        ensures kept { kept_of self.new ≡ kept_of self.old }
         ensures exact { LinkGives self.old self.new bytes.now result }
     {
         self.sink.give(bytes)
@@ -101,17 +117,22 @@ impl Duplex for MemoryLink {
         self.source.take(buf)
     }
 
-    ghost gives_are_apart = { λ d e same. (ap (λ k. Some k.left) same, ap (λ k. k.plan.faults) same, refl, refl) };
+    ghost gives_are_apart = { λ d e same. (ap (λ k. Some k.0.left) same, ap (λ k. k.0.plan.faults) same, refl, refl) };
 }
 
 impl Link for MemoryLink {
+    ghost is_finished = { λ l. l.finished ≡ true };
+
     fn finish(&mut self)
+        ensures finished { self.new.finished ≡ true }
         ensures left { Some self.new.source.left ≡ Some self.old.source.left }
         ensures given { Some self.new.sink.given ≡ Some self.old.sink.given }
         ensures takes { no_takes ≡ no_takes }
         ensures parts { no_parts ≡ no_parts }
-        ensures take_faults { self.old.source.plan.faults ≤ self.new.source.plan.faults }
-        ensures faults { self.old.sink.plan.faults ≤ self.new.sink.plan.faults }
-        ensures same { self.new ≡ self.old }
-    {}
+        ensures take_faults { self.new.source.plan.faults ≡ self.old.source.plan.faults }
+        ensures faults { MayRise self.old.sink.plan.faults self.new.sink.plan.faults }
+        ensures same { (self.new.source ≡ self.old.source) × (self.new.sink ≡ self.old.sink) }
+    {
+        self.finished = true;
+    }
 }

@@ -58,11 +58,7 @@ impl<L> Model for MemoryDial<L> {
 impl<L: Link> MemoryGate<L> {
     /// A gate of these links. Its calls of `bind` and `next` are counted together, from 1, and those listed in
     /// `failing` fail.
-    pub fn new(
-        alloc: Global,
-        links: Vec<L>,
-        failing: &[u64],
-    ) -> Result<MemoryGate<L>, NoMemory>
+    pub fn new(alloc: Global, links: Vec<L>, failing: &[u64]) -> Result<MemoryGate<L>, NoMemory>
         ensures { IfOk result (λ g. g ≡ record { links = record { left = links.items; back = []; out = 0 }; plan = fresh_plan failing.now }) }
     {
         let Ok(back) = Vec::with_capacity(alloc, links.len()) else {
@@ -88,11 +84,7 @@ impl<L: Link> MemoryGate<L> {
 impl<L: Link> MemoryDial<L> {
     /// A dial to these links. Its calls are counted from 1; those listed in `failing` fail, and so does each call once
     /// no link is left.
-    pub fn new(
-        alloc: Global,
-        links: Vec<L>,
-        failing: &[u64],
-    ) -> Result<MemoryDial<L>, NoMemory>
+    pub fn new(alloc: Global, links: Vec<L>, failing: &[u64]) -> Result<MemoryDial<L>, NoMemory>
         ensures { IfOk result (λ d. d ≡ record { links = record { left = links.items; back = []; out = 0 }; plan = fresh_plan failing.now }) }
     {
         let Ok(back) = Vec::with_capacity(alloc, links.len()) else {
@@ -145,8 +137,9 @@ impl<L: Link> Gate for MemoryGate<L> {
     }
 
     fn put_back(&mut self, session: u16, link: L)
-        requires { IsOut (Some self.old.links) }
-        ensures later { self.old.plan.faults ≤ self.new.plan.faults }
+        requires out { IsOut (Some self.old.links) }
+        requires finished { L.is_finished link }
+        ensures faults { self.new.plan.faults ≡ self.old.plan.faults }
         ensures told { Some self.new.links ≡ with_back (Some self.old.links) session link }
         ensures same { self.new.plan ≡ self.old.plan }
     {
@@ -178,8 +171,9 @@ impl<L: Link> Dial for MemoryDial<L> {
     }
 
     fn put_back(&mut self, link: L)
-        requires { IsCalled (Some self.old.links) }
-        ensures later { self.old.plan.faults ≤ self.new.plan.faults }
+        requires out { IsCalled (Some self.old.links) }
+        requires finished { L.is_finished link }
+        ensures faults { self.new.plan.faults ≡ self.old.plan.faults }
         ensures told { Some self.new.links ≡ with_hung (Some self.old.links) link }
         ensures same { self.new.plan ≡ self.old.plan }
     {
