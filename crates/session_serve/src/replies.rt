@@ -26,7 +26,7 @@ impl SessionReplies {
     }
 }
 
-impl<M: Machine, R: Wait> Responder<Asker<'_, M, R>> for SessionReplies {
+impl<'a, M: Machine, R: Wait> Responder<Asker<'a, M, R>> for SessionReplies {
     ghost State = { Asking M };
 
     ghost stands = { λ a s. a ≡ s };
@@ -39,7 +39,7 @@ impl<M: Machine, R: Wait> Responder<Asker<'_, M, R>> for SessionReplies {
 
     const MOST: usize = 1_048_580;
 
-    fn respond(&mut self, subject: &mut Asker<'_, M, R>, body: &[u8], out: &mut Gathered) {
+    fn respond(&mut self, subject: &mut Asker<'a, M, R>, body: &[u8], out: &mut Gathered) {
         let acted = subject.ask(request_of(body), &mut self.reply);
         spell(acted, &mut self.reply);
         put_reply(self.reply.bytes(), out);

@@ -49,6 +49,7 @@ pub fn serve_session<M: Machine, L: Link, R: Wait>(
     ensures write { result.1 ≡ SessionEnd.WriteFault → Rose (L.faults link.old) (L.faults link.new) }
     ensures nothing { result.1 ≡ SessionEnd.NoMemory → (result.0 ≡ pass) × (L.left link.new ≡ L.left link.old) × (L.given link.new ≡ L.given link.old) }
     ensures parts { L.parts link.new ≡ L.parts link.old }
+    ensures finished { L.is_finished link.new }
 {
     let served = ask_all(alloc, rt, lock, pass, session, link);
     link.finish();
