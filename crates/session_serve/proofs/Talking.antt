@@ -10,7 +10,7 @@ use Rattle.dag_lock.specs.Known.{Known, Begins}
 use Rattle.dag_lock.specs.Steps.{Ended}
 use Rattle.session_serve.specs.Turns.{Turn, IsTurn, HadTurns, left_by, place_with, places_of}
 use Rattle.session_serve.specs.Replies.{asked_by, request_in, reply_without, AreReplies}
-use Rattle.session_serve.specs.Asking.{Asking, Asked, at_first}
+use Rattle.session_serve.specs.Asking.{Asking, Asked, AsksOnce, at_first}
 use Rattle.session_serve.specs.Sessions.{Session}
 use Rattle.session_serve.specs.Passes.{new_places}
 use Rattle.session_serve.proofs.Fronts.{begins_then, begins_length}
@@ -56,15 +56,15 @@ module _ {P : Type 0} (m : PlainMachine P) (start : P) (most session : ℕ) wher
             turns_later most q.seen (left_by (turn s.found r)) (length u.seen) (asked_by session bodies) t.turns left t.each,
           );
         replied = (reply_on m start u.seen q.seen s.found r reply t.seen s.replied, t.replied);
-        one_each = ap (λ n. n + 1) t.one_each;
+        one_each = λ i. ℕ.suc (t.one_each i);
         owned = t.owned ∙ (ap (λ z. z ++ places_of t.turns) s.owned ∙ append_assoc p.owned (place_with s.found r) (places_of t.turns));
         seen = begins_then p.seen u.seen q.seen s.seen t.seen;
       }
 
 -- what was asked stands on the same lock, for the same session
-record Chained {M P : Type 0} (opening : M → P) (m : PlainMachine P) (s t : Asking M) (bodies answers : List (List ℕ)) : Type 0 where
-  same : at_first t ≡ at_first s
-  talked : Talked m (opening s.start.machine) s.start.max_trail s.session s.pass t.pass bodies answers
+pub record Chained {M P : Type 0} (opening : M → P) (m : PlainMachine P) (s t : Asking M) (bodies answers : List (List ℕ)) : Type 0 where
+  pub same : at_first t ≡ at_first s
+  pub talked : Talked m (opening s.start.machine) s.start.max_trail s.session s.pass t.pass bodies answers
 
 module _ {M P : Type 0} (opening : M → P) (m : PlainMachine P) where
   chained_none : (s : Asking M) → Chained opening m s s [] []
@@ -74,15 +74,15 @@ module _ {M P : Type 0} (opening : M → P) (m : PlainMachine P) where
   talked_same : (s u t : Asking M) (bodies answers : List (List ℕ)) → at_first u ≡ at_first s → Talked m (opening u.start.machine) u.start.max_trail u.session u.pass t.pass bodies answers → Talked m (opening s.start.machine) s.start.max_trail s.session u.pass t.pass bodies answers
   talked_same s u t bodies answers same h = subst (λ (a : Asking M). Talked m (opening a.start.machine) a.start.max_trail a.session u.pass t.pass bodies answers) same h
 
-  chained_more : (s u t : Asking M) (body answer : List ℕ) (bodies answers : List (List ℕ)) → Asked opening m s body answer u → Chained opening m u t bodies answers → Chained opening m s t (body ∷ bodies) (answer ∷ answers)
-  chained_more s u t body answer bodies answers one c = record {
+  chained_more : (s u t : Asking M) (body answer : List ℕ) (bodies answers : List (List ℕ)) → Asked (AsksOnce opening m) s body answer u → Chained opening m u t bodies answers → Chained opening m s t (body ∷ bodies) (answer ∷ answers)
+  chained_more s u t body answer bodies answers (acted, reply, one, framed) c = record {
     same = c.same ∙ one.same;
-    talked = talked_more m (opening s.start.machine) s.start.max_trail s.session s.pass u.pass t.pass body (reply_without one.acted one.reply) one.acted answer bodies answers
-        (stepped opening m s.start s.pass u.pass (s.session, request_in body) one.reply one.acted one.ended) one.framed
+    talked = talked_more m (opening s.start.machine) s.start.max_trail s.session s.pass u.pass t.pass body (reply_without acted reply) acted answer bodies answers
+        (stepped opening m s.start s.pass u.pass (s.session, request_in body) reply acted one.ended) framed
         (talked_same s u t bodies answers one.same c.talked);
   }
 
-  pub chained : (s t : Asking M) (bodies answers : List (List ℕ)) → InTurn (Asked opening m) s bodies answers t → Chained opening m s t bodies answers
+  pub chained : (s t : Asking M) (bodies answers : List (List ℕ)) → InTurn (Asked (AsksOnce opening m)) s bodies answers t → Chained opening m s t bodies answers
   chained s t [] [] e = subst (λ u. Chained opening m s u [] []) (sym e) (chained_none s)
   chained s t (body ∷ bodies) (answer ∷ answers) h = chained_more s h.0 t body answer bodies answers h.1.0 (chained h.0 t bodies answers h.1.1)
   chained s t [] (answer ∷ answers) h = absurd h

@@ -25,11 +25,12 @@ module _ {M : Type 0} where
   abbrev pub at_first : Asking M → Asking M
   at_first s = record { start = s.start; session = s.session; first = s.first; pass = s.first }
 
-  -- a body was asked by one step, and answered by the frame of what the step tells
-  pub record Asked {P : Type 0} (opening : M → P) (m : PlainMachine P) (s : Asking M) (body answer : List ℕ) (t : Asking M) : Type 0 where
-    pub acted : Acted
-    pub reply : List ℕ
+  -- the pass made one step of the lock
+  pub record AsksOnce {P : Type 0} (opening : M → P) (m : PlainMachine P) (s : Asking M) (request : List ℕ) (acted : Acted) (out : List ℕ) (t : Asking M) : Type 0 where
     pub same : at_first t ≡ at_first s
     pub keeps : Keeps s.pass t.pass
-    pub ended : Ended opening m s.start s.pass (s.session, request_in body) reply t.pass acted
-    pub framed : answer ≡ frame (reply_without acted reply)
+    pub ended : Ended opening m s.start s.pass (s.session, request) out t.pass acted
+
+-- a body's request was asked once, and answered by the frame of the reply
+abbrev pub Asked : {A : Type 0} → (A → List ℕ → Acted → List ℕ → A → Type 0) → A → List ℕ → List ℕ → A → Type 0
+Asked asks s body answer t = (acted : Acted) × (reply : List ℕ) × asks s (request_in body) acted reply t × (answer ≡ frame (reply_without acted reply))

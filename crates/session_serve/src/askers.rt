@@ -1,9 +1,11 @@
 //! What asks the lock for a session.
 
-ghost use Rattle.std.specs.Prelude.{◌≡◌, ◌≤◌, length};
+ghost use Rattle.std.specs.Prelude.{◌≡◌, ◌≤◌, List, ℕ, length};
+ghost use Rattle.trail_log.specs.declared.acted.Acted.{Acted};
+ghost use Rattle.dag_lock.specs.Named.{lock_id, start_of};
 ghost use Rattle.dag_lock.specs.Steps.{Ended, Keeps};
 ghost use Rattle.session_serve.specs.Passes.{Goes};
-ghost use Rattle.session_serve.specs.Asking.{at_first};
+ghost use Rattle.session_serve.specs.Asking.{at_first, AsksOnce};
 
 use dag_lock::{DagLock, Pass};
 use std::marker::Model;
@@ -11,6 +13,20 @@ use std::snapshot::Snapshot;
 use std::sync::Wait;
 use tardis_base::{Machine, ReplyBuf};
 use trail_log::Acted;
+
+/// What can be asked requests.
+pub(crate) trait Asks {
+    // asked a request, it comes to this, with these bytes, and is then that
+    ghost asks: { Self → List ℕ → Acted → List ℕ → Self → Type 0 };
+
+    // what no request changes
+    ghost opening: { Self → Self };
+
+    fn ask(&mut self, request: &[u8], out: &mut ReplyBuf) -> Acted
+        requires { length request.now ≤ 1048574 }
+        ensures asks { asks self.old request.now result out.new self.new }
+        ensures opening { opening self.new ≡ opening self.old };
+}
 
 /// A lock, and the pass of a session to it.
 #[derive(Drop)]
@@ -52,25 +68,10 @@ impl<'a, M: Machine, R: Wait> Asker<'a, M, R> {
         }
     }
 
-    /// Asks the lock once.
-    pub(crate) fn ask(&mut self, request: &[u8], out: &mut ReplyBuf) -> Acted
-        requires { length request.now ≤ 1048574 }
-        ensures same { at_first self.new ≡ at_first self.old }
-        ensures keeps { Keeps self.old.pass self.new.pass }
-        ensures ended { Ended M.opening M.plain self.old.start self.old.pass (self.old.session, request.now) out.new self.new.pass result }
-    {
-        let Some(pass) = self.pass.take() else {
-            unreachable!();
-        };
-        let (pass, acted) = self.lock.step(self.rt, pass, self.session, request, out);
-        self.pass = Some(pass);
-        acted
-    }
-
     /// The pass.
     pub(crate) fn into_pass(self) -> Pass
-        ensures same { result ≡ self.pass }
-        ensures goes { Goes self.session self.first result }
+        ensures same { result ≡ self.entry.pass }
+        ensures goes { Goes self.entry.session self.entry.first result }
     {
         let Asker {
             rt: _,
@@ -84,4 +85,40 @@ impl<'a, M: Machine, R: Wait> Asker<'a, M, R> {
             None => unreachable!(),
         }
     }
+}
+
+impl<'a, M: Machine, R: Wait> Asks for Asker<'a, M, R> {
+    ghost asks = { AsksOnce M.opening M.plain };
+
+    ghost opening = { at_first };
+
+    fn ask(&mut self, request: &[u8], out: &mut ReplyBuf) -> Acted
+        requires { length request.now ≤ 1048574 }
+        ensures asks { AsksOnce M.opening M.plain self.old request.now result out.new self.new }
+        ensures opening { at_first self.new ≡ at_first self.old }
+    {
+        let Some(pass) = self.pass.take() else {
+            unreachable!();
+        };
+        let (pass, acted) = step_once(self.rt, self.lock, pass, self.session, request, out);
+        self.pass = Some(pass);
+        acted
+    }
+}
+
+/// Asks the lock once.
+fn step_once<M: Machine, R: Wait>(
+    rt: &R,
+    lock: &DagLock<M>,
+    pass: Pass,
+    session: u16,
+    request: &[u8],
+    out: &mut ReplyBuf,
+) -> (Pass, Acted)
+    requires lock { pass.lock ≡ lock_id lock.now }
+    requires fits { length request.now ≤ 1048574 }
+    ensures ended { Ended M.opening M.plain (start_of lock.now) pass (session, request.now) out.new result.0 result.1 }
+    ensures pass { Keeps pass result.0 }
+{
+    lock.step(rt, pass, session, request, out)
 }

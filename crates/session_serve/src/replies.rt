@@ -1,15 +1,13 @@
 //! The answers to a session's frames.
 
-ghost use Rattle.std.specs.Prelude.{◌≡◌, ◌≤◌, ◌≢◌, [], length};
-ghost use Rattle.trail_log.specs.declared.acted.Acted.TheVariants.{Done};
+ghost use Rattle.std.specs.Prelude.{◌≡◌, ◌≤◌, length};
 ghost use Rattle.session_serve.specs.Replies.{request_in, reply_without};
-ghost use Rattle.session_serve.specs.Asking.{Asking, Asked, at_first};
+ghost use Rattle.session_serve.specs.Asking.{Asked};
 
-use crate::askers::Asker;
+use crate::askers::Asks;
 use site_run::{Gathered, Responder, put_reply};
 use std::alloc::Global;
-use std::sync::Wait;
-use tardis_base::{Machine, NoMemory, Refusal, Reply, ReplyBuf};
+use tardis_base::{NoMemory, Refusal, Reply, ReplyBuf};
 use trail_log::Acted;
 use wire_talk::write_reply;
 
@@ -26,20 +24,20 @@ impl SessionReplies {
     }
 }
 
-impl<'a, M: Machine, R: Wait> Responder<Asker<'a, M, R>> for SessionReplies {
-    ghost State = { Asking M };
+impl<A: Asks> Responder<A> for SessionReplies {
+    ghost State = { A };
 
     ghost stands = { λ a s. a ≡ s };
 
-    ghost may = { Asked M.opening M.plain };
+    ghost may = { Asked A.asks };
 
-    ghost opening = { at_first };
+    ghost opening = { A.opening };
 
     ghost MOST = { 1048580 };
 
     const MOST: usize = 1_048_580;
 
-    fn respond(&mut self, subject: &mut Asker<'a, M, R>, body: &[u8], out: &mut Gathered) {
+    fn respond(&mut self, subject: &mut A, body: &[u8], out: &mut Gathered) {
         let acted = subject.ask(request_of(body), &mut self.reply);
         spell(acted, &mut self.reply);
         put_reply(self.reply.bytes(), out);

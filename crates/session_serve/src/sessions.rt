@@ -9,7 +9,7 @@ ghost use Rattle.dag_lock.specs.Named.{lock_id, start_of};
 ghost use Rattle.session_serve.specs.Passes.{Goes, new_places};
 ghost use Rattle.session_serve.specs.Sessions.{SessionOutcome, status_of};
 
-use crate::askers::Asker;
+use crate::askers::{Asker, Asks};
 use crate::ends::SessionEnd;
 use crate::replies::SessionReplies;
 use dag_lock::{DagLock, Pass};
