@@ -8,7 +8,7 @@ use Rattle.tardis_base.specs.declared.requests.Begin.{Begin}
 use Rattle.tardis_base.specs.declared.requests.EndFlags.{EndFlags}
 use Rattle.tardis_base.specs.declared.requests.Request.TheVariants.{Begin as BeginAt, Commit}
 use Rattle.tardis_base.specs.declared.replies.Refusal.{Refusal}
-use Rattle.tardis_base.specs.declared.replies.Refusal.TheVariants.{NotOpen, TxnOpen, NoTxn, WrongMode, OpenConflict, Branches, SeqEnd, Unknown, Below, Unsupported}
+use Rattle.tardis_base.specs.declared.replies.Refusal.TheVariants.{NotOpen, TxnOpen, NoTxn, WrongMode, OpenConflict, Branches, SeqEnd, Unknown, Below}
 use Rattle.tardis_base.specs.declared.replies.Reply.{Reply}
 use Rattle.tardis_base.specs.declared.replies.Reply.TheVariants.{Begun, Committed, Ended, Refused}
 use Rattle.tardis_base.specs.Keys.{KeyWrite, keys_of}
@@ -19,13 +19,11 @@ use Rattle.plain_dag.specs.Growth.{growth_refusal}
 use Rattle.plain_dag.specs.Landing.{landing, guarded, broken}
 use Rattle.plain_dag.specs.Entries.{entry_of, with_entry}
 use Rattle.plain_dag.specs.Floors.{Session}
-use Rattle.wire_talk.specs.Codes.{code_of}
 use Rattle.plain_site.specs.Site.{Site, SingleTxn, Txn, Single, Merge, own_count, writes_of, next_record}
-use Rattle.plain_site.specs.Built.{Built, is_built}
 use Rattle.plain_site.specs.Answers.{Answer, refuse, refuse_found, unless}
 use Rattle.plain_site.specs.Sessions.{begin}
 use Rattle.plain_site.specs.Commits.{without_txn_of, growth_refusals, committed, commit_below, commit_writes, commit_single, commit}
-use Rattle.plain_site.specs.Step.{served, step}
+use Rattle.plain_site.specs.Step.{step}
 use Rattle.plain_site.proofs.RepliesFrame.{by-txn, by-no-txn}
 use Rattle.plain_site.proofs.SoundAnswers.{AreNone, when-none, none-parts, none-appended}
 use Rattle.client_laws.proofs.Effects.{OnlyRefuse, refuse-only, found-only, both-only}
@@ -59,7 +57,7 @@ same-record : (a b : StateId) (ps qs : List StateId) (ws : List KeyWrite) (rs : 
     ◌≡◌ {A = List Record} (record { id = a; parents = ps; writes = ws } ∷ rs) (record { id = b; parents = qs; writes = ws } ∷ rs)
 same-record a b ps qs ws rs e f = cc
 
-module _ (built : Built) (site : Site) (n : ℕ) (flags : EndFlags) (k : ℕ) where
+module _ (site : Site) (n : ℕ) (flags : EndFlags) (k : ℕ) where
   refused-tells : (refusal : Refusal) → TellsCommit site n flags (site, Refused refusal)
   refused-tells refusal = record { told = λ x parents e. absurd (cc) }
 
@@ -80,20 +78,20 @@ module _ (built : Built) (site : Site) (n : ℕ) (flags : EndFlags) (k : ℕ) wh
         }
 
     below-tells : (parents : List StateId) (refusals : List (Option Reply)) → OnlyRefuse refusals → (AreNone refusals → IsPlaced site.dag flags t parents) →
-        TellsCommit site n flags (commit_below built site n parents (writes_of t) refusals)
+        TellsCommit site n flags (commit_below site n parents (writes_of t) refusals)
     below-tells parents refusals only placed =
         let r = next_record site parents (writes_of t) in
         let over = own_count site == 4294967295 in
-        let others = refuse over SeqEnd ∷ growth_refusals built site r in
+        let others = refuse over SeqEnd ∷ growth_refusals site r in
         unless-none (TellsCommit site n flags) site (refusals ++ others) (committed site n r)
         (both-only refusals others only
-        (refuse-only over SeqEnd (growth_refusals built site r) (found-only (λ f. f) (growth_refusal built.path_limits site.limits site.collected site.dag r) [] tt)))
+        (refuse-only over SeqEnd (growth_refusals site r) (found-only (λ f. f) (growth_refusal true site.limits site.collected site.dag r) [] tt)))
         refused-tells (λ none. committed-tells parents (placed (none-appended refusals others none).0))
 
-  single-tells : (t : SingleTxn) → entry_of n site.txns ≡ Some (Single t) → TellsCommit site n flags (commit_single built site n t flags k)
+  single-tells : (t : SingleTxn) → entry_of n site.txns ≡ Some (Single t) → TellsCommit site n flags (commit_single site n t flags k)
   single-tells t there = go t.writes
     where
-      go : (ws : List KeyWrite) → TellsCommit site n flags (elim ws as (λ v. Answer) [ [] ↦ (without_txn_of n site, Ended t.state) | w ∷ vs ↦ commit_writes built site n t flags k ])
+      go : (ws : List KeyWrite) → TellsCommit site n flags (elim ws as (λ v. Answer) [ [] ↦ (without_txn_of n site, Ended t.state) | w ∷ vs ↦ commit_writes site n t flags k ])
       go [] = record { told = λ y parents e. absurd (cc) }
       go (w ∷ ws) =
           let y = landing site.dag (guarded flags t.reads (keys_of t.writes)) t.state in
@@ -101,7 +99,7 @@ module _ (built : Built) (site : Site) (n : ℕ) (flags : EndFlags) (k : ℕ) wh
           below-tells (Single t) there (y ∷ []) (refuse_found (λ (c : ℕ). Branches c y number_of_children) (broken flags k number_of_children) ∷ [])
           (found-only (λ (c : ℕ). Branches c y number_of_children) (broken flags k number_of_children) [] tt) (λ none. refl)
 
-  commit-tells : (t : Txn) → entry_of n site.txns ≡ Some t → TellsCommit site n flags (commit built site n t flags k)
+  commit-tells : (t : Txn) → entry_of n site.txns ≡ Some t → TellsCommit site n flags (commit site n t flags k)
   commit-tells (Single t) there = single-tells t there
   commit-tells (Merge t) there =
       let flagged = not (flags.0 == 0) in
@@ -114,15 +112,11 @@ module _ (built : Built) (site : Site) (n : ℕ) (flags : EndFlags) (k : ℕ) wh
       zero-flags true f e = eqb-true flags.0 0 e
       zero-flags false f e = absurd (cc)
 
-  pub step-tells-commit : TellsCommit site n flags (step built site n (Commit flags k))
+  pub step-tells-commit : TellsCommit site n flags (step site n (Commit flags k))
   step-tells-commit =
-      let unbuilt = not (is_built built (Commit flags k)) in
-      unless-none (TellsCommit site n flags) site (refuse unbuilt (Unsupported (code_of (Commit flags k))) ∷ []) (served built site n (Commit flags k))
-      (refuse-only unbuilt (Unsupported (code_of (Commit flags k))) [] tt) refused-tells
-      (λ none.
       by-txn {site = site} {Good = TellsCommit site n flags}
-      (record { not_open = refused-tells NotOpen; no_txn = refused-tells NoTxn; txn_open = refused-tells TxnOpen }) n (λ s t. commit built site n t flags k)
-      (λ s t e d. commit-tells t d))
+      (record { not_open = refused-tells NotOpen; no_txn = refused-tells NoTxn; txn_open = refused-tells TxnOpen }) n (λ s t. commit site n t flags k)
+      (λ s t e d. commit-tells t d)
 
 -- ===== Beginnings
 
@@ -134,7 +128,7 @@ not-false : (b : Bool) → IsFalse (not b) → IsTrue b
 not-false true f = refl
 not-false false f = absurd (cc)
 
-module _ (built : Built) (site : Site) (n : ℕ) (b : Begin) where
+module _ (site : Site) (n : ℕ) (b : Begin) where
   refused-begins : (refusal : Refusal) → TellsBegin site n b (site, Refused refusal)
   refused-begins refusal = record { told = λ x e. absurd (cc) }
 
@@ -155,11 +149,7 @@ module _ (built : Built) (site : Site) (n : ℕ) (b : Begin) where
             (s, there, same, subst (λ z. IsTrue (is_admitted site.dag s.ceiling z)) same admitted);
       })
 
-  pub step-tells-begin : TellsBegin site n b (step built site n (BeginAt b))
+  pub step-tells-begin : TellsBegin site n b (step site n (BeginAt b))
   step-tells-begin =
-      let unbuilt = not (is_built built (BeginAt b)) in
-      unless-none (TellsBegin site n b) site (refuse unbuilt (Unsupported (code_of (BeginAt b))) ∷ []) (served built site n (BeginAt b))
-      (refuse-only unbuilt (Unsupported (code_of (BeginAt b))) [] tt) refused-begins
-      (λ none.
       by-no-txn {site = site} {Good = TellsBegin site n b}
-      (record { not_open = refused-begins NotOpen; no_txn = refused-begins NoTxn; txn_open = refused-begins TxnOpen }) n (λ s. begin site n s b) (λ s e. begin-tells s e))
+      (record { not_open = refused-begins NotOpen; no_txn = refused-begins NoTxn; txn_open = refused-begins TxnOpen }) n (λ s. begin site n s b) (λ s e. begin-tells s e)

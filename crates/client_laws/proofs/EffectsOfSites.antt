@@ -10,7 +10,7 @@ use Rattle.tardis_base.specs.declared.records.Item.TheVariants.{State, Promise}
 use Rattle.tardis_base.specs.declared.records.Write.TheVariants.{Put as Value, Delete as Deletion}
 use Rattle.tardis_base.specs.declared.requests.Request.{Request}
 use Rattle.tardis_base.specs.declared.requests.Request.TheVariants.{Open, Begin, Get, Put, Delete, Commit, Abort, BeginMerge, ForkPoints, Conflicts, GetFor, Ceiling, Raise, RaiseAuto, Tidy, Stat, Show, Leaves, Pull, Deliver, Settle, Close}
-use Rattle.tardis_base.specs.declared.replies.Refusal.TheVariants.{AlreadyOpen, SessionsFull, Unknown, CeilingBack, WrongMode, NotRead, FloorBack, Held, SeqEnd, Unsupported, Collected, BadSite, OwnItem, ClosedParent, Comparable, OpenConflict}
+use Rattle.tardis_base.specs.declared.replies.Refusal.TheVariants.{AlreadyOpen, SessionsFull, Unknown, CeilingBack, WrongMode, NotRead, FloorBack, Held, SeqEnd, Collected, BadSite, OwnItem, ClosedParent, Comparable, OpenConflict}
 use Rattle.tardis_base.specs.declared.replies.Reply.{Reply}
 use Rattle.tardis_base.specs.declared.replies.Reply.TheVariants.{Opened, Done, Applied, Known, Early, Shown, Batch as BatchIs}
 use Rattle.tardis_base.specs.Ids.{is_among}
@@ -23,9 +23,7 @@ use Rattle.plain_dag.specs.Writers.{read}
 use Rattle.plain_dag.specs.Begin.{begin_state}
 use Rattle.plain_dag.specs.Entries.{entry_of, with_entry, changed}
 use Rattle.plain_dag.specs.Floors.{Session, floor_of, is_closed, with_floor, opening_session, with_ceiling, holding_session, automatic_floor}
-use Rattle.wire_talk.specs.Codes.{code_of}
 use Rattle.plain_site.specs.Site.{Site, Txn, Single, Merge, own_floor}
-use Rattle.plain_site.specs.Built.{Built, is_built}
 use Rattle.plain_site.specs.Answers.{Answer, says_early, when, refuse, refuse_found, found}
 use Rattle.plain_site.specs.Sessions.{open_session, close_session, begin, set_ceiling}
 use Rattle.plain_site.specs.Reads.{get, set_key, get_for}
@@ -34,7 +32,7 @@ use Rattle.plain_site.specs.Merges.{states_to_merge, begin_merge, fork_points_of
 use Rattle.plain_site.specs.FloorSteps.{raised, raise_to, raise, tidy}
 use Rattle.plain_site.specs.Shows.{show}
 use Rattle.plain_site.specs.Exchange.{is_early, judgements, take_record, with_held, deliver_record, consent_judgements, deliver, pull, batch_for, first_fit_record, with_settled, settle_record, settle}
-use Rattle.plain_site.specs.Step.{served, step}
+use Rattle.plain_site.specs.Step.{step}
 use Rattle.plain_site.specs.ClientRuns.{Told, having_settled, retold, regrown, resession}
 use Rattle.plain_site.proofs.SoundDeliveries.{taken-stays}
 use Rattle.plain_site.proofs.RepliesFrame.{given-good, by-session, by-txn, by-no-txn}
@@ -136,21 +134,21 @@ module _ (site : Site) (n : ℕ) where
   tells-nothing r reply other late = does-nothing site n (Deliver (State r)) reply (λ seen. refl) (λ rs s. refl) (untaken r reply other late)
 
   -- a record that isn't early
-  take-does : (built : Built) (r : Record) → IsFalse (says_early (take_record built site r).1) → Does site n (Deliver (State r)) (take_record built site r)
-  take-does built r late =
-      unless-no-taking (λ answer. IsFalse (says_early answer.1) → Does site n (Deliver (State r)) answer) site (judgements site r ++ growth_refusals built site r) (with_record r site, Applied)
-      (both-no-taking (judgements site r) (growth_refusals built site r) (judged-no-taking site r)
-      (found-no-taking (λ f. f) (growth_refusal built.path_limits site.limits site.collected site.dag r) [] tt)) (tells-nothing r)
+  take-does : (r : Record) → IsFalse (says_early (take_record site r).1) → Does site n (Deliver (State r)) (take_record site r)
+  take-does r late =
+      unless-no-taking (λ answer. IsFalse (says_early answer.1) → Does site n (Deliver (State r)) answer) site (judgements site r ++ growth_refusals site r) (with_record r site, Applied)
+      (both-no-taking (judgements site r) (growth_refusals site r) (judged-no-taking site r)
+      (found-no-taking (λ f. f) (growth_refusal true site.limits site.collected site.dag r) [] tt)) (tells-nothing r)
       (λ never. same-books site n (Deliver (State r)) (with_record r site) Applied (inr (r, refl)) (λ seen. refl) refl refl (λ seen. refl) (λ rs s. refl)) late
 
-  record-does : (built : Built) (r : Record) → Does site n (Deliver (State r)) (deliver_record built site r)
-  record-does built r =
-      let answer : Answer = take_record built site r in
+  record-does : (r : Record) → Does site n (Deliver (State r)) (deliver_record site r)
+  record-does r =
+      let answer : Answer = take_record site r in
       cond_both (says_early answer.1) (with_held r answer.0) answer.0 (λ (next : Site). Does site n (Deliver (State r)) (next, answer.1))
       (λ early.
-      subst (λ (next : Site). Does site n (Deliver (State r)) (with_held r next, answer.1)) (sym (taken-stays built site r early))
+      subst (λ (next : Site). Does site n (Deliver (State r)) (with_held r next, answer.1)) (sym (taken-stays site r early))
       (same-books site n (Deliver (State r)) (with_held r site) answer.1 (inl refl) (λ seen. sym (held r answer.1 early seen (bare site))) refl refl (λ seen. refl) (λ rs s. refl)))
-      (λ late. take-does built r late)
+      (λ late. take-does r late)
 
   -- a consent isn't taken where the reply isn't Applied
   untaken-consent : (c : Consent) (reply : Reply) → (reply ≡ Applied → ⊥) → (seen : Option Told) (s : Site) → regrown (Deliver (Promise c)) reply seen s ≡ s
@@ -172,9 +170,9 @@ module _ (site : Site) (n : ℕ) where
       (refuse-no-taking (c.site == site.own) (OwnItem c.site c.number) fourth
       (when-no-taking ahead (Early count) fifth (λ e. absurd (cc)) (refuse-no-taking back (FloorBack f.state) [] tt))))
 
-  deliver-does : (built : Built) (item : Item) → Does site n (Deliver item) (deliver built site item)
-  deliver-does built (State r) = record-does built r
-  deliver-does built (Promise c) =
+  deliver-does : (item : Item) → Does site n (Deliver item) (deliver site item)
+  deliver-does (State r) = record-does r
+  deliver-does (Promise c) =
       let next = record site { floors = with_floor site.floors c.site (record { state = c.floor; number = c.number; stated = c.count }) } in
       unless-no-taking (Does site n (Deliver (Promise c))) site (consent_judgements site c) (next, Applied) (consent-no-taking c)
       (λ reply other. does-nothing site n (Deliver (Promise c)) reply (λ seen. refl) (λ rs s. refl) (untaken-consent c reply other))
@@ -184,13 +182,13 @@ module _ (site : Site) (n : ℕ) where
   settled-told : (found : ℕ × Record) → first_fit_record site ≡ Some found → bare (with_settled found site) ≡ having_settled (bare site)
   settled-told found is = sym (ap (λ (o : Option (ℕ × Record)). elim o as (λ u. Site) [ None ↦ bare site | Some f ↦ with_settled f (bare site) ]) is)
 
-  settle-does : (built : Built) → Does site n Settle (settle built site)
-  settle-does built =
-      given-good (Does site n Settle) (first_fit_record site) (site, Done) (settle_record built site)
+  settle-does : Does site n Settle (settle site)
+  settle-does =
+      given-good (Does site n Settle) (first_fit_record site) (site, Done) (settle_record site)
       (λ none. does-nothing site n Settle Done (λ seen. refl) (λ rs s. refl) (λ seen s. refl))
       (λ found is.
-      unless-does site n Settle (growth_refusals built site found.1) (with_settled found site, Applied)
-      (found-only (λ f. f) (growth_refusal built.path_limits site.limits site.collected site.dag found.1) [] tt)
+      unless-does site n Settle (growth_refusals site found.1) (with_settled found site, Applied)
+      (found-only (λ f. f) (growth_refusal true site.limits site.collected site.dag found.1) [] tt)
       (same-books site n Settle (with_settled found site) Applied (inr (found.1, refl)) (λ seen. settled-told found is) refl refl (λ seen. refl) (λ rs s. refl)))
 
   -- ===== What only shows
@@ -239,41 +237,36 @@ module _ (site : Site) (n : ℕ) where
 
   -- ===== Each request
 
-  served-does : (built : Built) (q : Request) → Does site n q (served built site n q)
-  served-does built (Open follow) = open-does follow
-  served-does built (Begin b) = by-no-txn (refuses-does site n (Begin b)) n (λ s. begin site n s b) (λ s e. begin-does site n b s.ceiling (begin_state site.dag s.last b))
-  served-does built (Get k) = by-txn (refuses-does site n (Get k)) n (λ s t. get site n t k) (λ s t e d. get-does site n t k d)
-  served-does built (Put k v) =
+  pub step-does : (q : Request) → Does site n q (step site n q)
+  step-does (Open follow) = open-does follow
+  step-does (Begin b) = by-no-txn (refuses-does site n (Begin b)) n (λ s. begin site n s b) (λ s e. begin-does site n b s.ceiling (begin_state site.dag s.last b))
+  step-does (Get k) = by-txn (refuses-does site n (Get k)) n (λ s t. get site n t k) (λ s t e d. get-does site n t k d)
+  step-does (Put k v) =
       by-txn (refuses-does site n (Put k v)) n (λ s t. set_key site n t k (Value v))
       (λ s t e d. set-does site n (Put k v) t k (Value v) (λ seen. refl) (λ rs s. refl) (λ seen rs. refl) d)
-  served-does built (Delete k) =
+  step-does (Delete k) =
       by-txn (refuses-does site n (Delete k)) n (λ s t. set_key site n t k Deletion)
       (λ s t e d. set-does site n (Delete k) t k Deletion (λ seen. refl) (λ rs s. refl) (λ seen rs. refl) d)
-  served-does built (Commit flags k) =
-      by-txn (refuses-does site n (Commit flags k)) n (λ s t. commit built site n t flags k) (λ s t e d. commit-does site n built flags k t d)
-  served-does built Abort = by-txn (refuses-does site n Abort) n (λ s t. abort site n) (λ s t e d. abort-does site n)
-  served-does built (BeginMerge of) =
+  step-does (Commit flags k) =
+      by-txn (refuses-does site n (Commit flags k)) n (λ s t. commit site n t flags k) (λ s t e d. commit-does site n flags k t d)
+  step-does Abort = by-txn (refuses-does site n Abort) n (λ s t. abort site n) (λ s t e d. abort-does site n)
+  step-does (BeginMerge of) =
       by-no-txn (refuses-does site n (BeginMerge of)) n (λ s. begin_merge site n s of) (λ s e. merge-does site n of s.ceiling (states_to_merge site of))
-  served-does built ForkPoints = by-txn (refuses-does site n ForkPoints) n (λ s t. fork_points_of site t) (λ s t e d. fork-points-does t)
-  served-does built (Conflicts after) =
+  step-does ForkPoints = by-txn (refuses-does site n ForkPoints) n (λ s t. fork_points_of site t) (λ s t e d. fork-points-does t)
+  step-does (Conflicts after) =
       by-txn (refuses-does site n (Conflicts after)) n (λ s t. conflicts_of site t after) (λ s t e d. conflicts-does t after)
-  served-does built (GetFor k x) = by-txn (refuses-does site n (GetFor k x)) n (λ s t. get_for site t k x) (λ s t e d. get-for-does t k x)
-  served-does built (Ceiling x) = by-no-txn (refuses-does site n (Ceiling x)) n (λ s. set_ceiling site n s x) (λ s e. ceiling-does s x)
-  served-does built (Raise x) = raise-does x
-  served-does built RaiseAuto =
+  step-does (GetFor k x) = by-txn (refuses-does site n (GetFor k x)) n (λ s t. get_for site t k x) (λ s t e d. get-for-does t k x)
+  step-does (Ceiling x) = by-no-txn (refuses-does site n (Ceiling x)) n (λ s. set_ceiling site n s x) (λ s e. ceiling-does s x)
+  step-does (Raise x) = raise-does x
+  step-does RaiseAuto =
       raise_to-does RaiseAuto (automatic_floor site.dag (own_floor site).state site.sessions) [] tt (λ r seen. refl) (λ r rs s. refl) (λ seen. refl)
-  served-does built (Tidy count) =
+  step-does (Tidy count) =
       let next = tidy site count in
       same-books site n (Tidy count) next.0 next.1 (inl refl) (λ seen. refl) refl refl (λ seen. refl) (λ rs s. refl)
-  served-does built Stat = shows Stat (served built site n Stat).1 (λ r seen. refl) (λ r rs s. refl) (λ r seen rs. refl)
-  served-does built (Show x) = show-does x
-  served-does built Leaves = shows Leaves (served built site n Leaves).1 (λ r seen. refl) (λ r rs s. refl) (λ r seen rs. refl)
-  served-does built (Pull counts) = pull-does counts
-  served-does built (Deliver item) = deliver-does built item
-  served-does built Settle = settle-does built
-  served-does built Close = by-session (refuses-does site n Close) n (λ s. close_session site n) (λ s e. close-does)
-
-  pub step-does : (built : Built) (q : Request) → Does site n q (step built site n q)
-  step-does built q =
-      let unbuilt = not (is_built built q) in
-      unless-does site n q (refuse unbuilt (Unsupported (code_of q)) ∷ []) (served built site n q) (refuse-only unbuilt (Unsupported (code_of q)) [] tt) (served-does built q)
+  step-does Stat = shows Stat (step site n Stat).1 (λ r seen. refl) (λ r rs s. refl) (λ r seen rs. refl)
+  step-does (Show x) = show-does x
+  step-does Leaves = shows Leaves (step site n Leaves).1 (λ r seen. refl) (λ r rs s. refl) (λ r seen rs. refl)
+  step-does (Pull counts) = pull-does counts
+  step-does (Deliver item) = deliver-does item
+  step-does Settle = settle-does
+  step-does Close = by-session (refuses-does site n Close) n (λ s. close_session site n) (λ s e. close-does)

@@ -1,5 +1,5 @@
 -- What requests of transactions do.
-use Rattle.std.proofs.Common.{◌≡◌, ℕ, not, List, [], ◌∷◌, ◌++◌, length, Option, Some, None, IsTrue, IsFalse, inl, inr, refl, sym, ap, subst, ◌∙◌}
+use Rattle.std.proofs.Common.{◌≡◌, true, ℕ, not, List, [], ◌∷◌, ◌++◌, length, Option, Some, None, IsTrue, IsFalse, inl, inr, refl, sym, ap, subst, ◌∙◌}
 use Rattle.std.specs.Prelude.{◌==◌, ◌&&◌, nat_lt, find}
 use Rattle.std.proofs.lemmas.Bool.{and_from, and_right, cond-true, cond-false, not_from_false, not_from_true}
 use Rattle.std.specs.Option.{option_map}
@@ -28,7 +28,6 @@ use Rattle.plain_dag.specs.Entries.{entry_of, with_entry, changed, without_entry
 use Rattle.plain_dag.specs.Floors.{Session, after_commit}
 use Rattle.plain_dag.proofs.Keys.{has-new-key}
 use Rattle.plain_site.specs.Site.{Site, SingleTxn, Txn, Single, Merge, own_count, writes_of, read_states, with_txn_changed, next_record}
-use Rattle.plain_site.specs.Built.{Built}
 use Rattle.plain_site.specs.Answers.{Answer, refuse, refuse_found, shown, found}
 use Rattle.plain_site.specs.Sessions.{begin_at}
 use Rattle.plain_site.specs.Reads.{having_read, having_written, read_in, get, set_key}
@@ -215,7 +214,7 @@ module _ (site : Site) (n : ℕ) where
   pub abort-does : Does site n Abort (abort site n)
   abort-does = ended-does Abort Done (λ seen. refl) (λ rs s. refl) (λ seen rs. refl)
 
-  module _ (built : Built) (flags : EndFlags) (k : ℕ) where
+  module _ (flags : EndFlags) (k : ℕ) where
     -- the record is as the actor's lines and the reply tell
     recorded : (t : Txn) → entry_of n site.txns ≡ Some t → (r : Record) → r.writes ≡ writes_of t → (seen : Option Told) → Tells site.dag (entry_of n site.txns) seen →
         with_record r (bare site) ≡ regrown (Commit flags k) (Committed r.id r.parents) seen (bare site)
@@ -237,30 +236,30 @@ module _ (site : Site) (n : ℕ) where
         }
 
     commit_below-does : (t : Txn) → entry_of n site.txns ≡ Some t → (parents : List StateId) (refusals : List (Option Reply)) → OnlyRefuse refusals →
-        Does site n (Commit flags k) (commit_below built site n parents (writes_of t) refusals)
+        Does site n (Commit flags k) (commit_below site n parents (writes_of t) refusals)
     commit_below-does t there parents refusals only =
         let r = next_record site parents (writes_of t) in
         let over = own_count site == 4294967295 in
-        unless-does site n (Commit flags k) (refusals ++ refuse over SeqEnd ∷ growth_refusals built site r) (committed site n r)
-        (both-only refusals (refuse over SeqEnd ∷ growth_refusals built site r) only
-        (refuse-only over SeqEnd (growth_refusals built site r)
-        (found-only (λ f. f) (growth_refusal built.path_limits site.limits site.collected site.dag r) [] tt)))
+        unless-does site n (Commit flags k) (refusals ++ refuse over SeqEnd ∷ growth_refusals site r) (committed site n r)
+        (both-only refusals (refuse over SeqEnd ∷ growth_refusals site r) only
+        (refuse-only over SeqEnd (growth_refusals site r)
+        (found-only (λ f. f) (growth_refusal true site.limits site.collected site.dag r) [] tt)))
         (committed-does t there r refl)
 
-    commit_at-does : (t : SingleTxn) → entry_of n site.txns ≡ Some (Single t) → (x : StateId) → Does site n (Commit flags k) (commit_at built site n t flags k x)
+    commit_at-does : (t : SingleTxn) → entry_of n site.txns ≡ Some (Single t) → (x : StateId) → Does site n (Commit flags k) (commit_at site n t flags k x)
     commit_at-does t there x =
         let number_of_children = length (children site.dag x) in
         commit_below-does (Single t) there (x ∷ []) (refuse_found (λ (c : ℕ). Branches c x number_of_children) (broken flags k number_of_children) ∷ [])
         (found-only (λ (c : ℕ). Branches c x number_of_children) (broken flags k number_of_children) [] tt)
 
-    single-does : (t : SingleTxn) → entry_of n site.txns ≡ Some (Single t) → Does site n (Commit flags k) (commit_single built site n t flags k)
+    single-does : (t : SingleTxn) → entry_of n site.txns ≡ Some (Single t) → Does site n (Commit flags k) (commit_single site n t flags k)
     single-does t there = go t.writes
       where
-        go : (ws : List KeyWrite) → Does site n (Commit flags k) (elim ws as (λ v. Answer) [ [] ↦ (without_txn_of n site, Ended t.state) | w ∷ vs ↦ commit_writes built site n t flags k ])
+        go : (ws : List KeyWrite) → Does site n (Commit flags k) (elim ws as (λ v. Answer) [ [] ↦ (without_txn_of n site, Ended t.state) | w ∷ vs ↦ commit_writes site n t flags k ])
         go [] = ended-does (Commit flags k) (Ended t.state) (λ seen. refl) (λ rs s. refl) (λ seen rs. refl)
         go (w ∷ ws) = commit_at-does t there (landing site.dag (guarded flags t.reads (keys_of t.writes)) t.state)
 
-    pub commit-does : (t : Txn) → entry_of n site.txns ≡ Some t → Does site n (Commit flags k) (commit built site n t flags k)
+    pub commit-does : (t : Txn) → entry_of n site.txns ≡ Some t → Does site n (Commit flags k) (commit site n t flags k)
     commit-does (Single t) there = single-does t there
     commit-does (Merge t) there =
         let flagged = not (flags.0 == 0) in

@@ -13,7 +13,6 @@ use Rattle.plain_dag.specs.States.{is_known}
 use Rattle.plain_dag.specs.Dag.{IsNext, IsDag}
 use Rattle.plain_dag.proofs.Histories.{Fits, dag-grows, next-fits}
 use Rattle.plain_site.specs.Site.{Site, Txn, opening, read_states}
-use Rattle.plain_site.specs.Built.{Built}
 use Rattle.plain_site.specs.Step.{step}
 use Rattle.plain_site.specs.Sound.{IsSound}
 use Rattle.plain_site.specs.RowWords.{Line}
@@ -27,8 +26,8 @@ use Rattle.client_laws.proofs.Effects.{bare, wanting-tells-nothing, wanting-leav
 use Rattle.client_laws.proofs.EffectsOfSites.{step-does}
 
 -- the site is sound, and its transactions and sessions are as the lines tell
-pub record Holds (built : Built) (start site : Site) (lines : List Line) : Type 0 where
-  pub sound : IsSound built site
+pub record Holds (start site : Site) (lines : List Line) : Type 0 where
+  pub sound : IsSound site
   pub shared : bare site ≡ told_site start lines
   pub dag : site.dag ≡ history start lines
   pub txn : (n : ℕ) → Tells site.dag (entry_of n site.txns) (told n lines)
@@ -65,8 +64,8 @@ pub wanting-is : (reply : Reply) → IsTrue (wants_memory reply) → reply ≡ N
 wanting-is NoMemory t = refl
 wanting-is reply t = absurd (cc)
 
-module _ (built : Built) (start : Site) where
-  module _ (line : Line) (older : List Line) (h : Holds built start (site_after (step built) start older) older) where
+module _ (start : Site) where
+  module _ (line : Line) (older : List Line) (h : Holds start (site_after step start older) older) where
     session-here : (rs : List Record) → rs ≡ history start (line ∷ older) → told_session start line.actor (line ∷ older) ≡ resession rs line.request line.reply (told_session start line.actor older)
     session-here rs e =
         let before = told_session start line.actor older in
@@ -79,9 +78,9 @@ module _ (built : Built) (start : Site) where
         cond-false (line.actor == m) (resession (history start (line ∷ older)) line.request line.reply before) before (ne_eqb line.actor m (λ e. differ (sym e)))
 
     -- memory was wanting, and nothing was done
-    holds-wanting : IsTrue (wants_memory line.reply) → Holds built start (site_after (step built) start older) (line ∷ older)
+    holds-wanting : IsTrue (wants_memory line.reply) → Holds start (site_after step start older) (line ∷ older)
     holds-wanting wants =
-        let site = site_after (step built) start older in
+        let site = site_after step start older in
         let n = line.actor in
         let e = wanting-is line.reply wants in
         let as_told = told_site start older in
@@ -106,19 +105,19 @@ module _ (built : Built) (start : Site) where
         }
 
     -- an open transaction reads at known states
-    open-is-known : (i : ℕ) (t : Txn) → entry_of i (site_after (step built) start older).txns ≡ Some t → IsTrue (list_all (is_known (site_after (step built) start older).dag) (read_states t))
+    open-is-known : (i : ℕ) (t : Txn) → entry_of i (site_after step start older).txns ≡ Some t → IsTrue (list_all (is_known (site_after step start older).dag) (read_states t))
     open-is-known i t e = (h.sound.each_txn i t e).2.known
 
     -- the site answered
-    holds-answered : IsTrue (is_asked line) → line.reply ≡ (step built (site_after (step built) start older) line.actor line.request).1 →
-        Holds built start (step built (site_after (step built) start older) line.actor line.request).0 (line ∷ older)
+    holds-answered : IsTrue (is_asked line) → line.reply ≡ (step (site_after step start older) line.actor line.request).1 →
+        Holds start (step (site_after step start older) line.actor line.request).0 (line ∷ older)
     holds-answered asked e =
-        let site = site_after (step built) start older in
+        let site = site_after step start older in
         let n = line.actor in
-        let next = (step built site n line.request).0 in
-        let does = step-does site n built line.request in
+        let next = (step site n line.request).0 in
+        let does = step-does site n line.request in
         let parts = and_parts (is_u16 n) (is_request line.request) asked in
-        let sound = request-keeps-sound built line.request site n parts.0 parts.1 h.sound in
+        let sound = request-keeps-sound line.request site n parts.0 parts.1 h.sound in
         let whole : bare next ≡ told_site start (line ∷ older) =
         does.shared (told n older) (h.txn n)
         ∙ (ap (λ r. regrown line.request r (told n older) (bare site)) (sym e) ∙ ap (regrown line.request line.reply (told n older)) h.shared) in
@@ -144,25 +143,25 @@ module _ (built : Built) (start : Site) where
               (λ i differ. does.other_sessions i differ ∙ (h.session i ∙ sym (session-other i differ)));
         }
 
-    holds-after : IsTrue (is_asked line) → IsAnswered (step built) (site_after (step built) start older) line →
-        Holds built start (after_line (step built) (site_after (step built) start older) line) (line ∷ older)
+    holds-after : IsTrue (is_asked line) → IsAnswered step (site_after step start older) line →
+        Holds start (after_line step (site_after step start older) line) (line ∷ older)
     holds-after asked answered =
-        let site = site_after (step built) start older in
-        let next = (step built site line.actor line.request).0 in
+        let site = site_after step start older in
+        let next = (step site line.actor line.request).0 in
         elim (cases_Bool (wants_memory line.reply)) [
-          | inl wants ↦ subst (λ s. Holds built start s (line ∷ older)) (sym (cond-true (wants_memory line.reply) site next wants)) (holds-wanting wants)
+          | inl wants ↦ subst (λ s. Holds start s (line ∷ older)) (sym (cond-true (wants_memory line.reply) site next wants)) (holds-wanting wants)
           | inr f ↦
-              subst (λ s. Holds built start s (line ∷ older)) (sym (cond-false (wants_memory line.reply) site next f)) (holds-answered asked (by-step answered f))
+              subst (λ s. Holds start s (line ∷ older)) (sym (cond-false (wants_memory line.reply) site next f)) (holds-answered asked (by-step answered f))
         ]
       where
-        by-step : IsAnswered (step built) (site_after (step built) start older) line → IsFalse (wants_memory line.reply) →
-            line.reply ≡ (step built (site_after (step built) start older) line.actor line.request).1
+        by-step : IsAnswered step (site_after step start older) line → IsFalse (wants_memory line.reply) →
+            line.reply ≡ (step (site_after step start older) line.actor line.request).1
         by-step (inl e) f = e
         by-step (inr wants) f = absurd (cc)
 
   -- ===== Runs
 
-  opening-holds : IsSound built start → start ≡ opening start.limits start.own → Holds built start start []
+  opening-holds : IsSound start → start ≡ opening start.limits start.own → Holds start start []
   opening-holds sound e = record {
     sound = sound;
     shared = subst (λ (s : Site). bare s ≡ s) (sym e) refl;
@@ -171,26 +170,26 @@ module _ (built : Built) (start : Site) where
     session = λ n. ap (λ (s : Site). entry_of n s.sessions) e;
   }
 
-  holds-behind : (lines : List Line) → Holds built start start [] → AreAnswered (step built) start lines → Holds built start (site_after (step built) start lines) lines
+  holds-behind : (lines : List Line) → Holds start start [] → AreAnswered step start lines → Holds start (site_after step start lines) lines
   holds-behind [] h answered = h
   holds-behind (line ∷ older) h answered = holds-after line older (holds-behind older h answered.2) answered.0 answered.1
 
-  pub run-holds : (lines : List Line) → IsRun (step built) start lines → Holds built start (site_after (step built) start lines) lines
+  pub run-holds : (lines : List Line) → IsRun step start lines → Holds start (site_after step start lines) lines
   run-holds lines run =
-      holds-behind lines (opening-holds (subst (IsSound built) (sym run.opens) (opening-is-sound built start.limits start.own run.limits run.own)) run.opens) run.answered
+      holds-behind lines (opening-holds (subst IsSound (sym run.opens) (opening-is-sound start.limits start.own run.limits run.own)) run.opens) run.answered
 
   -- without its newest line it is a run too
-  pub run-before : (line : Line) (older : List Line) → IsRun (step built) start (line ∷ older) → IsRun (step built) start older
+  pub run-before : (line : Line) (older : List Line) → IsRun step start (line ∷ older) → IsRun step start older
   run-before line older run = record { limits = run.limits; own = run.own; opens = run.opens; answered = run.answered.2 }
 
 -- the history of the site after these lines
-abbrev pub dag_after : Built → Site → List Line → List Record
-dag_after built start lines = (site_after (step built) start lines).dag
+abbrev pub dag_after : Site → List Line → List Record
+dag_after start lines = (site_after step start lines).dag
 
-pub dag-is-told : (built : Built) (start : Site) (lines : List Line) → IsRun (step built) start lines → dag_after built start lines ≡ history start lines
-dag-is-told built start lines run = (run-holds built start lines run).dag
+pub dag-is-told : (start : Site) (lines : List Line) → IsRun step start lines → dag_after start lines ≡ history start lines
+dag-is-told start lines run = (run-holds start lines run).dag
 
-pub history-is-told : (built : Built) → HistoryIsTold (step built)
-history-is-told built start lines run =
-    let whole = (run-holds built start lines run).shared in
+pub history-is-told : HistoryIsTold step
+history-is-told start lines run =
+    let whole = (run-holds start lines run).shared in
     (ap (λ (s : Site). s.dag) whole, ap (λ (s : Site). s.floors) whole, ap (λ (s : Site). s.waiting) whole)

@@ -4,7 +4,7 @@ use Rattle.std.proofs.lemmas.Option.{none-some, same_Some}
 use Rattle.tardis_base.specs.declared.records.Write.{Write}
 use Rattle.tardis_base.specs.declared.requests.Request.TheVariants.{Get, GetFor}
 use Rattle.tardis_base.specs.declared.replies.Refusal.{Refusal}
-use Rattle.tardis_base.specs.declared.replies.Refusal.TheVariants.{NotOpen, TxnOpen, NoTxn, Unsupported, WrongMode, NotRead}
+use Rattle.tardis_base.specs.declared.replies.Refusal.TheVariants.{NotOpen, TxnOpen, NoTxn, WrongMode, NotRead}
 use Rattle.tardis_base.specs.declared.replies.Reply.{Reply}
 use Rattle.tardis_base.specs.declared.replies.Reply.TheVariants.{Refused, NoMemory}
 use Rattle.tardis_base.specs.Ids.{root, is_among}
@@ -14,17 +14,15 @@ use Rattle.plain_dag.specs.Writers.{read}
 use Rattle.plain_site.proofs.SoundAnswers.{when-none, none-parts}
 use Rattle.client_laws.proofs.Commits.{unless-none}
 use Rattle.plain_dag.specs.Entries.{entry_of}
-use Rattle.wire_talk.specs.Codes.{code_of}
 use Rattle.plain_site.specs.Site.{Site, MergeTxn, Txn, Single, Merge, writes_of}
-use Rattle.plain_site.specs.Built.{Built, is_built}
 use Rattle.plain_site.specs.Answers.{Answer, refuse, shown, found}
 use Rattle.plain_site.specs.Reads.{read_in, get, get_for}
-use Rattle.plain_site.specs.Step.{served, step}
+use Rattle.plain_site.specs.Step.{step}
 use Rattle.plain_site.specs.RowWords.{Line, ◌asks◌=>◌}
 use Rattle.plain_site.specs.ClientRuns.{wants_memory, is_shown, site_after, IsAnswered, told}
 use Rattle.plain_site.specs.ClientLaws.{OwnWritesAreRead, MergesShowEachSide}
 use Rattle.plain_site.proofs.RepliesFrame.{given-good, by-txn}
-use Rattle.client_laws.proofs.Effects.{refuse-only, unless-refused}
+use Rattle.client_laws.proofs.Effects.{refuse-only}
 use Rattle.client_laws.proofs.Held.{run-holds, run-before}
 use Rattle.client_laws.proofs.Laws.{tells-open, tells-seen}
 
@@ -32,7 +30,7 @@ use Rattle.client_laws.proofs.Laws.{tells-open, tells-seen}
 record ShowsOwn (site : Site) (n : ℕ) (k : List ℕ) (answer : Answer) : Type 0 where
   own : IsTrue (is_shown answer.1) → (t : Txn) (w : Write) → entry_of n site.txns ≡ Some t → write_of k (writes_of t) ≡ Some w → answer.1 ≡ shown root w
 
-module _ (built : Built) (site : Site) (n : ℕ) (k : List ℕ) where
+module _ (site : Site) (n : ℕ) (k : List ℕ) where
   refused-shows : (refusal : Refusal) → ShowsOwn site n k (site, Refused refusal)
   refused-shows refusal = record { own = λ h t w e d. absurd (cc) }
 
@@ -44,31 +42,28 @@ module _ (built : Built) (site : Site) (n : ℕ) (k : List ℕ) where
         own = λ h u w e d. ap (shown root) (same_Some v w (sym some ∙ (ap (λ x. write_of k (writes_of x)) (same_Some t u (sym there ∙ e)) ∙ d)));
       })
 
-  step-shows : ShowsOwn site n k (step built site n (Get k))
+  step-shows : ShowsOwn site n k (step site n (Get k))
   step-shows =
-      let unbuilt = not (is_built built (Get k)) in
-      unless-refused (ShowsOwn site n k) site (refuse unbuilt (Unsupported (code_of (Get k))) ∷ []) (served built site n (Get k))
-      (refuse-only unbuilt (Unsupported (code_of (Get k))) [] tt) refused-shows
-      (by-txn {site = site} {Good = ShowsOwn site n k}
+      by-txn {site = site} {Good = ShowsOwn site n k}
       (record { not_open = refused-shows NotOpen; no_txn = refused-shows NoTxn; txn_open = refused-shows TxnOpen }) n (λ s t. get site n t k)
-      (λ s t e d. get-shows t d))
+      (λ s t e d. get-shows t d)
 
 shown-wants-nothing : (reply : Reply) → IsTrue (is_shown reply) → IsTrue (wants_memory reply) → ⊥
 shown-wants-nothing NoMemory h t = absurd (cc)
 shown-wants-nothing reply h t = absurd (cc)
 
-shown-is-answered : (built : Built) (site : Site) (line : Line) → IsAnswered (step built) site line → IsTrue (is_shown line.reply) → line.reply ≡ (step built site line.actor line.request).1
-shown-is-answered built site line (inl e) h = e
-shown-is-answered built site line (inr wants) h = absurd (shown-wants-nothing line.reply h wants)
+shown-is-answered : (site : Site) (line : Line) → IsAnswered step site line → IsTrue (is_shown line.reply) → line.reply ≡ (step site line.actor line.request).1
+shown-is-answered site line (inl e) h = e
+shown-is-answered site line (inr wants) h = absurd (shown-wants-nothing line.reply h wants)
 
-pub own-writes-are-read : (built : Built) → OwnWritesAreRead (step built)
-own-writes-are-read built start older n key w reply t run e writes h =
-    let site = site_after (step built) start older in
+pub own-writes-are-read : OwnWritesAreRead step
+own-writes-are-read start older n key w reply t run e writes h =
+    let site = site_after step start older in
     let line = n asks Get key => reply in
-    let held = run-holds built start older (run-before built start line older run) in
+    let held = run-holds start older (run-before start line older run) in
     let its = tells-open site.dag (entry_of n site.txns) (told n older) t e (held.txn n) in
-    let is = shown-is-answered built site line run.answered.1 h in
-    is ∙ (step-shows built site n key).own (subst (λ r. IsTrue (is_shown r)) is h) its.0 w its.1 (ap (write_of key) (sym its.2.writes) ∙ writes)
+    let is = shown-is-answered site line run.answered.1 h in
+    is ∙ (step-shows site n key).own (subst (λ r. IsTrue (is_shown r)) is h) its.0 w its.1 (ap (write_of key) (sym its.2.writes) ∙ writes)
 
 -- ===== Each side of a merge
 
@@ -80,7 +75,7 @@ not-false : (b : Bool) → IsFalse (not b) → IsTrue b
 not-false true f = refl
 not-false false f = absurd (cc)
 
-module _ (built : Built) (site : Site) (n : ℕ) (k : List ℕ) (x : StateId) where
+module _ (site : Site) (n : ℕ) (k : List ℕ) (x : StateId) where
   refused-side : (refusal : Refusal) → ShowsSide site n k x (site, Refused refusal)
   refused-side refusal = record { side = λ h. absurd (cc) }
 
@@ -93,22 +88,19 @@ module _ (built : Built) (site : Site) (n : ℕ) (k : List ℕ) (x : StateId) wh
       let among = not-false (is_among x t.states) (when-none other (Refused (NotRead x)) (none-parts (refuse other (NotRead x)) [] none).0) in
       record { side = λ h. (t, there, among, refl) })
 
-  step-shows-side : ShowsSide site n k x (step built site n (GetFor k x))
+  step-shows-side : ShowsSide site n k x (step site n (GetFor k x))
   step-shows-side =
-      let unbuilt = not (is_built built (GetFor k x)) in
-      unless-refused (ShowsSide site n k x) site (refuse unbuilt (Unsupported (code_of (GetFor k x))) ∷ []) (served built site n (GetFor k x))
-      (refuse-only unbuilt (Unsupported (code_of (GetFor k x))) [] tt) refused-side
-      (by-txn {site = site} {Good = ShowsSide site n k x}
+      by-txn {site = site} {Good = ShowsSide site n k x}
       (record { not_open = refused-side NotOpen; no_txn = refused-side NoTxn; txn_open = refused-side TxnOpen }) n (λ s t. get_for site t k x)
-      (λ s t e d. get-for-shows t d))
+      (λ s t e d. get-for-shows t d)
 
-pub merges-show-each-side : (built : Built) → MergesShowEachSide (step built)
-merges-show-each-side built start older n key x reply run h =
-    let site = site_after (step built) start older in
+pub merges-show-each-side : MergesShowEachSide step
+merges-show-each-side start older n key x reply run h =
+    let site = site_after step start older in
     let line = n asks GetFor key x => reply in
-    let held = run-holds built start older (run-before built start line older run) in
-    let is = shown-is-answered built site line run.answered.1 h in
-    let at = (step-shows-side built site n key x).side (subst (λ r. IsTrue (is_shown r)) is h) in
+    let held = run-holds start older (run-before start line older run) in
+    let is = shown-is-answered site line run.answered.1 h in
+    let at = (step-shows-side site n key x).side (subst (λ r. IsTrue (is_shown r)) is h) in
     let u = tells-seen site.dag (entry_of n site.txns) (told n older) (Merge at.0) at.1 (held.txn n) in (
       u.0,
       u.1,

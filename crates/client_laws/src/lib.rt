@@ -1,10 +1,9 @@
 //! What a client can rely on, as laws over whole runs: from an opening site on, whatever any actors ask, other sites' records
-//! and promises included, under any limits, and whatever of the site is built. The program calls none of it: each function
-//! here is empty, and its contracts are laws, and beside each a wrong step that breaks it in a run of a few lines.
+//! and promises included, and under any limits. The program calls none of it: each function here is empty, and its contracts
+//! are laws, and beside each a wrong step that breaks it in a run of a few lines.
 //! `docs/MODEL.md` says each law in plain words.
 #![tactic(auto)]
 
-ghost use Rattle.plain_site.specs.Built.{Built};
 ghost use Rattle.plain_site.specs.Step.{step};
 ghost use Rattle.plain_site.specs.EventRuns.{EventsAreRuns};
 ghost use Rattle.plain_site.specs.ClientLaws.{ReadsOneSnapshot, ReadsAtItsState, OwnWritesAreRead, MergesShowEachSide, ReadersEndWhereTheyRead};
@@ -23,7 +22,7 @@ use wire_talk::talk_has_one_spelling;
 /// Whatever bytes actors send to a site that opens, and however these are answered, memory's wants included, what they ask and
 /// are answered is a run that leads to the same site. So the laws speak of all that actors send.
 pub fn events_are_runs()
-    ensures { (built : Built) → EventsAreRuns built }
+    ensures { EventsAreRuns }
 {
     talk_has_one_spelling();
 }
@@ -33,11 +32,11 @@ pub fn events_are_runs()
 /// a merge is shown each of its sides as it is. A transaction whose commit makes no state wrote nothing, and ends at the state
 /// that it read.
 pub fn transactions_read_one_snapshot()
-    ensures snapshot { (built : Built) → ReadsOneSnapshot (step built) }
-    ensures at_its_state { (built : Built) → ReadsAtItsState (step built) }
-    ensures own_writes { (built : Built) → OwnWritesAreRead (step built) }
-    ensures each_side { (built : Built) → MergesShowEachSide (step built) }
-    ensures ends { (built : Built) → ReadersEndWhereTheyRead (step built) }
+    ensures snapshot { ReadsOneSnapshot step }
+    ensures at_its_state { ReadsAtItsState step }
+    ensures own_writes { OwnWritesAreRead step }
+    ensures each_side { MergesShowEachSide step }
+    ensures ends { ReadersEndWhereTheyRead step }
     ensures newest_breaks { IsBrokenBy ReadsOneSnapshot reads_newest }
     ensures newest_breaks_state { IsBrokenBy ReadsAtItsState reads_newest }
     ensures forgotten_breaks { IsBrokenBy OwnWritesAreRead forgets_own_writes }
@@ -48,8 +47,8 @@ pub fn transactions_read_one_snapshot()
 /// Each serializable transaction has read what its place in its branch shows. So each branch is a serial history of its
 /// serializable transactions: done one after another from the root on, they read what they did read.
 pub fn serializable_transactions_read_what_their_place_shows()
-    ensures reads { (built : Built) → SerializableReadsHold (step built) }
-    ensures serial { (built : Built) → BranchesAreSerial (step built) }
+    ensures reads { SerializableReadsHold step }
+    ensures serial { BranchesAreSerial step }
     ensures forgotten_breaks { IsBrokenBy SerializableReadsHold forgets_reads }
     ensures forgotten_breaks_branches { IsBrokenBy BranchesAreSerial forgets_reads }
 {}
@@ -57,7 +56,7 @@ pub fn serializable_transactions_read_what_their_place_shows()
 /// A transaction under snapshot isolation overwrites nothing that it hasn't seen: between its snapshot and its place nothing
 /// writes a key that it wrote.
 pub fn snapshots_overwrite_nothing_unseen()
-    ensures unseen { (built : Built) → SnapshotsOverwriteNothingUnseen (step built) }
+    ensures unseen { SnapshotsOverwriteNothingUnseen step }
     ensures forgotten_breaks { IsBrokenBy SnapshotsOverwriteNothingUnseen forgets_constraints }
 {}
 
@@ -67,13 +66,13 @@ pub fn snapshots_overwrite_nothing_unseen()
 /// are shown to all below it until one of these writes the key. It stands below all that its transaction read, a merge just
 /// below all its read states; and it shows each key that it didn't write as the one value over its parents.
 pub fn nothing_committed_is_lost()
-    ensures history { (built : Built) → HistoryIsTold (step built) }
-    ensures kept { (built : Built) → CommitsAreKept (step built) }
-    ensures deliveries { (built : Built) → DeliveriesAreKept (step built) }
-    ensures settled { (built : Built) → SettledAreKept (step built) }
-    ensures shown { (built : Built) → CommitsAreShown (step built) }
-    ensures joins { (built : Built) → CommitsJoinWhatTheyRead (step built) }
-    ensures others { (built : Built) → OtherKeysAreJoined (step built) }
+    ensures history { HistoryIsTold step }
+    ensures kept { CommitsAreKept step }
+    ensures deliveries { DeliveriesAreKept step }
+    ensures settled { SettledAreKept step }
+    ensures shown { CommitsAreShown step }
+    ensures joins { CommitsJoinWhatTheyRead step }
+    ensures others { OtherKeysAreJoined step }
     ensures forgotten_breaks_history { IsBrokenBy HistoryIsTold forgets_collected }
     ensures forgotten_breaks { IsBrokenBy CommitsAreKept forgets_collected }
     ensures forgotten_breaks_deliveries { IsBrokenBy DeliveriesAreKept forgets_deliveries }
@@ -87,10 +86,10 @@ pub fn nothing_committed_is_lost()
 /// A session that begins at Parent reads its last commit, at Ancestor that or a state below it, and at Any too exactly where
 /// the state that arrived last is at or below it. Wherever it is told to begin, it never reads above its ceiling.
 pub fn sessions_read_their_own_commits()
-    ensures parent { (built : Built) → ParentReadsTheLastCommit (step built) }
-    ensures ancestor { (built : Built) → AncestorReadsTheLastCommit (step built) }
-    ensures any { (built : Built) → AnyReadsTheLastCommit (step built) }
-    ensures ceilings { (built : Built) → SessionsStayUnderCeilings (step built) }
+    ensures parent { ParentReadsTheLastCommit step }
+    ensures ancestor { AncestorReadsTheLastCommit step }
+    ensures any { AnyReadsTheLastCommit step }
+    ensures ceilings { SessionsStayUnderCeilings step }
     ensures forgotten_breaks { IsBrokenBy ParentReadsTheLastCommit forgets_commits }
     ensures forgotten_breaks_ancestor { IsBrokenBy AncestorReadsTheLastCommit forgets_commits }
     ensures own_breaks { IsBrokenBy AnyReadsTheLastCommit stays_with_own }
@@ -100,7 +99,7 @@ pub fn sessions_read_their_own_commits()
 /// A request that was refused is as if it hadn't been sent. So a refused commit leaves its transaction as it was, and the
 /// same commit with weaker constraints is answered as if the refused one had not been sent.
 pub fn refusals_hide_nothing()
-    ensures as_not_sent { (built : Built) → RefusalsHideNothing (step built) }
+    ensures as_not_sent { RefusalsHideNothing step }
     ensures ended_breaks { IsBrokenBy RefusalsHideNothing ends_refused }
 {}
 

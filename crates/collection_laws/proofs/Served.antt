@@ -16,7 +16,7 @@ use Rattle.tardis_base.specs.declared.requests.Request.TheVariants.{Open, Begin 
 use Rattle.tardis_base.specs.declared.requests.Request.TheVariants.{Conflicts, GetFor, Ceiling, Raise, RaiseAuto, Tidy, Stat, Show, Leaves, Pull}
 use Rattle.tardis_base.specs.declared.requests.Request.TheVariants.{Deliver, Settle, Close}
 use Rattle.tardis_base.specs.declared.replies.Refusal.TheVariants.{AlreadyOpen, SessionsFull, Unknown, Below, CeilingBack, WrongMode, NotRead}
-use Rattle.tardis_base.specs.declared.replies.Refusal.TheVariants.{TooMany, ConflictKey, FloorBack, Held, SeqEnd, Unsupported, BadSite, Comparable}
+use Rattle.tardis_base.specs.declared.replies.Refusal.TheVariants.{TooMany, ConflictKey, FloorBack, Held, SeqEnd, BadSite, Comparable}
 use Rattle.tardis_base.specs.declared.replies.Refusal.TheVariants.{OpenConflict, Branches}
 use Rattle.tardis_base.specs.declared.replies.Reply.{Reply}
 use Rattle.tardis_base.specs.declared.replies.Reply.TheVariants.{Opened, Done, Applied, Batch as BatchIs}
@@ -31,9 +31,7 @@ use Rattle.plain_dag.specs.Forks.{leaves}
 use Rattle.plain_dag.specs.Landing.{landing, guarded, broken}
 use Rattle.plain_dag.specs.Entries.{entry_of, with_entry, changed}
 use Rattle.plain_dag.specs.Floors.{Session, opening_session, with_ceiling, with_floor, holding_session, automatic_floor}
-use Rattle.wire_talk.specs.Codes.{code_of}
 use Rattle.plain_site.specs.Site.{Site, SingleTxn, Txn, Single, Merge, own_floor, own_count, next_record, writes_of, with_txn_changed}
-use Rattle.plain_site.specs.Built.{Built, is_built}
 use Rattle.plain_site.specs.Answers.{Answer, refuse, refuse_found, says_early, unless, shown, found}
 use Rattle.plain_site.specs.Sessions.{open_session, close_session, begun, begin_at, set_ceiling}
 use Rattle.plain_site.specs.Reads.{having_read, having_written, read_in, get, set_key, get_for}
@@ -42,11 +40,11 @@ use Rattle.plain_site.specs.Merges.{states_to_merge, in_order, merging, merge_at
 use Rattle.plain_site.specs.FloorSteps.{raised, raise_to, raise}
 use Rattle.plain_site.specs.Exchange.{judgements, take_record, with_held, deliver_record, consent_judgements, deliver_consent, deliver, pull}
 use Rattle.plain_site.specs.Exchange.{batch_for, first_fit_record, with_settled, settle_record, settle}
-use Rattle.plain_site.specs.Step.{served, step}
+use Rattle.plain_site.specs.Step.{step}
 use Rattle.collection_laws.specs.Laws.{asks_of_kept}
 use Rattle.collection_laws.proofs.Unseen.{other, Unseen, GrowsToo, append-unseen, unless-unseen, growth-unseen, given-unseen, by-session, by-txn, by-no-txn}
 
-module _ (ks : List StateId) (Seen : Reply → Type 0) (site : Site) (grows : (built : Built) (r : Record) → GrowsToo ks Seen built site r) where
+module _ (ks : List StateId) (Seen : Reply → Type 0) (site : Site) (grows : (r : Record) → GrowsToo ks Seen site r) where
   -- the site that collected something else
   abbrev there : Site
   there = other ks site
@@ -128,34 +126,34 @@ module _ (ks : List StateId) (Seen : Reply → Type 0) (site : Site) (grows : (b
 
     -- ===== Commits
 
-    below-unseen : (built : Built) (parents : List StateId) (writes : List KeyWrite) (refusals : List (Option Reply)) →
-        Unseen ks Seen (commit_below built site n parents writes refusals) (commit_below built there n parents writes refusals)
-    below-unseen built parents writes refusals =
+    below-unseen : (parents : List StateId) (writes : List KeyWrite) (refusals : List (Option Reply)) →
+        Unseen ks Seen (commit_below site n parents writes refusals) (commit_below there n parents writes refusals)
+    below-unseen parents writes refusals =
         let r = next_record site parents writes in
         let over = refuse (own_count site == 4294967295) SeqEnd in
-        append-unseen ks Seen site refusals (over ∷ growth_refusals built site r) (over ∷ growth_refusals built there r)
+        append-unseen ks Seen site refusals (over ∷ growth_refusals site r) (over ∷ growth_refusals there r)
         (committed site n r) (committed there n r)
-        (append-unseen ks Seen site (over ∷ []) (growth_refusals built site r) (growth_refusals built there r) (committed site n r) (committed there n r)
-        (growth-unseen ks Seen built site r (committed site n r) (committed there n r) (grows built r) (λ f g. refl)))
+        (append-unseen ks Seen site (over ∷ []) (growth_refusals site r) (growth_refusals there r) (committed site n r) (committed there n r)
+        (growth-unseen ks Seen site r (committed site n r) (committed there n r) (grows r) (λ f g. refl)))
 
-    single-unseen : (built : Built) (t : SingleTxn) (writes : List KeyWrite) (flags : EndFlags) (k : ℕ) → t.writes ≡ writes →
-        Unseen ks Seen (commit_single built site n t flags k) (commit_single built there n t flags k)
-    single-unseen built t [] flags k e =
-        subst (λ (ws : List KeyWrite). Unseen ks Seen (commit_single built site n (record t { writes = ws }) flags k)
-        (commit_single built there n (record t { writes = ws }) flags k))
+    single-unseen : (t : SingleTxn) (writes : List KeyWrite) (flags : EndFlags) (k : ℕ) → t.writes ≡ writes →
+        Unseen ks Seen (commit_single site n t flags k) (commit_single there n t flags k)
+    single-unseen t [] flags k e =
+        subst (λ (ws : List KeyWrite). Unseen ks Seen (commit_single site n (record t { writes = ws }) flags k)
+        (commit_single there n (record t { writes = ws }) flags k))
         (sym e) (λ f g. refl)
-    single-unseen built t (w ∷ ws) flags k e =
+    single-unseen t (w ∷ ws) flags k e =
         let x = landing site.dag (guarded flags t.reads (keys_of (w ∷ ws))) t.state in
         let number_of_children = length (children site.dag x) in
-        subst (λ (vs : List KeyWrite). Unseen ks Seen (commit_single built site n (record t { writes = vs }) flags k)
-        (commit_single built there n (record t { writes = vs }) flags k))
+        subst (λ (vs : List KeyWrite). Unseen ks Seen (commit_single site n (record t { writes = vs }) flags k)
+        (commit_single there n (record t { writes = vs }) flags k))
         (sym e)
-        (below-unseen built (x ∷ []) (w ∷ ws) (refuse_found (λ (c : ℕ). Branches c x number_of_children) (broken flags k number_of_children) ∷ []))
+        (below-unseen (x ∷ []) (w ∷ ws) (refuse_found (λ (c : ℕ). Branches c x number_of_children) (broken flags k number_of_children) ∷ []))
 
-    commit-unseen : (built : Built) (t : Txn) (flags : EndFlags) (k : ℕ) → Unseen ks Seen (commit built site n t flags k) (commit built there n t flags k)
-    commit-unseen built (Single t) flags k = single-unseen built t t.writes flags k refl
-    commit-unseen built (Merge t) flags k =
-        below-unseen built t.states t.writes (refuse (not (flags.0 == 0)) WrongMode ∷ refuse_found OpenConflict (open_conflict site.dag t.states t.writes) ∷ [])
+    commit-unseen : (t : Txn) (flags : EndFlags) (k : ℕ) → Unseen ks Seen (commit site n t flags k) (commit there n t flags k)
+    commit-unseen (Single t) flags k = single-unseen t t.writes flags k refl
+    commit-unseen (Merge t) flags k =
+        below-unseen t.states t.writes (refuse (not (flags.0 == 0)) WrongMode ∷ refuse_found OpenConflict (open_conflict site.dag t.states t.writes) ∷ [])
 
   -- ===== Floors
 
@@ -178,75 +176,70 @@ module _ (ks : List StateId) (Seen : Reply → Type 0) (site : Site) (grows : (b
       refusing (refuse (not (length counts == site.limits.sites)) (BadSite (length counts)) ∷ [])
       (site, BatchIs (batch_for site counts)) (there, BatchIs (batch_for site counts)) refl
 
-  take-unseen : (built : Built) (r : Record) → Unseen ks Seen (take_record built site r) (take_record built there r)
-  take-unseen built r =
-      append-unseen ks Seen site (judgements site r) (growth_refusals built site r) (growth_refusals built there r)
+  take-unseen : (r : Record) → Unseen ks Seen (take_record site r) (take_record there r)
+  take-unseen r =
+      append-unseen ks Seen site (judgements site r) (growth_refusals site r) (growth_refusals there r)
       (with_record r site, Applied) (with_record r there, Applied)
-      (growth-unseen ks Seen built site r (with_record r site, Applied) (with_record r there, Applied) (grows built r) (λ f g. refl))
+      (growth-unseen ks Seen site r (with_record r site, Applied) (with_record r there, Applied) (grows r) (λ f g. refl))
 
   held-there : (early : Bool) (r : Record) (s : Site) → (if early then with_held r (other ks s) else other ks s) ≡ other ks (if early then with_held r s else s)
   held-there true r s = refl
   held-there false r s = refl
 
-  record-unseen : (built : Built) (r : Record) → Unseen ks Seen (deliver_record built site r) (deliver_record built there r)
-  record-unseen built r f g =
-      let taken = take_record built site r in
+  record-unseen : (r : Record) → Unseen ks Seen (deliver_record site r) (deliver_record there r)
+  record-unseen r f g =
+      let taken = take_record site r in
       subst (λ (answer : Answer). ◌≡◌ {A = Answer} (if says_early answer.1 then with_held r answer.0 else answer.0, answer.1)
       (other ks (if says_early taken.1 then with_held r taken.0 else taken.0), taken.1))
-      (sym (take-unseen built r f g)) (ap (λ (s : Site). (s, taken.1)) (held-there (says_early taken.1) r taken.0))
+      (sym (take-unseen r f g)) (ap (λ (s : Site). (s, taken.1)) (held-there (says_early taken.1) r taken.0))
 
   consent-unseen : (c : Consent) → Unseen ks Seen (deliver_consent site c) (deliver_consent there c)
   consent-unseen c =
       let floors = with_floor site.floors c.site (record { state = c.floor; number = c.number; stated = c.count }) in
       refusing (consent_judgements site c) (record site { floors = floors }, Applied) (record there { floors = floors }, Applied) refl
 
-  deliver-unseen : (built : Built) (item : Item) → Unseen ks Seen (deliver built site item) (deliver built there item)
-  deliver-unseen built (State r) = record-unseen built r
-  deliver-unseen built (Promise c) = consent-unseen c
+  deliver-unseen : (item : Item) → Unseen ks Seen (deliver site item) (deliver there item)
+  deliver-unseen (State r) = record-unseen r
+  deliver-unseen (Promise c) = consent-unseen c
 
-  settle-unseen : (built : Built) → Unseen ks Seen (settle built site) (settle built there)
-  settle-unseen built =
-      given-unseen ks Seen (first_fit_record site) (site, Done) (there, Done) (settle_record built site) (settle_record built there) (λ f g. refl)
-      (λ place. growth-unseen ks Seen built site place.1 (with_settled place site, Applied) (with_settled place there, Applied)
-      (grows built place.1) (λ f g. refl))
+  settle-unseen : Unseen ks Seen (settle site) (settle there)
+  settle-unseen =
+      given-unseen ks Seen (first_fit_record site) (site, Done) (there, Done) (settle_record site) (settle_record there) (λ f g. refl)
+      (λ place. growth-unseen ks Seen site place.1 (with_settled place site, Applied) (with_settled place there, Applied)
+      (grows place.1) (λ f g. refl))
 
   -- ===== The step
 
-  module _ (built : Built) (n : ℕ) where
-    served-unseen : (q : Request) → IsFalse (asks_of_kept q) → Unseen ks Seen (served built site n q) (served built there n q)
-    served-unseen (Open follow) h = open-unseen n follow
-    served-unseen (BeginAt b) h =
+  module _ (n : ℕ) where
+    pub step-unseen : (q : Request) → IsFalse (asks_of_kept q) → Unseen ks Seen (step site n q) (step there n q)
+    step-unseen (Open follow) h = open-unseen n follow
+    step-unseen (BeginAt b) h =
         by-no-txn ks Seen site n (λ s. begin_at site n s.ceiling (begin_state site.dag s.last b))
         (λ s. begin_at there n s.ceiling (begin_state site.dag s.last b))
         (λ s. begin-unseen n s.ceiling (begin_state site.dag s.last b))
-    served-unseen (Get k) h = by-txn ks Seen site n (λ s t. get site n t k) (λ s t. get there n t k) (λ s t. get-unseen n t k)
-    served-unseen (Put k v) h =
+    step-unseen (Get k) h = by-txn ks Seen site n (λ s t. get site n t k) (λ s t. get there n t k) (λ s t. get-unseen n t k)
+    step-unseen (Put k v) h =
         by-txn ks Seen site n (λ s t. set_key site n t k (Value v)) (λ s t. set_key there n t k (Value v)) (λ s t. set-unseen n t k (Value v))
-    served-unseen (Delete k) h =
+    step-unseen (Delete k) h =
         by-txn ks Seen site n (λ s t. set_key site n t k Deletion) (λ s t. set_key there n t k Deletion) (λ s t. set-unseen n t k Deletion)
-    served-unseen (Commit flags k) h =
-        by-txn ks Seen site n (λ s t. commit built site n t flags k) (λ s t. commit built there n t flags k) (λ s t. commit-unseen n built t flags k)
-    served-unseen Abort h = by-txn ks Seen site n (λ s t. (without_txn_of n site, Done)) (λ s t. (without_txn_of n there, Done)) (λ s t f g. refl)
-    served-unseen (BeginMerge of) h =
+    step-unseen (Commit flags k) h =
+        by-txn ks Seen site n (λ s t. commit site n t flags k) (λ s t. commit there n t flags k) (λ s t. commit-unseen n t flags k)
+    step-unseen Abort h = by-txn ks Seen site n (λ s t. (without_txn_of n site, Done)) (λ s t. (without_txn_of n there, Done)) (λ s t f g. refl)
+    step-unseen (BeginMerge of) h =
         by-no-txn ks Seen site n (λ s. merge_at site n s.ceiling (states_to_merge site of)) (λ s. merge_at there n s.ceiling (states_to_merge there of))
         (λ s. merge-of-unseen n s.ceiling of)
-    served-unseen ForkPoints h = by-txn ks Seen site n (λ s t. fork_points_of site t) (λ s t. fork_points_of there t) (λ s t. fork-points-unseen n t)
-    served-unseen (Conflicts after) h =
+    step-unseen ForkPoints h = by-txn ks Seen site n (λ s t. fork_points_of site t) (λ s t. fork_points_of there t) (λ s t. fork-points-unseen n t)
+    step-unseen (Conflicts after) h =
         by-txn ks Seen site n (λ s t. conflicts_of site t after) (λ s t. conflicts_of there t after) (λ s t. conflicts-unseen n t after)
-    served-unseen (GetFor k x) h = by-txn ks Seen site n (λ s t. get_for site t k x) (λ s t. get_for there t k x) (λ s t. get_for-unseen n t k x)
-    served-unseen (Ceiling x) h = by-no-txn ks Seen site n (λ s. set_ceiling site n s x) (λ s. set_ceiling there n s x) (λ s. ceiling-unseen n s x)
-    served-unseen (Raise x) h = raise-unseen x
-    served-unseen RaiseAuto h = raise_to-unseen (automatic_floor site.dag (own_floor site).state site.sessions) []
-    served-unseen Leaves h = λ f g. refl
-    served-unseen (Pull counts) h = pull-unseen counts
-    served-unseen (Deliver item) h = deliver-unseen built item
-    served-unseen Settle h = settle-unseen built
-    served-unseen Close h = by-session ks Seen site n (λ s. close_session site n) (λ s. close_session there n) (λ s f g. refl)
-    served-unseen (Tidy count) h = absurd (cc)
-    served-unseen Stat h = absurd (cc)
-    served-unseen (Show x) h = absurd (cc)
-
-    pub step-unseen : (q : Request) → IsFalse (asks_of_kept q) → Unseen ks Seen (step built site n q) (step built there n q)
-    step-unseen q h =
-        unless-unseen ks Seen site (refuse (not (is_built built q)) (Unsupported (code_of q)) ∷ [])
-        (served built site n q) (served built there n q) (served-unseen q h)
+    step-unseen (GetFor k x) h = by-txn ks Seen site n (λ s t. get_for site t k x) (λ s t. get_for there t k x) (λ s t. get_for-unseen n t k x)
+    step-unseen (Ceiling x) h = by-no-txn ks Seen site n (λ s. set_ceiling site n s x) (λ s. set_ceiling there n s x) (λ s. ceiling-unseen n s x)
+    step-unseen (Raise x) h = raise-unseen x
+    step-unseen RaiseAuto h = raise_to-unseen (automatic_floor site.dag (own_floor site).state site.sessions) []
+    step-unseen Leaves h = λ f g. refl
+    step-unseen (Pull counts) h = pull-unseen counts
+    step-unseen (Deliver item) h = deliver-unseen item
+    step-unseen Settle h = settle-unseen
+    step-unseen Close h = by-session ks Seen site n (λ s. close_session site n) (λ s. close_session there n) (λ s f g. refl)
+    step-unseen (Tidy count) h = absurd (cc)
+    step-unseen Stat h = absurd (cc)
+    step-unseen (Show x) h = absurd (cc)

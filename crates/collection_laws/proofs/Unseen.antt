@@ -1,5 +1,5 @@
 -- Answers of two sites that agree in all but their collected states, through the words of the step.
-use Rattle.std.proofs.Common.{◌≡◌, ℕ, Bool, List, [], ◌∷◌, ◌++◌, length, Option, Some, None, IsTrue, IsFalse, refl}
+use Rattle.std.proofs.Common.{◌≡◌, true, ℕ, Bool, List, [], ◌∷◌, ◌++◌, length, Option, Some, None, IsTrue, IsFalse, refl}
 use Rattle.std.specs.Prelude.{◌==◌, if◌then◌else◌}
 use Rattle.std.specs.Option.{option_map}
 use Rattle.std.proofs.lemmas.Bool.{both_ways, cond_both}
@@ -16,7 +16,6 @@ use Rattle.plain_dag.specs.Entries.{entry_of}
 use Rattle.plain_dag.specs.Floors.{Session}
 use Rattle.plain_dag.specs.Growth.{growth_refusal}
 use Rattle.plain_site.specs.Site.{Site, Txn}
-use Rattle.plain_site.specs.Built.{Built}
 use Rattle.plain_site.specs.Answers.{Answer, refused, refuse_found, unless, given, with_session, with_txn, without_txn}
 use Rattle.plain_site.specs.Commits.{growth_refusals}
 use Rattle.collection_laws.specs.Laws.{tells_full}
@@ -52,9 +51,9 @@ module _ (ks : List StateId) (Seen : Reply → Type 0) where
   Unseen x y = IsFalse (tells_full x.1) → Seen y.1 → y ≡ (other ks x.0, x.1)
 
   -- where the first site grows by the record, a refusal of the second isn't such
-  abbrev pub GrowsToo : Built → Site → Record → Type 0
-  GrowsToo built site r = (refusal : Refusal) → growth_refusal built.path_limits site.limits site.collected site.dag r ≡ None →
-      growth_refusal built.path_limits site.limits ks site.dag r ≡ Some refusal → Seen (Refused refusal) → ⊥
+  abbrev pub GrowsToo : Site → Record → Type 0
+  GrowsToo site r = (refusal : Refusal) → growth_refusal true site.limits site.collected site.dag r ≡ None →
+      growth_refusal true site.limits ks site.dag r ≡ Some refusal → Seen (Refused refusal) → ⊥
 
   -- ===== Several replies, of which the first is given
 
@@ -79,12 +78,12 @@ module _ (ks : List StateId) (Seen : Reply → Type 0) where
   room-unseen site (Some refusal) there x y full grows h = λ f seen. absurd (both_ways (tells_full (Refused refusal)) f full)
 
   -- both sites grow, or the first has no room
-  pub growth-unseen : (built : Built) (site : Site) (r : Record) (x y : Answer) → GrowsToo built site r → Unseen x y →
-      Unseen (unless site (growth_refusals built site r) x) (unless (other ks site) (growth_refusals built (other ks site) r) y)
-  growth-unseen built site r x y grows h =
-      room-unseen site (growth_refusal built.path_limits site.limits site.collected site.dag r)
-      (growth_refusal built.path_limits site.limits ks site.dag r) x y
-      (growth-is-full built.path_limits site.limits site.collected site.dag r) grows h
+  pub growth-unseen : (site : Site) (r : Record) (x y : Answer) → GrowsToo site r → Unseen x y →
+      Unseen (unless site (growth_refusals site r) x) (unless (other ks site) (growth_refusals (other ks site) r) y)
+  growth-unseen site r x y grows h =
+      room-unseen site (growth_refusal true site.limits site.collected site.dag r)
+      (growth_refusal true site.limits ks site.dag r) x y
+      (growth-is-full true site.limits site.collected site.dag r) grows h
 
   -- ===== What is there
 

@@ -5,7 +5,6 @@ use Rattle.tardis_base.specs.declared.requests.Request.TheVariants.{Get, Tidy}
 use Rattle.tardis_base.specs.declared.replies.Reply.TheVariants.{Absent}
 use Rattle.plain_site.specs.Site.{Site}
 use Rattle.plain_site.specs.RowWords.{lone_site, program_limits, ◌·◌, ◌asks◌=>◌, get, none, commit, value}
-use Rattle.plain_site.specs.Built.{everything}
 use Rattle.plain_site.proofs.SoundOpening.{opening-is-sound}
 use Rattle.tardis_base.specs.Ids.{root}
 use Rattle.plain_site.specs.ClientRuns.{site_after, IsAnswered, IsRun}
@@ -62,9 +61,9 @@ pub kept-alone-breaks-runs : IsBrokenBy RunsGoTheSameWithout reads_kept_alone
 kept-alone-breaks-runs law = found-or-wanting (law lone_site write_missed write-missed room-without).0.1
 
 -- a request that finds no session is answered so where nothing is collected, and Full where the root is
-pub filled-breaks : IsBrokenBy (CollectingTakesNoRoom everything) fills_with_collected
+pub filled-breaks : IsBrokenBy CollectingTakesNoRoom fills_with_collected
 filled-breaks law =
-    let sound = opening-is-sound everything (program_limits 1) 1 refl refl in
+    let sound = opening-is-sound (program_limits 1) 1 refl refl in
     let full : true ≡ false = law lone_site (record lone_site { collected = root ∷ [] }) 1 (commit none) sound refl (λ x among. absurd (cc)) refl refl in
     absurd (cc)
 

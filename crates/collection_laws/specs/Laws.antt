@@ -8,7 +8,6 @@ use Rattle.tardis_base.specs.declared.replies.Reply.{Reply}
 use Rattle.tardis_base.specs.declared.replies.Reply.TheVariants.{Refused}
 use Rattle.tardis_base.specs.Ids.{is_among}
 use Rattle.plain_site.specs.Site.{Site}
-use Rattle.plain_site.specs.Built.{Built}
 use Rattle.plain_site.specs.Sound.{IsSound}
 use Rattle.plain_site.specs.RowWords.{Line}
 use Rattle.plain_site.specs.ClientRuns.{Service, site_after, AreAnswered, IsRun}
@@ -42,8 +41,8 @@ abbrev pub CollectedMore : Site → Site → Type 0
 CollectedMore a b = (x : StateId) → IsTrue (is_among x a.collected) → IsTrue (is_among x b.collected)
 
 -- of sites that agree so, one that collected more has room where a sound one has
-abbrev pub CollectingTakesNoRoom : Built → Service → Type 0
-CollectingTakesNoRoom built service = (a b : Site) (n : ℕ) (q : Request) → IsSound built a → AgreeButCollected a b → CollectedMore a b →
+abbrev pub CollectingTakesNoRoom : Service → Type 0
+CollectingTakesNoRoom service = (a b : Site) (n : ℕ) (q : Request) → IsSound a → AgreeButCollected a b → CollectedMore a b →
     IsFalse (asks_of_kept q) → IsFalse (tells_full (service a n q).1) → IsFalse (tells_full (service b n q).1)
 
 -- the other requests change no more than the collected states

@@ -5,7 +5,6 @@ use Rattle.tardis_base.specs.declared.replies.Refusal.TheVariants.{Full}
 use Rattle.tardis_base.specs.declared.replies.Reply.TheVariants.{Opened, Begun, Absent, Done, Committed, Raised, Tidied, Refused}
 use Rattle.tardis_base.specs.Ids.{is_among}
 use Rattle.plain_site.specs.Site.{Site, opening}
-use Rattle.plain_site.specs.Built.{everything}
 use Rattle.plain_site.specs.Answers.{refused}
 use Rattle.plain_site.specs.Step.{step}
 use Rattle.plain_site.specs.RowWords.{Line, Talk, site_after, program_limits, ◌·◌, ◌asks◌=>◌, opens, begin_any, get, put, none, commit}
@@ -18,14 +17,14 @@ with_kept_alone site = record site { dag = filter (λ r. not (is_among r.id site
 
 -- a Get finds only what kept states wrote
 abbrev pub reads_kept_alone : Service
-reads_kept_alone site n (Get k) = ((step everything site n (Get k)).0, (step everything (with_kept_alone site) n (Get k)).1)
-reads_kept_alone site n q = step everything site n q
+reads_kept_alone site n (Get k) = ((step site n (Get k)).0, (step (with_kept_alone site) n (Get k)).1)
+reads_kept_alone site n q = step site n q
 
 -- a commit finds no room where something is collected
 abbrev pub fills_with_collected : Service
 fills_with_collected site n (Commit flags k) =
-    if length site.collected == 0 then step everything site n (Commit flags k) else refused site (Full (length site.dag))
-fills_with_collected site n q = step everything site n q
+    if length site.collected == 0 then step site n (Commit flags k) else refused site (Full (length site.dag))
+fills_with_collected site n q = step site n q
 
 -- after its 1.1 wrote x, a following session makes 1.2; 1.1 is collected, and x isn't found at 1.2
 abbrev pub write_missed : List Line
@@ -59,12 +58,12 @@ root_is_closed =
 
 -- and that site
 abbrev pub closed_above : Site
-closed_above = site_after everything two_states root_is_closed
+closed_above = site_after two_states root_is_closed
 
 -- a full site refuses a commit, and once the root is collected the same commit is done
 abbrev pub CollectingMakesRoom : Type 0
 CollectingMakesRoom =
-    Talk everything closed_above
+    Talk closed_above
     (1 asks put "x" "2" => Done
     ∷ 1 asks commit none => Refused (Full 2)
     ∷ 0 asks Tidy 1 => Tidied 1

@@ -2,7 +2,6 @@
 //! wrong step that breaks it, and a worked row. `docs/MODEL.md` says them in plain words.
 #![tactic(auto)]
 
-ghost use Rattle.plain_site.specs.Built.{Built, everything};
 ghost use Rattle.plain_site.specs.Step.{step};
 ghost use Rattle.plain_site.specs.WrongSteps.{IsBrokenBy, forgets_collected};
 ghost use Rattle.collection_laws.specs.Laws.{CollectionIsUnseen, CollectingTakesNoRoom, OnlyCollectedChange, RunsGoTheSameWithout};
@@ -14,13 +13,13 @@ ghost use Rattle.collection_laws.specs.Rows.{reads_kept_alone, fills_with_collec
 /// or PathFull where one that collected more goes on; where it is sound, it is never the other way round. So a run goes without
 /// Tidy, Stat and Show as it went with them, as long as there is room without them.
 pub fn collection_is_unseen()
-    ensures unseen { (built : Built) → CollectionIsUnseen (step built) }
-    ensures takes_no_room { (built : Built) → CollectingTakesNoRoom built (step built) }
-    ensures rest_stays { (built : Built) → OnlyCollectedChange (step built) }
-    ensures runs { (built : Built) → RunsGoTheSameWithout (step built) }
+    ensures unseen { CollectionIsUnseen step }
+    ensures takes_no_room { CollectingTakesNoRoom step }
+    ensures rest_stays { OnlyCollectedChange step }
+    ensures runs { RunsGoTheSameWithout step }
     ensures makes_room { CollectingMakesRoom }
     ensures kept_alone_breaks { IsBrokenBy CollectionIsUnseen reads_kept_alone }
     ensures kept_alone_breaks_runs { IsBrokenBy RunsGoTheSameWithout reads_kept_alone }
-    ensures filled_breaks { IsBrokenBy (CollectingTakesNoRoom everything) fills_with_collected }
+    ensures filled_breaks { IsBrokenBy CollectingTakesNoRoom fills_with_collected }
     ensures forgotten_breaks { IsBrokenBy OnlyCollectedChange forgets_collected }
 {}

@@ -30,13 +30,12 @@ use Rattle.plain_dag.specs.Paths.{fork_path}
 use Rattle.plain_dag.specs.States.{arrival, children, is_known}
 use Rattle.plain_dag.specs.Writers.{read}
 use Rattle.plain_dag.proofs.States.{children-before}
-use Rattle.plain_site.proofs.SoundAnswers.{AreNone, given-keeps, no_txn-keeps, none-appended, session-keeps, step-keeps, txn-keeps, unless-keeps}
+use Rattle.plain_site.proofs.SoundAnswers.{AreNone, given-keeps, no_txn-keeps, none-appended, session-keeps, txn-keeps, unless-keeps}
 use Rattle.plain_site.proofs.SoundCommits.{MayJoin, merge_refusals, single-joins, unrefused-joins}
 use Rattle.plain_site.proofs.SoundHistories.{unfound-at}
 use Rattle.plain_site.proofs.SoundDeliveries.{waiting-is-record, welcome}
 use Rattle.plain_site.proofs.SoundRooms.{first-is-fit}
 use Rattle.plain_site.specs.Answers.{Answer, found, refuse, refuse_found, says_early, shown}
-use Rattle.plain_site.specs.Built.{Built}
 use Rattle.plain_site.specs.Commits.{abort, commit, commit_below, commit_single, commit_writes, committed, growth_refusals, with_record, without_txn_of}
 use Rattle.plain_site.specs.Exchange.{batch_for, consent_judgements, deliver, deliver_consent, deliver_record, first_fit_record, is_fit, judgements, pull, settle, settle_record, take_record, with_held, with_settled}
 use Rattle.plain_site.specs.FloorSteps.{raise, raise_to, raised}
@@ -47,9 +46,9 @@ use Rattle.plain_site.specs.Sessions.{begin, begin_at, begun, close_session, ope
 use Rattle.plain_site.specs.Shows.{show}
 use Rattle.plain_site.specs.Site.{Merge, Single, SingleTxn, Site, Txn, next_record, own_count, own_floor, with_txn_changed, writes_of}
 use Rattle.plain_site.specs.Sound.{IsSound, IsSoundTxn, may_wait}
-use Rattle.plain_site.specs.Step.{served}
+use Rattle.plain_site.specs.Step.{step}
 
-module _ (built : Built) (site : Site) (n : ℕ) (x : StateId) where
+module _ (site : Site) (n : ℕ) (x : StateId) where
   -- the state has the children that it had
   abbrev Stays : Site → Type 0
   Stays new = children new.dag x ≡ children site.dag x
@@ -138,19 +137,19 @@ module _ (built : Built) (site : Site) (n : ℕ) (x : StateId) where
 
   -- ===== Records whose parents aren't closed
 
-  module _ (sound : IsSound built site) (closed : IsTrue (is_closed site.dag site.floors x)) where
+  module _ (sound : IsSound site) (closed : IsTrue (is_closed site.dag site.floors x)) where
     joined-stays : (r : Record) → ((p : StateId) → IsTrue (is_among p r.parents) → IsFalse (is_closed site.dag site.floors p)) → children (r ∷ site.dag) x ≡ children site.dag x
     joined-stays r free = children-before site.dag r x (false_from_ne_true (is_among x r.parents) (λ m. both_ways (is_closed site.dag site.floors x) (free x m) closed))
 
     below-stays : (parents : List StateId) (writes : List KeyWrite) (refusals : List (Option Reply)) → (AreNone refusals → MayJoin site parents writes) →
-        Stays (commit_below built site n parents writes refusals).0
+        Stays (commit_below site n parents writes refusals).0
     below-stays parents writes refusals joins =
         let r = next_record site parents writes in
-        let others = refuse (own_count site == 4294967295) SeqEnd ∷ growth_refusals built site r in
+        let others = refuse (own_count site == 4294967295) SeqEnd ∷ growth_refusals site r in
         unless-keeps Stays site refl (refusals ++ others) (committed site n r) (λ none. joined-stays r (joins (none-appended refusals others none).0).free)
 
     single-stays : (s : Session) (t : SingleTxn) (flags : EndFlags) (k : ℕ) → entry_of n site.sessions ≡ Some s → IsSoundTxn site.dag s.ceiling (Single t) →
-        Stays (commit_single built site n t flags k).0
+        Stays (commit_single site n t flags k).0
     single-stays s t flags k has txn = go t.writes
       where
         at : StateId
@@ -159,69 +158,69 @@ module _ (built : Built) (site : Site) (n : ℕ) (x : StateId) where
         number : ℕ
         number = length (children site.dag at)
 
-        go : (ws : List KeyWrite) → Stays (elim ws as (λ v. Answer) [ [] ↦ (without_txn_of n site, Ended t.state) | w ∷ vs ↦ commit_writes built site n t flags k ]).0
+        go : (ws : List KeyWrite) → Stays (elim ws as (λ v. Answer) [ [] ↦ (without_txn_of n site, Ended t.state) | w ∷ vs ↦ commit_writes site n t flags k ]).0
         go [] = refl
-        go (w ∷ ws) = below-stays (at ∷ []) t.writes (refuse_found (λ c. Branches c at number) (broken flags k number) ∷ []) (λ none. single-joins built site n s t flags has txn sound)
+        go (w ∷ ws) = below-stays (at ∷ []) t.writes (refuse_found (λ c. Branches c at number) (broken flags k number) ∷ []) (λ none. single-joins site n s t flags has txn sound)
 
-    commit-stays : (t : Txn) (flags : EndFlags) (k : ℕ) → entry_of n site.txns ≡ Some t → Stays (commit built site n t flags k).0
+    commit-stays : (t : Txn) (flags : EndFlags) (k : ℕ) → entry_of n site.txns ≡ Some t → Stays (commit site n t flags k).0
     commit-stays t flags k has = let was = sound.each_txn n t has in go was.0 t was.1 was.2
       where
-        go : (s : Session) (t : Txn) → entry_of n site.sessions ≡ Some s → IsSoundTxn site.dag s.ceiling t → Stays (commit built site n t flags k).0
+        go : (s : Session) (t : Txn) → entry_of n site.sessions ≡ Some s → IsSoundTxn site.dag s.ceiling t → Stays (commit site n t flags k).0
         go s (Single t) opened txn = single-stays s t flags k opened txn
-        go s (Merge t) opened txn = below-stays t.states t.writes (merge_refusals site t flags) (unrefused-joins built site n s t flags opened txn sound)
+        go s (Merge t) opened txn = below-stays t.states t.writes (merge_refusals site t flags) (unrefused-joins site n s t flags opened txn sound)
 
-    take-stays : (r : Record) → IsTrue (is_record r) → Stays (take_record built site r).0
+    take-stays : (r : Record) → IsTrue (is_record r) → Stays (take_record site r).0
     take-stays r valid =
-        unless-keeps Stays site refl (judgements site r ++ growth_refusals built site r) (with_record r site, Applied)
+        unless-keeps Stays site refl (judgements site r ++ growth_refusals site r) (with_record r site, Applied)
         (λ none.
-        let is_welcome = welcome built site r valid sound (none-appended (judgements site r) (growth_refusals built site r) none).0 in
+        let is_welcome = welcome site r valid sound (none-appended (judgements site r) (growth_refusals site r) none).0 in
         joined-stays r (λ p m. unfound-at (is_closed site.dag site.floors) r.parents p is_welcome.free m))
 
-    record-stays : (r : Record) → IsTrue (is_record r) → Stays (deliver_record built site r).0
+    record-stays : (r : Record) → IsTrue (is_record r) → Stays (deliver_record site r).0
     record-stays r valid =
-        let answer : Answer = take_record built site r in
+        let answer : Answer = take_record site r in
         cond_both (says_early answer.1) (with_held r answer.0) answer.0 (λ (next : Site). Stays next) (λ early. take-stays r valid) (λ late. take-stays r valid)
 
-    settle-stays : Stays (settle built site).0
+    settle-stays : Stays (settle site).0
     settle-stays =
-        given-keeps Stays site refl (first_fit_record site) (site, Done) (settle_record built site) (λ none. refl)
-        (λ found is. unless-keeps Stays site refl (growth_refusals built site found.1) (with_settled found site, Applied)
+        given-keeps Stays site refl (first_fit_record site) (site, Done) (settle_record site) (λ none. refl)
+        (λ found is. unless-keeps Stays site refl (growth_refusals site found.1) (with_settled found site, Applied)
         (λ none.
         let fit = first-is-fit (is_fit site) site.waiting found is in
         let valid = waiting-is-record site found.1 (fit.as_all (may_wait site.limits.sites site.own) sound.waiting.each) in
-        let is_welcome = welcome built site found.1 valid sound fit.passes in
+        let is_welcome = welcome site found.1 valid sound fit.passes in
         joined-stays found.1 (λ p m. unfound-at (is_closed site.dag site.floors) found.1.parents p is_welcome.free m)))
 
-    deliver-stays : (item : Item) → IsTrue (is_item item) → Stays (deliver built site item).0
+    deliver-stays : (item : Item) → IsTrue (is_item item) → Stays (deliver site item).0
     deliver-stays (State r) valid = record-stays r valid
     deliver-stays (Promise c) valid = consent-stays c
 
     -- ===== Each request
 
-    served-stays : (q : Request) → IsTrue (is_request q) → Stays (served built site n q).0
-    served-stays (Open follow) valid = open-stays follow
-    served-stays (BeginAt b) valid = no_txn-keeps Stays site refl n (λ s. begin site n s b) (λ s e none. begin-stays s.ceiling (begin_state site.dag s.last b))
-    served-stays (Get k) valid = txn-keeps Stays site refl n (λ s t. get site n t k) (λ s e t f. get-stays t k)
-    served-stays (Put k v) valid = txn-keeps Stays site refl n (λ s t. set_key site n t k (Value v)) (λ s e t f. write-stays t k (Value v))
-    served-stays (Delete k) valid = txn-keeps Stays site refl n (λ s t. set_key site n t k Deletion) (λ s e t f. write-stays t k Deletion)
-    served-stays (Commit flags k) valid = txn-keeps Stays site refl n (λ s t. commit built site n t flags k) (λ s e t f. commit-stays t flags k f)
-    served-stays Abort valid = txn-keeps Stays site refl n (λ s t. abort site n) (λ s e t f. refl)
-    served-stays (BeginMerge of) valid = no_txn-keeps Stays site refl n (λ s. begin_merge site n s of) (λ s e none. merge-stays s.ceiling (states_to_merge site of))
-    served-stays ForkPoints valid = txn-keeps Stays site refl n (λ s t. fork_points_of site t) (λ s e t f. forks-stay t)
-    served-stays (Conflicts after) valid = txn-keeps Stays site refl n (λ s t. conflicts_of site t after) (λ s e t f. conflicts-stay t after)
-    served-stays (GetFor k y) valid = txn-keeps Stays site refl n (λ s t. get_for site t k y) (λ s e t f. get_for-stays t k y)
-    served-stays (Ceiling y) valid = no_txn-keeps Stays site refl n (λ s. set_ceiling site n s y) (λ s e none. set-stays s y)
-    served-stays (Raise y) valid = raise-any y
-    served-stays RaiseAuto valid = raise-stays (automatic_floor site.dag (own_floor site).state site.sessions) []
-    served-stays (Tidy count) valid = refl
-    served-stays Stat valid = refl
-    served-stays (Show y) valid = show-stays y
-    served-stays Leaves valid = refl
-    served-stays (Pull counts) valid = pull-stays counts
-    served-stays (Deliver item) valid = deliver-stays item valid
-    served-stays Settle valid = settle-stays
-    served-stays Close valid = session-keeps Stays site refl n (λ s. close_session site n) (λ s e. refl)
+    request-stays : (q : Request) → IsTrue (is_request q) → Stays (step site n q).0
+    request-stays (Open follow) valid = open-stays follow
+    request-stays (BeginAt b) valid = no_txn-keeps Stays site refl n (λ s. begin site n s b) (λ s e none. begin-stays s.ceiling (begin_state site.dag s.last b))
+    request-stays (Get k) valid = txn-keeps Stays site refl n (λ s t. get site n t k) (λ s e t f. get-stays t k)
+    request-stays (Put k v) valid = txn-keeps Stays site refl n (λ s t. set_key site n t k (Value v)) (λ s e t f. write-stays t k (Value v))
+    request-stays (Delete k) valid = txn-keeps Stays site refl n (λ s t. set_key site n t k Deletion) (λ s e t f. write-stays t k Deletion)
+    request-stays (Commit flags k) valid = txn-keeps Stays site refl n (λ s t. commit site n t flags k) (λ s e t f. commit-stays t flags k f)
+    request-stays Abort valid = txn-keeps Stays site refl n (λ s t. abort site n) (λ s e t f. refl)
+    request-stays (BeginMerge of) valid = no_txn-keeps Stays site refl n (λ s. begin_merge site n s of) (λ s e none. merge-stays s.ceiling (states_to_merge site of))
+    request-stays ForkPoints valid = txn-keeps Stays site refl n (λ s t. fork_points_of site t) (λ s e t f. forks-stay t)
+    request-stays (Conflicts after) valid = txn-keeps Stays site refl n (λ s t. conflicts_of site t after) (λ s e t f. conflicts-stay t after)
+    request-stays (GetFor k y) valid = txn-keeps Stays site refl n (λ s t. get_for site t k y) (λ s e t f. get_for-stays t k y)
+    request-stays (Ceiling y) valid = no_txn-keeps Stays site refl n (λ s. set_ceiling site n s y) (λ s e none. set-stays s y)
+    request-stays (Raise y) valid = raise-any y
+    request-stays RaiseAuto valid = raise-stays (automatic_floor site.dag (own_floor site).state site.sessions) []
+    request-stays (Tidy count) valid = refl
+    request-stays Stat valid = refl
+    request-stays (Show y) valid = show-stays y
+    request-stays Leaves valid = refl
+    request-stays (Pull counts) valid = pull-stays counts
+    request-stays (Deliver item) valid = deliver-stays item valid
+    request-stays Settle valid = settle-stays
+    request-stays Close valid = session-keeps Stays site refl n (λ s. close_session site n) (λ s e. refl)
 
-pub closed-get-no-child : (built : Built) (q : Request) → ClosedGetNoChild built q
-closed-get-no-child built q site n x valid sound closed =
-    step-keeps (Stays built site n x) site refl built n q (served-stays built site n x sound closed q valid)
+pub closed-get-no-child : (q : Request) → ClosedGetNoChild q
+closed-get-no-child q site n x valid sound closed =
+    request-stays site n x sound closed q valid

@@ -15,17 +15,16 @@ use Rattle.plain_dag.specs.Floors.{is_closed}
 use Rattle.plain_dag.proofs.Ids.{not-both}
 use Rattle.plain_dag.proofs.Searches.{found-passes, finds-passing}
 use Rattle.plain_site.specs.Site.{Site}
-use Rattle.plain_site.specs.Built.{Built}
 use Rattle.plain_site.specs.Answers.{Answer, when, refuse, refuse_found, unless}
 use Rattle.plain_site.specs.Commits.{growth_refusals, with_record}
 use Rattle.plain_site.specs.Exchange.{is_early}
 use Rattle.plain_site.specs.CollectionLaws.{CollectedAreNeverAdmitted, BelowCollectedIsTurnedAway}
 use Rattle.plain_site.proofs.SoundCommits.{admitted-isnt_closed}
 
-pub collected-are-never-admitted : (built : Built) → CollectedAreNeverAdmitted built
-collected-are-never-admitted built site n s x sound has among =
+pub collected-are-never-admitted : CollectedAreNeverAdmitted
+collected-are-never-admitted site n s x sound has among =
     false_from_ne_true (is_admitted site.dag s.ceiling x) (λ admitted.
-    both_ways (is_closed site.dag site.floors x) (admitted-isnt_closed built site n s x sound has admitted) (sound.collected.closed x among))
+    both_ways (is_closed site.dag site.floors x) (admitted-isnt_closed site n s x sound has admitted) (sound.collected.closed x among))
 
 -- the reply where a closed parent is refused behind four tests
 abbrev judged : Site → Bool → Refusal → Bool → Bool → Refusal → Bool → ℕ → Option StateId → List (Option Reply) → Answer → Reply
@@ -48,14 +47,14 @@ names-parent site false one false true three early have q more answer a b c d = 
 names-parent site false one false false three true have q more answer a b c d = not-both true refl d
 names-parent site false one false false three false have q more answer a b c d = refl
 
-pub below-collected-is-turned-away : (built : Built) → BelowCollectedIsTurnedAway built
-below-collected-is-turned-away built site r p sound parent among =
+pub below-collected-is-turned-away : BelowCollectedIsTurnedAway
+below-collected-is-turned-away site r p sound parent among =
     let rs = site.dag in
     let found = finds-passing (is_closed rs site.floors) r.parents p parent (sound.collected.closed p among) in
     let q = found.0 in
     let count = count_of_site rs r.id.site in
     let more : List (Option Reply) =
-    refuse_found (λ (pair : StateId × StateId). Comparable pair.0 pair.1) (comparable_pair rs r.parents) ∷ refuse_found OpenConflict (open_conflict rs r.parents r.writes) ∷ growth_refusals built site r in
+    refuse_found (λ (pair : StateId × StateId). Comparable pair.0 pair.1) (comparable_pair rs r.parents) ∷ refuse_found OpenConflict (open_conflict rs r.parents r.writes) ∷ growth_refusals site r in
     let says : Option StateId → Reply =
     λ o. judged site (nat_lt site.limits.sites r.id.site) (BadSite r.id.site) (nat_le r.id.sequence count) (r.id.site == site.own) (OwnItem r.id.site r.id.sequence) (is_early site r) count o more (with_record r site, Applied) in
     record {

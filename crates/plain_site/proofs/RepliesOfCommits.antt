@@ -20,7 +20,6 @@ use Rattle.plain_dag.specs.Landing.{is_nb, is_kb, landing, guarded, broken}
 use Rattle.plain_dag.specs.Growth.{growth_refusal}
 use Rattle.plain_dag.proofs.Landing.{lands-below}
 use Rattle.plain_site.specs.Site.{Site, SingleTxn, MergeTxn, Txn, Single, Merge, own_count, next_id}
-use Rattle.plain_site.specs.Built.{Built}
 use Rattle.plain_site.specs.Answers.{refuse, refuse_found, unless}
 use Rattle.plain_site.specs.Commits.{without_txn_of, growth_refusals, committed, commit_below, commit_at, commit_single, commit_merge, commit}
 use Rattle.plain_site.specs.Sound.{IsSoundTxn}
@@ -34,10 +33,10 @@ use Rattle.plain_site.proofs.RepliesOfReads.{single-writes, merge-states}
 
 -- ===== Growth
 
-pub growth-fits : (built : Built) (site : Site) (r : Record) → IsRanged site → IsTrue (is_stored r) → AllGood Fits (growth_refusals built site r)
-growth-fits built site r ranged h =
-    good-found (λ f. f) (growth_refusal built.path_limits site.limits site.collected site.dag r) []
-    (λ f e. refusal-fits f (growth-refusal-is-valid built.path_limits site.limits site.collected site.dag r f grows e)) good-none
+pub growth-fits : (site : Site) (r : Record) → IsRanged site → IsTrue (is_stored r) → AllGood Fits (growth_refusals site r)
+growth-fits site r ranged h =
+    good-found (λ f. f) (growth_refusal true site.limits site.collected site.dag r) []
+    (λ f e. refusal-fits f (growth-refusal-is-valid true site.limits site.collected site.dag r f grows e)) good-none
   where
     grows : GrowsInRange site.dag site.collected site.limits r
     grows = record {
@@ -57,21 +56,21 @@ next-is-id site ranged f =
     (or_right (same_id (next_id site) root) (nat_le 1 site.own && nat_le 1 (own_count site + 1))
     (and_from (nat_le 1 site.own) (nat_le 1 (own_count site + 1)) (le-leb 1 site.own ranged.own.0) (le-leb 1 (own_count site + 1) some)))
 
-pub commit-below-fits : (built : Built) (site : Site) (n : ℕ) (parents : List StateId) (writes : List KeyWrite) (refusals : List (Option Reply))
-    → IsRanged site → IsTrue (are_parents parents) → IsTrue (are_writes writes) → AllGood Fits refusals → Replies Fits (commit_below built site n parents writes refusals)
-commit-below-fits built site n parents writes refusals ranged p w fit =
-    unless-both-good site refusals (refuse (own_count site == 4294967295) SeqEnd ∷ growth_refusals built site r) (committed site n r) fit (λ none.
-    unless-both-good site (refuse (own_count site == 4294967295) SeqEnd ∷ []) (growth_refusals built site r) (committed site n r)
+pub commit-below-fits : (site : Site) (n : ℕ) (parents : List StateId) (writes : List KeyWrite) (refusals : List (Option Reply))
+    → IsRanged site → IsTrue (are_parents parents) → IsTrue (are_writes writes) → AllGood Fits refusals → Replies Fits (commit_below site n parents writes refusals)
+commit-below-fits site n parents writes refusals ranged p w fit =
+    unless-both-good site refusals (refuse (own_count site == 4294967295) SeqEnd ∷ growth_refusals site r) (committed site n r) fit (λ none.
+    unless-both-good site (refuse (own_count site == 4294967295) SeqEnd ∷ []) (growth_refusals site r) (committed site n r)
     (good-when (own_count site == 4294967295) (Refused SeqEnd) [] (refusal-fits SeqEnd refl) good-none)
     (λ more. made (next-is-id site ranged (none-when (own_count site == 4294967295) (Refused SeqEnd) [] more).0)))
   where
     r : Record
     r = record { id = next_id site; parents = parents; writes = writes }
 
-    made : IsTrue (is_id (next_id site)) → Replies Fits (unless site (growth_refusals built site r) (committed site n r))
+    made : IsTrue (is_id (next_id site)) → Replies Fits (unless site (growth_refusals site r) (committed site n r))
     made id =
-        unless-good site (growth_refusals built site r) (committed site n r)
-        (growth-fits built site r ranged (and_from (is_id (next_id site)) (are_writes writes) id w))
+        unless-good site (growth_refusals site r) (committed site n r)
+        (growth-fits site r ranged (and_from (is_id (next_id site)) (are_writes writes) id w))
         (λ none. good-reply (committed site n r).0 (Committed r.id r.parents) (reply-fits (Committed r.id r.parents) refl (and_from (is_id r.id) (are_parents parents) id p)))
 
 -- ===== Single transactions
@@ -94,25 +93,25 @@ broken-is-constraint flags k number c e = elim (cases_Bool (is_nb flags && nat_l
 one-parent : (x : StateId) → IsTrue (is_id x) → IsTrue (are_parents (x ∷ []))
 one-parent x h = and_from (is_id x && true) true (and_from (is_id x) true h refl) refl
 
-commit-at-fits : (built : Built) (site : Site) (n : ℕ) (t : SingleTxn) (flags : EndFlags) (k : ℕ) (x : StateId)
-    → IsRanged site → IsTrue (are_writes t.writes) → IsTrue (is_id x) → Replies Fits (commit_at built site n t flags k x)
-commit-at-fits built site n t flags k x ranged w h =
+commit-at-fits : (site : Site) (n : ℕ) (t : SingleTxn) (flags : EndFlags) (k : ℕ) (x : StateId)
+    → IsRanged site → IsTrue (are_writes t.writes) → IsTrue (is_id x) → Replies Fits (commit_at site n t flags k x)
+commit-at-fits site n t flags k x ranged w h =
     let number : ℕ = length (children site.dag x) in
     let few : number < 2 ^ 32 = omega (arith, ranged.few_children x) in
-    commit-below-fits built site n (x ∷ []) t.writes (refuse_found (λ c. Branches c x number) (broken flags k number) ∷ []) ranged (one-parent x h) w
+    commit-below-fits site n (x ∷ []) t.writes (refuse_found (λ c. Branches c x number) (broken flags k number) ∷ []) ranged (one-parent x h) w
     (good-found (λ c. Branches c x number) (broken flags k number) []
     (λ c e. refusal-fits (Branches c x number)
     (and_from (is_constraint c && is_id x) (is_u32 number)
     (and_from (is_constraint c) (is_id x) (broken-is-constraint flags k number c e) h) (lt-ltb number (2 ^ 32) few))) good-none)
 
-commit-single-fits : (built : Built) (site : Site) (n : ℕ) (x : StateId) (reads : List (List ℕ)) (ws : List KeyWrite) (flags : EndFlags) (k : ℕ)
+commit-single-fits : (site : Site) (n : ℕ) (x : StateId) (reads : List (List ℕ)) (ws : List KeyWrite) (flags : EndFlags) (k : ℕ)
     → IsDag site.dag → IsRanged site → IsTrue (is_known site.dag x) → IsTrue (are_writes ws)
-    → Replies Fits (commit_single built site n (record { state = x; reads = reads; writes = ws }) flags k)
-commit-single-fits built site n x reads [] flags k dag ranged known w =
+    → Replies Fits (commit_single site n (record { state = x; reads = reads; writes = ws }) flags k)
+commit-single-fits site n x reads [] flags k dag ranged known w =
     good-reply (without_txn_of n site) (Ended x) (reply-fits (Ended x) refl (known-is-id site.dag x ranged.stored known))
-commit-single-fits built site n x reads (v ∷ vs) flags k dag ranged known w =
+commit-single-fits site n x reads (v ∷ vs) flags k dag ranged known w =
     let keys : List (List ℕ) = guarded flags reads (keys_of (v ∷ vs)) in
-    commit-at-fits built site n (record { state = x; reads = reads; writes = v ∷ vs }) flags k (landing site.dag keys x) ranged w
+    commit-at-fits site n (record { state = x; reads = reads; writes = v ∷ vs }) flags k (landing site.dag keys x) ranged w
     (known-is-id site.dag (landing site.dag keys x) ranged.stored (lands-below site.dag keys x dag known).0)
 
 -- ===== Merges
@@ -123,18 +122,18 @@ conflict-keys-are-keys rs xs stored = all-filter is_key (is_conflict_key rs xs) 
 pub open-conflict-is-key : (rs : List Record) (xs : List StateId) (ws : List KeyWrite) (k : List ℕ) → IsTrue (list_all is_stored rs) → open_conflict rs xs ws ≡ Some k → IsTrue (is_key k)
 open-conflict-is-key rs xs ws k stored e = all-found is_key (λ k. not (has_key k ws)) (conflict_keys rs xs) k (conflict-keys-are-keys rs xs stored) e
 
-commit-merge-fits : (built : Built) (site : Site) (n : ℕ) (t : MergeTxn) (flags : EndFlags)
-    → IsRanged site → IsTrue (are_parents t.states) → IsTrue (are_writes t.writes) → Replies Fits (commit_merge built site n t flags)
-commit-merge-fits built site n t flags ranged p w =
-    commit-below-fits built site n t.states t.writes
+commit-merge-fits : (site : Site) (n : ℕ) (t : MergeTxn) (flags : EndFlags)
+    → IsRanged site → IsTrue (are_parents t.states) → IsTrue (are_writes t.writes) → Replies Fits (commit_merge site n t flags)
+commit-merge-fits site n t flags ranged p w =
+    commit-below-fits site n t.states t.writes
     (refuse (not (flags.0 == 0)) WrongMode ∷ refuse_found OpenConflict (open_conflict site.dag t.states t.writes) ∷ []) ranged p w
     (good-when (not (flags.0 == 0)) (Refused WrongMode) (refuse_found OpenConflict (open_conflict site.dag t.states t.writes) ∷ []) (refusal-fits WrongMode refl)
     (good-found OpenConflict (open_conflict site.dag t.states t.writes) []
     (λ k e. refusal-fits (OpenConflict k) (open-conflict-is-key site.dag t.states t.writes k ranged.stored e)) good-none))
 
-pub commit-fits : (built : Built) (site : Site) (n : ℕ) (ceiling : StateId) (t : Txn) (flags : EndFlags) (k : ℕ)
-    → IsDag site.dag → IsRanged site → IsSoundTxn site.dag ceiling t → Replies Fits (commit built site n t flags k)
-commit-fits built site n ceiling (Single t) flags k dag ranged sound =
-    commit-single-fits built site n t.state t.reads t.writes flags k dag ranged (first (is_known site.dag t.state) true sound.known) (single-writes t sound.shape)
-commit-fits built site n ceiling (Merge t) flags k dag ranged sound =
-    commit-merge-fits built site n t flags ranged (merge-states t sound.shape) (second (are_parents t.states) (are_writes t.writes) sound.shape)
+pub commit-fits : (site : Site) (n : ℕ) (ceiling : StateId) (t : Txn) (flags : EndFlags) (k : ℕ)
+    → IsDag site.dag → IsRanged site → IsSoundTxn site.dag ceiling t → Replies Fits (commit site n t flags k)
+commit-fits site n ceiling (Single t) flags k dag ranged sound =
+    commit-single-fits site n t.state t.reads t.writes flags k dag ranged (first (is_known site.dag t.state) true sound.known) (single-writes t sound.shape)
+commit-fits site n ceiling (Merge t) flags k dag ranged sound =
+    commit-merge-fits site n t flags ranged (merge-states t sound.shape) (second (are_parents t.states) (are_writes t.writes) sound.shape)

@@ -23,7 +23,6 @@ use Rattle.plain_dag.specs.Dag.{IsDag}
 use Rattle.plain_dag.specs.Floors.{Floor, floor_of, with_floor, is_closed, is_above_floors}
 use Rattle.plain_dag.proofs.Ids.{same_id-true}
 use Rattle.plain_site.specs.Site.{Site}
-use Rattle.plain_site.specs.Built.{Built}
 use Rattle.plain_site.specs.Answers.{refuse, refuse_found, when}
 use Rattle.plain_site.specs.Commits.{with_record, growth_refusals}
 use Rattle.plain_site.specs.Exchange.{fitting, is_news_for, in_arrival_order, consents_from, batch_for, pull, is_early, judgements, take_record, deliver_record, consent_judgements, deliver, is_fit, first_fit_record, with_settled, settle_record, settle}
@@ -263,22 +262,22 @@ judgements-fit site r ranged shape =
     (refusal-fits (OwnItem r.id.site r.id.sequence) (and_from (is_u16 r.id.site) (is_u32 r.id.sequence) place sequence))
     (good-when (is_early site r) (Early here) d (reply-fits (Early here) refl count) (faults-fit site r ranged shape))))
 
-take-record-fits : (built : Built) (site : Site) (r : Record) → IsRanged site → IsTrue (is_record r) → Replies Fits (take_record built site r)
-take-record-fits built site r ranged h =
-    unless-both-good site (judgements site r) (growth_refusals built site r) (with_record r site, Applied) (judgements-fit site r ranged (record-shape r h)) (λ none.
-    unless-good site (growth_refusals built site r) (with_record r site, Applied) (growth-fits built site r ranged (shape-stored r h))
+take-record-fits : (site : Site) (r : Record) → IsRanged site → IsTrue (is_record r) → Replies Fits (take_record site r)
+take-record-fits site r ranged h =
+    unless-both-good site (judgements site r) (growth_refusals site r) (with_record r site, Applied) (judgements-fit site r ranged (record-shape r h)) (λ none.
+    unless-good site (growth_refusals site r) (with_record r site, Applied) (growth-fits site r ranged (shape-stored r h))
     (λ more. good-reply (with_record r site) Applied (reply-fits Applied refl refl)))
 
-pub deliver-record-fits : (built : Built) (site : Site) (r : Record) → IsRanged site → IsTrue (is_record r) → Replies Fits (deliver_record built site r)
-deliver-record-fits built site r ranged h = record { reply = (take-record-fits built site r ranged h).reply }
+pub deliver-record-fits : (site : Site) (r : Record) → IsRanged site → IsTrue (is_record r) → Replies Fits (deliver_record site r)
+deliver-record-fits site r ranged h = record { reply = (take-record-fits site r ranged h).reply }
 
-pub settle-fits : (built : Built) (site : Site) → IsSound built site → IsRanged site → Replies Fits (settle built site)
-settle-fits built site sound ranged =
-    given-good (Replies Fits) (first_fit_record site) (site, Done) (settle_record built site) (λ e. good-reply site Done (reply-fits Done refl refl))
+pub settle-fits : (site : Site) → IsSound site → IsRanged site → Replies Fits (settle site)
+settle-fits site sound ranged =
+    given-good (Replies Fits) (first_fit_record site) (site, Done) (settle_record site) (λ e. good-reply site Done (reply-fits Done refl refl))
     (λ found is.
     let fit = first-is-fit (is_fit site) site.waiting found is in
     let valid = waiting-is-record site found.1 (fit.as_all (may_wait site.limits.sites site.own) sound.waiting.each) in
-    unless-good site (growth_refusals built site found.1) (with_settled found site, Applied) (growth-fits built site found.1 ranged (shape-stored found.1 valid))
+    unless-good site (growth_refusals site found.1) (with_settled found site, Applied) (growth-fits site found.1 ranged (shape-stored found.1 valid))
     (λ none. good-reply (with_settled found site) Applied (reply-fits Applied refl refl)))
 
 consent-judgements-fit : (site : Site) (c : Consent) → IsRanged site → IsTrue (is_consent c) → AllGood Fits (consent_judgements site c)
@@ -293,8 +292,8 @@ consent-judgements-fit site c ranged h =
     let floor : IsTrue (is_id (floor_of site.floors c.site).state) = (floor-ranged site c.site ranged).state in
     search fitting_replies depth 12
 
-pub deliver-fits : (built : Built) (site : Site) (item : Item) → IsRanged site → IsTrue (is_item item) → Replies Fits (deliver built site item)
-deliver-fits built site (State r) ranged h = deliver-record-fits built site r ranged h
-deliver-fits built site (Promise c) ranged h =
+pub deliver-fits : (site : Site) (item : Item) → IsRanged site → IsTrue (is_item item) → Replies Fits (deliver site item)
+deliver-fits site (State r) ranged h = deliver-record-fits site r ranged h
+deliver-fits site (Promise c) ranged h =
     let next : Site = record site { floors = with_floor site.floors c.site (record { state = c.floor; number = c.number; stated = c.count }) } in
     unless-good site (consent_judgements site c) (next, Applied) (consent-judgements-fit site c ranged h) (λ none. good-reply next Applied (reply-fits Applied refl refl))

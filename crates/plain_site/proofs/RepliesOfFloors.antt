@@ -12,7 +12,6 @@ use Rattle.plain_dag.specs.Above.{is_above}
 use Rattle.plain_dag.specs.Floors.{Floor, Session, is_above_ceilings, holding_session, automatic_floor}
 use Rattle.plain_dag.specs.Collection.{is_collectable, tidied}
 use Rattle.plain_site.specs.Site.{Site, own_floor}
-use Rattle.plain_site.specs.Built.{Built}
 use Rattle.plain_site.specs.Answers.{refuse, refuse_found}
 use Rattle.plain_site.specs.FloorSteps.{raised, raise_to, raise, raise_auto, tidy}
 use Rattle.plain_site.specs.Sound.{IsSound, is_sound_session}
@@ -37,8 +36,8 @@ raise-to-fits site x refusals ranged h fit =
     let next : number + 1 < 2 ^ 32 = omega arith in
     good-reply (raised site x).0 (Raised x (number + 1)) (reply-fits (Raised x (number + 1)) refl (and_from (is_id x) (is_u32 (number + 1)) h (lt-ltb (number + 1) (2 ^ 32) next)))))
 
-pub raise-fits : (built : Built) (site : Site) (x : StateId) → IsSound built site → IsRanged site → IsTrue (is_id x) → Replies Fits (raise site x)
-raise-fits built site x sound ranged h =
+pub raise-fits : (site : Site) (x : StateId) → IsSound site → IsRanged site → IsTrue (is_id x) → Replies Fits (raise site x)
+raise-fits site x sound ranged h =
     let floor : StateId = (own_floor site).state in
     let held : List (Option Reply) = refuse_found (λ (s : ℕ × Session). Held s.0 s.1.ceiling) (holding_session site.dag site.sessions x) ∷ [] in
     raise-to-fits site x

@@ -33,7 +33,6 @@ use Rattle.plain_dag.proofs.ConflictKeys.{lists-conflict-keys}
 use Rattle.plain_dag.proofs.Leaves.{begins-at-leaves}
 use Rattle.plain_dag.proofs.Collected.{stays-kept}
 use Rattle.plain_site.specs.Site.{Site, Txn, Single, Merge, own_floor}
-use Rattle.plain_site.specs.Built.{Built}
 use Rattle.plain_site.specs.Answers.{refuse, refuse_found}
 use Rattle.plain_site.specs.Merges.{in_order, states_to_merge, merge_at, begin_merge, page_of_keys, page_of_states, fork_points_of, conflicts_of}
 use Rattle.plain_site.specs.Sound.{IsSound, IsSoundTxn}
@@ -128,16 +127,16 @@ some-leaf : (rs : List Record) → IsDag rs → 1 ≤ length (leaves rs)
 some-leaf [] dag = absurd (dag)
 some-leaf (r ∷ rs) dag = filter-last (is_leaf (r ∷ rs)) (arrived rs) r.id (begins-at-leaves (r ∷ rs) dag r.id (newest-is-known rs r)).1
 
-to-merge : (built : Built) (site : Site) (of : MergeOf) → IsSound built site → IsRanged site → IsTrue (is_merge_of of) → AreStates (states_to_merge site of)
-to-merge built site Leaves sound ranged h =
-    record { ids = leaves-are-ids site ranged; some = some-leaf site.dag sound.dag; few = leaves-are-few built site sound ranged }
-to-merge built site (TheseStates xs) sound ranged h =
+to-merge : (site : Site) (of : MergeOf) → IsSound site → IsRanged site → IsTrue (is_merge_of of) → AreStates (states_to_merge site of)
+to-merge site Leaves sound ranged h =
+    record { ids = leaves-are-ids site ranged; some = some-leaf site.dag sound.dag; few = leaves-are-few site sound ranged }
+to-merge site (TheseStates xs) sound ranged h =
     let parts = and_parts (is_within 1 255 (length xs)) (list_all is_id xs) h in
     let within = and_parts (nat_le 1 (length xs)) (nat_le (length xs) 255) parts.0 in
     record { ids = parts.1; some = leb-true 1 (length xs) within.0; few = omega (arith, leb-true (length xs) 255 within.1) }
 
-pub begin-merge-fits : (built : Built) (site : Site) (n : ℕ) (s : Session) (of : MergeOf) → IsSound built site → IsRanged site → IsOpen site.dag s → IsTrue (is_merge_of of) → Replies Fits (begin_merge site n s of)
-begin-merge-fits built site n s of sound ranged held h = merge-at-fits site n s.ceiling (states_to_merge site of) held.ceiling_id (to-merge built site of sound ranged h)
+pub begin-merge-fits : (site : Site) (n : ℕ) (s : Session) (of : MergeOf) → IsSound site → IsRanged site → IsOpen site.dag s → IsTrue (is_merge_of of) → Replies Fits (begin_merge site n s of)
+begin-merge-fits site n s of sound ranged held h = merge-at-fits site n s.ceiling (states_to_merge site of) held.ceiling_id (to-merge site of sound ranged h)
 
 -- ===== ForkPoints
 
@@ -147,8 +146,8 @@ any-at p (x ∷ xs) zero l f = or_left (p x) (list_any p xs) (f x refl)
 any-at p (x ∷ xs) (suc i) l f = or_right (p x) (list_any p xs) (any-at p xs i (omega arith) f)
 
 -- the ceiling of an open session is under a floor: the site's own
-under-floor : (built : Built) (site : Site) (n : ℕ) (s : Session) → IsSound built site → IsRanged site → entry_of n site.sessions ≡ Some s → IsUnderFloor site.dag site.floors s.ceiling
-under-floor built site n s sound ranged e =
+under-floor : (site : Site) (n : ℕ) (s : Session) → IsSound site → IsRanged site → entry_of n site.sessions ≡ Some s → IsUnderFloor site.dag site.floors s.ceiling
+under-floor site n s sound ranged e =
     any-at (λ f. is_above site.dag f.state s.ceiling) site.floors (site.own - 1) (omega (arith, sound.one_floor_each, ranged.own))
     (λ f is. subst (λ (o : Option Floor). IsTrue (is_above site.dag (unwrap_or o opening_floor).state s.ceiling)) is (above-at site.sessions sound.under_floor e))
   where
@@ -168,22 +167,22 @@ arrived-are-known (r ∷ rs) =
     (all-from-all (is_known rs) (is_known (r ∷ rs)) (arrived rs) (λ x h. known-stays rs r x h) (arrived-are-known rs))
     (and_from (is_known (r ∷ rs) r.id) true (newest-is-known rs r) refl)
 
-few-fork-points : (built : Built) (site : Site) (c : StateId) (ys : List StateId) → IsSound built site → IsRanged site → IsTrue (is_known site.dag c) → IsUnderFloor site.dag site.floors c
+few-fork-points : (site : Site) (c : StateId) (ys : List StateId) → IsSound site → IsRanged site → IsTrue (is_known site.dag c) → IsUnderFloor site.dag site.floors c
     → IsTrue (list_all (is_known site.dag) ys) → IsTrue (list_all (is_admitted site.dag c) ys) → 1 ≤ length ys → length (fork_points site.dag ys) < 2 ^ 32
-few-fork-points built site c [] sound ranged ceiling under known admitted some = absurd (omega arith)
-few-fork-points built site c (y ∷ ys) sound ranged ceiling under known admitted some =
+few-fork-points site c [] sound ranged ceiling under known admitted some = absurd (omega arith)
+few-fork-points site c (y ∷ ys) sound ranged ceiling under known admitted some =
     let stays = stays-kept site.dag site.floors site.collected sound.dag sound.collected in
     let fewer : length (fork_points site.dag (y ∷ ys)) ≤ length (kept_states site.dag site.collected) =
     fewer-pass (is_known site.dag) (is_fork_point site.dag (y ∷ ys)) (λ x. not (is_among x site.collected)) (arrived site.dag) (arrived-are-known site.dag)
     (λ x here fork. second (is_known site.dag x) (not (is_among x site.collected)) (stays.fork_points_stay x y c ys ceiling under known admitted here fork)) in
     omega (arith, ranged.few_kept)
 
-pub fork-points-fit : (built : Built) (site : Site) (n : ℕ) (s : Session) (t : Txn) → IsSound built site → IsRanged site → entry_of n site.sessions ≡ Some s → IsSoundTxn site.dag s.ceiling t → Replies Fits (fork_points_of site t)
-fork-points-fit built site n s (Single t) sound ranged e txn = refuses site WrongMode refl
-fork-points-fit built site n s (Merge t) sound ranged e txn =
+pub fork-points-fit : (site : Site) (n : ℕ) (s : Session) (t : Txn) → IsSound site → IsRanged site → entry_of n site.sessions ≡ Some s → IsSoundTxn site.dag s.ceiling t → Replies Fits (fork_points_of site t)
+fork-points-fit site n s (Single t) sound ranged e txn = refuses site WrongMode refl
+fork-points-fit site n s (Merge t) sound ranged e txn =
     good-reply site (page_of_states (fork_points site.dag t.states))
     (page-fits (fork_points site.dag t.states) (all-filter is_id (is_fork_point site.dag t.states) (arrived site.dag) (arrived-are-ids site.dag ranged.stored))
-    (few-fork-points built site s.ceiling t.states sound ranged (ranged.sessions n s e).ceiling (under-floor built site n s sound ranged e) txn.known txn.admitted
+    (few-fork-points site s.ceiling t.states sound ranged (ranged.sessions n s e).ceiling (under-floor site n s sound ranged e) txn.known txn.admitted
     (parents-some t.states (merge-states t txn.shape))))
 
 -- ===== Conflicts

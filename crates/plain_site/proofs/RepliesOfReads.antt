@@ -15,7 +15,6 @@ use Rattle.plain_dag.specs.Conflicts.{value_over}
 use Rattle.plain_dag.specs.Entries.{entry_of}
 use Rattle.plain_dag.specs.Floors.{Session}
 use Rattle.plain_site.specs.Site.{Site, Txn, Single, Merge, SingleTxn, MergeTxn, writes_of}
-use Rattle.plain_site.specs.Built.{Built}
 use Rattle.plain_site.specs.Answers.{shown, found}
 use Rattle.plain_site.specs.Reads.{get, read_in, set_key, get_for}
 use Rattle.plain_site.specs.Sound.{IsSound, IsSoundTxn, is_txn}
@@ -27,8 +26,8 @@ use Rattle.plain_site.proofs.RepliesFrame.{Replies, good-reply, given-good}
 -- ===== Transactions
 
 -- the session's transaction is sound under its ceiling
-pub txn-at : (built : Built) (site : Site) (n : ℕ) (s : Session) (t : Txn) → IsSound built site → entry_of n site.sessions ≡ Some s → entry_of n site.txns ≡ Some t → IsSoundTxn site.dag s.ceiling t
-txn-at built site n s t sound e d =
+pub txn-at : (site : Site) (n : ℕ) (s : Session) (t : Txn) → IsSound site → entry_of n site.sessions ≡ Some s → entry_of n site.txns ≡ Some t → IsSoundTxn site.dag s.ceiling t
+txn-at site n s t sound e d =
     let x = sound.each_txn n t d in
     subst (λ (q : Session). IsSoundTxn site.dag q.ceiling t) (same_Some x.0 s (sym x.1 ∙ e)) x.2
 

@@ -21,7 +21,6 @@ use Rattle.plain_dag.specs.Laws.{AreCollected}
 use Rattle.plain_dag.proofs.Leaves.{leaf-is-childless}
 use Rattle.plain_dag.proofs.StandIns.{absorbed-parts}
 use Rattle.plain_site.specs.Site.{Site}
-use Rattle.plain_site.specs.Built.{Built}
 use Rattle.plain_site.specs.Answers.{refuse}
 use Rattle.plain_site.specs.Merges.{page_of_states}
 use Rattle.plain_site.specs.Shows.{site_lines, stat, show, show_leaves}
@@ -60,15 +59,15 @@ module _ (rs : List Record) (floors : List Floor) (ks : List StateId) (collected
   pub few-leaves : IsTrue (list_all is_stored rs) → length (leaves rs) ≤ length (kept_states rs ks)
   few-leaves stored = fewer-pass is_id (is_leaf rs) (λ x. not (is_among x ks)) (arrived rs) (arrived-are-ids rs stored) (λ x id leaf. leaf-is-uncollected x leaf)
 
-pub leaves-are-few : (built : Built) (site : Site) → IsSound built site → IsRanged site → length (leaves site.dag) ≤ 16384
-leaves-are-few built site sound ranged = omega (arith, few-leaves site.dag site.floors site.collected sound.collected ranged.stored, ranged.few_kept)
+pub leaves-are-few : (site : Site) → IsSound site → IsRanged site → length (leaves site.dag) ≤ 16384
+leaves-are-few site sound ranged = omega (arith, few-leaves site.dag site.floors site.collected sound.collected ranged.stored, ranged.few_kept)
 
 pub leaves-are-ids : (site : Site) → IsRanged site → IsTrue (list_all is_id (leaves site.dag))
 leaves-are-ids site ranged = all-filter is_id (is_leaf site.dag) (arrived site.dag) (arrived-are-ids site.dag ranged.stored)
 
-pub leaves-fit : (built : Built) (site : Site) → IsSound built site → IsRanged site → Replies Fits (show_leaves site)
-leaves-fit built site sound ranged =
-    let few : length (leaves site.dag) < 2 ^ 32 = omega (arith, leaves-are-few built site sound ranged) in
+pub leaves-fit : (site : Site) → IsSound site → IsRanged site → Replies Fits (show_leaves site)
+leaves-fit site sound ranged =
+    let few : length (leaves site.dag) < 2 ^ 32 = omega (arith, leaves-are-few site sound ranged) in
     good-reply site (page_of_states (leaves site.dag)) (page-fits (leaves site.dag) (leaves-are-ids site ranged) few)
 
 -- ===== Stat
@@ -88,15 +87,15 @@ lines-valid rs n (f ∷ fs) counts h =
     (second (is_id f.state && is_u32 f.stated) (is_u32 f.number) here))
     (lines-valid rs (n + 1) fs counts (second (is_ranged_floor f) (list_all is_ranged_floor fs) h))
 
-pub stat-fits : (built : Built) (site : Site) → IsSound built site → IsRanged site → Replies Fits (stat site)
-stat-fits built site sound ranged =
+pub stat-fits : (site : Site) → IsSound site → IsRanged site → Replies Fits (stat site)
+stat-fits site sound ranged =
     let known : ℕ = length site.dag in
     let kept : ℕ = length (kept_states site.dag site.collected) in
     let ends : ℕ = length (leaves site.dag) in
     let sessions : ℕ = length site.sessions in
     let lines : List SiteLine = site_lines site.dag 1 site.floors in
     let few_kept : kept < 2 ^ 32 = omega (arith, ranged.few_kept) in
-    let few_ends : ends < 2 ^ 32 = omega (arith, leaves-are-few built site sound ranged) in
+    let few_ends : ends < 2 ^ 32 = omega (arith, leaves-are-few site sound ranged) in
     let few_sessions : sessions < 2 ^ 16 = omega (arith, ranged.few_sessions) in
     let number : length lines ≡ site.limits.sites = number-of-lines site.dag 1 site.floors ∙ sound.one_floor_each in
     let some : 1 ≤ length lines = omega (arith, ranged.limits.sites) in
@@ -139,8 +138,8 @@ shown-fits site x ranged few_pairs =
       short = omega (arith, ids-length cs, pairs-length path, length-append (children_spelling cs) (path_spelling path));
     }
 
-pub show-fits : (built : Built) (site : Site) (x : StateId) → IsTrue built.path_limits → IsSound built site → IsRanged site → IsTrue (is_id x) → Replies Fits (show site x)
-show-fits built site x limited sound ranged h =
+pub show-fits : (site : Site) (x : StateId) → IsSound site → IsRanged site → IsTrue (is_id x) → Replies Fits (show site x)
+show-fits site x sound ranged h =
     unless-good site (refuse (not (is_known site.dag x)) (Unknown x) ∷ refuse (is_among x site.collected) (Collected x) ∷ [])
     (site, Shown (arrival site.dag x) (children site.dag x) (fork_path site.dag site.collected x))
     (good-when (not (is_known site.dag x)) (Refused (Unknown x)) (refuse (is_among x site.collected) (Collected x) ∷ []) (refusal-fits (Unknown x) h)
@@ -150,5 +149,5 @@ show-fits built site x limited sound ranged h =
     let b = none-when (is_among x site.collected) (Refused (Collected x)) [] a.1 in
     let known : IsTrue (is_known site.dag x) = true_from_ne_false (is_known site.dag x) (λ f. both_ways (not (is_known site.dag x)) a.0 (not_from_false (is_known site.dag x) f)) in
     let kept : IsTrue (is_kept site.dag site.collected x) = and_from (is_known site.dag x) (not (is_among x site.collected)) known (not_from_false (is_among x site.collected) b.0) in
-    let few : length (fork_path site.dag site.collected x) ≤ 4096 = omega (arith, sound.short_paths limited x kept, ranged.limits.path) in
+    let few : length (fork_path site.dag site.collected x) ≤ 4096 = omega (arith, sound.short_paths x kept, ranged.limits.path) in
     good-reply site (Shown (arrival site.dag x) (children site.dag x) (fork_path site.dag site.collected x)) (shown-fits site x ranged few))

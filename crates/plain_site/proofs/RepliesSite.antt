@@ -1,5 +1,5 @@
 -- A refusal, Known and a consent's Early leave the site as it was; a record's Early changes the waiting room alone.
-use Rattle.std.proofs.Common.{◌≡◌, ℕ, Bool, true, false, ◌&&◌, not, List, [], ◌∷◌, ◌++◌, Option, Some, None, IsTrue, refl, sym, ap, subst, ◌∙◌}
+use Rattle.std.proofs.Common.{◌≡◌, ℕ, Bool, true, false, List, [], ◌∷◌, ◌++◌, Option, Some, None, IsTrue, refl, sym, ap, subst, ◌∙◌}
 use Rattle.std.specs.Option.{option_map_or}
 use Rattle.std.proofs.lemmas.Bool.{both_ways, cond_both, cond-true}
 use Rattle.tardis_base.specs.declared.ids.StateId.{StateId}
@@ -11,26 +11,21 @@ use Rattle.tardis_base.specs.declared.records.Item.TheVariants.{State, Promise}
 use Rattle.tardis_base.specs.declared.requests.Request.{Request}
 use Rattle.tardis_base.specs.declared.requests.Request.TheVariants.{Open, Begin, Get, Put, Delete, Commit, Abort, BeginMerge, ForkPoints, Conflicts, GetFor, Ceiling, Raise, RaiseAuto, Tidy, Stat, Show, Leaves, Pull, Deliver, Settle, Close}
 use Rattle.tardis_base.specs.declared.requests.EndFlags.{EndFlags}
-use Rattle.tardis_base.specs.declared.replies.Refusal.{Refusal}
-use Rattle.tardis_base.specs.declared.replies.Refusal.TheVariants.{Malformed, Unsupported, NotOpen, NoTxn, TxnOpen, WrongMode}
+use Rattle.tardis_base.specs.declared.replies.Refusal.TheVariants.{Malformed, NotOpen, NoTxn, TxnOpen, WrongMode}
 use Rattle.tardis_base.specs.declared.replies.Reply.TheVariants.{Opened, Begun, Merging, Value as ValueIs, Deleted, Absent, Done, Committed, Ended, States, Keys, Raised, Tidied, Stat as Statistics, Shown, Batch as BatchIs, Applied, Known, Early, Closed, Refused, NoMemory}
 use Rattle.tardis_base.specs.declared.replies.Reply.{Reply}
 use Rattle.tardis_base.specs.Ids.{root}
 use Rattle.tardis_base.specs.Keys.{KeyWrite, write_of}
-use Rattle.tardis_base.specs.Valid.{is_within}
-use Rattle.wire_talk.specs.Codes.{code_of}
 use Rattle.wire_talk.specs.RequestReadings.{request_of}
 use Rattle.plain_site.specs.Site.{Site, Txn, Single, Merge, writes_of}
-use Rattle.plain_site.specs.Built.{Built}
-use Rattle.plain_site.specs.Answers.{Answer, refused, refuse, unless, given, shown, found, says_early, delivers_record, says_unchanged}
-use Rattle.plain_site.specs.Built.{is_built}
+use Rattle.plain_site.specs.Answers.{Answer, refused, unless, given, shown, found, says_early, delivers_record, says_unchanged}
 use Rattle.plain_site.specs.Sessions.{begin, set_ceiling, close_session}
 use Rattle.plain_site.specs.Reads.{get, get_for, read_in, set_key}
 use Rattle.plain_site.specs.Merges.{begin_merge, fork_points_of, conflicts_of}
 use Rattle.plain_site.specs.Commits.{with_record, growth_refusals, without_txn_of, abort, commit, commit_single}
 use Rattle.plain_site.specs.WaitingRoom.{hold}
 use Rattle.plain_site.specs.Exchange.{judgements, take_record, with_held, deliver_record, deliver, first_fit_record, settle_record, settle}
-use Rattle.plain_site.specs.Step.{served, step, step_over_bytes}
+use Rattle.plain_site.specs.Step.{step, step_over_bytes}
 use Rattle.plain_site.specs.Laws.{RefusalsLeaveSite, bytes_deliver_record, RefusedBytesLeaveSite, EarlyRecordsWait, EarlyBytesWait}
 use Rattle.plain_site.proofs.SoundDeliveries.{taken-stays}
 use Rattle.plain_site.proofs.RepliesFrame.{RefusesWell, given-good, by-session, by-txn, by-no-txn}
@@ -82,20 +77,20 @@ keeps-conflicts : (site : Site) (t : Txn) (after : List ℕ) → KeepsSite false
 keeps-conflicts site (Single t) after = same_site site (Refused WrongMode)
 keeps-conflicts site (Merge t) after = search same_site
 
-keeps-commit-of : (built : Built) (site : Site) (n : ℕ) (ws : List KeyWrite) (reads : List (List ℕ)) (x : StateId) (flags : EndFlags) (k : ℕ) → KeepsSite false site (commit_single built site n (record { state = x; reads = reads; writes = ws }) flags k)
-keeps-commit-of built site n [] reads x flags k = says_else site (without_txn_of n site) (Ended x) refl
-keeps-commit-of built site n (w ∷ ws) reads x flags k = search (keeps-unless, says_else)
+keeps-commit-of : (site : Site) (n : ℕ) (ws : List KeyWrite) (reads : List (List ℕ)) (x : StateId) (flags : EndFlags) (k : ℕ) → KeepsSite false site (commit_single site n (record { state = x; reads = reads; writes = ws }) flags k)
+keeps-commit-of site n [] reads x flags k = says_else site (without_txn_of n site) (Ended x) refl
+keeps-commit-of site n (w ∷ ws) reads x flags k = search (keeps-unless, says_else)
 
-keeps-commit : (built : Built) (site : Site) (n : ℕ) (t : Txn) (flags : EndFlags) (k : ℕ) → KeepsSite false site (commit built site n t flags k)
-keeps-commit built site n (Single t) flags k = keeps-commit-of built site n t.writes t.reads t.state flags k
-keeps-commit built site n (Merge t) flags k = search (keeps-unless, says_else)
+keeps-commit : (site : Site) (n : ℕ) (t : Txn) (flags : EndFlags) (k : ℕ) → KeepsSite false site (commit site n t flags k)
+keeps-commit site n (Single t) flags k = keeps-commit-of site n t.writes t.reads t.state flags k
+keeps-commit site n (Merge t) flags k = search (keeps-unless, says_else)
 
-keeps-settle : (built : Built) (site : Site) → KeepsSite false site (settle built site)
-keeps-settle built site =
-    given-good (KeepsSite false site) (first_fit_record site) (site, Done) (settle_record built site) (λ e. same_site site Done) (λ found e. search (keeps-unless, says_else))
+keeps-settle : (site : Site) → KeepsSite false site (settle site)
+keeps-settle site =
+    given-good (KeepsSite false site) (first_fit_record site) (site, Done) (settle_record site) (λ e. same_site site Done) (λ found e. search (keeps-unless, says_else))
 
-keeps-take : {of_record : Bool} (built : Built) (site : Site) (r : Record) → KeepsSite of_record site (take_record built site r)
-keeps-take built site r = keeps-unless site (judgements site r ++ growth_refusals built site r) (with_record r site, Applied) (says_else site (with_record r site) Applied refl)
+keeps-take : {of_record : Bool} (site : Site) (r : Record) → KeepsSite of_record site (take_record site r)
+keeps-take site r = keeps-unless site (judgements site r ++ growth_refusals site r) (with_record r site, Applied) (says_else site (with_record r site) Applied refl)
 
 -- what says that a record changed nothing isn't Early
 not-early : (reply : Reply) → IsTrue (says_unchanged true reply) → IsTrue (says_early reply) → ⊥
@@ -122,103 +117,80 @@ not-early Applied said early = both_ways true (sym early) refl
 not-early Closed said early = both_ways true (sym early) refl
 not-early NoMemory said early = both_ways true (sym early) refl
 
-keeps-deliver : (built : Built) (site : Site) (item : Item) → KeepsSite (delivers_record (Deliver item)) site (deliver built site item)
-keeps-deliver built site (State r) =
-    let answer : Answer = take_record built site r in
+keeps-deliver : (site : Site) (item : Item) → KeepsSite (delivers_record (Deliver item)) site (deliver site item)
+keeps-deliver site (State r) =
+    let answer : Answer = take_record site r in
     record {
       where_said = λ said.
           cond_both (says_early answer.1) (with_held r answer.0) answer.0 (λ (next : Site). next ≡ site) (λ early. absurd (not-early answer.1 said early))
-          (λ late. (keeps-take {of_record = true} built site r).where_said said);
+          (λ late. (keeps-take {of_record = true} site r).where_said said);
     }
-keeps-deliver built site (Promise c) = search (keeps-unless, says_else)
+keeps-deliver site (Promise c) = search (keeps-unless, says_else)
 
-keeps-served : (built : Built) (site : Site) (n : ℕ) (q : Request) → KeepsSite (delivers_record q) site (served built site n q)
-keeps-served built site n (Open follow) = search (keeps-unless, says_else)
-keeps-served built site n (Begin b) = by-no-txn (refuses-keep site) n (λ s. begin site n s b) (λ s e. search (keeps-unless, says_else))
-keeps-served built site n (Get k) = by-txn (refuses-keep site) n (λ s t. get site n t k) (λ s t e d. keeps-get site n t k)
-keeps-served built site n (Put k v) = by-txn (refuses-keep site) n (λ s t. set_key site n t k (Value v)) (λ s t e d. search (keeps-unless, says_else))
-keeps-served built site n (Delete k) = by-txn (refuses-keep site) n (λ s t. set_key site n t k Deletion) (λ s t e d. search (keeps-unless, says_else))
-keeps-served built site n (Commit flags k) = by-txn (refuses-keep site) n (λ s t. commit built site n t flags k) (λ s t e d. keeps-commit built site n t flags k)
-keeps-served built site n Abort = by-txn (refuses-keep site) n (λ s t. abort site n) (λ s t e d. search says_else)
-keeps-served built site n (BeginMerge of) = by-no-txn (refuses-keep site) n (λ s. begin_merge site n s of) (λ s e. search (keeps-unless, says_else))
-keeps-served built site n ForkPoints = by-txn (refuses-keep site) n (λ s t. fork_points_of site t) (λ s t e d. keeps-fork-points site t)
-keeps-served built site n (Conflicts after) = by-txn (refuses-keep site) n (λ s t. conflicts_of site t after) (λ s t e d. keeps-conflicts site t after)
-keeps-served built site n (GetFor k x) = by-txn (refuses-keep site) n (λ s t. get_for site t k x) (λ s t e d. keeps-get-for site t k x)
-keeps-served built site n (Ceiling x) = by-no-txn (refuses-keep site) n (λ s. set_ceiling site n s x) (λ s e. search (keeps-unless, says_else))
-keeps-served built site n (Raise x) = search (keeps-unless, says_else)
-keeps-served built site n RaiseAuto = search (keeps-unless, says_else)
-keeps-served built site n (Tidy count) = search says_else
-keeps-served built site n Stat = search same_site
-keeps-served built site n (Show x) = search (keeps-unless, same_site)
-keeps-served built site n Leaves = search same_site
-keeps-served built site n (Pull counts) = search (keeps-unless, same_site)
-keeps-served built site n (Deliver item) = keeps-deliver built site item
-keeps-served built site n Settle = keeps-settle built site
-keeps-served built site n Close = by-session (refuses-keep site) n (λ s. close_session site n) (λ s e. search says_else)
+keeps-step : (site : Site) (n : ℕ) (q : Request) → KeepsSite (delivers_record q) site (step site n q)
+keeps-step site n (Open follow) = search (keeps-unless, says_else)
+keeps-step site n (Begin b) = by-no-txn (refuses-keep site) n (λ s. begin site n s b) (λ s e. search (keeps-unless, says_else))
+keeps-step site n (Get k) = by-txn (refuses-keep site) n (λ s t. get site n t k) (λ s t e d. keeps-get site n t k)
+keeps-step site n (Put k v) = by-txn (refuses-keep site) n (λ s t. set_key site n t k (Value v)) (λ s t e d. search (keeps-unless, says_else))
+keeps-step site n (Delete k) = by-txn (refuses-keep site) n (λ s t. set_key site n t k Deletion) (λ s t e d. search (keeps-unless, says_else))
+keeps-step site n (Commit flags k) = by-txn (refuses-keep site) n (λ s t. commit site n t flags k) (λ s t e d. keeps-commit site n t flags k)
+keeps-step site n Abort = by-txn (refuses-keep site) n (λ s t. abort site n) (λ s t e d. search says_else)
+keeps-step site n (BeginMerge of) = by-no-txn (refuses-keep site) n (λ s. begin_merge site n s of) (λ s e. search (keeps-unless, says_else))
+keeps-step site n ForkPoints = by-txn (refuses-keep site) n (λ s t. fork_points_of site t) (λ s t e d. keeps-fork-points site t)
+keeps-step site n (Conflicts after) = by-txn (refuses-keep site) n (λ s t. conflicts_of site t after) (λ s t e d. keeps-conflicts site t after)
+keeps-step site n (GetFor k x) = by-txn (refuses-keep site) n (λ s t. get_for site t k x) (λ s t e d. keeps-get-for site t k x)
+keeps-step site n (Ceiling x) = by-no-txn (refuses-keep site) n (λ s. set_ceiling site n s x) (λ s e. search (keeps-unless, says_else))
+keeps-step site n (Raise x) = search (keeps-unless, says_else)
+keeps-step site n RaiseAuto = search (keeps-unless, says_else)
+keeps-step site n (Tidy count) = search says_else
+keeps-step site n Stat = search same_site
+keeps-step site n (Show x) = search (keeps-unless, same_site)
+keeps-step site n Leaves = search same_site
+keeps-step site n (Pull counts) = search (keeps-unless, same_site)
+keeps-step site n (Deliver item) = keeps-deliver site item
+keeps-step site n Settle = keeps-settle site
+keeps-step site n Close = by-session (refuses-keep site) n (λ s. close_session site n) (λ s e. search says_else)
 
-keeps-step : (built : Built) (site : Site) (n : ℕ) (q : Request) → KeepsSite (delivers_record q) site (step built site n q)
-keeps-step built site n q = keeps-unless site (refuse (not (is_built built q)) (Unsupported (code_of q)) ∷ []) (served built site n q) (keeps-served built site n q)
-
-keeps-bytes : (built : Built) (site : Site) (n : ℕ) (bytes : List ℕ) → KeepsSite (bytes_deliver_record bytes) site (step_over_bytes built site (n, bytes))
-keeps-bytes built site n [] = same_site site (Refused Malformed)
-keeps-bytes built site n (op ∷ fields) = known (is_within 1 22 op && not (built.operation op))
+keeps-bytes : (site : Site) (n : ℕ) (bytes : List ℕ) → KeepsSite (bytes_deliver_record bytes) site (step_over_bytes site (n, bytes))
+keeps-bytes site n bytes =
+    given-good (KeepsSite of_record site) (request_of bytes) (refused site Malformed) (step site n) (λ e. same_site site (Refused Malformed)) asked
   where
     of_record : Bool
-    of_record = bytes_deliver_record (op ∷ fields)
+    of_record = bytes_deliver_record bytes
 
-    asked : (q : Request) → request_of (op ∷ fields) ≡ Some q → KeepsSite of_record site (step built site n q)
+    asked : (q : Request) → request_of bytes ≡ Some q → KeepsSite of_record site (step site n q)
     asked q e =
-        subst (λ (b : Bool). KeepsSite b site (step built site n q)) (sym (ap (λ (o : Option Request). option_map_or delivers_record o false) e)) (keeps-step built site n q)
-
-    known : (b : Bool) → KeepsSite of_record site (elim b [ true ↦ refused site (Unsupported op) | false ↦ given (request_of (op ∷ fields)) (refused site Malformed) (step built site n) ])
-    known true = same_site site (Refused (Unsupported op))
-    known false = given-good (KeepsSite of_record site) (request_of (op ∷ fields)) (refused site Malformed) (step built site n) (λ e. same_site site (Refused Malformed)) asked
+        subst (λ (b : Bool). KeepsSite b site (step site n q)) (sym (ap (λ (o : Option Request). option_map_or delivers_record o false) e)) (keeps-step site n q)
 
 -- a refusal, Known and a consent's Early leave the site as it was
-pub refusals-leave-site : (built : Built) → RefusalsLeaveSite built
-refusals-leave-site built site n q = (keeps-step built site n q).where_said
+pub refusals-leave-site : RefusalsLeaveSite
+refusals-leave-site site n q = (keeps-step site n q).where_said
 
 -- the same over bytes
-pub refused-bytes-leave-site : (built : Built) → RefusedBytesLeaveSite built
-refused-bytes-leave-site built site event = (keeps-bytes built site event.0 event.1).where_said
+pub refused-bytes-leave-site : RefusedBytesLeaveSite
+refused-bytes-leave-site site event = (keeps-bytes site event.0 event.1).where_said
 
 -- ===== A record's Early
 
--- an early answer isn't this refusal
-early-through : (site : Site) (test : Bool) (refusal : Refusal) (answer : Answer) (have : ℕ) → (unless site (refuse test refusal ∷ []) answer).1 ≡ Early have → unless site (refuse test refusal ∷ []) answer ≡ answer
-early-through site true refusal answer have e = absurd (both_ways true (sym (ap says_early e)) refl)
-early-through site false refusal answer have e = refl
-
-held-where-early : (built : Built) (site : Site) (r : Record) (have : ℕ) → (deliver_record built site r).1 ≡ Early have → (deliver_record built site r).0 ≡ with_held r site
-held-where-early built site r have e =
-    let answer : Answer = take_record built site r in
+held-where-early : (site : Site) (r : Record) (have : ℕ) → (deliver_record site r).1 ≡ Early have → (deliver_record site r).0 ≡ with_held r site
+held-where-early site r have e =
+    let answer : Answer = take_record site r in
     let early : IsTrue (says_early answer.1) = ap says_early e in
-    cond-true (says_early answer.1) (with_held r answer.0) answer.0 early ∙ ap (with_held r) (taken-stays built site r early)
+    cond-true (says_early answer.1) (with_held r answer.0) answer.0 early ∙ ap (with_held r) (taken-stays site r early)
 
 -- a record's Early changes the waiting room alone
-pub early-records-wait : (built : Built) → EarlyRecordsWait built
-early-records-wait built site n r have e =
-    let q : Request = Deliver (State r) in
-    let through = early-through site (not (is_built built q)) (Unsupported (code_of q)) (deliver_record built site r) have e in
-    ap (λ (answer : Answer). answer.0) through ∙ held-where-early built site r have (sym (ap (λ (answer : Answer). answer.1) through) ∙ e)
+pub early-records-wait : EarlyRecordsWait
+early-records-wait site n r have e = held-where-early site r have e
 
 given-some : {A : Type 0} (o : Option A) (answer : Answer) (use_of : A → Answer) (a : A) → o ≡ Some a → given o answer use_of ≡ use_of a
 given-some {A} o answer use_of a e = ap (λ (p : Option A). given p answer use_of) e
 
 -- the same over bytes
-early-bytes : (built : Built) (site : Site) (n : ℕ) (bytes : List ℕ) (r : Record) (have : ℕ) → request_of bytes ≡ Some (Deliver (State r)) →
-    (step_over_bytes built site (n, bytes)).1 ≡ Early have → (step_over_bytes built site (n, bytes)).0 ≡ record site { waiting = hold r site.waiting }
-early-bytes built site n [] r have is e = absurd (both_ways true (sym (ap says_early e)) refl)
-early-bytes built site n (op ∷ fields) r have is e = go (is_within 1 22 op && not (built.operation op)) e
-  where
-    over : Bool → Answer
-    over test = elim test as (λ b. Answer) [ true ↦ refused site (Unsupported op) | false ↦ given (request_of (op ∷ fields)) (refused site Malformed) (step built site n) ]
+early-bytes : (site : Site) (n : ℕ) (bytes : List ℕ) (r : Record) (have : ℕ) → request_of bytes ≡ Some (Deliver (State r)) →
+    (step_over_bytes site (n, bytes)).1 ≡ Early have → (step_over_bytes site (n, bytes)).0 ≡ record site { waiting = hold r site.waiting }
+early-bytes site n bytes r have is e =
+    let stepped = given-some (request_of bytes) (refused site Malformed) (step site n) (Deliver (State r)) is in
+    ap (λ (answer : Answer). answer.0) stepped ∙ early-records-wait site n r have (sym (ap (λ (answer : Answer). answer.1) stepped) ∙ e)
 
-    go : (test : Bool) → (over test).1 ≡ Early have → (over test).0 ≡ record site { waiting = hold r site.waiting }
-    go true early = absurd (both_ways true (sym (ap says_early early)) refl)
-    go false early =
-        let stepped = given-some (request_of (op ∷ fields)) (refused site Malformed) (step built site n) (Deliver (State r)) is in
-        ap (λ (answer : Answer). answer.0) stepped ∙ early-records-wait built site n r have (sym (ap (λ (answer : Answer). answer.1) stepped) ∙ early)
-
-pub early-bytes-wait : (built : Built) → EarlyBytesWait built
-early-bytes-wait built site event r have is e = early-bytes built site event.0 event.1 r have is e
+pub early-bytes-wait : EarlyBytesWait
+early-bytes-wait site event r have is e = early-bytes site event.0 event.1 r have is e

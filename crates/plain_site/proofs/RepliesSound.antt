@@ -14,7 +14,6 @@ use Rattle.plain_dag.specs.Entries.{entry_of}
 use Rattle.plain_dag.specs.Floors.{Floor, Session, Sessions, opening_floor, floor_of}
 use Rattle.plain_dag.specs.Collection.{kept_states}
 use Rattle.plain_site.specs.Site.{Site}
-use Rattle.plain_site.specs.Built.{Built}
 use Rattle.plain_site.specs.Sound.{IsSound, is_sound_session, are_sound_floors}
 use Rattle.plain_site.proofs.RepliesLists.{all-found, all-get, all-unwrapped}
 use Rattle.plain_site.proofs.RepliesHistory.{is_stored, dag-stored, known-is-id, count-fits, history-fits}
@@ -99,8 +98,8 @@ pub record IsRanged (site : Site) : Type 0 where
   pub floors : IsTrue (list_all is_ranged_floor site.floors)
   pub sessions : (n : ℕ) (s : Session) → entry_of n site.sessions ≡ Some s → IsOpen site.dag s
 
-pub sound-ranged : (built : Built) (site : Site) → IsSound built site → IsRanged site
-sound-ranged built site sound =
+pub sound-ranged : (site : Site) → IsSound site → IsRanged site
+sound-ranged site sound =
     let limits = limits-within site.limits sound.limits in
     let stored = dag-stored site.dag sound.dag in
     let counts : (n : ℕ) → count_of_site site.dag n < 2 ^ 32 = λ n. count-fits site.dag n sound.dag in

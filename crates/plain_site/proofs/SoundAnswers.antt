@@ -1,20 +1,16 @@
 -- What a refusal, or none, says of the site after a step.
-use Rattle.std.proofs.Common.{◌≡◌, ℕ, Bool, true, false, not, List, [], ◌∷◌, ◌++◌, Option, Some, None, is_none, IsTrue, IsFalse, refl, sym, ◌∙◌}
+use Rattle.std.proofs.Common.{◌≡◌, ℕ, Bool, true, false, List, [], ◌∷◌, ◌++◌, Option, Some, None, is_none, IsTrue, IsFalse, refl, sym, ◌∙◌}
 use Rattle.std.specs.List.{list_all}
 use Rattle.std.proofs.lemmas.Bool.{and_parts}
 use Rattle.std.proofs.lemmas.List.Folds.{list_all-append}
 use Rattle.tardis_base.specs.declared.replies.Refusal.{Refusal}
-use Rattle.tardis_base.specs.declared.replies.Refusal.TheVariants.{NotOpen, TxnOpen, NoTxn, Unsupported}
+use Rattle.tardis_base.specs.declared.replies.Refusal.TheVariants.{NotOpen, TxnOpen, NoTxn}
 use Rattle.tardis_base.specs.declared.replies.Reply.{Reply}
-use Rattle.tardis_base.specs.declared.requests.Request.{Request}
-use Rattle.wire_talk.specs.Codes.{code_of}
 use Rattle.plain_dag.proofs.Ids.{not-both}
 use Rattle.plain_dag.specs.Entries.{entry_of}
 use Rattle.plain_dag.specs.Floors.{Session}
 use Rattle.plain_site.specs.Site.{Site, Txn}
-use Rattle.plain_site.specs.Built.{Built, is_built}
-use Rattle.plain_site.specs.Answers.{Answer, refused, when, refuse, refuse_found, unless, given, with_session, with_txn, without_txn}
-use Rattle.plain_site.specs.Step.{served, step}
+use Rattle.plain_site.specs.Answers.{Answer, refused, when, refuse_found, unless, given, with_session, with_txn, without_txn}
 
 -- none of these refuses
 abbrev pub AreNone : List (Option Reply) → Type 0
@@ -61,7 +57,3 @@ module _ (P : Site → Type 0) (site : Site) (old : P site) where
   no_txn-keeps n go new =
       session-keeps n (λ s. given (entry_of n site.txns) (go s) (λ t. refused site TxnOpen))
       (λ s e. given-keeps (entry_of n site.txns) (go s) (λ t. refused site TxnOpen) (new s e) (λ t f. old))
-
-  pub step-keeps : (built : Built) (n : ℕ) (q : Request) → P (served built site n q).0 → P (step built site n q).0
-  step-keeps built n q new =
-      unless-keeps (refuse (not (is_built built q)) (Unsupported (code_of q)) ∷ []) (served built site n q) (λ none. new)

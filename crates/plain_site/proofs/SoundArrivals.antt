@@ -1,5 +1,5 @@
 -- A site to which a next record arrives stays sound, where no parent of it is closed and nothing speaks against growth.
-use Rattle.std.proofs.Common.{◌≡◌, ℕ, ◌+◌, ◌<◌, ◌≤◌, Bool, not, cond, List, [], ◌∷◌, length, find, Option, Some, None, IsTrue, IsFalse, ◌≢◌, inl, inr, refl, sym, ap, ap₂, ◌∙◌, arith, length-append}
+use Rattle.std.proofs.Common.{◌≡◌, ℕ, ◌+◌, ◌<◌, ◌≤◌, Bool, true, not, cond, List, [], ◌∷◌, length, find, Option, Some, None, IsTrue, IsFalse, ◌≢◌, inl, inr, refl, sym, ap, ap₂, ◌∙◌, arith, length-append}
 use Rattle.std.specs.Prelude.{◌==◌, ◌&&◌, ◌||◌, nat_le, nat_lt}
 use Rattle.std.specs.List.{list_all, list_any}
 use Rattle.std.specs.Option.{option_map}
@@ -28,7 +28,6 @@ use Rattle.plain_dag.proofs.States.{children-of-parent, children-before, parent_
 use Rattle.plain_dag.proofs.Growth.{old-states-stay}
 use Rattle.plain_dag.proofs.StandIns.{absorbed-before}
 use Rattle.plain_site.specs.Site.{Site, Txn, read_states, own_floor}
-use Rattle.plain_site.specs.Built.{Built}
 use Rattle.plain_site.specs.Commits.{with_record}
 use Rattle.plain_site.specs.Sound.{IsSoundTxn, is_sound_session, are_sound_floors, IsSound}
 use Rattle.plain_site.proofs.SoundEntries.{all-implies, all-both}
@@ -165,20 +164,20 @@ module _ (rs : List Record) (r : Record) (dag : IsDag rs) (next : IsNext rs r) w
 
 -- ===== The site
 
-pub arrival-keeps : (built : Built) (site : Site) (r : Record) → IsSound built site → IsNext site.dag r → r.id.site ≤ site.limits.sites →
+pub arrival-keeps : (site : Site) (r : Record) → IsSound site → IsNext site.dag r → r.id.site ≤ site.limits.sites →
     ((p : StateId) → IsTrue (is_among p r.parents) → IsFalse (is_closed site.dag site.floors p)) →
-    growth_refusal built.path_limits site.limits site.collected site.dag r ≡ None → IsSound built (with_record r site)
-arrival-keeps built site r sound next of_a_site free grows =
+    growth_refusal true site.limits site.collected site.dag r ≡ None → IsSound (with_record r site)
+arrival-keeps site r sound next of_a_site free grows =
     let rs = site.dag in
     let dag = sound.dag in
-    let growth = may-grow built.path_limits site.limits site.collected rs r grows in
+    let growth = may-grow true site.limits site.collected rs r grows in
     let few = sound.few_kept in
     let full = growth.room in
     let room : length (kept_states rs site.collected) < site.limits.max_kept = omega arith in
     let more = kept-grows rs site.collected r in
     let txn : (n : ℕ) → TxnAt (r ∷ rs) site.sessions site.txns n = λ n t e.
     let was = sound.each_txn n t e in
-    (was.0, was.1, txn-stays rs r dag next was.0.ceiling t (open-session built site n was.0 sound was.1).0.ceiling was.2) in
+    (was.0, was.1, txn-stays rs r dag next was.0.ceiling t (open-session site n was.0 sound was.1).0.ceiling was.2) in
     record {
       limits = sound.limits;
       own = sound.own;
@@ -187,7 +186,7 @@ arrival-keeps built site r sound next of_a_site free grows =
           and_from (nat_le r.id.site site.limits.sites) (list_all (λ (x : StateId). nat_le x.site site.limits.sites) (states rs))
           (le-leb r.id.site site.limits.sites of_a_site) sound.of_the_sites;
       few_kept = omega arith;
-      short_paths = growth.short;
+      short_paths = growth.short refl;
       few_children = few-children-stay rs r dag next site.floors site.collected site.limits.max_kept free sound.collected room sound.few_children;
       few_sessions = sound.few_sessions;
       session_numbers = sound.session_numbers;

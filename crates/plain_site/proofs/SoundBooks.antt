@@ -13,7 +13,6 @@ use Rattle.plain_dag.specs.Above.{is_above}
 use Rattle.plain_dag.specs.Entries.{entry_of, with_entry, changed, without_entry, have_ascending_numbers}
 use Rattle.plain_dag.specs.Floors.{Session, Sessions, Floor, opening_floor, floor_of, is_above_ceilings}
 use Rattle.plain_site.specs.Site.{Site, Txn, own_floor}
-use Rattle.plain_site.specs.Built.{Built}
 use Rattle.plain_site.specs.Sound.{IsSoundTxn, is_sound_session, are_sound_floors, IsSound}
 use Rattle.plain_site.proofs.SoundEntries.{entry-changed, entry-changed_other, entry-with_entry, entry-with_entry_other, entry-without_entry, entry-without_entry_other, entry-passes}
 
@@ -81,8 +80,8 @@ pub record IsSoundBook (rs : List Record) (most : ℕ) (floor : StateId) (sessio
 abbrev pub BookOf : Site → Sessions → List (ℕ × Txn) → Type 0
 BookOf site sessions txns = IsSoundBook site.dag site.limits.max_sessions (own_floor site).state sessions txns
 
-pub sound-book : (built : Built) (site : Site) → IsSound built site → BookOf site site.sessions site.txns
-sound-book built site sound = record {
+pub sound-book : (site : Site) → IsSound site → BookOf site site.sessions site.txns
+sound-book site sound = record {
   few = sound.few_sessions;
   numbers = sound.session_numbers;
   each_session = sound.each_session;
@@ -92,9 +91,9 @@ sound-book built site sound = record {
 }
 
 -- a site with another sound book is sound
-pub book-keeps : (built : Built) (site : Site) (sessions : Sessions) (txns : List (ℕ × Txn)) → IsSound built site → BookOf site sessions txns →
-    IsSound built (record site { sessions = sessions; txns = txns })
-book-keeps built site sessions txns sound book = record {
+pub book-keeps : (site : Site) (sessions : Sessions) (txns : List (ℕ × Txn)) → IsSound site → BookOf site sessions txns →
+    IsSound (record site { sessions = sessions; txns = txns })
+book-keeps site sessions txns sound book = record {
   limits = sound.limits;
   own = sound.own;
   dag = sound.dag;
@@ -116,10 +115,10 @@ book-keeps built site sessions txns sound book = record {
 }
 
 -- the same, where the transactions alone are others
-pub txns-keep : (built : Built) (site : Site) (txns : List (ℕ × Txn)) → IsSound built site → IsTrue (have_ascending_numbers txns) →
-    ((m : ℕ) → TxnAt site.dag site.sessions txns m) → IsSound built (record site { txns = txns })
-txns-keep built site txns sound numbers each =
-    book-keeps built site site.sessions txns sound
+pub txns-keep : (site : Site) (txns : List (ℕ × Txn)) → IsSound site → IsTrue (have_ascending_numbers txns) →
+    ((m : ℕ) → TxnAt site.dag site.sessions txns m) → IsSound (record site { txns = txns })
+txns-keep site txns sound numbers each =
+    book-keeps site site.sessions txns sound
     (record {
       few = sound.few_sessions;
       numbers = sound.session_numbers;
@@ -147,9 +146,9 @@ session-from rs s h =
     and_from (is_u16 s.0 && is_known rs s.1.ceiling) (is_known rs s.1.last) (and_from (is_u16 s.0) (is_known rs s.1.ceiling) h.number h.ceiling) h.last
 
 -- an open session, under the own floor
-pub open-session : (built : Built) (site : Site) (n : ℕ) (s : Session) → IsSound built site → entry_of n site.sessions ≡ Some s →
+pub open-session : (site : Site) (n : ℕ) (s : Session) → IsSound site → entry_of n site.sessions ≡ Some s →
     IsSoundSession site.dag n s × IsTrue (is_above site.dag (own_floor site).state s.ceiling)
-open-session built site n s sound e = (
+open-session site n s sound e = (
   session-parts site.dag (n, s) (entry-passes (is_sound_session site.dag) n s site.sessions sound.each_session e),
   entry-passes (λ (d : ℕ × Session). is_above site.dag (own_floor site).state d.1.ceiling) n s site.sessions sound.under_floor e,
 )
@@ -180,8 +179,8 @@ floor-at rs n (f ∷ fs) h (suc i) l d =
     subst (λ k. IsSoundFloor rs k (get_or fs i d)) (sym same) (floor-at rs (n + 1) fs (floor-parts rs n f fs h).1 i (omega arith) d)
 
 -- the floor of each site
-pub sound-floor : (built : Built) (site : Site) → IsSound built site → (n : ℕ) → 1 ≤ n → n ≤ site.limits.sites → IsSoundFloor site.dag n (floor_of site.floors n)
-sound-floor built site sound n least most =
+pub sound-floor : (site : Site) → IsSound site → (n : ℕ) → 1 ≤ n → n ≤ site.limits.sites → IsSoundFloor site.dag n (floor_of site.floors n)
+sound-floor site sound n least most =
     let all = sound.one_floor_each in
     let l : n - 1 < length site.floors = omega arith in
     let same : 1 + (n - 1) ≡ n = omega arith in
@@ -190,10 +189,10 @@ sound-floor built site sound n least most =
     (floor-at site.dag 1 site.floors sound.each_floor (n - 1) l opening_floor))
 
 -- the own number is that of a site
-pub own-is_site : (built : Built) (site : Site) → IsSound built site → (1 ≤ site.own) × (site.own ≤ site.limits.sites)
-own-is_site built site sound =
+pub own-is_site : (site : Site) → IsSound site → (1 ≤ site.own) × (site.own ≤ site.limits.sites)
+own-is_site site sound =
     let parts = and_parts (nat_le 1 site.own) (nat_le site.own site.limits.sites) sound.own in
     (leb-true 1 site.own parts.0, leb-true site.own site.limits.sites parts.1)
 
-pub sound-own_floor : (built : Built) (site : Site) → IsSound built site → IsSoundFloor site.dag site.own (own_floor site)
-sound-own_floor built site sound = let own = own-is_site built site sound in sound-floor built site sound site.own own.0 own.1
+pub sound-own_floor : (site : Site) → IsSound site → IsSoundFloor site.dag site.own (own_floor site)
+sound-own_floor site sound = let own = own-is_site site sound in sound-floor site sound site.own own.0 own.1

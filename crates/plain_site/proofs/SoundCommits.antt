@@ -31,7 +31,6 @@ use Rattle.plain_dag.proofs.ConflictKeys.{lists-conflict-keys}
 use Rattle.plain_dag.proofs.Landing.{lands-below}
 use Rattle.plain_dag.proofs.Collected.{proper-above}
 use Rattle.plain_site.specs.Site.{Site, SingleTxn, MergeTxn, Txn, Single, Merge, own_floor, own_count, next_id, next_record}
-use Rattle.plain_site.specs.Built.{Built}
 use Rattle.plain_site.specs.Answers.{Answer, refuse, refuse_found}
 use Rattle.plain_site.specs.Commits.{without_txn_of, with_record, growth_refusals, committed, commit_below, commit_writes, commit_single, commit_merge, commit}
 use Rattle.plain_site.specs.Sound.{IsSoundTxn, is_sound_session, IsSound}
@@ -54,11 +53,11 @@ pub record MayJoin (site : Site) (parents : List StateId) (writes : List KeyWrit
   pub merges : (k : List ℕ) → IsTrue (is_conflict_key site.dag parents k) → IsTrue (has_key k writes)
   pub free : (p : StateId) → IsTrue (is_among p parents) → IsFalse (is_closed site.dag site.floors p)
 
-pub own-next : (built : Built) (site : Site) (parents : List StateId) (writes : List KeyWrite) → IsSound built site → MayJoin site parents writes →
+pub own-next : (site : Site) (parents : List StateId) (writes : List KeyWrite) → IsSound site → MayJoin site parents writes →
     own_count site ≢ 4294967295 → IsNext site.dag (next_record site parents writes)
-own-next built site parents writes sound joins more =
+own-next site parents writes sound joins more =
     let x = next_id site in
-    let own = own-is_site built site sound in
+    let own = own-is_site site sound in
     let few = (limits-parts site.limits sound.limits).sites in
     let fits = count-fits site.dag sound.dag site.own in
     let named = nat_le 1 x.site && nat_le 1 x.sequence in
@@ -82,8 +81,8 @@ own-next built site parents writes sound joins more =
 
 -- ===== The session after its commit
 
-committed-keeps : (built : Built) (site : Site) (n : ℕ) (r : Record) → IsSound built (with_record r site) → IsSound built (committed site n r).0
-committed-keeps built site n r sound =
+committed-keeps : (site : Site) (n : ℕ) (r : Record) → IsSound (with_record r site) → IsSound (committed site n r).0
+committed-keeps site n r sound =
     let rs = r ∷ site.dag in
     let after : Session → Session = after_commit rs r.id in
     let known = newest-is-known site.dag r in
@@ -91,7 +90,7 @@ committed-keeps built site n r sound =
     let txns = without_entry n site.txns in
     let same = changed-length n after site.sessions in
     let few = sound.few_sessions in
-    book-keeps built (with_record r site) (changed n after site.sessions) txns sound
+    book-keeps (with_record r site) (changed n after site.sessions) txns sound
     (record {
       few = omega arith;
       numbers = changed-ascends n after site.sessions sound.session_numbers;
@@ -117,21 +116,21 @@ committed-keeps built site n r sound =
           site.sessions sound.under_floor;
     })
 
-commit_below-keeps : (built : Built) (site : Site) (n : ℕ) (parents : List StateId) (writes : List KeyWrite) (refusals : List (Option Reply)) →
-    IsSound built site → (AreNone refusals → MayJoin site parents writes) → IsSound built (commit_below built site n parents writes refusals).0
-commit_below-keeps built site n parents writes refusals sound joins =
+commit_below-keeps : (site : Site) (n : ℕ) (parents : List StateId) (writes : List KeyWrite) (refusals : List (Option Reply)) →
+    IsSound site → (AreNone refusals → MayJoin site parents writes) → IsSound (commit_below site n parents writes refusals).0
+commit_below-keeps site n parents writes refusals sound joins =
     let r = next_record site parents writes in
     let over = own_count site == 4294967295 in
-    let grown = growth_refusal built.path_limits site.limits site.collected site.dag r in
-    unless-keeps (IsSound built) site sound (refusals ++ refuse over SeqEnd ∷ growth_refusals built site r) (committed site n r)
+    let grown = growth_refusal true site.limits site.collected site.dag r in
+    unless-keeps IsSound site sound (refusals ++ refuse over SeqEnd ∷ growth_refusals site r) (committed site n r)
     (λ none.
-    let parts = none-appended refusals (refuse over SeqEnd ∷ growth_refusals built site r) none in
-    let second = none-parts (refuse over SeqEnd) (growth_refusals built site r) parts.1 in
+    let parts = none-appended refusals (refuse over SeqEnd ∷ growth_refusals site r) none in
+    let second = none-parts (refuse over SeqEnd) (growth_refusals site r) parts.1 in
     let third = none-parts (refuse_found (λ f. f) grown) [] second.1 in
     let may = joins parts.0 in
-    let next = own-next built site parents writes sound may (eqb-false (own_count site) 4294967295 (when-none over _ second.0)) in
-    committed-keeps built site n r
-    (arrival-keeps built site r sound next (own-is_site built site sound).1 may.free (found-none (λ f. f) grown third.0)))
+    let next = own-next site parents writes sound may (eqb-false (own_count site) 4294967295 (when-none over _ second.0)) in
+    committed-keeps site n r
+    (arrival-keeps site r sound next (own-is_site site sound).1 may.free (found-none (λ f. f) grown third.0)))
 
 -- ===== States that aren't closed
 
@@ -141,22 +140,22 @@ all-at_index p (x ∷ xs) h ℕ.zero l d = (and_parts (p x) (list_all p xs) h).0
 all-at_index p (x ∷ xs) h (suc i) l d = all-at_index p xs (and_parts (p x) (list_all p xs) h).1 i (omega arith) d
 
 -- a closed state is a proper ancestor of the own floor
-pub closed-above_own : (built : Built) (site : Site) (x : StateId) → IsSound built site → IsTrue (is_closed site.dag site.floors x) →
+pub closed-above_own : (site : Site) (x : StateId) → IsSound site → IsTrue (is_closed site.dag site.floors x) →
     IsTrue (is_proper_ancestor site.dag x (own_floor site).state)
-closed-above_own built site x sound closed =
-    let own = own-is_site built site sound in
+closed-above_own site x sound closed =
+    let own = own-is_site site sound in
     let all = sound.one_floor_each in
     let l : site.own - 1 < length site.floors = omega arith in
     subst (λ (f : Floor). IsTrue (is_proper_ancestor site.dag x f.state)) (sym (unwrap_or-slice_get site.floors (site.own - 1) opening_floor))
     (all-at_index (λ (f : Floor). is_proper_ancestor site.dag x f.state) site.floors closed (site.own - 1) l opening_floor)
 
 -- a state that is admitted under an open session's ceiling isn't closed
-pub admitted-isnt_closed : (built : Built) (site : Site) (n : ℕ) (s : Session) (x : StateId) → IsSound built site → entry_of n site.sessions ≡ Some s →
+pub admitted-isnt_closed : (site : Site) (n : ℕ) (s : Session) (x : StateId) → IsSound site → entry_of n site.sessions ≡ Some s →
     IsTrue (is_admitted site.dag s.ceiling x) → IsFalse (is_closed site.dag site.floors x)
-admitted-isnt_closed built site n s x sound has admitted =
+admitted-isnt_closed site n s x sound has admitted =
     false_from_ne_true (is_closed site.dag site.floors x) (λ closed.
-    let under = (open-session built site n s sound has).1 in
-    let proper = proper-above site.dag sound.dag x (own_floor site).state s.ceiling (closed-above_own built site x sound closed) under in
+    let under = (open-session site n s sound has).1 in
+    let proper = proper-above site.dag sound.dag x (own_floor site).state s.ceiling (closed-above_own site x sound closed) under in
     both_ways (is_proper_ancestor site.dag x s.ceiling) (not-true (is_proper_ancestor site.dag x s.ceiling) admitted) proper)
 
 -- ===== Single transactions
@@ -173,15 +172,15 @@ one-has_no_conflict {P} rs x k h = go (latest_writer rs k x) h
         not-both (is_none (lowest rs (w ∷ []))) split (ap is_none found)
 
 -- what a single transaction writes may join below its landing
-pub single-joins : (built : Built) (site : Site) (n : ℕ) (s : Session) (t : SingleTxn) (flags : EndFlags) → entry_of n site.sessions ≡ Some s →
-    IsSoundTxn site.dag s.ceiling (Single t) → IsSound built site → MayJoin site (landing site.dag (guarded flags t.reads (keys_of t.writes)) t.state ∷ []) t.writes
-single-joins built site n s t flags has txn sound =
+pub single-joins : (site : Site) (n : ℕ) (s : Session) (t : SingleTxn) (flags : EndFlags) → entry_of n site.sessions ≡ Some s →
+    IsSoundTxn site.dag s.ceiling (Single t) → IsSound site → MayJoin site (landing site.dag (guarded flags t.reads (keys_of t.writes)) t.state ∷ []) t.writes
+single-joins site n s t flags has txn sound =
     let keys = guarded flags t.reads (keys_of t.writes) in
     let x = landing site.dag keys t.state in
     let known = (and_parts (is_known site.dag t.state) true txn.known).0 in
     let admitted = (and_parts (is_admitted site.dag s.ceiling t.state) true txn.admitted).0 in
     let lands = lands-below site.dag keys t.state sound.dag known in
-    let isnt_closed = admitted-isnt_closed built site n s t.state sound has admitted in
+    let isnt_closed = admitted-isnt_closed site n s t.state sound has admitted in
     let lands_open : IsFalse (is_closed site.dag site.floors x) = false_from_ne_true (is_closed site.dag site.floors x) (λ closed.
     both_ways (is_closed site.dag site.floors t.state) isnt_closed (above-closed site.dag sound.dag site.floors t.state x lands.1 closed)) in
     record {
@@ -196,21 +195,21 @@ single-joins built site n s t flags has txn sound =
       ];
     }
 
-writes-keep : (built : Built) (site : Site) (n : ℕ) (s : Session) (t : SingleTxn) (flags : EndFlags) (k : ℕ) → entry_of n site.sessions ≡ Some s →
-    IsSoundTxn site.dag s.ceiling (Single t) → IsSound built site → IsSound built (commit_writes built site n t flags k).0
-writes-keep built site n s t flags k has txn sound =
+writes-keep : (site : Site) (n : ℕ) (s : Session) (t : SingleTxn) (flags : EndFlags) (k : ℕ) → entry_of n site.sessions ≡ Some s →
+    IsSoundTxn site.dag s.ceiling (Single t) → IsSound site → IsSound (commit_writes site n t flags k).0
+writes-keep site n s t flags k has txn sound =
     let x = landing site.dag (guarded flags t.reads (keys_of t.writes)) t.state in
     let number_of_children = length (children site.dag x) in
-    commit_below-keeps built site n (x ∷ []) t.writes (refuse_found (λ c. Branches c x number_of_children) (broken flags k number_of_children) ∷ []) sound
-    (λ none. single-joins built site n s t flags has txn sound)
+    commit_below-keeps site n (x ∷ []) t.writes (refuse_found (λ c. Branches c x number_of_children) (broken flags k number_of_children) ∷ []) sound
+    (λ none. single-joins site n s t flags has txn sound)
 
-single-keeps : (built : Built) (site : Site) (n : ℕ) (s : Session) (t : SingleTxn) (flags : EndFlags) (k : ℕ) → entry_of n site.sessions ≡ Some s →
-    IsSoundTxn site.dag s.ceiling (Single t) → IsSound built site → IsSound built (commit_single built site n t flags k).0
-single-keeps built site n s t flags k has txn sound = go t.writes
+single-keeps : (site : Site) (n : ℕ) (s : Session) (t : SingleTxn) (flags : EndFlags) (k : ℕ) → entry_of n site.sessions ≡ Some s →
+    IsSoundTxn site.dag s.ceiling (Single t) → IsSound site → IsSound (commit_single site n t flags k).0
+single-keeps site n s t flags k has txn sound = go t.writes
   where
-    go : (ws : List KeyWrite) → IsSound built (elim ws as (λ v. Answer) [ [] ↦ (without_txn_of n site, Ended t.state) | w ∷ vs ↦ commit_writes built site n t flags k ]).0
-    go [] = abort-keeps built site n sound
-    go (w ∷ ws) = writes-keep built site n s t flags k has txn sound
+    go : (ws : List KeyWrite) → IsSound (elim ws as (λ v. Answer) [ [] ↦ (without_txn_of n site, Ended t.state) | w ∷ vs ↦ commit_writes site n t flags k ]).0
+    go [] = abort-keeps site n sound
+    go (w ∷ ws) = writes-keep site n s t flags k has txn sound
 
 -- ===== Merges
 
@@ -234,9 +233,9 @@ pub conflicts-written : (rs : List Record) (xs : List StateId) (ws : List KeyWri
 conflicts-written rs xs ws e k h = unfound-key ws (conflict_keys rs xs) k e ((lists-conflict-keys rs xs).complete k ∙ h)
 
 -- what a merge writes may join below its states, once none of their conflict keys is missing
-pub merge-joins : (built : Built) (site : Site) (n : ℕ) (s : Session) (t : MergeTxn) → entry_of n site.sessions ≡ Some s →
-    IsSoundTxn site.dag s.ceiling (Merge t) → IsSound built site → open_conflict site.dag t.states t.writes ≡ None → MayJoin site t.states t.writes
-merge-joins built site n s t has txn sound none =
+pub merge-joins : (site : Site) (n : ℕ) (s : Session) (t : MergeTxn) → entry_of n site.sessions ≡ Some s →
+    IsSoundTxn site.dag s.ceiling (Merge t) → IsSound site → open_conflict site.dag t.states t.writes ≡ None → MayJoin site t.states t.writes
+merge-joins site n s t has txn sound none =
     let shape = and_parts (are_parents t.states) (are_writes t.writes) txn.shape in
     record {
       parents_valid = shape.0;
@@ -244,34 +243,34 @@ merge-joins built site n s t has txn sound none =
       known = txn.known;
       apart = txn.apart;
       merges = conflicts-written site.dag t.states t.writes none;
-      free = λ p m. admitted-isnt_closed built site n s p sound has (all-at (is_admitted site.dag s.ceiling) t.states p txn.admitted m);
+      free = λ p m. admitted-isnt_closed site n s p sound has (all-at (is_admitted site.dag s.ceiling) t.states p txn.admitted m);
     }
 
 -- what a merge is refused for, before it joins
 abbrev pub merge_refusals : Site → MergeTxn → EndFlags → List (Option Reply)
 merge_refusals site t flags = refuse (not (flags.0 == 0)) WrongMode ∷ refuse_found OpenConflict (open_conflict site.dag t.states t.writes) ∷ []
 
-pub unrefused-joins : (built : Built) (site : Site) (n : ℕ) (s : Session) (t : MergeTxn) (flags : EndFlags) → entry_of n site.sessions ≡ Some s →
-    IsSoundTxn site.dag s.ceiling (Merge t) → IsSound built site → AreNone (merge_refusals site t flags) → MayJoin site t.states t.writes
-unrefused-joins built site n s t flags has txn sound none =
+pub unrefused-joins : (site : Site) (n : ℕ) (s : Session) (t : MergeTxn) (flags : EndFlags) → entry_of n site.sessions ≡ Some s →
+    IsSoundTxn site.dag s.ceiling (Merge t) → IsSound site → AreNone (merge_refusals site t flags) → MayJoin site t.states t.writes
+unrefused-joins site n s t flags has txn sound none =
     let missing = open_conflict site.dag t.states t.writes in
     let second = none-parts (refuse_found OpenConflict missing) [] (none-parts (refuse (not (flags.0 == 0)) WrongMode) (refuse_found OpenConflict missing ∷ []) none).1 in
-    merge-joins built site n s t has txn sound (found-none OpenConflict missing second.0)
+    merge-joins site n s t has txn sound (found-none OpenConflict missing second.0)
 
-merge-keeps : (built : Built) (site : Site) (n : ℕ) (s : Session) (t : MergeTxn) (flags : EndFlags) → entry_of n site.sessions ≡ Some s →
-    IsSoundTxn site.dag s.ceiling (Merge t) → IsSound built site → IsSound built (commit_merge built site n t flags).0
-merge-keeps built site n s t flags has txn sound =
-    commit_below-keeps built site n t.states t.writes (merge_refusals site t flags) sound (unrefused-joins built site n s t flags has txn sound)
+merge-keeps : (site : Site) (n : ℕ) (s : Session) (t : MergeTxn) (flags : EndFlags) → entry_of n site.sessions ≡ Some s →
+    IsSoundTxn site.dag s.ceiling (Merge t) → IsSound site → IsSound (commit_merge site n t flags).0
+merge-keeps site n s t flags has txn sound =
+    commit_below-keeps site n t.states t.writes (merge_refusals site t flags) sound (unrefused-joins site n s t flags has txn sound)
 
 -- ===== Commit
 
-commit-of : (built : Built) (site : Site) (n : ℕ) (s : Session) (t : Txn) (flags : EndFlags) (k : ℕ) → entry_of n site.sessions ≡ Some s →
-    IsSoundTxn site.dag s.ceiling t → IsSound built site → IsSound built (commit built site n t flags k).0
-commit-of built site n s (Single t) flags k has txn sound = single-keeps built site n s t flags k has txn sound
-commit-of built site n s (Merge t) flags k has txn sound = merge-keeps built site n s t flags has txn sound
+commit-of : (site : Site) (n : ℕ) (s : Session) (t : Txn) (flags : EndFlags) (k : ℕ) → entry_of n site.sessions ≡ Some s →
+    IsSoundTxn site.dag s.ceiling t → IsSound site → IsSound (commit site n t flags k).0
+commit-of site n s (Single t) flags k has txn sound = single-keeps site n s t flags k has txn sound
+commit-of site n s (Merge t) flags k has txn sound = merge-keeps site n s t flags has txn sound
 
-pub commit-keeps : (built : Built) (site : Site) (n : ℕ) (t : Txn) (flags : EndFlags) (k : ℕ) → entry_of n site.txns ≡ Some t →
-    IsSound built site → IsSound built (commit built site n t flags k).0
-commit-keeps built site n t flags k has sound =
+pub commit-keeps : (site : Site) (n : ℕ) (t : Txn) (flags : EndFlags) (k : ℕ) → entry_of n site.txns ≡ Some t →
+    IsSound site → IsSound (commit site n t flags k).0
+commit-keeps site n t flags k has sound =
     let was = sound.each_txn n t has in
-    commit-of built site n was.0 t flags k was.1 was.2 sound
+    commit-of site n was.0 t flags k was.1 was.2 sound

@@ -20,7 +20,6 @@ use Rattle.plain_dag.specs.Dag.{IsNext}
 use Rattle.plain_dag.specs.Floors.{floor_of, with_floor, is_closed}
 use Rattle.plain_dag.specs.Growth.{growth_refusal}
 use Rattle.plain_site.specs.Site.{Site}
-use Rattle.plain_site.specs.Built.{Built}
 use Rattle.plain_site.specs.Answers.{Answer, says_early, when, refuse, refuse_found, unless}
 use Rattle.plain_site.specs.Commits.{with_record, growth_refusals}
 use Rattle.plain_site.specs.WaitingRoom.{hold, without}
@@ -41,8 +40,8 @@ pub record IsWelcome (site : Site) (r : Record) : Type 0 where
   pub next : IsNext site.dag r
   pub free : find (is_closed site.dag site.floors) r.parents ≡ None
 
-pub welcome : (built : Built) (site : Site) (r : Record) → IsTrue (is_record r) → IsSound built site → AreNone (judgements site r) → IsWelcome site r
-welcome built site r valid sound none =
+pub welcome : (site : Site) (r : Record) → IsTrue (is_record r) → IsSound site → AreNone (judgements site r) → IsWelcome site r
+welcome site r valid sound none =
     let rs = site.dag in
     let count = count_of_site rs r.id.site in
     let one = refuse (nat_lt site.limits.sites r.id.site) (BadSite r.id.site) in
@@ -75,14 +74,14 @@ welcome built site r valid sound none =
       free = found-none ClosedParent (find (is_closed rs site.floors) r.parents) fifth.0;
     }
 
-take-keeps : (built : Built) (site : Site) (r : Record) → IsTrue (is_record r) → IsSound built site → IsSound built (take_record built site r).0
-take-keeps built site r valid sound =
-    let grown = growth_refusal built.path_limits site.limits site.collected site.dag r in
-    unless-keeps (IsSound built) site sound (judgements site r ++ growth_refusals built site r) (with_record r site, Applied)
+take-keeps : (site : Site) (r : Record) → IsTrue (is_record r) → IsSound site → IsSound (take_record site r).0
+take-keeps site r valid sound =
+    let grown = growth_refusal true site.limits site.collected site.dag r in
+    unless-keeps IsSound site sound (judgements site r ++ growth_refusals site r) (with_record r site, Applied)
     (λ none.
-    let parts = none-appended (judgements site r) (growth_refusals built site r) none in
-    let is_welcome = welcome built site r valid sound parts.0 in
-    arrival-keeps built site r sound is_welcome.next is_welcome.of_a_site
+    let parts = none-appended (judgements site r) (growth_refusals site r) none in
+    let is_welcome = welcome site r valid sound parts.0 in
+    arrival-keeps site r sound is_welcome.next is_welcome.of_a_site
     (λ p m. unfound-at (is_closed site.dag site.floors) r.parents p is_welcome.free m)
     (found-none (λ f. f) grown (none-parts (refuse_found (λ f. f) grown) [] parts.1).0))
 
@@ -100,18 +99,18 @@ early-stays site [] answer other early = absurd (both_ways (says_early answer.1)
 early-stays site (None ∷ more) answer other early = early-stays site more answer other early
 early-stays site (Some reply ∷ more) answer other early = refl
 
-pub taken-stays : (built : Built) (site : Site) (r : Record) → IsTrue (says_early (take_record built site r).1) → (take_record built site r).0 ≡ site
-taken-stays built site r early = early-stays site (judgements site r ++ growth_refusals built site r) (with_record r site, Applied) refl early
+pub taken-stays : (site : Site) (r : Record) → IsTrue (says_early (take_record site r).1) → (take_record site r).0 ≡ site
+taken-stays site r early = early-stays site (judgements site r ++ growth_refusals site r) (with_record r site, Applied) refl early
 
-early-may-wait : (built : Built) (site : Site) (r : Record) → IsTrue (is_record r) → IsTrue (says_early (take_record built site r).1) → IsTrue (may_wait site.limits.sites site.own r)
-early-may-wait built site r valid early =
+early-may-wait : (site : Site) (r : Record) → IsTrue (is_record r) → IsTrue (says_early (take_record site r).1) → IsTrue (may_wait site.limits.sites site.own r)
+early-may-wait site r valid early =
     let rs = site.dag in
     let count = count_of_site rs r.id.site in
     let answer : Answer = (with_record r site, Applied) in
     let five = refuse_found ClosedParent (find (is_closed rs site.floors) r.parents) in
     let six = refuse_found (λ (pair : StateId × StateId). Comparable pair.0 pair.1) (comparable_pair rs r.parents) in
     let seven = refuse_found OpenConflict (open_conflict rs r.parents r.writes) in
-    let third : List (Option Reply) = (when (is_early site r) (Early count) ∷ five ∷ six ∷ seven ∷ []) ++ growth_refusals built site r in
+    let third : List (Option Reply) = (when (is_early site r) (Early count) ∷ five ∷ six ∷ seven ∷ []) ++ growth_refusals site r in
     let second : List (Option Reply) = refuse (r.id.site == site.own) (OwnItem r.id.site r.id.sequence) ∷ third in
     let first : List (Option Reply) = when (nat_le r.id.sequence count) Known ∷ second in
     let a = past-when site (nat_lt site.limits.sites r.id.site) (Refused (BadSite r.id.site)) first answer refl early in
@@ -122,8 +121,8 @@ early-may-wait built site r valid early =
     (not_from_false (r.id.site == site.own) c.0)
 
 -- a site with another sound room is sound
-pub room-keeps : (built : Built) (site : Site) (room : List Record) → IsSound built site → IsSoundRoom site.limits.sites site.own room → IsSound built (record site { waiting = room })
-room-keeps built site room sound room_sound = record {
+pub room-keeps : (site : Site) (room : List Record) → IsSound site → IsSoundRoom site.limits.sites site.own room → IsSound (record site { waiting = room })
+room-keeps site room sound room_sound = record {
   limits = sound.limits;
   own = sound.own;
   dag = sound.dag;
@@ -144,44 +143,44 @@ room-keeps built site room sound room_sound = record {
   waiting = room_sound;
 }
 
-record-keeps : (built : Built) (site : Site) (r : Record) → IsTrue (is_record r) → IsSound built site → IsSound built (deliver_record built site r).0
-record-keeps built site r valid sound =
-    let answer : Answer = take_record built site r in
-    cond_both (says_early answer.1) (with_held r answer.0) answer.0 (λ (next : Site). IsSound built next)
+record-keeps : (site : Site) (r : Record) → IsTrue (is_record r) → IsSound site → IsSound (deliver_record site r).0
+record-keeps site r valid sound =
+    let answer : Answer = take_record site r in
+    cond_both (says_early answer.1) (with_held r answer.0) answer.0 (λ (next : Site). IsSound next)
     (λ early.
-    subst (λ (next : Site). IsSound built (with_held r next)) (sym (taken-stays built site r early))
-    (room-keeps built site (hold r site.waiting) sound
-    (room-holds site.limits.sites site.own site.waiting r sound.waiting (early-may-wait built site r valid early))))
-    (λ late. take-keeps built site r valid sound)
+    subst (λ (next : Site). IsSound (with_held r next)) (sym (taken-stays site r early))
+    (room-keeps site (hold r site.waiting) sound
+    (room-holds site.limits.sites site.own site.waiting r sound.waiting (early-may-wait site r valid early))))
+    (λ late. take-keeps site r valid sound)
 
 pub waiting-is-record : (site : Site) (r : Record) → IsTrue (may_wait site.limits.sites site.own r) → IsTrue (is_record r)
 waiting-is-record site r may =
     (and_parts (is_record r) (nat_le r.id.site site.limits.sites) (and_parts (is_record r && nat_le r.id.site site.limits.sites) (not (r.id.site == site.own)) may).0).0
 
-settled-keeps : (built : Built) (site : Site) (found : ℕ × Record) → IsSound built site → first_fit_record site ≡ Some found →
-    growth_refusal built.path_limits site.limits site.collected site.dag found.1 ≡ None → IsSound built (with_settled found site)
-settled-keeps built site found sound is grows =
+settled-keeps : (site : Site) (found : ℕ × Record) → IsSound site → first_fit_record site ≡ Some found →
+    growth_refusal true site.limits site.collected site.dag found.1 ≡ None → IsSound (with_settled found site)
+settled-keeps site found sound is grows =
     let r = found.1 in
     let rest = without found.0 site.waiting in
     let fit = first-is-fit (is_fit site) site.waiting found is in
     let valid = waiting-is-record site r (fit.as_all (may_wait site.limits.sites site.own) sound.waiting.each) in
-    let is_welcome = welcome built site r valid sound fit.passes in
-    let left = room-keeps built site rest sound (room-without site.limits.sites site.own found.0 site.waiting sound.waiting) in
-    arrival-keeps built (record site { waiting = rest }) r left is_welcome.next is_welcome.of_a_site
+    let is_welcome = welcome site r valid sound fit.passes in
+    let left = room-keeps site rest sound (room-without site.limits.sites site.own found.0 site.waiting sound.waiting) in
+    arrival-keeps (record site { waiting = rest }) r left is_welcome.next is_welcome.of_a_site
     (λ p m. unfound-at (is_closed site.dag site.floors) r.parents p is_welcome.free m) grows
 
-pub settle-keeps : (built : Built) (site : Site) → IsSound built site → IsSound built (settle built site).0
-settle-keeps built site sound =
-    given-keeps (IsSound built) site sound (first_fit_record site) (site, Done) (settle_record built site) (λ none. sound)
+pub settle-keeps : (site : Site) → IsSound site → IsSound (settle site).0
+settle-keeps site sound =
+    given-keeps IsSound site sound (first_fit_record site) (site, Done) (settle_record site) (λ none. sound)
     (λ found is.
-    let grown = growth_refusal built.path_limits site.limits site.collected site.dag found.1 in
-    unless-keeps (IsSound built) site sound (growth_refusals built site found.1) (with_settled found site, Applied)
-    (λ none. settled-keeps built site found sound is (found-none (λ f. f) grown (none-parts (refuse_found (λ f. f) grown) [] none).0)))
+    let grown = growth_refusal true site.limits site.collected site.dag found.1 in
+    unless-keeps IsSound site sound (growth_refusals site found.1) (with_settled found site, Applied)
+    (λ none. settled-keeps site found sound is (found-none (λ f. f) grown (none-parts (refuse_found (λ f. f) grown) [] none).0)))
 
 -- ===== A consent
 
-consent-keeps : (built : Built) (site : Site) (c : Consent) → IsTrue (is_consent c) → IsSound built site → IsSound built (deliver_consent site c).0
-consent-keeps built site c valid sound =
+consent-keeps : (site : Site) (c : Consent) → IsTrue (is_consent c) → IsSound site → IsSound (deliver_consent site c).0
+consent-keeps site c valid sound =
     let rs = site.dag in
     let f = floor_of site.floors c.site in
     let count = count_of_site rs c.site in
@@ -192,7 +191,7 @@ consent-keeps built site c valid sound =
     let three = refuse (c.site == site.own) (OwnItem c.site c.number) in
     let four = when (nat_lt count c.count || not known) (Early count) in
     let five = refuse (not above) (FloorBack f.state) in
-    unless-keeps (IsSound built) site sound (consent_judgements site c)
+    unless-keeps IsSound site sound (consent_judgements site c)
     (record site { floors = with_floor site.floors c.site (record { state = c.floor; number = c.number; stated = c.count }) }, Applied)
     (λ none.
     let first = none-parts one (two ∷ three ∷ four ∷ five ∷ []) none in
@@ -208,13 +207,13 @@ consent-keeps built site c valid sound =
     let least = leb-true 1 c.site (and_parts (nat_le 1 c.site) (nat_le 1 c.number) v.1).0 in
     let most = ltb-false site.limits.sites c.site (when-none (nat_lt site.limits.sites c.site) _ first.0) in
     let in_time = or_parts (nat_lt count c.count) (not known) (when-none (nat_lt count c.count || not known) _ fourth.0) in
-    floor-keeps built site c.site (record { state = c.floor; number = c.number; stated = c.count }) sound least most
+    floor-keeps site c.site (record { state = c.floor; number = c.number; stated = c.count }) sound least most
     (record { known = not-false known in_time.1; stated = ltb-false count c.count in_time.0; number = number })
     (not-false above (when-none (not above) _ fifth.0))
     (λ e. absurd (eqb-false c.site site.own (when-none (c.site == site.own) _ third.0) e)))
 
 -- ===== Deliver
 
-pub deliver-keeps : (built : Built) (site : Site) (item : Item) → IsTrue (is_item item) → IsSound built site → IsSound built (deliver built site item).0
-deliver-keeps built site (State r) valid sound = record-keeps built site r valid sound
-deliver-keeps built site (Promise c) valid sound = consent-keeps built site c valid sound
+pub deliver-keeps : (site : Site) (item : Item) → IsTrue (is_item item) → IsSound site → IsSound (deliver site item).0
+deliver-keeps site (State r) valid sound = record-keeps site r valid sound
+deliver-keeps site (Promise c) valid sound = consent-keeps site c valid sound

@@ -19,7 +19,6 @@ use Rattle.plain_dag.proofs.Order.{above-reflexive, above-transitive}
 use Rattle.plain_dag.proofs.Searches.{found-passes}
 use Rattle.plain_dag.proofs.Collected.{proper-above}
 use Rattle.plain_site.specs.Site.{Site, own_floor, own_count}
-use Rattle.plain_site.specs.Built.{Built}
 use Rattle.plain_site.specs.Answers.{refuse, refuse_found}
 use Rattle.plain_site.specs.Sessions.{set_ceiling}
 use Rattle.plain_site.specs.FloorSteps.{raised, raise_to, raise, raise_auto}
@@ -41,25 +40,25 @@ unfound-all p (x ∷ xs) e = elim (cases_Bool (p x)) [
 
 -- ===== Ceilings
 
-pub ceiling-keeps : (built : Built) (site : Site) (n : ℕ) (s : Session) (x : StateId) → entry_of n site.sessions ≡ Some s → entry_of n site.txns ≡ None →
-    IsSound built site → IsSound built (set_ceiling site n s x).0
-ceiling-keeps built site n s x has free sound =
+pub ceiling-keeps : (site : Site) (n : ℕ) (s : Session) (x : StateId) → entry_of n site.sessions ≡ Some s → entry_of n site.txns ≡ None →
+    IsSound site → IsSound (set_ceiling site n s x).0
+ceiling-keeps site n s x has free sound =
     let rs = site.dag in
     let floor = (own_floor site).state in
     let known = is_known rs x in
     let above = is_above rs s.ceiling x in
     let after : Session → Session = with_ceiling x in
-    unless-keeps (IsSound built) site sound (refuse (not known) (Unknown x) ∷ refuse (not above) (CeilingBack s.ceiling) ∷ [])
+    unless-keeps IsSound site sound (refuse (not known) (Unknown x) ∷ refuse (not above) (CeilingBack s.ceiling) ∷ [])
     (record site { sessions = changed n after site.sessions }, Done)
     (λ none.
     let first = none-parts (refuse (not known) (Unknown x)) (refuse (not above) (CeilingBack s.ceiling) ∷ []) none in
     let second = none-parts (refuse (not above) (CeilingBack s.ceiling)) [] first.1 in
     let is_there = not-false known (when-none (not known) _ first.0) in
     let below = not-false above (when-none (not above) _ second.0) in
-    let under = above-transitive rs sound.dag floor s.ceiling x (open-session built site n s sound has).1 below in
+    let under = above-transitive rs sound.dag floor s.ceiling x (open-session site n s sound has).1 below in
     let same = changed-length n after site.sessions in
     let few = sound.few_sessions in
-    book-keeps built site (changed n after site.sessions) site.txns sound
+    book-keeps site (changed n after site.sessions) site.txns sound
     (record {
       few = omega arith;
       numbers = changed-ascends n after site.sessions sound.session_numbers;
@@ -114,15 +113,15 @@ floor-set_other floors n m f least too differ =
     ∙ (get_or-set_other floors (n - 1) (m - 1) f opening_floor apart ∙ sym (unwrap_or-slice_get floors (m - 1) opening_floor))
 
 -- a floor that the site's old floor is at or above takes its place; if it is the own one, all ceilings are at or below it
-pub floor-keeps : (built : Built) (site : Site) (n : ℕ) (f : Floor) → IsSound built site → 1 ≤ n → n ≤ site.limits.sites → IsSoundFloor site.dag n f →
+pub floor-keeps : (site : Site) (n : ℕ) (f : Floor) → IsSound site → 1 ≤ n → n ≤ site.limits.sites → IsSoundFloor site.dag n f →
     IsTrue (is_above site.dag (floor_of site.floors n).state f.state) → (n ≡ site.own → IsTrue (is_above_ceilings site.dag site.sessions f.state)) →
-    IsSound built (record site { floors = with_floor site.floors n f })
-floor-keeps built site n f sound least most is_sound down ceilings =
+    IsSound (record site { floors = with_floor site.floors n f })
+floor-keeps site n f sound least most is_sound down ceilings =
     let rs = site.dag in
     let all = sound.one_floor_each in
     let l : n - 1 < length site.floors = omega arith in
     let same : 1 + (n - 1) ≡ n = omega arith in
-    let own = own-is_site built site sound in
+    let own = own-is_site site sound in
     let new : List Floor = with_floor site.floors n f in
     record {
       limits = sound.limits;
@@ -170,29 +169,29 @@ pub record MayRaise (site : Site) (x : StateId) : Type 0 where
   pub below : IsTrue (is_above site.dag (own_floor site).state x)
   pub ceilings : IsTrue (is_above_ceilings site.dag site.sessions x)
 
-raise_to-keeps : (built : Built) (site : Site) (x : StateId) (refusals : List (Option Reply)) → IsSound built site → (AreNone refusals → MayRaise site x) →
-    IsSound built (raise_to site x refusals).0
-raise_to-keeps built site x refusals sound may =
+raise_to-keeps : (site : Site) (x : StateId) (refusals : List (Option Reply)) → IsSound site → (AreNone refusals → MayRaise site x) →
+    IsSound (raise_to site x refusals).0
+raise_to-keeps site x refusals sound may =
     let number = (own_floor site).number in
     let over = number == 4294967295 in
-    unless-keeps (IsSound built) site sound (refusals ++ refuse over SeqEnd ∷ []) (raised site x)
+    unless-keeps IsSound site sound (refusals ++ refuse over SeqEnd ∷ []) (raised site x)
     (λ none.
     let parts = none-appended refusals (refuse over SeqEnd ∷ []) none in
     let more = eqb-false number 4294967295 (when-none over _ (none-parts (refuse over SeqEnd) [] parts.1).0) in
     let raises = may parts.0 in
-    let own = own-is_site built site sound in
-    let old = ltb-true number (2 ^ 32) (sound-own_floor built site sound).number in
-    floor-keeps built site site.own (record { state = x; number = number + 1; stated = own_count site }) sound own.0 own.1
+    let own = own-is_site site sound in
+    let old = ltb-true number (2 ^ 32) (sound-own_floor site sound).number in
+    floor-keeps site site.own (record { state = x; number = number + 1; stated = own_count site }) sound own.0 own.1
     (record { known = raises.known; stated = omega arith; number = lt-ltb (number + 1) (2 ^ 32) (omega arith) })
     raises.below (λ e. raises.ceilings))
 
-pub raise-keeps : (built : Built) (site : Site) (x : StateId) → IsSound built site → IsSound built (raise site x).0
-raise-keeps built site x sound =
+pub raise-keeps : (site : Site) (x : StateId) → IsSound site → IsSound (raise site x).0
+raise-keeps site x sound =
     let floor = (own_floor site).state in
     let known = is_known site.dag x in
     let above = is_above site.dag floor x in
     let held = refuse_found (λ (s : ℕ × Session). Held s.0 s.1.ceiling) (holding_session site.dag site.sessions x) in
-    raise_to-keeps built site x (refuse (not known) (Unknown x) ∷ refuse (not above) (FloorBack floor) ∷ held ∷ []) sound
+    raise_to-keeps site x (refuse (not known) (Unknown x) ∷ refuse (not above) (FloorBack floor) ∷ held ∷ []) sound
     (λ none.
     let first = none-parts (refuse (not known) (Unknown x)) (refuse (not above) (FloorBack floor) ∷ held ∷ []) none in
     let second = none-parts (refuse (not above) (FloorBack floor)) (held ∷ []) first.1 in
@@ -205,14 +204,14 @@ raise-keeps built site x sound =
           (found-none (λ (s : ℕ × Session). Held s.0 s.1.ceiling) (holding_session site.dag site.sessions x) third.0);
     })
 
-pub raise_auto-keeps : (built : Built) (site : Site) → IsSound built site → IsSound built (raise_auto site).0
-raise_auto-keeps built site sound =
-    raise_to-keeps built site (automatic_floor site.dag (own_floor site).state site.sessions) [] sound
+pub raise_auto-keeps : (site : Site) → IsSound site → IsSound (raise_auto site).0
+raise_auto-keeps site sound =
+    raise_to-keeps site (automatic_floor site.dag (own_floor site).state site.sessions) [] sound
     (λ none. go (find (λ x. is_above site.dag (own_floor site).state x && is_above_ceilings site.dag site.sessions x) (states site.dag)) refl)
   where
     go : (o : Option StateId) → find (λ x. is_above site.dag (own_floor site).state x && is_above_ceilings site.dag site.sessions x) (states site.dag) ≡ o →
         MayRaise site (unwrap_or o (own_floor site).state)
-    go None e = record { known = (sound-own_floor built site sound).known; below = above-reflexive site.dag (own_floor site).state; ceilings = sound.under_floor }
+    go None e = record { known = (sound-own_floor site sound).known; below = above-reflexive site.dag (own_floor site).state; ceilings = sound.under_floor }
     go (Some x) e =
         let own = (own_floor site).state in
         let found = found-passes (λ y. is_above site.dag own y && is_above_ceilings site.dag site.sessions y) (states site.dag) x e in

@@ -24,7 +24,6 @@ use Rattle.plain_dag.proofs.Order.{apart-means-incomparable}
 use Rattle.plain_dag.proofs.Leaves.{begins-at-leaves}
 use Rattle.plain_dag.proofs.Searches.{among-filter}
 use Rattle.plain_site.specs.Site.{Site, Txn, Merge}
-use Rattle.plain_site.specs.Built.{Built}
 use Rattle.plain_site.specs.Answers.{refuse, refuse_found}
 use Rattle.plain_site.specs.Merges.{with_state, in_order, states_to_merge, merge_at, begin_merge}
 use Rattle.plain_site.specs.Sound.{IsSound}
@@ -97,16 +96,16 @@ in_order-apart rs (x ∷ xs) h =
 
 -- ===== BeginMerge
 
-merge_at-keeps : (built : Built) (site : Site) (n : ℕ) (s : Session) (xs : List StateId) → entry_of n site.sessions ≡ Some s → 1 ≤ length xs → IsSound built site →
-    IsSound built (merge_at site n s.ceiling xs).0
-merge_at-keeps built site n s xs has some sound =
+merge_at-keeps : (site : Site) (n : ℕ) (s : Session) (xs : List StateId) → entry_of n site.sessions ≡ Some s → 1 ≤ length xs → IsSound site →
+    IsSound (merge_at site n s.ceiling xs).0
+merge_at-keeps site n s xs has some sound =
     let rs = site.dag in
     let states = in_order xs in
     let t : Txn = Merge (record { states = states; writes = [] }) in
     let unknown = refuse_found Unknown (find (λ x. not (is_known rs x)) xs) in
     let below = refuse_found (λ x. Below x s.ceiling) (find (λ x. not (is_admitted rs s.ceiling x)) xs) in
     let comparable = refuse_found (λ (pair : StateId × StateId). Comparable pair.0 pair.1) (comparable_pair rs xs) in
-    unless-keeps (IsSound built) site sound (refuse (nat_lt 8 (length xs)) (TooMany 3 (length xs)) ∷ unknown ∷ below ∷ comparable ∷ [])
+    unless-keeps IsSound site sound (refuse (nat_lt 8 (length xs)) (TooMany 3 (length xs)) ∷ unknown ∷ below ∷ comparable ∷ [])
     (record site { txns = with_entry n t site.txns }, Merging states)
     (λ none.
     let first = none-parts (refuse (nat_lt 8 (length xs)) (TooMany 3 (length xs))) (unknown ∷ below ∷ comparable ∷ []) none in
@@ -127,7 +126,7 @@ merge_at-keeps built site n s xs has some sound =
     (and_from within valid
     (and_from (nat_le 1 (length states)) (nat_le (length states) 8) (le-leb 1 (length states) (omega arith)) (le-leb (length states) 8 (omega arith)))
     (all-implies (is_known rs) is_id (known-is_id rs sound.dag) states known_too)) (order-ascends rs xs apart) in
-    txns-keep built site (with_entry n t site.txns) sound (with_entry-ascends n t site.txns sound.txn_numbers)
+    txns-keep site (with_entry n t site.txns) sound (with_entry-ascends n t site.txns sound.txn_numbers)
     (each-with_txn rs site.sessions site.txns n sound.each_txn s t has
     (record {
       shape = and_from (are_parents states) true parents refl;
@@ -142,15 +141,15 @@ some-among : (x : StateId) (xs : List StateId) → IsTrue (is_among x xs) → 1 
 some-among x [] h = not-both true refl (sym h)
 some-among x (y ∷ ys) h = omega arith
 
-some-to-merge : (built : Built) (site : Site) (of : MergeOf) → IsTrue (is_merge_of of) → IsSound built site → 1 ≤ length (states_to_merge site of)
-some-to-merge built site Leaves valid sound =
+some-to-merge : (site : Site) (of : MergeOf) → IsTrue (is_merge_of of) → IsSound site → 1 ≤ length (states_to_merge site of)
+some-to-merge site Leaves valid sound =
     let leaf = begins-at-leaves site.dag sound.dag root (root-is-known site.dag sound.dag) in
     let x = last_arrived site.dag in
     some-among x (leaves site.dag) (among-filter (is_leaf site.dag) (arrived site.dag) x (known-is_arrived site.dag x leaf.0) leaf.1)
-some-to-merge built site (TheseStates xs) valid sound =
+some-to-merge site (TheseStates xs) valid sound =
     let parts = and_parts (is_within 1 255 (length xs)) (list_all is_id xs) valid in
     leb-true 1 (length xs) (and_parts (nat_le 1 (length xs)) (nat_le (length xs) 255) parts.0).0
 
-pub begin_merge-keeps : (built : Built) (site : Site) (n : ℕ) (s : Session) (of : MergeOf) → entry_of n site.sessions ≡ Some s → IsTrue (is_merge_of of) →
-    IsSound built site → IsSound built (begin_merge site n s of).0
-begin_merge-keeps built site n s of has valid sound = merge_at-keeps built site n s (states_to_merge site of) has (some-to-merge built site of valid sound) sound
+pub begin_merge-keeps : (site : Site) (n : ℕ) (s : Session) (of : MergeOf) → entry_of n site.sessions ≡ Some s → IsTrue (is_merge_of of) →
+    IsSound site → IsSound (begin_merge site n s of).0
+begin_merge-keeps site n s of has valid sound = merge_at-keeps site n s (states_to_merge site of) has (some-to-merge site of valid sound) sound

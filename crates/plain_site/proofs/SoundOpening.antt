@@ -8,7 +8,6 @@ use Rattle.tardis_base.specs.Valid.{is_within, are_limits}
 use Rattle.plain_dag.specs.States.{root_record, count_of_site}
 use Rattle.plain_dag.specs.Floors.{opening_floor}
 use Rattle.plain_dag.proofs.Ids.{not-both}
-use Rattle.plain_site.specs.Built.{Built}
 use Rattle.plain_site.specs.Sound.{are_sound_floors}
 use Rattle.plain_site.specs.Laws.{OpeningIsSound}
 
@@ -44,14 +43,14 @@ replicated : {A : Type 0} (n : ℕ) (a : A) → length (replicate n a) ≡ n
 replicated zero a = refl
 replicated (suc n) a = ap suc (replicated n a)
 
-pub opening-is-sound : (built : Built) → OpeningIsSound built
-opening-is-sound built limits own h of_a_site = record {
+pub opening-is-sound : OpeningIsSound
+opening-is-sound limits own h of_a_site = record {
   limits = h;
   own = of_a_site;
   dag = refl;
   of_the_sites = and_from (nat_le 0 limits.sites) true (le-leb 0 limits.sites (omega arith)) refl;
   few_kept = (limits-parts limits h).kept;
-  short_paths = λ tries x kept. omega arith;
+  short_paths = λ x kept. omega arith;
   few_children = λ x. omega arith;
   few_sessions = omega arith;
   session_numbers = refl;

@@ -22,7 +22,6 @@ use Rattle.plain_dag.specs.Floors.{Session, opening_session}
 use Rattle.plain_dag.proofs.Ids.{not-both}
 use Rattle.plain_dag.proofs.Order.{above-reflexive}
 use Rattle.plain_site.specs.Site.{Site, SingleTxn, Txn, Single, Merge, own_floor, writes_of}
-use Rattle.plain_site.specs.Built.{Built}
 use Rattle.plain_site.specs.Answers.{refuse, shown, found}
 use Rattle.plain_site.specs.Sessions.{open_session, close_session, begin_at, begin}
 use Rattle.plain_site.specs.Reads.{having_read, having_written, read_at, read_in, get, set_key}
@@ -40,13 +39,13 @@ no-entry : {A : Type 0} (o : Option A) → IsFalse (is_some o) → o ≡ None
 no-entry None h = refl
 no-entry (Some a) h = not-both true refl h
 
-pub opening-keeps : (built : Built) (site : Site) (n : ℕ) (follow : Bool) → IsTrue (is_u16 n) → IsTrue (is_known site.dag root) → IsSound built site → IsSound built (open_session site n follow).0
-opening-keeps built site n follow small rooted sound =
+pub opening-keeps : (site : Site) (n : ℕ) (follow : Bool) → IsTrue (is_u16 n) → IsTrue (is_known site.dag root) → IsSound site → IsSound (open_session site n follow).0
+opening-keeps site n follow small rooted sound =
     let ceiling = (own_floor site).state in
     let number_open = length site.sessions in
     let s = opening_session follow ceiling in
-    let floor = sound-own_floor built site sound in
-    unless-keeps (IsSound built) site sound
+    let floor = sound-own_floor site sound in
+    unless-keeps IsSound site sound
     (refuse (is_some (entry_of n site.sessions)) AlreadyOpen ∷ refuse (number_open == site.limits.max_sessions) (SessionsFull number_open) ∷ [])
     (record site { sessions = with_entry n s site.sessions }, Opened ceiling)
     (λ none.
@@ -56,7 +55,7 @@ opening-keeps built site n follow small rooted sound =
     let room = eqb-false number_open site.limits.max_sessions (when-none (number_open == site.limits.max_sessions) _ second.0) in
     let few = sound.few_sessions in
     let more = with_entry-length n s site.sessions in
-    book-keeps built site (with_entry n s site.sessions) site.txns sound
+    book-keeps site (with_entry n s site.sessions) site.txns sound
     (record {
       few = omega arith;
       numbers = with_entry-ascends n s site.sessions sound.session_numbers;
@@ -69,13 +68,13 @@ opening-keeps built site n follow small rooted sound =
           with_entry-all (λ (d : ℕ × Session). is_above site.dag ceiling d.1.ceiling) n s site.sessions sound.under_floor (above-reflexive site.dag ceiling);
     }))
 
-pub closing-keeps : (built : Built) (site : Site) (n : ℕ) → IsSound built site → IsSound built (close_session site n).0
-closing-keeps built site n sound =
+pub closing-keeps : (site : Site) (n : ℕ) → IsSound site → IsSound (close_session site n).0
+closing-keeps site n sound =
     let sessions = without_entry n site.sessions in
     let txns = without_entry n site.txns in
     let shorter = filter-shortens (λ (e : ℕ × Session). not (n == e.0)) site.sessions in
     let few = sound.few_sessions in
-    book-keeps built site sessions txns sound
+    book-keeps site sessions txns sound
     (record {
       few = omega arith;
       numbers = without_entry-ascends n site.sessions sound.session_numbers;
@@ -91,17 +90,17 @@ closing-keeps built site n sound =
 
 -- ===== Begin and Abort
 
-begin_at-keeps : (built : Built) (site : Site) (n : ℕ) (s : Session) (x : StateId) → entry_of n site.sessions ≡ Some s → IsSound built site → IsSound built (begin_at site n s.ceiling x).0
-begin_at-keeps built site n s x opened sound =
+begin_at-keeps : (site : Site) (n : ℕ) (s : Session) (x : StateId) → entry_of n site.sessions ≡ Some s → IsSound site → IsSound (begin_at site n s.ceiling x).0
+begin_at-keeps site n s x opened sound =
     let t : Txn = Single (record { state = x; reads = []; writes = [] }) in
     let known = is_known site.dag x in
     let admitted = is_admitted site.dag s.ceiling x in
-    unless-keeps (IsSound built) site sound (refuse (not known) (Unknown x) ∷ refuse (not admitted) (Below x s.ceiling) ∷ [])
+    unless-keeps IsSound site sound (refuse (not known) (Unknown x) ∷ refuse (not admitted) (Below x s.ceiling) ∷ [])
     (record site { txns = with_entry n t site.txns }, Begun x)
     (λ none.
     let first = none-parts (refuse (not known) (Unknown x)) (refuse (not admitted) (Below x s.ceiling) ∷ []) none in
     let second = none-parts (refuse (not admitted) (Below x s.ceiling)) [] first.1 in
-    txns-keep built site (with_entry n t site.txns) sound (with_entry-ascends n t site.txns sound.txn_numbers)
+    txns-keep site (with_entry n t site.txns) sound (with_entry-ascends n t site.txns sound.txn_numbers)
     (each-with_txn site.dag site.sessions site.txns n sound.each_txn s t opened
     (record {
       shape = refl;
@@ -110,12 +109,12 @@ begin_at-keeps built site n s x opened sound =
       apart = refl;
     })))
 
-pub begin-keeps : (built : Built) (site : Site) (n : ℕ) (s : Session) (b : Begin) → entry_of n site.sessions ≡ Some s → IsSound built site → IsSound built (begin site n s b).0
-begin-keeps built site n s b opened sound = begin_at-keeps built site n s (begin_state site.dag s.last b) opened sound
+pub begin-keeps : (site : Site) (n : ℕ) (s : Session) (b : Begin) → entry_of n site.sessions ≡ Some s → IsSound site → IsSound (begin site n s b).0
+begin-keeps site n s b opened sound = begin_at-keeps site n s (begin_state site.dag s.last b) opened sound
 
-pub abort-keeps : (built : Built) (site : Site) (n : ℕ) → IsSound built site → IsSound built (abort site n).0
-abort-keeps built site n sound =
-    txns-keep built site (without_entry n site.txns) sound (without_entry-ascends n site.txns sound.txn_numbers)
+pub abort-keeps : (site : Site) (n : ℕ) → IsSound site → IsSound (abort site n).0
+abort-keeps site n sound =
+    txns-keep site (without_entry n site.txns) sound (without_entry-ascends n site.txns sound.txn_numbers)
     (each-without_txn site.dag site.sessions site.txns n sound.each_txn)
 
 -- ===== Put and Delete
@@ -162,15 +161,15 @@ written-sound rs ceiling k w (Single t) key write room sound =
 written-sound rs ceiling k w (Merge t) key write room sound =
     record { shape = written-shape k w (Merge t) key write room sound.shape; known = sound.known; admitted = sound.admitted; apart = sound.apart }
 
-pub set-keeps : (built : Built) (site : Site) (n : ℕ) (t : Txn) (k : List ℕ) (w : Write) → entry_of n site.txns ≡ Some t → IsTrue (is_key k) → IsTrue (is_write w) →
-    IsSound built site → IsSound built (set_key site n t k w).0
-set-keeps built site n t k w has key write sound =
+pub set-keeps : (site : Site) (n : ℕ) (t : Txn) (k : List ℕ) (w : Write) → entry_of n site.txns ≡ Some t → IsTrue (is_key k) → IsTrue (is_write w) →
+    IsSound site → IsSound (set_key site n t k w).0
+set-keeps site n t k w has key write sound =
     let full = length (writes_of t) == 64 && not (has_key k (writes_of t)) in
-    unless-keeps (IsSound built) site sound (refuse full (TooMany 1 65) ∷ [])
+    unless-keeps IsSound site sound (refuse full (TooMany 1 65) ∷ [])
     (record site { txns = changed n (having_written k w) site.txns }, Done)
     (λ none.
     let room = when-none full _ (none-parts (refuse full (TooMany 1 65)) [] none).0 in
-    txns-keep built site (changed n (having_written k w) site.txns) sound (changed-ascends n (having_written k w) site.txns sound.txn_numbers)
+    txns-keep site (changed n (having_written k w) site.txns) sound (changed-ascends n (having_written k w) site.txns sound.txn_numbers)
     (each-txn_changed site.dag site.sessions site.txns n sound.each_txn (having_written k w) t has
     (λ s old. written-sound site.dag s.ceiling k w t key write room old)))
 
@@ -194,26 +193,26 @@ read-sound rs ceiling k t key room sound =
       apart = sound.apart;
     }
 
-read_at-keeps : (built : Built) (site : Site) (n : ℕ) (t : SingleTxn) (k : List ℕ) → entry_of n site.txns ≡ Some (Single t) → IsTrue (is_key k) →
-    IsSound built site → IsSound built (read_at site n t k).0
-read_at-keeps built site n t k has key sound =
+read_at-keeps : (site : Site) (n : ℕ) (t : SingleTxn) (k : List ℕ) → entry_of n site.txns ≡ Some (Single t) → IsTrue (is_key k) →
+    IsSound site → IsSound (read_at site n t k).0
+read_at-keeps site n t k has key sound =
     let full = length t.reads == 256 && not (is_key_among k t.reads) in
-    unless-keeps (IsSound built) site sound (refuse full (TooMany 2 257) ∷ [])
+    unless-keeps IsSound site sound (refuse full (TooMany 2 257) ∷ [])
     (record site { txns = changed n (having_read k) site.txns }, found (read site.dag k t.state))
     (λ none.
     let room = when-none full _ (none-parts (refuse full (TooMany 2 257)) [] none).0 in
-    txns-keep built site (changed n (having_read k) site.txns) sound (changed-ascends n (having_read k) site.txns sound.txn_numbers)
+    txns-keep site (changed n (having_read k) site.txns) sound (changed-ascends n (having_read k) site.txns sound.txn_numbers)
     (each-txn_changed site.dag site.sessions site.txns n sound.each_txn (having_read k) (Single t) has
     (λ s old. read-sound site.dag s.ceiling k t key room old)))
 
-read_in-keeps : (built : Built) (site : Site) (n : ℕ) (t : Txn) (k : List ℕ) → entry_of n site.txns ≡ Some t → IsTrue (is_key k) →
-    IsSound built site → IsSound built (read_in site n t k).0
-read_in-keeps built site n (Single t) k has key sound = read_at-keeps built site n t k has key sound
-read_in-keeps built site n (Merge t) k has key sound =
-    unless-keeps (IsSound built) site sound (refuse (is_conflict_key site.dag t.states k) (ConflictKey k) ∷ []) (site, found (value_over site.dag t.states k)) (λ none. sound)
+read_in-keeps : (site : Site) (n : ℕ) (t : Txn) (k : List ℕ) → entry_of n site.txns ≡ Some t → IsTrue (is_key k) →
+    IsSound site → IsSound (read_in site n t k).0
+read_in-keeps site n (Single t) k has key sound = read_at-keeps site n t k has key sound
+read_in-keeps site n (Merge t) k has key sound =
+    unless-keeps IsSound site sound (refuse (is_conflict_key site.dag t.states k) (ConflictKey k) ∷ []) (site, found (value_over site.dag t.states k)) (λ none. sound)
 
-pub get-keeps : (built : Built) (site : Site) (n : ℕ) (t : Txn) (k : List ℕ) → entry_of n site.txns ≡ Some t → IsTrue (is_key k) →
-    IsSound built site → IsSound built (get site n t k).0
-get-keeps built site n t k has key sound =
-    given-keeps (IsSound built) site sound (write_of k (writes_of t)) (read_in site n t k) (λ w. (site, shown root w))
-    (λ e. read_in-keeps built site n t k has key sound) (λ w e. sound)
+pub get-keeps : (site : Site) (n : ℕ) (t : Txn) (k : List ℕ) → entry_of n site.txns ≡ Some t → IsTrue (is_key k) →
+    IsSound site → IsSound (get site n t k).0
+get-keeps site n t k has key sound =
+    given-keeps IsSound site sound (write_of k (writes_of t)) (read_in site n t k) (λ w. (site, shown root w))
+    (λ e. read_in-keeps site n t k has key sound) (λ w e. sound)

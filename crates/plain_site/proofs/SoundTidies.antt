@@ -13,7 +13,6 @@ use Rattle.plain_dag.specs.Paths.{is_fork, branches_of, leads_to}
 use Rattle.plain_dag.proofs.Searches.{found-passes}
 use Rattle.plain_dag.proofs.Joining.{collected-join}
 use Rattle.plain_site.specs.Site.{Site}
-use Rattle.plain_site.specs.Built.{Built}
 use Rattle.plain_site.specs.FloorSteps.{tidy}
 use Rattle.plain_site.specs.Sound.{are_distinct, IsSound}
 
@@ -105,9 +104,9 @@ module _ (rs : List Record) (z : StateId) where
 still-kept : (x : StateId) (ks : List StateId) (y : StateId) → IsTrue (not (is_among y (x ∷ ks))) → IsTrue (not (is_among y ks))
 still-kept x ks y t = not_from_false (is_among y ks) (or_parts (same_id y x) (is_among y ks) (not-true (is_among y (x ∷ ks)) t)).1
 
-collected-keeps : (built : Built) (site : Site) (x : StateId) → IsSound built site →
-    IsTrue (is_collectable site.dag site.floors site.collected x) → IsSound built (record site { collected = x ∷ site.collected })
-collected-keeps built site x sound collectable =
+collected-keeps : (site : Site) (x : StateId) → IsSound site →
+    IsTrue (is_collectable site.dag site.floors site.collected x) → IsSound (record site { collected = x ∷ site.collected })
+collected-keeps site x sound collectable =
     let rs = site.dag in
     let ks = site.collected in
     let fresh = not (is_among x ks) in
@@ -120,9 +119,9 @@ collected-keeps built site x sound collectable =
       dag = sound.dag;
       of_the_sites = sound.of_the_sites;
       few_kept = omega arith;
-      short_paths = λ tries y kept.
+      short_paths = λ y kept.
           let kept_parts = and_parts (is_known rs y) (not (is_among y (x ∷ ks))) kept in
-          let short = sound.short_paths tries y (and_from (is_known rs y) (not (is_among y ks)) kept_parts.0 (still-kept x ks y kept_parts.1)) in
+          let short = sound.short_paths y (and_from (is_known rs y) (not (is_among y ks)) kept_parts.0 (still-kept x ks y kept_parts.1)) in
           let shorter = paths-fewer rs y (λ w. not (is_among w (x ∷ ks))) (λ w. not (is_among w ks)) (still-kept x ks) (arrived rs) in
           omega arith;
       few_children = sound.few_children;
@@ -139,18 +138,18 @@ collected-keeps built site x sound collectable =
       waiting = sound.waiting;
     }
 
-tidied-keeps : (built : Built) (n : ℕ) (site : Site) → IsSound built site → IsSound built (record site { collected = tidied n site.dag site.floors site.collected })
-tidied-keeps built zero site sound = sound
-tidied-keeps built (suc n) site sound =
-    go (tidied-keeps built n) (find (is_collectable site.dag site.floors site.collected) (states site.dag)) refl
+tidied-keeps : (n : ℕ) (site : Site) → IsSound site → IsSound (record site { collected = tidied n site.dag site.floors site.collected })
+tidied-keeps zero site sound = sound
+tidied-keeps (suc n) site sound =
+    go (tidied-keeps n) (find (is_collectable site.dag site.floors site.collected) (states site.dag)) refl
   where
-    go : ((next : Site) → IsSound built next → IsSound built (record next { collected = tidied n next.dag next.floors next.collected })) →
+    go : ((next : Site) → IsSound next → IsSound (record next { collected = tidied n next.dag next.floors next.collected })) →
         (o : Option StateId) → find (is_collectable site.dag site.floors site.collected) (states site.dag) ≡ o →
-        IsSound built (record site { collected = elim o as (λ u. List StateId) [ None ↦ site.collected | Some x ↦ tidied n site.dag site.floors (x ∷ site.collected) ] })
+        IsSound (record site { collected = elim o as (λ u. List StateId) [ None ↦ site.collected | Some x ↦ tidied n site.dag site.floors (x ∷ site.collected) ] })
     go later None e = sound
     go later (Some x) e =
         let found = found-passes (is_collectable site.dag site.floors site.collected) (states site.dag) x e in
-        later (record site { collected = x ∷ site.collected }) (collected-keeps built site x sound found.1)
+        later (record site { collected = x ∷ site.collected }) (collected-keeps site x sound found.1)
 
-pub tidy-keeps : (built : Built) (site : Site) (n : ℕ) → IsSound built site → IsSound built (tidy site n).0
-tidy-keeps built site n sound = tidied-keeps built n site sound
+pub tidy-keeps : (site : Site) (n : ℕ) → IsSound site → IsSound (tidy site n).0
+tidy-keeps site n sound = tidied-keeps n site sound

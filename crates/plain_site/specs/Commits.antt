@@ -1,5 +1,5 @@
 -- Transactions end.
-use Rattle.std.specs.Prelude.{ℕ, ◌==◌, not, List, [], ◌∷◌, ◌++◌, length, Option}
+use Rattle.std.specs.Prelude.{ℕ, true, ◌==◌, not, List, [], ◌∷◌, ◌++◌, length, Option}
 use Rattle.tardis_base.specs.declared.ids.StateId.{StateId}
 use Rattle.tardis_base.specs.declared.records.Record.{Record}
 use Rattle.tardis_base.specs.declared.requests.EndFlags.{EndFlags}
@@ -14,7 +14,6 @@ use Rattle.plain_dag.specs.Entries.{changed, without_entry}
 use Rattle.plain_dag.specs.Floors.{after_commit}
 use Rattle.plain_dag.specs.Growth.{growth_refusal}
 use Rattle.plain_site.specs.Site.{Site, SingleTxn, MergeTxn, Txn, Single, Merge, own_count, next_record}
-use Rattle.plain_site.specs.Built.{Built}
 use Rattle.plain_site.specs.Answers.{Answer, refuse, refuse_found, unless}
 
 -- the session's transaction is gone
@@ -29,8 +28,8 @@ abbrev pub with_record : Record → Site → Site
 with_record r site = record site { dag = r ∷ site.dag }
 
 -- why the site doesn't grow by the record
-abbrev pub growth_refusals : Built → Site → Record → List (Option Reply)
-growth_refusals built site r = refuse_found (λ f. f) (growth_refusal built.path_limits site.limits site.collected site.dag r) ∷ []
+abbrev pub growth_refusals : Site → Record → List (Option Reply)
+growth_refusals site r = refuse_found (λ f. f) (growth_refusal true site.limits site.collected site.dag r) ∷ []
 
 -- the next state of the site, which the session committed
 abbrev pub committed : Site → ℕ → Record → Answer
@@ -44,31 +43,31 @@ committed site n r = (
 )
 
 -- the next state of the site joins below these parents, after the refusals that go before
-abbrev pub commit_below : Built → Site → ℕ → List StateId → List KeyWrite → List (Option Reply) → Answer
-commit_below built site n parents writes refusals =
+abbrev pub commit_below : Site → ℕ → List StateId → List KeyWrite → List (Option Reply) → Answer
+commit_below site n parents writes refusals =
     let r = next_record site parents writes in
-    unless site (refusals ++ refuse (own_count site == 4294967295) SeqEnd ∷ growth_refusals built site r) (committed site n r)
+    unless site (refusals ++ refuse (own_count site == 4294967295) SeqEnd ∷ growth_refusals site r) (committed site n r)
 
 -- a single transaction commits below its landing, unless that has too many children
-abbrev pub commit_at : Built → Site → ℕ → SingleTxn → EndFlags → ℕ → StateId → Answer
-commit_at built site n t flags k x =
+abbrev pub commit_at : Site → ℕ → SingleTxn → EndFlags → ℕ → StateId → Answer
+commit_at site n t flags k x =
     let number_of_children = length (children site.dag x) in
-    commit_below built site n (x ∷ []) t.writes (refuse_found (λ c. Branches c x number_of_children) (broken flags k number_of_children) ∷ [])
+    commit_below site n (x ∷ []) t.writes (refuse_found (λ c. Branches c x number_of_children) (broken flags k number_of_children) ∷ [])
 
 -- a single transaction with writes
-abbrev pub commit_writes : Built → Site → ℕ → SingleTxn → EndFlags → ℕ → Answer
-commit_writes built site n t flags k = commit_at built site n t flags k (landing site.dag (guarded flags t.reads (keys_of t.writes)) t.state)
+abbrev pub commit_writes : Site → ℕ → SingleTxn → EndFlags → ℕ → Answer
+commit_writes site n t flags k = commit_at site n t flags k (landing site.dag (guarded flags t.reads (keys_of t.writes)) t.state)
 
 -- a single transaction without writes ends, and makes no state; its end constraints aren't looked at
-abbrev pub commit_single : Built → Site → ℕ → SingleTxn → EndFlags → ℕ → Answer
-commit_single built site n t flags k = elim t.writes [ [] ↦ (without_txn_of n site, Ended t.state) | w ∷ ws ↦ commit_writes built site n t flags k ]
+abbrev pub commit_single : Site → ℕ → SingleTxn → EndFlags → ℕ → Answer
+commit_single site n t flags k = elim t.writes [ [] ↦ (without_txn_of n site, Ended t.state) | w ∷ ws ↦ commit_writes site n t flags k ]
 
 -- a merge commits below all its read states; it takes no end constraint, and writes each conflict key of its read states
-abbrev pub commit_merge : Built → Site → ℕ → MergeTxn → EndFlags → Answer
-commit_merge built site n t flags =
-    commit_below built site n t.states t.writes
+abbrev pub commit_merge : Site → ℕ → MergeTxn → EndFlags → Answer
+commit_merge site n t flags =
+    commit_below site n t.states t.writes
     (refuse (not (flags.0 == 0)) WrongMode ∷ refuse_found OpenConflict (open_conflict site.dag t.states t.writes) ∷ [])
 
-abbrev pub commit : Built → Site → ℕ → Txn → EndFlags → ℕ → Answer
-commit built site n (Single t) flags k = commit_single built site n t flags k
-commit built site n (Merge t) flags k = commit_merge built site n t flags
+abbrev pub commit : Site → ℕ → Txn → EndFlags → ℕ → Answer
+commit site n (Single t) flags k = commit_single site n t flags k
+commit site n (Merge t) flags k = commit_merge site n t flags

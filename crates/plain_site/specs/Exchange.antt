@@ -15,7 +15,6 @@ use Rattle.plain_dag.specs.Above.{is_above, comparable_pair}
 use Rattle.plain_dag.specs.Conflicts.{open_conflict}
 use Rattle.plain_dag.specs.Floors.{Floor, floor_of, with_floor, is_closed, is_above_floors}
 use Rattle.plain_site.specs.Site.{Site}
-use Rattle.plain_site.specs.Built.{Built}
 use Rattle.plain_site.specs.WaitingRoom.{hold, first_fit, without}
 use Rattle.plain_site.specs.Answers.{Answer, says_early, when, refuse, refuse_found, unless, given}
 use Rattle.plain_site.specs.Commits.{with_record, growth_refusals}
@@ -80,17 +79,17 @@ judgements site r =
     ∷ []
 
 -- a record of another site arrives, where nothing speaks against it
-abbrev pub take_record : Built → Site → Record → Answer
-take_record built site r = unless site (judgements site r ++ growth_refusals built site r) (with_record r site, Applied)
+abbrev pub take_record : Site → Record → Answer
+take_record site r = unless site (judgements site r ++ growth_refusals site r) (with_record r site, Applied)
 
 -- the record is held in the waiting room
 abbrev pub with_held : Record → Site → Site
 with_held r site = record site { waiting = hold r site.waiting }
 
 -- the record is taken, or the reply says why not; one that is early is held
-abbrev pub deliver_record : Built → Site → Record → Answer
-deliver_record built site r =
-    let answer = take_record built site r in
+abbrev pub deliver_record : Site → Record → Answer
+deliver_record site r =
+    let answer = take_record site r in
     (if says_early answer.1 then with_held r answer.0 else answer.0, answer.1)
 
 -- how a consent is judged
@@ -110,9 +109,9 @@ deliver_consent site c =
     unless site (consent_judgements site c)
     (record site { floors = with_floor site.floors c.site (record { state = c.floor; number = c.number; stated = c.count }) }, Applied)
 
-abbrev pub deliver : Built → Site → Item → Answer
-deliver built site (State r) = deliver_record built site r
-deliver built site (Promise c) = deliver_consent site c
+abbrev pub deliver : Site → Item → Answer
+deliver site (State r) = deliver_record site r
+deliver site (Promise c) = deliver_consent site c
 
 -- ===== What waits
 
@@ -129,9 +128,9 @@ abbrev pub with_settled : ℕ × Record → Site → Site
 with_settled found site = with_record found.1 (record site { waiting = without found.0 site.waiting })
 
 -- the waiting record is taken, where the site may grow by it
-abbrev pub settle_record : Built → Site → ℕ × Record → Answer
-settle_record built site found = unless site (growth_refusals built site found.1) (with_settled found site, Applied)
+abbrev pub settle_record : Site → ℕ × Record → Answer
+settle_record site found = unless site (growth_refusals site found.1) (with_settled found site, Applied)
 
 -- the first waiting record that is fit is taken; where none is, nothing is done
-abbrev pub settle : Built → Site → Answer
-settle built site = given (first_fit_record site) (site, Done) (settle_record built site)
+abbrev pub settle : Site → Answer
+settle site = given (first_fit_record site) (site, Done) (settle_record site)

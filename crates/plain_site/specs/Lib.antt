@@ -1,7 +1,6 @@
 -- The whole plain site: what it holds, what it answers, and what holds of it after every step.
 pub mod WaitingRoom
 pub mod Site
-pub mod Built
 pub mod Answers
 pub mod Sessions
 pub mod Reads

@@ -1,7 +1,6 @@
 -- Merges begin, and show what is to be joined.
-use Rattle.std.specs.Prelude.{ℕ, not, nat_lt, List, [], ◌∷◌, length, take, filter, find, min, Option, if◌then◌else◌}
+use Rattle.std.specs.Prelude.{ℕ, nat_lt, List, [], ◌∷◌, length, take, filter, min, if◌then◌else◌}
 use Rattle.tardis_base.specs.declared.ids.StateId.{StateId}
-use Rattle.tardis_base.specs.declared.records.Record.{Record}
 use Rattle.tardis_base.specs.declared.requests.MergeOf.{MergeOf}
 use Rattle.tardis_base.specs.declared.requests.MergeOf.TheVariants.{Leaves, States as TheseStates}
 use Rattle.tardis_base.specs.declared.replies.Refusal.TheVariants.{TooMany, Unknown, Below, Comparable, WrongMode}
@@ -9,7 +8,6 @@ use Rattle.tardis_base.specs.declared.replies.Reply.{Reply}
 use Rattle.tardis_base.specs.declared.replies.Reply.TheVariants.{Merging, States, Keys}
 use Rattle.tardis_base.specs.Ids.{is_before}
 use Rattle.tardis_base.specs.Keys.{is_key_before}
-use Rattle.plain_dag.specs.States.{is_known}
 use Rattle.plain_dag.specs.Above.{comparable_pair}
 pub use Rattle.plain_dag.specs.Begin.{first_unknown, first_below}
 use Rattle.plain_dag.specs.Conflicts.{conflict_keys}

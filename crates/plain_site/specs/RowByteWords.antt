@@ -3,7 +3,6 @@ use Rattle.std.specs.Prelude.{◌≡◌, ℕ, ◌==◌, ◌+◌, ◌-◌, ◌*�
 use Prim.Native.String.{String}
 use Rattle.wire_talk.specs.Spellings.{reply_spelling}
 use Rattle.plain_site.specs.Site.{Site}
-use Rattle.plain_site.specs.Built.{Built}
 use Rattle.plain_site.specs.Step.{step_over_bytes}
 
 infix 80 ◌sends◌=>◌
@@ -30,12 +29,12 @@ abbrev pub ◌sends◌=>◌ : ℕ → List ℕ → List ℕ → ByteLine
 actor sends request => reply = record { actor = actor; request = request; reply = reply }
 
 -- the replies to the requests of these lines, one after another
-abbrev pub byte_replies : Built → Site → List ByteLine → List (List ℕ)
-byte_replies built site [] = []
-byte_replies built site (line ∷ lines) =
-    let answer = step_over_bytes built site (line.actor, line.request) in
-    reply_spelling answer.1 ∷ byte_replies built answer.0 lines
+abbrev pub byte_replies : Site → List ByteLine → List (List ℕ)
+byte_replies site [] = []
+byte_replies site (line ∷ lines) =
+    let answer = step_over_bytes site (line.actor, line.request) in
+    reply_spelling answer.1 ∷ byte_replies answer.0 lines
 
 -- each line has the reply to its request, at the site after the lines before it
-abbrev pub TalkInBytes : Built → Site → List ByteLine → Type 0
-TalkInBytes built site lines = byte_replies built site lines ≡ map (λ line. line.reply) lines
+abbrev pub TalkInBytes : Site → List ByteLine → Type 0
+TalkInBytes site lines = byte_replies site lines ≡ map (λ line. line.reply) lines

@@ -10,7 +10,6 @@ use Rattle.tardis_base.specs.declared.requests.Request.TheVariants.{Open, Begin,
 use Rattle.tardis_base.specs.declared.replies.Reply.{Reply}
 use Rattle.tardis_base.specs.declared.replies.Reply.TheVariants.{Value, Keys}
 use Rattle.plain_site.specs.Site.{Site, opening}
-use Rattle.plain_site.specs.Built.{Built}
 use Rattle.plain_site.specs.Step.{step}
 
 infix 90 ◌·◌
@@ -31,20 +30,20 @@ abbrev pub ◌asks◌=>◌ : ℕ → Request → Reply → Line
 actor asks request => reply = record { actor = actor; request = request; reply = reply }
 
 -- the replies to the requests of these lines, one after another
-abbrev pub replies : Built → Site → List Line → List Reply
-replies built site [] = []
-replies built site (line ∷ lines) =
-    let answer = step built site line.actor line.request in
-    answer.1 ∷ replies built answer.0 lines
+abbrev pub replies : Site → List Line → List Reply
+replies site [] = []
+replies site (line ∷ lines) =
+    let answer = step site line.actor line.request in
+    answer.1 ∷ replies answer.0 lines
 
 -- the site after the requests of these lines
-abbrev pub site_after : Built → Site → List Line → Site
-site_after built site [] = site
-site_after built site (line ∷ lines) = site_after built (step built site line.actor line.request).0 lines
+abbrev pub site_after : Site → List Line → Site
+site_after site [] = site
+site_after site (line ∷ lines) = site_after (step site line.actor line.request).0 lines
 
 -- each line has the reply to its request, at the site after the lines before it
-abbrev pub Talk : Built → Site → List Line → Type 0
-Talk built site lines = replies built site lines ≡ map (λ line. line.reply) lines
+abbrev pub Talk : Site → List Line → Type 0
+Talk site lines = replies site lines ≡ map (λ line. line.reply) lines
 
 -- ===== Sites
 

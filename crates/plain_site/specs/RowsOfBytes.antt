@@ -1,6 +1,5 @@
 -- Worked rows: requests and replies in bytes.
 use Rattle.std.specs.Prelude.{List, [], ◌∷◌, ◌++◌, replicate}
-use Rattle.plain_site.specs.Built.{everything, so_far, all_but_tidy}
 use Rattle.plain_site.specs.RowWords.{lone_site}
 use Rattle.plain_site.specs.RowByteWords.{ByteLine, TalkInBytes, ◌sends◌=>◌, hex}
 
@@ -17,41 +16,22 @@ put_and_read =
     ∷ []
 
 abbrev pub WriteIsReadBack : Type 0
-WriteIsReadBack = TalkInBytes so_far lone_site put_and_read
+WriteIsReadBack = TalkInBytes lone_site put_and_read
 
-abbrev pub WriteIsReadBackByTheWhole : Type 0
-WriteIsReadBackByTheWhole = TalkInBytes everything lone_site put_and_read
+-- ===== What has no session, and what is no request
 
--- ===== What isn't built, and what is no request
-
--- where Tidy isn't built, that is said before all else
-abbrev pub UnbuiltIsUnsupported : Type 0
-UnbuiltIsUnsupported = TalkInBytes all_but_tidy lone_site (1 sends hex "0f 00000001" => hex "15 1b 0f" ∷ [])
-
--- an operation that isn't built is told by its code, whatever follows
-abbrev pub UnbuiltOperationIsTold : Type 0
-UnbuiltOperationIsTold = TalkInBytes all_but_tidy lone_site (1 sends hex "0f ff ff" => hex "15 1b 0f" ∷ 1 sends hex "0f" => hex "15 1b 0f" ∷ [])
-
--- what is built is told that there is no session for it
-abbrev pub BuiltIsNotOpen : Type 0
-BuiltIsNotOpen =
-    TalkInBytes so_far lone_site
+-- no session is open
+abbrev pub NoneIsOpen : Type 0
+NoneIsOpen =
+    TalkInBytes lone_site
     (1 sends hex "02 01" => hex "15 02"
     ∷ 1 sends hex "06 00 0000" => hex "15 02"
     ∷ 1 sends hex "08 00" => hex "15 02"
     ∷ 1 sends hex "09" => hex "15 02"
-    ∷ [])
-
--- and so is all, once it is built
-abbrev pub WholeIsNotOpen : Type 0
-WholeIsNotOpen =
-    TalkInBytes everything lone_site
-    (1 sends hex "02 01" => hex "15 02"
-    ∷ 1 sends hex "06 00 0000" => hex "15 02"
     ∷ 1 sends hex "0c 0000 00000000" => hex "15 02"
     ∷ [])
 
--- no operation, no such kind of Begin, a byte too many, branches counted without KB
+-- no operation, no such kind of Begin, a byte too many, branches counted without KB, a number of which bytes are missing
 abbrev pub malformed_lines : List ByteLine
 malformed_lines =
     1 sends hex "ff" => hex "15 01"
@@ -59,21 +39,19 @@ malformed_lines =
     ∷ 1 sends hex "02 04" => hex "15 01"
     ∷ 1 sends hex "02 01 00" => hex "15 01"
     ∷ 1 sends hex "06 01 0001" => hex "15 01"
+    ∷ 1 sends hex "0f ff" => hex "15 01"
     ∷ 1 sends [] => hex "15 01"
     ∷ []
 
 abbrev pub OtherBytesAreMalformed : Type 0
-OtherBytesAreMalformed = TalkInBytes so_far lone_site malformed_lines
-
-abbrev pub OtherBytesStayMalformed : Type 0
-OtherBytesStayMalformed = TalkInBytes everything lone_site malformed_lines
+OtherBytesAreMalformed = TalkInBytes lone_site malformed_lines
 
 -- ===== Lengths of keys and values
 
 -- a key of 128 bytes and a value of 4,096
 abbrev pub LongestKeyAndValueArePut : Type 0
 LongestKeyAndValueArePut =
-    TalkInBytes so_far lone_site
+    TalkInBytes lone_site
     (1 sends hex "01 00" => hex "01 0000 00000000"
     ∷ 1 sends hex "02 00" => hex "02 0000 00000000"
     ∷ 1 sends hex "04 80" ++ replicate 128 120 ++ hex "1000" ++ replicate 4096 49 => hex "07"
@@ -82,7 +60,7 @@ LongestKeyAndValueArePut =
 -- a key of 0 bytes, one of 129, and a value of 4,097, with a session and without
 abbrev pub LongerOnesAreMalformed : Type 0
 LongerOnesAreMalformed =
-    TalkInBytes so_far lone_site
+    TalkInBytes lone_site
     (1 sends hex "03 00" => hex "15 01"
     ∷ 1 sends hex "01 00" => hex "01 0000 00000000"
     ∷ 1 sends hex "02 00" => hex "02 0000 00000000"

@@ -6,7 +6,6 @@ use Rattle.tardis_base.specs.declared.requests.Request.{Request}
 use Rattle.tardis_base.specs.declared.requests.Request.TheVariants.{Ceiling, Raise, RaiseAuto, Tidy, Show, Deliver}
 use Rattle.tardis_base.specs.declared.replies.Refusal.TheVariants.{Branches, OwnItem, ClosedParent, PathFull, Collected, CeilingBack, Comparable, Unknown, Below}
 use Rattle.tardis_base.specs.declared.replies.Reply.TheVariants.{Opened, Begun, Merging, Absent, Done, Committed, Raised, Tidied, Shown, Applied, Known, Refused}
-use Rattle.plain_site.specs.Built.{everything}
 use Rattle.plain_site.specs.RowWords.{Line, Talk, site_after, lone_site, program_limits, ◌·◌, ◌asks◌=>◌, opens, opens_following, begin_any, begin_at, get, put, none, ser, nb, commit, commit_kb, merge_leaves, merge, value}
 use Rattle.plain_site.specs.RowsOfCommits.{two_open, skewed}
 use Rattle.plain_site.specs.RowsOfFloors.{raised_chain}
@@ -17,12 +16,12 @@ use Rattle.plain_site.specs.RowsOfExchange.{first_of_two}
 
 -- NB is looked at before KB: where both are broken, NB is named
 abbrev pub NoBranchIsNamedFirst : Type 0
-NoBranchIsNamedFirst = Talk everything lone_site (skewed ++ 2 asks commit_kb (ser + nb) 1 => Refused (Branches nb (0 · 0) 1) ∷ [])
+NoBranchIsNamedFirst = Talk lone_site (skewed ++ 2 asks commit_kb (ser + nb) 1 => Refused (Branches nb (0 · 0) 1) ∷ [])
 
 -- a key that the transaction wrote before it got it was never read: the commit goes past states that write it
 abbrev pub OwnWritesAreNotRead : Type 0
 OwnWritesAreNotRead =
-    Talk everything lone_site
+    Talk lone_site
     (two_open
     ++ 2 asks begin_any => Begun (0 · 0)
     ∷ 2 asks put "x" "9" => Done
@@ -50,7 +49,7 @@ forked =
 -- below it x isn't absent any more
 abbrev pub MergesBringNews : Type 0
 MergesBringNews =
-    Talk everything lone_site
+    Talk lone_site
     (forked
     ++ 2 asks begin_at (1 · 1) => Begun (1 · 1)
     ∷ 2 asks get "x" => Absent
@@ -65,7 +64,7 @@ MergesBringNews =
 -- over 1.2, where 1.1 wrote k, and 1.3, which wrote it below 1.1, the value is that of 1.3, whichever is named first
 abbrev pub ValueIsTheLowestWriters : Type 0
 ValueIsTheLowestWriters =
-    Talk everything lone_site
+    Talk lone_site
     (two_open
     ++ 1 asks begin_any => Begun (0 · 0)
     ∷ 1 asks put "k" "1" => Done
@@ -85,7 +84,7 @@ ValueIsTheLowestWriters =
 -- admitted, and then pairs, by the place of the one and then of the other
 abbrev pub MergeTriesOneThingAtATime : Type 0
 MergeTriesOneThingAtATime =
-    Talk everything lone_site
+    Talk lone_site
     (raised_chain
     ++ 1 asks merge (1 · 1 ∷ 5 · 1 ∷ []) => Refused (Unknown (5 · 1))
     ∷ 1 asks merge (1 · 5 ∷ 1 · 5 ∷ 1 · 1 ∷ []) => Refused (Below (1 · 1) (1 · 5))
@@ -101,7 +100,7 @@ MergeTriesOneThingAtATime =
 -- the ceiling of a session that follows stays where it is when the session commits on another branch
 abbrev pub CeilingStaysOnItsBranch : Type 0
 CeilingStaysOnItsBranch =
-    Talk everything lone_site
+    Talk lone_site
     (1 asks opens_following => Opened (0 · 0)
     ∷ 2 asks opens => Opened (0 · 0)
     ∷ 1 asks begin_any => Begun (0 · 0)
@@ -120,7 +119,7 @@ CeilingStaysOnItsBranch =
 -- the collectable state that arrived last is collected first
 abbrev pub TidyTakesTheLastArrived : Type 0
 TidyTakesTheLastArrived =
-    Talk everything lone_site
+    Talk lone_site
     (raised_chain
     ++ 0 asks Tidy 1 => Tidied 1
     ∷ 0 asks Show (1 · 4) => Refused (Collected (1 · 4))
@@ -130,7 +129,7 @@ TidyTakesTheLastArrived =
 -- the floor isn't collected, whatever is below it
 abbrev pub FloorIsKept : Type 0
 FloorIsKept =
-    Talk everything lone_site
+    Talk lone_site
     (raised_chain
     ++ 1 asks begin_any => Begun (1 · 5)
     ∷ 1 asks put "x" "6" => Done
@@ -142,7 +141,7 @@ FloorIsKept =
 -- 1.1, 1.2 and their merge 1.3 are collected, and with them the root, whose children both stand in at 1.4
 abbrev pub CollectsMergedBranches : Type 0
 CollectsMergedBranches =
-    Talk everything lone_site
+    Talk lone_site
     (forked
     ++ 1 asks merge_leaves => Merging (1 · 1 ∷ 1 · 2 ∷ [])
     ∷ 1 asks commit none => Committed (1 · 3) (1 · 1 ∷ 1 · 2 ∷ [])
@@ -172,7 +171,7 @@ two_of_three_tidied =
 -- same branches. No steps lead here, since a path doesn't grow once its state is closed: the limit is another one than before.
 abbrev pub LongPathOfAKeptStateIsNamed : Type 0
 LongPathOfAKeptStateIsNamed =
-    Talk everything (record (site_after everything lone_site two_of_three_tidied) { limits = record (program_limits 1) { max_path = 1 } })
+    Talk (record (site_after lone_site two_of_three_tidied) { limits = record (program_limits 1) { max_path = 1 } })
     (1 asks begin_any => Begun (1 · 5)
     ∷ 1 asks put "y" "2" => Done
     ∷ 1 asks commit ser => Refused (PathFull (1 · 5) 2)
@@ -187,7 +186,7 @@ deliver_bare x parents = Deliver (State (record { id = x; parents = parents; wri
 -- a record of this site that is here is known, as any other that comes again; one that isn't is refused
 abbrev pub OwnRecordIsKnown : Type 0
 OwnRecordIsKnown =
-    Talk everything first_of_two
+    Talk first_of_two
     (1 asks opens => Opened (0 · 0)
     ∷ 1 asks begin_any => Begun (0 · 0)
     ∷ 1 asks put "x" "1" => Done
@@ -199,7 +198,7 @@ OwnRecordIsKnown =
 -- a closed parent is named before a comparable pair; the floor itself isn't closed
 abbrev pub ClosedParentIsNamedFirst : Type 0
 ClosedParentIsNamedFirst =
-    Talk everything first_of_two
+    Talk first_of_two
     (0 asks deliver_bare (2 · 1) (0 · 0 ∷ []) => Applied
     ∷ 0 asks deliver_bare (2 · 2) (2 · 1 ∷ []) => Applied
     ∷ 0 asks Deliver (Promise (record { site = 2; number = 1; floor = 2 · 2; count = 2 })) => Applied

@@ -5,7 +5,6 @@ use Rattle.tardis_base.specs.declared.requests.Request.TheVariants.{Abort}
 use Rattle.tardis_base.specs.declared.replies.Refusal.TheVariants.{Below}
 use Rattle.tardis_base.specs.declared.replies.Reply.TheVariants.{Refused, Begun, Absent, Done, Committed, NoMemory}
 use Rattle.plain_dag.specs.Floors.{Session}
-use Rattle.plain_site.specs.Built.{everything}
 use Rattle.plain_site.specs.Step.{step}
 use Rattle.plain_site.specs.RowWords.{Line, lone_site, ◌·◌, ◌asks◌=>◌, begin_any, begin_ancestor, begin_parent, begin_at, get, get_for, none, ser, si, commit, value}
 use Rattle.plain_site.specs.ClientRuns.{IsRun, Told, told, told_session}
@@ -13,7 +12,7 @@ use Rattle.plain_site.specs.WrongSteps.{followed, raced, forked, both_wrote, mer
 
 -- the lines are a run of the only site
 abbrev pub AreRun : List Line → Type 0
-AreRun lines = IsRun (step everything) lone_site lines
+AreRun lines = IsRun step lone_site lines
 
 -- what session 1 read is news of 1.1, so with SER it commits beside that
 abbrev pub ReadersFork : Type 0

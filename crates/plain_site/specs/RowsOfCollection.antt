@@ -3,7 +3,6 @@ use Rattle.std.specs.Prelude.{List, [], ◌∷◌, ◌++◌}
 use Rattle.tardis_base.specs.declared.requests.Request.TheVariants.{Abort, Ceiling, RaiseAuto, Tidy, Show, Stat as AskStat}
 use Rattle.tardis_base.specs.declared.replies.Refusal.TheVariants.{Collected}
 use Rattle.tardis_base.specs.declared.replies.Reply.TheVariants.{Opened, Begun, Merging, Absent, Done, Committed, Raised, Tidied, Stat, Shown, Refused}
-use Rattle.plain_site.specs.Built.{everything}
 use Rattle.plain_site.specs.RowWords.{Line, Talk, lone_site, ◌·◌, ◌asks◌=>◌, opens, begin_any, begin_at, get, put, none, ser, commit, merge, value}
 use Rattle.plain_site.specs.RowsOfMerges.{joined}
 
@@ -11,7 +10,7 @@ use Rattle.plain_site.specs.RowsOfMerges.{joined}
 -- both stand in at 1.3 now; its pairs leave the fork path of 1.3, and all reads stay
 abbrev pub ForkThatGrewTogetherIsCollected : Type 0
 ForkThatGrewTogetherIsCollected =
-    Talk everything lone_site
+    Talk lone_site
     (joined
     ++ 1 asks Abort => Done
     ∷ 1 asks Ceiling (1 · 3) => Done
@@ -50,7 +49,7 @@ three_branches =
 -- the stand-ins of the root's children are 1.4, 1.4 and 1.3 once 1.1 and 1.2 are collected, so the root stays
 abbrev pub ForkOfThreeStays : Type 0
 ForkOfThreeStays =
-    Talk everything lone_site
+    Talk lone_site
     (three_branches
     ++ 1 asks Ceiling (1 · 4) => Done
     ∷ 0 asks RaiseAuto => Raised (1 · 4) 1

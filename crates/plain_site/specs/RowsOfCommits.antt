@@ -3,7 +3,6 @@ use Rattle.std.specs.Prelude.{◌+◌, List, [], ◌∷◌, ◌++◌}
 use Rattle.tardis_base.specs.declared.requests.Request.TheVariants.{Stat as AskStat, Show, Abort}
 use Rattle.tardis_base.specs.declared.replies.Refusal.TheVariants.{NotOpen, AlreadyOpen, NoTxn, Branches}
 use Rattle.tardis_base.specs.declared.replies.Reply.TheVariants.{Opened, Begun, Absent, Done, Committed, Ended, Stat, Shown, Refused}
-use Rattle.plain_site.specs.Built.{everything}
 use Rattle.plain_site.specs.RowWords.{Line, Talk, lone_site, ◌·◌, ◌asks◌=>◌, opens, begin_any, begin_ancestor, begin_parent, begin_at, get, put, ser, si, nb, kb, commit, commit_kb}
 
 -- two sessions open
@@ -31,16 +30,16 @@ skewed =
 
 -- with SER the second one forks the history
 abbrev pub WriteSkewForks : Type 0
-WriteSkewForks = Talk everything lone_site (skewed ++ 2 asks commit ser => Committed (1 · 2) (0 · 0 ∷ []) ∷ [])
+WriteSkewForks = Talk lone_site (skewed ++ 2 asks commit ser => Committed (1 · 2) (0 · 0 ∷ []) ∷ [])
 
 -- with SI it goes below the first
 abbrev pub WriteSkewPassesUnderSnapshots : Type 0
-WriteSkewPassesUnderSnapshots = Talk everything lone_site (skewed ++ 2 asks commit si => Committed (1 · 2) (1 · 1 ∷ []) ∷ [])
+WriteSkewPassesUnderSnapshots = Talk lone_site (skewed ++ 2 asks commit si => Committed (1 · 2) (1 · 1 ∷ []) ∷ [])
 
 -- with NB it may not fork, and may still go below
 abbrev pub NoBranchRefusesTheFork : Type 0
 NoBranchRefusesTheFork =
-    Talk everything lone_site
+    Talk lone_site
     (skewed
     ++ 2 asks commit (ser + nb) => Refused (Branches nb (0 · 0) 1)
     ∷ 2 asks commit si => Committed (1 · 2) (1 · 1 ∷ [])
@@ -67,7 +66,7 @@ behind =
 -- it forks at the state where it read, and there x is as it was
 abbrev pub OldReadForks : Type 0
 OldReadForks =
-    Talk everything lone_site
+    Talk lone_site
     (behind
     ++ 2 asks begin_at (1 · 3) => Begun (1 · 3)
     ∷ 2 asks get "x" => Absent
@@ -79,7 +78,7 @@ OldReadForks =
 -- its state arrived last, so Any begins there
 abbrev pub AnyBeginsAtTheFork : Type 0
 AnyBeginsAtTheFork =
-    Talk everything lone_site
+    Talk lone_site
     (behind
     ++ 2 asks begin_any => Begun (1 · 3)
     ∷ 2 asks get "x" => Absent
@@ -89,7 +88,7 @@ AnyBeginsAtTheFork =
 
 abbrev pub CommitRipplesDown : Type 0
 CommitRipplesDown =
-    Talk everything lone_site
+    Talk lone_site
     (two_open
     -- begins before the first commit
     ++ 2 asks begin_any => Begun (0 · 0)
@@ -108,7 +107,7 @@ CommitRipplesDown =
 
 abbrev pub BranchesAreCounted : Type 0
 BranchesAreCounted =
-    Talk everything lone_site
+    Talk lone_site
     (two_open
     ++ 3 asks opens => Opened (0 · 0)
     ∷ 1 asks begin_any => Begun (0 · 0)
@@ -132,7 +131,7 @@ BranchesAreCounted =
 -- Parent begins at the last commit, Ancestor below it; the last commit of a new session is the root
 abbrev pub BeginsFollowTheLastCommit : Type 0
 BeginsFollowTheLastCommit =
-    Talk everything lone_site
+    Talk lone_site
     (two_open
     ++ 1 asks begin_any => Begun (0 · 0)
     ∷ 1 asks put "p" "1" => Done
@@ -152,7 +151,7 @@ BeginsFollowTheLastCommit =
 -- it makes no state
 abbrev pub ReadingMakesNoState : Type 0
 ReadingMakesNoState =
-    Talk everything lone_site
+    Talk lone_site
     (1 asks opens => Opened (0 · 0)
     ∷ 1 asks begin_any => Begun (0 · 0)
     ∷ 1 asks get "x" => Absent

@@ -8,7 +8,6 @@ use Rattle.tardis_base.specs.declared.replies.Reply.{Reply}
 use Rattle.tardis_base.specs.declared.replies.Reply.TheVariants.{Early, Applied, Known, Raised, Refused}
 use Rattle.wire_talk.specs.Spellings.{request_spelling, reply_spelling}
 use Rattle.plain_site.specs.Site.{Site, opening}
-use Rattle.plain_site.specs.Built.{everything}
 use Rattle.plain_site.specs.RowWords.{program_limits, ◌·◌}
 use Rattle.plain_site.specs.RowByteWords.{ByteLine, TalkInBytes, ◌sends◌=>◌, hex}
 
@@ -36,7 +35,7 @@ two_records =
 -- records come in their order, each once
 abbrev pub RecordsComeInOrder : Type 0
 RecordsComeInOrder =
-    TalkInBytes everything first_of_two
+    TalkInBytes first_of_two
     (two_records
     ++ 0 sends deliver "01 0002 00000002 01 0002 00000001 01 01 61 01 0001 32" => told Known
     ∷ 0 sends deliver "01 0003 00000001 01 0000 00000000 01 01 61 01 0001 31" => told (Refused (BadSite 3))
@@ -48,7 +47,7 @@ RecordsComeInOrder =
 -- is refused, and a batch has the consents alone
 abbrev pub ConsentsCloseStates : Type 0
 ConsentsCloseStates =
-    TalkInBytes everything first_of_two
+    TalkInBytes first_of_two
     (two_records
     ++ 0 sends deliver "02 0002 00000001 0002 00000003 00000003" => told (Early 2)
     ∷ 0 sends deliver "01 0002 00000003 01 0002 00000002 01 01 61 01 0001 33" => told Applied
@@ -63,7 +62,7 @@ ConsentsCloseStates =
 -- records and consents that no honest site makes are refused, and those that one might are taken
 abbrev pub LyingPeersAreRefused : Type 0
 LyingPeersAreRefused =
-    TalkInBytes everything first_of_two
+    TalkInBytes first_of_two
     (two_records
     -- below 2.1 and 2.2, which is below 2.1
     ++ 0 sends deliver "01 0002 00000003 02 0002 00000001 0002 00000002 00" => told (Refused (Comparable (2 · 1) (2 · 2)))
@@ -82,7 +81,7 @@ LyingPeersAreRefused =
 -- an id may name a site that there can't be; that site is none of these
 abbrev pub SitesPastTheLimitAreBad : Type 0
 SitesPastTheLimitAreBad =
-    TalkInBytes everything first_of_two
+    TalkInBytes first_of_two
     (0 sends deliver "01 0011 00000001 01 0000 00000000 00" => told (Refused (BadSite 17))
     ∷ 0 sends asked (Raise (17 · 1)) => told (Refused (Unknown (17 · 1)))
     ∷ [])

@@ -3,7 +3,6 @@ use Rattle.std.specs.Prelude.{List, [], ◌∷◌, ◌++◌}
 use Rattle.tardis_base.specs.declared.requests.Request.TheVariants.{Ceiling, Raise, RaiseAuto, Tidy, Stat as AskStat, Show}
 use Rattle.tardis_base.specs.declared.replies.Refusal.TheVariants.{Below, CeilingBack, TxnOpen, Held, FloorBack, Unknown, Collected}
 use Rattle.tardis_base.specs.declared.replies.Reply.TheVariants.{Opened, Begun, Absent, Done, Committed, Raised, Tidied, Stat, Refused}
-use Rattle.plain_site.specs.Built.{everything}
 use Rattle.plain_site.specs.RowWords.{Line, Talk, lone_site, ◌·◌, ◌asks◌=>◌, opens, opens_following, begin_any, begin_ancestor, begin_parent, begin_at, get, put, ser, commit, value}
 
 -- session 1 commits x five times, and session 2 read it before
@@ -35,7 +34,7 @@ five_commits =
 -- under a ceiling no transaction begins above it, and it goes down alone; a ceiling holds the floor
 abbrev pub CeilingsHoldReadsAndFloors : Type 0
 CeilingsHoldReadsAndFloors =
-    Talk everything lone_site
+    Talk lone_site
     (five_commits
     ++ 1 asks Ceiling (1 · 5) => Done
     ∷ 1 asks begin_at (1 · 3) => Refused (Below (1 · 3) (1 · 5))
@@ -48,7 +47,7 @@ CeilingsHoldReadsAndFloors =
 -- the ceiling of a session that follows goes with its commits, the automatic floor with it; new sessions open under the floor
 abbrev pub FloorsHoldTheSite : Type 0
 FloorsHoldTheSite =
-    Talk everything lone_site
+    Talk lone_site
     (1 asks opens_following => Opened (0 · 0)
     ∷ 1 asks begin_any => Begun (0 · 0)
     ∷ 1 asks put "x" "1" => Done
@@ -89,7 +88,7 @@ raised_chain =
 -- a chain above the floor is collected, and all its reads stay
 abbrev pub CollectionKeepsReads : Type 0
 CollectionKeepsReads =
-    Talk everything lone_site
+    Talk lone_site
     (raised_chain
     ++ 0 asks Tidy 2 => Tidied 2
     ∷ 0 asks Tidy 255 => Tidied 3

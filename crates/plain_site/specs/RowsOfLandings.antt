@@ -3,7 +3,6 @@ use Rattle.std.specs.Prelude.{◌+◌, List, [], ◌∷◌, ◌++◌}
 use Rattle.tardis_base.specs.declared.requests.Request.TheVariants.{Abort}
 use Rattle.tardis_base.specs.declared.replies.Refusal.TheVariants.{Unknown, TxnOpen}
 use Rattle.tardis_base.specs.declared.replies.Reply.TheVariants.{Opened, Begun, Absent, Done, Committed, Ended, Refused}
-use Rattle.plain_site.specs.Built.{everything}
 use Rattle.plain_site.specs.RowWords.{Line, Talk, lone_site, ◌·◌, ◌asks◌=>◌, opens, begin_any, begin_ancestor, begin_at, get, put, none, ser, si, nb, commit, merge_leaves, value}
 use Rattle.plain_site.specs.RowsOfCommits.{two_open, skewed}
 
@@ -26,7 +25,7 @@ written_before =
 -- SI forks before a state that writes what was written, and goes past one that writes what was read
 abbrev pub SnapshotsForkOnWrites : Type 0
 SnapshotsForkOnWrites =
-    Talk everything lone_site
+    Talk lone_site
     (written_before
     ++ 2 asks commit si => Committed (1 · 2) (0 · 0 ∷ [])
     ∷ 3 asks commit si => Committed (1 · 3) (1 · 1 ∷ [])
@@ -35,7 +34,7 @@ SnapshotsForkOnWrites =
 -- SER does it the other way round
 abbrev pub SerializableForksOnReads : Type 0
 SerializableForksOnReads =
-    Talk everything lone_site
+    Talk lone_site
     (written_before
     ++ 2 asks commit ser => Committed (1 · 2) (1 · 1 ∷ [])
     ∷ 3 asks commit ser => Committed (1 · 3) (0 · 0 ∷ [])
@@ -44,7 +43,7 @@ SerializableForksOnReads =
 -- with both, either forks
 abbrev pub BothForkOnEither : Type 0
 BothForkOnEither =
-    Talk everything lone_site
+    Talk lone_site
     (written_before
     ++ 2 asks commit (ser + si) => Committed (1 · 2) (0 · 0 ∷ [])
     ∷ 3 asks commit (ser + si) => Committed (1 · 3) (0 · 0 ∷ [])
@@ -53,7 +52,7 @@ BothForkOnEither =
 -- with neither, nothing forks
 abbrev pub WithoutConstraintsNothingForks : Type 0
 WithoutConstraintsNothingForks =
-    Talk everything lone_site
+    Talk lone_site
     (written_before
     ++ 2 asks commit none => Committed (1 · 2) (1 · 1 ∷ [])
     ∷ 3 asks commit none => Committed (1 · 3) (1 · 2 ∷ [])
@@ -62,7 +61,7 @@ WithoutConstraintsNothingForks =
 -- of two children that pass, the way goes on to the one that arrived first; one that doesn't pass is left out
 abbrev pub FirstPassingChildIsTaken : Type 0
 FirstPassingChildIsTaken =
-    Talk everything lone_site
+    Talk lone_site
     (3 asks opens => Opened (0 · 0)
     ∷ 4 asks opens => Opened (0 · 0)
     ∷ 3 asks begin_any => Begun (0 · 0)
@@ -81,7 +80,7 @@ FirstPassingChildIsTaken =
 -- what was written at or above the read state is no news, and a commit goes past those that write other keys
 abbrev pub OldWritesAreNoNews : Type 0
 OldWritesAreNoNews =
-    Talk everything lone_site
+    Talk lone_site
     (two_open
     ++ 1 asks begin_any => Begun (0 · 0)
     ∷ 1 asks put "x" "1" => Done
@@ -98,7 +97,7 @@ OldWritesAreNoNews =
 -- a transaction without writes ends whatever its end constraints say
 abbrev pub ReadersAlwaysEnd : Type 0
 ReadersAlwaysEnd =
-    Talk everything lone_site
+    Talk lone_site
     (two_open
     ++ 1 asks begin_any => Begun (0 · 0)
     ∷ 2 asks begin_any => Begun (0 · 0)
@@ -111,7 +110,7 @@ ReadersAlwaysEnd =
 -- Ancestor begins below the last commit of the session, and not at a branch that arrived later
 abbrev pub AncestorKeepsToItsBranch : Type 0
 AncestorKeepsToItsBranch =
-    Talk everything lone_site
+    Talk lone_site
     (skewed
     ++ 2 asks commit ser => Committed (1 · 2) (0 · 0 ∷ [])
     ∷ 1 asks begin_ancestor => Begun (1 · 1)
@@ -121,7 +120,7 @@ AncestorKeepsToItsBranch =
 -- no transaction begins in another, nor at a state that isn't there; what is aborted was never written
 abbrev pub AbortedWritesAreGone : Type 0
 AbortedWritesAreGone =
-    Talk everything lone_site
+    Talk lone_site
     (1 asks opens => Opened (0 · 0)
     ∷ 1 asks begin_at (1 · 1) => Refused (Unknown (1 · 1))
     ∷ 1 asks begin_any => Begun (0 · 0)

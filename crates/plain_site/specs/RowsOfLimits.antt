@@ -4,7 +4,6 @@ use Rattle.tardis_base.specs.declared.requests.Request.TheVariants.{Get, Put, Ab
 use Rattle.tardis_base.specs.declared.replies.Refusal.TheVariants.{TooMany, Full, SessionsFull, PathFull}
 use Rattle.tardis_base.specs.declared.replies.Reply.TheVariants.{Opened, Begun, Absent, Done, Committed, Refused}
 use Rattle.plain_site.specs.Site.{Site, opening}
-use Rattle.plain_site.specs.Built.{everything}
 use Rattle.plain_site.specs.RowWords.{Line, Talk, lone_site, program_limits, ◌·◌, ◌asks◌=>◌, opens, begin_any, begin_at, get, put, ser, commit, value, of_writes, of_reads}
 
 abbrev pub begun : List Line
@@ -26,7 +25,7 @@ gets (ℕ.suc n) = 1 asks Get (n ∷ []) => Absent ∷ gets n
 -- the 65th written key is one too many, and a written key is none
 abbrev pub WritesAreLimited : Type 0
 WritesAreLimited =
-    Talk everything lone_site
+    Talk lone_site
     (begun
     ++ puts 64
     ++ 1 asks Put (64 ∷ []) [] => Refused (TooMany of_writes 65)
@@ -36,7 +35,7 @@ WritesAreLimited =
 -- the 257th read key is one too many, and a read key is none
 abbrev pub ReadsAreLimited : Type 0
 ReadsAreLimited =
-    Talk everything lone_site
+    Talk lone_site
     (begun
     ++ gets 256
     ++ 1 asks Get (1 ∷ 0 ∷ []) => Refused (TooMany of_reads 257)
@@ -51,7 +50,7 @@ three_states = opening (record (program_limits 1) { max_kept = 3 }) 1
 -- a site of three states makes no fourth one, and the transaction stays open
 abbrev pub FullSiteRefuses : Type 0
 FullSiteRefuses =
-    Talk everything three_states
+    Talk three_states
     (begun
     ++ 1 asks put "x" "1" => Done
     ∷ 1 asks commit ser => Committed (1 · 1) (0 · 0 ∷ [])
@@ -70,7 +69,7 @@ one_session = opening (record (program_limits 1) { max_sessions = 1 }) 1
 
 abbrev pub SecondSessionIsRefused : Type 0
 SecondSessionIsRefused =
-    Talk everything one_session
+    Talk one_session
     (1 asks opens => Opened (0 · 0)
     ∷ 2 asks opens => Refused (SessionsFull 1)
     ∷ [])
@@ -81,7 +80,7 @@ one_pair = opening (record (program_limits 1) { max_path = 1 }) 1
 -- 1.1 and 1.2 fork below the root, and 1.3 is below 1.1; a second state below 1.1 would make its path one of two pairs
 abbrev pub LongPathIsRefused : Type 0
 LongPathIsRefused =
-    Talk everything one_pair
+    Talk one_pair
     (1 asks opens => Opened (0 · 0)
     ∷ 2 asks opens => Opened (0 · 0)
     ∷ 1 asks begin_any => Begun (0 · 0)

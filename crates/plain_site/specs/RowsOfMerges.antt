@@ -4,7 +4,6 @@ use Rattle.std.specs.List.{range_with_len}
 use Rattle.tardis_base.specs.declared.requests.Request.TheVariants.{Show, Abort, ForkPoints}
 use Rattle.tardis_base.specs.declared.replies.Refusal.TheVariants.{OpenConflict, WrongMode, ConflictKey, NotRead, Comparable, Unknown, TooMany}
 use Rattle.tardis_base.specs.declared.replies.Reply.TheVariants.{Opened, Begun, Merging, Absent, Done, Committed, States, Shown, Refused}
-use Rattle.plain_site.specs.Built.{everything}
 use Rattle.plain_site.specs.RowWords.{Line, Talk, lone_site, ◌·◌, ◌asks◌=>◌, opens, begin_any, get, put, none, ser, commit, merge_leaves, merge, conflicts, get_for, value, one_key, of_states}
 
 -- two branches: 1.1 and 1.2 both write x, and 1.2 writes y
@@ -44,12 +43,12 @@ joined =
     ∷ []
 
 abbrev pub MergeJoinsBranches : Type 0
-MergeJoinsBranches = Talk everything lone_site joined
+MergeJoinsBranches = Talk lone_site joined
 
 -- two merges of the same branches have both of them as fork points
 abbrev pub TwoMergesConflict : Type 0
 TwoMergesConflict =
-    Talk everything lone_site
+    Talk lone_site
     (branched
     -- both begin before either commits
     ++ 1 asks merge (1 · 1 ∷ 1 · 2 ∷ []) => Merging (1 · 1 ∷ 1 · 2 ∷ [])
@@ -68,7 +67,7 @@ TwoMergesConflict =
 -- states of a merge are known and apart
 abbrev pub MergesNeedStatesApart : Type 0
 MergesNeedStatesApart =
-    Talk everything lone_site
+    Talk lone_site
     (joined
     ++ 1 asks Abort => Done
     ∷ 1 asks merge (1 · 1 ∷ 1 · 3 ∷ []) => Refused (Comparable (1 · 1) (1 · 3))
@@ -80,7 +79,7 @@ MergesNeedStatesApart =
 abbrev pub NineLeavesAreTooMany : Type 0
 NineLeavesAreTooMany =
     let nine = range_with_len 1 9 in
-    Talk everything lone_site
+    Talk lone_site
     (flat_map (λ n. n asks opens => Opened (0 · 0) ∷ n asks begin_any => Begun (0 · 0) ∷ []) nine
     ++ flat_map (λ n. n asks get "x" => Absent ∷ n asks put "x" "1" => Done ∷ n asks commit ser => Committed (1 · n) (0 · 0 ∷ []) ∷ []) nine
     ++ 1 asks merge_leaves => Refused (TooMany of_states 9)

@@ -9,7 +9,6 @@ use Rattle.tardis_base.specs.declared.requests.Request.TheVariants.{Delete, Abor
 use Rattle.tardis_base.specs.declared.replies.Refusal.TheVariants.{NotOpen, AlreadyOpen, NoTxn, WrongMode, Unknown, Branches, OpenConflict, Held, FloorBack, Full, SeqEnd}
 use Rattle.tardis_base.specs.declared.replies.Reply.TheVariants.{Opened, Begun, Merging, Deleted, Absent, Done, Committed, States, Keys, Raised, Stat, Batch, Applied, Known, Early, Closed, Refused}
 use Rattle.plain_site.specs.Site.{Site, opening}
-use Rattle.plain_site.specs.Built.{everything}
 use Rattle.plain_site.specs.Merges.{page_of_states, page_of_keys}
 use Rattle.plain_site.specs.Exchange.{fitting}
 use Rattle.plain_site.specs.RowWords.{Line, Talk, lone_site, program_limits, ◌·◌, ◌asks◌=>◌, opens, opens_following, begin_any, begin_at, get, put, none, ser, nb, commit, merge_leaves, merge, conflicts, get_for, value}
@@ -24,7 +23,7 @@ use Rattle.plain_site.specs.RowsOfChoices.{deliver_bare}
 -- a deletion is read as one, with its writer, and it conflicts as any write does
 abbrev pub DeletionsAreRead : Type 0
 DeletionsAreRead =
-    Talk everything lone_site
+    Talk lone_site
     (two_open
     ++ 1 asks begin_any => Begun (0 · 0)
     ∷ 2 asks begin_any => Begun (0 · 0)
@@ -51,7 +50,7 @@ DeletionsAreRead =
 -- a session that closes takes its transaction and its ceiling with it, and opens anew
 abbrev pub ClosedSessionsAreGone : Type 0
 ClosedSessionsAreGone =
-    Talk everything lone_site
+    Talk lone_site
     (two_open
     ++ 2 asks begin_any => Begun (0 · 0)
     ∷ 2 asks put "y" "1" => Done
@@ -73,7 +72,7 @@ ClosedSessionsAreGone =
 -- where no more sessions may open, one that is open is still told so
 abbrev pub OpenSessionIsToldFirst : Type 0
 OpenSessionIsToldFirst =
-    Talk everything one_session
+    Talk one_session
     (1 asks opens => Opened (0 · 0)
     ∷ 1 asks opens => Refused AlreadyOpen
     ∷ [])
@@ -100,7 +99,7 @@ branched_twice =
 -- one of them is read as it is, whatever was written since
 abbrev pub ConflictsComeInPages : Type 0
 ConflictsComeInPages =
-    Talk everything lone_site
+    Talk lone_site
     (branched_twice
     ++ 1 asks merge (1 · 2 ∷ 1 · 1 ∷ []) => Merging (1 · 1 ∷ 1 · 2 ∷ [])
     ∷ 1 asks conflicts => Keys 2 (codes "x" ∷ codes "y" ∷ [])
@@ -117,7 +116,7 @@ ConflictsComeInPages =
 abbrev pub EightStatesAreMerged : Type 0
 EightStatesAreMerged =
     let eight = range_with_len 1 8 in
-    Talk everything lone_site
+    Talk lone_site
     (flat_map (λ n. n asks opens => Opened (0 · 0) ∷ n asks begin_any => Begun (0 · 0) ∷ []) eight
     ++ flat_map (λ n. n asks get "x" => Absent ∷ n asks put "x" "1" => Done ∷ n asks commit ser => Committed (1 · n) (0 · 0 ∷ []) ∷ []) eight
     ++ 1 asks merge_leaves => Merging (map (λ n. 1 · n) eight)
@@ -135,7 +134,7 @@ PagesHaveTheFirst =
 -- a transaction with one read state has no branches to show
 abbrev pub SingleTransactionsShowNoBranches : Type 0
 SingleTransactionsShowNoBranches =
-    Talk everything lone_site
+    Talk lone_site
     (1 asks opens => Opened (0 · 0)
     ∷ 1 asks ForkPoints => Refused NoTxn
     ∷ 1 asks begin_any => Begun (0 · 0)
@@ -149,7 +148,7 @@ SingleTransactionsShowNoBranches =
 -- all leaves are shown, and they count in the statistics
 abbrev pub LeavesAreShown : Type 0
 LeavesAreShown =
-    Talk everything lone_site
+    Talk lone_site
     (0 asks Leaves => States 1 (0 · 0 ∷ [])
     ∷ []
     ++ branched
@@ -162,7 +161,7 @@ LeavesAreShown =
 -- a state that isn't there is told first
 abbrev pub UnknownStatesAreToldFirst : Type 0
 UnknownStatesAreToldFirst =
-    Talk everything lone_site
+    Talk lone_site
     (two_open
     ++ 1 asks Ceiling (1 · 1) => Refused (Unknown (1 · 1))
     ∷ 0 asks Raise (1 · 1) => Refused (Unknown (1 · 1))
@@ -171,7 +170,7 @@ UnknownStatesAreToldFirst =
 -- the automatic floor stays above all ceilings: two sessions that follow two branches hold it at the fork
 abbrev pub AutomaticFloorStaysAboveCeilings : Type 0
 AutomaticFloorStaysAboveCeilings =
-    Talk everything lone_site
+    Talk lone_site
     (1 asks opens_following => Opened (0 · 0)
     ∷ 2 asks opens_following => Opened (0 · 0)
     ∷ 1 asks begin_any => Begun (0 · 0)
@@ -190,7 +189,7 @@ AutomaticFloorStaysAboveCeilings =
 -- that the own floor isn't above a state is told before which session holds it; the automatic floor doesn't leave its branch
 abbrev pub FloorIsToldBeforeSessions : Type 0
 FloorIsToldBeforeSessions =
-    Talk everything lone_site
+    Talk lone_site
     (branched
     ++ 1 asks Ceiling (1 · 1) => Done
     ∷ 2 asks Ceiling (1 · 1) => Done
@@ -207,7 +206,7 @@ out_of_numbers = record lone_site { floors = record { state = 0 · 0; number = 4
 
 abbrev pub NumbersRunOut : Type 0
 NumbersRunOut =
-    Talk everything out_of_numbers
+    Talk out_of_numbers
     (0 asks Raise (0 · 0) => Refused SeqEnd
     ∷ 0 asks RaiseAuto => Refused SeqEnd
     ∷ [])
@@ -221,7 +220,7 @@ narrow = opening (record (program_limits 2) { max_kept = 4; max_path = 1 }) 1
 -- end constraints are looked at before room, and room before paths; a record that is delivered needs room too
 abbrev pub RoomIsLookedAtBetween : Type 0
 RoomIsLookedAtBetween =
-    Talk everything narrow
+    Talk narrow
     (branched
     ++ 1 asks begin_at (1 · 1) => Begun (1 · 1)
     ∷ 2 asks begin_at (1 · 1) => Begun (1 · 1)
@@ -258,7 +257,7 @@ two_records =
 -- a batch has the records that are news, in arrival order, and not the root
 abbrev pub BatchesHaveTheNews : Type 0
 BatchesHaveTheNews =
-    Talk everything first_of_two
+    Talk first_of_two
     (two_records
     ++ 0 asks Pull (0 ∷ 0 ∷ []) => Batch (record { records = two_one ∷ one_one ∷ []; consents = [] })
     ∷ 0 asks Pull (0 ∷ 1 ∷ []) => Batch (record { records = one_one ∷ []; consents = [] })
@@ -275,7 +274,7 @@ consent_of_one = record { site = 1; number = 1; floor = 2 · 1; count = 1 }
 -- a state at or above one floor is news as long as it isn't at or above all of them
 abbrev pub BatchesLeaveOutWhatAllHave : Type 0
 BatchesLeaveOutWhatAllHave =
-    Talk everything first_of_two
+    Talk first_of_two
     (two_records
     ++ 0 asks Deliver (Promise consent_of_two) => Applied
     ∷ 0 asks Pull (0 ∷ 0 ∷ []) => Batch (record { records = two_one ∷ one_one ∷ []; consents = consent_of_two ∷ [] })
@@ -287,7 +286,7 @@ BatchesLeaveOutWhatAllHave =
 -- a state above one floor isn't closed as long as it isn't above all of them
 abbrev pub OneFloorClosesNothing : Type 0
 OneFloorClosesNothing =
-    Talk everything first_of_two
+    Talk first_of_two
     (0 asks deliver_bare (2 · 1) (0 · 0 ∷ []) => Applied
     ∷ 0 asks deliver_bare (2 · 2) (2 · 1 ∷ []) => Applied
     ∷ 0 asks Deliver (Promise (record { site = 2; number = 1; floor = 2 · 2; count = 2 })) => Applied
@@ -309,7 +308,7 @@ BatchesStopWhereTheyAreFull = fitting 50 (record_with_value_of 1 ∷ record_with
 -- a consent waits for its floor, and for the count that it states; one with a lesser number says nothing new
 abbrev pub ConsentsWaitForBoth : Type 0
 ConsentsWaitForBoth =
-    Talk everything first_of_two
+    Talk first_of_two
     (0 asks deliver_bare (2 · 1) (0 · 0 ∷ []) => Applied
     ∷ 0 asks Deliver (Promise (record { site = 2; number = 1; floor = 2 · 1; count = 2 })) => Early 1
     ∷ 0 asks Deliver (Promise (record { site = 2; number = 1; floor = 1 · 1; count = 1 })) => Early 1

@@ -9,7 +9,6 @@ use Rattle.tardis_base.specs.declared.replies.Reply.{Reply}
 use Rattle.tardis_base.specs.declared.replies.Reply.TheVariants.{Done, Applied, Known, Early, Refused}
 use Rattle.plain_site.specs.WaitingRoom.{hold}
 use Rattle.plain_site.specs.Site.{Site, opening}
-use Rattle.plain_site.specs.Built.{everything}
 use Rattle.plain_site.specs.RowWords.{Line, Talk, site_after, lone_site, program_limits, ◌·◌, ◌asks◌=>◌}
 use Rattle.plain_site.specs.RowByteWords.{TalkInBytes, ◌sends◌=>◌, hex}
 use Rattle.plain_site.specs.RowsOfExchange.{first_of_two, deliver, asked, told}
@@ -17,7 +16,7 @@ use Rattle.plain_site.specs.RowsOfExchange.{first_of_two, deliver, asked, told}
 -- 2.2, which is below 2.1, waits until that is there
 abbrev pub EarlyRecordIsSettled : Type 0
 EarlyRecordIsSettled =
-    TalkInBytes everything first_of_two
+    TalkInBytes first_of_two
     (0 sends deliver "01 0002 00000002 01 0002 00000001 01 01 61 01 0001 32" => told (Early 0)
     ∷ 0 sends asked Settle => told Done
     ∷ 0 sends deliver "01 0002 00000001 01 0000 00000000 01 01 61 01 0001 31" => told Applied
@@ -28,7 +27,7 @@ EarlyRecordIsSettled =
 
 -- a site that opens has nothing that waits
 abbrev pub NothingIsSettled : Type 0
-NothingIsSettled = TalkInBytes everything lone_site (0 sends hex "16" => hex "07" ∷ [])
+NothingIsSettled = TalkInBytes lone_site (0 sends hex "16" => hex "07" ∷ [])
 
 -- ===== Rooms
 
@@ -44,7 +43,7 @@ settles reply = 0 asks Settle => reply
 
 -- these lines are answered so, and then these records wait
 abbrev pub TalkAndWait : Site → List Line → List Record → Type 0
-TalkAndWait site lines waiting = Talk everything site lines × ((site_after everything site lines).waiting ≡ waiting)
+TalkAndWait site lines waiting = Talk site lines × ((site_after site lines).waiting ≡ waiting)
 
 abbrev pub first_one : Record
 first_one = second_site 1 (0 · 0 ∷ [])

@@ -5,7 +5,6 @@ use Rattle.tardis_base.specs.declared.requests.Request.TheVariants.{Get, Put}
 use Rattle.tardis_base.specs.declared.replies.Refusal.TheVariants.{OpenConflict}
 use Rattle.tardis_base.specs.declared.replies.Reply.TheVariants.{Begun, Merging, Absent, Done, Committed, Keys, Refused}
 use Rattle.plain_site.specs.Site.{Site}
-use Rattle.plain_site.specs.Built.{everything}
 use Rattle.plain_site.specs.RowWords.{Line, Talk, site_after, lone_site, ◌·◌, ◌asks◌=>◌, begin_any, begin_at, none, ser, commit, merge_leaves, merge, conflicts}
 use Rattle.plain_site.specs.RowsOfCommits.{two_open}
 
@@ -40,15 +39,15 @@ wide_branches =
     ∷ []
 
 abbrev pub WideBranchesAreMade : Type 0
-WideBranchesAreMade = Talk everything lone_site wide_branches
+WideBranchesAreMade = Talk lone_site wide_branches
 
 abbrev pub wide_site : Site
-wide_site = site_after everything lone_site wide_branches
+wide_site = site_after lone_site wide_branches
 
 -- one merge of the two leaves would have to write 128 keys
 abbrev pub WideMergeIsRefused : Type 0
 WideMergeIsRefused =
-    Talk everything wide_site
+    Talk wide_site
     (1 asks merge_leaves => Merging (1 · 3 ∷ 1 · 4 ∷ [])
     ∷ 1 asks conflicts => Keys 128 (keys_under 0 64 ++ keys_under 1 64)
     ∷ 1 asks commit none => Refused (OpenConflict (0 ∷ 0 ∷ []))
@@ -57,7 +56,7 @@ WideMergeIsRefused =
 -- three merges join the branches: of the first states, of that merge with one second state, and of that with the other
 abbrev pub WideBranchesAreJoinedInSteps : Type 0
 WideBranchesAreJoinedInSteps =
-    Talk everything wide_site
+    Talk wide_site
     (1 asks merge (1 · 1 ∷ 1 · 2 ∷ []) => Merging (1 · 1 ∷ 1 · 2 ∷ [])
     ∷ 1 asks conflicts => Keys 64 (keys_under 0 64)
     ∷ []

@@ -17,7 +17,6 @@ use Rattle.plain_dag.specs.Paths.{fork_path}
 use Rattle.plain_dag.specs.Laws.{AreCollected}
 use Rattle.plain_site.specs.WaitingRoom.{most_waiting}
 use Rattle.plain_site.specs.Site.{Site, Txn, Single, Merge, read_states, own_floor}
-use Rattle.plain_site.specs.Built.{Built}
 
 -- at most 256 keys read, each once, and writes as a record has them; a merge has 1 to 8 states, ascending
 abbrev pub is_txn : Txn → Bool
@@ -55,14 +54,14 @@ pub record IsSoundRoom (sites : ℕ) (own : ℕ) (room : List Record) : Type 0 w
   pub once : IsTrue (are_distinct (states room))
   pub each : IsTrue (list_all (may_wait sites own) room)
 
-pub record IsSound (built : Built) (site : Site) : Type 0 where
+pub record IsSound (site : Site) : Type 0 where
   pub limits : IsTrue (are_limits site.limits)
   pub own : IsTrue (is_within 1 site.limits.sites site.own)
   -- the history
   pub dag : IsDag site.dag
   pub of_the_sites : IsTrue (list_all (λ x. nat_le x.site site.limits.sites) (states site.dag))
   pub few_kept : length (kept_states site.dag site.collected) ≤ site.limits.max_kept
-  pub short_paths : IsTrue built.path_limits → (x : StateId) → IsTrue (is_kept site.dag site.collected x) → length (fork_path site.dag site.collected x) ≤ site.limits.max_path
+  pub short_paths : (x : StateId) → IsTrue (is_kept site.dag site.collected x) → length (fork_path site.dag site.collected x) ≤ site.limits.max_path
   pub few_children : (x : StateId) → length (children site.dag x) ≤ site.limits.max_kept
   -- sessions and transactions
   pub few_sessions : length site.sessions ≤ site.limits.max_sessions

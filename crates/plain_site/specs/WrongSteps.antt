@@ -15,7 +15,6 @@ use Rattle.plain_dag.specs.Entries.{changed}
 use Rattle.plain_dag.specs.Floors.{with_ceiling}
 use Rattle.plain_dag.specs.Writers.{read}
 use Rattle.plain_site.specs.Site.{Site, opening, Txn, Single, Merge, read_states, writes_of, with_txn_changed}
-use Rattle.plain_site.specs.Built.{everything}
 use Rattle.plain_site.specs.Answers.{Answer, found, leaves_site, with_txn}
 use Rattle.plain_site.specs.Reads.{read_in}
 use Rattle.plain_site.specs.Commits.{without_txn_of, commit_below}
@@ -35,53 +34,53 @@ unread (Merge t) = Merge t
 
 -- a commit lands as if its transaction had read nothing
 abbrev pub forgets_reads : Service
-forgets_reads site n (Commit flags k) = step everything (with_txn_changed n unread site) n (Commit flags k)
-forgets_reads site n q = step everything site n q
+forgets_reads site n (Commit flags k) = step (with_txn_changed n unread site) n (Commit flags k)
+forgets_reads site n q = step site n q
 
 -- a commit is made without its end constraints
 abbrev pub forgets_constraints : Service
-forgets_constraints site n (Commit flags k) = step everything site n (Commit (record { 0 = none }) 0)
-forgets_constraints site n q = step everything site n q
+forgets_constraints site n (Commit flags k) = step site n (Commit (record { 0 = none }) 0)
+forgets_constraints site n q = step site n q
 
 -- a Get is answered at the state that arrived last
 abbrev pub reads_newest : Service
-reads_newest site n (Get k) = ((step everything site n (Get k)).0, found (read site.dag k (last_arrived site.dag)))
-reads_newest site n q = step everything site n q
+reads_newest site n (Get k) = ((step site n (Get k)).0, found (read site.dag k (last_arrived site.dag)))
+reads_newest site n q = step site n q
 
 -- a Get doesn't look at own writes
 abbrev pub forgets_own_writes : Service
 forgets_own_writes site n (Get k) = with_txn site n (λ s t. read_in site n t k)
-forgets_own_writes site n q = step everything site n q
+forgets_own_writes site n q = step site n q
 
 -- a GetFor is answered at the state that arrived last
 abbrev pub shows_newest_side : Service
-shows_newest_side site n (GetFor k x) = ((step everything site n (GetFor k x)).0, found (read site.dag k (last_arrived site.dag)))
-shows_newest_side site n q = step everything site n q
+shows_newest_side site n (GetFor k x) = ((step site n (GetFor k x)).0, found (read site.dag k (last_arrived site.dag)))
+shows_newest_side site n q = step site n q
 
 -- the records of collected states are forgotten
 abbrev pub without_collected : Answer → Answer
 without_collected answer = (record answer.0 { dag = filter (λ r. not (is_among r.id answer.0.collected)) answer.0.dag }, answer.1)
 
 abbrev pub forgets_collected : Service
-forgets_collected site n (Tidy count) = without_collected (step everything site n (Tidy count))
-forgets_collected site n q = step everything site n q
+forgets_collected site n (Tidy count) = without_collected (step site n (Tidy count))
+forgets_collected site n q = step site n q
 
 -- a record of another site isn't kept
 abbrev pub forgets_deliveries : Service
 forgets_deliveries site n (Deliver item) = (site, Applied)
-forgets_deliveries site n q = step everything site n q
+forgets_deliveries site n q = step site n q
 
 -- a record that came early doesn't wait
 abbrev pub forgets_waiting : Service
 forgets_waiting site n (Deliver item) =
-    let answer = step everything site n (Deliver item) in
+    let answer = step site n (Deliver item) in
     (record answer.0 { waiting = site.waiting }, answer.1)
-forgets_waiting site n q = step everything site n q
+forgets_waiting site n q = step site n q
 
 -- what waits isn't taken, whatever the reply says
 abbrev pub forgets_settled : Service
 forgets_settled site n Settle = (site, Applied)
-forgets_settled site n q = step everything site n q
+forgets_settled site n q = step site n q
 
 abbrev pub moved_end : StateId → Reply → Reply
 moved_end x (Ended y) = Ended x
@@ -90,14 +89,14 @@ moved_end x reply = reply
 -- a single transaction without writes is said to end at the state that arrived last
 abbrev pub ends_at_newest : Service
 ends_at_newest site n (Commit flags k) =
-    let answer = step everything site n (Commit flags k) in
+    let answer = step site n (Commit flags k) in
     (answer.0, moved_end (last_arrived site.dag) answer.1)
-ends_at_newest site n q = step everything site n q
+ends_at_newest site n q = step site n q
 
 -- a commit goes just below the read states, and no conflict key has to be written
 abbrev pub leaves_conflicts : Service
-leaves_conflicts site n (Commit flags k) = with_txn site n (λ s t. commit_below everything site n (read_states t) (writes_of t) [])
-leaves_conflicts site n q = step everything site n q
+leaves_conflicts site n (Commit flags k) = with_txn site n (λ s t. commit_below site n (read_states t) (writes_of t) [])
+leaves_conflicts site n q = step site n q
 
 abbrev pub first_side : Txn → Txn
 first_side (Single t) = Single t
@@ -105,34 +104,34 @@ first_side (Merge t) = Merge (record t { states = take 1 t.states })
 
 -- a merge drops all its read states but the first
 abbrev pub drops_sides : Service
-drops_sides site n (Commit flags k) = step everything (with_txn_changed n first_side site) n (Commit flags k)
-drops_sides site n q = step everything site n q
+drops_sides site n (Commit flags k) = step (with_txn_changed n first_side site) n (Commit flags k)
+drops_sides site n q = step site n q
 
 -- a session doesn't know its commits
 abbrev pub forgets_commits : Service
 forgets_commits site n (Commit flags k) =
-    let answer = step everything site n (Commit flags k) in
+    let answer = step site n (Commit flags k) in
     (record answer.0 { sessions = site.sessions }, answer.1)
-forgets_commits site n q = step everything site n q
+forgets_commits site n q = step site n q
 
 -- Any begins at the session's last commit
 abbrev pub stays_with_own : Service
-stays_with_own site n (Begin Any) = step everything site n (Begin Parent)
-stays_with_own site n q = step everything site n q
+stays_with_own site n (Begin Any) = step site n (Begin Parent)
+stays_with_own site n q = step site n q
 
 -- a transaction begins as if its session had the root as its ceiling
 abbrev pub forgets_ceilings : Service
 forgets_ceilings site n (Begin b) =
-    let answer = step everything (record site { sessions = changed n (with_ceiling root) site.sessions }) n (Begin b) in
+    let answer = step (record site { sessions = changed n (with_ceiling root) site.sessions }) n (Begin b) in
     (record answer.0 { sessions = site.sessions }, answer.1)
-forgets_ceilings site n q = step everything site n q
+forgets_ceilings site n q = step site n q
 
 -- a commit that is refused ends its transaction
 abbrev pub ends_refused : Service
 ends_refused site n (Commit flags k) =
-    let answer = step everything site n (Commit flags k) in
+    let answer = step site n (Commit flags k) in
     if leaves_site (Commit flags k) answer.1 then (without_txn_of n answer.0, answer.1) else answer
-ends_refused site n q = step everything site n q
+ends_refused site n q = step site n q
 
 -- ===== Runs, newest line first
 

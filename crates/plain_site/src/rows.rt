@@ -9,9 +9,8 @@ ghost use Rattle.plain_site.specs.RowsOfExchange.{RecordsComeInOrder, ConsentsCl
 ghost use Rattle.plain_site.specs.RowsOfWaiting.{EarlyRecordIsSettled, NothingIsSettled, EachWaitsOnce, FirstFitOneIsTaken, KnownOneStays};
 ghost use Rattle.plain_site.specs.RowsOfWaiting.{FitOneWaitsForRoom, FullRoomLosesTheFirst};
 ghost use Rattle.plain_site.specs.RowsOfLimits.{WritesAreLimited, ReadsAreLimited, FullSiteRefuses, SecondSessionIsRefused, LongPathIsRefused};
-ghost use Rattle.plain_site.specs.RowsOfBytes.{WriteIsReadBack, WriteIsReadBackByTheWhole, UnbuiltIsUnsupported, UnbuiltOperationIsTold};
-ghost use Rattle.plain_site.specs.RowsOfBytes.{BuiltIsNotOpen, WholeIsNotOpen, OtherBytesAreMalformed, OtherBytesStayMalformed};
-ghost use Rattle.plain_site.specs.RowsOfBytes.{LongestKeyAndValueArePut, LongerOnesAreMalformed};
+ghost use Rattle.plain_site.specs.RowsOfBytes.{WriteIsReadBack, NoneIsOpen, OtherBytesAreMalformed, LongestKeyAndValueArePut};
+ghost use Rattle.plain_site.specs.RowsOfBytes.{LongerOnesAreMalformed};
 ghost use Rattle.plain_site.specs.RowsOfChoices.{NoBranchIsNamedFirst, OwnWritesAreNotRead, MergesBringNews, ValueIsTheLowestWriters};
 ghost use Rattle.plain_site.specs.RowsOfChoices.{MergeTriesOneThingAtATime, CeilingStaysOnItsBranch, TidyTakesTheLastArrived, FloorIsKept};
 ghost use Rattle.plain_site.specs.RowsOfChoices.{CollectsMergedBranches, LongPathOfAKeptStateIsNamed, OwnRecordIsKnown, ClosedParentIsNamedFirst};
@@ -83,16 +82,11 @@ pub fn limits_answer_as_told()
     ensures paths { LongPathIsRefused }
 {}
 
-/// Requests and replies in bytes, as far as the program is built and whole.
+/// Requests and replies in bytes.
 pub fn bytes_answer_as_told()
     ensures read_back { WriteIsReadBack }
-    ensures read_back_by_the_whole { WriteIsReadBackByTheWhole }
-    ensures unsupported { UnbuiltIsUnsupported }
-    ensures unsupported_operation { UnbuiltOperationIsTold }
-    ensures not_open { BuiltIsNotOpen }
-    ensures whole_not_open { WholeIsNotOpen }
+    ensures not_open { NoneIsOpen }
     ensures malformed { OtherBytesAreMalformed }
-    ensures malformed_by_the_whole { OtherBytesStayMalformed }
     ensures longest { LongestKeyAndValueArePut }
     ensures longer { LongerOnesAreMalformed }
 {}

@@ -1,16 +1,14 @@
 -- What bytes ask for.
-use Rattle.std.proofs.Common.{◌≡◌, ℕ, List, ◌∷◌, false, true, Option, Some, None, Ok, IsTrue, refl, subst, ap, sym, ◌∙◌}
+use Rattle.std.proofs.Common.{◌≡◌, ℕ, List, false, true, Option, Some, None, IsTrue, refl, subst, ap}
 use Rattle.std.specs.Prelude.{option_and_then}
 use Rattle.std.specs.Option.{option_map_or}
 use Rattle.tardis_base.specs.declared.requests.Request.{Request}
 use Rattle.tardis_base.specs.declared.requests.Request.TheVariants.{Open, Begin as BeginAt, Get, Put, Delete, Commit, Abort, BeginMerge, ForkPoints, Conflicts, GetFor, Ceiling, Raise, RaiseAuto, Tidy, Stat, Show, Leaves, Pull, Deliver, Settle, Close}
 use Rattle.wire_talk.specs.Memory.{takes_no_memory}
-use Rattle.wire_item.specs.Spellings.{key_spelling}
 use Rattle.wire_talk.specs.Laws.{RequestsHaveOneSpelling}
 use Rattle.wire_talk.specs.RequestReadings.{key_got, request_of}
 use Rattle.tardis_base.specs.declared.replies.Refusal.TheVariants.{Malformed}
 use Rattle.plain_site.specs.Site.{Site}
-use Rattle.plain_site.specs.Built.{so_far}
 use Rattle.plain_site.specs.Answers.{given, refused}
 use Rattle.plain_site.specs.Step.{step, step_over_bytes, is_sure}
 use Rattle.session_core.specs.Machine.{AsksFor}
@@ -75,15 +73,11 @@ read-get bytes k is = go (request_of bytes) is
     go None is = absurd (cc)
     go (Some q) is = ap (λ r. Some r) (got-get q k is)
 
--- a Get is built, so its bytes are answered as it is
-get-over-bytes : (bytes fields k : List ℕ) → bytes ≡ 3 ∷ fields → request_of bytes ≡ Some (Get k) → (site : Site) (n : ℕ)
-    → step_over_bytes so_far site (n, bytes) ≡ step so_far site n (Get k)
-get-over-bytes bytes fields k begins read site n =
-    ap (λ b. step_over_bytes so_far site (n, b)) begins
-    ∙ ap (λ o. given o (refused site Malformed) (step so_far site n)) (sym (ap request_of begins) ∙ read)
+get-over-bytes : (bytes k : List ℕ) → request_of bytes ≡ Some (Get k) → (site : Site) (n : ℕ) → step_over_bytes site (n, bytes) ≡ step site n (Get k)
+get-over-bytes bytes k read site n = ap (λ o. given o (refused site Malformed) (step site n)) read
 
-pub asks-for-key : (bytes k : List ℕ) → RequestsHaveOneSpelling → Some k ≡ option_and_then key_got (request_of bytes) → AsksFor bytes (Ok (Get k))
+pub asks-for-key : (bytes k : List ℕ) → RequestsHaveOneSpelling → Some k ≡ option_and_then key_got (request_of bytes) → AsksFor bytes (Some (Get k))
 asks-for-key bytes k law is =
     let read = read-get bytes k is in
     let spelled = (law.some bytes (Get k)).0 read in
-    (spelled.0, read, get-over-bytes bytes (key_spelling k) k spelled.1 read)
+    (spelled.0, read, get-over-bytes bytes k read)

@@ -21,7 +21,6 @@ use Rattle.begin_rule.specs.declared.BeginFault.{BeginFault}
 use Rattle.begin_rule.specs.declared.BeginFault.TheVariants.{Unknown as IsUnknown, Below as IsBelow}
 use Rattle.begin_rule.specs.Choices.{ChosenAs}
 use Rattle.plain_site.specs.Site.{Site, own_floor}
-use Rattle.plain_site.specs.Built.{Built}
 use Rattle.plain_site.specs.Sound.{IsSound}
 use Rattle.plain_site.specs.Answers.{refuse, without_txn}
 use Rattle.plain_site.specs.Sessions.{begin, begun}
@@ -35,10 +34,10 @@ use Rattle.session_core.proofs.Answers.{skip, stop}
 use Rattle.session_core.proofs.Standing.{none-kept, no-txn-answer, txn-begun}
 
 -- a collected state is a proper ancestor of each ceiling
-pub collected-above : (built : Built) (site : Site) (n : ℕ) (s : Session) → IsSound built site → entry_of n site.sessions ≡ Some s →
+pub collected-above : (site : Site) (n : ℕ) (s : Session) → IsSound site → entry_of n site.sessions ≡ Some s →
     (x : StateId) → IsTrue (is_among x site.collected) → IsTrue (is_proper_ancestor site.dag x s.ceiling)
-collected-above built site n s sound is x among =
-    proper-above site.dag sound.dag x (own_floor site).state s.ceiling (closed-above_own built site x sound (sound.collected.closed x among)) (sound-session built site n s sound is).1
+collected-above site n s sound is x among =
+    proper-above site.dag sound.dag x (own_floor site).state s.ceiling (closed-above_own site x sound (sound.collected.closed x among)) (sound-session site n s sound is).1
 
 -- it begins
 pub begins-at : (core : Core) (site : Site) → CoreStands core site → (n : ℕ) (x y : StateId) (slot : Slot) (es : List (ℕ × Kept)) → id_at core.store.table slot ≡ Some x → id_at core.store.table slot ≡ Some y →

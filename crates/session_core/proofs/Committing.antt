@@ -38,7 +38,6 @@ use Rattle.ceiling_book.specs.Book.{Book, known_floor, sessions_of}
 use Rattle.ceiling_book.specs.Places.{AreSlots, ArePlaced}
 use Rattle.ceiling_book.specs.Answers.{KeepsRest}
 use Rattle.plain_site.specs.Site.{Site, SingleTxn, Txn, Single, own_count, next_id, writes_of, next_record}
-use Rattle.plain_site.specs.Built.{so_far}
 use Rattle.plain_site.specs.Sound.{IsSound}
 use Rattle.plain_site.specs.Answers.{Answer, refused, refuse_found}
 use Rattle.plain_site.specs.Commits.{without_txn_of, growth_refusals, committed, commit_below, commit_at, commit_writes, commit_single}
@@ -129,14 +128,14 @@ module _ (site : Site) (n : ℕ) (parents : List StateId) (writes : List KeyWrit
   abbrev growth : Option Refusal
   growth = growth_refusal true site.limits site.collected site.dag (next_record site parents writes)
 
-  pub below-commits : (own_count site == 4294967295) ≡ false → ◌≡◌ {A = Option Refusal} growth None → commit_below so_far site n parents writes [] ≡ committed site n r
+  pub below-commits : (own_count site == 4294967295) ≡ false → ◌≡◌ {A = Option Refusal} growth None → commit_below site n parents writes [] ≡ committed site n r
   below-commits e f =
-      skip site (Refused SeqEnd) (growth_refusals so_far site r) (committed site n r) (own_count site == 4294967295) e
+      skip site (Refused SeqEnd) (growth_refusals site r) (committed site n r) (own_count site == 4294967295) e
       ∙ skip-found site (λ (g : Refusal). g) growth [] (committed site n r) f
 
-  pub below-refuses : (refusal : Refusal) → (own_count site == 4294967295) ≡ false → growth ≡ Some refusal → commit_below so_far site n parents writes [] ≡ refused site refusal
+  pub below-refuses : (refusal : Refusal) → (own_count site == 4294967295) ≡ false → growth ≡ Some refusal → commit_below site n parents writes [] ≡ refused site refusal
   below-refuses refusal e f =
-      skip site (Refused SeqEnd) (growth_refusals so_far site r) (committed site n r) (own_count site == 4294967295) e
+      skip site (Refused SeqEnd) (growth_refusals site r) (committed site n r) (own_count site == 4294967295) e
       ∙ stop-found site (λ (g : Refusal). g) growth refusal [] (committed site n r) f
 
 module _ (site : Site) (n : ℕ) (t : SingleTxn) (flags : EndFlags) (k : ℕ) where
@@ -144,36 +143,36 @@ module _ (site : Site) (n : ℕ) (t : SingleTxn) (flags : EndFlags) (k : ℕ) wh
   number x = length (children site.dag x)
 
   -- the end constraints aren't broken there
-  pub passes-on : (x : StateId) → ◌≡◌ {A = Option ℕ} (broken flags k (number x)) None → commit_at so_far site n t flags k x ≡ commit_below so_far site n (x ∷ []) t.writes []
-  passes-on x e = ap (λ o. commit_below so_far site n (x ∷ []) t.writes (refuse_found (λ (c : ℕ). AreBranches c x (number x)) o ∷ [])) e
+  pub passes-on : (x : StateId) → ◌≡◌ {A = Option ℕ} (broken flags k (number x)) None → commit_at site n t flags k x ≡ commit_below site n (x ∷ []) t.writes []
+  passes-on x e = ap (λ o. commit_below site n (x ∷ []) t.writes (refuse_found (λ (c : ℕ). AreBranches c x (number x)) o ∷ [])) e
 
   -- they are
-  pub branches-refuse : (x : StateId) (c : ℕ) → ◌≡◌ {A = Option ℕ} (broken flags k (number x)) (Some c) → commit_at so_far site n t flags k x ≡ refused site (AreBranches c x (number x))
-  branches-refuse x c e = ap (λ o. commit_below so_far site n (x ∷ []) t.writes (refuse_found (λ (d : ℕ). AreBranches d x (number x)) o ∷ [])) e
+  pub branches-refuse : (x : StateId) (c : ℕ) → ◌≡◌ {A = Option ℕ} (broken flags k (number x)) (Some c) → commit_at site n t flags k x ≡ refused site (AreBranches c x (number x))
+  branches-refuse x c e = ap (λ o. commit_below site n (x ∷ []) t.writes (refuse_found (λ (d : ℕ). AreBranches d x (number x)) o ∷ [])) e
 
   pub branches-stop : (x : StateId) (b : Branches) → number x ≤ 4294967295 → CheckedAs x (broken flags k (number x)) (min (number x) 4294967295) (Err b) →
-      commit_at so_far site n t flags k x ≡ refused site (AreBranches b.constraint b.state b.children)
+      commit_at site n t flags k x ≡ refused site (AreBranches b.constraint b.state b.children)
   branches-stop x b few (is, state, count) =
       let whole : min (number x) 4294967295 ≡ number x = omega (arith, few) in
       branches-refuse x b.constraint is ∙ ap₂ (λ y m. refused site (AreBranches b.constraint y m)) (sym state) (sym (count ∙ whole))
 
-  pub reads-only : (length t.writes == 0) ≡ true → commit_single so_far site n t flags k ≡ (without_txn_of n site, Ended t.state)
+  pub reads-only : (length t.writes == 0) ≡ true → commit_single site n t flags k ≡ (without_txn_of n site, Ended t.state)
   reads-only e = go t.writes e
     where
-      go : (ws : List KeyWrite) → (length ws == 0) ≡ true → (elim ws as (λ v. Answer) [ [] ↦ (without_txn_of n site, Ended t.state) | w ∷ vs ↦ commit_writes so_far site n t flags k ]) ≡ (without_txn_of n site, Ended t.state)
+      go : (ws : List KeyWrite) → (length ws == 0) ≡ true → (elim ws as (λ v. Answer) [ [] ↦ (without_txn_of n site, Ended t.state) | w ∷ vs ↦ commit_writes site n t flags k ]) ≡ (without_txn_of n site, Ended t.state)
       go [] e = refl
       go (w ∷ ws) e = absurd (both_ways (length (w ∷ ws) == 0) (ne_eqb (length (w ∷ ws)) 0 (λ z. omega arith)) e)
 
-  pub writes-too : (length t.writes == 0) ≡ false → commit_single so_far site n t flags k ≡ commit_writes so_far site n t flags k
+  pub writes-too : (length t.writes == 0) ≡ false → commit_single site n t flags k ≡ commit_writes site n t flags k
   writes-too e = go t.writes e
     where
-      go : (ws : List KeyWrite) → (length ws == 0) ≡ false → (elim ws as (λ v. Answer) [ [] ↦ (without_txn_of n site, Ended t.state) | w ∷ vs ↦ commit_writes so_far site n t flags k ]) ≡ commit_writes so_far site n t flags k
+      go : (ws : List KeyWrite) → (length ws == 0) ≡ false → (elim ws as (λ v. Answer) [ [] ↦ (without_txn_of n site, Ended t.state) | w ∷ vs ↦ commit_writes site n t flags k ]) ≡ commit_writes site n t flags k
       go [] e = absurd (both_ways true e refl)
       go (w ∷ ws) e = refl
 
 -- ===== What soundness gives
 
-module _ (site : Site) (sound : IsSound so_far site) where
+module _ (site : Site) (sound : IsSound site) where
   -- nothing below what isn't closed is collected
   pub below-open : (x : StateId) → IsFalse (is_closed site.dag site.floors x) → (y : StateId) → IsTrue (is_above site.dag x y) → IsFalse (is_among y site.collected)
   below-open x opened y above =
@@ -184,16 +183,16 @@ module _ (site : Site) (sound : IsSound so_far site) where
   pub joined-arrives : (parents : List StateId) (writes : List KeyWrite) → MayJoin site parents writes → own_count site ≢ 4294967295 →
       MayArrive site.limits.sites site.dag site.collected (next_record site parents writes)
   joined-arrives parents writes joins more = record {
-    next = own-next so_far site parents writes sound joins more;
-    site = (own-is_site so_far site sound).1;
+    next = own-next site parents writes sound joins more;
+    site = (own-is_site site sound).1;
     kept = λ p y among above. below-open p (joins.free p among) y above;
   }
 
-module _ (site : Site) (sound : IsSound so_far site) (n : ℕ) (t : SingleTxn) (found : entry_of n site.txns ≡ Some (Single t)) where
+module _ (site : Site) (sound : IsSound site) (n : ℕ) (t : SingleTxn) (found : entry_of n site.txns ≡ Some (Single t)) where
   state-open : IsFalse (is_closed site.dag site.floors t.state)
   state-open =
       let was = sound.each_txn n (Single t) found in
-      admitted-isnt_closed so_far site n was.0 t.state sound was.1 (and_parts (is_admitted site.dag was.0.ceiling t.state) true was.2.admitted).0
+      admitted-isnt_closed site n was.0 t.state sound was.1 (and_parts (is_admitted site.dag was.0.ceiling t.state) true was.2.admitted).0
 
   pub below-is-kept : (y : StateId) → IsTrue (is_above site.dag t.state y) → IsFalse (is_among y site.collected)
   below-is-kept y above = below-open site sound t.state state-open y above
@@ -203,10 +202,10 @@ module _ (site : Site) (sound : IsSound so_far site) (n : ℕ) (t : SingleTxn) (
   may-arrive flags more =
       let was = sound.each_txn n (Single t) found in
       let x = landing site.dag (guarded flags t.reads (keys_of t.writes)) t.state in
-      joined-arrives site sound (x ∷ []) t.writes (single-joins so_far site n was.0 t flags was.1 was.2 sound) more
+      joined-arrives site sound (x ∷ []) t.writes (single-joins site n was.0 t flags was.1 was.2 sound) more
 
 -- a state has few children
-pub few-children : (site : Site) → IsSound so_far site → (x : StateId) → length (children site.dag x) ≤ 4294967295
+pub few-children : (site : Site) → IsSound site → (x : StateId) → length (children site.dag x) ≤ 4294967295
 few-children site sound x =
     let few = sound.few_children x in
     let within = (limits-within site.limits sound.limits).kept in
@@ -243,23 +242,23 @@ pub commit-gives : (core : Core) (site : Site) → CoreStands core site → (n :
     KeepsSlots core.store.table store.table → store.table.limits ≡ core.store.table.limits → KeepsRest core.book book →
     sessions_of book ≡ changed n (after_commit (next_record site xs ws ∷ site.dag) (next_id site)) (sessions_of core.book) →
     ArePlaced book store.table (next_record site xs ws ∷ site.dag) site.collected → es ≡ without_entry n core.txns →
-    IsGiven (CoreStands (record core { store = store; book = book; txns = es })) (commit_below so_far site n xs ws []) (Committed id parents)
+    IsGiven (CoreStands (record core { store = store; book = book; txns = es })) (commit_below site n xs ws []) (Committed id parents)
 commit-gives core site stands n xs ws store book es id parents more named below (room, store_stands) keeps limits rest sessions placed e =
     let r = next_record site xs ws in
-    as-given (CoreStands (record core { store = store; book = book; txns = es })) (commit_below so_far site n xs ws []) (committed site n r) (Committed id parents)
+    as-given (CoreStands (record core { store = store; book = book; txns = es })) (commit_below site n xs ws []) (committed site n r) (Committed id parents)
     (below-commits site n xs ws more (ap (λ l. growth_refusal true l site.collected site.dag r) (sym stands.limits) ∙ room))
     (grown-stands core site r store book n es stands store_stands keeps limits rest sessions placed e, ap₂ Committed named below)
 
 -- it isn't added
 pub commit-stops : (core : Core) (site : Site) → CoreStands core site → (n : ℕ) (xs : List StateId) (ws : List KeyWrite) (store : Store) (fault : AddFault) → (own_count site == 4294967295) ≡ false →
     AddedIn core.store store site.dag site.collected (next_record site xs ws) (Err fault) → store.table ≡ core.store.table →
-    Stops (CoreStands (record core { store = store })) (commit_below so_far site n xs ws []) site (add_stop fault)
+    Stops (CoreStands (record core { store = store })) (commit_below site n xs ws []) site (add_stop fault)
 commit-stops core site stands n xs ws store fault more added same = go fault added
   where
-    refuses : (refusal : Refusal) → growth_refusal true core.store.table.limits site.collected site.dag (next_record site xs ws) ≡ Some refusal → commit_below so_far site n xs ws [] ≡ refused site refusal
+    refuses : (refusal : Refusal) → growth_refusal true core.store.table.limits site.collected site.dag (next_record site xs ws) ≡ Some refusal → commit_below site n xs ws [] ≡ refused site refusal
     refuses refusal full = below-refuses site n xs ws refusal more (ap (λ l. growth_refusal true l site.collected site.dag (next_record site xs ws)) (sym stands.limits) ∙ full)
 
-    go : (f : AddFault) → AddedIn core.store store site.dag site.collected (next_record site xs ws) (Err f) → Stops (CoreStands (record core { store = store })) (commit_below so_far site n xs ws []) site (add_stop f)
+    go : (f : AddFault) → AddedIn core.store store site.dag site.collected (next_record site xs ws) (Err f) → Stops (CoreStands (record core { store = store })) (commit_below site n xs ws []) site (add_stop f)
     go (Full kept) (full, there) = (same-table-stands core site store stands same there, refuses (IsFull kept) full)
     go (PathFull x m) (full, there) = (same-table-stands core site store stands same there, refuses (IsPathFull x m) full)
     go OutOfMemory there = same-table-stands core site store stands same there

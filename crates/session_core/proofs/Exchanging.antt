@@ -39,7 +39,6 @@ use Rattle.site_exchange.specs.declared.judging.Judged.{Judged}
 use Rattle.site_exchange.specs.declared.judging.Judged.TheVariants.{Fit as IsFit, Known as IsKnownOne, Early as IsEarlyOne, Refused as IsRefusedOne}
 use Rattle.site_exchange.specs.Judgements.{reply_of, first_reply, first_judgements}
 use Rattle.plain_site.specs.Site.{Site}
-use Rattle.plain_site.specs.Built.{so_far}
 use Rattle.plain_site.specs.Sound.{IsSound}
 use Rattle.plain_site.specs.Answers.{Answer, refused, says_early, when, refuse, refuse_found, unless, given}
 use Rattle.plain_site.specs.Commits.{with_record, growth_refusals}
@@ -141,22 +140,22 @@ module _ (site : Site) (r : Record) where
   abbrev answered : Answer → Answer
   answered a = (if says_early a.1 then with_held r a.0 else a.0, a.1)
 
-  pub delivered-early : (have : ℕ) → first_reply (judgements site r) ≡ Some (Early have) → deliver_record so_far site r ≡ (with_held r site, Early have)
-  delivered-early have e = ap answered (first-stops site (growth_refusals so_far site r) joined (judgements site r) (Early have) e)
+  pub delivered-early : (have : ℕ) → first_reply (judgements site r) ≡ Some (Early have) → deliver_record site r ≡ (with_held r site, Early have)
+  delivered-early have e = ap answered (first-stops site (growth_refusals site r) joined (judgements site r) (Early have) e)
 
-  pub delivered-known : first_reply (judgements site r) ≡ Some Known → deliver_record so_far site r ≡ (site, Known)
-  delivered-known e = ap answered (first-stops site (growth_refusals so_far site r) joined (judgements site r) Known e)
+  pub delivered-known : first_reply (judgements site r) ≡ Some Known → deliver_record site r ≡ (site, Known)
+  delivered-known e = ap answered (first-stops site (growth_refusals site r) joined (judgements site r) Known e)
 
-  pub delivered-refused : (refusal : Refusal) → first_reply (judgements site r) ≡ Some (Refused refusal) → deliver_record so_far site r ≡ refused site refusal
-  delivered-refused refusal e = ap answered (first-stops site (growth_refusals so_far site r) joined (judgements site r) (Refused refusal) e)
+  pub delivered-refused : (refusal : Refusal) → first_reply (judgements site r) ≡ Some (Refused refusal) → deliver_record site r ≡ refused site refusal
+  delivered-refused refusal e = ap answered (first-stops site (growth_refusals site r) joined (judgements site r) (Refused refusal) e)
 
   grown-answered : (o : Option Refusal) → answered (unless site (refuse_found (λ f. f) o ∷ []) joined) ≡ unless site (refuse_found (λ f. f) o ∷ []) joined
   grown-answered None = refl
   grown-answered (Some refusal) = refl
 
-  pub delivered-fit : ◌≡◌ {A = Option Reply} (first_reply (judgements site r)) None → deliver_record so_far site r ≡ unless site (growth_refusals so_far site r) joined
+  pub delivered-fit : ◌≡◌ {A = Option Reply} (first_reply (judgements site r)) None → deliver_record site r ≡ unless site (growth_refusals site r) joined
   delivered-fit e =
-      ap answered (first-passes site (growth_refusals so_far site r) joined (judgements site r) e)
+      ap answered (first-passes site (growth_refusals site r) joined (judgements site r) e)
       ∙ grown-answered (growth_refusal true site.limits site.collected site.dag r)
 
 -- an early record is held
@@ -177,9 +176,9 @@ early-held core site r room stands held = record {
 -- ===== A record that arrives
 
 -- a fit record may arrive
-pub fit-arrives : (site : Site) (r : Record) → IsSound so_far site → IsTrue (is_record r) → ◌≡◌ {A = Option Reply} (first_reply (judgements site r)) None → MayArrive site.limits.sites site.dag site.collected r
+pub fit-arrives : (site : Site) (r : Record) → IsSound site → IsTrue (is_record r) → ◌≡◌ {A = Option Reply} (first_reply (judgements site r)) None → MayArrive site.limits.sites site.dag site.collected r
 fit-arrives site r sound valid e =
-    let is_welcome = welcome so_far site r valid sound (none-first (judgements site r) e) in
+    let is_welcome = welcome site r valid sound (none-first (judgements site r) e) in
     record {
       next = is_welcome.next;
       site = is_welcome.of_a_site;
@@ -226,17 +225,17 @@ module _ (core : Core) (site : Site) (r : Record) (store : Store) (stands : Core
   growth-same : growth_refusal true core.store.table.limits site.collected site.dag r ≡ growth_refusal true site.limits site.collected site.dag r
   growth-same = ap (λ l. growth_refusal true l site.collected site.dag r) stands.limits
 
-  pub growth-free : (answer : Answer) (slot : Slot) → AddedIn core.store store site.dag site.collected r (Ok slot) → unless site (growth_refusals so_far site r) answer ≡ answer
+  pub growth-free : (answer : Answer) (slot : Slot) → AddedIn core.store store site.dag site.collected r (Ok slot) → unless site (growth_refusals site r) answer ≡ answer
   growth-free answer slot (free, there) = skip-found site (λ (g : Refusal). g) (growth_refusal true site.limits site.collected site.dag r) [] answer (sym growth-same ∙ free)
 
   pub growth-stops : (answer : Answer) (fault : AddFault) → AddedIn core.store store site.dag site.collected r (Err fault) → store.table ≡ core.store.table →
-      Stops (CoreStands (record core { store = store })) (unless site (growth_refusals so_far site r) answer) site (add_stop fault)
+      Stops (CoreStands (record core { store = store })) (unless site (growth_refusals site r) answer) site (add_stop fault)
   growth-stops answer fault added same = go fault added
     where
-      refuses : (refusal : Refusal) → growth_refusal true core.store.table.limits site.collected site.dag r ≡ Some refusal → unless site (growth_refusals so_far site r) answer ≡ refused site refusal
+      refuses : (refusal : Refusal) → growth_refusal true core.store.table.limits site.collected site.dag r ≡ Some refusal → unless site (growth_refusals site r) answer ≡ refused site refusal
       refuses refusal full = stop-found site (λ (g : Refusal). g) (growth_refusal true site.limits site.collected site.dag r) refusal [] answer (sym growth-same ∙ full)
 
-      go : (f : AddFault) → AddedIn core.store store site.dag site.collected r (Err f) → Stops (CoreStands (record core { store = store })) (unless site (growth_refusals so_far site r) answer) site (add_stop f)
+      go : (f : AddFault) → AddedIn core.store store site.dag site.collected r (Err f) → Stops (CoreStands (record core { store = store })) (unless site (growth_refusals site r) answer) site (add_stop f)
       go (Full kept) (full, there) = (same-table-stands core site store stands same there, refuses (IsFull kept) full)
       go (PathFull x m) (full, there) = (same-table-stands core site store stands same there, refuses (IsPathFull x m) full)
       go OutOfMemory there = same-table-stands core site store stands same there
@@ -357,11 +356,11 @@ judged-unfit site r (IsEarlyOne have) other e = is-unfit site r (Early have) (sy
 judged-unfit site r (IsRefusedOne refusal) other e = is-unfit site r (Refused refusal) (sym e)
 
 -- what is settled, by the first fit record
-pub settled-at : (site : Site) (found : ℕ × Record) → first_fit_record site ≡ Some found → settle so_far site ≡ settle_record so_far site found
-settled-at site found e = ap (λ o. given o (let a : Answer = (site, Done) in a) (settle_record so_far site)) e
+pub settled-at : (site : Site) (found : ℕ × Record) → first_fit_record site ≡ Some found → settle site ≡ settle_record site found
+settled-at site found e = ap (λ o. given o (let a : Answer = (site, Done) in a) (settle_record site)) e
 
-pub settled-none : (site : Site) → ◌≡◌ {A = Option (ℕ × Record)} (first_fit_record site) None → settle so_far site ≡ (site, Done)
-settled-none site e = ap (λ o. given o (let a : Answer = (site, Done) in a) (settle_record so_far site)) e
+pub settled-none : (site : Site) → ◌≡◌ {A = Option (ℕ × Record)} (first_fit_record site) None → settle site ≡ (site, Done)
+settled-none site e = ap (λ o. given o (let a : Answer = (site, Done) in a) (settle_record site)) e
 
 pub none-mapped : (o : Option (ℕ × Record)) → ◌≡◌ {A = Option ℕ} (option_map (λ (found : ℕ × Record). found.0) o) None → o ≡ None
 none-mapped None e = refl
@@ -463,7 +462,7 @@ module _ (core : Core) (book : Book) (site : Site) (c : Consent) (stands : CoreS
 -- ===== A pull
 
 -- book and table stand for the site
-pub book-stands : (core : Core) (site : Site) → CoreStands core site → IsSound so_far site → BookStands core.store.table core.book site
+pub book-stands : (core : Core) (site : Site) → CoreStands core site → IsSound site → BookStands core.store.table core.book site
 book-stands core site stands sound = record {
   limits = stands.limits;
   own = stands.own;

@@ -7,7 +7,6 @@ use Rattle.tardis_base.specs.declared.requests.Request.TheVariants.{Get}
 use Rattle.tardis_base.specs.Valid.{is_u16, is_key}
 use Rattle.wire_talk.specs.Spellings.{reply_spelling}
 use Rattle.plain_site.specs.Answers.{Answer}
-use Rattle.plain_site.specs.Built.{so_far}
 use Rattle.plain_site.specs.Site.{Site}
 use Rattle.plain_site.specs.Sound.{IsSound}
 use Rattle.session_core.specs.declared.stops.Stop.{Stop}
@@ -20,7 +19,7 @@ use Rattle.session_core.proofs.Telling.{stays-sound, step-told}
 
 module _ (old : Core) (n : ℕ) (k : List ℕ) (valid : IsTrue (is_key k)) (before : StandsForSite old) where
   -- the reply to a read can be told
-  pub read-told : (reply : Reply) → ((site : Site) → CoreStands old site → IsSound so_far site → (reading site n k).1 ≡ reply) → IsTold reply
+  pub read-told : (reply : Reply) → ((site : Site) → CoreStands old site → IsSound site → (reading site n k).1 ≡ reply) → IsTold reply
   read-told reply is = step-told before.site n (Get k) valid before.sound reply (sym (is before.site before.stands before.sound))
 
   module _ (new : Core) (out : List ℕ) where

@@ -13,7 +13,6 @@ use Rattle.plain_dag.specs.Entries.{entry_of}
 use Rattle.plain_dag.proofs.Ids.{all-at}
 use Rattle.record_store.specs.Answers.{MayArrive}
 use Rattle.plain_site.specs.Site.{Site, MergeTxn, Merge, own_count, next_record}
-use Rattle.plain_site.specs.Built.{so_far}
 use Rattle.plain_site.specs.Sound.{IsSound}
 use Rattle.plain_site.specs.Answers.{refused, refuse, refuse_found}
 use Rattle.plain_site.specs.Commits.{growth_refusals, committed, commit_below, commit_merge}
@@ -26,7 +25,7 @@ use Rattle.session_core.proofs.Answers.{skip, stop, skip-found, stop-found}
 use Rattle.session_core.proofs.Committing.{joined-arrives}
 
 -- where no conflict key is open, what a merge writes may join below all the states that it reads
-module _ (site : Site) (sound : IsSound so_far site) (n : ℕ) (t : MergeTxn) (found : entry_of n site.txns ≡ Some (Merge t)) (written : open_conflict site.dag t.states t.writes ≡ None) where
+module _ (site : Site) (sound : IsSound site) (n : ℕ) (t : MergeTxn) (found : entry_of n site.txns ≡ Some (Merge t)) (written : open_conflict site.dag t.states t.writes ≡ None) where
   merge-joins : MayJoin site t.states t.writes
   merge-joins =
       let was = sound.each_txn n (Merge t) found in
@@ -37,7 +36,7 @@ module _ (site : Site) (sound : IsSound so_far site) (n : ℕ) (t : MergeTxn) (f
         known = was.2.known;
         apart = was.2.apart;
         merges = conflicts-written site.dag t.states t.writes written;
-        free = λ p m. admitted-isnt_closed so_far site n was.0 p sound was.1 (all-at (is_admitted site.dag was.0.ceiling) t.states p was.2.admitted m);
+        free = λ p m. admitted-isnt_closed site n was.0 p sound was.1 (all-at (is_admitted site.dag was.0.ceiling) t.states p was.2.admitted m);
       }
 
   pub merge-arrives : own_count site ≢ 4294967295 → MayArrive site.limits.sites site.dag site.collected (next_record site t.states t.writes)
@@ -45,23 +44,23 @@ module _ (site : Site) (sound : IsSound so_far site) (n : ℕ) (t : MergeTxn) (f
 
 -- a merge without end constraints, with no open conflict key, commits below the states that it reads
 pub merges-below : (site : Site) (n : ℕ) (t : MergeTxn) (flags : EndFlags) → not (flags.0 == 0) ≡ false → open_conflict site.dag t.states t.writes ≡ None →
-    commit_merge so_far site n t flags ≡ commit_below so_far site n t.states t.writes []
+    commit_merge site n t flags ≡ commit_below site n t.states t.writes []
 merges-below site n t flags e f =
     let r = next_record site t.states t.writes in
-    let more : List (Option Reply) = refuse (own_count site == 4294967295) SeqEnd ∷ growth_refusals so_far site r in
+    let more : List (Option Reply) = refuse (own_count site == 4294967295) SeqEnd ∷ growth_refusals site r in
     let open_key = open_conflict site.dag t.states t.writes in
     skip site (RefusedWith WrongMode) (refuse_found OpenConflict open_key ∷ more) (committed site n r) (not (flags.0 == 0)) e
     ∙ skip-found site OpenConflict open_key more (committed site n r) f
 
 -- why a merge doesn't
-pub merge-stops : (site : Site) (n : ℕ) (t : MergeTxn) (flags : EndFlags) (what : Stop) → MayMerge site t.states t.writes flags (Err what) → (stands : Site → Type 0) → stands site → Stops stands (commit_merge so_far site n t flags) site what
+pub merge-stops : (site : Site) (n : ℕ) (t : MergeTxn) (flags : EndFlags) (what : Stop) → MayMerge site t.states t.writes flags (Err what) → (stands : Site → Type 0) → stands site → Stops stands (commit_merge site n t flags) site what
 merge-stops site n t flags NoMemory may stands there = there
 merge-stops site n t flags (Refused refusal) may stands there = (there, go refusal may)
   where
     more : List (Option Reply)
-    more = refuse (own_count site == 4294967295) SeqEnd ∷ growth_refusals so_far site (next_record site t.states t.writes)
+    more = refuse (own_count site == 4294967295) SeqEnd ∷ growth_refusals site (next_record site t.states t.writes)
 
-    go : (r : Refusal) → MayMerge site t.states t.writes flags (Err (Refused r)) → commit_merge so_far site n t flags ≡ refused site r
+    go : (r : Refusal) → MayMerge site t.states t.writes flags (Err (Refused r)) → commit_merge site n t flags ≡ refused site r
     go WrongMode e = stop site (RefusedWith WrongMode) (refuse_found OpenConflict (open_conflict site.dag t.states t.writes) ∷ more) (committed site n (next_record site t.states t.writes)) (not (flags.0 == 0)) e
     go (OpenConflict k) (e, f) =
         skip site (RefusedWith WrongMode) (refuse_found OpenConflict (open_conflict site.dag t.states t.writes) ∷ more) (committed site n (next_record site t.states t.writes)) (not (flags.0 == 0)) e

@@ -20,7 +20,6 @@ use Rattle.begin_rule.specs.declared.merges.MergeFault.TheVariants.{Unknown as O
 use Rattle.begin_rule.specs.Choices.{ChosenAllAs}
 use Rattle.merge_txn.specs.declared.Txn.TheVariants.{Merge as KeptMerge}
 use Rattle.plain_site.specs.Site.{Site}
-use Rattle.plain_site.specs.Built.{so_far}
 use Rattle.plain_site.specs.Sound.{IsSound}
 use Rattle.plain_site.specs.Answers.{Answer, refused, refuse_found, unless}
 use Rattle.plain_site.specs.Merges.{in_order, merge_at, merging, first_unknown, first_below}
@@ -109,9 +108,9 @@ abbrev pub IsCeilingOf : Book → ℕ → Slot → Type 0
 IsCeilingOf book n slot = (table : Table) (rs : List Record) (ks : List StateId) → ArePlaced book table rs ks → (s : Session) → entry_of n (sessions_of book) ≡ Some s → id_at table slot ≡ Some s.ceiling
 
 -- so they are chosen for the session
-pub chosen-under : (core : Core) (site : Site) → CoreStands core site → IsSound so_far site → (n : ℕ) (s : Session) → entry_of n site.sessions ≡ Some s → (table : Table) → table ≡ core.store.table →
+pub chosen-under : (core : Core) (site : Site) → CoreStands core site → IsSound site → (n : ℕ) (s : Session) → entry_of n site.sessions ≡ Some s → (table : Table) → table ≡ core.store.table →
     (ceiling : Slot) → IsCeilingOf core.book n ceiling → (xs : List StateId) (result : Result (List Slot) MergeFault) → ChoosesAll table ceiling xs result → ChosenAllAs table site.dag s.ceiling xs result
 chosen-under core site stands sound n s is table same ceiling limit xs result chooses =
     let here = subst (λ t. Stands t site.dag site.collected) (sym same) stands.store.table in
     let placed = subst (λ t. ArePlaced core.book t site.dag site.collected) (sym same) stands.placed in
-    chooses site.dag site.collected here s.ceiling (limit table site.dag site.collected placed s (ap (entry_of n) stands.sessions ∙ is)) (collected-above so_far site n s sound is)
+    chooses site.dag site.collected here s.ceiling (limit table site.dag site.collected placed s (ap (entry_of n) stands.sessions ∙ is)) (collected-above site n s sound is)

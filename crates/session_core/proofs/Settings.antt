@@ -26,7 +26,6 @@ use Rattle.plain_dag.specs.Paths.{fork_path}
 use Rattle.plain_dag.specs.States.{is_known, arrival, children}
 use Rattle.plain_dag.specs.Writers.{read}
 use Rattle.plain_site.specs.Answers.{Answer, says_early, refuse, refuse_found, shown, found}
-use Rattle.plain_site.specs.Built.{so_far}
 use Rattle.plain_site.specs.Commits.{abort, commit, commit_below, commit_writes, commit_single, committed, with_record, growth_refusals, without_txn_of}
 use Rattle.plain_site.specs.Exchange.{judgements, take_record, with_held, consent_judgements, deliver, first_fit_record, with_settled, settle_record, settle, batch_for}
 use Rattle.plain_site.specs.Merges.{in_order, states_to_merge, merge_at, begin_merge, fork_points_of, conflicts_of}
@@ -35,7 +34,7 @@ use Rattle.plain_site.specs.Sessions.{open_session, close_session, begin, begin_
 use Rattle.plain_site.specs.FloorSteps.{raised, raise_to}
 use Rattle.plain_site.specs.Site.{Site, SingleTxn, Txn, Single, Merge, opening, own_floor, own_count, next_id, writes_of, with_txn_changed}
 use Rattle.plain_site.specs.Step.{step}
-use Rattle.plain_site.proofs.SoundAnswers.{unless-keeps, given-keeps, session-keeps, txn-keeps, no_txn-keeps, step-keeps}
+use Rattle.plain_site.proofs.SoundAnswers.{unless-keeps, given-keeps, session-keeps, txn-keeps, no_txn-keeps}
 use Rattle.session_core.specs.Core.{Core}
 use Rattle.session_core.specs.Stands.{CoreStands}
 use Rattle.session_core.specs.Machine.{opened_with}
@@ -77,21 +76,21 @@ module _ (site : Site) (n : ℕ) where
       unless-keeps P site old (refuse (length (writes_of t) == 64 && not (has_key k (writes_of t))) (TooMany 1 65) ∷ [])
       (with_txn_changed n (having_written k w) site, Done) (λ none. (refl, refl))
 
-  below-same : (parents : List StateId) (writes : List KeyWrite) (refusals : List (Option Reply)) → P (commit_below so_far site n parents writes refusals).0
+  below-same : (parents : List StateId) (writes : List KeyWrite) (refusals : List (Option Reply)) → P (commit_below site n parents writes refusals).0
   below-same parents writes refusals =
       let r : Record = record { id = next_id site; parents = parents; writes = writes } in
-      unless-keeps P site old (refusals ++ refuse (own_count site == 4294967295) SeqEnd ∷ growth_refusals so_far site r) (committed site n r) (λ none. (refl, refl))
+      unless-keeps P site old (refusals ++ refuse (own_count site == 4294967295) SeqEnd ∷ growth_refusals site r) (committed site n r) (λ none. (refl, refl))
 
-  single-same : (t : SingleTxn) (flags : EndFlags) (k : ℕ) → P (commit_single so_far site n t flags k).0
+  single-same : (t : SingleTxn) (flags : EndFlags) (k : ℕ) → P (commit_single site n t flags k).0
   single-same t flags k = go t.writes
     where
-      go : (ws : List KeyWrite) → P (elim ws as (λ v. Answer) [ [] ↦ (without_txn_of n site, Ended t.state) | w ∷ more ↦ commit_writes so_far site n t flags k ]).0
+      go : (ws : List KeyWrite) → P (elim ws as (λ v. Answer) [ [] ↦ (without_txn_of n site, Ended t.state) | w ∷ more ↦ commit_writes site n t flags k ]).0
       go [] = (refl, refl)
       go (w ∷ more) =
           let x = landing site.dag (guarded flags t.reads (keys_of t.writes)) t.state in
           below-same (x ∷ []) t.writes (refuse_found (λ c. Branches c x (length (children site.dag x))) (broken flags k (length (children site.dag x))) ∷ [])
 
-  commit-same : (t : Txn) (flags : EndFlags) (k : ℕ) → P (commit so_far site n t flags k).0
+  commit-same : (t : Txn) (flags : EndFlags) (k : ℕ) → P (commit site n t flags k).0
   commit-same (Single t) flags k = single-same t flags k
   commit-same (Merge t) flags k = below-same t.states t.writes (refuse (not (flags.0 == 0)) WrongMode ∷ refuse_found OpenConflict (open_conflict site.dag t.states t.writes) ∷ [])
 
@@ -120,60 +119,55 @@ module _ (site : Site) (n : ℕ) where
   raised-same : (x : StateId) (refusals : List (Option Reply)) → P (raise_to site x refusals).0
   raised-same x refusals = unless-keeps P site old (refusals ++ refuse ((own_floor site).number == 4294967295) SeqEnd ∷ []) (raised site x) (λ none. (refl, refl))
 
-  deliver-same : (item : Item) → P (deliver so_far site item).0
+  deliver-same : (item : Item) → P (deliver site item).0
   deliver-same (State r) =
-      let answer : Answer = take_record so_far site r in
-      let taken : P answer.0 = unless-keeps P site old (judgements site r ++ growth_refusals so_far site r) (with_record r site, Applied) (λ none. (refl, refl)) in
+      let answer : Answer = take_record site r in
+      let taken : P answer.0 = unless-keeps P site old (judgements site r ++ growth_refusals site r) (with_record r site, Applied) (λ none. (refl, refl)) in
       cond_both (says_early answer.1) (with_held r answer.0) answer.0 P (λ early. taken) (λ late. taken)
   deliver-same (Promise c) =
       unless-keeps P site old (consent_judgements site c)
       (record site { floors = with_floor site.floors c.site (record { state = c.floor; number = c.number; stated = c.count }) }, Applied) (λ none. (refl, refl))
 
-  settle-same : P (settle so_far site).0
+  settle-same : P (settle site).0
   settle-same =
-      given-keeps P site old (first_fit_record site) (site, Done) (settle_record so_far site) (λ none. old)
-      (λ found is. unless-keeps P site old (growth_refusals so_far site found.1) (with_settled found site, Applied) (λ none. (refl, refl)))
+      given-keeps P site old (first_fit_record site) (site, Done) (settle_record site) (λ none. old)
+      (λ found is. unless-keeps P site old (growth_refusals site found.1) (with_settled found site, Applied) (λ none. (refl, refl)))
 
-  -- what isn't built changes nothing
-  pub step-same : (q : Request) → P (step so_far site n q).0
-  step-same (Open follow) = step-keeps P site old so_far n (Open follow) (open-same follow)
+  pub step-same : (q : Request) → P (step site n q).0
+  step-same (Open follow) = open-same follow
   step-same (BeginAt b) =
-      step-keeps P site old so_far n (BeginAt b) (no_txn-keeps P site old n (λ s. begin site n s b) (λ s e none. begin-same s.ceiling (begin_state site.dag s.last b)))
-  step-same (Get k) = step-keeps P site old so_far n (Get k) (txn-keeps P site old n (λ s t. get site n t k) (λ s e t f. get-same t k))
-  step-same (Put k v) = step-keeps P site old so_far n (Put k v) (txn-keeps P site old n (λ s t. set_key site n t k (Value v)) (λ s e t f. set-same t k (Value v)))
-  step-same (Delete k) = step-keeps P site old so_far n (Delete k) (txn-keeps P site old n (λ s t. set_key site n t k Deletion) (λ s e t f. set-same t k Deletion))
-  step-same (Commit flags k) = step-keeps P site old so_far n (Commit flags k) (txn-keeps P site old n (λ s t. commit so_far site n t flags k) (λ s e t f. commit-same t flags k))
-  step-same Abort = step-keeps P site old so_far n Abort (txn-keeps P site old n (λ s t. abort site n) (λ s e t f. (refl, refl)))
+      no_txn-keeps P site old n (λ s. begin site n s b) (λ s e none. begin-same s.ceiling (begin_state site.dag s.last b))
+  step-same (Get k) = txn-keeps P site old n (λ s t. get site n t k) (λ s e t f. get-same t k)
+  step-same (Put k v) = txn-keeps P site old n (λ s t. set_key site n t k (Value v)) (λ s e t f. set-same t k (Value v))
+  step-same (Delete k) = txn-keeps P site old n (λ s t. set_key site n t k Deletion) (λ s e t f. set-same t k Deletion)
+  step-same (Commit flags k) = txn-keeps P site old n (λ s t. commit site n t flags k) (λ s e t f. commit-same t flags k)
+  step-same Abort = txn-keeps P site old n (λ s t. abort site n) (λ s e t f. (refl, refl))
   step-same (BeginMerge of) =
-      step-keeps P site old so_far n (BeginMerge of) (no_txn-keeps P site old n (λ s. begin_merge site n s of) (λ s e none. merge-same s.ceiling (states_to_merge site of)))
-  step-same ForkPoints = step-keeps P site old so_far n ForkPoints (txn-keeps P site old n (λ s t. fork_points_of site t) (λ s e t f. fork_points-same t))
-  step-same (Conflicts after) = step-keeps P site old so_far n (Conflicts after) (txn-keeps P site old n (λ s t. conflicts_of site t after) (λ s e t f. conflicts-same t after))
-  step-same (GetFor k x) = step-keeps P site old so_far n (GetFor k x) (txn-keeps P site old n (λ s t. get_for site t k x) (λ s e t f. get_for-same t k x))
+      no_txn-keeps P site old n (λ s. begin_merge site n s of) (λ s e none. merge-same s.ceiling (states_to_merge site of))
+  step-same ForkPoints = txn-keeps P site old n (λ s t. fork_points_of site t) (λ s e t f. fork_points-same t)
+  step-same (Conflicts after) = txn-keeps P site old n (λ s t. conflicts_of site t after) (λ s e t f. conflicts-same t after)
+  step-same (GetFor k x) = txn-keeps P site old n (λ s t. get_for site t k x) (λ s e t f. get_for-same t k x)
   step-same (Ceiling x) =
-      step-keeps P site old so_far n (Ceiling x)
-      (no_txn-keeps P site old n (λ s. set_ceiling site n s x) (λ s e none. unless-keeps P site old (refuse (not (is_known site.dag x)) (Unknown x) ∷ refuse (not (is_above site.dag s.ceiling x)) (CeilingBack s.ceiling) ∷ [])
-      (record site { sessions = changed n (with_ceiling x) site.sessions }, Done) (λ none. (refl, refl))))
+      no_txn-keeps P site old n (λ s. set_ceiling site n s x) (λ s e none. unless-keeps P site old (refuse (not (is_known site.dag x)) (Unknown x) ∷ refuse (not (is_above site.dag s.ceiling x)) (CeilingBack s.ceiling) ∷ [])
+      (record site { sessions = changed n (with_ceiling x) site.sessions }, Done) (λ none. (refl, refl)))
   step-same (Raise x) =
-      step-keeps P site old so_far n (Raise x)
-      (raised-same x
+      raised-same x
       (refuse (not (is_known site.dag x)) (Unknown x)
       ∷ refuse (not (is_above site.dag (own_floor site).state x)) (FloorBack (own_floor site).state)
       ∷ refuse_found (λ s. Held s.0 s.1.ceiling) (holding_session site.dag site.sessions x)
-      ∷ []))
-  step-same RaiseAuto = step-keeps P site old so_far n RaiseAuto (raised-same (automatic_floor site.dag (own_floor site).state site.sessions) [])
-  step-same (Tidy count) = step-keeps P site old so_far n (Tidy count) (refl, refl)
-  step-same Stat = step-keeps P site old so_far n Stat old
+      ∷ [])
+  step-same RaiseAuto = raised-same (automatic_floor site.dag (own_floor site).state site.sessions) []
+  step-same (Tidy count) = (refl, refl)
+  step-same Stat = old
   step-same (Show x) =
-      step-keeps P site old so_far n (Show x)
-      (unless-keeps P site old (refuse (not (is_known site.dag x)) (Unknown x) ∷ refuse (is_among x site.collected) (Collected x) ∷ [])
-      (site, Shown (arrival site.dag x) (children site.dag x) (fork_path site.dag site.collected x)) (λ none. old))
-  step-same Leaves = step-keeps P site old so_far n Leaves old
+      unless-keeps P site old (refuse (not (is_known site.dag x)) (Unknown x) ∷ refuse (is_among x site.collected) (Collected x) ∷ [])
+      (site, Shown (arrival site.dag x) (children site.dag x) (fork_path site.dag site.collected x)) (λ none. old)
+  step-same Leaves = old
   step-same (Pull counts) =
-      step-keeps P site old so_far n (Pull counts)
-      (unless-keeps P site old (refuse (not (length counts == site.limits.sites)) (BadSite (length counts)) ∷ []) (site, BatchIs (batch_for site counts)) (λ none. old))
-  step-same (Deliver item) = step-keeps P site old so_far n (Deliver item) (deliver-same item)
-  step-same Settle = step-keeps P site old so_far n Settle settle-same
-  step-same Close = step-keeps P site old so_far n Close (session-keeps P site old n (λ s. close_session site n) (λ s e. (refl, refl)))
+      unless-keeps P site old (refuse (not (length counts == site.limits.sites)) (BadSite (length counts)) ∷ []) (site, BatchIs (batch_for site counts)) (λ none. old)
+  step-same (Deliver item) = deliver-same item
+  step-same Settle = settle-same
+  step-same Close = session-keeps P site old n (λ s. close_session site n) (λ s e. (refl, refl))
 
 -- what stands for sites of the same settings opened with the same
 pub opened-same : (a b : Core) (old new : Site) → CoreStands a old → CoreStands b new → HasSettingsOf old new → opened_with b ≡ opened_with a

@@ -9,7 +9,6 @@ use Rattle.tardis_base.specs.declared.replies.Refusal.TheVariants.{NotOpen, TxnO
 use Rattle.merge_txn.specs.declared.Txn.{Txn as Kept}
 use Rattle.ceiling_book.specs.Book.{is_open}
 use Rattle.plain_site.specs.Site.{Site, Txn}
-use Rattle.plain_site.specs.Built.{so_far}
 use Rattle.plain_site.specs.Sound.{IsSound}
 use Rattle.plain_site.specs.Answers.{Answer, refused, given, with_session, with_txn, without_txn}
 use Rattle.plain_site.proofs.SoundEntries.{entry-changed, entry-changed_other, entry-with_entry, entry-with_entry_other, entry-without_entry, entry-without_entry_other}
@@ -70,7 +69,7 @@ module _ (core : Core) (site : Site) (stands : CoreStands core site) (n : ℕ) w
   none-kept e = sym (stands.txns n) ∙ ap (option_map txn_of) e
 
   -- a session with a transaction
-  pub has-txn : IsSound so_far site → (t : Kept) → entry_of n core.txns ≡ Some t → HasTxn core.store.table site n t
+  pub has-txn : IsSound site → (t : Kept) → entry_of n core.txns ≡ Some t → HasTxn core.store.table site n t
   has-txn sound t e =
       let found = kept-for t e in
       let was = sound.each_txn n (txn_of t) found in

@@ -10,9 +10,7 @@ use Rattle.tardis_base.specs.declared.requests.Request.{Request}
 use Rattle.tardis_base.specs.Valid.{is_u16}
 use Rattle.wire_talk.specs.Valid.{is_request}
 use Rattle.plain_site.specs.Answers.{Answer, with_txn}
-use Rattle.plain_site.specs.Built.{so_far}
 use Rattle.plain_site.specs.Reads.{set_key}
-use Rattle.plain_site.specs.Laws.{ShowsShortPaths}
 use Rattle.plain_site.specs.Site.{Site}
 use Rattle.plain_site.specs.Sound.{IsSound}
 use Rattle.plain_site.specs.Step.{step}
@@ -27,43 +25,39 @@ use Rattle.session_core.specs.Machine.{SiteStands, IsTold, opened_with, writing}
 use Rattle.session_core.specs.Stands.{CoreStands, StandsForSite}
 use Rattle.session_core.proofs.Settings.{step-same, opened-same}
 
--- fork paths are shown with their limits
-short-paths : ShowsShortPaths so_far
-short-paths shown = refl
-
 -- a number of a session
 pub small : (n : ℕ) → n < 2 ^ 16 → IsTrue (is_u16 n)
 small n fits = lt-ltb n (2 ^ 16) fits
 
-pub stays-sound : (site : Site) (n : ℕ) (q : Request) → IsTrue (is_u16 n) → IsTrue (is_request q) → IsSound so_far site → IsSound so_far (step so_far site n q).0
-stays-sound site n q below valid sound = request-keeps-sound so_far q site n below valid sound
+pub stays-sound : (site : Site) (n : ℕ) (q : Request) → IsTrue (is_u16 n) → IsTrue (is_request q) → IsSound site → IsSound (step site n q).0
+stays-sound site n q below valid sound = request-keeps-sound q site n below valid sound
 
-pub step-told : (site : Site) (n : ℕ) (q : Request) → IsTrue (is_request q) → IsSound so_far site → (reply : Reply) → reply ≡ (step so_far site n q).1 → IsTold reply
+pub step-told : (site : Site) (n : ℕ) (q : Request) → IsTrue (is_request q) → IsSound site → (reply : Reply) → reply ≡ (step site n q).1 → IsTold reply
 step-told site n q valid sound reply is = subst IsTold (sym is) (record {
-  valid = (replies-fit so_far short-paths).valid site n q valid sound;
-  short = (replies-fit so_far short-paths).short site n q valid sound;
-  other = (never-wants-memory so_far).reply site n q;
+  valid = replies-fit.valid site n q valid sound;
+  short = replies-fit.short site n q valid sound;
+  other = never-wants-memory.reply site n q;
 })
 
 -- the parts gave an answer, or stopped
 abbrev pub Gave : Core → Core → ℕ → Request → Result Reply Stop → Type 0
-Gave old new n q result = (site : Site) → CoreStands old site → IsSound so_far site → GivesOrStops (CoreStands new) (step so_far site n q) site result
+Gave old new n q result = (site : Site) → CoreStands old site → IsSound site → GivesOrStops (CoreStands new) (step site n q) site result
 
 module _ (old new : Core) (n : ℕ) (q : Request) (below : IsTrue (is_u16 n)) (valid : IsTrue (is_request q)) where
   -- what stood for a sound site stands for one
-  pub told-sound : (result : Result Reply Stop) (reply : Result Reply OutOfMemory) → ToldAs result reply → Gave old new n q result → (site : Site) → SiteStands old site → Gives (SiteStands new) (step so_far site n q) site reply
+  pub told-sound : (result : Result Reply Stop) (reply : Result Reply OutOfMemory) → ToldAs result reply → Gave old new n q result → (site : Site) → SiteStands old site → Gives (SiteStands new) (step site n q) site reply
   told-sound (Ok reply) told is gave site (stands, sound) =
       let given = gave site stands sound in
-      subst (Gives (SiteStands new) (step so_far site n q) site) (sym is) ((given.0, stays-sound site n q below valid sound), given.1)
+      subst (Gives (SiteStands new) (step site n q) site) (sym is) ((given.0, stays-sound site n q below valid sound), given.1)
   told-sound (Err (Refused refusal)) told is gave site (stands, sound) =
       let given = gave site stands sound in
-      subst (Gives (SiteStands new) (step so_far site n q) site) (sym is) (subst (λ (a : Answer). IsGiven (SiteStands new) a (RefusedWith refusal)) (sym given.1) ((given.0, sound), refl))
+      subst (Gives (SiteStands new) (step site n q) site) (sym is) (subst (λ (a : Answer). IsGiven (SiteStands new) a (RefusedWith refusal)) (sym given.1) ((given.0, sound), refl))
   told-sound (Err NoMemory) (Ok reply) is gave site stands = absurd is
   told-sound (Err NoMemory) (Err fault) is gave site (stands, sound) = (gave site stands sound, sound)
 
   pub still-stands : (result : Result Reply Stop) → Gave old new n q result → StandsForSite old → StandsForSite new
   still-stands (Ok reply) gave before = record {
-    site = (step so_far before.site n q).0;
+    site = (step before.site n q).0;
     stands = (gave before.site before.stands before.sound).0;
     sound = stays-sound before.site n q below valid before.sound;
   }
@@ -80,7 +74,7 @@ module _ (old new : Core) (n : ℕ) (q : Request) (below : IsTrue (is_u16 n)) (v
 
   pub gave-opening : (result : Result Reply Stop) → Gave old new n q result → StandsForSite old → opened_with new ≡ opened_with old
   gave-opening (Ok reply) gave before =
-      opened-same old new before.site (step so_far before.site n q).0 before.stands (gave before.site before.stands before.sound).0 (step-same before.site n q)
+      opened-same old new before.site (step before.site n q).0 before.stands (gave before.site before.stands before.sound).0 (step-same before.site n q)
   gave-opening (Err (Refused refusal)) gave before = opened-same old new before.site before.site before.stands (gave before.site before.stands before.sound).0 (refl, refl)
   gave-opening (Err NoMemory) gave before = opened-same old new before.site before.site before.stands (gave before.site before.stands before.sound) (refl, refl)
 
@@ -91,10 +85,10 @@ told-sure (Err (Refused refusal)) reply is needs = subst (λ (z : Result Reply O
 told-sure (Err NoMemory) reply is needs = absurd needs
 
 -- a write is asked for
-pub writes-step : (site : Site) (n : ℕ) (k : List ℕ) (w : Write) → step so_far site n (writing k w) ≡ with_txn site n (λ s t. set_key site n t k w)
+pub writes-step : (site : Site) (n : ℕ) (k : List ℕ) (w : Write) → step site n (writing k w) ≡ with_txn site n (λ s t. set_key site n t k w)
 writes-step site n k (Value v) = refl
 writes-step site n k Deletion = refl
 
 pub gave-write : (old new : Core) (n : ℕ) (k : List ℕ) (w : Write) (result : Result Reply Stop) →
-    ((site : Site) → CoreStands old site → IsSound so_far site → GivesOrStops (CoreStands new) (with_txn site n (λ s t. set_key site n t k w)) site result) → Gave old new n (writing k w) result
+    ((site : Site) → CoreStands old site → IsSound site → GivesOrStops (CoreStands new) (with_txn site n (λ s t. set_key site n t k w)) site result) → Gave old new n (writing k w) result
 gave-write old new n k w result gave site stands sound = subst (λ a. GivesOrStops (CoreStands new) a site result) (sym (writes-step site n k w)) (gave site stands sound)

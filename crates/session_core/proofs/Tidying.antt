@@ -24,7 +24,6 @@ use Rattle.merge_txn.specs.declared.Txn.{Txn as Kept}
 use Rattle.merge_txn.specs.declared.Txn.TheVariants.{Single as KeptSingle, Merge as KeptMerge}
 use Rattle.path_compress.specs.Together.{are_under_floors, StandTogether, KeepsNumbers, KeepsPromises, KeepsUncollected}
 use Rattle.plain_site.specs.Site.{Site, own_floor, read_states}
-use Rattle.plain_site.specs.Built.{Built}
 use Rattle.plain_site.specs.Sound.{IsSound}
 use Rattle.plain_site.specs.FloorSteps.{tidy}
 use Rattle.plain_site.proofs.SoundTidies.{tidy-keeps}
@@ -46,8 +45,8 @@ any-floor p (f ∷ fs) zero l t = or_left (p f) (list_any p fs) t
 any-floor p (f ∷ fs) (suc i) l t = or_right (p f) (list_any p fs) (any-floor p fs i (omega arith) t)
 
 -- each open ceiling is under a floor: the own one
-ceilings-under : (built : Built) (site : Site) → IsSound built site → IsTrue (are_under_floors site.dag site.floors site.sessions)
-ceilings-under built site sound = each site.sessions sound.under_floor
+ceilings-under : (site : Site) → IsSound site → IsTrue (are_under_floors site.dag site.floors site.sessions)
+ceilings-under site sound = each site.sessions sound.under_floor
   where
     within : site.own - 1 < length site.floors
     within =
@@ -65,21 +64,21 @@ ceilings-under built site sound = each site.sessions sound.under_floor
         (any-floor (λ f. is_above site.dag f.state s.1.ceiling) site.floors (site.own - 1) within parts.0) (each ss parts.1)
 
 -- store and book of a site in memory stand together
-pub core-together : (built : Built) (core : Core) (site : Site) → CoreStands core site → IsSound built site → StandTogether core.store core.book site.dag site.collected
-core-together built core site stands sound = record {
+pub core-together : (core : Core) (site : Site) → CoreStands core site → IsSound site → StandTogether core.store core.book site.dag site.collected
+core-together core site stands sound = record {
   history = stands.store;
   placed = stands.placed;
-  under_floors = ap₂ (are_under_floors site.dag) stands.floors stands.sessions ∙ ceilings-under built site sound;
+  under_floors = ap₂ (are_under_floors site.dag) stands.floors stands.sessions ∙ ceilings-under site sound;
 }
 
 -- ===== The transactions
 
 -- what an open transaction reads isn't collected
-reads-uncollected : (built : Built) (site : Site) (xs : List StateId) (n : ℕ) (s : Session) → IsSound built site → entry_of n site.sessions ≡ Some s → IsTrue (list_all (is_admitted site.dag s.ceiling) xs) →
+reads-uncollected : (site : Site) (xs : List StateId) (n : ℕ) (s : Session) → IsSound site → entry_of n site.sessions ≡ Some s → IsTrue (list_all (is_admitted site.dag s.ceiling) xs) →
     (x : StateId) → IsTrue (is_among x xs) → IsFalse (is_among x site.collected)
-reads-uncollected built site xs n s sound opened admitted x among =
+reads-uncollected site xs n s sound opened admitted x among =
     false_from_ne_true (is_among x site.collected) (λ gone.
-    both_ways (is_admitted site.dag s.ceiling x) (collected-are-never-admitted built site n s x sound opened gone) (all-at (is_admitted site.dag s.ceiling) xs x admitted among))
+    both_ways (is_admitted site.dag s.ceiling x) (collected-are-never-admitted site n s x sound opened gone) (all-at (is_admitted site.dag s.ceiling) xs x admitted among))
 
 module _ (old new : Table) (ks : List StateId) (stays : KeepsUncollected old new ks) where
   names-stay : (ss : List Slot) (xs : List StateId) → ((x : StateId) → IsTrue (is_among x xs) → IsFalse (is_among x ks)) → map (id_at old) ss ≡ map (λ x. Some x) xs → map (id_at new) ss ≡ map (λ x. Some x) xs
@@ -104,7 +103,7 @@ named-slots table (KeptMerge t) named = named-are_slots table t.slots t.states n
 
 -- ===== After
 
-module _ (built : Built) (core : Core) (store : Store) (book : Book) (site : Site) (n : ℕ) (stands : CoreStands core site) (sound : IsSound built site)
+module _ (core : Core) (store : Store) (book : Book) (site : Site) (n : ℕ) (stands : CoreStands core site) (sound : IsSound site)
     (keeps : KeepsUncollected core.store.table store.table (tidied n site.dag (floors_of core.book) site.collected)) where
   abbrev after : Site
   after = (tidy site n).0
@@ -116,10 +115,10 @@ module _ (built : Built) (core : Core) (store : Store) (book : Book) (site : Sit
   txns-named : (m : ℕ) (t : Kept) → entry_of m core.txns ≡ Some t → IsNamed store.table t
   txns-named m t is =
       let found = kept-for core site stands m t is in
-      let still = tidy-keeps built site n sound in
+      let still = tidy-keeps site n sound in
       let was = still.each_txn m (txn_of t) found in
       named-stays core.store.table store.table (tidied n site.dag site.floors site.collected) (subst (KeepsUncollected core.store.table store.table) same-collected keeps) t
-      (reads-uncollected built after (read_states (txn_of t)) m was.0 still was.1 was.2.admitted) (stands.slots m t is)
+      (reads-uncollected after (read_states (txn_of t)) m was.0 still was.1 was.2.admitted) (stands.slots m t is)
 
   pub tidy-gives : (count : ℕ) → KeepsNumbers core.store.table store.table → KeepsPromises core.book book →
       StandTogether store book site.dag (tidied n site.dag (floors_of core.book) site.collected) →
@@ -143,12 +142,12 @@ module _ (built : Built) (core : Core) (store : Store) (book : Book) (site : Sit
       )
 
 -- and what always holds of the memory holds
-pub tidy-held : (built : Built) (a : Inside) (store : Store) (book : Book) (site : Site) (n : ℕ) → CoreStands (seen a) site → IsSound built site →
+pub tidy-held : (a : Inside) (store : Store) (book : Book) (site : Site) (n : ℕ) → CoreStands (seen a) site → IsSound site →
     KeepsUncollected a.store.table store.table (tidied n site.dag (floors_of a.book) site.collected) → IsHeld a → KeepsNumbers a.store.table store.table → KeepsPromises a.book book → AreSlots book store.table →
     IsHeld (record a { store = store; book = book })
-tidy-held built a store book site n stands sound keeps held numbers promises slots = record {
+tidy-held a store book site n stands sound keeps held numbers promises slots = record {
   places = slots;
-  slots = λ m t is. named-slots store.table t (txns-named built (seen a) store book site n stands sound keeps m t is);
+  slots = λ m t is. named-slots store.table t (txns-named (seen a) store book site n stands sound keeps m t is);
   floors = ap length promises.floors ∙ held.floors ∙ sym (ap (λ (l : Limits). l.sites) numbers.limits);
   room = held.room;
 }

@@ -10,7 +10,6 @@ use Rattle.merge_txn.specs.declared.Txn.TheVariants.{Single as KeptSingle, Merge
 use Rattle.merge_txn.specs.declared.TxnFault.{TxnFault}
 use Rattle.merge_txn.specs.Txns.{writes_of, has_no_place_to_write, put_fault}
 use Rattle.plain_site.specs.Site.{Site, writes_of as plain_writes, with_txn_changed}
-use Rattle.plain_site.specs.Built.{so_far}
 use Rattle.plain_site.specs.Sound.{IsSound}
 use Rattle.plain_site.specs.Answers.{Answer, with_txn}
 use Rattle.plain_site.specs.Reads.{set_key, having_written}
@@ -38,7 +37,7 @@ put-names : (table : Table) (k : List ℕ) (w : Write) (t : Kept) → IsNamed ta
 put-names table k w (KeptSingle t) named = named
 put-names table k w (KeptMerge t) named = named
 
-module _ (core : Core) (site : Site) (stands : CoreStands core site) (sound : IsSound so_far site) (n : ℕ) (k : List ℕ) (w : Write) (es : List (ℕ × Kept)) where
+module _ (core : Core) (site : Site) (stands : CoreStands core site) (sound : IsSound site) (n : ℕ) (k : List ℕ) (w : Write) (es : List (ℕ × Kept)) where
   abbrev setting : Answer
   setting = with_txn site n (λ s t. set_key site n t k w)
 

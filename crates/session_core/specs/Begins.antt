@@ -11,7 +11,6 @@ use Rattle.state_dag.specs.Table.{id_at}
 use Rattle.begin_rule.specs.declared.BeginFault.{BeginFault}
 use Rattle.begin_rule.specs.Choices.{ChosenAs}
 use Rattle.plain_site.specs.Site.{Site}
-use Rattle.plain_site.specs.Built.{so_far}
 use Rattle.plain_site.specs.Sound.{IsSound}
 use Rattle.plain_site.specs.Sessions.{begun}
 use Rattle.plain_site.specs.Merges.{merging, in_order}
@@ -23,7 +22,7 @@ use Rattle.session_core.specs.Gives.{GivesOrStops}
 -- the slot of the state at which the open session is to begin, or why it may not
 abbrev pub ChoosesFor : Core → ℕ → Begin → Result Slot BeginFault → Type 0
 ChoosesFor core n b result =
-    (site : Site) → CoreStands core site → IsSound so_far site → (s : Session) → entry_of n site.sessions ≡ Some s → ChosenAs core.store.table site.dag s.ceiling (begin_state site.dag s.last b) result
+    (site : Site) → CoreStands core site → IsSound site → (s : Session) → entry_of n site.sessions ≡ Some s → ChosenAs core.store.table site.dag s.ceiling (begin_state site.dag s.last b) result
 
 -- the session begins at the state of the slot
 abbrev pub BeginsAt : Core → Core → ℕ → Slot → Result Reply Stop → Type 0

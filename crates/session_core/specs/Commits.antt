@@ -13,7 +13,6 @@ use Rattle.state_dag.specs.Table.{id_at}
 use Rattle.record_store.specs.Answers.{MayArrive}
 use Rattle.merge_txn.specs.declared.SingleTxn.{SingleTxn as OneKept}
 use Rattle.plain_site.specs.Site.{Site, Txn, SingleTxn, Single, own_count, writes_of, next_record}
-use Rattle.plain_site.specs.Built.{so_far}
 use Rattle.plain_site.specs.Sound.{IsSound}
 use Rattle.plain_site.specs.Commits.{commit_at, commit_below}
 use Rattle.session_core.specs.declared.stops.Stop.{Stop}
@@ -34,11 +33,11 @@ NextMayArrive site xs ws = own_count site ≢ 4294967295 → MayArrive site.limi
 -- the session's single transaction commits below the state of this slot
 abbrev pub CommitsAt : Core → Core → ℕ → Slot → EndFlags → ℕ → Result Reply Stop → Type 0
 CommitsAt old new n slot flags k result =
-    (site : Site) → CoreStands old site → IsSound so_far site → (t : SingleTxn) (x : StateId) → entry_of n site.txns ≡ Some (Single t) → id_at old.store.table slot ≡ Some x →
-    NextMayArrive site (x ∷ []) t.writes → GivesOrStops (CoreStands new) (commit_at so_far site n t flags k x) site result
+    (site : Site) → CoreStands old site → IsSound site → (t : SingleTxn) (x : StateId) → entry_of n site.txns ≡ Some (Single t) → id_at old.store.table slot ≡ Some x →
+    NextMayArrive site (x ∷ []) t.writes → GivesOrStops (CoreStands new) (commit_at site n t flags k x) site result
 
 -- the session's transaction commits below the states of these slots
 abbrev pub CommitsBelow : Core → Core → ℕ → List Slot → Result Reply Stop → Type 0
 CommitsBelow old new n below result =
     (site : Site) → CoreStands old site → (t : Txn) (xs : List StateId) → entry_of n site.txns ≡ Some t → map (id_at old.store.table) below ≡ map (λ x. Some x) xs →
-    NextMayArrive site xs (writes_of t) → GivesOrStops (CoreStands new) (commit_below so_far site n xs (writes_of t) []) site result
+    NextMayArrive site xs (writes_of t) → GivesOrStops (CoreStands new) (commit_below site n xs (writes_of t) []) site result

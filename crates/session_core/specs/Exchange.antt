@@ -10,7 +10,6 @@ use Rattle.ceiling_book.specs.declared.consents.ConsentEnd.TheVariants.{Applied,
 use Rattle.site_exchange.specs.declared.judging.Judged.{Judged}
 use Rattle.site_exchange.specs.Judgements.{reply_of, first_reply, IsAddable}
 use Rattle.plain_site.specs.Site.{Site}
-use Rattle.plain_site.specs.Built.{so_far}
 use Rattle.plain_site.specs.Sound.{IsSound}
 use Rattle.plain_site.specs.Answers.{unless}
 use Rattle.plain_site.specs.Commits.{with_record, growth_refusals}
@@ -30,13 +29,13 @@ consent_reply (Refused refusal) = Err (RefusedAs refusal)
 
 -- the record is judged as each sound site judges it for which this stands; or there was no memory
 abbrev pub JudgedAs : Core → Record → Result Judged OutOfMemory → Type 0
-JudgedAs core r result = (site : Site) → CoreStands core site → IsSound so_far site → IfOk result (λ judged. reply_of judged ≡ first_reply (judgements site r))
+JudgedAs core r result = (site : Site) → CoreStands core site → IsSound site → IfOk result (λ judged. reply_of judged ≡ first_reply (judgements site r))
 
 -- a fit record arrives, where the site may grow by it
 abbrev pub ArrivesAs : Core → Core → Record → Result Reply Stop → Type 0
 ArrivesAs old new r result =
-    (site : Site) → CoreStands old site → IsSound so_far site → first_reply (judgements site r) ≡ None →
-    GivesOrStops (CoreStands new) (unless site (growth_refusals so_far site r) (with_record r site, IsApplied)) site result
+    (site : Site) → CoreStands old site → IsSound site → first_reply (judgements site r) ≡ None →
+    GivesOrStops (CoreStands new) (unless site (growth_refusals site r) (with_record r site, IsApplied)) site result
 
 -- a record waits at this place, and the store may take it
 pub record MaySettle (core : Core) (place : ℕ) : Type 0 where
@@ -46,10 +45,10 @@ pub record MaySettle (core : Core) (place : ℕ) : Type 0 where
 -- the first fit record waits at this place; or none is fit; or there was no memory
 abbrev pub FindsFit : Core → Result (Option ℕ) OutOfMemory → Type 0
 FindsFit core result =
-    (site : Site) → CoreStands core site → IsSound so_far site → IfOk result (λ found. option_map (λ fit. fit.0) (first_fit_record site) ≡ found)
+    (site : Site) → CoreStands core site → IsSound site → IfOk result (λ found. option_map (λ fit. fit.0) (first_fit_record site) ≡ found)
 
 -- the fit record at this place is settled
 abbrev pub SettlesAt : Core → Core → ℕ → Result Reply Stop → Type 0
 SettlesAt old new place result =
-    (site : Site) → CoreStands old site → IsSound so_far site → (r : Record) → slice_get site.waiting place ≡ Some r → first_reply (judgements site r) ≡ None →
-    GivesOrStops (CoreStands new) (settle_record so_far site (place, r)) site result
+    (site : Site) → CoreStands old site → IsSound site → (r : Record) → slice_get site.waiting place ≡ Some r → first_reply (judgements site r) ≡ None →
+    GivesOrStops (CoreStands new) (settle_record site (place, r)) site result

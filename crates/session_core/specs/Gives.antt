@@ -7,7 +7,6 @@ use Rattle.plain_dag.specs.Entries.{entry_of}
 use Rattle.plain_dag.specs.Floors.{Session}
 use Rattle.plain_site.specs.Site.{Site}
 use Rattle.plain_site.specs.Answers.{Answer, refused}
-use Rattle.plain_site.specs.Built.{so_far}
 use Rattle.plain_site.specs.Sound.{IsSound}
 use Rattle.session_core.specs.Core.{Core}
 use Rattle.session_core.specs.Stands.{CoreStands}
@@ -35,12 +34,12 @@ GivesOrStops stands answer old (Err stop) = Stops stands answer old stop
 
 -- for each sound site that it stood for, it gives the plain answer, or stops
 abbrev pub Answers : Core → Core → Result Reply Stop → (Site → Answer) → Type 0
-Answers old new result answer = (site : Site) → CoreStands old site → IsSound so_far site → GivesOrStops (CoreStands new) (answer site) site result
+Answers old new result answer = (site : Site) → CoreStands old site → IsSound site → GivesOrStops (CoreStands new) (answer site) site result
 
 -- so for its open session
 abbrev pub AnswersIn : Core → Core → ℕ → Result Reply Stop → (Site → Session → Answer) → Type 0
 AnswersIn old new n result answer =
-    (site : Site) → CoreStands old site → IsSound so_far site → (s : Session) → entry_of n site.sessions ≡ Some s → GivesOrStops (CoreStands new) (answer site s) site result
+    (site : Site) → CoreStands old site → IsSound site → (s : Session) → entry_of n site.sessions ≡ Some s → GivesOrStops (CoreStands new) (answer site s) site result
 
 -- it isn't memory that is wanting
 abbrev pub NeedsNoMemory : {A : Type 0} → Result A Stop → Type 0

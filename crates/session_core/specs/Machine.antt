@@ -1,7 +1,7 @@
 -- What the machine over the parts stands for, and what it answers.
-use Rattle.std.specs.Prelude.{◌≡◌, ◌≤◌, ℕ, List, [], length, Some, None, Result, Ok, Err, IsTrue}
+use Rattle.std.specs.Prelude.{◌≡◌, ◌≤◌, ℕ, List, [], length, Option, Some, None, Result, Ok, Err, IsTrue}
 use Rattle.tardis_base.specs.Sizes.{longest_frame}
-use Rattle.tardis_base.specs.declared.replies.Refusal.{Refusal}
+use Rattle.tardis_base.specs.declared.replies.Refusal.TheVariants.{Malformed}
 use Rattle.tardis_base.specs.declared.replies.Reply.{Reply}
 use Rattle.tardis_base.specs.declared.replies.Reply.TheVariants.{NoMemory}
 use Rattle.tardis_base.specs.declared.ids.StateId.{StateId}
@@ -10,7 +10,7 @@ use Rattle.tardis_base.specs.declared.records.Write.TheVariants.{Put as Value, D
 use Rattle.tardis_base.specs.declared.requests.Request.{Request}
 use Rattle.tardis_base.specs.declared.requests.Request.TheVariants.{Put, Delete}
 use Rattle.wire_talk.specs.Spellings.{reply_spelling}
-use Rattle.wire_talk.specs.Valid.{is_request, is_refusal, is_reply}
+use Rattle.wire_talk.specs.Valid.{is_request, is_reply}
 use Rattle.wire_talk.specs.RequestReadings.{request_of}
 use Rattle.tardis_base.specs.Keys.{write_of}
 use Rattle.plain_dag.specs.Entries.{entry_of}
@@ -18,7 +18,6 @@ use Rattle.plain_dag.specs.Writers.{read}
 use Rattle.merge_txn.specs.declared.SingleTxn.{SingleTxn as OneKept}
 use Rattle.merge_txn.specs.declared.Txn.TheVariants.{Single as KeptSingle}
 use Rattle.plain_site.specs.Site.{Site, opening, with_txn_changed}
-use Rattle.plain_site.specs.Built.{so_far}
 use Rattle.plain_site.specs.Sound.{IsSound}
 use Rattle.plain_site.specs.Answers.{Answer, refused, with_txn, found}
 use Rattle.plain_site.specs.Reads.{get, having_read}
@@ -30,7 +29,7 @@ use Rattle.session_core.specs.declared.stops.Stop.{Stop}
 
 -- it stands for the plain site, which is sound
 abbrev pub SiteStands : Core → Site → Type 0
-SiteStands core site = CoreStands core site × IsSound so_far site
+SiteStands core site = CoreStands core site × IsSound site
 
 -- the plain site with which it opened, by its limits and its own number
 abbrev pub opened_with : Core → Site
@@ -47,10 +46,10 @@ abbrev pub GivesBytes : {E : Type 0} → (Site → Type 0) → Answer → Site �
 GivesBytes stands answer old (Ok done) bytes = stands answer.0 × (bytes ≡ reply_spelling answer.1)
 GivesBytes stands answer old (Err fault) bytes = stands old × (bytes ≡ [])
 
--- what the bytes ask for: the request that they spell; or what they are refused with, at any site
-abbrev pub AsksFor : List ℕ → Result Request Refusal → Type 0
-AsksFor bytes (Ok q) = IsTrue (is_request q) × (request_of bytes ≡ Some q) × ((site : Site) (n : ℕ) → step_over_bytes so_far site (n, bytes) ≡ step so_far site n q)
-AsksFor bytes (Err refusal) = IsTrue (is_refusal refusal) × ((site : Site) (n : ℕ) → step_over_bytes so_far site (n, bytes) ≡ refused site refusal)
+-- what the bytes ask for: the request that they spell; or nothing, and they are malformed, at any site
+abbrev pub AsksFor : List ℕ → Option Request → Type 0
+AsksFor bytes (Some q) = IsTrue (is_request q) × (request_of bytes ≡ Some q) × ((site : Site) (n : ℕ) → step_over_bytes site (n, bytes) ≡ step site n q)
+AsksFor bytes None = (site : Site) (n : ℕ) → step_over_bytes site (n, bytes) ≡ refused site Malformed
 
 -- the answer to a read of the key
 abbrev pub reading : Site → ℕ → List ℕ → Answer
@@ -75,9 +74,9 @@ NotesOrStops stands site n k x (Err stop) = Stops stands (reading site n k) site
 -- the session's single transaction, which hasn't written to the key, reads it, and the read is noted
 abbrev pub NotesRead : Core → Core → ℕ → List ℕ → Result (Unit {0}) Stop → Type 0
 NotesRead old new n k result =
-    (site : Site) → CoreStands old site → IsSound so_far site → (t : OneKept) → entry_of n old.txns ≡ Some (KeptSingle t) → write_of k t.writes ≡ None →
+    (site : Site) → CoreStands old site → IsSound site → (t : OneKept) → entry_of n old.txns ≡ Some (KeptSingle t) → write_of k t.writes ≡ None →
     NotesOrStops (CoreStands new) site n k t.state result
 
 -- the reply to a read of the key is written, or a stop and no byte
 abbrev pub Wrote : Core → Core → ℕ → List ℕ → Result (Unit {0}) Stop → List ℕ → Type 0
-Wrote old new n k result out = (site : Site) → CoreStands old site → IsSound so_far site → WritesOrStops (CoreStands new) (reading site n k) site result out
+Wrote old new n k result out = (site : Site) → CoreStands old site → IsSound site → WritesOrStops (CoreStands new) (reading site n k) site result out

@@ -8,7 +8,6 @@ use Rattle.ceiling_book.specs.Places.{ArePlaced}
 use Rattle.merge_txn.specs.declared.Txn.{Txn as Kept}
 use Rattle.merge_txn.specs.declared.Txn.TheVariants.{Single as KeptSingle, Merge as KeptMerge}
 use Rattle.plain_site.specs.Site.{Site, Txn, Single, Merge}
-use Rattle.plain_site.specs.Built.{so_far}
 use Rattle.plain_site.specs.Sound.{IsSound}
 use Rattle.session_core.specs.Core.{Core}
 use Rattle.session_core.specs.Txns.{IsNamed}
@@ -37,4 +36,4 @@ pub record CoreStands (core : Core) (site : Site) : Type 0 where
 pub record StandsForSite (core : Core) : Type 0 where
   pub site : Site
   pub stands : CoreStands core site
-  pub sound : IsSound so_far site
+  pub sound : IsSound site

@@ -1,6 +1,6 @@
 //! The site as a machine over bytes.
 
-ghost use Rattle.std.specs.Prelude.{◌≡◌, ◌≤◌, Some, Ok, [], true, false, length, IsTrue, IsOk, IfOk, IfSome};
+ghost use Rattle.std.specs.Prelude.{◌≡◌, ◌≤◌, Some, [], true, false, length, IsTrue, IsOk, IfOk, IfSome};
 ghost use Rattle.std.specs.List.{list_all};
 ghost use Rattle.std.specs.Option.{option_map_or};
 ghost use Rattle.tardis_base.specs.Sizes.{longest_frame};
@@ -12,7 +12,6 @@ ghost use Rattle.wire_talk.specs.RequestReadings.{request_of};
 ghost use Rattle.wire_talk.specs.Spellings.{reply_spelling};
 ghost use Rattle.wire_talk.specs.Valid.{is_request, is_reply};
 ghost use Rattle.plain_site.specs.Site.{Site};
-ghost use Rattle.plain_site.specs.Built.{so_far};
 ghost use Rattle.plain_site.specs.Sound.{IsSound};
 ghost use Rattle.plain_site.specs.Answers.{found as reply_to};
 ghost use Rattle.plain_site.specs.Step.{step, step_over_bytes, is_sure};
@@ -20,7 +19,6 @@ ghost use Rattle.session_core.specs.Stands.{CoreStands, StandsForSite};
 ghost use Rattle.session_core.specs.Guards.{HasTxn};
 ghost use Rattle.session_core.specs.Machine.{AsksFor, SiteStands, GivesBytes, opened_with, Wrote};
 
-use crate::dispatch::is_built;
 use crate::reads_and_writes::own_write;
 use crate::stops::Stop;
 use crate::{Parts, SiteCore};
@@ -32,21 +30,15 @@ use tardis_base::{
 };
 use wire_talk::{key_of_get, read_request, talk_has_one_spelling, write_reply, write_value_reply};
 
-/// The request that the bytes spell, or why they are refused. An operation that isn't built is told by its first byte,
-/// whatever follows; other bytes that spell no request are malformed.
-fn asked(alloc: Global, bytes: &[u8]) -> Result<Result<Request, Refusal>, NoMemory>
+/// The request that the bytes spell; None of other bytes, which are malformed.
+fn asked(alloc: Global, bytes: &[u8]) -> Result<Option<Request>, NoMemory>
     ensures asked { IfOk result (λ asked. AsksFor bytes.now asked) }
     ensures sure { (q : Request) → request_of bytes.now ≡ Some q → IsTrue (is_sure q) → IsOk result }
 {
     talk_has_one_spelling();
-    if let Some(op) = bytes.first() {
-        if (1..=22).contains(op) && !is_built(*op) {
-            return Ok(Err(Refusal::Unsupported { op: *op }));
-        }
-    }
     match read_request(alloc, bytes) {
-        Ok(request) => Ok(Ok(request)),
-        Err(ReadFault::Malformed) => Ok(Err(Refusal::Malformed)),
+        Ok(request) => Ok(Some(request)),
+        Err(ReadFault::Malformed) => Ok(None),
         Err(ReadFault::NoMemory) => Err(NoMemory),
     }
 }
@@ -55,7 +47,7 @@ fn asked(alloc: Global, bytes: &[u8]) -> Result<Result<Request, Refusal>, NoMemo
 ///
 /// A Get is told apart first, since a `Request` is as large as the fields of all of them, and dear to move.
 fn asked_key(alloc: Global, bytes: &[u8]) -> Result<Option<Key>, NoMemory>
-    ensures key { IfOk result (λ asked. IfSome asked (λ key. AsksFor bytes.now (Ok (Request.Get key)))) }
+    ensures key { IfOk result (λ asked. IfSome asked (λ key. AsksFor bytes.now (Some (Request.Get key)))) }
     ensures sure { (q : Request) → request_of bytes.now ≡ Some q → IsTrue (is_sure q) → IsOk result }
 {
     talk_has_one_spelling();
@@ -129,7 +121,7 @@ impl Parts {
         requires key { IsTrue (is_key key.now) }
         requires empty { out.old ≡ [] }
         requires stands { StandsForSite self.now }
-        requires found { (site : Site) → CoreStands self.now site → IsSound so_far site → HasTxn self.now.store.table site actor (Txn.Merge merge.now) }
+        requires found { (site : Site) → CoreStands self.now site → IsSound site → HasTxn self.now.store.table site actor (Txn.Merge merge.now) }
         ensures { Wrote self.now self.now actor key.now result out.new }
     {
         match self.found_over(merge, key) {
@@ -148,7 +140,7 @@ impl SiteCore {
         requires key { IsTrue (is_key key.now) }
         requires empty { out.old ≡ [] }
         ensures given { (site : Site) → SiteStands self.old site
-            → GivesBytes (SiteStands self.new) (step so_far site actor (Request.Get key.now)) site result out.new }
+            → GivesBytes (SiteStands self.new) (step site actor (Request.Get key.now)) site result out.new }
         ensures opening { opened_with self.new ≡ opened_with self.old }
     {
         match self.parts.get_into(actor, key, out) {
@@ -165,7 +157,7 @@ impl SiteCore {
     fn reply(&mut self, actor: u16, request: Request, out: &mut ReplyBuf) -> Result<(), NoMemory>
         requires valid { IsTrue (is_request request) }
         requires empty { out.old ≡ [] }
-        ensures given { (site : Site) → SiteStands self.old site → GivesBytes (SiteStands self.new) (step so_far site actor request) site result out.new }
+        ensures given { (site : Site) → SiteStands self.old site → GivesBytes (SiteStands self.new) (step site actor request) site result out.new }
         ensures sure { IsTrue (is_sure request) → IsOk result }
         ensures opening { opened_with self.new ≡ opened_with self.old }
     {
@@ -205,13 +197,14 @@ impl SiteCore {
     ) -> Result<(), NoMemory>
         requires empty { out.old ≡ [] }
         ensures given { (site : Site) → SiteStands self.old site
-            → GivesBytes (SiteStands self.new) (step_over_bytes so_far site (actor, request.now)) site result out.new }
+            → GivesBytes (SiteStands self.new) (step_over_bytes site (actor, request.now)) site result out.new }
         ensures sure { option_map_or is_sure (request_of request.now) false ≡ true → IsOk result }
         ensures opening { opened_with self.new ≡ opened_with self.old }
     {
         match asked(self.parts.alloc, request)? {
-            Ok(request) => self.reply(actor, request, out),
-            Err(refusal) => {
+            Some(request) => self.reply(actor, request, out),
+            None => {
+                let refusal = Refusal::Malformed;
                 give(Reply::Refused { refusal }, out);
                 Ok(())
             },
@@ -221,13 +214,12 @@ impl SiteCore {
 
 impl Machine for SiteCore {
     ghost use Rattle.plain_site.specs.Site.{Site};
-    ghost use Rattle.plain_site.specs.Built.{so_far};
     ghost use Rattle.plain_site.specs.Step.{site_machine};
     ghost use Rattle.session_core.specs.Machine.{SiteStands, opened_with};
 
     ghost Plain = { Site };
 
-    ghost plain = { site_machine so_far };
+    ghost plain = { site_machine };
 
     ghost stands = { SiteStands };
 

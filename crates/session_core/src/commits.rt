@@ -6,7 +6,6 @@ ghost use Rattle.tardis_base.specs.declared.ids.StateId.{StateId};
 ghost use Rattle.state_dag.specs.Table.{is_slot};
 ghost use Rattle.ceiling_book.specs.Book.{is_open};
 ghost use Rattle.plain_site.specs.Site.{Site};
-ghost use Rattle.plain_site.specs.Built.{so_far};
 ghost use Rattle.plain_site.specs.Answers.{with_txn};
 ghost use Rattle.plain_site.specs.Commits.{commit as commit_txn, abort, without_txn_of};
 ghost use Rattle.session_core.specs.Stands.{CoreStands};
@@ -34,7 +33,7 @@ impl Parts {
     /// The cost is that of `RecordStore::commit`, and before it that of `ripple_commit::landing`, or for a merge that of
     /// `conflict_keys::open_conflict`. Where a single one wrote nothing, it is that of looking the transaction up.
     pub(crate) fn commit(&mut self, actor: u16, flags: EndFlags, k: u16) -> Result<Reply, Stop>
-        ensures { Answers self.old self.new result (λ site. with_txn site actor (λ s t. commit_txn so_far site actor t flags k)) }
+        ensures { Answers self.old self.new result (λ site. with_txn site actor (λ s t. commit_txn site actor t flags k)) }
     {
         self.session(actor)?;
         match self.open_txn(actor)? {

@@ -1,10 +1,9 @@
-//! Which operations there are, which of them are built, and the step of a site: a request, and the reply to it.
+//! The step of a site: a request, and the reply to it.
 
 ghost use Rattle.std.specs.Prelude.{◌≡◌, IsTrue, IsOk, IfOk, OnOk, OnErr};
 ghost use Rattle.wire_item.specs.Valid.{is_item};
 ghost use Rattle.wire_talk.specs.Valid.{is_request};
 ghost use Rattle.plain_site.specs.Site.{Site};
-ghost use Rattle.plain_site.specs.Built.{so_far};
 ghost use Rattle.plain_site.specs.Step.{step, is_sure};
 ghost use Rattle.plain_site.specs.Exchange.{deliver};
 ghost use Rattle.session_core.specs.Gives.{Answers, Gives, IsGiven, NeedsNoMemory, ToldAs};
@@ -15,19 +14,12 @@ use crate::stops::Stop;
 use crate::{Parts, SiteCore};
 use tardis_base::{Item, Key, NoMemory, Reply, Request, Write};
 
-/// Whether the operation of this code is built.
-pub fn is_built(op: u8) -> bool
-    ensures { result ≡ so_far.operation op }
-{
-    matches!(op, 1..=22)
-}
-
 impl Parts {
-    /// Answers the actor's request by its own method. What isn't built is refused before all else.
+    /// Answers the actor's request by its own method.
     fn serve(&mut self, actor: u16, request: &Request) -> Result<Reply, Stop>
         requires request { IsTrue (is_request request.now) }
         requires stands { StandsForSite self.old }
-        ensures given { Answers self.old self.new result (λ site. step so_far site actor request.now) }
+        ensures given { Answers self.old self.new result (λ site. step site actor request.now) }
         ensures sure { IsTrue (is_sure request.now) → NeedsNoMemory result }
     {
         match request {
@@ -74,7 +66,7 @@ impl SiteCore {
     /// The reply to the actor's request, which is done.
     pub(crate) fn answer(&mut self, actor: u16, request: &Request) -> Result<Reply, NoMemory>
         requires { IsTrue (is_request request.now) }
-        ensures given { (site : Site) → SiteStands self.old site → Gives (SiteStands self.new) (step so_far site actor request.now) site result }
+        ensures given { (site : Site) → SiteStands self.old site → Gives (SiteStands self.new) (step site actor request.now) site result }
         ensures told { IfOk result (λ reply. IsTold reply) }
         ensures sure { IsTrue (is_sure request.now) → IsOk result }
         ensures opening { opened_with self.new ≡ opened_with self.old }
@@ -85,7 +77,7 @@ impl SiteCore {
     /// The reply to the actor's Put or Delete, which is done. Key and value are moved in.
     pub(crate) fn put(&mut self, actor: u16, key: Key, write: Write) -> Result<Reply, NoMemory>
         requires { IsTrue (is_request (writing key write)) }
-        ensures given { (site : Site) → SiteStands self.old site → Gives (SiteStands self.new) (step so_far site actor (writing key write)) site result }
+        ensures given { (site : Site) → SiteStands self.old site → Gives (SiteStands self.new) (step site actor (writing key write)) site result }
         ensures told { IfOk result (λ reply. IsTold reply) }
         ensures opening { opened_with self.new ≡ opened_with self.old }
     {
@@ -95,7 +87,7 @@ impl SiteCore {
     /// The reply to the delivery of the item, which is done. A record is moved in.
     pub(crate) fn deliver(&mut self, item: Item) -> Result<Reply, NoMemory>
         requires { IsTrue (is_item item) }
-        ensures given { (site : Site) → SiteStands self.old site → Gives (SiteStands self.new) (deliver so_far site item) site result }
+        ensures given { (site : Site) → SiteStands self.old site → Gives (SiteStands self.new) (deliver site item) site result }
         ensures told { IfOk result (λ reply. IsTold reply) }
         ensures opening { opened_with self.new ≡ opened_with self.old }
     {
@@ -112,7 +104,7 @@ impl SiteCore {
     /// each kept state. A Settle judges the waiting records up to the first fit one.
     pub fn step(&mut self, actor: u16, request: &Request, reply: &mut Reply) -> Result<(), NoMemory>
         requires { IsTrue (is_request request.now) }
-        ensures done { OnOk result ((site : Site) → SiteStands self.old site → IsGiven (SiteStands self.new) (step so_far site actor request.now) reply.new) }
+        ensures done { OnOk result ((site : Site) → SiteStands self.old site → IsGiven (SiteStands self.new) (step site actor request.now) reply.new) }
         ensures same { OnErr result ((site : Site) → SiteStands self.old site → SiteStands self.new site) }
         ensures told { OnOk result (IsTold reply.new) }
         ensures untold { OnErr result (reply.new ≡ Reply.NoMemory) }

@@ -9,7 +9,6 @@ ghost use Rattle.state_dag.specs.Table.{is_listed};
 ghost use Rattle.site_exchange.specs.declared.judging.Judged.TheVariants.{Fit};
 ghost use Rattle.site_exchange.specs.Judgements.{reply_of, first_reply, IsAddable};
 ghost use Rattle.plain_site.specs.Site.{Site};
-ghost use Rattle.plain_site.specs.Built.{so_far};
 ghost use Rattle.plain_site.specs.Answers.{refuse_found};
 ghost use Rattle.plain_site.specs.Exchange.{pull as pulled, deliver as delivered, deliver_record as record_delivered};
 ghost use Rattle.plain_site.specs.Exchange.{deliver_consent as consent_delivered, settle as settled};
@@ -43,7 +42,7 @@ impl Parts {
     /// Takes what another site made, or says why not.
     pub(crate) fn deliver(&mut self, item: Item) -> Result<Reply, Stop>
         requires { IsTrue (is_item item) }
-        ensures { Answers self.old self.new result (λ site. delivered so_far site item) }
+        ensures { Answers self.old self.new result (λ site. delivered site item) }
     {
         match item {
             Item::State(record) => self.deliver_record(record),
@@ -59,7 +58,7 @@ impl Parts {
     /// `site_exchange::judge_record`, of `conflict_keys::open_conflict` and of `RecordStore::commit`. The record is moved.
     fn deliver_record(&mut self, rec: Record) -> Result<Reply, Stop>
         requires { IsTrue (is_record rec) }
-        ensures { Answers self.old self.new result (λ site. record_delivered so_far site rec) }
+        ensures { Answers self.old self.new result (λ site. record_delivered site rec) }
     {
         match self.judge(&rec)? {
             Judged::Fit => self.add(rec),
@@ -135,7 +134,7 @@ impl Parts {
     /// Refused where there is no room for it (Full, PathFull); it then goes on waiting. Each record up to the first fit one
     /// is judged, at the cost that a delivery of it has, and what that one writes is copied once.
     pub(crate) fn settle(&mut self) -> Result<Reply, Stop>
-        ensures { Answers self.old self.new result (λ site. settled so_far site) }
+        ensures { Answers self.old self.new result (λ site. settled site) }
     {
         match self.first_fit()? {
             Some(place) => self.settle_at(place),

@@ -2,7 +2,6 @@
 
 ghost use Rattle.std.specs.Prelude.{◌≡◌};
 ghost use Rattle.plain_site.specs.Site.{Site};
-ghost use Rattle.plain_site.specs.Built.{so_far};
 ghost use Rattle.plain_site.specs.Sound.{IsSound};
 ghost use Rattle.plain_site.specs.Answers.{without_txn};
 ghost use Rattle.plain_site.specs.Sessions.{set_ceiling as set_ceiling_of};
@@ -22,7 +21,7 @@ impl Parts {
     /// Refused where no session is open (NotOpen), where it has a transaction (TxnOpen), where there is no such state
     /// (Unknown), and where the ceiling isn't at or above it (CeilingBack). A collected state is above every ceiling.
     pub(crate) fn set_ceiling(&mut self, actor: u16, state: StateId) -> Result<Reply, Stop>
-        ensures given { (site : Site) → CoreStands self.old site → IsSound so_far site
+        ensures given { (site : Site) → CoreStands self.old site → IsSound site
             → GivesOrStops (CoreStands self.new) (without_txn site actor (λ s. set_ceiling_of site actor s state)) site result }
         ensures sure { NeedsNoMemory result }
     {
@@ -53,7 +52,7 @@ impl Parts {
     /// or above the ceiling of an open session (Held), and where no number is left (SeqEnd). A collected state is above
     /// every floor. The cost is that of `CeilingBook::raise`.
     pub(crate) fn raise(&mut self, state: StateId) -> Result<Reply, Stop>
-        ensures given { (site : Site) → CoreStands self.old site → IsSound so_far site → GivesOrStops (CoreStands self.new) (raise_of site state) site result }
+        ensures given { (site : Site) → CoreStands self.old site → IsSound site → GivesOrStops (CoreStands self.new) (raise_of site state) site result }
         ensures sure { NeedsNoMemory result }
     {
         let dag = self.store.dag();
@@ -82,7 +81,7 @@ impl Parts {
     ///
     /// Refused where no number is left (SeqEnd). The cost is that of `CeilingBook::raise_auto`.
     pub(crate) fn raise_auto(&mut self) -> Result<Reply, Stop>
-        ensures given { (site : Site) → CoreStands self.old site → IsSound so_far site → GivesOrStops (CoreStands self.new) (raise_auto_of site) site result }
+        ensures given { (site : Site) → CoreStands self.old site → IsSound site → GivesOrStops (CoreStands self.new) (raise_auto_of site) site result }
         ensures sure { NeedsNoMemory result }
     {
         let dag = self.store.dag();
@@ -100,7 +99,7 @@ impl Parts {
     /// The cost is that of `path_compress::tidy`.
     pub(crate) fn tidy(&mut self, n: u16) -> Reply
         requires { StandsForSite self.old }
-        ensures { (site : Site) → CoreStands self.old site → IsSound so_far site → IsGiven (CoreStands self.new) (tidy_of site n) result }
+        ensures { (site : Site) → CoreStands self.old site → IsSound site → IsGiven (CoreStands self.new) (tidy_of site n) result }
     {
         let collected = path_compress::tidy(&mut self.store, &mut self.book, n);
         Reply::Tidied { collected }

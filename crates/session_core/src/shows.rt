@@ -4,7 +4,6 @@ ghost use Rattle.std.specs.Prelude.{◌≡◌, ◌≤◌, length};
 ghost use Rattle.plain_dag.specs.Floors.{floor_of};
 ghost use Rattle.ceiling_book.specs.Book.{floors_of};
 ghost use Rattle.plain_site.specs.Site.{Site};
-ghost use Rattle.plain_site.specs.Built.{so_far};
 ghost use Rattle.plain_site.specs.Sound.{IsSound};
 ghost use Rattle.plain_site.specs.Shows.{stat as stat_of, show as show_of, site_lines as lines_of, show_leaves, line_of};
 ghost use Rattle.session_core.specs.Stands.{CoreStands};
@@ -18,7 +17,7 @@ impl Parts {
     /// How many states are known and kept, how many leaves there are and open sessions, and a line for each site. It takes
     /// no memory. The cost grows with the number of sites.
     pub(crate) fn stat(&self) -> Reply
-        ensures { (site : Site) → CoreStands self.now site → IsSound so_far site → IsGiven (CoreStands self.now) (stat_of site) result }
+        ensures { (site : Site) → CoreStands self.now site → IsSound site → IsGiven (CoreStands self.now) (stat_of site) result }
     {
         let dag = self.store.dag();
         Reply::Stat {

@@ -5,7 +5,6 @@ ghost use Rattle.std.specs.Prelude.{◌≡◌, None, Some, IsTrue, IfOk, IfErr, 
 ghost use Rattle.plain_dag.specs.Entries.{entry_of};
 ghost use Rattle.ceiling_book.specs.Book.{is_open};
 ghost use Rattle.plain_site.specs.Site.{Site};
-ghost use Rattle.plain_site.specs.Built.{so_far};
 ghost use Rattle.plain_site.specs.Sound.{IsSound};
 ghost use Rattle.session_core.specs.Stands.{CoreStands};
 ghost use Rattle.session_core.specs.Guards.{HasTxn, RefusesAll, RefusesTxns, RefusesBegins};
@@ -197,7 +196,7 @@ impl Parts {
     pub(crate) fn open_txn(&self, actor: u16) -> Result<&Txn, Refusal>
         ensures found { IfOk result (λ txn. entry_of actor self.now.txns ≡ Some txn.now) }
         ensures slots { IfOk result (λ txn. IsTrue (has_slots self.now.store.table txn.now)) }
-        ensures stands { (site : Site) → CoreStands self.now site → IsSound so_far site → IfOk result (λ txn. HasTxn self.now.store.table site actor txn.now) }
+        ensures stands { (site : Site) → CoreStands self.now site → IsSound site → IfOk result (λ txn. HasTxn self.now.store.table site actor txn.now) }
         ensures refused { (site : Site) → CoreStands self.now site → IfErr result (λ refusal. RefusesTxns site actor refusal) }
     {
         match self.txns.get(actor) {

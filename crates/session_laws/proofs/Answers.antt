@@ -3,16 +3,13 @@ use Rattle.std.proofs.Common.{◌≡◌, ℕ, Bool, true, false, not, List, [], 
 use Rattle.std.specs.List.{list_all}
 use Rattle.std.proofs.lemmas.Bool.{and_from}
 use Rattle.tardis_base.specs.declared.replies.Refusal.{Refusal}
-use Rattle.tardis_base.specs.declared.replies.Refusal.TheVariants.{NotOpen, TxnOpen, NoTxn, Unsupported}
+use Rattle.tardis_base.specs.declared.replies.Refusal.TheVariants.{NotOpen, TxnOpen, NoTxn}
 use Rattle.tardis_base.specs.declared.replies.Reply.{Reply}
 use Rattle.tardis_base.specs.declared.requests.Request.{Request}
-use Rattle.wire_talk.specs.Codes.{code_of}
 use Rattle.plain_dag.specs.Entries.{entry_of}
 use Rattle.plain_dag.specs.Floors.{Session}
 use Rattle.plain_site.specs.Site.{Site, Txn}
-use Rattle.plain_site.specs.Built.{Built, is_built}
 use Rattle.plain_site.specs.Answers.{Answer, refused, refuse, refuse_found, unless, given, with_session, with_txn, without_txn}
-use Rattle.plain_site.specs.Step.{served, step}
 use Rattle.plain_site.proofs.SoundAnswers.{AreNone}
 
 -- both answers have this reply
@@ -76,7 +73,3 @@ module _ (a b : Site) where
     no-txn-alike f g txns each =
         session-alike (λ s. given (entry_of n a.txns) (f s) (λ t. refused a TxnOpen)) (λ s. given (entry_of n b.txns) (g s) (λ t. refused b TxnOpen))
         (λ s e. given-alike (entry_of n a.txns) (entry_of n b.txns) (f s) (g s) (λ t. refused a TxnOpen) (λ t. refused b TxnOpen) txns (each s e) (λ t d. refl))
-
-  -- steps are alike where what is built is served alike
-  pub step-alike : (built : Built) (n : ℕ) (q : Request) → ReplyAlike (served built a n q) (served built b n q) → ReplyAlike (step built a n q) (step built b n q)
-  step-alike built n q same = first-alike (refuse (not (is_built built q)) (Unsupported (code_of q))) (refuse (not (is_built built q)) (Unsupported (code_of q))) [] [] (served built a n q) (served built b n q) refl (λ none. same)

@@ -18,7 +18,6 @@ use Rattle.plain_dag.specs.Collection.{is_kept}
 use Rattle.plain_dag.proofs.Landing.{lands-below}
 use Rattle.record_store.specs.Answers.{MayArrive}
 use Rattle.plain_site.specs.Answers.{Answer, refuse, refuse_found, unless}
-use Rattle.plain_site.specs.Built.{so_far}
 use Rattle.plain_site.specs.Commits.{growth_refusals, committed, commit_below, commit_writes, commit_single, commit_merge, commit, without_txn_of}
 use Rattle.plain_site.specs.Site.{Site, SingleTxn, MergeTxn, Txn, Single, Merge, own_count, next_record}
 use Rattle.plain_site.proofs.SoundAnswers.{AreNone, none-parts, found-none}
@@ -38,7 +37,7 @@ arrives sites rs ks r may = record { next = may.next; free = may.kept }
 
 module _ (core : Core) (a b : Site) (on_a : SiteStands core a) (on_b : SiteStands core b) (n : ℕ) where
   -- both sites grow by the record, or neither does
-  pub growth-alike : (r : Record) → Arrives a.dag a.collected r → Arrives b.dag b.collected r → growth_refusals so_far a r ≡ growth_refusals so_far b r
+  pub growth-alike : (r : Record) → Arrives a.dag a.collected r → Arrives b.dag b.collected r → growth_refusals a r ≡ growth_refusals b r
   growth-alike r at_a at_b =
       let table = core.store.table in
       let ha = history table a.dag a.collected on_a.0.store.table in
@@ -55,13 +54,13 @@ module _ (core : Core) (a b : Site) (on_a : SiteStands core a) (on_b : SiteStand
 
   -- the same states below which the record may arrive
   below-here : (xs : List StateId) (ws : List KeyWrite) (ps : List (Option Reply)) → (AreNone ps → own_count a ≢ 4294967295 → Arrives a.dag a.collected (next_record a xs ws)) →
-      (AreNone ps → own_count b ≢ 4294967295 → Arrives b.dag b.collected (next_record b xs ws)) → ReplyAlike (commit_below so_far a n xs ws ps) (commit_below so_far b n xs ws ps)
+      (AreNone ps → own_count b ≢ 4294967295 → Arrives b.dag b.collected (next_record b xs ws)) → ReplyAlike (commit_below a n xs ws ps) (commit_below b n xs ws ps)
   below-here xs ws ps at_a at_b =
       let ra = next_record a xs ws in
       let rb = next_record b xs ws in
       let ended : Site → Option Reply = λ site. refuse (own_count site == 4294967295) SeqEnd in
-      several-alike a b ps (ended a ∷ growth_refusals so_far a ra) (ended b ∷ growth_refusals so_far b rb) (committed a n ra) (committed b n rb)
-      (λ none. first-alike a b (ended a) (ended b) (growth_refusals so_far a ra) (growth_refusals so_far b rb) (committed a n ra) (committed b n rb)
+      several-alike a b ps (ended a ∷ growth_refusals a ra) (ended b ∷ growth_refusals b rb) (committed a n ra) (committed b n rb)
+      (λ none. first-alike a b (ended a) (ended b) (growth_refusals a ra) (growth_refusals b rb) (committed a n ra) (committed b n rb)
       (ap (λ m. refuse (m == 4294967295) SeqEnd) (own-count-alike core a b on_a on_b))
       (λ more.
       let room = unrefused (own_count a == 4294967295) SeqEnd more in
@@ -69,8 +68,8 @@ module _ (core : Core) (a b : Site) (on_a : SiteStands core a) (on_b : SiteStand
       let below_b : own_count b ≢ 4294967295 = λ e. below (own-count-alike core a b on_a on_b ∙ e) in
       let same = record-alike xs ws in
       let here : Arrives b.dag b.collected ra = subst (λ r. Arrives b.dag b.collected r) (sym same) (at_b none below_b) in
-      let grows : growth_refusals so_far a ra ≡ growth_refusals so_far b rb = growth-alike ra (at_a none below) here ∙ ap (growth_refusals so_far b) same in
-      last-alike ra rb (growth_refusals so_far a ra) (growth_refusals so_far b rb) same grows))
+      let grows : growth_refusals a ra ≡ growth_refusals b rb = growth-alike ra (at_a none below) here ∙ ap (growth_refusals b) same in
+      last-alike ra rb (growth_refusals a ra) (growth_refusals b rb) same grows))
     where
       last-alike : (ra rb : Record) (ps qs : List (Option Reply)) → ra ≡ rb → ps ≡ qs → ReplyAlike (unless a ps (committed a n ra)) (unless b qs (committed b n rb))
       last-alike ra rb ps qs same grows =
@@ -83,10 +82,10 @@ module _ (core : Core) (a b : Site) (on_a : SiteStands core a) (on_b : SiteStand
 
   -- so it is below states, and after refusals, that are the same
   below-alike : (xs ys : List StateId) (ws : List KeyWrite) (ps qs : List (Option Reply)) → xs ≡ ys → ps ≡ qs → (AreNone ps → own_count a ≢ 4294967295 → Arrives a.dag a.collected (next_record a xs ws)) →
-      (AreNone qs → own_count b ≢ 4294967295 → Arrives b.dag b.collected (next_record b ys ws)) → ReplyAlike (commit_below so_far a n xs ws ps) (commit_below so_far b n ys ws qs)
+      (AreNone qs → own_count b ≢ 4294967295 → Arrives b.dag b.collected (next_record b ys ws)) → ReplyAlike (commit_below a n xs ws ps) (commit_below b n ys ws qs)
   below-alike xs ys ws ps qs same alike at_a at_b =
-      subst (λ zs. ReplyAlike (commit_below so_far a n xs ws ps) (commit_below so_far b n zs ws qs)) same
-      (subst (λ os. ReplyAlike (commit_below so_far a n xs ws ps) (commit_below so_far b n xs ws os)) alike
+      subst (λ zs. ReplyAlike (commit_below a n xs ws ps) (commit_below b n zs ws qs)) same
+      (subst (λ os. ReplyAlike (commit_below a n xs ws ps) (commit_below b n xs ws os)) alike
       (below-here xs ws ps at_a (λ none more.
       subst (λ zs. Arrives b.dag b.collected (next_record b zs ws)) (sym same) (at_b (subst AreNone alike none) more))))
 
@@ -104,7 +103,7 @@ module _ (core : Core) (a b : Site) (on_a : SiteStands core a) (on_b : SiteStand
       let lands = lands-below a.dag keys t.state on_a.1.dag known in
       and_from (is_known a.dag x) (not (is_among x a.collected)) lands.0 (not_from_false (is_among x a.collected) (below-is-kept a on_a.1 n t d x lands.1))
 
-  writes-alike : (t : SingleTxn) → entry_of n a.txns ≡ Some (Single t) → (flags : EndFlags) (k : ℕ) → ReplyAlike (commit_writes so_far a n t flags k) (commit_writes so_far b n t flags k)
+  writes-alike : (t : SingleTxn) → entry_of n a.txns ≡ Some (Single t) → (flags : EndFlags) (k : ℕ) → ReplyAlike (commit_writes a n t flags k) (commit_writes b n t flags k)
   writes-alike t d flags k =
       let keys = guarded flags t.reads (keys_of t.writes) in
       let x = landing a.dag keys t.state in
@@ -118,12 +117,12 @@ module _ (core : Core) (a b : Site) (on_a : SiteStands core a) (on_b : SiteStand
       (λ none more. arrives a.limits.sites a.dag a.collected (next_record a (x ∷ []) t.writes) (may-arrive a on_a.1 n t d flags more))
       (λ none more. arrives b.limits.sites b.dag b.collected (next_record b (y ∷ []) t.writes) (may-arrive b on_b.1 n t (there_b (Single t) d) flags more))
 
-  single-alike : (t : SingleTxn) → entry_of n a.txns ≡ Some (Single t) → (flags : EndFlags) (k : ℕ) → ReplyAlike (commit_single so_far a n t flags k) (commit_single so_far b n t flags k)
+  single-alike : (t : SingleTxn) → entry_of n a.txns ≡ Some (Single t) → (flags : EndFlags) (k : ℕ) → ReplyAlike (commit_single a n t flags k) (commit_single b n t flags k)
   single-alike t d flags k = go t.writes
     where
       go : (ws : List KeyWrite) →
-          ReplyAlike (elim ws as (λ v. Answer) [ [] ↦ (without_txn_of n a, Ended t.state) | w ∷ more ↦ commit_writes so_far a n t flags k ])
-          (elim ws as (λ v. Answer) [ [] ↦ (without_txn_of n b, Ended t.state) | w ∷ more ↦ commit_writes so_far b n t flags k ])
+          ReplyAlike (elim ws as (λ v. Answer) [ [] ↦ (without_txn_of n a, Ended t.state) | w ∷ more ↦ commit_writes a n t flags k ])
+          (elim ws as (λ v. Answer) [ [] ↦ (without_txn_of n b, Ended t.state) | w ∷ more ↦ commit_writes b n t flags k ])
       go [] = refl
       go (w ∷ more) = writes-alike t d flags k
 
@@ -135,7 +134,7 @@ module _ (core : Core) (a b : Site) (on_a : SiteStands core a) (on_b : SiteStand
       ap (find (λ k. not (has_key k t.writes)))
       (conflict-keys-alike core.store a.dag a.collected b.dag b.collected on_a.0.store on_b.0.store t.states (all-kept core a b on_a on_b n t d))
 
-  merge-alike : (t : MergeTxn) → entry_of n a.txns ≡ Some (Merge t) → (flags : EndFlags) → ReplyAlike (commit_merge so_far a n t flags) (commit_merge so_far b n t flags)
+  merge-alike : (t : MergeTxn) → entry_of n a.txns ≡ Some (Merge t) → (flags : EndFlags) → ReplyAlike (commit_merge a n t flags) (commit_merge b n t flags)
   merge-alike t d flags =
       let mode = refuse (not (flags.0 == 0)) WrongMode in
       let open_at : Option (List ℕ) → List (Option Reply) = λ o. mode ∷ refuse_found OpenConflict o ∷ [] in
@@ -149,6 +148,6 @@ module _ (core : Core) (a b : Site) (on_a : SiteStands core a) (on_b : SiteStand
       let written = found-none OpenConflict conflict_b (none-parts (refuse_found OpenConflict conflict_b) [] (none-parts mode (refuse_found OpenConflict conflict_b ∷ []) none).1).0 in
       arrives b.limits.sites b.dag b.collected (next_record b t.states t.writes) (merge-arrives b on_b.1 n t (there_b (Merge t) d) written more))
 
-  pub commit-alike : (t : Txn) → entry_of n a.txns ≡ Some t → (flags : EndFlags) (k : ℕ) → ReplyAlike (commit so_far a n t flags k) (commit so_far b n t flags k)
+  pub commit-alike : (t : Txn) → entry_of n a.txns ≡ Some t → (flags : EndFlags) (k : ℕ) → ReplyAlike (commit a n t flags k) (commit b n t flags k)
   commit-alike (Single t) d flags k = single-alike t d flags k
   commit-alike (Merge t) d flags k = merge-alike t d flags

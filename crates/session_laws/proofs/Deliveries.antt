@@ -21,7 +21,6 @@ use Rattle.plain_dag.specs.Above.{is_above, is_proper_ancestor}
 use Rattle.plain_dag.specs.Floors.{Floor, floor_of, with_floor, is_closed, opening_floor}
 use Rattle.plain_dag.proofs.Order.{above-reflexive}
 use Rattle.plain_site.specs.Site.{Site}
-use Rattle.plain_site.specs.Built.{so_far}
 use Rattle.plain_site.specs.Sound.{IsSound, may_wait}
 use Rattle.plain_site.specs.Answers.{Answer, when, refuse, unless}
 use Rattle.plain_site.specs.Commits.{with_record, growth_refusals}
@@ -42,7 +41,7 @@ use Rattle.session_laws.proofs.Judged.{unsaid, count-same, judgements-alike}
 use Rattle.session_laws.proofs.Sites.{floors-alike, limits-alike, own-alike, known-same}
 
 -- a closed state is a proper ancestor of the floor of each site
-closed-above : (site : Site) (x : StateId) (n : ℕ) → IsSound so_far site → 1 ≤ n → n ≤ site.limits.sites → IsTrue (is_closed site.dag site.floors x) → IsTrue (is_proper_ancestor site.dag x (floor_of site.floors n).state)
+closed-above : (site : Site) (x : StateId) (n : ℕ) → IsSound site → 1 ≤ n → n ≤ site.limits.sites → IsTrue (is_closed site.dag site.floors x) → IsTrue (is_proper_ancestor site.dag x (floor_of site.floors n).state)
 closed-above site x n sound some within closed =
     let all = sound.one_floor_each in
     let l : n - 1 < length site.floors = omega arith in
@@ -59,7 +58,7 @@ module _ (core : Core) (a b : Site) (on_a : SiteStands core a) (on_b : SiteStand
   -- ===== Records
 
   -- both sites grow by a fit record, or neither does
-  fit-growth : (r : Record) → IsTrue (is_record r) → ◌≡◌ {A = Option Reply} (first_reply (judgements a r)) None → growth_refusals so_far a r ≡ growth_refusals so_far b r
+  fit-growth : (r : Record) → IsTrue (is_record r) → ◌≡◌ {A = Option Reply} (first_reply (judgements a r)) None → growth_refusals a r ≡ growth_refusals b r
   fit-growth r valid e =
       growth-alike core a b on_a on_b 0 r
       (arrives a.limits.sites a.dag a.collected r (fit-arrives a r on_a.1 valid e))
@@ -67,25 +66,25 @@ module _ (core : Core) (a b : Site) (on_a : SiteStands core a) (on_b : SiteStand
 
   -- so what becomes of it is the same
   fit-alike : (r : Record) (x y : Site) → IsTrue (is_record r) → ◌≡◌ {A = Option Reply} (first_reply (judgements a r)) None →
-      ReplyAlike (unless a (growth_refusals so_far a r) (x, Applied)) (unless b (growth_refusals so_far b r) (y, Applied))
+      ReplyAlike (unless a (growth_refusals a r) (x, Applied)) (unless b (growth_refusals b r) (y, Applied))
   fit-alike r x y valid e =
-      subst (λ os. ReplyAlike (unless a (growth_refusals so_far a r) (x, Applied)) (unless b os (y, Applied))) (fit-growth r valid e)
-      (several-alike a b (growth_refusals so_far a r) [] [] (x, Applied) (y, Applied) (λ none. refl))
+      subst (λ os. ReplyAlike (unless a (growth_refusals a r) (x, Applied)) (unless b os (y, Applied))) (fit-growth r valid e)
+      (several-alike a b (growth_refusals a r) [] [] (x, Applied) (y, Applied) (λ none. refl))
 
-  take-alike : (r : Record) → IsTrue (is_record r) → ReplyAlike (take_record so_far a r) (take_record so_far b r)
+  take-alike : (r : Record) → IsTrue (is_record r) → ReplyAlike (take_record a r) (take_record b r)
   take-alike r valid = go (first_reply (judgements a r)) refl
     where
       same : first_reply (judgements a r) ≡ first_reply (judgements b r)
       same = judgements-alike core a b on_a on_b r valid
 
-      go : (o : Option Reply) → first_reply (judgements a r) ≡ o → ReplyAlike (take_record so_far a r) (take_record so_far b r)
+      go : (o : Option Reply) → first_reply (judgements a r) ≡ o → ReplyAlike (take_record a r) (take_record b r)
       go None e =
-          ap (λ (x : Answer). x.1) (first-passes a (growth_refusals so_far a r) (with_record r a, Applied) (judgements a r) e)
+          ap (λ (x : Answer). x.1) (first-passes a (growth_refusals a r) (with_record r a, Applied) (judgements a r) e)
           ∙ (fit-alike r (with_record r a) (with_record r b) valid e
-          ∙ sym (ap (λ (x : Answer). x.1) (first-passes b (growth_refusals so_far b r) (with_record r b, Applied) (judgements b r) (sym same ∙ e))))
+          ∙ sym (ap (λ (x : Answer). x.1) (first-passes b (growth_refusals b r) (with_record r b, Applied) (judgements b r) (sym same ∙ e))))
       go (Some reply) e =
-          ap (λ (x : Answer). x.1) (first-stops a (growth_refusals so_far a r) (with_record r a, Applied) (judgements a r) reply e)
-          ∙ sym (ap (λ (x : Answer). x.1) (first-stops b (growth_refusals so_far b r) (with_record r b, Applied) (judgements b r) reply (sym same ∙ e)))
+          ap (λ (x : Answer). x.1) (first-stops a (growth_refusals a r) (with_record r a, Applied) (judgements a r) reply e)
+          ∙ sym (ap (λ (x : Answer). x.1) (first-stops b (growth_refusals b r) (with_record r b, Applied) (judgements b r) reply (sym same ∙ e)))
 
   -- ===== Consents
 
@@ -98,7 +97,7 @@ module _ (core : Core) (a b : Site) (on_a : SiteStands core a) (on_b : SiteStand
       let under : (y : StateId) → IsTrue (is_among y a.collected) → IsTrue (is_proper_ancestor a.dag y f) = λ y m. closed-above a y n on_a.1 some within (on_a.1.collected.closed y m) in
       let under_b : (y : StateId) → IsTrue (is_among y b.collected) → IsTrue (is_proper_ancestor b.dag y f) =
       λ y m. subst (λ (g : Floor). IsTrue (is_proper_ancestor b.dag y g.state)) (sym same) (closed-above b y n on_b.1 some within_b (on_b.1.collected.closed y m)) in
-      let kept = kept-beneath a.dag on_a.1.dag a.collected f f under (sound-floor so_far a on_a.1 n some within).known (above-reflexive a.dag f) in
+      let kept = kept-beneath a.dag on_a.1.dag a.collected f f under (sound-floor a on_a.1 n some within).known (above-reflexive a.dag f) in
       above-same core a b on_a on_b f x kept known under under_b ∙ ap (λ (g : Floor). is_above b.dag g.state x) same
 
   consent-alike : (c : Consent) → IsTrue (is_consent c) → ReplyAlike (deliver_consent a c) (deliver_consent b c)
@@ -134,7 +133,7 @@ module _ (core : Core) (a b : Site) (on_a : SiteStands core a) (on_b : SiteStand
       floor-known false true e = refl
       floor-known false false e = cc
 
-  pub deliver-alike : (item : Item) → IsTrue (is_item item) → ReplyAlike (deliver so_far a item) (deliver so_far b item)
+  pub deliver-alike : (item : Item) → IsTrue (is_item item) → ReplyAlike (deliver a item) (deliver b item)
   deliver-alike (State r) valid = take-alike r valid
   deliver-alike (Promise c) valid = consent-alike c valid
 
@@ -164,9 +163,9 @@ module _ (core : Core) (a b : Site) (on_a : SiteStands core a) (on_b : SiteStand
   first-fit-alike : first_fit_record a ≡ first_fit_record b
   first-fit-alike = fits-alike a.waiting on_a.1.waiting.each ∙ ap (first_fit (is_fit b)) waiting-alike
 
-  pub settle-alike : ReplyAlike (settle so_far a) (settle so_far b)
+  pub settle-alike : ReplyAlike (settle a) (settle b)
   settle-alike =
-      given-alike a b (first_fit_record a) (first_fit_record b) (a, Done) (b, Done) (settle_record so_far a) (settle_record so_far b) first-fit-alike refl
+      given-alike a b (first_fit_record a) (first_fit_record b) (a, Done) (b, Done) (settle_record a) (settle_record b) first-fit-alike refl
       (λ found is.
       let fit = first-is-fit (is_fit a) a.waiting found is in
       let valid = waiting-is-record a found.1 (fit.as_all (may_wait a.limits.sites a.own) on_a.1.waiting.each) in

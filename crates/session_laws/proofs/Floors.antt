@@ -20,7 +20,6 @@ use Rattle.plain_dag.proofs.Order.{above-reflexive}
 use Rattle.plain_dag.proofs.Collected.{proper-above, proper-of-itself}
 use Rattle.ceiling_book.proofs.Newest.{fits, or_else, last_passing, newest-is_last, fitting-is_kept, held-by-none}
 use Rattle.plain_site.specs.Answers.{Answer, refuse, refuse_found}
-use Rattle.plain_site.specs.Built.{so_far}
 use Rattle.plain_site.specs.FloorSteps.{raised, raise_to, raise, raise_auto}
 use Rattle.plain_site.specs.Sessions.{set_ceiling}
 use Rattle.plain_site.specs.Site.{Site, own_floor}
@@ -50,14 +49,14 @@ last-agrees p q [] same = refl
 last-agrees p q (x ∷ xs) same = ap₂ or_else (last-agrees p q xs (λ z m. same z (among-later z x xs m))) (ap (λ t. cond t (Some x) None) (same x (among-first x xs)))
 
 -- the collected states are proper ancestors of the own floor
-under-own : (site : Site) → IsSound so_far site → (y : StateId) → IsTrue (is_among y site.collected) → IsTrue (is_proper_ancestor site.dag y (own_floor site).state)
-under-own site sound y m = closed-above_own so_far site y sound (sound.collected.closed y m)
+under-own : (site : Site) → IsSound site → (y : StateId) → IsTrue (is_among y site.collected) → IsTrue (is_proper_ancestor site.dag y (own_floor site).state)
+under-own site sound y m = closed-above_own site y sound (sound.collected.closed y m)
 
 -- which is kept
-own-is_kept : (site : Site) → IsSound so_far site → IsTrue (is_kept site.dag site.collected (own_floor site).state)
+own-is_kept : (site : Site) → IsSound site → IsTrue (is_kept site.dag site.collected (own_floor site).state)
 own-is_kept site sound =
     let floor = (own_floor site).state in
-    kept-beneath site.dag sound.dag site.collected floor floor (under-own site sound) (sound-own_floor so_far site sound).known (above-reflexive site.dag floor)
+    kept-beneath site.dag sound.dag site.collected floor floor (under-own site sound) (sound-own_floor site sound).known (above-reflexive site.dag floor)
 
 module _ (core : Core) (a b : Site) (on_a : SiteStands core a) (on_b : SiteStands core b) where
   -- a state that all collected ones are above is at or above a known one in both or in neither
@@ -80,7 +79,7 @@ module _ (core : Core) (a b : Site) (on_a : SiteStands core a) (on_b : SiteStand
       first-alike a b (unknown a) (unknown b) (back a ∷ []) (back b ∷ []) (moved a) (moved b) (ap (λ t. refuse (not t) (Unknown x)) (known-same core a b on_a on_b x))
       (λ none. first-alike a b (back a) (back b) [] [] (moved a) (moved b)
       (ap (λ t. refuse (not t) (CeilingBack s.ceiling))
-      (above-same s.ceiling x (ceiling-is_kept core a on_a.0 n s e) (passed (is_known a.dag x) (Unknown x) none) (collected-above so_far a n s on_a.1 e) (collected-above so_far b n s on_b.1 there)))
+      (above-same s.ceiling x (ceiling-is_kept core a on_a.0 n s e) (passed (is_known a.dag x) (Unknown x) none) (collected-above a n s on_a.1 e) (collected-above b n s on_b.1 there)))
       (λ more. refl))
 
   -- ===== The own floor

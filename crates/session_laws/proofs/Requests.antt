@@ -24,7 +24,6 @@ use Rattle.plain_dag.specs.Collection.{is_kept}
 use Rattle.plain_dag.proofs.Ids.{among-first, among-later, all-at}
 use Rattle.plain_dag.proofs.Searches.{find-agrees}
 use Rattle.plain_site.specs.Answers.{Answer, refuse, refuse_found, given, shown, found}
-use Rattle.plain_site.specs.Built.{so_far}
 use Rattle.plain_site.specs.Merges.{in_order, merge_at, begin_merge}
 use Rattle.plain_site.specs.Reads.{having_read, having_written, read_in, get, set_key, get_for}
 use Rattle.plain_site.specs.Sessions.{open_session, begin_at, begin}
@@ -74,7 +73,7 @@ module _ (core : Core) (a b : Site) (on_a : SiteStands core a) (on_b : SiteStand
   begin-state-alike : (s : Session) → entry_of n a.sessions ≡ Some s → (at : Begin) → begin_state a.dag s.last at ≡ begin_state b.dag s.last at
   begin-state-alike s e Any = last-alike core.store.table a.dag a.collected b.dag b.collected on_a.0.store.table on_b.0.store.table
   begin-state-alike s e Ancestor =
-      last-below-alike core.store.table a.dag a.collected b.dag b.collected on_a.0.store.table on_b.0.store.table s.last (open-session so_far a n s on_a.1 e).0.last (last-held core a b on_a on_b n s e)
+      last-below-alike core.store.table a.dag a.collected b.dag b.collected on_a.0.store.table on_b.0.store.table s.last (open-session a n s on_a.1 e).0.last (last-held core a b on_a on_b n s e)
   begin-state-alike s e Parent = refl
   begin-state-alike s e (At x) = refl
 

@@ -19,7 +19,6 @@ use Rattle.plain_dag.specs.Paths.{fork_path}
 use Rattle.plain_dag.proofs.Ids.{any-agrees, all-agrees}
 use Rattle.plain_dag.proofs.Searches.{filter-agrees}
 use Rattle.plain_site.specs.Answers.{Answer, refuse}
-use Rattle.plain_site.specs.Built.{so_far}
 use Rattle.plain_site.specs.Merges.{page_of_states, page_of_keys, fork_points_of, conflicts_of}
 use Rattle.plain_site.specs.Shows.{site_lines, stat, show, show_leaves}
 use Rattle.plain_site.specs.Site.{Site, MergeTxn, Txn, Single, Merge}
@@ -61,10 +60,10 @@ module _ (core : Core) (a b : Site) (on_a : SiteStands core a) (on_b : SiteStand
   points-alike t d =
       let table = core.store.table in
       let there : entry_of n b.txns ≡ Some (Merge t) = sym (txns-alike core a b on_a on_b n) ∙ d in
-      sym (among-kept table a.dag a.collected on_a.0.store.table (is_fork_point a.dag t.states) (λ x known fork. fork-points-kept so_far a n on_a.1 t d x known fork))
+      sym (among-kept table a.dag a.collected on_a.0.store.table (is_fork_point a.dag t.states) (λ x known fork. fork-points-kept a n on_a.1 t d x known fork))
       ∙ (filter-agrees (is_fork_point a.dag t.states) (is_fork_point b.dag t.states) (kept_states a.dag a.collected) (λ x m. point-alike t d x (listed-is_kept a.dag a.collected x m))
       ∙ (ap (filter (is_fork_point b.dag t.states)) (sites-alike core a b on_a on_b).same_kept
-      ∙ among-kept table b.dag b.collected on_b.0.store.table (is_fork_point b.dag t.states) (λ x known fork. fork-points-kept so_far b n on_b.1 t there x known fork)))
+      ∙ among-kept table b.dag b.collected on_b.0.store.table (is_fork_point b.dag t.states) (λ x known fork. fork-points-kept b n on_b.1 t there x known fork)))
 
   pub fork-points-alike : (t : Txn) → entry_of n a.txns ≡ Some t → ReplyAlike (fork_points_of a t) (fork_points_of b t)
   fork-points-alike (Single t) d = refl

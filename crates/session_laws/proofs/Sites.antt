@@ -23,7 +23,6 @@ use Rattle.merge_txn.specs.declared.Txn.{Txn as Kept}
 use Rattle.merge_txn.specs.declared.Txn.TheVariants.{Single as KeptSingle, Merge as KeptMerge}
 use Rattle.conflict_keys.proofs.Walks.{named-are_kept}
 use Rattle.plain_site.specs.Site.{Site, SingleTxn, MergeTxn, Txn, Single, Merge, own_count, next_id, read_states}
-use Rattle.plain_site.specs.Built.{so_far}
 use Rattle.plain_site.proofs.SoundBooks.{own-is_site}
 use Rattle.session_core.specs.Core.{Core}
 use Rattle.session_core.specs.Stands.{CoreStands, txn_of}
@@ -106,7 +105,7 @@ module _ (core : Core) (a b : Site) (on_a : SiteStands core a) (on_b : SiteStand
 
   pub own-count-alike : own_count a ≡ own_count b
   own-count-alike =
-      let within = own-is_site so_far a on_a.1 in
+      let within = own-is_site a on_a.1 in
       count-alike core.store.table a.dag a.collected b.dag b.collected on_a.0.store.table on_b.0.store.table a.own within.0 (subst (λ l. a.own ≤ l.sites) (sym on_a.0.limits) within.1)
       ∙ ap (count_of_site b.dag) own-alike
 
@@ -135,14 +134,14 @@ module _ (core : Core) (a b : Site) (on_a : SiteStands core a) (on_b : SiteStand
     admitted-same s e x known =
         let there : entry_of n b.sessions ≡ Some s = ap (entry_of n) (sym sessions-alike) ∙ e in
         admitted-alike core.store.table a.dag a.collected b.dag b.collected on_a.0.store.table on_b.0.store.table s.ceiling x (ceiling-is_kept core a on_a.0 n s e) known
-        (collected-above so_far a n s on_a.1 e) (collected-above so_far b n s on_b.1 there)
+        (collected-above a n s on_a.1 e) (collected-above b n s on_b.1 there)
 
     -- what is admitted under a session's ceiling is kept
     pub admitted-is_kept : (s : Session) → entry_of n a.sessions ≡ Some s → (x : StateId) → IsTrue (is_known a.dag x) → IsTrue (is_admitted a.dag s.ceiling x) → IsTrue (is_kept a.dag a.collected x)
     admitted-is_kept s e x known admitted =
         and_from (is_known a.dag x) (not (is_among x a.collected)) known
         (not_from_false (is_among x a.collected) (false_from_ne_true (is_among x a.collected) (λ gone.
-        both_ways (is_proper_ancestor a.dag x s.ceiling) (not-true (is_proper_ancestor a.dag x s.ceiling) admitted) (collected-above so_far a n s on_a.1 e x gone))))
+        both_ways (is_proper_ancestor a.dag x s.ceiling) (not-true (is_proper_ancestor a.dag x s.ceiling) admitted) (collected-above a n s on_a.1 e x gone))))
 
     -- so are the states that a transaction reads
     pub one-kept : (t : SingleTxn) → entry_of n a.txns ≡ Some (Single t) → IsTrue (is_kept a.dag a.collected t.state)

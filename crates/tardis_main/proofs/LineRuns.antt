@@ -16,7 +16,6 @@ use Rattle.site_run.specs.Endings.{shape_within}
 use Rattle.shell_run.specs.Answers.{over_lines, is_read_without_memory, event_of_line, AskedMay, ShellMay, AuditMay}
 use Rattle.shell_run.specs.Outcomes.{ShellOutcome, AuditOutcome}
 use Rattle.plain_site.specs.Site.{Site}
-use Rattle.plain_site.specs.Built.{so_far}
 use Rattle.plain_site.specs.Step.{is_sure, site_machine}
 use Rattle.plain_site.specs.Sound.{IsSound}
 use Rattle.tardis_main.specs.Runs.{ShellFrom, AuditFrom}
@@ -51,32 +50,32 @@ sure_read None e = refl
 sure_read (Some q) e = sure_alone q e
 
 -- a reply over lines is one of the plain site
-asked_may : (s : Site) (o : Option Event) (reply : List ℕ) (t : Site) → AskedMay (over_lines (site_machine so_far)) s o reply t → AskedMay (site_machine so_far) s o reply t
+asked_may : (s : Site) (o : Option Event) (reply : List ℕ) (t : Site) → AskedMay (over_lines site_machine) s o reply t → AskedMay site_machine s o reply t
 asked_may s None reply t may = may
-asked_may s (Some event) reply t may = elim may as (λ _. AskedMay (site_machine so_far) s (Some event) reply t) [
+asked_may s (Some event) reply t may = elim may as (λ _. AskedMay site_machine s (Some event) reply t) [
   | inl a ↦ inl a
   | inr b ↦ inr (b.0, sure_read (request_of event.1) b.1, b.2)
 ]
 
-shell_may : (s : Site) (line answer : List ℕ) (t : Site) → ShellMay (over_lines (site_machine so_far)) s line answer t → ShellMay (site_machine so_far) s line answer t
+shell_may : (s : Site) (line answer : List ℕ) (t : Site) → ShellMay (over_lines site_machine) s line answer t → ShellMay site_machine s line answer t
 shell_may s line answer t may = (may.0, (may.1.0, asked_may s (event_of_line line) may.0 t may.1.1))
 
-in_turn : (s : Site) (lines answers : List (List ℕ)) (t : Site) → InTurn (ShellMay (over_lines (site_machine so_far))) s lines answers t → InTurn (ShellMay (site_machine so_far)) s lines answers t
+in_turn : (s : Site) (lines answers : List (List ℕ)) (t : Site) → InTurn (ShellMay (over_lines site_machine)) s lines answers t → InTurn (ShellMay site_machine) s lines answers t
 in_turn s [] [] t p = p
 in_turn s (line ∷ lines) (answer ∷ answers) t p = (p.0, (shell_may s line answer p.0 p.1.0, in_turn p.0 lines answers t p.1.1))
 in_turn s [] (answer ∷ answers) t p = absurd p
 in_turn s (line ∷ lines) [] t p = absurd p
 
-shell_answered : (shape : List ℕ → List ℕ → List ℕ → Type 0) (To : Site → Type 0) (old new : Option (List ℕ)) (s : Site) (lines : List (List ℕ)) → ((t : Site) → To t → IsSound so_far t)
-    → AnsweredBy (ShellMay (over_lines (site_machine so_far))) shape To old new [] [] s lines → AnsweredBy (ShellMay (site_machine so_far)) shape (IsSound so_far) old new [] [] s lines
+shell_answered : (shape : List ℕ → List ℕ → List ℕ → Type 0) (To : Site → Type 0) (old new : Option (List ℕ)) (s : Site) (lines : List (List ℕ)) → ((t : Site) → To t → IsSound t)
+    → AnsweredBy (ShellMay (over_lines site_machine)) shape To old new [] [] s lines → AnsweredBy (ShellMay site_machine) shape IsSound old new [] [] s lines
 shell_answered shape To old new s lines sound a = record { answers = a.answers; state = a.state; each = in_turn s lines a.answers a.state a.each; stands = sound a.state a.stands; given = a.given }
 
-audit_answered : (shape : List ℕ → List ℕ → List ℕ → Type 0) (To : Site → Type 0) (old new : Option (List ℕ)) (s : Site) (bodies : List (List ℕ)) → ((t : Site) → To t → IsSound so_far t)
-    → AnsweredBy (AuditMay (site_machine so_far)) shape To old new [] [] s bodies → AnsweredBy (AuditMay (site_machine so_far)) shape (IsSound so_far) old new [] [] s bodies
+audit_answered : (shape : List ℕ → List ℕ → List ℕ → Type 0) (To : Site → Type 0) (old new : Option (List ℕ)) (s : Site) (bodies : List (List ℕ)) → ((t : Site) → To t → IsSound t)
+    → AnsweredBy (AuditMay site_machine) shape To old new [] [] s bodies → AnsweredBy (AuditMay site_machine) shape IsSound old new [] [] s bodies
 audit_answered shape To old new s bodies sound a = record { answers = a.answers; state = a.state; each = a.each; stands = sound a.state a.stands; given = a.given }
 
-pub shell_from : (site : Site) (From To : Site → Type 0) (status : Status) (old new : Option (List ℕ)) (first left : List ℕ) → From site → ((t : Site) → To t → IsSound so_far t)
-    → ShellOutcome (over_lines (site_machine so_far)) status From To old new first left → ShellFrom site status old new first left
+pub shell_from : (site : Site) (From To : Site → Type 0) (status : Status) (old new : Option (List ℕ)) (first left : List ℕ) → From site → ((t : Site) → To t → IsSound t)
+    → ShellOutcome (over_lines site_machine) status From To old new first left → ShellFrom site status old new first left
 shell_from site From To status old new first left here sound o = record {
   cut = o.cut;
   last = o.last;
@@ -89,8 +88,8 @@ shell_from site From To status old new first left here sound o = record {
   whole = o.whole;
 }
 
-pub audit_from : (site : Site) (From To : Site → Type 0) (status : Status) (old new : Option (List ℕ)) (first left : List ℕ) → From site → ((t : Site) → To t → IsSound so_far t)
-    → AuditOutcome (site_machine so_far) status From To old new first left → AuditFrom site status old new first left
+pub audit_from : (site : Site) (From To : Site → Type 0) (status : Status) (old new : Option (List ℕ)) (first left : List ℕ) → From site → ((t : Site) → To t → IsSound t)
+    → AuditOutcome site_machine status From To old new first left → AuditFrom site status old new first left
 audit_from site From To status old new first left here sound o = record {
   bodies = o.bodies;
   held = o.held;
@@ -107,13 +106,13 @@ nothing_given None = tt
 nothing_given (Some y) = sym (append-nil (y ++ []))
 
 -- a shell that had no memory read nothing and gave nothing
-pub no_shell : (site : Site) (old : Option (List ℕ)) (first : List ℕ) → IsSound so_far site → ShellFrom site NoMemory old old first first
+pub no_shell : (site : Site) (old : Option (List ℕ)) (first : List ℕ) → IsSound site → ShellFrom site NoMemory old old first first
 no_shell site old first sound = record {
   cut = [];
   last = [];
   held = [];
   read = record { whole = refl; each = tt };
-  answered = λ s e. record { answers = []; state = s; each = refl; stands = subst (λ z. IsSound so_far z) (sym e) sound; given = nothing_given old };
+  answered = λ s e. record { answers = []; state = s; each = refl; stands = subst (λ z. IsSound z) (sym e) sound; given = nothing_given old };
   ends = (refl, refl, refl, refl);
   spent = λ e. absurd (omega (arith, e));
   front = λ all rest cut. (all ++ last_line rest, refl);
@@ -121,12 +120,12 @@ no_shell site old first sound = record {
 }
 
 -- and neither did such an audit
-pub no_audit : (site : Site) (old : Option (List ℕ)) (first : List ℕ) → IsSound so_far site → AuditFrom site NoMemory old old first first
+pub no_audit : (site : Site) (old : Option (List ℕ)) (first : List ℕ) → IsSound site → AuditFrom site NoMemory old old first first
 no_audit site old first sound = record {
   bodies = [];
   held = [];
   read = record { whole = refl; each = tt };
-  answered = λ s e. record { answers = []; state = s; each = refl; stands = subst (λ z. IsSound so_far z) (sym e) sound; given = nothing_given old };
+  answered = λ s e. record { answers = []; state = s; each = refl; stands = subst (λ z. IsSound z) (sym e) sound; given = nothing_given old };
   ends = (refl, refl, refl);
   spent = λ e. absurd (omega (arith, e));
   front = λ all rest cut. (all, refl);

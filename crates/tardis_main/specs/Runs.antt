@@ -7,7 +7,6 @@ use Rattle.site_run.specs.Machines.{Answered}
 use Rattle.site_run.specs.Endings.{Outcome, shape_of}
 use Rattle.shell_run.specs.Outcomes.{ShellOutcome, AuditOutcome}
 use Rattle.plain_site.specs.Site.{Site}
-use Rattle.plain_site.specs.Built.{so_far}
 use Rattle.plain_site.specs.Step.{site_machine}
 use Rattle.plain_site.specs.Sound.{IsSound}
 
@@ -15,13 +14,13 @@ use Rattle.plain_site.specs.Sound.{IsSound}
 -- plain site of this number that opens, were given as frames, all of them unless writing failed.
 abbrev pub RunFrom : Site → Status → Option (List ℕ) → Option (List ℕ) → List ℕ → List ℕ → Type 0
 RunFrom site status old new first left =
-    Outcome status (λ s. s ≡ site) (λ s bodies. Answered (site_machine so_far) (shape_of status) (IsSound so_far) old new s (map event_of bodies)) first left
+    Outcome status (λ s. s ≡ site) (λ s bodies. Answered site_machine (shape_of status) IsSound old new s (map event_of bodies)) first left
 
 -- Lines were cut from its front, and the lines of replies that answer what they ask, from the plain site of this number that
 -- opens, were given, all of them unless writing failed.
 abbrev pub ShellFrom : Site → Status → Option (List ℕ) → Option (List ℕ) → List ℕ → List ℕ → Type 0
-ShellFrom site status old new first left = ShellOutcome (site_machine so_far) status (λ s. s ≡ site) (IsSound so_far) old new first left
+ShellFrom site status old new first left = ShellOutcome site_machine status (λ s. s ≡ site) IsSound old new first left
 
 -- Bodies were cut from its front, and the lines that tell what they ask, and replies that answer it, were given likewise.
 abbrev pub AuditFrom : Site → Status → Option (List ℕ) → Option (List ℕ) → List ℕ → List ℕ → Type 0
-AuditFrom site status old new first left = AuditOutcome (site_machine so_far) status (λ s. s ≡ site) (IsSound so_far) old new first left
+AuditFrom site status old new first left = AuditOutcome site_machine status (λ s. s ≡ site) IsSound old new first left

@@ -8,7 +8,6 @@ use Rattle.hub.specs.declared.serves.End.{End}
 use Rattle.hub.specs.Upkeeps.{UpkeepRule}
 use Rattle.hub.specs.Runs.{IsRun}
 use Rattle.plain_site.specs.Site.{Site, opening}
-use Rattle.plain_site.specs.Built.{so_far}
 use Rattle.plain_site.specs.Step.{site_machine}
 use Rattle.plain_site.specs.Sound.{IsSound}
 use Rattle.session_core.specs.Core.{Core}
@@ -24,9 +23,9 @@ weaker m rule to told s end before after tells run =
 -- a run of what stands for the site of a place that opens
 pub serves_place : {E : Type 0} (place : Place) (tidy : Bool) (core : Core) (result : Result End E) (before after : Option (List Seen))
     → SiteStands core (opening (program_limits place.sites) place.site)
-    → IfOk result (λ end. (s : Site) → SiteStands core s → IsRun (site_machine so_far) (upkeep_rule tidy) (λ t. (m : Core) × SiteStands m t) s end before after)
+    → IfOk result (λ end. (s : Site) → SiteStands core s → IsRun site_machine (upkeep_rule tidy) (λ t. (m : Core) × SiteStands m t) s end before after)
     → IfOk result (λ end. ServesPlace place tidy end before after)
 serves_place place tidy core (Ok end) before after stands run =
     let site = opening (program_limits place.sites) place.site in
-    weaker (site_machine so_far) (upkeep_rule tidy) (λ t. (m : Core) × SiteStands m t) (IsSound so_far) site end before after (λ t both. both.1.1) (run site stands)
+    weaker site_machine (upkeep_rule tidy) (λ t. (m : Core) × SiteStands m t) IsSound site end before after (λ t both. both.1.1) (run site stands)
 serves_place place tidy core (Err fault) before after stands run = tt

@@ -9,7 +9,6 @@ use Rattle.hub.specs.declared.serves.End.{End}
 use Rattle.hub.specs.Upkeeps.{UpkeepRule}
 use Rattle.hub.specs.Runs.{IsRun}
 use Rattle.plain_site.specs.Site.{opening}
-use Rattle.plain_site.specs.Built.{so_far}
 use Rattle.plain_site.specs.Step.{site_machine}
 use Rattle.plain_site.specs.Sound.{IsSound}
 
@@ -21,4 +20,4 @@ upkeep_rule true = Some record { code = 8; after = 64; requests = request_spelli
 
 -- a run of a hub over the plain site of this place that opens, to a sound site, with this upkeep, and what the edge saw
 abbrev pub ServesPlace : Place → Bool → End → (before after : Option (List Seen)) → Type 0
-ServesPlace place tidy end before after = IsRun (site_machine so_far) (upkeep_rule tidy) (IsSound so_far) (opening (program_limits place.sites) place.site) end before after
+ServesPlace place tidy end before after = IsRun site_machine (upkeep_rule tidy) IsSound (opening (program_limits place.sites) place.site) end before after

@@ -10,6 +10,7 @@ use command_words::Place;
 use hub::{End, Ports, Upkeep, serve};
 use session_core::SiteCore;
 use std::alloc::Global;
+use std::hash::RandomState;
 use tardis_base::{Machine, NoMemory};
 
 /// The first byte of a reply that tells of a commit.
@@ -22,11 +23,12 @@ const RAISE_AUTO: [u8; 1] = [14];
 const TIDY: [u8; 3] = [15, 0, 64];
 
 /// Serves the connections of an edge as the site at this place, which opens with the root alone: each connection is an
-/// actor, and its requests are answered as `hub::serve` says. With `tidy` the floor is raised and up to 64 closed states
-/// are collected, as actor 0 would ask it, each time that 64 states were committed. Without memory for the site or the
-/// buffers nothing is done.
+/// actor, and its requests are answered as `hub::serve` says. Keys are found by hashing with this seed. With `tidy` the
+/// floor is raised and up to 64 closed states are collected, as actor 0 would ask it, each time that 64 states were
+/// committed. Without memory for the site or the buffers nothing is done.
 pub fn serve_place<P: Ports>(
     alloc: Global,
+    keys: RandomState,
     place: Place,
     tidy: bool,
     ports: &mut P,
@@ -35,7 +37,7 @@ pub fn serve_place<P: Ports>(
     ensures served { IfOk result (λ end. ServesPlace place tidy end (P.seen ports.old) (P.seen ports.new)) }
     ensures nothing { OnErr result (ports.new ≡ ports.old) }
 {
-    match SiteCore::new(alloc, place.limits(), place.site) {
+    match SiteCore::new(alloc, keys, place.limits(), place.site) {
         Ok(site) => serve_machine(alloc, site, tidy, ports),
         Err(NoMemory) => Err(NoMemory),
     }

@@ -2,6 +2,7 @@ use crate::{DaemonEnd, GateFault, Help, help_of, plan_of, serve_place};
 use command_words::Place;
 use hub::{End, MemoryPorts, Move, Seen};
 use std::alloc::Global;
+use std::hash::RandomState;
 use std::test::Fail;
 use tardis_base::ByteList;
 
@@ -67,7 +68,7 @@ fn a_site_is_served_at_its_place(rt: HostRuntime) -> Result<(), Fail> {
     moves.push(Move::Write { slot: 0, most: 100 })?;
     let mut ports = MemoryPorts::new(alloc, moves);
     let place = Place { sites: 3, site: 2 };
-    match serve_place(alloc, place, true, &mut ports) {
+    match serve_place(alloc, RandomState::new(&rt)?, place, true, &mut ports) {
         Ok(end) => assert!(rt; end == End::Stopped),
         Err(_) => return Err(Fail::new("memory")),
     }

@@ -124,7 +124,7 @@ all-at p [] i h each = absurd (omega (arith, h))
 all-at p (x ∷ xs) zero h each = (and_parts (p x) (list_all p xs) each).0
 all-at p (x ∷ xs) (suc i) h each = all-at p xs i (omega (arith, h)) (and_parts (p x) (list_all p xs) each).1
 
-pub no-number : (limit i : ℕ) (word : List ℕ) → limit ≤ 2 ^ 32 → i < length word
+pub no-number : (limit i : ℕ) (word : List ℕ) → limit ≤ 2 ^ 64 → i < length word
     → ((is_ascii_digit (get_or word i 0) ≡ true) → digits_value 10 (take i word) < limit → ⊥) → number_of limit word ≡ None
 no-number limit i word few inside other = go (number_of limit word) refl
   where

@@ -143,6 +143,19 @@ impl<'a> Words<'a> {
         }
     }
 
+    /// A number of 8 bits.
+    pub fn u8(&self, end: u8) -> Option<(u8, Words<'a>)>
+        ensures { result ≡ number_until 256 end self.now }
+    {
+        match self.until(end) {
+            Some((word, words)) => match number_of(word, 256) {
+                Some(number) => Some((number as u8, words)),
+                None => None,
+            },
+            None => None,
+        }
+    }
+
     /// A number of 16 bits.
     pub fn u16(&self, end: u8) -> Option<(u16, Words<'a>)>
         ensures { result ≡ number_until (2 ^ 16) end self.now }
@@ -163,6 +176,19 @@ impl<'a> Words<'a> {
         match self.until(end) {
             Some((word, words)) => match number_of(word, 4_294_967_296) {
                 Some(number) => Some((number as u32, words)),
+                None => None,
+            },
+            None => None,
+        }
+    }
+
+    /// A number of 64 bits.
+    pub fn u64(&self, end: u8) -> Option<(u64, Words<'a>)>
+        ensures { result ≡ number_until (2 ^ 64) end self.now }
+    {
+        match self.until(end) {
+            Some((word, words)) => match number_of(word, 18_446_744_073_709_551_616) {
+                Some(number) => Some((number as u64, words)),
                 None => None,
             },
             None => None,
@@ -192,8 +218,8 @@ fn is_id(id: StateId) -> bool
 }
 
 /// The number below the limit for which the word stands.
-fn number_of(word: &[u8], limit: u64) -> Option<u64>
-    requires { limit ≤ 2 ^ 32 }
+fn number_of(word: &[u8], limit: u128) -> Option<u128>
+    requires { limit ≤ 2 ^ 64 }
     ensures { result ≡ number_of limit word.now }
 {
     let mut number = 0;
@@ -201,7 +227,7 @@ fn number_of(word: &[u8], limit: u64) -> Option<u64>
         if !byte.is_ascii_digit() || number >= limit {
             return None;
         }
-        number = number * 10 + u64::from(*byte - b'0');
+        number = number * 10 + u128::from(*byte - b'0');
     }
     let mut digits = Buffer::new();
     if number < limit && digits.format(number).as_bytes() == word {

@@ -5,7 +5,6 @@ use Rattle.frame_cut.specs.Events.{event_of}
 use Rattle.site_run.specs.Machines.{Answered}
 use Rattle.site_run.specs.Endings.{Outcome, shape_of}
 use Rattle.plain_site.specs.Site.{opening}
-use Rattle.plain_site.specs.Built.{so_far}
 use Rattle.plain_site.specs.Step.{site_machine}
 use Rattle.session_core.specs.Machine.{SiteStands}
 use Rattle.tardis_main.specs.Runs.{RunFrom}
@@ -19,7 +18,7 @@ returns-in-Ok-clause-headline g c =
     let old = g.O.Sink.given c.args.output.now in
     let new = g.O.Sink.given c.run_site.new.output in
     weaker (g.I.Source.left c.args.input.now) (g.I.Source.left c.run_site.new.input)
-    (λ first left. Outcome status (SiteStands c.in-Ok.site) (λ s bodies. Answered (site_machine so_far) (shape_of status) (SiteStands c.run_site.new.machine) old new s (map event_of bodies)) first left)
+    (λ first left. Outcome status (SiteStands c.in-Ok.site) (λ s bodies. Answered site_machine (shape_of status) (SiteStands c.run_site.new.machine) old new s (map event_of bodies)) first left)
     (RunFrom site status old new)
     c.run_site.ensures.outcome
     (λ x y o. run_from site (SiteStands c.in-Ok.site) (SiteStands c.run_site.new.machine) status old new x y

@@ -4,7 +4,6 @@ use Rattle.tardis_base.specs.declared.ids.StateId.{StateId}
 use Rattle.tardis_base.specs.declared.replies.Reply.TheVariants.{Applied}
 use Rattle.state_dag.specs.Table.{id_at, is_slot}
 use Rattle.record_store.proofs.Records.{named-are_slots}
-use Rattle.plain_site.specs.Built.{so_far}
 use Rattle.plain_site.specs.Answers.{unless}
 use Rattle.plain_site.specs.Commits.{with_record, growth_refusals}
 use Rattle.session_core.specs.Held.{seen}
@@ -35,7 +34,7 @@ returns-in_err-commit c = λ site stands sound fit.
     let named = subst (λ n. map (id_at table) (take n c.slots_of-slots.result) ≡ map (λ x. Some x) r.parents) (sym c.len.ensures) told in
     let may = fit-may-be-added core site r below here (fit-arrives site r sound c.requires.valid fit) named in
     let added = c.in_err-commit.ensures.added site.dag site.collected r here.store refl refl may in
-    stopped (CoreStands (record core { store = c.commit.new.self })) (unless site (growth_refusals so_far site r) (with_record r site, Applied)) site (add_stop c.in_err-commit.field-0.0) c.from_residual.result c.from_residual.ensures.1
+    stopped (CoreStands (record core { store = c.commit.new.self })) (unless site (growth_refusals site r) (with_record r site, Applied)) site (add_stop c.in_err-commit.field-0.0) c.from_residual.result c.from_residual.ensures.1
     (growth-stops core site r c.commit.new.self here (with_record r site, Applied) c.in_err-commit.field-0.0 added c.in_err-commit.ensures.same.table)
 
 pub returns : goal.returns
@@ -49,6 +48,6 @@ returns c = λ site stands sound fit.
     let named = subst (λ n. map (id_at table) (take n c.slots_of-slots.result) ≡ map (λ x. Some x) r.parents) (sym c.len.ensures) told in
     let may = fit-may-be-added core site r below here (fit-arrives site r sound c.requires.valid fit) named in
     let added = c.in_ok-commit.ensures.added site.dag site.collected r here.store refl refl may in
-    as-given (CoreStands (record core { store = c.commit.new.self })) (unless site (growth_refusals so_far site r) (with_record r site, Applied)) (with_record r site, Applied) Applied
+    as-given (CoreStands (record core { store = c.commit.new.self })) (unless site (growth_refusals site r) (with_record r site, Applied)) (with_record r site, Applied) Applied
     (growth-free core site r c.commit.new.self here (with_record r site, Applied) c.in_ok-commit.field-0 added)
     (grown-site core site r c.commit.new.self here added.1 c.commit.ensures.keeps c.commit.ensures.limits, refl)

@@ -5,7 +5,6 @@ use Rattle.ceiling_book.specs.Places.{AreSlots, ArePlaced}
 use Rattle.ceiling_book.proofs.Growth.{slots-grow, placed-grow}
 use Rattle.merge_txn.specs.Txns.{with_writes}
 use Rattle.plain_site.specs.Site.{writes_of, next_record}
-use Rattle.plain_site.specs.Built.{so_far}
 use Rattle.plain_site.specs.Commits.{commit_below}
 use Rattle.session_core.specs.Gives.{Stops}
 use Rattle.session_core.specs.Held.{seen}
@@ -43,8 +42,8 @@ returns-in-Err c = λ site stands t xs found named_now arrives.
     let added = c.in-Err.ensures.added site.dag site.collected r here.store (sym may.named) writes may.added in
     let back = put-back n c.take_writes-writes.result c.commit.new.writes c.self.inside.txns c.take_writes-writes.new.self c.set_writes.new.self c.take_writes-writes.ensures.back c.in-Err.ensures.left c.set_writes.ensures in
     let stops = commit-stops core site here n xs (writes_of t) c.commit.new.self fault may.more added c.in-Err.ensures.same.table in
-    subst (Stops (CoreStands (record core { store = c.commit.new.self; txns = c.set_writes.new.self })) (commit_below so_far site n xs (writes_of t) []) site) (sym c.from.ensures)
-    (subst (λ es. Stops (CoreStands (record core { store = c.commit.new.self; txns = es })) (commit_below so_far site n xs (writes_of t) []) site (add_stop fault)) (sym back) stops)
+    subst (Stops (CoreStands (record core { store = c.commit.new.self; txns = c.set_writes.new.self })) (commit_below site n xs (writes_of t) []) site) (sym c.from.ensures)
+    (subst (λ es. Stops (CoreStands (record core { store = c.commit.new.self; txns = es })) (commit_below site n xs (writes_of t) []) site (add_stop fault)) (sym back) stops)
 
 pub returns-in-Ok : goal.returns-in-Ok
 returns-in-Ok c = λ site stands t xs found named_now arrives.

@@ -4,7 +4,6 @@ use Rattle.tardis_base.specs.declared.records.Record.{Record}
 use Rattle.tardis_base.specs.declared.replies.Reply.TheVariants.{Applied, Known, Early}
 use Rattle.tardis_base.specs.Valid.{is_record}
 use Rattle.site_exchange.specs.Judgements.{reply_of}
-use Rattle.plain_site.specs.Built.{so_far}
 use Rattle.plain_site.specs.Answers.{unless}
 use Rattle.plain_site.specs.Commits.{with_record, growth_refusals}
 use Rattle.plain_site.specs.Exchange.{deliver_record, with_held}
@@ -18,7 +17,7 @@ pub returns-in-Fit : goal.returns-in-Fit
 returns-in-Fit c = λ site stands sound.
     let r = c.args.rec in
     let fit = sym (c.in_ok-judge.ensures.judged site stands sound) ∙ ap reply_of c.in-Fit.is in
-    as-answer (CoreStands c.add.new.self) (deliver_record so_far site r) (unless site (growth_refusals so_far site r) (with_record r site, Applied)) site c.add.result
+    as-answer (CoreStands c.add.new.self) (deliver_record site r) (unless site (growth_refusals site r) (with_record r site, Applied)) site c.add.result
     (delivered-fit site r fit) (c.add.ensures site stands sound fit)
 
 pub invariant_of-self : goal.invariant_of-self
@@ -29,7 +28,7 @@ invariant_of-self c =
 pub returns-in-Known : goal.returns-in-Known
 returns-in-Known c = λ site stands sound.
     let told = sym (c.in_ok-judge.ensures.judged site stands sound) ∙ ap reply_of c.in-Known.is in
-    as-given (CoreStands c.args.self.now) (deliver_record so_far site c.args.rec) (site, Known) Known (delivered-known site c.args.rec told) (stands, refl)
+    as-given (CoreStands c.args.self.now) (deliver_record site c.args.rec) (site, Known) Known (delivered-known site c.args.rec told) (stands, refl)
 
 pub returns-in-Early : goal.returns-in-Early
 returns-in-Early c = λ site stands sound.
@@ -38,7 +37,7 @@ returns-in-Early c = λ site stands sound.
     let r = c.args.rec in
     let have = c.in-Early.have in
     let told = sym (c.in_ok-judge.ensures.judged site stands sound) ∙ ap reply_of c.in-Early.is in
-    as-given (CoreStands (record core { waiting = c.hold.new.self })) (deliver_record so_far site r) (with_held r site, Early have) (Early have) (delivered-early site r have told)
+    as-given (CoreStands (record core { waiting = c.hold.new.self })) (deliver_record site r) (with_held r site, Early have) (Early have) (delivered-early site r have told)
     (early-held core site r c.hold.new.self here c.hold.ensures.held, refl)
 
 pub returns-in-Refused : goal.returns-in-Refused

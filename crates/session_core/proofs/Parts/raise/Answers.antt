@@ -6,7 +6,6 @@ use Rattle.state_dag.specs.Table.{id_at}
 use Rattle.state_dag.specs.Stands.{Stands}
 use Rattle.ceiling_book.specs.Places.{ArePlaced}
 use Rattle.ceiling_book.specs.Floors.{RaisedIn}
-use Rattle.plain_site.specs.Built.{so_far}
 use Rattle.plain_site.specs.Answers.{refused}
 use Rattle.plain_site.specs.Site.{own_floor}
 use Rattle.plain_site.specs.FloorSteps.{raise}
@@ -27,7 +26,7 @@ returns-in-None-clause-given c = λ site stands sound.
     let table = subst (λ t. Stands t site.dag site.collected) (sym c.dag-dag.ensures) here.store.table in
     let known = sym (c.knows.ensures site.dag site.collected table) ∙ c.if-not-knows.false in
     let gone = c.in-None.ensures.none refl site.dag site.collected table in
-    let apart = gone-above site.dag sound.dag site.collected x (own_floor site).state known gone (λ y among. closed-above_own so_far site y sound (sound.collected.closed y among)) in
+    let apart = gone-above site.dag sound.dag site.collected x (own_floor site).state known gone (λ y among. closed-above_own site y sound (sound.collected.closed y among)) in
     let own = c.own_site.ensures.is ∙ here.own in
     let named = c.floor.ensures.floor core.store.table site.dag site.collected here.placed ∙ ap₂ (λ fs n. Some (floor_of fs n).state) here.floors own in
     let told = subst (λ t. id_at t c.floor.result.0 ≡ Some c.id_of.result) c.dag-dag.ensures c.id_of.ensures.is in

@@ -6,7 +6,6 @@ use Rattle.plain_dag.specs.Floors.{Floor, Sessions, automatic_floor}
 use Rattle.state_dag.specs.Stands.{Stands}
 use Rattle.ceiling_book.specs.Places.{ArePlaced}
 use Rattle.ceiling_book.specs.Floors.{AutoRaisedIn, FloorMoved}
-use Rattle.plain_site.specs.Built.{so_far}
 use Rattle.plain_site.specs.Site.{own_floor}
 use Rattle.plain_site.specs.FloorSteps.{raise_auto}
 use Rattle.plain_site.proofs.SoundCommits.{closed-above_own}
@@ -28,7 +27,7 @@ returns-clause-given c = λ site stands sound.
     let placed = subst (λ t. ArePlaced book t site.dag site.collected) c.dag-dag.ensures (c.raise_auto.ensures.placed site.dag site.collected table before) in
     let floor = same-floor core site here in
     let told = c.raise_auto.ensures.raised site.dag site.collected table before (λ x among.
-    subst (λ (f : Floor). is_proper_ancestor site.dag x f.state ≡ true) (sym floor) (closed-above_own so_far site x sound (sound.collected.closed x among))) in
+    subst (λ (f : Floor). is_proper_ancestor site.dag x f.state ≡ true) (sym floor) (closed-above_own site x sound (sound.collected.closed x among))) in
     let y = automatic_floor site.dag (own_floor site).state site.sessions in
     let is = ap₂ (λ (f : Floor) (ss : Sessions). automatic_floor site.dag f.state ss) floor here.sessions in
     elim c.match-raise_auto.branch [

@@ -4,7 +4,6 @@ use Rattle.tardis_base.specs.declared.replies.Refusal.TheVariants.{CeilingBack}
 use Rattle.plain_dag.specs.Entries.{entry_of}
 use Rattle.state_dag.specs.Table.{id_at}
 use Rattle.state_dag.specs.Stands.{Stands}
-use Rattle.plain_site.specs.Built.{so_far}
 use Rattle.plain_site.specs.Answers.{refused}
 use Rattle.plain_site.specs.Sessions.{set_ceiling}
 use Rattle.session_core.specs.Held.{seen}
@@ -25,7 +24,7 @@ returns-in-None-clause-given c = λ site stands sound.
     let s = open-session now site stands n c.in_ok-no_txn.ensures.open in
     let known = sym (c.knows.ensures site.dag site.collected table) ∙ c.if-not-knows.false in
     let gone = c.in-None.ensures.none refl site.dag site.collected table in
-    let apart = gone-above site.dag sound.dag site.collected x s.value.ceiling known gone (collected-above so_far site n s.value sound s.is) in
+    let apart = gone-above site.dag sound.dag site.collected x s.value.ceiling known gone (collected-above site n s.value sound s.is) in
     let named = c.ceiling.ensures.ceiling core.store.table site.dag site.collected here.placed s.value (ap (λ ss. entry_of n ss) here.sessions ∙ s.is) in
     let told = subst (λ t. id_at t c.ceiling.result ≡ Some c.id_of.result) c.dag-dag.ensures c.id_of.ensures.is in
     let same = same_Some s.value.ceiling c.id_of.result (sym named ∙ told) in (

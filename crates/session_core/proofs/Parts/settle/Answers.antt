@@ -1,5 +1,4 @@
 use Rattle.std.proofs.Common.{◌∙◌}
-use Rattle.plain_site.specs.Built.{so_far}
 use Rattle.plain_site.specs.Exchange.{judgements, is_fit, settle, settle_record}
 use Rattle.session_core.specs.Stands.{CoreStands}
 use Rattle.session_core.proofs.Answers.{as-answer}
@@ -10,5 +9,5 @@ pub returns-in-Some : goal.returns-in-Some
 returns-in-Some c = λ site stands sound.
     let place = c.in-Some.place in
     let at = fit-at (is_fit site) site.waiting place (c.in_ok-place.ensures.first site stands sound ∙ c.in-Some.is) in
-    as-answer (CoreStands c.settle_at.new.self) (settle so_far site) (settle_record so_far site (place, at.value)) site c.settle_at.result
+    as-answer (CoreStands c.settle_at.new.self) (settle site) (settle_record site (place, at.value)) site c.settle_at.result
     (settled-at site (place, at.value) at.first) (c.settle_at.ensures site stands sound at.value at.there (first-none (judgements site at.value) at.fit))

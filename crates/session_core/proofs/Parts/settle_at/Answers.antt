@@ -4,7 +4,6 @@ use Rattle.std.proofs.lemmas.Option.{same_Some}
 use Rattle.tardis_base.specs.declared.records.Record.{Record}
 use Rattle.tardis_base.specs.declared.replies.Reply.TheVariants.{Applied}
 use Rattle.record_store.specs.Answers.{AddedIn, MayArrive}
-use Rattle.plain_site.specs.Built.{so_far}
 use Rattle.plain_site.specs.Exchange.{settle_record, with_settled}
 use Rattle.session_core.specs.Exchange.{MaySettle}
 use Rattle.session_core.specs.Held.{seen}
@@ -40,7 +39,7 @@ returns-in_err-add_record c = λ site stands sound r there fit.
     let may = subst (λ q. MayArrive core.store.table.limits.sites site.dag site.collected q) (sym same) (subst (λ l. MayArrive l.sites site.dag site.collected r) (sym here.limits) arrives) in
     let fault = c.in_err-add_record.field-0.0 in
     let added = subst (λ q. AddedIn core.store c.add_record.new.self site.dag site.collected q (Err fault)) same (c.in_err-add_record.ensures.added site.dag site.collected here.store may) in
-    stopped (CoreStands (record core { store = c.add_record.new.self })) (settle_record so_far site (place, r)) site (add_stop fault) c.from_residual.result c.from_residual.ensures.1
+    stopped (CoreStands (record core { store = c.add_record.new.self })) (settle_record site (place, r)) site (add_stop fault) c.from_residual.result c.from_residual.ensures.1
     (growth-stops core site r c.add_record.new.self here (with_settled (place, r) site, Applied) fault added c.in_err-add_record.ensures.same.table)
 
 pub returns : goal.returns
@@ -54,6 +53,6 @@ returns c = λ site stands sound r there fit.
     let may = subst (λ q. MayArrive core.store.table.limits.sites site.dag site.collected q) (sym same) (subst (λ l. MayArrive l.sites site.dag site.collected r) (sym here.limits) arrives) in
     let slot = c.in_ok-add_record.field-0 in
     let added = subst (λ q. AddedIn core.store c.add_record.new.self site.dag site.collected q (Ok slot)) same (c.in_ok-add_record.ensures.added site.dag site.collected here.store may) in
-    as-given (CoreStands (record core { store = c.add_record.new.self; waiting = c.take.new.self })) (settle_record so_far site (place, r)) (with_settled (place, r) site, Applied) Applied
+    as-given (CoreStands (record core { store = c.add_record.new.self; waiting = c.take.new.self })) (settle_record site (place, r)) (with_settled (place, r) site, Applied) Applied
     (growth-free core site r c.add_record.new.self here (with_settled (place, r) site, Applied) slot added)
     (settled-site core site r place c.add_record.new.self c.take.new.self here c.take.ensures.rest added.1 c.add_record.ensures.keeps c.add_record.ensures.limits, refl)

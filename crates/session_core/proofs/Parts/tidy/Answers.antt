@@ -1,5 +1,4 @@
 use Rattle.std.proofs.Common.{sym, subst}
-use Rattle.plain_site.specs.Built.{so_far}
 use Rattle.session_core.specs.Held.{seen}
 use Rattle.session_core.specs.Stands.{CoreStands}
 use Rattle.session_core.proofs.Tidying.{core-together, tidy-gives, tidy-held}
@@ -9,7 +8,7 @@ pub tidy-collected-requires : goal.tidy-collected-requires
 tidy-collected-requires c =
     let site = c.requires.site in
     let here = subst (λ v. CoreStands v site) (sym c.self.view_is) c.requires.stands in
-    record { records = site.dag; collected = site.collected; together = core-together so_far (seen c.self.inside) site here c.requires.sound }
+    record { records = site.dag; collected = site.collected; together = core-together (seen c.self.inside) site here c.requires.sound }
 
 pub invariant_of-self : goal.invariant_of-self
 invariant_of-self c =
@@ -17,13 +16,13 @@ invariant_of-self c =
     let sound = c.requires.sound in
     let here = subst (λ v. CoreStands v site) (sym c.self.view_is) c.requires.stands in
     let told = c.tidy-collected.ensures in
-    let together = core-together so_far (seen c.self.inside) site here sound in
-    tidy-held so_far c.self.inside c.tidy-collected.new.store c.tidy-collected.new.book site c.args.n here sound (told.names site.dag site.collected together) c.self.invariant told.numbers told.promises told.slots
+    let together = core-together (seen c.self.inside) site here sound in
+    tidy-held c.self.inside c.tidy-collected.new.store c.tidy-collected.new.book site c.args.n here sound (told.names site.dag site.collected together) c.self.invariant told.numbers told.promises told.slots
 
 pub returns : goal.returns
 returns c = λ site stands sound.
     let here = subst (λ v. CoreStands v site) (sym c.self.view_is) stands in
     let told = c.tidy-collected.ensures in
-    let together = core-together so_far (seen c.self.inside) site here sound in
-    tidy-gives so_far (seen c.self.inside) c.tidy-collected.new.store c.tidy-collected.new.book site c.args.n here sound (told.names site.dag site.collected together) c.tidy-collected.result told.numbers told.promises
+    let together = core-together (seen c.self.inside) site here sound in
+    tidy-gives (seen c.self.inside) c.tidy-collected.new.store c.tidy-collected.new.book site c.args.n here sound (told.names site.dag site.collected together) c.tidy-collected.result told.numbers told.promises
     (told.tidied site.dag site.collected together) (told.count site.dag site.collected together)

@@ -1,5 +1,4 @@
 use Rattle.std.proofs.Common.{◌≡◌, subst}
-use Rattle.plain_site.specs.Built.{so_far}
 use Rattle.plain_site.specs.Site.{Site}
 use Rattle.plain_site.specs.Step.{step}
 use Rattle.session_core.specs.Gives.{Gives}
@@ -13,7 +12,7 @@ invariant_of-self c =
 
 pub returns-clause-given : goal.returns-clause-given
 returns-clause-given c =
-    subst (λ old. (site : Site) → SiteStands old site → Gives (SiteStands c.serve.new.self) (step so_far site c.args.actor c.args.request.now) site c.told.result) c.self.view_is
+    subst (λ old. (site : Site) → SiteStands old site → Gives (SiteStands c.serve.new.self) (step site c.args.actor c.args.request.now) site c.told.result) c.self.view_is
     (told-sound c.self.inside.parts c.serve.new.self c.args.actor c.args.request.now (small c.args.actor c.ranges.actor.fits) c.requires c.serve.result c.told.result c.told.ensures c.serve.ensures.given)
 
 pub returns-clause-told : goal.returns-clause-told

@@ -1,6 +1,5 @@
 use Rattle.std.proofs.Common.{◌≡◌, refl, subst}
 use Rattle.tardis_base.specs.declared.requests.Request.TheVariants.{Deliver}
-use Rattle.plain_site.specs.Built.{so_far}
 use Rattle.plain_site.specs.Exchange.{deliver}
 use Rattle.plain_site.specs.Site.{Site}
 use Rattle.session_core.specs.Gives.{Gives}
@@ -14,7 +13,7 @@ invariant_of-self c =
 
 pub returns-clause-given : goal.returns-clause-given
 returns-clause-given c =
-    subst (λ old. (site : Site) → SiteStands old site → Gives (SiteStands c.deliver.new.self) (deliver so_far site c.args.item) site c.told.result) c.self.view_is
+    subst (λ old. (site : Site) → SiteStands old site → Gives (SiteStands c.deliver.new.self) (deliver site c.args.item) site c.told.result) c.self.view_is
     (told-sound c.self.inside.parts c.deliver.new.self 0 (Deliver c.args.item) refl c.requires c.deliver.result c.told.result c.told.ensures c.deliver.ensures)
 
 pub returns-clause-told : goal.returns-clause-told

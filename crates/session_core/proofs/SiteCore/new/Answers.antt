@@ -2,7 +2,6 @@ use Rattle.std.proofs.Common.{ℕ, ◌≤◌, IsTrue, leb}
 use Rattle.std.proofs.lemmas.Bool.{and_from, le-leb}
 use Rattle.tardis_base.specs.Valid.{is_within}
 use Rattle.plain_site.specs.Site.{opening}
-use Rattle.plain_site.specs.Built.{so_far}
 use Rattle.plain_site.proofs.SoundOpening.{opening-is-sound}
 use Rattle.session_core.proofs.SiteCore.new.Goals as goal
 
@@ -14,8 +13,8 @@ invariant_of-result c =
     record {
       site = opening c.args.limits c.args.own;
       stands = c.in_ok-parts.ensures.stands;
-      sound = opening-is-sound so_far c.args.limits c.args.own c.requires.limits (within 1 c.args.limits.sites c.args.own c.requires.first c.requires.last);
+      sound = opening-is-sound c.args.limits c.args.own c.requires.limits (within 1 c.args.limits.sites c.args.own c.requires.first c.requires.last);
     }
 
 pub returns-clause-sound : goal.returns-clause-sound
-returns-clause-sound c = opening-is-sound so_far c.args.limits c.args.own c.requires.limits (within 1 c.args.limits.sites c.args.own c.requires.first c.requires.last)
+returns-clause-sound c = opening-is-sound c.args.limits c.args.own c.requires.limits (within 1 c.args.limits.sites c.args.own c.requires.first c.requires.last)

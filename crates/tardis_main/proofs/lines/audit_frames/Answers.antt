@@ -1,7 +1,6 @@
 use Rattle.tardis_io.proofs.Told.{same, weaker}
 use Rattle.tardis_io.specs.declared.statuses.Status.TheVariants.{NoMemory}
 use Rattle.plain_site.specs.Site.{opening}
-use Rattle.plain_site.specs.Built.{so_far}
 use Rattle.plain_site.specs.Step.{site_machine}
 use Rattle.session_core.specs.Machine.{SiteStands}
 use Rattle.shell_run.specs.Answers.{over_lines}
@@ -18,7 +17,7 @@ returns-in-Ok-clause-audit g c =
     let old = g.O.Sink.given c.args.output.now in
     let new = g.O.Sink.given c.audit.new.output in
     weaker (g.I.Source.left c.args.input.now) (g.I.Source.left c.audit.new.input)
-    (AuditOutcome (site_machine so_far) status (SiteStands c.in-Ok.site) (SiteStands c.audit.new.machine) old new)
+    (AuditOutcome site_machine status (SiteStands c.in-Ok.site) (SiteStands c.audit.new.machine) old new)
     (AuditFrom site status old new)
     c.audit.ensures.outcome
     (λ x y o. audit_from site (SiteStands c.in-Ok.site) (SiteStands c.audit.new.machine) status old new x y

@@ -1,7 +1,6 @@
 use Rattle.tardis_io.proofs.Told.{same, weaker}
 use Rattle.tardis_io.specs.declared.statuses.Status.TheVariants.{NoMemory}
 use Rattle.plain_site.specs.Site.{opening}
-use Rattle.plain_site.specs.Built.{so_far}
 use Rattle.plain_site.specs.Step.{site_machine}
 use Rattle.session_core.specs.Machine.{SiteStands}
 use Rattle.shell_run.specs.Answers.{over_lines}
@@ -18,7 +17,7 @@ returns-in-Ok-clause-shell g c =
     let old = g.O.Sink.given c.args.output.now in
     let new = g.O.Sink.given c.run_shell.new.output in
     weaker (g.I.Source.left c.args.input.now) (g.I.Source.left c.run_shell.new.input)
-    (ShellOutcome (over_lines (site_machine so_far)) status (SiteStands c.in-Ok.site) (SiteStands c.run_shell.new.machine) old new)
+    (ShellOutcome (over_lines site_machine) status (SiteStands c.in-Ok.site) (SiteStands c.run_shell.new.machine) old new)
     (ShellFrom site status old new)
     c.run_shell.ensures.outcome
     (λ x y o. shell_from site (SiteStands c.in-Ok.site) (SiteStands c.run_shell.new.machine) status old new x y

@@ -3,4 +3,4 @@ use Rattle.std.specs.Str.Parse.{digits_value}
 use Rattle.text_words.proofs.words.number_of.Given as goal
 
 abbrev pub invariant-loop-byte : goal.invariant-loop-byte
-invariant-loop-byte l = (l.number ≡ digits_value 10 (take l.byte-index l.word)) × (l.number < 2 ^ 40)
+invariant-loop-byte l = (l.number ≡ digits_value 10 (take l.byte-index l.word)) × (l.number < 2 ^ 72)
