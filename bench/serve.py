@@ -1,7 +1,9 @@
 #!/usr/bin/env python3
-"""Measures `tardisd` beside `redis-server`, over Unix sockets, in the same run.
+"""Measures `tardisd` and `tardis serve` beside `redis-server`, over Unix sockets, in the same run.
 
-usage: bench/serve.py TARDISD [REDIS-SERVER]
+usage: bench/serve.py [--tardisd PROGRAM] [--tardis PROGRAM] [--redis PROGRAM]
+
+The programs are those that the last build left and the redis-server on the PATH; one that isn't there is left out.
 
 Each line is a shape: the connections, whether requests are pipelined (all sent at once) or each waits for the reply to
 the one before; and for each server so many transactions or reads a second, and the microseconds of a processor that one
@@ -11,6 +13,7 @@ value of 32 bytes. Redis keeps all in memory, without snapshots or a log. The cl
 bounds what can be seen with many connections; it counts bytes, since the length of each reply is known.
 """
 
+import argparse
 import os
 import select
 import shutil
@@ -30,10 +33,14 @@ def frame(body):
     return struct.pack(">I", len(body)) + body
 
 
-class Tardis:
-    name = "tardisd"
+TOP = os.path.dirname(os.path.dirname(os.path.abspath(__file__)))
 
-    def __init__(self, program, path):
+
+class Tardisd:
+    name = "tardisd"
+    most = 256
+
+    def __init__(self, program, path, many):
         self.words = [program, "--listen", "unix:" + path]
 
     def transaction(self, key):
@@ -53,14 +60,23 @@ class Tardis:
         return (frame(b"\x03" + bytes([len(key)]) + key), 45)
 
 
+class Serve(Tardisd):
+    name = "tardis serve"
+    most = 64
+
+    def __init__(self, program, path, many):
+        self.words = [program, "serve", "--listen", "unix:" + path, "--links", str(many)]
+
+
 def command(*words):
     return b"*%d\r\n" % len(words) + b"".join(b"$%d\r\n%s\r\n" % (len(word), word) for word in words)
 
 
 class Redis:
     name = "redis-server"
+    most = 10_000
 
-    def __init__(self, program, path):
+    def __init__(self, program, path, many):
         self.words = [program, "--port", "0", "--unixsocket", path, "--save", "", "--appendonly", "no", "--dir", os.path.dirname(path)]
 
     def transaction(self, key):
@@ -153,7 +169,7 @@ def measure(made, program, count, many, reads, at_once):
     this alone."""
     folder = tempfile.mkdtemp()
     path = os.path.join(folder, "s")
-    server = made(program, path)
+    server = made(program, path, many)
     process = subprocess.Popen(server.words, stdin=subprocess.DEVNULL, stdout=subprocess.DEVNULL, stderr=subprocess.DEVNULL)
     try:
         connections = [connect(path) for _ in range(many)]
@@ -177,20 +193,26 @@ def measure(made, program, count, many, reads, at_once):
         shutil.rmtree(folder)
 
 
+def programs():
+    """The servers that there are, each with its program."""
+    parser = argparse.ArgumentParser(description=__doc__, formatter_class=argparse.RawDescriptionHelpFormatter)
+    parser.add_argument("--tardisd", default=os.path.join(TOP, "crates", "tardisd", "out", "tardisd"))
+    parser.add_argument("--tardis", default=os.path.join(TOP, "crates", "tardis", "out", "tardis"))
+    parser.add_argument("--redis", default=shutil.which("redis-server") or "")
+    told = parser.parse_args()
+    named = [(Tardisd, told.tardisd), (Serve, told.tardis), (Redis, told.redis)]
+    return [(made, program) for made, program in named if os.access(program, os.X_OK)]
+
+
 def main():
-    words = sys.argv[1:]
-    if not 1 <= len(words) <= 2:
-        sys.exit(__doc__)
-    programs = [(Tardis, words[0])]
-    redis = words[1] if len(words) > 1 else shutil.which("redis-server")
-    if redis:
-        programs.append((Redis, redis))
+    found = programs()
     for at_once, many in (True, 1), (False, 1), (False, 8), (False, 50), (False, 250):
         for reads, count in (False, TRANSACTIONS), (True, READS * (5 if at_once else 1)):
             told = []
-            for made, program in programs:
-                runs = [measure(made, program, count, many, reads, at_once) for _ in range(3)]
-                told.append("%s %d (%.1f us)" % (made.name, max(run[0] for run in runs), 1e6 * min(run[1] for run in runs)))
+            for made, program in found:
+                if many <= made.most:
+                    runs = [measure(made, program, count, many, reads, at_once) for _ in range(3)]
+                    told.append("%s %d (%.1f us)" % (made.name, max(run[0] for run in runs), 1e6 * min(run[1] for run in runs)))
             what = "%3d %s, %s" % (many, "pipelined" if at_once else "by turns", "reads" if reads else "transactions")
             print("%-32s %s" % (what, "   ".join(told)), flush=True)
 

@@ -31,6 +31,7 @@ def opens(follow=False):
 
 BEGIN_ANY, BEGIN_ANCESTOR = b"\x02\x00", b"\x02\x01"
 ABORT, MERGE_LEAVES, FORK_POINTS, CONFLICTS, LEAVES = b"\x07", b"\x08\x00", b"\x09", b"\x0a\x00", b"\x12"
+STAT = b"\x10"
 SERIALIZABLE, UNCONSTRAINED = b"\x06\x01\x00\x00", b"\x06\x00\x00\x00"
 
 
@@ -218,6 +219,13 @@ def one_tidy(states, asked):
         yield frame(0, tidy(65_535))
 
 
+def stats(states, asked, count):
+    """the same, and then so many Stats"""
+    yield from one_tidy(states, asked)
+    for _ in range(count):
+        yield frame(0, STAT)
+
+
 SHAPES = {
     "gets": [gets()],
     "puts": [puts()],
@@ -241,6 +249,8 @@ SHAPES = {
     "chain 40,000, tidied to 15,000": [tidied_chain(40_000, 15_000)],
     "one Tidy of 16,000": [one_tidy(16_000, True), one_tidy(16_000, False)],
     "one Tidy of 2,000": [one_tidy(2_000, True), one_tidy(2_000, False)],
+    "Stat of 16,000 states": [stats(16_000, False, 20_000), stats(16_000, False, 0)],
+    "Stat once they are collected": [stats(16_000, True, 20_000), stats(16_000, True, 0)],
     "refused in a full store": [refused(16_383, 4_000), refused(16_383, 0)],
 }
 

@@ -28,6 +28,7 @@ PATIENCE = 20
 LONGEST_FRAME = 1_048_576
 
 OPEN, BEGIN, CLOSE = b"\x01\x00", b"\x02\x00", b"\x15"
+OPEN_FOLLOWING, STAT = b"\x01\x01", b"\x10"
 COMMIT, COMMIT_FREELY = b"\x06\x01\x00\x00", b"\x06\x00\x00\x00"
 OPENED, BEGUN = b"\x01" + bytes(6), b"\x02" + bytes(6)
 DONE = b"\x07"
@@ -164,8 +165,6 @@ class Words(unittest.TestCase):
             status, told, line = run_words(*words)
             self.assertEqual((status, told), (1, ""), words)
             self.assertTrue(line.startswith("usage: tardisd --listen ADDR"), line)
-        status, told, line = run_words("--listen", self.address, "--tidy")
-        self.assertEqual((status, told, line), (1, "", "tardisd: --tidy isn't built yet\n"))
         self.assertEqual(os.listdir(self.folder), [])
 
     def test_gate_faults_are_named(self):
@@ -221,6 +220,27 @@ class Words(unittest.TestCase):
         with server.connect() as connection:
             told = ask(connection, OPEN, BEGIN, put(b"x", b"1"), COMMIT)
         self.assertEqual(told, [OPENED, BEGUN, DONE, b"\x08" + state(2, 1) + b"\x01" + state(0, 0)])
+
+    def kept_after(self, commits, words):
+        """How many states a server knows and keeps after so many commits of a session that follows."""
+        server = Server(self.address, words)
+        self.addCleanup(server.end)
+        with server.connect() as connection:
+            self.assertEqual(ask(connection, OPEN_FOLLOWING), [OPENED])
+            for place in range(commits):
+                told = ask(connection, BEGIN, put(b"x", b"%d" % place), COMMIT)
+                self.assertEqual(told[2][:7], b"\x08" + state(1, place + 1))
+            (stat,) = ask(connection, STAT)
+            self.assertEqual(ask(connection, BEGIN, get(b"x"))[1][7:], b"\x00\x03999")
+        return struct.unpack(">QI", stat[1:13])
+
+    def test_a_server_that_collects_keeps_few_states(self):
+        known, kept = self.kept_after(1000, ("--tidy",))
+        self.assertEqual(known, 1001)
+        self.assertLess(kept, 130)
+
+    def test_a_server_that_does_not_collect_keeps_all(self):
+        self.assertEqual(self.kept_after(1000, ()), (1001, 1001))
 
 
 class Connections:

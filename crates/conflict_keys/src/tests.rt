@@ -7,6 +7,7 @@ ghost use Rattle.state_dag.specs.Table.{is_slot};
 use crate::{conflicts, first_open, open_conflict, value_over};
 use record_store::RecordStore;
 use std::alloc::Global;
+use std::hash::RandomState;
 use std::test::Fail;
 use tardis_base::{AddFault, Found, Key, Limits, NoMemory, Over, Slot, StateId, Write, WriteSet};
 
@@ -57,10 +58,10 @@ fn deletes(alloc: Global, keys: &[&[u8]]) -> Result<WriteSet, NoMemory> {
 }
 
 /// A store of two states below the root, with their slots. Both delete c and d, the first a, and the second b.
-fn forked(alloc: Global) -> Result<(RecordStore, [Slot; 2]), AddFault>
+fn forked(alloc: Global, keys: RandomState) -> Result<(RecordStore, [Slot; 2]), AddFault>
     ensures { IfOk result (λ made. IsTrue (list_all (is_slot made.0.table) made.1)) }
 {
-    let mut store = RecordStore::new(alloc, &LIMITS)?;
+    let mut store = RecordStore::new(alloc, keys, &LIMITS)?;
     add_below_root(&mut store, &deletes(alloc, &[b"a", b"c", b"d"])?)?;
     add_below_root(&mut store, &deletes(alloc, &[b"b", b"c", b"d"])?)?;
     match (store.dag().slot_of(state(1)), store.dag().slot_of(state(2))) {
@@ -71,7 +72,7 @@ fn forked(alloc: Global) -> Result<(RecordStore, [Slot; 2]), AddFault>
 
 #[test]
 fn two_states_conflict_in_what_both_write(rt: HostRuntime) -> Result<(), Fail> {
-    let (store, states) = forked(rt.alloc()).expect(&rt, "memory");
+    let (store, states) = forked(rt.alloc(), RandomState::new(&rt)?).expect(&rt, "memory");
     for (after, total) in [(b"".as_slice(), 2), (b"c", 1), (b"d", 0)] {
         let page = conflicts(rt.alloc(), &store, &states, after)?;
         assert_eq!(rt; page.total, total);
@@ -82,7 +83,7 @@ fn two_states_conflict_in_what_both_write(rt: HostRuntime) -> Result<(), Fail> {
 
 #[test]
 fn a_key_is_read_over_two_states(rt: HostRuntime) -> Result<(), Fail> {
-    let (store, states) = forked(rt.alloc()).expect(&rt, "memory");
+    let (store, states) = forked(rt.alloc(), RandomState::new(&rt)?).expect(&rt, "memory");
     let over = [
         (
             b"a".as_slice(),
@@ -104,7 +105,7 @@ fn a_key_is_read_over_two_states(rt: HostRuntime) -> Result<(), Fail> {
 #[test]
 fn what_is_not_written_again_stays_open(rt: HostRuntime) -> Result<(), Fail> {
     let alloc = rt.alloc();
-    let (store, states) = forked(alloc).expect(&rt, "memory");
+    let (store, states) = forked(alloc, RandomState::new(&rt)?).expect(&rt, "memory");
     let least = key(alloc, b"d")?;
     let written = deletes(alloc, &[b"c"])?;
     assert!(rt; first_open(&store, &states, &written) == Some(&least));

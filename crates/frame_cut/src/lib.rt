@@ -13,3 +13,4 @@ pub use cutters::{Cut, FrameCutter};
 pub use events::event;
 pub use heads::put_frame;
 pub use laws::one_cut;
+pub use moves::keep_rest;

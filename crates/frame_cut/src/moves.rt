@@ -2,9 +2,9 @@
 
 ghost use Rattle.std.specs.Prelude.{◌≡◌, ◌-◌, ◌≤◌, length, take, drop, vec_capacity};
 
-/// Keeps the bytes from `start` on, and the room.
+/// Keeps the bytes from `start` on, and the room. The cost grows with the bytes that are kept, which are moved.
 #[tactic(auto, using(std::proofs::lemmas::List::take_rest))]
-pub(crate) fn keep_rest(buf: &mut Vec<u8>, start: usize)
+pub fn keep_rest(buf: &mut Vec<u8>, start: usize)
     requires { start ≤ length buf.old.items }
     ensures rest { buf.new.items ≡ drop start buf.old.items }
     ensures room { vec_capacity buf.new ≡ vec_capacity buf.old }

@@ -1,7 +1,10 @@
 -- A run from its start to its end.
-use Rattle.std.proofs.Common.{◌≡◌, ℕ, ◌+◌, List, [], ◌∷◌, ◌++◌, length, Option, Some, None, refl, sym, ap, ◌∙◌, subst, arith, append_assoc}
+use Rattle.std.proofs.Common.{◌≡◌, ℕ, ◌+◌, ◌-◌, ◌==◌, ◌≤◌, Bool, true, false, ◌⊎◌, inl, inr, List, [], ◌∷◌, ◌++◌, length, Option, Some, None, refl, sym, ap, ◌∙◌, subst, arith, append_assoc}
+use Rattle.std.specs.Prelude.{nat_le, if◌then◌else◌}
 use Rattle.std.proofs.lemmas.List.{append-nil}
+use Rattle.std.proofs.lemmas.Bool.{cases_Bool, le-leb, leb-true, eq-eqb, eqb-true, false_from_ne_true}
 use Rattle.tardis_base.specs.Plain.{PlainMachine}
+use Rattle.hub.specs.declared.upkeeps.Tally.{Tally}
 use Rattle.hub.specs.declared.ports.Ready.{Ready}
 use Rattle.hub.specs.declared.ports.Ready.TheVariants.{Stop}
 use Rattle.hub.specs.declared.ports.Seen.{Seen}
@@ -9,9 +12,13 @@ use Rattle.hub.specs.declared.ports.Seen.TheVariants.{Offered}
 use Rattle.hub.specs.declared.serves.End.TheVariants.{Stopped, Spent}
 use Rattle.hub.specs.Lines.{LineState, line_at}
 use Rattle.hub.specs.Telling.{Tells}
-use Rattle.hub.specs.Turns.{Turn, calls_of, calls_in}
+use Rattle.hub.specs.Upkeeps.{UpkeepRule, counted, whole_tally, noted, due_by}
+use Rattle.hub.specs.Answering.{Asked}
+use Rattle.hub.specs.Turns.{Turn, Rested, Opened, Missed, TurnedAway, Received, Sent, Ended, KeptUp, talk, calls_of, calls_in}
+use Rattle.hub.specs.Timing.{since, due, IsTimely}
 use Rattle.hub.specs.Runs.{IsRun}
-use Rattle.hub.specs.Keeping.{Fits, Keeps, GoesOn, Turned, Led}
+use Rattle.hub.specs.Keeping.{Fits, Keeps, IsNoted, IsTally, GoesOn, Turned, Led}
+use Rattle.hub.proofs.Holding.{each_talk}
 use Rattle.hub.proofs.Turning.{tells_none}
 
 -- what was told, and then more
@@ -33,53 +40,133 @@ pub tells_lost : (o n : Option (List Seen)) (calls : List Seen) → n ≡ None �
 tells_lost o n calls none = subst (λ z. Tells o z calls) (sym none) (tells_no_more o calls)
 
 -- an offer, and what was done of it
-pub turned : {S : Type 0} (m : PlainMachine S) (from to : S → Type 0) (old new : List (Option LineState)) (offer : Ready) (a b c : Option (List Seen)) → Tells a b (Offered offer ∷ []) → GoesOn m from to old new offer b c → Turned m from to old new a c
-turned m from to old new offer a b c p goes s turns keeps =
+pub turned : {S : Type 0} (m : PlainMachine S) (from to : S → Type 0) (old new : List (Option LineState)) (offer : Ready) (tally next : Tally) (a b c : Option (List Seen)) → Tells a b (Offered offer ∷ []) → GoesOn m from to old new offer tally next b c → Turned m from to old new tally next a c
+turned m from to old new offer tally next a b c p goes s turns keeps =
     let w = goes s turns keeps in
-    (w.0, (w.1.0, subst (λ calls. Tells a c calls) (sym w.1.1.1.0) (tells_then a b c (Offered offer ∷ []) w.1.1.0 p w.1.1.1.1)))
+    (w.0, (w.1.0, (w.1.1.0, subst (λ calls. Tells a c calls) (sym w.1.1.1.1.0) (tells_then a b c (Offered offer ∷ []) w.1.1.1.0 p w.1.1.1.1.1))))
 
 -- no turn yet
-pub led_start : {S : Type 0} (m : PlainMachine S) (from : S → Type 0) (s : S) (lines : List (Option LineState)) (a : Option (List Seen)) → from s → ((n : ℕ) → line_at lines n ≡ None) → Led m from s lines a a 0
-led_start m from s lines a f free = record {
+all_left : (rule : UpkeepRule) → whole_tally (Some rule) ≡ record { code = rule.code; left = rule.after - 0 }
+all_left rule =
+    let all : rule.after ≡ rule.after - 0 = omega arith in
+    ap (λ n. record { code = rule.code; left = n }) all
+
+tally_start : (rule : Option UpkeepRule) → IsTally rule (whole_tally rule) []
+tally_start None = tt
+tally_start (Some rule) = all_left rule
+
+pub led_start : {S : Type 0} (m : PlainMachine S) (rule : Option UpkeepRule) (from : S → Type 0) (s : S) (lines : List (Option LineState)) (tally : Tally) (a : Option (List Seen)) → from s → ((n : ℕ) → line_at lines n ≡ None) → tally ≡ whole_tally rule → Led m rule from s lines tally a a 0
+led_start m rule from s lines tally a f free whole = record {
   turns = [];
   keeps = record { state = s; ran = refl; stands = f; served = tt; fits = λ n. subst (λ l. Fits None l) (sym (free n)) tt };
   seen = tells_none a;
   many = refl;
+  timely = tt;
+  tallied = subst (λ t. IsTally rule t []) (sym whole) (tally_start rule);
 }
 
--- one turn more
-pub led_more : {S : Type 0} (m : PlainMachine S) (from to : S → Type 0) (s : S) (old new : List (Option LineState)) (a b c : Option (List Seen)) (count : ℕ) → Led m from s old a b count → Turned m from to old new b c → Led m to s new a c (count + 1)
-led_more m from to s old new a b c count led goes =
+-- what is due is what the tally says
+due_some : (rule : UpkeepRule) (n left : ℕ) → left ≡ rule.after - n → nat_le rule.after n ≡ (left == 0)
+due_some rule n left is = elim (cases_Bool (left == 0)) [
+  | inl none ↦ le-leb rule.after n (omega (arith, is, eqb-true left 0 none)) ∙ sym none
+  | inr some ↦ false_from_ne_true (nat_le rule.after n) (λ few. cc (eq-eqb left 0 (omega (arith, is, leb-true rule.after n few)), some)) ∙ sym some
+]
+
+pub due_is : (rule : Option UpkeepRule) (tally : Tally) (turns : List Turn) → IsTally rule tally turns → due rule turns ≡ due_by tally rule
+due_is None tally turns is = refl
+due_is (Some rule) tally turns is =
+    ap (λ b. if b then Some rule.requests else None) (due_some rule (since rule.code turns) tally.left (ap (λ t. t.left) is))
+
+-- the next turn is one of the edge where nothing is due
+timely_more : (rule : Option UpkeepRule) (tally next : Tally) (older : List Turn) (turn : Turn) → IsNoted tally next turn → due rule older ≡ None → IsTimely rule older turn
+timely_more rule tally next older (Rested offer) p none = none
+timely_more rule tally next older (Opened slot) p none = none
+timely_more rule tally next older (Missed slot) p none = none
+timely_more rule tally next older TurnedAway p none = none
+timely_more rule tally next older (Received slot room came bodies replies) p none = none
+timely_more rule tally next older (Sent slot offered wrote bodies replies) p none = none
+timely_more rule tally next older (Ended slot) p none = none
+timely_more rule tally next older (KeptUp bodies replies) p none = absurd p
+
+-- and its replies are counted
+noted_since : (rule : UpkeepRule) (tally next : Tally) (n : ℕ) (replies : List (List ℕ)) → tally ≡ record { code = rule.code; left = rule.after - n } → next ≡ noted tally replies → next ≡ record { code = rule.code; left = rule.after - (n + counted rule.code replies) }
+noted_since rule tally next n replies is p =
+    let less : (rule.after - n) - counted rule.code replies ≡ rule.after - (n + counted rule.code replies) = omega arith in
+    subst (λ t. next ≡ noted t replies) is p ∙ ap (λ k. record { code = rule.code; left = k }) less
+
+tally_more : (rule : Option UpkeepRule) (tally next : Tally) (older : List Turn) (turn : Turn) → IsTally rule tally older → IsNoted tally next turn → IsTally rule next (turn ∷ older)
+tally_more None tally next older turn is p = tt
+tally_more (Some rule) tally next older (Rested offer) is p = p ∙ is
+tally_more (Some rule) tally next older (Opened slot) is p = p ∙ is
+tally_more (Some rule) tally next older (Missed slot) is p = p ∙ is
+tally_more (Some rule) tally next older TurnedAway is p = p ∙ is
+tally_more (Some rule) tally next older (Received slot room came bodies replies) is p = noted_since rule tally next (since rule.code older) replies is p
+tally_more (Some rule) tally next older (Sent slot offered wrote bodies replies) is p = noted_since rule tally next (since rule.code older) replies is p
+tally_more (Some rule) tally next older (Ended slot) is p = p ∙ is
+tally_more (Some rule) tally next older (KeptUp bodies replies) is p = absurd p
+
+-- the count begins anew with an upkeep
+kept_tally : (rule : Option UpkeepRule) (next : Tally) (bodies replies : List (List ℕ)) (older : List Turn) → next ≡ whole_tally rule → IsTally rule next (KeptUp bodies replies ∷ older)
+kept_tally None next bodies replies older whole = tt
+kept_tally (Some rule) next bodies replies older whole = whole ∙ all_left rule
+
+-- one turn of the edge more
+pub led_more : {S : Type 0} (m : PlainMachine S) (rule : Option UpkeepRule) (from to : S → Type 0) (s : S) (old new : List (Option LineState)) (tally next : Tally) (a b c : Option (List Seen)) (count : ℕ) → Led m rule from s old tally a b count → due_by tally rule ≡ None → Turned m from to old new tally next b c → Led m rule to s new next a c (count + 1)
+led_more m rule from to s old new tally next a b c count led none goes =
     let w = goes s led.turns led.keeps in
     record {
       turns = w.0 ∷ led.turns;
       keeps = w.1.0;
-      seen = tells_then a b c (calls_in led.turns) (calls_of w.0) led.seen w.1.1;
+      seen = tells_then a b c (calls_in led.turns) (calls_of w.0) led.seen w.1.1.1;
       many = omega (arith, led.many);
+      timely = (timely_more rule tally next led.turns w.0 w.1.1.0 (due_is rule tally led.turns led.tallied ∙ none), led.timely);
+      tallied = tally_more rule tally next led.turns w.0 led.tallied w.1.1.0;
+    }
+
+-- an upkeep more
+pub led_kept : {S : Type 0} (m : PlainMachine S) (rule : Option UpkeepRule) (from to : S → Type 0) (s : S) (lines : List (Option LineState)) (tally next : Tally) (a b : Option (List Seen)) (count : ℕ) (bodies : List (List ℕ)) → Led m rule from s lines tally a b count → due_by tally rule ≡ Some bodies → next ≡ whole_tally rule
+    → ((u : S) → from u → Asked m to bodies u) → Led m rule to s lines next a b (count + 1)
+led_kept m rule from to s lines tally next a b count bodies led is whole asked =
+    let k = asked led.keeps.state led.keeps.stands in
+    record {
+      turns = KeptUp bodies k.replies ∷ led.turns;
+      keeps = record {
+        state = k.state;
+        ran = (led.keeps.state, (led.keeps.ran, k.answers));
+        stands = k.stands;
+        served = (tt, (λ n. each_talk (talk n led.turns) (line_at lines n) (led.keeps.fits n), led.keeps.served));
+        fits = led.keeps.fits;
+      };
+      seen = subst (λ calls. Tells a b calls) (sym (append-nil (calls_in led.turns))) led.seen;
+      many = omega (arith, led.many);
+      timely = (due_is rule tally led.turns led.tallied ∙ is, led.timely);
+      tallied = kept_tally rule next bodies k.replies led.turns whole;
     }
 
 -- the edge said stop
-pub run_stopped : {S : Type 0} (m : PlainMachine S) (to : S → Type 0) (s : S) (lines : List (Option LineState)) (a b c : Option (List Seen)) (count : ℕ) → Led m to s lines a b count → Tells b c (Offered Stop ∷ []) → IsRun m to s Stopped a c
-run_stopped m to s lines a b c count led stop = record {
+pub run_stopped : {S : Type 0} (m : PlainMachine S) (rule : Option UpkeepRule) (to : S → Type 0) (s : S) (lines : List (Option LineState)) (tally : Tally) (a b c : Option (List Seen)) (count : ℕ) → Led m rule to s lines tally a b count → due_by tally rule ≡ None → Tells b c (Offered Stop ∷ []) → IsRun m rule to s Stopped a c
+run_stopped m rule to s lines tally a b c count led none stop = record {
   turns = led.turns;
   state = led.keeps.state;
   ran = led.keeps.ran;
   stands = led.keeps.stands;
   served = led.keeps.served;
   seen = tells_then a b c (calls_in led.turns) (Offered Stop ∷ []) led.seen stop;
-  count = tt;
+  timely = led.timely;
+  ended = due_is rule tally led.turns led.tallied ∙ none;
 }
 
 -- as many turns were made as may be
-pub run_spent : {S : Type 0} (m : PlainMachine S) (to : S → Type 0) (s : S) (lines : List (Option LineState)) (a b : Option (List Seen)) (count : ℕ) → Led m to s lines a b count → count ≡ 18446744073709551615 → IsRun m to s Spent a b
-run_spent m to s lines a b count led all = record {
+pub run_spent : {S : Type 0} (m : PlainMachine S) (rule : Option UpkeepRule) (to : S → Type 0) (s : S) (lines : List (Option LineState)) (tally : Tally) (a b : Option (List Seen)) (count : ℕ) → Led m rule to s lines tally a b count → count ≡ 18446744073709551615 → IsRun m rule to s Spent a b
+run_spent m rule to s lines tally a b count led all = record {
   turns = led.turns;
   state = led.keeps.state;
   ran = led.keeps.ran;
   stands = led.keeps.stands;
   served = led.keeps.served;
   seen = tells_then a b b (calls_in led.turns) [] led.seen (tells_none b);
-  count = led.many ∙ all;
+  timely = led.timely;
+  ended = led.many ∙ all;
 }
 
 -- a free slot behind free ones

@@ -1,11 +1,18 @@
 -- Requests that are cut from bytes and answered, one after another.
-use Rattle.std.proofs.Common.{◌≡◌, ℕ, ◌+◌, ◌-◌, ◌≤◌, ◌<◌, min, Bool, true, false, List, [], ◌∷◌, ◌++◌, length, take, drop, ◌⊎◌, map, refl, sym, ap, ◌∙◌, subst, inl, inr, arith, append_assoc}
-use Rattle.std.proofs.lemmas.List.{append-nil, map-append, length-append, take_all}
+use Rattle.std.proofs.Common.{◌≡◌, ℕ, ◌+◌, ◌-◌, ◌≤◌, ◌<◌, min, Bool, true, false, List, [], ◌∷◌, ◌++◌, length, take, drop, get_or, ◌⊎◌, map, refl, sym, ap, ◌∙◌, subst, inl, inr, arith, append_assoc}
+use Rattle.std.specs.Prelude.{filter}
+use denote.Ref.{Bor}
+use Rattle.std.proofs.Math.Seq.{take-suc}
+use Rattle.std.proofs.lemmas.List.{append-nil, map-append, length-append, length-map, take_all, get_or-map}
+use Rattle.std.proofs.lemmas.List.Elements.{filter-append}
+use Rattle.std.proofs.lemmas.Bool.{false_from_ne_true}
 use Rattle.tardis_base.specs.Plain.{Event, PlainMachine, Answers, no_memory}
 use Rattle.frame_cut.specs.Frames.{frame, frames, IsBody, IsPartial, Cuts}
 use Rattle.frame_cut.proofs.Joins.{frames-append, more_bodies}
 use Rattle.frame_cut.proofs.Words.{length-frame}
-use Rattle.hub.specs.Answering.{asks, Replied, Answered, Serves}
+use Rattle.hub.specs.declared.upkeeps.Tally.{Tally}
+use Rattle.hub.specs.Upkeeps.{begins_with, counted, noted}
+use Rattle.hub.specs.Answering.{asks, Replied, Answered, Serves, Asked}
 use Rattle.hub.specs.Lines.{IsStopped}
 
 -- answers, and then more answers
@@ -20,11 +27,16 @@ answers_append m s [] fs (y ∷ ys) zs t u p q = absurd p
 answers_append m s (e ∷ es) fs [] zs t u p q = absurd p
 
 -- nothing was cut yet
-abbrev pub serves_none : {S : Type 0} (m : PlainMachine S) (from : S → Type 0) (actor : ℕ) (held waiting : List ℕ) → Serves m from from actor held held waiting waiting
-serves_none m from actor held waiting = record {
+pub noted_none : (tally : Tally) → tally ≡ noted tally []
+noted_none tally =
+    let all : tally.left ≡ tally.left - 0 = omega arith in
+    ap (λ n. record { code = tally.code; left = n }) all
+
+abbrev pub serves_none : {S : Type 0} (m : PlainMachine S) (from : S → Type 0) (actor : ℕ) (held waiting : List ℕ) (tally : Tally) → Serves m from from actor held held waiting waiting tally tally
+serves_none m from actor held waiting tally = record {
   bodies = [];
   read = record { whole = refl; each = tt };
-  answered = λ s f. record { replies = []; state = s; answers = refl; stands = f; put = sym (append-nil waiting) };
+  answered = λ s f. record { replies = []; state = s; answers = refl; stands = f; put = sym (append-nil waiting); counts = noted_none tally };
 }
 
 -- one body is at the front
@@ -37,9 +49,19 @@ one_body bytes body rest fits is = record {
 frames_one : (replies : List (List ℕ)) (reply : List ℕ) → frames (replies ++ reply ∷ []) ≡ frames replies ++ frame reply
 frames_one replies reply = frames-append replies (reply ∷ []) ∙ ap (λ z. frames replies ++ z) (append-nil (frame reply))
 
+-- replies are counted, and then more
+pub counted_append : (code : ℕ) (xs ys : List (List ℕ)) → counted code (xs ++ ys) ≡ counted code xs + counted code ys
+counted_append code xs ys = ap length (filter-append (begins_with code) xs ys) ∙ length-append (filter (begins_with code) xs) (filter (begins_with code) ys)
+
+noted_more : (tally mid next : Tally) (xs ys : List (List ℕ)) → mid ≡ noted tally xs → next ≡ noted mid ys → next ≡ noted tally (xs ++ ys)
+noted_more tally mid next xs ys p q =
+    let sum : counted tally.code (xs ++ ys) ≡ counted tally.code xs + counted tally.code ys = counted_append tally.code xs ys in
+    let less : (tally.left - counted tally.code xs) - counted tally.code ys ≡ tally.left - counted tally.code (xs ++ ys) = omega (arith, sum) in
+    subst (λ t. next ≡ noted t ys) p q ∙ ap (λ n. record { code = tally.code; left = n }) less
+
 -- requests were answered, and then one more
-answered_body : {S : Type 0} (m : PlainMachine S) (mid to : S → Type 0) (actor : ℕ) (p q r : List ℕ) (s : S) (bodies : List (List ℕ)) (body : List ℕ) → Answered m mid actor p q bodies s → ((t : S) → mid t → Replied m to q r t (actor, body)) → Answered m to actor p r (bodies ++ body ∷ []) s
-answered_body m mid to actor p q r s bodies body a one =
+answered_body : {S : Type 0} (m : PlainMachine S) (mid to : S → Type 0) (actor : ℕ) (p q r : List ℕ) (k l n : Tally) (s : S) (bodies : List (List ℕ)) (body : List ℕ) → Answered m mid actor p q k l bodies s → ((t : S) → mid t → Replied m to q r l n t (actor, body)) → Answered m to actor p r k n (bodies ++ body ∷ []) s
+answered_body m mid to actor p q r k l n s bodies body a one =
     let b = one a.state a.stands in
     record {
       replies = a.replies ++ b.reply ∷ [];
@@ -48,14 +70,15 @@ answered_body m mid to actor p q r s bodies body a one =
           (answers_append m s (asks actor bodies) ((actor, body) ∷ []) a.replies (b.reply ∷ []) a.state b.state a.answers b.answers);
       stands = b.stands;
       put = b.put ∙ (ap (λ z. z ++ frame b.reply) a.put ∙ (append_assoc p (frames a.replies) (frame b.reply) ∙ ap (λ z. p ++ z) (sym (frames_one a.replies b.reply))));
+      counts = noted_more k l n a.replies (b.reply ∷ []) a.counts b.counts;
     }
 
-pub serves_body : {S : Type 0} (m : PlainMachine S) (from mid to : S → Type 0) (actor : ℕ) (held between rest p q r body : List ℕ)
-    → Serves m from mid actor held between p q → IsBody body → between ≡ frame body ++ rest → ((s : S) → mid s → Replied m to q r s (actor, body)) → Serves m from to actor held rest p r
-serves_body m from mid to actor held between rest p q r body a fits is one = record {
+pub serves_body : {S : Type 0} (m : PlainMachine S) (from mid to : S → Type 0) (actor : ℕ) (held between rest p q r body : List ℕ) (k l n : Tally)
+    → Serves m from mid actor held between p q k l → IsBody body → between ≡ frame body ++ rest → ((s : S) → mid s → Replied m to q r l n s (actor, body)) → Serves m from to actor held rest p r k n
+serves_body m from mid to actor held between rest p q r body k l n a fits is one = record {
   bodies = a.bodies ++ body ∷ [];
   read = more_bodies held a.bodies (body ∷ []) between rest a.read (one_body between body rest fits is);
-  answered = λ s f. answered_body m mid to actor p q r s a.bodies body (a.answered s f) one;
+  answered = λ s f. answered_body m mid to actor p q r k l n s a.bodies body (a.answered s f) one;
 }
 
 -- a cutter holds less when it has handed out a frame
@@ -83,7 +106,42 @@ still_long true held waiting other is s = s
 still_long false held waiting other is s = absurd (cc)
 
 -- all of a piece was fed
-pub fed_all : {S : Type 0} (m : PlainMachine S) (from to : S → Type 0) (actor : ℕ) (held piece fed rest p q : List ℕ) (n : ℕ) → fed ≡ held ++ take n piece → n ≡ min (length piece) (1114116 - length held) → length held ≤ 1048580 → length piece ≤ 65536
-    → Serves m from to actor fed rest p q → Serves m from to actor (held ++ piece) rest p q
-fed_all m from to actor held piece fed rest p q n is count few size a =
-    subst (λ b. Serves m from to actor b rest p q) (is ∙ ap (λ z. held ++ z) (take_all n piece (omega (arith, count, few, size)))) a
+pub fed_all : {S : Type 0} (m : PlainMachine S) (from to : S → Type 0) (actor : ℕ) (held piece fed rest p q : List ℕ) (k l : Tally) (n : ℕ) → fed ≡ held ++ take n piece → n ≡ min (length piece) (1114116 - length held) → length held ≤ 1048580 → length piece ≤ 65536
+    → Serves m from to actor fed rest p q k l → Serves m from to actor (held ++ piece) rest p q k l
+fed_all m from to actor held piece fed rest p q k l n is count few size a =
+    subst (λ b. Serves m from to actor b rest p q k l) (is ∙ ap (λ z. held ++ z) (take_all n piece (omega (arith, count, few, size)))) a
+
+-- no request was asked yet, one more, and all
+pub asked_none : {S : Type 0} (m : PlainMachine S) (from : S → Type 0) (s : S) → from s → Asked m from [] s
+asked_none m from s f = record { replies = []; state = s; answers = refl; stands = f }
+
+pub asked_more : {S : Type 0} (m : PlainMachine S) (mid to : S → Type 0) (bodies more : List (List ℕ)) (s : S) → Asked m mid bodies s → ((t : S) → mid t → Asked m to more t) → Asked m to (bodies ++ more) s
+asked_more m mid to bodies more s a one =
+    let b = one a.state a.stands in
+    record {
+      replies = a.replies ++ b.replies;
+      state = b.state;
+      answers = subst (λ es. Answers m s es (a.replies ++ b.replies) b.state) (sym (map-append (λ z. (0, z)) bodies more)) (answers_append m s (asks 0 bodies) (asks 0 more) a.replies b.replies a.state b.state a.answers b.answers);
+      stands = b.stands;
+    }
+
+-- the requests up to this place, and the next
+pub one_more : (requests : List (Bor (List ℕ))) (place : ℕ) (other : Bor (List ℕ)) → place < length requests → take (place + 1) (map (λ r. r.now) requests) ≡ take place (map (λ r. r.now) requests) ++ (get_or requests place other).now ∷ []
+one_more requests place other within =
+    let next : place + 1 ≡ ℕ.suc place = omega arith in
+    let many : length (map (λ r. r.now) requests) ≡ length requests = length-map requests (λ (r : Bor (List ℕ)). r.now) in
+    ap (λ n. take n (map (λ r. r.now) requests)) next
+    ∙ (take-suc (map (λ r. r.now) requests) place [] (omega (arith, within, many))
+    ∙ ap (λ b. take place (map (λ r. r.now) requests) ++ b ∷ []) (get_or-map (λ (r : Bor (List ℕ)). r.now) requests place other [] within))
+
+pub all_of : (requests : List (Bor (List ℕ))) (place : ℕ) → length requests ≤ place → take place (map (λ r. r.now) requests) ≡ map (λ r. r.now) requests
+all_of requests place past =
+    let many : length (map (λ r. r.now) requests) ≡ length requests = length-map requests (λ (r : Bor (List ℕ)). r.now) in
+    take_all place (map (λ r. r.now) requests) (omega (arith, past, many))
+
+-- one request was answered, or memory was wanting
+pub asked_ok : {S : Type 0} (m : PlainMachine S) (to : S → Type 0) (body : List ℕ) (s : S) → to (m.step s (0, body)) → Asked m to (body ∷ []) s
+asked_ok m to body s stepped = record { replies = m.reply s (0, body) ∷ []; state = m.step s (0, body); answers = inl (refl, refl); stands = stepped }
+
+pub asked_err : {S : Type 0} (m : PlainMachine S) (to : S → Type 0) (body : List ℕ) (s : S) → (m.is_sure (0, body) ≡ true → false ≡ true) → to s → Asked m to (body ∷ []) s
+asked_err m to body s unsure same = record { replies = no_memory ∷ []; state = s; answers = inr (refl, false_from_ne_true (m.is_sure (0, body)) (λ e. let p : false ≡ true = unsure e in absurd (cc)), refl); stands = same }

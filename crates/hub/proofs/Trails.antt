@@ -3,7 +3,7 @@ use Rattle.std.proofs.Common.{◌≡◌, ℕ, ◌+◌, List, [], ◌∷◌, ◌+
 use Rattle.std.proofs.lemmas.List.{append-nil}
 use Rattle.tardis_base.specs.Plain.{Event, PlainMachine, Answers}
 use Rattle.hub.specs.Answering.{asks}
-use Rattle.hub.specs.Turns.{Turn, Rested, Opened, Missed, TurnedAway, Received, Sent, Ended}
+use Rattle.hub.specs.Turns.{Turn, Rested, Opened, Missed, TurnedAway, Received, Sent, Ended, KeptUp}
 use Rattle.hub.specs.Runs.{close, Ran, Leads}
 use Rattle.hub.specs.Laws.{trail, requests_of}
 use Rattle.hub.proofs.Serving.{answers_append}
@@ -17,6 +17,7 @@ turn_answers m u TurnedAway t p = ([], p)
 turn_answers m u (Received slot room came bodies replies) t p = (replies, p)
 turn_answers m u (Sent slot offered wrote bodies replies) t p = (replies, p)
 turn_answers m u (Ended slot) t p = (m.reply u (slot + 1, close) ∷ [], inl (refl, p))
+turn_answers m u (KeptUp bodies replies) t p = (replies, p)
 
 pub one_trail : {S : Type 0} (m : PlainMachine S) (s t : S) (turns : List Turn) → Ran m s turns t → (replies : List (List ℕ)) × Answers m s (trail turns) replies t
 one_trail m s t [] p = ([], p)

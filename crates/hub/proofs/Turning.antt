@@ -4,6 +4,7 @@ use Rattle.std.proofs.lemmas.List.{append-nil, take-append-drop}
 use Rattle.std.proofs.lemmas.Bool.{cases_eq}
 use Rattle.tardis_base.specs.Plain.{PlainMachine}
 use Rattle.frame_cut.specs.Frames.{Cuts, IsLong}
+use Rattle.hub.specs.declared.upkeeps.Tally.{Tally}
 use Rattle.hub.specs.declared.ports.Ready.{Ready}
 use Rattle.hub.specs.declared.ports.Ready.TheVariants.{Accept, Read, Write, Close}
 use Rattle.hub.specs.declared.ports.Seen.{Seen}
@@ -23,12 +24,12 @@ tells_none None = tt
 tells_none (Some seen) = sym (append-nil seen)
 
 -- bytes came of a connection, and requests were answered
-received_at : {S : Type 0} (m : PlainMachine S) (from to : S → Type 0) (old new : List (Option LineState)) (slot room : ℕ) (came : List ℕ) (l k : LineState) (before after : Option (List Seen)) (s : S) (turns : List Turn) (o : Option Talk)
+received_at : {S : Type 0} (m : PlainMachine S) (from to : S → Type 0) (old new : List (Option LineState)) (slot room : ℕ) (came : List ℕ) (l k : LineState) (tally next : Tally) (before after : Option (List Seen)) (s : S) (turns : List Turn) (o : Option Talk)
     → talk slot turns ≡ o → Fits o (Some l) → line_at new slot ≡ Some k → OthersStay slot old new → length l.waiting ≤ 65536 → room ≡ 65536
-    → Serves m from to (slot + 1) (l.cutter ++ came) k.cutter l.waiting k.waiting → IsStopped k.long k.cutter k.waiting → Tells before after (ReadFrom slot room came ∷ [])
-    → Keeps m from s old turns → Went m to s new turns (Read slot) before after
-received_at m from to old new slot room came l k before after s turns None e f is others few much serves stopped tells keeps = absurd f
-received_at m from to old new slot room came l k before after s turns (Some t) e f is others few much serves stopped tells keeps =
+    → Serves m from to (slot + 1) (l.cutter ++ came) k.cutter l.waiting k.waiting tally next → IsStopped k.long k.cutter k.waiting → Tells before after (ReadFrom slot room came ∷ [])
+    → Keeps m from s old turns → Went m to s new turns (Read slot) tally next before after
+received_at m from to old new slot room came l k tally next before after s turns None e f is others few much serves stopped tells keeps = absurd f
+received_at m from to old new slot room came l k tally next before after s turns (Some t) e f is others few much serves stopped tells keeps =
     let a = serves.answered keeps.state keeps.stands in
     let line = line_more t l k came [] l.waiting serves.bodies a.replies f refl serves.read a.put stopped in
     let here : Fits (more_of (talk slot turns) came [] serves.bodies a.replies) (line_at new slot) = subst (λ z. Fits (more_of (talk slot turns) came [] serves.bodies a.replies) z) (sym is) (subst (λ z. Fits (more_of z came [] serves.bodies a.replies) (Some k)) (sym e) line) in
@@ -43,24 +44,24 @@ received_at m from to old new slot room came l k before after s turns (Some t) e
           served = ((subst (λ z. WaitFew z) (sym e) few', much), (λ n. each_talk (talk n (Received slot room came serves.bodies a.replies ∷ turns)) (line_at new n) (fits n), keeps.served));
           fits = fits;
         },
-        (ReadFrom slot room came ∷ [], (refl, tells)),
+        (a.counts, (ReadFrom slot room came ∷ [], (refl, tells))),
       ),
     )
 
-pub received : {S : Type 0} (m : PlainMachine S) (from to : S → Type 0) (old new : List (Option LineState)) (slot room : ℕ) (came : List ℕ) (l k : LineState) (before after : Option (List Seen))
+pub received : {S : Type 0} (m : PlainMachine S) (from to : S → Type 0) (old new : List (Option LineState)) (slot room : ℕ) (came : List ℕ) (l k : LineState) (tally next : Tally) (before after : Option (List Seen))
     → line_at old slot ≡ Some l → line_at new slot ≡ Some k → OthersStay slot old new → length l.waiting ≤ 65536 → room ≡ 65536
-    → Serves m from to (slot + 1) (l.cutter ++ came) k.cutter l.waiting k.waiting → IsStopped k.long k.cutter k.waiting → Tells before after (ReadFrom slot room came ∷ [])
-    → GoesOn m from to old new (Read slot) before after
-received m from to old new slot room came l k before after was is others few much serves stopped tells s turns keeps =
-    received_at m from to old new slot room came l k before after s turns (talk slot turns) refl (subst (λ o. Fits (talk slot turns) o) was (keeps.fits slot)) is others few much serves stopped tells keeps
+    → Serves m from to (slot + 1) (l.cutter ++ came) k.cutter l.waiting k.waiting tally next → IsStopped k.long k.cutter k.waiting → Tells before after (ReadFrom slot room came ∷ [])
+    → GoesOn m from to old new (Read slot) tally next before after
+received m from to old new slot room came l k tally next before after was is others few much serves stopped tells s turns keeps =
+    received_at m from to old new slot room came l k tally next before after s turns (talk slot turns) refl (subst (λ o. Fits (talk slot turns) o) was (keeps.fits slot)) is others few much serves stopped tells keeps
 
 -- a front of what waits was written to a connection, and requests were answered
-sent_at : {S : Type 0} (m : PlainMachine S) (from to : S → Type 0) (old new : List (Option LineState)) (slot offered count : ℕ) (l k : LineState) (before after : Option (List Seen)) (s : S) (turns : List Turn) (o : Option Talk)
+sent_at : {S : Type 0} (m : PlainMachine S) (from to : S → Type 0) (old new : List (Option LineState)) (slot offered count : ℕ) (l k : LineState) (tally next : Tally) (before after : Option (List Seen)) (s : S) (turns : List Turn) (o : Option Talk)
     → talk slot turns ≡ o → Fits o (Some l) → line_at new slot ≡ Some k → OthersStay slot old new → offered ≡ length l.waiting
-    → Serves m from to (slot + 1) l.cutter k.cutter (drop count l.waiting) k.waiting → (IsStopped l.long l.cutter l.waiting → IsStopped k.long k.cutter k.waiting) → Tells before after (WroteTo slot offered (take count l.waiting) ∷ [])
-    → Keeps m from s old turns → Went m to s new turns (Write slot) before after
-sent_at m from to old new slot offered count l k before after s turns None e f is others all serves stopped tells keeps = absurd f
-sent_at m from to old new slot offered count l k before after s turns (Some t) e f is others all serves stopped tells keeps =
+    → Serves m from to (slot + 1) l.cutter k.cutter (drop count l.waiting) k.waiting tally next → (IsStopped l.long l.cutter l.waiting → IsStopped k.long k.cutter k.waiting) → Tells before after (WroteTo slot offered (take count l.waiting) ∷ [])
+    → Keeps m from s old turns → Went m to s new turns (Write slot) tally next before after
+sent_at m from to old new slot offered count l k tally next before after s turns None e f is others all serves stopped tells keeps = absurd f
+sent_at m from to old new slot offered count l k tally next before after s turns (Some t) e f is others all serves stopped tells keeps =
     let w : List ℕ = take count l.waiting in
     let a = serves.answered keeps.state keeps.stands in
     let cut : Cuts (l.cutter ++ []) serves.bodies k.cutter = subst (λ z. Cuts z serves.bodies k.cutter) (sym (append-nil l.cutter)) serves.read in
@@ -77,22 +78,22 @@ sent_at m from to old new slot offered count l k before after s turns (Some t) e
           served = (subst (λ z. WaitSoMany z offered) (sym e) all', (λ n. each_talk (talk n (Sent slot offered w serves.bodies a.replies ∷ turns)) (line_at new n) (fits n), keeps.served));
           fits = fits;
         },
-        (WroteTo slot offered w ∷ [], (refl, tells)),
+        (a.counts, (WroteTo slot offered w ∷ [], (refl, tells))),
       ),
     )
 
-pub sent : {S : Type 0} (m : PlainMachine S) (from to : S → Type 0) (old new : List (Option LineState)) (slot offered count : ℕ) (l k : LineState) (before after : Option (List Seen))
+pub sent : {S : Type 0} (m : PlainMachine S) (from to : S → Type 0) (old new : List (Option LineState)) (slot offered count : ℕ) (l k : LineState) (tally next : Tally) (before after : Option (List Seen))
     → line_at old slot ≡ Some l → line_at new slot ≡ Some k → OthersStay slot old new → offered ≡ length l.waiting
-    → Serves m from to (slot + 1) l.cutter k.cutter (drop count l.waiting) k.waiting → (IsStopped l.long l.cutter l.waiting → IsStopped k.long k.cutter k.waiting) → Tells before after (WroteTo slot offered (take count l.waiting) ∷ [])
-    → GoesOn m from to old new (Write slot) before after
-sent m from to old new slot offered count l k before after was is others all serves stopped tells s turns keeps =
-    sent_at m from to old new slot offered count l k before after s turns (talk slot turns) refl (subst (λ o. Fits (talk slot turns) o) was (keeps.fits slot)) is others all serves stopped tells keeps
+    → Serves m from to (slot + 1) l.cutter k.cutter (drop count l.waiting) k.waiting tally next → (IsStopped l.long l.cutter l.waiting → IsStopped k.long k.cutter k.waiting) → Tells before after (WroteTo slot offered (take count l.waiting) ∷ [])
+    → GoesOn m from to old new (Write slot) tally next before after
+sent m from to old new slot offered count l k tally next before after was is others all serves stopped tells s turns keeps =
+    sent_at m from to old new slot offered count l k tally next before after s turns (talk slot turns) refl (subst (λ o. Fits (talk slot turns) o) was (keeps.fits slot)) is others all serves stopped tells keeps
 
 -- a connection came into a free slot
-pub opened : {S : Type 0} (m : PlainMachine S) (from to : S → Type 0) (old new : List (Option LineState)) (slot : ℕ) (l : LineState) (before after : Option (List Seen))
+pub opened : {S : Type 0} (m : PlainMachine S) (from to : S → Type 0) (old new : List (Option LineState)) (slot : ℕ) (l : LineState) (tally : Tally) (before after : Option (List Seen))
     → ((s : S) → from s → to s) → slot < 256 → line_at old slot ≡ None → line_at new slot ≡ Some l → l ≡ record { cutter = []; waiting = []; long = false } → OthersStay slot old new → Tells before after (Accepted slot true ∷ [])
-    → GoesOn m from to old new Accept before after
-opened m from to old new slot l before after same within was is fresh others tells s turns keeps =
+    → GoesOn m from to old new Accept tally tally before after
+opened m from to old new slot l tally before after same within was is fresh others tells s turns keeps =
     let here : Fits (Some no_talk) (line_at new slot) = subst (λ z. Fits (Some no_talk) z) (sym is) (fresh_line l fresh) in
     let fits = fits_there slot (λ n. Some no_talk) (λ n. talk n turns) old new keeps.fits here others in
     let free : talk slot turns ≡ None = none_of (talk slot turns) (subst (λ z. Fits (talk slot turns) z) was (keeps.fits slot)) in (
@@ -105,15 +106,15 @@ opened m from to old new slot l before after same within was is fresh others tel
           served = ((within, free), (λ n. each_talk (talk n (Opened slot ∷ turns)) (line_at new n) (fits n), keeps.served));
           fits = fits;
         },
-        (Accepted slot true ∷ [], (refl, tells)),
+        (refl, (Accepted slot true ∷ [], (refl, tells))),
       ),
     )
 
 -- none came after all
-pub missed : {S : Type 0} (m : PlainMachine S) (from to : S → Type 0) (old new : List (Option LineState)) (slot : ℕ) (before after : Option (List Seen))
+pub missed : {S : Type 0} (m : PlainMachine S) (from to : S → Type 0) (old new : List (Option LineState)) (slot : ℕ) (tally : Tally) (before after : Option (List Seen))
     → ((s : S) → from s → to s) → new ≡ old → slot < 256 → line_at old slot ≡ None → Tells before after (Accepted slot false ∷ [])
-    → GoesOn m from to old new Accept before after
-missed m from to old new slot before after same unchanged within was tells s turns keeps =
+    → GoesOn m from to old new Accept tally tally before after
+missed m from to old new slot tally before after same unchanged within was tells s turns keeps =
     let fits : (n : ℕ) → Fits (talk n turns) (line_at new n) = λ n. subst (λ z. Fits (talk n turns) (line_at z n)) (sym unchanged) (keeps.fits n) in
     let free : talk slot turns ≡ None = none_of (talk slot turns) (subst (λ z. Fits (talk slot turns) z) was (keeps.fits slot)) in (
       Missed slot,
@@ -125,14 +126,14 @@ missed m from to old new slot before after same unchanged within was tells s tur
           served = ((within, free), (λ n. each_talk (talk n turns) (line_at new n) (fits n), keeps.served));
           fits = fits;
         },
-        (Accepted slot false ∷ [], (refl, tells)),
+        (refl, (Accepted slot false ∷ [], (refl, tells))),
       ),
     )
 
 -- a connection was turned away
-pub turned_away : {S : Type 0} (m : PlainMachine S) (from to : S → Type 0) (old new : List (Option LineState)) (before after : Option (List Seen))
-    → ((s : S) → from s → to s) → new ≡ old → Tells before after (Declined ∷ []) → GoesOn m from to old new Accept before after
-turned_away m from to old new before after same unchanged tells s turns keeps =
+pub turned_away : {S : Type 0} (m : PlainMachine S) (from to : S → Type 0) (old new : List (Option LineState)) (tally : Tally) (before after : Option (List Seen))
+    → ((s : S) → from s → to s) → new ≡ old → Tells before after (Declined ∷ []) → GoesOn m from to old new Accept tally tally before after
+turned_away m from to old new tally before after same unchanged tells s turns keeps =
     let fits : (n : ℕ) → Fits (talk n turns) (line_at new n) = λ n. subst (λ z. Fits (talk n turns) (line_at z n)) (sym unchanged) (keeps.fits n) in (
       TurnedAway,
       (
@@ -143,15 +144,15 @@ turned_away m from to old new before after same unchanged tells s turns keeps =
           served = (tt, (λ n. each_talk (talk n turns) (line_at new n) (fits n), keeps.served));
           fits = fits;
         },
-        (Declined ∷ [], (refl, tells)),
+        (refl, (Declined ∷ [], (refl, tells))),
       ),
     )
 
 -- nothing was to do
-pub rested : {S : Type 0} (m : PlainMachine S) (from to : S → Type 0) (old new : List (Option LineState)) (offer : Ready) (before after : Option (List Seen))
+pub rested : {S : Type 0} (m : PlainMachine S) (from to : S → Type 0) (old new : List (Option LineState)) (offer : Ready) (tally : Tally) (before after : Option (List Seen))
     → ((s : S) → from s → to s) → ((n : ℕ) → line_at new n ≡ line_at old n) → after ≡ before → ((turns : List Turn) → ((n : ℕ) → Fits (talk n turns) (line_at old n)) → MayRest turns offer)
-    → GoesOn m from to old new offer before after
-rested m from to old new offer before after same unchanged none may s turns keeps =
+    → GoesOn m from to old new offer tally tally before after
+rested m from to old new offer tally before after same unchanged none may s turns keeps =
     let fits : (n : ℕ) → Fits (talk n turns) (line_at new n) = λ n. subst (λ z. Fits (talk n turns) z) (sym (unchanged n)) (keeps.fits n) in (
       Rested offer,
       (
@@ -162,7 +163,7 @@ rested m from to old new offer before after same unchanged none may s turns keep
           served = (may turns keeps.fits, (λ n. each_talk (talk n turns) (line_at new n) (fits n), keeps.served));
           fits = fits;
         },
-        ([], (refl, subst (λ z. Tells before z []) (sym none) (tells_none before))),
+        (refl, ([], (refl, subst (λ z. Tells before z []) (sym none) (tells_none before)))),
       ),
     )
 
@@ -171,10 +172,10 @@ some_of : (o : Option Talk) (l : LineState) → Fits o (Some l) → IsSome o
 some_of None l f = absurd f
 some_of (Some t) l f = refl
 
-pub ended : {S : Type 0} (m : PlainMachine S) (from to : S → Type 0) (old new : List (Option LineState)) (slot : ℕ) (l : LineState) (before after : Option (List Seen))
+pub ended : {S : Type 0} (m : PlainMachine S) (from to : S → Type 0) (old new : List (Option LineState)) (slot : ℕ) (l : LineState) (tally : Tally) (before after : Option (List Seen))
     → ((s : S) → from s → to (m.step s (slot + 1, close))) → line_at old slot ≡ Some l → line_at new slot ≡ None → OthersStay slot old new → Tells before after (Closed slot ∷ [])
-    → GoesOn m from to old new (Close slot) before after
-ended m from to old new slot l before after stepped was is others tells s turns keeps =
+    → GoesOn m from to old new (Close slot) tally tally before after
+ended m from to old new slot l tally before after stepped was is others tells s turns keeps =
     let here : Fits None (line_at new slot) = subst (λ z. Fits None z) (sym is) tt in
     let fits = fits_there slot (λ n. None) (λ n. talk n turns) old new keeps.fits here others in (
       Ended slot,
@@ -186,7 +187,7 @@ ended m from to old new slot l before after stepped was is others tells s turns 
           served = (some_of (talk slot turns) l (subst (λ z. Fits (talk slot turns) z) was (keeps.fits slot)), (λ n. each_talk (talk n (Ended slot ∷ turns)) (line_at new n) (fits n), keeps.served));
           fits = fits;
         },
-        (Closed slot ∷ [], (refl, tells)),
+        (refl, (Closed slot ∷ [], (refl, tells))),
       ),
     )
 

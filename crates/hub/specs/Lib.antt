@@ -1,9 +1,11 @@
 -- What a hub answers, what each of its connections has of it, and what its edge sees.
+pub mod Upkeeps
 pub mod Answering
 pub mod Lines
 pub mod Telling
 pub mod Talks
 pub mod Turns
+pub mod Timing
 pub mod Runs
 pub mod Keeping
 pub mod Laws

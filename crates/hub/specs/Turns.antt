@@ -9,7 +9,8 @@ use Rattle.hub.specs.Talks.{Talk, no_talk, more_talk, held, waits}
 
 -- Nothing was done of what was offered; a connection came into a slot, or none came after all, or it was turned away for
 -- want of memory; bytes came of one, or a front of what waits was written to it, and requests were answered by these
--- replies; or it ended, and its session was closed.
+-- replies; or it ended, and its session was closed. Or the hub itself asked requests, and they were answered by these
+-- replies.
 pub data Turn : Type 0 where
   Rested : (offer : Ready) → Turn
   Opened : (slot : ℕ) → Turn
@@ -18,8 +19,9 @@ pub data Turn : Type 0 where
   Received : (slot room : ℕ) → (came : List ℕ) → (bodies replies : List (List ℕ)) → Turn
   Sent : (slot offered : ℕ) → (wrote : List ℕ) → (bodies replies : List (List ℕ)) → Turn
   Ended : (slot : ℕ) → Turn
+  KeptUp : (bodies replies : List (List ℕ)) → Turn
 
--- what the edge sees of a turn: its offer, and the call that was made
+-- what the edge sees of a turn: its offer, and the call that was made; nothing of what the hub asks itself
 abbrev pub calls_of : Turn → List Seen
 calls_of (Rested offer) = Offered offer ∷ []
 calls_of (Opened slot) = Offered Accept ∷ Accepted slot true ∷ []
@@ -28,6 +30,7 @@ calls_of TurnedAway = Offered Accept ∷ Declined ∷ []
 calls_of (Received slot room came bodies replies) = Offered (Read slot) ∷ ReadFrom slot room came ∷ []
 calls_of (Sent slot offered wrote bodies replies) = Offered (Write slot) ∷ WroteTo slot offered wrote ∷ []
 calls_of (Ended slot) = Offered (Close slot) ∷ Closed slot ∷ []
+calls_of (KeptUp bodies replies) = []
 
 -- what it sees of turns, of which the newest is first
 abbrev pub calls_in : List Turn → List Seen
@@ -52,6 +55,7 @@ talk_after n TurnedAway old = old
 talk_after n (Received slot room came bodies replies) old = there (n == slot) (more_of old came [] bodies replies) old
 talk_after n (Sent slot offered wrote bodies replies) old = there (n == slot) (more_of old [] wrote bodies replies) old
 talk_after n (Ended slot) old = there (n == slot) None old
+talk_after n (KeptUp bodies replies) old = old
 
 -- what the connection that has slot n has of the turns, since it came
 abbrev pub talk : ℕ → List Turn → Option Talk
@@ -84,7 +88,8 @@ abbrev pub WaitSoMany : Option Talk → ℕ → Type 0
 WaitSoMany None offered = ⊥
 WaitSoMany (Some t) offered = offered ≡ length (waits t)
 
--- The right turn after older ones. A read offers room for 65,536 bytes, and a write all that waits.
+-- The right turn after older ones. A read offers room for 65,536 bytes, and a write all that waits. When the hub asks
+-- requests itself is said by `AreTimely`.
 abbrev pub IsRight : List Turn → Turn → Type 0
 IsRight older (Rested offer) = MayRest older offer
 IsRight older (Opened slot) = (slot < 256) × (talk slot older ≡ None)
@@ -93,3 +98,4 @@ IsRight older TurnedAway = Unit {0}
 IsRight older (Received slot room came bodies replies) = WaitFew (talk slot older) × (room ≡ 65536)
 IsRight older (Sent slot offered wrote bodies replies) = WaitSoMany (talk slot older) offered
 IsRight older (Ended slot) = IsSome (talk slot older)
+IsRight older (KeptUp bodies replies) = Unit {0}

@@ -1,11 +1,15 @@
 //! The answers to what came of one connection.
 
-ghost use Rattle.std.specs.Prelude.{◌≡◌, ◌≤◌, true, length};
+ghost use Rattle.std.specs.Prelude.{◌≡◌, ◌≤◌, ◌++◌, true, [], ◌∷◌, length};
+ghost use Rattle.tardis_base.specs.Sizes.{longest_frame};
+ghost use Rattle.frame_cut.specs.Frames.{frame};
+ghost use Rattle.hub.specs.Upkeeps.{noted};
 ghost use Rattle.hub.specs.Answering.{Replied, Serves};
 ghost use Rattle.hub.specs.Lines.{IsStopped, most_waiting};
 ghost use Rattle.hub.specs.Runs.{close};
 
 use crate::lines::MOST_WAITING;
+use crate::upkeeps::Tally;
 use crate::waitings::Waiting;
 use frame_cut::{Cut, FrameCutter};
 use tardis_base::{Machine, NoMemory, ReplyBuf};
@@ -23,14 +27,15 @@ pub(crate) fn answer_held<M: Machine>(
     cutter: &mut FrameCutter,
     waiting: &mut Waiting,
     reply: &mut ReplyBuf,
+    tally: &mut Tally,
 ) -> bool
-    ensures served { Serves M.plain (M.stands machine.old) (M.stands machine.new) actor cutter.old cutter.new waiting.old waiting.new }
+    ensures served { Serves M.plain (M.stands machine.old) (M.stands machine.new) actor cutter.old cutter.new waiting.old waiting.new tally.old tally.new }
     ensures stopped { IsStopped result cutter.new waiting.new }
     ensures opening { M.opening machine.new ≡ M.opening machine.old }
 {
     while waiting.len() <= MOST_WAITING {
         match cutter.next() {
-            Cut::Frame(body) => answer_body(machine, actor, body, waiting, reply),
+            Cut::Frame(body) => answer_body(machine, actor, body, waiting, reply, tally),
             Cut::NeedMore => return false,
             Cut::Long { .. } => return true,
         }
@@ -45,15 +50,27 @@ pub(crate) fn answer_body<M: Machine>(
     body: &[u8],
     waiting: &mut Waiting,
     reply: &mut ReplyBuf,
+    tally: &mut Tally,
 )
     requires few { length waiting.old ≤ most_waiting }
-    ensures answered { (s : M.Plain) → M.stands machine.old s → Replied M.plain (M.stands machine.new) waiting.old waiting.new s (actor, body.now) }
+    ensures answered { (s : M.Plain) → M.stands machine.old s → Replied M.plain (M.stands machine.new) waiting.old waiting.new tally.old tally.new s (actor, body.now) }
     ensures opening { M.opening machine.new ≡ M.opening machine.old }
 {
     match machine.act(actor, body, reply) {
-        Ok(()) => waiting.put(reply.bytes()),
-        Err(NoMemory) => waiting.put(&WANTING),
+        Ok(()) => put_reply(reply.bytes(), waiting, tally),
+        Err(NoMemory) => put_reply(&WANTING, waiting, tally),
     }
+}
+
+/// Puts a reply behind what waits, and counts it.
+fn put_reply(reply: &[u8], waiting: &mut Waiting, tally: &mut Tally)
+    requires few { length waiting.old ≤ most_waiting }
+    requires reply { length reply.now ≤ longest_frame }
+    ensures put { waiting.new ≡ waiting.old ++ frame reply.now }
+    ensures counted { tally.new ≡ noted tally.old (reply.now ∷ []) }
+{
+    waiting.put(reply);
+    tally.note(reply);
 }
 
 /// Closes the session of the actor, and leaves the reply.

@@ -10,6 +10,7 @@ mod serves;
 #[cfg(test)]
 mod tests;
 mod turns;
+mod upkeeps;
 mod waitings;
 
 pub use laws::one_trail;
@@ -17,4 +18,5 @@ pub use lines::Line;
 pub use memory::{MemoryPorts, Move};
 pub use ports::{Ports, Ready, Seen};
 pub use serves::{End, serve};
+pub use upkeeps::Upkeep;
 pub use waitings::Waiting;

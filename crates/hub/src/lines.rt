@@ -5,6 +5,7 @@ ghost use Rattle.hub.specs.Answering.{Serves};
 ghost use Rattle.hub.specs.Lines.{line_at, OthersStay, IsStopped, most_waiting};
 
 use crate::answers::answer_held;
+use crate::upkeeps::Tally;
 use crate::waitings::Waiting;
 use frame_cut::FrameCutter;
 use std::alloc::Global;
@@ -63,17 +64,18 @@ impl Line {
         actor: u16,
         piece: &[u8],
         reply: &mut ReplyBuf,
+        tally: &mut Tally,
     )
         requires short { self.old.long ≡ false }
         requires few { length self.old.waiting ≤ most_waiting }
         requires size { length piece.now ≤ 65536 }
         ensures served { Serves M.plain (M.stands machine.old) (M.stands machine.new) actor
-            (self.old.cutter ++ piece.now) self.new.cutter self.old.waiting self.new.waiting }
+            (self.old.cutter ++ piece.now) self.new.cutter self.old.waiting self.new.waiting tally.old tally.new }
         ensures stopped { IsStopped self.new.long self.new.cutter self.new.waiting }
         ensures opening { M.opening machine.new ≡ M.opening machine.old }
     {
         let _ = self.cutter.feed(piece);
-        self.long = answer_held(machine, actor, &mut self.cutter, &mut self.waiting, reply);
+        self.long = answer_held(machine, actor, &mut self.cutter, &mut self.waiting, reply, tally);
     }
 
     /// Forgets bytes that were written to the connection, and answers requests that were held.
@@ -83,10 +85,11 @@ impl Line {
         actor: u16,
         count: usize,
         reply: &mut ReplyBuf,
+        tally: &mut Tally,
     )
         requires count { count ≤ length self.old.waiting }
         ensures served { Serves M.plain (M.stands machine.old) (M.stands machine.new) actor
-            self.old.cutter self.new.cutter (drop count self.old.waiting) self.new.waiting }
+            self.old.cutter self.new.cutter (drop count self.old.waiting) self.new.waiting tally.old tally.new }
         ensures stopped { IsStopped self.old.long self.old.cutter self.old.waiting → IsStopped self.new.long self.new.cutter self.new.waiting }
         ensures opening { M.opening machine.new ≡ M.opening machine.old }
     {
@@ -94,7 +97,7 @@ impl Line {
         if self.long {
             return;
         }
-        self.long = answer_held(machine, actor, &mut self.cutter, &mut self.waiting, reply);
+        self.long = answer_held(machine, actor, &mut self.cutter, &mut self.waiting, reply, tally);
     }
 
     /// The bytes that wait to be written.

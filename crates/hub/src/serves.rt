@@ -1,12 +1,14 @@
 //! The loop of a hub.
 
-ghost use Rattle.std.specs.Prelude.{◌≡◌, ◌<◌, ℕ, ◌+◌, true, None, length, IfOk, OnErr};
+ghost use Rattle.std.specs.Prelude.{◌≡◌, ◌<◌, ℕ, ◌+◌, true, None, length, option_map, IfOk, IfSome, OnErr};
 ghost use Rattle.hub.specs.Lines.{line_at};
+ghost use Rattle.hub.specs.Upkeeps.{rule_of};
 ghost use Rattle.hub.specs.Runs.{close, IsRun};
 
 use crate::lines::Line;
 use crate::ports::Ports;
 use crate::turns::{SLOTS, turn};
+use crate::upkeeps::{Tally, Upkeep, keep_up};
 use std::alloc::Global;
 use tardis_base::{Machine, NoMemory, ReplyBuf};
 
@@ -15,7 +17,7 @@ use tardis_base::{Machine, NoMemory, ReplyBuf};
 pub enum End {
     /// The edge said so.
     Stopped,
-    /// It made 18,446,744,073,709,551,615 turns.
+    /// It made 18,446,744,073,709,551,615 turns, with those of the upkeep.
     Spent,
 }
 
@@ -30,6 +32,9 @@ const PIECE: usize = 65_536;
 /// costs the others nothing. When a connection ends its session is closed, whatever was open in it. The edge is shown the
 /// lines at each turn, and has to end a connection whose frame that is next is too long.
 ///
+/// An upkeep is made between two turns, as soon as it is due, and counts as a turn. Where it is due when the edge would say
+/// stop, it is made before that is asked.
+///
 /// A turn's cost doesn't grow with the connections, but for a search of the slots when one comes. The buffers of the hub
 /// are taken first; without memory for them nothing is done. A connection's are taken when it comes, and one for which
 /// there is no memory is turned away.
@@ -37,10 +42,12 @@ pub fn serve<M: Machine, P: Ports>(
     alloc: Global,
     machine: &mut M,
     ports: &mut P,
+    upkeep: Option<Upkeep<'_>>,
 ) -> Result<End, NoMemory>
+    requires often { IfSome (option_map rule_of upkeep) (λ rule. 0 < rule.after) }
     requires sure { (n : ℕ) → n < 256 → M.plain.is_sure (n + 1, close) ≡ true }
     ensures served { IfOk result (λ end. (s : M.Plain) → M.stands machine.old s
-        → IsRun M.plain (M.stands machine.new) s end (P.seen ports.old) (P.seen ports.new)) }
+        → IsRun M.plain (option_map rule_of upkeep.entry) (M.stands machine.new) s end (P.seen ports.old) (P.seen ports.new)) }
     ensures nothing { OnErr result ((machine.new ≡ machine.old) × (ports.new ≡ ports.old)) }
     ensures opening { M.opening machine.new ≡ M.opening machine.old }
 {
@@ -52,6 +59,7 @@ pub fn serve<M: Machine, P: Ports>(
             machine,
             lines.as_mut_slice(),
             ports,
+            upkeep,
             piece.as_mut_slice(),
             &mut reply,
         )),
@@ -59,13 +67,14 @@ pub fn serve<M: Machine, P: Ports>(
     }
 }
 
-/// Makes turns until the edge says stop.
-#[tactic(auto, using(crate::proofs::Leading::led_start, crate::proofs::Leading::led_more, crate::proofs::Leading::run_stopped, crate::proofs::Leading::run_spent))]
+/// Makes turns until the edge says stop, and upkeep between them.
+#[tactic(auto, using(crate::proofs::Leading::led_start, crate::proofs::Leading::led_more, crate::proofs::Leading::led_kept, crate::proofs::Leading::run_stopped, crate::proofs::Leading::run_spent))]
 fn serve_lines<M: Machine, P: Ports>(
     alloc: Global,
     machine: &mut M,
     lines: &mut [Option<Line>],
     ports: &mut P,
+    upkeep: Option<Upkeep<'_>>,
     piece: &mut [u8],
     reply: &mut ReplyBuf,
 ) -> End
@@ -74,15 +83,24 @@ fn serve_lines<M: Machine, P: Ports>(
     requires room { length piece.old ≡ 65536 }
     requires sure { (n : ℕ) → n < 256 → M.plain.is_sure (n + 1, close) ≡ true }
     ensures served { (s : M.Plain) → M.stands machine.old s
-        → IsRun M.plain (M.stands machine.new) s result (P.seen ports.old) (P.seen ports.new) }
+        → IsRun M.plain (option_map rule_of upkeep.entry) (M.stands machine.new) s result (P.seen ports.old) (P.seen ports.new) }
     ensures opening { M.opening machine.new ≡ M.opening machine.old }
 {
+    let mut tally = Tally::whole(upkeep);
     let mut turns: u64 = 0;
     while turns < u64::MAX {
-        if !turn(alloc, machine, lines, ports, piece, reply) {
-            return End::Stopped;
-        }
         turns += 1;
+        match tally.due(upkeep) {
+            Some(requests) => {
+                keep_up(machine, requests, reply);
+                tally = Tally::whole(upkeep);
+            }
+            None => {
+                if !turn(alloc, machine, lines, ports, piece, reply, &mut tally) {
+                    return End::Stopped;
+                }
+            }
+        }
     }
     End::Spent
 }

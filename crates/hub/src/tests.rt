@@ -1,14 +1,27 @@
 ghost use Rattle.std.specs.Prelude.{◌≡◌, ◌==◌, true, false, [], length, take, not, OnOk, OnErr, IsOk, refl};
 
-use crate::{End, MemoryPorts, Move, Seen, one_trail, serve};
+use crate::{End, MemoryPorts, Move, Seen, Upkeep, one_trail, serve};
 use std::alloc::Global;
 use std::test::Fail;
 use tardis_base::{ByteList, Machine, NoMemory, ReplyBuf};
 
-/// Replies to a request by its first 16 bytes, and finds no memory for an empty one.
+/// Replies to a request by its first 16 bytes, and finds no memory for an empty one. It keeps how many requests that begin
+/// with 8 it had at each request of actor 0.
 #[derive(Drop)]
 struct Echo {
     closed: u8,
+    eights: u32,
+    own: Vec<(u32, u8)>,
+}
+
+impl Echo {
+    fn new(alloc: Global) -> Echo {
+        Echo {
+            closed: 0,
+            eights: 0,
+            own: Vec::new(alloc),
+        }
+    }
 }
 
 impl Machine for Echo {
@@ -22,12 +35,17 @@ impl Machine for Echo {
 
     fn act(&mut self, actor: u16, request: &[u8], out: &mut ReplyBuf) -> Result<(), NoMemory> {
         out.clear();
-        let _ = actor;
         if request.is_empty() {
             return Err(NoMemory);
         }
         if request[0] == 21 {
             self.closed = self.closed.saturating_add(1);
+        }
+        if request[0] == 8 {
+            self.eights = self.eights.saturating_add(1);
+        }
+        if actor == 0 {
+            let _ = self.own.push((self.eights, request[0]));
         }
         out.push(&request[..16usize.min(request.len())]);
         Ok(())
@@ -72,7 +90,7 @@ fn put_call(log: &mut Vec<u8>, call: &Seen) -> Result<(), Fail> {
 fn calls(alloc: Global, machine: &mut Echo, moves: Vec<Move>) -> Result<Vec<u8>, Fail> {
     let mut ports = MemoryPorts::new(alloc, moves);
     let mut log = Vec::new(alloc);
-    if serve(alloc, machine, &mut ports)? != End::Stopped {
+    if serve(alloc, machine, &mut ports, None)? != End::Stopped {
         return Ok(log);
     }
     let Some(seen) = ports.seen() else {
@@ -88,7 +106,7 @@ fn calls(alloc: Global, machine: &mut Echo, moves: Vec<Move>) -> Result<Vec<u8>,
 fn each_connection_has_its_own_replies_and_a_closed_session(rt: HostRuntime) -> Result<(), Fail> {
     let alloc = rt.alloc();
     one_trail::<Echo>();
-    let mut machine = Echo { closed: 0 };
+    let mut machine = Echo::new(alloc);
     let mut moves = Vec::new(alloc);
     moves.push(Move::Accept { comes: true })?;
     moves.push(Move::Accept { comes: false })?;
@@ -109,5 +127,36 @@ fn each_connection_has_its_own_replies_and_a_closed_session(rt: HostRuntime) -> 
         b"A0a1A1R05R19R03W1\x00\x00\x00W0\x00\x00\x00\x02acW1\x01b\x00\x00\x00\x01\x16C0A0R05W0\x00\x00\x00\x01d";
     assert!(rt; log.as_slice() == want);
     assert_eq!(rt; machine.closed, 1);
+    Ok(())
+}
+
+/// A read of so many requests that begin with 8.
+fn eights(alloc: Global, count: usize) -> Result<Move, Fail> {
+    let mut bytes = Vec::new(alloc);
+    for _ in 0..count {
+        bytes.extend_from_slice(b"\x00\x00\x00\x01\x08")?;
+    }
+    read(alloc, 0, bytes.as_slice())
+}
+
+#[test]
+fn upkeep_comes_after_so_many_replies_and_is_counted_anew(rt: HostRuntime) -> Result<(), Fail> {
+    let alloc = rt.alloc();
+    let mut machine = Echo::new(alloc);
+    let mut moves = Vec::new(alloc);
+    moves.push(Move::Accept { comes: true })?;
+    for count in [63, 1, 63, 2, 63] {
+        moves.push(eights(alloc, count)?)?;
+        moves.push(read(alloc, 0, b"\x00\x00\x00\x01\x07")?)?;
+    }
+    let mut ports = MemoryPorts::new(alloc, moves);
+    let upkeep = Upkeep {
+        code: 8,
+        after: 64,
+        requests: &[&[14], &[15, 0, 64]],
+    };
+    let end = serve(alloc, &mut machine, &mut ports, Some(upkeep))?;
+    assert!(rt; end == End::Stopped);
+    assert!(rt; machine.own.as_slice() == [(64, 14), (64, 15), (129, 14), (129, 15)].as_slice());
     Ok(())
 }

@@ -5,10 +5,12 @@ ghost use Rattle.hub.specs.Runs.{close};
 ghost use Rattle.hub.specs.Telling.{Tells};
 ghost use Rattle.hub.specs.Keeping.{GoesOn, Turned};
 ghost use Rattle.hub.specs.declared.ports.Seen.{Seen};
+ghost use Rattle.hub.specs.declared.upkeeps.Tally.{Tally};
 
 use crate::answers::close_session;
 use crate::lines::{Line, free_slot, put_line, take_line};
 use crate::ports::{Ports, Ready};
+use crate::upkeeps::Tally;
 use std::alloc::Global;
 use tardis_base::{Machine, NoMemory, ReplyBuf};
 
@@ -23,7 +25,7 @@ fn enter<M: Machine, P: Ports>(
     ports: &mut P,
 )
     requires slots { length lines.old ≡ 256 }
-    ensures turned { GoesOn M.plain (M.stands machine.old) (M.stands machine.new) lines.old lines.new Ready.Accept (P.seen ports.old) (P.seen ports.new) }
+    ensures turned { (tally : Tally) → GoesOn M.plain (M.stands machine.old) (M.stands machine.new) lines.old lines.new Ready.Accept tally tally (P.seen ports.old) (P.seen ports.new) }
     ensures slots { length lines.new ≡ length lines.old }
     ensures opening { M.opening machine.new ≡ M.opening machine.old }
 {
@@ -48,10 +50,11 @@ fn hear<M: Machine, P: Ports>(
     slot: usize,
     piece: &mut [u8],
     reply: &mut ReplyBuf,
+    tally: &mut Tally,
 )
     requires slots { length lines.old ≡ 256 }
     requires room { length piece.old ≡ 65536 }
-    ensures turned { GoesOn M.plain (M.stands machine.old) (M.stands machine.new) lines.old lines.new (Ready.Read slot) (P.seen ports.old) (P.seen ports.new) }
+    ensures turned { GoesOn M.plain (M.stands machine.old) (M.stands machine.new) lines.old lines.new (Ready.Read slot) tally.old tally.new (P.seen ports.old) (P.seen ports.new) }
     ensures slots { length lines.new ≡ length lines.old }
     ensures room { length piece.new ≡ length piece.old }
     ensures opening { M.opening machine.new ≡ M.opening machine.old }
@@ -60,7 +63,7 @@ fn hear<M: Machine, P: Ports>(
         Some(mut line) => {
             if line.wants_read() {
                 let count = ports.read(slot, piece);
-                line.receive(machine, slot as u16 + 1, &piece[..count], reply);
+                line.receive(machine, slot as u16 + 1, &piece[..count], reply, tally);
                 put_line(lines, slot, line);
             } else {
                 put_line(lines, slot, line);
@@ -77,9 +80,10 @@ fn tell<M: Machine, P: Ports>(
     ports: &mut P,
     slot: usize,
     reply: &mut ReplyBuf,
+    tally: &mut Tally,
 )
     requires slots { length lines.old ≡ 256 }
-    ensures turned { GoesOn M.plain (M.stands machine.old) (M.stands machine.new) lines.old lines.new (Ready.Write slot) (P.seen ports.old) (P.seen ports.new) }
+    ensures turned { GoesOn M.plain (M.stands machine.old) (M.stands machine.new) lines.old lines.new (Ready.Write slot) tally.old tally.new (P.seen ports.old) (P.seen ports.new) }
     ensures slots { length lines.new ≡ length lines.old }
     ensures opening { M.opening machine.new ≡ M.opening machine.old }
 {
@@ -87,7 +91,7 @@ fn tell<M: Machine, P: Ports>(
         Some(mut line) => {
             if line.has_to_write() {
                 let count = ports.write(slot, line.to_write());
-                line.sent(machine, slot as u16 + 1, count, reply);
+                line.sent(machine, slot as u16 + 1, count, reply, tally);
                 put_line(lines, slot, line);
             } else {
                 put_line(lines, slot, line);
@@ -107,7 +111,7 @@ fn leave<M: Machine, P: Ports>(
 )
     requires slots { length lines.old ≡ 256 }
     requires sure { (n : ℕ) → n < 256 → M.plain.is_sure (n + 1, close) ≡ true }
-    ensures turned { GoesOn M.plain (M.stands machine.old) (M.stands machine.new) lines.old lines.new (Ready.Close slot) (P.seen ports.old) (P.seen ports.new) }
+    ensures turned { (tally : Tally) → GoesOn M.plain (M.stands machine.old) (M.stands machine.new) lines.old lines.new (Ready.Close slot) tally tally (P.seen ports.old) (P.seen ports.new) }
     ensures slots { length lines.new ≡ length lines.old }
     ensures opening { M.opening machine.new ≡ M.opening machine.old }
 {
@@ -128,12 +132,13 @@ pub(crate) fn turn<M: Machine, P: Ports>(
     ports: &mut P,
     piece: &mut [u8],
     reply: &mut ReplyBuf,
+    tally: &mut Tally,
 ) -> bool
     requires slots { length lines.old ≡ 256 }
     requires room { length piece.old ≡ 65536 }
     requires sure { (n : ℕ) → n < 256 → M.plain.is_sure (n + 1, close) ≡ true }
-    ensures turned { result ≡ true → Turned M.plain (M.stands machine.old) (M.stands machine.new) lines.old lines.new (P.seen ports.old) (P.seen ports.new) }
-    ensures stopped { result ≡ false → (machine.new ≡ machine.old) × (lines.new ≡ lines.old)
+    ensures turned { result ≡ true → Turned M.plain (M.stands machine.old) (M.stands machine.new) lines.old lines.new tally.old tally.new (P.seen ports.old) (P.seen ports.new) }
+    ensures stopped { result ≡ false → (machine.new ≡ machine.old) × (lines.new ≡ lines.old) × (tally.new ≡ tally.old)
         × Tells (P.seen ports.old) (P.seen ports.new) (Seen.Offered Ready.Stop ∷ []) }
     ensures slots { length lines.new ≡ length lines.old }
     ensures room { length piece.new ≡ length piece.old }
@@ -145,11 +150,11 @@ pub(crate) fn turn<M: Machine, P: Ports>(
             true
         }
         Ready::Read(slot) => {
-            hear(machine, lines, ports, slot, piece, reply);
+            hear(machine, lines, ports, slot, piece, reply, tally);
             true
         }
         Ready::Write(slot) => {
-            tell(machine, lines, ports, slot, reply);
+            tell(machine, lines, ports, slot, reply, tally);
             true
         }
         Ready::Close(slot) => {

@@ -1,10 +1,10 @@
 //! Bytes that wait to be written to a connection.
 
-ghost use Rattle.std.specs.Prelude.{◌≡◌, ◌-◌, ◌≤◌, ◌++◌, [], length, take, drop, vec_capacity, IfOk};
+ghost use Rattle.std.specs.Prelude.{◌≡◌, ◌≤◌, ◌++◌, [], length, drop, IfOk};
 ghost use Rattle.tardis_base.specs.Sizes.{longest_frame};
 ghost use Rattle.frame_cut.specs.Frames.{frame};
 
-use frame_cut::put_frame;
+use frame_cut::{keep_rest, put_frame};
 use std::alloc::Global;
 use std::marker::Model;
 use tardis_base::NoMemory;
@@ -70,26 +70,4 @@ impl Waiting {
     {
         keep_rest(&mut self.bytes, count);
     }
-}
-
-/// Keeps the bytes from `start` on, and the room.
-#[tactic(auto, using(std::proofs::lemmas::List::take_rest))]
-fn keep_rest(bytes: &mut Vec<u8>, start: usize)
-    requires { start ≤ length bytes.old.items }
-    ensures rest { bytes.new.items ≡ drop start bytes.old.items }
-    ensures room { vec_capacity bytes.new ≡ vec_capacity bytes.old }
-{
-    let end = bytes.len();
-    move_to_front(bytes.as_mut_slice(), start, end);
-    bytes.truncate(end - start);
-}
-
-/// Moves the bytes from `start` to `end` to the front.
-fn move_to_front(bytes: &mut [u8], start: usize, end: usize)
-    requires order { start ≤ end }
-    requires within { end ≤ length bytes.old }
-    ensures front { take (end - start) bytes.new ≡ take (end - start) (drop start bytes.old) }
-    ensures room { length bytes.new ≡ length bytes.old }
-{
-    bytes.copy_within(start..end, 0);
 }

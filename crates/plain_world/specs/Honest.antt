@@ -4,13 +4,13 @@ use Rattle.tardis_base.specs.declared.ids.StateId.{StateId}
 use Rattle.tardis_base.specs.declared.records.Record.{Record}
 use Rattle.tardis_base.specs.declared.records.Consent.{Consent}
 use Rattle.tardis_base.specs.declared.records.Batch.{Batch}
-use Rattle.tardis_base.specs.Ids.{is_among}
+use Rattle.tardis_base.specs.Ids.{root, same_id, is_among}
 use Rattle.tardis_base.specs.Valid.{is_within}
-use Rattle.plain_dag.specs.States.{root_record, record_at, is_known}
+use Rattle.wire_item.specs.Valid.{is_batch}
+use Rattle.plain_dag.specs.States.{record_at, is_known}
 use Rattle.plain_dag.specs.Above.{is_above, is_proper_ancestor}
 use Rattle.plain_dag.specs.Floors.{Floor, floor_of}
 use Rattle.plain_site.specs.Site.{Site, own_floor, own_count}
-use Rattle.plain_site.specs.Built.{everything}
 use Rattle.plain_site.specs.Sound.{IsSound}
 use Rattle.plain_world.specs.Worlds.{World, site_at}
 
@@ -19,9 +19,9 @@ abbrev pub IsOneOf : {A : Type 0} → A → List A → Type 0
 IsOneOf a [] = ⊥
 IsOneOf a (b ∷ bs) = (a ≡ b) ⊎ IsOneOf a bs
 
--- the record is in the world: a site has it in its history or in its waiting room, or a batch has it
+-- the record is in the world: a site has it in its history, the root's aside, or in its waiting room, or a batch has it
 pub data HasRecord (world : World) (r : Record) : Type 0 where
-  in_history : (m : ℕ) (site : Site) → site_at world.sites m ≡ Some site → IsOneOf r site.dag → HasRecord world r
+  in_history : (m : ℕ) (site : Site) → site_at world.sites m ≡ Some site → IsOneOf r site.dag → IsFalse (same_id r.id root) → HasRecord world r
   in_room : (m : ℕ) (site : Site) → site_at world.sites m ≡ Some site → IsOneOf r site.waiting → HasRecord world r
   in_bag : (batch : Batch) → IsOneOf batch world.bag → IsOneOf r batch.records → HasRecord world r
 
@@ -50,14 +50,16 @@ pub record StandsBy (n : ℕ) (home : Site) (f : Floor) : Type 0 where
 
 -- the site is sound, has this number, and knows how many sites there are
 pub record IsSite (sites : ℕ) (n : ℕ) (site : Site) : Type 0 where
-  pub sound : IsSound everything site
+  pub sound : IsSound site
   pub own : site.own ≡ n
   pub all : site.limits.sites ≡ sites
 
 pub record IsHonest (world : World) : Type 0 where
   pub sites : (n : ℕ) (site : Site) → site_at world.sites n ≡ Some site → IsSite (length world.sites) n site
-  -- each record but the root's is one that its own site has
-  pub records : (r : Record) → HasRecord world r → (r ≡ root_record) ⊎ IsOfItsSite world r
+  -- each batch is one that bytes can spell
+  pub bag : (batch : Batch) → IsOneOf batch world.bag → IsTrue (is_batch batch)
+  -- each record is one that its own site has
+  pub records : (r : Record) → HasRecord world r → IsOfItsSite world r
   -- each consent is one that its own site stands by
   pub consents : (n : ℕ) (f : Floor) → HasConsent world n f → (home : Site) × (site_at world.sites n ≡ Some home) × StandsBy n home f
   -- a site has one consent of each number, and its floors go down

@@ -4,3 +4,6 @@ pub mod Bodies
 pub mod Steps
 pub mod Honest
 pub mod Laws
+pub mod RowWords
+pub mod Rows
+pub mod WrongWorlds

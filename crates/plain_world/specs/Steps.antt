@@ -1,5 +1,5 @@
 -- What a world answers: each body is a step of one site, and each batch that a site gives joins the bag.
-use Rattle.std.specs.Prelude.{ℕ, ◌==◌, List, [], ◌∷◌, ◌++◌, length, if◌then◌else◌}
+use Rattle.std.specs.Prelude.{ℕ, false, ◌==◌, List, [], ◌∷◌, ◌++◌, length, if◌then◌else◌}
 use Rattle.std.specs.Option.{option_map_or}
 use Rattle.tardis_base.specs.declared.records.Item.{Item}
 use Rattle.tardis_base.specs.declared.requests.Request.{Request}
@@ -11,7 +11,6 @@ use Rattle.tardis_base.specs.declared.replies.Reply.TheVariants.{Batch as BatchI
 use Rattle.tardis_base.specs.Plain.{PlainMachine}
 use Rattle.wire_talk.specs.Spellings.{reply_spelling}
 use Rattle.plain_site.specs.Site.{Site}
-use Rattle.plain_site.specs.Built.{everything}
 use Rattle.plain_site.specs.Answers.{Answer}
 use Rattle.plain_site.specs.Step.{step}
 use Rattle.plain_world.specs.Worlds.{World, site_at, with_site, most_batches, item_at}
@@ -27,7 +26,7 @@ declined world refusal = (world, Refused refusal)
 
 -- what one site does at a request of an actor
 abbrev pub site_step : Site → ℕ → Request → Answer
-site_step = step everything
+site_step = step
 
 -- the site with this number is now this one, and the reply is its own; a batch joins the bag, unless the bag is full
 abbrev pub answered : World → ℕ → Site → Reply → WorldAnswer

@@ -1,7 +1,7 @@
 -- A store that a state has left.
 use Rattle.std.proofs.Common.{◌≡◌, ℕ, ◌<◌, Bool, true, false, ltb, ◌||◌, ◌&&◌, not, List, [], ◌∷◌, map, filter, Option, Some, None, IsTrue, IsFalse, inl, inr, refl, sym, ap, ap₂, subst, ◌∙◌, if◌then◌else◌, arith}
 use Rattle.std.specs.List.{list_all}
-use Rattle.std.proofs.lemmas.Bool.{or_parts, eq-eqb, and_parts, and_from, or_cases, or_left, or_right, both_ways, cases_Bool, cond-true, cond-false, false_from_ne_true, ltb-true, lt-ltb, not-true}
+use Rattle.std.proofs.lemmas.Bool.{or_parts, eq-eqb, and_parts, and_from, or_cases, or_left, or_right, both_ways, cases_Bool, cond-true, cond-false, false_from_ne_true, ltb-true, lt-ltb, not-true, eqb-true}
 use Rattle.std.proofs.lemmas.Option.{none-some, same_Some}
 use Rattle.tardis_base.specs.declared.ids.StateId.{StateId}
 use Rattle.tardis_base.specs.declared.ids.Slot.{Slot}
@@ -30,9 +30,6 @@ use Rattle.version_list.specs.declared.histories.Version.{Version}
 use Rattle.version_list.specs.Versions.{Versions, versions_of, same_slot, has_version_at, are_in_order}
 use Rattle.version_list.specs.Promoted.{version_at, without_version, at_state, in_its_place, handed_on, promoted}
 use Rattle.version_list.specs.Reads.{written}
-use Rattle.version_list.proofs.Noted.{slots-from_same}
-use Rattle.version_list.proofs.Moves.{apart}
-use Rattle.version_list.proofs.Promotes.{has-without, version-none}
 use Rattle.record_store.specs.Store.{Store}
 use Rattle.record_store.specs.Stands.{holds_key, shown_version, StoreStands}
 use Rattle.record_store.proofs.Holders.{holders, holder-writes, writer-holds, read-at_stand_in}
@@ -215,6 +212,29 @@ module _ (rs : List Record) (ks : List StateId) (dag : IsDag rs) (shared : Stand
           writer-holds rs ks dag shared k l (writer-is-known rs k l parts.0) parts.0
 
 -- ===== The versions then
+
+slots-from_same : (a b : Slot) → same_slot a b ≡ true → a ≡ b
+slots-from_same a b t = ap (λ n. let s : Slot = record { 0 = n } in s) (eqb-true a.0 b.0 t)
+
+-- slots of states that arrived one before the other are two
+apart : (arrived : Slot → ℕ) (a b : Slot) → arrived a < arrived b → same_slot a b ≡ false
+apart arrived a b before = false_from_ne_true (same_slot a b) (λ t. let same = ap arrived (slots-from_same a b t) in absurd (omega (arith, same, before)))
+
+version-none : (slot : Slot) (vs : List Version) → has_version_at slot vs ≡ false → version_at slot vs ≡ None
+version-none slot [] none = refl
+version-none slot (v ∷ vs) none =
+    let parts = or_parts (same_slot v.slot slot) (has_version_at slot vs) none in
+    rw parts.0 (version-none slot vs parts.1)
+
+-- another state's version stays
+has-without : (from q : Slot) (vs : List Version) → same_slot from q ≡ false → has_version_at q (without_version from vs) ≡ has_version_at q vs
+has-without from q [] differ = refl
+has-without from q (v ∷ vs) differ = elim (cases_Bool (same_slot v.slot from)) [
+  | inl t ↦
+      let here : same_slot v.slot q ≡ false = ap (λ s. same_slot s q) (slots-from_same v.slot from t) ∙ differ in
+      rw (t, here) (has-without from q vs differ)
+  | inr f ↦ rw f (ap (λ b. same_slot v.slot q || b) (has-without from q vs differ))
+]
 
 apart-from : (a b : Slot) → same_slot a b ≡ false → a ≡ b → ⊥
 apart-from a b f e = both_ways (same_slot a b) f (subst (λ z. same_slot a z ≡ true) e (eq-eqb a.0 a.0 refl))

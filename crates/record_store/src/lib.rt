@@ -28,6 +28,7 @@ ghost use Rattle.record_store.specs.Answers.{AddedIn, IsSameStore, MayArrive, St
 
 use state_dag::StateDag;
 use std::alloc::Global;
+use std::hash::RandomState;
 use std::marker::Model;
 use std::mem;
 use tardis_base::{
@@ -60,8 +61,8 @@ impl Model for RecordStore {
 }
 
 impl RecordStore {
-    /// The root alone, with nothing written.
-    pub fn new(alloc: Global, limits: &Limits) -> Result<RecordStore, NoMemory>
+    /// The root alone, with nothing written, and keys to be found by hashing with this seed.
+    pub fn new(alloc: Global, keys: RandomState, limits: &Limits) -> Result<RecordStore, NoMemory>
         requires { IsTrue (are_limits limits.now) }
         ensures stands { IfOk result (λ store. StoreStands store (root_record ∷ []) []) }
         ensures limits { IfOk result (λ store. store.table.limits ≡ limits.now) }
@@ -69,7 +70,7 @@ impl RecordStore {
         Ok(RecordStore {
             alloc,
             dag: StateDag::new(alloc, limits)?,
-            versions: VersionList::new(alloc),
+            versions: VersionList::new(alloc, keys),
         })
     }
 

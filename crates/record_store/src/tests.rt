@@ -6,6 +6,7 @@ ghost use Rattle.state_dag.specs.Table.{is_listed};
 
 use crate::RecordStore;
 use std::alloc::Global;
+use std::hash::RandomState;
 use std::process::Abort;
 use tardis_base::{
     AddFault, Found, Key, Limits, Record, Slot, StateId, StateList, Value, Write, WriteSet,
@@ -87,10 +88,10 @@ fn writes(rt: &impl Abort, alloc: Global, bytes: &[u8]) -> WriteSet {
 }
 
 /// 1.1 below the root writes `x`; below it, 1.2 overwrites that, and 1.3 deletes it and writes `y`.
-fn forked(rt: &impl Abort, alloc: Global) -> RecordStore
+fn forked(rt: &impl Abort, alloc: Global, keys: RandomState) -> RecordStore
     ensures { 1 ≤ result.table.limits.sites }
 {
-    let mut store = RecordStore::new(alloc, &LIMITS).expect(rt, "room");
+    let mut store = RecordStore::new(alloc, keys, &LIMITS).expect(rt, "room");
     added(rt, &mut store, 1, 0, &writes(rt, alloc, b"1"));
     added(rt, &mut store, 2, 1, &writes(rt, alloc, b"2"));
     let mut last = WriteSet::new(alloc);
@@ -175,7 +176,8 @@ fn news(
 #[test]
 fn branches_read_their_own(rt: HostRuntime) {
     let alloc = rt.alloc();
-    let store = forked(&rt, alloc);
+    let keys = RandomState::new(&rt).expect(&rt, "random bytes");
+    let store = forked(&rt, alloc, keys);
     reads(&rt, alloc, &store, 0, b"x", None, None);
     reads(&rt, alloc, &store, 1, b"x", Some(1), Some(b"1"));
     reads(&rt, alloc, &store, 2, b"x", Some(2), Some(b"2"));
@@ -190,7 +192,8 @@ fn branches_read_their_own(rt: HostRuntime) {
 #[test]
 fn a_merge_comes_back_and_a_full_store_keeps_its_reads(rt: HostRuntime) {
     let alloc = rt.alloc();
-    let mut store = forked(&rt, alloc);
+    let keys = RandomState::new(&rt).expect(&rt, "random bytes");
+    let mut store = forked(&rt, alloc, keys);
     merged(&rt, alloc, &mut store);
     full(&rt, alloc, &mut store);
     reads(&rt, alloc, &store, 4, b"x", Some(4), Some(b"4"));

@@ -3,6 +3,7 @@
 use crate::landing;
 use record_store::RecordStore;
 use std::alloc::Global;
+use std::hash::RandomState;
 use std::test::Fail;
 use tardis_base::{AddFault, EndFlags, Key, KeySet, Limits, Slot, StateId, Write, WriteSet};
 
@@ -70,7 +71,7 @@ fn deletes(alloc: Global, bytes: &[u8]) -> Result<WriteSet, Fail> {
 #[test]
 fn nothing_lands_below_a_lone_root(rt: HostRuntime) -> Result<(), Fail> {
     let alloc = rt.alloc();
-    let store = RecordStore::new(alloc, &LIMITS)?;
+    let store = RecordStore::new(alloc, RandomState::new(&rt)?, &LIMITS)?;
     let root = store.dag().last();
     let reads = reads(alloc, b"x")?;
     let writes = deletes(alloc, b"y")?;
@@ -83,7 +84,7 @@ fn nothing_lands_below_a_lone_root(rt: HostRuntime) -> Result<(), Fail> {
 #[test]
 fn a_merge_child_brings_the_news_of_the_other_branch(rt: HostRuntime) -> Result<(), Fail> {
     let alloc = rt.alloc();
-    let mut store = RecordStore::new(alloc, &LIMITS)?;
+    let mut store = RecordStore::new(alloc, RandomState::new(&rt)?, &LIMITS)?;
     assert!(rt; add_below_root(&mut store, &deletes(alloc, b"x")?).is_ok());
     assert!(rt; add_below_root(&mut store, &deletes(alloc, b"y")?).is_ok());
     assert!(rt; add_below_both(&mut store, &WriteSet::new(alloc)).is_ok());

@@ -25,6 +25,7 @@ use ceiling_book::CeilingBook;
 use record_store::RecordStore;
 use site_exchange::WaitRoom;
 use std::alloc::Global;
+use std::hash::RandomState;
 use std::marker::Model;
 use tardis_base::{Limits, NoMemory};
 use transactions::TxnBook;
@@ -48,15 +49,21 @@ impl Model for SiteCore {
 }
 
 impl SiteCore {
-    /// A site that opens: the root alone, no session, and nothing that waits. The room for what waits is taken here.
-    pub fn new(alloc: Global, limits: Limits, own: u16) -> Result<SiteCore, NoMemory>
+    /// A site that opens: the root alone, no session, and nothing that waits. Its keys are found by hashing with this seed.
+    /// The room for what waits is taken here.
+    pub fn new(
+        alloc: Global,
+        keys: RandomState,
+        limits: Limits,
+        own: u16,
+    ) -> Result<SiteCore, NoMemory>
         requires limits { IsTrue (are_limits limits) }
         requires first { 1 ≤ own }
         requires last { own ≤ limits.sites }
         ensures stands { IfOk result (λ core. CoreStands core (opening limits own)) }
         ensures sound { IfOk result (λ _. IsSound (opening limits own)) }
     {
-        let parts = Parts::new(alloc, &limits, own)?;
+        let parts = Parts::new(alloc, keys, &limits, own)?;
         Ok(SiteCore { parts })
     }
 }
@@ -85,13 +92,13 @@ impl Model for Parts {
 
 impl Parts {
     /// Those of a site that opens: the root alone, no session, and nothing that waits.
-    fn new(alloc: Global, limits: &Limits, own: u16) -> Result<Parts, NoMemory>
+    fn new(alloc: Global, keys: RandomState, limits: &Limits, own: u16) -> Result<Parts, NoMemory>
         requires limits { IsTrue (are_limits limits.now) }
         requires first { 1 ≤ own }
         requires last { own ≤ limits.now.sites }
         ensures stands { IfOk result (λ core. CoreStands core (opening limits.now own)) }
     {
-        let store = RecordStore::new(alloc, limits)?;
+        let store = RecordStore::new(alloc, keys, limits)?;
         let root = store.dag().last();
         let book = CeilingBook::new(alloc, limits, own, root)?;
         let txns = TxnBook::new(alloc);

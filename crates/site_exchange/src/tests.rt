@@ -7,6 +7,7 @@ use crate::{Judged, WaitRoom, batch_for, judge_record};
 use ceiling_book::CeilingBook;
 use record_store::RecordStore;
 use std::alloc::Global;
+use std::hash::RandomState;
 use std::process::Abort;
 use std::test::Fail;
 use tardis_base::{Key, Limits, Record, StateId, StateList, Value, Write, WriteSet};
@@ -77,8 +78,8 @@ fn add(rt: &impl Abort, alloc: Global, store: &mut RecordStore, rec: &Record)
 }
 
 /// How many records a batch for these counts has, after two records of 262,144 bytes and a last one.
-fn given(rt: &impl Abort, alloc: Global, last: usize, counts: &[u32]) -> usize {
-    let mut store = RecordStore::new(alloc, &LIMITS).expect(rt, "room");
+fn given(rt: &impl Abort, alloc: Global, keys: RandomState, last: usize, counts: &[u32]) -> usize {
+    let mut store = RecordStore::new(alloc, keys, &LIMITS).expect(rt, "room");
     add(rt, alloc, &mut store, &wide_record(rt, alloc, 1, 3762));
     add(rt, alloc, &mut store, &wide_record(rt, alloc, 2, 3762));
     add(rt, alloc, &mut store, &wide_record(rt, alloc, 3, last));
@@ -89,16 +90,18 @@ fn given(rt: &impl Abort, alloc: Global, last: usize, counts: &[u32]) -> usize {
 
 #[test]
 fn a_batch_ends_in_front_of_the_byte_that_is_too_many(rt: HostRuntime) -> Result<(), Fail> {
-    assert!(rt; given(&rt, rt.alloc(), 3762, &[0, 0]) == 3);
-    assert!(rt; given(&rt, rt.alloc(), 3763, &[0, 0]) == 2);
-    assert!(rt; given(&rt, rt.alloc(), 3763, &[0, 1]) == 2);
+    let alloc = rt.alloc();
+    let keys = RandomState::new(&rt)?;
+    assert!(rt; given(&rt, alloc, keys, 3762, &[0, 0]) == 3);
+    assert!(rt; given(&rt, alloc, keys, 3763, &[0, 0]) == 2);
+    assert!(rt; given(&rt, alloc, keys, 3763, &[0, 1]) == 2);
     Ok(())
 }
 
 #[test]
 fn an_early_record_waits(rt: HostRuntime) -> Result<(), Fail> {
     let alloc = rt.alloc();
-    let store = RecordStore::new(alloc, &LIMITS)?;
+    let store = RecordStore::new(alloc, RandomState::new(&rt)?, &LIMITS)?;
     let book = opening_book(&rt, alloc, &store);
     let early = wide_record(&rt, alloc, 2, 0);
     assert!(rt;

@@ -8,6 +8,7 @@ use crate::StateDag;
 use rand_core::utils::NextWord;
 use rand_pcg::Lcg64Xsh32;
 use std::alloc::{AllocError, Global};
+use std::process::Abort;
 use tardis_base::{AddFault, Limits, Slot, StateId};
 
 const LIMITS: Limits = Limits {
@@ -61,50 +62,30 @@ fn is_above(dag: &StateDag, a: u32, b: u32) -> bool {
     }
 }
 
-/// The states at the slots.
-fn named(alloc: Global, dag: &StateDag, slots: &[Slot]) -> Result<Vec<StateId>, AllocError> {
-    slots
-        .iter()
-        .filter_map(|slot| {
-            if dag.has_slot(*slot) {
-                Some(dag.id_of(*slot))
-            } else {
-                None
-            }
-        })
-        .collect(alloc)
+/// A table of two states below the root, and of two below both of these.
+fn woven(rt: &impl Abort, alloc: Global) -> StateDag {
+    let mut dag = StateDag::new(alloc, &LIMITS).expect(rt, "room");
+    for (first, second) in [(0, None), (0, None), (1, Some(2)), (1, Some(2))] {
+        assert!(rt; add_below(&mut dag, first, second).is_ok());
+    }
+    dag
 }
 
 #[test]
 fn states_are_added_below_their_parents(rt: HostRuntime) {
-    let mut dag = StateDag::new(rt.alloc(), &LIMITS).expect(&rt, "room");
-    let edges = [(0, None), (0, None), (1, Some(2)), (1, Some(2))];
-    for (first, second) in edges {
-        assert!(rt; add_below(&mut dag, first, second).is_ok());
-    }
-    let above = [(0, 4), (1, 3), (2, 4), (3, 3)];
-    for (a, b) in above {
+    let dag = woven(&rt, rt.alloc());
+    for (a, b) in [(0, 4), (1, 3), (2, 4), (3, 3)] {
         assert!(rt; is_above(&dag, a, b));
     }
-    let apart = [(1, 2), (3, 4), (4, 1), (4, 0)];
-    for (a, b) in apart {
+    for (a, b) in [(1, 2), (3, 4), (4, 1), (4, 0)] {
         assert!(rt; !is_above(&dag, a, b));
     }
-    assert_eq!(rt; (dag.leaves(), dag.known(), dag.kept()), (2, 5, 5));
-    assert_eq!(rt;
-        named(rt.alloc(), &dag, dag.kept_slots())
-            .expect(&rt, "room")
-            .as_slice(),
-        [state(0), state(1), state(2), state(3), state(4)].as_slice()
-    );
-    assert_eq!(rt;
-        named(rt.alloc(), &dag, dag.leaf_slots())
-            .expect(&rt, "room")
-            .as_slice(),
-        [state(3), state(4)].as_slice()
-    );
+}
+
+#[test]
+fn a_path_has_a_pair_for_each_fork(rt: HostRuntime) {
+    let dag = woven(&rt, rt.alloc());
     let merge = dag.slot_of(state(3)).expect(&rt, "a slot");
-    assert_eq!(rt; dag.parents(merge), [state(1), state(2)].as_slice());
     let path = dag.path(merge).expect(&rt, "room");
     assert_eq!(rt;
         path.as_slice(),
@@ -129,7 +110,7 @@ fn only_a_lone_child_is_shared_while_all_are_kept(rt: HostRuntime) {
 }
 
 #[test]
-fn limits_refuse_states(rt: HostRuntime) {
+fn a_full_table_refuses_states(rt: HostRuntime) {
     let two = Limits {
         max_kept: 2,
         ..LIMITS
@@ -137,6 +118,10 @@ fn limits_refuse_states(rt: HostRuntime) {
     let mut dag = StateDag::new(rt.alloc(), &two).expect(&rt, "room");
     assert!(rt; add_below(&mut dag, 0, None).is_ok());
     assert!(rt; add_below(&mut dag, 1, None) == Err(AddFault::Full { kept: 2 }));
+}
+
+#[test]
+fn a_path_that_is_too_long_is_refused(rt: HostRuntime) {
     let short = Limits {
         max_path: 1,
         ..LIMITS
@@ -150,8 +135,6 @@ fn limits_refuse_states(rt: HostRuntime) {
         pairs: 2,
     };
     assert!(rt; add_below(&mut dag, 1, None) == Err(long));
-    assert!(rt; is_above(&dag, 1, 3) && !is_above(&dag, 2, 3));
-    assert_eq!(rt; (dag.kept(), dag.leaves()), (4, 2));
 }
 
 /// Which of 200 states are at or above the one, by a walk along the parents of each.

@@ -7,6 +7,8 @@ ghost use Rattle.std.specs.Prelude.{◌≡◌};
 ghost use Rattle.std.specs.Process.{exit_status};
 ghost use Rattle.tardis_io.specs.Statuses.{status_number};
 
+use std::env::Args;
+use std::hash::RandomState;
 use std::process::ExitCode;
 use std::{env, io};
 use tardis_io::{Status, StdIn, StdOut};
@@ -18,15 +20,24 @@ fn main(rt: HostRuntime) -> ExitCode {
 
 /// Carries out the command of the program's arguments over its standard input and output.
 fn run(rt: &HostRuntime) -> ExitCode {
-    let mut input = StdIn::new(rt.stdin());
-    let mut output = StdOut::new(rt.stdout());
     let status = match env::args(rt) {
-        Ok(args) => carry_out(rt.alloc(), args, &mut input, &mut output),
+        Ok(args) => command(rt, args),
         Err(error) if error.kind() == io::ErrorKind::OutOfMemory => Status::NoMemory,
         // words that are no text have no form of a command
         Err(_) => Status::Usage,
     };
     end(rt, status)
+}
+
+/// Carries out the command of these arguments.
+fn command(rt: &HostRuntime, args: Args) -> Status {
+    // a system without random bytes to give is told as one without memory
+    let Ok(keys) = RandomState::new(rt) else {
+        return Status::NoMemory;
+    };
+    let mut input = StdIn::new(rt.stdin());
+    let mut output = StdOut::new(rt.stdout());
+    carry_out(rt.alloc(), keys, args, &mut input, &mut output)
 }
 
 /// Writes the line of the status, if it has one, on standard error, and gives its number.

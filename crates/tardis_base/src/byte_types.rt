@@ -1,9 +1,8 @@
 //! Keys and values: short byte strings of bounded length.
 
-ghost use Rattle.std.specs.Prelude.{◌≡◌, ◌≤◌, ◌↔◌, Some, false, nat_eq, nat_le, length, refl, true, IsTrue, OnOk, IfOk};
+ghost use Rattle.std.specs.Prelude.{◌≡◌, ◌≤◌, ◌↔◌, ◌∷◌, [], Some, false, nat_eq, nat_le, length, refl, true, IsTrue, OnOk, IfOk};
 ghost use Rattle.std.specs.Option.{option_copied, option_map_or};
 ghost use Rattle.std.specs.Ordering.{nat_cmp};
-ghost use Rattle.std.specs.Hash as fed;
 ghost use Rattle.std.specs.Cmp.Lexicographic.{pointwise, slice_cmp, nat_list_eq_equiv, nat_list_cmp_total, texts_ties, texts_po};
 ghost use Rattle.std.specs.Cmp.{partial_equiv_from_equiv};
 ghost use Rattle.std.specs.Cmp.Rules.{hashing};
@@ -178,12 +177,13 @@ impl Ord for Key {
 }
 
 impl Hash for Key {
-    ghost hash_input = { fed.slice fed.u8 };
+    ghost hash_input = { λ k. k ∷ [] };
 
     ghost respects_eq = { Prim.search (hashing, rules) };
 
+    /// All bytes in one write, since a hasher takes many at a time. Of a key alone that tells as much as its length would.
     fn hash<H: Hasher>(&self, state: &mut H) {
-        self.bytes.hash(state);
+        state.write(&self.bytes);
     }
 }
 

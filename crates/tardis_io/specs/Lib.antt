@@ -4,3 +4,4 @@ pub mod Told
 pub mod Moments
 pub mod Statuses
 pub mod Memory
+pub mod Links

@@ -1,8 +1,9 @@
 ghost use Rattle.std.specs.Prelude.{◌≤◌, IfOk};
 
 use crate::{
-    CountSink, Duplex, Failed, MemorySink, MemorySource, Pair, ReaderSource, Sink, Source, Status,
-    StdIn, StdOut, SteadySource, WriteFault, WriterSink, write_all,
+    CountSink, Dial, Duplex, Failed, Gate, Link, MemoryDial, MemoryGate, MemoryLink, MemorySink,
+    MemorySource, Pair, ReaderSource, Sink, Source, Status, StdIn, StdOut, SteadySource,
+    WriteFault, WriterSink, write_all,
 };
 use std::alloc::Global;
 use std::io;
@@ -298,5 +299,53 @@ fn faults_have_texts(rt: HostRuntime) -> Result<(), Fail> {
         write.as_str(),
         "writing failed before all bytes were written"
     );
+    Ok(())
+}
+
+/// A link over these bytes that has room for as many.
+fn link(alloc: Global, bytes: &[u8]) -> Result<MemoryLink, Fail> {
+    let source = MemorySource::new(alloc, bytes, 8, &[])?;
+    let sink = MemorySink::new(alloc, 8, 8, &[])?;
+    Ok(MemoryLink::new(source, sink))
+}
+
+#[test]
+fn a_gate_in_memory_keeps_what_is_put_back(rt: HostRuntime) -> Result<(), Fail> {
+    let links = vec![in rt.alloc(); link(rt.alloc(), b"a")?, link(rt.alloc(), b"b")?]?;
+    let mut gate = MemoryGate::new(rt.alloc(), links, &[2])?;
+    assert!(rt; gate.bind("x:1") == Ok(()));
+    assert!(rt; matches!(gate.next(), Err(Failed)));
+    let mut buf = [0u8; 4];
+    for session in [1, 2] {
+        let Ok(Some(mut link)) = gate.next() else {
+            return Err(io::Error::from(ErrorKind::NotFound).into());
+        };
+        assert!(rt; link.take(&mut buf) == Ok(1));
+        assert!(rt; link.give(&buf[..1]) == Ok(1));
+        link.finish();
+        gate.put_back(session, link);
+    }
+    assert!(rt; matches!(gate.next(), Ok(None)));
+    for ((session, link), want) in gate.back().iter().zip([(1, b"a"), (2, b"b")]) {
+        assert!(rt; *session == want.0 && link.source().left().is_empty());
+        assert!(rt; link.sink().bytes() == want.1.as_slice());
+    }
+    Ok(())
+}
+
+#[test]
+fn a_dial_in_memory_fails_where_it_is_told_to_and_when_no_link_is_left(
+    rt: HostRuntime,
+) -> Result<(), Fail> {
+    let links = vec![in rt.alloc(); link(rt.alloc(), b"a")?]?;
+    let mut dial = MemoryDial::new(rt.alloc(), links, &[1])?;
+    assert!(rt; matches!(dial.call("x:1"), Err(Failed)));
+    let Ok(mut link) = dial.call("x:1") else {
+        return Err(io::Error::from(ErrorKind::NotFound).into());
+    };
+    assert!(rt; matches!(dial.call("x:1"), Err(Failed)));
+    link.finish();
+    dial.put_back(link);
+    assert!(rt; dial.back().len() == 1);
     Ok(())
 }

@@ -6,27 +6,26 @@ use crate::limit_tests::{LIMITS, answers};
 use crate::merge_rows::{BRANCHED, JOINED};
 use crate::step_tests::steps;
 use crate::talks::Talk;
-use std::alloc::Global;
 use std::test::Fail;
 use tardis_base::Limits;
 
 /// Whether the program's site answers these tables, and a site's step does.
-fn are_answered(alloc: Global, tables: &[&str]) -> Result<bool, Fail> {
-    let talk = Talk::of(alloc, tables)?;
-    Ok(answers(alloc, LIMITS, 1, &talk)? && steps(alloc, &talk)?)
+fn are_answered(rt: &HostRuntime, tables: &[&str]) -> Result<bool, Fail> {
+    let talk = Talk::of(rt.alloc(), tables)?;
+    Ok(answers(rt, LIMITS, 1, &talk)? && steps(rt, &talk)?)
 }
 
 #[test]
 fn closed_states_are_collected(rt: HostRuntime) -> Result<(), Fail> {
     let alloc = rt.alloc();
-    assert!(rt; are_answered(alloc, &[RAISED_CHAIN, COLLECTED_CHAIN])?);
-    assert!(rt; are_answered(alloc, &[BRANCHED, JOINED, GROWN_TOGETHER])?);
-    assert!(rt; are_answered(alloc, &[FORK_OF_THREE])?);
+    assert!(rt; are_answered(&rt, &[RAISED_CHAIN, COLLECTED_CHAIN])?);
+    assert!(rt; are_answered(&rt, &[BRANCHED, JOINED, GROWN_TOGETHER])?);
+    assert!(rt; are_answered(&rt, &[FORK_OF_THREE])?);
     let three_states = Limits {
         max_kept: 3,
         ..LIMITS
     };
-    assert!(rt; answers(alloc, three_states, 1, &Talk::of(alloc, &[ROOM_AGAIN])?)?);
+    assert!(rt; answers(&rt, three_states, 1, &Talk::of(alloc, &[ROOM_AGAIN])?)?);
     Ok(())
 }
 
@@ -69,6 +68,6 @@ fn a_long_chain_stays_small(rt: HostRuntime) -> Result<(), Fail> {
     let mut told = Vec::from_slice(alloc, &known)?;
     told.extend_from_slice(&[0, 0, 156, 64, 0, 1, 0, 0, 156, 64, 0, 0, 2, 113])?;
     talk.ask(&[16], told.as_slice())?;
-    assert!(rt; answers(alloc, LIMITS, 1, &talk)?);
+    assert!(rt; answers(&rt, LIMITS, 1, &talk)?);
     Ok(())
 }

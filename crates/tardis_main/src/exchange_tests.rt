@@ -15,13 +15,13 @@ fn what_sites_give_each_other_is_answered(rt: HostRuntime) -> Result<(), Fail> {
     let two_sites = Limits { sites: 2, ..LIMITS };
     for ends in [IN_ORDER, CONSENTS, LYING_PEERS, NEWS] {
         let talk = Talk::of(alloc, &[TWO_RECORDS, ends])?;
-        assert!(rt; answers(alloc, two_sites, 1, &talk)?);
-        assert!(rt; steps_of_two(alloc, &talk)?);
+        assert!(rt; answers(&rt, two_sites, 1, &talk)?);
+        assert!(rt; steps_of_two(&rt, &talk)?);
     }
     let talk = Talk::of(alloc, &[SETTLED])?;
-    assert!(rt; answers(alloc, two_sites, 1, &talk)?);
-    assert!(rt; steps_of_two(alloc, &talk)?);
-    assert!(rt; answers(alloc, LIMITS, 1, &Talk::of(alloc, &[NONE_WAITS])?)?);
+    assert!(rt; answers(&rt, two_sites, 1, &talk)?);
+    assert!(rt; steps_of_two(&rt, &talk)?);
+    assert!(rt; answers(&rt, LIMITS, 1, &Talk::of(alloc, &[NONE_WAITS])?)?);
     Ok(())
 }
 
@@ -33,13 +33,13 @@ fn records_of_others_have_room_too(rt: HostRuntime) -> Result<(), Fail> {
         max_kept: 2,
         ..LIMITS
     };
-    assert!(rt; answers(alloc, two_states, 1, &Talk::of(alloc, &[NO_ROOM])?)?);
+    assert!(rt; answers(&rt, two_states, 1, &Talk::of(alloc, &[NO_ROOM])?)?);
     let one_pair = Limits {
         sites: 2,
         max_path: 1,
         ..LIMITS
     };
-    assert!(rt; answers(alloc, one_pair, 1, &Talk::of(alloc, &[NO_PATH])?)?);
+    assert!(rt; answers(&rt, one_pair, 1, &Talk::of(alloc, &[NO_PATH])?)?);
     Ok(())
 }
 
@@ -58,6 +58,6 @@ fn the_257th_early_record_pushes_the_first_out(rt: HostRuntime) -> Result<(), Fa
     talk.note_all(NONE_WAITS)?;
     talk.ask_as(0, b"\x14\x01\0\x02\0\0\0\x01\x01\0\0\0\0\0\0\0", b"\x11")?;
     talk.note_all(NONE_WAITS)?;
-    assert!(rt; answers(alloc, two_sites, 1, &talk)?);
+    assert!(rt; answers(&rt, two_sites, 1, &talk)?);
     Ok(())
 }

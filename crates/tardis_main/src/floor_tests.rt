@@ -17,6 +17,6 @@ fn the_last_of_256_sessions_holds_the_floor(rt: HostRuntime) -> Result<(), Fail>
         talk.ask_as(actor, &[12, 0, 1, 0, 0, 0, 1], &[7])?;
     }
     talk.note_all(LAST_HOLDS)?;
-    assert!(rt; answers(alloc, LIMITS, 1, &talk)?);
+    assert!(rt; answers(&rt, LIMITS, 1, &talk)?);
     Ok(())
 }

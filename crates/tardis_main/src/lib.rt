@@ -30,13 +30,17 @@ pub use programs::carry_out;
 use session_core::SiteCore;
 use site_run::run_site;
 use std::alloc::Global;
+use std::hash::RandomState;
 use tardis_base::{Limits, NoMemory};
 use tardis_io::{Sink, Source, Status};
 
 /// Carries out the command that the words name, at the place among the sites that they name. Words without a form, and
 /// those of a command that isn't built yet, are `Status::Usage`, and then nothing is read or written.
+///
+/// Keys are found by hashing with this seed.
 pub fn tardis<I: Source, O: Sink>(
     alloc: Global,
+    keys: RandomState,
     words: &[String],
     input: &mut I,
     output: &mut O,
@@ -77,10 +81,12 @@ pub fn tardis<I: Source, O: Sink>(
     ensures nothing { result ≡ Status.NoMemory → (input.new ≡ input.old) × (output.new ≡ output.old) }
 {
     match read_words(alloc, words) {
-        Ok(Command::Run(place)) => run(alloc, place.limits(), place.site, input, output),
-        Ok(Command::Shell(place)) => { shell(alloc, place.limits(), place.site, input, output) }
+        Ok(Command::Run(place)) => run(alloc, keys, place.limits(), place.site, input, output),
+        Ok(Command::Shell(place)) => {
+            shell(alloc, keys, place.limits(), place.site, input, output)
+        }
         Ok(Command::Audit(place)) => {
-            audit_frames(alloc, place.limits(), place.site, input, output)
+            audit_frames(alloc, keys, place.limits(), place.site, input, output)
         }
         // the other commands aren't built yet
         Ok(_) | Err(_) => Status::Usage,
@@ -90,6 +96,7 @@ pub fn tardis<I: Source, O: Sink>(
 /// Runs the site of this number, with these limits.
 fn run<I: Source, O: Sink>(
     alloc: Global,
+    keys: RandomState,
     limits: Limits,
     own: u16,
     input: &mut I,
@@ -110,7 +117,7 @@ fn run<I: Source, O: Sink>(
     ensures write { result ≡ Status.WriteFault → Rose (O.faults output.old) (O.faults output.new) }
     ensures nothing { result ≡ Status.NoMemory → (input.new ≡ input.old) × (output.new ≡ output.old) }
 {
-    match SiteCore::new(alloc, limits, own) {
+    match SiteCore::new(alloc, keys, limits, own) {
         Ok(mut site) => run_site(alloc, &mut site, input, output),
         Err(NoMemory) => Status::NoMemory,
     }

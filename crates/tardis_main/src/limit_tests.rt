@@ -9,6 +9,7 @@ use crate::rows::{
 use crate::run;
 use crate::talks::Talk;
 use std::alloc::Global;
+use std::hash::RandomState;
 use std::test::Fail;
 use tardis_base::Limits;
 use tardis_io::{MemorySink, MemorySource, Status};
@@ -23,17 +24,25 @@ pub(crate) const LIMITS: Limits = Limits {
 };
 
 /// Whether the site of this number, with these limits, answers the requests by these replies.
-pub(crate) fn answers(alloc: Global, limits: Limits, own: u16, talk: &Talk) -> Result<bool, Fail>
+pub(crate) fn answers(rt: &HostRuntime, limits: Limits, own: u16, talk: &Talk) -> Result<bool, Fail>
     requires limits { IsTrue (are_limits limits) }
     requires first { 1 ≤ own }
     requires last { own ≤ limits.sites }
 {
+    let alloc = rt.alloc();
     let input = talk.input()?;
     let output = talk.output()?;
     let mut source = MemorySource::new(alloc, input.as_slice(), 65_536, &[])?;
     let room = u32::try_from(output.len()).unwrap_or(u32::MAX);
     let mut sink = MemorySink::new(alloc, room, 65_536, &[])?;
-    let ended = run(alloc, limits, own, &mut source, &mut sink);
+    let ended = run(
+        alloc,
+        RandomState::new(rt)?,
+        limits,
+        own,
+        &mut source,
+        &mut sink,
+    );
     Ok(ended == Status::Ok && sink.bytes() == output.as_slice())
 }
 
@@ -44,17 +53,17 @@ fn a_site_stays_within_its_limits(rt: HostRuntime) -> Result<(), Fail> {
         max_kept: 3,
         ..LIMITS
     };
-    assert!(rt; answers(alloc, three_states, 1, &Talk::of(alloc, &[FULL_SITE])?)?);
+    assert!(rt; answers(&rt, three_states, 1, &Talk::of(alloc, &[FULL_SITE])?)?);
     let one_session = Limits {
         max_sessions: 1,
         ..LIMITS
     };
-    assert!(rt; answers(alloc, one_session, 1, &Talk::of(alloc, &[SECOND_SESSION])?)?);
+    assert!(rt; answers(&rt, one_session, 1, &Talk::of(alloc, &[SECOND_SESSION])?)?);
     let one_pair = Limits {
         max_path: 1,
         ..LIMITS
     };
-    assert!(rt; answers(alloc, one_pair, 1, &Talk::of(alloc, &[LONG_PATH])?)?);
+    assert!(rt; answers(&rt, one_pair, 1, &Talk::of(alloc, &[LONG_PATH])?)?);
     Ok(())
 }
 
@@ -65,7 +74,7 @@ fn a_site_of_many_makes_states_of_its_own(rt: HostRuntime) -> Result<(), Fail> {
         sites: 16,
         ..LIMITS
     };
-    assert!(rt; answers(alloc, sixteen_sites, 3, &Talk::of(alloc, &[ONE_OF_16])?)?);
+    assert!(rt; answers(&rt, sixteen_sites, 3, &Talk::of(alloc, &[ONE_OF_16])?)?);
     Ok(())
 }
 
@@ -87,7 +96,7 @@ fn a_transaction_has_at_most_64_writes_and_256_reads(rt: HostRuntime) -> Result<
     talk.note_all(BEGUN)?;
     use_up(&mut talk)?;
     talk.note_all(PAST_LIMITS)?;
-    assert!(rt; answers(alloc, LIMITS, 1, &talk)?);
+    assert!(rt; answers(&rt, LIMITS, 1, &talk)?);
     Ok(())
 }
 
@@ -142,7 +151,7 @@ fn keys_and_values_have_their_lengths(rt: HostRuntime) -> Result<(), Fail> {
         &[0x15, 1],
     )?;
     note_get(alloc, &mut talk, 128, 4_096)?;
-    assert!(rt; answers(alloc, LIMITS, 1, &talk)?);
+    assert!(rt; answers(&rt, LIMITS, 1, &talk)?);
     Ok(())
 }
 
@@ -178,6 +187,6 @@ fn each_of_200_states_keeps_its_value(rt: HostRuntime) -> Result<(), Fail> {
     let mut talk = Talk::new(alloc);
     note_chain(alloc, &mut talk, 200)?;
     talk.note_all(LOOKING_BACK)?;
-    assert!(rt; answers(alloc, LIMITS, 1, &talk)?);
+    assert!(rt; answers(&rt, LIMITS, 1, &talk)?);
     Ok(())
 }

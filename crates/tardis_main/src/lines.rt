@@ -14,12 +14,14 @@ ghost use Rattle.tardis_main.specs.Runs.{AuditFrom, ShellFrom};
 use session_core::SiteCore;
 use shell_run::{audit, run_shell};
 use std::alloc::Global;
+use std::hash::RandomState;
 use tardis_base::{Limits, NoMemory};
 use tardis_io::{Sink, Source, Status};
 
 /// Answers lines of requests by lines of the replies of the site of this number, with these limits.
 pub(crate) fn shell<I: Source, O: Sink>(
     alloc: Global,
+    keys: RandomState,
     limits: Limits,
     own: u16,
     input: &mut I,
@@ -40,7 +42,7 @@ pub(crate) fn shell<I: Source, O: Sink>(
     ensures write { result ≡ Status.WriteFault → Rose (O.faults output.old) (O.faults output.new) }
     ensures nothing { result ≡ Status.NoMemory → (input.new ≡ input.old) × (output.new ≡ output.old) }
 {
-    match SiteCore::new(alloc, limits, own) {
+    match SiteCore::new(alloc, keys, limits, own) {
         Ok(mut site) => run_shell(alloc, &mut site, input, output),
         Err(NoMemory) => Status::NoMemory,
     }
@@ -49,6 +51,7 @@ pub(crate) fn shell<I: Source, O: Sink>(
 /// Tells, in a line each, what frames ask and what the site of this number, with these limits, replies.
 pub(crate) fn audit_frames<I: Source, O: Sink>(
     alloc: Global,
+    keys: RandomState,
     limits: Limits,
     own: u16,
     input: &mut I,
@@ -69,7 +72,7 @@ pub(crate) fn audit_frames<I: Source, O: Sink>(
     ensures write { result ≡ Status.WriteFault → Rose (O.faults output.old) (O.faults output.new) }
     ensures nothing { result ≡ Status.NoMemory → (input.new ≡ input.old) × (output.new ≡ output.old) }
 {
-    match SiteCore::new(alloc, limits, own) {
+    match SiteCore::new(alloc, keys, limits, own) {
         Ok(mut site) => audit(alloc, &mut site, input, output),
         Err(NoMemory) => Status::NoMemory,
     }

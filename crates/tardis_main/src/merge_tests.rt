@@ -12,26 +12,19 @@ use std::test::Fail;
 #[test]
 fn merges_answer_as_told(rt: HostRuntime) -> Result<(), Fail> {
     let alloc = rt.alloc();
-    assert!(rt; answers(alloc, LIMITS, 1, &Talk::of(alloc, &[CART])?)?);
+    assert!(rt; answers(&rt, LIMITS, 1, &Talk::of(alloc, &[CART])?)?);
     assert!(rt;
         answers(
-            alloc,
+            &rt,
             LIMITS,
             1,
             &Talk::of(alloc, &[BRANCHED, JOINED, APART])?
         )?
     );
-    assert!(rt;
-        answers(
-            alloc,
-            LIMITS,
-            1,
-            &Talk::of(alloc, &[BRANCHED, MERGED_TWICE])?
-        )?
-    );
-    assert!(rt; answers(alloc, LIMITS, 1, &Talk::of(alloc, &[BRANCHED, ONE_STATE])?)?);
-    assert!(rt; answers(alloc, LIMITS, 1, &Talk::of(alloc, &[PAST_MERGES])?)?);
-    assert!(rt; answers(alloc, LIMITS, 1, &Talk::of(alloc, &[NINE_LEAVES])?)?);
+    assert!(rt; answers(&rt, LIMITS, 1, &Talk::of(alloc, &[BRANCHED, MERGED_TWICE])?)?);
+    assert!(rt; answers(&rt, LIMITS, 1, &Talk::of(alloc, &[BRANCHED, ONE_STATE])?)?);
+    assert!(rt; answers(&rt, LIMITS, 1, &Talk::of(alloc, &[PAST_MERGES])?)?);
+    assert!(rt; answers(&rt, LIMITS, 1, &Talk::of(alloc, &[NINE_LEAVES])?)?);
     Ok(())
 }
 
@@ -77,7 +70,7 @@ fn a_merge_of_128_conflict_keys_stays_open(rt: HostRuntime) -> Result<(), Fail> 
     talk.ask(&[8, 0], &[3, 2, 0, 1, 0, 0, 0, 3, 0, 1, 0, 0, 0, 4])?;
     note_conflicts(alloc, &mut talk, &[0, 1])?;
     talk.note_all(WIDE_OPEN)?;
-    assert!(rt; answers(alloc, LIMITS, 1, &talk)?);
+    assert!(rt; answers(&rt, LIMITS, 1, &talk)?);
     Ok(())
 }
 
@@ -96,6 +89,6 @@ fn three_merges_join_wide_branches(rt: HostRuntime) -> Result<(), Fail> {
     note_conflicts(alloc, &mut talk, &[1])?;
     note_puts(&mut talk, 1, 1)?;
     talk.note_all(STEP_TWO)?;
-    assert!(rt; answers(alloc, LIMITS, 1, &talk)?);
+    assert!(rt; answers(&rt, LIMITS, 1, &talk)?);
     Ok(())
 }

@@ -20,6 +20,7 @@ use crate::tardis;
 use command_words::commands_are_at_a_site;
 use std::alloc::Global;
 use std::env::Args;
+use std::hash::RandomState;
 use tardis_base::NoMemory;
 use tardis_io::{Sink, Source, Status, WriteFault, write_all};
 
@@ -27,6 +28,7 @@ use tardis_io::{Sink, Source, Status, WriteFault, write_all};
 /// for `--help` and `--version`, and is `tardis` for other words.
 pub fn carry_out<I: Source, O: Sink>(
     alloc: Global,
+    keys: RandomState,
     args: Args,
     input: &mut I,
     output: &mut O,
@@ -70,7 +72,7 @@ pub fn carry_out<I: Source, O: Sink>(
     ensures nothing { result ≡ Status.NoMemory → (input.new ≡ input.old) × (output.new ≡ output.old) }
 {
     match words_behind_name(alloc, args) {
-        Ok(words) => command(alloc, words.as_slice(), input, output),
+        Ok(words) => command(alloc, keys, words.as_slice(), input, output),
         Err(NoMemory) => {
             commands_are_at_a_site();
             Status::NoMemory
@@ -97,6 +99,7 @@ fn words_behind_name(alloc: Global, args: Args) -> Result<Vec<String>, NoMemory>
 /// Carries out the command that the words name.
 fn command<I: Source, O: Sink>(
     alloc: Global,
+    keys: RandomState,
     words: &[String],
     input: &mut I,
     output: &mut O,
@@ -140,7 +143,7 @@ fn command<I: Source, O: Sink>(
 {
     match help_of(words) {
         Some(help) => tell(help, output),
-        None => tardis(alloc, words, input, output),
+        None => tardis(alloc, keys, words, input, output),
     }
 }
 

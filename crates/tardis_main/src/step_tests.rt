@@ -10,6 +10,7 @@ use crate::rows::{
 use crate::talks::Talk;
 use session_core::SiteCore;
 use std::alloc::Global;
+use std::hash::RandomState;
 use std::test::Fail;
 use tardis_base::{Limits, NoMemory, Reply, ReplyBuf};
 use wire_talk::{read_request, write_reply};
@@ -53,16 +54,23 @@ fn answers<S: Site>(alloc: Global, mut site: S, talk: &Talk) -> Result<bool, Fai
 }
 
 /// Whether a site that opens does.
-pub(crate) fn steps(alloc: Global, talk: &Talk) -> Result<bool, Fail> {
-    match SiteCore::new(alloc, LIMITS, 1) {
+pub(crate) fn steps(rt: &HostRuntime, talk: &Talk) -> Result<bool, Fail> {
+    let alloc = rt.alloc();
+    match SiteCore::new(alloc, RandomState::new(rt)?, LIMITS, 1) {
         Ok(site) => answers(alloc, site, talk),
         Err(NoMemory) => Ok(false),
     }
 }
 
 /// Whether a site that opens as the first of two does.
-pub(crate) fn steps_of_two(alloc: Global, talk: &Talk) -> Result<bool, Fail> {
-    match SiteCore::new(alloc, Limits { sites: 2, ..LIMITS }, 1) {
+pub(crate) fn steps_of_two(rt: &HostRuntime, talk: &Talk) -> Result<bool, Fail> {
+    let alloc = rt.alloc();
+    match SiteCore::new(
+        alloc,
+        RandomState::new(rt)?,
+        Limits { sites: 2, ..LIMITS },
+        1,
+    ) {
         Ok(site) => answers(alloc, site, talk),
         Err(NoMemory) => Ok(false),
     }
@@ -83,18 +91,18 @@ fn each_request_is_a_step(rt: HostRuntime) -> Result<(), Fail> {
         FOLLOWED,
         BESIDE,
     ] {
-        assert!(rt; steps(alloc, &Talk::of(alloc, &[rows])?)?);
+        assert!(rt; steps(&rt, &Talk::of(alloc, &[rows])?)?);
     }
     for ends in [SER_FORKS, SI_PASSES, NB_REFUSES] {
-        assert!(rt; steps(alloc, &Talk::of(alloc, &[SKEWED, ends])?)?);
+        assert!(rt; steps(&rt, &Talk::of(alloc, &[SKEWED, ends])?)?);
     }
     for ends in [ANY_AFTER, AT_AFTER] {
-        assert!(rt; steps(alloc, &Talk::of(alloc, &[BEHIND, ends])?)?);
+        assert!(rt; steps(&rt, &Talk::of(alloc, &[BEHIND, ends])?)?);
     }
     for ends in [MERGED_TWICE, ONE_STATE] {
-        assert!(rt; steps(alloc, &Talk::of(alloc, &[BRANCHED, ends])?)?);
+        assert!(rt; steps(&rt, &Talk::of(alloc, &[BRANCHED, ends])?)?);
     }
-    assert!(rt; steps(alloc, &Talk::of(alloc, &[BRANCHED, JOINED, APART])?)?);
+    assert!(rt; steps(&rt, &Talk::of(alloc, &[BRANCHED, JOINED, APART])?)?);
     Ok(())
 }
 
@@ -104,6 +112,6 @@ fn each_of_200_commits_is_a_step(rt: HostRuntime) -> Result<(), Fail> {
     let mut talk = Talk::new(alloc);
     note_chain(alloc, &mut talk, 200)?;
     talk.note_all(LOOKING_BACK)?;
-    assert!(rt; steps(alloc, &talk)?);
+    assert!(rt; steps(&rt, &talk)?);
     Ok(())
 }

@@ -7,6 +7,7 @@ use crate::talks::Talk;
 use crate::{Help, carry_out, tardis};
 use std::alloc::Global;
 use std::env::Args;
+use std::hash::RandomState;
 use std::test::Fail;
 use tardis_io::{MemorySink, MemorySource, Status};
 
@@ -46,16 +47,23 @@ const WELL: [u64; 0] = [];
 
 /// Whether `run` over this input ends so and writes that.
 fn runs_to(
-    alloc: Global,
+    rt: &HostRuntime,
     input: &[u8],
     devices: &Devices<'_>,
     status: Status,
     output: &[u8],
 ) -> Result<bool, Fail> {
+    let alloc = rt.alloc();
     let words = vec![in alloc; String::from_str(alloc, "run")?]?;
     let mut source = MemorySource::new(alloc, input, devices.piece.max(1), devices.failing_takes)?;
     let mut sink = MemorySink::new(alloc, 4_000, devices.piece.max(1), devices.failing_gives)?;
-    let ended = tardis(alloc, words.as_slice(), &mut source, &mut sink);
+    let ended = tardis(
+        alloc,
+        RandomState::new(rt)?,
+        words.as_slice(),
+        &mut source,
+        &mut sink,
+    );
     Ok(ended == status && sink.bytes() == output)
 }
 
@@ -68,8 +76,8 @@ fn a_session_is_answered_whatever_the_pieces(rt: HostRuntime) -> Result<(), Fail
             failing_takes: &WELL,
             failing_gives: &WELL,
         };
-        assert!(rt; runs_to(alloc, SESSION, &devices, Status::Ok, REPLIES)?);
-        assert!(rt; runs_to(alloc, b"", &devices, Status::Ok, b"")?);
+        assert!(rt; runs_to(&rt, SESSION, &devices, Status::Ok, REPLIES)?);
+        assert!(rt; runs_to(&rt, b"", &devices, Status::Ok, b"")?);
     }
     Ok(())
 }
@@ -85,7 +93,7 @@ fn each_end_has_its_status(rt: HostRuntime) -> Result<(), Fail> {
     let opened = &REPLIES[..11];
     assert!(rt;
         runs_to(
-            alloc,
+            &rt,
             b"\0\0\0\x04\0\x01\x01\0\0\0\0",
             &well,
             Status::Cut,
@@ -95,7 +103,7 @@ fn each_end_has_its_status(rt: HostRuntime) -> Result<(), Fail> {
     let long = Status::LongFrame { len: 1_048_577 };
     assert!(rt;
         runs_to(
-            alloc,
+            &rt,
             b"\0\0\0\x04\0\x01\x01\0\0\x10\0\x01",
             &well,
             long,
@@ -107,13 +115,13 @@ fn each_end_has_its_status(rt: HostRuntime) -> Result<(), Fail> {
         failing_takes: &[3],
         failing_gives: &WELL,
     };
-    assert!(rt; runs_to(alloc, SESSION, &third, Status::ReadFault, b"")?);
+    assert!(rt; runs_to(&rt, SESSION, &third, Status::ReadFault, b"")?);
     let second = Devices {
         piece: 1,
         failing_takes: &WELL,
         failing_gives: &[2],
     };
-    assert!(rt; runs_to(alloc, SESSION, &second, Status::WriteFault, b"\0")?);
+    assert!(rt; runs_to(&rt, SESSION, &second, Status::WriteFault, b"\0")?);
     Ok(())
 }
 
@@ -144,7 +152,13 @@ fn other_words_are_no_command(rt: HostRuntime) -> Result<(), Fail> {
         let mut source = MemorySource::new(alloc, SESSION, 9, &WELL)?;
         let mut sink = MemorySink::new(alloc, 100, 9, &WELL)?;
         assert_eq!(rt;
-            tardis(alloc, words.as_slice(), &mut source, &mut sink),
+            tardis(
+                alloc,
+                RandomState::new(&rt)?,
+                words.as_slice(),
+                &mut source,
+                &mut sink
+            ),
             Status::Usage
         );
         assert_eq!(rt; source.left(), SESSION);
@@ -154,8 +168,8 @@ fn other_words_are_no_command(rt: HostRuntime) -> Result<(), Fail> {
 }
 
 /// Whether a site that opens answers the rows of these tables.
-fn answers(alloc: Global, tables: &[&str]) -> Result<bool, Fail> {
-    let talk = Talk::of(alloc, tables)?;
+fn answers(rt: &HostRuntime, tables: &[&str]) -> Result<bool, Fail> {
+    let talk = Talk::of(rt.alloc(), tables)?;
     let input = talk.input()?;
     let output = talk.output()?;
     let devices = Devices {
@@ -164,7 +178,7 @@ fn answers(alloc: Global, tables: &[&str]) -> Result<bool, Fail> {
         failing_gives: &WELL,
     };
     runs_to(
-        alloc,
+        rt,
         input.as_slice(),
         &devices,
         Status::Ok,
@@ -186,14 +200,14 @@ fn worked_rows_are_answered(rt: HostRuntime) -> Result<(), Fail> {
         FOLLOWED,
         BESIDE,
     ] {
-        assert!(rt; answers(alloc, &[rows])?);
+        assert!(rt; answers(&rt, &[rows])?);
     }
-    assert!(rt; answers(alloc, &[RAISED_CHAIN, COLLECTED_CHAIN])?);
+    assert!(rt; answers(&rt, &[RAISED_CHAIN, COLLECTED_CHAIN])?);
     for ends in [SER_FORKS, SI_PASSES, NB_REFUSES] {
-        assert!(rt; answers(alloc, &[SKEWED, ends])?);
+        assert!(rt; answers(&rt, &[SKEWED, ends])?);
     }
     for ends in [ANY_AFTER, AT_AFTER] {
-        assert!(rt; answers(alloc, &[BEHIND, ends])?);
+        assert!(rt; answers(&rt, &[BEHIND, ends])?);
     }
     Ok(())
 }
@@ -223,7 +237,10 @@ fn a_program_is_its_words(rt: HostRuntime) -> Result<(), Fail> {
         let args = args_of(alloc, line)?;
         let mut source = MemorySource::new(alloc, SESSION, 65_536, &WELL)?;
         let mut sink = MemorySink::new(alloc, 4_000, 65_536, &WELL)?;
-        assert_eq!(rt; carry_out(alloc, args, &mut source, &mut sink), status);
+        assert_eq!(rt;
+            carry_out(alloc, RandomState::new(&rt)?, args, &mut source, &mut sink),
+            status
+        );
         assert!(rt; sink.bytes() == output);
     }
     let help = Help::Usage.text();

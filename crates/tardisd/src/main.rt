@@ -14,6 +14,7 @@ use hub::End;
 use socket_ports::{DoorFault, SocketPorts, open_door};
 use std::alloc::Global;
 use std::env::Args;
+use std::hash::RandomState;
 use std::process::ExitCode;
 use std::{env, io};
 use tardis_base::NoMemory;
@@ -72,10 +73,20 @@ fn tell(rt: &HostRuntime, help: Help) -> DaemonEnd {
 fn open_and_serve(rt: &HostRuntime, plan: &DaemonPlan<'_>) -> DaemonEnd
     requires place { IsPlace plan.now.place }
 {
+    // a system without random bytes to give is told as one without memory
+    let Ok(keys) = RandomState::new(rt) else {
+        return DaemonEnd::NoMemory;
+    };
     match open_ports(rt, plan.listen) {
         Ok(mut ports) => {
             tell_of_door(rt, plan);
-            ending_of(serve_place(rt.alloc(), plan.place, &mut ports))
+            ending_of(serve_place(
+                rt.alloc(),
+                keys,
+                plan.place,
+                plan.tidy,
+                &mut ports,
+            ))
         }
         Err(fault) => DaemonEnd::Gate(fault),
     }

@@ -1,30 +1,31 @@
 -- Runs of a hub over a site.
-use Rattle.std.proofs.Common.{List, Option, Result, Ok, Err, IfOk}
+use Rattle.std.proofs.Common.{Bool, List, Option, Result, Ok, Err, IfOk}
 use Rattle.tardis_base.specs.Plain.{PlainMachine}
 use Rattle.command_words.specs.declared.commands.Place.{Place}
 use Rattle.command_words.specs.Places.{program_limits}
 use Rattle.hub.specs.declared.ports.Seen.{Seen}
 use Rattle.hub.specs.declared.serves.End.{End}
+use Rattle.hub.specs.Upkeeps.{UpkeepRule}
 use Rattle.hub.specs.Runs.{IsRun}
 use Rattle.plain_site.specs.Site.{Site, opening}
 use Rattle.plain_site.specs.Step.{site_machine}
 use Rattle.plain_site.specs.Sound.{IsSound}
 use Rattle.session_core.specs.Core.{Core}
 use Rattle.session_core.specs.Machine.{SiteStands}
-use Rattle.tardisd_main.specs.Sites.{ServesPlace}
+use Rattle.tardisd_main.specs.Sites.{upkeep_rule, ServesPlace}
 
 -- a run, told of less of what is reached
-weaker : {S : Type 0} (m : PlainMachine S) (to told : S → Type 0) (s : S) (end : End) (before after : Option (List Seen))
-    → ((t : S) → to t → told t) → IsRun m to s end before after → IsRun m told s end before after
-weaker m to told s end before after tells run =
-    record { turns = run.turns; state = run.state; ran = run.ran; stands = tells run.state run.stands; served = run.served; seen = run.seen; count = run.count }
+weaker : {S : Type 0} (m : PlainMachine S) (rule : Option UpkeepRule) (to told : S → Type 0) (s : S) (end : End) (before after : Option (List Seen))
+    → ((t : S) → to t → told t) → IsRun m rule to s end before after → IsRun m rule told s end before after
+weaker m rule to told s end before after tells run =
+    record { turns = run.turns; state = run.state; ran = run.ran; stands = tells run.state run.stands; served = run.served; seen = run.seen; timely = run.timely; ended = run.ended }
 
 -- a run of what stands for the site of a place that opens
-pub serves_place : {E : Type 0} (place : Place) (core : Core) (result : Result End E) (before after : Option (List Seen))
+pub serves_place : {E : Type 0} (place : Place) (tidy : Bool) (core : Core) (result : Result End E) (before after : Option (List Seen))
     → SiteStands core (opening (program_limits place.sites) place.site)
-    → IfOk result (λ end. (s : Site) → SiteStands core s → IsRun site_machine (λ t. (m : Core) × SiteStands m t) s end before after)
-    → IfOk result (λ end. ServesPlace place end before after)
-serves_place place core (Ok end) before after stands run =
+    → IfOk result (λ end. (s : Site) → SiteStands core s → IsRun site_machine (upkeep_rule tidy) (λ t. (m : Core) × SiteStands m t) s end before after)
+    → IfOk result (λ end. ServesPlace place tidy end before after)
+serves_place place tidy core (Ok end) before after stands run =
     let site = opening (program_limits place.sites) place.site in
-    weaker site_machine (λ t. (m : Core) × SiteStands m t) IsSound site end before after (λ t both. both.1.1) (run site stands)
-serves_place place core (Err fault) before after stands run = tt
+    weaker site_machine (upkeep_rule tidy) (λ t. (m : Core) × SiteStands m t) IsSound site end before after (λ t both. both.1.1) (run site stands)
+serves_place place tidy core (Err fault) before after stands run = tt

@@ -1,5 +1,4 @@
 -- What a server does.
-pub mod Asks
 pub mod Ends
 pub mod Helps
 pub mod Sites

@@ -27,8 +27,6 @@ pub enum DaemonEnd {
     Told,
     /// The words have none of the forms.
     Usage,
-    /// The words ask for a collection, which isn't built.
-    NotBuilt,
     /// What it tells of itself couldn't be written.
     WriteFailed,
     /// There was no memory for the site or the buffers.
@@ -46,7 +44,6 @@ impl DaemonEnd {
         match self {
             DaemonEnd::Told => 0,
             DaemonEnd::Usage => 1,
-            DaemonEnd::NotBuilt => 1,
             DaemonEnd::WriteFailed => 3,
             DaemonEnd::NoMemory => 6,
             DaemonEnd::Gate(_) => 7,
@@ -61,9 +58,8 @@ impl fmt::Display for DaemonEnd {
             DaemonEnd::Told => Ok(()),
             DaemonEnd::Usage => write!(
                 f,
-                "usage: tardisd --listen ADDR [--sites M] [--site N] (ADDR is unix:PATH or HOST:PORT)"
+                "usage: tardisd --listen ADDR [--sites M] [--site N] [--tidy] (ADDR is unix:PATH or HOST:PORT)"
             ),
-            DaemonEnd::NotBuilt => write!(f, "tardisd: --tidy isn't built yet"),
             DaemonEnd::WriteFailed => write!(f, "tardisd: write fault"),
             DaemonEnd::NoMemory => write!(f, "tardisd: out of memory"),
             DaemonEnd::Gate(fault) => write!(f, "tardisd: gate fault: {fault}"),

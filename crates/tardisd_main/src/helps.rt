@@ -24,10 +24,11 @@ impl Help {
 const USAGE: &str = "\
 tardisd: serves one site of a branch-and-merge key-value store to many clients
 
-usage: tardisd --listen ADDR [--sites M] [--site N]
+usage: tardisd --listen ADDR [--sites M] [--site N] [--tidy]
                             serve at ADDR, which is unix:PATH or HOST:PORT, as site N
                             of M sites (1 of 1), until it is killed; at most 256
-                            clients at once, and further ones wait
+                            clients at once, and further ones wait; with --tidy
+                            states that nobody reads at any more are collected
        tardisd --help       this text
        tardisd --version    the version
 

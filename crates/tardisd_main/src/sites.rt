@@ -1,25 +1,44 @@
 //! One site over the connections of an edge.
 
-ghost use Rattle.std.specs.Prelude.{◌≡◌, ◌<◌, ◌+◌, ℕ, true, IfOk, OnErr};
+ghost use Rattle.std.specs.Prelude.{◌≡◌, ◌<◌, ◌+◌, ℕ, true, option_map, IfOk, IfSome, OnErr};
+ghost use Rattle.hub.specs.Upkeeps.{rule_of};
 ghost use Rattle.hub.specs.Runs.{close, IsRun};
 ghost use Rattle.command_words.specs.Places.{IsPlace};
-ghost use Rattle.tardisd_main.specs.Sites.{ServesPlace};
+ghost use Rattle.tardisd_main.specs.Sites.{upkeep_rule, ServesPlace};
 
 use command_words::Place;
-use hub::{End, Ports, serve};
+use hub::{End, Ports, Upkeep, serve};
 use session_core::SiteCore;
 use std::alloc::Global;
+use std::hash::RandomState;
 use tardis_base::{Machine, NoMemory};
 
+/// The first byte of a reply that tells of a commit.
+const COMMITTED: u8 = 8;
+
+/// The request RaiseAuto.
+const RAISE_AUTO: [u8; 1] = [14];
+
+/// The request Tidy, for 64 states.
+const TIDY: [u8; 3] = [15, 0, 64];
+
 /// Serves the connections of an edge as the site at this place, which opens with the root alone: each connection is an
-/// actor, and its requests are answered as `hub::serve` says. Without memory for the site or the buffers nothing is done.
-pub fn serve_place<P: Ports>(alloc: Global, place: Place, ports: &mut P) -> Result<End, NoMemory>
+/// actor, and its requests are answered as `hub::serve` says. Keys are found by hashing with this seed. With `tidy` the
+/// floor is raised and up to 64 closed states are collected, as actor 0 would ask it, each time that 64 states were
+/// committed. Without memory for the site or the buffers nothing is done.
+pub fn serve_place<P: Ports>(
+    alloc: Global,
+    keys: RandomState,
+    place: Place,
+    tidy: bool,
+    ports: &mut P,
+) -> Result<End, NoMemory>
     requires place { IsPlace place }
-    ensures served { IfOk result (λ end. ServesPlace place end (P.seen ports.old) (P.seen ports.new)) }
+    ensures served { IfOk result (λ end. ServesPlace place tidy end (P.seen ports.old) (P.seen ports.new)) }
     ensures nothing { OnErr result (ports.new ≡ ports.old) }
 {
-    match SiteCore::new(alloc, place.limits(), place.site) {
-        Ok(site) => serve_machine(alloc, site, ports),
+    match SiteCore::new(alloc, keys, place.limits(), place.site) {
+        Ok(site) => serve_machine(alloc, site, tidy, ports),
         Err(NoMemory) => Err(NoMemory),
     }
 }
@@ -28,13 +47,29 @@ pub fn serve_place<P: Ports>(alloc: Global, place: Place, ports: &mut P) -> Resu
 fn serve_machine<M: Machine, P: Ports>(
     alloc: Global,
     machine: M,
+    tidy: bool,
     ports: &mut P,
 ) -> Result<End, NoMemory>
     requires sure { (n : ℕ) → n < 256 → M.plain.is_sure (n + 1, close) ≡ true }
     ensures served { IfOk result (λ end. (s : M.Plain) → M.stands machine s
-        → IsRun M.plain (λ t. (m : M) × M.stands m t) s end (P.seen ports.old) (P.seen ports.new)) }
+        → IsRun M.plain (upkeep_rule tidy) (λ t. (m : M) × M.stands m t) s end (P.seen ports.old) (P.seen ports.new)) }
     ensures nothing { OnErr result (ports.new ≡ ports.old) }
 {
     let mut machine = machine;
-    serve(alloc, &mut machine, ports)
+    serve(alloc, &mut machine, ports, upkeep_of(tidy))
+}
+
+/// The upkeep of a site, with `tidy`.
+fn upkeep_of(tidy: bool) -> Option<Upkeep<'static>>
+    ensures rule { option_map rule_of result ≡ upkeep_rule tidy }
+{
+    if tidy {
+        Some(Upkeep {
+            code: COMMITTED,
+            after: 64,
+            requests: &[&RAISE_AUTO, &TIDY],
+        })
+    } else {
+        None
+    }
 }

@@ -2,6 +2,7 @@ use crate::{DaemonEnd, GateFault, Help, help_of, plan_of, serve_place};
 use command_words::Place;
 use hub::{End, MemoryPorts, Move, Seen};
 use std::alloc::Global;
+use std::hash::RandomState;
 use std::test::Fail;
 use tardis_base::ByteList;
 
@@ -17,22 +18,17 @@ fn words_of(alloc: Global, line: &str) -> Result<Vec<String>, Fail> {
 #[test]
 fn words_are_a_plan_or_refused(rt: HostRuntime) -> Result<(), Fail> {
     let alloc = rt.alloc();
-    let words = words_of(alloc, "--site 2 --listen unix:s --sites 3")?;
+    let words = words_of(alloc, "--site 2 --tidy --listen unix:s --sites 3")?;
     match plan_of(words.as_slice()) {
         Ok(plan) => {
-            assert!(rt; plan.listen == "unix:s" && plan.place == Place { sites: 3, site: 2 });
+            assert!(rt; plan.listen == "unix:s" && plan.place == Place { sites: 3, site: 2 } && plan.tidy);
         }
         Err(_) => return Err(Fail::new("a plan")),
     }
-    for (line, end) in [
-        ("--sites 2", DaemonEnd::Usage),
-        ("--listen unix:s --tidy", DaemonEnd::NotBuilt),
-    ] {
-        let words = words_of(alloc, line)?;
-        match plan_of(words.as_slice()) {
-            Ok(_) => return Err(Fail::new("no plan")),
-            Err(refused) => assert_eq!(rt; refused, end),
-        }
+    let words = words_of(alloc, "--sites 2")?;
+    match plan_of(words.as_slice()) {
+        Ok(_) => return Err(Fail::new("no plan")),
+        Err(refused) => assert_eq!(rt; refused, DaemonEnd::Usage),
     }
     let words = words_of(alloc, "--version")?;
     assert!(rt; help_of(words.as_slice()) == Some(Help::Version));
@@ -70,7 +66,7 @@ fn a_site_is_served_at_its_place(rt: HostRuntime) -> Result<(), Fail> {
     moves.push(Move::Write { slot: 0, most: 100 })?;
     let mut ports = MemoryPorts::new(alloc, moves);
     let place = Place { sites: 3, site: 2 };
-    match serve_place(alloc, place, &mut ports) {
+    match serve_place(alloc, RandomState::new(&rt)?, place, true, &mut ports) {
         Ok(end) => assert!(rt; end == End::Stopped),
         Err(_) => return Err(Fail::new("memory")),
     }

@@ -17,6 +17,7 @@ use crate::notes::{KeyChunks, keep, take_first};
 use indexmap::IndexMap;
 use std::alloc::Global;
 use std::collections::LinkedList;
+use std::hash::RandomState;
 use std::marker::Model;
 use std::mem;
 use tardis_base::{Above, Key, KeyList, NoMemory, Slot, StateId, Write, WriteSet};
@@ -114,7 +115,7 @@ impl History {
 /// The list of versions of each listed key.
 #[derive(Drop)]
 pub(crate) struct KeyLists {
-    lists: IndexMap<Key, History>,
+    lists: IndexMap<Key, History, RandomState>,
 }
 
 impl Model for KeyLists {
@@ -127,11 +128,11 @@ impl Model for KeyLists {
 
 impl KeyLists {
     /// No versions. It takes no memory.
-    pub(crate) fn new(alloc: Global) -> KeyLists
+    pub(crate) fn new(alloc: Global, keys: RandomState) -> KeyLists
         ensures { result ≡ no_lists }
     {
         KeyLists {
-            lists: IndexMap::new(alloc),
+            lists: IndexMap::with_hasher(alloc, keys),
         }
     }
 

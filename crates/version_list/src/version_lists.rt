@@ -10,13 +10,14 @@ ghost use Rattle.version_list.specs.Reads.{latest_version, written, found};
 use crate::histories::{self, KeyLists, Version};
 use crate::notes::{KeyChunks, Notes};
 use std::alloc::Global;
+use std::hash::RandomState;
 use std::marker::Model;
 use std::mem;
 use tardis_base::{Above, Found, Key, KeyList, NoMemory, Slot, StateId, Write, WriteSet};
 
 /// The versions of each key, with their states named by slots of one table.
 ///
-/// Keys are found by hashing with a fixed seed. Keys that were chosen to collide make a look-up walk all of them.
+/// Keys are found by hashing with a seed that `new` is given, so that whoever chooses keys can't tell which of them collide.
 #[derive(Drop)]
 pub struct VersionList {
     lists: KeyLists,
@@ -39,13 +40,13 @@ impl Model for VersionList {
 }
 
 impl VersionList {
-    /// No versions. It takes no memory.
-    pub fn new(alloc: Global) -> VersionList
+    /// No versions, with keys to be found by hashing with this seed. It takes no memory.
+    pub fn new(alloc: Global, keys: RandomState) -> VersionList
         ensures empty { (k : List ℕ) → versions_of result k ≡ [] }
         ensures keys { listed_keys result ≡ [] }
     {
         VersionList {
-            lists: KeyLists::new(alloc),
+            lists: KeyLists::new(alloc, keys),
             notes: Notes::new(alloc),
             next: Vec::new(alloc),
         }
@@ -173,6 +174,7 @@ impl VersionList {
         requires before { A.arrival_of dag.now from < A.arrival_of dag.now to }
         requires noted { IsTrue (is_noted self.old to) }
         ensures promoted { (k : List ℕ) → versions_of self.new k ≡ promoted (A.arrival_of dag.now) from to (versions_of self.old k) }
+        ensures left { (k : List ℕ) → has_version_at from (versions_of self.new k) ≡ false }
         ensures keys { listed_keys self.new ≡ listed_keys self.old }
         ensures order { IsInOrder (A.is_kept dag.now) (A.arrival_of dag.now) self.new }
         ensures noted { (s : Slot) → is_noted self.new s ≡ is_noted self.old s }

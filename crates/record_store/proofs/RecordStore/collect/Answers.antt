@@ -1,9 +1,8 @@
 use Rattle.std.proofs.Common.{◌≡◌, ◌≤◌, Some, sym, ap, subst, ◌∙◌}
 use Rattle.std.proofs.lemmas.Bool.{and_parts}
 use Rattle.std.proofs.lemmas.Option.{same_Some}
-use Rattle.state_dag.specs.Table.{id_at, is_slot, arrival_at, arrive_in_order}
-use Rattle.version_list.specs.Versions.{versions_of, has_version_at}
-use Rattle.version_list.proofs.Moves.{left-at}
+use Rattle.state_dag.specs.Table.{id_at, is_slot, arrive_in_order}
+use Rattle.version_list.specs.Versions.{versions_of}
 use Rattle.record_store.specs.Store.{Store}
 use Rattle.record_store.specs.Held.{seen}
 use Rattle.record_store.proofs.Holding.{seen-stands}
@@ -18,7 +17,7 @@ invariant_of-self c =
       in_order = (and_parts (is_slot new c.detach.result) (arrive_in_order new.entries) c.detach.ensures.stays).1;
       versions = λ k.
           order-agrees old new c.args.slot c.detach.ensures.kept c.detach.ensures.arrivals (versions_of c.promote.new.self k)
-          (ap (has_version_at c.args.slot) (c.promote.ensures.promoted k) ∙ left-at (arrival_at old) c.args.slot c.in-Some.heir c.in-Some.ensures.later (versions_of c.self.inside.versions k))
+          (c.promote.ensures.left k)
           ∙ c.promote.ensures.order k;
       noted = λ s kept arrived.
           let other = kept-is_other new c.args.slot c.detach.ensures.gone s kept in

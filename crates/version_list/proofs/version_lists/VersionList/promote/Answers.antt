@@ -3,7 +3,7 @@ use Rattle.version_list.specs.Lists.{versions_in, are_in_order}
 use Rattle.version_list.specs.Notes.{Chunks, is_key_in}
 use Rattle.version_list.specs.Promoted.{promoted, moves}
 use Rattle.version_list.specs.Versions.{Versions, versions_of, has_version_at}
-use Rattle.version_list.proofs.Moves.{promoted-where, noted-promoted}
+use Rattle.version_list.proofs.Moves.{promoted-where, noted-promoted, left-at}
 use Rattle.version_list.proofs.version_lists.VersionList.promote.Goals as goal
 
 pub promote_chunks-moved-requires-clause-order : goal.promote_chunks-moved-requires-clause-order
@@ -18,6 +18,11 @@ returns-clause-promoted g c = λ k.
     c.promote_chunks-moved.ensures.promoted k
     ∙ promoted-where arrival c.args.from c.args.to c.requires.before (is_key_in k c.take-chunks.result) vs taken
     ∙ ap (λ (ws : Versions). promoted arrival c.args.from c.args.to (versions_of ws k)) c.self.view_is
+
+pub returns-clause-left : goal.returns-clause-left
+returns-clause-left g c = λ k.
+    let arrival = g.A.Above.arrival_of c.args.dag.now in
+    ap (has_version_at c.args.from) (returns-clause-promoted g c k) ∙ left-at arrival c.args.from c.args.to c.requires.before (versions_of c.args.self.now k)
 
 pub invariant_of-self : goal.invariant_of-self
 invariant_of-self g c =

@@ -1,0 +1,101 @@
+-- Links, and what hands them out: what a gate and a dial may tell.
+use Rattle.std.specs.Prelude.{◌≡◌, ℕ, ◌+◌, ◌-◌, ◌<◌, List, [], ◌∷◌, ◌++◌, Option, Some, None, Result, Ok, Err, ◌⊎◌, Bool, true, false}
+use Rattle.tardis_io.specs.declared.faults.Failed.{Failed}
+use Rattle.tardis_io.specs.declared.links.MemoryLink.{MemoryLink}
+use Rattle.tardis_io.specs.Memory.{Plan, Input, MemoryTakes, MemoryGives, fails_next, after_call, after_fault}
+use Rattle.tardis_io.specs.Moments.{Moment}
+
+-- what no give to a link in memory changes
+abbrev pub kept_of : MemoryLink → Input × Bool
+kept_of l = (l.source, l.finished)
+
+-- a link in memory tells no takes
+abbrev pub no_takes : Option (List Moment)
+no_takes = None
+
+abbrev pub no_parts : Unit {0}
+no_parts = tt
+
+-- a take from a link in memory is one from its source alone
+abbrev pub LinkTakes : MemoryLink → MemoryLink → List ℕ → List ℕ → Result ℕ Failed → Type 0
+LinkTakes old new before after result = MemoryTakes old.source new.source before after result × (new.sink ≡ old.sink) × (new.finished ≡ old.finished)
+
+-- a give to a link in memory is one to its sink alone
+abbrev pub LinkGives : MemoryLink → MemoryLink → List ℕ → Result ℕ Failed → Type 0
+LinkGives old new bytes result = MemoryGives old.sink new.sink bytes result × (new.source ≡ old.source) × (new.finished ≡ old.finished)
+
+-- what a gate tells: the links that are left, those that were put back with the numbers of their sessions, and how many
+-- were handed out and not put back
+pub record ToldGate (L : Type 0) : Type 0 where
+  pub left : List L
+  pub back : List (ℕ × L)
+  pub out : ℕ
+
+-- what a dial tells: the links that are left, those that were put back, and how many were handed out and not put back
+pub record ToldDial (L : Type 0) : Type 0 where
+  pub left : List L
+  pub back : List L
+  pub out : ℕ
+
+module _ {L : Type 0} where
+  -- the first link that was left is handed out, and none only where none was left
+  abbrev pub HandsOne : ToldGate L → ToldGate L → Result (Option L) Failed → Type 0
+  HandsOne old new (Ok (Some link)) = (old.left ≡ link ∷ new.left) × (new.back ≡ old.back) × (new.out ≡ old.out + 1)
+  HandsOne old new (Ok None) = (old.left ≡ []) × (new ≡ old)
+  HandsOne old new (Err e) = new ≡ old
+
+  abbrev pub HandsNext : Option (ToldGate L) → Option (ToldGate L) → Result (Option L) Failed → Type 0
+  HandsNext None None result = Unit {0}
+  HandsNext (Some old) (Some new) result = HandsOne old new result
+  HandsNext None (Some new) result = ⊥
+  HandsNext (Some old) None result = ⊥
+
+  -- where links are told, one is out
+  abbrev pub IsOut : Option (ToldGate L) → Type 0
+  IsOut None = Unit {0}
+  IsOut (Some t) = 0 < t.out
+
+  -- one more was put back, with this number
+  abbrev pub with_back : Option (ToldGate L) → ℕ → L → Option (ToldGate L)
+  with_back None session link = None
+  with_back (Some t) session link = Some (record { left = t.left; back = t.back ++ ((session, link) ∷ []); out = t.out - 1 })
+
+  -- the first link that was left is handed out
+  abbrev pub CallsOne : ToldDial L → ToldDial L → Result L Failed → Type 0
+  CallsOne old new (Ok link) = (old.left ≡ link ∷ new.left) × (new.back ≡ old.back) × (new.out ≡ old.out + 1)
+  CallsOne old new (Err e) = new ≡ old
+
+  abbrev pub HandsCalled : Option (ToldDial L) → Option (ToldDial L) → Result L Failed → Type 0
+  HandsCalled None None result = Unit {0}
+  HandsCalled (Some old) (Some new) result = CallsOne old new result
+  HandsCalled None (Some new) result = ⊥
+  HandsCalled (Some old) None result = ⊥
+
+  abbrev pub IsCalled : Option (ToldDial L) → Type 0
+  IsCalled None = Unit {0}
+  IsCalled (Some t) = 0 < t.out
+
+  -- one more was put back
+  abbrev pub with_hung : Option (ToldDial L) → L → Option (ToldDial L)
+  with_hung None link = None
+  with_hung (Some t) link = Some (record { left = t.left; back = t.back ++ (link ∷ []); out = t.out - 1 })
+
+-- what contracts see of a gate in memory: what it tells, and its plan
+pub record KeptGate (L : Type 0) : Type 0 where
+  pub links : ToldGate L
+  pub plan : Plan
+
+-- what contracts see of a dial in memory
+pub record KeptDial (L : Type 0) : Type 0 where
+  pub links : ToldDial L
+  pub plan : Plan
+
+-- a call of a gate in memory fails exactly where it is listed
+abbrev pub MemoryAnswers : {A : Type 0} → Plan → Plan → Result A Failed → Type 0
+MemoryAnswers old new (Ok answer) = (fails_next old ≡ false) × (new ≡ after_call old)
+MemoryAnswers old new (Err e) = (fails_next old ≡ true) × (new ≡ after_fault old)
+
+-- a call of a dial in memory fails exactly where it is listed or no link is left
+abbrev pub MemoryCalls : {L : Type 0} → KeptDial L → KeptDial L → Result L Failed → Type 0
+MemoryCalls old new (Ok link) = (fails_next old.plan ≡ false) × (new.plan ≡ after_call old.plan)
+MemoryCalls old new (Err e) = ((fails_next old.plan ≡ true) ⊎ (old.links.left ≡ [])) × (new.plan ≡ after_fault old.plan)
