@@ -99,7 +99,11 @@ pub(crate) fn refuse(refusal: Refusal, out: &mut ReplyBuf)
 
 /// Puts a batch that was replied at the end of the bag. Where the bag is full, the reply is that, in its place; where there is
 /// no memory, it is none.
-pub(crate) fn gather(alloc: Global, bag: &mut ListOf<Batch>, out: &mut ReplyBuf) -> Result<(), NoMemory>
+pub(crate) fn gather(
+    alloc: Global,
+    bag: &mut ListOf<Batch>,
+    out: &mut ReplyBuf,
+) -> Result<(), NoMemory>
     ensures other { (reply : Reply) → out.old ≡ reply_spelling reply → is_batch_reply reply ≡ false → IsOk result × (bag.new ≡ bag.old) × (out.new ≡ out.old) }
     ensures batch { (batch : Batch) → out.old ≡ reply_spelling (BatchIs batch) → IsTrue (is_batch batch) → Joined bag.old bag.new batch result out.new }
     ensures bag { IsBag bag.old → IsBag bag.new }

@@ -13,6 +13,7 @@ use crate::replies::WorldReplies;
 use crate::worlds::World;
 use site_run::answer_frames;
 use std::alloc::Global;
+use std::hash::RandomState;
 use tardis_base::NoMemory;
 use tardis_io::{Duplex, Pair, Sink, Source, Status};
 
@@ -22,6 +23,7 @@ use tardis_io::{Duplex, Pair, Sink, Source, Status};
 /// What bodies ask and how they are answered is stated in `docs/COMMANDS.md`.
 pub fn run_world<I: Source, O: Sink>(
     alloc: Global,
+    keys: RandomState,
     sites: u16,
     input: &mut I,
     output: &mut O,
@@ -41,7 +43,7 @@ pub fn run_world<I: Source, O: Sink>(
     ensures write { result ≡ Status.WriteFault → Rose (O.faults output.old) (O.faults output.new) }
     ensures nothing { result ≡ Status.NoMemory → (input.new ≡ input.old) × (output.new ≡ output.old) }
 {
-    match World::new(alloc, sites) {
+    match World::new(alloc, keys, sites) {
         Ok(mut world) => answer_world(alloc, &mut world, input, output),
         Err(NoMemory) => Status::NoMemory,
     }

@@ -20,6 +20,7 @@ use crate::bodies::{Asked, read_body};
 use plain_site::replies::replies_fit_a_frame;
 use session_core::SiteCore;
 use std::alloc::Global;
+use std::hash::RandomState;
 use std::marker::Model;
 use tardis_base::{Batch, Limits, ListOf, Machine, NoMemory, ReadFault, Refusal, ReplyBuf};
 use wire_talk::{read_request, talk_has_one_spelling};
@@ -45,14 +46,14 @@ impl Model for World {
 }
 
 impl World {
-    /// So many sites, each as it opens, and an empty bag.
-    pub fn new(alloc: Global, sites: u16) -> Result<World, NoMemory>
+    /// So many sites, each as it opens, and an empty bag. The sites find their keys by hashing with this seed.
+    pub fn new(alloc: Global, keys: RandomState, sites: u16) -> Result<World, NoMemory>
         requires first { 1 ≤ sites }
         requires last { sites ≤ 16 }
         ensures { IfOk result (λ held. WorldStands held (opening_world (world_limits sites))) }
     {
         let deliver = ReplyBuf::new(alloc)?;
-        let open = open_sites(alloc, sites)?;
+        let open = open_sites(alloc, keys, sites)?;
         Ok(World {
             alloc,
             sites: open,
@@ -71,11 +72,13 @@ impl World {
         ensures sure { (world : Plain) → WorldStands self.old world → option_map_or is_sure_body (body_of body.now) false ≡ true → IsOk result }
     {
         match read_body(body) {
-            Some(Asked::Step {
-                site,
-                actor,
-                request,
-            }) => self.step(site, actor, request, out),
+            Some(
+                Asked::Step {
+                    site,
+                    actor,
+                    request,
+                },
+            ) => self.step(site, actor, request, out),
             Some(Asked::Carry { to, batch, item }) => self.carry(to, batch, item, out),
             None => {
                 refuse(Refusal::Malformed, out);
@@ -126,7 +129,16 @@ impl World {
             Some(place) => {
                 let sites = self.sites.as_mut_slice();
                 let deliver = &mut self.deliver;
-                carry_at(self.alloc, sites, &mut self.bag, deliver, place, batch, item, out)
+                carry_at(
+                    self.alloc,
+                    sites,
+                    &mut self.bag,
+                    deliver,
+                    place,
+                    batch,
+                    item,
+                    out,
+                )
             }
             None => {
                 refuse(Refusal::BadSite { site: to }, out);
@@ -166,17 +178,17 @@ fn site_limits(sites: u16) -> Limits
 }
 
 /// The site of this number, of so many, as it opens.
-fn open_site(alloc: Global, sites: u16, own: u16) -> Result<SiteCore, NoMemory>
+fn open_site(alloc: Global, keys: RandomState, sites: u16, own: u16) -> Result<SiteCore, NoMemory>
     requires first { 1 ≤ own }
     requires last { own ≤ sites }
     requires few { sites ≤ 16 }
     ensures { IfOk result (λ core. SiteStands core (opening (world_limits sites) own)) }
 {
-    SiteCore::new(alloc, site_limits(sites), own)
+    SiteCore::new(alloc, keys, site_limits(sites), own)
 }
 
 /// So many sites that open, in the order of their numbers.
-fn open_sites(alloc: Global, sites: u16) -> Result<Vec<SiteCore>, NoMemory>
+fn open_sites(alloc: Global, keys: RandomState, sites: u16) -> Result<Vec<SiteCore>, NoMemory>
     requires first { 1 ≤ sites }
     requires last { sites ≤ 16 }
     ensures { IfOk result (λ made. AllStand made.items (opening_sites (world_limits sites) 1 sites)) }
@@ -184,7 +196,7 @@ fn open_sites(alloc: Global, sites: u16) -> Result<Vec<SiteCore>, NoMemory>
     let mut made = Vec::new(alloc);
     let mut count = 0;
     while count < sites {
-        let site = match open_site(alloc, sites, count + 1) {
+        let site = match open_site(alloc, keys, sites, count + 1) {
             Ok(site) => site,
             Err(NoMemory) => return Err(NoMemory),
         };

@@ -6,7 +6,7 @@ use Rattle.world_core.proofs.worlds.refuse_site.Goals as goal
 
 pub returns-clause-sure : goal.returns-clause-sure
 returns-clause-sure c = λ sure. elim c.match-read_request.branch as (λ _. IsOk c.match-read_request.result) [
-      | in-Ok w ↦ grind (arith, common_steps, w.result-is)
-      | in-Err-Malformed w ↦ grind (arith, common_steps, w.result-is)
-      | in-Err-NoMemory w ↦ surely_read c.args.request.now sure (λ q e t. w.in-Err-NoMemory.ensures.sure q e t (ap (λ f. Err f) w.in-Err-NoMemory.field-0-is))
-    ]
+  | in-Ok w ↦ grind (arith, common_steps, w.result-is)
+  | in-Err-Malformed w ↦ grind (arith, common_steps, w.result-is)
+  | in-Err-NoMemory w ↦ surely_read c.args.request.now sure (λ q e t. w.in-Err-NoMemory.ensures.sure q e t (ap (λ f. Err f) w.in-Err-NoMemory.field-0-is))
+]
