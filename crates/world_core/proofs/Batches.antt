@@ -1,10 +1,9 @@
 -- Only a Pull is answered by a batch, and it leaves the site.
-use Rattle.std.proofs.Common.{◌≡◌, ℕ, Bool, true, false, ◌&&◌, not, ◌==◌, List, [], ◌∷◌, Option, Some, None, length, refl, sym, ap, ◌≢◌}
+use Rattle.std.proofs.Common.{◌≡◌, ℕ, Bool, true, false, not, ◌==◌, List, [], ◌∷◌, Option, Some, None, length, refl}
 use Rattle.std.specs.Option.{option_map_or}
 use Rattle.tardis_base.specs.declared.ids.StateId.{StateId}
 use Rattle.tardis_base.specs.declared.records.Write.{Write}
 use Rattle.tardis_base.specs.declared.records.Record.{Record}
-use Rattle.tardis_base.specs.declared.records.Batch.{Batch}
 use Rattle.tardis_base.specs.declared.records.Write.TheVariants.{Put as Value, Delete as Deletion}
 use Rattle.tardis_base.specs.declared.records.Consent.{Consent}
 use Rattle.tardis_base.specs.declared.records.Item.{Item}
@@ -13,13 +12,11 @@ use Rattle.tardis_base.specs.declared.requests.Request.{Request}
 use Rattle.tardis_base.specs.declared.requests.Request.TheVariants.{Open, Begin, Get, Put, Delete, Commit, Abort, BeginMerge, ForkPoints, Conflicts, GetFor, Ceiling, Raise, RaiseAuto, Tidy, Stat, Show, Leaves, Pull, Deliver, Settle, Close}
 use Rattle.tardis_base.specs.declared.requests.EndFlags.{EndFlags}
 use Rattle.tardis_base.specs.declared.replies.Refusal.{Refusal}
-use Rattle.tardis_base.specs.declared.replies.Refusal.TheVariants.{Malformed, Unsupported, NotOpen, NoTxn, TxnOpen, WrongMode, BadSite}
-use Rattle.tardis_base.specs.declared.replies.Reply.TheVariants.{Opened, Begun, Merging, Value as ValueIs, Deleted, Absent, Done, Committed, Ended, States, Keys, Raised, Tidied, Stat as Statistics, Shown, Batch as BatchIs, Applied, Known, Early, Closed, Refused, NoMemory}
+use Rattle.tardis_base.specs.declared.replies.Refusal.TheVariants.{Malformed, NotOpen, NoTxn, TxnOpen, WrongMode, BadSite}
+use Rattle.tardis_base.specs.declared.replies.Reply.TheVariants.{Done, Ended, Batch as BatchIs, Applied, Refused}
 use Rattle.tardis_base.specs.declared.replies.Reply.{Reply}
 use Rattle.tardis_base.specs.Ids.{root}
 use Rattle.tardis_base.specs.Keys.{KeyWrite, write_of}
-use Rattle.tardis_base.specs.Valid.{is_within}
-use Rattle.wire_talk.specs.Codes.{code_of}
 use Rattle.wire_talk.specs.RequestReadings.{request_of}
 use Rattle.plain_dag.specs.Floors.{with_floor}
 use Rattle.plain_site.specs.Site.{Site, Txn, Single, Merge, writes_of}
@@ -31,7 +28,7 @@ use Rattle.plain_site.specs.Commits.{with_record, without_txn_of, growth_refusal
 use Rattle.plain_site.specs.Exchange.{judgements, take_record, consent_judgements, deliver, first_fit_record, settle_record, settle, pull, batch_for}
 use Rattle.plain_site.specs.Step.{step, step_over_bytes, is_sure}
 use Rattle.world_core.specs.Gives.{is_batch_reply}
-use Rattle.plain_site.proofs.RepliesFrame.{Replies, RefusesWell, good-none, good-when, good-reply, unless-good, unless-both-good, given-good, by-session, by-txn, by-no-txn, good_replies}
+use Rattle.plain_site.proofs.RepliesFrame.{Replies, RefusesWell, good-reply, unless-good, unless-both-good, given-good, by-session, by-txn, by-no-txn, good_replies}
 
 -- the reply is none
 pub record IsOther (reply : Reply) : Type 0 where

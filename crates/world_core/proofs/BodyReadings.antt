@@ -1,12 +1,12 @@
 -- What bodies are read as.
-use Rattle.std.proofs.Common.{◌≡◌, ℕ, ◌+◌, ◌≤◌, Bool, true, false, ◌&&◌, List, [], ◌∷◌, length, take, drop, nat_le, Option, Some, None, refl, ap, sym, ◌∙◌, subst, arith, leb-true, length-drop, ◌==◌}
+use Rattle.std.proofs.Common.{◌≡◌, ℕ, ◌≤◌, Bool, true, false, ◌&&◌, List, [], ◌∷◌, length, take, drop, nat_le, Option, Some, None, refl, ap, sym, ◌∙◌, arith, leb-true, length-drop, ◌==◌}
 use Rattle.std.proofs.lemmas.Bool.{and_parts, eqb-true}
 use Rattle.std.specs.Prelude.{option_map, option_and_then}
 use Rattle.std.specs.Bool.{then_some}
-use Rattle.std.specs.Int.{Width, byte_len, w16, w32, from_be_bytes}
+use Rattle.std.specs.Int.{w16, from_be_bytes}
 use Rattle.tardis_base.specs.Valid.{are_bytes}
 use Rattle.tardis_base.specs.declared.requests.Request.{Request}
-use Rattle.wire_item.specs.Fronts.{Front, made, after, both, alone, whole, bytes_front, number_front}
+use Rattle.wire_item.specs.Fronts.{Front, made, both, alone, whole, bytes_front}
 use Rattle.wire_item.specs.Readings.{u16_front, u32_front}
 use Rattle.wire_item.proofs.Takings.{made-none, after-none, after-then, after-then_none}
 use Rattle.wire_item.proofs.Fronts.{made-read}

@@ -13,7 +13,7 @@ use Rattle.tardis_base.specs.declared.replies.Reply.TheVariants.{Opened, Begun, 
 use Rattle.wire_item.specs.Valid.{is_batch}
 use Rattle.wire_talk.specs.Memory.{takes_no_memory}
 use Rattle.wire_talk.specs.RequestReadings.{request_of}
-use Rattle.wire_talk.specs.Spellings.{request_spelling, reply_spelling}
+use Rattle.wire_talk.specs.Spellings.{reply_spelling}
 use Rattle.wire_talk.specs.Valid.{is_reply}
 use Rattle.plain_site.specs.Site.{Site}
 use Rattle.plain_site.specs.Answers.{Answer, refused, given}
@@ -23,7 +23,7 @@ use Rattle.plain_site.specs.Laws.{RepliesToBytesFit}
 use Rattle.session_core.specs.Core.{Core}
 use Rattle.session_core.specs.Machine.{SiteStands}
 use Rattle.plain_world.specs.Worlds.{World, site_at, with_site, most_batches, item_at}
-use Rattle.plain_world.specs.Bodies.{Body, StepAt, CarryTo, body_of, is_sure_body}
+use Rattle.plain_world.specs.Bodies.{StepAt, CarryTo, body_of, is_sure_body}
 use Rattle.plain_world.specs.Steps.{WorldAnswer, declined, answered, ask, step_at, carry, carry_to, world_step, step_over_body}
 use Rattle.world_core.specs.Asked.{step_over_bytes_at}
 use Rattle.world_core.specs.Held.{AllStand, WorldStands}

@@ -7,7 +7,7 @@ use Rattle.tardis_io.specs.declared.statuses.Status.{Status}
 use Rattle.tardis_io.specs.declared.statuses.Status.TheVariants.{NoMemory}
 use Rattle.frame_cut.specs.Frames.{frame}
 use Rattle.site_run.specs.Responses.{Responded, AnsweredBy, Whole}
-use Rattle.site_run.specs.Endings.{Outcome, shape_of}
+use Rattle.site_run.specs.Endings.{shape_of}
 use Rattle.plain_world.specs.Worlds.{World}
 use Rattle.plain_world.specs.Steps.{world_machine}
 use Rattle.world_core.specs.Runs.{WorldMay, WorldOutcome, WorldFrom}

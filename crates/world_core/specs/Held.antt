@@ -1,5 +1,5 @@
 -- What a world in memory holds, and when it stands for a plain one.
-use Rattle.std.specs.Prelude.{◌≡◌, ℕ, List, [], ◌∷◌}
+use Rattle.std.specs.Prelude.{◌≡◌, List, [], ◌∷◌}
 use Rattle.tardis_base.specs.declared.records.Batch.{Batch}
 use Rattle.plain_site.specs.Site.{Site}
 use Rattle.session_core.specs.Core.{Core}

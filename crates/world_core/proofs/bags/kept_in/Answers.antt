@@ -1,8 +1,7 @@
-use Rattle.std.proofs.Common.{IsTrue, length, ◌≡◌, ◌≤◌, Some, ap, sym, subst, ◌-◌, slice_get, arith}
+use Rattle.std.proofs.Common.{length, ◌≡◌, ◌≤◌, Some, sym, subst, ◌-◌, slice_get, arith}
 use Rattle.std.specs.List.{list_all}
 use Rattle.std.proofs.lemmas.Bool.{and_parts}
 use Rattle.tardis_base.specs.Valid.{is_u16, is_record}
-use Rattle.tardis_base.specs.Sizes.{most_sites}
 use Rattle.wire_item.specs.Valid.{are_records, are_consents, is_consent}
 use Rattle.world_core.proofs.Lists.{list_all_get}
 use Rattle.world_core.proofs.Items.{promise_at, none_at, consents_of}

@@ -1,4 +1,4 @@
-use Rattle.std.proofs.Common.{◌≡◌, ap, ◌∙◌, sym, subst}
+use Rattle.std.proofs.Common.{ap, ◌∙◌, sym}
 use Rattle.wire_item.specs.Readings.{u16_front, u32_front}
 use Rattle.wire_item.proofs.Takings.{taken, untaken}
 use Rattle.plain_world.specs.Bodies.{CarryTo}

@@ -1,7 +1,7 @@
 use Rattle.std.proofs.Common.{get_or, refl}
 use Rattle.std.proofs.lemmas.Option.{slice_get-get_or}
 use Rattle.world_core.proofs.Standing.{stands_at}
-use Rattle.world_core.proofs.Replying.{Gathers, acted, surely_gathered, unchanged}
+use Rattle.world_core.proofs.Replying.{acted, surely_gathered, unchanged}
 use Rattle.world_core.proofs.worlds.act_at.Goals as goal
 
 pub returns-in-Ok-clause-answer : goal.returns-in-Ok-clause-answer

@@ -1,4 +1,4 @@
-use Rattle.std.proofs.Common.{ℕ, ◌≤◌, ◌-◌}
+use Rattle.std.proofs.Common.{◌≤◌, ◌-◌}
 use Rattle.plain_world.specs.Worlds.{opening_sites, world_limits}
 use Rattle.world_core.specs.Held.{AllStand}
 use Rattle.world_core.proofs.worlds.open_sites.Given as goal

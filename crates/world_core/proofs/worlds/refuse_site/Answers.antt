@@ -1,4 +1,4 @@
-use Rattle.std.proofs.Common.{◌≡◌, ap, sym, subst, IsOk, Err, arith}
+use Rattle.std.proofs.Common.{ap, IsOk, Err, arith}
 use Rattle.std.proofs.lemmas.Grind.{common_steps}
 use Rattle.world_core.proofs.Replying.{surely_read}
 use Rattle.world_core.proofs.worlds.refuse_site.Goals.{in-Ok, in-Err-Malformed, in-Err-NoMemory}
