@@ -1,29 +1,29 @@
 -- Two histories in which one id names one record agree on what both know.
-use Rattle.std.proofs.Common.{◌≡◌, ℕ, ◌+◌, ◌≤◌, ◌<◌, Bool, true, not, List, [], ◌∷◌, length, find, filter_map, is_none, Option, Some, None, IsTrue, IsFalse, IsSome, ◌⊎◌, inl, inr, refl, sym, ap, subst, ◌∙◌, arith}
-use Rattle.std.specs.Prelude.{◌&&◌, ◌||◌, ◌==◌, if◌then◌else◌}
-use Rattle.std.specs.List.{list_any, list_all, cons_option}
+use Rattle.std.proofs.Common.{◌≡◌, ℕ, ◌<◌, not, List, [], ◌∷◌, find, filter_map, is_none, Option, Some, None, IsTrue, inl, inr, refl, sym, ap, subst, ◌∙◌, arith}
+use Rattle.std.specs.Prelude.{◌&&◌, ◌||◌}
+use Rattle.std.specs.List.{list_any, cons_option}
 use Rattle.std.specs.Option.{option_and_then, option_map}
-use Rattle.std.proofs.lemmas.Bool.{and_parts, and_from, or_cases, or_left, or_right, cases_Bool, cond-true, cond-false, cond_both, both_ways, false_from_ne_true, not-true}
+use Rattle.std.proofs.lemmas.Bool.{and_parts, and_from, cases_Bool, cond-true, cond-false}
 use Rattle.std.proofs.lemmas.Option.{none-some}
 use Rattle.tardis_base.specs.declared.ids.StateId.{StateId}
 use Rattle.tardis_base.specs.declared.records.Record.{Record}
 use Rattle.tardis_base.specs.declared.records.Write.{Write}
-use Rattle.tardis_base.specs.Ids.{root, same_id, is_among}
+use Rattle.tardis_base.specs.Ids.{same_id, is_among}
 use Rattle.tardis_base.specs.Keys.{has_key, write_of}
-use Rattle.plain_dag.specs.States.{states, record_at, is_known, parents_of, arrival, writes_key, write_at}
+use Rattle.plain_dag.specs.States.{record_at, is_known, parents_of, arrival, writes_key}
 use Rattle.plain_dag.specs.Above.{is_above, is_proper_ancestor, are_comparable, comparable_pair}
-use Rattle.plain_dag.specs.Writers.{is_writer, writers, are_above, lowest, latest_writer, version_at, read}
+use Rattle.plain_dag.specs.Writers.{is_writer, are_above, lowest, latest_writer, version_at, read}
 use Rattle.plain_dag.specs.Conflicts.{latest_writers, is_split, is_conflict_key}
 use Rattle.plain_dag.specs.Dag.{IsDag}
 use Rattle.plain_dag.specs.Laws.{IsLatestWriter}
-use Rattle.plain_dag.proofs.Ids.{not-both, same_test, same_id-true, same_id_from, same_id_self, among-first, among-later, any-agrees, all-agrees, any-from, all-at}
-use Rattle.plain_dag.proofs.Histories.{Grows, dag-grows, has-parent-is-known, parents-are-known}
-use Rattle.plain_dag.proofs.Order.{above-along-edges, ancestors-are-known, ancestors-arrive-earlier, above-reflexive}
+use Rattle.plain_dag.proofs.Ids.{among-first, among-later, any-agrees, all-agrees}
+use Rattle.plain_dag.proofs.Histories.{Grows, dag-grows, parents-are-known}
+use Rattle.plain_dag.proofs.Order.{above-along-edges, ancestors-are-known}
 use Rattle.plain_dag.proofs.Searches.{find-agrees, option-cases, mapped-from}
 use Rattle.plain_dag.proofs.States.{child_arrives_later, children_know_parent}
-use Rattle.plain_dag.proofs.Growth.{writer-is-known, writes-newest, writes-before}
-use Rattle.plain_dag.proofs.LatestWriter.{one-latest-writer, latest-is-latest, latest-is-found, lowest-is-one}
-use Rattle.plain_world.proofs.Histories.{same-some, found-is-one, known-is-found}
+use Rattle.plain_dag.proofs.Growth.{writes-newest, writes-before}
+use Rattle.plain_dag.proofs.LatestWriter.{one-latest-writer, latest-is-latest, latest-is-found}
+use Rattle.plain_world.proofs.Histories.{same-some, known-is-found}
 
 -- ===== Records and what is told of them
 
@@ -86,8 +86,8 @@ module _ (a b : List Record) (da : IsDag a) (db : IsDag b)
   same-comparable (x ∷ xs) k =
       let kx = k x (among-first x xs) in
       let here : find (are_comparable a x) xs ≡ find (are_comparable b x) xs = find-agrees (are_comparable a x) (are_comparable b x) xs (λ y m.
-        let ky = k y (among-later y x xs m) in
-        ap (λ t. t || is_above a y x) (same-above x y ky.0 ky.1) ∙ ap (λ t. is_above b x y || t) (same-above y x kx.0 kx.1)) in
+      let ky = k y (among-later y x xs m) in
+      ap (λ t. t || is_above a y x) (same-above x y ky.0 ky.1) ∙ ap (λ t. is_above b x y || t) (same-above y x kx.0 kx.1)) in
       let later = same-comparable xs (λ y m. k y (among-later y x xs m)) in
       ap (λ (o : Option StateId). elim o as (λ u. Option (StateId × StateId)) [ Some y ↦ Some (x, y) | None ↦ comparable_pair a xs ]) here
       ∙ ap (λ (p : Option (StateId × StateId)). elim (find (are_comparable b x) xs) as (λ u. Option (StateId × StateId)) [ Some y ↦ Some (x, y) | None ↦ p ]) later

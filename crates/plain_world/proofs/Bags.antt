@@ -1,28 +1,25 @@
 -- A batch that a site gives keeps an honest world honest.
-use Rattle.std.proofs.Common.{◌≡◌, ℕ, suc, ◌+◌, ◌-◌, ◌≤◌, ◌<◌, Bool, true, not, List, [], ◌∷◌, ◌++◌, length, map, filter, Option, Some, None, IsTrue, IsFalse, ◌⊎◌, inl, inr, refl, sym, ap, subst, ◌∙◌, arith}
-use Rattle.std.specs.Prelude.{nat_le, nat_lt, ◌&&◌, ◌==◌, get_or, slice_get, if◌then◌else◌}
+use Rattle.std.proofs.Common.{◌≡◌, ℕ, suc, ◌+◌, ◌-◌, ◌<◌, Bool, List, [], ◌∷◌, ◌++◌, length, map, filter, Option, Some, None, IsTrue, inl, inr, refl, sym, ap, subst, ◌∙◌, arith}
+use Rattle.std.specs.Prelude.{nat_le, ◌&&◌, ◌==◌, get_or, slice_get}
 use Rattle.std.specs.List.{list_all}
 use Rattle.std.specs.Option.{option_and_then}
-use Rattle.std.proofs.lemmas.Bool.{and_parts, and_from, cases_Bool, cond-true, cond-false, cond_both, both_ways, leb-true, le-leb}
+use Rattle.std.proofs.lemmas.Bool.{and_parts, and_from, cond_both, le-leb}
 use Rattle.std.proofs.lemmas.Option.{none-some, unwrap_or-slice_get}
-use Rattle.tardis_base.specs.declared.ids.StateId.{StateId}
 use Rattle.tardis_base.specs.declared.records.Record.{Record}
 use Rattle.tardis_base.specs.declared.records.Consent.{Consent}
 use Rattle.tardis_base.specs.declared.records.Batch.{Batch}
 use Rattle.tardis_base.specs.declared.records.Item.{Item}
 use Rattle.tardis_base.specs.declared.records.Item.TheVariants.{State, Promise}
-use Rattle.tardis_base.specs.Ids.{root, same_id}
-use Rattle.tardis_base.specs.Valid.{is_u16, is_within, is_record}
+use Rattle.tardis_base.specs.Valid.{is_u16, is_record}
 use Rattle.wire_item.specs.Spellings.{record_spelling}
 use Rattle.wire_item.specs.Valid.{is_consent, is_item, is_batch, are_records, are_consents, are_ascending_numbers}
 use Rattle.plain_dag.specs.Floors.{Floor, opening_floor, floor_of}
 use Rattle.plain_dag.proofs.Known.{record-parts}
 use Rattle.plain_site.specs.Site.{Site}
-use Rattle.plain_site.specs.Exchange.{fitting, is_news_for, in_arrival_order, consents_from, batch_for}
+use Rattle.plain_site.specs.Exchange.{fitting, is_news_for, in_arrival_order, consents_from}
 use Rattle.plain_world.specs.Worlds.{World, site_at, items, item_at}
-use Rattle.plain_world.specs.Honest.{IsHonest, IsOneOf, HasRecord, HasConsent, IsOfItsSite, StandsBy, IsSite, said}
-use Rattle.plain_world.proofs.Places.{site-within, one-after, one-before, one-appended, one-got}
-use Rattle.plain_world.proofs.Histories.{same-some}
+use Rattle.plain_world.specs.Honest.{IsHonest, IsOneOf, HasRecord, HasConsent, said}
+use Rattle.plain_world.proofs.Places.{one-before, one-appended, one-got}
 use Rattle.plain_world.proofs.Batches.{IsBatchOf}
 
 -- ===== The records of a batch

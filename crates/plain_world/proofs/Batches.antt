@@ -1,6 +1,5 @@
 -- A reply that is a batch is the site's own, as it is.
-use Rattle.std.proofs.Common.{◌≡◌, ℕ, Bool, true, false, ◌==◌, List, [], ◌∷◌, length, Option, Some, None, IsFalse, refl, sym, ap, ◌∙◌, ◌≢◌, get_or, arith, if◌then◌else◌}
-use Rattle.std.specs.Option.{option_map, option_map_or}
+use Rattle.std.proofs.Common.{◌≡◌, ℕ, Bool, true, false, ◌==◌, List, [], ◌∷◌, length, Option, Some, None, refl, sym, ap}
 use Rattle.tardis_base.specs.declared.ids.StateId.{StateId}
 use Rattle.tardis_base.specs.declared.records.Write.{Write}
 use Rattle.tardis_base.specs.declared.records.Record.{Record}
@@ -12,18 +11,13 @@ use Rattle.tardis_base.specs.declared.requests.Request.{Request}
 use Rattle.tardis_base.specs.declared.requests.Request.TheVariants.{Open, Begin, Get, Put, Delete, Commit, Abort, BeginMerge, ForkPoints, Conflicts, GetFor, Ceiling, Raise, RaiseAuto, Tidy, Stat, Show, Leaves, Pull, Deliver, Settle, Close}
 use Rattle.tardis_base.specs.declared.requests.EndFlags.{EndFlags}
 use Rattle.tardis_base.specs.declared.replies.Refusal.{Refusal}
-use Rattle.tardis_base.specs.declared.replies.Refusal.TheVariants.{Malformed, NotOpen, NoTxn, TxnOpen, WrongMode, Full, PathFull}
-use Rattle.tardis_base.specs.declared.replies.Reply.TheVariants.{Opened, Begun, Merging, Value as ValueIs, Deleted, Absent, Done, Committed, Ended, States, Keys, Raised, Tidied, Stat as Statistics, Shown, Batch as BatchIs, Applied, Known, Early, Closed, Refused, NoMemory}
+use Rattle.tardis_base.specs.declared.replies.Refusal.TheVariants.{NotOpen, NoTxn, TxnOpen, WrongMode}
+use Rattle.tardis_base.specs.declared.replies.Reply.TheVariants.{Done, Ended, Batch as BatchIs, Applied, Refused}
 use Rattle.tardis_base.specs.declared.replies.Reply.{Reply}
 use Rattle.tardis_base.specs.Ids.{root}
 use Rattle.tardis_base.specs.Keys.{KeyWrite, write_of}
-use Rattle.tardis_base.specs.Plain.{no_memory}
-use Rattle.wire_talk.specs.Spellings.{reply_spelling}
-use Rattle.wire_talk.specs.RequestReadings.{request_of}
-use Rattle.plain_dag.specs.Collection.{kept_states}
 use Rattle.plain_dag.specs.Floors.{with_floor}
 use Rattle.plain_dag.specs.Growth.{growth_refusal}
-use Rattle.plain_dag.specs.Paths.{long_path}
 use Rattle.plain_site.specs.Site.{Site, Txn, Single, Merge, writes_of}
 use Rattle.plain_site.specs.Answers.{refused, shown, found}
 use Rattle.plain_site.specs.Sessions.{begin, set_ceiling, close_session}
@@ -31,8 +25,7 @@ use Rattle.plain_site.specs.Reads.{get, get_for, read_in, set_key}
 use Rattle.plain_site.specs.Merges.{begin_merge, fork_points_of, conflicts_of}
 use Rattle.plain_site.specs.Commits.{with_record, without_txn_of, growth_refusals, abort, commit, commit_single}
 use Rattle.plain_site.specs.Exchange.{judgements, take_record, consent_judgements, deliver, first_fit_record, settle_record, settle}
-use Rattle.plain_site.specs.Step.{step, step_over_bytes}
-use Rattle.plain_site.specs.Laws.{NeverWantsMemory, RefusesAsASite, is_of_programs}
+use Rattle.plain_site.specs.Step.{step}
 use Rattle.plain_site.proofs.RepliesFrame.{AllGood, Replies, RefusesWell, good-none, good-found, good-reply, unless-good, unless-both-good, given-good, by-session, by-txn, by-no-txn, good_replies}
 use Rattle.tardis_base.specs.declared.records.Batch.{Batch}
 use Rattle.tardis_base.specs.declared.replies.Refusal.TheVariants.{BadSite}
@@ -159,4 +152,3 @@ gives-own-batch site n (Pull counts) =
 gives-own-batch site n (Deliver item) = none-deliver site item
 gives-own-batch site n Settle = none-settle site
 gives-own-batch site n Close = by-session (refuse-none site) n (λ s. close_session site n) (λ s e. search giving)
-

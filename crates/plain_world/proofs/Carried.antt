@@ -1,9 +1,9 @@
 -- What carries and Settle are answered, and which waiting records are fit.
-use Rattle.std.proofs.Common.{◌≡◌, ℕ, suc, ◌+◌, ◌≤◌, ◌<◌, Bool, true, false, not, List, [], ◌∷◌, ◌++◌, length, find, is_none, Option, Some, None, IsTrue, IsFalse, ◌⊎◌, inl, inr, refl, sym, ap, subst, ◌∙◌, arith}
+use Rattle.std.proofs.Common.{◌≡◌, ℕ, ◌+◌, Bool, true, false, not, [], ◌∷◌, length, find, is_none, Option, Some, None, IsTrue, IsFalse, refl, sym, ap, subst, ◌∙◌, arith}
 use Rattle.std.specs.Prelude.{◌&&◌, ◌==◌, nat_le, nat_lt}
 use Rattle.std.specs.List.{list_all}
 use Rattle.std.specs.Option.{option_map_or}
-use Rattle.std.proofs.lemmas.Bool.{and_parts, and_from, both_ways, cases_Bool, cond_both, false_from_ne_true, not-true, not_from_false, not_from_true, leb-true, le-leb, leb-false, eqb-true, eq-eqb}
+use Rattle.std.proofs.lemmas.Bool.{and_parts, and_from, both_ways, false_from_ne_true, not-true, not_from_false, not_from_true, leb-true, eq-eqb}
 use Rattle.std.proofs.lemmas.Option.{none-some}
 use Rattle.tardis_base.specs.declared.ids.StateId.{StateId}
 use Rattle.tardis_base.specs.declared.records.Record.{Record}
@@ -13,10 +13,9 @@ use Rattle.tardis_base.specs.declared.records.Item.{Item}
 use Rattle.tardis_base.specs.declared.records.Item.TheVariants.{State, Promise}
 use Rattle.tardis_base.specs.declared.requests.Request.TheVariants.{Deliver, Settle}
 use Rattle.tardis_base.specs.declared.replies.Refusal.{Refusal}
-use Rattle.tardis_base.specs.declared.replies.Refusal.TheVariants.{BadSite, OwnItem, ClosedParent, Comparable, OpenConflict, NoSuchItem, BagFull}
+use Rattle.tardis_base.specs.declared.replies.Refusal.TheVariants.{BadSite, OwnItem, ClosedParent, Comparable, OpenConflict, NoSuchItem}
 use Rattle.tardis_base.specs.declared.replies.Reply.{Reply}
 use Rattle.tardis_base.specs.declared.replies.Reply.TheVariants.{Batch as BatchIs, Done, Applied, Known, Early, Refused}
-use Rattle.tardis_base.specs.Ids.{root, same_id}
 use Rattle.tardis_base.specs.Valid.{is_within, is_record}
 use Rattle.plain_dag.specs.States.{is_known, count_of_site}
 use Rattle.plain_dag.specs.Above.{comparable_pair}
@@ -25,16 +24,16 @@ use Rattle.plain_dag.specs.Floors.{is_closed}
 use Rattle.plain_dag.proofs.Ids.{not-both}
 use Rattle.plain_dag.proofs.Known.{record-parts}
 use Rattle.plain_site.specs.Site.{Site}
-use Rattle.plain_site.specs.Answers.{Answer, when, refuse, refuse_found, given}
-use Rattle.plain_site.specs.Exchange.{is_early, judgements, deliver, is_fit, first_fit_record, with_settled, settle_record, settle}
+use Rattle.plain_site.specs.Answers.{when, refuse, refuse_found, given}
+use Rattle.plain_site.specs.Exchange.{is_early, deliver, first_fit_record, with_settled, settle_record, settle}
 use Rattle.plain_site.specs.Sound.{may_wait}
-use Rattle.plain_world.specs.Worlds.{World, site_at, with_site, most_batches, item_at}
-use Rattle.plain_world.specs.Steps.{WorldAnswer, declined, answered, ask, carry, carry_to, step_at}
-use Rattle.plain_world.specs.Honest.{IsHonest, IsOneOf, HasRecord, HasConsent, IsOfItsSite, said}
+use Rattle.plain_world.specs.Worlds.{World, site_at, item_at}
+use Rattle.plain_world.specs.Steps.{declined, answered, ask, carry, carry_to}
+use Rattle.plain_world.specs.Honest.{IsHonest, IsOneOf, HasRecord, HasConsent}
 use Rattle.plain_world.specs.Laws.{CarriesAreTaken, is_carry_reply, NextOnesAreFit, SettlesAreAnswered, is_settle_reply}
 use Rattle.plain_world.proofs.Places.{site-there}
 use Rattle.plain_world.proofs.Bags.{IsItemOf, item-there, all-one, batch-parts}
-use Rattle.plain_world.proofs.Judged.{record-reply, consent-reply, none-closed, none-comparable, none-open, growth-reply, of-a-site, own-is-known}
+use Rattle.plain_world.proofs.Judged.{record-reply, consent-reply, none-closed, none-comparable, none-open, growth-reply, of-a-site}
 
 -- ===== One site's reply
 
@@ -142,7 +141,7 @@ next-ones-are-fit world honest m a r here waits next parents =
     let seven = refuse_found OpenConflict (open_conflict a.dag r.parents r.writes) in
     let fresh : IsFalse (nat_le r.id.sequence count) = false_from_ne_true (nat_le r.id.sequence count) (λ t. let l = leb-true r.id.sequence count t in absurd (omega arith)) in
     let in_time : IsFalse (is_early a r) = not_from_true (r.id.sequence == count + 1 && list_all (is_known a.dag) r.parents)
-      (and_from (r.id.sequence == count + 1) (list_all (is_known a.dag) r.parents) (eq-eqb r.id.sequence (count + 1) next) parents) in
+    (and_from (r.id.sequence == count + 1) (list_all (is_known a.dag) r.parents) (eq-eqb r.id.sequence (count + 1) next) parents) in
     and_from (is_none one) (list_all is_none (two ∷ three ∷ four ∷ five ∷ six ∷ seven ∷ [])) (none-when (nat_lt a.limits.sites r.id.site) (Refused (BadSite r.id.site)) (of-a-site world honest m a here r told other))
     (and_from (is_none two) (list_all is_none (three ∷ four ∷ five ∷ six ∷ seven ∷ [])) (none-when (nat_le r.id.sequence count) Known fresh)
     (and_from (is_none three) (list_all is_none (four ∷ five ∷ six ∷ seven ∷ [])) (none-when (r.id.site == a.own) (Refused (OwnItem r.id.site r.id.sequence)) (not-true (r.id.site == a.own) apart.1))

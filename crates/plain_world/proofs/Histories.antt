@@ -1,18 +1,17 @@
 -- Histories that grow, and the records in them.
-use Rattle.std.proofs.Common.{◌≡◌, ℕ, ◌+◌, ◌≤◌, ◌<◌, Bool, true, not, List, [], ◌∷◌, find, Option, Some, None, IsTrue, IsFalse, ◌⊎◌, inl, inr, refl, sym, ap, subst, ◌∙◌, arith}
-use Rattle.std.specs.Prelude.{◌&&◌, ◌||◌, ◌==◌, if◌then◌else◌}
-use Rattle.std.specs.List.{list_any, list_all}
-use Rattle.std.proofs.lemmas.Bool.{and_parts, or_cases, or_left, or_right, cases_Bool, cond-true, cond-false, cond_both, both_ways, false_from_ne_true, not-true}
+use Rattle.std.proofs.Common.{◌≡◌, ℕ, ◌≤◌, true, not, List, [], ◌∷◌, Option, Some, None, IsTrue, IsFalse, inl, inr, refl, sym, ap, subst, ◌∙◌, arith}
+use Rattle.std.specs.Prelude.{◌&&◌}
+use Rattle.std.proofs.lemmas.Bool.{or_cases, or_left, or_right, cases_Bool, cond-true, cond-false}
 use Rattle.std.proofs.lemmas.Option.{none-some}
 use Rattle.tardis_base.specs.declared.ids.StateId.{StateId}
 use Rattle.tardis_base.specs.declared.records.Record.{Record}
-use Rattle.tardis_base.specs.Ids.{root, same_id, is_among}
+use Rattle.tardis_base.specs.Ids.{root, same_id}
 use Rattle.tardis_base.specs.Valid.{is_record}
-use Rattle.plain_dag.specs.States.{root_record, states, record_at, is_known, parents_of, count_of_site}
+use Rattle.plain_dag.specs.States.{record_at, is_known, count_of_site}
 use Rattle.plain_dag.specs.Above.{is_above, is_proper_ancestor}
 use Rattle.plain_dag.specs.Dag.{IsDag, IsNext}
-use Rattle.plain_dag.proofs.Ids.{not-both, same_id_self, same_id-true, same_id_from}
-use Rattle.plain_dag.proofs.Histories.{known-stays, known-isnt-newest, next-fits, Fits}
+use Rattle.plain_dag.proofs.Ids.{not-both, same_id-true, same_id_from}
+use Rattle.plain_dag.proofs.Histories.{known-stays, known-isnt-newest, next-fits}
 use Rattle.plain_dag.proofs.Growth.{old-states-stay}
 use Rattle.plain_dag.proofs.Known.{count-grows}
 use Rattle.plain_world.specs.Honest.{IsOneOf}

@@ -1,51 +1,43 @@
 -- How honest items are judged.
-use Rattle.std.proofs.Common.{◌≡◌, ℕ, suc, ◌+◌, ◌-◌, ◌≤◌, ◌<◌, ◌≢◌, Bool, true, false, not, List, [], ◌∷◌, ◌++◌, length, find, is_none, Option, Some, None, IsTrue, IsFalse, ◌⊎◌, inl, inr, refl, sym, ap, subst, ◌∙◌, arith}
+use Rattle.std.proofs.Common.{◌≡◌, ℕ, ◌+◌, ◌≤◌, Bool, true, false, not, List, [], ◌∷◌, length, find, is_none, Option, Some, None, IsTrue, IsFalse, inl, inr, refl, sym, ap, subst, ◌∙◌, arith}
 use Rattle.std.specs.Prelude.{◌&&◌, ◌||◌, ◌==◌, nat_le, nat_lt, bytes_eq, if◌then◌else◌}
 use Rattle.std.specs.List.{list_all}
-use Rattle.std.specs.Option.{option_map, option_map_or}
-use Rattle.std.proofs.lemmas.Bool.{ltb-true, and_parts, and_from, or_cases, or_parts, or_left, or_right, cases_Bool, cond-true, cond-false, cond_both, both_ways, false_from_ne_true, not-true, not-false, not_from_false, not_from_true, leb-true, le-leb, leb-false, ltb-false, lt-ltb, eqb-true, eqb-false, eq-eqb}
+use Rattle.std.specs.Option.{option_map}
+use Rattle.std.proofs.lemmas.Bool.{ltb-true, and_parts, and_from, or_parts, or_left, or_right, cases_Bool, cond-true, cond-false, both_ways, false_from_ne_true, not-true, not-false, le-leb, leb-false, eqb-true}
 use Rattle.std.proofs.lemmas.Option.{none-some}
 use Rattle.tardis_base.specs.declared.ids.StateId.{StateId}
 use Rattle.tardis_base.specs.declared.records.Record.{Record}
 use Rattle.tardis_base.specs.declared.records.Consent.{Consent}
-use Rattle.tardis_base.specs.declared.records.Batch.{Batch}
-use Rattle.tardis_base.specs.declared.records.Item.{Item}
-use Rattle.tardis_base.specs.declared.records.Item.TheVariants.{State, Promise}
-use Rattle.tardis_base.specs.declared.requests.Request.TheVariants.{Deliver, Settle}
 use Rattle.tardis_base.specs.declared.replies.Refusal.{Refusal}
-use Rattle.tardis_base.specs.declared.replies.Refusal.TheVariants.{Full, PathFull, BadSite, OwnItem, ClosedParent, Comparable, OpenConflict, FloorBack, NoSuchItem}
+use Rattle.tardis_base.specs.declared.replies.Refusal.TheVariants.{Full, PathFull, BadSite, OwnItem, ClosedParent, Comparable, OpenConflict, FloorBack}
 use Rattle.tardis_base.specs.declared.replies.Reply.{Reply}
-use Rattle.tardis_base.specs.declared.replies.Reply.TheVariants.{Batch as BatchIs, Done, Applied, Known, Early, Refused}
+use Rattle.tardis_base.specs.declared.replies.Reply.TheVariants.{Applied, Known, Early, Refused}
 use Rattle.tardis_base.specs.Ids.{root, same_id, is_among}
-use Rattle.tardis_base.specs.Keys.{KeyWrite, has_key, is_key_among}
-use Rattle.tardis_base.specs.Valid.{is_within, is_record}
+use Rattle.tardis_base.specs.Keys.{has_key, is_key_among}
 use Rattle.plain_dag.specs.States.{record_at, is_known, count_of_site}
 use Rattle.plain_dag.specs.Above.{is_above, is_proper_ancestor, comparable_pair}
 use Rattle.plain_dag.specs.Dag.{IsDag, IsNext}
 use Rattle.plain_dag.specs.Collection.{kept_states}
-use Rattle.plain_dag.specs.Conflicts.{is_conflict_key, conflict_keys, open_conflict}
-use Rattle.plain_dag.specs.Floors.{Floor, floor_of, with_floor, is_closed}
+use Rattle.plain_dag.specs.Conflicts.{conflict_keys, open_conflict}
+use Rattle.plain_dag.specs.Floors.{floor_of, with_floor, is_closed}
 use Rattle.plain_dag.specs.Growth.{growth_refusal}
 use Rattle.plain_dag.specs.Paths.{long_path}
 use Rattle.plain_dag.proofs.Ids.{not-both, same_id_from, all-at, among-first, among-later}
-use Rattle.plain_dag.proofs.Known.{record-parts, known-within-count}
-use Rattle.plain_dag.proofs.Keys.{same-key, same-key-from}
+use Rattle.plain_dag.proofs.Known.{known-within-count}
+use Rattle.plain_dag.proofs.Keys.{same-key-from}
 use Rattle.plain_dag.proofs.ConflictKeys.{lists-conflict-keys}
 use Rattle.plain_site.specs.Site.{Site, own_floor}
-use Rattle.plain_site.specs.Answers.{Answer, when, refuse, refuse_found, unless, given}
+use Rattle.plain_site.specs.Answers.{Answer, when, refuse, refuse_found, unless}
 use Rattle.plain_site.specs.Commits.{with_record, growth_refusals}
-use Rattle.plain_site.specs.Exchange.{is_early, judgements, take_record, deliver_record, consent_judgements, deliver_consent, deliver, is_fit, first_fit_record, with_settled, settle_record, settle}
-use Rattle.plain_site.specs.Sound.{IsSound, may_wait}
+use Rattle.plain_site.specs.Exchange.{is_early, deliver_record, deliver_consent}
 use Rattle.plain_site.proofs.SoundBooks.{sound-floor}
-use Rattle.plain_world.specs.Worlds.{World, site_at, with_site, most_batches, item_at}
-use Rattle.plain_world.specs.Steps.{WorldAnswer, declined, answered, ask, carry, carry_to, step_at}
-use Rattle.plain_world.specs.Honest.{IsHonest, IsOneOf, HasRecord, HasConsent, IsOfItsSite, StandsBy, IsSite, said}
-use Rattle.plain_world.specs.Laws.{CarriesAreTaken, is_carry_reply, NextOnesAreFit, SettlesAreAnswered, is_settle_reply}
-use Rattle.plain_world.proofs.Places.{site-within, site-there}
-use Rattle.plain_world.proofs.Histories.{same-some, one-is-known, found-is-one, one-is-record, extends-next}
+use Rattle.plain_world.specs.Worlds.{World, site_at}
+use Rattle.plain_world.specs.Honest.{IsHonest, IsOneOf, HasConsent, IsOfItsSite, StandsBy, said}
+use Rattle.plain_world.specs.Laws.{is_carry_reply}
+use Rattle.plain_world.proofs.Places.{site-within}
+use Rattle.plain_world.proofs.Histories.{same-some, one-is-known, found-is-one, extends-next}
 use Rattle.plain_world.proofs.Agree.{same-proper, same-comparable, same-conflict}
 use Rattle.plain_world.proofs.Truths.{dag-at, ids-name-one-record, agree-above, floor-at-home, closed-over-floor}
-use Rattle.plain_world.proofs.Bags.{IsItemOf, item-there}
 
 -- ===== The records before one
 
@@ -168,7 +160,7 @@ module _ (world : World) (honest : IsHonest world) (m : ℕ) (a : Site) (here : 
           let low = (sound-floor a (honest.sites m a here).sound r.id.site l.0 (omega arith)).stated in
           let kept = stands.0.kept r p one refl (omega arith) among in
           let same = same-proper told.0.dag a.dag (dag-at world honest r.id.site told.0 told.1) dag-here
-            (λ x q s g h. ids-name-one-record world honest r.id.site m told.0 a x q s told.1 here g h) p f.state stands.0.known stands.1 in
+          (λ x q s g h. ids-name-one-record world honest r.id.site m told.0 a x q s told.1 here g h) p f.state stands.0.known stands.1 in
           both_ways (is_proper_ancestor told.0.dag p f.state) kept (same ∙ proper))
 
       pub none-closed : find (is_closed a.dag a.floors) r.parents ≡ None

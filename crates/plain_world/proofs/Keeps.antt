@@ -1,15 +1,11 @@
 -- What one site does keeps an honest world honest.
-use Rattle.std.proofs.Common.{◌≡◌, ℕ, ◌+◌, ◌≤◌, ◌<◌, ◌≢◌, Bool, true, not, List, [], ◌∷◌, ◌++◌, length, Option, Some, None, IsTrue, IsFalse, ◌⊎◌, inl, inr, refl, sym, ap, subst, ◌∙◌, arith}
-use Rattle.std.specs.Prelude.{nat_le, ◌&&◌}
-use Rattle.std.proofs.lemmas.Bool.{and_parts, and_from, cond-true, both_ways, false_from_ne_true, leb-true, le-leb}
+use Rattle.std.proofs.Common.{◌≡◌, ℕ, ◌+◌, ◌≤◌, ◌<◌, ◌≢◌, ◌∷◌, length, Some, IsTrue, IsFalse, ◌⊎◌, inl, inr, refl, sym, ap, subst, ◌∙◌, arith}
+use Rattle.std.proofs.lemmas.Bool.{cond-true, both_ways, false_from_ne_true}
 use Rattle.tardis_base.specs.declared.ids.StateId.{StateId}
 use Rattle.tardis_base.specs.declared.records.Record.{Record}
-use Rattle.tardis_base.specs.declared.records.Consent.{Consent}
 use Rattle.tardis_base.specs.declared.records.Limits.{Limits}
-use Rattle.tardis_base.specs.declared.records.Batch.{Batch}
 use Rattle.tardis_base.specs.Ids.{root, same_id, is_among}
 use Rattle.tardis_base.specs.Valid.{is_within}
-use Rattle.wire_item.specs.Valid.{is_batch}
 use Rattle.plain_dag.specs.States.{record_at, is_known, count_of_site}
 use Rattle.plain_dag.specs.Above.{is_above, is_proper_ancestor}
 use Rattle.plain_dag.specs.Dag.{IsDag}
@@ -18,7 +14,7 @@ use Rattle.plain_dag.proofs.Ids.{same_id_self}
 use Rattle.plain_dag.proofs.Known.{known-within-count}
 use Rattle.plain_dag.proofs.Order.{above-reflexive, above-transitive}
 use Rattle.plain_dag.proofs.Collected.{proper-above}
-use Rattle.plain_site.specs.Site.{Site, own_floor, own_count, next_id}
+use Rattle.plain_site.specs.Site.{Site, own_floor, own_count}
 use Rattle.plain_site.specs.Sound.{IsSound}
 use Rattle.plain_site.proofs.SoundBooks.{sound-own_floor}
 use Rattle.plain_world.specs.Worlds.{World, site_at, with_site}
@@ -82,9 +78,11 @@ module _ (given : Record → Type 0) (told : ℕ → Floor → Type 0) (world : 
 
     made-is-of-its-site : (r : Record) → next.dag ≡ r ∷ site.dag → IsMade site r → IsOfItsSite after r
     made-is-of-its-site r eq made =
-        let own : r.id.site ≡ m = ap (λ (x : StateId). x.site) made.id ∙ was.own in
-        (next, ap (site_at after.sites) own ∙ at-here,
-        ap (λ rs. record_at rs r.id) eq ∙ cond-true (same_id r.id r.id) (Some r) (record_at site.dag r.id) (same_id_self r.id))
+        let own : r.id.site ≡ m = ap (λ (x : StateId). x.site) made.id ∙ was.own in (
+          next,
+          ap (site_at after.sites) own ∙ at-here,
+          ap (λ rs. record_at rs r.id) eq ∙ cond-true (same_id r.id r.id) (Some r) (record_at site.dag r.id) (same_id_self r.id),
+        )
 
     in-history : (r : Record) → IsOneOf r next.dag → IsFalse (same_id r.id root) → IsOfItsSite after r
     in-history r one other = elim moves.dag [
@@ -211,9 +209,11 @@ module _ (given : Record → Type 0) (told : ℕ → Floor → Type 0) (world : 
     consents-after : (n : ℕ) (f : Floor) → HasConsent after n f → (home : Site) × (site_at after.sites n ≡ Some home) × StandsBy n home f
     consents-after n f has = elim (consent-was n f has) [
       | inl old ↦ go (honest.consents n f old)
-      | inr (same, (x, raises, is)) ↦
-          (next, ap (site_at after.sites) same ∙ at-here,
-          subst (λ k. StandsBy k next f) (sym same) (subst (StandsBy m next) (sym is) (stands-new n x raises)))
+      | inr (same, (x, raises, is)) ↦ (
+        next,
+        ap (site_at after.sites) same ∙ at-here,
+        subst (λ k. StandsBy k next f) (sym same) (subst (StandsBy m next) (sym is) (stands-new n x raises)),
+      )
     ]
       where
         go : (home : Site) × (site_at world.sites n ≡ Some home) × StandsBy n home f → (s : Site) × (site_at after.sites n ≡ Some s) × StandsBy n s f

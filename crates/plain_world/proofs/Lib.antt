@@ -10,3 +10,4 @@ pub mod Agree
 pub mod Truths
 pub mod Judged
 pub mod Carried
+pub mod Wrong

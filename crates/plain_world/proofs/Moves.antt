@@ -19,7 +19,6 @@ use Rattle.tardis_base.specs.declared.requests.EndFlags.{EndFlags}
 use Rattle.tardis_base.specs.declared.requests.Request.{Request}
 use Rattle.tardis_base.specs.declared.requests.Request.TheVariants.{Abort, Begin as BeginAt, BeginMerge, Ceiling, Close, Commit, Conflicts, Delete, Deliver, ForkPoints, Get, GetFor, Leaves, Open, Pull, Put, Raise, RaiseAuto, Settle, Show, Stat, Tidy}
 use Rattle.wire_item.specs.Valid.{is_item}
-use Rattle.wire_talk.specs.Valid.{is_request}
 use Rattle.plain_dag.specs.Above.{comparable_pair, is_above}
 use Rattle.plain_dag.specs.Begin.{begin_state, is_admitted}
 use Rattle.plain_dag.specs.Conflicts.{is_conflict_key, value_over}
@@ -29,17 +28,13 @@ use Rattle.plain_dag.specs.Landing.{broken, guarded, landing}
 use Rattle.plain_dag.specs.Paths.{fork_path}
 use Rattle.plain_dag.specs.States.{arrival, children, is_known}
 use Rattle.plain_dag.specs.Writers.{read}
-use Rattle.plain_dag.proofs.States.{children-before}
 use Rattle.plain_site.proofs.SoundAnswers.{AreNone, given-keeps, no_txn-keeps, none-appended, session-keeps, txn-keeps, unless-keeps}
-use Rattle.plain_site.proofs.SoundCommits.{MayJoin, merge_refusals, single-joins, unrefused-joins}
-use Rattle.plain_site.proofs.SoundHistories.{unfound-at}
-use Rattle.plain_site.proofs.SoundDeliveries.{waiting-is-record, welcome}
+use Rattle.plain_site.proofs.SoundCommits.{merge_refusals}
 use Rattle.plain_site.proofs.SoundRooms.{first-is-fit}
 use Rattle.plain_site.specs.Answers.{Answer, found, refuse, refuse_found, says_early, shown, when}
 use Rattle.plain_site.specs.Commits.{abort, commit, commit_below, commit_single, commit_writes, committed, growth_refusals, with_record, without_txn_of}
 use Rattle.plain_site.specs.Exchange.{batch_for, consent_judgements, deliver, deliver_consent, deliver_record, first_fit_record, is_fit, judgements, pull, settle, settle_record, take_record, with_held, with_settled}
 use Rattle.plain_site.specs.FloorSteps.{raise, raise_to, raised, raise_auto}
-use Rattle.plain_site.specs.Laws.{ClosedGetNoChild}
 use Rattle.plain_site.specs.Merges.{begin_merge, conflicts_of, first_below, first_unknown, fork_points_of, in_order, merge_at, merging, states_to_merge}
 use Rattle.plain_site.specs.Reads.{get, get_for, having_read, having_written, read_in, set_key}
 use Rattle.plain_site.specs.Sessions.{begin, begin_at, begun, close_session, open_session, set_ceiling}
@@ -47,30 +42,25 @@ use Rattle.plain_site.specs.Shows.{show}
 use Rattle.plain_site.specs.Site.{Merge, Single, SingleTxn, Site, Txn, next_record, own_count, own_floor, with_txn_changed, writes_of}
 use Rattle.plain_site.specs.Sound.{IsSound, IsSoundTxn, may_wait}
 use Rattle.plain_site.specs.Step.{step}
-use Rattle.std.proofs.Common.{None, ◌⊎◌, inl, inr, sym, ap, subst, ◌∙◌, ◌≤◌, ◌<◌, ◌-◌, ◌+◌, ◌≢◌, arith, find, find as find_first}
-use Rattle.std.specs.Prelude.{◌||◌, unwrap_or, drop, nat_le, if◌then◌else◌}
-use Rattle.std.specs.List.{list_all, remove}
-use Rattle.std.proofs.lemmas.Bool.{and_parts, eqb-false, eq-eqb, leb-true, not-true, cases_Bool, cond-true, cond-false}
-use Rattle.std.proofs.lemmas.Option.{none-some, unwrap_or-slice_get}
-use Rattle.std.proofs.lemmas.List.{get_or-set_same, get_or-set_other}
+use Rattle.std.proofs.Common.{None, ◌⊎◌, inl, inr, sym, ap, subst, ◌∙◌, ◌+◌, ◌≢◌, arith, find}
+use Rattle.std.specs.Prelude.{◌||◌, unwrap_or, nat_le}
+use Rattle.std.proofs.lemmas.Bool.{and_parts, eqb-false, leb-true, not-true}
 use Rattle.tardis_base.specs.Valid.{is_within, is_u16, is_u32, is_id}
 use Rattle.tardis_base.specs.declared.replies.Reply.TheVariants.{Known, Early}
 use Rattle.tardis_base.specs.declared.replies.Refusal.TheVariants.{OwnItem, ClosedParent, OpenConflict}
-use Rattle.tardis_base.specs.declared.records.Batch.{Batch}
 use Rattle.wire_item.specs.Valid.{is_consent}
 use Rattle.plain_dag.specs.States.{count_of_site, states}
 use Rattle.plain_dag.specs.Above.{is_proper_ancestor}
 use Rattle.plain_dag.specs.Conflicts.{open_conflict}
-use Rattle.plain_dag.specs.Floors.{Floor, opening_floor, floor_of, is_above_ceilings}
+use Rattle.plain_dag.specs.Floors.{Floor, floor_of, is_above_ceilings}
 use Rattle.plain_dag.proofs.Ids.{not-both, all-at, among-cases}
 use Rattle.plain_dag.proofs.Searches.{found-passes}
 use Rattle.plain_dag.proofs.Order.{above-reflexive}
 use Rattle.plain_dag.proofs.Collected.{proper-above, above-proper}
 use Rattle.plain_dag.proofs.Landing.{lands-below}
-use Rattle.plain_site.specs.Site.{MergeTxn, next_id}
-use Rattle.plain_site.specs.WaitingRoom.{hold, waits, is_full, first_fit, without}
+use Rattle.plain_site.specs.Site.{next_id}
 use Rattle.plain_site.specs.Exchange.{is_early}
-use Rattle.plain_site.proofs.SoundAnswers.{none-parts, when-none, found-none}
+use Rattle.plain_site.proofs.SoundAnswers.{none-parts, when-none}
 use Rattle.plain_site.proofs.SoundBooks.{open-session, sound-own_floor, own-is_site}
 use Rattle.plain_site.proofs.SoundDeliveries.{taken-stays}
 use Rattle.plain_world.specs.Laws.{is_delivery}
@@ -266,13 +256,16 @@ module _ (given : Record → Type 0) (told : ℕ → Floor → Type 0) (site : S
           dag = inl refl;
           room = λ q m. inl m;
           floors = λ m w. elim (cases_eq m site.own) [
-            | inl same ↦ inr (inl (x, record {
-              own = same;
-              known = parts.0;
-              below = parts.1;
-              same_dag = refl;
-              floor = subst (λ k. floor_of (with_floor site.floors site.own f) k ≡ f) (sym same) (floor-set_same site.floors site.own f own.0 (omega arith));
-            }))
+            | inl same ↦ inr (inl (
+              x,
+              record {
+                own = same;
+                known = parts.0;
+                below = parts.1;
+                same_dag = refl;
+                floor = subst (λ k. floor_of (with_floor site.floors site.own f) k ≡ f) (sym same) (floor-set_same site.floors site.own f own.0 (omega arith));
+              },
+            ))
             | inr differ ↦
                 let least = leb-true 1 m (and_parts (nat_le 1 m) (nat_le m site.limits.sites) w).0 in
                 inl (floor-set_other site.floors site.own m f own.0 least differ)
@@ -332,9 +325,9 @@ module _ (given : Record → Type 0) (told : ℕ → Floor → Type 0) (site : S
         let two = when (nat_le r.id.sequence count) Known in
         let three = refuse (r.id.site == site.own) (OwnItem r.id.site r.id.sequence) in
         let rest = when (is_early site r) (Early count)
-            ∷ refuse_found ClosedParent (find (is_closed site.dag site.floors) r.parents)
-            ∷ refuse_found (λ (pair : StateId × StateId). Comparable pair.0 pair.1) (comparable_pair site.dag r.parents)
-            ∷ refuse_found OpenConflict (open_conflict site.dag r.parents r.writes) ∷ [] in
+        ∷ refuse_found ClosedParent (find (is_closed site.dag site.floors) r.parents)
+        ∷ refuse_found (λ (pair : StateId × StateId). Comparable pair.0 pair.1) (comparable_pair site.dag r.parents)
+        ∷ refuse_found OpenConflict (open_conflict site.dag r.parents r.writes) ∷ [] in
         let judged = (none-appended (judgements site r) (growth_refusals site r) none).0 in
         let first = none-parts one (two ∷ three ∷ rest) judged in
         let second = none-parts two (three ∷ rest) first.1 in
@@ -430,4 +423,3 @@ module _ (given : Record → Type 0) (told : ℕ → Floor → Type 0) (site : S
       request-moves (Deliver item) other = not-both true refl other
       request-moves Settle other = settle-moves gives
       request-moves Close other = session-keeps Stays site old n (λ s. close_session site n) (λ s e. rests refl)
-

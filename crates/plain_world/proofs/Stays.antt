@@ -1,11 +1,9 @@
 -- Honest worlds stay honest.
-use Rattle.std.proofs.Common.{◌≡◌, ℕ, suc, ◌+◌, ◌-◌, ◌≤◌, ◌<◌, Bool, true, false, not, List, [], ◌∷◌, ◌++◌, length, Option, Some, None, IsTrue, IsFalse, ◌⊎◌, inl, inr, refl, sym, ap, subst, ◌∙◌, arith, replicate}
-use Rattle.std.specs.Prelude.{◌==◌, ◌&&◌, nat_le, get_or, slice_get, if◌then◌else◌}
-use Rattle.std.specs.List.{list_all}
+use Rattle.std.proofs.Common.{◌≡◌, ℕ, suc, ◌+◌, ◌-◌, ◌≤◌, Bool, true, false, [], ◌∷◌, ◌++◌, length, Option, Some, None, IsTrue, inl, inr, refl, sym, ap, subst, ◌∙◌, arith, replicate}
+use Rattle.std.specs.Prelude.{◌==◌, nat_le, get_or, slice_get}
 use Rattle.std.specs.Option.{option_map_or}
-use Rattle.std.proofs.lemmas.Bool.{and_parts, and_from, cond_both, leb-true, le-leb, not-true, both_ways}
+use Rattle.std.proofs.lemmas.Bool.{and_parts, and_from, cond_both, leb-true, le-leb}
 use Rattle.std.proofs.lemmas.Option.{none-some, unwrap_or-slice_get}
-use Rattle.tardis_base.specs.declared.ids.StateId.{StateId}
 use Rattle.tardis_base.specs.declared.records.Limits.{Limits}
 use Rattle.tardis_base.specs.declared.records.Record.{Record}
 use Rattle.tardis_base.specs.declared.records.Consent.{Consent}
@@ -14,28 +12,26 @@ use Rattle.tardis_base.specs.declared.records.Item.{Item}
 use Rattle.tardis_base.specs.declared.records.Item.TheVariants.{State, Promise}
 use Rattle.tardis_base.specs.declared.requests.Request.{Request}
 use Rattle.tardis_base.specs.declared.requests.Request.TheVariants.{Deliver}
-use Rattle.tardis_base.specs.declared.replies.Refusal.TheVariants.{Malformed, BadSite, NoSuchItem, BagFull}
+use Rattle.tardis_base.specs.declared.replies.Refusal.TheVariants.{BadSite, NoSuchItem, BagFull}
 use Rattle.tardis_base.specs.declared.replies.Reply.{Reply}
 use Rattle.tardis_base.specs.declared.replies.Reply.TheVariants.{Batch as BatchIs}
 use Rattle.tardis_base.specs.Ids.{root, same_id, is_among}
-use Rattle.tardis_base.specs.Plain.{Event, Answers}
-use Rattle.tardis_base.specs.Valid.{is_u16, is_within, are_limits}
-use Rattle.wire_item.specs.Valid.{is_item, is_batch}
+use Rattle.tardis_base.specs.Valid.{is_u16, are_limits}
+use Rattle.wire_item.specs.Valid.{is_batch}
 use Rattle.wire_talk.specs.Valid.{is_request, is_reply}
-use Rattle.plain_dag.specs.States.{root_record, is_known}
+use Rattle.plain_dag.specs.States.{root_record}
 use Rattle.plain_dag.specs.Above.{is_above}
 use Rattle.plain_dag.specs.Floors.{Floor, opening_floor, floor_of}
 use Rattle.plain_dag.proofs.Ids.{not-both, same_id_from}
-use Rattle.plain_site.specs.Site.{Site, opening, own_floor, own_count}
+use Rattle.plain_site.specs.Site.{Site, opening}
 use Rattle.plain_site.specs.Step.{step}
-use Rattle.plain_site.specs.Sound.{IsSound}
 use Rattle.plain_site.proofs.SoundRequests.{request-keeps-sound}
 use Rattle.plain_site.proofs.SoundOpening.{opening-is-sound}
 use Rattle.plain_site.proofs.RepliesFit.{replies-fit}
 use Rattle.plain_world.specs.Worlds.{World, site_at, with_site, opening_sites, opening_world, most_batches, item_at}
 use Rattle.plain_world.specs.Steps.{WorldAnswer, declined, answered, ask, step_at, carry, carry_to}
 use Rattle.plain_world.specs.Honest.{IsHonest, IsOneOf, HasRecord, HasConsent, IsOfItsSite, StandsBy, IsSite, said}
-use Rattle.plain_world.specs.Laws.{OpeningIsHonest, StepsKeepHonest, CarriesKeepHonest, is_delivery}
+use Rattle.plain_world.specs.Laws.{OpeningIsHonest, StepsKeepHonest, CarriesKeepHonest}
 use Rattle.plain_world.proofs.Places.{site-within, site-there}
 use Rattle.plain_world.proofs.Histories.{same-some}
 use Rattle.plain_world.proofs.Moves.{Moves, request-moves, deliver-moves}

@@ -1,35 +1,30 @@
 -- What the sites of an honest world agree on.
-use Rattle.std.proofs.Common.{◌≡◌, ℕ, suc, ◌+◌, ◌-◌, ◌≤◌, ◌<◌, ◌≢◌, Bool, true, false, not, List, [], ◌∷◌, length, find, is_none, get_or, Option, Some, None, IsTrue, IsFalse, ◌⊎◌, inl, inr, refl, sym, ap, subst, ◌∙◌, arith}
-use Rattle.std.specs.Prelude.{◌&&◌, ◌||◌, ◌==◌, nat_le, nat_lt, bytes_eq}
-use Rattle.std.specs.List.{list_all}
-use Rattle.std.proofs.lemmas.Bool.{and_parts, and_from, or_cases, or_left, or_right, cases_Bool, cond-true, cond-false, both_ways, false_from_ne_true, not-true, not_from_false, not_from_true, leb-true, le-leb, leb-false, ltb-false, lt-ltb, eqb-true, eqb-false, eq-eqb}
-use Rattle.std.proofs.lemmas.Option.{none-some, unwrap_or-slice_get}
+use Rattle.std.proofs.Common.{◌≡◌, ℕ, ◌+◌, ◌-◌, ◌≤◌, ◌≢◌, List, [], ◌∷◌, length, Some, None, IsTrue, IsFalse, ◌⊎◌, inl, inr, refl, sym, ap, subst, ◌∙◌, arith}
+use Rattle.std.specs.Prelude.{◌&&◌, ◌||◌, ◌==◌, nat_le}
+use Rattle.std.proofs.lemmas.Bool.{and_parts, and_from, or_cases, or_left, or_right, cases_Bool, cond-true, cond-false, false_from_ne_true, leb-true, le-leb, eqb-true, eq-eqb}
+use Rattle.std.proofs.lemmas.Option.{unwrap_or-slice_get}
 use Rattle.tardis_base.specs.declared.ids.StateId.{StateId}
 use Rattle.tardis_base.specs.declared.records.Record.{Record}
-use Rattle.tardis_base.specs.Ids.{root, same_id, is_among}
-use Rattle.tardis_base.specs.Keys.{KeyWrite, has_key, is_key_among}
-use Rattle.tardis_base.specs.Valid.{is_within, is_id, is_record, is_u16, is_u32}
+use Rattle.tardis_base.specs.Ids.{root, same_id}
+use Rattle.tardis_base.specs.Valid.{is_within, is_id, is_u16, is_u32}
 use Rattle.plain_dag.specs.States.{root_record, record_at, is_known, count_of_site}
 use Rattle.plain_dag.specs.Above.{is_above, is_proper_ancestor}
-use Rattle.plain_dag.specs.Dag.{IsDag, IsNext}
-use Rattle.plain_dag.specs.Conflicts.{is_conflict_key, conflict_keys, open_conflict}
+use Rattle.plain_dag.specs.Dag.{IsDag}
 use Rattle.plain_dag.specs.Floors.{Floor, opening_floor, floor_of, is_closed}
-use Rattle.plain_dag.proofs.Ids.{not-both, same_test, same_id-true, same_id_from, all-at}
+use Rattle.plain_dag.proofs.Ids.{not-both, same_test, same_id-true, same_id_from}
 use Rattle.plain_dag.proofs.Known.{root-is-known, record-parts, known-within-count}
-use Rattle.plain_dag.proofs.Keys.{same-key}
-use Rattle.plain_dag.proofs.ConflictKeys.{lists-conflict-keys}
 use Rattle.plain_dag.proofs.Order.{ancestors-are-known}
 use Rattle.plain_dag.proofs.Collected.{proper-parts}
-use Rattle.plain_site.specs.Site.{Site, own_floor}
+use Rattle.plain_site.specs.Site.{Site}
 use Rattle.plain_site.specs.Sound.{IsSound}
 use Rattle.plain_site.proofs.SoundBooks.{sound-floor}
 use Rattle.plain_site.proofs.SoundCommits.{all-at_index}
 use Rattle.plain_world.specs.Worlds.{World, site_at}
-use Rattle.plain_world.specs.Honest.{IsHonest, IsOneOf, HasRecord, HasConsent, IsOfItsSite, StandsBy, IsSite}
+use Rattle.plain_world.specs.Honest.{IsHonest, HasRecord, HasConsent, IsOfItsSite, StandsBy}
 use Rattle.plain_world.specs.Laws.{ClosedAreKnown, IdsNameOneRecord, EqualCountsKnowTheSame, ReadsAreTheSame, SitesAgree}
 use Rattle.plain_world.proofs.Places.{site-within}
-use Rattle.plain_world.proofs.Histories.{same-some, next-of-dag, one-is-known, found-is-one, known-is-found, one-is-found, one-is-record, Extends, extends-same, extends-next}
-use Rattle.plain_world.proofs.Agree.{same-above, same-proper, same-read}
+use Rattle.plain_world.proofs.Histories.{same-some, found-is-one, known-is-found, one-is-record}
+use Rattle.plain_world.proofs.Agree.{same-above, same-read}
 
 -- ===== Counts
 
@@ -136,9 +131,10 @@ module _ (world : World) (honest : IsHonest world) where
       let was = honest.sites m a ea in
       let all = was.all in
       let within = and_from (nat_le 1 n) (nat_le n (length world.sites)) (le-leb 1 n l.0) (le-leb n (length world.sites) l.1) in
-      let home = honest.consents n (floor_of a.floors n) (HasConsent.at_site m a ea within refl) in
-      (subst (λ (h : Site). StandsBy n h (floor_of a.floors n)) (same-some home.0 b (sym home.1 ∙ eb)) home.2,
-      (sound-floor a was.sound n l.0 (omega arith)).known)
+      let home = honest.consents n (floor_of a.floors n) (HasConsent.at_site m a ea within refl) in (
+        subst (λ (h : Site). StandsBy n h (floor_of a.floors n)) (same-some home.0 b (sym home.1 ∙ eb)) home.2,
+        (sound-floor a was.sound n l.0 (omega arith)).known,
+      )
 
   pub closed-over-floor : (m n : ℕ) (a b : Site) (x : StateId) → site_at world.sites m ≡ Some a → site_at world.sites n ≡ Some b → IsTrue (is_closed a.dag a.floors x) →
       IsTrue (is_proper_ancestor a.dag x (floor_of a.floors n).state)

@@ -3,7 +3,6 @@ use Rattle.std.specs.Prelude.{ℕ, List, [], ◌∷◌, ◌++◌}
 use Rattle.tardis_base.specs.declared.records.Record.{Record}
 use Rattle.tardis_base.specs.declared.records.Consent.{Consent}
 use Rattle.tardis_base.specs.declared.requests.Request.TheVariants.{RaiseAuto, Tidy, Stat, Pull, Ceiling}
-use Rattle.tardis_base.specs.declared.replies.SiteLine.{SiteLine}
 use Rattle.tardis_base.specs.declared.replies.Reply.{Reply}
 use Rattle.tardis_base.specs.declared.replies.Reply.TheVariants.{Opened, Begun, Merging, Done, Committed, Raised, Tidied, Stat as Statistics, Applied, Known, Early}
 use Rattle.plain_site.specs.RowWords.{◌·◌, opens_following, begin_any, begin_ancestor, get, put, ser, none, commit, merge_leaves, conflicts, value, one_key}

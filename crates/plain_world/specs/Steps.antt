@@ -1,7 +1,6 @@
 -- What a world answers: each body is a step of one site, and each batch that a site gives joins the bag.
 use Rattle.std.specs.Prelude.{ℕ, false, ◌==◌, List, [], ◌∷◌, ◌++◌, length, if◌then◌else◌}
 use Rattle.std.specs.Option.{option_map_or}
-use Rattle.tardis_base.specs.declared.records.Item.{Item}
 use Rattle.tardis_base.specs.declared.requests.Request.{Request}
 use Rattle.tardis_base.specs.declared.requests.Request.TheVariants.{Deliver}
 use Rattle.tardis_base.specs.declared.replies.Refusal.{Refusal}

@@ -1,11 +1,9 @@
 -- Wrong steps and carries, each of which breaks a law.
-use Rattle.std.specs.Prelude.{ℕ, List, [], map}
+use Rattle.std.specs.Prelude.{[], map}
 use Rattle.tardis_base.specs.declared.records.Record.{Record}
-use Rattle.tardis_base.specs.declared.records.Batch.{Batch}
-use Rattle.plain_dag.specs.Floors.{Floor}
 use Rattle.plain_site.specs.Site.{Site}
 use Rattle.plain_world.specs.Worlds.{World}
-use Rattle.plain_world.specs.Steps.{WorldAnswer, step_at, carry_to}
+use Rattle.plain_world.specs.Steps.{step_at, carry_to}
 use Rattle.plain_world.specs.Laws.{Steps, Carries}
 
 -- the law doesn't hold of these steps, or of these carries

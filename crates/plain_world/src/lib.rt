@@ -8,6 +8,7 @@ ghost use Rattle.plain_world.specs.Steps.{step_at, carry_to};
 ghost use Rattle.plain_world.specs.Honest.{IsHonest};
 ghost use Rattle.plain_world.specs.Laws.{OpeningIsHonest, StepsKeepHonest, CarriesKeepHonest, CarriesAreTaken, SitesAgree};
 ghost use Rattle.plain_world.specs.Laws.{NextOnesAreFit, SettlesAreAnswered};
+ghost use Rattle.plain_world.specs.WrongWorlds.{IsBrokenBy, hides_writes, understates, loses_writes};
 ghost use Rattle.plain_world.specs.Rows.{NothingIsCarried, CartIsShared};
 
 /// A world that opens is honest, and each step but a client's delivery and each carry keeps it so: whatever is asked, and whatever
@@ -16,6 +17,9 @@ pub fn worlds_stay_honest()
     ensures opening { OpeningIsHonest }
     ensures steps { StepsKeepHonest step_at }
     ensures carries { CarriesKeepHonest carry_to }
+    ensures hiding_breaks { IsBrokenBy StepsKeepHonest hides_writes }
+    ensures understating_breaks { IsBrokenBy StepsKeepHonest understates }
+    ensures losing_breaks { IsBrokenBy CarriesKeepHonest loses_writes }
 {}
 
 /// An honest item is never refused for what it says: it is applied, or known, or early, or there is no room for it.
