@@ -12,5 +12,5 @@ mod tests;
 
 pub use gathered::Gathered;
 pub use line_runs::answer_lines;
-pub use responders::{MachineReplies, Responder};
+pub use responders::{MachineReplies, Responder, put_reply};
 pub use runs::{answer_frames, run_device, run_site};

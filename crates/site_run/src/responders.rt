@@ -80,7 +80,7 @@ impl<M: Machine> Responder<M> for MachineReplies {
 }
 
 /// Puts the frame of a reply behind what was gathered.
-fn put_reply(reply: &[u8], out: &mut Gathered)
+pub fn put_reply(reply: &[u8], out: &mut Gathered)
     requires reply { length reply.now ≤ longest_frame }
     requires room { length out.old.bytes + 1048580 ≤ out.old.room }
     ensures bytes { out.new.bytes ≡ out.old.bytes ++ frame reply.now }

@@ -7,7 +7,7 @@ use crate::faults::NoMemory;
 use crate::reply_bufs::ReplyBuf;
 
 /// What answers the requests of actors, one at a time.
-pub trait Machine: Drop + Send {
+pub trait Machine: Drop {
     ghost Plain: { Type 0 };
 
     ghost plain: { PlainMachine Plain };

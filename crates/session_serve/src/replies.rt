@@ -1,0 +1,74 @@
+//! The answers to a session's frames.
+
+ghost use Rattle.std.specs.Prelude.{◌≡◌, ◌≤◌, length};
+ghost use Rattle.session_serve.specs.Replies.{request_in, reply_without};
+ghost use Rattle.session_serve.specs.Asking.{Asked};
+
+use crate::askers::Asks;
+use site_run::{Gathered, Responder, put_reply};
+use std::alloc::Global;
+use tardis_base::{NoMemory, Refusal, Reply, ReplyBuf};
+use trail_log::Acted;
+use wire_talk::write_reply;
+
+/// Answers each body by the frame of the reply to its request.
+#[derive(Drop)]
+pub(crate) struct SessionReplies {
+    pub(crate) reply: ReplyBuf,
+}
+
+impl SessionReplies {
+    pub(crate) fn new(alloc: Global) -> Result<SessionReplies, NoMemory> {
+        let reply = ReplyBuf::new(alloc)?;
+        Ok(SessionReplies { reply })
+    }
+}
+
+impl<A: Asks> Responder<A> for SessionReplies {
+    ghost State = { A };
+
+    ghost stands = { λ a s. a ≡ s };
+
+    ghost may = { Asked A.asks };
+
+    ghost opening = { A.opening };
+
+    ghost MOST = { 1048580 };
+
+    const MOST: usize = 1_048_580;
+
+    fn respond(&mut self, subject: &mut A, body: &[u8], out: &mut Gathered) {
+        let acted = subject.ask(request_of(body), &mut self.reply);
+        spell(acted, &mut self.reply);
+        put_reply(self.reply.bytes(), out);
+    }
+}
+
+/// The most bytes of a request.
+const MOST_ASKED: usize = 1_048_574;
+
+/// The request in a body. One of more bytes spells none, as the empty one does.
+fn request_of(body: &[u8]) -> &[u8]
+    ensures same { result.now ≡ request_in body.now }
+    ensures fits { length result.now ≤ 1048574 }
+{
+    if body.len() <= MOST_ASKED { body } else { &[] }
+}
+
+/// Makes the buffer the reply to a request, which is in it where the request was answered.
+fn spell(acted: Acted, reply: &mut ReplyBuf)
+    ensures { reply.new ≡ reply_without acted reply.old }
+{
+    match acted {
+        Acted::Done => {}
+        Acted::TrailFull { bytes } => {
+            reply.clear();
+            let refusal = Refusal::TrailFull { bytes };
+            write_reply(&Reply::Refused { refusal }, reply);
+        }
+        Acted::NoMemory => {
+            reply.clear();
+            write_reply(&Reply::NoMemory, reply);
+        }
+    }
+}
