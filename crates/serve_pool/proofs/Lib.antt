@@ -1,0 +1,4 @@
+-- Lemmas on serving.
+mod Longer
+mod Hands
+mod Pooling

@@ -1,0 +1,3 @@
+-- Links that were taken, and what was done with each.
+pub mod Rows
+pub mod Pools

@@ -1,0 +1,10 @@
+//! Many links of a server at once: each is served by a session of its own, in a thread of its own.
+#![tactic(auto)]
+
+mod ends;
+mod pools;
+#[cfg(test)]
+mod tests;
+
+pub use ends::{PoolEnd, Served};
+pub use pools::serve_all;
