@@ -10,4 +10,5 @@ pub mod Agree
 pub mod Truths
 pub mod Judged
 pub mod Carried
+pub mod Runs
 pub mod Wrong

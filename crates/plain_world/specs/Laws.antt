@@ -1,6 +1,7 @@
 -- What follows while the sites are honest, as statements. The functions of this crate have them as contracts.
 use Rattle.std.specs.Prelude.{◌≡◌, ℕ, Bool, true, false, ◌==◌, ◌+◌, ◌&&◌, not, List, length, Some, IsTrue, IsFalse}
 use Rattle.std.specs.List.{list_all}
+use Rattle.std.specs.Option.{option_map_or}
 use Rattle.tardis_base.specs.declared.ids.StateId.{StateId}
 use Rattle.tardis_base.specs.declared.records.Limits.{Limits}
 use Rattle.tardis_base.specs.declared.records.Record.{Record}
@@ -9,6 +10,7 @@ use Rattle.tardis_base.specs.declared.requests.Request.TheVariants.{Deliver, Set
 use Rattle.tardis_base.specs.declared.replies.Refusal.TheVariants.{Full, PathFull, BadSite, NoSuchItem}
 use Rattle.tardis_base.specs.declared.replies.Reply.{Reply}
 use Rattle.tardis_base.specs.declared.replies.Reply.TheVariants.{Done, Applied, Known, Early, Refused}
+use Rattle.tardis_base.specs.Plain.{Event, Answers}
 use Rattle.tardis_base.specs.Valid.{is_u16, is_within, are_limits}
 use Rattle.wire_talk.specs.Valid.{is_request}
 use Rattle.plain_dag.specs.States.{is_known, record_at, count_of_site}
@@ -17,7 +19,8 @@ use Rattle.plain_dag.specs.Writers.{read}
 use Rattle.plain_site.specs.Site.{Site}
 use Rattle.plain_site.specs.Exchange.{is_fit}
 use Rattle.plain_world.specs.Worlds.{World, site_at, opening_world}
-use Rattle.plain_world.specs.Steps.{WorldAnswer, step_at}
+use Rattle.plain_world.specs.Bodies.{Body, StepAt, CarryTo, body_of}
+use Rattle.plain_world.specs.Steps.{WorldAnswer, step_at, world_machine}
 use Rattle.plain_world.specs.Honest.{IsHonest, IsOneOf}
 
 -- ===== Honest worlds stay honest
@@ -46,6 +49,19 @@ StepsKeepHonest steps = (world : World) (n actor : ℕ) (q : Request) → IsTrue
 -- and so does each carry: again, in any order, or never
 abbrev pub CarriesKeepHonest : Carries → Type 0
 CarriesKeepHonest carries = (world : World) (n batch item : ℕ) → IsHonest world → IsHonest (carries world n batch item).0
+
+-- the bytes spell a delivery of a client
+abbrev pub body_delivers : Body → Bool
+body_delivers (StepAt site actor request) = is_delivery request
+body_delivers (CarryTo site batch item) = false
+
+abbrev pub is_forged : Event → Bool
+is_forged event = option_map_or body_delivers (body_of event.1) false
+
+-- so, whatever bodies are answered, memory's wants included
+abbrev pub RunsStayHonest : Type 0
+RunsStayHonest = (world after : World) (events : List Event) (replies : List (List ℕ)) → IsTrue (list_all (λ event. not (is_forged event)) events) →
+    Answers world_machine world events replies after → IsHonest world → IsHonest after
 
 -- ===== What a carry is answered
 

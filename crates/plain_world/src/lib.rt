@@ -7,9 +7,11 @@ ghost use Rattle.plain_world.specs.Worlds.{World};
 ghost use Rattle.plain_world.specs.Steps.{step_at, carry_to};
 ghost use Rattle.plain_world.specs.Honest.{IsHonest};
 ghost use Rattle.plain_world.specs.Laws.{OpeningIsHonest, StepsKeepHonest, CarriesKeepHonest, CarriesAreTaken, SitesAgree};
-ghost use Rattle.plain_world.specs.Laws.{NextOnesAreFit, SettlesAreAnswered};
+ghost use Rattle.plain_world.specs.Laws.{RunsStayHonest, NextOnesAreFit, SettlesAreAnswered};
 ghost use Rattle.plain_world.specs.WrongWorlds.{IsBrokenBy, hides_writes, understates, loses_writes};
 ghost use Rattle.plain_world.specs.Rows.{NothingIsCarried, CartIsShared};
+
+use wire_talk::talk_has_one_spelling;
 
 /// A world that opens is honest, and each step but a client's delivery and each carry keeps it so: whatever is asked, and whatever
 /// is carried again, in any order, or never.
@@ -21,6 +23,14 @@ pub fn worlds_stay_honest()
     ensures understating_breaks { IsBrokenBy StepsKeepHonest understates }
     ensures losing_breaks { IsBrokenBy CarriesKeepHonest loses_writes }
 {}
+
+/// So an honest world stays honest whatever bodies it is asked, as long as none of them is a client's delivery, and however they
+/// are answered, memory's wants included.
+pub fn runs_stay_honest()
+    ensures { RunsStayHonest }
+{
+    talk_has_one_spelling();
+}
 
 /// An honest item is never refused for what it says: it is applied, or known, or early, or there is no room for it.
 pub fn honest_items_are_taken()
