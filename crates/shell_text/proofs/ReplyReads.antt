@@ -21,14 +21,15 @@ use Rattle.wire_item.specs.Fronts.{Front, alone, both, counted, made, only_if, t
 use Rattle.wire_item.specs.Readings.{batch_of}
 use Rattle.wire_item.proofs.Fronts.{only_if-read}
 use Rattle.wire_item.proofs.Progress.{IsOrder, Progress}
+use Rattle.wire_item.proofs.Takings.{after-then}
 use Rattle.wire_item.proofs.Ways.{many-times}
 use Rattle.wire_talk.specs.Memory.{reply_takes_no_memory}
 use Rattle.wire_talk.specs.Valid.{are_first_ids, are_first_keys, are_site_lines, is_first_of, is_site_line}
-use Rattle.text_words.specs.Texts.{behind, by_prefix, hex_bytes, parsed, rest_of, spaces, until}
+use Rattle.text_words.specs.Texts.{behind, hex_bytes, parsed, read_behind, rest_of, spaces, until}
 use Rattle.text_words.proofs.TextReads.{behind-source}
 use Rattle.text_words.proofs.WordsRead.{reads-id-word}
 use Rattle.shell_text.specs.Answers.{AreRead, IsAnswerWhere, IsRefusal, IsReply}
-use Rattle.shell_text.specs.ReplyTexts.{batch_from, id_text, is_batch_line, line_reply_of, parents_text, refusal_text, reply_text, site_line_text, site_lines_text, u32_text}
+use Rattle.shell_text.specs.ReplyTexts.{batch_from, id_text, is_batch_line, line_reply_of, named, pair_text, refusal_text, reply_text, shown_text, site_line_text, site_lines_text, u32_text, u64_text}
 use Rattle.shell_text.specs.RequestTexts.{key_text}
 use Rattle.shell_text.proofs.LineReads.{over-alone}
 use Rattle.shell_text.proofs.RepliesRead.{reads-site-line}
@@ -167,6 +168,27 @@ tested-beside {A} {B} {C} f test first second text a left e =
     go None = refl
     go (Some read) = end read.0 read.1 (test a read.0)
 
+pub found-same : (o other : Option Reply) (result : Result Reply ReadFault) → o ≡ other → IfOk result (λ reply. other ≡ Some reply) → IfOk result (λ reply. o ≡ Some reply)
+found-same o other (Ok reply) e h = e ∙ h
+found-same o other (Err fault) e h = h
+
+named-read : {A : Type 0} (name : List ℕ) (front : Front A) (text left : List ℕ) (a : A) (rest : List ℕ) → ◌≡◌ {A = Option (List ℕ)} (Some left) (behind name text)
+    → front left ≡ Some (a, rest) → named name front text ≡ Some (a, rest)
+named-read name front text left a rest e h = ap (λ o. read_behind front o None) (sym e) ∙ h
+
+pub shown-read : (text : List ℕ) (arrival : ℕ) (behind_arrival at_children : List ℕ) (children : List StateId) (behind_children at_path : List ℕ) (path : List (StateId × ℕ)) (left : List ℕ)
+    → ◌≡◌ {A = Option (ℕ × List ℕ)} (Some (arrival, behind_arrival)) (u64_text text)
+    → ◌≡◌ {A = Option (List ℕ)} (Some at_children) (behind (codes "children ") behind_arrival) → counted u32_text (times id_text) at_children ≡ Some (children, behind_children)
+    → ◌≡◌ {A = Option (List ℕ)} (Some at_path) (behind (codes "path ") behind_children) → counted u32_text (times pair_text) at_path ≡ Some (path, left)
+    → shown_text text ≡ Some ((arrival, (children, path)), left)
+shown-read text arrival behind_arrival at_children children behind_children at_path path left e1 e2 e3 e4 e5 =
+    after-then u64_text (λ _. both (named (codes "children ") (counted u32_text (times id_text))) (named (codes "path ") (counted u32_text (times pair_text))))
+    text arrival behind_arrival (children, path) left (sym e1)
+    (after-then (named (codes "children ") (counted u32_text (times id_text))) (λ _. named (codes "path ") (counted u32_text (times pair_text)))
+    behind_arrival children behind_children path left
+    (named-read (codes "children ") (counted u32_text (times id_text)) behind_arrival at_children children behind_children e2 e3)
+    (named-read (codes "path ") (counted u32_text (times pair_text)) behind_children at_path path left e4 e5))
+
 -- ---- refusals
 
 whole-made : {A B : Type 0} (f : A → B) (front : Front A) (text : List ℕ) → whole (made f front) text ≡ option_map f (whole front text)
@@ -215,11 +237,6 @@ batch-line line left e = ap (whole reply_text) (behind-source (codes "batch ") (
 pub batch-read-of : (line words left : List ℕ) → words ≡ line ++ 32 ∷ [] → ◌≡◌ {A = Option (List ℕ)} (Some left) (behind (codes "batch ") words)
     → line_reply_of line ≡ whole (made Batch (parsed batch_from 32)) left
 batch-read-of line words left same e = batch-line line left (ap (behind (codes "batch ")) (sym same) ∙ sym e)
-
-pub batch-found : (line left : List ℕ) (result : Result Reply ReadFault) → line_reply_of line ≡ whole (made Batch (parsed batch_from 32)) left
-    → IfOk result (λ reply. whole (made Batch (parsed batch_from 32)) left ≡ Some reply) → IfOk result (λ reply. line_reply_of line ≡ Some reply)
-batch-found line left (Ok reply) e h = e ∙ h
-batch-found line left (Err fault) e h = h
 
 some-none : (left : List ℕ) (o : Option (List ℕ)) → o ≡ Some left → is_some o ≡ false → ⊥
 some-none left o e h = absurd (cc)

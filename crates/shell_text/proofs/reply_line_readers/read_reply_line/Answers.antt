@@ -1,14 +1,16 @@
-use Rattle.std.proofs.Common.{◌≡◌, ap, sym, ◌∙◌, subst}
-use Rattle.wire_item.specs.Fronts.{whole}
+use Rattle.std.proofs.Common.{◌∙◌, subst}
+use Rattle.tardis_base.specs.declared.replies.Reply.TheVariants.{Batch}
+use Rattle.text_words.specs.Texts.{parsed}
+use Rattle.wire_item.specs.Fronts.{made, whole}
 use Rattle.shell_text.specs.Answers.{IsReply}
-use Rattle.shell_text.specs.ReplyTexts.{line_reply_of, reply_text}
-use Rattle.shell_text.proofs.ReplyReads.{batch-read-of, batch-found, batch-sure, no-other-line, reply-found, reply-malformed, reply-none, reply-sure}
+use Rattle.shell_text.specs.ReplyTexts.{batch_from, line_reply_of, reply_text}
+use Rattle.shell_text.proofs.ReplyReads.{batch-read-of, batch-sure, found-same, no-other-line, reply-found, reply-malformed, reply-none, reply-sure}
 use Rattle.shell_text.proofs.reply_line_readers.read_reply_line.Goals as goal
 
 pub returns-in-Some-clause-read : goal.returns-in-Some-clause-read
 returns-in-Some-clause-read c =
     let line = c.args.line.now in
-    batch-found line c.in-Some.left c.read_batch_word.result (batch-read-of line c.new-words.result c.in-Some.left c.new-words.ensures c.in-Some.ensures) c.read_batch_word.ensures.read
+    found-same (line_reply_of line) (whole (made Batch (parsed batch_from 32)) c.in-Some.left) c.read_batch_word.result (batch-read-of line c.new-words.result c.in-Some.left c.new-words.ensures c.in-Some.ensures) c.read_batch_word.ensures.read
 
 pub returns-in-Some-clause-malformed : goal.returns-in-Some-clause-malformed
 returns-in-Some-clause-malformed c = λ same.
