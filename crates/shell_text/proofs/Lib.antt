@@ -10,3 +10,4 @@ pub mod Finished
 pub mod ReplyFits
 pub mod RequestFits
 pub mod LineReads
+pub mod ReplyReads

@@ -1,5 +1,5 @@
 -- What is read of the words of a request.
-use Rattle.std.proofs.Common.{◌≡◌, ◌↔◌, ℕ, ◌^◌, ◌<◌, ◌≤◌, Bool, true, false, ◌==◌, IsTrue, List, [], ◌∷◌, length, take, length-take, nat_le, unwrap_or, ◌++◌, Option, Some, None, Result, Ok, Err, ap, sym, ◌∙◌, subst, refl, arith, eqb-true}
+use Rattle.std.proofs.Common.{◌≡◌, ◌↔◌, ℕ, ◌^◌, ◌*◌, ◌/◌, ◌+◌, ◌<◌, ◌≤◌, Bool, true, false, ◌==◌, IsTrue, List, [], ◌∷◌, length, take, length-take, nat_le, unwrap_or, ◌++◌, Option, Some, None, Result, Ok, Err, ap, sym, ◌∙◌, subst, refl, arith, eqb-true}
 use Rattle.std.specs.Prelude.{option_map, option_and_then}
 use Rattle.std.specs.List.{list_all}
 use Rattle.std.proofs.lemmas.Bool.{and_from}
@@ -24,8 +24,10 @@ use Rattle.wire_item.proofs.Takings.{only_if-none, only_if-fails}
 use Rattle.wire_item.proofs.Ways.{many-times}
 use Rattle.wire_talk.specs.Valid.{are_counts, is_merge_of}
 use Rattle.text_words.specs.Texts.{until, by_prefix, or_else, parsed, word_bytes, hex_bytes, bytes_until, id_until, number_until, rest_of, spaces}
-use Rattle.text_words.proofs.WordsRead.{byte-only, reads-id-word, reads-u32-word}
-use Rattle.shell_text.specs.Answers.{AreRead, IsAnswer}
+use Rattle.hex.specs.Hex.{lower_digits}
+use Rattle.hex.proofs.HexLemmas.{length-encode_with}
+use Rattle.text_words.proofs.WordsRead.{byte-only, hex-only, reads-id-word, reads-u32-word}
+use Rattle.shell_text.specs.Answers.{AreRead, IsAnswer, IsAnswerWhere}
 use Rattle.shell_text.specs.RequestTexts.{asked_of, key_text, value_text, item_from, leaves_rows, merge_text, request_text}
 use Rattle.wire_talk.specs.Memory.{takes_no_memory}
 
@@ -83,6 +85,22 @@ pub over-alone : {A : Type 0} (a : A) (left : List ℕ) → (length left == 0) �
 over-alone a [] e = refl
 over-alone a (x ∷ left) e = absurd (omega (arith, eqb-true (length (x ∷ left)) 0 e))
 
+-- ---- hexadecimal words
+
+-- a word of hexadecimal has two digits for each byte
+hex-twice : (word bs : List ℕ) → hex_bytes word ≡ Some bs → length word ≡ 2 * length bs
+hex-twice word bs e = ap length (hex-only word bs e).1 ∙ length-encode_with lower_digits bs
+
+pub many-digits : (word : List ℕ) → 270649 < length word / 2 → (bs : List ℕ) → hex_bytes word ≡ Some bs → 270649 < length bs
+many-digits word many bs e = omega (arith, many, hex-twice word bs e)
+
+pub no-digits : (word : List ℕ) (room : ℕ) → length word ≤ 2 * room + 1 → ((bs : List ℕ) → hex_bytes word ≡ Some bs → room < length bs) → hex_bytes word ≡ None
+no-digits word room fits more = go (hex_bytes word) refl
+  where
+    go : (o : Option (List ℕ)) → hex_bytes word ≡ o → hex_bytes word ≡ None
+    go None is = is
+    go (Some bs) is = absurd (omega (arith, more bs is, hex-twice word bs is, fits))
+
 -- ---- items
 
 pub delivered : (text word left : List ℕ) (result : Result Request ReadFault) → ◌≡◌ {A = Option (List ℕ × List ℕ)} (Some (word, left)) (until 32 text) → (length left == 0) ≡ true
@@ -129,10 +147,10 @@ no-item laws lengths bound sixteen word more = go (hex_bytes word) refl
 
 -- ---- answers
 
-pub answer-made : {A : Type 0} (f : A → Request) (front : Front A) (text : List ℕ) (a : A) (left : List ℕ) (result : Result Request ReadFault)
-    → front text ≡ Some (a, left) → IsAnswer (alone (f a) left) result → IsAnswer (whole (made f front) text) result
-answer-made f front text a left result e h =
-    subst (λ o. IsAnswer o result) (sym (ap (option_and_then (λ (read : Request × List ℕ). alone read.0 read.1)) (made-read f front text a left e))) h
+pub answer-made : {A B : Type 0} (free : B → Bool) (f : A → B) (front : Front A) (text : List ℕ) (a : A) (left : List ℕ) (result : Result B ReadFault)
+    → front text ≡ Some (a, left) → IsAnswerWhere free (alone (f a) left) result → IsAnswerWhere free (whole (made f front) text) result
+answer-made {A} {B} free f front text a left result e h =
+    subst (λ o. IsAnswerWhere free o result) (sym (ap (option_and_then (λ (read : B × List ℕ). alone read.0 read.1)) (made-read f front text a left e))) h
 
 pub states-read : (text : List ℕ) (xs : List StateId) (left : List ℕ) → only_if (λ states. is_merge_of (TheseStates states)) (rest_of (id_until 32)) text ≡ Some (xs, left)
     → merge_text text ≡ Some (TheseStates xs, left)

@@ -80,7 +80,7 @@ site-line-spelled a b c =
     append_assoc a (58 ∷ (b ++ 58 ∷ c)) (32 ∷ []) ∙ ap (λ z. a ++ 58 ∷ z) (append_assoc b (58 ∷ c) (32 ∷ []) ∙ sym (append_assoc b (58 ∷ []) (c ++ 32 ∷ [])))
     ∙ sym (append_assoc a (58 ∷ []) ((b ++ 58 ∷ []) ++ (c ++ 32 ∷ []))) ∙ sym (append_assoc (a ++ 58 ∷ []) (b ++ 58 ∷ []) (c ++ 32 ∷ []))
 
-reads-site-line : Reads is_site_line (λ l. site_line_word l ++ 32 ∷ []) site_line_text
+pub reads-site-line : Reads is_site_line (λ l. site_line_word l ++ 32 ∷ []) site_line_text
 reads-site-line = reads-made (λ p. record { count = p.0.0; floor = p.0.1; number = p.1 }) (λ l. ((l.count, l.floor), l.number)) is_site_line (λ l. site_line_word l ++ 32 ∷ [])
     (λ l h. refl) (λ p. refl) (λ p. site-line-spelled (number_word p.0.0) (id_word p.0.1) (number_word p.1))
     (reads-both (reads-both (reads-number (2 ^ 32) 58 small-32 (lacks-above 48 57 58 (omega arith)) refl) (reads-id-until 58 (lacks-above 48 57 58 (omega arith)) refl)) reads-u32-word)

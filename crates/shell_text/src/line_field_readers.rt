@@ -3,7 +3,7 @@
 //! Whether a line is one of a request doesn't depend on memory: its words are read before memory is taken, or all the
 //! same where it is wanting.
 
-ghost use Rattle.std.specs.Prelude.{◌≡◌, ℕ, ◌^◌, ◌≤◌, List, Some, length, nat_le, option_map, IfOk};
+ghost use Rattle.std.specs.Prelude.{◌≡◌, ℕ, ◌^◌, ◌*◌, ◌+◌, ◌≤◌, List, Some, length, nat_le, option_map, IfOk};
 ghost use Rattle.shell_text.specs.Answers.{AreRead, IsAnswer, IsReadInto};
 ghost use Rattle.shell_text.specs.RequestTexts.{after_text, item_from, key_text, merge_text, value_text};
 ghost use Rattle.tardis_base.specs.declared.ids.StateId.{StateId};
@@ -39,7 +39,7 @@ pub fn sure(read: Option<Request>) -> Result<Request, ReadFault>
 }
 
 /// The bytes of a key.
-fn key_into<'a>(words: &Words<'a>, room: &mut [u8]) -> Option<(usize, Words<'a>)>
+pub fn key_into<'a>(words: &Words<'a>, room: &mut [u8]) -> Option<(usize, Words<'a>)>
     requires { longest_key ≤ length room.old }
     ensures bytes { IsReadInto key_text words.now room.new result }
     ensures room { length room.new ≡ length room.old }
@@ -60,7 +60,7 @@ fn key_into<'a>(words: &Words<'a>, room: &mut [u8]) -> Option<(usize, Words<'a>)
 }
 
 /// The bytes of a value.
-fn value_into<'a>(words: &Words<'a>, room: &mut [u8]) -> Option<(usize, Words<'a>)>
+pub fn value_into<'a>(words: &Words<'a>, room: &mut [u8]) -> Option<(usize, Words<'a>)>
     requires { longest_value ≤ length room.old }
     ensures bytes { IsReadInto value_text words.now room.new result }
     ensures room { length room.new ≡ length room.old }
@@ -281,7 +281,7 @@ fn is_state_count(count: usize) -> bool
 }
 
 /// So many ids.
-fn ids<'a>(
+pub fn ids<'a>(
     alloc: Global,
     count: usize,
     words: &Words<'a>,
@@ -400,8 +400,33 @@ fn deliver(alloc: Global, word: &[u8]) -> Result<Request, ReadFault>
 {
     things_have_one_spelling();
     spellings_have_their_lengths();
+    let size = word.len() / 2;
+    if size > MOST_ITEM {
+        return Err(ReadFault::Malformed);
+    }
+    match vec![in alloc; 0; size] {
+        Ok(mut room) => deliver_in(alloc, word, room.as_mut_slice()),
+        Err(_) => deliver_without_room(alloc, word),
+    }
+}
+
+/// The same where there is no memory for the spelling: whether it is one is still answered, from the stack.
+#[inline(never)]
+fn deliver_without_room(alloc: Global, word: &[u8]) -> Result<Request, ReadFault>
+    requires { length word.now ≤ 541_299 }
+    ensures { IsAnswer (option_map Request.Deliver (item_from word.now)) result }
+{
     let mut room = [0; MOST_ITEM];
-    match read_hex(word, &mut room) {
+    deliver_in(alloc, word, &mut room)
+}
+
+/// The same with room for the spelling.
+fn deliver_in(alloc: Global, word: &[u8], room: &mut [u8]) -> Result<Request, ReadFault>
+    requires { length word.now ≤ 2 * length room.old + 1 }
+    ensures { IsAnswer (option_map Request.Deliver (item_from word.now)) result }
+{
+    things_have_one_spelling();
+    match read_hex(word, room) {
         Some(count) => match read_item(alloc, &room[..count]) {
             Ok(item) => Ok(Request::Deliver { item }),
             Err(fault) => Err(fault),

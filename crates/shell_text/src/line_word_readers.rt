@@ -15,11 +15,11 @@ ghost use Rattle.wire_item.specs.Fronts.{alone, made, whole};
 use tardis_base::{Begin, EndFlags, Request};
 use text_words::Words;
 
-/// The request, where nothing is left behind it.
-pub fn alone(request: Request, left: &Words) -> Option<Request>
-    ensures { result ≡ alone request left.now }
+/// The thing, where nothing is left behind it.
+pub fn alone<T: Drop>(thing: T, left: &Words) -> Option<T>
+    ensures { result ≡ alone thing left.now }
 {
-    if left.is_over() { Some(request) } else { None }
+    if left.is_over() { Some(thing) } else { None }
 }
 
 pub fn read_open(words: &Words) -> Option<Request>
