@@ -76,9 +76,6 @@ module _ (world : World) (honest : IsHonest world) (n : ℕ) (site : Site) (here
 pub carries-are-taken : CarriesAreTaken carry_to
 carries-are-taken world n batch item honest = go (site_at world.sites n) refl
   where
-    Good : Reply → Bool
-    Good reply = is_carry_reply (length world.sites) n reply
-
     at-item : (site : Site) → site_at world.sites n ≡ Some site → (o : Option Item) → item_at world.bag batch item ≡ o →
         IsTrue (is_carry_reply (length world.sites) n (option_map_or (λ i. ask world n 0 (Deliver i) site) o (declined world (NoSuchItem (length world.bag)))).1)
     at-item site e None is = refl

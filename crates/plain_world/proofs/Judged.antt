@@ -110,12 +110,6 @@ module _ (world : World) (honest : IsHonest world) (m : ℕ) (a : Site) (here : 
   -- ===== A record of its site
 
   module _ (r : Record) (told : IsOfItsSite world r) (other : IsFalse (same_id r.id root)) where
-    home : Site
-    home = told.0
-
-    at-home : site_at world.sites r.id.site ≡ Some told.0
-    at-home = told.1
-
     within : (1 ≤ r.id.site) × (r.id.site ≤ length world.sites)
     within = site-within world.sites r.id.site told.0 told.1
 

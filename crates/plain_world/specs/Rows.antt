@@ -1,10 +1,11 @@
 -- Worked rows of several sites.
-use Rattle.std.specs.Prelude.{ℕ, List, [], ◌∷◌, ◌++◌}
+use Rattle.std.specs.Prelude.{ℕ, List, [], ◌∷◌, ◌++◌, replicate}
 use Rattle.tardis_base.specs.declared.records.Record.{Record}
 use Rattle.tardis_base.specs.declared.records.Consent.{Consent}
 use Rattle.tardis_base.specs.declared.requests.Request.TheVariants.{RaiseAuto, Tidy, Stat, Pull, Ceiling}
+use Rattle.tardis_base.specs.declared.replies.Refusal.TheVariants.{BadSite, NoSuchItem, BagFull}
 use Rattle.tardis_base.specs.declared.replies.Reply.{Reply}
-use Rattle.tardis_base.specs.declared.replies.Reply.TheVariants.{Opened, Begun, Merging, Done, Committed, Raised, Tidied, Stat as Statistics, Applied, Known, Early}
+use Rattle.tardis_base.specs.declared.replies.Reply.TheVariants.{Opened, Begun, Merging, Done, Committed, Raised, Tidied, Stat as Statistics, Applied, Known, Early, Refused}
 use Rattle.plain_site.specs.RowWords.{◌·◌, opens_following, begin_any, begin_ancestor, get, put, ser, none, commit, merge_leaves, conflicts, value, one_key}
 use Rattle.plain_site.specs.RowByteWords.{hex}
 use Rattle.plain_world.specs.Worlds.{World, opening_world, world_limits}
@@ -25,6 +26,22 @@ NothingIsCarried =
     ∷ hex "03" gets hex "15 01"
     ∷ hex "02 0002 00000000 000000" gets hex "15 01"
     ∷ hex "01 0003 0000" gets hex "15 01"
+    ∷ [])
+
+-- two sites, after as many batches as the bag holds
+abbrev pub after_many_batches : World
+after_many_batches = record two_sites { bag = replicate 1024 (record { records = []; consents = [] }) }
+
+-- one more batch is refused, and nothing has changed; a Pull with too few counts, which gives none, is told so
+abbrev pub FullBagIsTold : Type 0
+FullBagIsTold =
+    WorldTalk after_many_batches
+    (0 at 1 asks Pull (0 ∷ 0 ∷ []) => Refused (BagFull 1024)
+    ∷ 0 at 1 asks Pull (0 ∷ []) => Refused (BadSite 1)
+    ∷ 0 of 1024 to 2 => Refused (NoSuchItem 1024)
+    ∷ 0 at 1 asks Stat
+    => Statistics 1 1 1 0 (record { count = 0; floor = 0 · 0; number = 0 } ∷ record { count = 0; floor = 0 · 0; number = 0 } ∷ [])
+    ∷ 0 at 1 asks Pull (0 ∷ 0 ∷ []) => Refused (BagFull 1024)
     ∷ [])
 
 -- ===== A cart that three sites share

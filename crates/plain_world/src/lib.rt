@@ -9,7 +9,7 @@ ghost use Rattle.plain_world.specs.Honest.{IsHonest};
 ghost use Rattle.plain_world.specs.Laws.{OpeningIsHonest, StepsKeepHonest, CarriesKeepHonest, CarriesAreTaken, SitesAgree};
 ghost use Rattle.plain_world.specs.Laws.{RunsStayHonest, NextOnesAreFit, SettlesAreAnswered};
 ghost use Rattle.plain_world.specs.WrongWorlds.{IsBrokenBy, hides_writes, understates, loses_writes};
-ghost use Rattle.plain_world.specs.Rows.{NothingIsCarried, CartIsShared};
+ghost use Rattle.plain_world.specs.Rows.{NothingIsCarried, FullBagIsTold, CartIsShared};
 
 use wire_talk::talk_has_one_spelling;
 
@@ -52,5 +52,6 @@ pub fn early_records_settle()
 /// Worked rows of two and three sites.
 pub fn worlds_answer_as_told()
     ensures nothing { NothingIsCarried }
+    ensures full_bag { FullBagIsTold }
     ensures cart { CartIsShared }
 {}
