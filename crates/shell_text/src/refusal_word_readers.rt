@@ -243,7 +243,14 @@ fn branches(constraint: u8, words: &Words) -> Option<Refusal>
 {
     let (state, left) = words.id(b' ')?;
     let (children, left) = left.u32(b' ')?;
-    alone(Refusal::Branches { constraint, state, children }, &left)
+    alone(
+        Refusal::Branches {
+            constraint,
+            state,
+            children,
+        },
+        &left,
+    )
 }
 
 fn ceiling_back(words: &Words) -> Option<Refusal>

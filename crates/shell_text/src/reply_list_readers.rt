@@ -176,10 +176,7 @@ pub fn children<'a>(
 }
 
 /// The pairs of a fork path, behind their number.
-pub fn path<'a>(
-    alloc: Global,
-    words: &Words<'a>,
-) -> Option<(Result<PathList, NoMemory>, Words<'a>)>
+pub fn path<'a>(alloc: Global, words: &Words<'a>) -> Option<(Result<PathList, NoMemory>, Words<'a>)>
     ensures { AreRead (counted u32_text (times pair_text)) words.now result }
 {
     match words.u32(b' ') {

@@ -16,9 +16,7 @@ ghost use Rattle.wire_talk.specs.Valid.{are_first_ids, are_first_keys};
 use crate::line_field_readers::value_into;
 use crate::line_word_readers::alone;
 use crate::refusal_word_readers::read_refusal;
-use crate::reply_list_readers::{
-    children, first_ids, first_keys, lines_of_sites, parents, path,
-};
+use crate::reply_list_readers::{children, first_ids, first_keys, lines_of_sites, parents, path};
 use std::alloc::Global;
 use tardis_base::{
     KeyList, MAX_VALUE, NoMemory, PathList, ReadFault, Refusal, Reply, StateId, StateList, Value,

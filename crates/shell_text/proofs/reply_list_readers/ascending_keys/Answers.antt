@@ -24,12 +24,13 @@ returns-then-not-follows c =
     (take c.in-Some.length c.key_into.new.room) c.in-Some.next c.loop-place.invariant.1 c.in-Some.ensures.bytes.1 (sym c.follows.ensures ∙ c.if-not-follows.true) (omega arith)
 
 pub loop-place-preserved : goal.loop-place-preserved
-loop-place-preserved c =
-    (c.in-Some.ensures.bytes.0,
-    progress-more (λ (k : List ℕ). k) is_key_before are_ascending_keys keys-order key_text c.args.words.now c.loop-place._place c.loop-place.left
-    (option_map (λ n. take n c.loop-place.last_room) c.loop-place.last) c.loop-place.keys c.pushed-keys.result
-    (take c.in-Some.length c.key_into.new.room) c.in-Some.next c.loop-place.invariant.1 c.in-Some.ensures.bytes.1 (sym c.follows.ensures ∙ c.if-not-follows.false)
-    (λ _. c.pushed-keys.ensures c.loop-place.invariant.1.xs (take c.in-Some.length c.key_into.new.room) c.loop-place.invariant.1.made c.new_key.ensures))
+loop-place-preserved c = (
+  c.in-Some.ensures.bytes.0,
+  progress-more (λ (k : List ℕ). k) is_key_before are_ascending_keys keys-order key_text c.args.words.now c.loop-place._place c.loop-place.left
+      (option_map (λ n. take n c.loop-place.last_room) c.loop-place.last) c.loop-place.keys c.pushed-keys.result
+      (take c.in-Some.length c.key_into.new.room) c.in-Some.next c.loop-place.invariant.1 c.in-Some.ensures.bytes.1 (sym c.follows.ensures ∙ c.if-not-follows.false)
+      (λ _. c.pushed-keys.ensures c.loop-place.invariant.1.xs (take c.in-Some.length c.key_into.new.room) c.loop-place.invariant.1.made c.new_key.ensures),
+)
 
 pub returns : goal.returns
 returns c =
