@@ -26,11 +26,11 @@ returns-clause-exact g c =
     subst (λ l. WhileTold (left old) l (λ first left. (all : List (List ℕ)) (rest : List ℕ) → IsCut first all rest → length first < most_taken
     → (Rose (takes old) (takes new) → ⊥) → (Rose (gives old) (gives new) → ⊥) → EndsAs rest (status_of c.ask_all-served.result.1))) (sym c.finish.ensures.left)
     (weaker (left old) (left mid)
-        (λ first left. (all : List (List ℕ)) (rest : List ℕ) → IsCut first all rest → length first < most_taken
-        → (Rose (takes old) (takes mid) → ⊥) → (Rose (gives old) (gives mid) → ⊥) → EndsAs rest (status_of c.ask_all-served.result.1))
-        (λ first left. (all : List (List ℕ)) (rest : List ℕ) → IsCut first all rest → length first < most_taken
-        → (Rose (takes old) (takes new) → ⊥) → (Rose (gives old) (gives new) → ⊥) → EndsAs rest (status_of c.ask_all-served.result.1))
-        c.ask_all-served.ensures.exact
-        (λ x y h. λ all rest d few no_read no_write. h all rest d few
-        (λ r. no_read (subst (λ n. Rose (takes old) n) (sym c.finish.ensures.take_faults) r))
-        (λ r. no_write (rose_on (gives old) (gives mid) (gives new) r c.ask_all-served.ensures.write_later c.finish.ensures.faults))))
+    (λ first left. (all : List (List ℕ)) (rest : List ℕ) → IsCut first all rest → length first < most_taken
+    → (Rose (takes old) (takes mid) → ⊥) → (Rose (gives old) (gives mid) → ⊥) → EndsAs rest (status_of c.ask_all-served.result.1))
+    (λ first left. (all : List (List ℕ)) (rest : List ℕ) → IsCut first all rest → length first < most_taken
+    → (Rose (takes old) (takes new) → ⊥) → (Rose (gives old) (gives new) → ⊥) → EndsAs rest (status_of c.ask_all-served.result.1))
+    c.ask_all-served.ensures.exact
+    (λ x y h. λ all rest d few no_read no_write. h all rest d few
+    (λ r. no_read (subst (λ n. Rose (takes old) n) (sym c.finish.ensures.take_faults) r))
+    (λ r. no_write (rose_on (gives old) (gives mid) (gives new) r c.ask_all-served.ensures.write_later c.finish.ensures.faults))))
