@@ -11,7 +11,7 @@ Rose before now = (before < now) ⊎ (now ≡ 18446744073709551615)
 
 -- a count stayed as it was, or it rose
 abbrev pub MayRise : ℕ → ℕ → Type 0
-MayRise before now = (now ≡ before) ⊎ Rose before now
+MayRise before now = before ≤ now
 
 -- the count never falls, and an error comes only where it rose
 pub record HasCause {T E : Type 0} (before now : ℕ) (result : Result T E) : Type 0 where
