@@ -1,5 +1,5 @@
 -- Passes that go on.
-use Rattle.std.proofs.Common.{◌≡◌, ◌≤◌, ◌<◌, ℕ, List, [], ◌∷◌, ◌++◌, length, drop, Some, refl, sym, ap, ◌∙◌, subst, arith, append_assoc, append-nil}
+use Rattle.std.proofs.Common.{◌≡◌, ◌≤◌, ◌<◌, ℕ, List, [], ◌∷◌, ◌++◌, length, drop, Option, Some, refl, sym, ap, ◌∙◌, subst, arith, append_assoc, append-nil}
 use Rattle.std.specs.List.{AllByRecursion, slice_get}
 use Rattle.std.proofs.Math.Seq.{drop-append_seam}
 use Rattle.std.proofs.lemmas.Option.{slice_get_within}
@@ -7,12 +7,15 @@ use Rattle.tardis_base.specs.Plain.{Event, PlainMachine}
 use Rattle.trail_log.specs.declared.acted.Acted.{Acted}
 use Rattle.trail_log.specs.declared.acted.Acted.TheVariants.{Done, TrailFull, NoMemory}
 use Rattle.dag_lock.specs.Known.{Known, Begins, Ascends}
-use Rattle.dag_lock.specs.Steps.{Keeps}
+use Rattle.trail_log.specs.Trail.{Kept}
+use Rattle.dag_lock.specs.Steps.{Keeps, Ended}
 use Rattle.session_serve.specs.Turns.{place_with}
 use Rattle.session_serve.specs.Passes.{Goes, IsAskedBy, new_places}
 use Rattle.session_serve.proofs.Fronts.{at_front, begins_then, begins_length}
 use Rattle.session_serve.proofs.Turning.{ascends_below, ascends_then}
-use Rattle.session_serve.proofs.Stepping.{Stepped}
+use Rattle.session_serve.proofs.Stepping.{Stepped, stepped}
+use Rattle.session_serve.specs.Replies.{reply_without}
+use Rattle.session_serve.specs.Asking.{known_or}
 
 -- the places behind those that were owned
 pub places_behind : (p q : Known) (ps : List ℕ) → q.owned ≡ p.owned ++ ps → new_places p q ≡ ps
@@ -72,3 +75,16 @@ goes_on m start most actor first p q request reply r g k s =
       ascend = subst (λ z. Ascends (length first.seen) (length q.seen) z) (sym new) all.ascend;
       each = subst (λ z. AllByRecursion (IsAskedBy actor q.seen) z) (sym new) all.each;
     }
+
+same_pass : (o : Option Known) (p q : Known) → o ≡ Some p → o ≡ Some q → p ≡ q
+same_pass o p q a b = ap (known_or p) (sym a ∙ b)
+
+-- the pass of what asks the lock, after a step
+pub asker_goes : {M P : Type 0} (opening : M → P) (m : PlainMachine P) (z : Kept M) (actor : ℕ) (o : Option Known) (first was p q : Known) (request out : List ℕ) (r : Acted)
+    → o ≡ Some was → o ≡ Some p → Goes actor first was → Keeps p q → Ended opening m z p (actor, request) out q r
+    → (q.lock ≡ was.lock) × Goes actor first q
+asker_goes opening m z actor o first was p q request out r a b g k ended =
+    let e : was ≡ p = same_pass o was p a b in (
+      k.0 ∙ ap (λ (s : Known). s.lock) (sym e),
+      goes_on m (opening z.machine) z.max_trail actor first p q request (reply_without r out) r (subst (λ s. Goes actor first s) e g) k (stepped opening m z p q (actor, request) out r ended),
+    )

@@ -9,13 +9,13 @@ use Rattle.dag_lock.proofs.Stepping.{live_view, holds_it, returns_it, step_ends}
 use Rattle.dag_lock.proofs.locks.DagLock.step.Goals as goal
 
 pub act-acted-requires-clause-holds : goal.act-acted-requires-clause-holds
-act-acted-requires-clause-holds g c κs within =
+act-acted-requires-clause-holds g c =
     let z = c.args.self.now.table.shared.key.machine.value in
     holds_it (IsOfLock g.M.Machine.opening g.M.Machine.plain z) c.draw-ticket.new.seat.me c.take_turn.new.seat.me c.draw-ticket.result
     (ap (λ (m : Me (Kept g.row.M.Denot) View). m.1) c.draw-ticket.ensures.drawn ∙ c.into_seat-seat.ensures.3) c.take_turn.ensures.took
 
 pub pass_on-requires-clause-turn : goal.pass_on-requires-clause-turn
-pass_on-requires-clause-turn g c κs within =
+pass_on-requires-clause-turn g c =
     let z = c.args.self.now.table.shared.key.machine.value in
     returns_it g.M.Machine.opening g.M.Machine.plain z c.draw-ticket.new.seat.me c.take_turn.new.seat.me c.act-acted.new.seat.me c.draw-ticket.result (c.args.actor, c.args.request.now) c.act-acted.result c.act-acted.new.out
     (ap (λ (m : Me (Kept g.row.M.Denot) View). m.1) c.draw-ticket.ensures.drawn ∙ c.into_seat-seat.ensures.3) c.take_turn.ensures.took c.act-acted.ensures.view c.act-acted.ensures.acts
