@@ -39,7 +39,12 @@ impl Machine for Counter {
 
 /// Two frames, one in each take.
 fn link(alloc: Global) -> Result<MemoryLink, Fail> {
-    let source = MemorySource::new(alloc, b"\x00\x00\x00\x02\x01\x00\x00\x00\x00\x02\x02\x00", 6, &[])?;
+    let source = MemorySource::new(
+        alloc,
+        b"\x00\x00\x00\x02\x01\x00\x00\x00\x00\x02\x02\x00",
+        6,
+        &[],
+    )?;
     let sink = MemorySink::new(alloc, 100, 100, &[])?;
     Ok(MemoryLink::new(source, sink))
 }
@@ -56,7 +61,14 @@ struct Row<'a> {
     end: PoolEnd,
 }
 
-fn row(there: usize, failing: &[u64], first: u16, links: u16, taken: u16, end: PoolEnd) -> Row<'_> {
+fn expects(
+    there: usize,
+    failing: &[u64],
+    first: u16,
+    links: u16,
+    taken: u16,
+    end: PoolEnd,
+) -> Row<'_> {
     Row {
         there,
         failing,
@@ -70,12 +82,12 @@ fn row(there: usize, failing: &[u64], first: u16, links: u16, taken: u16, end: P
 #[test]
 fn each_link_is_served_once_and_put_back_with_its_number(rt: HostRuntime) -> Result<(), Fail> {
     let rows = [
-        row(2, &[], 1, 2, 2, PoolEnd::Done),
-        row(4, &[], 65_533, 3, 3, PoolEnd::Done),
-        row(4, &[], 1, 4, 4, PoolEnd::Done),
-        row(1, &[], 1, 4, 1, PoolEnd::Done),
-        row(2, &[2], 1, 4, 1, PoolEnd::GateFault),
-        row(2, &[], 1, 0, 0, PoolEnd::Done),
+        expects(2, &[], 1, 2, 2, PoolEnd::Done),
+        expects(4, &[], 65_533, 3, 3, PoolEnd::Done),
+        expects(4, &[], 1, 4, 4, PoolEnd::Done),
+        expects(1, &[], 1, 4, 1, PoolEnd::Done),
+        expects(2, &[2], 1, 4, 1, PoolEnd::GateFault),
+        expects(2, &[], 1, 0, 0, PoolEnd::Done),
     ];
     for row in rows {
         let mut links = Vec::new(rt.alloc());
@@ -94,12 +106,12 @@ fn each_link_is_served_once_and_put_back_with_its_number(rt: HostRuntime) -> Res
             end: row.end,
         };
         assert_eq!(rt; served, want);
-        let mut next = first.saturating_add(row.taken);
+        let mut next = u32::from(first) + u32::from(row.taken);
         for (number, link) in gate.back() {
             next = next.saturating_sub(1);
-            assert!(rt; *number == next && link.sink().bytes().len() == 10);
+            assert!(rt; u32::from(*number) == next && link.sink().bytes().len() == 10);
         }
-        assert_eq!(rt; next, first);
+        assert_eq!(rt; next, u32::from(first));
         // two requests and a Close of each session
         let mut kept = MemorySink::new(rt.alloc(), 1_000, 1_000, &[])?;
         assert!(rt; lock.close(pass).write_trail(&mut kept).is_ok());
@@ -185,8 +197,20 @@ impl Link for Waiting<'_> {
 fn two_links_are_served_at_the_same_time(rt: HostRuntime) -> Result<(), Fail> {
     let (one, other) = (AtomicU64::new(0), AtomicU64::new(0));
     let links = vec![in rt.alloc();
-        Waiting { link: link(rt.alloc())?, takes: 0, faults: 0, own: &one, other: &other },
-        Waiting { link: link(rt.alloc())?, takes: 0, faults: 0, own: &other, other: &one },
+        Waiting {
+            link: link(rt.alloc())?,
+            takes: 0,
+            faults: 0,
+            own: &one,
+            other: &other
+        },
+        Waiting {
+            link: link(rt.alloc())?,
+            takes: 0,
+            faults: 0,
+            own: &other,
+            other: &one
+        },
     ]?;
     let mut gate = MemoryGate::new(rt.alloc(), links, &[])?;
     let trail = Trailed::new(rt.alloc(), Counter { acts: 0 }, 1_000);
