@@ -1,10 +1,12 @@
 -- Fronts of a list of entries.
-use Rattle.std.proofs.Common.{◌≡◌, ◌≤◌, ◌<◌, ℕ, List, [], ◌∷◌, ◌++◌, length, take, Some, sym, ap, ◌∙◌, arith, append_assoc, length-append}
+use Rattle.std.proofs.Common.{◌≡◌, ◌≤◌, ◌<◌, ◌⊎◌, inl, inr, ℕ, List, [], ◌∷◌, ◌++◌, length, take, Some, sym, ap, ◌∙◌, arith, append_assoc, length-append}
 use Rattle.std.specs.List.{slice_get}
 use Rattle.std.proofs.lemmas.Option.{slice_get_within, slice_get-get_or, get_or_from_slice_get}
 use Rattle.std.proofs.Math.ListN.{get_or-append}
 use Rattle.std.proofs.Math.Seq.{get_or-append_seam}
 use Rattle.tardis_base.specs.Plain.{Event, PlainMachine, reply_at}
+use Rattle.std.proofs.Math.Nat.{eq-or-lt_of_le}
+use Rattle.tardis_io.specs.Faults.{Rose}
 use Rattle.dag_lock.specs.Known.{Begins}
 
 pub begins_then : (xs ys zs : List Event) → Begins xs ys → Begins ys zs → Begins xs zs
@@ -28,3 +30,12 @@ pub reply_front : {P : Type 0} (m : PlainMachine P) (s : P) (xs ys : List Event)
 reply_front m s [] ys i reply h = absurd (cc)
 reply_front m s (x ∷ xs) ys ℕ.zero reply h = h
 reply_front m s (x ∷ xs) ys (ℕ.suc i) reply h = reply_front m (m.step s x) xs ys i reply h
+
+-- a count that rose has risen later too
+pub rose_on : (a b c : ℕ) → Rose a b → a ≤ b → b ≤ c → Rose a c
+rose_on a b c (inl low) le more = inl (omega (arith, low, more))
+rose_on a b c (inr top) le more =
+    elim (eq-or-lt_of_le more) as (λ _. Rose a c) [
+      | inl same ↦ inr (sym same ∙ top)
+      | inr low ↦ inl (omega (arith, le, low))
+    ]

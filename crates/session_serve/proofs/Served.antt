@@ -93,7 +93,7 @@ module _ {M P : Type 0} (opening : M → P) (m : PlainMachine P) where
       let shape = shape_of (status_of end) in
       let chain : Chained opening m a b bodies an.answers = subst (λ t. Chained opening m a t bodies an.answers) (sym an.stands) (chained opening m a an.state bodies an.answers an.each) in
       let step : Stepped m (opening a.start.machine) a.start.max_trail b.pass d.pass (a.session, 21 ∷ []) (reply_without acted out) acted =
-          subst (λ (k : Asking M). Stepped m (opening k.start.machine) k.start.max_trail b.pass d.pass (k.session, 21 ∷ []) (reply_without acted out) acted) chain.same (stepped opening m b.start b.pass d.pass (b.session, 21 ∷ []) out acted one.ended) in
+      subst (λ (k : Asking M). Stepped m (opening k.start.machine) k.start.max_trail b.pass d.pass (k.session, 21 ∷ []) (reply_without acted out) acted) chain.same (stepped opening m b.start b.pass d.pass (b.session, 21 ∷ []) out acted one.ended) in
       let replies = chain.talked.replies in
       record {
         replies = replies;

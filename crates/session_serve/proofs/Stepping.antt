@@ -31,10 +31,10 @@ module _ {M P : Type 0} (opening : M → P) (m : PlainMachine P) (z : Kept M) wh
     found = length before;
     later = begins_length p.seen before begins;
     is_turn = record {
-        within = omega (arith, ap length seen, length-append before (e ∷ []));
-        room = subst (λ front. IsFullAt Done (bytes_of front) (length e.1 + 6) z.max_trail) (sym (ap (take (length before)) seen ∙ take-append_seam before (e ∷ []))) room;
-        entry = λ _. ap (λ l. slice_get l (length before)) seen ∙ at_end before e [];
-      };
+      within = omega (arith, ap length seen, length-append before (e ∷ []));
+      room = subst (λ front. IsFullAt Done (bytes_of front) (length e.1 + 6) z.max_trail) (sym (ap (take (length before)) seen ∙ take-append_seam before (e ∷ []))) room;
+      entry = λ _. ap (λ l. slice_get l (length before)) seen ∙ at_end before e [];
+    };
     replied = reply;
     owned = owned;
     seen = begins_then p.seen before q.seen begins (e ∷ [], seen);
@@ -43,10 +43,10 @@ module _ {M P : Type 0} (opening : M → P) (m : PlainMachine P) (z : Kept M) wh
     found = length q.seen;
     later = begins_length p.seen q.seen stays.0;
     is_turn = record {
-        within = omega arith;
-        room = subst (λ front. IsFullAt (TrailFull bytes) (bytes_of front) (length e.1 + 6) z.max_trail) (sym (take-length q.seen)) room;
-        entry = λ d. absurd (cc);
-      };
+      within = omega arith;
+      room = subst (λ front. IsFullAt (TrailFull bytes) (bytes_of front) (length e.1 + 6) z.max_trail) (sym (take-length q.seen)) room;
+      entry = λ d. absurd (cc);
+    };
     replied = refl;
     owned = stays.1 ∙ sym (append-nil p.owned);
     seen = stays.0;
@@ -55,10 +55,10 @@ module _ {M P : Type 0} (opening : M → P) (m : PlainMachine P) (z : Kept M) wh
     found = length q.seen;
     later = begins_length p.seen q.seen stays.0;
     is_turn = record {
-        within = omega arith;
-        room = subst (λ front. IsFullAt NoMemory (bytes_of front) (length e.1 + 6) z.max_trail) (sym (take-length q.seen)) room;
-        entry = λ d. absurd (cc);
-      };
+      within = omega arith;
+      room = subst (λ front. IsFullAt NoMemory (bytes_of front) (length e.1 + 6) z.max_trail) (sym (take-length q.seen)) room;
+      entry = λ d. absurd (cc);
+    };
     replied = refl;
     owned = stays.1 ∙ sym (append-nil p.owned);
     seen = stays.0;

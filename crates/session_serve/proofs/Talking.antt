@@ -51,10 +51,10 @@ module _ {P : Type 0} (m : PlainMachine P) (start : P) (most session : ℕ) wher
         turns = turn s.found r ∷ t.turns;
         framed = ap (λ z. z ++ concat answers) framed ∙ ap (λ z. frame reply ++ z) t.framed;
         each = (
-            s.later,
-            turn_on most u.seen q.seen (session, request_in body) (turn s.found r) t.seen s.is_turn,
-            turns_later most q.seen (left_by (turn s.found r)) (length u.seen) (asked_by session bodies) t.turns left t.each,
-          );
+          s.later,
+          turn_on most u.seen q.seen (session, request_in body) (turn s.found r) t.seen s.is_turn,
+          turns_later most q.seen (left_by (turn s.found r)) (length u.seen) (asked_by session bodies) t.turns left t.each,
+        );
         replied = (reply_on m start u.seen q.seen s.found r reply t.seen s.replied, t.replied);
         one_each = λ i. ℕ.suc (t.one_each i);
         owned = t.owned ∙ (ap (λ z. z ++ places_of t.turns) s.owned ∙ append_assoc p.owned (place_with s.found r) (places_of t.turns));
@@ -104,7 +104,7 @@ module _ {P : Type 0} (m : PlainMachine P) (start : P) (most session : ℕ) wher
   session_then p u q bodies answers e reply r t s =
       let last = turn s.found r in
       let owned : q.owned ≡ p.owned ++ places_of (t.turns ++ last ∷ []) =
-          s.owned ∙ (ap (λ z. z ++ place_with s.found r) t.owned ∙ (append_assoc p.owned (places_of t.turns) (place_with s.found r) ∙ ap (λ z. p.owned ++ z) (sym (places_then t.turns last)))) in
+      s.owned ∙ (ap (λ z. z ++ place_with s.found r) t.owned ∙ (append_assoc p.owned (places_of t.turns) (place_with s.found r) ∙ ap (λ z. p.owned ++ z) (sym (places_then t.turns last)))) in
       record {
         turns = t.turns ++ last ∷ [];
         each = turns_then most u.seen q.seen (length p.seen) (asked_by session bodies) t.turns e last s.seen (begins_length p.seen u.seen t.seen) t.each s.later s.is_turn;

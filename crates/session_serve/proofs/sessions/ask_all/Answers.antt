@@ -31,8 +31,8 @@ returns-in-NoMemory-clause-outcome g c =
     let pass : c.into_pass.result ≡ c.args.pass = c.into_pass.ensures.same ∙ (ap (λ (a : Asking g.row.M.Denot). a.pass) nothing.1 ∙ ap (λ (a : Asking g.row.M.Denot). a.pass) c.new-asker.ensures) in
     subst (λ d. WhileTold left (g.D.Duplex.left d) (SessionOutcome g.M.Machine.plain (g.M.Machine.opening z.machine) z.max_trail c.args.session NoMemory (length c.args.pass.seen) c.into_pass.result.seen (new_places c.args.pass c.into_pass.result) given (g.D.Sink.given d))) (sym nothing.0)
     (subst (λ (q : Known). WhileTold left left (SessionOutcome g.M.Machine.plain (g.M.Machine.opening z.machine) z.max_trail c.args.session NoMemory (length c.args.pass.seen) q.seen (new_places c.args.pass q) given given)) (sym pass)
-        (same left (SessionOutcome g.M.Machine.plain (g.M.Machine.opening z.machine) z.max_trail c.args.session NoMemory (length c.args.pass.seen) c.args.pass.seen (new_places c.args.pass c.args.pass) given given)
-            (λ x. nothing_done g.M.Machine.plain (g.M.Machine.opening z.machine) z.max_trail c.args.session c.args.pass given x)))
+    (same left (SessionOutcome g.M.Machine.plain (g.M.Machine.opening z.machine) z.max_trail c.args.session NoMemory (length c.args.pass.seen) c.args.pass.seen (new_places c.args.pass c.args.pass) given given)
+    (λ x. nothing_done g.M.Machine.plain (g.M.Machine.opening z.machine) z.max_trail c.args.session c.args.pass given x)))
 
 pub returns-clause-pass : goal.returns-clause-pass
 returns-clause-pass g c =
@@ -52,13 +52,13 @@ returns-clause-outcome g c =
     let behind = g.D.Duplex.left c.answer_frames.new.device in
     let some : status_of end ≢ OutOfMemory = λ e. c.in_default-answer_frames.not-NoMemory (sym c.end_of.ensures ∙ e) in
     let run : WhileTold left behind (λ x y. Outcome (status_of end) (λ (s : Asking g.row.M.Denot). a ≡ s) (λ s bodies. AnsweredBy (Asked (AsksOnce opening plain)) (shape_of (status_of end)) (λ t. b ≡ t) given later [] [] s bodies) x y) =
-        subst (λ status. WhileTold left behind (λ x y. Outcome status (λ (s : Asking g.row.M.Denot). a ≡ s) (λ s bodies. AnsweredBy (Asked (AsksOnce opening plain)) (shape_of status) (λ t. b ≡ t) given later [] [] s bodies) x y)) (sym c.end_of.ensures) c.answer_frames.ensures.outcome in
+    subst (λ status. WhileTold left behind (λ x y. Outcome status (λ (s : Asking g.row.M.Denot). a ≡ s) (λ s bodies. AnsweredBy (Asked (AsksOnce opening plain)) (shape_of status) (λ t. b ≡ t) given later [] [] s bodies) x y)) (sym c.end_of.ensures) c.answer_frames.ensures.outcome in
     let served : WhileTold left behind (SessionOutcome plain (opening a.start.machine) a.start.max_trail a.session end (length a.pass.seen) d.pass.seen (new_places a.pass d.pass) given later) =
-        weaker left behind
-            (λ x y. Outcome (status_of end) (λ (s : Asking g.row.M.Denot). a ≡ s) (λ s bodies. AnsweredBy (Asked (AsksOnce opening plain)) (shape_of (status_of end)) (λ t. b ≡ t) given later [] [] s bodies) x y)
-            (SessionOutcome plain (opening a.start.machine) a.start.max_trail a.session end (length a.pass.seen) d.pass.seen (new_places a.pass d.pass) given later)
-            run
-            (λ x y o. session_outcome opening plain a b d end c.ask.result c.ask.new.out given later x y some c.ask.ensures.asks o) in
+    weaker left behind
+    (λ x y. Outcome (status_of end) (λ (s : Asking g.row.M.Denot). a ≡ s) (λ s bodies. AnsweredBy (Asked (AsksOnce opening plain)) (shape_of (status_of end)) (λ t. b ≡ t) given later [] [] s bodies) x y)
+    (SessionOutcome plain (opening a.start.machine) a.start.max_trail a.session end (length a.pass.seen) d.pass.seen (new_places a.pass d.pass) given later)
+    run
+    (λ x y o. session_outcome opening plain a b d end c.ask.result c.ask.new.out given later x y some c.ask.ensures.asks o) in
     subst (λ (q : Known). WhileTold left behind (SessionOutcome plain (opening (start_of c.args.lock.now).machine) (start_of c.args.lock.now).max_trail c.args.session end (length c.args.pass.seen) q.seen (new_places c.args.pass q) given later)) (sym c.into_pass-in_default-answer_frames.ensures.same)
     (subst (λ (k : Asking g.row.M.Denot). WhileTold left behind (SessionOutcome plain (opening k.start.machine) k.start.max_trail k.session end (length k.pass.seen) d.pass.seen (new_places k.pass d.pass) given later)) c.new-asker.ensures served)
 
