@@ -10,7 +10,7 @@ use tardis_base::{Machine, NoMemory, ReplyBuf};
 use tardis_io::{Duplex, Failed, Link, MemoryGate, MemoryLink, MemorySink, MemorySource, Sink};
 use trail_log::Trailed;
 
-/// Replies by how many requests came before.
+/// Replies by how many requests came before, and finds no memory for an empty one.
 #[derive(Drop)]
 struct Counter {
     acts: u64,
@@ -27,8 +27,8 @@ impl Machine for Counter {
 
     fn act(&mut self, actor: u16, request: &[u8], out: &mut ReplyBuf) -> Result<(), NoMemory> {
         out.clear();
-        let _ = (actor, request);
-        if self.acts == u64::MAX {
+        let _ = actor;
+        if request.is_empty() || self.acts == u64::MAX {
             return Err(NoMemory);
         }
         out.push_byte((self.acts % 256) as u8);
