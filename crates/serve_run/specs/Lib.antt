@@ -1,0 +1,2 @@
+-- What a server does from its address to its trail.
+pub mod Serving

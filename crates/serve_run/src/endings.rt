@@ -1,0 +1,25 @@
+//! How a server ends.
+
+use serve_pool::PoolEnd;
+use tardis_io::WriteFault;
+
+/// What serving came to.
+#[derive(Clone, Copy, Debug, PartialEq, Eq)]
+pub struct Serving {
+    /// For how many links there was no memory.
+    pub unserved: u16,
+    /// Why no more links were taken.
+    pub gate: PoolEnd,
+    /// Whether the whole trail was written.
+    pub written: Result<(), WriteFault>,
+}
+
+/// How a server ends.
+#[derive(Clone, Copy, Debug, PartialEq, Eq)]
+pub enum ServeEnd {
+    /// It can't listen at its address, and did nothing else.
+    NotBound,
+    /// There was no memory for the lock, and it served nobody.
+    NotMade,
+    Served(Serving),
+}
