@@ -2,3 +2,4 @@
 pub mod Runs
 pub mod Words
 pub mod LineRuns
+mod WorldRuns

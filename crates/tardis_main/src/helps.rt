@@ -32,11 +32,14 @@ usage: tardis shell [--sites M] [--site N]
        tardis audit [--sites M] [--site N]
                           read frames, and write for each a line with the request,
                           an arrow and the reply
+       tardis world --sites M
+                          read frames of requests at M sites and of items that are
+                          carried between them, and write a frame with each reply
        tardis --help      this text
        tardis --version   the version
 
-Each answers as site N, from 1 to M, of M sites, from 1 to 16; both are 1 where they
-are left out. Try: printf '1 open\\n1 begin any\\n1 put cart milk\\n' | tardis shell
+Shell, run and audit answer as site N, from 1 to M, of M sites, from 1 to 16; both
+are 1 where they are left out. Try: printf '1 open\\n1 begin any\\n1 put cart milk\\n' | tardis shell
 
 Lines and frames are described in docs/FORMATS.md, the commands, with a session of
 lines, and the statuses in docs/COMMANDS.md.

@@ -13,8 +13,10 @@ ghost use Rattle.line_cut.specs.Lines.{IsCut as AreLines};
 ghost use Rattle.site_run.specs.Endings.{EndsAs, IsRunEnd, most_taken};
 ghost use Rattle.site_run.specs.LineEndings.{IsLineEnd, LinesEndAs};
 ghost use Rattle.plain_site.specs.Site.{opening};
+ghost use Rattle.plain_world.specs.Worlds.{opening_world, world_limits};
+ghost use Rattle.world_core.specs.Runs.{WorldFrom};
 ghost use Rattle.command_words.specs.declared.commands.Place.{Place};
-ghost use Rattle.tardis_main.specs.Words.{AreAudit, AreRun, AreShell, AreUnknown};
+ghost use Rattle.tardis_main.specs.Words.{AreAudit, AreRun, AreShell, AreUnknown, AreWorld};
 ghost use Rattle.tardis_main.specs.Runs.{AuditFrom, RunFrom, ShellFrom, program_limits};
 
 mod helps;
@@ -33,6 +35,7 @@ use std::alloc::Global;
 use std::hash::RandomState;
 use tardis_base::{Limits, NoMemory};
 use tardis_io::{Sink, Source, Status};
+use world_core::run_world;
 
 /// Carries out the command that the words name, at the place among the sites that they name. Words without a form, and
 /// those of a command that isn't built yet, are `Status::Usage`, and then nothing is read or written.
@@ -74,6 +77,15 @@ pub fn tardis<I: Source, O: Sink>(
         → (Rose (I.faults input.old) (I.faults input.new) → ⊥) → (Rose (O.faults output.old) (O.faults output.new) → ⊥)
         → EndsAs rest result) }
     ensures audit_status { (place : Place) → AreAudit (map (λ w. string_bytes w) words.now) place → IsRunEnd result }
+    ensures world { (sites : ℕ) → AreWorld (map (λ w. string_bytes w) words.now) sites
+        → WhileTold (I.left input.old) (I.left input.new)
+        (WorldFrom (opening_world (world_limits sites)) result (O.given output.old) (O.given output.new)) }
+    ensures world_exact { (sites : ℕ) → AreWorld (map (λ w. string_bytes w) words.now) sites
+        → WhileTold (I.left input.old) (I.left input.new) (λ first left. (all : List (List ℕ)) (rest : List ℕ)
+        → IsCut first all rest → length first < most_taken
+        → (Rose (I.faults input.old) (I.faults input.new) → ⊥) → (Rose (O.faults output.old) (O.faults output.new) → ⊥)
+        → EndsAs rest result) }
+    ensures world_status { (sites : ℕ) → AreWorld (map (λ w. string_bytes w) words.now) sites → IsRunEnd result }
     ensures read_later { I.faults input.old ≤ I.faults input.new }
     ensures write_later { O.faults output.old ≤ O.faults output.new }
     ensures read { result ≡ Status.ReadFault → Rose (I.faults input.old) (I.faults input.new) }
@@ -88,6 +100,7 @@ pub fn tardis<I: Source, O: Sink>(
         Ok(Command::Audit(place)) => {
             audit_frames(alloc, keys, place.limits(), place.site, input, output)
         }
+        Ok(Command::World { sites }) => run_world(alloc, keys, sites, input, output),
         // the other commands aren't built yet
         Ok(_) | Err(_) => Status::Usage,
     }

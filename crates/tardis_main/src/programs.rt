@@ -10,8 +10,10 @@ ghost use Rattle.line_cut.specs.Lines.{IsCut as AreLines};
 ghost use Rattle.site_run.specs.Endings.{EndsAs, IsRunEnd, most_taken};
 ghost use Rattle.site_run.specs.LineEndings.{IsLineEnd, LinesEndAs};
 ghost use Rattle.plain_site.specs.Site.{opening};
+ghost use Rattle.plain_world.specs.Worlds.{opening_world, world_limits};
+ghost use Rattle.world_core.specs.Runs.{WorldFrom};
 ghost use Rattle.command_words.specs.declared.commands.Place.{Place};
-ghost use Rattle.tardis_main.specs.Words.{AreAudit, AreRun, AreShell};
+ghost use Rattle.tardis_main.specs.Words.{AreAudit, AreRun, AreShell, AreWorld};
 ghost use Rattle.tardis_main.specs.Helps.{AskUsage, AskVersion, AreNone};
 ghost use Rattle.tardis_main.specs.Runs.{AuditFrom, RunFrom, ShellFrom, program_limits};
 
@@ -65,6 +67,15 @@ pub fn carry_out<I: Source, O: Sink>(
         → (Rose (I.faults input.old) (I.faults input.new) → ⊥) → (Rose (O.faults output.old) (O.faults output.new) → ⊥)
         → EndsAs rest result) }
     ensures audit_status { (place : Place) → AreAudit (map (λ w. string_bytes w) (drop 1 (into_iter_items args))) place → IsRunEnd result }
+    ensures world { (sites : ℕ) → AreWorld (map (λ w. string_bytes w) (drop 1 (into_iter_items args))) sites
+        → WhileTold (I.left input.old) (I.left input.new)
+        (WorldFrom (opening_world (world_limits sites)) result (O.given output.old) (O.given output.new)) }
+    ensures world_exact { (sites : ℕ) → AreWorld (map (λ w. string_bytes w) (drop 1 (into_iter_items args))) sites
+        → WhileTold (I.left input.old) (I.left input.new) (λ first left. (all : List (List ℕ)) (rest : List ℕ)
+        → IsCut first all rest → length first < most_taken
+        → (Rose (I.faults input.old) (I.faults input.new) → ⊥) → (Rose (O.faults output.old) (O.faults output.new) → ⊥)
+        → EndsAs rest result) }
+    ensures world_status { (sites : ℕ) → AreWorld (map (λ w. string_bytes w) (drop 1 (into_iter_items args))) sites → IsRunEnd result }
     ensures read_later { I.faults input.old ≤ I.faults input.new }
     ensures write_later { O.faults output.old ≤ O.faults output.new }
     ensures read { result ≡ Status.ReadFault → Rose (I.faults input.old) (I.faults input.new) }
@@ -135,6 +146,15 @@ fn command<I: Source, O: Sink>(
         → (Rose (I.faults input.old) (I.faults input.new) → ⊥) → (Rose (O.faults output.old) (O.faults output.new) → ⊥)
         → EndsAs rest result) }
     ensures audit_status { (place : Place) → AreAudit (map (λ w. string_bytes w) words.now) place → IsRunEnd result }
+    ensures world { (sites : ℕ) → AreWorld (map (λ w. string_bytes w) words.now) sites
+        → WhileTold (I.left input.old) (I.left input.new)
+        (WorldFrom (opening_world (world_limits sites)) result (O.given output.old) (O.given output.new)) }
+    ensures world_exact { (sites : ℕ) → AreWorld (map (λ w. string_bytes w) words.now) sites
+        → WhileTold (I.left input.old) (I.left input.new) (λ first left. (all : List (List ℕ)) (rest : List ℕ)
+        → IsCut first all rest → length first < most_taken
+        → (Rose (I.faults input.old) (I.faults input.new) → ⊥) → (Rose (O.faults output.old) (O.faults output.new) → ⊥)
+        → EndsAs rest result) }
+    ensures world_status { (sites : ℕ) → AreWorld (map (λ w. string_bytes w) words.now) sites → IsRunEnd result }
     ensures read_later { I.faults input.old ≤ I.faults input.new }
     ensures write_later { O.faults output.old ≤ O.faults output.new }
     ensures read { result ≡ Status.ReadFault → Rose (I.faults input.old) (I.faults input.new) }

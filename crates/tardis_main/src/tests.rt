@@ -144,7 +144,9 @@ fn other_words_are_no_command(rt: HostRuntime) -> Result<(), Fail> {
         "run --sites=2",
         "run --sites 1 --sites 1",
         "serve --links 2",
-        "world --sites 2",
+        "world",
+        "world --sites 17",
+        "load --start 1 --steps 2",
         "Run",
         "runs",
     ] {
@@ -164,6 +166,32 @@ fn other_words_are_no_command(rt: HostRuntime) -> Result<(), Fail> {
         assert_eq!(rt; source.left(), SESSION);
         assert_eq!(rt; sink.bytes().len(), 0);
     }
+    Ok(())
+}
+
+/// A Pull at site 1 of 2, which gives an empty batch, and a carry of an item that it hasn't.
+const WORLD_ASKED: &str = "0000000f0100010000130200000000000000000000000b0200020000000000000000";
+
+/// What is told of it.
+const WORLD_TOLD: &str = "000000041000000000000006151c00000001";
+
+#[test]
+fn a_world_has_several_sites(rt: HostRuntime) -> Result<(), Fail> {
+    let alloc = rt.alloc();
+    let words = words_of(alloc, "world --sites 2")?;
+    let asked = hex::decode(alloc, WORLD_ASKED)?;
+    let mut source = MemorySource::new(alloc, asked.as_slice(), 100, &WELL)?;
+    let mut sink = MemorySink::new(alloc, 100, 100, &WELL)?;
+    let status = tardis(
+        alloc,
+        RandomState::new(&rt)?,
+        words.as_slice(),
+        &mut source,
+        &mut sink,
+    );
+    assert_eq!(rt; status, Status::Ok);
+    let told = hex::decode(alloc, WORLD_TOLD)?;
+    assert!(rt; sink.bytes() == told.as_slice());
     Ok(())
 }
 

@@ -9,6 +9,9 @@ use Rattle.tardis_main.specs.Helps.{AreNone}
 use Rattle.tardis_main.specs.Runs.{RunFrom, ShellFrom, AuditFrom, program_limits}
 use Rattle.tardis_main.proofs.Runs.{no_run, opens}
 use Rattle.tardis_main.proofs.LineRuns.{no_shell, no_audit}
+use Rattle.plain_world.specs.Worlds.{opening_world, world_limits}
+use Rattle.world_core.specs.Runs.{WorldFrom}
+use Rattle.tardis_main.proofs.WorldRuns.{no_world}
 use Rattle.tardis_main.proofs.Words.{limits_hold}
 use Rattle.tardis_main.proofs.programs.carry_out.Goals as goal
 
@@ -41,3 +44,9 @@ returns-in-Ok-clause-none g c = λ none.
     let words : c.as_slice.result.now ≡ drop 1 (into_iter_items c.args.args) = c.as_slice.ensures.value ∙ c.in-Ok.ensures in
     let answer = c.command.ensures.none (subst (λ ws. AreNone (map (λ w. string_bytes w) ws)) (sym words) none) in
     (inl answer.0, answer.1, answer.2)
+
+pub returns-in-Err-clause-world : goal.returns-in-Err-clause-world
+returns-in-Err-clause-world g c = λ sites are.
+    let world = opening_world (world_limits sites) in
+    same (g.I.Source.left c.args.input.now) (WorldFrom world NoMemory (g.O.Sink.given c.args.output.now) (g.O.Sink.given c.args.output.now))
+    (λ x. no_world world (g.O.Sink.given c.args.output.now) x)
