@@ -1,4 +1,4 @@
-ghost use Rattle.std.specs.Prelude.{◌≡◌, ◌+◌, ◌%◌, [], ◌∷◌, false};
+ghost use Rattle.std.specs.Prelude.{◌≡◌, ◌+◌, ◌%◌, [], ◌∷◌, ℕ, false};
 
 use crate::{ServeEnd, Serving, serve_links};
 use serve_pool::PoolEnd;
@@ -22,12 +22,12 @@ impl Machine for Counter {
 
     ghost stands = { λ m s. m.acts ≡ s };
 
-    ghost opening = { λ m. m.acts };
+    ghost opening = { λ m. 0 };
 
     fn act(&mut self, actor: u16, request: &[u8], out: &mut ReplyBuf) -> Result<(), NoMemory> {
         out.clear();
-        let _ = (actor, request);
-        if self.acts == u64::MAX {
+        let _ = actor;
+        if request.is_empty() || self.acts == u64::MAX {
             return Err(NoMemory);
         }
         out.push_byte((self.acts % 256) as u8);
@@ -77,7 +77,7 @@ fn serve_row<R: Threads + Wait + Sync>(
     }
     let mut gate = MemoryGate::new(alloc, links, row.gate)?;
     let mut output = MemorySink::new(alloc, 1_000, 1_000, row.output)?;
-    let machine = Counter { acts: 7 };
+    let machine = Counter { acts: 0 };
     let end = serve_links(
         alloc,
         rt,

@@ -80,13 +80,7 @@ fn open_and_serve(rt: &HostRuntime, plan: &DaemonPlan<'_>) -> DaemonEnd
     match open_ports(rt, plan.listen) {
         Ok(mut ports) => {
             tell_of_door(rt, plan);
-            ending_of(serve_place(
-                rt.alloc(),
-                keys,
-                plan.place,
-                plan.tidy,
-                &mut ports,
-            ))
+            ending_of(serve_place(rt.alloc(), keys, plan.place, plan.tidy, &mut ports))
         }
         Err(fault) => DaemonEnd::Gate(fault),
     }
