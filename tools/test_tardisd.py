@@ -21,10 +21,11 @@ import tempfile
 import time
 import unittest
 
+from servers import PATIENCE, first_line, free_port, stop
+
 TOP = os.path.dirname(os.path.dirname(os.path.abspath(__file__)))
 TARDISD = os.path.join(TOP, "tardisd")
 TARDIS = os.path.join(TOP, "tardis")
-PATIENCE = 20
 LONGEST_FRAME = 1_048_576
 
 OPEN, BEGIN, CLOSE = b"\x01\x00", b"\x02\x00", b"\x15"
@@ -78,18 +79,7 @@ class Server:
             [TARDISD, "--listen", address, *words],
             stdin=subprocess.DEVNULL, stdout=subprocess.PIPE, stderr=subprocess.PIPE)
         self.address = address
-        self.line = self.first_line()
-
-    def first_line(self):
-        line, end = b"", time.monotonic() + PATIENCE
-        while not line.endswith(b"\n"):
-            ready, _, _ = select.select([self.process.stderr], [], [], max(0, end - time.monotonic()))
-            more = os.read(self.process.stderr.fileno(), 1000) if ready else b""
-            if not more:
-                self.end()
-                raise AssertionError("the server didn't listen: %r" % line)
-            line += more
-        return line.decode()
+        self.line = first_line(self.process)
 
     def connect(self):
         if self.address.startswith("unix:"):
@@ -103,16 +93,7 @@ class Server:
         return made
 
     def end(self):
-        self.process.kill()
-        self.process.wait(PATIENCE)
-        self.process.stdout.close()
-        self.process.stderr.close()
-
-
-def free_port():
-    with socket.socket() as probe:
-        probe.bind(("127.0.0.1", 0))
-        return probe.getsockname()[1]
+        stop(self.process)
 
 
 def read_bodies(connection, count):

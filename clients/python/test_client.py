@@ -8,30 +8,21 @@ wait has an end, and nothing is left behind.
 """
 
 import os
-import select
 import shutil
-import socket
 import subprocess
 import sys
 import tempfile
-import time
 import unittest
 
 HERE = os.path.dirname(os.path.abspath(__file__))
 TOP = os.path.dirname(os.path.dirname(HERE))
-sys.path.insert(0, HERE)
+sys.path[:0] = [HERE, os.path.join(TOP, "tools")]
 
 import tardis  # noqa: E402
+from servers import PATIENCE, first_line, free_port, stop  # noqa: E402
 
 TARDISD = os.path.join(TOP, "crates", "tardisd", "out", "tardisd")
 TARDIS = os.path.join(TOP, "crates", "tardis", "out", "tardis")
-PATIENCE = 20
-
-
-def free_port():
-    with socket.socket() as probe:
-        probe.bind(("127.0.0.1", 0))
-        return probe.getsockname()[1]
 
 
 class Server:
@@ -43,20 +34,11 @@ class Server:
     def __enter__(self):
         self.process = subprocess.Popen(
             self.words, stdin=subprocess.DEVNULL, stdout=subprocess.DEVNULL, stderr=subprocess.PIPE)
-        line, end = b"", time.monotonic() + PATIENCE
-        while not line.endswith(b"\n"):
-            ready, _, _ = select.select([self.process.stderr], [], [], max(0, end - time.monotonic()))
-            more = os.read(self.process.stderr.fileno(), 1000) if ready else b""
-            if not more:
-                self.__exit__()
-                raise AssertionError("the server didn't listen: %r" % line)
-            line += more
+        first_line(self.process)
         return self
 
     def __exit__(self, *raised):
-        self.process.kill()
-        self.process.wait(PATIENCE)
-        self.process.stderr.close()
+        stop(self.process)
 
 
 class OverSockets:
