@@ -2,7 +2,7 @@
 use Rattle.std.proofs.Common.{◌≡◌, ℕ, ◌+◌, ◌<◌, List, [], ◌++◌, Option, length, refl, sym, ap, ◌∙◌, subst, inl, inr, arith}
 use Rattle.std.proofs.lemmas.List.{append-nil}
 use Rattle.tardis_io.specs.declared.statuses.Status.{Status}
-use Rattle.tardis_io.specs.declared.statuses.Status.TheVariants.{Ok, Usage, ReadFault, WriteFault, Cut, LongFrame, NoMemory, Spent}
+use Rattle.tardis_io.specs.declared.statuses.Status.TheVariants.{Ok, Usage, ReadFault, WriteFault, Cut, LongFrame, NoMemory, GateFault, DialFault, Spent, DiskFault, BadExport, NoState}
 use Rattle.frame_cut.specs.Frames.{IsPartial, IsLong, IsEnd, Cuts, IsCut}
 use Rattle.frame_cut.proofs.OneCut.{one, front_of}
 use Rattle.frame_cut.proofs.Words.{long_more}
@@ -13,6 +13,11 @@ use Rattle.site_run.specs.Endings.{Ends, EndsSpent, AnswersAll, EndsAs, Outcome,
 ends_spent : (status : Status) (first : List ℕ) (bodies : List (List ℕ)) (held left : List ℕ) → Ends status first bodies held left → length first ≡ most_taken + length left → EndsSpent status
 ends_spent Ok first bodies held left e n = let none : length left ≡ 0 = ap length e.1 in absurd (omega (arith, e.2, n, none))
 ends_spent Usage first bodies held left e n = e
+ends_spent GateFault first bodies held left e n = e
+ends_spent DialFault first bodies held left e n = e
+ends_spent DiskFault first bodies held left e n = e
+ends_spent BadExport first bodies held left e n = e
+ends_spent (NoState state) first bodies held left e n = e
 ends_spent ReadFault first bodies held left e n = absurd (omega (arith, e.1, n))
 ends_spent WriteFault first bodies held left e n = tt
 ends_spent Cut first bodies held left e n = let none : length left ≡ 0 = ap length e.2 in absurd (omega (arith, e.3, n, none))
@@ -44,6 +49,11 @@ answers_all (LongFrame len) first bodies held left c e all rest d =
     let both = all_of first bodies all (held ++ left) rest c (inr (len, long)) d in
     (both.0, subst (λ z. IsLong z len) both.1 long)
 answers_all Usage first bodies held left c e all rest d = tt
+answers_all GateFault first bodies held left c e all rest d = tt
+answers_all DialFault first bodies held left c e all rest d = tt
+answers_all DiskFault first bodies held left c e all rest d = tt
+answers_all BadExport first bodies held left c e all rest d = tt
+answers_all (NoState state) first bodies held left c e all rest d = tt
 answers_all ReadFault first bodies held left c e all rest d = tt
 answers_all WriteFault first bodies held left c e all rest d = tt
 answers_all NoMemory first bodies held left c e all rest d = tt
@@ -75,3 +85,8 @@ ends_as ReadFault from P first left o r w all rest d few = r refl
 ends_as WriteFault from P first left o r w all rest d few = w refl
 ends_as Spent from P first left o r w all rest d few = absurd (omega (arith, o.ends.1, few))
 ends_as Usage from P first left o r w all rest d few = o.ends
+ends_as GateFault from P first left o r w all rest d few = o.ends
+ends_as DialFault from P first left o r w all rest d few = o.ends
+ends_as DiskFault from P first left o r w all rest d few = o.ends
+ends_as BadExport from P first left o r w all rest d few = o.ends
+ends_as (NoState state) from P first left o r w all rest d few = o.ends

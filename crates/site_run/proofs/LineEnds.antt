@@ -2,7 +2,7 @@
 use Rattle.std.proofs.Common.{◌≡◌, ℕ, ◌+◌, ◌<◌, ◌≤◌, ◌⊎◌, List, [], ◌∷◌, ◌++◌, Option, length, refl, sym, ap, ◌∙◌, subst, inl, inr, arith, append_assoc}
 use Rattle.std.proofs.lemmas.List.{append-nil}
 use Rattle.tardis_io.specs.declared.statuses.Status.{Status}
-use Rattle.tardis_io.specs.declared.statuses.Status.TheVariants.{Ok, Usage, ReadFault, WriteFault, Cut, LongFrame, NoMemory, Spent}
+use Rattle.tardis_io.specs.declared.statuses.Status.TheVariants.{Ok, Usage, ReadFault, WriteFault, Cut, LongFrame, NoMemory, GateFault, DialFault, Spent, DiskFault, BadExport, NoState}
 use Rattle.line_cut.specs.Lines.{IsLine, IsLong, IsEnd, Cuts, IsCut, last_line}
 use Rattle.line_cut.proofs.OneCut.{one, front_of}
 use Rattle.line_cut.proofs.Parts.{long_more}
@@ -15,6 +15,11 @@ use Rattle.site_run.specs.LineEndings.{LineEnds, AnswersAllLines, LinesEndAs, Li
 line_ends_spent : (status : Status) (first : List ℕ) (cut : List (List ℕ)) (held : List ℕ) (last : List (List ℕ)) (left : List ℕ) → LineEnds status first cut held last left → length first ≡ most_taken + length left → EndsSpent status
 line_ends_spent Ok first cut held last left e n = let none : length left ≡ 0 = ap length e.2 in absurd (omega (arith, e.3, n, none))
 line_ends_spent Usage first cut held last left e n = e
+line_ends_spent GateFault first cut held last left e n = e
+line_ends_spent DialFault first cut held last left e n = e
+line_ends_spent DiskFault first cut held last left e n = e
+line_ends_spent BadExport first cut held last left e n = e
+line_ends_spent (NoState state) first cut held last left e n = e
 line_ends_spent ReadFault first cut held last left e n = absurd (omega (arith, e.2, n))
 line_ends_spent WriteFault first cut held last left e n = tt
 line_ends_spent Cut first cut held last left e n = e
@@ -43,6 +48,11 @@ answers_all_lines (LongFrame len) first cut held last left c e all rest d =
     let both = all_of first cut all (held ++ left) rest c (inr long) d in
     (ap (λ z. cut ++ z) e.2 ∙ (append-nil cut ∙ both.0), subst IsLong both.1 long)
 answers_all_lines Usage first cut held last left c e all rest d = tt
+answers_all_lines GateFault first cut held last left c e all rest d = tt
+answers_all_lines DialFault first cut held last left c e all rest d = tt
+answers_all_lines DiskFault first cut held last left c e all rest d = tt
+answers_all_lines BadExport first cut held last left c e all rest d = tt
+answers_all_lines (NoState state) first cut held last left c e all rest d = tt
 answers_all_lines ReadFault first cut held last left c e all rest d = tt
 answers_all_lines WriteFault first cut held last left c e all rest d = tt
 answers_all_lines Cut first cut held last left c e all rest d = tt
@@ -75,6 +85,11 @@ front_lines WriteFault first cut held last left c e all rest d = elim e.0 [
 front_lines Spent first cut held last left c e all rest d = front_of_cut first cut held last left c e.1 all rest d
 front_lines NoMemory first cut held last left c e all rest d = front_of_cut first cut held last left c e.1 all rest d
 front_lines Usage first cut held last left c e all rest d = absurd (e)
+front_lines GateFault first cut held last left c e all rest d = absurd (e)
+front_lines DialFault first cut held last left c e all rest d = absurd (e)
+front_lines DiskFault first cut held last left c e all rest d = absurd (e)
+front_lines BadExport first cut held last left c e all rest d = absurd (e)
+front_lines (NoState state) first cut held last left c e all rest d = absurd (e)
 front_lines Cut first cut held last left c e all rest d = absurd (e)
 
 -- an outcome, from what was answered and how the run ended
@@ -111,4 +126,9 @@ lines_end_as ReadFault from P first left o r w all rest d few = r refl
 lines_end_as WriteFault from P first left o r w all rest d few = w refl
 lines_end_as Spent from P first left o r w all rest d few = absurd (omega (arith, o.ends.2, few))
 lines_end_as Usage from P first left o r w all rest d few = o.ends
+lines_end_as GateFault from P first left o r w all rest d few = o.ends
+lines_end_as DialFault from P first left o r w all rest d few = o.ends
+lines_end_as DiskFault from P first left o r w all rest d few = o.ends
+lines_end_as BadExport from P first left o r w all rest d few = o.ends
+lines_end_as (NoState state) from P first left o r w all rest d few = o.ends
 lines_end_as Cut from P first left o r w all rest d few = o.ends

@@ -4,6 +4,7 @@ ghost use Rattle.std.specs.Prelude.{◌≡◌};
 ghost use Rattle.tardis_io.specs.Statuses.{status_number};
 
 use std::fmt;
+use tardis_base::StateId;
 
 /// How a run ends. The process ends with its number, and its text is the line on standard error.
 #[derive(Clone, Copy, Debug, PartialEq, Eq)]
@@ -19,8 +20,18 @@ pub enum Status {
     /// A length word was above 1,048,576, or a text line beyond 1,048,576 bytes.
     LongFrame { len: u32 },
     NoMemory,
+    /// A server can't listen, or can't take its next link.
+    GateFault,
+    /// A peer can't be called.
+    DialFault,
     /// 1,099,511,627,776 bytes were taken and more would have been.
     Spent,
+    /// The file that a site lives in can't be read or written.
+    DiskFault,
+    /// What was to be imported is no export.
+    BadExport,
+    /// What was to be exported is no state that is kept.
+    NoState { state: StateId },
 }
 
 impl Status {
@@ -36,7 +47,12 @@ impl Status {
             Status::Cut => 4,
             Status::LongFrame { .. } => 5,
             Status::NoMemory => 6,
+            Status::GateFault => 7,
+            Status::DialFault => 8,
             Status::Spent => 9,
+            Status::DiskFault => 10,
+            Status::BadExport => 11,
+            Status::NoState { .. } => 12,
         }
     }
 }
@@ -51,7 +67,12 @@ impl fmt::Display for Status {
             Status::Cut => write!(f, "tardis: input ends inside a frame"),
             Status::LongFrame { len } => write!(f, "tardis: frame too long: {len}"),
             Status::NoMemory => write!(f, "tardis: out of memory"),
+            Status::GateFault => write!(f, "tardis: gate fault"),
+            Status::DialFault => write!(f, "tardis: dial fault"),
             Status::Spent => write!(f, "tardis: input too large"),
+            Status::DiskFault => write!(f, "tardis: disk fault"),
+            Status::BadExport => write!(f, "tardis: not an export"),
+            Status::NoState { state } => write!(f, "tardis: no such state {state}"),
         }
     }
 }

@@ -9,6 +9,7 @@ use std::alloc::Global;
 use std::io;
 use std::io::{Error, ErrorKind, Read, Write};
 use std::test::Fail;
+use tardis_base::StateId;
 
 #[test]
 fn numbers_and_lines_of_the_statuses(rt: HostRuntime) -> Result<(), Fail> {
@@ -24,7 +25,18 @@ fn numbers_and_lines_of_the_statuses(rt: HostRuntime) -> Result<(), Fail> {
             "tardis: frame too long: 1048577",
         ),
         (Status::NoMemory, 6, "tardis: out of memory"),
+        (Status::GateFault, 7, "tardis: gate fault"),
+        (Status::DialFault, 8, "tardis: dial fault"),
         (Status::Spent, 9, "tardis: input too large"),
+        (Status::DiskFault, 10, "tardis: disk fault"),
+        (Status::BadExport, 11, "tardis: not an export"),
+        (
+            Status::NoState {
+                state: StateId::ROOT,
+            },
+            12,
+            "tardis: no such state 0.0",
+        ),
     ];
     for (status, number, want) in statuses {
         let line = format!(in rt.alloc(); "{status}")?;
