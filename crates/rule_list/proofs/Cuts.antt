@@ -3,7 +3,7 @@ use Rattle.std.proofs.Common.{◌≡◌, ◌<◌, ℕ, ◌==◌, List, [], ◌�
 use Rattle.std.specs.List.{position_or_len, before_first, after_first}
 use Rattle.std.proofs.lemmas.List.Splits.{slice_split_first, slice_split_none}
 use Rattle.std.proofs.lemmas.List.Sums.{fails_before_first}
-use Rattle.rule_list.specs.Rules.{parts}
+use Rattle.rule_list.specs.RuleTexts.{parts}
 
 pub first_of_parts : (text part rest : List ℕ) → part ≡ before_first (λ b. b == 44) text → rest ≡ after_first (λ b. b == 44) text
     → position_or_len (λ b. b == 44) text < length text → parts text ≡ part ∷ parts rest

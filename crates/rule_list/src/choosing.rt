@@ -2,14 +2,14 @@
 
 ghost use Rattle.std.specs.Prelude.{◌≡◌, true, nat_lt};
 ghost use Rattle.std.specs.Option.{option_map_or};
-ghost use Rattle.rule_list.specs.Choices.{rule_of_key};
+ghost use Rattle.rule_list.specs.Rules.{rule_for};
 
 use crate::rules::{Rule, RuleList};
 use tardis_base::Key;
 
 /// The rule of the longest prefix with which the key begins. Without one it is `Rule::Refuse`.
 pub fn rule_for(rules: &RuleList, key: &Key) -> Rule
-    ensures { result ≡ rule_of_key key.now rules.now }
+    ensures { result ≡ rule_for rules.now key.now }
 {
     let key = key.as_slice();
     let mut best = None;

@@ -1,6 +1,6 @@
 //! Rules for keys by their prefixes, and the text that writes them.
 //!
-//! The text is stated in `docs/COMMANDS.md`, at `auto`.
+//! The text is stated in `docs/RULES.md`.
 #![tactic(auto)]
 
 mod choosing;

@@ -3,7 +3,7 @@
 ghost use Rattle.std.specs.Prelude.{◌≡◌, ◌&&◌, ◌∷◌, Option, option_map};
 ghost use Rattle.std.specs.Bool.{then_some};
 ghost use Rattle.rule_list.specs.Parts.{parts_left};
-ghost use Rattle.rule_list.specs.Rules.{are_prefix_bytes, is_name, is_prefix, is_rule, name_of, parts, prefix_of, rule_named};
+ghost use Rattle.rule_list.specs.RuleTexts.{are_printed, is_name, is_prefix, is_rule, name_of, parts, prefix_of, rule_named};
 
 use crate::rules::Rule;
 
@@ -36,18 +36,18 @@ pub(crate) fn is_rule(part: &str) -> bool
     is_prefix(prefix) && rule_named(name).is_some()
 }
 
-/// Whether the text is a prefix: at most 64 printed ASCII bytes without a comma.
+/// Whether the text is a prefix: at most 64 printed ASCII bytes.
 fn is_prefix(text: &str) -> bool
     ensures { result ≡ is_prefix text.now }
 {
-    text.len() <= 64 && are_prefix_bytes(text.as_bytes())
+    text.len() <= 64 && are_printed(text.as_bytes())
 }
 
-/// Whether each byte is printed and no comma.
-fn are_prefix_bytes(bytes: &[u8]) -> bool
-    ensures { result ≡ are_prefix_bytes bytes.now }
+/// Whether each byte is one that is printed.
+fn are_printed(bytes: &[u8]) -> bool
+    ensures { result ≡ are_printed bytes.now }
 {
-    bytes.iter().all(|byte| b'!' <= *byte && *byte <= b'~' && *byte != b',')
+    bytes.iter().all(|byte| b'!' <= *byte && *byte <= b'~')
 }
 
 /// The rule of this name.

@@ -1,7 +1,7 @@
 use Rattle.std.proofs.Common.{rules, tests, arith}
 use Rattle.std.proofs.lemmas.Iterator.Search.{all_from_yields_List}
 use Rattle.std.proofs.lemmas.Iterator.Splits.{YieldsList-from_str_split}
-use Rattle.rule_list.specs.Rules.{is_rule}
+use Rattle.rule_list.specs.RuleTexts.{is_rule}
 use Rattle.rule_list.proofs.reading.are_all_rules.Goals as goal
 
 pub returns : goal.returns

@@ -1,7 +1,7 @@
 use Rattle.std.proofs.Common.{◌≡◌, length, map}
 use Rattle.std.specs.Prelude.{option_map}
 use Rattle.rule_list.specs.Parts.{parts_left}
-use Rattle.rule_list.specs.Rules.{are_distinct, parts, prefix_of}
+use Rattle.rule_list.specs.RuleTexts.{are_distinct, parts, prefix_of}
 use Rattle.rule_list.proofs.reading.are_distinct.Given as goal
 
 abbrev pub invariant-loop-left : goal.invariant-loop-left

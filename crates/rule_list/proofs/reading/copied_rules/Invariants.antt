@@ -1,7 +1,7 @@
 use Rattle.std.proofs.Common.{◌≡◌, ◌++◌, length, map}
 use Rattle.std.specs.Prelude.{option_map}
 use Rattle.rule_list.specs.Parts.{parts_left}
-use Rattle.rule_list.specs.Rules.{parts, rule_of}
+use Rattle.rule_list.specs.RuleTexts.{parts, rule_of}
 use Rattle.rule_list.proofs.reading.copied_rules.Given as goal
 
 abbrev pub invariant-loop-left : goal.invariant-loop-left

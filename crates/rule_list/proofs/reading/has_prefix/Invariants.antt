@@ -2,7 +2,7 @@ use Rattle.std.proofs.Common.{◌≡◌, length, map}
 use Rattle.std.specs.List.{list_any}
 use Rattle.std.specs.Prelude.{bytes_eq, option_map}
 use Rattle.rule_list.specs.Parts.{parts_left}
-use Rattle.rule_list.specs.Rules.{prefix_of}
+use Rattle.rule_list.specs.RuleTexts.{prefix_of}
 use Rattle.rule_list.proofs.reading.has_prefix.Given as goal
 
 abbrev pub invariant-loop-left : goal.invariant-loop-left
