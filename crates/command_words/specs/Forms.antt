@@ -1,10 +1,12 @@
 -- The forms of a command: its words, and what they say.
 use Rattle.std.specs.Prelude.{ℕ, Bool, List, [], ◌∷◌, Option, None, Some, codes, bytes_eq, option_map, option_and_then, if◌then◌else◌}
+use Rattle.std.specs.Bool.{then_some}
 use Rattle.tardis_base.specs.declared.ids.StateId.{StateId}
-use Rattle.rule_list.specs.Rules.{PrefixRule}
+use Rattle.rule_list.specs.declared.rules.PrefixRule.{PrefixRule}
+use Rattle.rule_list.specs.RuleTexts.{rules_of}
 use Rattle.command_words.specs.declared.commands.Place.{Place}
 use Rattle.command_words.specs.Settings.{Setting, settings, values, are_only}
-use Rattle.command_words.specs.Values.{needed, number_or, flag, address, addresses, id, rules}
+use Rattle.command_words.specs.Values.{needed, number_or, flag, address, addresses, once, is_address, id_of}
 
 -- what the words of `serve` say
 pub record Serving : Type 0 where
@@ -71,28 +73,27 @@ load found =
     then option_and_then (λ start. option_map (λ steps. AsLoad start steps) (needed 0 10000 (of found (codes "--steps")))) (needed 0 4294967295 (of found (codes "--start")))
     else None
 
+-- a place, and the value of one more option, which must be there
+abbrev pub placed : List ℕ → List Setting → Option (Place × List ℕ)
+placed name found =
+    if are_only (codes "--sites" ∷ codes "--site" ∷ name ∷ []) found
+    then option_and_then (λ place. option_map (λ word. (place, word)) (once (of found name))) (place found) else None
+
 -- a place, and `--rules RULES`
 abbrev pub auto : List Setting → Option Form
-auto found =
-    if are_only (codes "--sites" ∷ codes "--site" ∷ codes "--rules" ∷ []) found
-    then option_and_then (λ place. option_map (λ rules. AsAuto place rules) (rules (of found (codes "--rules")))) (place found) else None
+auto found = option_and_then (λ p. option_map (λ rules. AsAuto p.0 rules) (rules_of p.1)) (placed (codes "--rules") found)
 
 -- a place, and `--file PATH`, which has the form of an address
 abbrev pub durable : List Setting → Option Form
-durable found =
-    if are_only (codes "--sites" ∷ codes "--site" ∷ codes "--file" ∷ []) found
-    then option_and_then (λ place. option_map (λ path. AsDurable place path) (address (of found (codes "--file")))) (place found) else None
+durable found = option_and_then (λ p. then_some (is_address p.1) (AsDurable p.0 p.1)) (placed (codes "--file") found)
 
 -- a place, and `--at ID`
 abbrev pub export : List Setting → Option Form
-export found =
-    if are_only (codes "--sites" ∷ codes "--site" ∷ codes "--at" ∷ []) found
-    then option_and_then (λ place. option_map (λ state. AsExport place state) (id (of found (codes "--at")))) (place found) else None
+export found = option_and_then (λ p. option_map (λ state. AsExport p.0 state) (id_of p.1)) (placed (codes "--at") found)
 
 -- no options
 abbrev pub import : List Setting → Option Form
-import [] = Some AsImport
-import (one ∷ more) = None
+import found = then_some (are_only [] found) AsImport
 
 -- the form of the options of a command
 abbrev pub form_behind : List ℕ → List Setting → Option Form

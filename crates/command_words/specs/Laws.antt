@@ -1,7 +1,7 @@
 -- What holds of all forms.
 use Rattle.std.specs.Prelude.{◌≡◌, ℕ, List, Some}
 use Rattle.tardis_base.specs.declared.ids.StateId.{StateId}
-use Rattle.rule_list.specs.Rules.{PrefixRule}
+use Rattle.rule_list.specs.declared.rules.PrefixRule.{PrefixRule}
 use Rattle.command_words.specs.declared.commands.Place.{Place}
 use Rattle.command_words.specs.Forms.{form, AsRun, AsShell, AsAudit, AsAuto, AsDurable, AsExport}
 use Rattle.command_words.specs.Places.{IsPlace}

@@ -6,8 +6,6 @@ use Rattle.std.specs.Str.Parse.{digits_value}
 use Rattle.tardis_base.specs.declared.ids.StateId.{StateId}
 use Rattle.tardis_base.specs.Bytes.{is_within}
 use Rattle.tardis_base.specs.Valid.{is_id}
-use Rattle.rule_list.specs.Rules.{PrefixRule}
-use Rattle.rule_list.specs.RuleTexts.{rules_of}
 
 -- each byte is one of `0` to `9`
 abbrev pub are_digits : List ℕ → Bool
@@ -75,17 +73,9 @@ plain_number least most word = if nat_eq (slice_index word 0) 48 && nat_lt 1 (le
 abbrev pub valid_id : StateId → Option StateId
 valid_id id = then_some (is_id id) id
 
--- the id that the word writes: the numbers of its site and its sequence, and the first `.` between them
+-- the id that a word writes: the number of its site, `.`, and its sequence
 abbrev pub id_of : List ℕ → Option StateId
 id_of word =
     option_and_then (λ site. option_and_then (λ sequence. valid_id (record { site = site; sequence = sequence }))
     (plain_number 0 4294967295 (after_first (λ b. b == 46) word)))
     (plain_number 0 65535 (before_first (λ b. b == 46) word))
-
--- the id of an option that must be there, once
-abbrev pub id : List (Option (List ℕ)) → Option StateId
-id found = option_and_then id_of (once found)
-
--- the rules of an option that must be there, once
-abbrev pub rules : List (Option (List ℕ)) → Option (List PrefixRule)
-rules found = option_and_then rules_of (once found)

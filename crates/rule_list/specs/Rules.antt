@@ -3,7 +3,7 @@ use Rattle.std.specs.Prelude.{ℕ, Bool, List, [], ◌∷◌, length, filter, na
 use Rattle.std.specs.List.{starts_with}
 use Rattle.rule_list.specs.declared.rules.Rule.{Rule}
 use Rattle.rule_list.specs.declared.rules.Rule.TheVariants.{Refuse}
-pub use Rattle.rule_list.specs.declared.rules.PrefixRule.{PrefixRule}
+use Rattle.rule_list.specs.declared.rules.PrefixRule.{PrefixRule}
 
 -- the rule's prefix begins the key
 abbrev pub begins : List ℕ → PrefixRule → Bool

@@ -24,6 +24,24 @@ fn a_key_has_the_rule_of_its_longest_prefix(rt: HostRuntime) -> Result<(), Fail>
 }
 
 #[test]
+fn as_much_as_fits_is_read(rt: HostRuntime) -> Result<(), Fail> {
+    let alloc = rt.alloc();
+    for (text, wanted) in [
+        (
+            "a=set,b=set,c=set,d=set,e=set,f=set,g=set,h=set,i=set,j=set,k=set,l=set,m=set,n=set,o=set,p=set",
+            16,
+        ),
+        (
+            "aaaaaaaaaaaaaaaaaaaaaaaaaaaaaaaaaaaaaaaaaaaaaaaaaaaaaaaaaaaaaaaa=set",
+            1,
+        ),
+    ] {
+        assert!(rt; read_rules(alloc, text)?.as_slice().len() == wanted);
+    }
+    Ok(())
+}
+
+#[test]
 fn other_texts_have_no_form(rt: HostRuntime) -> Result<(), Fail> {
     let alloc = rt.alloc();
     for text in [
@@ -36,6 +54,8 @@ fn other_texts_have_no_form(rt: HostRuntime) -> Result<(), Fail> {
         "n=last,n=set",
         "n=last=",
         "n m=last",
+        "a=set,b=set,c=set,d=set,e=set,f=set,g=set,h=set,i=set,j=set,k=set,l=set,m=set,n=set,o=set,p=set,q=set",
+        "aaaaaaaaaaaaaaaaaaaaaaaaaaaaaaaaaaaaaaaaaaaaaaaaaaaaaaaaaaaaaaaaa=set",
     ] {
         assert!(rt; matches!(read_rules(alloc, text), Err(RulesFault::Form)));
     }
