@@ -1,5 +1,5 @@
 -- Forms that are read into memory of their own.
-use Rattle.std.proofs.Common.{◌≡◌, ◌∙◌, ℕ, Bool, true, List, [], ◌∷◌, Option, Some, None, codes, option_map, option_and_then, refl, ap}
+use Rattle.std.proofs.Common.{◌≡◌, ◌∙◌, ℕ, Bool, true, List, Option, Some, None, codes, option_map, option_and_then, refl, ap}
 use Rattle.std.specs.Bool.{then_some}
 use Rattle.rule_list.specs.declared.rules.PrefixRule.{PrefixRule}
 use Rattle.rule_list.specs.RuleTexts.{rules_of}
@@ -21,7 +21,7 @@ auto_copied found place text is other =
       AsAuto place read.0,
       (
         ap (option_and_then (λ (p : Place × List ℕ). option_map (λ (rules : List PrefixRule). AsAuto p.0 rules) (rules_of p.1))) is
-        ∙ ap (option_map (λ (rules : List PrefixRule). AsAuto place rules)) read.1,
+            ∙ ap (option_map (λ (rules : List PrefixRule). AsAuto place rules)) read.1,
         tt,
       ),
     )
@@ -32,7 +32,7 @@ durable_copied found place word is has = (
   AsDurable place word,
   (
     ap (option_and_then (λ (p : Place × List ℕ). then_some (is_address p.1) (AsDurable p.0 p.1))) is
-    ∙ ap (λ (b : Bool). then_some b (AsDurable place word)) has,
+        ∙ ap (λ (b : Bool). then_some b (AsDurable place word)) has,
     tt,
   ),
 )

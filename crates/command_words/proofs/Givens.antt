@@ -1,8 +1,8 @@
 -- The values of an option, one after another.
-use Rattle.std.proofs.Common.{ℕ, ◌<◌, Bool, true, false, List, [], ◌∷◌, ◌++◌, length, map, Option, Some, None, ◌≡◌, ◌∙◌, refl, sym, ap, arith, append_assoc}
+use Rattle.std.proofs.Common.{ℕ, ◌<◌, true, false, List, [], ◌∷◌, ◌++◌, length, map, Option, Some, None, ◌≡◌, ◌∙◌, refl, sym, ap, arith, append_assoc}
 use Rattle.std.specs.Prelude.{bytes_eq, filter}
 use Rattle.std.proofs.lemmas.Bool.{cond-true, cond-false}
-use Rattle.command_words.specs.Settings.{Setting, settings, values}
+use Rattle.command_words.specs.Settings.{Setting, values}
 use Rattle.command_words.specs.Values.{needed, number_or, flag, address, once}
 use Rattle.command_words.specs.Given.{IsGiven}
 use Rattle.command_words.specs.declared.settings.Given.{Given}

@@ -1,5 +1,5 @@
 -- What a command says, without its texts as values of the program.
-use Rattle.std.specs.Prelude.{ℕ, List, [], ◌∷◌, map}
+use Rattle.std.specs.Prelude.{map}
 use Rattle.std.specs.String.{string_bytes}
 use Rattle.command_words.specs.declared.commands.Command.{Command}
 use Rattle.command_words.specs.declared.commands.Command.TheVariants.{Run, Shell, Audit, World, Serve, Load, Auto, Durable, Export, Import}

@@ -1,5 +1,5 @@
 -- The forms of a command: its words, and what they say.
-use Rattle.std.specs.Prelude.{ℕ, Bool, List, [], ◌∷◌, Option, None, Some, codes, bytes_eq, option_map, option_and_then, if◌then◌else◌}
+use Rattle.std.specs.Prelude.{ℕ, Bool, List, [], ◌∷◌, Option, None, codes, bytes_eq, option_map, option_and_then, if◌then◌else◌}
 use Rattle.std.specs.Bool.{then_some}
 use Rattle.tardis_base.specs.declared.ids.StateId.{StateId}
 use Rattle.rule_list.specs.declared.rules.PrefixRule.{PrefixRule}

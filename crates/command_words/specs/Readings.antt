@@ -1,7 +1,5 @@
 -- What is read of words.
-use Rattle.std.specs.Prelude.{◌≡◌, List, Option, Some, None, Result, Ok, Err}
-use Rattle.rule_list.specs.declared.rules.PrefixRule.{PrefixRule}
-use Rattle.command_words.specs.declared.commands.Place.{Place}
+use Rattle.std.specs.Prelude.{◌≡◌, Option, Some, None, Result, Ok, Err}
 use Rattle.command_words.specs.declared.commands.Command.{Command}
 use Rattle.command_words.specs.declared.commands.WordsFault.{WordsFault}
 use Rattle.command_words.specs.declared.commands.WordsFault.TheVariants.{Usage, NoMemory}

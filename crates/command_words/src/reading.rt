@@ -78,7 +78,13 @@ fn read_other(command: &str, options: &[String]) -> Option<Command>
             let (place, state) = read_export(options)?;
             Some(Command::Export { place, state })
         }
-        "import" => { if are_only(options, &[]) { Some(Command::Import) } else { None } }
+        "import" => {
+            if are_only(options, &[]) {
+                Some(Command::Import)
+            } else {
+                None
+            }
+        }
         _ => None,
     }
 }
