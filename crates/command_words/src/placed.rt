@@ -1,6 +1,6 @@
 //! The commands with a place and one more option.
 
-ghost use Rattle.std.specs.Prelude.{◌≡◌, Option, map, option_map, codes, IfSome};
+ghost use Rattle.std.specs.Prelude.{◌≡◌, map, option_map, IfSome};
 ghost use Rattle.std.specs.String.{string_bytes};
 ghost use Rattle.command_words.specs.Settings.{settings, values};
 ghost use Rattle.command_words.specs.Values.{once};

@@ -1,6 +1,6 @@
 //! Reading the words of a command.
 
-ghost use Rattle.std.specs.Prelude.{◌≡◌, ℕ, List, IfOk, IfSome, Some, None, Err, false, map, option_map, bytes_eq, codes};
+ghost use Rattle.std.specs.Prelude.{◌≡◌, IfOk, IfSome, Some, None, Err, false, map, option_map, bytes_eq, codes};
 ghost use Rattle.std.specs.String.{string_bytes};
 ghost use Rattle.command_words.specs.Settings.{settings};
 ghost use Rattle.command_words.specs.Forms.{form, form_behind, serving, Form, AsServe};

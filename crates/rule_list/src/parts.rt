@@ -1,6 +1,6 @@
 //! The parts of a text of rules.
 
-ghost use Rattle.std.specs.Prelude.{◌≡◌, ◌&&◌, ◌∷◌, Option, option_map};
+ghost use Rattle.std.specs.Prelude.{◌≡◌, ◌∷◌, option_map};
 ghost use Rattle.std.specs.Bool.{then_some};
 ghost use Rattle.rule_list.specs.Parts.{parts_left};
 ghost use Rattle.rule_list.specs.RuleTexts.{are_printed, is_name, is_prefix, is_rule, name_of, parts, prefix_of, rule_named};

@@ -1,9 +1,9 @@
 //! Reading rules from a text.
 
-ghost use Rattle.std.specs.Prelude.{◌≡◌, ◌&&◌, ◌↔◌, ℕ, List, Option, Some, None, Err, length, map, option_map, bytes_eq, nat_le, IfOk, is_some};
+ghost use Rattle.std.specs.Prelude.{◌≡◌, ◌↔◌, Some, None, Err, length, map, option_map, bytes_eq, IfOk};
 ghost use Rattle.std.specs.List.{list_all, list_any};
 ghost use Rattle.rule_list.specs.Parts.{parts_left};
-ghost use Rattle.rule_list.specs.RuleTexts.{are_distinct, are_rules, is_rule, parts, prefix_of, rule_named, name_of, rule_of, rules_of};
+ghost use Rattle.rule_list.specs.RuleTexts.{are_distinct, are_rules, is_rule, parts, prefix_of, rule_of, rules_of};
 
 use crate::parts::{first_part, halves, is_rule, rule_named};
 use crate::rules::{PrefixRule, Rule, RuleList, RulesFault};
