@@ -3,3 +3,5 @@ pub mod Runs
 pub mod Words
 pub mod LineRuns
 mod WorldRuns
+mod Ends
+mod Servers

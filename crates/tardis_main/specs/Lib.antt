@@ -2,4 +2,5 @@
 pub mod Words
 pub mod Helps
 pub mod Runs
+pub mod Program
 pub mod Laws

@@ -1,14 +1,9 @@
 //! Sites that are asked, or told of, in lines.
 
-ghost use Rattle.std.specs.Prelude.{◌≡◌, ◌≤◌, ◌<◌, ℕ, List, IsTrue, length};
+ghost use Rattle.std.specs.Prelude.{◌≤◌, IsTrue};
 ghost use Rattle.tardis_base.specs.Valid.{are_limits};
-ghost use Rattle.tardis_io.specs.Told.{WhileTold};
-ghost use Rattle.tardis_io.specs.Faults.{Rose};
-ghost use Rattle.frame_cut.specs.Frames.{IsCut};
-ghost use Rattle.line_cut.specs.Lines.{IsCut as AreLines};
-ghost use Rattle.site_run.specs.Endings.{EndsAs, IsRunEnd, most_taken};
-ghost use Rattle.site_run.specs.LineEndings.{IsLineEnd, LinesEndAs};
 ghost use Rattle.plain_site.specs.Site.{opening};
+ghost use Rattle.tardis_main.specs.Program.{CausedBy, FramesEnd, LinesEnd};
 ghost use Rattle.tardis_main.specs.Runs.{AuditFrom, ShellFrom};
 
 use session_core::SiteCore;
@@ -30,17 +25,10 @@ pub(crate) fn shell<I: Source, O: Sink>(
     requires limits { IsTrue (are_limits limits) }
     requires first { 1 ≤ own }
     requires last { own ≤ limits.sites }
-    ensures shell { WhileTold (I.left input.old) (I.left input.new) (ShellFrom (opening limits own) result (O.given output.old) (O.given output.new)) }
-    ensures exact { WhileTold (I.left input.old) (I.left input.new) (λ first left. (all : List (List ℕ)) (rest : List ℕ)
-        → AreLines first all rest → length first < most_taken
-        → (Rose (I.faults input.old) (I.faults input.new) → ⊥) → (Rose (O.faults output.old) (O.faults output.new) → ⊥)
-        → LinesEndAs rest result) }
-    ensures status { IsLineEnd result }
-    ensures read_later { I.faults input.old ≤ I.faults input.new }
-    ensures write_later { O.faults output.old ≤ O.faults output.new }
-    ensures read { result ≡ Status.ReadFault → Rose (I.faults input.old) (I.faults input.new) }
-    ensures write { result ≡ Status.WriteFault → Rose (O.faults output.old) (O.faults output.new) }
-    ensures nothing { result ≡ Status.NoMemory → (input.new ≡ input.old) × (output.new ≡ output.old) }
+    ensures ends { LinesEnd I.left I.faults O.faults input.old input.new output.old output.new
+        (ShellFrom (opening limits own) result (O.given output.old) (O.given output.new)) result }
+    ensures read { CausedBy Status.ReadFault (I.faults input.old) (I.faults input.new) result }
+    ensures write { CausedBy Status.WriteFault (O.faults output.old) (O.faults output.new) result }
 {
     match SiteCore::new(alloc, keys, limits, own) {
         Ok(mut site) => run_shell(alloc, &mut site, input, output),
@@ -60,17 +48,10 @@ pub(crate) fn audit_frames<I: Source, O: Sink>(
     requires limits { IsTrue (are_limits limits) }
     requires first { 1 ≤ own }
     requires last { own ≤ limits.sites }
-    ensures audit { WhileTold (I.left input.old) (I.left input.new) (AuditFrom (opening limits own) result (O.given output.old) (O.given output.new)) }
-    ensures exact { WhileTold (I.left input.old) (I.left input.new) (λ first left. (all : List (List ℕ)) (rest : List ℕ)
-        → IsCut first all rest → length first < most_taken
-        → (Rose (I.faults input.old) (I.faults input.new) → ⊥) → (Rose (O.faults output.old) (O.faults output.new) → ⊥)
-        → EndsAs rest result) }
-    ensures status { IsRunEnd result }
-    ensures read_later { I.faults input.old ≤ I.faults input.new }
-    ensures write_later { O.faults output.old ≤ O.faults output.new }
-    ensures read { result ≡ Status.ReadFault → Rose (I.faults input.old) (I.faults input.new) }
-    ensures write { result ≡ Status.WriteFault → Rose (O.faults output.old) (O.faults output.new) }
-    ensures nothing { result ≡ Status.NoMemory → (input.new ≡ input.old) × (output.new ≡ output.old) }
+    ensures ends { FramesEnd I.left I.faults O.faults input.old input.new output.old output.new
+        (AuditFrom (opening limits own) result (O.given output.old) (O.given output.new)) result }
+    ensures read { CausedBy Status.ReadFault (I.faults input.old) (I.faults input.new) result }
+    ensures write { CausedBy Status.WriteFault (O.faults output.old) (O.faults output.new) result }
 {
     match SiteCore::new(alloc, keys, limits, own) {
         Ok(mut site) => audit(alloc, &mut site, input, output),

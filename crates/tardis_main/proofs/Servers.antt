@@ -1,0 +1,60 @@
+-- What the end of a server says of its status.
+use Rattle.std.proofs.Common.{◌≡◌, ℕ, ◌⊎◌, Bool, true, false, cond, Result, Ok, Err, OnErr, nat_lt, refl, sym, ap, subst, inl, inr, arith}
+use Rattle.tardis_base.specs.declared.records.Limits.{Limits}
+use Rattle.tardis_io.specs.declared.faults.WriteFault.{WriteFault as NotWritten}
+use Rattle.tardis_io.specs.declared.statuses.Status.TheVariants.{Ok as Well, WriteFault, NoMemory, GateFault}
+use Rattle.tardis_io.specs.Statuses.{status_number}
+use Rattle.serve_pool.specs.declared.ends.PoolEnd.{PoolEnd}
+use Rattle.serve_pool.specs.declared.ends.PoolEnd.TheVariants.{Done as AllServed, GateFault as NextFailed}
+use Rattle.serve_run.specs.declared.endings.Serving.{Serving}
+use Rattle.serve_run.specs.declared.endings.ServeEnd.{ServeEnd}
+use Rattle.serve_run.specs.declared.endings.ServeEnd.TheVariants.{NotBound, NotMade, Served}
+use Rattle.plain_site.specs.Site.{opening}
+use Rattle.session_core.specs.Core.{Core}
+use Rattle.session_core.specs.Stands.{CoreStands}
+use Rattle.session_core.specs.Machine.{opened_with}
+use Rattle.tardis_main.specs.Program.{status_served, status_after}
+
+-- a site that opens opened with the plain one
+pub opens_as : (core : Core) (limits : Limits) (own : ℕ) → CoreStands core (opening limits own) → opened_with core ≡ opening limits own
+opens_as core limits own s = subst (λ l. opening l core.book.own ≡ opening limits own) (sym s.limits) (ap (opening limits) s.own)
+
+-- what failed at each end: R where the gate did, S where the output did
+pub record Fails (R S : Type 0) (end : ServeEnd) : Type 0 where
+  pub bound : end ≡ NotBound → R
+  pub next : (s : Serving) → end ≡ Served s → s.gate ≡ NextFailed → R
+  pub write : (s : Serving) → end ≡ Served s → OnErr s.written S
+
+next_failed : (wanting : Bool) (g : PoolEnd) (w : Result (Unit {0}) NotWritten) → cond wanting NoMemory (status_served g w) ≡ GateFault → g ≡ NextFailed
+next_failed true g w e = absurd (omega (arith, ap status_number e))
+next_failed false NextFailed w e = refl
+next_failed false AllServed (Err x) e = absurd (omega (arith, ap status_number e))
+next_failed false AllServed (Ok u) e = absurd (omega (arith, ap status_number e))
+
+write_failed : (S : Type 0) (wanting : Bool) (g : PoolEnd) (w : Result (Unit {0}) NotWritten) → OnErr w S → cond wanting NoMemory (status_served g w) ≡ WriteFault → S
+write_failed S true g w o e = absurd (omega (arith, ap status_number e))
+write_failed S false NextFailed w o e = absurd (omega (arith, ap status_number e))
+write_failed S false AllServed (Err x) o e = o
+write_failed S false AllServed (Ok u) o e = absurd (omega (arith, ap status_number e))
+
+well_or_none : (R S : Type 0) (wanting : Bool) (g : PoolEnd) (w : Result (Unit {0}) NotWritten) → (g ≡ NextFailed → R) → OnErr w S → (R → ⊥) → (S → ⊥)
+    → (cond wanting NoMemory (status_served g w) ≡ Well) ⊎ (cond wanting NoMemory (status_served g w) ≡ NoMemory)
+well_or_none R S true g w f o r s = inr refl
+well_or_none R S false NextFailed w f o r s = absurd (r (f refl))
+well_or_none R S false AllServed (Err x) f o r s = absurd (s o)
+well_or_none R S false AllServed (Ok u) f o r s = inl refl
+
+pub gate_failed : (R S : Type 0) (end : ServeEnd) → Fails R S end → status_after end ≡ GateFault → R
+gate_failed R S NotBound f e = f.bound refl
+gate_failed R S NotMade f e = absurd (omega (arith, ap status_number e))
+gate_failed R S (Served s) f e = f.next s refl (next_failed (nat_lt 0 s.unserved) s.gate s.written e)
+
+pub output_failed : (R S : Type 0) (end : ServeEnd) → Fails R S end → status_after end ≡ WriteFault → S
+output_failed R S NotBound f e = absurd (omega (arith, ap status_number e))
+output_failed R S NotMade f e = absurd (omega (arith, ap status_number e))
+output_failed R S (Served s) f e = write_failed S (nat_lt 0 s.unserved) s.gate s.written (f.write s refl) e
+
+pub well_without_faults : (R S : Type 0) (end : ServeEnd) → Fails R S end → (R → ⊥) → (S → ⊥) → (status_after end ≡ Well) ⊎ (status_after end ≡ NoMemory)
+well_without_faults R S NotBound f r s = absurd (r (f.bound refl))
+well_without_faults R S NotMade f r s = inr refl
+well_without_faults R S (Served z) f r s = well_or_none R S (nat_lt 0 z.unserved) z.gate z.written (f.next z refl) (f.write z refl) r s
