@@ -1,7 +1,3 @@
--- Lemmas on runs of the program.
-pub mod Runs
-pub mod Words
-pub mod LineRuns
+-- Lemmas on commands of the program.
+mod Words
 mod WorldRuns
-mod Ends
-mod Servers

@@ -3,34 +3,28 @@
 //! The commands and the statuses are stated in `docs/COMMANDS.md`.
 #![tactic(auto)]
 
-ghost use Rattle.std.specs.Prelude.{◌≡◌, ◌≤◌, ◌⊎◌, IsTrue, map};
+ghost use Rattle.std.specs.Prelude.{◌≡◌, ◌⊎◌, map};
 ghost use Rattle.std.specs.String.{string_bytes};
-ghost use Rattle.tardis_base.specs.Valid.{are_limits};
-ghost use Rattle.plain_site.specs.Site.{opening};
 ghost use Rattle.command_words.specs.Forms.{Serving};
+ghost use Rattle.site_commands.specs.Ends.{CausedBy};
 ghost use Rattle.tardis_main.specs.Words.{AreServe, AreUnknown, AskToServe};
-ghost use Rattle.tardis_main.specs.Runs.{RunFrom};
-ghost use Rattle.tardis_main.specs.Program.{Audits, CausedBy, FramesEnd, Runs, Serves, Shells, Worlds};
+ghost use Rattle.tardis_main.specs.Program.{Audits, Runs, Serves, Shells, Worlds};
 
 mod helps;
 mod laws;
-mod lines;
+mod plans;
 mod programs;
-mod serves;
 
 use command_words::{Command, WordsFault, read_words};
 pub use helps::{Help, help_of};
 pub use laws::replies_have_lines;
-use lines::{audit_frames, shell};
+use plans::{has_no_peers, serve_plan};
 pub use programs::carry_out;
-use serves::{has_no_peers, serve};
-use session_core::SiteCore;
-use site_run::run_site;
+use site_commands::{audit_frames, run, shell};
 use std::alloc::Global;
 use std::hash::RandomState;
 use std::sync::Wait;
 use std::thread::Threads;
-use tardis_base::{Limits, NoMemory};
 use tardis_io::{Gate, Sink, Source, Status};
 use world_core::run_world;
 
@@ -52,11 +46,11 @@ pub fn tardis<I: Source, O: Sink, G: Gate, R: Threads + Wait + Sync>(
     ensures unknown { AreUnknown (map (λ w. string_bytes w) words.now)
         → ((result ≡ Status.Usage) ⊎ ((result ≡ Status.NoMemory) × AskToServe (map (λ w. string_bytes w) words.now)))
         × (input.new ≡ input.old) × (output.new ≡ output.old) × (gate.new ≡ gate.old) }
-    ensures run { Runs I.left I.faults O.faults input.old input.new output.old output.new O.given (map (λ w. string_bytes w) words.now) result }
-    ensures shell { Shells I.left I.faults O.faults input.old input.new output.old output.new O.given (map (λ w. string_bytes w) words.now) result }
-    ensures audit { Audits I.left I.faults O.faults input.old input.new output.old output.new O.given (map (λ w. string_bytes w) words.now) result }
-    ensures world { Worlds I.left I.faults O.faults input.old input.new output.old output.new O.given (map (λ w. string_bytes w) words.now) result }
-    ensures serve { Serves O.given O.faults G.told G.faults G.Link.left G.Link.given G.Link.take_faults G.Link.faults output.old output.new gate.old gate.new
+    ensures run { Runs I.left I.faults O.given O.faults input.old input.new output.old output.new (map (λ w. string_bytes w) words.now) result }
+    ensures shell { Shells I.left I.faults O.given O.faults input.old input.new output.old output.new (map (λ w. string_bytes w) words.now) result }
+    ensures audit { Audits I.left I.faults O.given O.faults input.old input.new output.old output.new (map (λ w. string_bytes w) words.now) result }
+    ensures world { Worlds I.left I.faults O.given O.faults input.old input.new output.old output.new (map (λ w. string_bytes w) words.now) result }
+    ensures serve { Serves G.Link.left G.Link.given G.Link.take_faults G.Link.faults G.told G.faults O.given O.faults gate.old gate.new output.old output.new
         (map (λ w. string_bytes w) words.now) result }
     ensures unread { (plan : Serving) → AreServe (map (λ w. string_bytes w) words.now) plan → input.new ≡ input.old }
     ensures unbound { ((plan : Serving) → AreServe (map (λ w. string_bytes w) words.now) plan → ⊥) → gate.new ≡ gate.old }
@@ -75,7 +69,7 @@ pub fn tardis<I: Source, O: Sink, G: Gate, R: Threads + Wait + Sync>(
         Ok(Command::World { sites }) => run_world(alloc, keys, sites, input, output),
         Ok(Command::Serve(plan)) => {
             if has_no_peers(&plan) {
-                serve(alloc, rt, keys, &plan, gate, output)
+                serve_plan(alloc, rt, keys, &plan, gate, output)
             } else {
                 Status::Usage
             }
@@ -86,56 +80,11 @@ pub fn tardis<I: Source, O: Sink, G: Gate, R: Threads + Wait + Sync>(
     }
 }
 
-/// Runs the site of this number, with these limits.
-fn run<I: Source, O: Sink>(
-    alloc: Global,
-    keys: RandomState,
-    limits: Limits,
-    own: u16,
-    input: &mut I,
-    output: &mut O,
-) -> Status
-    requires limits { IsTrue (are_limits limits) }
-    requires first { 1 ≤ own }
-    requires last { own ≤ limits.sites }
-    ensures ends { FramesEnd I.left I.faults O.faults input.old input.new output.old output.new
-        (RunFrom (opening limits own) result (O.given output.old) (O.given output.new)) result }
-    ensures read { CausedBy Status.ReadFault (I.faults input.old) (I.faults input.new) result }
-    ensures write { CausedBy Status.WriteFault (O.faults output.old) (O.faults output.new) result }
-{
-    match SiteCore::new(alloc, keys, limits, own) {
-        Ok(mut site) => run_site(alloc, &mut site, input, output),
-        Err(NoMemory) => Status::NoMemory,
-    }
-}
-
-#[cfg(test)]
-mod collection_rows;
-#[cfg(test)]
-mod collection_tests;
-#[cfg(test)]
-mod exchange_rows;
-#[cfg(test)]
-mod exchange_tests;
-#[cfg(test)]
-mod floor_rows;
-#[cfg(test)]
-mod floor_tests;
-#[cfg(test)]
-mod limit_tests;
 #[cfg(test)]
 mod line_rows;
 #[cfg(test)]
 mod line_tests;
 #[cfg(test)]
-mod merge_rows;
-#[cfg(test)]
-mod merge_tests;
-#[cfg(test)]
-mod rows;
-#[cfg(test)]
-mod step_tests;
-#[cfg(test)]
-mod talks;
+mod serve_tests;
 #[cfg(test)]
 mod tests;

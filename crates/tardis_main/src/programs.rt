@@ -5,9 +5,10 @@ ghost use Rattle.std.specs.String.{string_bytes};
 ghost use Rattle.std.specs.Vec.Iter.{into_iter_items};
 ghost use Rattle.tardis_io.specs.Faults.{Rose};
 ghost use Rattle.command_words.specs.Forms.{Serving};
+ghost use Rattle.site_commands.specs.Ends.{CausedBy};
 ghost use Rattle.tardis_main.specs.Helps.{AreNone, AskUsage, AskVersion};
 ghost use Rattle.tardis_main.specs.Words.{AreServe};
-ghost use Rattle.tardis_main.specs.Program.{Audits, CausedBy, Runs, Serves, Shells, Worlds};
+ghost use Rattle.tardis_main.specs.Program.{Audits, Runs, Serves, Shells, Worlds};
 
 use crate::helps::{Help, help_of};
 use crate::tardis;
@@ -36,15 +37,15 @@ pub fn carry_out<I: Source, O: Sink, G: Gate, R: Threads + Wait + Sync>(
         → ((result ≡ Status.Usage) ⊎ (result ≡ Status.NoMemory)) × (input.new ≡ input.old) × (output.new ≡ output.old) × (gate.new ≡ gate.old) }
     ensures help { AskUsage (map (λ w. string_bytes w) (drop 1 (into_iter_items args))) ⊎ AskVersion (map (λ w. string_bytes w) (drop 1 (into_iter_items args)))
         → ((result ≡ Status.Ok) ⊎ ((result ≡ Status.WriteFault) ⊎ ((result ≡ Status.NoMemory) × (output.new ≡ output.old)))) × (input.new ≡ input.old) }
-    ensures run { Runs I.left I.faults O.faults input.old input.new output.old output.new O.given
+    ensures run { Runs I.left I.faults O.given O.faults input.old input.new output.old output.new
         (map (λ w. string_bytes w) (drop 1 (into_iter_items args))) result }
-    ensures shell { Shells I.left I.faults O.faults input.old input.new output.old output.new O.given
+    ensures shell { Shells I.left I.faults O.given O.faults input.old input.new output.old output.new
         (map (λ w. string_bytes w) (drop 1 (into_iter_items args))) result }
-    ensures audit { Audits I.left I.faults O.faults input.old input.new output.old output.new O.given
+    ensures audit { Audits I.left I.faults O.given O.faults input.old input.new output.old output.new
         (map (λ w. string_bytes w) (drop 1 (into_iter_items args))) result }
-    ensures world { Worlds I.left I.faults O.faults input.old input.new output.old output.new O.given
+    ensures world { Worlds I.left I.faults O.given O.faults input.old input.new output.old output.new
         (map (λ w. string_bytes w) (drop 1 (into_iter_items args))) result }
-    ensures serve { Serves O.given O.faults G.told G.faults G.Link.left G.Link.given G.Link.take_faults G.Link.faults output.old output.new gate.old gate.new
+    ensures serve { Serves G.Link.left G.Link.given G.Link.take_faults G.Link.faults G.told G.faults O.given O.faults gate.old gate.new output.old output.new
         (map (λ w. string_bytes w) (drop 1 (into_iter_items args))) result }
     ensures unread { (plan : Serving) → AreServe (map (λ w. string_bytes w) (drop 1 (into_iter_items args))) plan → input.new ≡ input.old }
     ensures unbound { ((plan : Serving) → AreServe (map (λ w. string_bytes w) (drop 1 (into_iter_items args))) plan → ⊥) → gate.new ≡ gate.old }

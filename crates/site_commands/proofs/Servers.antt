@@ -1,19 +1,23 @@
 -- What the end of a server says of its status.
-use Rattle.std.proofs.Common.{◌≡◌, ℕ, ◌⊎◌, Bool, true, false, cond, Result, Ok, Err, OnErr, nat_lt, refl, sym, ap, subst, inl, inr, arith}
+use Rattle.std.proofs.Common.{◌≡◌, ℕ, ◌⊎◌, Bool, true, false, cond, List, Option, Result, Ok, Err, OnErr, nat_lt, refl, sym, ap, subst, inl, inr, arith}
+use Rattle.tardis_base.specs.Plain.{PlainMachine}
 use Rattle.tardis_base.specs.declared.records.Limits.{Limits}
 use Rattle.tardis_io.specs.declared.faults.WriteFault.{WriteFault as NotWritten}
 use Rattle.tardis_io.specs.declared.statuses.Status.TheVariants.{Ok as Well, WriteFault, NoMemory, GateFault}
 use Rattle.tardis_io.specs.Statuses.{status_number}
+use Rattle.tardis_io.specs.Faults.{Rose}
+use Rattle.tardis_io.specs.Links.{ToldGate}
 use Rattle.serve_pool.specs.declared.ends.PoolEnd.{PoolEnd}
 use Rattle.serve_pool.specs.declared.ends.PoolEnd.TheVariants.{Done as AllServed, GateFault as NextFailed}
 use Rattle.serve_run.specs.declared.endings.Serving.{Serving}
 use Rattle.serve_run.specs.declared.endings.ServeEnd.{ServeEnd}
 use Rattle.serve_run.specs.declared.endings.ServeEnd.TheVariants.{NotBound, NotMade, Served}
+use Rattle.serve_run.specs.Serving.{ServeOutcome}
 use Rattle.plain_site.specs.Site.{opening}
 use Rattle.session_core.specs.Core.{Core}
 use Rattle.session_core.specs.Stands.{CoreStands}
 use Rattle.session_core.specs.Machine.{opened_with}
-use Rattle.tardis_main.specs.Program.{status_served, status_after}
+use Rattle.site_commands.specs.Ends.{status_served, status_after}
 
 -- a site that opens opened with the plain one
 pub opens_as : (core : Core) (limits : Limits) (own : ℕ) → CoreStands core (opening limits own) → opened_with core ≡ opening limits own
@@ -58,3 +62,15 @@ pub well_without_faults : (R S : Type 0) (end : ServeEnd) → Fails R S end → 
 well_without_faults R S NotBound f r s = absurd (r (f.bound refl))
 well_without_faults R S NotMade f r s = inr refl
 well_without_faults R S (Served z) f r s = well_or_none R S (nat_lt 0 z.unserved) z.gate z.written (f.next z refl) (f.write z refl) r s
+
+module _ {P L G O : Type 0} (link_left link_given : L → Option (List ℕ)) (link_takes link_gives : L → ℕ) (m : PlainMachine P) (start : P) (most : ℕ)
+    (told : G → Option (ToldGate L)) (gates : G → ℕ) (given : O → Option (List ℕ)) (writes : O → ℕ) where
+  -- what failed, by a server's outcome
+  pub fails_of : (links : ℕ) (old new : G) (before after : O) (end : ServeEnd)
+      → ServeOutcome link_left link_given link_takes link_gives m start most told gates given writes links old new before after end
+      → Fails (Rose (gates old) (gates new)) (Rose (writes before) (writes after)) end
+  fails_of links old new before after end o = record {
+    bound = λ e. (o.not_bound e).0;
+    next = λ s e. (o.served s e).fault;
+    write = λ s e. (o.served s e).cause.failed;
+  }

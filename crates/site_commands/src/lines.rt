@@ -3,8 +3,8 @@
 ghost use Rattle.std.specs.Prelude.{◌≤◌, IsTrue};
 ghost use Rattle.tardis_base.specs.Valid.{are_limits};
 ghost use Rattle.plain_site.specs.Site.{opening};
-ghost use Rattle.tardis_main.specs.Program.{CausedBy, FramesEnd, LinesEnd};
-ghost use Rattle.tardis_main.specs.Runs.{AuditFrom, ShellFrom};
+ghost use Rattle.site_commands.specs.Ends.{CausedBy, FramesEnd, LinesEnd};
+ghost use Rattle.site_commands.specs.Runs.{AuditFrom, ShellFrom};
 
 use session_core::SiteCore;
 use shell_run::{audit, run_shell};
@@ -14,7 +14,7 @@ use tardis_base::{Limits, NoMemory};
 use tardis_io::{Sink, Source, Status};
 
 /// Answers lines of requests by lines of the replies of the site of this number, with these limits.
-pub(crate) fn shell<I: Source, O: Sink>(
+pub fn shell<I: Source, O: Sink>(
     alloc: Global,
     keys: RandomState,
     limits: Limits,
@@ -37,7 +37,7 @@ pub(crate) fn shell<I: Source, O: Sink>(
 }
 
 /// Tells, in a line each, what frames ask and what the site of this number, with these limits, replies.
-pub(crate) fn audit_frames<I: Source, O: Sink>(
+pub fn audit_frames<I: Source, O: Sink>(
     alloc: Global,
     keys: RandomState,
     limits: Limits,

@@ -4,11 +4,11 @@ use Rattle.plain_site.specs.Site.{opening}
 use Rattle.plain_site.specs.Step.{site_machine}
 use Rattle.session_core.specs.Machine.{SiteStands}
 use Rattle.shell_run.specs.Outcomes.{AuditOutcome}
-use Rattle.tardis_main.specs.Runs.{AuditFrom}
-use Rattle.tardis_main.proofs.Ends.{no_frames}
-use Rattle.tardis_main.proofs.Runs.{opens}
-use Rattle.tardis_main.proofs.LineRuns.{audit_from, no_audit}
-use Rattle.tardis_main.proofs.lines.audit_frames.Goals as goal
+use Rattle.site_commands.specs.Runs.{AuditFrom}
+use Rattle.site_commands.proofs.NoMemory.{no_frames}
+use Rattle.site_commands.proofs.Runs.{opens}
+use Rattle.site_commands.proofs.LineRuns.{audit_from, no_audit}
+use Rattle.site_commands.proofs.lines.audit_frames.Goals as goal
 
 pub returns-in-Ok-clause-ends : goal.returns-in-Ok-clause-ends
 returns-in-Ok-clause-ends g c =

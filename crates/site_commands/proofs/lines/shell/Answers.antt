@@ -5,11 +5,11 @@ use Rattle.plain_site.specs.Step.{site_machine}
 use Rattle.session_core.specs.Machine.{SiteStands}
 use Rattle.shell_run.specs.Answers.{over_lines}
 use Rattle.shell_run.specs.Outcomes.{ShellOutcome}
-use Rattle.tardis_main.specs.Runs.{ShellFrom}
-use Rattle.tardis_main.proofs.Ends.{no_lines}
-use Rattle.tardis_main.proofs.Runs.{opens}
-use Rattle.tardis_main.proofs.LineRuns.{shell_from, no_shell}
-use Rattle.tardis_main.proofs.lines.shell.Goals as goal
+use Rattle.site_commands.specs.Runs.{ShellFrom}
+use Rattle.site_commands.proofs.NoMemory.{no_lines}
+use Rattle.site_commands.proofs.Runs.{opens}
+use Rattle.site_commands.proofs.LineRuns.{shell_from, no_shell}
+use Rattle.site_commands.proofs.lines.shell.Goals as goal
 
 pub returns-in-Ok-clause-ends : goal.returns-in-Ok-clause-ends
 returns-in-Ok-clause-ends g c =

@@ -7,10 +7,10 @@ use Rattle.site_run.specs.Endings.{Outcome, shape_of}
 use Rattle.plain_site.specs.Site.{opening}
 use Rattle.plain_site.specs.Step.{site_machine}
 use Rattle.session_core.specs.Machine.{SiteStands}
-use Rattle.tardis_main.specs.Runs.{RunFrom}
-use Rattle.tardis_main.proofs.Ends.{no_frames}
-use Rattle.tardis_main.proofs.Runs.{run_from, no_run, opens}
-use Rattle.tardis_main.proofs.run.Goals as goal
+use Rattle.site_commands.specs.Runs.{RunFrom}
+use Rattle.site_commands.proofs.NoMemory.{no_frames}
+use Rattle.site_commands.proofs.Runs.{run_from, no_run, opens}
+use Rattle.site_commands.proofs.runs.run.Goals as goal
 
 pub returns-in-Ok-clause-ends : goal.returns-in-Ok-clause-ends
 returns-in-Ok-clause-ends g c =
