@@ -1,3 +1,4 @@
 -- Lemmas on commands of the program.
 mod Words
 mod WorldRuns
+mod Commands

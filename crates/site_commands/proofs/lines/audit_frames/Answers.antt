@@ -6,7 +6,7 @@ use Rattle.session_core.specs.Machine.{SiteStands}
 use Rattle.shell_run.specs.Outcomes.{AuditOutcome}
 use Rattle.site_commands.specs.Runs.{AuditFrom}
 use Rattle.site_commands.proofs.NoMemory.{no_frames}
-use Rattle.site_commands.proofs.Runs.{opens}
+use Rattle.site_commands.proofs.FrameRuns.{opens}
 use Rattle.site_commands.proofs.LineRuns.{audit_from, no_audit}
 use Rattle.site_commands.proofs.lines.audit_frames.Goals as goal
 

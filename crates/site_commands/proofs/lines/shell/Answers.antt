@@ -7,7 +7,7 @@ use Rattle.shell_run.specs.Answers.{over_lines}
 use Rattle.shell_run.specs.Outcomes.{ShellOutcome}
 use Rattle.site_commands.specs.Runs.{ShellFrom}
 use Rattle.site_commands.proofs.NoMemory.{no_lines}
-use Rattle.site_commands.proofs.Runs.{opens}
+use Rattle.site_commands.proofs.FrameRuns.{opens}
 use Rattle.site_commands.proofs.LineRuns.{shell_from, no_shell}
 use Rattle.site_commands.proofs.lines.shell.Goals as goal
 

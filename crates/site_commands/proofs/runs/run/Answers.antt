@@ -9,7 +9,7 @@ use Rattle.plain_site.specs.Step.{site_machine}
 use Rattle.session_core.specs.Machine.{SiteStands}
 use Rattle.site_commands.specs.Runs.{RunFrom}
 use Rattle.site_commands.proofs.NoMemory.{no_frames}
-use Rattle.site_commands.proofs.Runs.{run_from, no_run, opens}
+use Rattle.site_commands.proofs.FrameRuns.{run_from, no_run, opens}
 use Rattle.site_commands.proofs.runs.run.Goals as goal
 
 pub returns-in-Ok-clause-ends : goal.returns-in-Ok-clause-ends

@@ -6,7 +6,7 @@ use Rattle.plain_world.specs.Worlds.{opening_world, world_limits}
 use Rattle.world_core.specs.Runs.{WorldFrom}
 use Rattle.command_words.specs.Places.{IsPlace, program_limits}
 use Rattle.site_commands.specs.Runs.{RunFrom, ShellFrom, AuditFrom}
-use Rattle.site_commands.proofs.Runs.{no_run, opens}
+use Rattle.site_commands.proofs.FrameRuns.{no_run, opens}
 use Rattle.site_commands.proofs.LineRuns.{no_shell, no_audit}
 use Rattle.site_commands.proofs.NoMemory.{no_frames, no_lines}
 use Rattle.tardis_main.specs.Program.{site_at}
