@@ -66,5 +66,5 @@ module _ {L G O : Type 0} (link_left link_given : L → Option (List ℕ)) (link
   pub record ServerEnds (site : Site) (max_trail links : ℕ) (status : Status) : Type 0 where
     pub end : ServeEnd
     pub outcome : ServeOutcome link_left link_given link_takes link_gives site_machine site max_trail told gates given writes links old new before after end
-    pub status : status ≡ status_after end
+    pub judged : status ≡ status_after end
     pub complete : (Rose (gates old) (gates new) → ⊥) → (Rose (writes before) (writes after) → ⊥) → (status ≡ Well) ⊎ (status ≡ NoMemory)

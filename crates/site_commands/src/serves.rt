@@ -1,9 +1,10 @@
 //! A site that links reach.
 
-ghost use Rattle.std.specs.Prelude.{◌≡◌, ◌≤◌, IsTrue};
+ghost use Rattle.std.specs.Prelude.{◌≡◌, ◌≤◌, IsTrue, IfOk};
 ghost use Rattle.tardis_base.specs.Valid.{are_limits};
 ghost use Rattle.plain_site.specs.Site.{opening};
 ghost use Rattle.plain_site.specs.Step.{site_machine};
+ghost use Rattle.session_core.specs.Machine.{SiteStands, opened_with};
 ghost use Rattle.serve_run.specs.Serving.{ServeOutcome};
 ghost use Rattle.site_commands.specs.Ends.{CausedBy, ServerEnds, status_after, status_served};
 
@@ -61,7 +62,7 @@ fn serve_site<O: Sink, G: Gate, R: Threads + Wait + Sync>(
     ensures { ServeOutcome G.Link.left G.Link.given G.Link.take_faults G.Link.faults site_machine (opening limits own) limits.max_trail
         G.told G.faults O.given O.faults links gate.old gate.new output.old output.new result }
 {
-    match SiteCore::new(alloc, keys, limits, own) {
+    match open_site(alloc, keys, limits, own) {
         Ok(site) => serve_links(
             alloc,
             rt,
@@ -74,6 +75,22 @@ fn serve_site<O: Sink, G: Gate, R: Threads + Wait + Sync>(
         ),
         Err(NoMemory) => ServeEnd::NotMade,
     }
+}
+
+/// The site of this number, with these limits, which opens.
+fn open_site(
+    alloc: Global,
+    keys: RandomState,
+    limits: Limits,
+    own: u16,
+) -> Result<SiteCore, NoMemory>
+    requires limits { IsTrue (are_limits limits) }
+    requires first { 1 ≤ own }
+    requires last { own ≤ limits.sites }
+    ensures stands { IfOk result (λ core. SiteStands core (opened_with core)) }
+    ensures opened { IfOk result (λ core. opened_with core ≡ opening limits own) }
+{
+    SiteCore::new(alloc, keys, limits, own)
 }
 
 /// The status of a server that ended so.
