@@ -18,7 +18,7 @@ use Rattle.shell_run.specs.Outcomes.{ShellOutcome, AuditOutcome}
 use Rattle.plain_site.specs.Site.{Site}
 use Rattle.plain_site.specs.Step.{is_sure, site_machine}
 use Rattle.plain_site.specs.Sound.{IsSound}
-use Rattle.tardis_main.specs.Runs.{ShellFrom, AuditFrom}
+use Rattle.site_commands.specs.Runs.{ShellFrom, AuditFrom}
 
 -- what memory can't fail is read without memory
 sure_alone : (q : Request) → (is_sure q && takes_no_memory q) ≡ false → is_sure q ≡ false

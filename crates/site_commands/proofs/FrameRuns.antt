@@ -14,7 +14,7 @@ use Rattle.plain_site.specs.Site.{Site, opening}
 use Rattle.plain_site.specs.Step.{site_machine}
 use Rattle.plain_site.specs.Sound.{IsSound}
 use Rattle.plain_site.proofs.SoundOpening.{opening-is-sound}
-use Rattle.tardis_main.specs.Runs.{RunFrom}
+use Rattle.site_commands.specs.Runs.{RunFrom}
 
 -- replies that answer from a site, told of less of what is reached
 answered : (To : Site → Type 0) (status : Status) (old new : Option (List ℕ)) (bodies : List (List ℕ)) (s : Site) → ((t : Site) → To t → IsSound t) →

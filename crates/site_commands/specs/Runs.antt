@@ -1,7 +1,6 @@
 -- What a run of the program does, and a shell and an audit.
 use Rattle.std.specs.Prelude.{◌≡◌, ℕ, List, Option, map}
 use Rattle.tardis_io.specs.declared.statuses.Status.{Status}
-pub use Rattle.command_words.specs.Places.{program_limits}
 use Rattle.frame_cut.specs.Events.{event_of}
 use Rattle.site_run.specs.Machines.{Answered}
 use Rattle.site_run.specs.Endings.{Outcome, shape_of}

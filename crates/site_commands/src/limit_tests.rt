@@ -4,7 +4,7 @@ ghost use Rattle.std.specs.Prelude.{◌≤◌, IsTrue};
 ghost use Rattle.tardis_base.specs.Valid.{are_limits};
 
 use crate::rows::{
-    BEGUN, FULL_SITE, LONG_PATH, LOOKING_BACK, ONE_OF_16, PAST_LIMITS, SECOND_SESSION,
+    BEGUN, FULL_SITE, LONG_PATH, LOOKING_BACK, ONE_OF_16, PAST_LIMITS, SECOND_SESSION, TALK,
 };
 use crate::run;
 use crate::talks::Talk;
@@ -49,6 +49,7 @@ pub(crate) fn answers(rt: &HostRuntime, limits: Limits, own: u16, talk: &Talk) -
 #[test]
 fn a_site_stays_within_its_limits(rt: HostRuntime) -> Result<(), Fail> {
     let alloc = rt.alloc();
+    assert!(rt; answers(&rt, LIMITS, 1, &Talk::of(alloc, &[TALK])?)?);
     let three_states = Limits {
         max_kept: 3,
         ..LIMITS
