@@ -2,3 +2,4 @@
 mod Words
 mod WorldRuns
 mod Commands
+mod Unserved

@@ -25,7 +25,7 @@ returns-in-Ok-clause-ends g c =
       (c.in-Ok.ensures.stands, opens c.args.limits c.args.own c.requires.limits c.requires.first c.requires.last) (λ t both. both.1) o);
       exact = c.audit.ensures.exact;
       end = c.audit.ensures.status;
-      nothing = c.audit.ensures.nothing;
+      nothing = λ none. let all = c.audit.ensures.nothing none in (all.0, all.1);
     }
 
 pub returns-in-Err-clause-ends : goal.returns-in-Err-clause-ends

@@ -12,6 +12,7 @@ use Rattle.site_commands.proofs.NoMemory.{no_frames, no_lines}
 use Rattle.tardis_main.specs.Program.{site_at}
 use Rattle.tardis_main.proofs.WorldRuns.{no_world}
 use Rattle.tardis_main.proofs.Words.{limits_hold}
+use Rattle.tardis_main.proofs.Unserved.{no_server}
 use Rattle.tardis_main.proofs.programs.carry_out.Goals as goal
 
 pub returns-in-Err-clause-run : goal.returns-in-Err-clause-run
@@ -41,3 +42,8 @@ returns-in-Err-clause-world g c = λ sites are.
     let old = g.O.Sink.given c.args.output.now in
     no_frames g.I.Source.left g.I.Source.faults g.O.Sink.faults c.args.input.now c.args.output.now (WorldFrom world NoMemory old old)
     (λ x. no_world world old x)
+
+pub returns-in-Err-clause-serve : goal.returns-in-Err-clause-serve
+returns-in-Err-clause-serve g c = λ plan are.
+    no_server g.G.Link.Duplex.left g.G.Link.Sink.given g.G.Link.Duplex.take_faults g.G.Link.Sink.faults g.G.Gate.told g.G.Gate.faults g.O.Sink.given g.O.Sink.faults c.args.gate.now c.args.output.now
+    (site_at plan.place) (program_limits plan.place.sites).max_trail plan.links
