@@ -1,9 +1,10 @@
 //! What a peer answers.
 
-ghost use Rattle.std.specs.Prelude.{◌≡◌, ◌<◌, ◌≤◌, ℕ, List, [], length, Err};
+ghost use Rattle.std.specs.Prelude.{◌≡◌, ◌<◌, ◌≤◌, ℕ, List, [], length, Err, IfOk, IsTrue};
 ghost use Rattle.tardis_base.specs.Sizes.{longest_frame};
 ghost use Rattle.tardis_io.specs.Told.{WhileTold};
 ghost use Rattle.tardis_io.specs.Faults.{Rose};
+ghost use Rattle.wire_item.specs.Valid.{is_batch};
 ghost use Rattle.site_sync.specs.Fetching.{Gave, Fetched, IsAnswer};
 
 use crate::ends::SyncEnd;
@@ -26,6 +27,7 @@ pub(crate) fn fetch<D: Duplex>(
 ) -> Result<Batch, SyncEnd>
     requires fresh { cutter.old ≡ [] }
     requires room { (0 < length piece.old) × (length piece.old ≤ 65536) }
+    ensures valid { IfOk result (λ batch. IsTrue (is_batch batch)) }
     ensures gave { WhileTold (D.given device.old) (D.given device.new) (λ before after. Gave result before after request.now) }
     ensures fetched { WhileTold (D.left device.old) (D.left device.new) (Fetched result) }
     ensures read_later { D.take_faults device.old ≤ D.take_faults device.new }
@@ -49,6 +51,7 @@ fn read_batch<D: Duplex>(
     requires fresh { cutter.old ≡ [] }
     requires room { (0 < length piece.old) × (length piece.old ≤ 65536) }
     ensures fetched { WhileTold (D.left device.old) (D.left device.new) (Fetched result) }
+    ensures valid { IfOk result (λ batch. IsTrue (is_batch batch)) }
     ensures given { D.given device.new ≡ D.given device.old }
     ensures faults { D.faults device.new ≡ D.faults device.old }
     ensures read_later { D.take_faults device.old ≤ D.take_faults device.new }
@@ -72,7 +75,8 @@ fn read_batch<D: Duplex>(
 
 /// The batch that a reply is.
 fn batch_in(alloc: Global, body: &[u8]) -> Result<Batch, SyncEnd>
-    ensures { IsAnswer body.now result }
+    ensures answer { IsAnswer body.now result }
+    ensures valid { IfOk result (λ batch. IsTrue (is_batch batch)) }
 {
     talk_has_one_spelling();
     match read_reply(alloc, body) {

@@ -6,7 +6,9 @@ mod ends;
 mod exchanges;
 mod fetches;
 mod pulls;
+mod rounds;
 mod tallies;
 
 pub use ends::{Rounds, SyncEnd};
 pub use exchanges::sync_round;
+pub use rounds::run_rounds;

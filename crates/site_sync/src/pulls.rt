@@ -1,10 +1,9 @@
 //! Asking a peer for what is above the own counts.
 
-ghost use Rattle.std.specs.Prelude.{◌≡◌, ◌+◌, ◌≤◌, ◌++◌, List, length, map, flat_map};
+ghost use Rattle.std.specs.Prelude.{◌≡◌, ◌+◌, ◌≤◌, ◌++◌, List, length, flat_map};
 ghost use Rattle.tardis_base.specs.Sizes.{longest_frame};
 ghost use Rattle.tardis_base.specs.declared.replies.SiteLine.{SiteLine};
-ghost use Rattle.wire_item.specs.Spellings.{u32_spelling};
-ghost use Rattle.site_sync.specs.Asking.{AreStatistics, pull_frame};
+ghost use Rattle.site_sync.specs.Asking.{AreStatistics, StatesLines, count_spelling, pull_frame};
 
 use frame_cut::put_frame;
 use std::alloc::Global;
@@ -21,18 +20,20 @@ pub(crate) fn put_pull(alloc: Global, statistics: &mut ReplyBuf, out: &mut Reply
     requires told { (lines : List SiteLine) × AreStatistics statistics.old lines }
     ensures { (lines : List SiteLine) → AreStatistics statistics.old lines → out.new ≡ pull_frame lines }
 {
-    let lines = lines_in(alloc, statistics.bytes());
-    put_lines(&lines, statistics, out);
+    talk_has_one_spelling();
+    match read_reply(alloc, statistics.bytes()) {
+        Ok(told) => put_counts_of(&told, statistics, out),
+        Err(_) => unreachable!(),
+    }
 }
 
-/// The lines of the statistics.
-fn lines_in(alloc: Global, statistics: &[u8]) -> SiteLines
-    requires told { (lines : List SiteLine) × AreStatistics statistics.now lines }
-    ensures { (lines : List SiteLine) → AreStatistics statistics.now lines → result ≡ lines }
+/// Writes the frame that asks for what is above the counts of this reply.
+fn put_counts_of(told: &Reply, body: &mut ReplyBuf, out: &mut ReplyBuf)
+    requires { (lines : List SiteLine) × StatesLines told.now lines }
+    ensures { (lines : List SiteLine) → StatesLines told.now lines → out.new ≡ pull_frame lines }
 {
-    talk_has_one_spelling();
-    match read_reply(alloc, statistics) {
-        Ok(Reply::Stat { sites, .. }) => sites,
+    match told {
+        Reply::Stat { sites, .. } => put_lines(sites, body, out),
         _ => unreachable!(),
     }
 }
@@ -53,8 +54,8 @@ fn put_lines(lines: &SiteLines, body: &mut ReplyBuf, out: &mut ReplyBuf)
 }
 
 fn put_counts(lines: &[SiteLine], out: &mut ReplyBuf)
-    requires { length out.old + length (flat_map u32_spelling (map (λ line. line.count) lines.now)) ≤ longest_frame }
-    ensures { out.new ≡ out.old ++ flat_map u32_spelling (map (λ line. line.count) lines.now) }
+    requires { length out.old + length (flat_map count_spelling lines.now) ≤ longest_frame }
+    ensures { out.new ≡ out.old ++ flat_map count_spelling lines.now }
 {
     for line in lines {
         write_u32(line.count, out);
