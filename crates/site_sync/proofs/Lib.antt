@@ -7,3 +7,4 @@ mod Fetched
 mod Calls
 mod Exchanged
 mod Rounding
+mod Told

@@ -5,3 +5,4 @@ pub mod Fetching
 pub mod Delivering
 pub mod Exchanges
 pub mod Rounds
+pub mod Replier
