@@ -46,7 +46,7 @@ module _ {M P L D : Type 0} (opening : M → P) (m : PlainMachine P) (z : Kept M
   exchanges_then : (p : Known) (d : D) (ends : List SyncEnd) (q : Known) (e : D) (end : SyncEnd) (t : Known) (f : D) → AreExchanges opening m z left given take_faults faults told dial_faults p d ends q e
       → Syncs opening m z left given take_faults faults told dial_faults q t e f end → AreExchanges opening m z left given take_faults faults told dial_faults p d (ends ++ end ∷ []) t f
   exchanges_then p d [] q e end t f a s =
-      (t, f, subst (λ x. Syncs opening m z left given take_faults faults told dial_faults p t x f end) a.1 (subst (λ k. Syncs opening m z left given take_faults faults told dial_faults k t e f end) a.0 s), refl, refl)
+      (t, f, subst (λ x. Syncs opening m z left given take_faults faults told dial_faults p t x f end) a.1 (subst (λ k. Syncs opening m z left given take_faults faults told dial_faults k t e f end) a.0 s), (refl, refl))
   exchanges_then p d (x ∷ xs) q e end t f a s = (a.0, a.1, a.2, exchanges_then a.0 a.1 xs q e end t f a.3 s)
 
   -- so many peers were called

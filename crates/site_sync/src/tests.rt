@@ -1,5 +1,5 @@
-ghost use Rattle.std.specs.Prelude.{◌≡◌, [], ◌∷◌, ℕ, false};
-ghost use Rattle.site_sync.specs.Replier.{answer};
+ghost use Rattle.std.specs.Prelude.{◌≡◌, ◌<◌, [], false};
+ghost use Rattle.site_sync.specs.Replier.{answer, digit, statistics};
 
 use crate::{Rounds, SyncEnd, run_rounds, sync_round};
 use dag_lock::DagLock;
@@ -11,7 +11,8 @@ use tardis_io::{MemoryDial, MemoryLink, MemorySink, MemorySource};
 use trail_log::Trailed;
 use wire_talk::write_reply;
 
-/// Replies by the request alone, and finds no memory for a record of sequence 6.
+/// Replies by the request alone: the record of a sequence by the code that stands so far behind 16. For sequence 6 it finds
+/// no memory.
 #[derive(Drop)]
 struct Replier {}
 
@@ -27,20 +28,31 @@ impl Machine for Replier {
     fn act(&mut self, actor: u16, request: &[u8], out: &mut ReplyBuf) -> Result<(), NoMemory> {
         out.clear();
         let _ = actor;
-        match request {
-            [16] => put_statistics(out),
-            [20, 1, _, _, _, _, _, 6, ..] => return Err(NoMemory),
-            [20, 1, _, _, _, _, _, n, ..] => out.push_byte(16 + n % 16),
-            _ => {}
+        if request.len() == 1 {
+            put_statistics(out);
+            return Ok(());
         }
+        let digit = digit_in(request);
+        if digit == 6 {
+            return Err(NoMemory);
+        }
+        out.push_byte(16 + digit);
         Ok(())
     }
+}
+
+/// The low digit of the eighth byte.
+fn digit_in(request: &[u8]) -> u8
+    ensures same { result ≡ digit request.now }
+    ensures low { result < 16 }
+{
+    if request.len() > 7 { request[7] % 16 } else { 0 }
 }
 
 /// Answers as a fresh site of two.
 fn put_statistics(out: &mut ReplyBuf)
     requires { out.old ≡ [] }
-    ensures { out.new ≡ answer (16 ∷ []) }
+    ensures { out.new ≡ statistics }
 {
     let line = SiteLine {
         count: 0,
