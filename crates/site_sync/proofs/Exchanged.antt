@@ -15,9 +15,11 @@ use Rattle.site_sync.specs.Asking.{stat, items, AreStatistics, TellsCounts, pull
 use Rattle.site_sync.specs.Steps.{GoesOn, StepsOnce}
 use Rattle.site_sync.specs.Fetching.{Gave, Fetched}
 use Rattle.site_sync.specs.Delivering.{Delivers}
-use Rattle.site_sync.specs.Exchanges.{IsEndOf, CallsBack, Uses, Unasked, Asked, Exchange, NoLink, OneLink, Syncs}
+use Rattle.site_sync.specs.Exchanges.{IsEndOf, BatchIsTaken, CallsBack, Uses, Unasked, Asked, Exchange, NoLink, OneLink, Syncs}
 use Rattle.site_sync.specs.declared.ends.SyncEnd.{SyncEnd}
 use Rattle.site_sync.specs.declared.ends.SyncEnd.TheVariants.{DialFault, ReadFault, WriteFault, TrailFull, NoMemory}
+use Rattle.tardis_io.proofs.Told.{weaker, same as same_told}
+use Rattle.site_sync.proofs.Exact.{stops_well, uses_well}
 use Rattle.site_sync.proofs.Items.{same_some}
 use Rattle.site_sync.proofs.Going.{goes_nowhere, unanswered, reply_behind}
 use Rattle.site_sync.proofs.Calls.{rose_on, calls_back, not_called}
@@ -68,6 +70,7 @@ module _ {M P : Type 0} (opening : M → P) (m : PlainMachine P) (z : Kept M) wh
           write_later = omega arith;
           read_fault = λ f. absurd (none.0 f);
           write_fault = λ f. absurd (none.1 f);
+          exact = same_told (left link) (BatchIsTaken (Rose (take_faults link) (take_faults link)) (Rose (faults link) (faults link)) end) (λ x. λ body rest batch is first spelled no_read no_write. stops_well acted end e);
         }
 
     pub exchange_asked : (p mid q : Known) (handed back : L) (end : SyncEnd) (statistics : List ℕ) (lines : List SiteLine) (answer : Result Batch SyncEnd)
@@ -82,6 +85,9 @@ module _ {M P : Type 0} (opening : M → P) (m : PlainMachine P) (z : Kept M) wh
       write_later = later';
       read_fault = λ f. broke (read_answer answer mid q end used f);
       write_fault = λ f. broke' (write_answer answer mid q end used f);
+      exact = weaker (left handed) (left back) (Fetched answer) (BatchIsTaken (Rose (take_faults handed) (take_faults back)) (Rose (faults handed) (faults back)) end) read
+          (λ x y f. λ body rest batch is first spelled no_read no_write.
+          uses_well body rest batch is spelled opening m z answer mid q end x y first (λ w. no_read (broke (read_answer answer mid q end used w))) (λ w. no_write (broke' (write_answer answer mid q end used w))) f used);
     }
 
     finished_way : (p q : Known) (handed link back : L) (end : SyncEnd) → left back ≡ left link → given back ≡ given link
@@ -109,6 +115,12 @@ module _ {M P : Type 0} (opening : M → P) (m : PlainMachine P) (z : Kept M) wh
       write_later = omega (arith, x.write_later, f);
       read_fault = λ e. subst (λ n. Rose (take_faults handed) n) (sym t) (x.read_fault e);
       write_fault = λ e. rose_on (faults handed) (faults link) (faults back) (x.write_fault e) x.write_later f;
+      exact = subst (λ o. WhileTold (left handed) o (BatchIsTaken (Rose (take_faults handed) (take_faults back)) (Rose (faults handed) (faults back)) end)) (sym l)
+          (weaker (left handed) (left link) (BatchIsTaken (Rose (take_faults handed) (take_faults link)) (Rose (faults handed) (faults link)) end)
+          (BatchIsTaken (Rose (take_faults handed) (take_faults back)) (Rose (faults handed) (faults back)) end) x.exact
+          (λ a b h. λ body rest batch is first spelled no_read no_write. h body rest batch is first spelled
+          (λ r. no_read (subst (λ n. Rose (take_faults handed) n) (sym t) r))
+          (λ r. no_write (rose_on (faults handed) (faults link) (faults back) r x.write_later f))));
     }
 
     module _ {D : Type 0} (told : D → Option (ToldDial L)) (dial_faults : D → ℕ) where

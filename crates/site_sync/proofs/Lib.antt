@@ -5,6 +5,7 @@ mod Going
 mod Delivered
 mod Fetched
 mod Calls
+mod Exact
 mod Exchanged
 mod Rounding
 mod Told

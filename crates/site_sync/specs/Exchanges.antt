@@ -6,22 +6,37 @@ use Rattle.tardis_base.specs.Plain.{PlainMachine}
 use Rattle.tardis_io.specs.Told.{WhileTold}
 use Rattle.tardis_io.specs.Faults.{Rose}
 use Rattle.tardis_io.specs.Links.{ToldDial}
+use Rattle.tardis_base.specs.declared.replies.Reply.TheVariants.{Batch as BatchIs}
+use Rattle.frame_cut.specs.Frames.{frame, IsBody}
+use Rattle.wire_talk.specs.Spelled.{SpellsReply}
 use Rattle.trail_log.specs.Trail.{Kept}
 use Rattle.trail_log.specs.declared.acted.Acted.{Acted}
-use Rattle.trail_log.specs.declared.acted.Acted.TheVariants.{Done, TrailFull as TrailIsFull, NoMemory as OutOfMemory}
+use Rattle.trail_log.specs.declared.acted.Acted.TheVariants.{Done as Answered, TrailFull as TrailIsFull, NoMemory as OutOfMemory}
 use Rattle.dag_lock.specs.Known.{Known}
 use Rattle.site_sync.specs.Asking.{stat, items, AreStatistics, pull_frame}
 use Rattle.site_sync.specs.Steps.{StepsOnce, GoesOn}
 use Rattle.site_sync.specs.Fetching.{Gave, Fetched}
 use Rattle.site_sync.specs.Delivering.{Delivers}
 use Rattle.site_sync.specs.declared.ends.SyncEnd.{SyncEnd}
-use Rattle.site_sync.specs.declared.ends.SyncEnd.TheVariants.{DialFault, ReadFault, WriteFault, TrailFull, NoMemory}
+use Rattle.site_sync.specs.declared.ends.SyncEnd.TheVariants.{Done, DialFault, ReadFault, WriteFault, TrailFull, NoMemory}
 
 -- the end of an exchange at a step that wasn't answered
 abbrev pub IsEndOf : Acted → SyncEnd → Type 0
 IsEndOf (TrailIsFull bytes) end = end ≡ TrailFull bytes
 IsEndOf OutOfMemory end = end ≡ NoMemory
-IsEndOf Done end = ⊥
+IsEndOf Answered end = ⊥
+
+-- every item was delivered, or the trail or memory had no room
+abbrev pub EndsWell : SyncEnd → Type 0
+EndsWell (Done applied known early refused) = Unit {0}
+EndsWell (TrailFull bytes) = Unit {0}
+EndsWell NoMemory = Unit {0}
+EndsWell _ = ⊥
+
+-- where neither count rose and the frame of a batch is first, the exchange ends well
+abbrev pub BatchIsTaken : Type 0 → Type 0 → SyncEnd → List ℕ → List ℕ → Type 0
+BatchIsTaken TakesRose GivesRose end first left =
+    (body rest : List ℕ) (batch : Batch) → IsBody body → first ≡ frame body ++ rest → SpellsReply body (BatchIs batch) → (TakesRose → ⊥) → (GivesRose → ⊥) → EndsWell end
 
 -- the first link that was left was had, and stands as it is now behind those that were put back
 abbrev pub CallsBack : {L : Type 0} → L → L → Option (ToldDial L) → Option (ToldDial L) → Type 0
@@ -51,7 +66,7 @@ module _ {M P : Type 0} (opening : M → P) (m : PlainMachine P) (z : Kept M) wh
       pub lines : List SiteLine
       pub are_statistics : AreStatistics statistics lines
       pub mid : Known
-      pub told : StepsOnce opening m z p stat statistics mid Done
+      pub told : StepsOnce opening m z p stat statistics mid Answered
       pub answer : Result Batch SyncEnd
       pub gave : WhileTold (given handed) (given back) (λ before after. Gave answer before after (pull_frame lines))
       pub read : WhileTold (left handed) (left back) (Fetched answer)
@@ -64,6 +79,7 @@ module _ {M P : Type 0} (opening : M → P) (m : PlainMachine P) (z : Kept M) wh
       pub write_later : faults handed ≤ faults back
       pub read_fault : end ≡ ReadFault → Rose (take_faults handed) (take_faults back)
       pub write_fault : end ≡ WriteFault → Rose (faults handed) (faults back)
+      pub exact : WhileTold (left handed) (left back) (BatchIsTaken (Rose (take_faults handed) (take_faults back)) (Rose (faults handed) (faults back)) end)
 
     module _ {D : Type 0} (told : D → Option (ToldDial L)) (dial_faults : D → ℕ) where
       -- no link was had: the dial failed, or it wasn't called because there was no memory
