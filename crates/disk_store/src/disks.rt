@@ -31,15 +31,6 @@ pub trait Disk: Drop {
     // how many faults were counted
     ghost faults: { Self → ℕ };
 
-    // a crash now may leave what a read gives
-    ghost reads_image: { (disk : Self) → honest disk → may_leave disk (reads disk) };
-
-    // this moment is one of those since an earlier one
-    ghost counts_now: { (disk : Self) (t : ℕ) (image : List ℕ) → t ≤ moment disk → may_leave disk image → left_since disk t image };
-
-    // since this moment there is no other
-    ghost only_now: { (disk : Self) (image : List ℕ) → left_since disk (moment disk) image → may_leave disk image };
-
     /// How many bytes there are: 2^63 at most.
     fn len(&mut self) -> Result<u64, Failed>
         ensures bound { IfOk result (λ count. count ≤ longest_disk) }
@@ -87,4 +78,13 @@ pub trait Disk: Drop {
         ensures time { honest self.old → Elapses (moment self.old) (moment self.new) (left_since self.old) (left_since self.new) (may_leave self.new) }
         ensures honest { honest self.old → honest self.new }
         ensures cause { HasCause (faults self.old) (faults self.new) result };
+
+    // a crash now may leave what a read gives
+    ghost reads_image: { (disk : Self) → honest disk → may_leave disk (reads disk) };
+
+    // this moment is one of those since an earlier one
+    ghost counts_now: { (disk : Self) (t : ℕ) (image : List ℕ) → t ≤ moment disk → may_leave disk image → left_since disk t image };
+
+    // since this moment there is no other
+    ghost only_now: { (disk : Self) (image : List ℕ) → left_since disk (moment disk) image → may_leave disk image };
 }

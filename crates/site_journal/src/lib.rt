@@ -1,13 +1,11 @@
-// A library with one function.
+//! A durable machine: each request that was answered stands in a journal on a disk before its reply is written. The file
+//! and what is promised of it are described in `docs/DURABLE.md`.
 #![tactic(auto)]
 
-ghost use Rattle.std.specs.Prelude.{◌≡◌};
-ghost use Rattle.site_journal.specs.Echo.{echo_of};
+mod appends;
+mod entry_texts;
+mod laws;
+mod mends;
+mod replays;
 
-// The `ensures` clause is the contract: what `echo` returns is `echo_of` of its argument, a definition
-// in `specs/Echo.antt`, which a caller's clause can cite too.
-pub fn echo(x: usize) -> usize
-    ensures { result ≡ echo_of x }
-{
-    x
-}
+pub use laws::one_journal;

@@ -1,0 +1,92 @@
+-- A history with one more call.
+use Rattle.std.proofs.Common.{◌≡◌, ◌⊎◌, inl, inr, ⊎_elim, ℕ, ◌+◌, ◌≤◌, List, [], ◌∷◌, ◌++◌, length, take, drop, refl, sym, ap, ◌∙◌, subst, arith, length-append, append-nil}
+use Rattle.std.proofs.lemmas.List.{take-append-le, drop-append-le, take_all, drop_all, length-drop}
+use Rattle.disk_forms.specs.declared.histories.Kept.{Kept}
+use Rattle.disk_forms.specs.declared.histories.Kept.TheVariants.{Looked, Wrote, Tore, CutTo, MayCut, Synced}
+use Rattle.disk_store.specs.Disks.{Follows, NoMore, Elapses}
+use Rattle.disk_forms.specs.Memory.{Call, Known, Recorded, fresh, after, known_after, known_of, with_call, IsStep, IsImage, LeftSince, used, used_of, with_written, MayNote, IsQuiet}
+use Rattle.disk_forms.specs.MemoryLaws.{steps_last}
+
+pub used_more : (calls : List Kept) (kept : Kept) → used_of (calls ++ kept ∷ []) ≡ used_of calls + used kept
+used_more [] kept = omega arith
+used_more (first ∷ calls) kept = omega (arith, used_more calls kept)
+
+-- one more call, with the bytes that it wrote
+pub with_more : (calls : List Kept) (kept : Kept) (written bytes : List ℕ) → used_of calls ≡ length written → used kept ≡ length bytes → with_written (calls ++ kept ∷ []) (written ++ bytes) ≡ with_written calls written ++ (kept, bytes) ∷ []
+with_more [] kept [] bytes all is = ap (λ b. (kept, b) ∷ []) (take_all (used kept) bytes (omega (arith, is)))
+with_more [] kept (x ∷ written) bytes all is = absurd (omega (arith, all))
+with_more (first ∷ calls) kept written bytes all is =
+    let within : used first ≤ length written = omega (arith, all) in
+    let front : take (used first) (written ++ bytes) ≡ take (used first) written = take-append-le (used first) written bytes within in
+    let back : drop (used first) (written ++ bytes) ≡ drop (used first) written ++ bytes = drop-append-le (used first) written bytes within in
+    let more = with_more calls kept (drop (used first) written) bytes (omega (arith, all, length-drop (used first) written)) is in
+    (λ i. (first, front i) ∷ with_written (calls ++ kept ∷ []) (back i)) ∙ ap (λ z. (first, take (used first) written) ∷ z) more
+
+pub known_more : (s : Known) (calls : List Call) (call : Call) → known_after s (calls ++ call ∷ []) ≡ after (known_after s calls) call
+known_more s [] call = refl
+known_more s (first ∷ calls) call = known_more (after s first) calls call
+
+since_more : (t : ℕ) (s : Known) (calls : List Call) (call : Call) (image : List ℕ) → t ≤ length calls → LeftSince t s (calls ++ call ∷ []) image → LeftSince t s calls image ⊎ IsImage (known_after s (calls ++ call ∷ [])) image
+since_more ℕ.zero s [] call image le left = left
+since_more ℕ.zero s (first ∷ calls) call image le (inl here) = inl (inl here)
+since_more ℕ.zero s (first ∷ calls) call image le (inr later) = ⊎_elim (λ was. inl (inr was)) (λ now. inr now) (since_more ℕ.zero (after s first) calls call image (omega arith) later)
+since_more (ℕ.suc t) s [] call image le left = absurd (omega arith)
+since_more (ℕ.suc t) s (first ∷ calls) call image le left = since_more t (after s first) calls call image (omega arith) left
+
+since_keeps : (t : ℕ) (s : Known) (calls : List Call) (call : Call) (image : List ℕ) → LeftSince t s calls image → LeftSince t s (calls ++ call ∷ []) image
+since_keeps ℕ.zero s [] call image left = inl left
+since_keeps ℕ.zero s (first ∷ calls) call image (inl here) = inl here
+since_keeps ℕ.zero s (first ∷ calls) call image (inr later) = inr (since_keeps ℕ.zero (after s first) calls call image later)
+since_keeps (ℕ.suc t) s [] call image left = absurd left
+since_keeps (ℕ.suc t) s (first ∷ calls) call image left = since_keeps t (after s first) calls call image left
+
+abbrev pub Since : Recorded → ℕ → List ℕ → Type 0
+Since r t image = LeftSince t (fresh r.first) r.calls image
+
+-- time goes on by a call
+pub elapses_more : (old new : Recorded) (kept : Kept) (bytes : List ℕ) → new ≡ with_call old kept bytes → Elapses (length old.calls) (length new.calls) (Since old) (Since new) (IsImage (known_of new))
+elapses_more old new kept bytes is = subst (λ r. Elapses (length old.calls) (length r.calls) (Since old) (Since r) (IsImage (known_of r))) (sym is) (record {
+  later = omega (arith, length-append old.calls ((kept, bytes) ∷ []));
+  nothing_else = λ t image le left. since_more t (fresh old.first) old.calls (kept, bytes) image le left;
+  keeps = λ t image le left. since_keeps t (fresh old.first) old.calls (kept, bytes) image left;
+})
+
+pub elapses_same : (old new : Recorded) → new ≡ old → Elapses (length old.calls) (length new.calls) (Since old) (Since new) (IsImage (known_of new))
+elapses_same old new is = subst (λ r. Elapses (length old.calls) (length r.calls) (Since old) (Since r) (IsImage (known_of r))) (sym is) (record {
+  later = omega arith;
+  nothing_else = λ t image le left. inl left;
+  keeps = λ t image le left. left;
+})
+
+pub elapses_noted : (old new : Recorded) (kept : Kept) → MayNote kept old new → Elapses (length old.calls) (length new.calls) (Since old) (Since new) (IsImage (known_of new))
+elapses_noted old new kept (inl is) = elapses_more old new kept [] is
+elapses_noted old new kept (inr is) = elapses_same old new is
+
+-- what is known after a call
+pub known_is : (old new : Recorded) (kept : Kept) (bytes : List ℕ) → new ≡ with_call old kept bytes → known_of new ≡ after (known_of old) (kept, bytes)
+known_is old new kept bytes is = ap known_of is ∙ known_more (fresh old.first) old.calls (kept, bytes)
+
+-- a quiet call wrote nothing, and a read gives the same
+pub quiet_used : (kept : Kept) → IsQuiet kept → used kept ≡ 0
+quiet_used Looked quiet = refl
+quiet_used (Wrote place count) quiet = absurd quiet
+quiet_used (Tore place count) quiet = refl
+quiet_used (CutTo len) quiet = absurd quiet
+quiet_used (MayCut len) quiet = refl
+quiet_used Synced quiet = refl
+
+pub quiet_reads : (s : Known) (kept : Kept) (bytes : List ℕ) → IsQuiet kept → s.reads ≡ (after s (kept, bytes)).reads
+quiet_reads s Looked bytes quiet = refl
+quiet_reads s (Wrote place count) bytes quiet = absurd quiet
+quiet_reads s (Tore place count) bytes quiet = refl
+quiet_reads s (CutTo len) bytes quiet = absurd quiet
+quiet_reads s (MayCut len) bytes quiet = refl
+quiet_reads s Synced bytes quiet = refl
+
+-- the same of a call that wrote nothing
+pub with_none : (calls : List Kept) (kept : Kept) (written : List ℕ) → used_of calls ≡ length written → used kept ≡ 0 → with_written (calls ++ kept ∷ []) written ≡ with_written calls written ++ (kept, []) ∷ []
+with_none calls kept written all is = ap (with_written (calls ++ kept ∷ [])) (sym (append-nil written)) ∙ with_more calls kept written [] all is
+
+-- what a read gives after one more call
+pub reads_more : (first : List ℕ) (calls more : List Call) (call : Call) (bytes : List ℕ) → more ≡ calls ++ call ∷ [] → bytes ≡ (after (known_after (fresh first) calls) call).reads → bytes ≡ (known_after (fresh first) more).reads
+reads_more first calls more call bytes is gives = gives ∙ (ap (λ s. s.reads) (sym (known_more (fresh first) calls call)) ∙ ap (λ ks. (known_after (fresh first) ks).reads) (sym is))

@@ -1,0 +1,5 @@
+-- Lemmas on journals.
+mod Texts
+mod Readings
+mod Crash
+mod Times
