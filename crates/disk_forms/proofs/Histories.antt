@@ -90,3 +90,7 @@ with_none calls kept written all is = ap (with_written (calls ++ kept ∷ [])) (
 -- what a read gives after one more call
 pub reads_more : (first : List ℕ) (calls more : List Call) (call : Call) (bytes : List ℕ) → more ≡ calls ++ call ∷ [] → bytes ≡ (after (known_after (fresh first) calls) call).reads → bytes ≡ (known_after (fresh first) more).reads
 reads_more first calls more call bytes is gives = gives ∙ (ap (λ s. s.reads) (sym (known_more (fresh first) calls call)) ∙ ap (λ ks. (known_after (fresh first) ks).reads) (sym is))
+
+pub length_with : (calls : List Kept) (written : List ℕ) → length (with_written calls written) ≡ length calls
+length_with [] written = refl
+length_with (kept ∷ calls) written = ap (λ n. ℕ.suc n) (length_with calls (drop (used kept) written))

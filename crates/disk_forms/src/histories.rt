@@ -1,6 +1,6 @@
 //! The record of a disk in memory: what it held at first, and what was done to it.
 
-ghost use Rattle.std.specs.Prelude.{◌≡◌, ◌+◌, ◌<◌, ◌≤◌, ◌&&◌, [], length, take, vec_capacity, nat_lt, nat_le, IfOk, OnOk};
+ghost use Rattle.std.specs.Prelude.{◌≡◌, ◌+◌, ◌<◌, ◌≤◌, ◌⊎◌, true, false, [], length, take, vec_capacity, IfOk, OnOk};
 ghost use Rattle.disk_store.specs.Disks.{with_bytes, Torn, Shortened};
 ghost use Rattle.disk_forms.specs.Memory.{known_of, with_call, IsQuiet, IsImage};
 ghost use Rattle.disk_forms.specs.declared.histories.Kept.TheVariants.{Wrote, CutTo};
@@ -84,16 +84,20 @@ impl History {
 
     /// Whether one more call that writes so many bytes finds room.
     pub(crate) fn has_room(&self, count: usize) -> bool
-        ensures { result ≡ (nat_lt (length self.now.calls) self.now.room && nat_le (self.now.written + count) self.now.room) }
+        ensures fits { result ≡ true → (length self.now.calls < self.now.room) × (self.now.written + count ≤ self.now.room) }
+        ensures full { result ≡ false → (self.now.room ≤ length self.now.calls) ⊎ (self.now.room < self.now.written + count) }
     {
-        self.calls.len() < self.room && count <= self.room - self.written.len()
+        if self.calls.len() == self.room {
+            return false;
+        }
+        count <= self.room - self.written.len()
     }
 
     /// Whether no call more finds room.
     pub(crate) fn is_full(&self) -> bool
-        ensures { result ≡ nat_le self.now.room (length self.now.calls) }
+        ensures { result ≡ false → length self.now.calls < self.now.room }
     {
-        self.room <= self.calls.len()
+        self.room == self.calls.len()
     }
 
     /// Records a call that leaves what a read gives.

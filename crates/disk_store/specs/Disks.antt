@@ -45,3 +45,7 @@ pub record LeavesOnly {D : Type 0} (moment : D → ℕ) (left_since : D → ℕ 
   pub later : moment old ≤ moment new
   pub each : (image : List ℕ) → left_since new (moment old) image → P image
   pub before : (t : ℕ) (image : List ℕ) → t ≤ moment old → left_since new t image → left_since old t image ⊎ P image
+
+-- the one is honest where the other is
+abbrev pub AsHonest : {D : Type 0} → (D → Type 0) → D → D → Type 0
+AsHonest honest old new = (honest old → honest new) × (honest new → honest old)

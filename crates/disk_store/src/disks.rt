@@ -2,7 +2,7 @@
 
 ghost use Rattle.std.specs.Prelude.{◌≡◌, ℕ, ◌+◌, ◌≤◌, List, length, take, drop, IfOk, OnOk};
 ghost use Rattle.tardis_io.specs.Faults.{HasCause};
-ghost use Rattle.disk_store.specs.Disks.{longest_disk, with_bytes, Torn, Shortened, Follows, NoMore, Only, Elapses};
+ghost use Rattle.disk_store.specs.Disks.{longest_disk, with_bytes, Torn, Shortened, Follows, NoMore, Only, Elapses, AsHonest};
 
 use tardis_io::Failed;
 
@@ -38,7 +38,7 @@ pub trait Disk: Drop {
         ensures reads { honest self.old → reads self.new ≡ reads self.old }
         ensures crash { honest self.old → NoMore (may_leave self.old) (may_leave self.new) }
         ensures time { honest self.old → Elapses (moment self.old) (moment self.new) (left_since self.old) (left_since self.new) (may_leave self.new) }
-        ensures honest { honest self.old → honest self.new }
+        ensures honest { AsHonest honest self.old self.new }
         ensures cause { HasCause (faults self.old) (faults self.new) result };
 
     /// Fills `buf` with the bytes from `place` on. After a failure its bytes are of no meaning.
@@ -48,7 +48,7 @@ pub trait Disk: Drop {
         ensures reads { honest self.old → reads self.new ≡ reads self.old }
         ensures crash { honest self.old → NoMore (may_leave self.old) (may_leave self.new) }
         ensures time { honest self.old → Elapses (moment self.old) (moment self.new) (left_since self.old) (left_since self.new) (may_leave self.new) }
-        ensures honest { honest self.old → honest self.new }
+        ensures honest { AsHonest honest self.old self.new }
         ensures cause { HasCause (faults self.old) (faults self.new) result };
 
     /// Writes over what is there, and past the end.
@@ -58,7 +58,7 @@ pub trait Disk: Drop {
         ensures written { honest self.old → OnOk result (reads self.new ≡ with_bytes (reads self.old) place bytes.now) }
         ensures crash { honest self.old → Follows (Torn place (length bytes.now)) (may_leave self.old) (may_leave self.new) }
         ensures time { honest self.old → Elapses (moment self.old) (moment self.new) (left_since self.old) (left_since self.new) (may_leave self.new) }
-        ensures honest { honest self.old → honest self.new }
+        ensures honest { AsHonest honest self.old self.new }
         ensures cause { HasCause (faults self.old) (faults self.new) result };
 
     /// Cuts the bytes behind a length off. It writes none.
@@ -67,7 +67,7 @@ pub trait Disk: Drop {
         ensures shorter { honest self.old → OnOk result (reads self.new ≡ take len (reads self.old)) }
         ensures crash { honest self.old → Follows (Shortened len) (may_leave self.old) (may_leave self.new) }
         ensures time { honest self.old → Elapses (moment self.old) (moment self.new) (left_since self.old) (left_since self.new) (may_leave self.new) }
-        ensures honest { honest self.old → honest self.new }
+        ensures honest { AsHonest honest self.old self.new }
         ensures cause { HasCause (faults self.old) (faults self.new) result };
 
     /// After it, a crash leaves what a read gives, and nothing else.
@@ -76,7 +76,7 @@ pub trait Disk: Drop {
         ensures reads { honest self.old → reads self.new ≡ reads self.old }
         ensures crash { honest self.old → NoMore (may_leave self.old) (may_leave self.new) }
         ensures time { honest self.old → Elapses (moment self.old) (moment self.new) (left_since self.old) (left_since self.new) (may_leave self.new) }
-        ensures honest { honest self.old → honest self.new }
+        ensures honest { AsHonest honest self.old self.new }
         ensures cause { HasCause (faults self.old) (faults self.new) result };
 
     // a crash now may leave what a read gives

@@ -75,13 +75,13 @@ module _ (entries : List (List ℕ)) (all : AllByRecursion IsEntry entries) (pla
   pub behind_images : (tail : List ℕ) (old new : List ℕ → Type 0) → Only (journal_text entries) old → Follows (Torn (place + 1) (length tail)) old new → (image : List ℕ) → new image → HasEntries entries image
   behind_images tail old new only follows image left =
       let from = follows image left in
-      torn_behind (length tail) image (subst (λ z. Torn (place + 1) (length tail) z image) (only from.0 from.1.0) from.1.1)
+      torn_behind (length tail) image (subst (λ z. Torn (place + 1) (length tail) z image) (only from.0 from.1) from.2)
 
   pub gate_images : (more : List (List ℕ)) (tail : List ℕ) (old new : List ℕ → Type 0) → AllByRecursion IsEntry more → journal_text more ≡ 1 ∷ tail → Only (staged entries tail) old → Follows (Torn place 1) old new
       → (image : List ℕ) → new image → HasAllOrNone entries more image
   gate_images more tail old new fits text only follows image left =
       let from = follows image left in
-      torn_gate more tail image fits text (subst (λ z. Torn place 1 z image) (only from.0 from.1.0) from.1.1)
+      torn_gate more tail image fits text (subst (λ z. Torn place 1 z image) (only from.0 from.1) from.2)
 
 -- a front of a rest in which no entry is next
 front_ends : (n : ℕ) (rest : List ℕ) → ((entry more : List ℕ) → rest ≡ 1 ∷ (frame entry ++ more) → IsEntry entry → more ≡ []) → (entry more : List ℕ) → take n rest ≡ 1 ∷ (frame entry ++ more) → IsEntry entry → more ≡ []
@@ -99,7 +99,7 @@ take_past (x ∷ xs) ys ℕ.zero n is = absurd (omega (arith, is))
 take_past (x ∷ xs) ys (ℕ.suc m) n is = ap (λ z. x ∷ z) (take_past xs ys m n (omega (arith, is)))
 
 module _ (bytes : List ℕ) (entries : List (List ℕ)) (rest : List ℕ) (e : EndsAt bytes entries rest) (place : ℕ) (at : place ≡ length (marked entries)) where
-  size : length bytes ≡ place + length rest
+  pub size : length bytes ≡ place + length rest
   size = ap length e.whole ∙ omega (arith, at, length-append (marked entries) rest)
 
   -- a cut behind the first byte of the rest keeps the entries

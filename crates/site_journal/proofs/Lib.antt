@@ -3,3 +3,7 @@ mod Texts
 mod Readings
 mod Crash
 mod Times
+mod Appending
+mod Entries
+mod Replaying
+mod Mending

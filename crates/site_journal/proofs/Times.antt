@@ -1,7 +1,7 @@
 -- How a run of calls of a disk goes on.
 use Rattle.std.proofs.Common.{◌≡◌, ◌⊎◌, inl, inr, ⊎_elim, ℕ, ◌≤◌, List, refl, ◌∙◌, arith}
 use Rattle.disk_store.specs.Disks.{NoMore, Elapses, LeavesOnly}
-use Rattle.site_journal.specs.Moments.{WasRead, Mends}
+use Rattle.site_journal.specs.Moments.{WasRead}
 
 module _ {D : Type 0} (reads : D → List ℕ) (may_leave : D → List ℕ → Type 0) (moment : D → ℕ) (left_since : D → ℕ → List ℕ → Type 0) where
   -- before the first call

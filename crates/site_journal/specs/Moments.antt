@@ -16,12 +16,6 @@ pub record WasRead {D : Type 0} (reads : D → List ℕ) (may_leave : D → List
   pub later : moment old ≤ moment new
   pub since : (t : ℕ) (image : List ℕ) → t ≤ moment old → left_since new t image → left_since old t image
 
--- From old on a crash may leave what it might have left then, or an image that has P; and from the first good sync on only
--- the latter, if there was one.
-pub record Mends {D : Type 0} (may_leave : D → List ℕ → Type 0) (moment : D → ℕ) (left_since : D → ℕ → List ℕ → Type 0) (old new : D) (P : List ℕ → Type 0) : Type 0 where
-  pub later : moment old ≤ moment new
-  pub each : (image : List ℕ) → left_since new (moment old) image → may_leave old image ⊎ P image
-
 -- the disk is at rest, and this is the place of its last byte
 pub record IsBehind {D : Type 0} (reads : D → List ℕ) (may_leave : D → List ℕ → Type 0) (disk : D) (place : ℕ) (entries : List (List ℕ)) : Type 0 where
   pub rest : IsAtRest reads may_leave disk entries
@@ -34,4 +28,4 @@ pub record IsTorn {D : Type 0} (reads : D → List ℕ) (may_leave : D → List 
   pub ends : EndsAt (reads disk) entries rest
   pub durable : Only (reads disk) (may_leave disk)
   pub at : place ≡ length (marked entries)
-  pub size : size ≡ length (reads disk)
+  pub long : size ≡ length (reads disk)

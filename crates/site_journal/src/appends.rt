@@ -3,7 +3,7 @@
 ghost use Rattle.std.specs.Prelude.{◌≡◌, ◌+◌, ◌≤◌, ◌++◌, ◌<◌, ℕ, List, length, OnOk};
 ghost use Rattle.std.specs.List.{AllByRecursion};
 ghost use Rattle.tardis_io.specs.Faults.{HasCause};
-ghost use Rattle.disk_store.specs.Disks.{longest_disk, LeavesOnly};
+ghost use Rattle.disk_store.specs.Disks.{longest_disk, LeavesOnly, AsHonest};
 ghost use Rattle.site_journal.specs.Texts.{IsEntry, marked, journal_text, HasAllOrNone};
 ghost use Rattle.site_journal.specs.Moments.{IsAtRest, IsBehind};
 
@@ -20,7 +20,7 @@ pub(crate) fn append<K: Disk>(disk: &mut K, place: u64, text: &[u8]) -> Result<(
         → text.now ≡ journal_text more → AllByRecursion IsEntry more → 0 < length more → OnOk result (IsAtRest K.reads K.may_leave disk.new (entries ++ more)) }
     ensures any_moment { K.honest disk.old → (entries more : List (List ℕ)) → IsBehind K.reads K.may_leave disk.old place entries
         → text.now ≡ journal_text more → AllByRecursion IsEntry more → 0 < length more → LeavesOnly K.moment K.left_since disk.old disk.new (HasAllOrNone entries more) }
-    ensures honest { K.honest disk.old → K.honest disk.new }
+    ensures honest { AsHonest K.honest disk.old disk.new }
     ensures cause { HasCause (K.faults disk.old) (K.faults disk.new) result }
 {
     match disk.write_at(place + 1, &text[1..]) {

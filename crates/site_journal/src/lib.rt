@@ -4,8 +4,12 @@
 
 mod appends;
 mod entry_texts;
+mod journals;
 mod laws;
 mod mends;
+mod openings;
 mod replays;
 
+pub use journals::{JournalEnd, Journaled, OpenEnd, Staged};
 pub use laws::one_journal;
+pub use openings::open_on;

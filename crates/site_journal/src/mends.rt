@@ -1,10 +1,10 @@
 //! Mending the end of a journal that a crash may have left.
 
-ghost use Rattle.std.specs.Prelude.{◌≡◌, ◌⊎◌, ◌+◌, ◌<◌, ◌≤◌, ◌++◌, ℕ, List, length, min, OnOk};
+ghost use Rattle.std.specs.Prelude.{◌≡◌, ◌⊎◌, ◌+◌, ◌<◌, ◌≤◌, ◌++◌, ℕ, List, length, min, true, OnOk, IfOk};
 ghost use Rattle.tardis_io.specs.Faults.{HasCause};
-ghost use Rattle.disk_store.specs.Disks.{longest_disk, LeavesOnly};
+ghost use Rattle.disk_store.specs.Disks.{longest_disk, LeavesOnly, AsHonest};
 ghost use Rattle.site_journal.specs.Texts.{HasEntries};
-ghost use Rattle.site_journal.specs.Moments.{IsAtRest, IsTorn};
+ghost use Rattle.site_journal.specs.Moments.{IsAtRest, IsTorn, WasRead};
 
 use disk_store::Disk;
 use tardis_io::Failed;
@@ -17,7 +17,7 @@ pub(crate) fn mend<K: Disk>(disk: &mut K, place: u64, size: u64) -> Result<(), F
     requires begin { (place ≡ 0) ⊎ (place < size) }
     ensures at_rest { K.honest disk.old → (entries : List (List ℕ)) → IsTorn K.reads K.may_leave disk.old entries place size → OnOk result (IsAtRest K.reads K.may_leave disk.new entries) }
     ensures any_moment { K.honest disk.old → (entries : List (List ℕ)) → IsTorn K.reads K.may_leave disk.old entries place size → LeavesOnly K.moment K.left_since disk.old disk.new (HasEntries entries) }
-    ensures honest { K.honest disk.old → K.honest disk.new }
+    ensures honest { AsHonest K.honest disk.old disk.new }
     ensures cause { HasCause (K.faults disk.old) (K.faults disk.new) result }
 {
     match cut_rest(disk, place, size) {
@@ -33,7 +33,7 @@ pub(crate) fn cut_rest<K: Disk>(disk: &mut K, place: u64, size: u64) -> Result<(
     requires within { place ≤ size }
     ensures torn { K.honest disk.old → (entries : List (List ℕ)) → IsTorn K.reads K.may_leave disk.old entries place size → OnOk result (IsTorn K.reads K.may_leave disk.new entries place (min size (place + 1))) }
     ensures any_moment { K.honest disk.old → (entries : List (List ℕ)) → IsTorn K.reads K.may_leave disk.old entries place size → LeavesOnly K.moment K.left_since disk.old disk.new (HasEntries entries) }
-    ensures honest { K.honest disk.old → K.honest disk.new }
+    ensures honest { AsHonest K.honest disk.old disk.new }
     ensures cause { HasCause (K.faults disk.old) (K.faults disk.new) result }
 {
     if size - place <= 1 {
@@ -53,21 +53,35 @@ pub(crate) fn end_rest<K: Disk>(disk: &mut K, place: u64, size: u64) -> Result<(
     requires end { place + 1 ≤ longest_disk }
     ensures at_rest { K.honest disk.old → (entries : List (List ℕ)) → IsTorn K.reads K.may_leave disk.old entries place size → OnOk result (IsAtRest K.reads K.may_leave disk.new entries) }
     ensures any_moment { K.honest disk.old → (entries : List (List ℕ)) → IsTorn K.reads K.may_leave disk.old entries place size → LeavesOnly K.moment K.left_since disk.old disk.new (HasEntries entries) }
-    ensures honest { K.honest disk.old → K.honest disk.new }
+    ensures honest { AsHonest K.honest disk.old disk.new }
     ensures cause { HasCause (K.faults disk.old) (K.faults disk.new) result }
 {
-    let mut last = [1; 1];
-    if place < size {
-        match disk.read_at(place, &mut last) {
-            Ok(()) => {}
-            Err(Failed) => return Err(Failed),
-        }
+    match has_end(disk, place, size) {
+        Ok(true) => Ok(()),
+        Ok(false) => match disk.write_at(place, &[0]) {
+            Ok(()) => disk.sync(),
+            Err(Failed) => Err(Failed),
+        },
+        Err(Failed) => Err(Failed),
     }
-    if last[0] == 0 {
-        return Ok(());
+}
+
+/// Whether the rest is the one byte 0.
+pub(crate) fn has_end<K: Disk>(disk: &mut K, place: u64, size: u64) -> Result<bool, Failed>
+    requires torn { K.honest disk.old → (entries : List (List ℕ)) × IsTorn K.reads K.may_leave disk.old entries place size }
+    requires few { size ≤ place + 1 }
+    ensures at_rest { K.honest disk.old → (entries : List (List ℕ)) → IsTorn K.reads K.may_leave disk.old entries place size
+        → IfOk result (λ is. is ≡ true → IsAtRest K.reads K.may_leave disk.new entries) }
+    ensures read { K.honest disk.old → WasRead K.reads K.may_leave K.moment K.left_since disk.old disk.new }
+    ensures honest { AsHonest K.honest disk.old disk.new }
+    ensures cause { HasCause (K.faults disk.old) (K.faults disk.new) result }
+{
+    if size <= place {
+        return Ok(false);
     }
-    match disk.write_at(place, &[0]) {
-        Ok(()) => disk.sync(),
+    let mut last = [0; 1];
+    match disk.read_at(place, &mut last) {
+        Ok(()) => Ok(last[0] == 0),
         Err(Failed) => Err(Failed),
     }
 }

@@ -3,7 +3,7 @@
 ghost use Rattle.std.specs.Prelude.{◌≡◌, ◌+◌, ◌<◌, ◌≤◌, ◌++◌, [], ◌∷◌, ℕ, List, length, take, drop, map, IfOk, IfSome, IsErrOf};
 ghost use Rattle.tardis_base.specs.Sizes.{longest_frame};
 ghost use Rattle.tardis_io.specs.Faults.{HasCause, Rose};
-ghost use Rattle.disk_store.specs.Disks.{longest_disk};
+ghost use Rattle.disk_store.specs.Disks.{longest_disk, AsHonest};
 ghost use Rattle.site_journal.specs.Texts.{IsEntry};
 ghost use Rattle.site_journal.specs.Moments.{WasRead};
 ghost use Rattle.site_journal.specs.Replays.{IsNextEntry, Replayed};
@@ -41,7 +41,7 @@ pub(crate) fn replay<M: Machine, K: Disk>(
     ensures replayed { IfOk result (λ found. Replayed M.plain M.stands M.opening K.honest K.reads machine.new disk.old found) }
     ensures opening { M.opening machine.new ≡ M.opening machine.old }
     ensures read { K.honest disk.old → WasRead K.reads K.may_leave K.moment K.left_since disk.old disk.new }
-    ensures honest { K.honest disk.old → K.honest disk.new }
+    ensures honest { AsHonest K.honest disk.old disk.new }
     ensures later { K.faults disk.old ≤ K.faults disk.new }
     ensures failed { IsErrOf result DiskFailed → Rose (K.faults disk.old) (K.faults disk.new) }
 {
@@ -88,7 +88,7 @@ pub(crate) fn next_entry<K: Disk>(
     ensures next { K.honest disk.old → IfOk result (λ next. IsNextEntry (drop place (K.reads disk.old)) body.new next) }
     ensures room { length body.new ≡ length body.old }
     ensures read { K.honest disk.old → WasRead K.reads K.may_leave K.moment K.left_since disk.old disk.new }
-    ensures honest { K.honest disk.old → K.honest disk.new }
+    ensures honest { AsHonest K.honest disk.old disk.new }
     ensures cause { HasCause (K.faults disk.old) (K.faults disk.new) result }
 {
     if size - place < 8 {
@@ -105,7 +105,16 @@ pub(crate) fn next_entry<K: Disk>(
         Err(Failed) => return Err(Failed),
     }
     let count = u32::from_be_bytes(head) as usize;
-    if mark[0] != 1 || count < 2 || MAX_FRAME < count || size - place - 5 <= count as u64 {
+    if mark[0] != 1 {
+        return Ok(None);
+    }
+    if count < 2 {
+        return Ok(None);
+    }
+    if MAX_FRAME < count {
+        return Ok(None);
+    }
+    if size - place - 5 <= count as u64 {
         return Ok(None);
     }
     match disk.read_at(place + 5, &mut body[..count]) {
