@@ -7,3 +7,4 @@ mod Appending
 mod Entries
 mod Replaying
 mod Mending
+mod Staging

@@ -7,6 +7,7 @@ use Rattle.disk_store.specs.Disks.{with_bytes, Torn, Shortened, Follows, NoMore,
 use Rattle.site_journal.specs.Texts.{marked, journal_text, EndsAt, HasEntries}
 use Rattle.site_journal.specs.Moments.{IsAtRest, IsTorn, WasRead}
 use Rattle.site_journal.proofs.Crash.{size, cut_keeps, cut_done, cut_ends, torn_last, written_last}
+use Rattle.site_journal.proofs.Readings.{one}
 use Rattle.site_journal.proofs.Times.{started, goes_on}
 
 -- a fact of a good answer by another
@@ -101,6 +102,17 @@ module _ {D : Type 0} (reads : D → List ℕ) (may_leave : D → List ℕ → T
         text = read.same ∙ (t.ends.whole ∙ ap (λ z. marked entries ++ z) rest);
         durable = λ image left. t.durable image (read.crash image left) ∙ sym read.same;
       }
+
+-- what was found on a disk with nothing pending
+pub torn_of : {D : Type 0} (reads : D → List ℕ) (may_leave : D → List ℕ → Type 0) (disk : D) (entries others : List (List ℕ)) (rest left : List ℕ) (place count : ℕ) → Only (reads disk) (may_leave disk)
+    → EndsAt (reads disk) others left → EndsAt (reads disk) entries rest → place ≡ length (marked others) → count ≡ length (reads disk) → IsTorn reads may_leave disk entries place count
+torn_of reads may_leave disk entries others rest left place count only found ends at long = record {
+  rest = rest;
+  ends = ends;
+  durable = only;
+  at = at ∙ ap (λ z. length (marked z)) (one (reads disk) others entries left rest found ends).0;
+  long = long;
+}
 
 -- one run of calls, and then another
 pub leaves_then : {D : Type 0} (moment : D → ℕ) (left_since : D → ℕ → List ℕ → Type 0) (a b c : D) (P : List ℕ → Type 0) → LeavesOnly moment left_since a b P → LeavesOnly moment left_since b c P → LeavesOnly moment left_since a c P

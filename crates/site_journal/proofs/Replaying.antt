@@ -79,6 +79,23 @@ module _ {M S K : Type 0} (plain : PlainMachine S) (stands : M → S → Type 0)
           ap (λ z. z ++ rest) (marked-append entries (entry ∷ []))
           ∙ (append_assoc (marked entries) (1 ∷ (frame entry ++ [])) rest ∙ ap (λ z. marked entries ++ 1 ∷ z) (append_assoc (frame entry) [] rest))
 
+  -- the same of the disk after it was read
+  pub moved : (first machine : M) (old new : K) (count place size : ℕ) (entries : List (List ℕ)) → Progress plain stands opening honest reads first machine old count place size entries
+      → (honest new → honest old) → (honest old → reads new ≡ reads old) → Progress plain stands opening honest reads first machine new count place size entries
+  moved first machine old new count place size entries p back same = record {
+    each = p.each;
+    stood = p.stood;
+    same = p.same;
+    counts = p.counts;
+    few = p.few;
+    at = p.at;
+    within = p.within;
+    behind = p.behind;
+    most = p.most;
+    long = λ h. subst (λ z. size ≡ length z) (sym (same (back h))) (p.long (back h));
+    front = λ h. subst (λ z. z ≡ marked entries ++ drop place z) (sym (same (back h))) (p.front (back h));
+  }
+
   -- where none is next, all were answered
   pub ends : (first machine : M) (disk : K) (count place size : ℕ) (entries : List (List ℕ)) → Progress plain stands opening honest reads first machine disk count place size entries
       → (honest disk → (entry rest : List ℕ) → drop place (reads disk) ≡ 1 ∷ (frame entry ++ rest) → IsEntry entry → rest ≡ [])

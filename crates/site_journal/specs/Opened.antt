@@ -16,6 +16,11 @@ use Rattle.site_journal.specs.declared.journals.JournalEnd.TheVariants.{Done as 
 use Rattle.site_journal.specs.Texts.{IsEntry, entry_of, marked, HasEntries}
 use Rattle.site_journal.specs.Moments.{IsAtRest, WasRead}
 
+-- At first the disk was only read, and from some moment on a crash leaves what has P: so it is where the journal was opened.
+-- Where it wasn't, the disk may have been read alone.
+abbrev pub Mends : {K : Type 0} → (K → List ℕ) → (K → List ℕ → Type 0) → (K → ℕ) → (K → ℕ → List ℕ → Type 0) → K → K → (List ℕ → Type 0) → Type 0
+Mends {K} reads may_leave moment left_since old new P = (synced : K) × (WasRead reads may_leave moment left_since old synced × LeavesOnly moment left_since synced new P)
+
 module _ {M K : Type 0} where
   -- a longest entry, and the byte that ends a journal, find room behind those that are staged
   abbrev pub HasRoom : Journaled M K → Type 0
@@ -47,11 +52,6 @@ module _ {M K : Type 0} where
   ActRose faults disk (ActFault new) = Rose (faults disk) (faults new)
   ActRose faults disk _ = Unit {0}
 
-  -- At first the disk was only read, and from some moment on a crash leaves what has P: so it is where the journal was opened.
-  -- Where it wasn't, the disk may have been read alone.
-  abbrev pub Mends : (K → List ℕ) → (K → List ℕ → Type 0) → (K → ℕ) → (K → ℕ → List ℕ → Type 0) → K → K → (List ℕ → Type 0) → Type 0
-  Mends reads may_leave moment left_since old new P = (synced : K) × (WasRead reads may_leave moment left_since old synced × LeavesOnly moment left_since synced new P)
-
   abbrev pub OpenImages : (K → List ℕ) → (K → List ℕ → Type 0) → (K → ℕ) → (K → ℕ → List ℕ → Type 0) → K → Result (Journaled M K × ℕ) (OpenEnd K) → (List ℕ → Type 0) → Type 0
   OpenImages reads may_leave moment left_since old (Ok opened) P = Mends reads may_leave moment left_since old opened.0.disk P
   OpenImages reads may_leave moment left_since old (Err end) P = Mends reads may_leave moment left_since old (disk_of (Err end)) P ⊎ WasRead reads may_leave moment left_since old (disk_of (Err end))
@@ -67,6 +67,7 @@ module _ {M S K : Type 0} (plain : PlainMachine S) (stands : M → S → Type 0)
     pub at : j.place ≡ length (marked entries)
     pub limit : (staged ≡ []) ⊎ (j.place + length (marked staged) ≤ j.max_trail)
     pub within : j.place ≤ longest_disk
+    pub room : length j.staged + 1 ≤ 2097152
     pub most : j.max_trail ≤ longest_trail
     pub rest : honest j.disk → IsAtRest reads may_leave j.disk entries
 

@@ -1,6 +1,7 @@
 //! Reading a journal, and doing what it says.
 
 ghost use Rattle.std.specs.Prelude.{◌≡◌, ◌+◌, ◌<◌, ◌≤◌, ◌++◌, [], ◌∷◌, ℕ, List, length, take, drop, map, IfOk, IfSome, IsErrOf};
+ghost use Rattle.std.specs.Int.{w32, to_be_bytes};
 ghost use Rattle.tardis_base.specs.Sizes.{longest_frame};
 ghost use Rattle.tardis_io.specs.Faults.{HasCause, Rose};
 ghost use Rattle.disk_store.specs.Disks.{longest_disk, AsHonest};
@@ -104,7 +105,7 @@ pub(crate) fn next_entry<K: Disk>(
         Ok(()) => {}
         Err(Failed) => return Err(Failed),
     }
-    let count = u32::from_be_bytes(head) as usize;
+    let count = length_of(&head) as usize;
     if mark[0] != 1 {
         return Ok(None);
     }
@@ -121,4 +122,15 @@ pub(crate) fn next_entry<K: Disk>(
         Ok(()) => Ok(Some(count)),
         Err(Failed) => Err(Failed),
     }
+}
+
+/// The number that a length word spells.
+fn length_of(head: &[u8]) -> u32
+    requires { length head.now ≡ 4 }
+    ensures { to_be_bytes w32 result ≡ head.now }
+{
+    let Some(word) = head.first_chunk::<4>() else {
+        return 0;
+    };
+    u32::from_be_bytes(*word)
 }

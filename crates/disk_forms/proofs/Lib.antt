@@ -1,2 +1,0 @@
--- Lemmas on disks.
-mod Histories
