@@ -1,6 +1,6 @@
 //! A machine with its journal on a disk.
 
-ghost use Rattle.std.specs.Prelude.{◌≡◌, ◌≢◌, ◌⊎◌, ◌+◌, ◌<◌, ◌≤◌, ◌++◌, [], ◌∷◌, ◌==◌, ℕ, List, length, map, true, IfOk, IfErr};
+ghost use Rattle.std.specs.Prelude.{◌≡◌, ◌≢◌, ◌⊎◌, ◌+◌, ◌<◌, ◌≤◌, ◌++◌, [], ◌∷◌, ◌==◌, ℕ, List, length, map, true, false, IfOk, IfErr};
 ghost use Rattle.tardis_base.specs.Sizes.{longest_trail};
 ghost use Rattle.tardis_base.specs.Plain.{state_after};
 ghost use Rattle.tardis_io.specs.Faults.{Rose};
@@ -60,7 +60,8 @@ pub enum JournalEnd<M: Machine, K: Disk> {
 impl<M: Machine, K: Disk> Journaled<M, K> {
     /// Whether one more request of any length may be staged before a commit.
     pub fn has_room(&self) -> bool
-        ensures { result ≡ true → HasRoom self.now }
+        ensures room { result ≡ true → HasRoom self.now }
+        ensures full { result ≡ false → 1048570 < length self.now.staged }
     {
         self.staged.len() <= 1_048_570
     }
