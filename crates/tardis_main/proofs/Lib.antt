@@ -1,5 +1,4 @@
 -- Lemmas on commands of the program.
 mod Words
 mod WorldRuns
-mod Commands
 mod Unserved

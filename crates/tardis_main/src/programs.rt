@@ -54,10 +54,7 @@ pub fn carry_out<I: Source, O: Sink, G: Gate, R: Threads + Wait + Sync>(
     ensures gate { CausedBy Status.GateFault (G.faults gate.old) (G.faults gate.new) result }
 {
     match words_behind_name(alloc, args) {
-        Ok(words) => match help_of(words.as_slice()) {
-            Some(help) => tell(help, output),
-            None => tardis(alloc, rt, keys, words.as_slice(), input, output, gate),
-        },
+        Ok(words) => command(alloc, rt, keys, words.as_slice(), input, output, gate),
         Err(NoMemory) => {
             commands_are_at_a_site();
             Status::NoMemory
@@ -79,6 +76,43 @@ fn words_behind_name(alloc: Global, args: Args) -> Result<Vec<String>, NoMemory>
         }
     }
     Ok(words)
+}
+
+/// Carries out the command that the words name.
+fn command<I: Source, O: Sink, G: Gate, R: Threads + Wait + Sync>(
+    alloc: Global,
+    rt: &R,
+    keys: RandomState,
+    words: &[String],
+    input: &mut I,
+    output: &mut O,
+    gate: &mut G,
+) -> Status
+    ensures usage { result ≡ Status.Usage → AreNone (map (λ w. string_bytes w) words.now) }
+    ensures none { AreNone (map (λ w. string_bytes w) words.now)
+        → ((result ≡ Status.Usage) ⊎ (result ≡ Status.NoMemory)) × (input.new ≡ input.old) × (output.new ≡ output.old) × (gate.new ≡ gate.old) }
+    ensures help { AskUsage (map (λ w. string_bytes w) words.now) ⊎ AskVersion (map (λ w. string_bytes w) words.now)
+        → ((result ≡ Status.Ok) ⊎ ((result ≡ Status.WriteFault) ⊎ ((result ≡ Status.NoMemory) × (output.new ≡ output.old)))) × (input.new ≡ input.old) }
+    ensures run { Runs I.left I.faults O.given O.faults input.old input.new output.old output.new
+        (map (λ w. string_bytes w) words.now) result }
+    ensures shell { Shells I.left I.faults O.given O.faults input.old input.new output.old output.new
+        (map (λ w. string_bytes w) words.now) result }
+    ensures audit { Audits I.left I.faults O.given O.faults input.old input.new output.old output.new
+        (map (λ w. string_bytes w) words.now) result }
+    ensures world { Worlds I.left I.faults O.given O.faults input.old input.new output.old output.new
+        (map (λ w. string_bytes w) words.now) result }
+    ensures serve { Serves G.Link.left G.Link.given G.Link.take_faults G.Link.faults G.told G.faults O.given O.faults gate.old gate.new output.old output.new
+        (map (λ w. string_bytes w) words.now) result }
+    ensures unread { (plan : Serving) → AreServe (map (λ w. string_bytes w) words.now) plan → input.new ≡ input.old }
+    ensures unbound { ((plan : Serving) → AreServe (map (λ w. string_bytes w) words.now) plan → ⊥) → gate.new ≡ gate.old }
+    ensures read { CausedBy Status.ReadFault (I.faults input.old) (I.faults input.new) result }
+    ensures write { CausedBy Status.WriteFault (O.faults output.old) (O.faults output.new) result }
+    ensures gate { CausedBy Status.GateFault (G.faults gate.old) (G.faults gate.new) result }
+{
+    match help_of(words) {
+        Some(help) => tell(help, output),
+        None => tardis(alloc, rt, keys, words, input, output, gate),
+    }
 }
 
 /// Writes what the program tells of itself.

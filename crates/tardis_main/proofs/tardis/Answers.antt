@@ -1,10 +1,11 @@
-use Rattle.std.proofs.Common.{◌≡◌, ◌∙◌, Some, ap, subst, sym}
-use Rattle.tardis_io.specs.declared.statuses.Status.TheVariants.{Usage}
+use Rattle.std.proofs.Common.{◌≡◌, ◌∙◌, Some, ap, subst}
 use Rattle.site_run.specs.Endings.{IsRunEnd}
 use Rattle.site_run.specs.LineEndings.{IsLineEnd}
 use Rattle.command_words.specs.Commands.{form_of, serving_of}
 use Rattle.command_words.specs.Forms.{AsRun, AsShell, AsAudit, AsWorld, AsServe}
-use Rattle.tardis_main.proofs.Commands.{no_usage}
+use Rattle.command_words.specs.Places.{program_limits}
+use Rattle.tardis_main.specs.Program.{site_at}
+use Rattle.tardis_main.proofs.Unserved.{no_server}
 use Rattle.tardis_main.proofs.tardis.Goals as goal
 
 pub returns-in-Ok-Run-clause-usage : goal.returns-in-Ok-Run-clause-usage
@@ -30,3 +31,16 @@ returns-in-Ok-World-clause-usage g c = λ is. absurd (subst IsRunEnd is c.run_wo
 
 pub returns-in-Ok-World-clause-unknown : goal.returns-in-Ok-World-clause-unknown
 returns-in-Ok-World-clause-unknown g c = λ unknown. absurd (unknown (AsWorld c.in-Ok-World.sites) (c.in-Ok-World.ensures.form ∙ ap (λ command. Some (form_of command)) c.in-Ok-World.field-0-is) tt)
+
+pub returns-then-has_no_peers-clause-unknown : goal.returns-then-has_no_peers-clause-unknown
+returns-then-has_no_peers-clause-unknown g c = λ unknown. absurd (unknown (AsServe (serving_of c.in-Ok-Serve.plan))
+    (c.in-Ok-Serve.ensures.form ∙ ap (λ command. Some (form_of command)) c.in-Ok-Serve.field-0-is) (c.has_no_peers.ensures.is c.if-has_no_peers.true))
+
+pub returns-then-has_no_peers-clause-unbound : goal.returns-then-has_no_peers-clause-unbound
+returns-then-has_no_peers-clause-unbound g c = λ others. absurd (others (serving_of c.in-Ok-Serve.plan)
+    (c.in-Ok-Serve.ensures.form ∙ ap (λ command. Some (form_of command)) c.in-Ok-Serve.field-0-is, c.has_no_peers.ensures.is c.if-has_no_peers.true))
+
+pub returns-clause-serve : goal.returns-clause-serve
+returns-clause-serve g c = λ plan are.
+    no_server g.G.Link.Duplex.left g.G.Link.Sink.given g.G.Link.Duplex.take_faults g.G.Link.Sink.faults g.G.Gate.told g.G.Gate.faults g.O.Sink.given g.O.Sink.faults c.args.gate.now c.args.output.now
+    (site_at plan.place) (program_limits plan.place.sites).max_trail plan.links
