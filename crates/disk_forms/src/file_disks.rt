@@ -5,9 +5,8 @@ ghost use Rattle.std.specs.Prelude.{◌≡◌, ◌≤◌, []};
 ghost use Rattle.tardis_io.specs.Faults.{Rose};
 
 use disk_store::Disk;
-use std::fs;
-use std::io;
 use std::os::unix::fs::FileExt;
+use std::{fs, io};
 use tardis_io::Failed;
 
 /// The longest that a disk may be: 2^63 bytes.

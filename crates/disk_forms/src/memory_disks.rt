@@ -8,8 +8,8 @@ ghost use Rattle.disk_forms.specs.Memory.{fresh, known_of, IsImage, LeftSince, I
 ghost use Rattle.disk_forms.specs.MemoryLaws.{reads_is, counts_now, only_now};
 ghost use Rattle.std.proofs.Common.{refl};
 
+use crate::histories::{History, Kept};
 use disk_store::Disk;
-use crate::histories::{Kept, History};
 use std::alloc::Global;
 use tardis_base::NoMemory;
 use tardis_io::{CallPlan, Failed};

@@ -100,8 +100,7 @@ every_within (ℕ.suc fuel) (gate ∷ tail) within small = elim (cases_eq gate 1
             let count : length (take n (drop 4 tail)) ≡ n = length-take-le n (drop 4 tail) (omega (arith, behind, enough)) in
             let later = length_behind tail (4 + n) (omega (arith, enough)) in
             let more = every_within fuel (drop (4 + n) tail) (omega (arith, later, within)) (small_rest tail (4 + n) small') in
-            let first : gate ∷ tail ≡ 1 ∷ (frame (take n (drop 4 tail)) ++ drop (4 + n) tail) = λ i. open_gate i ∷ is i in
-            (
+            let first : gate ∷ tail ≡ 1 ∷ (frame (take n (drop 4 tail)) ++ drop (4 + n) tail) = λ i. open_gate i ∷ is i in (
               take n (drop 4 tail) ∷ more.0,
               (
                 more.1.0,

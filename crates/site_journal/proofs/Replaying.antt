@@ -59,7 +59,7 @@ module _ {M S K : Type 0} (plain : PlainMachine S) (stands : M → S → Type 0)
   more first machine next disk count place size entries entry n e p two fits enough is event step same there = record {
     each = all_more entries (entry ∷ []) p.each ((omega (arith, is, two), omega (arith, is, fits)), tt);
     stood = subst (stands next) (sym (ap (λ s. state_after plain s (map event_of (entries ++ entry ∷ []))) same ∙ (state_entry plain (opening machine) entries entry ∙ ap (plain.step (state_after plain (opening machine) (map event_of entries))) (sym event))))
-    (step (state_after plain (opening machine) (map event_of entries)) p.stood);
+        (step (state_after plain (opening machine) (map event_of entries)) p.stood);
     same = same ∙ p.same;
     counts = omega (arith, p.counts, length-append entries (entry ∷ []));
     few = omega (arith, p.few);
@@ -69,9 +69,9 @@ module _ {M S K : Type 0} (plain : PlainMachine S) (stands : M → S → Type 0)
     most = p.most;
     long = p.long;
     front = λ h.
-    let rest : List ℕ = drop (5 + n) (drop place (reads disk)) in
-    let moved : rest ≡ drop (place + (5 + n)) (reads disk) = drop-drop (5 + n) place (reads disk) in
-    p.front h ∙ (ap (λ z. marked entries ++ z) (there h) ∙ (sym (behind_entry rest) ∙ ap (λ z. marked (entries ++ entry ∷ []) ++ z) moved));
+        let rest : List ℕ = drop (5 + n) (drop place (reads disk)) in
+        let moved : rest ≡ drop (place + (5 + n)) (reads disk) = drop-drop (5 + n) place (reads disk) in
+        p.front h ∙ (ap (λ z. marked entries ++ z) (there h) ∙ (sym (behind_entry rest) ∙ ap (λ z. marked (entries ++ entry ∷ []) ++ z) moved));
   }
     where
       behind_entry : (rest : List ℕ) → marked (entries ++ entry ∷ []) ++ rest ≡ marked entries ++ 1 ∷ (frame entry ++ rest)

@@ -13,6 +13,3 @@ mod replays;
 pub use journals::{JournalEnd, Journaled, OpenEnd, Staged};
 pub use laws::one_journal;
 pub use openings::open_on;
-
-#[cfg(test)]
-mod tests;

@@ -17,4 +17,3 @@ returns-in-Err-clause-crash c = λ h. may_cut_crash c.args.self.now.history c.no
 
 pub returns-in-Err-clause-time : goal.returns-in-Err-clause-time
 returns-in-Err-clause-time c = λ h. elapses_noted c.args.self.now.history c.note_fault.new.history (MayCut c.args.len) c.note_fault.ensures
-

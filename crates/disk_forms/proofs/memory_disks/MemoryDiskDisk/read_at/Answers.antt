@@ -26,4 +26,3 @@ returns-in-Err-clause-crash c = λ h. looked_crash c.args.self.now.history c.not
 
 pub returns-in-Err-clause-time : goal.returns-in-Err-clause-time
 returns-in-Err-clause-time c = λ h. elapses_noted c.args.self.now.history c.note_fault.new.history Looked c.note_fault.ensures
-

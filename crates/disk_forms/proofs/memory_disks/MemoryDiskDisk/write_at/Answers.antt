@@ -17,4 +17,3 @@ returns-in-Err-clause-crash c = λ h. tore_crash c.args.self.now.history c.note_
 
 pub returns-in-Err-clause-time : goal.returns-in-Err-clause-time
 returns-in-Err-clause-time c = λ h. elapses_noted c.args.self.now.history c.note_fault.new.history (Tore c.args.place (length c.args.bytes.now)) c.note_fault.ensures
-
