@@ -7,7 +7,7 @@ ghost use Rattle.std.specs.Prelude.{◌≡◌, ◌⊎◌, map};
 ghost use Rattle.std.specs.String.{string_bytes};
 ghost use Rattle.command_words.specs.Forms.{Serving};
 ghost use Rattle.site_commands.specs.Ends.{CausedBy};
-ghost use Rattle.tardis_main.specs.Words.{AreServe, AreUnknown, AskToServe};
+ghost use Rattle.tardis_main.specs.Words.{AreServe, AreUnknown, MayLackMemory};
 ghost use Rattle.tardis_main.specs.Program.{Audits, Runs, Serves, Shells, Worlds};
 
 mod helps;
@@ -29,7 +29,7 @@ use tardis_io::{Gate, Sink, Source, Status};
 use world_core::run_world;
 
 /// Carries out the command that the words name, at the place among the sites that they name. Words without a form, and
-/// those of what isn't built yet, are `Status::Usage`, or perhaps `Status::NoMemory` where they are a form of `serve`; then
+/// those of what isn't built yet, are `Status::Usage`, or perhaps `Status::NoMemory` where their texts would be copied; then
 /// nothing is read, written or listened to.
 ///
 /// Keys are found by hashing with this seed. Only `serve` starts threads and waits, and only it uses the gate.
@@ -44,7 +44,7 @@ pub fn tardis<I: Source, O: Sink, G: Gate, R: Threads + Wait + Sync>(
 ) -> Status
     ensures usage { result ≡ Status.Usage → AreUnknown (map (λ w. string_bytes w) words.now) }
     ensures unknown { AreUnknown (map (λ w. string_bytes w) words.now)
-        → ((result ≡ Status.Usage) ⊎ ((result ≡ Status.NoMemory) × AskToServe (map (λ w. string_bytes w) words.now)))
+        → ((result ≡ Status.Usage) ⊎ ((result ≡ Status.NoMemory) × MayLackMemory (map (λ w. string_bytes w) words.now)))
         × (input.new ≡ input.old) × (output.new ≡ output.old) × (gate.new ≡ gate.old) }
     ensures run { Runs I.left I.faults O.given O.faults input.old input.new output.old output.new (map (λ w. string_bytes w) words.now) result }
     ensures shell { Shells I.left I.faults O.given O.faults input.old input.new output.old output.new (map (λ w. string_bytes w) words.now) result }
@@ -75,7 +75,14 @@ pub fn tardis<I: Source, O: Sink, G: Gate, R: Threads + Wait + Sync>(
             }
         }
         // the other commands aren't built yet
-        Ok(Command::Load { .. }) | Err(WordsFault::Usage) => Status::Usage,
+        Ok(
+            Command::Load { .. }
+            | Command::Auto { .. }
+            | Command::Durable { .. }
+            | Command::Export { .. }
+            | Command::Import,
+        )
+        | Err(WordsFault::Usage) => Status::Usage,
         Err(WordsFault::NoMemory) => Status::NoMemory,
     }
 }
