@@ -49,12 +49,14 @@ module _ {M P : Type 0} (opening : M → P) (m : PlainMachine P) (z : Kept M) wh
     where
       no_read : TrailFull bytes ≡ ReadFault → ⊥
       no_read f = absurd (cc)
+
       no_write : TrailFull bytes ≡ WriteFault → ⊥
       no_write f = absurd (cc)
   end_no_fault OutOfMemory end e = (λ f. no_read (sym e ∙ f), λ f. no_write (sym e ∙ f))
     where
       no_read : NoMemory ≡ ReadFault → ⊥
       no_read f = absurd (cc)
+
       no_write : NoMemory ≡ WriteFault → ⊥
       no_write f = absurd (cc)
 

@@ -20,11 +20,15 @@ pub enum SyncEnd {
     /// The link's bytes ended before a whole frame.
     Cut,
     /// The answer's length word was above 1,048,576.
-    LongFrame { len: u32 },
+    LongFrame {
+        len: u32,
+    },
     /// The answer was no batch.
     BadReply,
     /// The trail has so many bytes, and with the next entry it would have more than it may. What was delivered before stays.
-    TrailFull { bytes: u64 },
+    TrailFull {
+        bytes: u64,
+    },
     /// There was no memory. What was delivered before stays.
     NoMemory,
 }

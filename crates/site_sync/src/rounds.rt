@@ -46,7 +46,9 @@ pub fn run_rounds<M: Machine, D: Dial, R: Wait>(
     let mut pass = pass;
     let mut numbers = Rounds { dial: 0, memory: 0 };
     for _round in 0..rounds {
-        let (next, more) = run_round(alloc, rt, lock, pass, dial, peers, tidy, numbers, &mut reply);
+        let (next, more) = run_round(
+            alloc, rt, lock, pass, dial, peers, tidy, numbers, &mut reply,
+        );
         numbers = more;
         pass = next;
     }

@@ -46,7 +46,11 @@ fn digit_in(request: &[u8]) -> u8
     ensures same { result ≡ digit request.now }
     ensures low { result < 16 }
 {
-    if request.len() > 7 { request[7] % 16 } else { 0 }
+    if request.len() > 7 {
+        request[7] % 16
+    } else {
+        0
+    }
 }
 
 /// Answers as a fresh site of two.
@@ -137,9 +141,7 @@ const ALL: SyncEnd = SyncEnd::Done {
 };
 
 #[test]
-fn an_exchange_ends_as_its_peer_its_link_and_the_trail_let_it(
-    rt: HostRuntime,
-) -> Result<(), Fail> {
+fn an_exchange_ends_as_its_peer_its_link_and_the_trail_let_it(rt: HostRuntime) -> Result<(), Fail> {
     let rows = [
         Row {
             sent: ONE,
@@ -261,9 +263,19 @@ fn rounds_call_each_peer_and_count_what_failed(rt: HostRuntime) -> Result<(), Fa
     for address in ["unix:p", "unix:q"] {
         peers.push(String::from_str(alloc, address)?)?;
     }
+    assert_eq!(rt; peers.len(), 2);
     let trail = Trailed::new(alloc, Replier {}, 1_000);
     let (lock, pass) = DagLock::new(alloc, trail, 1)?;
-    let (pass, made) = run_rounds(alloc, &rt, &lock, pass, &mut dial, peers.as_slice(), 2, true);
+    let (pass, made) = run_rounds(
+        alloc,
+        &rt,
+        &lock,
+        pass,
+        &mut dial,
+        peers.as_slice(),
+        2,
+        true,
+    );
     assert_eq!(rt; made, Ok(Rounds { dial: 1, memory: 1 }));
     let mut kept = MemorySink::new(alloc, 1_000, 1_000, &[])?;
     assert!(rt; lock.close(pass).write_trail(&mut kept).is_ok());

@@ -12,8 +12,20 @@ put_counts-requires c =
 pub push-requires-2 : goal.push-requires-2
 push-requires-2 c =
     let two = two_bytes c.clear.new.self c.push_byte.new.self c.push_byte-2.new.self 19 c.len.result c.clear.ensures c.push_byte.ensures c.push_byte-2.ensures in
-    omega (arith, ap length two, counts_length c.as_slice.result.now, ap length c.as_slice.ensures, c.len.ensures.room, ap length c.bytes-2.ensures.same, ap length c.put_counts.ensures,
-    length-append c.push_byte-2.new.self (flat_map count_spelling c.as_slice.result.now), ap length c.push.ensures, length-append c.clear-2.new.self c.put_frame.new.head, ap length c.clear-2.ensures, c.put_frame.array_long)
+    omega (
+      arith,
+      ap length two,
+      counts_length c.as_slice.result.now,
+      ap length c.as_slice.ensures,
+      c.len.ensures.room,
+      ap length c.bytes-2.ensures.same,
+      ap length c.put_counts.ensures,
+      length-append c.push_byte-2.new.self (flat_map count_spelling c.as_slice.result.now),
+      ap length c.push.ensures,
+      length-append c.clear-2.new.self c.put_frame.new.head,
+      ap length c.clear-2.ensures,
+      c.put_frame.array_long,
+    )
 
 pub returns : goal.returns
 returns c =
