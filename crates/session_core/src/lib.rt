@@ -3,9 +3,10 @@
 //! What each request does is stated in `docs/MODEL.md`.
 #![tactic(auto)]
 
-ghost use Rattle.std.specs.Prelude.{◌≤◌, IsTrue, IfOk};
+ghost use Rattle.std.specs.Prelude.{◌≡◌, ◌≤◌, IsTrue, IfOk};
 ghost use Rattle.tardis_base.specs.Valid.{are_limits};
-ghost use Rattle.plain_site.specs.Site.{opening};
+ghost use Rattle.record_store.specs.Stands.{StoreStands};
+ghost use Rattle.plain_site.specs.Site.{Site, opening};
 ghost use Rattle.plain_site.specs.Sound.{IsSound};
 ghost use Rattle.session_core.specs.Stands.{CoreStands};
 
@@ -65,6 +66,14 @@ impl SiteCore {
     {
         let parts = Parts::new(alloc, keys, &limits, own)?;
         Ok(SiteCore { parts })
+    }
+
+    /// The store of its history, to be read.
+    pub fn store(&self) -> &RecordStore
+        ensures is { result.now ≡ self.now.store }
+        ensures stands { (site : Site) → CoreStands self.now site → StoreStands result.now site.dag site.collected }
+    {
+        &self.parts.store
     }
 }
 
