@@ -48,7 +48,7 @@ loop-place-preserved c =
     let e : Entry = (c.in_ok-key.key.now, c.in_ok-_value._value.now) in (
       i.1.xs ++ e ∷ [],
       progress-more (λ (e : Entry). e.0) is_key_before are_ascending entries-order entry_front c.args.reader.now c.loop-place._place c.loop-place.reader (option_copied c.loop-place.last) (Ok i.0) (Ok (i.1.xs ++ e ∷ []))
-      e c.value.new.self i.1 read (sym c.if-not-key_follows.ensures) (λ _. refl),
+          e c.value.new.self i.1 read (sym c.if-not-key_follows.ensures) (λ _. refl),
     )
 
 pub returns : goal.returns
