@@ -6,3 +6,5 @@ mod FormLaws
 mod ReadLaws
 mod RuleLaws
 mod Exchanges
+mod ValueLaws
+mod SettlingLaws

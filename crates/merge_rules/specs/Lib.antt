@@ -7,3 +7,5 @@ pub mod Sides
 pub mod Numbers
 pub mod Joining
 pub mod Laws
+pub mod Auto
+pub mod Steps

@@ -9,10 +9,14 @@ mod parts;
 mod rule_texts;
 mod rules;
 mod sets;
+mod settling;
+mod steps;
 mod unions;
 mod values;
 
 pub use laws::sides_may_be_exchanged;
 pub use rule_texts::{RulesFault, read_rules};
 pub use rules::{Rule, RuleList, rule_for};
+pub use settling::{Settled, settle};
+pub use steps::AutoEnd;
 pub use values::{Base, Side, merged};
