@@ -20,3 +20,6 @@ pub use rules::{Rule, RuleList, rule_for};
 pub use settling::{Settled, settle};
 pub use steps::AutoEnd;
 pub use values::{Base, Side, merged};
+
+#[cfg(test)]
+mod tests;
