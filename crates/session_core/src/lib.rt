@@ -17,6 +17,7 @@ mod commits;
 mod dispatch;
 mod exchange;
 mod floors;
+mod joins;
 mod merges;
 mod reads_and_writes;
 mod sessions;
