@@ -9,7 +9,7 @@ use Rattle.tardis_base.specs.declared.records.Write.{Write}
 use Rattle.tardis_base.specs.declared.records.Write.TheVariants.{Put, Delete}
 use Rattle.tardis_base.specs.Ids.{is_before}
 use Rattle.tardis_base.specs.Keys.{are_ascending_keys}
-use Rattle.merge_rules.specs.declared.rules.Rule.TheVariants.{Last, Count, Set, Refuse}
+use Rattle.rule_list.specs.declared.rules.Rule.TheVariants.{Last, Count, Set, Refuse}
 use Rattle.merge_rules.specs.Laws.{SidesMayBeExchanged}
 use Rattle.merge_rules.specs.Parts.{parts}
 use Rattle.merge_rules.specs.Values.{Side, last, total, fitting, base_number, number_of, written_number, are_items, set_of, united, written_set}

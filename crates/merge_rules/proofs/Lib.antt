@@ -2,9 +2,7 @@
 mod Partings
 mod UnionLaws
 mod Joins
-mod FormLaws
 mod ReadLaws
-mod RuleLaws
 mod Exchanges
 mod ValueLaws
 mod SettlingLaws

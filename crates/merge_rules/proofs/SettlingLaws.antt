@@ -19,11 +19,12 @@ use Rattle.plain_dag.specs.Writers.{read}
 use Rattle.state_dag.specs.Table.{Table, id_at}
 use Rattle.record_store.specs.Store.{Store}
 use Rattle.record_store.specs.Stands.{StoreStands}
-use Rattle.merge_rules.specs.declared.rules.Rule.{Rule}
+use Rattle.rule_list.specs.declared.rules.Rule.{Rule}
 use Rattle.merge_rules.specs.declared.settling.Settled.{Settled}
 use Rattle.merge_rules.specs.declared.settling.Settled.TheVariants.{Wide, Unmerged, Values}
 use Rattle.merge_rules.specs.Auto.{written_base, base_at, merged_sides, value_of}
-use Rattle.merge_rules.specs.Rules.{PrefixRule, rule_for}
+use Rattle.rule_list.specs.declared.rules.PrefixRule.{PrefixRule}
+use Rattle.rule_list.specs.Rules.{rule_for}
 use Rattle.merge_rules.specs.Steps.{IsParting, BeganAs, IsValued, SettledAs, only}
 use Rattle.merge_rules.specs.Values.{Base, Unknown}
 

@@ -16,10 +16,11 @@ use Rattle.plain_site.specs.Site.{Site}
 use Rattle.plain_site.specs.Answers.{Answer}
 use Rattle.plain_site.specs.Commits.{commit_below}
 use Rattle.session_core.specs.Joins.{begin_refusal}
-use Rattle.merge_rules.specs.declared.rules.Rule.{Rule}
+use Rattle.rule_list.specs.declared.rules.Rule.{Rule}
 use Rattle.merge_rules.specs.declared.steps.AutoEnd.{AutoEnd}
 use Rattle.merge_rules.specs.declared.steps.AutoEnd.TheVariants.{Single, Refused, Wide, Unmerged, Merged}
-use Rattle.merge_rules.specs.Rules.{PrefixRule, rule_for}
+use Rattle.rule_list.specs.declared.rules.PrefixRule.{PrefixRule}
+use Rattle.rule_list.specs.Rules.{rule_for}
 use Rattle.merge_rules.specs.Values.{Base, Unknown, Absent, Is, Side, merged}
 
 -- the site after an auto step, and how that ended

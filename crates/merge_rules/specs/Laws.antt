@@ -1,6 +1,6 @@
 -- Laws of the values that rules give.
 use Rattle.std.specs.Prelude.{◌≡◌}
-use Rattle.merge_rules.specs.declared.rules.Rule.{Rule}
+use Rattle.rule_list.specs.declared.rules.Rule.{Rule}
 use Rattle.merge_rules.specs.Values.{Base, Side, merged}
 
 -- it doesn't matter which side comes first

@@ -1,7 +1,5 @@
--- Merge rules: how they are written, which is that of a key, and what value each gives.
+-- Merge rules: what value each gives.
 pub mod Parts
-pub mod Rules
-pub mod RuleTexts
 pub mod Values
 pub mod Sides
 pub mod Numbers

@@ -23,7 +23,7 @@ use Rattle.merge_rules.specs.declared.steps.AutoEnd.{AutoEnd}
 use Rattle.merge_rules.specs.declared.settling.Settled.{Settled}
 use Rattle.merge_rules.specs.declared.settling.Settled.TheVariants.{Wide, Unmerged, Values}
 use Rattle.merge_rules.specs.Auto.{AutoAnswer, value_of, unmerged, values}
-use Rattle.merge_rules.specs.Rules.{PrefixRule}
+use Rattle.rule_list.specs.declared.rules.PrefixRule.{PrefixRule}
 
 -- the plain answer; or there was no memory, and what stands for the site as it was
 abbrev pub Ends : (Site → Type 0) → AutoAnswer → Site → Result AutoEnd OutOfMemory → Type 0

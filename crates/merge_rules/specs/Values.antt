@@ -9,8 +9,8 @@ use Rattle.tardis_base.specs.declared.records.Write.{Write}
 use Rattle.tardis_base.specs.declared.records.Write.TheVariants.{Put, Delete}
 use Rattle.tardis_base.specs.Ids.{is_before}
 use Rattle.tardis_base.specs.Keys.{are_ascending_keys, with_key}
-use Rattle.merge_rules.specs.declared.rules.Rule.{Rule}
-use Rattle.merge_rules.specs.declared.rules.Rule.TheVariants.{Last, Count, Set, Refuse}
+use Rattle.rule_list.specs.declared.rules.Rule.{Rule}
+use Rattle.rule_list.specs.declared.rules.Rule.TheVariants.{Last, Count, Set, Refuse}
 use Rattle.merge_rules.specs.Parts.{parts}
 
 -- a side: a latest writer of the key, and what it writes

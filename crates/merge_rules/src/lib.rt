@@ -6,8 +6,6 @@
 mod counts;
 mod laws;
 mod parts;
-mod rule_texts;
-mod rules;
 mod sets;
 mod settling;
 mod steps;
@@ -15,11 +13,6 @@ mod unions;
 mod values;
 
 pub use laws::sides_may_be_exchanged;
-pub use rule_texts::{RulesFault, read_rules};
-pub use rules::{Rule, RuleList, rule_for};
 pub use settling::{Settled, settle};
 pub use steps::AutoEnd;
 pub use values::{Base, Side, merged};
-
-#[cfg(test)]
-mod tests;

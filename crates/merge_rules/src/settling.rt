@@ -13,11 +13,11 @@ ghost use Rattle.merge_rules.specs.Values.{Unknown};
 ghost use Rattle.merge_rules.specs.Sides.{base_of};
 ghost use Rattle.merge_rules.specs.Steps.{SettlesAs, PartsAs, ValuesAs, IsParting, BeganAs, only};
 
-use crate::rules::{Rule, RuleList, rule_for};
 use crate::values::{Base, Side, merged};
 use conflict_keys::conflicts;
 use fork_points::{StatePage, fork_points};
 use record_store::RecordStore;
+use rule_list::{Rule, RuleList, rule_for};
 use state_dag::StateDag;
 use std::alloc::Global;
 use tardis_base::{Found, Key, NoMemory, Slot, StateId, Write, WriteSet};

@@ -5,8 +5,8 @@ ghost use Rattle.merge_rules.specs.Values.{last, merged};
 ghost use Rattle.merge_rules.specs.Sides.{base_of, side_of};
 
 use crate::counts::merged_counts;
-use crate::rules::Rule;
 use crate::sets::merged_sets;
+use rule_list::Rule;
 use std::alloc::Global;
 use tardis_base::{NoMemory, StateId, Write};
 

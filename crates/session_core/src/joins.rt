@@ -1,11 +1,10 @@
-//! What a layer above asks of a site beside requests: its store, whether a session may begin, and a merge in one step.
+//! What a layer above asks of a site beside requests: whether a session may begin, and a merge in one step.
 
 ghost use Rattle.std.specs.Prelude.{◌≡◌, None, List, Some, map, IsTrue};
 ghost use Rattle.std.specs.List.{list_all};
 ghost use Rattle.tardis_base.specs.declared.ids.StateId.{StateId};
 ghost use Rattle.plain_dag.specs.Entries.{entry_of};
 ghost use Rattle.state_dag.specs.Table.{id_at, is_slot};
-ghost use Rattle.record_store.specs.Stands.{StoreStands};
 ghost use Rattle.ceiling_book.specs.Book.{is_open};
 ghost use Rattle.plain_site.specs.Site.{Site};
 ghost use Rattle.session_core.specs.Gives.{Gives};
@@ -16,7 +15,6 @@ use crate::dispatch::told;
 use crate::merges::states_of;
 use crate::stops::Stop;
 use crate::{Parts, SiteCore};
-use record_store::RecordStore;
 use tardis_base::{NoMemory, Refusal, Reply, Slot, StateId, WriteSet};
 
 impl Parts {
@@ -63,14 +61,6 @@ impl Parts {
 }
 
 impl SiteCore {
-    /// The kept states and the versions of the keys at them.
-    pub fn store(&self) -> &RecordStore
-        ensures is { result.now ≡ self.now.store }
-        ensures stands { (site : Site) → SiteStands self.now site → StoreStands result.now site.dag site.collected }
-    {
-        &self.parts.store
-    }
-
     /// Why the actor may begin no transaction: no session of it is open (NotOpen), or it has one (TxnOpen).
     pub fn begin_refusal(&self, actor: u16) -> Option<Refusal>
         ensures { (site : Site) → SiteStands self.now site → result ≡ begin_refusal site actor }
