@@ -1,9 +1,9 @@
 -- The contents of a state, out of the keys that a store lists.
-use Rattle.std.proofs.Common.{◌≡◌, ℕ, ◌+◌, ◌<◌, ◌≤◌, ◌⊎◌, Bool, true, false, ◌&&◌, ◌||◌, List, [], ◌∷◌, ◌++◌, length, map, filter, filter_map, find, take, Option, Some, None, is_some, IsPermutation, IsSorted, IsTrue, bytes_eq, nat_cmp, inl, inr, refl, sym, ap, ap₂, subst, ◌∙◌, arith}
+use Rattle.std.proofs.Common.{◌≡◌, ℕ, ◌+◌, ◌≤◌, ◌⊎◌, Bool, true, false, ◌&&◌, ◌||◌, List, [], ◌∷◌, ◌++◌, length, filter, filter_map, take, Option, Some, None, is_some, IsPermutation, IsSorted, bytes_eq, nat_cmp, inl, inr, refl, sym, ap, ap₂, subst, ◌∙◌, arith}
 use Rattle.std.specs.Cmp.Lexicographic.{slice_cmp}
-use Rattle.std.specs.List.{IsDistinct, list_any, cons_option}
+use Rattle.std.specs.List.{IsDistinct, cons_option}
 use Rattle.std.specs.Option.{option_map, option_and_then}
-use Rattle.std.proofs.lemmas.Bool.{cases_Bool, both_ways, or_left, or_right, or_cases, cond-true, cond-false, and_parts, and_from, false_from_ne_true}
+use Rattle.std.proofs.lemmas.Bool.{cases_Bool, both_ways, or_left, or_right, or_cases, cond-true, cond-false}
 use Rattle.std.proofs.lemmas.List.Sorted.{IsPermutation-map}
 use Rattle.std.proofs.lemmas.Option.{slice_get_within, get_or_from_slice_get}
 use Rattle.std.proofs.lemmas.List.{map-append, append-nil, take_more}
@@ -15,20 +15,19 @@ use Rattle.tardis_base.specs.declared.ids.Slot.{Slot}
 use Rattle.tardis_base.specs.declared.records.Record.{Record}
 use Rattle.tardis_base.specs.declared.records.Write.{Write}
 use Rattle.tardis_base.specs.Ids.{same_id}
-use Rattle.tardis_base.specs.Keys.{KeyWrite, is_key_before, are_ascending_keys, is_key_among, with_key, keys_of, has_key, write_of}
-use Rattle.tardis_base.proofs.KeyOrder.{cases_key, before-trans, bytes_eq-itself, ascending-parts, ascending-from, is_first}
+use Rattle.tardis_base.specs.Keys.{is_key_before, are_ascending_keys, is_key_among, with_key, keys_of, write_of}
+use Rattle.tardis_base.proofs.KeyOrder.{before-trans, ascending-parts, ascending-from, is_first}
 use Rattle.tardis_base.proofs.KeySets.{with_key_cases, ascending-with_key}
 use Rattle.tardis_base.proofs.WriteSets.{has_key-write_of, has_key-keys_of}
 use Rattle.plain_dag.specs.States.{record_at, write_at}
 use Rattle.plain_dag.specs.Writers.{read, latest_writer, version_at}
 use Rattle.state_dag.specs.Table.{id_at, is_slot_above, arrival_at}
-use Rattle.version_list.specs.declared.histories.Version.{Version}
-use Rattle.version_list.specs.Versions.{versions_of, listed_keys}
+use Rattle.version_list.specs.Versions.{versions_of}
 use Rattle.version_list.specs.Reads.{latest_version, written}
 use Rattle.record_store.specs.Store.{Store}
 use Rattle.record_store.specs.Stands.{StoreStands}
 use Rattle.record_store.proofs.Reading.{found-is_read}
-use Rattle.branch_export.specs.Exports.{Entry, with_keys, written_keys, value_read, entry_at, contents}
+use Rattle.branch_export.specs.Exports.{Entry, with_keys, written_keys, value_read}
 use Rattle.branch_export.specs.Live.{is_live, live_keys}
 use Rattle.branch_export.proofs.Orders.{Key, texts, count, count-permutation, among-counted, counted-among, counted-once, filter-counted, ascending-sorted, same-keys}
 

@@ -1,22 +1,21 @@
 -- How an export is read back from bytes.
-use Rattle.std.proofs.Common.{◌≡◌, ℕ, ◌==◌, Bool, true, false, ◌&&◌, IsTrue, List, [], ◌∷◌, ◌++◌, length, map, Option, Some, None, ap, sym, ◌∙◌, subst, refl, arith, eqb-true}
+use Rattle.std.proofs.Common.{◌≡◌, ℕ, ◌==◌, Bool, true, false, ◌&&◌, IsTrue, List, [], ◌∷◌, length, Option, Some, None, ap, sym, ◌∙◌, subst, refl, arith, eqb-true}
 use Rattle.std.specs.Prelude.{option_and_then}
 use Rattle.std.proofs.lemmas.Bool.{false_from_ne_true}
 use Rattle.std.specs.List.{list_all}
-use Rattle.tardis_base.specs.Keys.{is_key_before, are_ascending_keys}
-use Rattle.tardis_base.specs.Valid.{is_key, is_value, is_u64}
-use Rattle.tardis_base.proofs.TestParts.{first, second}
-use Rattle.wire_item.specs.Spellings.{key_spelling, value_spelling, u64_spelling}
-use Rattle.wire_item.specs.Fronts.{Front, both, only_if, times, counted, after, made, alone, whole}
-use Rattle.wire_item.specs.Readings.{u64_front, key_front, value_front}
-use Rattle.wire_item.proofs.Fronts.{only_if-read, some-parts}
+use Rattle.tardis_base.specs.Keys.{is_key_before}
+use Rattle.tardis_base.specs.Valid.{is_u64}
+use Rattle.tardis_base.proofs.TestParts.{first}
+use Rattle.wire_item.specs.Fronts.{times, counted, after, alone, whole}
+use Rattle.wire_item.specs.Readings.{u64_front}
+use Rattle.wire_item.proofs.Fronts.{only_if-read}
 use Rattle.wire_item.proofs.Ways.{Reads, reads-both, reads-only_if, reads-counted, many-times}
 use Rattle.wire_item.proofs.Numbers.{reads-u64}
 use Rattle.wire_item.proofs.Things.{reads-key, reads-value}
-use Rattle.wire_item.proofs.Laws.{one_spelling, whole-read, spelled-whole, whole-spelled}
+use Rattle.wire_item.proofs.Laws.{whole-read, spelled-whole, whole-spelled}
 use Rattle.wire_item.proofs.Progress.{IsOrder}
 use Rattle.wire_item.proofs.Takings.{only_if-none, made-none, after-none, counted-unordered, counted-ordered}
-use Rattle.branch_export.specs.Exports.{Entry, is_entry, are_entries, entry_spelling, export_spelling, IsExport}
+use Rattle.branch_export.specs.Exports.{Entry, is_entry, are_entries, entry_spelling, export_spelling}
 use Rattle.branch_export.specs.Readings.{entry_front, are_ascending, entries_front, export_front, IsJudged}
 
 pub entries-order : IsOrder {A = Entry} (λ e. e.0) is_key_before are_ascending

@@ -1,14 +1,14 @@
 -- Keys in another order, and the one ascending list of them.
-use Rattle.std.proofs.Common.{◌≡◌, ℕ, ◌+◌, ◌<◌, ◌≤◌, ◌⊎◌, Bool, true, false, ◌&&◌, ◌||◌, List, [], ◌∷◌, length, map, filter, get_or, IsPermutation, IsSorted, Bor, is_lt, nat_cmp, bytes_eq, inl, inr, refl, sym, ap, ap₂, subst, ◌∙◌, arith}
+use Rattle.std.proofs.Common.{◌≡◌, ℕ, ◌+◌, ◌<◌, ◌≤◌, Bool, true, false, ◌||◌, List, [], ◌∷◌, length, map, filter, get_or, IsPermutation, IsSorted, Bor, nat_cmp, bytes_eq, inl, inr, refl, sym, ap, ap₂, subst, ◌∙◌, arith}
 use Rattle.std.specs.Cmp.Lexicographic.{slice_cmp}
 use Rattle.std.specs.List.{IsDistinct, AllByRecursion, sum_by}
-use Rattle.std.proofs.lemmas.Bool.{cases_Bool, both_ways, or_left, or_right, or_cases, cond-true, cond-false}
+use Rattle.std.proofs.lemmas.Bool.{cases_Bool, both_ways, or_left, cond-true, cond-false}
 use Rattle.std.proofs.lemmas.List.{get_or-map, length-map}
 use Rattle.std.proofs.lemmas.List.Recursion.{is_sum_by}
-use Rattle.std.proofs.lemmas.List.Sorted.{sum_by-IsPermutation, IsPermutation-map}
+use Rattle.std.proofs.lemmas.List.Sorted.{sum_by-IsPermutation}
 use Rattle.std.proofs.lemmas.Slice.Eq.{bytes_eq-Decides}
 use Rattle.tardis_base.specs.Keys.{is_key_before, are_ascending_keys, is_key_among}
-use Rattle.tardis_base.proofs.KeyOrder.{is_first, cases_key, before-trans, before-itself, bytes_eq-itself, bytes_eq-before, ascending-parts, ascending-from}
+use Rattle.tardis_base.proofs.KeyOrder.{cases_key, before-trans, bytes_eq-itself, bytes_eq-before, ascending-parts, ascending-from}
 
 abbrev pub Key : Type 0
 Key = Bor (List ℕ)

@@ -1,4 +1,4 @@
-use Rattle.std.proofs.Common.{◌≡◌, List, [], ◌∷◌, ◌++◌, map, Some, true, false, sym, ap, subst, ◌∙◌, rules}
+use Rattle.std.proofs.Common.{◌≡◌, [], ◌∷◌, ◌++◌, map, Some, sym, ap, subst, ◌∙◌}
 use Rattle.std.specs.List.{slice_get}
 use Rattle.version_list.specs.Versions.{listed_keys}
 use Rattle.version_list.specs.Reads.{found}

@@ -1,4 +1,4 @@
-use Rattle.std.proofs.Common.{List, refl, sym, subst, arith, ◌++◌, ◌∷◌, []}
+use Rattle.std.proofs.Common.{refl, sym, subst, arith, ◌++◌, ◌∷◌, []}
 use Rattle.std.specs.Prelude.{Ok}
 use Rattle.std.specs.Option.{option_copied}
 use Rattle.tardis_base.specs.Keys.{is_key_before}
