@@ -8,7 +8,7 @@ use Rattle.serve_run.specs.declared.endings.ServeEnd.TheVariants.{NotBound, NotM
 use Rattle.plain_site.specs.Site.{Site}
 use Rattle.site_commands.specs.Ends.{ServerEnds}
 
-number_of : ServeEnd → ℕ
+abbrev number_of : ServeEnd → ℕ
 number_of NotBound = 0
 number_of NotMade = 1
 number_of (Served s) = 2
@@ -19,8 +19,8 @@ module _ {L G O : Type 0} (link_left link_given : L → Option (List ℕ)) (link
   no_server site max_trail links = record {
     end = NotMade;
     outcome = record {
-      served = λ s e. absurd (omega (arith, ap number_of e));
-      not_bound = λ e. absurd (omega (arith, ap number_of e));
+      served = λ s e. let n : 1 ≡ 2 = ap number_of e in absurd (omega (arith, n));
+      not_bound = λ e. let n : 1 ≡ 0 = ap number_of e in absurd (omega (arith, n));
       not_made = λ e. (refl, refl);
       gate_later = omega arith;
       write_later = omega arith;
