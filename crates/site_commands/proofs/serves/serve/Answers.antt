@@ -15,7 +15,7 @@ returns-clause-ends g c =
       outcome = c.serve_site.ensures;
       judged = c.status_of.ensures;
       complete = λ r s. subst (λ t. (t ≡ Well) ⊎ (t ≡ NoMemory)) (sym c.status_of.ensures)
-      (well_without_faults (Rose (g.G.Gate.faults c.args.gate.now) (g.G.Gate.faults c.serve_site.new.gate)) (Rose (g.O.Sink.faults c.args.output.now) (g.O.Sink.faults c.serve_site.new.output)) c.serve_site.result fails r s);
+          (well_without_faults (Rose (g.G.Gate.faults c.args.gate.now) (g.G.Gate.faults c.serve_site.new.gate)) (Rose (g.O.Sink.faults c.args.output.now) (g.O.Sink.faults c.serve_site.new.output)) c.serve_site.result fails r s);
     }
 
 pub returns-clause-write : goal.returns-clause-write
