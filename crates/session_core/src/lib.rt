@@ -3,11 +3,13 @@
 //! What each request does is stated in `docs/MODEL.md`.
 #![tactic(auto)]
 
-ghost use Rattle.std.specs.Prelude.{◌≤◌, IsTrue, IfOk};
+ghost use Rattle.std.specs.Prelude.{◌≡◌, ◌≤◌, is_some, IsTrue, IfOk};
 ghost use Rattle.tardis_base.specs.Valid.{are_limits};
-ghost use Rattle.plain_site.specs.Site.{opening};
+ghost use Rattle.plain_dag.specs.Entries.{entry_of};
+ghost use Rattle.plain_site.specs.Site.{Site, opening};
 ghost use Rattle.plain_site.specs.Sound.{IsSound};
 ghost use Rattle.session_core.specs.Stands.{CoreStands};
+ghost use Rattle.session_core.specs.Machine.{SiteStands};
 
 mod bytes;
 mod commits;
@@ -65,6 +67,13 @@ impl SiteCore {
     {
         let parts = Parts::new(alloc, keys, &limits, own)?;
         Ok(SiteCore { parts })
+    }
+
+    /// Whether the session has an open transaction.
+    pub fn has_txn(&self, session: u16) -> bool
+        ensures { (site : Site) → SiteStands self.now site → result ≡ is_some (entry_of session site.txns) }
+    {
+        self.parts.txns.is_open(session)
     }
 }
 
