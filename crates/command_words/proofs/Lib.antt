@@ -2,5 +2,5 @@
 pub mod Lists
 pub mod Numerals
 pub mod Givens
-pub mod Serves
 pub mod Runs
+pub mod Copies

@@ -1,5 +1,5 @@
 -- Numbers as the library reads them.
-use Rattle.std.proofs.Common.{ℕ, ◌^◌, ◌<◌, ◌≤◌, true, false, ◌&&◌, leb, inl, inr, List, length, Result, Ok, Err, Option, Some, None, ◌≡◌, ◌∙◌, refl, sym, arith}
+use Rattle.std.proofs.Common.{ℕ, ◌^◌, ◌<◌, ◌≤◌, true, ◌&&◌, leb, inl, inr, List, length, Err, Some, None, ◌≡◌, refl, sym, arith}
 use Rattle.std.proofs.lemmas.Bool.{and_parts, and_from, and_right, leb-true, le-leb, lt-leb, cond-false, cases_lt}
 use Rattle.std.proofs.lemmas.Str.Parse.{IsDigitsTest, IsNumeralModel, numerals_by_value, parse_digits}
 use Rattle.std.specs.Str.Parse.{digits_value, ParsesUnsigned}

@@ -1,8 +1,12 @@
 -- The forms of a command: its words, and what they say.
-use Rattle.std.specs.Prelude.{ℕ, Bool, List, [], ◌∷◌, Option, None, Some, codes, bytes_eq, option_map, option_and_then, if◌then◌else◌}
+use Rattle.std.specs.Prelude.{ℕ, Bool, List, [], ◌∷◌, Option, None, codes, bytes_eq, option_map, option_and_then, if◌then◌else◌}
+use Rattle.std.specs.Bool.{then_some}
+use Rattle.tardis_base.specs.declared.ids.StateId.{StateId}
+use Rattle.rule_list.specs.declared.rules.PrefixRule.{PrefixRule}
+use Rattle.rule_list.specs.RuleTexts.{rules_of}
 use Rattle.command_words.specs.declared.commands.Place.{Place}
 use Rattle.command_words.specs.Settings.{Setting, settings, values, are_only}
-use Rattle.command_words.specs.Values.{needed, number_or, flag, address, addresses}
+use Rattle.command_words.specs.Values.{needed, number_or, flag, address, addresses, once, is_address, id_of}
 
 -- what the words of `serve` say
 pub record Serving : Type 0 where
@@ -21,6 +25,10 @@ pub data Form : Type 0 where
   AsWorld : ℕ → Form
   AsServe : Serving → Form
   AsLoad : ℕ → ℕ → Form
+  AsAuto : Place → List PrefixRule → Form
+  AsDurable : Place → List ℕ → Form
+  AsExport : Place → StateId → Form
+  AsImport : Form
 
 -- the values of an option
 abbrev pub of : List Setting → List ℕ → List (Option (List ℕ))
@@ -65,6 +73,28 @@ load found =
     then option_and_then (λ start. option_map (λ steps. AsLoad start steps) (needed 0 10000 (of found (codes "--steps")))) (needed 0 4294967295 (of found (codes "--start")))
     else None
 
+-- a place, and the value of one more option, which must be there
+abbrev pub placed : List ℕ → List Setting → Option (Place × List ℕ)
+placed name found =
+    if are_only (codes "--sites" ∷ codes "--site" ∷ name ∷ []) found
+    then option_and_then (λ place. option_map (λ word. (place, word)) (once (of found name))) (place found) else None
+
+-- a place, and `--rules RULES`
+abbrev pub auto : List Setting → Option Form
+auto found = option_and_then (λ p. option_map (λ rules. AsAuto p.0 rules) (rules_of p.1)) (placed (codes "--rules") found)
+
+-- a place, and `--file PATH`, which has the form of an address
+abbrev pub durable : List Setting → Option Form
+durable found = option_and_then (λ p. then_some (is_address p.1) (AsDurable p.0 p.1)) (placed (codes "--file") found)
+
+-- a place, and `--at ID`
+abbrev pub export : List Setting → Option Form
+export found = option_and_then (λ p. option_map (λ state. AsExport p.0 state) (id_of p.1)) (placed (codes "--at") found)
+
+-- no options
+abbrev pub import : List Setting → Option Form
+import found = then_some (are_only [] found) AsImport
+
 -- the form of the options of a command
 abbrev pub form_behind : List ℕ → List Setting → Option Form
 form_behind command found =
@@ -73,7 +103,11 @@ form_behind command found =
     (if bytes_eq command (codes "shell") then option_map AsShell (place_alone found) else
     (if bytes_eq command (codes "audit") then option_map AsAudit (place_alone found) else
     (if bytes_eq command (codes "world") then option_map AsWorld (world found) else
-    (if bytes_eq command (codes "load") then load found else None)))))
+    (if bytes_eq command (codes "load") then load found else
+    (if bytes_eq command (codes "auto") then auto found else
+    (if bytes_eq command (codes "durable") then durable found else
+    (if bytes_eq command (codes "export") then export found else
+    (if bytes_eq command (codes "import") then import found else None)))))))))
 
 -- what the bytes of the words say, where they have a form
 abbrev pub form : List (List ℕ) → Option Form

@@ -1,7 +1,9 @@
 -- What holds of all forms.
 use Rattle.std.specs.Prelude.{◌≡◌, ℕ, List, Some}
+use Rattle.tardis_base.specs.declared.ids.StateId.{StateId}
+use Rattle.rule_list.specs.declared.rules.PrefixRule.{PrefixRule}
 use Rattle.command_words.specs.declared.commands.Place.{Place}
-use Rattle.command_words.specs.Forms.{form, AsRun, AsShell, AsAudit}
+use Rattle.command_words.specs.Forms.{form, AsRun, AsShell, AsAudit, AsAuto, AsDurable, AsExport}
 use Rattle.command_words.specs.Places.{IsPlace}
 
 -- the place of a form of `run` is a site of 1 to 16 sites
@@ -15,3 +17,15 @@ ShellsAtASite = (words : List (List ℕ)) (place : Place) → form words ≡ Som
 -- and of `audit`
 abbrev pub AuditsAtASite : Type 0
 AuditsAtASite = (words : List (List ℕ)) (place : Place) → form words ≡ Some (AsAudit place) → IsPlace place
+
+-- and of `auto`
+abbrev pub AutosAtASite : Type 0
+AutosAtASite = (words : List (List ℕ)) (place : Place) (rules : List PrefixRule) → form words ≡ Some (AsAuto place rules) → IsPlace place
+
+-- and of `durable`
+abbrev pub DurablesAtASite : Type 0
+DurablesAtASite = (words : List (List ℕ)) (place : Place) (path : List ℕ) → form words ≡ Some (AsDurable place path) → IsPlace place
+
+-- and of `export`
+abbrev pub ExportsAtASite : Type 0
+ExportsAtASite = (words : List (List ℕ)) (place : Place) (state : StateId) → form words ≡ Some (AsExport place state) → IsPlace place

@@ -9,3 +9,4 @@ pub mod Servings
 pub mod Places
 pub mod Laws
 pub mod Daemons
+pub mod Readings

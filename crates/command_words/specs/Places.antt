@@ -3,7 +3,7 @@ use Rattle.std.specs.Prelude.{ℕ, ◌≤◌}
 use Rattle.tardis_base.specs.declared.records.Limits.{Limits}
 use Rattle.command_words.specs.declared.commands.Place.{Place}
 use Rattle.command_words.specs.declared.commands.Command.{Command}
-use Rattle.command_words.specs.declared.commands.Command.TheVariants.{Run, Shell, Audit, World, Serve, Load}
+use Rattle.command_words.specs.declared.commands.Command.TheVariants.{Run, Shell, Audit, World, Serve, Load, Auto, Durable, Export, Import}
 
 -- a site of 1 to 16 sites
 pub record IsPlace (place : Place) : Type 0 where
@@ -20,6 +20,10 @@ HasPlace (Audit place) = IsPlace place
 HasPlace (World sites) = (1 ≤ sites) × (sites ≤ 16)
 HasPlace (Serve plan) = IsPlace plan.place
 HasPlace (Load start steps) = Unit {0}
+HasPlace (Auto place rules) = IsPlace place
+HasPlace (Durable place path) = IsPlace place
+HasPlace (Export place state) = IsPlace place
+HasPlace Import = Unit {0}
 
 -- the limits of a site that a program runs, by how many sites there are
 abbrev pub program_limits : ℕ → Limits

@@ -1,8 +1,11 @@
 -- The values of options.
-use Rattle.std.specs.Prelude.{ℕ, Bool, true, false, ◌&&◌, not, length, List, [], ◌∷◌, Option, None, Some, nat_le, nat_eq, filter_map, if◌then◌else◌, slice_index}
-use Rattle.std.specs.List.{list_all}
+use Rattle.std.specs.Prelude.{ℕ, Bool, true, false, ◌==◌, ◌&&◌, not, length, List, [], ◌∷◌, Option, None, Some, nat_le, nat_lt, nat_eq, filter_map, option_and_then, if◌then◌else◌, slice_index}
+use Rattle.std.specs.Bool.{then_some}
+use Rattle.std.specs.List.{list_all, before_first, after_first}
 use Rattle.std.specs.Str.Parse.{digits_value}
+use Rattle.tardis_base.specs.declared.ids.StateId.{StateId}
 use Rattle.tardis_base.specs.Bytes.{is_within}
+use Rattle.tardis_base.specs.Valid.{is_id}
 
 -- each byte is one of `0` to `9`
 abbrev pub are_digits : List ℕ → Bool
@@ -56,3 +59,23 @@ are_addresses most found = nat_le (length found) most && list_all is_some_addres
 -- at most 15 addresses
 abbrev pub addresses : List (Option (List ℕ)) → Option (List (List ℕ))
 addresses found = if are_addresses 15 found then Some (filter_map (λ v. v) found) else None
+
+-- the value of an option that must be there, once
+abbrev pub once : List (Option (List ℕ)) → Option (List ℕ)
+once (Some word ∷ []) = Some word
+once _ = None
+
+-- a number without a leading zero
+abbrev pub plain_number : ℕ → ℕ → List ℕ → Option ℕ
+plain_number least most word = if nat_eq (slice_index word 0) 48 && nat_lt 1 (length word) then None else number least most word
+
+-- the id, where it is one: that of the root, or neither number is 0
+abbrev pub valid_id : StateId → Option StateId
+valid_id id = then_some (is_id id) id
+
+-- the id that a word writes: the number of its site, `.`, and its sequence
+abbrev pub id_of : List ℕ → Option StateId
+id_of word =
+    option_and_then (λ site. option_and_then (λ sequence. valid_id (record { site = site; sequence = sequence }))
+    (plain_number 0 4294967295 (after_first (λ b. b == 46) word)))
+    (plain_number 0 65535 (before_first (λ b. b == 46) word))

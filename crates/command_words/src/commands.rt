@@ -1,6 +1,8 @@
 //! Commands, and the words that name them.
 
+use rule_list::RuleList;
 use std::alloc::Global;
+use tardis_base::StateId;
 
 /// A site among the sites: its number, which is from 1 to theirs, and how many they are, from 1 to 16.
 #[derive(Clone, Copy, Debug, PartialEq, Eq)]
@@ -40,6 +42,14 @@ pub enum Command {
     Serve(ServePlan),
     /// A load that a number determines.
     Load { start: u32, steps: u32 },
+    /// Lines in, lines out, and two branches are joined by rules.
+    Auto { place: Place, rules: RuleList },
+    /// Frames in, frames out, and the site is kept in a file.
+    Durable { place: Place, path: String },
+    /// What a state holds is written.
+    Export { place: Place, state: StateId },
+    /// Requests are written that bring a site to what was exported.
+    Import,
 }
 
 /// Why words are no command.
@@ -47,6 +57,6 @@ pub enum Command {
 pub enum WordsFault {
     /// They have none of the forms.
     Usage,
-    /// They have the form of `serve`, whose addresses found no memory.
+    /// They have the form of `serve`, of `auto` or of `durable`, whose texts found no memory.
     NoMemory,
 }

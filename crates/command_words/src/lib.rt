@@ -6,10 +6,12 @@
 mod commands;
 mod daemons;
 mod forms;
+mod ids;
 mod laws;
 mod limits;
 mod numbers;
 mod peers;
+mod placed;
 mod reading;
 mod settings;
 #[cfg(test)]

@@ -1,7 +1,7 @@
 //! The values of options: numbers and addresses.
 
 ghost use Rattle.std.specs.Prelude.{◌≡◌, ◌≤◌, IfSome};
-ghost use Rattle.command_words.specs.Values.{number, are_digits, is_numeral, is_address, are_printed};
+ghost use Rattle.command_words.specs.Values.{number, plain_number, are_digits, is_numeral, is_address, are_printed};
 
 /// The number of 1 to 10 digits that a word is, where it is one of these and those between.
 pub(crate) fn read_number(word: &str, least: u32, most: u32) -> Option<u32>
@@ -20,6 +20,18 @@ pub(crate) fn read_number(word: &str, least: u32, most: u32) -> Option<u32>
     } else {
         None
     }
+}
+
+/// The same without leading zeros.
+pub(crate) fn read_plain_number(word: &str, least: u32, most: u32) -> Option<u32>
+    ensures number { result ≡ plain_number least most word.now }
+    ensures to { IfSome result (λ n. n ≤ most) }
+{
+    let bytes = word.as_bytes();
+    if bytes.len() > 1 && bytes[0] == b'0' {
+        return None;
+    }
+    read_number(word, least, most)
 }
 
 /// Whether a word is 1 to 10 digits.

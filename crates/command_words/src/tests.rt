@@ -44,6 +44,23 @@ fn each_form_is_read(rt: HostRuntime) -> Result<(), Fail> {
             "serve --peer b:2 --tidy --listen a:1 --links 64 --peer c",
             "Ok(Serve(ServePlan { place: Place { sites: 1, site: 1 }, listen: \"a:1\", links: 64, peers: [\"b:2\", \"c\"], rounds: 0, tidy: true }))",
         ),
+        (
+            "auto --rules n=count --sites 2",
+            "Ok(Auto { place: Place { sites: 2, site: 1 }, rules: RuleList { rules: [PrefixRule { prefix: ListOf { items: [110] }, rule: Count }] } })",
+        ),
+        (
+            "durable --file site.journal",
+            "Ok(Durable { place: Place { sites: 1, site: 1 }, path: \"site.journal\" })",
+        ),
+        (
+            "export --at 1.4294967295 --site 1",
+            "Ok(Export { place: Place { sites: 1, site: 1 }, state: StateId { site: 1, sequence: 4294967295 } })",
+        ),
+        (
+            "export --at 0.0",
+            "Ok(Export { place: Place { sites: 1, site: 1 }, state: StateId { site: 0, sequence: 0 } })",
+        ),
+        ("import", "Ok(Import)"),
     ] {
         assert!(rt; told(alloc, line)?.as_str() == wanted);
     }
@@ -68,6 +85,19 @@ fn other_words_have_no_form(rt: HostRuntime) -> Result<(), Fail> {
         "serve --listen -a --links 2",
         "serve --listen a --links 2 --tidy --tidy",
         "load --start 4294967296 --steps 0",
+        "auto",
+        "auto --rules n=sum",
+        "auto --rules n=last,n=set",
+        "durable --file -x",
+        "durable --file a --file a",
+        "durable --file a --tidy",
+        "export --at 01.2",
+        "export --at 1.02",
+        "export --at 0.1",
+        "export --at 12",
+        "export --at 1.2.3",
+        "export --at 1.4294967296",
+        "import all",
     ] {
         let words = words_of(alloc, line)?;
         assert!(rt; matches!(read_words(alloc, words.as_slice()), Err(WordsFault::Usage)));

@@ -5,7 +5,7 @@ use Rattle.tardis_base.specs.Plain.{Event, PlainMachine}
 use Rattle.tardis_io.specs.Told.{WhileTold, GivesAll}
 use Rattle.tardis_io.specs.Faults.{Rose, HasCause}
 use Rattle.tardis_io.specs.Links.{ToldGate}
-use Rattle.trail_log.specs.Frames.{trail_frames}
+use Rattle.trail_log.specs.Frames.{trail_frames, IsRead}
 use Rattle.serve_pool.specs.Rows.{Taken, places_with, unserved_in, HandsBack, HasNone}
 use Rattle.serve_pool.specs.Pools.{AreServed}
 use Rattle.serve_pool.specs.declared.ends.PoolEnd.{PoolEnd}
@@ -17,7 +17,8 @@ use Rattle.serve_run.specs.declared.endings.ServeEnd.TheVariants.{NotBound, NotM
 module _ {P L : Type 0} (left given : L → Option (List ℕ)) (take_faults faults : L → ℕ) (m : PlainMachine P) (start : P) (most : ℕ) where
   -- From the opening state these links, at most so many, were taken; each was served once, the first by session 1, the next
   -- by session 2 and so on, and was put back. The trail is all that their sessions asked and were answered, and nothing else.
-  -- At the end its frames were written, all of them, or a front of them where writing failed.
+  -- At the end its frames were written, all of them, or a front of them where writing failed; whoever reads them frame by
+  -- frame, as a run does, reads just the trail.
   pub record ServesLinks (links : ℕ) (old new : Option (ToldGate L)) (gate_before gate_after : ℕ) (before after : Option (List ℕ)) (write_before write_after : ℕ) (s : Serving) : Type 0 where
     pub trail : List Event
     pub taken : List (Taken L)
@@ -29,6 +30,7 @@ module _ {P L : Type 0} (left given : L → Option (List ℕ)) (take_faults faul
     pub done : s.gate ≡ Done → (length taken ≡ links) ⊎ HasNone new
     pub fault : s.gate ≡ GateFault → Rose gate_before gate_after
     pub wrote : WhileTold before after (λ y z. GivesAll y z s.written (trail_frames trail))
+    pub again : IsRead (trail_frames trail) trail
     pub cause : HasCause write_before write_after s.written
 
   module _ {G O : Type 0} (told : G → Option (ToldGate L)) (gate_faults : G → ℕ) (out_given : O → Option (List ℕ)) (out_faults : O → ℕ) where

@@ -23,3 +23,4 @@ pub mod Merging
 pub mod FloorMoves
 pub mod Tidying
 pub mod Exchanging
+mod JoiningInOne

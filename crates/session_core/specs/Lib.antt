@@ -11,4 +11,5 @@ pub mod Commits
 pub mod Reads
 pub mod Merges
 pub mod Exchange
+pub mod Joins
 pub mod Machine

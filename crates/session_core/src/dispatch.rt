@@ -52,7 +52,7 @@ impl Parts {
 }
 
 /// A refusal is a reply.
-fn told(outcome: Result<Reply, Stop>) -> Result<Reply, NoMemory>
+pub(crate) fn told(outcome: Result<Reply, Stop>) -> Result<Reply, NoMemory>
     ensures { ToldAs outcome result }
 {
     match outcome {

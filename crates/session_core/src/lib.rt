@@ -6,6 +6,7 @@
 ghost use Rattle.std.specs.Prelude.{◌≡◌, ◌≤◌, is_some, IsTrue, IfOk};
 ghost use Rattle.tardis_base.specs.Valid.{are_limits};
 ghost use Rattle.plain_dag.specs.Entries.{entry_of};
+ghost use Rattle.record_store.specs.Stands.{StoreStands};
 ghost use Rattle.plain_site.specs.Site.{Site, opening};
 ghost use Rattle.plain_site.specs.Sound.{IsSound};
 ghost use Rattle.session_core.specs.Stands.{CoreStands};
@@ -16,6 +17,7 @@ mod commits;
 mod dispatch;
 mod exchange;
 mod floors;
+mod joins;
 mod merges;
 mod reads_and_writes;
 mod sessions;
@@ -67,6 +69,14 @@ impl SiteCore {
     {
         let parts = Parts::new(alloc, keys, &limits, own)?;
         Ok(SiteCore { parts })
+    }
+
+    /// The store of its history, to be read.
+    pub fn store(&self) -> &RecordStore
+        ensures is { result.now ≡ self.now.store }
+        ensures stands { (site : Site) → CoreStands self.now site → StoreStands result.now site.dag site.collected }
+    {
+        &self.parts.store
     }
 
     /// Whether the session has an open transaction.

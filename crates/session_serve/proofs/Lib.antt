@@ -5,3 +5,4 @@ mod Stepping
 mod Going
 mod Talking
 mod Served
+mod Prompts

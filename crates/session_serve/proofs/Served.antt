@@ -1,8 +1,7 @@
 -- What a session did on its link.
-use Rattle.std.proofs.Common.{◌≡◌, ◌≢◌, ◌≤◌, ℕ, ◌+◌, arith, List, [], ◌∷◌, ◌++◌, length, Option, refl, sym, ap, ◌∙◌, subst, append-nil}
+use Rattle.std.proofs.Common.{◌≡◌, ◌≢◌, ℕ, arith, List, [], ◌∷◌, ◌++◌, length, Option, refl, sym, subst, append-nil}
 use Rattle.std.specs.List.{concat}
 use Rattle.tardis_base.specs.Plain.{Event, PlainMachine}
-use Rattle.tardis_io.specs.Told.{WhileTold}
 use Rattle.tardis_io.proofs.Told.{same, weaker}
 use Rattle.tardis_io.specs.declared.statuses.Status.TheVariants.{NoMemory as OutOfMemory}
 use Rattle.frame_cut.specs.Frames.{frames}
@@ -19,7 +18,7 @@ use Rattle.session_serve.specs.Passes.{new_places}
 use Rattle.session_serve.proofs.Turning.{turns_on, replies_on, places_ascend}
 use Rattle.session_serve.proofs.Stepping.{Stepped, stepped}
 use Rattle.session_serve.proofs.Going.{places_behind}
-use Rattle.session_serve.proofs.Talking.{Talked, Chained, chained, session_then}
+use Rattle.session_serve.proofs.Talking.{Chained, chained, session_then}
 
 module _ {P : Type 0} (m : PlainMachine P) where
   pub longer_keeps_session : (start : P) (most session : ℕ) (last : List Event) (from : ℕ) (seen longer : List Event) (places : List ℕ) (bodies replies : List (List ℕ)) → Begins seen longer → Session m start most session last from seen places bodies replies → Session m start most session last from longer places bodies replies

@@ -1,20 +1,18 @@
 -- Bodies that were asked in turn.
-use Rattle.std.proofs.Common.{◌≡◌, ◌≤◌, ℕ, ◌+◌, List, [], ◌∷◌, ◌++◌, length, refl, sym, ap, ◌∙◌, subst, arith, append_assoc, append-nil}
+use Rattle.std.proofs.Common.{◌≡◌, ◌≤◌, ℕ, List, [], ◌∷◌, ◌++◌, length, refl, sym, ap, ◌∙◌, subst, append_assoc, append-nil}
 use Rattle.std.specs.List.{concat}
 use Rattle.tardis_base.specs.Plain.{Event, PlainMachine}
 use Rattle.frame_cut.specs.Frames.{frame, frames}
 use Rattle.site_run.specs.Responses.{InTurn}
-use Rattle.trail_log.specs.Trail.{Kept}
 use Rattle.trail_log.specs.declared.acted.Acted.{Acted}
 use Rattle.dag_lock.specs.Known.{Known, Begins}
-use Rattle.dag_lock.specs.Steps.{Ended}
-use Rattle.session_serve.specs.Turns.{Turn, IsTurn, HadTurns, left_by, place_with, places_of}
+use Rattle.session_serve.specs.Turns.{Turn, HadTurns, left_by, place_with, places_of}
 use Rattle.session_serve.specs.Replies.{asked_by, request_in, reply_without, AreReplies}
 use Rattle.session_serve.specs.Asking.{Asking, Asked, AsksOnce, at_first}
 use Rattle.session_serve.specs.Sessions.{Session}
 use Rattle.session_serve.specs.Passes.{new_places}
 use Rattle.session_serve.proofs.Fronts.{begins_then, begins_length}
-use Rattle.session_serve.proofs.Turning.{turn_on, turns_later, turns_on, turns_then, places_then, left_within, replies_on, replies_first, reply_on}
+use Rattle.session_serve.proofs.Turning.{turn_on, turns_later, turns_then, places_then, left_within, replies_on, replies_first, reply_on}
 use Rattle.session_serve.proofs.Stepping.{Stepped, stepped, turn}
 use Rattle.session_serve.proofs.Going.{places_behind}
 

@@ -11,7 +11,7 @@ use Rattle.trail_log.specs.declared.acted.Acted.TheVariants.{Done, TrailFull, No
 use Rattle.dag_lock.specs.Known.{Begins, Ascends}
 use Rattle.session_serve.specs.Turns.{Turn, IsTurn, HadTurns, left_by, place_with, places_of}
 use Rattle.session_serve.specs.Replies.{IsReplyTo, AreReplies}
-use Rattle.session_serve.proofs.Fronts.{at_front, begins_length, reply_front}
+use Rattle.session_serve.proofs.Fronts.{at_front, reply_front}
 
 pub turn_on : (most : ℕ) (seen longer : List Event) (e : Event) (t : Turn) → Begins seen longer → IsTurn most seen e t → IsTurn most longer e t
 turn_on most seen longer e t (rest, p) h = record {

@@ -4,4 +4,5 @@ pub mod Replies
 pub mod Sessions
 pub mod Passes
 pub mod Asking
+pub mod Prompts
 pub mod Laws

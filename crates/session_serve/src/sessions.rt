@@ -8,6 +8,7 @@ ghost use Rattle.site_run.specs.Endings.{EndsAs, IsRunEnd, most_taken};
 ghost use Rattle.dag_lock.specs.Named.{lock_id, start_of};
 ghost use Rattle.session_serve.specs.Passes.{Goes, new_places};
 ghost use Rattle.session_serve.specs.Sessions.{SessionOutcome, status_of};
+ghost use Rattle.session_serve.specs.Prompts.{RepliesAtOnce};
 
 use crate::askers::{Asker, Asks};
 use crate::ends::SessionEnd;
@@ -38,6 +39,8 @@ pub fn serve_session<M: Machine, L: Link, R: Wait>(
     ensures pass { Goes session pass result.0 }
     ensures outcome { WhileTold (L.left link.old) (L.left link.new) (SessionOutcome M.plain (M.opening (start_of lock.now).machine) (start_of lock.now).max_trail
         session result.1 (length pass.seen) result.0.seen (new_places pass result.0) (L.given link.old) (L.given link.new)) }
+    ensures prompt { RepliesAtOnce M.plain (M.opening (start_of lock.now).machine) (start_of lock.now).max_trail session (length pass.seen)
+        (L.left link.old) (L.given link.old) (L.takes link.old) (L.takes link.new) }
     ensures exact { WhileTold (L.left link.old) (L.left link.new) (λ first left. (all : List (List ℕ)) (rest : List ℕ)
         → IsCut first all rest → length first < most_taken
         → (Rose (L.take_faults link.old) (L.take_faults link.new) → ⊥) → (Rose (L.faults link.old) (L.faults link.new) → ⊥)
@@ -69,6 +72,8 @@ fn ask_all<M: Machine, D: Duplex, R: Wait>(
     ensures pass { Goes session pass result.0 }
     ensures outcome { WhileTold (D.left device.old) (D.left device.new) (SessionOutcome M.plain (M.opening (start_of lock.now).machine) (start_of lock.now).max_trail
         session result.1 (length pass.seen) result.0.seen (new_places pass result.0) (D.given device.old) (D.given device.new)) }
+    ensures prompt { RepliesAtOnce M.plain (M.opening (start_of lock.now).machine) (start_of lock.now).max_trail session (length pass.seen)
+        (D.left device.old) (D.given device.old) (D.takes device.old) (D.takes device.new) }
     ensures exact { WhileTold (D.left device.old) (D.left device.new) (λ first left. (all : List (List ℕ)) (rest : List ℕ)
         → IsCut first all rest → length first < most_taken
         → (Rose (D.take_faults device.old) (D.take_faults device.new) → ⊥) → (Rose (D.faults device.old) (D.faults device.new) → ⊥)

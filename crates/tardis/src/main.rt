@@ -1,4 +1,4 @@
-//! The program: makes the real input and output, hands them to `tardis_main`, and tells how it ended.
+//! The program: makes the real input, output and gate, hands them to `tardis_main`, and tells how it ended.
 //!
 //! The commands and the statuses are stated in `docs/COMMANDS.md`.
 #![tactic(auto)]
@@ -7,6 +7,10 @@ ghost use Rattle.std.specs.Prelude.{◌≡◌};
 ghost use Rattle.std.specs.Process.{exit_status};
 ghost use Rattle.tardis_io.specs.Statuses.{status_number};
 
+mod gates;
+
+use gates::TellingGate;
+use socket_links::SocketGate;
 use std::env::Args;
 use std::hash::RandomState;
 use std::process::ExitCode;
@@ -37,7 +41,16 @@ fn command(rt: &HostRuntime, args: Args) -> Status {
     };
     let mut input = StdIn::new(rt.stdin());
     let mut output = StdOut::new(rt.stdout());
-    carry_out(rt.alloc(), keys, args, &mut input, &mut output)
+    let mut gate = TellingGate::new(rt, SocketGate::new(rt));
+    carry_out(
+        rt.alloc(),
+        rt,
+        keys,
+        args,
+        &mut input,
+        &mut output,
+        &mut gate,
+    )
 }
 
 /// Writes the line of the status, if it has one, on standard error, and gives its number.

@@ -1,5 +1,4 @@
--- Lemmas on runs of the program.
-pub mod Runs
-pub mod Words
-pub mod LineRuns
+-- Lemmas on commands of the program.
+mod Words
 mod WorldRuns
+mod Unserved

@@ -2,7 +2,7 @@
 use Rattle.std.proofs.Common.{ℕ, ◌≤◌, ◌&&◌, leb, IsTrue, ◌≡◌, refl}
 use Rattle.std.proofs.lemmas.Bool.{le-leb}
 use Rattle.tardis_base.specs.Valid.{are_limits}
-use Rattle.tardis_main.specs.Runs.{program_limits}
+use Rattle.command_words.specs.Places.{program_limits}
 
 -- the program's limits are such
 pub limits_hold : (sites : ℕ) → 1 ≤ sites → sites ≤ 16 → IsTrue (are_limits (program_limits sites))

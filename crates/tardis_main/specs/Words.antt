@@ -1,7 +1,8 @@
 -- The words of a command that is carried out.
-use Rattle.std.specs.Prelude.{◌≡◌, ℕ, List, Some}
+use Rattle.std.specs.Prelude.{◌≡◌, ℕ, List, [], false, Some}
 use Rattle.command_words.specs.declared.commands.Place.{Place}
-use Rattle.command_words.specs.Forms.{form, AsRun, AsShell, AsAudit, AsWorld}
+use Rattle.command_words.specs.Forms.{Form, form, AsRun, AsShell, AsAudit, AsWorld, AsServe, AsLoad, AsAuto, AsDurable, AsExport, AsImport, Serving}
+use Rattle.command_words.specs.Readings.{IsCopied}
 
 -- the words are a form of `run` at this place
 abbrev pub AreRun : List (List ℕ) → Place → Type 0
@@ -19,6 +20,31 @@ AreAudit words place = form words ≡ Some (AsAudit place)
 abbrev pub AreWorld : List (List ℕ) → ℕ → Type 0
 AreWorld words sites = form words ≡ Some (AsWorld sites)
 
--- The words are no command that is carried out: none of the forms, or one of a command that isn't built yet.
+-- a server without peers, without rounds and without `--tidy`; one with any of these isn't built yet
+abbrev pub HasNoPeers : Serving → Type 0
+HasNoPeers plan = (plan.peers ≡ []) × (plan.rounds ≡ 0) × (plan.tidy ≡ false)
+
+-- the words are a form of `serve` with this plan, and it has no peers
+abbrev pub AreServe : List (List ℕ) → Serving → Type 0
+AreServe words plan = (form words ≡ Some (AsServe plan)) × HasNoPeers plan
+
+-- the words have a form whose texts are copied, which takes memory
+abbrev pub MayLackMemory : List (List ℕ) → Type 0
+MayLackMemory words = (said : Form) × ((form words ≡ Some said) × IsCopied said)
+
+-- which forms are carried out; the others aren't built yet
+abbrev pub IsBuilt : Form → Type 0
+IsBuilt (AsRun place) = Unit {0}
+IsBuilt (AsShell place) = Unit {0}
+IsBuilt (AsAudit place) = Unit {0}
+IsBuilt (AsWorld sites) = Unit {0}
+IsBuilt (AsServe plan) = HasNoPeers plan
+IsBuilt (AsLoad start steps) = ⊥
+IsBuilt (AsAuto place rules) = ⊥
+IsBuilt (AsDurable place path) = ⊥
+IsBuilt (AsExport place state) = ⊥
+IsBuilt AsImport = ⊥
+
+-- the words are no command that is carried out: they have no form, or one that isn't built yet
 abbrev pub AreUnknown : List (List ℕ) → Type 0
-AreUnknown words = ((place : Place) → (AreRun words place → ⊥) × (AreShell words place → ⊥) × (AreAudit words place → ⊥)) × ((sites : ℕ) → AreWorld words sites → ⊥)
+AreUnknown words = (f : Form) → form words ≡ Some f → IsBuilt f → ⊥

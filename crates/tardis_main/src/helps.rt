@@ -35,11 +35,15 @@ usage: tardis shell [--sites M] [--site N]
        tardis world --sites M
                           read frames of requests at M sites and of items that are
                           carried between them, and write a frame with each reply
+       tardis serve --listen ADDR --links L [--sites M] [--site N]
+                          serve L clients, from 1 to 64, at once, each over a link to
+                          ADDR (unix:PATH or HOST:PORT), and then write what they
+                          asked as frames for tardis run
        tardis --help      this text
        tardis --version   the version
 
-Shell, run and audit answer as site N, from 1 to M, of M sites, from 1 to 16; both
-are 1 where they are left out. Try: printf '1 open\\n1 begin any\\n1 put cart milk\\n' | tardis shell
+Shell, run, audit and serve answer as site N, from 1 to M, of M sites, from 1 to 16;
+both are 1 where they are left out. Try: printf '1 open\\n1 begin any\\n1 put cart milk\\n' | tardis shell
 
 Lines and frames are described in docs/FORMATS.md, the commands, with a session of
 lines, and the statuses in docs/COMMANDS.md.

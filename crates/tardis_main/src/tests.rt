@@ -1,18 +1,14 @@
-use crate::floor_rows::{BESIDE, CEILINGS, COLLECTED_CHAIN, FOLLOWED, RAISED_CHAIN};
-use crate::rows::{
-    ANY_AFTER, AT_AFTER, BEHIND, COUNTED, LAST_COMMITS, NB_REFUSES, NO_STATE, RIPPLE, SER_FORKS,
-    SI_PASSES, SKEWED, TALK,
-};
-use crate::talks::Talk;
 use crate::{Help, carry_out, tardis};
 use std::alloc::Global;
 use std::env::Args;
 use std::hash::RandomState;
+use std::sync::Wait;
 use std::test::Fail;
-use tardis_io::{MemorySink, MemorySource, Status};
+use std::thread::Threads;
+use tardis_io::{MemoryGate, MemoryLink, MemorySink, MemorySource, Sink, Source, Status};
 
 /// A session: it opens, begins, puts `1` to `x`, commits, begins, and gets `x`.
-const SESSION: &[u8] = b"\0\0\0\x04\0\x01\x01\0\
+pub(crate) const SESSION: &[u8] = b"\0\0\0\x04\0\x01\x01\0\
 \0\0\0\x04\0\x01\x02\0\
 \0\0\0\x08\0\x01\x04\x01x\0\x011\
 \0\0\0\x06\0\x01\x06\x01\0\0\
@@ -20,7 +16,7 @@ const SESSION: &[u8] = b"\0\0\0\x04\0\x01\x01\0\
 \0\0\0\x05\0\x01\x03\x01x";
 
 /// Its replies: opened under the root, begun there, done, committed as 1.1 from the root, begun there, the value of 1.1.
-const REPLIES: &[u8] = b"\0\0\0\x07\x01\0\0\0\0\0\0\
+pub(crate) const REPLIES: &[u8] = b"\0\0\0\x07\x01\0\0\0\0\0\0\
 \0\0\0\x07\x02\0\0\0\0\0\0\
 \0\0\0\x01\x07\
 \0\0\0\x0e\x08\0\x01\0\0\0\x01\x01\0\0\0\0\0\0\
@@ -45,25 +41,38 @@ struct Devices<'a> {
 
 const WELL: [u64; 0] = [];
 
+/// A gate without links.
+fn no_links(alloc: Global) -> Result<MemoryGate<MemoryLink>, Fail> {
+    Ok(MemoryGate::new(alloc, Vec::new(alloc), &WELL)?)
+}
+
+/// How the command of these words ends.
+pub(crate) fn ends<I: Source, O: Sink, R: Threads + Wait + Sync>(
+    alloc: Global,
+    rt: &R,
+    keys: RandomState,
+    words: &[String],
+    input: &mut I,
+    output: &mut O,
+) -> Result<Status, Fail> {
+    let mut gate = no_links(alloc)?;
+    Ok(tardis(alloc, rt, keys, words, input, output, &mut gate))
+}
+
 /// Whether `run` over this input ends so and writes that.
-fn runs_to(
-    rt: &HostRuntime,
+fn runs_to<R: Threads + Wait + Sync>(
+    alloc: Global,
+    rt: &R,
+    keys: RandomState,
     input: &[u8],
     devices: &Devices<'_>,
     status: Status,
     output: &[u8],
 ) -> Result<bool, Fail> {
-    let alloc = rt.alloc();
     let words = vec![in alloc; String::from_str(alloc, "run")?]?;
     let mut source = MemorySource::new(alloc, input, devices.piece.max(1), devices.failing_takes)?;
     let mut sink = MemorySink::new(alloc, 4_000, devices.piece.max(1), devices.failing_gives)?;
-    let ended = tardis(
-        alloc,
-        RandomState::new(rt)?,
-        words.as_slice(),
-        &mut source,
-        &mut sink,
-    );
+    let ended = ends(alloc, rt, keys, words.as_slice(), &mut source, &mut sink)?;
     Ok(ended == status && sink.bytes() == output)
 }
 
@@ -76,8 +85,28 @@ fn a_session_is_answered_whatever_the_pieces(rt: HostRuntime) -> Result<(), Fail
             failing_takes: &WELL,
             failing_gives: &WELL,
         };
-        assert!(rt; runs_to(&rt, SESSION, &devices, Status::Ok, REPLIES)?);
-        assert!(rt; runs_to(&rt, b"", &devices, Status::Ok, b"")?);
+        assert!(rt;
+            runs_to(
+                alloc,
+                &rt,
+                RandomState::new(&rt)?,
+                SESSION,
+                &devices,
+                Status::Ok,
+                REPLIES
+            )?
+        );
+        assert!(rt;
+            runs_to(
+                alloc,
+                &rt,
+                RandomState::new(&rt)?,
+                b"",
+                &devices,
+                Status::Ok,
+                b""
+            )?
+        );
     }
     Ok(())
 }
@@ -93,7 +122,9 @@ fn each_end_has_its_status(rt: HostRuntime) -> Result<(), Fail> {
     let opened = &REPLIES[..11];
     assert!(rt;
         runs_to(
+            alloc,
             &rt,
+            RandomState::new(&rt)?,
             b"\0\0\0\x04\0\x01\x01\0\0\0\0",
             &well,
             Status::Cut,
@@ -103,7 +134,9 @@ fn each_end_has_its_status(rt: HostRuntime) -> Result<(), Fail> {
     let long = Status::LongFrame { len: 1_048_577 };
     assert!(rt;
         runs_to(
+            alloc,
             &rt,
+            RandomState::new(&rt)?,
             b"\0\0\0\x04\0\x01\x01\0\0\x10\0\x01",
             &well,
             long,
@@ -115,18 +148,38 @@ fn each_end_has_its_status(rt: HostRuntime) -> Result<(), Fail> {
         failing_takes: &[3],
         failing_gives: &WELL,
     };
-    assert!(rt; runs_to(&rt, SESSION, &third, Status::ReadFault, b"")?);
+    assert!(rt;
+        runs_to(
+            alloc,
+            &rt,
+            RandomState::new(&rt)?,
+            SESSION,
+            &third,
+            Status::ReadFault,
+            b""
+        )?
+    );
     let second = Devices {
         piece: 1,
         failing_takes: &WELL,
         failing_gives: &[2],
     };
-    assert!(rt; runs_to(&rt, SESSION, &second, Status::WriteFault, b"\0")?);
+    assert!(rt;
+        runs_to(
+            alloc,
+            &rt,
+            RandomState::new(&rt)?,
+            SESSION,
+            &second,
+            Status::WriteFault,
+            b"\0"
+        )?
+    );
     Ok(())
 }
 
 /// The words of a line.
-fn words_of(alloc: Global, line: &str) -> Result<Vec<String>, Fail> {
+pub(crate) fn words_of(alloc: Global, line: &str) -> Result<Vec<String>, Fail> {
     let mut words = Vec::new(alloc);
     for word in line.split_whitespace() {
         words.push(String::from_str(alloc, word)?)?;
@@ -144,6 +197,7 @@ fn other_words_are_no_command(rt: HostRuntime) -> Result<(), Fail> {
         "run --sites=2",
         "run --sites 1 --sites 1",
         "serve --links 2",
+        "serve --listen a --links 2 --tidy",
         "world",
         "world --sites 17",
         "load --start 1 --steps 2",
@@ -154,13 +208,14 @@ fn other_words_are_no_command(rt: HostRuntime) -> Result<(), Fail> {
         let mut source = MemorySource::new(alloc, SESSION, 9, &WELL)?;
         let mut sink = MemorySink::new(alloc, 100, 9, &WELL)?;
         assert_eq!(rt;
-            tardis(
+            ends(
                 alloc,
+                &rt,
                 RandomState::new(&rt)?,
                 words.as_slice(),
                 &mut source,
                 &mut sink
-            ),
+            )?,
             Status::Usage
         );
         assert_eq!(rt; source.left(), SESSION);
@@ -182,61 +237,17 @@ fn a_world_has_several_sites(rt: HostRuntime) -> Result<(), Fail> {
     let asked = hex::decode(alloc, WORLD_ASKED)?;
     let mut source = MemorySource::new(alloc, asked.as_slice(), 100, &WELL)?;
     let mut sink = MemorySink::new(alloc, 100, 100, &WELL)?;
-    let status = tardis(
+    let status = ends(
         alloc,
+        &rt,
         RandomState::new(&rt)?,
         words.as_slice(),
         &mut source,
         &mut sink,
-    );
+    )?;
     assert_eq!(rt; status, Status::Ok);
     let told = hex::decode(alloc, WORLD_TOLD)?;
     assert!(rt; sink.bytes() == told.as_slice());
-    Ok(())
-}
-
-/// Whether a site that opens answers the rows of these tables.
-fn answers(rt: &HostRuntime, tables: &[&str]) -> Result<bool, Fail> {
-    let talk = Talk::of(rt.alloc(), tables)?;
-    let input = talk.input()?;
-    let output = talk.output()?;
-    let devices = Devices {
-        piece: 65_536,
-        failing_takes: &WELL,
-        failing_gives: &WELL,
-    };
-    runs_to(
-        rt,
-        input.as_slice(),
-        &devices,
-        Status::Ok,
-        output.as_slice(),
-    )
-}
-
-#[test]
-fn worked_rows_are_answered(rt: HostRuntime) -> Result<(), Fail> {
-    let alloc = rt.alloc();
-    for rows in [
-        TALK,
-        RIPPLE,
-        COUNTED,
-        LAST_COMMITS,
-        NO_STATE,
-        CEILINGS,
-        RAISED_CHAIN,
-        FOLLOWED,
-        BESIDE,
-    ] {
-        assert!(rt; answers(&rt, &[rows])?);
-    }
-    assert!(rt; answers(&rt, &[RAISED_CHAIN, COLLECTED_CHAIN])?);
-    for ends in [SER_FORKS, SI_PASSES, NB_REFUSES] {
-        assert!(rt; answers(&rt, &[SKEWED, ends])?);
-    }
-    for ends in [ANY_AFTER, AT_AFTER] {
-        assert!(rt; answers(&rt, &[BEHIND, ends])?);
-    }
     Ok(())
 }
 
@@ -265,10 +276,17 @@ fn a_program_is_its_words(rt: HostRuntime) -> Result<(), Fail> {
         let args = args_of(alloc, line)?;
         let mut source = MemorySource::new(alloc, SESSION, 65_536, &WELL)?;
         let mut sink = MemorySink::new(alloc, 4_000, 65_536, &WELL)?;
-        assert_eq!(rt;
-            carry_out(alloc, RandomState::new(&rt)?, args, &mut source, &mut sink),
-            status
+        let mut gate = no_links(alloc)?;
+        let ended = carry_out(
+            alloc,
+            &rt,
+            RandomState::new(&rt)?,
+            args,
+            &mut source,
+            &mut sink,
+            &mut gate,
         );
+        assert_eq!(rt; ended, status);
         assert!(rt; sink.bytes() == output);
     }
     let help = Help::Usage.text();
@@ -276,6 +294,7 @@ fn a_program_is_its_words(rt: HostRuntime) -> Result<(), Fail> {
         "tardis shell ",
         "tardis run ",
         "tardis audit ",
+        "tardis serve ",
         "tardis --help ",
         "tardis --version ",
     ] {

@@ -1,4 +1,4 @@
-use Rattle.std.proofs.Common.{List, map, Option, option_map, ◌∙◌, sym, false, true}
+use Rattle.std.proofs.Common.{map, option_map, ◌∙◌, sym}
 use Rattle.std.specs.String.{string_bytes}
 use Rattle.command_words.specs.Settings.{settings}
 use Rattle.command_words.proofs.Givens.{hit, miss, Told}

@@ -1,4 +1,4 @@
-use Rattle.std.proofs.Common.{rules, tests, ℕ, List, map, ◌∙◌, sym}
+use Rattle.std.proofs.Common.{rules, tests, ℕ, List, ◌∙◌, sym}
 use Rattle.std.specs.Prelude.{bytes_eq}
 use denote.Ref.{Bor}
 use Rattle.command_words.proofs.Lists.{list_any-map}

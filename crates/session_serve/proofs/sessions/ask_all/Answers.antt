@@ -13,6 +13,8 @@ use Rattle.session_serve.specs.Asking.{Asking, Asked, AsksOnce, at_first}
 use Rattle.session_serve.specs.Passes.{Goes, new_places}
 use Rattle.session_serve.specs.Sessions.{SessionOutcome, status_of}
 use Rattle.session_serve.proofs.Served.{nothing_done, session_outcome}
+use Rattle.session_serve.proofs.Prompts.{at_once}
+use Rattle.session_serve.specs.Prompts.{RepliesAtOnce}
 use Rattle.session_serve.proofs.sessions.ask_all.Goals as goal
 
 pub returns-in_default-clause-outcome : goal.returns-in_default-clause-outcome
@@ -67,3 +69,14 @@ returns-clause-exact g c =
     subst (λ status. WhileTold (g.D.Duplex.left c.args.device.now) (g.D.Duplex.left c.answer_frames.new.device) (λ first left. (all : List (List ℕ)) (rest : List ℕ) → IsCut first all rest → length first < most_taken
     → (Rose (g.D.Duplex.take_faults c.args.device.now) (g.D.Duplex.take_faults c.answer_frames.new.device) → ⊥) → (Rose (g.D.Sink.faults c.args.device.now) (g.D.Sink.faults c.answer_frames.new.device) → ⊥)
     → EndsAs rest status)) (sym c.end_of.ensures) c.answer_frames.ensures.exact
+
+pub returns-clause-prompt : goal.returns-clause-prompt
+returns-clause-prompt g c =
+    let opening = g.M.Machine.opening in
+    let plain = g.M.Machine.plain in
+    let given = g.D.Sink.given c.args.device.now in
+    let left = g.D.Duplex.left c.args.device.now in
+    let old = g.D.Duplex.takes c.args.device.now in
+    let new = g.D.Duplex.takes c.answer_frames.new.device in
+    subst (λ (k : Asking g.row.M.Denot). RepliesAtOnce plain (opening k.start.machine) k.start.max_trail k.session (length k.pass.seen) left given old new) c.new-asker.ensures
+    (at_once opening plain c.new-asker.result left given old new c.answer_frames.ensures.prompt)

@@ -1,4 +1,4 @@
-use Rattle.std.proofs.Common.{◌≡◌, ◌<◌, ℕ, List, length, sym, subst, arith}
+use Rattle.std.proofs.Common.{◌<◌, ℕ, List, length, sym, subst, arith}
 use Rattle.tardis_io.specs.Told.{WhileTold}
 use Rattle.tardis_io.specs.Faults.{Rose}
 use Rattle.tardis_io.proofs.Told.{weaker}

@@ -1,52 +1,90 @@
-use Rattle.std.proofs.Common.{◌≡◌, ◌∙◌, map, drop, sym, subst, inl}
+use Rattle.std.proofs.Common.{◌≡◌, ◌∙◌, map, drop, sym, subst}
 use Rattle.std.specs.String.{string_bytes}
 use Rattle.std.specs.Vec.Iter.{into_iter_items}
-use Rattle.tardis_io.proofs.Told.{same}
 use Rattle.tardis_io.specs.declared.statuses.Status.TheVariants.{NoMemory}
-use Rattle.plain_site.specs.Site.{opening}
-use Rattle.command_words.specs.Places.{IsPlace}
-use Rattle.tardis_main.specs.Helps.{AreNone}
-use Rattle.tardis_main.specs.Runs.{RunFrom, ShellFrom, AuditFrom, program_limits}
-use Rattle.tardis_main.proofs.Runs.{no_run, opens}
-use Rattle.tardis_main.proofs.LineRuns.{no_shell, no_audit}
 use Rattle.plain_world.specs.Worlds.{opening_world, world_limits}
 use Rattle.world_core.specs.Runs.{WorldFrom}
+use Rattle.command_words.specs.Places.{IsPlace, program_limits}
+use Rattle.site_commands.specs.Runs.{RunFrom, ShellFrom, AuditFrom}
+use Rattle.site_commands.proofs.FrameRuns.{no_run, opens}
+use Rattle.site_commands.proofs.LineRuns.{no_shell, no_audit}
+use Rattle.site_commands.proofs.NoMemory.{no_frames, no_lines}
+use Rattle.tardis_main.specs.Helps.{AreNone}
+use Rattle.tardis_main.specs.Words.{AreServe}
+use Rattle.tardis_main.specs.Program.{site_at, Runs, Shells, Audits, Worlds}
 use Rattle.tardis_main.proofs.WorldRuns.{no_world}
 use Rattle.tardis_main.proofs.Words.{limits_hold}
+use Rattle.tardis_main.proofs.Unserved.{no_server}
 use Rattle.tardis_main.proofs.programs.carry_out.Goals as goal
 
-pub returns-in-Err-clause-headline : goal.returns-in-Err-clause-headline
-returns-in-Err-clause-headline g c = λ place are.
+pub returns-in-Err-clause-run : goal.returns-in-Err-clause-run
+returns-in-Err-clause-run g c = λ place are.
     let is : IsPlace place = c.commands_are_at_a_site.ensures.run (map (λ w. string_bytes w) (drop 1 (into_iter_items c.args.args))) place are in
-    let limits = program_limits place.sites in
-    let site = opening limits place.site in
-    same (g.I.Source.left c.args.input.now) (RunFrom site NoMemory (g.O.Sink.given c.args.output.now) (g.O.Sink.given c.args.output.now))
-    (λ x. no_run site (g.O.Sink.given c.args.output.now) x (opens limits place.site (limits_hold place.sites is.some is.most) is.first is.last))
+    let old = g.O.Sink.given c.args.output.now in
+    no_frames g.I.Source.left g.I.Source.faults g.O.Sink.faults c.args.input.now c.args.output.now (RunFrom (site_at place) NoMemory old old)
+    (λ x. no_run (site_at place) old x (opens (program_limits place.sites) place.site (limits_hold place.sites is.some is.most) is.first is.last))
 
 pub returns-in-Err-clause-shell : goal.returns-in-Err-clause-shell
 returns-in-Err-clause-shell g c = λ place are.
     let is : IsPlace place = c.commands_are_at_a_site.ensures.shell (map (λ w. string_bytes w) (drop 1 (into_iter_items c.args.args))) place are in
-    let limits = program_limits place.sites in
-    let site = opening limits place.site in
-    same (g.I.Source.left c.args.input.now) (ShellFrom site NoMemory (g.O.Sink.given c.args.output.now) (g.O.Sink.given c.args.output.now))
-    (λ x. no_shell site (g.O.Sink.given c.args.output.now) x (opens limits place.site (limits_hold place.sites is.some is.most) is.first is.last))
+    let old = g.O.Sink.given c.args.output.now in
+    no_lines g.I.Source.left g.I.Source.faults g.O.Sink.faults c.args.input.now c.args.output.now (ShellFrom (site_at place) NoMemory old old)
+    (λ x. no_shell (site_at place) old x (opens (program_limits place.sites) place.site (limits_hold place.sites is.some is.most) is.first is.last))
 
 pub returns-in-Err-clause-audit : goal.returns-in-Err-clause-audit
 returns-in-Err-clause-audit g c = λ place are.
     let is : IsPlace place = c.commands_are_at_a_site.ensures.audit (map (λ w. string_bytes w) (drop 1 (into_iter_items c.args.args))) place are in
-    let limits = program_limits place.sites in
-    let site = opening limits place.site in
-    same (g.I.Source.left c.args.input.now) (AuditFrom site NoMemory (g.O.Sink.given c.args.output.now) (g.O.Sink.given c.args.output.now))
-    (λ x. no_audit site (g.O.Sink.given c.args.output.now) x (opens limits place.site (limits_hold place.sites is.some is.most) is.first is.last))
-
-pub returns-in-Ok-clause-none : goal.returns-in-Ok-clause-none
-returns-in-Ok-clause-none g c = λ none.
-    let words : c.as_slice.result.now ≡ drop 1 (into_iter_items c.args.args) = c.as_slice.ensures.value ∙ c.in-Ok.ensures in
-    let answer = c.command.ensures.none (subst (λ ws. AreNone (map (λ w. string_bytes w) ws)) (sym words) none) in
-    (inl answer.0, answer.1, answer.2)
+    let old = g.O.Sink.given c.args.output.now in
+    no_frames g.I.Source.left g.I.Source.faults g.O.Sink.faults c.args.input.now c.args.output.now (AuditFrom (site_at place) NoMemory old old)
+    (λ x. no_audit (site_at place) old x (opens (program_limits place.sites) place.site (limits_hold place.sites is.some is.most) is.first is.last))
 
 pub returns-in-Err-clause-world : goal.returns-in-Err-clause-world
 returns-in-Err-clause-world g c = λ sites are.
     let world = opening_world (world_limits sites) in
-    same (g.I.Source.left c.args.input.now) (WorldFrom world NoMemory (g.O.Sink.given c.args.output.now) (g.O.Sink.given c.args.output.now))
-    (λ x. no_world world (g.O.Sink.given c.args.output.now) x)
+    let old = g.O.Sink.given c.args.output.now in
+    no_frames g.I.Source.left g.I.Source.faults g.O.Sink.faults c.args.input.now c.args.output.now (WorldFrom world NoMemory old old)
+    (λ x. no_world world old x)
+
+pub returns-in-Err-clause-serve : goal.returns-in-Err-clause-serve
+returns-in-Err-clause-serve g c = λ plan are.
+    no_server g.G.Link.Duplex.left g.G.Link.Sink.given g.G.Link.Duplex.take_faults g.G.Link.Sink.faults g.G.Gate.told g.G.Gate.faults g.O.Sink.given g.O.Sink.faults c.args.gate.now c.args.output.now
+    (site_at plan.place) (program_limits plan.place.sites).max_trail plan.links
+
+pub returns-in-Ok-clause-run : goal.returns-in-Ok-clause-run
+returns-in-Ok-clause-run g c =
+    let words : c.as_slice.result.now ≡ drop 1 (into_iter_items c.args.args) = c.as_slice.ensures.value ∙ c.in-Ok.ensures in
+    subst (λ ws. Runs g.I.Source.left g.I.Source.faults g.O.Sink.given g.O.Sink.faults c.args.input.now c.command.new.input c.args.output.now c.command.new.output (map (λ w. string_bytes w) ws) c.command.result)
+    words c.command.ensures.run
+
+pub returns-in-Ok-clause-shell : goal.returns-in-Ok-clause-shell
+returns-in-Ok-clause-shell g c =
+    let words : c.as_slice.result.now ≡ drop 1 (into_iter_items c.args.args) = c.as_slice.ensures.value ∙ c.in-Ok.ensures in
+    subst (λ ws. Shells g.I.Source.left g.I.Source.faults g.O.Sink.given g.O.Sink.faults c.args.input.now c.command.new.input c.args.output.now c.command.new.output (map (λ w. string_bytes w) ws) c.command.result)
+    words c.command.ensures.shell
+
+pub returns-in-Ok-clause-audit : goal.returns-in-Ok-clause-audit
+returns-in-Ok-clause-audit g c =
+    let words : c.as_slice.result.now ≡ drop 1 (into_iter_items c.args.args) = c.as_slice.ensures.value ∙ c.in-Ok.ensures in
+    subst (λ ws. Audits g.I.Source.left g.I.Source.faults g.O.Sink.given g.O.Sink.faults c.args.input.now c.command.new.input c.args.output.now c.command.new.output (map (λ w. string_bytes w) ws) c.command.result)
+    words c.command.ensures.audit
+
+pub returns-in-Ok-clause-world : goal.returns-in-Ok-clause-world
+returns-in-Ok-clause-world g c =
+    let words : c.as_slice.result.now ≡ drop 1 (into_iter_items c.args.args) = c.as_slice.ensures.value ∙ c.in-Ok.ensures in
+    subst (λ ws. Worlds g.I.Source.left g.I.Source.faults g.O.Sink.given g.O.Sink.faults c.args.input.now c.command.new.input c.args.output.now c.command.new.output (map (λ w. string_bytes w) ws) c.command.result)
+    words c.command.ensures.world
+
+pub returns-in-Ok-clause-none : goal.returns-in-Ok-clause-none
+returns-in-Ok-clause-none g c = λ none.
+    let words : c.as_slice.result.now ≡ drop 1 (into_iter_items c.args.args) = c.as_slice.ensures.value ∙ c.in-Ok.ensures in
+    c.command.ensures.none (subst (λ ws. AreNone (map (λ w. string_bytes w) ws)) (sym words) none)
+
+pub returns-in-Ok-clause-unread : goal.returns-in-Ok-clause-unread
+returns-in-Ok-clause-unread g c = λ plan are.
+    let words : c.as_slice.result.now ≡ drop 1 (into_iter_items c.args.args) = c.as_slice.ensures.value ∙ c.in-Ok.ensures in
+    c.command.ensures.unread plan (subst (λ ws. AreServe (map (λ w. string_bytes w) ws) plan) (sym words) are)
+
+pub returns-in-Ok-clause-unbound : goal.returns-in-Ok-clause-unbound
+returns-in-Ok-clause-unbound g c = λ others.
+    let words : c.as_slice.result.now ≡ drop 1 (into_iter_items c.args.args) = c.as_slice.ensures.value ∙ c.in-Ok.ensures in
+    c.command.ensures.unbound (λ plan are. others plan (subst (λ ws. AreServe (map (λ w. string_bytes w) ws) plan) words are))

@@ -1,4 +1,4 @@
-use Rattle.std.proofs.Common.{◌≡◌, refl, sym, ◌∙◌}
+use Rattle.std.proofs.Common.{refl, sym, ◌∙◌}
 use Rattle.dag_lock.specs.Named.{start_of}
 use Rattle.session_serve.proofs.Going.{asker_goes}
 use Rattle.session_serve.proofs.askers.AskerAsks.ask.Goals as goal

@@ -1,0 +1,4 @@
+-- Lemmas on exports.
+pub mod Orders
+pub mod Contents
+pub mod Judged

@@ -1,0 +1,2 @@
+-- Lemmas on disks.
+mod Calls

@@ -1,0 +1,6 @@
+use Rattle.std.proofs.Common.{arith}
+use Rattle.disk_forms.proofs.Calls.{length_with}
+use Rattle.disk_forms.proofs.histories.History.is_full.Goals as goal
+
+pub returns-then-len-self : goal.returns-then-len-self
+returns-then-len-self c = λ _. let n = length_with c.self.inside.calls.items c.self.inside.written.items in rw (← c.self.view_is) (omega arith)

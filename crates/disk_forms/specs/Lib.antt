@@ -1,0 +1,3 @@
+-- A disk in memory: its record, and what it knows by it.
+pub mod Memory
+pub mod MemoryLaws

@@ -1,0 +1,100 @@
+-- A disk in memory: the record of its calls, and what it knows by it.
+use Rattle.std.specs.Prelude.{Bool, ◌≡◌, ◌⊎◌, ◌≢◌, ℕ, ◌+◌, ◌<◌, ◌≤◌, List, [], ◌∷◌, ◌++◌, length, take, drop, true, false, Result, Ok, Err}
+use Rattle.tardis_io.specs.declared.faults.Failed.{Failed}
+use Rattle.tardis_io.specs.Memory.{Plan, fails_next, after_call, after_fault}
+use Rattle.disk_forms.specs.declared.histories.Kept.{Kept}
+use Rattle.disk_forms.specs.declared.histories.Kept.TheVariants.{Looked, Wrote, Tore, CutTo, MayCut, Synced}
+use Rattle.disk_store.specs.Disks.{with_bytes, Torn, Shortened}
+
+-- a call, and the bytes that it wrote
+abbrev pub Call : Type 0
+Call = Kept × List ℕ
+
+-- what a read gives, what it gave at the last good sync, and the calls since that a crash may undo in part
+pub record Known : Type 0 where
+  pub reads : List ℕ
+  pub base : List ℕ
+  pub pending : List Call
+
+-- nothing is pending
+abbrev pub fresh : List ℕ → Known
+fresh bytes = record { reads = bytes; base = bytes; pending = [] }
+
+-- the same after one more call
+abbrev pub after : Known → Call → Known
+after s (Looked, bytes) = s
+after s (Wrote place count, bytes) = record { reads = with_bytes s.reads place bytes; base = s.base; pending = s.pending ++ (Wrote place count, bytes) ∷ [] }
+after s (Tore place count, bytes) = record { reads = s.reads; base = s.base; pending = s.pending ++ (Tore place count, bytes) ∷ [] }
+after s (CutTo len, bytes) = record { reads = take len s.reads; base = s.base; pending = s.pending ++ (CutTo len, bytes) ∷ [] }
+after s (MayCut len, bytes) = record { reads = s.reads; base = s.base; pending = s.pending ++ (MayCut len, bytes) ∷ [] }
+after s (Synced, bytes) = fresh s.reads
+
+abbrev pub known_after : Known → List Call → Known
+known_after s [] = s
+known_after s (call ∷ calls) = known_after (after s call) calls
+
+-- what a crash may make of an image by a call that is pending
+abbrev pub IsStep : Call → List ℕ → List ℕ → Type 0
+IsStep (Wrote place count, bytes) = Torn place (length bytes)
+IsStep (Tore place count, bytes) = Torn place count
+IsStep (CutTo len, bytes) = Shortened len
+IsStep (MayCut len, bytes) = Shortened len
+IsStep (_, bytes) = λ old new. new ≡ old
+
+-- what it may make by all of them, in order
+abbrev pub Steps : List ℕ → List Call → List ℕ → Type 0
+Steps base [] image = image ≡ base
+Steps base (call ∷ calls) image = (next : List ℕ) × (IsStep call base next × Steps next calls image)
+
+abbrev pub IsImage : Known → List ℕ → Type 0
+IsImage s image = Steps s.base s.pending image
+
+-- an image of a moment after so many of the calls or more
+abbrev pub LeftSince : ℕ → Known → List Call → List ℕ → Type 0
+LeftSince ℕ.zero s [] image = IsImage s image
+LeftSince ℕ.zero s (call ∷ calls) image = IsImage s image ⊎ LeftSince ℕ.zero (after s call) calls image
+LeftSince (ℕ.suc t) s [] image = ⊥
+LeftSince (ℕ.suc t) s (call ∷ calls) image = LeftSince t (after s call) calls image
+
+-- how many bytes a call wrote
+abbrev pub used : Kept → ℕ
+used (Wrote place count) = count
+used _ = 0
+
+abbrev pub used_of : List Kept → ℕ
+used_of [] = 0
+used_of (kept ∷ calls) = used kept + used_of calls
+
+-- each call with the bytes that it wrote, from the front of all that were written
+abbrev pub with_written : List Kept → List ℕ → List Call
+with_written [] written = []
+with_written (kept ∷ calls) written = (kept, take (used kept) written) ∷ with_written calls (drop (used kept) written)
+
+-- the bytes at first, the calls since, and how many calls, and written bytes, there is room for
+pub record Recorded : Type 0 where
+  pub first : List ℕ
+  pub calls : List Call
+  pub written : ℕ
+  pub room : ℕ
+
+abbrev pub known_of : Recorded → Known
+known_of r = known_after (fresh r.first) r.calls
+
+-- the record with one more call
+abbrev pub with_call : Recorded → Kept → List ℕ → Recorded
+with_call r kept bytes = record { first = r.first; calls = r.calls ++ (kept, bytes) ∷ []; written = r.written + length bytes; room = r.room }
+
+-- a call that changes nothing of what a read gives
+abbrev pub IsQuiet : Kept → Type 0
+IsQuiet (Wrote place count) = ⊥
+IsQuiet (CutTo len) = ⊥
+IsQuiet _ = Unit {0}
+
+-- a call of this plan fails exactly where it is listed or there is no room
+abbrev pub PlanAnswers : Bool → Plan → Plan → Result Unit Failed → Type 0
+PlanAnswers has_room old new (Ok answer) = (fails_next old ≡ false) × (has_room ≡ true) × (new ≡ after_call old)
+PlanAnswers has_room old new (Err e) = ((fails_next old ≡ true) ⊎ (has_room ≡ false)) × (new ≡ after_fault old)
+
+-- a call that failed was recorded, or the record is as it was
+abbrev pub MayNote : Kept → Recorded → Recorded → Type 0
+MayNote kept old new = (new ≡ with_call old kept []) ⊎ (new ≡ old)

@@ -1,0 +1,145 @@
+//! Disks over the system's files. No contract can say what a file keeps, so these aren't told to be honest, and tell
+//! nothing.
+
+ghost use Rattle.std.specs.Prelude.{◌≡◌, ◌≤◌, []};
+ghost use Rattle.tardis_io.specs.Faults.{Rose};
+
+use disk_store::Disk;
+use std::os::unix::fs::FileExt;
+use std::{fs, io};
+use tardis_io::Failed;
+
+/// The longest that a disk may be: 2^63 bytes.
+const LONGEST: u64 = 1 << 63;
+
+/// A file as a disk. Each error of the system is counted, and so is a file that is longer than a disk may be, and a read
+/// that finds fewer bytes than it is to.
+///
+/// A sync after a cut writes all that the system knows of the file. One after writes alone writes the bytes, and of what
+/// the system knows what is needed to read them back, which includes a length that grew.
+#[derive(Drop)]
+pub struct FileDisk {
+    file: fs::File,
+    was_cut: bool,
+    faults: u64,
+}
+
+impl FileDisk {
+    /// A file that was opened for reading and writing, and that nobody else has.
+    pub fn new(file: fs::File) -> FileDisk
+        ensures { result.faults ≡ 0 }
+    {
+        FileDisk {
+            file,
+            was_cut: true,
+            faults: 0,
+        }
+    }
+
+    fn fail(&mut self) -> Failed
+        ensures rose { Rose self.old.faults self.new.faults }
+        ensures later { self.old.faults ≤ self.new.faults }
+    {
+        self.faults = self.faults.saturating_add(1);
+        Failed
+    }
+}
+
+impl Disk for FileDisk {
+    ghost honest = { λ _. ⊥ };
+
+    ghost reads = { λ _. [] };
+
+    ghost may_leave = { λ _ _. Unit {0} };
+
+    ghost moment = { λ _. 0 };
+
+    ghost left_since = { λ _ _ _. Unit {0} };
+
+    ghost faults = { λ d. d.faults };
+
+    fn len(&mut self) -> Result<u64, Failed> {
+        if let Ok(found) = self.file.metadata() {
+            let count = found.len();
+            if count <= LONGEST {
+                return Ok(count);
+            }
+        }
+        Err(self.fail())
+    }
+
+    fn read_at(&mut self, place: u64, buf: &mut [u8]) -> Result<(), Failed> {
+        match read_all(&self.file, place, buf) {
+            Ok(()) => Ok(()),
+            Err(_) => Err(self.fail()),
+        }
+    }
+
+    fn write_at(&mut self, place: u64, bytes: &[u8]) -> Result<(), Failed> {
+        match write_all(&self.file, place, bytes) {
+            Ok(()) => Ok(()),
+            Err(_) => Err(self.fail()),
+        }
+    }
+
+    fn cut(&mut self, len: u64) -> Result<(), Failed> {
+        self.was_cut = true;
+        match self.file.set_len(len) {
+            Ok(()) => Ok(()),
+            Err(_) => Err(self.fail()),
+        }
+    }
+
+    fn sync(&mut self) -> Result<(), Failed> {
+        let synced = if self.was_cut {
+            self.file.sync_all()
+        } else {
+            self.file.sync_data()
+        };
+        match synced {
+            Ok(()) => {
+                self.was_cut = false;
+                Ok(())
+            }
+            Err(_) => Err(self.fail()),
+        }
+    }
+
+    ghost reads_image = { λ d h. tt };
+
+    ghost counts_now = { λ d t image le is. tt };
+
+    ghost only_now = { λ d image left. tt };
+}
+
+/// Fills a buffer from a place on.
+fn read_all(file: &fs::File, place: u64, buf: &mut [u8]) -> io::Result<()> {
+    let mut done = 0;
+    while done < buf.len() {
+        let Some(at) = place.checked_add(done as u64) else {
+            return Err(io::ErrorKind::InvalidInput.into());
+        };
+        let count = file.read_at(&mut buf[done..], at)?;
+        if count == 0 {
+            return Err(io::ErrorKind::UnexpectedEof.into());
+        }
+        done += count;
+    }
+    Ok(())
+}
+
+/// Writes all bytes from a place on.
+fn write_all(file: &fs::File, place: u64, bytes: &[u8]) -> io::Result<()> {
+    let mut done = 0;
+    while done < bytes.len() {
+        let Some(at) = place.checked_add(done as u64) else {
+            return Err(io::ErrorKind::InvalidInput.into());
+        };
+        let count = file.write_at(&bytes[done..], at)?;
+        if count == 0 {
+            return Err(io::ErrorKind::WriteZero.into());
+        }
+        done += count;
+    }
+    Ok(())
+}

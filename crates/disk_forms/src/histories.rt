@@ -1,0 +1,203 @@
+//! The record of a disk in memory: what it held at first, and what was done to it.
+
+ghost use Rattle.std.specs.Prelude.{◌≡◌, ◌+◌, ◌<◌, ◌≤◌, ◌⊎◌, true, false, [], ◌∷◌, ◌++◌, length, take, drop, vec_capacity, IfOk, OnOk};
+ghost use Rattle.disk_store.specs.Disks.{with_bytes, Torn, Shortened};
+ghost use Rattle.disk_forms.specs.Memory.{known_of, with_call, IsQuiet, IsImage};
+ghost use Rattle.disk_forms.specs.declared.histories.Kept.TheVariants.{Wrote, CutTo};
+
+use std::alloc::Global;
+use std::marker::Model;
+use tardis_base::NoMemory;
+
+/// A call of a disk in memory.
+#[derive(Clone, Copy, Debug, PartialEq, Eq)]
+pub enum Kept {
+    /// Nothing was changed.
+    Looked,
+    Wrote { place: u64, count: usize },
+    /// A write of so many bytes failed.
+    Tore { place: u64, count: usize },
+    CutTo { len: u64 },
+    /// A cut failed.
+    MayCut { len: u64 },
+    Synced,
+}
+
+/// The bytes that a disk held at first and the calls since, in room that was taken at first. It is seen as these, and
+/// keeps what a read gives.
+#[derive(Drop)]
+pub struct History {
+    first: Vec<u8>,
+    bytes: Vec<u8>,
+    written: Vec<u8>,
+    calls: Vec<Kept>,
+    room: usize,
+}
+
+impl Model for History {
+    ghost use Rattle.std.specs.Prelude.{◌≡◌, ◌+◌, ◌≤◌, length, vec_capacity};
+    ghost use Rattle.disk_forms.specs.Memory.{Recorded, fresh, known_after, with_written, used_of};
+
+    ghost Value = { Recorded };
+
+    ghost view = { λ r. record { first = r.first.items; calls = with_written r.calls.items r.written.items; written = length r.written.items; room = r.room } };
+
+    ghost invariant = { λ r. (r.bytes.items ≡ (known_after (fresh r.first.items) (with_written r.calls.items r.written.items)).reads)
+        × (used_of r.calls.items ≡ length r.written.items) × (length r.bytes.items ≤ length r.first.items + length r.written.items)
+        × (length r.first.items + r.room ≤ vec_capacity r.bytes) × (r.room ≤ vec_capacity r.written) × (r.room ≤ vec_capacity r.calls)
+        × (length r.written.items ≤ r.room) × (length r.calls.items ≤ r.room) };
+}
+
+impl History {
+    /// The bytes, with nothing done to them, and room for so many calls and so many written bytes.
+    pub(crate) fn new(alloc: Global, bytes: &[u8], room: u32) -> Result<History, NoMemory>
+        ensures { IfOk result (λ r. r ≡ record { first = bytes.now; calls = []; written = 0; room = room }) }
+    {
+        let room = room as usize;
+        let Ok(first) = Vec::from_slice(alloc, bytes) else {
+            return Err(NoMemory);
+        };
+        let Ok(held) = with_room(alloc, bytes, room) else {
+            return Err(NoMemory);
+        };
+        let Ok(written) = Vec::with_capacity(alloc, room) else {
+            return Err(NoMemory);
+        };
+        let Ok(calls) = Vec::with_capacity(alloc, room) else {
+            return Err(NoMemory);
+        };
+        Ok(History {
+            first,
+            bytes: held,
+            written,
+            calls,
+            room,
+        })
+    }
+
+    /// What a read gives.
+    pub(crate) fn bytes(&self) -> &[u8]
+        ensures { result.now ≡ (known_of self.now).reads }
+    {
+        self.bytes.as_slice()
+    }
+
+    /// Fills a buffer with the bytes from a place on.
+    pub(crate) fn read(&self, place: u64, buf: &mut [u8])
+        requires { place + length buf.old ≤ length (known_of self.now).reads }
+        ensures { buf.new ≡ take (length buf.old) (drop place (known_of self.now).reads) }
+    {
+        copy_from(self.bytes.as_slice(), place as usize, buf);
+    }
+
+    /// Whether one more call that writes so many bytes finds room.
+    pub(crate) fn has_room(&self, count: usize) -> bool
+        ensures fits { result ≡ true → (length self.now.calls < self.now.room) × (self.now.written + count ≤ self.now.room) }
+        ensures full { result ≡ false → (self.now.room ≤ length self.now.calls) ⊎ (self.now.room < self.now.written + count) }
+    {
+        if self.calls.len() == self.room {
+            return false;
+        }
+        if self.room - self.written.len() < count {
+            return false;
+        }
+        true
+    }
+
+    /// Whether no call more finds room.
+    pub(crate) fn is_full(&self) -> bool
+        ensures { result ≡ false → length self.now.calls < self.now.room }
+    {
+        if self.calls.len() < self.room {
+            return false;
+        }
+        true
+    }
+
+    /// Records a call that leaves what a read gives.
+    pub(crate) fn note(&mut self, kept: Kept)
+        requires quiet { IsQuiet kept }
+        requires room { length self.old.calls < self.old.room }
+        ensures { self.new ≡ with_call self.old kept [] }
+    {
+        push_call(&mut self.calls, kept);
+    }
+
+    /// Writes bytes.
+    pub(crate) fn write(&mut self, place: u64, bytes: &[u8])
+        requires room { length self.old.calls < self.old.room }
+        requires bytes { self.old.written + length bytes.now ≤ self.old.room }
+        ensures { self.new ≡ with_call self.old (Wrote place (length bytes.now)) bytes.now }
+    {
+        overwrite(&mut self.bytes, place as usize, bytes);
+        push_bytes(&mut self.written, bytes);
+        let count = bytes.len();
+        push_call(&mut self.calls, Kept::Wrote { place, count });
+    }
+
+    /// Cuts the bytes behind a length off.
+    pub(crate) fn cut(&mut self, len: u64)
+        requires { length self.old.calls < self.old.room }
+        ensures { self.new ≡ with_call self.old (CutTo len) [] }
+    {
+        self.bytes.truncate(len as usize);
+        push_call(&mut self.calls, Kept::CutTo { len });
+    }
+}
+
+/// Records a call. It takes no memory.
+fn push_call(calls: &mut Vec<Kept>, kept: Kept)
+    requires { length calls.old.items < vec_capacity calls.old }
+    ensures items { calls.new.items ≡ calls.old.items ++ kept ∷ [] }
+    ensures room { vec_capacity calls.old ≤ vec_capacity calls.new }
+{
+    let _ = calls.push(kept);
+}
+
+/// Keeps bytes behind the others. It takes no memory.
+fn push_bytes(written: &mut Vec<u8>, bytes: &[u8])
+    requires { length written.old.items + length bytes.now ≤ vec_capacity written.old }
+    ensures items { written.new.items ≡ written.old.items ++ bytes.now }
+    ensures room { vec_capacity written.old ≤ vec_capacity written.new }
+{
+    let _ = written.extend_from_slice(bytes);
+}
+
+/// Fills a buffer with the bytes from a place on.
+fn copy_from(bytes: &[u8], place: usize, buf: &mut [u8])
+    requires { place + length buf.old ≤ length bytes.now }
+    ensures { buf.new ≡ take (length buf.old) (drop place bytes.now) }
+{
+    let count = buf.len();
+    let rest = &bytes[place..];
+    buf.copy_from_slice(&rest[..count]);
+}
+
+/// A copy of the bytes, with room for so many more.
+fn with_room(alloc: Global, bytes: &[u8], more: usize) -> Result<Vec<u8>, NoMemory>
+    ensures bytes { IfOk result (λ v. v.items ≡ bytes.now) }
+    ensures room { IfOk result (λ v. length bytes.now + more ≤ vec_capacity v) }
+{
+    let Some(room) = bytes.len().checked_add(more) else {
+        return Err(NoMemory);
+    };
+    let Ok(mut held) = Vec::with_capacity(alloc, room) else {
+        return Err(NoMemory);
+    };
+    let _ = held.extend_from_slice(bytes);
+    Ok(held)
+}
+
+/// Puts bytes at a place over those that are there, and past the end. It takes no memory.
+pub(crate) fn overwrite(buf: &mut Vec<u8>, place: usize, bytes: &[u8])
+    requires { length buf.old.items + length bytes.now ≤ vec_capacity buf.old }
+    ensures bytes { buf.new.items ≡ with_bytes buf.old.items place bytes.now }
+    ensures room { vec_capacity buf.old ≤ vec_capacity buf.new }
+{
+    if place < buf.len() && bytes.len() <= buf.len() - place {
+        buf[place..place + bytes.len()].copy_from_slice(bytes);
+    } else {
+        buf.truncate(place);
+        let _ = buf.extend_from_slice(bytes);
+    }
+}

@@ -1,0 +1,8 @@
+//! A disk: bytes that stay when the process ends, whatever a crash leaves of them, and the store that it comes from.
+#![tactic(auto)]
+
+mod disks;
+mod stores;
+
+pub use disks::Disk;
+pub use stores::Store;

@@ -1,0 +1,39 @@
+//! Where disks come from.
+
+ghost use Rattle.std.specs.Prelude.{◌≡◌, ℕ, Option, IfOk};
+ghost use Rattle.tardis_io.specs.Faults.{HasCause};
+ghost use Rattle.disk_store.specs.Stores.{ToldStore, Opens, IsOut, with_back, count_after};
+
+use crate::disks::Disk;
+use tardis_io::Failed;
+
+/// Opens disks by their paths, and takes each back when its work is over. A store may tell the disk that it holds, and
+/// may be told to be honest; then each disk that it opens is honest.
+pub trait Store {
+    type Disk: Disk;
+
+    // every disk that it opens is honest
+    ghost honest: { Self → Type 0 };
+
+    // its disk, where the store tells it
+    ghost told: { Self → Option (ToldStore Self.Disk) };
+
+    // how many faults were counted
+    ghost faults: { Self → ℕ };
+
+    /// The disk at a path, which is made where there is none.
+    fn open_file(&mut self, path: &str) -> Result<Self::Disk, Failed>
+        ensures fresh { IfOk result (λ disk. Self.Disk.faults disk ≡ 0) }
+        ensures honest { honest self.old → IfOk result (λ disk. Self.Disk.honest disk) }
+        ensures still { honest self.old → honest self.new }
+        ensures told { Opens (told self.old) (told self.new) result }
+        ensures cause { HasCause (faults self.old) (faults self.new) result };
+
+    /// Takes back a disk that this store opened, as it is, and counts a fault exactly where the disk counted one. It
+    /// takes no memory.
+    fn put_back(&mut self, disk: Self::Disk)
+        requires { IsOut (told self.old) }
+        ensures told { told self.new ≡ with_back (told self.old) disk }
+        ensures still { honest self.old → honest self.new }
+        ensures faults { faults self.new ≡ count_after (Self.Disk.faults disk) (faults self.old) };
+}

@@ -1,0 +1,8 @@
+-- Lemmas on merge rules.
+mod Partings
+mod UnionLaws
+mod Joins
+mod ReadLaws
+mod Exchanges
+mod ValueLaws
+mod SettlingLaws

@@ -1,0 +1,3 @@
+-- Lemmas on rules.
+pub mod Cuts
+pub mod Bests

@@ -1,0 +1,15 @@
+//! Rules for keys by their prefixes, and the text that writes them.
+//!
+//! The text is stated in `docs/RULES.md`.
+#![tactic(auto)]
+
+mod choosing;
+mod parts;
+mod reading;
+mod rules;
+#[cfg(test)]
+mod tests;
+
+pub use choosing::rule_for;
+pub use reading::read_rules;
+pub use rules::{PrefixRule, Rule, RuleList, RulesFault};

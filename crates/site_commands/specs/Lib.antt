@@ -1,0 +1,3 @@
+-- What the commands of a site do, and how they end.
+pub mod Runs
+pub mod Ends

@@ -1,0 +1,11 @@
+-- Lemmas on items, on steps, on what is read, and on links.
+mod Items
+mod Counts
+mod Going
+mod Delivered
+mod Fetched
+mod Calls
+mod Exact
+mod Exchanged
+mod Rounding
+mod Told

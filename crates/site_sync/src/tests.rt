@@ -1,0 +1,284 @@
+ghost use Rattle.std.specs.Prelude.{◌≡◌, ◌<◌, [], false};
+ghost use Rattle.site_sync.specs.Replier.{answer, digit, statistics};
+
+use crate::{Rounds, SyncEnd, run_rounds, sync_round};
+use dag_lock::DagLock;
+use std::alloc::Global;
+use std::sync::Wait;
+use std::test::Fail;
+use tardis_base::{Machine, NoMemory, Reply, ReplyBuf, SiteLine, SiteLines, StateId};
+use tardis_io::{MemoryDial, MemoryLink, MemorySink, MemorySource};
+use trail_log::Trailed;
+use wire_talk::write_reply;
+
+/// Replies by the request alone: the record of a sequence by the code that stands so far behind 16. For sequence 6 it finds
+/// no memory.
+#[derive(Drop)]
+struct Replier {}
+
+impl Machine for Replier {
+    ghost Plain = { Unit {0} };
+
+    ghost plain = { record { step = λ s e. s; reply = λ s e. answer e.1; is_sure = λ e. false } };
+
+    ghost stands = { λ m s. Unit {0} };
+
+    ghost opening = { λ m. tt };
+
+    fn act(&mut self, actor: u16, request: &[u8], out: &mut ReplyBuf) -> Result<(), NoMemory> {
+        out.clear();
+        let _ = actor;
+        if request.len() == 1 {
+            put_statistics(out);
+            return Ok(());
+        }
+        let digit = digit_in(request);
+        if digit == 6 {
+            return Err(NoMemory);
+        }
+        out.push_byte(16 + digit);
+        Ok(())
+    }
+}
+
+/// The low digit of the eighth byte.
+fn digit_in(request: &[u8]) -> u8
+    ensures same { result ≡ digit request.now }
+    ensures low { result < 16 }
+{
+    if request.len() > 7 {
+        request[7] % 16
+    } else {
+        0
+    }
+}
+
+/// Answers as a fresh site of two.
+fn put_statistics(out: &mut ReplyBuf)
+    requires { out.old ≡ [] }
+    ensures { out.new ≡ statistics }
+{
+    let line = SiteLine {
+        count: 0,
+        floor: StateId::ROOT,
+        number: 0,
+    };
+    let mut sites = SiteLines::new();
+    sites.push(line);
+    sites.push(line);
+    write_reply(
+        &Reply::Stat {
+            known: 1,
+            kept: 1,
+            leaves: 1,
+            sessions: 0,
+            sites,
+        },
+        out,
+    );
+}
+
+/// What a peer sends, the takes, gives and calls that fail, and how much trail there may be; how the exchange ends, what
+/// the peer is given, and how many bytes the trail has then.
+#[derive(Drop)]
+struct Row<'a> {
+    sent: &'a [u8],
+    failing: (&'a [u64], &'a [u64], &'a [u64]),
+    most: u64,
+    end: SyncEnd,
+    given: &'a [u8],
+    trail: usize,
+}
+
+/// A batch of one record.
+const ONE: &[u8] =
+    b"\x00\x00\x00\x18\x10\x00\x01\x00\x02\x00\x00\x00\x01\x01\x00\x00\x00\x00\x00\x00\x01\x01\x61\x01\x00\x01\x31\x00";
+
+/// A batch of one record, for whose delivery there is no memory.
+const WITHOUT: &[u8] =
+    b"\x00\x00\x00\x18\x10\x00\x01\x00\x02\x00\x00\x00\x06\x01\x00\x00\x00\x00\x00\x00\x01\x01\x61\x01\x00\x01\x31\x00";
+
+/// The request for what is above no states of both sites.
+const PULL: &[u8] = b"\x00\x00\x00\x0a\x13\x02\x00\x00\x00\x00\x00\x00\x00\x00";
+
+/// A link that sends these bytes.
+fn link(alloc: Global, sent: &[u8], takes: &[u64], gives: &[u64]) -> Result<MemoryLink, Fail> {
+    let source = MemorySource::new(alloc, sent, 16, takes)?;
+    let sink = MemorySink::new(alloc, 100, 8, gives)?;
+    Ok(MemoryLink::new(source, sink))
+}
+
+/// Makes the exchange of a row, and tells how it ended, how many links were put back finished, what they were given, and
+/// how many bytes the trail has.
+fn sync_row<R: Wait>(
+    alloc: Global,
+    rt: &R,
+    row: &Row<'_>,
+) -> Result<(SyncEnd, Vec<u8>, usize), Fail> {
+    let (takes, gives, calls) = row.failing;
+    let mut links = Vec::new(alloc);
+    links.push(link(alloc, row.sent, takes, gives)?)?;
+    let mut dial = MemoryDial::new(alloc, links, calls)?;
+    let trail = Trailed::new(alloc, Replier {}, row.most);
+    let (lock, pass) = DagLock::new(alloc, trail, 1)?;
+    let (pass, end) = sync_round(alloc, rt, &lock, pass, &mut dial, "unix:p");
+    let mut given = Vec::new(alloc);
+    for link in dial.back() {
+        if link.is_finished() {
+            given.extend_from_slice(link.sink().bytes())?;
+        }
+    }
+    let mut kept = MemorySink::new(alloc, 1_000, 1_000, &[])?;
+    let _ = lock.close(pass).write_trail(&mut kept);
+    Ok((end, given, kept.bytes().len()))
+}
+
+const ALL: SyncEnd = SyncEnd::Done {
+    applied: 1,
+    known: 0,
+    early: 0,
+    refused: 0,
+};
+
+#[test]
+fn an_exchange_ends_as_its_peer_its_link_and_the_trail_let_it(rt: HostRuntime) -> Result<(), Fail> {
+    let rows = [
+        Row {
+            sent: ONE,
+            failing: (&[], &[], &[]),
+            most: 1000,
+            end: ALL,
+            given: PULL,
+            trail: 35,
+        },
+        Row {
+            sent: b"\x00\x00\x00\x01\x07",
+            failing: (&[], &[], &[]),
+            most: 1000,
+            end: SyncEnd::BadReply,
+            given: PULL,
+            trail: 7,
+        },
+        Row {
+            sent: b"\x00\x00",
+            failing: (&[], &[], &[]),
+            most: 1000,
+            end: SyncEnd::Cut,
+            given: PULL,
+            trail: 7,
+        },
+        Row {
+            sent: b"\x00\x10\x00\x01",
+            failing: (&[], &[], &[]),
+            most: 1000,
+            end: SyncEnd::LongFrame { len: 1_048_577 },
+            given: PULL,
+            trail: 7,
+        },
+        // each take and each give fails in turn, and the call
+        Row {
+            sent: ONE,
+            failing: (&[1], &[], &[]),
+            most: 1000,
+            end: SyncEnd::ReadFault,
+            given: PULL,
+            trail: 7,
+        },
+        Row {
+            sent: ONE,
+            failing: (&[2], &[], &[]),
+            most: 1000,
+            end: SyncEnd::ReadFault,
+            given: PULL,
+            trail: 7,
+        },
+        Row {
+            sent: ONE,
+            failing: (&[], &[1], &[]),
+            most: 1000,
+            end: SyncEnd::WriteFault,
+            given: b"",
+            trail: 7,
+        },
+        Row {
+            sent: ONE,
+            failing: (&[], &[2], &[]),
+            most: 1000,
+            end: SyncEnd::WriteFault,
+            given: b"\x00\x00\x00\x0a\x13\x02\x00\x00",
+            trail: 7,
+        },
+        Row {
+            sent: ONE,
+            failing: (&[], &[], &[1]),
+            most: 1000,
+            end: SyncEnd::DialFault,
+            given: b"",
+            trail: 0,
+        },
+        // the trail has no room for Stat, and for the record
+        Row {
+            sent: ONE,
+            failing: (&[], &[], &[]),
+            most: 6,
+            end: SyncEnd::TrailFull { bytes: 0 },
+            given: b"",
+            trail: 0,
+        },
+        Row {
+            sent: ONE,
+            failing: (&[], &[], &[]),
+            most: 34,
+            end: SyncEnd::TrailFull { bytes: 7 },
+            given: PULL,
+            trail: 7,
+        },
+        Row {
+            sent: WITHOUT,
+            failing: (&[], &[], &[]),
+            most: 1000,
+            end: SyncEnd::NoMemory,
+            given: PULL,
+            trail: 7,
+        },
+    ];
+    for row in rows {
+        let (end, given, trail) = sync_row(rt.alloc(), &rt, &row)?;
+        assert_eq!(rt; end, row.end);
+        assert!(rt; given.as_slice() == row.given);
+        assert_eq!(rt; trail, row.trail);
+    }
+    Ok(())
+}
+
+#[test]
+fn rounds_call_each_peer_and_count_what_failed(rt: HostRuntime) -> Result<(), Fail> {
+    let alloc = rt.alloc();
+    let mut links = Vec::new(alloc);
+    for sent in [ONE, WITHOUT, ONE] {
+        links.push(link(alloc, sent, &[], &[])?)?;
+    }
+    let mut dial = MemoryDial::new(alloc, links, &[])?;
+    let mut peers = Vec::new(alloc);
+    for address in ["unix:p", "unix:q"] {
+        peers.push(String::from_str(alloc, address)?)?;
+    }
+    assert_eq!(rt; peers.len(), 2);
+    let trail = Trailed::new(alloc, Replier {}, 1_000);
+    let (lock, pass) = DagLock::new(alloc, trail, 1)?;
+    let (pass, made) = run_rounds(
+        alloc,
+        &rt,
+        &lock,
+        pass,
+        &mut dial,
+        peers.as_slice(),
+        2,
+        true,
+    );
+    assert_eq!(rt; made, Ok(Rounds { dial: 1, memory: 1 }));
+    let mut kept = MemorySink::new(alloc, 1_000, 1_000, &[])?;
+    assert!(rt; lock.close(pass).write_trail(&mut kept).is_ok());
+    assert_eq!(rt; kept.bytes().len(), 109);
+    Ok(())
+}

@@ -1,0 +1,30 @@
+-- How a server ends that had no memory: it listened to nothing, and wrote nothing.
+use Rattle.std.proofs.Common.{◌≡◌, ℕ, List, Option, refl, ap, inr, arith}
+use Rattle.tardis_io.specs.Links.{ToldGate}
+use Rattle.tardis_io.specs.declared.statuses.Status.TheVariants.{NoMemory}
+use Rattle.serve_run.specs.declared.endings.Serving.{Serving}
+use Rattle.serve_run.specs.declared.endings.ServeEnd.{ServeEnd}
+use Rattle.serve_run.specs.declared.endings.ServeEnd.TheVariants.{NotBound, NotMade, Served}
+use Rattle.plain_site.specs.Site.{Site}
+use Rattle.site_commands.specs.Ends.{ServerEnds}
+
+abbrev number_of : ServeEnd → ℕ
+number_of NotBound = 0
+number_of NotMade = 1
+number_of (Served s) = 2
+
+module _ {L G O : Type 0} (link_left link_given : L → Option (List ℕ)) (link_takes link_gives : L → ℕ) (told : G → Option (ToldGate L)) (gates : G → ℕ)
+    (given : O → Option (List ℕ)) (writes : O → ℕ) (gate : G) (output : O) where
+  pub no_server : (site : Site) (max_trail links : ℕ) → ServerEnds link_left link_given link_takes link_gives told gates given writes gate gate output output site max_trail links NoMemory
+  no_server site max_trail links = record {
+    end = NotMade;
+    outcome = record {
+      served = λ s e. let n : 1 ≡ 2 = ap number_of e in absurd (omega (arith, n));
+      not_bound = λ e. let n : 1 ≡ 0 = ap number_of e in absurd (omega (arith, n));
+      not_made = λ e. (refl, refl);
+      gate_later = omega arith;
+      write_later = omega arith;
+    };
+    judged = refl;
+    complete = λ r s. inr refl;
+  }
