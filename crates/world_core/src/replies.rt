@@ -1,12 +1,7 @@
 //! A world's replies, as frames.
 
-ghost use Rattle.std.specs.Prelude.{◌≡◌, ◌+◌, ◌≤◌, ◌++◌, length};
-ghost use Rattle.tardis_base.specs.Sizes.{longest_frame};
-ghost use Rattle.frame_cut.specs.Frames.{frame};
-
 use crate::worlds::World;
-use frame_cut::put_frame;
-use site_run::{Gathered, Responder};
+use site_run::{Gathered, Responder, put_reply};
 use std::alloc::Global;
 use tardis_base::{NoMemory, ReplyBuf};
 
@@ -51,17 +46,4 @@ impl Responder<World> for WorldReplies {
             Err(NoMemory) => put_reply(&WANTING, out),
         }
     }
-}
-
-/// Puts the frame of a reply behind what was gathered.
-fn put_reply(reply: &[u8], out: &mut Gathered)
-    requires reply { length reply.now ≤ longest_frame }
-    requires room { length out.old.bytes + 1048580 ≤ out.old.room }
-    ensures bytes { out.new.bytes ≡ out.old.bytes ++ frame reply.now }
-    ensures room { out.new.room ≡ out.old.room }
-{
-    let mut head = [0; 4];
-    put_frame(reply, &mut head);
-    out.put(&head);
-    out.put(reply);
 }

@@ -1,4 +1,4 @@
-use crate::rows::{NOT_THERE, SHARED_CART};
+use crate::rows::{HALF_LOST, NOT_THERE, SHARED_CART};
 use crate::run_world;
 use std::alloc::Global;
 use std::hash::RandomState;
@@ -63,6 +63,8 @@ fn answers(alloc: Global, keys: RandomState, sites: u16, talk: &Talk) -> Result<
 fn sites_share_a_cart(rt: HostRuntime) -> Result<(), Fail> {
     let keys = RandomState::new(&rt)?;
     let talk = Talk::of(rt.alloc(), SHARED_CART)?;
+    assert!(rt; answers(rt.alloc(), keys, 3, &talk)?);
+    let talk = Talk::of(rt.alloc(), HALF_LOST)?;
     assert!(rt; answers(rt.alloc(), keys, 3, &talk)?);
     let talk = Talk::of(rt.alloc(), NOT_THERE)?;
     assert!(rt; answers(rt.alloc(), keys, 2, &talk)?);

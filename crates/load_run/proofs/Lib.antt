@@ -1,0 +1,2 @@
+-- Lemmas on the play of a script.
+mod Playing

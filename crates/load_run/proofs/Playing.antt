@@ -1,0 +1,64 @@
+-- What acts do, one more; and what is told by a reply.
+use Rattle.std.proofs.Common.{◌≡◌, ◌∙◌, ℕ, zero, suc, ◌+◌, ◌<◌, List, [], ◌∷◌, Result, length, take, get_or, refl, ap, sym, subst, arith, add-one, true, false, is_some, if◌then◌else◌}
+use Rattle.std.proofs.lemmas.Result.{IfOk-weaker}
+use Rattle.tardis_base.specs.declared.requests.Request.{Request}
+use Rattle.tardis_base.specs.declared.replies.Reply.{Reply}
+use Rattle.tardis_base.specs.declared.replies.Reply.TheVariants.{Stat}
+use Rattle.load_run.specs.declared.counts.Counts.{Counts}
+use Rattle.load_run.specs.Plays.{Play, Act, counted, asks, asks_then, reply_to, draws, drawn, each_to, each_of}
+use Rattle.plain_dag.specs.Entries.{entry_of}
+use Rattle.load_run.specs.Scripts.{commits_ser, begins, turn_of}
+use Rattle.load_run.specs.Held.{Held, Plays, Does, Drew}
+
+pub one_more : (n : ℕ) (act : ℕ → Act) (play : Play) → each_to (n + 1) act play ≡ act (n + 1) (each_to n act play)
+one_more n act play = subst (λ m. each_to m act play ≡ act m (each_to n act play)) (sym (add-one n)) refl
+
+one_past : {A : Type 0} (xs : List A) (k : ℕ) (x : A) (act : A → Act) (play : Play) → k < length xs → x ≡ get_or xs k x →
+    each_of (take (suc k) xs) act play ≡ act x (each_of (take k xs) act play)
+one_past [] k x act play lt is = absurd (omega arith)
+one_past (y ∷ ys) zero x act play lt is = ap (λ z. act z play) (sym is)
+one_past (y ∷ ys) (suc k) x act play lt is = one_past ys k x act (act y play) (omega arith) is
+
+pub one_further : {A : Type 0} (xs : List A) (k : ℕ) (x : A) (act : A → Act) (play : Play) → k < length xs → x ≡ get_or xs k x →
+    each_of (take (k + 1) xs) act play ≡ act x (each_of (take k xs) act play)
+one_further xs k x act play lt is = subst (λ m. each_of (take m xs) act play ≡ act x (each_of (take k xs) act play)) (sym (add-one k)) (one_past xs k x act play lt is)
+
+pub counted_as : (r s : Reply) (a b : Counts) → r ≡ s → a ≡ b → counted r a ≡ counted s b
+counted_as r s a b e f = ap (λ x. counted x a) e ∙ ap (counted s) f
+
+-- the known states that a reply tells
+abbrev pub known_in : Reply → ℕ
+known_in (Stat known kept leaves sessions sites) = known
+known_in _ = 0
+
+-- the kept states that it tells
+abbrev pub kept_in : Reply → ℕ
+kept_in (Stat known kept leaves sessions sites) = kept
+kept_in _ = 0
+
+-- a question, and what its reply tells
+pub then_told : {A E : Type 0} (old mid new : Held) (r : Result A E) (n : ℕ) (q : Request) (reply : Reply) (next : Reply → Act) →
+    ((play : Play) → Plays old play → Plays mid (asks n q play) × (reply ≡ reply_to n q play)) → Does mid new r (next reply) → Does old new r (asks_then n q next)
+then_told old mid new r n q reply next p d =
+    IfOk-weaker r (λ x. (play : Play) → Plays mid play → Plays new (next reply play)) (λ x. (play : Play) → Plays old play → Plays new (asks_then n q next play))
+    (λ x f play h. subst (λ s. Plays new (next s (asks n q play))) (p play h).1 (f (asks n q play) (p play h).0)) d
+
+-- a word, and what it tells
+pub then_drawn : {A E : Type 0} (old mid new : Held) (r : Result A E) (w : ℕ) (next : ℕ → Act) → Drew old mid w → Does mid new r (next w) → Does old new r (draws next)
+then_drawn old mid new r w next p d =
+    IfOk-weaker r (λ x. (play : Play) → Plays mid play → Plays new (next w play)) (λ x. (play : Play) → Plays old play → Plays new (draws next play))
+    (λ x f play h. subst (λ s. Plays new (next s (drawn play))) (p play h).1 (f (drawn play) (p play h).0)) d
+
+-- a session that has a transaction commits it
+pub turn_commits : {A E : Type 0} (old new : Held) (r : Result A E) (i s : ℕ) → ((play : Play) → Plays old play → true ≡ is_some (entry_of s play.site.txns)) →
+    Does old new r (commits_ser s) → Does old new r (turn_of i s)
+turn_commits old new r i s has d =
+    IfOk-weaker r (λ x. (play : Play) → Plays old play → Plays new (commits_ser s play)) (λ x. (play : Play) → Plays old play → Plays new (turn_of i s play))
+    (λ x f play h. subst (λ b. Plays new (if b then commits_ser s play else begins i s play)) (has play h) (f play h)) d
+
+-- one that has none begins
+pub turn_begins : {A E : Type 0} (old new : Held) (r : Result A E) (i s : ℕ) → ((play : Play) → Plays old play → false ≡ is_some (entry_of s play.site.txns)) →
+    Does old new r (begins i s) → Does old new r (turn_of i s)
+turn_begins old new r i s has d =
+    IfOk-weaker r (λ x. (play : Play) → Plays old play → Plays new (begins i s play)) (λ x. (play : Play) → Plays old play → Plays new (turn_of i s play))
+    (λ x f play h. subst (λ b. Plays new (if b then commits_ser s play else begins i s play)) (has play h) (f play h)) d

@@ -1,0 +1,15 @@
+use Rattle.std.proofs.Common.{◌≡◌, [], subst}
+use Rattle.tardis_base.specs.declared.requests.Request.TheVariants.{Conflicts}
+use Rattle.load_run.specs.Plays.{Play, asks, reply_to}
+use Rattle.load_run.specs.Scripts.{settles}
+use Rattle.load_run.specs.Held.{Plays}
+use Rattle.load_run.proofs.Playing.{then_told}
+use Rattle.load_run.proofs.players.Player.settle_conflicts.Goals as goal
+
+pub returns-clause-does : goal.returns-clause-does
+returns-clause-does c =
+    let listed = c.in_ok-listed.listed in
+    then_told c.args.self.now c.ask.new.self c.settle.new.self c.settle.result 9 (Conflicts []) listed (settles c.args.i)
+    (subst (λ after. (play : Play) → Plays c.args.self.now play → Plays c.ask.new.self (asks 9 (Conflicts after) play) × (listed ≡ reply_to 9 (Conflicts after) play))
+    c.new-after.ensures c.in_ok-listed.ensures.asked)
+    c.settle.ensures.does

@@ -1,0 +1,16 @@
+use Rattle.std.proofs.Common.{◌≡◌, ◌∙◌, ℕ, IfOk, ap, subst}
+use Rattle.load_run.specs.declared.counts.Counts.{Counts}
+use Rattle.load_run.specs.Scripts.{opening_play, played}
+use Rattle.load_run.specs.Lines.{known, kept, line_of, load_line}
+use Rattle.load_run.specs.Held.{Plays}
+use Rattle.load_run.proofs.runs.load.Goals as goal
+
+pub returns : goal.returns
+unfolding load_line
+returns c =
+    let play = played c.args.start c.args.steps in
+    let there : Plays c.play.new.self play = c.in_ok-play.ensures (opening_play c.args.start) c.in_ok-player.ensures.stands in
+    let told : Counts → ℕ → ℕ → Type 0 = λ n x y. IfOk c.line_of.result (λ line. line.items ≡ line_of c.args.start c.args.steps n x y) in
+    subst (λ n. told n (known play.site) (kept play.site)) (c.counts.ensures ∙ (c.in_ok-known.ensures.counts ∙ there.counts))
+    (subst (λ x. told c.counts.result x (kept play.site)) (c.in_ok-known.ensures.known play there)
+    (subst (λ y. told c.counts.result c.in_ok-known.known y) (c.in_ok-known.ensures.kept play there) c.line_of.ensures))

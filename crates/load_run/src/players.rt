@@ -1,0 +1,116 @@
+//! A site that plays a script: it asks, draws words and counts.
+
+ghost use Rattle.std.specs.Prelude.{◌≡◌, ◌+◌, ◌≤◌, is_some, IsTrue, IfOk};
+ghost use Rattle.tardis_base.specs.declared.requests.Request.{Request};
+ghost use Rattle.wire_talk.specs.Valid.{is_request};
+ghost use Rattle.plain_dag.specs.Entries.{entry_of};
+ghost use Rattle.session_core.specs.Machine.{IsTold};
+ghost use Rattle.load_run.specs.Plays.{Play};
+ghost use Rattle.load_run.specs.Scripts.{opening_play};
+ghost use Rattle.load_run.specs.Lines.{known, kept};
+ghost use Rattle.load_run.specs.Held.{Plays, Asked, Drew};
+
+use crate::counts::Counts;
+use command_words::Place;
+use rand_core::utils::NextWord;
+use rand_pcg::Lcg64Xsh32;
+use session_core::SiteCore;
+use std::alloc::Global;
+use std::hash::RandomState;
+use std::marker::Model;
+use tardis_base::{NoMemory, Reply, Request};
+
+/// Where the site is: it is alone.
+const ALONE: Place = Place { sites: 1, site: 1 };
+
+/// A site, the words to come, and what was counted.
+#[derive(Drop)]
+pub(crate) struct Player {
+    alloc: Global,
+    site: SiteCore,
+    words: Lcg64Xsh32,
+    counts: Counts,
+}
+
+impl Model for Player {
+    ghost use Rattle.std.specs.Prelude.{◌≤◌};
+    ghost use Rattle.load_run.specs.Held.{Held};
+
+    ghost Value = { Held };
+
+    ghost view = { λ p. record { core = p.site; words = p.words; counts = p.counts } };
+
+    ghost invariant = { λ p. (p.counts.committed ≤ p.counts.events) × (p.counts.refused ≤ p.counts.events) };
+}
+
+impl Player {
+    /// A site that opens, the words of this start, and nothing counted.
+    pub(crate) fn new(alloc: Global, keys: RandomState, start: u32) -> Result<Player, NoMemory>
+        ensures stands { IfOk result (λ held. Plays held (opening_play start)) }
+        ensures none { IfOk result (λ held. held.counts.events ≡ 0) }
+    {
+        let site = SiteCore::new(alloc, keys, ALONE.limits(), 1)?;
+        let words = Lcg64Xsh32::new(u64::from(start), 1);
+        Ok(Player {
+            alloc,
+            site,
+            words,
+            counts: Counts::NONE,
+        })
+    }
+
+    /// The allocator of what is asked.
+    pub(crate) fn alloc(&self) -> Global {
+        self.alloc
+    }
+
+    /// What was counted.
+    pub(crate) fn counts(&self) -> Counts
+        ensures { result ≡ self.now.counts }
+    {
+        self.counts
+    }
+
+    /// Draws the next word.
+    pub(crate) fn word(&mut self) -> u32
+        ensures drew { Drew self.old self.new result }
+        ensures counts { self.new.counts ≡ self.old.counts }
+    {
+        self.words.next_word()
+    }
+
+    /// Whether the session has an open transaction.
+    pub(crate) fn has_txn(&self, session: u16) -> bool
+        ensures { (play : Play) → Plays self.now play → result ≡ is_some (entry_of session play.site.txns) }
+    {
+        self.site.has_txn(session)
+    }
+
+    /// Asks the site, as the actor.
+    pub(crate) fn ask(&mut self, actor: u16, request: &Request) -> Result<Reply, NoMemory>
+        requires request { IsTrue (is_request request.now) }
+        requires room { self.old.counts.events + 1 ≤ 18446744073709551615 }
+        ensures asked { Asked self.old self.new actor request.now result }
+        ensures told { IfOk result (λ reply. IsTold reply) }
+        ensures room { self.new.counts.events ≤ self.old.counts.events + 1 }
+    {
+        let mut reply = Reply::NoMemory;
+        self.site.step(actor, request, &mut reply)?;
+        self.counts = self.counts.with(&reply);
+        Ok(reply)
+    }
+
+    /// How many states the site knows, and how many of them it keeps. It isn't counted.
+    pub(crate) fn states(&mut self) -> Result<(u64, u32), NoMemory>
+        ensures known { IfOk result (λ states. (play : Play) → Plays self.old play → states.0 ≡ known play.site) }
+        ensures kept { IfOk result (λ states. (play : Play) → Plays self.old play → states.1 ≡ kept play.site) }
+        ensures counts { self.new.counts ≡ self.old.counts }
+    {
+        let mut reply = Reply::NoMemory;
+        self.site.step(0, &Request::Stat, &mut reply)?;
+        match reply {
+            Reply::Stat { known, kept, .. } => Ok((known, kept)),
+            _ => Err(NoMemory),
+        }
+    }
+}
