@@ -1,5 +1,9 @@
 -- What each command of the program does, by its words.
 use Rattle.std.specs.Prelude.{◌≡◌, ℕ, List, Option}
+use Rattle.tardis_io.specs.declared.statuses.Status.TheVariants.{NoMemory}
+use Rattle.tardis_io.specs.Told.{WhileTold}
+use Rattle.load_run.specs.Ends.{WritesLine, IsLoadEnd}
+use Rattle.load_run.specs.Lines.{load_line}
 use Rattle.tardis_io.specs.declared.statuses.Status.{Status}
 use Rattle.tardis_io.specs.Links.{ToldGate}
 use Rattle.plain_site.specs.Site.{Site, opening}
@@ -10,7 +14,7 @@ use Rattle.command_words.specs.Forms.{Serving}
 use Rattle.command_words.specs.Places.{program_limits}
 use Rattle.site_commands.specs.Runs.{RunFrom, ShellFrom, AuditFrom}
 use Rattle.site_commands.specs.Ends.{FramesEnd, LinesEnd, ServerEnds}
-use Rattle.tardis_main.specs.Words.{AreRun, AreShell, AreAudit, AreWorld, AreServe}
+use Rattle.tardis_main.specs.Words.{AreRun, AreShell, AreAudit, AreWorld, AreLoad, AreServe}
 
 -- the plain site that opens at this place, with the program's limits
 abbrev pub site_at : Place → Site
@@ -37,6 +41,11 @@ module _ {I O : Type 0} (left : I → Option (List ℕ)) (reads : I → ℕ) (gi
   abbrev pub Worlds : Type 0
   Worlds = (sites : ℕ) → AreWorld words sites
       → FramesEnd left reads writes old new before after (WorldFrom (opening_world (world_limits sites)) status (given before) (given after)) status
+
+  -- words of `load`: the line of the script is written, or a front of it, or nothing where memory was wanting; nothing is read
+  abbrev pub Loads : Type 0
+  Loads = (start steps : ℕ) → AreLoad words start steps
+      → WhileTold (given before) (given after) (WritesLine status (load_line start steps)) × IsLoadEnd status × (status ≡ NoMemory → after ≡ before) × (new ≡ old)
 
 module _ {L G O : Type 0} (link_left link_given : L → Option (List ℕ)) (link_takes link_gives : L → ℕ) (told : G → Option (ToldGate L)) (gates : G → ℕ)
     (given : O → Option (List ℕ)) (writes : O → ℕ) (old new : G) (before after : O) (words : List (List ℕ)) (status : Status) where

@@ -20,6 +20,10 @@ AreAudit words place = form words ≡ Some (AsAudit place)
 abbrev pub AreWorld : List (List ℕ) → ℕ → Type 0
 AreWorld words sites = form words ≡ Some (AsWorld sites)
 
+-- the words are a form of `load` with this start and so many steps
+abbrev pub AreLoad : List (List ℕ) → ℕ → ℕ → Type 0
+AreLoad words start steps = form words ≡ Some (AsLoad start steps)
+
 -- a server without peers, without rounds and without `--tidy`; one with any of these isn't built yet
 abbrev pub HasNoPeers : Serving → Type 0
 HasNoPeers plan = (plan.peers ≡ []) × (plan.rounds ≡ 0) × (plan.tidy ≡ false)
@@ -39,7 +43,7 @@ IsBuilt (AsShell place) = Unit {0}
 IsBuilt (AsAudit place) = Unit {0}
 IsBuilt (AsWorld sites) = Unit {0}
 IsBuilt (AsServe plan) = HasNoPeers plan
-IsBuilt (AsLoad start steps) = ⊥
+IsBuilt (AsLoad start steps) = Unit {0}
 IsBuilt (AsAuto place rules) = ⊥
 IsBuilt (AsDurable place path) = ⊥
 IsBuilt (AsExport place state) = ⊥

@@ -35,6 +35,9 @@ usage: tardis shell [--sites M] [--site N]
        tardis world --sites M
                           read frames of requests at M sites and of items that are
                           carried between them, and write a frame with each reply
+       tardis load --start S --steps N
+                          play a script of N steps, up to 10000, that S determines,
+                          and write a line that tells how it went
        tardis serve --listen ADDR --links L [--sites M] [--site N]
                           serve L clients, from 1 to 64, at once, each over a link to
                           ADDR (unix:PATH or HOST:PORT), and then write what they

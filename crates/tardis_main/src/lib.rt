@@ -8,7 +8,7 @@ ghost use Rattle.std.specs.String.{string_bytes};
 ghost use Rattle.command_words.specs.Forms.{Serving};
 ghost use Rattle.site_commands.specs.Ends.{CausedBy};
 ghost use Rattle.tardis_main.specs.Words.{AreServe, AreUnknown, MayLackMemory};
-ghost use Rattle.tardis_main.specs.Program.{Audits, Runs, Serves, Shells, Worlds};
+ghost use Rattle.tardis_main.specs.Program.{Audits, Loads, Runs, Serves, Shells, Worlds};
 
 mod helps;
 mod laws;
@@ -18,6 +18,7 @@ mod programs;
 use command_words::{Command, WordsFault, read_words};
 pub use helps::{Help, help_of};
 pub use laws::replies_have_lines;
+use load_run::run_load;
 use plans::{has_no_peers, serve_plan};
 pub use programs::carry_out;
 use site_commands::{audit_frames, run, shell};
@@ -50,6 +51,7 @@ pub fn tardis<I: Source, O: Sink, G: Gate, R: Threads + Wait + Sync>(
     ensures shell { Shells I.left I.faults O.given O.faults input.old input.new output.old output.new (map (λ w. string_bytes w) words.now) result }
     ensures audit { Audits I.left I.faults O.given O.faults input.old input.new output.old output.new (map (λ w. string_bytes w) words.now) result }
     ensures world { Worlds I.left I.faults O.given O.faults input.old input.new output.old output.new (map (λ w. string_bytes w) words.now) result }
+    ensures load { Loads I.left I.faults O.given O.faults input.old input.new output.old output.new (map (λ w. string_bytes w) words.now) result }
     ensures serve { Serves G.Link.left G.Link.given G.Link.take_faults G.Link.faults G.told G.faults O.given O.faults gate.old gate.new output.old output.new
         (map (λ w. string_bytes w) words.now) result }
     ensures unread { (plan : Serving) → AreServe (map (λ w. string_bytes w) words.now) plan → input.new ≡ input.old }
@@ -74,10 +76,10 @@ pub fn tardis<I: Source, O: Sink, G: Gate, R: Threads + Wait + Sync>(
                 Status::Usage
             }
         }
+        Ok(Command::Load { start, steps }) => run_load(alloc, keys, start, steps, output),
         // the other commands aren't built yet
         Ok(
-            Command::Load { .. }
-            | Command::Auto { .. }
+            Command::Auto { .. }
             | Command::Durable { .. }
             | Command::Export { .. }
             | Command::Import,

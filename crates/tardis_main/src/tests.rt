@@ -200,7 +200,8 @@ fn other_words_are_no_command(rt: HostRuntime) -> Result<(), Fail> {
         "serve --listen a --links 2 --tidy",
         "world",
         "world --sites 17",
-        "load --start 1 --steps 2",
+        "load --start 1 --steps 10001",
+        "import",
         "Run",
         "runs",
     ] {

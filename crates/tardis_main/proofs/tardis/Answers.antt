@@ -1,8 +1,9 @@
 use Rattle.std.proofs.Common.{◌≡◌, ◌∙◌, Some, ap, subst}
 use Rattle.site_run.specs.Endings.{IsRunEnd}
 use Rattle.site_run.specs.LineEndings.{IsLineEnd}
+use Rattle.load_run.specs.Ends.{IsLoadEnd}
 use Rattle.command_words.specs.Commands.{form_of, serving_of}
-use Rattle.command_words.specs.Forms.{AsRun, AsShell, AsAudit, AsWorld, AsServe}
+use Rattle.command_words.specs.Forms.{AsRun, AsShell, AsAudit, AsWorld, AsServe, AsLoad}
 use Rattle.command_words.specs.Places.{program_limits}
 use Rattle.tardis_main.specs.Program.{site_at}
 use Rattle.tardis_main.proofs.Unserved.{no_server}
@@ -31,6 +32,13 @@ returns-in-Ok-World-clause-usage g c = λ is. absurd (subst IsRunEnd is c.run_wo
 
 pub returns-in-Ok-World-clause-unknown : goal.returns-in-Ok-World-clause-unknown
 returns-in-Ok-World-clause-unknown g c = λ unknown. absurd (unknown (AsWorld c.in-Ok-World.sites) (c.in-Ok-World.ensures.form ∙ ap (λ command. Some (form_of command)) c.in-Ok-World.field-0-is) tt)
+
+pub returns-in-Ok-Load-clause-usage : goal.returns-in-Ok-Load-clause-usage
+returns-in-Ok-Load-clause-usage g c = λ is. absurd (subst IsLoadEnd is c.run_load.ensures.status)
+
+pub returns-in-Ok-Load-clause-unknown : goal.returns-in-Ok-Load-clause-unknown
+returns-in-Ok-Load-clause-unknown g c = λ unknown. absurd (unknown (AsLoad c.in-Ok-Load.start c.in-Ok-Load.steps)
+    (c.in-Ok-Load.ensures.form ∙ ap (λ command. Some (form_of command)) c.in-Ok-Load.field-0-is) tt)
 
 pub returns-then-has_no_peers-clause-unknown : goal.returns-then-has_no_peers-clause-unknown
 returns-then-has_no_peers-clause-unknown g c = λ unknown. absurd (unknown (AsServe (serving_of c.in-Ok-Serve.plan))

@@ -1,7 +1,10 @@
-use Rattle.std.proofs.Common.{◌≡◌, ◌∙◌, map, drop, sym, subst}
+use Rattle.std.proofs.Common.{◌≡◌, ◌∙◌, map, drop, refl, sym, subst}
 use Rattle.std.specs.String.{string_bytes}
 use Rattle.std.specs.Vec.Iter.{into_iter_items}
 use Rattle.tardis_io.specs.declared.statuses.Status.TheVariants.{NoMemory}
+use Rattle.tardis_io.proofs.Told.{same}
+use Rattle.load_run.specs.Ends.{WritesLine}
+use Rattle.load_run.specs.Lines.{load_line}
 use Rattle.plain_world.specs.Worlds.{opening_world, world_limits}
 use Rattle.world_core.specs.Runs.{WorldFrom}
 use Rattle.command_words.specs.Places.{IsPlace, program_limits}
@@ -11,7 +14,7 @@ use Rattle.site_commands.proofs.LineRuns.{no_shell, no_audit}
 use Rattle.site_commands.proofs.NoMemory.{no_frames, no_lines}
 use Rattle.tardis_main.specs.Helps.{AreNone}
 use Rattle.tardis_main.specs.Words.{AreServe}
-use Rattle.tardis_main.specs.Program.{site_at, Runs, Shells, Audits, Worlds}
+use Rattle.tardis_main.specs.Program.{site_at, Runs, Shells, Audits, Worlds, Loads}
 use Rattle.tardis_main.proofs.WorldRuns.{no_world}
 use Rattle.tardis_main.proofs.Words.{limits_hold}
 use Rattle.tardis_main.proofs.Unserved.{no_server}
@@ -45,6 +48,10 @@ returns-in-Err-clause-world g c = λ sites are.
     no_frames g.I.Source.left g.I.Source.faults g.O.Sink.faults c.args.input.now c.args.output.now (WorldFrom world NoMemory old old)
     (λ x. no_world world old x)
 
+pub returns-in-Err-clause-load : goal.returns-in-Err-clause-load
+returns-in-Err-clause-load g c = λ start steps are.
+    (same (g.O.Sink.given c.args.output.now) (WritesLine NoMemory (load_line start steps)) (λ x. refl), tt, (λ e. refl), refl)
+
 pub returns-in-Err-clause-serve : goal.returns-in-Err-clause-serve
 returns-in-Err-clause-serve g c = λ plan are.
     no_server g.G.Link.Duplex.left g.G.Link.Sink.given g.G.Link.Duplex.take_faults g.G.Link.Sink.faults g.G.Gate.told g.G.Gate.faults g.O.Sink.given g.O.Sink.faults c.args.gate.now c.args.output.now
@@ -73,6 +80,12 @@ returns-in-Ok-clause-world g c =
     let words : c.as_slice.result.now ≡ drop 1 (into_iter_items c.args.args) = c.as_slice.ensures.value ∙ c.in-Ok.ensures in
     subst (λ ws. Worlds g.I.Source.left g.I.Source.faults g.O.Sink.given g.O.Sink.faults c.args.input.now c.command.new.input c.args.output.now c.command.new.output (map (λ w. string_bytes w) ws) c.command.result)
     words c.command.ensures.world
+
+pub returns-in-Ok-clause-load : goal.returns-in-Ok-clause-load
+returns-in-Ok-clause-load g c =
+    let words : c.as_slice.result.now ≡ drop 1 (into_iter_items c.args.args) = c.as_slice.ensures.value ∙ c.in-Ok.ensures in
+    subst (λ ws. Loads g.I.Source.left g.I.Source.faults g.O.Sink.given g.O.Sink.faults c.args.input.now c.command.new.input c.args.output.now c.command.new.output (map (λ w. string_bytes w) ws) c.command.result)
+    words c.command.ensures.load
 
 pub returns-in-Ok-clause-none : goal.returns-in-Ok-clause-none
 returns-in-Ok-clause-none g c = λ none.
