@@ -13,8 +13,8 @@ module _ {I O : Type 0} (left : I → Option (List ℕ)) (reads : I → ℕ) (wr
   no_frames = record {
     outcome = same (left input) From from;
     exact = same (left input)
-    (λ first now. (all : List (List ℕ)) (rest : List ℕ) → IsCut first all rest → length first < most_taken → UnlessFaulty left reads writes input input output output (EndsAs rest NoMemory))
-    (λ x all rest cut short r w. tt);
+        (λ first now. (all : List (List ℕ)) (rest : List ℕ) → IsCut first all rest → length first < most_taken → UnlessFaulty left reads writes input input output output (EndsAs rest NoMemory))
+        (λ x all rest cut short r w. tt);
     end = tt;
     nothing = λ e. (refl, refl);
   }
@@ -23,8 +23,8 @@ module _ {I O : Type 0} (left : I → Option (List ℕ)) (reads : I → ℕ) (wr
   no_lines = record {
     outcome = same (left input) From from;
     exact = same (left input)
-    (λ first now. (all : List (List ℕ)) (rest : List ℕ) → AreLines first all rest → length first < most_taken → UnlessFaulty left reads writes input input output output (LinesEndAs rest NoMemory))
-    (λ x all rest cut short r w. tt);
+        (λ first now. (all : List (List ℕ)) (rest : List ℕ) → AreLines first all rest → length first < most_taken → UnlessFaulty left reads writes input input output output (LinesEndAs rest NoMemory))
+        (λ x all rest cut short r w. tt);
     end = tt;
     nothing = λ e. (refl, refl);
   }

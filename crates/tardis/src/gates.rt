@@ -31,7 +31,9 @@ impl<R: Eprint, G: Gate> Gate for TellingGate<'_, R, G> {
     fn bind(&mut self, address: &str) -> Result<(), Failed> {
         self.gate.bind(address)?;
         // where standard error is closed, nobody waits for the line
-        let _ = self.rt.eprintln(format_args!("tardis: listens at {address}"));
+        let _ = self
+            .rt
+            .eprintln(format_args!("tardis: listens at {address}"));
         Ok(())
     }
 

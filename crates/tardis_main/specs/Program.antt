@@ -1,5 +1,5 @@
 -- What each command of the program does, by its words.
-use Rattle.std.specs.Prelude.{◌≡◌, ℕ, List, Option}
+use Rattle.std.specs.Prelude.{ℕ, List, Option}
 use Rattle.tardis_io.specs.declared.statuses.Status.{Status}
 use Rattle.tardis_io.specs.Links.{ToldGate}
 use Rattle.plain_site.specs.Site.{Site, opening}
@@ -44,4 +44,4 @@ module _ {L G O : Type 0} (link_left link_given : L → Option (List ℕ)) (link
   abbrev pub Serves : Type 0
   Serves = (plan : Serving) → AreServe words plan
       → ServerEnds link_left link_given link_takes link_gives told gates given writes old new before after
-          (site_at plan.place) (program_limits plan.place.sites).max_trail plan.links status
+      (site_at plan.place) (program_limits plan.place.sites).max_trail plan.links status

@@ -62,12 +62,30 @@ const TOLD: &[u8] =
 fn lines_and_frames_are_told_in_lines(rt: HostRuntime) -> Result<(), Fail> {
     let alloc = rt.alloc();
     assert!(rt; answers(alloc, &rt, RandomState::new(&rt)?, &["shell"], CART)?);
-    assert!(rt; answers(alloc, &rt, RandomState::new(&rt)?, &["shell", "--sites", "2"], NO_REQUESTS)?);
-    assert_eq!(rt; ends_as(alloc, &rt, RandomState::new(&rt)?, &["audit"], FRAMES, TOLD)?, Some(Status::Ok));
+    assert!(rt;
+        answers(
+            alloc,
+            &rt,
+            RandomState::new(&rt)?,
+            &["shell", "--sites", "2"],
+            NO_REQUESTS
+        )?
+    );
+    assert_eq!(rt;
+        ends_as(alloc, &rt, RandomState::new(&rt)?, &["audit"], FRAMES, TOLD)?,
+        Some(Status::Ok)
+    );
     let letters = vec![in alloc; 0x61; 1_048_577]?;
     let long = Status::LongFrame { len: 1_048_577 };
     assert_eq!(rt;
-        ends_as(alloc, &rt, RandomState::new(&rt)?, &["shell"], letters.as_slice(), b"")?,
+        ends_as(
+            alloc,
+            &rt,
+            RandomState::new(&rt)?,
+            &["shell"],
+            letters.as_slice(),
+            b""
+        )?,
         Some(long)
     );
     Ok(())

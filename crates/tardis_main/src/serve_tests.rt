@@ -49,6 +49,7 @@ const READS: &[u8] = b"\0\0\0\x02\x01\0\0\0\0\x02\x02\0\0\0\0\x03\x03\x01x";
 
 /// It is told so before the other session commits, or so behind that.
 const ABSENT: &[u8] = b"\0\0\0\x07\x01\0\0\0\0\0\0\0\0\0\x07\x02\0\0\0\0\0\0\0\0\0\x01\x06";
+
 const FOUND: &[u8] =
     b"\0\0\0\x07\x01\0\0\0\0\0\0\0\0\0\x07\x02\0\x01\0\0\0\x01\0\0\0\x0a\x04\0\x01\0\0\0\x01\0\x011";
 
@@ -112,7 +113,17 @@ fn a_run_over_the_trail_gives_each_link_its_replies(rt: HostRuntime) -> Result<(
     let words = words_of(alloc, "run")?;
     let mut source = MemorySource::new(alloc, trail.as_slice(), 100, &[])?;
     let mut sink = MemorySink::new(alloc, 1_000, 100, &[])?;
-    assert_eq!(rt; ends(alloc, &rt, RandomState::new(&rt)?, words.as_slice(), &mut source, &mut sink)?, Status::Ok);
+    assert_eq!(rt;
+        ends(
+            alloc,
+            &rt,
+            RandomState::new(&rt)?,
+            words.as_slice(),
+            &mut source,
+            &mut sink
+        )?,
+        Status::Ok
+    );
     let trail = bodies(alloc, trail.as_slice())?;
     let replies = bodies(alloc, sink.bytes())?;
     assert!(rt; trail.len() == 11 && replies.len() == 11);

@@ -85,8 +85,28 @@ fn a_session_is_answered_whatever_the_pieces(rt: HostRuntime) -> Result<(), Fail
             failing_takes: &WELL,
             failing_gives: &WELL,
         };
-        assert!(rt; runs_to(alloc, &rt, RandomState::new(&rt)?, SESSION, &devices, Status::Ok, REPLIES)?);
-        assert!(rt; runs_to(alloc, &rt, RandomState::new(&rt)?, b"", &devices, Status::Ok, b"")?);
+        assert!(rt;
+            runs_to(
+                alloc,
+                &rt,
+                RandomState::new(&rt)?,
+                SESSION,
+                &devices,
+                Status::Ok,
+                REPLIES
+            )?
+        );
+        assert!(rt;
+            runs_to(
+                alloc,
+                &rt,
+                RandomState::new(&rt)?,
+                b"",
+                &devices,
+                Status::Ok,
+                b""
+            )?
+        );
     }
     Ok(())
 }
@@ -101,7 +121,10 @@ fn each_end_has_its_status(rt: HostRuntime) -> Result<(), Fail> {
     };
     let opened = &REPLIES[..11];
     assert!(rt;
-        runs_to(alloc, &rt, RandomState::new(&rt)?,
+        runs_to(
+            alloc,
+            &rt,
+            RandomState::new(&rt)?,
             b"\0\0\0\x04\0\x01\x01\0\0\0\0",
             &well,
             Status::Cut,
@@ -110,7 +133,10 @@ fn each_end_has_its_status(rt: HostRuntime) -> Result<(), Fail> {
     );
     let long = Status::LongFrame { len: 1_048_577 };
     assert!(rt;
-        runs_to(alloc, &rt, RandomState::new(&rt)?,
+        runs_to(
+            alloc,
+            &rt,
+            RandomState::new(&rt)?,
             b"\0\0\0\x04\0\x01\x01\0\0\x10\0\x01",
             &well,
             long,
@@ -122,13 +148,33 @@ fn each_end_has_its_status(rt: HostRuntime) -> Result<(), Fail> {
         failing_takes: &[3],
         failing_gives: &WELL,
     };
-    assert!(rt; runs_to(alloc, &rt, RandomState::new(&rt)?, SESSION, &third, Status::ReadFault, b"")?);
+    assert!(rt;
+        runs_to(
+            alloc,
+            &rt,
+            RandomState::new(&rt)?,
+            SESSION,
+            &third,
+            Status::ReadFault,
+            b""
+        )?
+    );
     let second = Devices {
         piece: 1,
         failing_takes: &WELL,
         failing_gives: &[2],
     };
-    assert!(rt; runs_to(alloc, &rt, RandomState::new(&rt)?, SESSION, &second, Status::WriteFault, b"\0")?);
+    assert!(rt;
+        runs_to(
+            alloc,
+            &rt,
+            RandomState::new(&rt)?,
+            SESSION,
+            &second,
+            Status::WriteFault,
+            b"\0"
+        )?
+    );
     Ok(())
 }
 
@@ -162,7 +208,14 @@ fn other_words_are_no_command(rt: HostRuntime) -> Result<(), Fail> {
         let mut source = MemorySource::new(alloc, SESSION, 9, &WELL)?;
         let mut sink = MemorySink::new(alloc, 100, 9, &WELL)?;
         assert_eq!(rt;
-            ends(alloc, &rt, RandomState::new(&rt)?, words.as_slice(), &mut source, &mut sink)?,
+            ends(
+                alloc,
+                &rt,
+                RandomState::new(&rt)?,
+                words.as_slice(),
+                &mut source,
+                &mut sink
+            )?,
             Status::Usage
         );
         assert_eq!(rt; source.left(), SESSION);
@@ -184,7 +237,14 @@ fn a_world_has_several_sites(rt: HostRuntime) -> Result<(), Fail> {
     let asked = hex::decode(alloc, WORLD_ASKED)?;
     let mut source = MemorySource::new(alloc, asked.as_slice(), 100, &WELL)?;
     let mut sink = MemorySink::new(alloc, 100, 100, &WELL)?;
-    let status = ends(alloc, &rt, RandomState::new(&rt)?, words.as_slice(), &mut source, &mut sink)?;
+    let status = ends(
+        alloc,
+        &rt,
+        RandomState::new(&rt)?,
+        words.as_slice(),
+        &mut source,
+        &mut sink,
+    )?;
     assert_eq!(rt; status, Status::Ok);
     let told = hex::decode(alloc, WORLD_TOLD)?;
     assert!(rt; sink.bytes() == told.as_slice());

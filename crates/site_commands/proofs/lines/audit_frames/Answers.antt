@@ -18,11 +18,11 @@ returns-in-Ok-clause-ends g c =
     let new = g.O.Sink.given c.audit.new.output in
     record {
       outcome = weaker (g.I.Source.left c.args.input.now) (g.I.Source.left c.audit.new.input)
-      (AuditOutcome site_machine status (SiteStands c.in-Ok.site) (SiteStands c.audit.new.machine) old new)
-      (AuditFrom site status old new)
-      c.audit.ensures.outcome
-      (λ x y o. audit_from site (SiteStands c.in-Ok.site) (SiteStands c.audit.new.machine) status old new x y
-      (c.in-Ok.ensures.stands, opens c.args.limits c.args.own c.requires.limits c.requires.first c.requires.last) (λ t both. both.1) o);
+          (AuditOutcome site_machine status (SiteStands c.in-Ok.site) (SiteStands c.audit.new.machine) old new)
+          (AuditFrom site status old new)
+          c.audit.ensures.outcome
+          (λ x y o. audit_from site (SiteStands c.in-Ok.site) (SiteStands c.audit.new.machine) status old new x y
+          (c.in-Ok.ensures.stands, opens c.args.limits c.args.own c.requires.limits c.requires.first c.requires.last) (λ t both. both.1) o);
       exact = c.audit.ensures.exact;
       end = c.audit.ensures.status;
       nothing = λ none. let all = c.audit.ensures.nothing none in (all.0, all.1);

@@ -20,11 +20,11 @@ returns-in-Ok-clause-ends g c =
     let new = g.O.Sink.given c.run_site.new.output in
     record {
       outcome = weaker (g.I.Source.left c.args.input.now) (g.I.Source.left c.run_site.new.input)
-      (λ first left. Outcome status (SiteStands c.in-Ok.site) (λ s bodies. Answered site_machine (shape_of status) (SiteStands c.run_site.new.machine) old new s (map event_of bodies)) first left)
-      (RunFrom site status old new)
-      c.run_site.ensures.outcome
-      (λ x y o. run_from site (SiteStands c.in-Ok.site) (SiteStands c.run_site.new.machine) status old new x y
-      (c.in-Ok.ensures.stands, opens c.args.limits c.args.own c.requires.limits c.requires.first c.requires.last) (λ t both. both.1) o);
+          (λ first left. Outcome status (SiteStands c.in-Ok.site) (λ s bodies. Answered site_machine (shape_of status) (SiteStands c.run_site.new.machine) old new s (map event_of bodies)) first left)
+          (RunFrom site status old new)
+          c.run_site.ensures.outcome
+          (λ x y o. run_from site (SiteStands c.in-Ok.site) (SiteStands c.run_site.new.machine) status old new x y
+          (c.in-Ok.ensures.stands, opens c.args.limits c.args.own c.requires.limits c.requires.first c.requires.last) (λ t both. both.1) o);
       exact = c.run_site.ensures.exact;
       end = c.run_site.ensures.status;
       nothing = λ none. let all = c.run_site.ensures.nothing none in (all.0, all.1);

@@ -3,7 +3,7 @@ use Rattle.tardis_io.specs.Faults.{Rose}
 use Rattle.tardis_io.specs.declared.statuses.Status.TheVariants.{Ok as Well, NoMemory}
 use Rattle.plain_site.specs.Site.{opening}
 use Rattle.plain_site.specs.Step.{site_machine}
-use Rattle.site_commands.proofs.Servers.{Fails, fails_of, gate_failed, output_failed, well_without_faults}
+use Rattle.site_commands.proofs.Servers.{fails_of, gate_failed, output_failed, well_without_faults}
 use Rattle.site_commands.proofs.serves.serve.Goals as goal
 
 pub returns-clause-ends : goal.returns-clause-ends
@@ -15,7 +15,7 @@ returns-clause-ends g c =
       outcome = c.serve_site.ensures;
       judged = c.status_of.ensures;
       complete = λ r s. subst (λ t. (t ≡ Well) ⊎ (t ≡ NoMemory)) (sym c.status_of.ensures)
-      (well_without_faults (Rose (g.G.Gate.faults c.args.gate.now) (g.G.Gate.faults c.serve_site.new.gate)) (Rose (g.O.Sink.faults c.args.output.now) (g.O.Sink.faults c.serve_site.new.output)) c.serve_site.result fails r s);
+          (well_without_faults (Rose (g.G.Gate.faults c.args.gate.now) (g.G.Gate.faults c.serve_site.new.gate)) (Rose (g.O.Sink.faults c.args.output.now) (g.O.Sink.faults c.serve_site.new.output)) c.serve_site.result fails r s);
     }
 
 pub returns-clause-write : goal.returns-clause-write
