@@ -11,46 +11,66 @@ mod gates;
 
 use gates::TellingGate;
 use socket_links::SocketGate;
-use std::env::Args;
+use std::alloc::Global;
+use std::env::{self, Args};
+use std::fs::Files;
 use std::hash::RandomState;
+use std::io::{self, Eprint};
+use std::net::{Net, TcpListener, TcpStream};
 use std::process::ExitCode;
-use std::{env, io};
+use std::sync::Wait;
+use std::thread::Threads;
 use tardis_io::{Status, StdIn, StdOut};
 use tardis_main::carry_out;
 
 fn main(rt: HostRuntime) -> ExitCode {
-    run(&rt)
+    let input = StdIn::new(rt.stdin());
+    let output = StdOut::new(rt.stdout());
+    let status = run(&rt, rt.alloc(), asked(&rt), input, output);
+    end(&rt, status)
 }
 
-/// Carries out the command of the program's arguments over its standard input and output.
-fn run(rt: &HostRuntime) -> ExitCode {
-    let status = match env::args(rt) {
-        Ok(args) => command(rt, args),
-        Err(error) if error.kind() == io::ErrorKind::OutOfMemory => Status::NoMemory,
+/// What the system gives a program when it starts.
+#[derive(Drop)]
+struct Given {
+    args: Args,
+    keys: RandomState,
+}
+
+/// The arguments of the program, and a seed for its hashing.
+fn asked(rt: &HostRuntime) -> Result<Given, Status> {
+    let args = match env::args(rt) {
+        Ok(args) => args,
+        Err(error) if error.kind() == io::ErrorKind::OutOfMemory => return Err(Status::NoMemory),
         // words that are no text have no form of a command
-        Err(_) => Status::Usage,
+        Err(_) => return Err(Status::Usage),
     };
-    end(rt, status)
+    match RandomState::new(rt) {
+        Ok(keys) => Ok(Given { args, keys }),
+        // a system without random bytes to give is told as one without memory
+        Err(_) => Err(Status::NoMemory),
+    }
 }
 
-/// Carries out the command of these arguments.
-fn command(rt: &HostRuntime, args: Args) -> Status {
-    // a system without random bytes to give is told as one without memory
-    let Ok(keys) = RandomState::new(rt) else {
-        return Status::NoMemory;
-    };
-    let mut input = StdIn::new(rt.stdin());
-    let mut output = StdOut::new(rt.stdout());
-    let mut gate = TellingGate::new(rt, SocketGate::new(rt));
-    carry_out(
-        rt.alloc(),
-        rt,
-        keys,
-        args,
-        &mut input,
-        &mut output,
-        &mut gate,
-    )
+/// Carries out the command of the arguments over these devices, and sockets.
+fn run<R>(
+    rt: &R,
+    alloc: Global,
+    given: Result<Given, Status>,
+    input: StdIn,
+    output: StdOut,
+) -> Status
+where
+    R: Threads + Wait + Sync + Files + Net<Listener = TcpListener, Stream = TcpStream> + Eprint,
+{
+    let (mut input, mut output) = (input, output);
+    match given {
+        Ok(Given { args, keys }) => {
+            let mut gate = TellingGate::new(rt, SocketGate::new(rt));
+            carry_out(alloc, rt, keys, args, &mut input, &mut output, &mut gate)
+        }
+        Err(status) => status,
+    }
 }
 
 /// Writes the line of the status, if it has one, on standard error, and gives its number.

@@ -2,7 +2,6 @@
 use Rattle.std.proofs.Common.{◌≡◌, ℕ, List, Option, refl, ap, inr, arith}
 use Rattle.tardis_io.specs.Links.{ToldGate}
 use Rattle.tardis_io.specs.declared.statuses.Status.TheVariants.{NoMemory}
-use Rattle.serve_run.specs.declared.endings.Serving.{Serving}
 use Rattle.serve_run.specs.declared.endings.ServeEnd.{ServeEnd}
 use Rattle.serve_run.specs.declared.endings.ServeEnd.TheVariants.{NotBound, NotMade, Served}
 use Rattle.plain_site.specs.Site.{Site}

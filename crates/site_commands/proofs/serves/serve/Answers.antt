@@ -3,7 +3,7 @@ use Rattle.tardis_io.specs.Faults.{Rose}
 use Rattle.tardis_io.specs.declared.statuses.Status.TheVariants.{Ok as Well, NoMemory}
 use Rattle.plain_site.specs.Site.{opening}
 use Rattle.plain_site.specs.Step.{site_machine}
-use Rattle.site_commands.proofs.Servers.{Fails, fails_of, gate_failed, output_failed, well_without_faults}
+use Rattle.site_commands.proofs.Servers.{fails_of, gate_failed, output_failed, well_without_faults}
 use Rattle.site_commands.proofs.serves.serve.Goals as goal
 
 pub returns-clause-ends : goal.returns-clause-ends
