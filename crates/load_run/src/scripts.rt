@@ -247,11 +247,7 @@ impl Player {
         ensures room { self.new.counts.events ≤ self.old.counts.events + 265 }
     {
         self.turn(i)?;
-        if i % 7 == 0 {
-            self.upkeep(i)
-        } else {
-            Ok(())
-        }
+        if i % 7 == 0 { self.upkeep(i) } else { Ok(()) }
     }
 
     /// The sessions 1 to 9 open.

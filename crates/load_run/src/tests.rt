@@ -39,7 +39,10 @@ fn two_numbers_determine_the_line(rt: HostRuntime) -> Result<(), Fail> {
         let keys = RandomState::new(&rt)?;
         let mut sink = MemorySink::new(rt.alloc(), 1_000, 4_096, &[])?;
         let status = run_load(rt.alloc(), keys, start, steps, &mut sink);
-        assert!(rt; status == Status::Ok && sink.bytes() == line.as_bytes(), "{steps} steps");
+        assert!(rt;
+            status == Status::Ok && sink.bytes() == line.as_bytes(),
+            "{steps} steps"
+        );
     }
     Ok(())
 }

@@ -8,8 +8,7 @@ pub returns-clause-asked : goal.returns-clause-asked
 unfolding asks reply_to
 returns-clause-asked c = λ play h.
     let here = subst (λ v. Plays v play) (sym c.self.view_is) h in
-    let given = c.in_ok-step.ensures.done play.site here.site in
-    (
+    let given = c.in_ok-step.ensures.done play.site here.site in (
       record {
         site = given.0;
         words = here.words;
