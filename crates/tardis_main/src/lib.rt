@@ -94,6 +94,4 @@ mod line_rows;
 #[cfg(test)]
 mod line_tests;
 #[cfg(test)]
-mod serve_tests;
-#[cfg(test)]
 mod tests;
