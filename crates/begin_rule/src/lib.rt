@@ -132,6 +132,3 @@ fn is_same(a: StateId, b: StateId) -> bool
 {
     a == b
 }
-
-#[cfg(test)]
-mod tests;

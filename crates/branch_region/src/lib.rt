@@ -13,8 +13,6 @@ ghost use Rattle.branch_region.specs.Regions.{is_above_part, apart_states, share
 mod asked;
 mod older;
 mod parts;
-#[cfg(test)]
-mod tests;
 mod walks;
 
 use older::older;

@@ -14,8 +14,6 @@ mod peers;
 mod placed;
 mod reading;
 mod settings;
-#[cfg(test)]
-mod tests;
 
 pub use commands::{Command, Place, ServePlan, WordsFault};
 pub use daemons::{DaemonPlan, read_daemon};

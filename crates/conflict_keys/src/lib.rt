@@ -10,6 +10,3 @@ mod values;
 pub use opens::{first_open, open_conflict};
 pub use pages::{KeyPage, conflicts};
 pub use values::{is_conflict, value_over};
-
-#[cfg(test)]
-mod tests;

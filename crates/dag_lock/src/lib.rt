@@ -9,6 +9,3 @@ mod views;
 
 pub use locks::DagLock;
 pub use passes::Pass;
-
-#[cfg(test)]
-mod tests;

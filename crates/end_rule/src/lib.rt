@@ -85,6 +85,3 @@ fn counted(number: usize) -> u32
 {
     number.min(u32::MAX as usize) as u32
 }
-
-#[cfg(test)]
-mod tests;

@@ -110,6 +110,3 @@ fn is_one_above_all(dag: &StateDag, slots: &[Slot], states: &[Slot]) -> bool
     }
     false
 }
-
-#[cfg(test)]
-mod tests;

@@ -7,8 +7,6 @@ mod lines;
 mod memory;
 mod ports;
 mod serves;
-#[cfg(test)]
-mod tests;
 mod turns;
 mod upkeeps;
 mod waitings;

@@ -10,6 +10,3 @@ mod runs;
 mod scripts;
 
 pub use runs::run_load;
-
-#[cfg(test)]
-mod tests;

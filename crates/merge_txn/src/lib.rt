@@ -218,6 +218,3 @@ impl From<NoMemory> for TxnFault {
         TxnFault::NoMemory
     }
 }
-
-#[cfg(test)]
-mod tests;

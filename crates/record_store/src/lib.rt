@@ -389,6 +389,3 @@ fn written(read: Found<'_>) -> Result<Option<Write>, NoMemory>
         Found::Absent => Ok(None),
     }
 }
-
-#[cfg(test)]
-mod tests;

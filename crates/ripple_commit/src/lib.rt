@@ -120,6 +120,3 @@ fn is_written_news(store: &RecordStore, from: Slot, child: Slot, writes: &[(Key,
     }
     false
 }
-
-#[cfg(test)]
-mod tests;

@@ -7,8 +7,6 @@ mod choosing;
 mod parts;
 mod reading;
 mod rules;
-#[cfg(test)]
-mod tests;
 
 pub use choosing::rule_for;
 pub use reading::read_rules;

@@ -3,8 +3,6 @@
 
 mod ends;
 mod pools;
-#[cfg(test)]
-mod tests;
 
 pub use ends::{PoolEnd, Served};
 pub use pools::serve_all;

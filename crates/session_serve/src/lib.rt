@@ -6,8 +6,6 @@ mod ends;
 mod laws;
 mod replies;
 mod sessions;
-#[cfg(test)]
-mod tests;
 
 pub use ends::SessionEnd;
 pub use laws::sessions_last;

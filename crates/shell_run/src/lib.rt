@@ -6,8 +6,6 @@ mod audits;
 mod laws;
 mod runs;
 mod shells;
-#[cfg(test)]
-mod tests;
 
 pub use audits::AuditLines;
 pub use laws::{own_replies_have_lines, requests_fit_a_frame};

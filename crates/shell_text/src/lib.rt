@@ -5,8 +5,6 @@ mod field_words;
 mod line_field_readers;
 mod line_laws;
 mod line_readers;
-#[cfg(test)]
-mod line_tests;
 mod line_word_readers;
 mod list_fields;
 mod list_lines;
@@ -19,8 +17,6 @@ mod reply_list_readers;
 mod reply_word_readers;
 mod request_fields;
 mod request_lines;
-#[cfg(test)]
-mod tests;
 mod texts;
 
 pub use line_laws::{lines_are_read, lines_fit_their_room, lines_have_one_reading};

@@ -5,8 +5,6 @@
 mod batches;
 mod judging;
 mod rooms;
-#[cfg(test)]
-mod tests;
 
 pub use batches::batch_for;
 pub use judging::{Judged, judge_record};

@@ -7,8 +7,6 @@ mod line_answers;
 mod line_runs;
 mod responders;
 mod runs;
-#[cfg(test)]
-mod tests;
 
 pub use gathered::Gathered;
 pub use line_runs::answer_lines;

@@ -33,8 +33,6 @@ mod nodes;
 mod rooms;
 mod slots;
 mod sums;
-#[cfg(test)]
-mod tests;
 
 use changes::{grow, put_node, set_count};
 use collection::{free_slot, hand_over};

@@ -15,8 +15,6 @@ mod sources;
 mod statuses;
 mod steady;
 mod streams;
-#[cfg(test)]
-mod tests;
 mod writes;
 
 pub use adapters::{ReaderSource, StdIn, StdOut, WriterSink};

@@ -2,8 +2,6 @@
 #![tactic(auto)]
 
 mod line_bufs;
-#[cfg(test)]
-mod tests;
 mod unread;
 mod word_bytes;
 mod word_laws;

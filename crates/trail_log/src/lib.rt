@@ -8,6 +8,3 @@ mod trails;
 
 pub use acted::Acted;
 pub use trails::Trailed;
-
-#[cfg(test)]
-mod tests;

@@ -8,6 +8,3 @@ mod version_lists;
 pub use histories::Version;
 pub use notes::KeyChunks;
 pub use version_lists::VersionList;
-
-#[cfg(test)]
-mod tests;

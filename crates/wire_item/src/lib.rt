@@ -4,8 +4,6 @@
 mod batch_readers;
 mod readers;
 mod spelling_laws;
-#[cfg(test)]
-mod tests;
 mod thing_readers;
 mod whole_readers;
 mod writers;

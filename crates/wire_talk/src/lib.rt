@@ -7,15 +7,11 @@ mod refusal_readers;
 mod refusal_writers;
 mod reply_field_readers;
 mod reply_readers;
-#[cfg(test)]
-mod reply_tests;
 mod reply_writers;
 mod request_field_readers;
 mod request_readers;
 mod request_writers;
 mod spelling_laws;
-#[cfg(test)]
-mod tests;
 
 pub use refusal_writers::write_refusal;
 pub use reply_readers::read_reply;

@@ -6,11 +6,7 @@
 mod bags;
 mod bodies;
 mod replies;
-#[cfg(test)]
-mod rows;
 mod runs;
-#[cfg(test)]
-mod tests;
 mod worlds;
 
 pub use replies::WorldReplies;

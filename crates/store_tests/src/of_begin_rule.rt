@@ -1,0 +1,133 @@
+//! What no clause says: that a choice is made, and that memory is had where there is enough.
+
+use begin_rule::{BeginFault, MergeFault, choose, choose_all};
+use state_dag::StateDag;
+use std::alloc::Global;
+use std::test::Fail;
+use tardis_base::{AddFault, Begin, Limits, ListOf, Slot, StateId};
+
+const LIMITS: Limits = Limits {
+    sites: 1,
+    max_kept: 4,
+    max_path: 4,
+    max_sessions: 1,
+    max_trail: 0,
+};
+
+const FIRST: StateId = StateId {
+    site: 1,
+    sequence: 1,
+};
+
+const SECOND: StateId = StateId {
+    site: 1,
+    sequence: 2,
+};
+
+const THIRD: StateId = StateId {
+    site: 1,
+    sequence: 3,
+};
+
+/// Adds the next state of site 1 below the root.
+fn add_below_root(dag: &mut StateDag) -> Result<Slot, AddFault> {
+    if dag.limits().sites == 0 {
+        return Err(AddFault::NoMemory);
+    }
+    let Some(sequence) = dag.count(1).checked_add(1) else {
+        return Err(AddFault::NoMemory);
+    };
+    let Some(root) = dag.slot_of(StateId::ROOT) else {
+        return Err(AddFault::NoMemory);
+    };
+    dag.add(StateId { site: 1, sequence }, &[root])
+}
+
+/// What a merge of these states comes to under the ceiling, if that is kept.
+fn chosen(
+    alloc: Global,
+    dag: &StateDag,
+    states: &[StateId],
+    ceiling: StateId,
+) -> Option<Result<ListOf<Slot>, MergeFault>> {
+    Some(choose_all(alloc, dag, states, dag.slot_of(ceiling)?))
+}
+
+#[test]
+fn a_lone_root_is_chosen(rt: HostRuntime) -> Result<(), Fail> {
+    let dag = StateDag::new(rt.alloc(), &LIMITS)?;
+    let slot = dag.last();
+    let rows = [
+        (Begin::Any, Ok(slot)),
+        (Begin::Ancestor, Ok(slot)),
+        (Begin::Parent, Ok(slot)),
+        (Begin::At(StateId::ROOT), Ok(slot)),
+        (Begin::At(FIRST), Err(BeginFault::Unknown { state: FIRST })),
+    ];
+    for (begin, answer) in rows {
+        assert_eq!(rt; choose(&dag, &begin, StateId::ROOT, slot, slot), answer);
+    }
+    Ok(())
+}
+
+#[test]
+fn a_merge_begins_where_no_state_is_refused(rt: HostRuntime) -> Result<(), Fail> {
+    let mut dag = StateDag::new(rt.alloc(), &LIMITS)?;
+    let one = add_below_root(&mut dag).expect(&rt, "room");
+    let other = add_below_root(&mut dag).expect(&rt, "room");
+    match chosen(rt.alloc(), &dag, &[FIRST, SECOND], StateId::ROOT) {
+        Some(Ok(slots)) => assert_eq!(rt; slots.as_slice(), [one, other].as_slice()),
+        _ => assert!(rt; false, "both are known, admitted and apart"),
+    }
+    let unknown = MergeFault::Unknown { state: THIRD };
+    let below = MergeFault::Below {
+        state: StateId::ROOT,
+        ceiling: FIRST,
+    };
+    let comparable = MergeFault::Comparable {
+        a: StateId::ROOT,
+        b: SECOND,
+    };
+    let rows = [
+        ([SECOND, THIRD], StateId::ROOT, unknown),
+        ([StateId::ROOT, THIRD], FIRST, unknown),
+        ([SECOND, StateId::ROOT], FIRST, below),
+        ([StateId::ROOT, SECOND], StateId::ROOT, comparable),
+    ];
+    for (states, ceiling, fault) in rows {
+        match chosen(rt.alloc(), &dag, &states, ceiling) {
+            Some(Err(told)) => assert_eq!(rt; told, fault),
+            _ => assert!(rt; false, "it is refused"),
+        }
+    }
+    Ok(())
+}
+
+#[test]
+fn faults_say_what_to_do(rt: HostRuntime) -> Result<(), Fail> {
+    let rows = [
+        (
+            MergeFault::Unknown { state: FIRST },
+            "the state 1.1 has not arrived here",
+        ),
+        (
+            MergeFault::Below {
+                state: StateId::ROOT,
+                ceiling: FIRST,
+            },
+            "the state 0.0 is above the session's ceiling 1.1: begin at the ceiling, or at a state that is not above it",
+        ),
+        (
+            MergeFault::Comparable {
+                a: StateId::ROOT,
+                b: SECOND,
+            },
+            "of the states 0.0 and 1.2 one is at or above the other: merge without one of them",
+        ),
+        (MergeFault::NoMemory, "out of memory"),
+    ];
+    for (fault, text) in rows {
+        assert_eq!(rt; format!(in rt.alloc(); "{fault}")?.as_str(), text);
+    }
+    Ok(())
+}

@@ -1,0 +1,203 @@
+//! What no clause says: that each call which takes memory gets it, and rows of reads on two branches and their merge.
+
+ghost use Rattle.std.specs.Prelude.{◌≡◌, ◌+◌, ◌≤◌, slice_get, unwrap_or, IsTrue};
+ghost use Rattle.state_dag.specs.Table.{is_slot};
+ghost use Rattle.state_dag.specs.Table.{is_listed};
+
+use record_store::RecordStore;
+use std::alloc::Global;
+use std::hash::RandomState;
+use std::process::Abort;
+use tardis_base::{
+    AddFault, Found, Key, Limits, Record, Slot, StateId, StateList, Value, Write, WriteSet,
+};
+
+const LIMITS: Limits = Limits {
+    sites: 1,
+    max_kept: 5,
+    max_path: 8,
+    max_sessions: 1,
+    max_trail: 0,
+};
+
+/// The state of this sequence: the root, or one of site 1.
+fn state(sequence: u32) -> StateId
+    ensures { 1 ≤ sequence → result ≡ record { site = 1; sequence = sequence } }
+{
+    let site = if sequence == 0 { 0 } else { 1 };
+    StateId { site, sequence }
+}
+
+/// The slot of this state, which is kept.
+fn at(rt: &impl Abort, store: &RecordStore, sequence: u32) -> Slot
+    ensures { IsTrue (is_slot store.now.table result) }
+{
+    store.dag().slot_of(state(sequence)).expect(rt, "kept")
+}
+
+/// This state, which is kept.
+fn kept(rt: &impl Abort, store: &RecordStore, sequence: u32) -> StateId
+    ensures { IsTrue (is_listed store.now.table result) }
+{
+    let id = state(sequence);
+    store.dag().slot_of(id).expect(rt, "kept");
+    id
+}
+
+/// The next state of site 1, which has this sequence.
+fn next(rt: &impl Abort, store: &RecordStore, sequence: u32) -> StateId
+    requires { 1 ≤ store.now.table.limits.sites }
+    ensures is { result ≡ record { site = 1; sequence = sequence } }
+    ensures next { sequence ≡ unwrap_or (slice_get store.now.table.counts 0) 0 + 1 }
+{
+    assert!(rt; u64::from(store.dag().count(1)) + 1 == u64::from(sequence));
+    StateId { site: 1, sequence }
+}
+
+/// Adds a state with these writes below this one.
+fn added(rt: &impl Abort, store: &mut RecordStore, sequence: u32, parent: u32, writes: &WriteSet)
+    requires { 1 ≤ store.old.table.limits.sites }
+    ensures { 1 ≤ store.new.table.limits.sites }
+{
+    let id = next(rt, store, sequence);
+    let parent = at(rt, store, parent);
+    store.add_state(id, &[parent], writes).expect(rt, "room");
+}
+
+/// This key.
+fn key(rt: &impl Abort, alloc: Global, bytes: &[u8]) -> Key {
+    Key::new(alloc, bytes).expect(rt, "room")
+}
+
+/// This value.
+fn value(rt: &impl Abort, alloc: Global, bytes: &[u8]) -> Value {
+    Value::new(alloc, bytes).expect(rt, "room")
+}
+
+/// Writes this value to the key.
+fn put(rt: &impl Abort, alloc: Global, writes: &mut WriteSet, of: &[u8], bytes: &[u8]) {
+    let write = Write::Put(value(rt, alloc, bytes));
+    writes.insert(key(rt, alloc, of), write).expect(rt, "room");
+}
+
+/// One write of this value to `x`.
+fn writes(rt: &impl Abort, alloc: Global, bytes: &[u8]) -> WriteSet {
+    let mut writes = WriteSet::new(alloc);
+    put(rt, alloc, &mut writes, b"x", bytes);
+    writes
+}
+
+/// 1.1 below the root writes `x`; below it, 1.2 overwrites that, and 1.3 deletes it and writes `y`.
+fn forked(rt: &impl Abort, alloc: Global, keys: RandomState) -> RecordStore
+    ensures { 1 ≤ result.table.limits.sites }
+{
+    let mut store = RecordStore::new(alloc, keys, &LIMITS).expect(rt, "room");
+    added(rt, &mut store, 1, 0, &writes(rt, alloc, b"1"));
+    added(rt, &mut store, 2, 1, &writes(rt, alloc, b"2"));
+    let mut last = WriteSet::new(alloc);
+    put(rt, alloc, &mut last, b"y", b"3");
+    last.insert(key(rt, alloc, b"x"), Write::Delete)
+        .expect(rt, "room");
+    added(rt, &mut store, 3, 1, &last);
+    store
+}
+
+/// Adds a state below 1.2 and 1.3 by its record, and looks at the record of it.
+fn merged(rt: &impl Abort, alloc: Global, store: &mut RecordStore)
+    requires { 1 ≤ store.old.table.limits.sites }
+    ensures { 1 ≤ store.new.table.limits.sites }
+{
+    let parents = [kept(rt, store, 2), kept(rt, store, 3)];
+    let merge = Record {
+        id: next(rt, store, 4),
+        parents: StateList::from_vec(Vec::from_slice(alloc, &parents).expect(rt, "room")),
+        writes: writes(rt, alloc, b"4"),
+    };
+    store.add_record(&merge).expect(rt, "room");
+    let slot = at(rt, store, 4);
+    assert!(rt; store.record_of(slot).expect(rt, "room") == merge);
+}
+
+/// Adds no state below 1.4, since the store is full; what was to be written, a new key too, stays where it was.
+fn full(rt: &impl Abort, alloc: Global, store: &mut RecordStore)
+    requires { 1 ≤ store.old.table.limits.sites }
+{
+    let id = next(rt, store, 5);
+    let parent = at(rt, store, 4);
+    let mut fresh = writes(rt, alloc, b"5");
+    put(rt, alloc, &mut fresh, b"z", b"5");
+    let answer = store.commit(id, &[parent], &mut fresh);
+    assert!(rt; answer == Err(AddFault::Full { kept: 5 }));
+    assert_eq!(rt; fresh.len(), 2);
+}
+
+/// What is read of the key at this state: who wrote it, if anyone, and the value, unless it was deleted.
+fn reads(
+    rt: &impl Abort,
+    alloc: Global,
+    store: &RecordStore,
+    sequence: u32,
+    of: &[u8],
+    writer: Option<u32>,
+    bytes: Option<&[u8]>,
+) {
+    let value = bytes.map(|bytes| value(rt, alloc, bytes));
+    let want = match (writer, &value) {
+        (None, _) => Found::Absent,
+        (Some(writer), None) => Found::Deleted {
+            writer: state(writer),
+        },
+        (Some(writer), Some(value)) => Found::Value {
+            writer: state(writer),
+            value,
+        },
+    };
+    let slot = at(rt, store, sequence);
+    assert_eq!(rt;
+        store.read_at(slot, &key(rt, alloc, of)),
+        want,
+        "at {sequence}"
+    );
+}
+
+/// Whether the key is news of the one state to the other.
+fn news(
+    rt: &impl Abort,
+    alloc: Global,
+    store: &RecordStore,
+    from: u32,
+    child: u32,
+    of: &[u8],
+) -> bool {
+    let (from, child) = (at(rt, store, from), at(rt, store, child));
+    store.is_news(from, child, &key(rt, alloc, of))
+}
+
+#[test]
+fn branches_read_their_own(rt: HostRuntime) {
+    let alloc = rt.alloc();
+    let keys = RandomState::new(&rt).expect(&rt, "random bytes");
+    let store = forked(&rt, alloc, keys);
+    reads(&rt, alloc, &store, 0, b"x", None, None);
+    reads(&rt, alloc, &store, 1, b"x", Some(1), Some(b"1"));
+    reads(&rt, alloc, &store, 2, b"x", Some(2), Some(b"2"));
+    reads(&rt, alloc, &store, 2, b"y", None, None);
+    reads(&rt, alloc, &store, 3, b"x", Some(3), None);
+    reads(&rt, alloc, &store, 3, b"y", Some(3), Some(b"3"));
+    assert!(rt; news(&rt, alloc, &store, 1, 2, b"x"));
+    assert!(rt; !news(&rt, alloc, &store, 1, 2, b"y"));
+    assert!(rt; !news(&rt, alloc, &store, 2, 1, b"x"));
+}
+
+#[test]
+fn a_merge_comes_back_and_a_full_store_keeps_its_reads(rt: HostRuntime) {
+    let alloc = rt.alloc();
+    let keys = RandomState::new(&rt).expect(&rt, "random bytes");
+    let mut store = forked(&rt, alloc, keys);
+    merged(&rt, alloc, &mut store);
+    full(&rt, alloc, &mut store);
+    reads(&rt, alloc, &store, 4, b"x", Some(4), Some(b"4"));
+    reads(&rt, alloc, &store, 4, b"y", Some(3), Some(b"3"));
+    assert!(rt; news(&rt, alloc, &store, 2, 4, b"y"));
+    assert_eq!(rt; store.versions().keys(), 2);
+}

@@ -1,0 +1,252 @@
+ghost use Rattle.std.specs.Prelude.{◌≡◌, ◌+◌, ◌%◌, ◌≤◌, [], ◌∷◌, ℕ, false};
+ghost use Rattle.dag_lock.specs.Named.{lock_id};
+ghost use Rattle.dag_lock.specs.Steps.{Keeps};
+
+use dag_lock::{DagLock, Pass};
+use std::alloc::Global;
+use std::sync::Wait;
+use std::test::Fail;
+use std::thread::{Threads, join};
+use tardis_base::{Machine, NoMemory, ReplyBuf};
+use tardis_io::MemorySink;
+use trail_log::{Acted, Trailed};
+
+/// Replies by how many requests came before, and finds no memory for an empty one.
+#[derive(Drop)]
+struct Counter {
+    acts: u64,
+}
+
+impl Machine for Counter {
+    ghost Plain = { ℕ };
+
+    ghost plain = { record { step = λ s e. s + 1; reply = λ s e. (s % 256) ∷ []; is_sure = λ e. false } };
+
+    ghost stands = { λ m s. m.acts ≡ s };
+
+    ghost opening = { λ m. 0 };
+
+    fn act(&mut self, actor: u16, request: &[u8], out: &mut ReplyBuf) -> Result<(), NoMemory> {
+        out.clear();
+        let _ = actor;
+        if request.is_empty() || self.acts == u64::MAX {
+            return Err(NoMemory);
+        }
+        out.push_byte((self.acts % 256) as u8);
+        self.acts += 1;
+        Ok(())
+    }
+}
+
+/// A request of actor 1, and what it comes to with the bytes of the reply.
+#[derive(Drop)]
+struct Row<'a> {
+    request: &'a [u8],
+    acted: Acted,
+    reply: &'a [u8],
+}
+
+fn answered<'a>(request: &'a [u8], acted: Acted, reply: &'a [u8]) -> Row<'a> {
+    Row {
+        request,
+        acted,
+        reply,
+    }
+}
+
+/// Whether the requests come to what the rows say.
+fn comes_to<R: Wait>(
+    rt: &R,
+    lock: &DagLock<Counter>,
+    pass: Pass,
+    rows: &[Row<'_>],
+    out: &mut ReplyBuf,
+) -> (Pass, bool)
+    requires { pass.lock ≡ lock_id lock.now }
+    ensures { Keeps pass result.0 }
+{
+    let mut mine = pass;
+    let mut right = true;
+    for row in rows {
+        let request = &row.request[..row.request.len().min(100)];
+        let (next, acted) = lock.step(rt, mine, 1, request, out);
+        mine = next;
+        right = right && acted == row.acted && out.bytes() == row.reply;
+    }
+    (mine, right)
+}
+
+#[test]
+fn a_lock_is_closed_with_the_trail_of_what_was_answered(rt: HostRuntime) -> Result<(), Fail> {
+    let rows: [(u64, [Row<'_>; 3], &[u8]); 2] = [
+        (
+            10,
+            [
+                answered(b"", Acted::NoMemory, b""),
+                answered(b"\x01\x01", Acted::Done, b"\x00"),
+                answered(b"\x02\x00", Acted::TrailFull { bytes: 8 }, b""),
+            ],
+            b"\x00\x00\x00\x04\x00\x01\x01\x01",
+        ),
+        (
+            16,
+            [
+                answered(b"abc", Acted::Done, b"\x00"),
+                answered(b"a", Acted::Done, b"\x01"),
+                answered(b"", Acted::TrailFull { bytes: 16 }, b""),
+            ],
+            b"\x00\x00\x00\x05\x00\x01abc\x00\x00\x00\x03\x00\x01a",
+        ),
+    ];
+    let mut out = ReplyBuf::new(rt.alloc())?;
+    for (most, rows, written) in rows {
+        let trail = Trailed::new(rt.alloc(), Counter { acts: 0 }, most);
+        let (lock, pass) = DagLock::new(rt.alloc(), trail, 1)?;
+        let (pass, right) = comes_to(&rt, &lock, pass, &rows, &mut out);
+        assert!(rt; right, "at most {most} bytes");
+        let mut sink = MemorySink::new(rt.alloc(), 100, 100, &[])?;
+        assert!(rt; lock.close(pass).write_trail(&mut sink).is_ok() && sink.bytes() == written);
+    }
+    Ok(())
+}
+
+/// Asks for so many writes, each of another value, and counts those that were answered.
+fn puts<R: Wait>(
+    rt: &R,
+    alloc: Global,
+    lock: &DagLock<Counter>,
+    pass: Pass,
+    actor: u16,
+    writes: u16,
+) -> (Pass, u64)
+    requires { pass.lock ≡ lock_id lock.now }
+    ensures { Keeps pass result.0 }
+{
+    let mut mine = pass;
+    let mut done: u64 = 0;
+    let Ok(mut out) = ReplyBuf::new(alloc) else {
+        return (mine, 0);
+    };
+    for value in 0..writes {
+        let [high, low] = value.to_be_bytes();
+        let request = [4, 1, b'x', 0, 2, high, low];
+        let (next, acted) = lock.step(rt, mine, actor, &request, &mut out);
+        mine = next;
+        if acted == Acted::Done {
+            done = done.saturating_add(1);
+        }
+    }
+    (mine, done)
+}
+
+/// Two actors ask at the same time.
+fn two_put<R: Threads + Wait + Sync>(
+    rt: &R,
+    alloc: Global,
+    lock: &DagLock<Counter>,
+    pass: Pass,
+    actors: (u16, u16),
+    writes: u16,
+) -> (Pass, u64)
+    requires lock { pass.lock ≡ lock_id lock.now }
+    requires some { 2 ≤ pass.pieces }
+    ensures { Keeps pass result.0 }
+{
+    let (first, second) = lock.split(pass, 1);
+    let (one, other) = join(
+        rt,
+        move ||
+            requires { first.lock ≡ lock_id lock.now }
+            ensures { Keeps first result.0 }
+        { puts(rt, alloc, lock, first, actors.0, writes) },
+        move ||
+            requires { second.lock ≡ lock_id lock.now }
+            ensures { Keeps second result.0 }
+        { puts(rt, alloc, lock, second, actors.1, writes) },
+    );
+    (lock.join(one.0, other.0), one.1.saturating_add(other.1))
+}
+
+/// Four actors ask at the same time.
+fn four_put<R: Threads + Wait + Sync>(
+    rt: &R,
+    alloc: Global,
+    lock: &DagLock<Counter>,
+    pass: Pass,
+    writes: u16,
+) -> (Pass, u64)
+    requires lock { pass.lock ≡ lock_id lock.now }
+    requires some { pass.pieces ≡ 4 }
+    ensures { Keeps pass result.0 }
+{
+    let (first, second) = lock.split(pass, 2);
+    let (one, other) = join(
+        rt,
+        move ||
+            requires { (first.lock ≡ lock_id lock.now) × (2 ≤ first.pieces) }
+            ensures { Keeps first result.0 }
+        { two_put(rt, alloc, lock, first, (1, 2), writes) },
+        move ||
+            requires { (second.lock ≡ lock_id lock.now) × (2 ≤ second.pieces) }
+            ensures { Keeps second result.0 }
+        { two_put(rt, alloc, lock, second, (3, 4), writes) },
+    );
+    (lock.join(one.0, other.0), one.1.saturating_add(other.1))
+}
+
+/// How many writes of each actor the trail has, if each actor's values are 0, 1, 2 and so on, and nothing else is there.
+fn counts(alloc: Global, trail: &Trailed<Counter>) -> Result<[u16; 5], Fail> {
+    let mut sink = MemorySink::new(alloc, 60_000, 60_000, &[])?;
+    let _ = trail.write_trail(&mut sink);
+    let mut next = [0u16; 5];
+    for entry in sink.bytes().chunks(13) {
+        let [0, 0, 0, 9, 0, actor, 4, 1, b'x', 0, 2, high, low] = entry else {
+            return Ok([0; 5]);
+        };
+        let at = *actor as usize % 5;
+        if next[at] != u16::from_be_bytes([*high, *low]) {
+            return Ok([0; 5]);
+        }
+        next[at] = next[at].saturating_add(1);
+    }
+    Ok(next)
+}
+
+#[test]
+fn two_actors_at_once_have_each_request_once_and_in_order(rt: HostRuntime) -> Result<(), Fail> {
+    let trail = Trailed::new(rt.alloc(), Counter { acts: 0 }, 1 << 30);
+    let (lock, pass) = DagLock::new(rt.alloc(), trail, 2)?;
+    let (pass, done) = two_put(&rt, rt.alloc(), &lock, pass, (1, 2), 1_000);
+    assert_eq!(rt; done, 2_000);
+    assert_eq!(rt;
+        counts(rt.alloc(), &lock.close(pass))?,
+        [0, 1_000, 1_000, 0, 0]
+    );
+    Ok(())
+}
+
+#[test]
+fn four_actors_at_once_have_each_request_once_and_in_order(rt: HostRuntime) -> Result<(), Fail> {
+    let trail = Trailed::new(rt.alloc(), Counter { acts: 0 }, 1 << 30);
+    let (lock, pass) = DagLock::new(rt.alloc(), trail, 4)?;
+    let (pass, done) = four_put(&rt, rt.alloc(), &lock, pass, 1_000);
+    assert_eq!(rt; done, 4_000);
+    assert_eq!(rt;
+        counts(rt.alloc(), &lock.close(pass))?,
+        [0, 1_000, 1_000, 1_000, 1_000]
+    );
+    Ok(())
+}
+
+#[test]
+fn a_trail_fills_up_while_two_actors_ask(rt: HostRuntime) -> Result<(), Fail> {
+    let trail = Trailed::new(rt.alloc(), Counter { acts: 0 }, 13 * 50 + 12);
+    let (lock, pass) = DagLock::new(rt.alloc(), trail, 2)?;
+    let (pass, done) = two_put(&rt, rt.alloc(), &lock, pass, (1, 2), 40);
+    assert_eq!(rt; done, 50);
+    let trail = lock.close(pass);
+    assert_eq!(rt; trail.bytes(), 650);
+    let counted = counts(rt.alloc(), &trail)?;
+    assert_eq!(rt; counted[1].saturating_add(counted[2]), 50);
+    Ok(())
+}
