@@ -2,7 +2,7 @@
 use Rattle.std.proofs.Common.{◌≡◌, ℕ, ◌+◌, ◌≤◌, Bool, false, not, ◌||◌, List, [], ◌∷◌, ◌++◌, length, map, filter, flat_map, find, Some, None, IsTrue, IsFalse, inl, inr, refl, sym, ap, subst, ◌∙◌, arith}
 use Rattle.std.specs.Prelude.{nat_lt, ◌==◌}
 use Rattle.std.specs.Option.{option_map, option_map_or}
-use Rattle.std.proofs.lemmas.Bool.{cases_Bool, and_right, or_cases, or_left, or_right, cond-true, cond-false, ne_eqb, eqb-true, lt-leb, and_parts, false_from_ne_true, not_from_true}
+use Rattle.std.proofs.lemmas.Bool.{cases_Bool, and_right, or_cases, or_left, or_right, or_parts, cond-true, cond-false, ne_eqb, eqb-true, lt-leb, and_parts, false_from_ne_true, not_from_true}
 use Rattle.std.proofs.lemmas.List.Elements.{filter-append}
 use Rattle.tardis_base.specs.declared.ids.StateId.{StateId}
 use Rattle.tardis_base.specs.declared.records.Record.{Record}
@@ -167,6 +167,16 @@ one-is-kept (g ∷ gs) =
     filter-append stays (arrived (chain gs)) (tip (g ∷ gs) ∷ [])
     ∙ (ap (λ (xs : List StateId). xs ++ filter stays (tip (g ∷ gs) ∷ [])) (all-collected (chain gs) ks (λ x among. subst (λ (xs : List StateId). IsTrue (is_among x xs)) (states-are gs) among))
     ∙ cond-true (stays (tip (g ∷ gs))) (tip (g ∷ gs) ∷ []) [] (ap not (tip-isnt-collected (g ∷ gs))))
+
+-- before the one above it is collected, there are two
+pub two-are-kept : (g : List Entry) (gs : List (List Entry)) → kept_states (chain (g ∷ gs)) (older gs) ≡ tip gs ∷ tip (g ∷ gs) ∷ []
+two-are-kept g gs =
+    let x = tip (g ∷ gs) in
+    let stays : StateId → Bool = λ y. not (is_among y (older gs)) in
+    let new : IsFalse (is_among x (older gs)) = (or_parts (same_id x (tip gs)) (is_among x (older gs)) (tip-isnt-collected (g ∷ gs))).1 in
+    filter-append stays (arrived (chain gs)) (x ∷ [])
+    ∙ (ap (λ (xs : List StateId). xs ++ filter stays (x ∷ [])) (one-is-kept gs)
+    ∙ ap (λ (xs : List StateId). tip gs ∷ xs) (cond-true (stays x) (x ∷ []) [] (ap not new)))
 
 -- ===== Above
 

@@ -22,7 +22,7 @@ use Rattle.plain_site.proofs.SoundOpening.{opening-is-sound}
 use Rattle.plain_site.proofs.SoundRequests.{request-keeps-sound}
 use Rattle.branch_export.specs.Exports.{Entry, is_entry, are_entries, contents, export_spelling}
 use Rattle.branch_export.specs.Scripts.{groups_up_to, put, group_requests, script}
-use Rattle.export_laws.specs.Laws.{AreScripted, site_after, ScriptsAreCarriedOut, ContentsComeBack, ExportsComeBack, ScriptedStateIsKept, StatesAreNumbered, numbered}
+use Rattle.export_laws.specs.Laws.{AreScripted, site_after, ScriptsAreCarriedOut, ContentsComeBack, ExportsComeBack, ScriptedStateIsKept, FewStatesAreKept, StatesAreNumbered, numbered}
 use Rattle.export_laws.proofs.Chains.{chain, number, number-is, tip, older, tip-is-known, tip-isnt-collected}
 use Rattle.export_laws.proofs.Steps.{standing}
 use Rattle.export_laws.proofs.Runs.{keys, entries_in, IsCarriedOut, carries-out}
@@ -80,6 +80,9 @@ out es h = carries-out es (entries-parts es h.0).ascend h.1
 
 pub carried-out : ScriptsAreCarriedOut step
 carried-out es h = (out es h).leads.done
+
+pub few-states-are-kept : FewStatesAreKept step
+few-states-are-kept es h = (out es h).leads.few
 
 pub contents-come-back : ContentsComeBack step
 contents-come-back es h =

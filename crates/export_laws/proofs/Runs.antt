@@ -1,6 +1,6 @@
 -- The script of an export is carried out, and leads to the chain of its groups.
 use Rattle.std.proofs.Common.{◌≡◌, ℕ, ◌+◌, ◌*◌, ◌-◌, ◌≤◌, ◌<◌, true, ◌||◌, List, [], ◌∷◌, ◌++◌, length, map, flat_map, take, drop, IsTrue, IsFalse, refl, sym, ap, subst, ◌∙◌, arith}
-use Rattle.std.proofs.lemmas.Bool.{and_from, or_parts, or_from}
+use Rattle.std.proofs.lemmas.Bool.{and_parts, and_from, or_parts, or_from}
 use Rattle.std.proofs.lemmas.List.{append_assoc, append-nil, map-append, length-append, length-map, length-take, length-drop, take-append-drop}
 use Rattle.tardis_base.specs.declared.requests.Begin.TheVariants.{Any}
 use Rattle.tardis_base.specs.declared.requests.Request.{Request}
@@ -16,9 +16,9 @@ use Rattle.plain_site.specs.Step.{step}
 use Rattle.plain_site.specs.RowWords.{lone_site}
 use Rattle.branch_export.specs.Exports.{Entry}
 use Rattle.branch_export.specs.Scripts.{groups_up_to, groups, put, group_requests, script}
-use Rattle.export_laws.specs.Laws.{is_refusal, refuses, site_after, most_entries}
+use Rattle.export_laws.specs.Laws.{is_refusal, refuses, site_after, most_entries, keeps_few, all_keep_few}
 use Rattle.export_laws.proofs.Chains.{as_write, number, tip, older}
-use Rattle.export_laws.proofs.Steps.{standing, within, grown, floored, opens, begins, puts, commits, raises, tidies}
+use Rattle.export_laws.proofs.Steps.{standing, within, grown, floored, opens, begins, puts, commits, raises, tidies, standing-keeps-few, grown-keeps-few}
 
 -- the keys of the entries
 abbrev pub keys : List Entry → List (List ℕ)
@@ -26,18 +26,23 @@ keys es = map (λ (e : Entry). e.0) es
 
 -- ===== Requests that are carried out
 
--- no request of these is refused, and they lead there
+-- no request of these is refused, they lead there, and never are more than two states kept
 pub record Leads (a : Site) (qs : List Request) (b : Site) : Type 0 where
   pub done : IsFalse (refuses step a qs)
   pub there : site_after step a qs ≡ b
+  pub few : IsTrue (all_keep_few step a qs)
 
-leads-nowhere : (a : Site) → Leads a [] a
-leads-nowhere a = record { done = refl; there = refl }
+leads-nowhere : (a : Site) → IsTrue (keeps_few a) → Leads a [] a
+leads-nowhere a few = record { done = refl; there = refl; few = few }
 
-leads-on : (a b c : Site) (q : Request) (qs : List Request) (reply : Reply) → step a 1 q ≡ (b, reply) → IsFalse (is_refusal reply) → Leads b qs c → Leads a (q ∷ qs) c
-leads-on a b c q qs reply e fine h = record {
+leads-on : (a b c : Site) (q : Request) (qs : List Request) (reply : Reply) → step a 1 q ≡ (b, reply) → IsFalse (is_refusal reply) → IsTrue (keeps_few a) → Leads b qs c →
+    Leads a (q ∷ qs) c
+leads-on a b c q qs reply e fine few h = record {
   done = subst (λ (answer : Answer). IsFalse (is_refusal answer.1 || refuses step answer.0 qs)) (sym e) (or_from (is_refusal reply) (refuses step b qs) fine h.done);
   there = ap (λ (answer : Answer). site_after step answer.0 qs) e ∙ h.there;
+  few =
+      and_from (keeps_few a) (all_keep_few step (step a 1 q).0 qs) few
+      (subst (λ (answer : Answer). IsTrue (all_keep_few step answer.0 qs)) (sym e) h.few);
 }
 
 leads-through : (ps qs : List Request) (a b c : Site) → Leads a ps b → Leads b qs c → Leads a (ps ++ qs) c
@@ -46,8 +51,9 @@ leads-through (p ∷ ps) qs a b c h more =
     let next = (step a 1 p).0 in
     let refused = is_refusal (step a 1 p).1 in
     let parts = or_parts refused (refuses step next ps) h.done in
-    let rest = leads-through ps qs next b c (record { done = parts.1; there = h.there }) more in
-    record { done = or_from refused (refuses step next (ps ++ qs)) parts.0 rest.done; there = rest.there }
+    let kept = and_parts (keeps_few a) (all_keep_few step next ps) h.few in
+    let rest = leads-through ps qs next b c (record { done = parts.1; there = h.there; few = kept.1 }) more in
+    record { done = or_from refused (refuses step next (ps ++ qs)) parts.0 rest.done; there = rest.there; few = and_from (keeps_few a) (all_keep_few step next (ps ++ qs)) kept.0 rest.few }
 
 -- ===== Ascending keys
 
@@ -77,7 +83,7 @@ written-keys-are (e ∷ es) = ap (λ (ks : List (List ℕ)). e.0 ∷ ks) (writte
 
 puts-lead : (gs : List (List Entry)) (before rest : List Entry) → length (before ++ rest) ≤ 64 → IsTrue (are_ascending_keys (keys (before ++ rest))) →
     Leads (within gs before) (map put rest) (within gs (before ++ rest))
-puts-lead gs before [] few up = record { done = refl; there = ap (within gs) (sym (append-nil before)) }
+puts-lead gs before [] few up = record { done = refl; there = ap (within gs) (sym (append-nil before)); few = standing-keeps-few gs }
 puts-lead gs before (e ∷ rest) few up =
     let now = before ++ (e ∷ []) in
     let same : now ++ rest ≡ before ++ (e ∷ rest) = append_assoc before (e ∷ []) rest in
@@ -88,7 +94,7 @@ puts-lead gs before (e ∷ rest) few up =
     let long = length-append before (e ∷ rest) in
     let room : length before < 64 = omega arith in
     leads-on (within gs before) (within gs now) (within gs (before ++ (e ∷ rest))) (put e) (map put rest) Done
-    (puts gs before e room up_first maps (length-map before as_write)) refl
+    (puts gs before e room up_first maps (length-map before as_write)) refl (standing-keeps-few gs)
     (subst (λ es. Leads (within gs now) (map put rest) (within gs es)) same
     (puts-lead gs now rest (subst (λ es. length es ≤ 64) (sym same) few) up_now))
 
@@ -102,11 +108,11 @@ group-leads gs e es few up numbers =
     let raising : List Request = RaiseAuto ∷ last in
     let ending : List Request = Commit (record { 0 = 0 }) 0 ∷ raising in
     let collected = Tidied (length (older (g ∷ gs)) - length (older gs)) in
-    leads-on site (within gs []) next (Begin Any) (map put g ++ ending) (Begun (tip gs)) (begins gs) refl
+    leads-on site (within gs []) next (Begin Any) (map put g ++ ending) (Begun (tip gs)) (begins gs) refl (standing-keeps-few gs)
     (leads-through (map put g) ending (within gs []) (within gs g) next (puts-lead gs [] g few up)
-    (leads-on (within gs g) (grown g gs) next (Commit (record { 0 = 0 }) 0) raising (Committed (tip (g ∷ gs)) (tip gs ∷ [])) (commits gs e es numbers) refl
-    (leads-on (grown g gs) (floored g gs) next RaiseAuto last (Raised (tip (g ∷ gs)) (number gs + 1)) (raises g gs numbers) refl
-    (leads-on (floored g gs) next next (Tidy 64) [] collected (tidies g gs) refl (leads-nowhere next)))))
+    (leads-on (within gs g) (grown g gs) next (Commit (record { 0 = 0 }) 0) raising (Committed (tip (g ∷ gs)) (tip gs ∷ [])) (commits gs e es numbers) refl (standing-keeps-few gs)
+    (leads-on (grown g gs) (floored g gs) next RaiseAuto last (Raised (tip (g ∷ gs)) (number gs + 1)) (raises g gs numbers) refl (grown-keeps-few g gs)
+    (leads-on (floored g gs) next next (Tidy 64) [] collected (tidies g gs) refl (grown-keeps-few g gs) (leads-nowhere next (standing-keeps-few (g ∷ gs)))))))
 
 -- ===== All groups
 
@@ -134,13 +140,13 @@ groups-bring : (n : ℕ) (gs : List (List Entry)) (es : List Entry) → length e
 groups-bring ℕ.zero gs es few up numbers = record {
   after = gs;
   all = sym (append-nil (entries_in gs)) ∙ ap (λ (fs : List Entry). entries_in gs ++ fs) (sym (none-left es few));
-  leads = leads-nowhere (standing gs);
+  leads = leads-nowhere (standing gs) (standing-keeps-few gs);
   count = omega arith;
 }
 groups-bring (ℕ.suc n) gs [] few up numbers = record {
   after = gs;
   all = sym (append-nil (entries_in gs));
-  leads = leads-nowhere (standing gs);
+  leads = leads-nowhere (standing gs) (standing-keeps-few gs);
   count = omega arith;
 }
 groups-bring (ℕ.suc n) gs (e ∷ es) few up numbers =
@@ -176,5 +182,5 @@ carries-out es up few =
       made = brought.after;
       all = brought.all;
       count = let counted = brought.count in omega arith;
-      leads = leads-on lone_site (standing []) (standing brought.after) (Open true) (flat_map group_requests (groups_up_to (length es) es)) (Opened root) opens refl brought.leads;
+      leads = leads-on lone_site (standing []) (standing brought.after) (Open true) (flat_map group_requests (groups_up_to (length es) es)) (Opened root) opens refl refl brought.leads;
     }

@@ -1,6 +1,6 @@
 -- What each request of a group does at a site whose history is a chain.
 use Rattle.std.proofs.Common.{◌≡◌, ℕ, ◌+◌, ◌<◌, Bool, true, not, ◌&&◌, List, [], ◌∷◌, ◌++◌, length, map, find, Option, Some, None, is_some, unwrap_or, ◌-◌, IsTrue, IsFalse, refl, sym, ap, subst, ◌∙◌, arith}
-use Rattle.std.specs.Prelude.{◌==◌}
+use Rattle.std.specs.Prelude.{◌==◌, nat_le}
 use Rattle.std.specs.Option.{option_map}
 use Rattle.std.proofs.lemmas.Bool.{and_left, and_right, and_from, cond-true, cond-false, ne_eqb, not_from_true, not_from_false}
 use Rattle.tardis_base.specs.declared.ids.StateId.{StateId}
@@ -32,7 +32,8 @@ use Rattle.plain_site.specs.FloorSteps.{raise_to}
 use Rattle.plain_site.specs.Step.{step}
 use Rattle.plain_site.specs.RowWords.{lone_site, program_limits}
 use Rattle.branch_export.specs.Exports.{Entry}
-use Rattle.export_laws.proofs.Chains.{as_write, chain, number, tip, older, find-none-among, tip-is-new, states-are, tip-is-known, tip-has-no-child, one-child, no-long-path, one-is-kept, tip-isnt-collected, above-tip, not-below-itself, admits-itself, stays-at-leaf}
+use Rattle.export_laws.specs.Laws.{keeps_few}
+use Rattle.export_laws.proofs.Chains.{as_write, chain, number, tip, older, find-none-among, tip-is-new, states-are, tip-is-known, tip-has-no-child, one-child, no-long-path, one-is-kept, two-are-kept, tip-isnt-collected, above-tip, not-below-itself, admits-itself, stays-at-leaf}
 
 -- ===== The site between groups, and within one
 
@@ -197,3 +198,11 @@ module _ (g : List Entry) (gs : List (List Entry)) where
 
 pub tidies : (g : List Entry) (gs : List (List Entry)) → step (floored g gs) 1 (Tidy 64) ≡ (standing (g ∷ gs), Tidied (length (older (g ∷ gs)) - length (older gs)))
 tidies g gs = ap (λ (ks : List StateId). (record (floored g gs) { collected = ks }, Tidied (length ks - length (older gs)))) (collects g gs)
+
+-- ===== What is kept
+
+pub standing-keeps-few : (gs : List (List Entry)) → IsTrue (keeps_few (standing gs))
+standing-keeps-few gs = ap (λ (xs : List StateId). nat_le (length xs) 2) (one-is-kept gs)
+
+pub grown-keeps-few : (g : List Entry) (gs : List (List Entry)) → IsTrue (keeps_few (grown g gs))
+grown-keeps-few g gs = ap (λ (xs : List StateId). nat_le (length xs) 2) (two-are-kept g gs)

@@ -1,5 +1,5 @@
 -- What comes of the script of an export: a fresh site carries it out, and then has the contents that were exported.
-use Rattle.std.specs.Prelude.{◌≡◌, ℕ, ◌*◌, ◌<◌, ◌≤◌, Bool, true, false, List, [], ◌∷◌, length, map, slice_get, IsTrue, IsFalse}
+use Rattle.std.specs.Prelude.{◌≡◌, ℕ, ◌*◌, ◌<◌, ◌≤◌, nat_le, Bool, true, false, ◌&&◌, List, [], ◌∷◌, length, map, slice_get, IsTrue, IsFalse}
 use Rattle.std.specs.List.{list_any}
 use Rattle.std.specs.Option.{option_map}
 use Rattle.tardis_base.specs.declared.ids.StateId.{StateId}
@@ -12,7 +12,7 @@ use Rattle.wire_talk.specs.Spellings.{reply_spelling}
 use Rattle.frame_cut.specs.Frames.{IsCut}
 use Rattle.frame_cut.specs.Events.{event_of}
 use Rattle.plain_dag.specs.Begin.{last_arrived}
-use Rattle.plain_dag.specs.Collection.{is_kept}
+use Rattle.plain_dag.specs.Collection.{is_kept, kept_states}
 use Rattle.plain_site.specs.Site.{Site}
 use Rattle.plain_site.specs.Step.{step, site_machine}
 use Rattle.plain_site.specs.RowWords.{lone_site, ◌·◌}
@@ -80,6 +80,19 @@ abbrev pub ScriptedStateIsKept : Service → Type 0
 ScriptedStateIsKept service = (es : List Entry) → AreScripted es →
     let site = scripted_site service es in
     IsTrue (is_kept site.dag site.collected (scripted_state service es))
+
+-- the site keeps at most two states
+abbrev pub keeps_few : Site → Bool
+keeps_few site = nat_le (length (kept_states site.dag site.collected)) 2
+
+-- so it is with the site, and with each to which these requests lead it one after another
+abbrev pub all_keep_few : Service → Site → List Request → Bool
+all_keep_few service site [] = keeps_few site
+all_keep_few service site (q ∷ qs) = keeps_few site && all_keep_few service (service site 1 q).0 qs
+
+-- however many entries there are, never more than two states are kept
+abbrev pub FewStatesAreKept : Service → Type 0
+FewStatesAreKept service = (es : List Entry) → AreScripted es → IsTrue (all_keep_few service lone_site (script es))
 
 -- the name of the state of so many groups
 abbrev pub numbered : ℕ → StateId

@@ -72,3 +72,8 @@ commits_nothing site n q = step site n q
 abbrev pub collects_all : Service
 collects_all site n (Tidy count) = (record site { collected = states site.dag }, Tidied (length site.dag))
 collects_all site n q = step site n q
+
+-- nothing is collected
+abbrev pub collects_nothing : Service
+collects_nothing site n (Tidy count) = (site, Tidied 0)
+collects_nothing site n q = step site n q

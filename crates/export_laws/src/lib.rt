@@ -6,27 +6,29 @@
 ghost use Rattle.plain_site.specs.Step.{step};
 ghost use Rattle.plain_site.specs.WrongSteps.{IsBrokenBy, forgets_collected};
 ghost use Rattle.export_laws.specs.Laws.{ScriptsAreCarriedOut, ContentsComeBack, ExportsComeBack, ScriptedStateIsKept, StatesAreNumbered};
-ghost use Rattle.export_laws.specs.Laws.{ShortExportsAreScripted, FramesAskTheScript};
-ghost use Rattle.export_laws.specs.Rows.{OneEntry, NoEntries, TwoGroups, takes_one_write, commits_nothing, collects_all};
+ghost use Rattle.export_laws.specs.Laws.{ShortExportsAreScripted, FewStatesAreKept, FramesAskTheScript};
+ghost use Rattle.export_laws.specs.Rows.{OneEntry, NoEntries, TwoGroups, takes_one_write, commits_nothing, collects_all, collects_nothing};
 
 use wire_talk::talk_has_one_spelling;
 
 /// An export comes back from its script. The site that opens, alone and under the program's limits, refuses no request of the
 /// script, and the state that arrived last then has the contents that were exported, so that its own export is the same bytes.
-/// That state is kept, and named by the number of groups: 1.1, 1.2 and so on, or the root where there are no entries. This holds
-/// of exports of up to 274,877,906,880 keys, which are 64 for each state that a site can make; an export of fewer than
-/// 1,099,511,627,776 bytes, as many as a run reads, has fewer.
+/// That state is kept, and named by the number of groups: 1.1, 1.2 and so on, or the root where there are no entries. Never are
+/// more than two states kept, however many entries there are. This holds of exports of up to 274,877,906,880 keys, which are 64
+/// for each state that a site can make; an export of fewer than 1,099,511,627,776 bytes, as many as a run reads, has fewer.
 pub fn exports_come_back()
     ensures carried_out { ScriptsAreCarriedOut step }
     ensures contents { ContentsComeBack step }
     ensures exports { ExportsComeBack step }
     ensures short { ShortExportsAreScripted }
     ensures kept { ScriptedStateIsKept step }
+    ensures few_kept { FewStatesAreKept step }
     ensures numbered { StatesAreNumbered step }
     ensures one_write_breaks { IsBrokenBy ScriptsAreCarriedOut takes_one_write }
     ensures forgotten_breaks { IsBrokenBy ContentsComeBack forgets_collected }
     ensures forgotten_breaks_exports { IsBrokenBy ExportsComeBack forgets_collected }
     ensures all_collected_breaks { IsBrokenBy ScriptedStateIsKept collects_all }
+    ensures nothing_collected_breaks { IsBrokenBy FewStatesAreKept collects_nothing }
     ensures nothing_breaks { IsBrokenBy StatesAreNumbered commits_nothing }
 {}
 

@@ -1,6 +1,6 @@
-use Rattle.export_laws.proofs.Laws.{carried-out, contents-come-back, exports-come-back, state-is-kept, states-are-numbered}
+use Rattle.export_laws.proofs.Laws.{carried-out, contents-come-back, exports-come-back, state-is-kept, few-states-are-kept, states-are-numbered}
 use Rattle.export_laws.proofs.Short.{short-is-scripted}
-use Rattle.export_laws.proofs.Wrong.{one-write-breaks, forgotten-breaks, forgotten-breaks-exports, all-collected-breaks, nothing-breaks}
+use Rattle.export_laws.proofs.Wrong.{one-write-breaks, forgotten-breaks, forgotten-breaks-exports, all-collected-breaks, nothing-breaks, nothing-collected-breaks}
 use Rattle.export_laws.proofs.exports_come_back.Goals as goal
 
 pub returns-clause-carried_out : goal.returns-clause-carried_out
@@ -35,3 +35,9 @@ returns-clause-nothing_breaks c = nothing-breaks
 
 pub returns-clause-short : goal.returns-clause-short
 returns-clause-short c = short-is-scripted
+
+pub returns-clause-few_kept : goal.returns-clause-few_kept
+returns-clause-few_kept c = few-states-are-kept
+
+pub returns-clause-nothing_collected_breaks : goal.returns-clause-nothing_collected_breaks
+returns-clause-nothing_collected_breaks c = nothing-collected-breaks
