@@ -1,15 +1,16 @@
 -- The frames of a script ask its requests.
-use Rattle.std.proofs.Common.{◌≡◌, ℕ, List, [], ◌∷◌, ◌++◌, length, map, flat_map, take, drop, Some, IsTrue, inl, refl, sym, ap, subst, ◌∙◌, arith}
+use Rattle.std.proofs.Common.{◌≡◌, ℕ, List, [], ◌∷◌, ◌++◌, length, map, flat_map, take, drop, Some, IsTrue, inl, refl, sym, ap, subst, ◌∙◌, arith, IsFalse, inr, ap₂, bytes_eq}
 use Rattle.std.specs.Prelude.{nat_le, slice_get}
-use Rattle.std.specs.List.{list_all, AllByRecursion}
+use Rattle.std.specs.List.{list_any, list_all, AllByRecursion}
+use Rattle.std.proofs.lemmas.Slice.Eq.{bytes_eq-Decides}
 use Rattle.std.specs.Option.{option_map}
-use Rattle.std.proofs.lemmas.Bool.{and_parts, leb-true}
+use Rattle.std.proofs.lemmas.Bool.{and_parts, or_parts, both_ways, leb-true}
 use Rattle.std.proofs.lemmas.List.{append-nil, map-append, length-append, take-append-drop}
 use Rattle.std.proofs.lemmas.List.Folds.{list_all-append}
 use Rattle.tardis_base.specs.declared.requests.Request.{Request}
 use Rattle.tardis_base.specs.declared.requests.Request.TheVariants.{Commit, RaiseAuto, Tidy}
 use Rattle.tardis_base.specs.declared.replies.Refusal.TheVariants.{Malformed}
-use Rattle.tardis_base.specs.Plain.{state_after, reply_at}
+use Rattle.tardis_base.specs.Plain.{Answers, no_memory, state_after, reply_at}
 use Rattle.tardis_base.specs.Valid.{is_within, is_key, is_value}
 use Rattle.tardis_base.specs.Bytes.{are_bytes}
 use Rattle.wire_item.specs.Spellings.{u16_spelling, key_spelling, value_spelling}
@@ -93,6 +94,23 @@ module _ (read : RequestsHaveOneSpelling) where
       ap (λ (answer : Answer). reply_at site_machine answer.0 (map event_of (map body qs)) place) (asks site q parts.0)
       ∙ events-are-answered qs (step site 1 q).0 place parts.1
 
+  -- a run that never wants memory replies as the step does
+  runs-answer : (qs : List Request) (site : Site) (told : List (List ℕ)) (last : Site) → IsTrue (list_all is_request qs) →
+      Answers site_machine site (map event_of (map body qs)) told last → IsFalse (list_any (bytes_eq no_memory) told) →
+      (told ≡ map reply_spelling (replies step site qs)) × (last ≡ site_after step site qs)
+  runs-answer [] site [] last each h sure = (refl, h)
+  runs-answer [] site (y ∷ told) last each h sure = absurd h
+  runs-answer (q ∷ qs) site [] last each h sure = absurd h
+  runs-answer (q ∷ qs) site (y ∷ told) last each (inl h) sure =
+      let parts = and_parts (is_request q) (list_all is_request qs) each in
+      let asked = asks site q parts.0 in
+      let rest =
+      runs-answer qs (step site 1 q).0 told last parts.1 (subst (λ (answer : Answer). Answers site_machine answer.0 (map event_of (map body qs)) told last) asked h.1)
+      (or_parts (bytes_eq no_memory y) (list_any (bytes_eq no_memory) told) sure).1 in
+      (ap₂ (λ z zs. z ∷ zs) (h.0 ∙ ap (λ (answer : Answer). reply_spelling answer.1) asked) rest.0, rest.1)
+  runs-answer (q ∷ qs) site (y ∷ told) last each (inr h) sure =
+      absurd (both_ways (bytes_eq no_memory y) (or_parts (bytes_eq no_memory y) (list_any (bytes_eq no_memory) told) sure).0 ((bytes_eq-Decides no_memory y).1 (sym h.0)))
+
   pub frames-ask : FramesAskTheScript
   frames-ask es h =
       let asked = script-can-be-asked es h in
@@ -105,5 +123,6 @@ module _ (read : RequestsHaveOneSpelling) where
           ends = inl (inl (omega arith));
         };
         site = events-lead (script es) lone_site asked;
+        runs = λ told last h sure. runs-answer (script es) lone_site told last asked h sure;
         answers = λ place. events-are-answered (script es) lone_site place asked;
       }

@@ -1,5 +1,5 @@
 -- What comes of the script of an export: a fresh site carries it out, and then has the contents that were exported.
-use Rattle.std.specs.Prelude.{◌≡◌, ℕ, ◌*◌, ◌<◌, ◌≤◌, nat_le, Bool, true, false, ◌&&◌, List, [], ◌∷◌, length, map, slice_get, IsTrue, IsFalse}
+use Rattle.std.specs.Prelude.{◌≡◌, ℕ, ◌*◌, ◌<◌, ◌≤◌, nat_le, Bool, true, false, ◌&&◌, List, [], ◌∷◌, length, map, slice_get, bytes_eq, IsTrue, IsFalse}
 use Rattle.std.specs.List.{list_any}
 use Rattle.std.specs.Option.{option_map}
 use Rattle.tardis_base.specs.declared.ids.StateId.{StateId}
@@ -7,7 +7,7 @@ use Rattle.tardis_base.specs.declared.requests.Request.{Request}
 use Rattle.tardis_base.specs.declared.replies.Reply.{Reply}
 use Rattle.tardis_base.specs.declared.replies.Reply.TheVariants.{Refused}
 use Rattle.tardis_base.specs.Ids.{root}
-use Rattle.tardis_base.specs.Plain.{Event, state_after, reply_at}
+use Rattle.tardis_base.specs.Plain.{Event, Answers, no_memory, state_after, reply_at}
 use Rattle.wire_talk.specs.Spellings.{reply_spelling}
 use Rattle.frame_cut.specs.Frames.{IsCut}
 use Rattle.frame_cut.specs.Events.{event_of}
@@ -42,19 +42,19 @@ refuses service site qs = list_any is_refusal (replies service site qs)
 
 -- ===== The laws
 
--- 64 for each sequence number
+-- 64 for each sequence number: 274,877,906,880
 abbrev pub most_entries : ℕ
 most_entries = 64 * 4294967295
 
--- no more than the sequence numbers of one site hold
+-- the entries of an export, not more than the states of one site can bring
 abbrev pub AreScripted : List Entry → Type 0
 AreScripted es = IsTrue (are_entries es) × (length es ≤ most_entries)
 
--- the site of one that opened, under the program's limits, and was asked the script
+-- the only site, under the program's limits, after it opened and was asked the script
 abbrev pub scripted_site : Service → List Entry → Site
 scripted_site service es = site_after service lone_site (script es)
 
--- the state that arrived last there
+-- the state that arrived last at it
 abbrev pub scripted_state : Service → List Entry → StateId
 scripted_state service es = last_arrived (scripted_site service es).dag
 
@@ -75,7 +75,7 @@ ExportsComeBack service = (bytes : List ℕ) (es : List Entry) → IsExport byte
 abbrev pub ShortExportsAreScripted : Type 0
 ShortExportsAreScripted = (bytes : List ℕ) (es : List Entry) → IsExport bytes es → length bytes < 1099511627776 → length es ≤ most_entries
 
--- that state is kept, so that it can be exported
+-- the state that arrived last is kept, so that it can be exported
 abbrev pub ScriptedStateIsKept : Service → Type 0
 ScriptedStateIsKept service = (es : List Entry) → AreScripted es →
     let site = scripted_site service es in
@@ -110,11 +110,15 @@ abbrev pub script_events : List Entry → List Event
 script_events es = map event_of (map body (script es))
 
 -- the frames are cut into the bodies of the script's requests, with nothing behind; a site that is sent these comes to the same
--- state, and its reply to each is the spelling of the reply to the request
+-- state, and its reply to each is the spelling of the reply to the request; so it is however a run answers them, as long as no
+-- reply says that memory is wanting
 pub record FramesAsk (es : List Entry) : Type 0 where
   pub cut : IsCut (script_frames es) (map body (script es)) []
   pub site : state_after site_machine lone_site (script_events es) ≡ scripted_site step es
-  pub answers : (place : ℕ) → reply_at site_machine lone_site (script_events es) place ≡ option_map reply_spelling (slice_get (replies step lone_site (script es)) place)
+  pub answers : (place : ℕ) →
+      reply_at site_machine lone_site (script_events es) place ≡ option_map reply_spelling (slice_get (replies step lone_site (script es)) place)
+  pub runs : (told : List (List ℕ)) (last : Site) → Answers site_machine lone_site (script_events es) told last →
+      IsFalse (list_any (bytes_eq no_memory) told) → (told ≡ map reply_spelling (replies step lone_site (script es))) × (last ≡ scripted_site step es)
 
 -- so a run over the frames of a script is what the laws speak of
 abbrev pub FramesAskTheScript : Type 0

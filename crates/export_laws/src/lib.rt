@@ -33,7 +33,8 @@ pub fn exports_come_back()
 {}
 
 /// The frames of a script are cut into its requests, with nothing behind. A site that is sent them comes to the state that the
-/// laws speak of, and answers each with the spelling of the reply to its request.
+/// laws speak of, and answers each with the spelling of the reply to its request; so does each run over them, unless one of its
+/// replies says that memory is wanting.
 pub fn script_frames_ask_the_script()
     ensures { FramesAskTheScript }
 {
