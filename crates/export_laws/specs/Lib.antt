@@ -1,0 +1,3 @@
+-- What comes of the script of an export.
+pub mod Laws
+pub mod Rows
