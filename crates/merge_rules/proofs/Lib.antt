@@ -6,3 +6,6 @@ mod ReadLaws
 mod Exchanges
 mod ValueLaws
 mod SettlingLaws
+mod LeafLaws
+mod WrittenLaws
+mod StepLaws

@@ -1,9 +1,8 @@
 -- Two states are settled.
-use Rattle.std.proofs.Common.{◌≡◌, ℕ, suc, ◌<◌, ◌≤◌, Bool, true, false, not, ◌==◌, IsTrue, List, [], ◌∷◌, length, filter, take, min, map, nat_lt, Option, Some, None, is_some, Result, Ok, Err, ap, ap₂, sym, ◌∙◌, subst, refl, arith, if◌then◌else◌, lt-ltb}
+use Rattle.std.proofs.Common.{◌≡◌, ℕ, suc, ◌<◌, ◌≤◌, true, false, ◌==◌, List, [], ◌∷◌, length, filter, take, min, nat_lt, Option, Some, None, is_some, Result, Ok, Err, ap, ap₂, ◌∙◌, subst, refl, arith, if◌then◌else◌, lt-ltb}
 use Rattle.std.proofs.lemmas.Bool.{and_parts, both_ways, ne_eqb, cond-true}
 use Rattle.std.proofs.lemmas.Bool.Decides.{nat_tests}
 use Rattle.std.specs.List.{list_all}
-use Rattle.std.specs.Option.{option_and_then}
 use Rattle.std.specs.Prelude.{IfOk, IfSome}
 use Rattle.tardis_base.specs.declared.faults.NoMemory.{NoMemory as OutOfMemory}
 use Rattle.tardis_base.specs.declared.ids.StateId.{StateId}

@@ -2,14 +2,14 @@
 use Rattle.std.specs.List.{list_all}
 use Rattle.std.specs.Option.{option_and_then}
 use Rattle.tardis_base.specs.declared.records.Write.{Write}
-use Rattle.std.specs.Prelude.{IsTrue, ◌==◌, slice_get, if◌then◌else◌, ◌≡◌, ℕ, true, false, nat_lt, min, length, List, [], ◌∷◌, map, Option, Some, None, Result, Ok, Err, IfOk}
+use Rattle.std.specs.Prelude.{IsTrue, ◌&&◌, ◌==◌, slice_get, if◌then◌else◌, ◌≡◌, ℕ, true, false, nat_lt, min, length, List, [], ◌∷◌, Option, Some, None, Result, Ok, Err, IfOk}
 use Rattle.tardis_base.specs.declared.faults.NoMemory.{NoMemory as OutOfMemory}
 use Rattle.tardis_base.specs.declared.ids.StateId.{StateId}
 use Rattle.tardis_base.specs.declared.ids.Slot.{Slot}
 use Rattle.tardis_base.specs.declared.records.Record.{Record}
 use Rattle.tardis_base.specs.Ids.{is_before}
-use Rattle.tardis_base.specs.Valid.{is_key}
-use Rattle.tardis_base.specs.Keys.{are_ascending_keys}
+use Rattle.tardis_base.specs.Valid.{is_key, is_write}
+use Rattle.tardis_base.specs.Keys.{KeyWrite, are_ascending_keys}
 use Rattle.plain_dag.specs.Collection.{is_kept}
 use Rattle.plain_dag.specs.Forks.{leaves, fork_points}
 use Rattle.plain_dag.specs.Writers.{read}
@@ -19,10 +19,13 @@ use Rattle.record_store.specs.Store.{Store}
 use Rattle.record_store.specs.Stands.{StoreStands}
 use Rattle.plain_dag.specs.Conflicts.{conflict_keys}
 use Rattle.plain_site.specs.Site.{Site}
+use Rattle.session_core.specs.Core.{Core}
+use Rattle.session_core.specs.Joins.{MayBeMerged, merge_in_one}
+use Rattle.session_core.specs.Machine.{SiteStands}
 use Rattle.merge_rules.specs.declared.steps.AutoEnd.{AutoEnd}
 use Rattle.merge_rules.specs.declared.settling.Settled.{Settled}
 use Rattle.merge_rules.specs.declared.settling.Settled.TheVariants.{Wide, Unmerged, Values}
-use Rattle.merge_rules.specs.Auto.{AutoAnswer, value_of, unmerged, values}
+use Rattle.merge_rules.specs.Auto.{AutoAnswer, value_of, unmerged, values, ended_as}
 use Rattle.rule_list.specs.declared.rules.PrefixRule.{PrefixRule}
 
 -- the plain answer; or there was no memory, and what stands for the site as it was
@@ -91,3 +94,15 @@ AreFirst table _ two = two ≡ None
 
 abbrev pub FirstTwo : Table → Option (Slot × Slot) → Type 0
 FirstTwo table two = (rs : List Record) (ks : List StateId) → Stands table rs ks → AreFirst table (leaves rs) two
+
+-- a merge of the states of these slots may commit with these writes, which are those of keys
+abbrev pub MayJoin : Core → Slot → Slot → List KeyWrite → Type 0
+MayJoin core a b ws =
+    (site : Site) → SiteStands core site → (x y : StateId) → id_at core.store.table a ≡ Some x → id_at core.store.table b ≡ Some y →
+    IsTrue (list_all (λ w. is_key w.0 && is_write w.1) ws) → MayBeMerged site (x ∷ y ∷ []) ws
+
+-- the session commits a merge of the states of these slots
+abbrev pub JoinsAs : Core → Core → ℕ → Slot → Slot → List KeyWrite → Result AutoEnd OutOfMemory → Type 0
+JoinsAs old new n a b ws result =
+    (site : Site) → SiteStands old site → (x y : StateId) → id_at old.store.table a ≡ Some x → id_at old.store.table b ≡ Some y →
+    Ends (SiteStands new) (ended_as (merge_in_one site n (x ∷ y ∷ []) ws)) site result

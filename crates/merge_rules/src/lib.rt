@@ -14,5 +14,8 @@ mod values;
 
 pub use laws::sides_may_be_exchanged;
 pub use settling::{Settled, settle};
-pub use steps::AutoEnd;
+pub use steps::{AutoEnd, auto_step};
 pub use values::{Base, Side, merged};
+
+#[cfg(test)]
+mod tests;

@@ -1,4 +1,4 @@
-use Rattle.std.proofs.Common.{◌≡◌, ap, ap₂, sym, ◌∙◌, [], ◌∷◌, take, length}
+use Rattle.std.proofs.Common.{ap₂, sym, ◌∙◌, [], ◌∷◌}
 use Rattle.plain_dag.specs.Forks.{fork_points}
 use Rattle.merge_rules.specs.Steps.{only}
 use Rattle.merge_rules.proofs.SettlingLaws.{parted-at, unparted}

@@ -1,5 +1,5 @@
-use Rattle.std.proofs.Common.{◌≡◌, ap, ap₂, sym, ◌∙◌, [], ◌∷◌, subst, Some, min, length, take}
-use Rattle.tardis_base.specs.Keys.{is_key_before, are_ascending_keys}
+use Rattle.std.proofs.Common.{◌≡◌, ap, ap₂, sym, ◌∙◌, [], ◌∷◌, subst, Some, length}
+use Rattle.tardis_base.specs.Keys.{are_ascending_keys}
 use Rattle.plain_dag.specs.Forks.{fork_points}
 use Rattle.state_dag.specs.Stands.{Stands}
 use Rattle.state_dag.specs.Table.{id_at}

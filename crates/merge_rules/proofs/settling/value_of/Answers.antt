@@ -1,7 +1,7 @@
-use Rattle.std.proofs.Common.{ap, sym, ◌∙◌, [], ◌∷◌, if◌then◌else◌}
+use Rattle.std.proofs.Common.{ap, ◌∙◌, [], ◌∷◌, if◌then◌else◌}
 use Rattle.plain_dag.specs.Forks.{fork_points}
 use Rattle.merge_rules.specs.Auto.{written_base}
-use Rattle.merge_rules.specs.Values.{Base, Unknown}
+use Rattle.merge_rules.specs.Values.{Unknown}
 use Rattle.merge_rules.proofs.SettlingLaws.{known-base, value-is}
 use Rattle.merge_rules.proofs.settling.value_of.Goals as goal
 

@@ -1,0 +1,89 @@
+//! What lines are answered by where auto steps are asked for too.
+
+ghost use Rattle.std.specs.Prelude.{◌≡◌, ◌+◌, ◌≤◌, [], length};
+ghost use Rattle.plain_site.specs.Site.{Site};
+ghost use Rattle.site_run.specs.Responses.{Responded};
+ghost use Rattle.session_core.specs.Stands.{StandsForSite};
+ghost use Rattle.session_core.specs.Machine.{SiteStands, opened_with};
+ghost use Rattle.merge_rules.specs.Auto.{auto_step};
+ghost use Rattle.auto_run.specs.Answers.{StepAnswers};
+
+use crate::auto_lines::auto_actor;
+use crate::end_lines::EndLines;
+use crate::ruled_sites::RuledSite;
+use merge_rules::auto_step;
+use rule_list::RuleList;
+use session_core::SiteCore;
+use shell_run::ShellReplies;
+use site_run::{Gathered, Responder};
+use std::alloc::Global;
+use tardis_base::NoMemory;
+
+/// Answers a line `N auto` by the line of the auto step of the actor N, and each other line as a shell does. Its buffers are
+/// taken once.
+#[derive(Drop)]
+pub(crate) struct AutoReplies {
+    alloc: Global,
+    shell: ShellReplies,
+    ends: EndLines,
+}
+
+impl AutoReplies {
+    pub(crate) fn new(alloc: Global) -> Result<AutoReplies, NoMemory> {
+        let shell = ShellReplies::new(alloc)?;
+        let ends = EndLines::new(alloc)?;
+        Ok(AutoReplies { alloc, shell, ends })
+    }
+}
+
+/// Does the actor's auto step, and puts the line of how it ended behind what was gathered.
+fn put_step(
+    alloc: Global,
+    core: &mut SiteCore,
+    actor: u16,
+    rules: &RuleList,
+    ends: &mut EndLines,
+    out: &mut Gathered,
+)
+    requires stands { StandsForSite core.old }
+    requires room { length out.old.bytes + 4194369 ≤ out.old.room }
+    ensures answer { (site : Site) → SiteStands core.old site
+        → Responded (StepAnswers actor rules.now) (SiteStands core.new) site [] out.old.bytes out.new.bytes }
+    ensures room { out.new.room ≡ out.old.room }
+    ensures opening { opened_with core.new ≡ opened_with core.old }
+{
+    match auto_step(alloc, core, actor, rules) {
+        Ok(end) => ends.put(end, out),
+        Err(NoMemory) => out.put(b"nomemory\n"),
+    }
+}
+
+impl Responder<RuledSite> for AutoReplies {
+    ghost use Rattle.auto_run.specs.Ruled.{Ruled, RuledStands, RuledMay, ruled_opening};
+
+    ghost State = { Ruled };
+
+    ghost stands = { λ t s. RuledStands t.core t.rules s };
+
+    ghost may = { RuledMay };
+
+    ghost opening = { λ t. ruled_opening t.core t.rules };
+
+    ghost MOST = { 4194369 };
+
+    const MOST: usize = 4_194_369;
+
+    fn respond(&mut self, subject: &mut RuledSite, body: &[u8], out: &mut Gathered) {
+        match auto_actor(body) {
+            Some(actor) => put_step(
+                self.alloc,
+                &mut subject.core,
+                actor,
+                &subject.rules,
+                &mut self.ends,
+                out,
+            ),
+            None => self.shell.respond(&mut subject.core, body, out),
+        }
+    }
+}

@@ -1,0 +1,49 @@
+use Rattle.std.proofs.Common.{ap, sym, subst, ◌∙◌}
+use Rattle.tardis_base.specs.declared.ids.Slot.{Slot}
+use Rattle.session_core.specs.Machine.{SiteStands}
+use Rattle.merge_rules.specs.declared.steps.AutoEnd.TheVariants.{Wide, Unmerged}
+use Rattle.merge_rules.specs.Auto.{auto_step}
+use Rattle.merge_rules.specs.Steps.{Ends, SettledAs}
+use Rattle.merge_rules.proofs.StepLaws.{leaves-at, settled-at, values-may-be-merged, step-wide, step-unmerged, step-joins, ended-so}
+use Rattle.merge_rules.proofs.steps.auto_step.Goals as goal
+
+pub join-requires-clause-merges : goal.join-requires-clause-merges
+join-requires-clause-merges c = λ site stands x y ea eb valid.
+    let core = c.args.core.now in
+    let slots : Slot × Slot = (c.in-Some.a, c.in-Some.b) in
+    let at = leaves-at core site stands slots c.dag.result.now (c.dag.ensures ∙ ap (λ v. v.table) c.store.ensures.is) c.in-Some.ensures.first in
+    let settled = settled-at core site stands slots at c.store-2.result.now c.store-2.ensures.is c.args.rules.now c.in_ok-keys.field-0 c.in_ok-keys.ensures in
+    values-may-be-merged core.store.table site stands.1 slots at c.args.rules.now c.in-Values.writes (subst (SettledAs c.args.rules.now site.dag at.x at.y) c.in-Values.is settled) valid x y ea eb
+
+pub returns-in-Wide-clause-plain : goal.returns-in-Wide-clause-plain
+returns-in-Wide-clause-plain c = λ site stands.
+    let core = c.args.core.now in
+    let slots : Slot × Slot = (c.in-Some.a, c.in-Some.b) in
+    let at = leaves-at core site stands slots c.dag.result.now (c.dag.ensures ∙ ap (λ v. v.table) c.store.ensures.is) c.in-Some.ensures.first in
+    let settled = settled-at core site stands slots at c.store-2.result.now c.store-2.ensures.is c.args.rules.now c.in_ok-keys.field-0 c.in_ok-keys.ensures in
+    ended-so (SiteStands core) site (Wide c.in-Wide.keys) (auto_step site c.args.actor c.args.rules.now)
+    (step-wide core.store.table site stands.1 slots at c.args.actor c.args.rules.now (c.in_default-begin_refusal.ensures site stands) c.in-Wide.keys
+    (subst (SettledAs c.args.rules.now site.dag at.x at.y) c.in-Wide.is settled))
+    stands
+
+pub returns-in-Unmerged-clause-plain : goal.returns-in-Unmerged-clause-plain
+returns-in-Unmerged-clause-plain c = λ site stands.
+    let core = c.args.core.now in
+    let slots : Slot × Slot = (c.in-Some.a, c.in-Some.b) in
+    let at = leaves-at core site stands slots c.dag.result.now (c.dag.ensures ∙ ap (λ v. v.table) c.store.ensures.is) c.in-Some.ensures.first in
+    let settled = settled-at core site stands slots at c.store-2.result.now c.store-2.ensures.is c.args.rules.now c.in_ok-keys.field-0 c.in_ok-keys.ensures in
+    ended-so (SiteStands core) site (Unmerged c.in-Unmerged.key) (auto_step site c.args.actor c.args.rules.now)
+    (step-unmerged core.store.table site stands.1 slots at c.args.actor c.args.rules.now (c.in_default-begin_refusal.ensures site stands) c.in-Unmerged.key
+    (subst (SettledAs c.args.rules.now site.dag at.x at.y) c.in-Unmerged.is settled))
+    stands
+
+pub returns-in-Values-clause-plain : goal.returns-in-Values-clause-plain
+returns-in-Values-clause-plain c = λ site stands.
+    let core = c.args.core.now in
+    let slots : Slot × Slot = (c.in-Some.a, c.in-Some.b) in
+    let at = leaves-at core site stands slots c.dag.result.now (c.dag.ensures ∙ ap (λ v. v.table) c.store.ensures.is) c.in-Some.ensures.first in
+    let settled = settled-at core site stands slots at c.store-2.result.now c.store-2.ensures.is c.args.rules.now c.in_ok-keys.field-0 c.in_ok-keys.ensures in
+    subst (λ a. Ends (SiteStands c.join.new.core) a site c.join.result)
+    (sym (step-joins core.store.table site stands.1 slots at c.args.actor c.args.rules.now (c.in_default-begin_refusal.ensures site stands) c.in-Values.writes
+    (subst (SettledAs c.args.rules.now site.dag at.x at.y) c.in-Values.is settled)))
+    (c.join.ensures.joined site stands at.x at.y at.at_x at.at_y)
