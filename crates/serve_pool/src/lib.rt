@@ -2,9 +2,11 @@
 #![tactic(auto)]
 
 mod ends;
+mod laws;
 mod pools;
 #[cfg(test)]
 mod tests;
 
 pub use ends::{PoolEnd, Served};
+pub use laws::servings_last;
 pub use pools::serve_all;

@@ -1,5 +1,5 @@
 -- What an exchange and the upkeep ask, all by actor 0.
-use Rattle.std.specs.Prelude.{◌≡◌, ℕ, Bool, true, false, ◌+◌, ◌==◌, List, [], ◌∷◌, ◌++◌, map, if◌then◌else◌}
+use Rattle.std.specs.Prelude.{◌≡◌, ℕ, Bool, false, ◌+◌, ◌==◌, List, [], ◌∷◌, ◌++◌, map, if◌then◌else◌}
 use Rattle.tardis_base.specs.declared.records.Item.{Item}
 use Rattle.tardis_base.specs.declared.records.Item.TheVariants.{State, Promise}
 use Rattle.tardis_base.specs.declared.records.Batch.{Batch}
