@@ -2,7 +2,9 @@
 use Rattle.std.proofs.Common.{◌≡◌, ◌≢◌, ◌≤◌, ℕ, ◌⊎◌, inl, inr, List, [], length, Option, Some, Result, Ok, Err, refl, ap, sym, ◌∙◌, subst, arith}
 use Rattle.tardis_base.specs.declared.records.Batch.{Batch}
 use Rattle.tardis_base.specs.declared.replies.SiteLine.{SiteLine}
-use Rattle.tardis_base.specs.Plain.{PlainMachine, reply_at, state_after}
+use Rattle.tardis_base.specs.Plain.{Event, PlainMachine, reply_at, state_after}
+use Rattle.std.specs.List.{AllByRecursion}
+use Rattle.trail_log.specs.Frames.{IsEntry}
 use Rattle.tardis_io.specs.Told.{WhileTold}
 use Rattle.tardis_io.specs.Faults.{Rose}
 use Rattle.tardis_io.specs.Links.{ToldDial, HandsCalled, with_hung}
@@ -24,12 +26,16 @@ use Rattle.site_sync.proofs.Items.{same_some}
 use Rattle.site_sync.proofs.Going.{goes_nowhere, unanswered, reply_behind}
 use Rattle.site_sync.proofs.Calls.{rose_on, calls_back, not_called}
 
+all_front : (xs ys : List Event) → AllByRecursion IsEntry (xs ++ ys) → AllByRecursion IsEntry xs
+all_front [] ys all = tt
+all_front (x ∷ xs) ys all = (all.0, all_front xs ys all.1)
+
 module _ {M P : Type 0} (opening : M → P) (m : PlainMachine P) (z : Kept M) where
   -- the machine told its counts
-  pub told_counts : (p q : Known) (out : List ℕ) → TellsCounts m (opening z.machine) → StepsOnce opening m z p stat out q Done → (lines : List SiteLine) × AreStatistics out lines
-  told_counts p q out tells s =
+  pub told_counts : (p q : Known) (out : List ℕ) → TellsCounts m (opening z.machine) → StepsOnce opening m z p stat out q Done → AllByRecursion IsEntry q.seen → (lines : List SiteLine) × AreStatistics out lines
+  told_counts p q out tells s each =
       let before = s.ended.0 in
-      let told = tells before in
+      let told = tells before (all_front before (stat ∷ []) (subst (λ l. AllByRecursion IsEntry l) s.ended.2 each)) in
       let at : reply_at m (opening z.machine) q.seen (length before) ≡ Some (m.reply (state_after m (opening z.machine) before) stat) =
       ap (λ l. reply_at m (opening z.machine) l (length before)) s.ended.2 ∙ reply_behind m (opening z.machine) before stat [] in
       let same : m.reply (state_after m (opening z.machine) before) stat ≡ out = same_some (m.reply (state_after m (opening z.machine) before) stat) out (reply_at m (opening z.machine) q.seen (length before)) at s.ended.4 in
