@@ -3,6 +3,7 @@ use Rattle.std.proofs.Common.{◌≡◌, ◌≤◌, ◌<◌, ◌+◌, ◌-◌, �
 use Rattle.tardis_base.specs.Plain.{Event, PlainMachine}
 use Rattle.tardis_base.specs.declared.faults.NoMemory.{NoMemory}
 use Rattle.tardis_io.specs.Links.{ToldGate, ToldDial}
+use Rattle.tardis_io.specs.Faults.{Rose}
 use Rattle.atomic_table.specs.Seated.{TableId}
 use Rattle.trail_log.specs.Trail.{Kept}
 use Rattle.dag_lock.specs.Known.{Known, Begins, merged}
@@ -11,7 +12,10 @@ use Rattle.site_sync.specs.declared.ends.Rounds.{Rounds}
 use Rattle.serve_pool.specs.declared.ends.Served.{Served as Pool}
 use Rattle.serve_pool.specs.Laws.{LongerKeepsServed}
 use Rattle.serve_run.specs.Beside.{Pooled, Synced}
-use Rattle.serve_run.specs.Serving.{Workload, MakesRounds, ServesBoth}
+use Rattle.serve_run.specs.Serving.{Workload, MakesRounds, ServesBoth, ServesLinks, ServeOutcome}
+use Rattle.serve_run.specs.declared.endings.Serving.{Serving}
+use Rattle.serve_run.specs.declared.endings.ServeEnd.{ServeEnd}
+use Rattle.serve_run.specs.declared.endings.ServeEnd.TheVariants.{NotBound, NotMade, Served}
 
 begins_same : (xs : List Event) → Begins xs xs
 begins_same xs = ([], sym (append-nil xs))
@@ -86,3 +90,67 @@ module _ {M P L X D G : Type 0} (opening : M → P) (m : PlainMachine P) (left g
         fault = λ f. (r.fault f).1;
         later = r.later;
       })
+
+rose_from : (a b c : ℕ) → a ≤ b → Rose b c → Rose a c
+rose_from a b c le (inl low) = inl (omega (arith, le, low))
+rose_from a b c le (inr top) = inr top
+
+served_in : Serving → ServeEnd → Serving
+served_in s NotBound = s
+served_in s NotMade = s
+served_in s (Served t) = t
+
+pub same_serving : (s t : Serving) → Served s ≡ Served t → s ≡ t
+same_serving s t e = ap (served_in s) e
+
+module _ {M P L X D : Type 0} (opening : M → P) (m : PlainMachine P) (left given : L → Option (List ℕ)) (take_faults faults : L → ℕ)
+    (peer_left peer_given : X → Option (List ℕ)) (peer_take_faults peer_faults : X → ℕ) (dial_told : D → Option (ToldDial X)) (dial_faults : D → ℕ) where
+  -- a gate that listens tells what it told, and may have counted faults
+  from_bound : (start : P) (most : ℕ) (w : Workload) (old new : Option (ToldGate L)) (gate_before gate_mid gate_after : ℕ) (d e : D) (before after : Option (List ℕ)) (write_before write_after : ℕ) (s : Serving)
+      → gate_before ≤ gate_mid
+      → ServesLinks opening m left given take_faults faults peer_left peer_given peer_take_faults peer_faults dial_told dial_faults start most w old new gate_mid gate_after d e before after write_before write_after s
+      → ServesLinks opening m left given take_faults faults peer_left peer_given peer_take_faults peer_faults dial_told dial_faults start most w old new gate_before gate_after d e before after write_before write_after s
+  from_bound start most w old new gate_before gate_mid gate_after d e before after write_before write_after s le x = record {
+    machine = x.machine;
+    opens = x.opens;
+    trail = x.trail;
+    taken = x.taken;
+    asked = x.asked;
+    each = x.each;
+    rounds = x.rounds;
+    whole = x.whole;
+    told = x.told;
+    within = x.within;
+    unserved = x.unserved;
+    done = x.done;
+    fault = λ f. rose_from gate_before gate_mid gate_after le (x.fault f);
+    wrote = x.wrote;
+    again = x.again;
+    cause = x.cause;
+  }
+
+  module _ {G O : Type 0} (told : G → Option (ToldGate L)) (gate_faults : G → ℕ) (out_given : O → Option (List ℕ)) (out_faults : O → ℕ) where
+    -- a server that listens and has a lock
+    pub serves : (start : P) (most : ℕ) (made : Kept M) (machine : M) (w : Workload) (old mid new : G) (d e : D) (before after : O) (s : Serving)
+        → made ≡ record { machine = machine; trail = []; max_trail = most } → start ≡ opening machine
+        → told mid ≡ told old → gate_faults old ≤ gate_faults mid → gate_faults mid ≤ gate_faults new → dial_faults d ≤ dial_faults e
+        → ServesLinks opening m left given take_faults faults peer_left peer_given peer_take_faults peer_faults dial_told dial_faults (opening made.machine) made.max_trail w
+        (told mid) (told new) (gate_faults mid) (gate_faults new) d e (out_given before) (out_given after) (out_faults before) (out_faults after) s
+        → ServeOutcome opening m left given take_faults faults peer_left peer_given peer_take_faults peer_faults dial_told dial_faults start most told gate_faults out_given out_faults w old new d e before after (Served s)
+    serves start most made machine w old mid new d e before after s is opens same le gates dials x =
+        let over = subst (λ (k : Kept M). ServesLinks opening m left given take_faults faults peer_left peer_given peer_take_faults peer_faults dial_told dial_faults (opening k.machine) k.max_trail w
+        (told mid) (told new) (gate_faults mid) (gate_faults new) d e (out_given before) (out_given after) (out_faults before) (out_faults after) s) is x in
+        let from = subst (λ k. ServesLinks opening m left given take_faults faults peer_left peer_given peer_take_faults peer_faults dial_told dial_faults k most w
+        (told mid) (told new) (gate_faults mid) (gate_faults new) d e (out_given before) (out_given after) (out_faults before) (out_faults after) s) (sym opens) over in
+        let had = subst (λ k. ServesLinks opening m left given take_faults faults peer_left peer_given peer_take_faults peer_faults dial_told dial_faults start most w
+        k (told new) (gate_faults mid) (gate_faults new) d e (out_given before) (out_given after) (out_faults before) (out_faults after) s) same from in
+        let all = from_bound start most w (told old) (told new) (gate_faults old) (gate_faults mid) (gate_faults new) d e (out_given before) (out_given after) (out_faults before) (out_faults after) s le had in
+        record {
+          served = λ t f. subst (λ k. ServesLinks opening m left given take_faults faults peer_left peer_given peer_take_faults peer_faults dial_told dial_faults start most w
+              (told old) (told new) (gate_faults old) (gate_faults new) d e (out_given before) (out_given after) (out_faults before) (out_faults after) k) (same_serving s t f) all;
+          not_bound = λ f. absurd (cc);
+          not_made = λ f. absurd (cc);
+          gate_later = omega (arith, le, gates);
+          dial_later = dials;
+          write_later = x.cause.later;
+        }
