@@ -1,5 +1,6 @@
 #!/usr/bin/env python3
-"""Tests `tardis serve` over real sockets: 64 clients at once, of 1,000 transactions each, over a Unix socket.
+"""Tests `tardis serve` over real sockets: 64 clients at once, of 1,000 transactions each, over a Unix socket; and three
+servers that sync, of which one is reached late and goes away for good.
 
 usage: tools/test_serve.py [TARDIS [LINKS [TRANSACTIONS]]]
 
@@ -164,6 +165,86 @@ def test(program, address, links, transactions):
         address.partition(":")[0], links, entries, len(trail), committed, taken))
 
 
+class Site:
+    """A server of one of three sites, with what it writes kept in files."""
+
+    def __init__(self, program, folder, number, *words):
+        self.address = "unix:" + os.path.join(folder, "site%d" % number)
+        self.output, self.error = tempfile.TemporaryFile(), tempfile.TemporaryFile()
+        self.process = subprocess.Popen(
+            [program, "serve", "--sites", "3", "--site", str(number), "--listen", self.address, *words],
+            stdin=subprocess.DEVNULL, stdout=self.output, stderr=self.error)
+
+    def said(self, line):
+        """Waits until it has written the line on standard error."""
+        end = time.monotonic() + PATIENCE
+        while line not in self.lines():
+            assert time.monotonic() < end and self.process.poll() is None, self.lines()[-3:]
+            time.sleep(0.01)
+
+    def lines(self):
+        return os.pread(self.error.fileno(), 1 << 16, 0).decode().split("\n")
+
+    def ended(self):
+        """Its status, and its trail."""
+        status = self.process.wait(PATIENCE_OF_ALL)
+        self.output.seek(0)
+        return status, bodies_of(self.output.read())
+
+
+def value_at(client, key):
+    """What a transaction that begins now reads of a key."""
+    client.ask(BEGIN)
+    reply = client.ask(b"\x03" + bytes([len(key)]) + key)
+    client.ask(b"\x07")
+    return reply
+
+
+def test_sync(program, folder):
+    """Site 1 has a state. Site 2 calls it before it can be reached, then gets the state, and goes on calling it when it is
+    gone. Site 3 gets the state from site 2. Both read the same."""
+    began, sites = time.monotonic(), []
+    late = os.path.join(folder, "late")
+    try:
+        one = Site(program, folder, 1, "--links", "2")
+        sites.append(one)
+        one.said("tardis: listens at " + one.address)
+        writer = Client(one.address, 1, 0)
+        with connected(one.address) as writer.link:
+            for body in (OPEN_FOLLOWING, BEGIN, b"\x04\x01x\0\x011"):
+                writer.ask(body)
+            assert writer.ask(COMMIT)[0] == COMMITTED
+        two = Site(program, folder, 2, "--links", "2", "--peer", "unix:" + late, "--rounds", "100000", "--tidy")
+        sites.append(two)
+        two.said("tardis: no link to unix:" + late)
+        os.symlink(one.address.partition(":")[2], late)
+        assert one.ended()[0] == 0
+        reader = Client(two.address, 2, 0)
+        with connected(two.address) as reader.link:
+            reader.ask(OPEN_FOLLOWING)
+            end = time.monotonic() + PATIENCE
+            while (read := value_at(reader, b"x"))[:1] != b"\x04":
+                assert time.monotonic() < end, read
+        three = Site(program, folder, 3, "--links", "1", "--peer", one.address, "--peer", two.address, "--rounds", "1")
+        sites.append(three)
+        three.said("tardis: no link to " + one.address)
+        other = Client(three.address, 3, 0)
+        with connected(three.address) as other.link:
+            other.ask(OPEN_FOLLOWING)
+            end = time.monotonic() + PATIENCE
+            while value_at(other, b"x") != read:
+                assert time.monotonic() < end, read
+        for site in (two, three):
+            status, entries = site.ended()
+            assert status == 8, status
+            # the state came once, by actor 0
+            assert [entry[:4] for entry in entries].count(b"\0\0\x14\x01") == 1, entries
+        print("three sites: %.1f s" % (time.monotonic() - began))
+    finally:
+        for site in sites:
+            stop(site.process)
+
+
 def main():
     words = sys.argv[1:]
     program = os.path.abspath(words[0]) if words else os.path.join(TOP, "tardis")
@@ -172,6 +253,7 @@ def main():
     try:
         test(program, "unix:" + os.path.join(folder, "site"), links, transactions)
         test(program, "127.0.0.1:%d" % free_port(), min(links, 8), min(transactions, 100))
+        test_sync(program, folder)
         unheard = subprocess.run(
             [program, "serve", "--listen", "unix:" + os.path.join(folder, "no", "site"), "--links", "1"],
             stdin=subprocess.DEVNULL, capture_output=True, timeout=PATIENCE)

@@ -1,18 +1,20 @@
--- The place of a form of `run`, `shell`, `audit`, `auto`, `durable` or `export`.
-use Rattle.std.proofs.Common.{◌≡◌, ◌∙◌, ℕ, ◌≤◌, Bool, true, false, ◌&&◌, leb, cond, List, [], ◌∷◌, Option, Some, None, bytes_eq, codes, option_map, option_and_then, refl, sym, ap, subst, inl, inr, arith}
+-- The place of a form of `run`, `shell`, `audit`, `serve`, `auto`, `durable` or `export`, and what `serve` may ask for.
+use Rattle.std.proofs.Common.{◌≡◌, ◌∙◌, ℕ, ◌≤◌, Bool, true, false, ◌&&◌, leb, cond, List, [], ◌∷◌, length, Option, Some, None, bytes_eq, codes, option_map, option_and_then, refl, sym, ap, subst, inl, inr, arith}
 use Rattle.std.specs.Str.Parse.{digits_value}
 use Rattle.std.proofs.lemmas.Bool.{and_parts, leb-true, cases_Bool, cond-true, cond-false}
 use Rattle.tardis_base.specs.Bytes.{is_within}
 use Rattle.std.specs.Bool.{then_some}
+use Rattle.std.specs.Prelude.{filter_map}
+use Rattle.std.specs.List.{list_all}
 use Rattle.tardis_base.specs.declared.ids.StateId.{StateId}
 use Rattle.rule_list.specs.declared.rules.PrefixRule.{PrefixRule}
 use Rattle.rule_list.specs.RuleTexts.{rules_of}
 use Rattle.command_words.specs.declared.commands.Place.{Place}
 use Rattle.command_words.specs.Settings.{Setting, settings, are_only}
-use Rattle.command_words.specs.Values.{is_numeral, number, needed, number_or, once, is_address, id_of}
-use Rattle.command_words.specs.Forms.{Form, AsRun, AsShell, AsAudit, AsWorld, AsServe, AsLoad, AsAuto, AsDurable, AsExport, AsImport, of, place, place_alone, world, serving, load, placed, auto, durable, export, import, form}
+use Rattle.command_words.specs.Values.{is_numeral, number, needed, number_or, flag, address, addresses, are_addresses, is_some_address, once, is_address, id_of}
+use Rattle.command_words.specs.Forms.{Form, AsRun, AsShell, AsAudit, AsWorld, AsServe, AsLoad, AsAuto, AsDurable, AsExport, AsImport, of, place, place_alone, world, Serving, serving, serving_at, load, placed, auto, durable, export, import, form}
 use Rattle.command_words.specs.Places.{IsPlace}
-use Rattle.command_words.specs.Laws.{RunsAtASite, ShellsAtASite, AuditsAtASite, AutosAtASite, DurablesAtASite, ExportsAtASite}
+use Rattle.command_words.specs.Laws.{IsServing, ServesAtASite, RunsAtASite, ShellsAtASite, AuditsAtASite, AutosAtASite, DurablesAtASite, ExportsAtASite}
 
 none_some : {A : Type 0} (a : A) → None ≡ Some a → ⊥
 none_some {A} a e = let n : 0 ≡ 1 = ap is e in absurd (omega (arith, n))
@@ -91,6 +93,67 @@ placed_is name found p e =
       | inr f ↦ absurd (none_some p (sym (cond-false only both None f) ∙ e))
     ]
 
+needed_within : (least most : ℕ) (found : List (Option (List ℕ))) (n : ℕ) → needed least most found ≡ Some n → Within least most n
+unfolding Within
+needed_within least most [] n e = absurd (none_some n e)
+needed_within least most (None ∷ []) n e = absurd (none_some n e)
+needed_within least most (Some word ∷ []) n e = number_within least most word n e
+needed_within least most (None ∷ w ∷ more) n e = absurd (none_some n e)
+needed_within least most (Some v ∷ w ∷ more) n e = absurd (none_some n e)
+
+fewer : (found : List (Option (List ℕ))) → length (filter_map (λ v. v) found) ≤ length found
+fewer [] = omega arith
+fewer (None ∷ found) = omega (arith, fewer found)
+fewer (Some word ∷ found) = omega (arith, fewer found)
+
+addresses_few : (found : List (Option (List ℕ))) (words : List (List ℕ)) → addresses found ≡ Some words → length words ≤ 15
+addresses_few found words e =
+    let all : List (List ℕ) = filter_map (λ v. v) found in
+    elim (cases_Bool (are_addresses 15 found)) [
+      | inl t ↦
+          let same : all ≡ words = some_same all words (sym (cond-true (are_addresses 15 found) (Some all) None t) ∙ e) in
+          let both = and_parts (leb (length found) 15) (list_all is_some_address found) t in
+          omega (arith, leb-true (length found) 15 both.0, fewer found, ap length same)
+      | inr f ↦ absurd (none_some words (sym (cond-false (are_addresses 15 found) (Some all) None f) ∙ e))
+    ]
+
+-- the options of `serve`, from the last on
+abbrev tidied : List Setting → Place → List ℕ → ℕ → List (List ℕ) → ℕ → Option Serving
+tidied found p listen links peers rounds =
+    option_map (λ (tidy : Bool). record { place = p; listen = listen; links = links; peers = peers; rounds = rounds; tidy = tidy }) (flag (of found (codes "--tidy")))
+
+abbrev rounded : List Setting → Place → List ℕ → ℕ → List (List ℕ) → Option Serving
+rounded found p listen links peers = option_and_then (λ (rounds : ℕ). tidied found p listen links peers rounds) (number_or 0 0 1000000 (of found (codes "--rounds")))
+
+abbrev peered : List Setting → Place → List ℕ → ℕ → Option Serving
+peered found p listen links = option_and_then (λ (peers : List (List ℕ)). rounded found p listen links peers) (addresses (of found (codes "--peer")))
+
+abbrev linked : List Setting → Place → List ℕ → Option Serving
+linked found p listen = option_and_then (λ (links : ℕ). peered found p listen links) (needed 1 64 (of found (codes "--links")))
+
+serving_at_is : (found : List Setting) (p : Place) (s : Serving) → IsPlace p → serving_at found p ≡ Some s → IsServing s
+unfolding Within
+serving_at_is found p s is e =
+    let a = then_some_of (λ (listen : List ℕ). linked found p listen) (address (of found (codes "--listen"))) s e in
+    let b = then_some_of (λ (links : ℕ). peered found p a.0 links) (needed 1 64 (of found (codes "--links"))) s a.1.1 in
+    let c = then_some_of (λ (peers : List (List ℕ)). rounded found p a.0 b.0 peers) (addresses (of found (codes "--peer"))) s b.1.1 in
+    let d = then_some_of (λ (rounds : ℕ). tidied found p a.0 b.0 c.0 rounds) (number_or 0 0 1000000 (of found (codes "--rounds"))) s c.1.1 in
+    let t = map_some (λ (tidy : Bool). record { place = p; listen = a.0; links = b.0; peers = c.0; rounds = d.0; tidy = tidy }) (flag (of found (codes "--tidy"))) s d.1.1 in
+    let links = needed_within 1 64 (of found (codes "--links")) b.0 b.1.0 in
+    let rounds = or_within 0 0 1000000 (of found (codes "--rounds")) d.0 (omega arith) (omega arith) d.1.0 in
+    subst IsServing t.1.1 (record { place = is; links = links.1; peers = addresses_few (of found (codes "--peer")) c.0 c.1.0; rounds = rounds.1 })
+
+serving_is : (found : List Setting) (s : Serving) → serving found ≡ Some s → IsServing s
+serving_is found s e =
+    let only : Bool =
+    are_only (codes "--sites" ∷ codes "--site" ∷ codes "--listen" ∷ codes "--links" ∷ codes "--peer" ∷ codes "--rounds" ∷ codes "--tidy" ∷ []) found in
+    elim (cases_Bool only) [
+      | inl t ↦
+          let at = then_some_of (serving_at found) (place found) s (sym (cond-true only (option_and_then (serving_at found) (place found)) None t) ∙ e) in
+          serving_at_is found at.0 s (place_is found at.0 at.1.0) at.1.1
+      | inr f ↦ absurd (none_some s (sym (cond-false only (option_and_then (serving_at found) (place found)) None f) ∙ e))
+    ]
+
 -- a form of a command with a place is at a site
 abbrev AtASite : Option Form → Type 0
 AtASite None = Unit {0}
@@ -98,7 +161,7 @@ AtASite (Some (AsRun p)) = IsPlace p
 AtASite (Some (AsShell p)) = IsPlace p
 AtASite (Some (AsAudit p)) = IsPlace p
 AtASite (Some (AsWorld n)) = Unit {0}
-AtASite (Some (AsServe s)) = Unit {0}
+AtASite (Some (AsServe s)) = IsServing s
 AtASite (Some (AsLoad a b)) = Unit {0}
 AtASite (Some (AsAuto p rules)) = IsPlace p
 AtASite (Some (AsDurable p path)) = IsPlace p
@@ -177,7 +240,7 @@ form_at (command ∷ rest) =
     let c : AtASite third = chosen (bytes_eq command (codes "audit")) (option_map AsAudit (place_alone found)) fourth (made (λ (q : Place). AsAudit q) (place_alone found) (λ q is. alone_is found q is)) d in
     let b : AtASite second = chosen (bytes_eq command (codes "shell")) (option_map AsShell (place_alone found)) third (made (λ (q : Place). AsShell q) (place_alone found) (λ q is. alone_is found q is)) c in
     let a : AtASite first = chosen (bytes_eq command (codes "run")) (option_map AsRun (place_alone found)) second (made (λ (q : Place). AsRun q) (place_alone found) (λ q is. alone_is found q is)) b in
-    chosen (bytes_eq command (codes "serve")) (option_map AsServe (serving found)) first (made (λ s. AsServe s) (serving found) (λ s is. tt)) a
+    chosen (bytes_eq command (codes "serve")) (option_map AsServe (serving found)) first (made (λ s. AsServe s) (serving found) (λ s is. serving_is found s is)) a
 
 pub runs_at_a_site : RunsAtASite
 runs_at_a_site words place are = subst AtASite are (form_at words)
@@ -196,3 +259,6 @@ durables_at_a_site words place path are = subst AtASite are (form_at words)
 
 pub exports_at_a_site : ExportsAtASite
 exports_at_a_site words place state are = subst AtASite are (form_at words)
+
+pub serves_at_a_site : ServesAtASite
+serves_at_a_site words plan are = subst AtASite are (form_at words)

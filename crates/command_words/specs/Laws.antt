@@ -1,9 +1,9 @@
 -- What holds of all forms.
-use Rattle.std.specs.Prelude.{◌≡◌, ℕ, List, Some}
+use Rattle.std.specs.Prelude.{◌≡◌, ℕ, ◌≤◌, List, length, Some}
 use Rattle.tardis_base.specs.declared.ids.StateId.{StateId}
 use Rattle.rule_list.specs.declared.rules.PrefixRule.{PrefixRule}
 use Rattle.command_words.specs.declared.commands.Place.{Place}
-use Rattle.command_words.specs.Forms.{form, AsRun, AsShell, AsAudit, AsAuto, AsDurable, AsExport}
+use Rattle.command_words.specs.Forms.{Serving, form, AsRun, AsShell, AsAudit, AsServe, AsAuto, AsDurable, AsExport}
 use Rattle.command_words.specs.Places.{IsPlace}
 
 -- the place of a form of `run` is a site of 1 to 16 sites
@@ -29,3 +29,14 @@ DurablesAtASite = (words : List (List ℕ)) (place : Place) (path : List ℕ) �
 -- and of `export`
 abbrev pub ExportsAtASite : Type 0
 ExportsAtASite = (words : List (List ℕ)) (place : Place) (state : StateId) → form words ≡ Some (AsExport place state) → IsPlace place
+
+-- what `serve` may be asked for: a site of 1 to 16 sites, at most 64 links, 15 peers and 1,000,000 rounds
+pub record IsServing (plan : Serving) : Type 0 where
+  pub place : IsPlace plan.place
+  pub links : plan.links ≤ 64
+  pub peers : length plan.peers ≤ 15
+  pub rounds : plan.rounds ≤ 1000000
+
+-- a form of `serve` asks for no more
+abbrev pub ServesAtASite : Type 0
+ServesAtASite = (words : List (List ℕ)) (plan : Serving) → form words ≡ Some (AsServe plan) → IsServing plan

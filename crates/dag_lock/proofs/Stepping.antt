@@ -1,10 +1,12 @@
 -- What the steps of a turn come to together.
 use Rattle.std.proofs.Common.{◌≡◌, ℕ, ◌+◌, ◌<◌, ◌≤◌, List, [], ◌∷◌, ◌++◌, length, get_or, refl, sym, ap, ◌∙◌, subst, arith, length-append, Some}
 use Rattle.tardis_base.specs.Plain.{Event, PlainMachine, reply_at}
+use Rattle.std.specs.List.{AllByRecursion}
 use Rattle.atomic_table.specs.Seated.{TableId}
 use Rattle.atomic_table.specs.Table.{Me}
 use Rattle.trail_log.specs.Trail.{Kept, bytes_of}
 use Rattle.trail_log.specs.Ends.{trail_with, IsFullAt}
+use Rattle.trail_log.specs.Frames.{IsEntry}
 use Rattle.trail_log.specs.declared.acted.Acted.{Acted}
 use Rattle.trail_log.specs.declared.acted.Acted.TheVariants.{Done, TrailFull, NoMemory}
 use Rattle.dag_lock.specs.declared.views.View.{View}
@@ -91,15 +93,19 @@ module _ {M P : Type 0} (opening : M → P) (plain : PlainMachine P) where
       → ((passed r (knows (Takes t) x.trail v.owned v.pieces, (0, y) ∷ [])).1 ≡ []) × ((passed r (knows (Takes t) x.trail v.owned v.pieces, (0, y) ∷ [])).0.stage ≡ Idle)
       × ((passed r (knows (Takes t) x.trail v.owned v.pieces, (0, y) ∷ [])).0.pieces ≡ v.pieces)
       × Ascends 0 (length (passed r (knows (Takes t) x.trail v.owned v.pieces, (0, y) ∷ [])).0.seen) (passed r (knows (Takes t) x.trail v.owned v.pieces, (0, y) ∷ [])).0.owned
+      × AllByRecursion IsEntry (passed r (knows (Takes t) x.trail v.owned v.pieces, (0, y) ∷ [])).0.seen
   rests_by x y v t e Done out seen did up = (
     refl,
     refl,
     refl,
     subst (λ n. Ascends 0 n (v.owned ++ length x.trail ∷ [])) (sym (ap length did.trail ∙ omega (arith, length-append x.trail (e ∷ []))))
         (ascends_snoc 0 (length x.trail) v.owned (ascends_more 0 (length v.seen) (length x.trail) v.owned up (begins_length v.seen x.trail seen)) (omega arith)),
+    did.each,
   )
-  rests_by x y v t e (TrailFull bytes) out seen did up = (refl, refl, refl, ascends_more 0 (length v.seen) (length x.trail) v.owned up (begins_length v.seen x.trail seen))
-  rests_by x y v t e NoMemory out seen did up = (refl, refl, refl, ascends_more 0 (length v.seen) (length x.trail) v.owned up (begins_length v.seen x.trail seen))
+  rests_by x y v t e (TrailFull bytes) out seen did up =
+      (refl, refl, refl, ascends_more 0 (length v.seen) (length x.trail) v.owned up (begins_length v.seen x.trail seen), subst (λ l. AllByRecursion IsEntry l) did.trail did.each)
+  rests_by x y v t e NoMemory out seen did up =
+      (refl, refl, refl, ascends_more 0 (length v.seen) (length x.trail) v.owned up (begins_length v.seen x.trail seen), subst (λ l. AllByRecursion IsEntry l) did.trail did.each)
 
   pub record StepEnds (z : Kept M) (v : View) (e : Event) (r : Acted) (out : List ℕ) (lock other : TableId) (last : Me (Kept M) View) : Type 0 where
     pub ended : Ended opening plain z (known_of lock (v ∷ [])) e out (known_of other (last.0 ∷ [])) r
@@ -107,6 +113,7 @@ module _ {M P : Type 0} (opening : M → P) (plain : PlainMachine P) where
     pub idle : last.0.stage ≡ Idle
     pub pieces : last.0.pieces ≡ v.pieces
     pub up : Ascends 0 (length last.0.seen) last.0.owned
+    pub each : AllByRecursion IsEntry last.0.seen
 
   pub step_ends : (z : Kept M) (v : View) (m taken after last : Me (Kept M) View) (t : ℕ) (e : Event) (r : Acted) (out : List ℕ) (lock other : TableId) (none : List (ℕ × Kept M))
       → m ≡ (knows (Waits t) v.seen v.owned v.pieces, none) → none ≡ [] → Took (IsOfLock opening plain z) m t taken → after.0 ≡ taken.0
@@ -132,4 +139,5 @@ module _ {M P : Type 0} (opening : M → P) (plain : PlainMachine P) where
         idle = rests.1;
         pieces = rests.2;
         up = rests.3;
+        each = rests.4;
       })

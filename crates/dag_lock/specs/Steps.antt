@@ -2,7 +2,9 @@
 use Rattle.std.specs.Prelude.{◌≡◌, ◌≢◌, ℕ, ◌+◌, ◌⊎◌, List, [], ◌∷◌, ◌++◌, length, Some}
 use Rattle.tardis_base.specs.Plain.{Event, PlainMachine, reply_at}
 use Rattle.trail_log.specs.Trail.{Kept, bytes_of}
+use Rattle.std.specs.List.{AllByRecursion}
 use Rattle.trail_log.specs.Ends.{trail_with, IsFullAt}
+use Rattle.trail_log.specs.Frames.{IsEntry}
 use Rattle.trail_log.specs.declared.acted.Acted.{Acted}
 use Rattle.trail_log.specs.declared.acted.Acted.TheVariants.{Done, TrailFull, NoMemory}
 use Rattle.dag_lock.specs.Known.{Known, Begins}
@@ -32,6 +34,7 @@ module _ {M P : Type 0} (opening : M → P) (plain : PlainMachine P) where
     pub reply : r ≡ Done → reply_at plain (opening x.machine) y.trail (length x.trail) ≡ Some out
     pub full : IsFullAt r (bytes_of x.trail) (length e.1 + 6) x.max_trail
     pub empty : r ≢ Done → out ≡ []
+    pub each : AllByRecursion IsEntry y.trail
 
   -- The pass has seen some more entries and then its own, which stands at a place of its own. The reply is that of this
   -- place. The trail had room for the entry.

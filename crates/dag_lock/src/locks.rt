@@ -1,8 +1,9 @@
 //! The lock, and the passes to it.
 
 ghost use Rattle.std.specs.Prelude.{◌≡◌, ℕ, ◌+◌, ◌-◌, ◌≤◌, ◌<◌, [], length, IfOk};
-ghost use Rattle.std.specs.List.{range_with_len};
+ghost use Rattle.std.specs.List.{AllByRecursion, range_with_len};
 ghost use Rattle.tardis_base.specs.Plain.{state_after};
+ghost use Rattle.trail_log.specs.Frames.{IsEntry};
 ghost use Rattle.dag_lock.specs.Turns.{kept_view, given_view};
 ghost use Rattle.dag_lock.specs.Told.{Rests, United};
 
@@ -79,6 +80,7 @@ impl<M: Machine> DagLock<M> {
         requires fits { length request.now ≤ 1048574 }
         ensures ended { Ended M.opening M.plain (start_of self.now) pass (actor, request.now) out.new result.0 result.1 }
         ensures pass { Keeps pass result.0 }
+        ensures each { AllByRecursion IsEntry result.0.seen }
     {
         let Pass { badge } = pass;
         let mut seat: Seat<M> = badge.into_seat();

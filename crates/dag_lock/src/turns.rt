@@ -111,7 +111,9 @@ pub(crate) fn act<M: Machine>(
     ensures acts { Holds seat.old.me (λ x. Holds seat.new.me (λ y. Acts M.opening M.plain (actor, request.now) result out.new x y)) }
 {
     let machine = seat.slot_mut(words, 0);
-    machine.act(actor, request, out)
+    let acted = machine.act(actor, request, out);
+    machine.entries_fit();
+    acted
 }
 
 /// Puts the machine back and passes the turn on. Only where a pass sleeps are those that sleep woken.

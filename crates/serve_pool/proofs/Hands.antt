@@ -1,11 +1,11 @@
 -- What a gate tells while links are handed out and put back.
-use Rattle.std.proofs.Common.{◌≡◌, ◌<◌, ◌≤◌, ◌+◌, ◌-◌, ℕ, List, [], ◌∷◌, ◌++◌, length, Option, Some, None, Ok, Err, sym, ap, ◌∙◌, ◌⊎◌, inl, inr, subst, refl, arith, append_assoc}
+use Rattle.std.proofs.Common.{◌≡◌, ◌<◌, ◌≤◌, ◌+◌, ◌-◌, ℕ, List, [], ◌∷◌, ◌++◌, length, Option, Some, None, Ok, Err, sym, ap, ◌∙◌, inl, inr, subst, refl, arith, append_assoc}
 use Rattle.tardis_io.specs.Faults.{Rose}
 use Rattle.tardis_io.specs.declared.faults.Failed.{Failed}
 use Rattle.tardis_io.specs.Links.{ToldGate, HandsNext, IsOut, with_back}
 use Rattle.session_serve.specs.declared.ends.SessionEnd.{SessionEnd}
 use Rattle.session_serve.specs.declared.ends.SessionEnd.TheVariants.{Ended, Cut, LongFrame, ReadFault, WriteFault, Spent, NoMemory}
-use Rattle.serve_pool.specs.Rows.{Taken, wanting, unserved_in, links_of, backs_from, HandsBack, HasNone}
+use Rattle.serve_pool.specs.Rows.{Taken, wanting, unserved_in, backs_from, HandsBack, HasNone}
 use Rattle.serve_pool.proofs.Longer.{nil_right}
 
 pub rose_later : (a b c : ℕ) → a ≤ b → Rose b c → Rose a c

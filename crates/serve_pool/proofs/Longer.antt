@@ -1,5 +1,5 @@
 -- What was seen, and a longer list.
-use Rattle.std.proofs.Common.{◌≡◌, ◌≤◌, ◌<◌, ◌+◌, ℕ, List, [], ◌∷◌, ◌++◌, length, Option, Some, sym, ap, ◌∙◌, ◌⊎◌, inl, inr, subst, refl, arith, append_assoc, length-append}
+use Rattle.std.proofs.Common.{◌≡◌, ◌≤◌, ◌+◌, ℕ, List, [], ◌∷◌, ◌++◌, length, Option, Some, sym, ap, ◌∙◌, inl, inr, subst, refl, arith, append_assoc, length-append}
 use Rattle.std.specs.List.{AllByRecursion, slice_get}
 use Rattle.tardis_base.specs.Plain.{Event, PlainMachine}
 use Rattle.tardis_io.proofs.Told.{weaker}

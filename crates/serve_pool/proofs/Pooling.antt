@@ -1,15 +1,15 @@
 -- Serving a link beside others, and putting it back.
-use Rattle.std.proofs.Common.{◌≡◌, ◌≤◌, ◌<◌, ◌+◌, ◌-◌, ℕ, List, [], ◌∷◌, ◌++◌, length, drop, Option, Some, Ok, sym, ap, ◌∙◌, ◌⊎◌, inl, inr, subst, refl, arith}
-use Rattle.tardis_base.specs.Plain.{Event, PlainMachine}
+use Rattle.std.proofs.Common.{◌≡◌, ◌≤◌, ◌<◌, ◌+◌, ◌-◌, ℕ, List, [], ◌∷◌, length, Option, Some, Ok, sym, ap, ◌∙◌, ◌⊎◌, inl, inr, subst, refl, arith}
+use Rattle.tardis_base.specs.Plain.{PlainMachine}
 use Rattle.tardis_io.specs.Faults.{Rose}
 use Rattle.tardis_io.specs.Links.{ToldGate, HandsNext, with_back}
-use Rattle.dag_lock.specs.Known.{Known, Begins, merged}
-use Rattle.dag_lock.specs.Steps.{Keeps, IsLonger}
+use Rattle.dag_lock.specs.Known.{Known, merged}
+use Rattle.dag_lock.specs.Steps.{IsLonger}
 use Rattle.session_serve.specs.Laws.{LongerKeepsOutcomes}
 use Rattle.session_serve.specs.declared.ends.SessionEnd.{SessionEnd}
 use Rattle.serve_pool.specs.declared.ends.Served.{Served}
 use Rattle.serve_pool.specs.declared.ends.PoolEnd.TheVariants.{Done, GateFault}
-use Rattle.serve_pool.specs.Rows.{Taken, wanting, unserved_in, places_with, HandsBack, HasNone}
+use Rattle.serve_pool.specs.Rows.{Taken, wanting, places_with, HandsBack, HasNone}
 use Rattle.serve_pool.specs.Pools.{taken_by, ServesOne, Serves, ServesBeside, Pools, PoolsBeside}
 use Rattle.serve_pool.proofs.Longer.{begins_same, first_begins, second_begins, begins_then, served_longer, all_longer}
 use Rattle.serve_pool.proofs.Hands.{hands_last, none_left, rose_later, unserved_most}

@@ -1,5 +1,5 @@
 -- Links that were taken.
-use Rattle.std.specs.Prelude.{◌≡◌, ℕ, ◌+◌, List, [], ◌∷◌, ◌++◌, map, Option, Some, None}
+use Rattle.std.specs.Prelude.{◌≡◌, ℕ, ◌+◌, List, [], ◌∷◌, ◌++◌, Option, Some, None}
 use Rattle.tardis_io.specs.Links.{ToldGate}
 use Rattle.dag_lock.specs.Known.{merged}
 use Rattle.session_serve.specs.declared.ends.SessionEnd.{SessionEnd}

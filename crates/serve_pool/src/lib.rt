@@ -2,7 +2,9 @@
 #![tactic(auto)]
 
 mod ends;
+mod laws;
 mod pools;
 
 pub use ends::{PoolEnd, Served};
+pub use laws::servings_last;
 pub use pools::serve_all;

@@ -1,0 +1,2 @@
+-- Lemmas on the two sides of a server.
+mod Joining

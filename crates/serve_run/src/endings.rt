@@ -1,6 +1,8 @@
 //! How a server ends.
 
 use serve_pool::PoolEnd;
+use site_sync::Rounds;
+use tardis_base::NoMemory;
 use tardis_io::WriteFault;
 
 /// What serving came to.
@@ -10,6 +12,8 @@ pub struct Serving {
     pub unserved: u16,
     /// Why no more links were taken.
     pub gate: PoolEnd,
+    /// What the rounds came to. With no memory for their buffers none was made.
+    pub rounds: Result<Rounds, NoMemory>,
     /// Whether the whole trail was written.
     pub written: Result<(), WriteFault>,
 }

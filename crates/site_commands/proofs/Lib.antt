@@ -3,3 +3,4 @@ pub mod FrameRuns
 pub mod LineRuns
 pub mod NoMemory
 mod Servers
+mod Counting

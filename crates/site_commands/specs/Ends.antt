@@ -1,11 +1,13 @@
 -- How a site's commands end: what was read and written, what the status says, and what stays as it was.
-use Rattle.std.specs.Prelude.{◌≡◌, ℕ, ◌<◌, ◌≤◌, ◌⊎◌, List, length, Option, Result, Ok, Err, nat_lt, if◌then◌else◌}
+use Rattle.std.specs.Prelude.{◌≡◌, ℕ, ◌<◌, ◌≤◌, ◌⊎◌, Bool, true, false, ◌||◌, List, length, Option, Result, Ok, Err, nat_lt, if◌then◌else◌}
 use Rattle.tardis_io.specs.declared.statuses.Status.{Status}
-use Rattle.tardis_io.specs.declared.statuses.Status.TheVariants.{Ok as Well, WriteFault, NoMemory, GateFault}
+use Rattle.tardis_io.specs.declared.statuses.Status.TheVariants.{Ok as Well, WriteFault, NoMemory, GateFault, DialFault}
 use Rattle.tardis_io.specs.declared.faults.WriteFault.{WriteFault as NotWritten}
 use Rattle.tardis_io.specs.Told.{WhileTold}
 use Rattle.tardis_io.specs.Faults.{Rose}
-use Rattle.tardis_io.specs.Links.{ToldGate}
+use Rattle.tardis_io.specs.Links.{ToldGate, ToldDial}
+use Rattle.tardis_base.specs.declared.faults.NoMemory.{NoMemory as OutOfMemory}
+use Rattle.site_sync.specs.declared.ends.Rounds.{Rounds}
 use Rattle.frame_cut.specs.Frames.{IsCut}
 use Rattle.line_cut.specs.Lines.{IsCut as AreLines}
 use Rattle.site_run.specs.Endings.{EndsAs, IsRunEnd, most_taken}
@@ -14,7 +16,8 @@ use Rattle.serve_pool.specs.declared.ends.PoolEnd.{PoolEnd}
 use Rattle.serve_pool.specs.declared.ends.PoolEnd.TheVariants.{Done as AllServed, GateFault as NextFailed}
 use Rattle.serve_run.specs.declared.endings.ServeEnd.{ServeEnd}
 use Rattle.serve_run.specs.declared.endings.ServeEnd.TheVariants.{NotBound, NotMade, Served}
-use Rattle.serve_run.specs.Serving.{ServeOutcome}
+use Rattle.serve_run.specs.Serving.{Workload, ServeOutcome}
+use Rattle.session_core.specs.Machine.{opened_with}
 use Rattle.plain_site.specs.Site.{Site}
 use Rattle.plain_site.specs.Step.{site_machine}
 
@@ -46,25 +49,40 @@ module _ {I O : Type 0} (left : I → Option (List ℕ)) (reads : I → ℕ) (wr
     pub end : IsLineEnd status
     pub nothing : status ≡ NoMemory → (new ≡ old) × (after ≡ before)
 
--- the status of a server that served: what failed first, taking links before writing the trail
-abbrev pub status_served : PoolEnd → Result (Unit {0}) NotWritten → Status
-status_served NextFailed written = GateFault
-status_served AllServed (Err fault) = WriteFault
-status_served AllServed (Ok done) = Well
+-- the rounds had no memory for their buffers, for an exchange, or for a step of the upkeep
+abbrev pub rounds_lack_memory : Result Rounds OutOfMemory → Bool
+rounds_lack_memory (Err fault) = true
+rounds_lack_memory (Ok n) = nat_lt 0 n.memory
 
--- The status of a server that ended so. Before all else comes that it couldn't listen, and then want of memory, for the lock
--- or for a link.
+-- an exchange found no link to its peer
+abbrev pub has_dial_fault : Result Rounds OutOfMemory → Bool
+has_dial_fault (Err fault) = false
+has_dial_fault (Ok n) = nat_lt 0 n.dial
+
+-- the status of a server that served, where there was memory: taking links comes first, then writing the trail, then calling
+-- peers
+abbrev pub status_served : PoolEnd → Result (Unit {0}) NotWritten → Bool → Status
+status_served NextFailed written not_called = GateFault
+status_served AllServed (Err fault) not_called = WriteFault
+status_served AllServed (Ok done) true = DialFault
+status_served AllServed (Ok done) false = Well
+
+-- The status of a server that ended so. Before all else comes that it couldn't listen, and then want of memory, for the lock,
+-- for a link or for the rounds.
 abbrev pub status_after : ServeEnd → Status
 status_after NotBound = GateFault
 status_after NotMade = NoMemory
-status_after (Served s) = if nat_lt 0 s.unserved then NoMemory else status_served s.gate s.written
+status_after (Served s) = if nat_lt 0 s.unserved || rounds_lack_memory s.rounds then NoMemory else status_served s.gate s.written (has_dial_fault s.rounds)
 
-module _ {L G O : Type 0} (link_left link_given : L → Option (List ℕ)) (link_takes link_gives : L → ℕ) (told : G → Option (ToldGate L)) (gates : G → ℕ)
-    (given : O → Option (List ℕ)) (writes : O → ℕ) (old new : G) (before after : O) where
-  -- How a server of so many links ends, whose lock opens with this plain site and whose trail has room for so many bytes. Its
-  -- status is that of its end. Where neither the gate nor the output counted a fault, all is well or there was no memory.
-  pub record ServerEnds (site : Site) (max_trail links : ℕ) (status : Status) : Type 0 where
+module _ {L G X D O : Type 0} (link_left link_given : L → Option (List ℕ)) (link_takes link_gives : L → ℕ) (told : G → Option (ToldGate L)) (gates : G → ℕ)
+    (peer_left peer_given : X → Option (List ℕ)) (peer_takes peer_gives : X → ℕ) (dial_told : D → Option (ToldDial X)) (dials : D → ℕ)
+    (given : O → Option (List ℕ)) (writes : O → ℕ) (old new : G) (d e : D) (before after : O) where
+  -- How a server with this work ends, whose lock opens with this plain site and whose trail has room for so many bytes. Its
+  -- status is that of its end. Where neither the gate nor the dial nor the output counted a fault, all is well or there was
+  -- no memory.
+  pub record ServerEnds (site : Site) (max_trail : ℕ) (work : Workload) (status : Status) : Type 0 where
     pub end : ServeEnd
-    pub outcome : ServeOutcome link_left link_given link_takes link_gives site_machine site max_trail told gates given writes links old new before after end
+    pub outcome : ServeOutcome opened_with site_machine link_left link_given link_takes link_gives peer_left peer_given peer_takes peer_gives dial_told dials
+        site max_trail told gates given writes work old new d e before after end
     pub judged : status ≡ status_after end
-    pub complete : (Rose (gates old) (gates new) → ⊥) → (Rose (writes before) (writes after) → ⊥) → (status ≡ Well) ⊎ (status ≡ NoMemory)
+    pub complete : (Rose (gates old) (gates new) → ⊥) → (Rose (dials d) (dials e) → ⊥) → (Rose (writes before) (writes after) → ⊥) → (status ≡ Well) ⊎ (status ≡ NoMemory)

@@ -4,6 +4,7 @@
 //! The commands are stated in `docs/COMMANDS.md`.
 #![tactic(auto)]
 
+mod counts;
 mod lines;
 mod runs;
 mod serves;

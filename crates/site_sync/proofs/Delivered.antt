@@ -2,16 +2,16 @@
 use Rattle.std.proofs.Common.{◌≡◌, ◌≢◌, ℕ, ◌+◌, ◌<◌, ◌≤◌, List, [], ◌∷◌, ◌++◌, length, map, take, Some, slice_get, refl, ap, sym, ◌∙◌, subst, arith, length-append}
 use Rattle.std.proofs.lemmas.List.{take_all}
 use Rattle.tardis_base.specs.declared.records.Item.{Item}
-use Rattle.tardis_base.specs.Plain.{Event, PlainMachine}
+use Rattle.tardis_base.specs.Plain.{PlainMachine}
 use Rattle.trail_log.specs.Trail.{Kept}
 use Rattle.trail_log.specs.declared.acted.Acted.{Acted}
 use Rattle.trail_log.specs.declared.acted.Acted.TheVariants.{Done}
 use Rattle.dag_lock.specs.Known.{Known}
-use Rattle.site_sync.specs.Asking.{delivery, how_many}
+use Rattle.site_sync.specs.Asking.{delivery}
 use Rattle.site_sync.specs.Steps.{GoesOn, StepsOnce, Asks}
 use Rattle.site_sync.specs.Delivering.{tally_of, tally_with, DeliversAll, StopsAt}
 use Rattle.site_sync.specs.declared.tallies.Tally.{Tally}
-use Rattle.site_sync.proofs.Items.{Place, place_of, map_append}
+use Rattle.site_sync.proofs.Items.{place_of, map_append}
 use Rattle.site_sync.proofs.Counts.{how_many_then, how_many_most}
 use Rattle.site_sync.proofs.Going.{goes_nowhere, goes_then, asks_then, unanswered}
 

@@ -1,5 +1,5 @@
 -- Where no fault came and the peer's answer is a batch, it is taken.
-use Rattle.std.proofs.Common.{◌≡◌, ℕ, ◌⊎◌, inl, inr, List, ◌++◌, Option, Some, Result, Ok, Err, refl, sym, ◌∙◌, subst}
+use Rattle.std.proofs.Common.{◌≡◌, ℕ, inl, inr, List, ◌++◌, Result, Ok, Err, refl, sym, ◌∙◌, subst}
 use Rattle.tardis_base.specs.declared.records.Batch.{Batch}
 use Rattle.tardis_base.specs.declared.replies.Reply.TheVariants.{Batch as BatchIs}
 use Rattle.tardis_base.specs.Plain.{PlainMachine}

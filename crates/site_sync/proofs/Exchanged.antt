@@ -1,10 +1,12 @@
 -- Exchanges over a link, and with a peer.
-use Rattle.std.proofs.Common.{◌≡◌, ◌≢◌, ◌<◌, ◌≤◌, ℕ, ◌⊎◌, inl, inr, List, [], ◌∷◌, ◌++◌, length, Option, Some, Result, Ok, Err, refl, ap, sym, ◌∙◌, subst, arith}
+use Rattle.std.proofs.Common.{◌≡◌, ◌≢◌, ◌≤◌, ℕ, ◌⊎◌, inl, inr, List, [], length, Option, Some, Result, Ok, Err, refl, ap, sym, ◌∙◌, subst, arith, ◌++◌, ◌∷◌}
 use Rattle.tardis_base.specs.declared.records.Batch.{Batch}
 use Rattle.tardis_base.specs.declared.replies.SiteLine.{SiteLine}
-use Rattle.tardis_base.specs.Plain.{PlainMachine, reply_at, state_after}
+use Rattle.tardis_base.specs.Plain.{Event, PlainMachine, reply_at, state_after}
+use Rattle.std.specs.List.{AllByRecursion}
+use Rattle.trail_log.specs.Frames.{IsEntry}
 use Rattle.tardis_io.specs.Told.{WhileTold}
-use Rattle.tardis_io.specs.Faults.{Rose, MayRise}
+use Rattle.tardis_io.specs.Faults.{Rose}
 use Rattle.tardis_io.specs.Links.{ToldDial, HandsCalled, with_hung}
 use Rattle.tardis_io.specs.declared.faults.Failed.{Failed}
 use Rattle.trail_log.specs.Trail.{Kept}
@@ -15,7 +17,7 @@ use Rattle.site_sync.specs.Asking.{stat, items, AreStatistics, TellsCounts, pull
 use Rattle.site_sync.specs.Steps.{GoesOn, StepsOnce}
 use Rattle.site_sync.specs.Fetching.{Gave, Fetched}
 use Rattle.site_sync.specs.Delivering.{Delivers}
-use Rattle.site_sync.specs.Exchanges.{IsEndOf, BatchIsTaken, CallsBack, Uses, Unasked, Asked, Exchange, NoLink, OneLink, Syncs}
+use Rattle.site_sync.specs.Exchanges.{IsEndOf, BatchIsTaken, CallsBack, Uses, Unasked, Asked, Exchange, Syncs}
 use Rattle.site_sync.specs.declared.ends.SyncEnd.{SyncEnd}
 use Rattle.site_sync.specs.declared.ends.SyncEnd.TheVariants.{DialFault, ReadFault, WriteFault, TrailFull, NoMemory}
 use Rattle.tardis_io.proofs.Told.{weaker, same as same_told}
@@ -24,12 +26,16 @@ use Rattle.site_sync.proofs.Items.{same_some}
 use Rattle.site_sync.proofs.Going.{goes_nowhere, unanswered, reply_behind}
 use Rattle.site_sync.proofs.Calls.{rose_on, calls_back, not_called}
 
+all_front : (xs ys : List Event) → AllByRecursion IsEntry (xs ++ ys) → AllByRecursion IsEntry xs
+all_front [] ys all = tt
+all_front (x ∷ xs) ys all = (all.0, all_front xs ys all.1)
+
 module _ {M P : Type 0} (opening : M → P) (m : PlainMachine P) (z : Kept M) where
   -- the machine told its counts
-  pub told_counts : (p q : Known) (out : List ℕ) → TellsCounts m (opening z.machine) → StepsOnce opening m z p stat out q Done → (lines : List SiteLine) × AreStatistics out lines
-  told_counts p q out tells s =
+  pub told_counts : (p q : Known) (out : List ℕ) → TellsCounts m (opening z.machine) → StepsOnce opening m z p stat out q Done → AllByRecursion IsEntry q.seen → (lines : List SiteLine) × AreStatistics out lines
+  told_counts p q out tells s each =
       let before = s.ended.0 in
-      let told = tells before in
+      let told = tells before (all_front before (stat ∷ []) (subst (λ l. AllByRecursion IsEntry l) s.ended.2 each)) in
       let at : reply_at m (opening z.machine) q.seen (length before) ≡ Some (m.reply (state_after m (opening z.machine) before) stat) =
       ap (λ l. reply_at m (opening z.machine) l (length before)) s.ended.2 ∙ reply_behind m (opening z.machine) before stat [] in
       let same : m.reply (state_after m (opening z.machine) before) stat ≡ out = same_some (m.reply (state_after m (opening z.machine) before) stat) out (reply_at m (opening z.machine) q.seen (length before)) at s.ended.4 in
@@ -43,17 +49,27 @@ module _ {M P : Type 0} (opening : M → P) (m : PlainMachine P) (z : Kept M) wh
   write_answer (Ok batch) p q end u e = absurd (subst (λ x. Delivers opening m z (items batch) p q x) e u)
   write_answer (Err why) p q end u e = ap Err (sym u.1 ∙ e)
 
-  end_no_fault : (acted : Acted) (end : SyncEnd) → IsEndOf acted end → (end ≡ ReadFault → ⊥) × (end ≡ WriteFault → ⊥)
+  dial_answer : (answer : Result Batch SyncEnd) (p q : Known) (end : SyncEnd) → Uses opening m z answer p q end → end ≡ DialFault → answer ≡ Err DialFault
+  dial_answer (Ok batch) p q end u e = absurd (subst (λ x. Delivers opening m z (items batch) p q x) e u)
+  dial_answer (Err why) p q end u e = ap Err (sym u.1 ∙ e)
+
+  end_no_fault : (acted : Acted) (end : SyncEnd) → IsEndOf acted end → (end ≡ ReadFault → ⊥) × (end ≡ WriteFault → ⊥) × (end ≡ DialFault → ⊥)
   end_no_fault Done end e = absurd e
-  end_no_fault (TrailIsFull bytes) end e = (λ f. no_read (sym e ∙ f), λ f. no_write (sym e ∙ f))
+  end_no_fault (TrailIsFull bytes) end e = (λ f. no_read (sym e ∙ f), λ f. no_write (sym e ∙ f), λ f. no_dial (sym e ∙ f))
     where
+      no_dial : TrailFull bytes ≡ DialFault → ⊥
+      no_dial f = absurd (cc)
+
       no_read : TrailFull bytes ≡ ReadFault → ⊥
       no_read f = absurd (cc)
 
       no_write : TrailFull bytes ≡ WriteFault → ⊥
       no_write f = absurd (cc)
-  end_no_fault OutOfMemory end e = (λ f. no_read (sym e ∙ f), λ f. no_write (sym e ∙ f))
+  end_no_fault OutOfMemory end e = (λ f. no_read (sym e ∙ f), λ f. no_write (sym e ∙ f), λ f. no_dial (sym e ∙ f))
     where
+      no_dial : NoMemory ≡ DialFault → ⊥
+      no_dial f = absurd (cc)
+
       no_read : NoMemory ≡ ReadFault → ⊥
       no_read f = absurd (cc)
 
@@ -72,6 +88,7 @@ module _ {M P : Type 0} (opening : M → P) (m : PlainMachine P) (z : Kept M) wh
           write_later = omega arith;
           read_fault = λ f. absurd (none.0 f);
           write_fault = λ f. absurd (none.1 f);
+          no_dial_fault = none.2;
           exact = same_told (left link) (BatchIsTaken (Rose (take_faults link) (take_faults link)) (Rose (faults link) (faults link)) end) (λ x. λ body rest batch is first spelled no_read no_write. stops_well acted end e);
         }
 
@@ -80,13 +97,15 @@ module _ {M P : Type 0} (opening : M → P) (m : PlainMachine P) (z : Kept M) wh
         → WhileTold (given handed) (given back) (λ before after. Gave answer before after (pull_frame lines)) → WhileTold (left handed) (left back) (Fetched answer)
         → Uses opening m z answer mid q end → take_faults handed ≤ take_faults back → faults handed ≤ faults back
         → (answer ≡ Err ReadFault → Rose (take_faults handed) (take_faults back)) → (answer ≡ Err WriteFault → Rose (faults handed) (faults back))
+        → (answer ≡ Err DialFault → ⊥)
         → Exchange opening m z left given take_faults faults p q handed back end
-    exchange_asked p mid q handed back end statistics lines answer are told gave read used later later' broke broke' = record {
+    exchange_asked p mid q handed back end statistics lines answer are told gave read used later later' broke broke' none = record {
       way = inr (record { statistics = statistics; lines = lines; are_statistics = are; mid = mid; told = told; answer = answer; gave = gave; read = read; used = used });
       read_later = later;
       write_later = later';
       read_fault = λ f. broke (read_answer answer mid q end used f);
       write_fault = λ f. broke' (write_answer answer mid q end used f);
+      no_dial_fault = λ f. none (dial_answer answer mid q end used f);
       exact = weaker (left handed) (left back) (Fetched answer) (BatchIsTaken (Rose (take_faults handed) (take_faults back)) (Rose (faults handed) (faults back)) end) read
           (λ x y f. λ body rest batch is first spelled no_read no_write.
           uses_well body rest batch is spelled opening m z answer mid q end x y first (λ w. no_read (broke (read_answer answer mid q end used w))) (λ w. no_write (broke' (write_answer answer mid q end used w))) f used);
@@ -117,6 +136,7 @@ module _ {M P : Type 0} (opening : M → P) (m : PlainMachine P) (z : Kept M) wh
       write_later = omega (arith, x.write_later, f);
       read_fault = λ e. subst (λ n. Rose (take_faults handed) n) (sym t) (x.read_fault e);
       write_fault = λ e. rose_on (faults handed) (faults link) (faults back) (x.write_fault e) x.write_later f;
+      no_dial_fault = x.no_dial_fault;
       exact = subst (λ o. WhileTold (left handed) o (BatchIsTaken (Rose (take_faults handed) (take_faults back)) (Rose (faults handed) (faults back)) end)) (sym l)
           (weaker (left handed) (left link) (BatchIsTaken (Rose (take_faults handed) (take_faults link)) (Rose (faults handed) (faults link)) end)
           (BatchIsTaken (Rose (take_faults handed) (take_faults back)) (Rose (faults handed) (faults back)) end) x.exact
@@ -128,7 +148,7 @@ module _ {M P : Type 0} (opening : M → P) (m : PlainMachine P) (z : Kept M) wh
     module _ {D : Type 0} (told : D → Option (ToldDial L)) (dial_faults : D → ℕ) where
       -- there was no memory for the buffers
       pub syncs_none : (p : Known) (d : D) → Syncs opening m z left given take_faults faults told dial_faults p p d d NoMemory
-      syncs_none p d = record { goes_on = goes_nowhere p; link = inl (record { pass = refl; dial = inr (refl, refl) }); later = omega arith }
+      syncs_none p d = record { goes_on = goes_nowhere p; link = inl (record { pass = refl; dial = inr (refl, refl) }); later = omega arith; cause = λ f. absurd (cc) }
 
       pub syncs_fault : (p : Known) (d e : D) (failed : Failed) → HandsCalled (told d) (told e) (Err failed) → Rose (dial_faults d) (dial_faults e) → dial_faults d ≤ dial_faults e
           → Syncs opening m z left given take_faults faults told dial_faults p p d e DialFault
@@ -136,6 +156,7 @@ module _ {M P : Type 0} (opening : M → P) (m : PlainMachine P) (z : Kept M) wh
         goes_on = goes_nowhere p;
         link = inl (record { pass = refl; dial = inl (refl, rose, not_called (told d) (told e) failed h) });
         later = later;
+        cause = λ f. rose;
       }
 
       pub syncs_link : (p q : Known) (d c e : D) (handed link back : L) (end : SyncEnd) → GoesOn p q → Exchange opening m z left given take_faults faults p q handed link end
@@ -151,4 +172,5 @@ module _ {M P : Type 0} (opening : M → P) (m : PlainMachine P) (z : Kept M) wh
           dial = subst (λ o. CallsBack handed back (told d) o) (sym hung) (calls_back handed back (told d) (told c) h);
         });
         later = omega (arith, later, same);
+        cause = λ f. absurd (x.no_dial_fault f);
       }

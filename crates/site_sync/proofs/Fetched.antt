@@ -1,5 +1,5 @@
 -- What is read of a link, piece by piece.
-use Rattle.std.proofs.Common.{◌≡◌, ℕ, ◌+◌, ◌-◌, ◌<◌, ◌≤◌, List, [], ◌∷◌, ◌++◌, length, take, drop, Result, Ok, Err, refl, ap, sym, ◌∙◌, subst, arith, append_assoc, append-nil, length-append}
+use Rattle.std.proofs.Common.{◌≡◌, ℕ, List, [], ◌++◌, length, take, Result, Ok, Err, refl, ap, sym, ◌∙◌, subst, arith, append_assoc, append-nil}
 use Rattle.std.proofs.lemmas.List.{take_all}
 use Rattle.tardis_base.specs.declared.records.Batch.{Batch}
 use Rattle.frame_cut.specs.Frames.{frame, IsBody, IsPartial, IsLong}
@@ -28,11 +28,11 @@ fetched_frame body held rest first left (Err Cut) is whole a all = absurd a
 fetched_frame body held rest first left (Err (LongFrame len)) is whole a all = absurd a
 fetched_frame body held rest first left (Err (TrailFull bytes)) is whole a all = absurd a
 
--- an answer is no fault of the link
-pub answer_end : (body : List ℕ) (r : Result Batch SyncEnd) → IsAnswer body r → (r ≡ Err ReadFault → ⊥) × (r ≡ Err WriteFault → ⊥)
-answer_end body (Ok batch) a = (λ e. absurd (cc), λ e. absurd (cc))
-answer_end body (Err BadReply) a = (λ e. absurd (cc), λ e. absurd (cc))
-answer_end body (Err NoMemory) a = (λ e. absurd (cc), λ e. absurd (cc))
+-- an answer is no fault of the link or the dial
+pub answer_end : (body : List ℕ) (r : Result Batch SyncEnd) → IsAnswer body r → (r ≡ Err ReadFault → ⊥) × (r ≡ Err WriteFault → ⊥) × (r ≡ Err DialFault → ⊥)
+answer_end body (Ok batch) a = (λ e. absurd (cc), λ e. absurd (cc), λ e. absurd (cc))
+answer_end body (Err BadReply) a = (λ e. absurd (cc), λ e. absurd (cc), λ e. absurd (cc))
+answer_end body (Err NoMemory) a = (λ e. absurd (cc), λ e. absurd (cc), λ e. absurd (cc))
 answer_end body (Err (Done applied known early refused)) a = absurd a
 answer_end body (Err DialFault) a = absurd a
 answer_end body (Err ReadFault) a = absurd a

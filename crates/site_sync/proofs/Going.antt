@@ -1,12 +1,12 @@
 -- Steps one behind another.
-use Rattle.std.proofs.Common.{◌≡◌, ◌≢◌, ℕ, List, [], ◌∷◌, ◌++◌, length, map, Some, refl, ap, sym, ◌∙◌, subst, append_assoc, append-nil}
+use Rattle.std.proofs.Common.{◌≡◌, ◌≢◌, ℕ, List, [], ◌∷◌, ◌++◌, length, Some, refl, ap, sym, ◌∙◌, subst, append_assoc, append-nil}
 use Rattle.tardis_base.specs.Plain.{Event, PlainMachine, reply_at, state_after}
 use Rattle.trail_log.specs.Trail.{Kept}
 use Rattle.trail_log.specs.declared.acted.Acted.{Acted}
 use Rattle.trail_log.specs.declared.acted.Acted.TheVariants.{Done, TrailFull, NoMemory}
 use Rattle.dag_lock.specs.Known.{Known, Begins}
 use Rattle.dag_lock.specs.Steps.{Ended, Keeps}
-use Rattle.site_sync.specs.Steps.{GoesOn, StepsOnce, Asks, Tries}
+use Rattle.site_sync.specs.Steps.{GoesOn, StepsOnce, Asks}
 
 begins_then : (xs ys zs : List Event) → Begins xs ys → Begins ys zs → Begins xs zs
 begins_then xs ys zs (a, p) (b, q) = (a ++ b, q ∙ (ap (λ t. t ++ b) p ∙ append_assoc xs a b))

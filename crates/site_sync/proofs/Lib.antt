@@ -8,4 +8,5 @@ mod Calls
 mod Exact
 mod Exchanged
 mod Rounding
+mod Causes
 mod Told

@@ -1,14 +1,14 @@
 -- Rounds one behind another.
-use Rattle.std.proofs.Common.{◌≡◌, ◌≤◌, ℕ, ◌+◌, ◌*◌, List, [], ◌∷◌, ◌++◌, length, Bool, Option, refl, ap, sym, ◌∙◌, subst, arith, length-append}
-use Rattle.tardis_base.specs.Plain.{Event, PlainMachine}
+use Rattle.std.proofs.Common.{◌≡◌, ◌≤◌, ℕ, ◌+◌, ◌*◌, List, [], ◌∷◌, ◌++◌, Bool, Option, refl, ap, sym, ◌∙◌, subst, arith, length-append}
+use Rattle.tardis_base.specs.Plain.{PlainMachine}
 use Rattle.tardis_io.specs.Links.{ToldDial}
 use Rattle.trail_log.specs.Trail.{Kept}
 use Rattle.trail_log.specs.declared.acted.Acted.{Acted}
 use Rattle.trail_log.specs.declared.acted.Acted.TheVariants.{Done, TrailFull as TrailIsFull, NoMemory as OutOfMemory}
 use Rattle.dag_lock.specs.Known.{Known}
-use Rattle.site_sync.specs.Steps.{GoesOn, StepsOnce}
+use Rattle.site_sync.specs.Steps.{GoesOn}
 use Rattle.site_sync.specs.Exchanges.{Syncs}
-use Rattle.site_sync.specs.Rounds.{with_end, with_step, with_ends, with_steps, upkeep_if, Tidies, AreExchanges, Calls, IsRound, AreRounds}
+use Rattle.site_sync.specs.Rounds.{with_end, with_step, with_ends, AreExchanges, Calls, IsRound, AreRounds}
 use Rattle.site_sync.specs.declared.ends.Rounds.{Rounds}
 use Rattle.site_sync.specs.declared.ends.SyncEnd.{SyncEnd}
 use Rattle.site_sync.specs.declared.ends.SyncEnd.TheVariants.{Done as Synced, DialFault, ReadFault, WriteFault, Cut, LongFrame, BadReply, TrailFull, NoMemory}

@@ -1,5 +1,5 @@
 -- Reading statistics takes no memory.
-use Rattle.std.proofs.Common.{◌≡◌, ◌↔◌, List, ℕ, IsTrue, Option, Some, None, Result, Err, refl, sym, ◌∙◌}
+use Rattle.std.proofs.Common.{◌≡◌, ◌↔◌, List, ℕ, IsTrue, Option, Some, None, Result, Err, refl}
 use Rattle.tardis_base.specs.declared.faults.ReadFault.{ReadFault}
 use Rattle.tardis_base.specs.declared.faults.ReadFault.TheVariants.{Malformed, NoMemory as OutOfMemory}
 use Rattle.tardis_base.specs.declared.replies.SiteLine.{SiteLine}

@@ -1,5 +1,5 @@
 -- What an exchange and the upkeep ask, all by actor 0.
-use Rattle.std.specs.Prelude.{◌≡◌, ℕ, Bool, true, false, ◌+◌, ◌==◌, List, [], ◌∷◌, ◌++◌, map, if◌then◌else◌}
+use Rattle.std.specs.Prelude.{◌≡◌, ℕ, Bool, false, ◌+◌, ◌==◌, List, [], ◌∷◌, ◌++◌, map, if◌then◌else◌}
 use Rattle.tardis_base.specs.declared.records.Item.{Item}
 use Rattle.tardis_base.specs.declared.records.Item.TheVariants.{State, Promise}
 use Rattle.tardis_base.specs.declared.records.Batch.{Batch}
@@ -8,6 +8,8 @@ use Rattle.tardis_base.specs.declared.replies.SiteLine.{SiteLine}
 use Rattle.tardis_base.specs.declared.replies.Reply.{Reply}
 use Rattle.tardis_base.specs.declared.replies.Reply.TheVariants.{Stat as Statistics}
 use Rattle.tardis_base.specs.Plain.{Event, PlainMachine, state_after}
+use Rattle.std.specs.List.{AllByRecursion}
+use Rattle.trail_log.specs.Frames.{IsEntry}
 use Rattle.frame_cut.specs.Frames.{frame}
 use Rattle.wire_item.specs.Spellings.{u32_spelling}
 use Rattle.wire_talk.specs.Spellings.{request_spelling}
@@ -48,9 +50,9 @@ pull_frame lines = frame (request_spelling (Pull (map (λ line. line.count) line
 abbrev pub count_spelling : SiteLine → List ℕ
 count_spelling line = u32_spelling line.count
 
--- whatever was asked before, the machine answers Stat by statistics
+-- whatever a trail may hold was asked before, the machine answers Stat by statistics
 abbrev pub TellsCounts : {P : Type 0} → PlainMachine P → P → Type 0
-TellsCounts m start = (trail : List Event) → (lines : List SiteLine) × AreStatistics (m.reply (state_after m start trail) stat) lines
+TellsCounts m start = (trail : List Event) → AllByRecursion IsEntry trail → (lines : List SiteLine) × AreStatistics (m.reply (state_after m start trail) stat) lines
 
 -- the bytes of a reply of this code
 abbrev pub has_code : ℕ → List ℕ → Bool

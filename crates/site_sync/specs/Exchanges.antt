@@ -79,6 +79,7 @@ module _ {M P : Type 0} (opening : M → P) (m : PlainMachine P) (z : Kept M) wh
       pub write_later : faults handed ≤ faults back
       pub read_fault : end ≡ ReadFault → Rose (take_faults handed) (take_faults back)
       pub write_fault : end ≡ WriteFault → Rose (faults handed) (faults back)
+      pub no_dial_fault : end ≡ DialFault → ⊥
       pub exact : WhileTold (left handed) (left back) (BatchIsTaken (Rose (take_faults handed) (take_faults back)) (Rose (faults handed) (faults back)) end)
 
     module _ {D : Type 0} (told : D → Option (ToldDial L)) (dial_faults : D → ℕ) where
@@ -99,3 +100,4 @@ module _ {M P : Type 0} (opening : M → P) (m : PlainMachine P) (z : Kept M) wh
         pub goes_on : GoesOn p q
         pub link : NoLink p q d e end ⊎ OneLink p q d e end
         pub later : dial_faults d ≤ dial_faults e
+        pub cause : end ≡ DialFault → Rose (dial_faults d) (dial_faults e)

@@ -1,5 +1,5 @@
 -- Rounds of exchanges.
-use Rattle.std.specs.Prelude.{◌≡◌, ℕ, ◌+◌, List, [], ◌∷◌, ◌++◌, length, Bool, Option, if◌then◌else◌}
+use Rattle.std.specs.Prelude.{◌≡◌, ℕ, ◌+◌, List, [], ◌∷◌, length, Bool, Option, if◌then◌else◌}
 use Rattle.tardis_base.specs.Plain.{Event, PlainMachine}
 use Rattle.tardis_io.specs.Links.{ToldDial}
 use Rattle.trail_log.specs.Trail.{Kept}

@@ -34,6 +34,7 @@ pub(crate) fn fetch<D: Duplex>(
     ensures write_later { D.faults device.old ≤ D.faults device.new }
     ensures read { result ≡ Err SyncEnd.ReadFault → Rose (D.take_faults device.old) (D.take_faults device.new) }
     ensures write { result ≡ Err SyncEnd.WriteFault → Rose (D.faults device.old) (D.faults device.new) }
+    ensures no_dial { result ≡ Err SyncEnd.DialFault → ⊥ }
 {
     match write_all(device, request) {
         Ok(()) => read_batch(alloc, device, cutter, piece),
@@ -57,6 +58,7 @@ fn read_batch<D: Duplex>(
     ensures read_later { D.take_faults device.old ≤ D.take_faults device.new }
     ensures read { result ≡ Err SyncEnd.ReadFault → Rose (D.take_faults device.old) (D.take_faults device.new) }
     ensures write { result ≡ Err SyncEnd.WriteFault → ⊥ }
+    ensures no_dial { result ≡ Err SyncEnd.DialFault → ⊥ }
 {
     loop {
         match cutter.next() {

@@ -1,6 +1,7 @@
 //! Rounds of exchanges.
 
 ghost use Rattle.std.specs.Prelude.{◌≡◌, ◌+◌, ◌<◌, ◌≤◌, length, IfOk, OnErr};
+ghost use Rattle.tardis_io.specs.Faults.{Rose};
 ghost use Rattle.dag_lock.specs.Named.{lock_id, start_of};
 ghost use Rattle.site_sync.specs.Asking.{TellsCounts, upkeep};
 ghost use Rattle.site_sync.specs.Steps.{GoesOn, Tries};
@@ -20,7 +21,8 @@ use trail_log::Acted;
 /// the one before. With `tidy` each round is followed by RaiseAuto and Tidy 64, so that a site that its peers keep up with
 /// collects what nobody reads at any more. All steps are those of actor 0.
 ///
-/// There is no pause between two rounds. With no memory for the buffer of the upkeep no peer is called.
+/// There is no pause between two rounds. With no memory for the buffer of the upkeep no peer is called. For no rounds no
+/// memory is taken.
 pub fn run_rounds<M: Machine, D: Dial, R: Wait>(
     alloc: Global,
     rt: &R,
@@ -39,7 +41,12 @@ pub fn run_rounds<M: Machine, D: Dial, R: Wait>(
     ensures rounds { IfOk result.1 (λ n. AreRounds M.opening M.plain (start_of lock.now) D.Link.left D.Link.given D.Link.take_faults D.Link.faults D.told D.faults
         rounds (length peers.now) tidy pass dial.old n result.0 dial.new) }
     ensures nothing { OnErr result.1 ((result.0 ≡ pass) × (dial.new ≡ dial.old)) }
+    ensures later { D.faults dial.old ≤ D.faults dial.new }
+    ensures cause { IfOk result.1 (λ n. 0 < n.dial → Rose (D.faults dial.old) (D.faults dial.new)) }
 {
+    if rounds == 0 {
+        return (pass, Ok(Rounds { dial: 0, memory: 0 }));
+    }
     let Ok(mut reply) = ReplyBuf::new(alloc) else {
         return (pass, Err(NoMemory));
     };

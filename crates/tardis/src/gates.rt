@@ -1,9 +1,9 @@
-//! A gate that says where it listens.
+//! A gate that says where it listens, and a dial that says whom it can't reach.
 
 ghost use Rattle.std.specs.Prelude.{◌≡◌};
 
 use std::io::Eprint;
-use tardis_io::{Failed, Gate};
+use tardis_io::{Dial, Failed, Gate};
 
 /// A gate that writes a line on standard error once it listens, so that whoever started the program knows that links may
 /// come.
@@ -43,5 +43,45 @@ impl<R: Eprint, G: Gate> Gate for TellingGate<'_, R, G> {
 
     fn put_back(&mut self, session: u16, link: G::Link) {
         self.gate.put_back(session, link);
+    }
+}
+
+/// A dial that writes a line on standard error for each call that fails, so that whoever started the program knows which
+/// peers aren't there.
+#[derive(Drop)]
+pub(crate) struct TellingDial<'a, R, D> {
+    rt: &'a R,
+    dial: D,
+}
+
+impl<'a, R, D> TellingDial<'a, R, D> {
+    pub(crate) fn new(rt: &'a R, dial: D) -> TellingDial<'a, R, D>
+        ensures { result.dial ≡ dial }
+    {
+        TellingDial { rt, dial }
+    }
+}
+
+impl<R: Eprint, D: Dial> Dial for TellingDial<'_, R, D> {
+    type Link = D::Link;
+
+    ghost told = { λ d. D.told d.dial };
+
+    ghost faults = { λ d. D.faults d.dial };
+
+    fn call(&mut self, address: &str) -> Result<D::Link, Failed> {
+        match self.dial.call(address) {
+            Ok(link) => Ok(link),
+            Err(Failed) => {
+                let _ = self
+                    .rt
+                    .eprintln(format_args!("tardis: no link to {address}"));
+                Err(Failed)
+            }
+        }
+    }
+
+    fn put_back(&mut self, link: D::Link) {
+        self.dial.put_back(link);
     }
 }

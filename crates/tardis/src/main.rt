@@ -1,4 +1,4 @@
-//! The program: makes the real input, output and gate, hands them to `tardis_main`, and tells how it ended.
+//! The program: makes the real input, output, gate and dial, hands them to `tardis_main`, and tells how it ended.
 //!
 //! The commands and the statuses are stated in `docs/COMMANDS.md`.
 #![tactic(auto)]
@@ -9,8 +9,8 @@ ghost use Rattle.tardis_io.specs.Statuses.{status_number};
 
 mod gates;
 
-use gates::TellingGate;
-use socket_links::SocketGate;
+use gates::{TellingDial, TellingGate};
+use socket_links::{SocketDial, SocketGate};
 use std::alloc::Global;
 use std::env::{self, Args};
 use std::fs::Files;
@@ -67,7 +67,17 @@ where
     match given {
         Ok(Given { args, keys }) => {
             let mut gate = TellingGate::new(rt, SocketGate::new(rt));
-            carry_out(alloc, rt, keys, args, &mut input, &mut output, &mut gate)
+            let mut dial = TellingDial::new(rt, SocketDial::new(rt));
+            carry_out(
+                alloc,
+                rt,
+                keys,
+                args,
+                &mut input,
+                &mut output,
+                &mut gate,
+                &mut dial,
+            )
         }
         Err(status) => status,
     }

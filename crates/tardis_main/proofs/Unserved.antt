@@ -1,7 +1,8 @@
--- How a server ends that had no memory: it listened to nothing, and wrote nothing.
+-- How a server ends that had no memory: it listened to nothing, called nobody, and wrote nothing.
 use Rattle.std.proofs.Common.{◌≡◌, ℕ, List, Option, refl, ap, inr, arith}
-use Rattle.tardis_io.specs.Links.{ToldGate}
+use Rattle.tardis_io.specs.Links.{ToldGate, ToldDial}
 use Rattle.tardis_io.specs.declared.statuses.Status.TheVariants.{NoMemory}
+use Rattle.serve_run.specs.Serving.{Workload}
 use Rattle.serve_run.specs.declared.endings.ServeEnd.{ServeEnd}
 use Rattle.serve_run.specs.declared.endings.ServeEnd.TheVariants.{NotBound, NotMade, Served}
 use Rattle.plain_site.specs.Site.{Site}
@@ -12,18 +13,21 @@ number_of NotBound = 0
 number_of NotMade = 1
 number_of (Served s) = 2
 
-module _ {L G O : Type 0} (link_left link_given : L → Option (List ℕ)) (link_takes link_gives : L → ℕ) (told : G → Option (ToldGate L)) (gates : G → ℕ)
-    (given : O → Option (List ℕ)) (writes : O → ℕ) (gate : G) (output : O) where
-  pub no_server : (site : Site) (max_trail links : ℕ) → ServerEnds link_left link_given link_takes link_gives told gates given writes gate gate output output site max_trail links NoMemory
-  no_server site max_trail links = record {
+module _ {L G X D O : Type 0} (link_left link_given : L → Option (List ℕ)) (link_takes link_gives : L → ℕ) (told : G → Option (ToldGate L)) (gates : G → ℕ)
+    (peer_left peer_given : X → Option (List ℕ)) (peer_takes peer_gives : X → ℕ) (dial_told : D → Option (ToldDial X)) (dials : D → ℕ)
+    (given : O → Option (List ℕ)) (writes : O → ℕ) (gate : G) (dial : D) (output : O) where
+  pub no_server : (site : Site) (max_trail : ℕ) (work : Workload)
+      → ServerEnds link_left link_given link_takes link_gives told gates peer_left peer_given peer_takes peer_gives dial_told dials given writes gate gate dial dial output output site max_trail work NoMemory
+  no_server site max_trail work = record {
     end = NotMade;
     outcome = record {
       served = λ s e. let n : 1 ≡ 2 = ap number_of e in absurd (omega (arith, n));
       not_bound = λ e. let n : 1 ≡ 0 = ap number_of e in absurd (omega (arith, n));
-      not_made = λ e. (refl, refl);
+      not_made = λ e. (refl, refl, refl);
       gate_later = omega arith;
+      dial_later = omega arith;
       write_later = omega arith;
     };
     judged = refl;
-    complete = λ r s. inr refl;
+    complete = λ r t s. inr refl;
   }

@@ -1,17 +1,18 @@
 -- What each command of the program does, by its words.
-use Rattle.std.specs.Prelude.{◌≡◌, ℕ, List, Option}
+use Rattle.std.specs.Prelude.{◌≡◌, ℕ, List, length, Option}
 use Rattle.tardis_io.specs.declared.statuses.Status.TheVariants.{NoMemory}
 use Rattle.tardis_io.specs.Told.{WhileTold}
 use Rattle.load_run.specs.Ends.{WritesLine, IsLoadEnd}
 use Rattle.load_run.specs.Lines.{load_line}
 use Rattle.tardis_io.specs.declared.statuses.Status.{Status}
-use Rattle.tardis_io.specs.Links.{ToldGate}
+use Rattle.tardis_io.specs.Links.{ToldGate, ToldDial}
 use Rattle.plain_site.specs.Site.{Site, opening}
 use Rattle.plain_world.specs.Worlds.{opening_world, world_limits}
 use Rattle.world_core.specs.Runs.{WorldFrom}
 use Rattle.command_words.specs.declared.commands.Place.{Place}
 use Rattle.command_words.specs.Forms.{Serving}
 use Rattle.command_words.specs.Places.{program_limits}
+use Rattle.serve_run.specs.Serving.{Workload}
 use Rattle.site_commands.specs.Runs.{RunFrom, ShellFrom, AuditFrom}
 use Rattle.site_commands.specs.Ends.{FramesEnd, LinesEnd, ServerEnds}
 use Rattle.tardis_main.specs.Words.{AreRun, AreShell, AreAudit, AreWorld, AreLoad, AreServe}
@@ -47,10 +48,16 @@ module _ {I O : Type 0} (left : I → Option (List ℕ)) (reads : I → ℕ) (gi
   Loads = (start steps : ℕ) → AreLoad words start steps
       → WhileTold (given before) (given after) (WritesLine status (load_line start steps)) × IsLoadEnd status × (status ≡ NoMemory → after ≡ before) × (new ≡ old)
 
-module _ {L G O : Type 0} (link_left link_given : L → Option (List ℕ)) (link_takes link_gives : L → ℕ) (told : G → Option (ToldGate L)) (gates : G → ℕ)
-    (given : O → Option (List ℕ)) (writes : O → ℕ) (old new : G) (before after : O) (words : List (List ℕ)) (status : Status) where
-  -- words of `serve`: links are served by the site of their place, which opens, as many as they say, and the trail is written
+-- what these words of `serve` ask for
+abbrev pub work_of : Serving → Workload
+work_of plan = record { links = plan.links; peers = length plan.peers; rounds = plan.rounds; tidy = plan.tidy }
+
+module _ {L G X D O : Type 0} (link_left link_given : L → Option (List ℕ)) (link_takes link_gives : L → ℕ) (told : G → Option (ToldGate L)) (gates : G → ℕ)
+    (peer_left peer_given : X → Option (List ℕ)) (peer_takes peer_gives : X → ℕ) (dial_told : D → Option (ToldDial X)) (dials : D → ℕ)
+    (given : O → Option (List ℕ)) (writes : O → ℕ) (old new : G) (d e : D) (before after : O) (words : List (List ℕ)) (status : Status) where
+  -- words of `serve`: links are served by the site of their place, which opens, as many as they say, the rounds are made that
+  -- they say, and the trail is written
   abbrev pub Serves : Type 0
   Serves = (plan : Serving) → AreServe words plan
-      → ServerEnds link_left link_given link_takes link_gives told gates given writes old new before after
-      (site_at plan.place) (program_limits plan.place.sites).max_trail plan.links status
+      → ServerEnds link_left link_given link_takes link_gives told gates peer_left peer_given peer_takes peer_gives dial_told dials given writes old new d e before after
+      (site_at plan.place) (program_limits plan.place.sites).max_trail (work_of plan) status

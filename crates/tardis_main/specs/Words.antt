@@ -1,5 +1,5 @@
 -- The words of a command that is carried out.
-use Rattle.std.specs.Prelude.{◌≡◌, ℕ, List, [], false, Some}
+use Rattle.std.specs.Prelude.{◌≡◌, ℕ, List, Some}
 use Rattle.command_words.specs.declared.commands.Place.{Place}
 use Rattle.command_words.specs.Forms.{Form, form, AsRun, AsShell, AsAudit, AsWorld, AsServe, AsLoad, AsAuto, AsDurable, AsExport, AsImport, Serving}
 use Rattle.command_words.specs.Readings.{IsCopied}
@@ -24,13 +24,9 @@ AreWorld words sites = form words ≡ Some (AsWorld sites)
 abbrev pub AreLoad : List (List ℕ) → ℕ → ℕ → Type 0
 AreLoad words start steps = form words ≡ Some (AsLoad start steps)
 
--- a server without peers, without rounds and without `--tidy`; one with any of these isn't built yet
-abbrev pub HasNoPeers : Serving → Type 0
-HasNoPeers plan = (plan.peers ≡ []) × (plan.rounds ≡ 0) × (plan.tidy ≡ false)
-
--- the words are a form of `serve` with this plan, and it has no peers
+-- the words are a form of `serve` with this plan
 abbrev pub AreServe : List (List ℕ) → Serving → Type 0
-AreServe words plan = (form words ≡ Some (AsServe plan)) × HasNoPeers plan
+AreServe words plan = form words ≡ Some (AsServe plan)
 
 -- the words have a form whose texts are copied, which takes memory
 abbrev pub MayLackMemory : List (List ℕ) → Type 0
@@ -42,7 +38,7 @@ IsBuilt (AsRun place) = Unit {0}
 IsBuilt (AsShell place) = Unit {0}
 IsBuilt (AsAudit place) = Unit {0}
 IsBuilt (AsWorld sites) = Unit {0}
-IsBuilt (AsServe plan) = HasNoPeers plan
+IsBuilt (AsServe plan) = Unit {0}
 IsBuilt (AsLoad start steps) = Unit {0}
 IsBuilt (AsAuto place rules) = ⊥
 IsBuilt (AsDurable place path) = ⊥

@@ -39,9 +39,12 @@ usage: tardis shell [--sites M] [--site N]
                           play a script of N steps, up to 10000, that S determines,
                           and write a line that tells how it went
        tardis serve --listen ADDR --links L [--sites M] [--site N]
+                    [--peer ADDR].. [--rounds R] [--tidy]
                           serve L clients, from 1 to 64, at once, each over a link to
-                          ADDR (unix:PATH or HOST:PORT), and then write what they
-                          asked as frames for tardis run
+                          ADDR (unix:PATH or HOST:PORT), make R rounds of exchange
+                          with the peers beside that, each with a collection or
+                          without, and then write all that was asked as frames for
+                          tardis run
        tardis --help      this text
        tardis --version   the version
 

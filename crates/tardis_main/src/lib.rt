@@ -15,26 +15,26 @@ mod laws;
 mod plans;
 mod programs;
 
-use command_words::{Command, WordsFault, read_words};
+use command_words::{Command, WordsFault, commands_are_at_a_site, read_words};
 pub use helps::{Help, help_of};
 pub use laws::replies_have_lines;
 use load_run::run_load;
-use plans::{has_no_peers, serve_plan};
+use plans::serve_plan;
 pub use programs::carry_out;
 use site_commands::{audit_frames, run, shell};
 use std::alloc::Global;
 use std::hash::RandomState;
 use std::sync::Wait;
 use std::thread::Threads;
-use tardis_io::{Gate, Sink, Source, Status};
+use tardis_io::{Dial, Gate, Sink, Source, Status};
 use world_core::run_world;
 
 /// Carries out the command that the words name, at the place among the sites that they name. Words without a form, and
 /// those of what isn't built yet, are `Status::Usage`, or perhaps `Status::NoMemory` where their texts would be copied; then
 /// nothing is read, written or listened to.
 ///
-/// Keys are found by hashing with this seed. Only `serve` starts threads and waits, and only it uses the gate.
-pub fn tardis<I: Source, O: Sink, G: Gate, R: Threads + Wait + Sync>(
+/// Keys are found by hashing with this seed. Only `serve` starts threads and waits, and only it uses the gate and the dial.
+pub fn tardis<I: Source, O: Sink, G: Gate, D: Dial + Send, R: Threads + Wait + Sync>(
     alloc: Global,
     rt: &R,
     keys: RandomState,
@@ -42,23 +42,26 @@ pub fn tardis<I: Source, O: Sink, G: Gate, R: Threads + Wait + Sync>(
     input: &mut I,
     output: &mut O,
     gate: &mut G,
+    dial: &mut D,
 ) -> Status
     ensures usage { result ≡ Status.Usage → AreUnknown (map (λ w. string_bytes w) words.now) }
     ensures unknown { AreUnknown (map (λ w. string_bytes w) words.now)
         → ((result ≡ Status.Usage) ⊎ ((result ≡ Status.NoMemory) × MayLackMemory (map (λ w. string_bytes w) words.now)))
-        × (input.new ≡ input.old) × (output.new ≡ output.old) × (gate.new ≡ gate.old) }
+        × (input.new ≡ input.old) × (output.new ≡ output.old) × (gate.new ≡ gate.old) × (dial.new ≡ dial.old) }
     ensures run { Runs I.left I.faults O.given O.faults input.old input.new output.old output.new (map (λ w. string_bytes w) words.now) result }
     ensures shell { Shells I.left I.faults O.given O.faults input.old input.new output.old output.new (map (λ w. string_bytes w) words.now) result }
     ensures audit { Audits I.left I.faults O.given O.faults input.old input.new output.old output.new (map (λ w. string_bytes w) words.now) result }
     ensures world { Worlds I.left I.faults O.given O.faults input.old input.new output.old output.new (map (λ w. string_bytes w) words.now) result }
     ensures load { Loads I.left I.faults O.given O.faults input.old input.new output.old output.new (map (λ w. string_bytes w) words.now) result }
-    ensures serve { Serves G.Link.left G.Link.given G.Link.take_faults G.Link.faults G.told G.faults O.given O.faults gate.old gate.new output.old output.new
+    ensures serve { Serves G.Link.left G.Link.given G.Link.take_faults G.Link.faults G.told G.faults
+        D.Link.left D.Link.given D.Link.take_faults D.Link.faults D.told D.faults O.given O.faults gate.old gate.new dial.old dial.new output.old output.new
         (map (λ w. string_bytes w) words.now) result }
     ensures unread { (plan : Serving) → AreServe (map (λ w. string_bytes w) words.now) plan → input.new ≡ input.old }
-    ensures unbound { ((plan : Serving) → AreServe (map (λ w. string_bytes w) words.now) plan → ⊥) → gate.new ≡ gate.old }
+    ensures unbound { ((plan : Serving) → AreServe (map (λ w. string_bytes w) words.now) plan → ⊥) → (gate.new ≡ gate.old) × (dial.new ≡ dial.old) }
     ensures read { CausedBy Status.ReadFault (I.faults input.old) (I.faults input.new) result }
     ensures write { CausedBy Status.WriteFault (O.faults output.old) (O.faults output.new) result }
     ensures gate { CausedBy Status.GateFault (G.faults gate.old) (G.faults gate.new) result }
+    ensures dial { CausedBy Status.DialFault (D.faults dial.old) (D.faults dial.new) result }
 {
     match read_words(alloc, words) {
         Ok(Command::Run(place)) => run(alloc, keys, place.limits(), place.site, input, output),
@@ -70,11 +73,8 @@ pub fn tardis<I: Source, O: Sink, G: Gate, R: Threads + Wait + Sync>(
         }
         Ok(Command::World { sites }) => run_world(alloc, keys, sites, input, output),
         Ok(Command::Serve(plan)) => {
-            if has_no_peers(&plan) {
-                serve_plan(alloc, rt, keys, &plan, gate, output)
-            } else {
-                Status::Usage
-            }
+            commands_are_at_a_site();
+            serve_plan(alloc, rt, keys, &plan, gate, dial, output)
         }
         Ok(Command::Load { start, steps }) => run_load(alloc, keys, start, steps, output),
         // the other commands aren't built yet
@@ -93,5 +93,7 @@ pub fn tardis<I: Source, O: Sink, G: Gate, R: Threads + Wait + Sync>(
 mod line_rows;
 #[cfg(test)]
 mod line_tests;
+#[cfg(test)]
+mod serve_tests;
 #[cfg(test)]
 mod tests;

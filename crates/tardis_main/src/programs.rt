@@ -19,11 +19,11 @@ use std::hash::RandomState;
 use std::sync::Wait;
 use std::thread::Threads;
 use tardis_base::NoMemory;
-use tardis_io::{Gate, Sink, Source, Status, WriteFault, write_all};
+use tardis_io::{Dial, Gate, Sink, Source, Status, WriteFault, write_all};
 
 /// Carries out the command that a program's arguments name, of which the first is the program's name: it tells of itself
 /// for `--help` and `--version`, and is `tardis` for other words.
-pub fn carry_out<I: Source, O: Sink, G: Gate, R: Threads + Wait + Sync>(
+pub fn carry_out<I: Source, O: Sink, G: Gate, D: Dial + Send, R: Threads + Wait + Sync>(
     alloc: Global,
     rt: &R,
     keys: RandomState,
@@ -31,10 +31,11 @@ pub fn carry_out<I: Source, O: Sink, G: Gate, R: Threads + Wait + Sync>(
     input: &mut I,
     output: &mut O,
     gate: &mut G,
+    dial: &mut D,
 ) -> Status
     ensures usage { result ≡ Status.Usage → AreNone (map (λ w. string_bytes w) (drop 1 (into_iter_items args))) }
     ensures none { AreNone (map (λ w. string_bytes w) (drop 1 (into_iter_items args)))
-        → ((result ≡ Status.Usage) ⊎ (result ≡ Status.NoMemory)) × (input.new ≡ input.old) × (output.new ≡ output.old) × (gate.new ≡ gate.old) }
+        → ((result ≡ Status.Usage) ⊎ (result ≡ Status.NoMemory)) × (input.new ≡ input.old) × (output.new ≡ output.old) × (gate.new ≡ gate.old) × (dial.new ≡ dial.old) }
     ensures help { AskUsage (map (λ w. string_bytes w) (drop 1 (into_iter_items args))) ⊎ AskVersion (map (λ w. string_bytes w) (drop 1 (into_iter_items args)))
         → ((result ≡ Status.Ok) ⊎ ((result ≡ Status.WriteFault) ⊎ ((result ≡ Status.NoMemory) × (output.new ≡ output.old)))) × (input.new ≡ input.old) }
     ensures run { Runs I.left I.faults O.given O.faults input.old input.new output.old output.new
@@ -47,16 +48,18 @@ pub fn carry_out<I: Source, O: Sink, G: Gate, R: Threads + Wait + Sync>(
         (map (λ w. string_bytes w) (drop 1 (into_iter_items args))) result }
     ensures load { Loads I.left I.faults O.given O.faults input.old input.new output.old output.new
         (map (λ w. string_bytes w) (drop 1 (into_iter_items args))) result }
-    ensures serve { Serves G.Link.left G.Link.given G.Link.take_faults G.Link.faults G.told G.faults O.given O.faults gate.old gate.new output.old output.new
+    ensures serve { Serves G.Link.left G.Link.given G.Link.take_faults G.Link.faults G.told G.faults
+        D.Link.left D.Link.given D.Link.take_faults D.Link.faults D.told D.faults O.given O.faults gate.old gate.new dial.old dial.new output.old output.new
         (map (λ w. string_bytes w) (drop 1 (into_iter_items args))) result }
     ensures unread { (plan : Serving) → AreServe (map (λ w. string_bytes w) (drop 1 (into_iter_items args))) plan → input.new ≡ input.old }
-    ensures unbound { ((plan : Serving) → AreServe (map (λ w. string_bytes w) (drop 1 (into_iter_items args))) plan → ⊥) → gate.new ≡ gate.old }
+    ensures unbound { ((plan : Serving) → AreServe (map (λ w. string_bytes w) (drop 1 (into_iter_items args))) plan → ⊥) → (gate.new ≡ gate.old) × (dial.new ≡ dial.old) }
     ensures read { CausedBy Status.ReadFault (I.faults input.old) (I.faults input.new) result }
     ensures write { CausedBy Status.WriteFault (O.faults output.old) (O.faults output.new) result }
     ensures gate { CausedBy Status.GateFault (G.faults gate.old) (G.faults gate.new) result }
+    ensures dial { CausedBy Status.DialFault (D.faults dial.old) (D.faults dial.new) result }
 {
     match words_behind_name(alloc, args) {
-        Ok(words) => command(alloc, rt, keys, words.as_slice(), input, output, gate),
+        Ok(words) => command(alloc, rt, keys, words.as_slice(), input, output, gate, dial),
         Err(NoMemory) => {
             commands_are_at_a_site();
             Status::NoMemory
@@ -81,7 +84,7 @@ fn words_behind_name(alloc: Global, args: Args) -> Result<Vec<String>, NoMemory>
 }
 
 /// Carries out the command that the words name.
-fn command<I: Source, O: Sink, G: Gate, R: Threads + Wait + Sync>(
+fn command<I: Source, O: Sink, G: Gate, D: Dial + Send, R: Threads + Wait + Sync>(
     alloc: Global,
     rt: &R,
     keys: RandomState,
@@ -89,10 +92,11 @@ fn command<I: Source, O: Sink, G: Gate, R: Threads + Wait + Sync>(
     input: &mut I,
     output: &mut O,
     gate: &mut G,
+    dial: &mut D,
 ) -> Status
     ensures usage { result ≡ Status.Usage → AreNone (map (λ w. string_bytes w) words.now) }
     ensures none { AreNone (map (λ w. string_bytes w) words.now)
-        → ((result ≡ Status.Usage) ⊎ (result ≡ Status.NoMemory)) × (input.new ≡ input.old) × (output.new ≡ output.old) × (gate.new ≡ gate.old) }
+        → ((result ≡ Status.Usage) ⊎ (result ≡ Status.NoMemory)) × (input.new ≡ input.old) × (output.new ≡ output.old) × (gate.new ≡ gate.old) × (dial.new ≡ dial.old) }
     ensures help { AskUsage (map (λ w. string_bytes w) words.now) ⊎ AskVersion (map (λ w. string_bytes w) words.now)
         → ((result ≡ Status.Ok) ⊎ ((result ≡ Status.WriteFault) ⊎ ((result ≡ Status.NoMemory) × (output.new ≡ output.old)))) × (input.new ≡ input.old) }
     ensures run { Runs I.left I.faults O.given O.faults input.old input.new output.old output.new
@@ -104,17 +108,19 @@ fn command<I: Source, O: Sink, G: Gate, R: Threads + Wait + Sync>(
     ensures world { Worlds I.left I.faults O.given O.faults input.old input.new output.old output.new
         (map (λ w. string_bytes w) words.now) result }
     ensures load { Loads I.left I.faults O.given O.faults input.old input.new output.old output.new (map (λ w. string_bytes w) words.now) result }
-    ensures serve { Serves G.Link.left G.Link.given G.Link.take_faults G.Link.faults G.told G.faults O.given O.faults gate.old gate.new output.old output.new
+    ensures serve { Serves G.Link.left G.Link.given G.Link.take_faults G.Link.faults G.told G.faults
+        D.Link.left D.Link.given D.Link.take_faults D.Link.faults D.told D.faults O.given O.faults gate.old gate.new dial.old dial.new output.old output.new
         (map (λ w. string_bytes w) words.now) result }
     ensures unread { (plan : Serving) → AreServe (map (λ w. string_bytes w) words.now) plan → input.new ≡ input.old }
-    ensures unbound { ((plan : Serving) → AreServe (map (λ w. string_bytes w) words.now) plan → ⊥) → gate.new ≡ gate.old }
+    ensures unbound { ((plan : Serving) → AreServe (map (λ w. string_bytes w) words.now) plan → ⊥) → (gate.new ≡ gate.old) × (dial.new ≡ dial.old) }
     ensures read { CausedBy Status.ReadFault (I.faults input.old) (I.faults input.new) result }
     ensures write { CausedBy Status.WriteFault (O.faults output.old) (O.faults output.new) result }
     ensures gate { CausedBy Status.GateFault (G.faults gate.old) (G.faults gate.new) result }
+    ensures dial { CausedBy Status.DialFault (D.faults dial.old) (D.faults dial.new) result }
 {
     match help_of(words) {
         Some(help) => tell(help, output),
-        None => tardis(alloc, rt, keys, words, input, output, gate),
+        None => tardis(alloc, rt, keys, words, input, output, gate, dial),
     }
 }
 

@@ -5,7 +5,9 @@ use std::hash::RandomState;
 use std::sync::Wait;
 use std::test::Fail;
 use std::thread::Threads;
-use tardis_io::{MemoryGate, MemoryLink, MemorySink, MemorySource, Sink, Source, Status};
+use tardis_io::{
+    MemoryDial, MemoryGate, MemoryLink, MemorySink, MemorySource, Sink, Source, Status,
+};
 
 /// A session: it opens, begins, puts `1` to `x`, commits, begins, and gets `x`.
 pub(crate) const SESSION: &[u8] = b"\0\0\0\x04\0\x01\x01\0\
@@ -46,6 +48,11 @@ fn no_links(alloc: Global) -> Result<MemoryGate<MemoryLink>, Fail> {
     Ok(MemoryGate::new(alloc, Vec::new(alloc), &WELL)?)
 }
 
+/// A dial to nobody.
+fn no_peers(alloc: Global) -> Result<MemoryDial<MemoryLink>, Fail> {
+    Ok(MemoryDial::new(alloc, Vec::new(alloc), &WELL)?)
+}
+
 /// How the command of these words ends.
 pub(crate) fn ends<I: Source, O: Sink, R: Threads + Wait + Sync>(
     alloc: Global,
@@ -56,7 +63,8 @@ pub(crate) fn ends<I: Source, O: Sink, R: Threads + Wait + Sync>(
     output: &mut O,
 ) -> Result<Status, Fail> {
     let mut gate = no_links(alloc)?;
-    Ok(tardis(alloc, rt, keys, words, input, output, &mut gate))
+    let mut dial = no_peers(alloc)?;
+    Ok(tardis(alloc, rt, keys, words, input, output, &mut gate, &mut dial))
 }
 
 /// Whether `run` over this input ends so and writes that.
@@ -197,7 +205,7 @@ fn other_words_are_no_command(rt: HostRuntime) -> Result<(), Fail> {
         "run --sites=2",
         "run --sites 1 --sites 1",
         "serve --links 2",
-        "serve --listen a --links 2 --tidy",
+        "serve --listen a --links 2 --rounds 1000001",
         "world",
         "world --sites 17",
         "load --start 1 --steps 10001",
@@ -278,6 +286,7 @@ fn a_program_is_its_words(rt: HostRuntime) -> Result<(), Fail> {
         let mut source = MemorySource::new(alloc, SESSION, 65_536, &WELL)?;
         let mut sink = MemorySink::new(alloc, 4_000, 65_536, &WELL)?;
         let mut gate = no_links(alloc)?;
+        let mut dial = no_peers(alloc)?;
         let ended = carry_out(
             alloc,
             &rt,
@@ -286,6 +295,7 @@ fn a_program_is_its_words(rt: HostRuntime) -> Result<(), Fail> {
             &mut source,
             &mut sink,
             &mut gate,
+            &mut dial,
         );
         assert_eq!(rt; ended, status);
         assert!(rt; sink.bytes() == output);

@@ -74,6 +74,13 @@ impl EntryLog {
         self.spare -= request.len() + 6;
     }
 
+    /// Each entry fits a frame. This call does nothing.
+    pub(crate) fn entries_fit(&self)
+        ensures { AllByRecursion IsEntry self.now.trail }
+    {
+        let _ = &self.chunks;
+    }
+
     /// Gives the frames of the entries, in order. After a fault a front of them was given.
     pub(crate) fn write_to<O: Sink>(&self, output: &mut O) -> Result<(), WriteFault>
         ensures bytes { WhileTold (O.given output.old) (O.given output.new) (λ before after. GivesAll before after result (trail_frames self.now.trail)) }

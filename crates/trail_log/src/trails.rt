@@ -5,7 +5,8 @@ ghost use Rattle.tardis_base.specs.Plain.{state_after, reply_at};
 ghost use Rattle.tardis_io.specs.Told.{WhileTold, GivesAll};
 ghost use Rattle.tardis_io.specs.Faults.{HasCause};
 ghost use Rattle.trail_log.specs.Trail.{bytes_of};
-ghost use Rattle.trail_log.specs.Frames.{trail_frames, IsRead};
+ghost use Rattle.std.specs.List.{AllByRecursion};
+ghost use Rattle.trail_log.specs.Frames.{trail_frames, IsEntry, IsRead};
 ghost use Rattle.trail_log.specs.Ends.{trail_with, IsFullAt};
 ghost use Rattle.trail_log.specs.declared.acted.Acted.TheVariants.{Done, TrailFull};
 
@@ -96,6 +97,13 @@ impl<M: Machine> Trailed<M> {
         ensures again { IsRead (trail_frames self.now.trail) self.now.trail }
     {
         self.log.write_to(output)
+    }
+
+    /// Each entry is of an actor of 16 bits and fits a frame. This call does nothing.
+    pub fn entries_fit(&self)
+        ensures { AllByRecursion IsEntry self.now.trail }
+    {
+        self.log.entries_fit();
     }
 
     /// How many bytes the trail has.

@@ -1,11 +1,13 @@
-use Rattle.std.proofs.Common.{◌∙◌, Some, ap, subst}
+use Rattle.std.proofs.Common.{◌∙◌, Some, map, ap, subst, arith}
+use Rattle.std.proofs.lemmas.List.{length-map}
+use Rattle.std.specs.String.{string_bytes}
 use Rattle.site_run.specs.Endings.{IsRunEnd}
 use Rattle.site_run.specs.LineEndings.{IsLineEnd}
 use Rattle.load_run.specs.Ends.{IsLoadEnd}
 use Rattle.command_words.specs.Commands.{form_of, serving_of}
 use Rattle.command_words.specs.Forms.{AsRun, AsShell, AsAudit, AsWorld, AsServe, AsLoad}
 use Rattle.command_words.specs.Places.{program_limits}
-use Rattle.tardis_main.specs.Program.{site_at}
+use Rattle.tardis_main.specs.Program.{site_at, work_of}
 use Rattle.tardis_main.proofs.Unserved.{no_server}
 use Rattle.tardis_main.proofs.tardis.Goals as goal
 
@@ -40,15 +42,29 @@ pub returns-in-Ok-Load-clause-unknown : goal.returns-in-Ok-Load-clause-unknown
 returns-in-Ok-Load-clause-unknown g c = λ unknown. absurd (unknown (AsLoad c.in-Ok-Load.start c.in-Ok-Load.steps)
     (c.in-Ok-Load.ensures.form ∙ ap (λ command. Some (form_of command)) c.in-Ok-Load.field-0-is) tt)
 
-pub returns-then-has_no_peers-clause-unknown : goal.returns-then-has_no_peers-clause-unknown
-returns-then-has_no_peers-clause-unknown g c = λ unknown. absurd (unknown (AsServe (serving_of c.in-Ok-Serve.plan))
-    (c.in-Ok-Serve.ensures.form ∙ ap (λ command. Some (form_of command)) c.in-Ok-Serve.field-0-is) (c.has_no_peers.ensures.is c.if-has_no_peers.true))
+pub serve_plan-requires-clause-peers : goal.serve_plan-requires-clause-peers
+serve_plan-requires-clause-peers g c κs within =
+    let words = map (λ w. string_bytes w) c.args.words.now in
+    let plan = c.in-Ok-Serve.plan in
+    let is = c.commands_are_at_a_site.ensures.serve words (serving_of plan) (c.in-Ok-Serve.ensures.form ∙ ap (λ command. Some (form_of command)) c.in-Ok-Serve.field-0-is) in
+    omega (arith, is.peers, length-map (λ w. string_bytes w) plan.peers.items)
 
-pub returns-then-has_no_peers-clause-unbound : goal.returns-then-has_no_peers-clause-unbound
-returns-then-has_no_peers-clause-unbound g c = λ others. absurd (others (serving_of c.in-Ok-Serve.plan)
-    (c.in-Ok-Serve.ensures.form ∙ ap (λ command. Some (form_of command)) c.in-Ok-Serve.field-0-is, c.has_no_peers.ensures.is c.if-has_no_peers.true))
+pub serve_plan-requires-clause-rounds : goal.serve_plan-requires-clause-rounds
+serve_plan-requires-clause-rounds g c κs within =
+    let words = map (λ w. string_bytes w) c.args.words.now in
+    let is = c.commands_are_at_a_site.ensures.serve words (serving_of c.in-Ok-Serve.plan) (c.in-Ok-Serve.ensures.form ∙ ap (λ command. Some (form_of command)) c.in-Ok-Serve.field-0-is) in
+    is.rounds
+
+pub returns-in-Ok-Serve-clause-unknown : goal.returns-in-Ok-Serve-clause-unknown
+returns-in-Ok-Serve-clause-unknown g c = λ unknown. absurd (unknown (AsServe (serving_of c.in-Ok-Serve.plan))
+    (c.in-Ok-Serve.ensures.form ∙ ap (λ command. Some (form_of command)) c.in-Ok-Serve.field-0-is) tt)
+
+pub returns-in-Ok-Serve-clause-unbound : goal.returns-in-Ok-Serve-clause-unbound
+returns-in-Ok-Serve-clause-unbound g c = λ others. absurd (others (serving_of c.in-Ok-Serve.plan)
+    (c.in-Ok-Serve.ensures.form ∙ ap (λ command. Some (form_of command)) c.in-Ok-Serve.field-0-is))
 
 pub returns-clause-serve : goal.returns-clause-serve
 returns-clause-serve g c = λ plan are.
-    no_server g.G.Link.Duplex.left g.G.Link.Sink.given g.G.Link.Duplex.take_faults g.G.Link.Sink.faults g.G.Gate.told g.G.Gate.faults g.O.Sink.given g.O.Sink.faults c.args.gate.now c.args.output.now
-    (site_at plan.place) (program_limits plan.place.sites).max_trail plan.links
+    no_server g.G.Link.Duplex.left g.G.Link.Sink.given g.G.Link.Duplex.take_faults g.G.Link.Sink.faults g.G.Gate.told g.G.Gate.faults
+    g.D.Link.Duplex.left g.D.Link.Sink.given g.D.Link.Duplex.take_faults g.D.Link.Sink.faults g.D.Dial.told g.D.Dial.faults g.O.Sink.given g.O.Sink.faults c.args.gate.now c.args.dial.now c.args.output.now
+    (site_at plan.place) (program_limits plan.place.sites).max_trail (work_of plan)

@@ -12,19 +12,20 @@ pub returns-clause-acts : goal.returns-clause-acts
 returns-clause-acts g c =
     let none_left : rest c.args.seat.now.me.1 ≡ [] = ap rest c.requires.holds.1 in
     let held = c.slot_mut-machine.result.now in
-    let left = c.act.new.self in (
+    let left = c.act-acted.new.self in (
       held,
       c.slot_mut-machine.ensures.value ∙ ap (λ (l : List (ℕ × Kept g.row.M.Denot)). (0, held) ∷ l) none_left,
       (
         left,
         ap (λ (l : List (ℕ × Kept g.row.M.Denot)). (0, left) ∷ l) none_left,
         record {
-          opening_is = c.act.ensures.opening;
-          most = c.act.ensures.most;
-          trail = c.act.ensures.trail;
-          reply = c.act.ensures.reply;
-          full = c.act.ensures.full;
-          empty = c.act.ensures.empty;
+          opening_is = c.act-acted.ensures.opening;
+          most = c.act-acted.ensures.most;
+          trail = c.act-acted.ensures.trail;
+          reply = c.act-acted.ensures.reply;
+          full = c.act-acted.ensures.full;
+          empty = c.act-acted.ensures.empty;
+          each = c.entries_fit.ensures;
         },
       ),
     )

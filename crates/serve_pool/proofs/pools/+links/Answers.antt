@@ -1,4 +1,4 @@
-use Rattle.std.proofs.Common.{rules, ◌≡◌, ◌+◌, ◌*◌, ◌<◌, ◌≤◌, ◌⊎◌, inl, inr, length, IsSomeAnd, ℕ, ◌-◌, sym, subst, Ok, Some, None, arith}
+use Rattle.std.proofs.Common.{rules, ◌+◌, inl, inr, IsSomeAnd, ◌-◌, subst, Ok, Some, arith}
 use Rattle.tardis_io.specs.Links.{HandsNext}
 use Rattle.dag_lock.specs.Named.{start_of}
 use Rattle.serve_pool.specs.Pools.{ServesOne, Pools}

@@ -1,6 +1,6 @@
-use Rattle.std.proofs.Common.{◌≡◌, ◌∙◌, ◌<◌, ◌+◌, Some, ap, slice_get, subst, arith, length}
+use Rattle.std.proofs.Common.{◌≡◌, ◌∙◌, ◌<◌, Some, ap, slice_get, subst, arith, length}
 use Rattle.tardis_base.specs.declared.records.Item.{Item}
-use Rattle.trail_log.specs.declared.acted.Acted.TheVariants.{Done, TrailFull, NoMemory}
+use Rattle.trail_log.specs.declared.acted.Acted.TheVariants.{TrailFull, NoMemory}
 use Rattle.dag_lock.specs.Named.{start_of}
 use Rattle.site_sync.specs.Asking.{items, delivery}
 use Rattle.site_sync.specs.Steps.{StepsOnce}

@@ -1,4 +1,3 @@
-use Rattle.std.proofs.Common.{◌≡◌}
 use Rattle.dag_lock.specs.Named.{start_of}
 use Rattle.site_sync.specs.Asking.{items}
 use Rattle.site_sync.proofs.Delivered.{Delivered}

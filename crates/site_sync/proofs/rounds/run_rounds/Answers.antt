@@ -1,7 +1,18 @@
 use Rattle.std.proofs.Common.{length}
 use Rattle.dag_lock.specs.Named.{start_of}
 use Rattle.site_sync.proofs.Rounding.{rounding_none, rounding_more}
+use Rattle.site_sync.proofs.Causes.{rounds_later, rounds_cause}
 use Rattle.site_sync.proofs.rounds.run_rounds.Goals as goal
+
+pub returns-clause-later : goal.returns-clause-later
+returns-clause-later g c =
+    rounds_later g.M.Machine.opening g.M.Machine.plain (start_of c.args.lock.now) g.D.Link.Duplex.left g.D.Link.Sink.given g.D.Link.Duplex.take_faults g.D.Link.Sink.faults g.D.Dial.told g.D.Dial.faults
+    c.loop-round._round (length c.args.peers.now) c.args.tidy c.args.pass c.args.dial.now c.loop-round.numbers c.loop-round.pass c.loop-round.dial c.loop-round.invariant.made
+
+pub returns-clause-cause : goal.returns-clause-cause
+returns-clause-cause g c =
+    rounds_cause g.M.Machine.opening g.M.Machine.plain (start_of c.args.lock.now) g.D.Link.Duplex.left g.D.Link.Sink.given g.D.Link.Duplex.take_faults g.D.Link.Sink.faults g.D.Dial.told g.D.Dial.faults
+    c.loop-round._round (length c.args.peers.now) c.args.tidy c.args.pass c.args.dial.now c.loop-round.numbers c.loop-round.pass c.loop-round.dial c.loop-round.invariant.made
 
 pub loop-round-init : goal.loop-round-init
 loop-round-init g c =

@@ -14,7 +14,7 @@ use Rattle.site_commands.proofs.LineRuns.{no_shell, no_audit}
 use Rattle.site_commands.proofs.NoMemory.{no_frames, no_lines}
 use Rattle.tardis_main.specs.Helps.{AreNone}
 use Rattle.tardis_main.specs.Words.{AreServe}
-use Rattle.tardis_main.specs.Program.{site_at, Runs, Shells, Audits, Worlds, Loads}
+use Rattle.tardis_main.specs.Program.{site_at, work_of, Runs, Shells, Audits, Worlds, Loads}
 use Rattle.tardis_main.proofs.WorldRuns.{no_world}
 use Rattle.tardis_main.proofs.Words.{limits_hold}
 use Rattle.tardis_main.proofs.Unserved.{no_server}
@@ -54,8 +54,9 @@ returns-in-Err-clause-load g c = λ start steps are.
 
 pub returns-in-Err-clause-serve : goal.returns-in-Err-clause-serve
 returns-in-Err-clause-serve g c = λ plan are.
-    no_server g.G.Link.Duplex.left g.G.Link.Sink.given g.G.Link.Duplex.take_faults g.G.Link.Sink.faults g.G.Gate.told g.G.Gate.faults g.O.Sink.given g.O.Sink.faults c.args.gate.now c.args.output.now
-    (site_at plan.place) (program_limits plan.place.sites).max_trail plan.links
+    no_server g.G.Link.Duplex.left g.G.Link.Sink.given g.G.Link.Duplex.take_faults g.G.Link.Sink.faults g.G.Gate.told g.G.Gate.faults
+    g.D.Link.Duplex.left g.D.Link.Sink.given g.D.Link.Duplex.take_faults g.D.Link.Sink.faults g.D.Dial.told g.D.Dial.faults g.O.Sink.given g.O.Sink.faults c.args.gate.now c.args.dial.now c.args.output.now
+    (site_at plan.place) (program_limits plan.place.sites).max_trail (work_of plan)
 
 pub returns-in-Ok-clause-run : goal.returns-in-Ok-clause-run
 returns-in-Ok-clause-run g c =

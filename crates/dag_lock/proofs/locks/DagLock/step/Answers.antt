@@ -1,6 +1,8 @@
 use Rattle.std.proofs.Common.{◌≡◌, ◌∷◌, [], ◌<◌, sym, ap, ◌∙◌, subst}
+use Rattle.std.specs.List.{AllByRecursion}
 use Rattle.atomic_table.specs.Table.{Me}
 use Rattle.trail_log.specs.Trail.{Kept}
+use Rattle.trail_log.specs.Frames.{IsEntry}
 use Rattle.dag_lock.specs.declared.views.View.{View}
 use Rattle.dag_lock.specs.Known.{Known}
 use Rattle.dag_lock.specs.Badges.{known_of}
@@ -58,3 +60,15 @@ returns-clause-pass g c =
       ap (λ (p : Known). p.lock) badge ∙ (same ∙ ap (λ (p : Known). p.lock) live.0),
       ap (λ (p : Known). p.pieces) badge ∙ (end.pieces ∙ ap (λ (p : Known). p.pieces) live.0),
     )
+
+pub returns-clause-each : goal.returns-clause-each
+returns-clause-each g c =
+    let z = c.args.self.now.table.shared.key.machine.value in
+    let lock = c.pass.inside.badge.table_id in
+    let other = c.into_badge.result.table_id in
+    let v = c.into_seat-seat.result.me.0 in
+    let live = live_view lock c.pass.inside.badge.views v c.args.pass c.pass.view_is c.into_seat-seat.ensures.2 c.pass.invariant in
+    let end = step_ends g.M.Machine.opening g.M.Machine.plain z v c.draw-ticket.new.seat.me c.take_turn.new.seat.me c.act-acted.new.seat.me c.pass_on.new.seat.me c.draw-ticket.result (c.args.actor, c.args.request.now) c.act-acted.result c.act-acted.new.out lock other
+    c.into_seat-seat.result.me.1 c.draw-ticket.ensures.drawn c.into_seat-seat.ensures.3 c.take_turn.ensures.took c.act-acted.ensures.view c.act-acted.ensures.acts c.pass_on.ensures.passed live.3 in
+    let badge : known_of other (c.pass_on.new.seat.me.0 ∷ []) ≡ known_of other c.into_badge.result.views = ap (known_of other) (sym c.into_badge.ensures.2) in
+    subst (λ (q : Known). AllByRecursion IsEntry q.seen) badge end.each
