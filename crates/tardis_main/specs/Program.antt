@@ -13,9 +13,11 @@ use Rattle.command_words.specs.declared.commands.Place.{Place}
 use Rattle.command_words.specs.Forms.{Serving}
 use Rattle.command_words.specs.Places.{program_limits}
 use Rattle.serve_run.specs.Serving.{Workload}
+use Rattle.rule_list.specs.declared.rules.PrefixRule.{PrefixRule}
+use Rattle.auto_run.specs.Outcomes.{AutoFrom}
 use Rattle.site_commands.specs.Runs.{RunFrom, ShellFrom, AuditFrom}
 use Rattle.site_commands.specs.Ends.{FramesEnd, LinesEnd, ServerEnds}
-use Rattle.tardis_main.specs.Words.{AreRun, AreShell, AreAudit, AreWorld, AreLoad, AreServe}
+use Rattle.tardis_main.specs.Words.{AreRun, AreShell, AreAudit, AreWorld, AreLoad, AreServe, AreAuto}
 
 -- the plain site that opens at this place, with the program's limits
 abbrev pub site_at : Place → Site
@@ -37,6 +39,11 @@ module _ {I O : Type 0} (left : I → Option (List ℕ)) (reads : I → ℕ) (gi
   abbrev pub Audits : Type 0
   Audits = (place : Place) → AreAudit words place
       → FramesEnd left reads writes old new before after (AuditFrom (site_at place) status (given before) (given after)) status
+
+  -- words of `auto`: lines are answered by it, and its leaves are merged by these rules where a line asks for that
+  abbrev pub Autos : Type 0
+  Autos = (place : Place) (rules : List PrefixRule) → AreAuto words place rules
+      → LinesEnd left reads writes old new before after (AutoFrom (site_at place) rules status (given before) (given after)) status
 
   -- words of `world`: frames are answered by a world of so many sites, which opens
   abbrev pub Worlds : Type 0

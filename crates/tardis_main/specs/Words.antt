@@ -2,6 +2,7 @@
 use Rattle.std.specs.Prelude.{◌≡◌, ℕ, List, Some}
 use Rattle.command_words.specs.declared.commands.Place.{Place}
 use Rattle.command_words.specs.Forms.{Form, form, AsRun, AsShell, AsAudit, AsWorld, AsServe, AsLoad, AsAuto, AsDurable, AsExport, AsImport, Serving}
+use Rattle.rule_list.specs.declared.rules.PrefixRule.{PrefixRule}
 use Rattle.command_words.specs.Readings.{IsCopied}
 
 -- the words are a form of `run` at this place
@@ -28,6 +29,10 @@ AreLoad words start steps = form words ≡ Some (AsLoad start steps)
 abbrev pub AreServe : List (List ℕ) → Serving → Type 0
 AreServe words plan = form words ≡ Some (AsServe plan)
 
+-- the words are a form of `auto` at this place, with these rules
+abbrev pub AreAuto : List (List ℕ) → Place → List PrefixRule → Type 0
+AreAuto words place rules = form words ≡ Some (AsAuto place rules)
+
 -- the words have a form whose texts are copied, which takes memory
 abbrev pub MayLackMemory : List (List ℕ) → Type 0
 MayLackMemory words = (said : Form) × ((form words ≡ Some said) × IsCopied said)
@@ -40,7 +45,7 @@ IsBuilt (AsAudit place) = Unit {0}
 IsBuilt (AsWorld sites) = Unit {0}
 IsBuilt (AsServe plan) = Unit {0}
 IsBuilt (AsLoad start steps) = Unit {0}
-IsBuilt (AsAuto place rules) = ⊥
+IsBuilt (AsAuto place rules) = Unit {0}
 IsBuilt (AsDurable place path) = ⊥
 IsBuilt (AsExport place state) = ⊥
 IsBuilt AsImport = ⊥

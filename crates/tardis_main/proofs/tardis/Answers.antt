@@ -5,7 +5,7 @@ use Rattle.site_run.specs.Endings.{IsRunEnd}
 use Rattle.site_run.specs.LineEndings.{IsLineEnd}
 use Rattle.load_run.specs.Ends.{IsLoadEnd}
 use Rattle.command_words.specs.Commands.{form_of, serving_of}
-use Rattle.command_words.specs.Forms.{AsRun, AsShell, AsAudit, AsWorld, AsServe, AsLoad}
+use Rattle.command_words.specs.Forms.{AsRun, AsShell, AsAudit, AsWorld, AsServe, AsLoad, AsAuto}
 use Rattle.command_words.specs.Places.{program_limits}
 use Rattle.tardis_main.specs.Program.{site_at, work_of}
 use Rattle.tardis_main.proofs.Unserved.{no_server}
@@ -28,6 +28,13 @@ returns-in-Ok-Audit-clause-usage g c = λ is. absurd (subst IsRunEnd is c.audit_
 
 pub returns-in-Ok-Audit-clause-unknown : goal.returns-in-Ok-Audit-clause-unknown
 returns-in-Ok-Audit-clause-unknown g c = λ unknown. absurd (unknown (AsAudit c.in-Ok-Audit.place) (c.in-Ok-Audit.ensures.form ∙ ap (λ command. Some (form_of command)) c.in-Ok-Audit.field-0-is) tt)
+
+pub returns-in-Ok-Auto-clause-usage : goal.returns-in-Ok-Auto-clause-usage
+returns-in-Ok-Auto-clause-usage g c = λ is. absurd (subst IsLineEnd is c.auto.ensures.ends.end)
+
+pub returns-in-Ok-Auto-clause-unknown : goal.returns-in-Ok-Auto-clause-unknown
+returns-in-Ok-Auto-clause-unknown g c = λ unknown. absurd (unknown (AsAuto c.in-Ok-Auto.place c.in-Ok-Auto.rules)
+    (c.in-Ok-Auto.ensures.form ∙ ap (λ command. Some (form_of command)) c.in-Ok-Auto.field-0-is) tt)
 
 pub returns-in-Ok-World-clause-usage : goal.returns-in-Ok-World-clause-usage
 returns-in-Ok-World-clause-usage g c = λ is. absurd (subst IsRunEnd is c.run_world.ensures.status)

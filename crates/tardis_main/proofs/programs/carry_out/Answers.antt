@@ -9,12 +9,14 @@ use Rattle.plain_world.specs.Worlds.{opening_world, world_limits}
 use Rattle.world_core.specs.Runs.{WorldFrom}
 use Rattle.command_words.specs.Places.{IsPlace, program_limits}
 use Rattle.site_commands.specs.Runs.{RunFrom, ShellFrom, AuditFrom}
+use Rattle.auto_run.specs.Outcomes.{AutoFrom}
+use Rattle.auto_run.proofs.AutoRuns.{no_auto}
 use Rattle.site_commands.proofs.FrameRuns.{no_run, opens}
 use Rattle.site_commands.proofs.LineRuns.{no_shell, no_audit}
 use Rattle.site_commands.proofs.NoMemory.{no_frames, no_lines}
 use Rattle.tardis_main.specs.Helps.{AreNone}
 use Rattle.tardis_main.specs.Words.{AreServe}
-use Rattle.tardis_main.specs.Program.{site_at, work_of, Runs, Shells, Audits, Worlds, Loads}
+use Rattle.tardis_main.specs.Program.{site_at, Autos, work_of, Runs, Shells, Audits, Worlds, Loads}
 use Rattle.tardis_main.proofs.WorldRuns.{no_world}
 use Rattle.tardis_main.proofs.Words.{limits_hold}
 use Rattle.tardis_main.proofs.Unserved.{no_server}
@@ -40,6 +42,13 @@ returns-in-Err-clause-audit g c = λ place are.
     let old = g.O.Sink.given c.args.output.now in
     no_frames g.I.Source.left g.I.Source.faults g.O.Sink.faults c.args.input.now c.args.output.now (AuditFrom (site_at place) NoMemory old old)
     (λ x. no_audit (site_at place) old x (opens (program_limits place.sites) place.site (limits_hold place.sites is.some is.most) is.first is.last))
+
+pub returns-in-Err-clause-auto : goal.returns-in-Err-clause-auto
+returns-in-Err-clause-auto g c = λ place rules are.
+    let is : IsPlace place = c.commands_are_at_a_site.ensures.auto (map (λ w. string_bytes w) (drop 1 (into_iter_items c.args.args))) place rules are in
+    let old = g.O.Sink.given c.args.output.now in
+    no_lines g.I.Source.left g.I.Source.faults g.O.Sink.faults c.args.input.now c.args.output.now (AutoFrom (site_at place) rules NoMemory old old)
+    (λ x. no_auto (site_at place) rules old x (opens (program_limits place.sites) place.site (limits_hold place.sites is.some is.most) is.first is.last))
 
 pub returns-in-Err-clause-world : goal.returns-in-Err-clause-world
 returns-in-Err-clause-world g c = λ sites are.
@@ -75,6 +84,12 @@ returns-in-Ok-clause-audit g c =
     let words : c.as_slice.result.now ≡ drop 1 (into_iter_items c.args.args) = c.as_slice.ensures.value ∙ c.in-Ok.ensures in
     subst (λ ws. Audits g.I.Source.left g.I.Source.faults g.O.Sink.given g.O.Sink.faults c.args.input.now c.command.new.input c.args.output.now c.command.new.output (map (λ w. string_bytes w) ws) c.command.result)
     words c.command.ensures.audit
+
+pub returns-in-Ok-clause-auto : goal.returns-in-Ok-clause-auto
+returns-in-Ok-clause-auto g c =
+    let words : c.as_slice.result.now ≡ drop 1 (into_iter_items c.args.args) = c.as_slice.ensures.value ∙ c.in-Ok.ensures in
+    subst (λ ws. Autos g.I.Source.left g.I.Source.faults g.O.Sink.given g.O.Sink.faults c.args.input.now c.command.new.input c.args.output.now c.command.new.output (map (λ w. string_bytes w) ws) c.command.result)
+    words c.command.ensures.auto
 
 pub returns-in-Ok-clause-world : goal.returns-in-Ok-clause-world
 returns-in-Ok-clause-world g c =
