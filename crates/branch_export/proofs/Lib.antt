@@ -2,3 +2,5 @@
 pub mod Orders
 pub mod Contents
 pub mod Judged
+pub mod Gathered
+pub mod Kept

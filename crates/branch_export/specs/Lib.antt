@@ -4,3 +4,5 @@ pub mod Scripts
 pub mod Live
 pub mod Rows
 pub mod Readings
+pub mod Exported
+pub mod Gathering

@@ -4,8 +4,12 @@
 #![tactic(auto)]
 
 mod exports;
+mod faults;
 mod judging;
 pub mod rows;
+mod writing;
 
 pub use exports::live_keys;
+pub use faults::ExportFault;
 pub use judging::is_export;
+pub use writing::export_store;
