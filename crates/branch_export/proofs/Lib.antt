@@ -4,3 +4,5 @@ pub mod Contents
 pub mod Judged
 pub mod Gathered
 pub mod Kept
+pub mod Scripting
+pub mod Reading

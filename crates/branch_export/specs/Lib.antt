@@ -6,3 +6,5 @@ pub mod Rows
 pub mod Readings
 pub mod Exported
 pub mod Gathering
+pub mod Groups
+pub mod Imported

@@ -1,11 +1,11 @@
 //! Exports of the states of a store.
 
-ghost use Rattle.std.specs.Prelude.{◌≡◌, ◌+◌, ◌≤◌, ◌++◌, ◌⊎◌, [], ℕ, List, Some, Err, length, map, flat_map, IsTrue, OnOk};
+ghost use Rattle.std.specs.Prelude.{◌≡◌, ◌+◌, ◌≤◌, ◌++◌, ◌⊎◌, [], ℕ, List, Some, Err, length, map, flat_map, IsTrue};
 ghost use Rattle.tardis_base.specs.Sizes.{longest_frame};
 ghost use Rattle.tardis_base.specs.declared.ids.StateId.{StateId};
 ghost use Rattle.tardis_base.specs.declared.records.Record.{Record};
 ghost use Rattle.tardis_base.specs.Valid.{is_key, is_value};
-ghost use Rattle.tardis_io.specs.Told.{WhileTold, GivesAll};
+ghost use Rattle.tardis_io.specs.Told.{WhileTold};
 ghost use Rattle.tardis_io.specs.Faults.{HasCause, Rose};
 ghost use Rattle.state_dag.specs.Table.{id_at, is_slot};
 ghost use Rattle.version_list.specs.Reads.{found};
@@ -17,10 +17,11 @@ ghost use Rattle.branch_export.specs.Gathering.{Moves, entry_bytes};
 
 use crate::exports::live_keys;
 use crate::faults::ExportFault;
+use crate::gathering::{flush, make_room};
 use record_store::RecordStore;
 use std::alloc::Global;
-use tardis_base::{Found, Key, MAX_FRAME, MAX_KEY, MAX_VALUE, ReplyBuf, Slot, StateId};
-use tardis_io::{Sink, WriteFault, write_all};
+use tardis_base::{Found, Key, MAX_KEY, MAX_VALUE, ReplyBuf, Slot, StateId};
+use tardis_io::{Sink, WriteFault};
 use wire_item::{write_u8, write_u16, write_u64};
 
 /// Writes the export of a state: each key whose read there is a value, with the value, as `docs/EXPORT.md` says.
@@ -68,7 +69,7 @@ fn write_entries<O: Sink>(
 {
     write_u64(keys.len() as u64, gathered);
     for key in keys {
-        match make_room(gathered, output) {
+        match make_room(gathered, output, LONGEST_ENTRY) {
             Ok(()) => put_entry(key, store.read_at(slot, key), gathered),
             Err(WriteFault) => return Err(WriteFault),
         }
@@ -77,34 +78,10 @@ fn write_entries<O: Sink>(
 }
 
 /// The most bytes of an entry.
-const LONGEST_ENTRY: usize = 1 + MAX_KEY + 2 + MAX_VALUE;
-
-/// Gives what was gathered, where the longest entry may find no room behind it.
-fn make_room<O: Sink>(gathered: &mut ReplyBuf, output: &mut O) -> Result<(), WriteFault>
-    ensures moved { WhileTold (O.given output.old) (O.given output.new) (λ before after. Moves before gathered.old after gathered.new result) }
-    ensures room { OnOk result (length gathered.new + 4227 ≤ longest_frame) }
-    ensures cause { HasCause (O.faults output.old) (O.faults output.new) result }
-{
-    if gathered.len() <= MAX_FRAME - LONGEST_ENTRY {
-        Ok(())
-    } else {
-        flush(gathered, output)
-    }
-}
-
-/// Gives what was gathered.
-fn flush<O: Sink>(gathered: &mut ReplyBuf, output: &mut O) -> Result<(), WriteFault>
-    ensures given { WhileTold (O.given output.old) (O.given output.new) (λ before after. GivesAll before after result gathered.old) }
-    ensures none { gathered.new ≡ [] }
-    ensures cause { HasCause (O.faults output.old) (O.faults output.new) result }
-{
-    let written = write_all(output, gathered.bytes());
-    gathered.clear();
-    written
-}
+pub(crate) const LONGEST_ENTRY: usize = 1 + MAX_KEY + 2 + MAX_VALUE;
 
 /// Writes an entry, a key and its value, behind these bytes.
-pub fn write_entry(key: &[u8], value: &[u8], out: &mut ReplyBuf)
+pub(crate) fn write_entry(key: &[u8], value: &[u8], out: &mut ReplyBuf)
     requires key { IsTrue (is_key key.now) }
     requires value { IsTrue (is_value value.now) }
     requires room { length out.old + 4227 ≤ longest_frame }
