@@ -4,7 +4,7 @@ use Rattle.std.specs.List.{list_all}
 use Rattle.tardis_base.specs.declared.ids.StateId.{StateId}
 use Rattle.tardis_base.specs.declared.records.Record.{Record}
 use Rattle.tardis_base.specs.declared.records.Write.{Write}
-use Rattle.tardis_base.specs.declared.records.Write.TheVariants.{Put, Delete}
+use Rattle.tardis_base.specs.Bytes.{value_of}
 use Rattle.tardis_base.specs.Keys.{with_key, keys_of, are_ascending_keys}
 use Rattle.tardis_base.specs.Valid.{is_key, is_value, is_u64}
 use Rattle.plain_dag.specs.Writers.{read}
@@ -23,11 +23,6 @@ with_keys (k ∷ ks) ls = with_key k (with_keys ks ls)
 abbrev pub written_keys : List Record → List (List ℕ)
 written_keys [] = []
 written_keys (r ∷ rs) = with_keys (keys_of r.writes) (written_keys rs)
-
--- the value that is written; none for a deletion
-abbrev pub value_of : Write → Option (List ℕ)
-value_of (Put value) = Some value
-value_of Delete = None
 
 -- the value that was read; none where nothing was found, or a deletion
 abbrev pub value_read : Option (StateId × Write) → Option (List ℕ)

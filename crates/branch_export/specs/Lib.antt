@@ -4,3 +4,7 @@ pub mod Scripts
 pub mod Live
 pub mod Rows
 pub mod Readings
+pub mod Exported
+pub mod Gathering
+pub mod Groups
+pub mod Imported

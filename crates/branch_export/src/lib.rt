@@ -4,8 +4,17 @@
 #![tactic(auto)]
 
 mod exports;
+mod faults;
+mod gathering;
+mod imports;
+mod inputs;
 mod judging;
 pub mod rows;
+mod scripts;
+mod writing;
 
 pub use exports::live_keys;
+pub use faults::ExportFault;
+pub use imports::run_import;
 pub use judging::is_export;
+pub use writing::export_store;

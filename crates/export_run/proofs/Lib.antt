@@ -1,0 +1,3 @@
+-- Lemmas on exports of a site in memory.
+pub mod Silences
+pub mod Exporting

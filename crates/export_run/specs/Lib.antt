@@ -1,0 +1,3 @@
+-- Exports of a site in memory.
+pub mod Silence
+pub mod Exporting
