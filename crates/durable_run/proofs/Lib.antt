@@ -1,0 +1,4 @@
+-- Lemmas on groups and on how a durable run ends.
+mod Moments
+mod InTurns
+mod Grouped
