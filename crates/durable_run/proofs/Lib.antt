@@ -2,3 +2,4 @@
 mod Moments
 mod InTurns
 mod Grouped
+mod Bodies
