@@ -3,3 +3,5 @@ mod Moments
 mod InTurns
 mod Grouped
 mod Bodies
+mod Outcomes
+mod Turning

@@ -128,7 +128,8 @@ fn turn<M: Machine, K: Disk, I: Source, O: Sink>(
         reply,
         gathered,
     } = buffers;
-    match take_front(input, piece.as_mut_slice(), size) {
+    let piece = piece.as_mut_slice();
+    match take_front(input, piece, size) {
         Ok(0) => Err((end_of(cutter), journal.close().1)),
         Ok(count) => {
             match answer_piece(journal, cutter, reply, gathered, output, &piece[..count]) {
