@@ -5,3 +5,4 @@ mod Grouped
 mod Bodies
 mod Outcomes
 mod Turning
+mod Running

@@ -1,9 +1,12 @@
 -- Pieces that are taken and answered, and how their run ends.
-use Rattle.std.proofs.Common.{◌≡◌, ◌≢◌, ℕ, ◌+◌, ◌<◌, ◌≤◌, ◌==◌, Bool, true, false, if◌then◌else◌, List, [], ◌++◌, Option, length, take, refl, sym, ap, ◌∙◌, subst, arith, append_assoc}
+use Rattle.std.proofs.Common.{◌≡◌, ◌≢◌, ℕ, ◌+◌, ◌<◌, ◌≤◌, ◌==◌, Bool, true, false, if◌then◌else◌, List, [], ◌++◌, Option, Result, Ok, Err, length, take, refl, sym, ap, ◌∙◌, subst, arith, append_assoc}
 use Rattle.std.proofs.lemmas.Bool.{false≢true}
 use Rattle.std.proofs.lemmas.Bool.Decides.{nat_tests}
 use Rattle.std.proofs.lemmas.List.{nil_from_length, length-append, length-take-le}
 use Rattle.tardis_base.specs.Plain.{PlainMachine}
+use Rattle.tardis_io.specs.Told.{WhileTold, Takes}
+use Rattle.tardis_io.specs.declared.faults.Failed.{Failed}
+use Rattle.tardis_io.proofs.Told.{weaker, then as told_then, same as told_same}
 use Rattle.tardis_io.specs.declared.statuses.Status.{Status}
 use Rattle.tardis_io.specs.declared.statuses.Status.TheVariants.{Ok as Finished, ReadFault, WriteFault, Cut, LongFrame, Spent, DiskFault}
 use Rattle.frame_cut.specs.Frames.{IsPartial, IsLong, Cuts}
@@ -12,7 +15,9 @@ use Rattle.site_journal.specs.declared.journals.Journaled.{Journaled}
 use Rattle.site_run.specs.Endings.{Ends, most_taken, shape_of}
 use Rattle.durable_run.specs.Groups.{Start, Grouping, Taking}
 use Rattle.durable_run.specs.Ends.{as_in_midst, Durable}
-use Rattle.durable_run.specs.Turns.{EndsSo}
+use Rattle.durable_run.specs.declared.groups.Stop.{Stop}
+use Rattle.durable_run.specs.declared.groups.Stop.TheVariants.{Disk, Output}
+use Rattle.durable_run.specs.Turns.{EndsSo, IsStop}
 use Rattle.durable_run.proofs.Grouped.{rested}
 use Rattle.durable_run.proofs.Outcomes.{outcome}
 
@@ -130,3 +135,111 @@ module _ {M S K : Type 0} (plain : PlainMachine S) (stands : M → S → Type 0)
       let count : length first ≡ taken + n + length after = count_more taken n first before after buf t.count moved.0 within in
       ends_so at status disk now (t.bodies ++ on.0) first on.1.0 after (read_more first held before after buf piece on.1.0 n t.bodies on.0 t.read moved.0 is on.1.1.0) on.1.1.1
       (subst (λ s. Ends s first (t.bodies ++ on.0) on.1.0 after) (sym midst) (omega (arith, count, few)))
+
+  -- a turn took so many bytes, and answered what they complete
+  abbrev pub GoesOn : Journaled M K → Journaled M K → Option (List ℕ) → Option (List ℕ) → List ℕ → List ℕ → ℕ → List ℕ → List ℕ → Type 0
+  GoesOn old new given now held rest n before after = (at : Start S K) (taken : ℕ) (first : List ℕ)
+      → Taking plain stands opening honest reads may_leave moment left_since at taken old given held first before → Taking plain stands opening honest reads may_leave moment left_since at (taken + n) new now rest first after
+
+  -- a turn ended the run
+  abbrev pub EndsHere : Journaled M K → Status → K → Option (List ℕ) → Option (List ℕ) → List ℕ → ℕ → List ℕ → List ℕ → Type 0
+  EndsHere old status disk given now held size before after = (at : Start S K) (taken : ℕ) (first : List ℕ)
+      → Taking plain stands opening honest reads may_leave moment left_since at taken old given held first before → taken + size ≤ most_taken → EndsSo plain honest reads may_leave moment left_since at status disk now first after
+
+  pub told_turned : (a b : Option (List ℕ)) (old new : Journaled M K) (given now : Option (List ℕ)) (held buf rest : List ℕ) (n : ℕ)
+      → ((at : Start S K) (bodies : List (List ℕ)) → Grouping plain stands opening honest reads may_leave moment left_since at old given [] bodies
+      → (more : List (List ℕ)) × (Cuts (held ++ take n buf) more rest × Grouping plain stands opening honest reads may_leave moment left_since at new now [] (bodies ++ more)))
+      → n ≤ length buf → WhileTold a b (λ before after. Takes before after (Ok n) buf) → WhileTold a b (GoesOn old new given now held rest n)
+  told_turned a b old new given now held buf rest n grouped within told =
+      weaker a b (λ before after. Takes before after (Ok n) buf) (GoesOn old new given now held rest n) told
+      (λ x y moved at taken first t. taking_more at taken n old new given now held first x y buf (take n buf) rest (grouped at) moved within refl t)
+
+  pub told_end : (a b : Option (List ℕ)) (status : Status) (old : Journaled M K) (disk : K) (given : Option (List ℕ)) (held buf : List ℕ) (n size : ℕ)
+      → n ≡ 0 → status ≡ (if length held == 0 then Finished else Cut) → IsPartial held → 0 < size → disk ≡ old.disk
+      → WhileTold a b (λ before after. Takes before after (Ok n) buf) → WhileTold a b (EndsHere old status disk given given held size)
+  told_end a b status old disk given held buf n size zero is partial some same told =
+      weaker a b (λ before after. Takes before after (Ok n) buf) (EndsHere old status disk given given held size) told
+      (λ x y moved at taken first t few. done_end status at taken old disk given held first x y buf n t zero moved is partial (omega (arith, few, some)) same)
+
+  pub told_read : (a b : Option (List ℕ)) (old : Journaled M K) (disk : K) (given : Option (List ℕ)) (held buf : List ℕ) (e : Failed) (size : ℕ)
+      → IsPartial held → 0 < size → disk ≡ old.disk
+      → WhileTold a b (λ before after. Takes before after (Err e) buf) → WhileTold a b (EndsHere old ReadFault disk given given held size)
+  told_read a b old disk given held buf e size partial some same told =
+      weaker a b (λ before after. Takes before after (Err e) buf) (EndsHere old ReadFault disk given given held size) told
+      (λ x y left at taken first t few. done_read at taken old disk given held first x y t left partial (omega (arith, few, some)) same)
+
+  pub told_long : (a b : Option (List ℕ)) (len : ℕ) (old new : Journaled M K) (disk : K) (given now : Option (List ℕ)) (held buf rest : List ℕ) (n size : ℕ)
+      → ((at : Start S K) (bodies : List (List ℕ)) → Grouping plain stands opening honest reads may_leave moment left_since at old given [] bodies
+      → (more : List (List ℕ)) × (Cuts (held ++ take n buf) more rest × Grouping plain stands opening honest reads may_leave moment left_since at new now [] (bodies ++ more)))
+      → n ≤ length buf → n ≤ size → IsLong rest len → disk ≡ new.disk
+      → WhileTold a b (λ before after. Takes before after (Ok n) buf) → WhileTold a b (EndsHere old (LongFrame len) disk given now held size)
+  told_long a b len old new disk given now held buf rest n size grouped within less long same told =
+      weaker a b (λ before after. Takes before after (Ok n) buf) (EndsHere old (LongFrame len) disk given now held size) told
+      (λ x y moved at taken first t few. done_long len at (taken + n) new disk now rest first y
+      (taking_more at taken n old new given now held first x y buf (take n buf) rest (grouped at) moved within refl t) long (omega (arith, few, less)) same)
+
+  pub told_stop : (a b : Option (List ℕ)) (status : Status) (old : Journaled M K) (disk : K) (given now : Option (List ℕ)) (held buf : List ℕ) (n size : ℕ)
+      → as_in_midst status ≡ WriteFault
+      → ((at : Start S K) (bodies : List (List ℕ)) → Grouping plain stands opening honest reads may_leave moment left_since at old given [] bodies
+      → (more : List (List ℕ)) × ((rest : List ℕ) × (Cuts (held ++ take n buf) more rest × Durable plain honest reads may_leave moment left_since status at disk now (bodies ++ more))))
+      → n ≤ length buf → n ≤ size
+      → WhileTold a b (λ before after. Takes before after (Ok n) buf) → WhileTold a b (EndsHere old status disk given now held size)
+  told_stop a b status old disk given now held buf n size midst stopped within less told =
+      weaker a b (λ before after. Takes before after (Ok n) buf) (EndsHere old status disk given now held size) told
+      (λ x y moved at taken first t few. done_stop status at taken n old disk given now held first x y buf (take n buf) midst (stopped at) moved within refl (omega (arith, few, less)) t)
+
+  -- the same where it is told what stopped the run
+  abbrev pub WasStopped : Journaled M K → Stop K → Option (List ℕ) → Option (List ℕ) → List ℕ → Type 0
+  WasStopped old stop given now bytes = (at : Start S K) (bodies : List (List ℕ)) → Grouping plain stands opening honest reads may_leave moment left_since at old given [] bodies
+      → (more : List (List ℕ)) × ((rest : List ℕ) × (Cuts bytes more rest × IsStop plain honest reads may_leave moment left_since at stop now (bodies ++ more)))
+
+  pub told_disk : (a b : Option (List ℕ)) (old : Journaled M K) (stop : Stop K) (disk : K) (given now : Option (List ℕ)) (held buf : List ℕ) (n size : ℕ)
+      → stop ≡ Disk disk → WasStopped old stop given now (held ++ take n buf) → n ≤ length buf → n ≤ size
+      → WhileTold a b (λ before after. Takes before after (Ok n) buf) → WhileTold a b (EndsHere old DiskFault disk given now held size)
+  told_disk a b old stop disk given now held buf n size is stopped within less told =
+      told_stop a b DiskFault old disk given now held buf n size refl
+      (λ at bodies group. let x = stopped at bodies group in (x.0, (x.1.0, (x.1.1.0, subst (λ s. IsStop plain honest reads may_leave moment left_since at s now (bodies ++ x.0)) is x.1.1.1))))
+      within less told
+
+  pub told_output : (a b : Option (List ℕ)) (old : Journaled M K) (stop : Stop K) (disk : K) (given now : Option (List ℕ)) (held buf : List ℕ) (n size : ℕ)
+      → stop ≡ Output disk → WasStopped old stop given now (held ++ take n buf) → n ≤ length buf → n ≤ size
+      → WhileTold a b (λ before after. Takes before after (Ok n) buf) → WhileTold a b (EndsHere old WriteFault disk given now held size)
+  told_output a b old stop disk given now held buf n size is stopped within less told =
+      told_stop a b WriteFault old disk given now held buf n size refl
+      (λ at bodies group. let x = stopped at bodies group in (x.0, (x.1.0, (x.1.1.0, subst (λ s. IsStop plain honest reads may_leave moment left_since at s now (bodies ++ x.0)) is x.1.1.1))))
+      within less told
+
+  -- nothing was taken yet
+  pub taking_none : (at : Start S K) (journal : Journaled M K) (given : Option (List ℕ)) (held bytes : List ℕ) → held ≡ [] → Grouping plain stands opening honest reads may_leave moment left_since at journal given [] [] → Taking plain stands opening honest reads may_leave moment left_since at 0 journal given held bytes bytes
+  taking_none at journal given held bytes none group = record {
+    bodies = [];
+    count = omega arith;
+    read = record { whole = ap (λ z. z ++ bytes) (sym none); each = tt };
+    group = group;
+  }
+
+  -- turn after turn
+  pub turns_on : (at : Start S K) (a b c : Option (List ℕ)) (taken n : ℕ) (old new : Journaled M K) (given now : Option (List ℕ)) (held rest : List ℕ)
+      → WhileTold a b (λ first left. Taking plain stands opening honest reads may_leave moment left_since at taken old given held first left) → WhileTold b c (GoesOn old new given now held rest n)
+      → WhileTold a c (λ first left. Taking plain stands opening honest reads may_leave moment left_since at (taken + n) new now rest first left)
+  turns_on at a b c taken n old new given now held rest so_far turn =
+      told_then a b c (λ first left. Taking plain stands opening honest reads may_leave moment left_since at taken old given held first left) (GoesOn old new given now held rest n) (λ first left. Taking plain stands opening honest reads may_leave moment left_since at (taken + n) new now rest first left)
+      so_far turn (λ x y z t on. on at taken x t)
+
+  pub turns_end : (at : Start S K) (a b c : Option (List ℕ)) (taken size : ℕ) (old : Journaled M K) (status : Status) (disk : K) (given now : Option (List ℕ)) (held : List ℕ)
+      → taken + size ≤ most_taken → WhileTold a b (λ first left. Taking plain stands opening honest reads may_leave moment left_since at taken old given held first left) → WhileTold b c (EndsHere old status disk given now held size)
+      → WhileTold a c (EndsSo plain honest reads may_leave moment left_since at status disk now)
+  turns_end at a b c taken size old status disk given now held few so_far turn =
+      told_then a b c (λ first left. Taking plain stands opening honest reads may_leave moment left_since at taken old given held first left) (EndsHere old status disk given now held size) (EndsSo plain honest reads may_leave moment left_since at status disk now)
+      so_far turn (λ x y z t end. end at taken x t few)
+
+  pub turns_spent : (at : Start S K) (a b : Option (List ℕ)) (taken : ℕ) (old : Journaled M K) (disk : K) (given : Option (List ℕ)) (held : List ℕ)
+      → IsPartial held → taken ≤ most_taken → most_taken ≤ taken → disk ≡ old.disk → WhileTold a b (λ first left. Taking plain stands opening honest reads may_leave moment left_since at taken old given held first left)
+      → WhileTold a b (EndsSo plain honest reads may_leave moment left_since at Spent disk given)
+  turns_spent at a b taken old disk given held partial within all same so_far =
+      weaker a b (λ first left. Taking plain stands opening honest reads may_leave moment left_since at taken old given held first left) (EndsSo plain honest reads may_leave moment left_since at Spent disk given) so_far
+      (λ x y t. done_spent at taken old disk given held x y t partial within all same)
+
+  pub turns_none : (at : Start S K) (a : Option (List ℕ)) (journal : Journaled M K) (given : Option (List ℕ)) (held : List ℕ) → held ≡ [] → Grouping plain stands opening honest reads may_leave moment left_since at journal given [] []
+      → WhileTold a a (λ first left. Taking plain stands opening honest reads may_leave moment left_since at 0 journal given held first left)
+  turns_none at a journal given held none group = told_same a (λ first left. Taking plain stands opening honest reads may_leave moment left_since at 0 journal given held first left) (λ x. taking_none at journal given held x none group)

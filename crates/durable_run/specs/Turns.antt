@@ -22,7 +22,6 @@ pub record Went {K : Type 0} (honest : K → Type 0) (faults : K → ℕ) (old n
 
 -- the buffers between two pieces
 pub record AreReady (b : Buffers) : Type 0 where
-  pub piece : length b.piece.items ≡ 65536
   pub partial : IsPartial b.cutter
   pub gathered : b.gathered.bytes ≡ []
   pub room : b.gathered.room ≡ 2097156

@@ -8,16 +8,12 @@ use site_run::Gathered;
 use std::alloc::Global;
 use tardis_base::{NoMemory, ReplyBuf};
 
-/// How many bytes one take asks for at most.
-pub(crate) const PIECE: usize = 65_536;
-
 /// How many bytes of answers may be gathered: a mebibyte, and one longest answer.
 const GATHERED: usize = 2_097_156;
 
-/// All buffers that a run takes, before it opens the journal.
+/// What a run holds between its input and its output.
 #[derive(Drop)]
 pub(crate) struct Buffers {
-    pub(crate) piece: Vec<u8>,
     pub(crate) cutter: FrameCutter,
     pub(crate) reply: ReplyBuf,
     pub(crate) gathered: Gathered,
@@ -27,14 +23,10 @@ impl Buffers {
     pub(crate) fn new(alloc: Global) -> Result<Buffers, NoMemory>
         ensures { IfOk result (λ b. AreFresh b) }
     {
-        let Ok(piece) = vec![in alloc; 0; PIECE] else {
-            return Err(NoMemory);
-        };
         let cutter = FrameCutter::new(alloc)?;
         let reply = ReplyBuf::new(alloc)?;
         let gathered = Gathered::new(alloc, GATHERED)?;
         Ok(Buffers {
-            piece,
             cutter,
             reply,
             gathered,

@@ -12,7 +12,7 @@ ghost use Rattle.durable_run.specs.Groups.{Start, Grouping, Taking};
 ghost use Rattle.durable_run.specs.Turns.{Went, AreReady, Ended, EndsSo};
 ghost use Rattle.durable_run.specs.Ends.{as_in_midst, RanOn, NotOpened};
 
-use crate::buffers::{Buffers, PIECE};
+use crate::buffers::Buffers;
 use crate::groups::Stop;
 use crate::pieces::{Next, answer_piece};
 use disk_store::Disk;
@@ -21,6 +21,9 @@ use site_journal::{Journaled, OpenEnd, open_on};
 use std::alloc::Global;
 use tardis_base::{Machine, NoMemory};
 use tardis_io::{Failed, Sink, Source, Status};
+
+/// How many bytes one take asks for at most.
+const PIECE: usize = 65_536;
 
 /// How many bytes are taken at most: 1 TiB.
 const MOST_TAKEN: u64 = 1_099_511_627_776;
@@ -56,8 +59,13 @@ pub fn run_durable<M: Machine, K: Disk, I: Source, O: Sink>(
     let Ok(mut buffers) = Buffers::new(alloc) else {
         return (Status::NoMemory, disk);
     };
+    let Ok(mut piece) = vec![in alloc; 0; PIECE] else {
+        return (Status::NoMemory, disk);
+    };
     match open_on(alloc, machine, disk, max_trail) {
-        Ok((journal, _)) => answer_input(&mut buffers, journal, input, output),
+        Ok((journal, _)) => {
+            answer_input(&mut buffers, piece.as_mut_slice(), journal, input, output)
+        }
         Err(OpenEnd::DiskFault(disk)) => (Status::DiskFault, disk),
         Err(OpenEnd::NoMemory(disk)) => (Status::NoMemory, disk),
     }
@@ -66,11 +74,13 @@ pub fn run_durable<M: Machine, K: Disk, I: Source, O: Sink>(
 /// Answers the frames of an input, piece by piece.
 fn answer_input<M: Machine, K: Disk, I: Source, O: Sink>(
     buffers: &mut Buffers,
+    piece: &mut [u8],
     journal: Journaled<M, K>,
     input: &mut I,
     output: &mut O,
 ) -> (Status, K)
     requires fresh { AreFresh buffers.old }
+    requires room { length piece.old ≡ 65536 }
     requires group { (at : Start M.Plain K) × Grouping M.plain M.stands M.opening K.honest K.reads K.may_leave K.moment K.left_since at journal (O.given output.old) [] [] }
     ensures outcome { (at : Start M.Plain K) → Grouping M.plain M.stands M.opening K.honest K.reads K.may_leave K.moment K.left_since at journal (O.given output.old) [] []
         → WhileTold (I.left input.old) (I.left input.new) (EndsSo M.plain K.honest K.reads K.may_leave K.moment K.left_since at result.0 result.1 (O.given output.new)) }
@@ -83,7 +93,7 @@ fn answer_input<M: Machine, K: Disk, I: Source, O: Sink>(
     let mut taken: u64 = 0;
     while taken < MOST_TAKEN {
         let size = PIECE.min((MOST_TAKEN - taken) as usize);
-        match turn(buffers, journal, size, input, output) {
+        match turn(buffers, piece, journal, size, input, output) {
             Ok((answered, count)) => {
                 journal = answered;
                 taken += count as u64;
@@ -97,12 +107,14 @@ fn answer_input<M: Machine, K: Disk, I: Source, O: Sink>(
 /// Takes a piece of at most so many bytes, and answers the frames that it completes.
 fn turn<M: Machine, K: Disk, I: Source, O: Sink>(
     buffers: &mut Buffers,
+    piece: &mut [u8],
     journal: Journaled<M, K>,
     size: usize,
     input: &mut I,
     output: &mut O,
 ) -> Result<(Journaled<M, K>, usize), (Status, K)>
     requires ready { AreReady buffers.old }
+    requires room { length piece.old ≡ 65536 }
     requires some { 0 < size }
     requires within { size ≤ 65536 }
     requires group { (at : Start M.Plain K) × ((bodies : List (List ℕ)) × Grouping M.plain M.stands M.opening K.honest K.reads K.may_leave K.moment K.left_since at journal (O.given output.old) [] bodies) }
@@ -115,6 +127,7 @@ fn turn<M: Machine, K: Disk, I: Source, O: Sink>(
     ensures grouped { (at : Start M.Plain K) (bodies : List (List ℕ)) → Grouping M.plain M.stands M.opening K.honest K.reads K.may_leave K.moment K.left_since at journal (O.given output.old) [] bodies
         → IfOk result (λ on. (more : List (List ℕ)) × Grouping M.plain M.stands M.opening K.honest K.reads K.may_leave K.moment K.left_since at on.0 (O.given output.new) [] (bodies ++ more)) }
     ensures ready { IfOk result (λ on. AreReady buffers.new) }
+    ensures room { length piece.new ≡ 65536 }
     ensures count { IfOk result (λ on. (0 < on.1) × (on.1 ≤ size)) }
     ensures went { IfOk result (λ on. Went K.honest K.faults journal.disk on.0.disk) }
     ensures ended { IfErr result (λ end. Ended K.honest K.faults I.faults O.faults journal.disk end.1 input.old input.new output.old output.new end.0) }
@@ -123,12 +136,10 @@ fn turn<M: Machine, K: Disk, I: Source, O: Sink>(
     ensures write_later { O.faults output.old ≤ O.faults output.new }
 {
     let Buffers {
-        piece,
         cutter,
         reply,
         gathered,
     } = buffers;
-    let piece = piece.as_mut_slice();
     match take_front(input, piece, size) {
         Ok(0) => Err((end_of(cutter), journal.close().1)),
         Ok(count) => {
