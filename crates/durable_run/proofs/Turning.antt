@@ -1,11 +1,10 @@
 -- Pieces that are taken and answered, and how their run ends.
-use Rattle.std.proofs.Common.{◌≡◌, ◌≢◌, ℕ, ◌+◌, ◌<◌, ◌≤◌, ◌==◌, Bool, true, false, if◌then◌else◌, List, [], ◌++◌, Option, Result, Ok, Err, length, take, refl, sym, ap, ◌∙◌, subst, arith, append_assoc}
+use Rattle.std.proofs.Common.{◌≡◌, ◌≢◌, ℕ, ◌+◌, ◌<◌, ◌≤◌, ◌==◌, Bool, true, false, if◌then◌else◌, List, [], ◌++◌, Option, Ok, length, take, refl, sym, ap, ◌∙◌, subst, arith, append_assoc}
 use Rattle.std.proofs.lemmas.Bool.{false≢true}
 use Rattle.std.proofs.lemmas.Bool.Decides.{nat_tests}
 use Rattle.std.proofs.lemmas.List.{nil_from_length, length-append, length-take-le}
 use Rattle.tardis_base.specs.Plain.{PlainMachine}
 use Rattle.tardis_io.specs.Told.{WhileTold, Takes}
-use Rattle.tardis_io.specs.declared.faults.Failed.{Failed}
 use Rattle.tardis_io.proofs.Told.{weaker, then as told_then, same as told_same}
 use Rattle.tardis_io.specs.declared.statuses.Status.{Status}
 use Rattle.tardis_io.specs.declared.statuses.Status.TheVariants.{Ok as Finished, ReadFault, WriteFault, Cut, LongFrame, Spent, DiskFault}
@@ -161,11 +160,11 @@ module _ {M S K : Type 0} (plain : PlainMachine S) (stands : M → S → Type 0)
       weaker a b (λ before after. Takes before after (Ok n) buf) (EndsHere old status disk given given held size) told
       (λ x y moved at taken first t few. done_end status at taken old disk given held first x y buf n t zero moved is partial (omega (arith, few, some)) same)
 
-  pub told_read : (a b : Option (List ℕ)) (old : Journaled M K) (disk : K) (given : Option (List ℕ)) (held buf : List ℕ) (e : Failed) (size : ℕ)
+  pub told_read : (a b : Option (List ℕ)) (old : Journaled M K) (disk : K) (given : Option (List ℕ)) (held : List ℕ) (size : ℕ)
       → IsPartial held → 0 < size → disk ≡ old.disk
-      → WhileTold a b (λ before after. Takes before after (Err e) buf) → WhileTold a b (EndsHere old ReadFault disk given given held size)
-  told_read a b old disk given held buf e size partial some same told =
-      weaker a b (λ before after. Takes before after (Err e) buf) (EndsHere old ReadFault disk given given held size) told
+      → WhileTold a b (λ before after. after ≡ before) → WhileTold a b (EndsHere old ReadFault disk given given held size)
+  told_read a b old disk given held size partial some same told =
+      weaker a b (λ before after. after ≡ before) (EndsHere old ReadFault disk given given held size) told
       (λ x y left at taken first t few. done_read at taken old disk given held first x y t left partial (omega (arith, few, some)) same)
 
   pub told_long : (a b : Option (List ℕ)) (len : ℕ) (old new : Journaled M K) (disk : K) (given now : Option (List ℕ)) (held buf rest : List ℕ) (n size : ℕ)

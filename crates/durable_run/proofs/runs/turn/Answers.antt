@@ -1,5 +1,4 @@
 use Rattle.std.proofs.Common.{◌≤◌, ◌∙◌, length, subst, arith}
-use Rattle.tardis_io.specs.declared.faults.Failed.{Failed}
 use Rattle.durable_run.specs.Turns.{IsBehind}
 use Rattle.durable_run.proofs.Turning.{told_turned, told_end, told_read, told_long, told_disk, told_output}
 use Rattle.durable_run.proofs.runs.turn.Goals as goal
@@ -59,5 +58,5 @@ pub returns-in-Err-clause-outcome : goal.returns-in-Err-clause-outcome
 returns-in-Err-clause-outcome g c =
     let M = g.M.Machine in
     let K = g.K.Disk in
-    told_read M.plain M.stands M.opening K.honest K.reads K.may_leave K.moment K.left_since (g.I.Source.left c.args.input.now) (g.I.Source.left c.take_front.new.input) c.args.journal c.close-in-Err.result.1 (g.O.Sink.given c.args.output.now) c.args.buffers.now.cutter c.take_front.new.buf Failed c.args.size
+    told_read M.plain M.stands M.opening K.honest K.reads K.may_leave K.moment K.left_since (g.I.Source.left c.args.input.now) (g.I.Source.left c.take_front.new.input) c.args.journal c.close-in-Err.result.1 (g.O.Sink.given c.args.output.now) c.args.buffers.now.cutter c.args.size
     c.requires.ready.partial c.requires.some c.close-in-Err.ensures.disk c.in-Err.ensures.bytes
