@@ -10,7 +10,7 @@ answer_input-requires-clause-group g c =
     let K = g.K.Disk in
     let o = c.in-Ok-open_on.ensures.opened in
     let at : Start M.Plain g.row.K.Denot = record { entries = o.0; state = M.opening c.args.machine; disk = c.args.disk; given = g.O.Sink.given c.args.output.now; most = c.args.max_trail } in
-    let group = begun M.plain M.stands M.opening K.honest K.reads K.may_leave K.moment K.left_since o.0 (M.opening c.args.machine) c.args.disk (g.O.Sink.given c.args.output.now) c.args.max_trail c.in-Ok-open_on.journal o.1.0 c.in-Ok-open_on.ensures.opening c.in-Ok-open_on.ensures.limit c.in-Ok-open_on.ensures.honest o.1.1.1 c.in-Ok-open_on.ensures.images in
+    let group = begun M.plain M.stands M.opening K.honest K.reads K.may_leave K.moment K.left_since o.0 (M.opening c.args.machine) c.args.disk (g.O.Sink.given c.args.output.now) c.args.max_trail c.in-Ok-open_on.journal o.1.0 c.in-Ok-open_on.ensures.opening c.in-Ok-open_on.ensures.limit c.in-Ok-open_on.ensures.honest o.1.2 c.in-Ok-open_on.ensures.images in
     (at, group)
 
 pub returns-in-Ok-open_on-clause-outcome : goal.returns-in-Ok-open_on-clause-outcome
@@ -19,8 +19,8 @@ returns-in-Ok-open_on-clause-outcome g c =
     let K = g.K.Disk in
     let o = c.in-Ok-open_on.ensures.opened in
     let at : Start M.Plain g.row.K.Denot = record { entries = o.0; state = M.opening c.args.machine; disk = c.args.disk; given = g.O.Sink.given c.args.output.now; most = c.args.max_trail } in
-    let group = begun M.plain M.stands M.opening K.honest K.reads K.may_leave K.moment K.left_since o.0 (M.opening c.args.machine) c.args.disk (g.O.Sink.given c.args.output.now) c.args.max_trail c.in-Ok-open_on.journal o.1.0 c.in-Ok-open_on.ensures.opening c.in-Ok-open_on.ensures.limit c.in-Ok-open_on.ensures.honest o.1.1.1 c.in-Ok-open_on.ensures.images in
-    inr (record { entries = o.0; found = o.1.1.1; outcome = c.answer_input.ensures.outcome at group })
+    let group = begun M.plain M.stands M.opening K.honest K.reads K.may_leave K.moment K.left_since o.0 (M.opening c.args.machine) c.args.disk (g.O.Sink.given c.args.output.now) c.args.max_trail c.in-Ok-open_on.journal o.1.0 c.in-Ok-open_on.ensures.opening c.in-Ok-open_on.ensures.limit c.in-Ok-open_on.ensures.honest o.1.2 c.in-Ok-open_on.ensures.images in
+    inr (record { entries = o.0; found = o.1.2; outcome = c.answer_input.ensures.outcome at group })
 
 pub returns-in-Ok-open_on-clause-exact : goal.returns-in-Ok-open_on-clause-exact
 returns-in-Ok-open_on-clause-exact g c =
@@ -28,7 +28,7 @@ returns-in-Ok-open_on-clause-exact g c =
     let K = g.K.Disk in
     let o = c.in-Ok-open_on.ensures.opened in
     let at : Start M.Plain g.row.K.Denot = record { entries = o.0; state = M.opening c.args.machine; disk = c.args.disk; given = g.O.Sink.given c.args.output.now; most = c.args.max_trail } in
-    let group = begun M.plain M.stands M.opening K.honest K.reads K.may_leave K.moment K.left_since o.0 (M.opening c.args.machine) c.args.disk (g.O.Sink.given c.args.output.now) c.args.max_trail c.in-Ok-open_on.journal o.1.0 c.in-Ok-open_on.ensures.opening c.in-Ok-open_on.ensures.limit c.in-Ok-open_on.ensures.honest o.1.1.1 c.in-Ok-open_on.ensures.images in
+    let group = begun M.plain M.stands M.opening K.honest K.reads K.may_leave K.moment K.left_since o.0 (M.opening c.args.machine) c.args.disk (g.O.Sink.given c.args.output.now) c.args.max_trail c.in-Ok-open_on.journal o.1.0 c.in-Ok-open_on.ensures.opening c.in-Ok-open_on.ensures.limit c.in-Ok-open_on.ensures.honest o.1.2 c.in-Ok-open_on.ensures.images in
     let e = ended_later M.plain M.stands M.opening K.honest K.reads K.may_leave K.moment K.left_since K.faults g.I.Source.faults g.O.Sink.faults c.args.disk c.in-Ok-open_on.journal.disk c.answer_input.result.1 c.args.input.now c.answer_input.new.input c.args.output.now c.answer_input.new.output c.answer_input.result.0 c.in-Ok-open_on.ensures.later c.in-Ok-open_on.ensures.honest c.answer_input.ensures.ended in
     exact_end M.plain M.stands M.opening K.honest K.reads K.may_leave K.moment K.left_since at (g.I.Source.left c.args.input.now) (g.I.Source.left c.answer_input.new.input) c.answer_input.result.0 c.answer_input.result.1 (g.O.Sink.given c.answer_input.new.output)
     (Rose (K.faults c.args.disk) (K.faults c.answer_input.result.1)) (Rose (g.I.Source.faults c.args.input.now) (g.I.Source.faults c.answer_input.new.input)) (Rose (g.O.Sink.faults c.args.output.now) (g.O.Sink.faults c.answer_input.new.output))
