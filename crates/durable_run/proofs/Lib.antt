@@ -1,0 +1,8 @@
+-- Lemmas on groups and on how a durable run ends.
+mod Moments
+mod InTurns
+mod Grouped
+mod Bodies
+mod Outcomes
+mod Turning
+mod Running

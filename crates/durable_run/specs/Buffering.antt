@@ -1,0 +1,9 @@
+-- The buffers of a durable run.
+use Rattle.std.specs.Prelude.{◌≡◌, []}
+use Rattle.durable_run.specs.declared.buffers.Buffers.{Buffers}
+
+-- no bytes are in use, and there is room for a mebibyte of answers and a longest one
+pub record AreFresh (b : Buffers) : Type 0 where
+  pub cutter : b.cutter ≡ []
+  pub gathered : b.gathered.bytes ≡ []
+  pub room : b.gathered.room ≡ 2097156

@@ -1,0 +1,6 @@
+-- What a durable run replies, keeps and leaves on its disk, and how it ends.
+pub mod Replies
+pub mod Groups
+pub mod Ends
+pub mod Buffering
+pub mod Turns

@@ -1,0 +1,10 @@
+//! A durable run: a machine's journal stands between an input and an output, and a reply is written only once its entry
+//! is on the disk. What is promised of it is described in `docs/DURABLE.md`.
+#![tactic(auto)]
+
+mod buffers;
+mod groups;
+mod pieces;
+mod runs;
+
+pub use runs::run_durable;

@@ -1,0 +1,180 @@
+//! The run over the pieces of an input.
+
+ghost use Rattle.std.specs.Prelude.{◌≡◌, ◌⊎◌, ◌+◌, ◌<◌, ◌≤◌, ◌++◌, [], ℕ, List, length, IfOk, IfErr, ◌==◌, if◌then◌else◌};
+ghost use Rattle.tardis_base.specs.Sizes.{longest_trail};
+ghost use Rattle.tardis_io.specs.Told.{WhileTold, Takes};
+ghost use Rattle.tardis_io.specs.Faults.{Rose, HasCause};
+ghost use Rattle.frame_cut.specs.Frames.{IsCut};
+ghost use Rattle.disk_store.specs.Disks.{AsHonest};
+ghost use Rattle.site_run.specs.Endings.{EndsAs, IsRunEnd, most_taken};
+ghost use Rattle.durable_run.specs.Buffering.{AreFresh};
+ghost use Rattle.durable_run.specs.Groups.{Start, Grouping, Taking};
+ghost use Rattle.durable_run.specs.Turns.{Went, AreReady, Ended, EndsSo};
+ghost use Rattle.durable_run.specs.Ends.{as_in_midst, RanOn, NotOpened};
+
+use crate::buffers::Buffers;
+use crate::groups::Stop;
+use crate::pieces::{Next, answer_piece};
+use disk_store::Disk;
+use frame_cut::FrameCutter;
+use site_journal::{Journaled, OpenEnd, open_on};
+use std::alloc::Global;
+use tardis_base::{Machine, NoMemory};
+use tardis_io::{Failed, Sink, Source, Status};
+
+/// How many bytes one take asks for at most.
+const PIECE: usize = 65_536;
+
+/// How many bytes are taken at most: 1 TiB.
+const MOST_TAKEN: u64 = 1_099_511_627_776;
+
+/// Opens the journal on a disk, and answers the frames of an input by the frames of the machine's replies, each once its
+/// entry is on the disk. The disk comes back with the status, whatever it is. The journal may have at most `max_trail` bytes;
+/// where a request's entry would be more, the reply says that the journal is full, and the run goes on.
+///
+/// The requests whose frames end in one piece of the input, of at most 65,536 bytes, are a group: their entries go to the disk
+/// together, with two syncs, and their replies are written after that. A group ends earlier where more than a mebibyte of
+/// entries or of answers has come together.
+pub fn run_durable<M: Machine, K: Disk, I: Source, O: Sink>(
+    alloc: Global,
+    machine: M,
+    disk: K,
+    max_trail: u64,
+    input: &mut I,
+    output: &mut O,
+) -> (Status, K)
+    requires opening { M.stands machine (M.opening machine) }
+    requires most { max_trail ≤ longest_trail }
+    ensures outcome { NotOpened M.plain K.honest K.reads K.may_leave K.moment K.left_since I.left O.given result.0 disk result.1 input.old input.new output.old output.new
+        ⊎ RanOn M.plain K.honest K.reads K.may_leave K.moment K.left_since I.left O.given (M.opening machine) max_trail result.0 disk result.1 input.old input.new output.old output.new }
+    ensures exact { WhileTold (I.left input.old) (I.left input.new) (λ first left. (all : List (List ℕ)) (rest : List ℕ)
+        → IsCut first all rest → length first < most_taken → (Rose (K.faults disk) (K.faults result.1) → ⊥)
+        → (Rose (I.faults input.old) (I.faults input.new) → ⊥) → (Rose (O.faults output.old) (O.faults output.new) → ⊥)
+        → EndsAs rest result.0) }
+    ensures ended { Ended K.honest K.faults I.faults O.faults disk result.1 input.old input.new output.old output.new result.0 }
+    ensures read_later { I.faults input.old ≤ I.faults input.new }
+    ensures write_later { O.faults output.old ≤ O.faults output.new }
+    ensures nothing { result.0 ≡ Status.NoMemory → (input.new ≡ input.old) × (output.new ≡ output.old) }
+{
+    let Ok(mut buffers) = Buffers::new(alloc) else {
+        return (Status::NoMemory, disk);
+    };
+    let Ok(mut piece) = vec![in alloc; 0; PIECE] else {
+        return (Status::NoMemory, disk);
+    };
+    match open_on(alloc, machine, disk, max_trail) {
+        Ok((journal, _)) => {
+            answer_input(&mut buffers, piece.as_mut_slice(), journal, input, output)
+        }
+        Err(OpenEnd::DiskFault(disk)) => (Status::DiskFault, disk),
+        Err(OpenEnd::NoMemory(disk)) => (Status::NoMemory, disk),
+    }
+}
+
+/// Answers the frames of an input, piece by piece.
+fn answer_input<M: Machine, K: Disk, I: Source, O: Sink>(
+    buffers: &mut Buffers,
+    piece: &mut [u8],
+    journal: Journaled<M, K>,
+    input: &mut I,
+    output: &mut O,
+) -> (Status, K)
+    requires fresh { AreFresh buffers.old }
+    requires room { length piece.old ≡ 65536 }
+    requires group { (at : Start M.Plain K) × Grouping M.plain M.stands M.opening K.honest K.reads K.may_leave K.moment K.left_since at journal (O.given output.old) [] [] }
+    ensures outcome { (at : Start M.Plain K) → Grouping M.plain M.stands M.opening K.honest K.reads K.may_leave K.moment K.left_since at journal (O.given output.old) [] []
+        → WhileTold (I.left input.old) (I.left input.new) (EndsSo M.plain K.honest K.reads K.may_leave K.moment K.left_since at result.0 result.1 (O.given output.new)) }
+    ensures ended { Ended K.honest K.faults I.faults O.faults journal.disk result.1 input.old input.new output.old output.new result.0 }
+    ensures read_later { I.faults input.old ≤ I.faults input.new }
+    ensures write_later { O.faults output.old ≤ O.faults output.new }
+    ensures memory { result.0 ≡ Status.NoMemory → ⊥ }
+{
+    let mut journal = journal;
+    let mut taken: u64 = 0;
+    while taken < MOST_TAKEN {
+        let size = PIECE.min((MOST_TAKEN - taken) as usize);
+        match turn(buffers, piece, journal, size, input, output) {
+            Ok((answered, count)) => {
+                journal = answered;
+                taken += count as u64;
+            }
+            Err(end) => return end,
+        }
+    }
+    (Status::Spent, journal.close().1)
+}
+
+/// Takes a piece of at most so many bytes, and answers the frames that it completes.
+fn turn<M: Machine, K: Disk, I: Source, O: Sink>(
+    buffers: &mut Buffers,
+    piece: &mut [u8],
+    journal: Journaled<M, K>,
+    size: usize,
+    input: &mut I,
+    output: &mut O,
+) -> Result<(Journaled<M, K>, usize), (Status, K)>
+    requires ready { AreReady buffers.old }
+    requires room { length piece.old ≡ 65536 }
+    requires some { 0 < size }
+    requires within { size ≤ 65536 }
+    requires group { (at : Start M.Plain K) × ((bodies : List (List ℕ)) × Grouping M.plain M.stands M.opening K.honest K.reads K.may_leave K.moment K.left_since at journal (O.given output.old) [] bodies) }
+    ensures turned { IfOk result (λ on. WhileTold (I.left input.old) (I.left input.new) (λ before after. (at : Start M.Plain K) (taken : ℕ) (first : List ℕ)
+        → Taking M.plain M.stands M.opening K.honest K.reads K.may_leave K.moment K.left_since at taken journal (O.given output.old) buffers.old.cutter first before
+        → Taking M.plain M.stands M.opening K.honest K.reads K.may_leave K.moment K.left_since at (taken + on.1) on.0 (O.given output.new) buffers.new.cutter first after)) }
+    ensures outcome { IfErr result (λ end. WhileTold (I.left input.old) (I.left input.new) (λ before after. (at : Start M.Plain K) (taken : ℕ) (first : List ℕ)
+        → Taking M.plain M.stands M.opening K.honest K.reads K.may_leave K.moment K.left_since at taken journal (O.given output.old) buffers.old.cutter first before
+        → taken + size ≤ most_taken → EndsSo M.plain K.honest K.reads K.may_leave K.moment K.left_since at end.0 end.1 (O.given output.new) first after)) }
+    ensures grouped { (at : Start M.Plain K) (bodies : List (List ℕ)) → Grouping M.plain M.stands M.opening K.honest K.reads K.may_leave K.moment K.left_since at journal (O.given output.old) [] bodies
+        → IfOk result (λ on. (more : List (List ℕ)) × Grouping M.plain M.stands M.opening K.honest K.reads K.may_leave K.moment K.left_since at on.0 (O.given output.new) [] (bodies ++ more)) }
+    ensures ready { IfOk result (λ on. AreReady buffers.new) }
+    ensures room { length piece.new ≡ 65536 }
+    ensures count { IfOk result (λ on. (0 < on.1) × (on.1 ≤ size)) }
+    ensures went { IfOk result (λ on. Went K.honest K.faults journal.disk on.0.disk) }
+    ensures ended { IfErr result (λ end. Ended K.honest K.faults I.faults O.faults journal.disk end.1 input.old input.new output.old output.new end.0) }
+    ensures memory { IfErr result (λ end. end.0 ≡ Status.NoMemory → ⊥) }
+    ensures read_later { I.faults input.old ≤ I.faults input.new }
+    ensures write_later { O.faults output.old ≤ O.faults output.new }
+{
+    let Buffers {
+        cutter,
+        reply,
+        gathered,
+    } = buffers;
+    match take_front(input, piece, size) {
+        Ok(0) => Err((end_of(cutter), journal.close().1)),
+        Ok(count) => {
+            match answer_piece(journal, cutter, reply, gathered, output, &piece[..count]) {
+                Ok((journal, next)) => match next {
+                    Next::Part => Ok((journal, count)),
+                    Next::Long(len) => Err((Status::LongFrame { len }, journal.close().1)),
+                },
+                Err(Stop::Disk(disk)) => Err((Status::DiskFault, disk)),
+                Err(Stop::Output(disk)) => Err((Status::WriteFault, disk)),
+            }
+        }
+        Err(Failed) => Err((Status::ReadFault, journal.close().1)),
+    }
+}
+
+/// The end of a run whose input has ended: a frame may have been cut short.
+fn end_of(cutter: &FrameCutter) -> Status
+    ensures { result ≡ (if length cutter.now == 0 then Status.Ok else Status.Cut) }
+{
+    if cutter.holds_any() {
+        Status::Cut
+    } else {
+        Status::Ok
+    }
+}
+
+/// Takes at most so many bytes into the front of a buffer.
+fn take_front<I: Source>(input: &mut I, buf: &mut [u8], most: usize) -> Result<usize, Failed>
+    requires some { 0 < most }
+    requires room { most ≤ length buf.old }
+    ensures bound { IfOk result (λ n. n ≤ most) }
+    ensures bytes { WhileTold (I.left input.old) (I.left input.new) (λ before after. Takes before after result buf.new) }
+    ensures cause { HasCause (I.faults input.old) (I.faults input.new) result }
+    ensures room { length buf.new ≡ length buf.old }
+{
+    input.take(&mut buf[..most])
+}
