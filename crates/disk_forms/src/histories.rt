@@ -98,8 +98,8 @@ impl History {
         self.room
     }
 
-    /// What a crash now leaves, by the choice: of 0 what a read gives, of 1 what the last good sync left, and of each
-    /// other number an image of its own.
+    /// What a crash now leaves, by the choice: of 0 what a read gives, of 1 what the last good sync left, and of another
+    /// number what its digits make of the calls since.
     pub(crate) fn image(&self, choice: u64) -> Result<Vec<u8>, NoMemory>
         ensures image { IfOk result (λ v. IsImage (known_of self.now) v.items) }
         ensures whole { choice ≡ 0 → IfOk result (λ v. v.items ≡ (known_of self.now).reads) }
