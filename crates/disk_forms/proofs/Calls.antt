@@ -1,10 +1,10 @@
 -- A history with one more call.
 use Rattle.std.proofs.Common.{◌≡◌, ◌⊎◌, inl, inr, ⊎_elim, ℕ, ◌+◌, ◌≤◌, List, [], ◌∷◌, ◌++◌, length, take, drop, refl, sym, ap, ◌∙◌, subst, arith, length-append, append-nil}
-use Rattle.std.proofs.lemmas.List.{take-append-le, drop-append-le, take_all, drop_all, length-drop}
+use Rattle.std.proofs.lemmas.List.{take-append-le, drop-append-le, take_all, length-drop}
 use Rattle.disk_forms.specs.declared.histories.Kept.{Kept}
 use Rattle.disk_forms.specs.declared.histories.Kept.TheVariants.{Looked, Wrote, Tore, CutTo, MayCut, Synced}
 use Rattle.disk_store.specs.Disks.{with_bytes, Torn, Shortened, Follows, NoMore, Only, Elapses}
-use Rattle.disk_forms.specs.Memory.{Call, Known, Recorded, fresh, after, known_after, known_of, with_call, IsStep, IsImage, LeftSince, used, used_of, with_written, MayNote, IsQuiet}
+use Rattle.disk_forms.specs.Memory.{Call, Known, Recorded, fresh, after, known_after, known_of, with_call, IsImage, LeftSince, used, used_of, with_written, MayNote, IsQuiet}
 use Rattle.disk_forms.specs.MemoryLaws.{steps_last, torn_same, shortened_same, reads_is}
 
 pub used_more : (calls : List Kept) (kept : Kept) → used_of (calls ++ kept ∷ []) ≡ used_of calls + used kept

@@ -1,2 +1,4 @@
 -- Lemmas on disks.
 mod Calls
+mod Torn
+mod Images

@@ -1,3 +1,5 @@
--- A disk in memory: its record, and what it knows by it.
+-- Disks and stores in memory: their records, and what they know by them.
 pub mod Memory
 pub mod MemoryLaws
+pub mod Crashes
+pub mod MemoryStores

@@ -1,5 +1,5 @@
 -- A disk in memory: the record of its calls, and what it knows by it.
-use Rattle.std.specs.Prelude.{Bool, ◌≡◌, ◌⊎◌, ◌≢◌, ℕ, ◌+◌, ◌<◌, ◌≤◌, List, [], ◌∷◌, ◌++◌, length, take, drop, true, false, Result, Ok, Err}
+use Rattle.std.specs.Prelude.{Bool, ◌≡◌, ◌⊎◌, ℕ, ◌+◌, List, [], ◌∷◌, ◌++◌, length, take, drop, true, false, Result, Ok, Err}
 use Rattle.tardis_io.specs.declared.faults.Failed.{Failed}
 use Rattle.tardis_io.specs.Memory.{Plan, fails_next, after_call, after_fault}
 use Rattle.disk_forms.specs.declared.histories.Kept.{Kept}

@@ -1,11 +1,11 @@
 -- Laws of a disk in memory.
-use Rattle.std.proofs.Common.{◌≡◌, ◌⊎◌, ℕ, ◌+◌, ◌-◌, ◌≤◌, List, [], ◌∷◌, ◌++◌, length, take, drop, refl, sym, ap, ◌∙◌, subst, inl, inr, arith, append_assoc, length-take, length-drop, length-append}
-use Rattle.std.specs.Prelude.{min, max}
+use Rattle.std.proofs.Common.{◌≡◌, ℕ, ◌+◌, ◌-◌, ◌≤◌, List, [], ◌∷◌, ◌++◌, length, take, drop, refl, sym, ap, ◌∙◌, subst, inl, inr, arith, append_assoc, length-take, length-drop, length-append}
+use Rattle.std.specs.Prelude.{min}
 use Rattle.std.proofs.lemmas.Bool.{cases_lt}
 use Rattle.std.proofs.lemmas.List.{take_at, drop_at, take_all, drop_all}
 use Rattle.disk_forms.specs.declared.histories.Kept.TheVariants.{Looked, Wrote, Tore, CutTo, MayCut, Synced}
-use Rattle.disk_store.specs.Disks.{with_bytes, Torn, Shortened, Elapses}
-use Rattle.disk_forms.specs.Memory.{Call, Known, fresh, after, known_after, IsStep, Steps, IsImage, LeftSince}
+use Rattle.disk_store.specs.Disks.{with_bytes, Torn, Shortened}
+use Rattle.disk_forms.specs.Memory.{Call, Known, after, known_after, IsStep, Steps, IsImage, LeftSince}
 
 pub length_written : (place : ℕ) (old bytes : List ℕ) → length (with_bytes old place bytes) ≡ min place (length old) + length bytes + (length old - (place + length bytes))
 length_written place old bytes =

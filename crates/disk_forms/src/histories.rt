@@ -2,9 +2,11 @@
 
 ghost use Rattle.std.specs.Prelude.{◌≡◌, ◌+◌, ◌<◌, ◌≤◌, ◌⊎◌, true, false, [], ◌∷◌, ◌++◌, length, take, drop, vec_capacity, IfOk, OnOk};
 ghost use Rattle.disk_store.specs.Disks.{with_bytes, Torn, Shortened};
-ghost use Rattle.disk_forms.specs.Memory.{known_of, with_call, IsQuiet, IsImage};
+ghost use Rattle.disk_forms.specs.Memory.{known_of, with_call, with_written, used, used_of, IsQuiet, IsImage};
+ghost use Rattle.disk_forms.specs.Crashes.{unused, IsSince};
 ghost use Rattle.disk_forms.specs.declared.histories.Kept.TheVariants.{Wrote, CutTo};
 
+use crate::crashes::{Digits, count_to_sync, redo, tear};
 use std::alloc::Global;
 use std::marker::Model;
 use tardis_base::NoMemory;
@@ -48,12 +50,19 @@ impl Model for History {
         × (length r.written.items ≤ r.room) × (length r.calls.items ≤ r.room) };
 }
 
+/// What the last good sync left, the calls since, and the bytes that they wrote.
+#[derive(Drop)]
+struct Settled<'a> {
+    image: Vec<u8>,
+    calls: &'a [Kept],
+    written: &'a [u8],
+}
+
 impl History {
     /// The bytes, with nothing done to them, and room for so many calls and so many written bytes.
-    pub(crate) fn new(alloc: Global, bytes: &[u8], room: u32) -> Result<History, NoMemory>
-        ensures { IfOk result (λ r. r ≡ record { first = bytes.now; calls = []; written = 0; room = room }) }
+    pub(crate) fn new(alloc: Global, bytes: &[u8], room: usize) -> Result<History, NoMemory>
+        ensures { IfOk result (λ r. r ≡ unused bytes.now room) }
     {
-        let room = room as usize;
         let Ok(first) = Vec::from_slice(alloc, bytes) else {
             return Err(NoMemory);
         };
@@ -80,6 +89,65 @@ impl History {
         ensures { result.now ≡ (known_of self.now).reads }
     {
         self.bytes.as_slice()
+    }
+
+    /// For how many calls and written bytes there is room in all.
+    pub(crate) fn room(&self) -> usize
+        ensures { result ≡ self.now.room }
+    {
+        self.room
+    }
+
+    /// What a crash now leaves, by the choice: of 0 what a read gives, of 1 what the last good sync left, and of another
+    /// number what its digits make of the calls since.
+    pub(crate) fn image(&self, choice: u64) -> Result<Vec<u8>, NoMemory>
+        ensures image { IfOk result (λ v. IsImage (known_of self.now) v.items) }
+        ensures whole { choice ≡ 0 → IfOk result (λ v. v.items ≡ (known_of self.now).reads) }
+        ensures none { choice ≡ 1 → IfOk result (λ v. v.items ≡ (known_of self.now).base) }
+    {
+        match choice {
+            0 => copy_of(&self.bytes),
+            1 => self.synced(),
+            _ => self.torn(Digits::new(choice - 1)),
+        }
+    }
+
+    /// What the last good sync left, and the calls since.
+    fn settled(&self) -> Result<Settled<'_>, NoMemory>
+        ensures image { IfOk result (λ s. s.image.items ≡ (known_of self.now).base) }
+        ensures since { IfOk result (λ s. IsSince (known_of self.now) (with_written s.calls.now s.written.now)) }
+        ensures written { IfOk result (λ s. used_of s.calls.now ≤ length s.written.now) }
+    {
+        let calls = self.calls.as_slice();
+        let count = count_to_sync(calls);
+        let mut image = copy_of(&self.first)?;
+        let written = redo(&mut image, &calls[..count], self.written.as_slice())?;
+        Ok(Settled {
+            image,
+            calls: &calls[count..],
+            written,
+        })
+    }
+
+    /// What the last good sync left.
+    fn synced(&self) -> Result<Vec<u8>, NoMemory>
+        ensures { IfOk result (λ v. v.items ≡ (known_of self.now).base) }
+    {
+        let Settled { image, .. } = self.settled()?;
+        Ok(image)
+    }
+
+    /// What the last good sync left, with each call since in part, by the digits.
+    fn torn(&self, digits: Digits) -> Result<Vec<u8>, NoMemory>
+        ensures { IfOk result (λ v. IsImage (known_of self.now) v.items) }
+    {
+        let Settled {
+            mut image,
+            calls,
+            written,
+        } = self.settled()?;
+        tear(&mut image, calls, written, digits)?;
+        Ok(image)
     }
 
     /// Fills a buffer with the bytes from a place on.
@@ -145,6 +213,22 @@ impl History {
     }
 }
 
+impl Kept {
+    /// How many bytes the call wrote.
+    pub(crate) fn used(self) -> usize
+        ensures { result ≡ used self }
+    {
+        match self {
+            Kept::Wrote { place: _, count } => count,
+            Kept::Looked
+            | Kept::Tore { .. }
+            | Kept::CutTo { .. }
+            | Kept::MayCut { .. }
+            | Kept::Synced => 0,
+        }
+    }
+}
+
 /// Records a call. It takes no memory.
 fn push_call(calls: &mut Vec<Kept>, kept: Kept)
     requires { length calls.old.items < vec_capacity calls.old }
@@ -171,6 +255,16 @@ fn copy_from(bytes: &[u8], place: usize, buf: &mut [u8])
     let count = buf.len();
     let rest = &bytes[place..];
     buf.copy_from_slice(&rest[..count]);
+}
+
+/// A copy of the bytes.
+fn copy_of(bytes: &Vec<u8>) -> Result<Vec<u8>, NoMemory>
+    ensures { IfOk result (λ v. v.items ≡ bytes.now.items) }
+{
+    match Vec::from_slice(*bytes.allocator(), bytes.as_slice()) {
+        Ok(copy) => Ok(copy),
+        Err(_) => Err(NoMemory),
+    }
 }
 
 /// A copy of the bytes, with room for so many more.

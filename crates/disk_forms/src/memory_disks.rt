@@ -5,20 +5,22 @@ ghost use Rattle.tardis_io.specs.Faults.{HasCause, Rose};
 ghost use Rattle.tardis_io.specs.Memory.{fresh_plan, after_call, after_fault, fails_next};
 ghost use Rattle.disk_store.specs.Disks.{longest_disk, with_bytes, Torn, Shortened, Follows, NoMore, Only, Elapses};
 ghost use Rattle.disk_forms.specs.Memory.{fresh, known_of, IsImage, LeftSince, IsQuiet, MayNote, PlanAnswers};
+ghost use Rattle.disk_forms.specs.Crashes.{unused};
 ghost use Rattle.disk_forms.specs.MemoryLaws.{reads_is, counts_now, only_now};
 ghost use Rattle.std.proofs.Common.{refl};
 
 use crate::histories::{History, Kept};
+use crate::plans::DiskPlan;
 use disk_store::Disk;
 use std::alloc::Global;
 use tardis_base::NoMemory;
-use tardis_io::{CallPlan, Failed};
+use tardis_io::Failed;
 
 /// A disk over bytes in memory. It records its calls, and a crash leaves one of the images that they allow.
 #[derive(Drop)]
 pub struct MemoryDisk {
     history: History,
-    plan: CallPlan,
+    plan: DiskPlan,
 }
 
 impl MemoryDisk {
@@ -31,11 +33,11 @@ impl MemoryDisk {
         room: u32,
         failing: &[u64],
     ) -> Result<MemoryDisk, NoMemory>
-        ensures history { IfOk result (λ d. d.history ≡ record { first = bytes.now; calls = []; written = 0; room = room }) }
+        ensures history { IfOk result (λ d. d.history ≡ unused bytes.now room) }
         ensures plan { IfOk result (λ d. d.plan ≡ fresh_plan failing.now) }
     {
-        let history = History::new(alloc, bytes, room)?;
-        let plan = CallPlan::new(alloc, failing)?;
+        let history = History::new(alloc, bytes, room as usize)?;
+        let plan = DiskPlan::new(alloc, failing)?;
         Ok(MemoryDisk { history, plan })
     }
 
@@ -45,10 +47,38 @@ impl MemoryDisk {
     {
         self.history.bytes()
     }
+
+    /// A disk that holds what a crash now leaves, by the choice: 0 is what a read gives, and 1 what the last good sync
+    /// left. From 2 on each call since that sync is there in part, or not at all: small numbers go through what may
+    /// become of the first of them, the fronts of a write or a cut first, then such with bytes that nobody wrote, and
+    /// large numbers tear the later calls too. All of it is synced, the room is the same and empty, and no call is
+    /// listed to fail.
+    ///
+    /// Where there is no memory for it, the disk is dropped.
+    pub fn crash(self, choice: u64) -> Result<MemoryDisk, NoMemory>
+        ensures image { IfOk result (λ d. IsImage (known_of self.history) d.history.first) }
+        ensures whole { choice ≡ 0 → IfOk result (λ d. d.history.first ≡ (known_of self.history).reads) }
+        ensures none { choice ≡ 1 → IfOk result (λ d. d.history.first ≡ (known_of self.history).base) }
+        ensures unused { IfOk result (λ d. d.history ≡ unused d.history.first self.history.room) }
+        ensures plan { IfOk result (λ d. d.plan ≡ fresh_plan []) }
+    {
+        let image = self.history.image(choice)?;
+        let alloc = *image.allocator();
+        let history = History::new(alloc, image.as_slice(), self.history.room())?;
+        let plan = DiskPlan::new(alloc, &[])?;
+        Ok(MemoryDisk { history, plan })
+    }
+
+    /// How many faults were counted.
+    pub(crate) fn faults(&self) -> u64
+        ensures { result ≡ self.now.plan.faults }
+    {
+        self.plan.faults()
+    }
 }
 
 /// Counts a call, which fails where it is to fail or finds no room.
-fn start(plan: &mut CallPlan, has_room: bool) -> Result<(), Failed>
+fn start(plan: &mut DiskPlan, has_room: bool) -> Result<(), Failed>
     ensures answer { PlanAnswers has_room plan.old plan.new result }
     ensures cause { HasCause plan.old.faults plan.new.faults result }
 {

@@ -1,4 +1,4 @@
-use Rattle.std.proofs.Common.{inl, inr, arith}
+use Rattle.std.proofs.Common.{inl, arith}
 use Rattle.disk_forms.proofs.Calls.{length_with}
 use Rattle.disk_forms.proofs.histories.History.has_room.Goals as goal
 

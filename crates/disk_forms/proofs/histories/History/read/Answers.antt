@@ -1,4 +1,4 @@
-use Rattle.std.proofs.Common.{rules, ◌≡◌, ◌∙◌, ap, length, take, drop, sym, subst, arith}
+use Rattle.std.proofs.Common.{rules, ◌≡◌, ◌∙◌, ap, length, take, drop, arith}
 use Rattle.disk_forms.specs.Memory.{known_of}
 use Rattle.disk_forms.proofs.histories.History.read.Goals as goal
 

@@ -1,9 +1,9 @@
-use Rattle.std.proofs.Common.{◌≡◌, ◌+◌, ◌<◌, ◌++◌, [], ◌∷◌, ◌∙◌, ap, length, take, sym, subst, refl, List, ℕ, arith, length-append, length-take}
+use Rattle.std.proofs.Common.{◌<◌, [], ◌∷◌, ◌∙◌, ap, length, sym, subst, refl, List, arith, length-append}
 use Rattle.disk_store.specs.Disks.{with_bytes}
-use Rattle.disk_forms.specs.Memory.{Call, Recorded, fresh, known_after, with_written, with_call, used, used_of}
+use Rattle.disk_forms.specs.Memory.{Call, Recorded, with_written, with_call, used_of}
 use Rattle.disk_forms.specs.MemoryLaws.{length_written}
-use Rattle.disk_forms.specs.declared.histories.Kept.TheVariants.{Wrote, CutTo}
-use Rattle.disk_forms.proofs.Calls.{with_more, with_none, quiet_used, quiet_reads, reads_more, used_more, length_with, view_call}
+use Rattle.disk_forms.specs.declared.histories.Kept.TheVariants.{Wrote}
+use Rattle.disk_forms.proofs.Calls.{with_more, reads_more, used_more, length_with, view_call}
 use Rattle.disk_forms.proofs.histories.History.write.Goals as goal
 
 pub push_call-requires : goal.push_call-requires

@@ -1,5 +1,5 @@
-use Rattle.std.proofs.Common.{◌≡◌, ◌+◌, [], inl, inr, length, ap, ◌∙◌, sym, arith}
-use Rattle.disk_forms.specs.declared.histories.Kept.TheVariants.{Looked, Wrote, Tore, CutTo, MayCut, Synced}
+use Rattle.std.proofs.Common.{[]}
+use Rattle.disk_forms.specs.declared.histories.Kept.TheVariants.{CutTo, MayCut}
 use Rattle.disk_forms.proofs.Calls.{cut_reads, cut_crash, may_cut_crash, elapses_more, elapses_noted}
 use Rattle.disk_forms.proofs.memory_disks.MemoryDiskDisk.cut.Goals as goal
 

@@ -1,5 +1,5 @@
-use Rattle.std.proofs.Common.{◌≡◌, ◌+◌, [], inl, inr, length, take, drop, ap, ◌∙◌, sym, arith}
-use Rattle.disk_forms.specs.declared.histories.Kept.TheVariants.{Looked, Wrote, Tore, CutTo, MayCut, Synced}
+use Rattle.std.proofs.Common.{[], inl, length, take, drop, ap, ◌∙◌, arith}
+use Rattle.disk_forms.specs.declared.histories.Kept.TheVariants.{Looked}
 use Rattle.disk_forms.proofs.Calls.{looked_reads, looked_crash, elapses_more, elapses_noted}
 use Rattle.disk_forms.proofs.memory_disks.MemoryDiskDisk.read_at.Goals as goal
 

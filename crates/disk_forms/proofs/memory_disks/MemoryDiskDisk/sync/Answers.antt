@@ -1,5 +1,5 @@
-use Rattle.std.proofs.Common.{◌≡◌, ◌+◌, [], inl, inr, length, ap, ◌∙◌, sym, arith}
-use Rattle.disk_forms.specs.declared.histories.Kept.TheVariants.{Looked, Wrote, Tore, CutTo, MayCut, Synced}
+use Rattle.std.proofs.Common.{[]}
+use Rattle.disk_forms.specs.declared.histories.Kept.TheVariants.{Looked, Synced}
 use Rattle.disk_forms.proofs.Calls.{synced, synced_reads, synced_crash, looked_reads, looked_crash, elapses_more, elapses_noted}
 use Rattle.disk_forms.proofs.memory_disks.MemoryDiskDisk.sync.Goals as goal
 

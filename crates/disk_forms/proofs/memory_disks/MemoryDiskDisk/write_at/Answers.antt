@@ -1,5 +1,5 @@
-use Rattle.std.proofs.Common.{◌≡◌, ◌+◌, [], inl, inr, length, ap, ◌∙◌, sym, arith}
-use Rattle.disk_forms.specs.declared.histories.Kept.TheVariants.{Looked, Wrote, Tore, CutTo, MayCut, Synced}
+use Rattle.std.proofs.Common.{length}
+use Rattle.disk_forms.specs.declared.histories.Kept.TheVariants.{Wrote, Tore}
 use Rattle.disk_forms.proofs.Calls.{wrote_reads, wrote_crash, tore_crash, elapses_more, elapses_noted}
 use Rattle.disk_forms.proofs.memory_disks.MemoryDiskDisk.write_at.Goals as goal
 

@@ -1,0 +1,31 @@
+-- A store of one disk in memory.
+use Rattle.std.specs.Prelude.{◌≡◌, ℕ, Option, Some, None}
+use Rattle.disk_store.specs.Stores.{ToldStore}
+use Rattle.disk_forms.specs.declared.memory_disks.MemoryDisk.{MemoryDisk}
+use Rattle.disk_forms.specs.declared.memory_stores.Held.{Held}
+use Rattle.disk_forms.specs.declared.memory_stores.Held.TheVariants.{Within, Out, Back}
+
+-- what contracts see of it: what it tells, and its count of faults
+pub record KeptStore : Type 0 where
+  pub told : ToldStore MemoryDisk
+  pub faults : ℕ
+
+-- where the disk is
+abbrev pub told_of : Held → ToldStore MemoryDisk
+told_of (Within disk) = record { within = Some disk; back = None; out = 0 }
+told_of Out = record { within = None; back = None; out = 1 }
+told_of (Back disk) = record { within = None; back = Some disk; out = 0 }
+
+-- a disk that wasn't handed out yet has counted no fault
+abbrev pub IsHeld : Held → Type 0
+IsHeld (Within disk) = disk.plan.faults ≡ 0
+IsHeld Out = Unit {0}
+IsHeld (Back disk) = Unit {0}
+
+-- the disk that a store has
+abbrev pub disk_of : ToldStore MemoryDisk → Option MemoryDisk
+disk_of t = either t.within t.back
+  where
+    either : Option MemoryDisk → Option MemoryDisk → Option MemoryDisk
+    either (Some disk) other = Some disk
+    either None other = other
