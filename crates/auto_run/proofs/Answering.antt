@@ -1,5 +1,5 @@
 -- How lines are answered.
-use Rattle.std.proofs.Common.{◌≡◌, ℕ, List, [], ◌∷◌, ◌++◌, Option, Some, None, refl, ap, sym, subst, inl, inr, codes}
+use Rattle.std.proofs.Common.{◌≡◌, ℕ, List, [], ◌∷◌, ◌++◌, Some, None, refl, ap, sym, subst, inl, inr, codes}
 use Rattle.site_run.specs.Responses.{Responded}
 use Rattle.shell_run.specs.Answers.{over_lines, ShellMay}
 use Rattle.plain_site.specs.Site.{Site}

@@ -9,7 +9,7 @@ use Rattle.line_cut.specs.Lines.{last_line}
 use Rattle.site_run.specs.Responses.{Whole, InTurn, AnsweredBy}
 use Rattle.site_run.specs.Endings.{shape_within}
 use Rattle.site_run.specs.LineEndings.{LineOutcome}
-use Rattle.shell_run.specs.Answers.{over_lines, ShellMay}
+use Rattle.shell_run.specs.Answers.{over_lines}
 use Rattle.plain_site.specs.Site.{Site}
 use Rattle.plain_site.specs.Step.{site_machine}
 use Rattle.plain_site.specs.Sound.{IsSound}

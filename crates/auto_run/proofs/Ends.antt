@@ -1,5 +1,5 @@
 -- The lines of how auto steps end.
-use Rattle.std.proofs.Common.{◌≡◌, ℕ, ◌+◌, ◌^◌, ◌≤◌, ◌<◌, IsTrue, List, [], ◌∷◌, ◌++◌, length, Option, Some, None, nat_le, ap, ◌∙◌, arith, le-leb, leb-true, length-append, codes}
+use Rattle.std.proofs.Common.{◌≡◌, ℕ, ◌+◌, ◌^◌, ◌≤◌, ◌<◌, IsTrue, List, [], ◌++◌, length, Option, Some, None, nat_le, ap, ◌∙◌, arith, le-leb, leb-true, length-append, codes}
 use Rattle.std.proofs.lemmas.Bool.{and_parts}
 use Rattle.std.proofs.lemmas.Fmt.{length-decimal-le}
 use Rattle.std.specs.Bool.{then_some}

@@ -1,5 +1,5 @@
 -- Auto lines are read back.
-use Rattle.std.proofs.Common.{◌≡◌, ℕ, Bool, true, false, ◌&&◌, IsTrue, List, [], ◌∷◌, ◌++◌, codes, refl}
+use Rattle.std.proofs.Common.{◌≡◌, ℕ, Bool, true, false, ◌&&◌, [], ◌∷◌, ◌++◌, codes, refl}
 use Rattle.tardis_base.specs.Valid.{is_u16}
 use Rattle.wire_item.specs.Fronts.{nothing_but}
 use Rattle.text_words.specs.Words.{number_word}

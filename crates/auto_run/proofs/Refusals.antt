@@ -1,14 +1,12 @@
 -- What an auto step is refused can be spelled.
-use Rattle.std.proofs.Common.{◌≡◌, ℕ, ◌+◌, ◌≤◌, ◌<◌, ◌^◌, ◌≢◌, Bool, true, false, ◌&&◌, ◌||◌, ◌==◌, List, [], ◌∷◌, ◌++◌, length, Option, Some, None, nat_le, nat_lt, IsTrue, IsFalse, refl, sym, ◌∙◌, arith, lt-ltb, le-leb, eq-eqb, if◌then◌else◌}
+use Rattle.std.proofs.Common.{◌≡◌, ℕ, ◌+◌, ◌≤◌, ◌<◌, ◌^◌, ◌≢◌, Bool, true, false, ◌&&◌, ◌||◌, ◌==◌, List, [], ◌∷◌, length, Option, Some, None, nat_le, nat_lt, IsTrue, IsFalse, refl, sym, ◌∙◌, arith, lt-ltb, le-leb, eq-eqb, if◌then◌else◌}
 use Rattle.std.proofs.lemmas.Bool.{and_from, or_right, both_ways}
 use Rattle.std.specs.List.{list_all}
 use Rattle.tardis_base.specs.declared.ids.StateId.{StateId}
 use Rattle.tardis_base.specs.declared.records.Record.{Record}
-use Rattle.tardis_base.specs.declared.records.Write.{Write}
 use Rattle.tardis_base.specs.declared.replies.Refusal.{Refusal}
 use Rattle.tardis_base.specs.declared.replies.Refusal.TheVariants.{SeqEnd}
 use Rattle.tardis_base.specs.declared.replies.Reply.{Reply}
-use Rattle.tardis_base.specs.declared.replies.Reply.TheVariants.{Refused as RefusedWith}
 use Rattle.tardis_base.specs.Ids.{root, same_id, is_before}
 use Rattle.tardis_base.specs.Keys.{KeyWrite}
 use Rattle.tardis_base.specs.Valid.{is_u16, is_u32, is_id, are_writes}
@@ -18,15 +16,14 @@ use Rattle.plain_dag.specs.Forks.{leaves}
 use Rattle.plain_dag.specs.Growth.{growth_refusal}
 use Rattle.plain_dag.specs.Conflicts.{conflict_keys}
 use Rattle.plain_site.specs.Site.{Site, Txn, own_count, next_id, next_record}
-use Rattle.plain_site.specs.Answers.{refuse, refuse_found, unless}
+use Rattle.plain_site.specs.Answers.{refuse, unless}
 use Rattle.plain_site.specs.Commits.{growth_refusals, committed, commit_below}
 use Rattle.plain_site.specs.Sound.{IsSound}
 use Rattle.plain_site.proofs.RepliesHistory.{is_stored}
 use Rattle.plain_site.proofs.RepliesGrowth.{GrowsInRange, growth-refusal-is-valid}
-use Rattle.plain_site.proofs.RepliesFrame.{AllGood, none-when, good-none, good-when, good-found}
+use Rattle.plain_site.proofs.RepliesFrame.{AllGood, good-none, good-found}
 use Rattle.plain_site.proofs.RepliesSound.{IsRanged, sound-ranged}
 use Rattle.rule_list.specs.declared.rules.PrefixRule.{PrefixRule}
-use Rattle.session_core.specs.Joins.{begin_refusal}
 use Rattle.merge_rules.specs.declared.steps.AutoEnd.{AutoEnd}
 use Rattle.merge_rules.specs.Auto.{AutoAnswer, value_of, unmerged, values, end_of, ended_as, merge_values, merge_both, unless_refused, auto_over, auto_step}
 use Rattle.auto_run.specs.Telling.{CanBeTold}

@@ -1,5 +1,5 @@
 -- What memory can't fail of a site, it can't fail where that is asked in lines.
-use Rattle.std.proofs.Common.{◌≡◌, ℕ, Bool, true, false, ◌&&◌, List, [], ◌∷◌, Option, Some, None, refl, inl, inr}
+use Rattle.std.proofs.Common.{◌≡◌, ℕ, false, ◌&&◌, List, Option, Some, None, refl, inl, inr}
 use Rattle.std.specs.Option.{option_map_or}
 use Rattle.tardis_base.specs.Plain.{Event}
 use Rattle.tardis_base.specs.declared.requests.Request.{Request}

@@ -1,4 +1,4 @@
-use Rattle.std.proofs.Common.{ap, ap₂, ◌∙◌, ◌++◌, codes}
+use Rattle.std.proofs.Common.{ap, ap₂, ◌∙◌, codes}
 use Rattle.text_words.specs.Puts.{putting, says, spaced}
 use Rattle.text_words.specs.Words.{byte_word}
 use Rattle.auto_run.proofs.Ends.{said-both, unmerged-fits}
