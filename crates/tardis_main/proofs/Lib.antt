@@ -2,3 +2,4 @@
 mod Words
 mod WorldRuns
 mod Unserved
+mod Unexported

@@ -1,5 +1,5 @@
 -- What each command of the program does, by its words.
-use Rattle.std.specs.Prelude.{◌≡◌, ℕ, List, length, Option}
+use Rattle.std.specs.Prelude.{◌≡◌, ℕ, ◌<◌, false, List, length, Option}
 use Rattle.tardis_io.specs.declared.statuses.Status.TheVariants.{NoMemory}
 use Rattle.tardis_io.specs.Told.{WhileTold}
 use Rattle.load_run.specs.Ends.{WritesLine, IsLoadEnd}
@@ -14,10 +14,16 @@ use Rattle.command_words.specs.Forms.{Serving}
 use Rattle.command_words.specs.Places.{program_limits}
 use Rattle.serve_run.specs.Serving.{Workload}
 use Rattle.rule_list.specs.declared.rules.PrefixRule.{PrefixRule}
+use Rattle.tardis_base.specs.declared.ids.StateId.{StateId}
+use Rattle.branch_export.specs.Imported.{Imported, ImportsAs, IsImportEnd, has_given}
+use Rattle.export_run.specs.Exporting.{ExportOutcome, ExportEndsAs, IsExportEnd}
+use Rattle.frame_cut.specs.Frames.{IsCut}
+use Rattle.site_run.specs.Endings.{most_taken}
+use Rattle.plain_site.specs.Sound.{IsSound}
 use Rattle.auto_run.specs.Outcomes.{AutoFrom}
 use Rattle.site_commands.specs.Runs.{RunFrom, ShellFrom, AuditFrom}
-use Rattle.site_commands.specs.Ends.{FramesEnd, LinesEnd, ServerEnds}
-use Rattle.tardis_main.specs.Words.{AreRun, AreShell, AreAudit, AreWorld, AreLoad, AreServe, AreAuto}
+use Rattle.site_commands.specs.Ends.{UnlessFaulty, FramesEnd, LinesEnd, ServerEnds}
+use Rattle.tardis_main.specs.Words.{AreRun, AreShell, AreAudit, AreWorld, AreLoad, AreServe, AreAuto, AreExport, AreImport}
 
 -- the plain site that opens at this place, with the program's limits
 abbrev pub site_at : Place → Site
@@ -44,6 +50,30 @@ module _ {I O : Type 0} (left : I → Option (List ℕ)) (reads : I → ℕ) (gi
   abbrev pub Autos : Type 0
   Autos = (place : Place) (rules : List PrefixRule) → AreAuto words place rules
       → LinesEnd left reads writes old new before after (AutoFrom (site_at place) rules status (given before) (given after)) status
+
+  -- How an export of this state ends, from this plain site. Over what was left of its input at first, this outcome was had. Where
+  -- no fault came and the input is short enough, its one cut and the site behind it decide the status, unless there was no memory.
+  pub record ExportEnds (site : Site) (state : StateId) : Type 0 where
+    pub outcome : WhileTold (left old) (left new) (ExportOutcome status state (λ s. s ≡ site) IsSound (given before) (given after))
+    pub exact : WhileTold (left old) (left new) (λ first now. (all : List (List ℕ)) (rest : List ℕ)
+        → IsCut first all rest → length first < most_taken → UnlessFaulty left reads writes old new before after (ExportEndsAs state rest status))
+    pub end : IsExportEnd state status
+    pub nothing : has_given status ≡ false → after ≡ before
+
+  -- words of `export`: frames are asked of the site of their place, and then what the state holds is written
+  abbrev pub Exports : Type 0
+  Exports = (place : Place) (state : StateId) → AreExport words place state → ExportEnds (site_at place) state
+
+  -- How an import ends, likewise; its bytes decide.
+  pub record ImportEnds : Type 0 where
+    pub outcome : WhileTold (left old) (left new) (Imported status (given before) (given after))
+    pub exact : WhileTold (left old) (left new) (λ first now. length first < most_taken → UnlessFaulty left reads writes old new before after (ImportsAs first status))
+    pub end : IsImportEnd status
+    pub nothing : has_given status ≡ false → after ≡ before
+
+  -- words of `import`: an export is read, and the frames of its script are written
+  abbrev pub Imports : Type 0
+  Imports = AreImport words → ImportEnds
 
   -- words of `world`: frames are answered by a world of so many sites, which opens
   abbrev pub Worlds : Type 0

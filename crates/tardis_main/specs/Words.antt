@@ -2,6 +2,7 @@
 use Rattle.std.specs.Prelude.{◌≡◌, ℕ, List, Some}
 use Rattle.command_words.specs.declared.commands.Place.{Place}
 use Rattle.command_words.specs.Forms.{Form, form, AsRun, AsShell, AsAudit, AsWorld, AsServe, AsLoad, AsAuto, AsDurable, AsExport, AsImport, Serving}
+use Rattle.tardis_base.specs.declared.ids.StateId.{StateId}
 use Rattle.rule_list.specs.declared.rules.PrefixRule.{PrefixRule}
 use Rattle.command_words.specs.Readings.{IsCopied}
 
@@ -33,6 +34,14 @@ AreServe words plan = form words ≡ Some (AsServe plan)
 abbrev pub AreAuto : List (List ℕ) → Place → List PrefixRule → Type 0
 AreAuto words place rules = form words ≡ Some (AsAuto place rules)
 
+-- the words are a form of `export` at this place, of this state
+abbrev pub AreExport : List (List ℕ) → Place → StateId → Type 0
+AreExport words place state = form words ≡ Some (AsExport place state)
+
+-- the words are those of `import`
+abbrev pub AreImport : List (List ℕ) → Type 0
+AreImport words = form words ≡ Some AsImport
+
 -- the words have a form whose texts are copied, which takes memory
 abbrev pub MayLackMemory : List (List ℕ) → Type 0
 MayLackMemory words = (said : Form) × ((form words ≡ Some said) × IsCopied said)
@@ -47,8 +56,8 @@ IsBuilt (AsServe plan) = Unit {0}
 IsBuilt (AsLoad start steps) = Unit {0}
 IsBuilt (AsAuto place rules) = Unit {0}
 IsBuilt (AsDurable place path) = ⊥
-IsBuilt (AsExport place state) = ⊥
-IsBuilt AsImport = ⊥
+IsBuilt (AsExport place state) = Unit {0}
+IsBuilt AsImport = Unit {0}
 
 -- the words are no command that is carried out: they have no form, or one that isn't built yet
 abbrev pub AreUnknown : List (List ℕ) → Type 0

@@ -8,7 +8,7 @@ ghost use Rattle.std.specs.String.{string_bytes};
 ghost use Rattle.command_words.specs.Forms.{Serving};
 ghost use Rattle.site_commands.specs.Ends.{CausedBy};
 ghost use Rattle.tardis_main.specs.Words.{AreServe, AreUnknown, MayLackMemory};
-ghost use Rattle.tardis_main.specs.Program.{Audits, Autos, Loads, Runs, Serves, Shells, Worlds};
+ghost use Rattle.tardis_main.specs.Program.{Audits, Autos, Exports, Imports, Loads, Runs, Serves, Shells, Worlds};
 
 mod helps;
 mod laws;
@@ -16,7 +16,9 @@ mod plans;
 mod programs;
 
 use auto_run::auto;
+use branch_export::run_import;
 use command_words::{Command, WordsFault, commands_are_at_a_site, read_words};
+use export_run::export;
 pub use helps::{Help, help_of};
 pub use laws::replies_have_lines;
 use load_run::run_load;
@@ -54,6 +56,8 @@ pub fn tardis<I: Source, O: Sink, G: Gate, D: Dial + Send, R: Threads + Wait + S
     ensures audit { Audits I.left I.faults O.given O.faults input.old input.new output.old output.new (map (λ w. string_bytes w) words.now) result }
     ensures world { Worlds I.left I.faults O.given O.faults input.old input.new output.old output.new (map (λ w. string_bytes w) words.now) result }
     ensures auto { Autos I.left I.faults O.given O.faults input.old input.new output.old output.new (map (λ w. string_bytes w) words.now) result }
+    ensures export { Exports I.left I.faults O.given O.faults input.old input.new output.old output.new (map (λ w. string_bytes w) words.now) result }
+    ensures import { Imports I.left I.faults O.given O.faults input.old input.new output.old output.new (map (λ w. string_bytes w) words.now) result }
     ensures load { Loads I.left I.faults O.given O.faults input.old input.new output.old output.new (map (λ w. string_bytes w) words.now) result }
     ensures serve { Serves G.Link.left G.Link.given G.Link.take_faults G.Link.faults G.told G.faults
         D.Link.left D.Link.given D.Link.take_faults D.Link.faults D.told D.faults O.given O.faults gate.old gate.new dial.old dial.new output.old output.new
@@ -80,15 +84,28 @@ pub fn tardis<I: Source, O: Sink, G: Gate, D: Dial + Send, R: Threads + Wait + S
         }
         Ok(Command::Load { start, steps }) => run_load(alloc, keys, start, steps, output),
         Ok(Command::Auto { place, rules }) => {
-            auto(alloc, keys, place.limits(), place.site, rules, input, output)
+            auto(
+                alloc,
+                keys,
+                place.limits(),
+                place.site,
+                rules,
+                input,
+                output,
+            )
         }
-        // the other commands aren't built yet
-        Ok(
-            Command::Durable { .. }
-            | Command::Export { .. }
-            | Command::Import,
-        )
-        | Err(WordsFault::Usage) => Status::Usage,
+        Ok(Command::Export { place, state }) => export(
+            alloc,
+            keys,
+            place.limits(),
+            place.site,
+            state,
+            input,
+            output,
+        ),
+        Ok(Command::Import) => run_import(alloc, input, output),
+        // a site with a journal isn't built yet
+        Ok(Command::Durable { .. }) | Err(WordsFault::Usage) => Status::Usage,
         Err(WordsFault::NoMemory) => Status::NoMemory,
     }
 }

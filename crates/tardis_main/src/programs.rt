@@ -8,7 +8,7 @@ ghost use Rattle.command_words.specs.Forms.{Serving};
 ghost use Rattle.site_commands.specs.Ends.{CausedBy};
 ghost use Rattle.tardis_main.specs.Helps.{AreNone, AskUsage, AskVersion};
 ghost use Rattle.tardis_main.specs.Words.{AreServe};
-ghost use Rattle.tardis_main.specs.Program.{Audits, Autos, Loads, Runs, Serves, Shells, Worlds};
+ghost use Rattle.tardis_main.specs.Program.{Audits, Autos, Exports, Imports, Loads, Runs, Serves, Shells, Worlds};
 
 use crate::helps::{Help, help_of};
 use crate::tardis;
@@ -47,6 +47,10 @@ pub fn carry_out<I: Source, O: Sink, G: Gate, D: Dial + Send, R: Threads + Wait 
     ensures world { Worlds I.left I.faults O.given O.faults input.old input.new output.old output.new
         (map (λ w. string_bytes w) (drop 1 (into_iter_items args))) result }
     ensures auto { Autos I.left I.faults O.given O.faults input.old input.new output.old output.new
+        (map (λ w. string_bytes w) (drop 1 (into_iter_items args))) result }
+    ensures export { Exports I.left I.faults O.given O.faults input.old input.new output.old output.new
+        (map (λ w. string_bytes w) (drop 1 (into_iter_items args))) result }
+    ensures import { Imports I.left I.faults O.given O.faults input.old input.new output.old output.new
         (map (λ w. string_bytes w) (drop 1 (into_iter_items args))) result }
     ensures load { Loads I.left I.faults O.given O.faults input.old input.new output.old output.new
         (map (λ w. string_bytes w) (drop 1 (into_iter_items args))) result }
@@ -110,6 +114,8 @@ fn command<I: Source, O: Sink, G: Gate, D: Dial + Send, R: Threads + Wait + Sync
     ensures world { Worlds I.left I.faults O.given O.faults input.old input.new output.old output.new
         (map (λ w. string_bytes w) words.now) result }
     ensures auto { Autos I.left I.faults O.given O.faults input.old input.new output.old output.new (map (λ w. string_bytes w) words.now) result }
+    ensures export { Exports I.left I.faults O.given O.faults input.old input.new output.old output.new (map (λ w. string_bytes w) words.now) result }
+    ensures import { Imports I.left I.faults O.given O.faults input.old input.new output.old output.new (map (λ w. string_bytes w) words.now) result }
     ensures load { Loads I.left I.faults O.given O.faults input.old input.new output.old output.new (map (λ w. string_bytes w) words.now) result }
     ensures serve { Serves G.Link.left G.Link.given G.Link.take_faults G.Link.faults G.told G.faults
         D.Link.left D.Link.given D.Link.take_faults D.Link.faults D.told D.faults O.given O.faults gate.old gate.new dial.old dial.new output.old output.new

@@ -4,8 +4,10 @@ use Rattle.std.specs.String.{string_bytes}
 use Rattle.site_run.specs.Endings.{IsRunEnd}
 use Rattle.site_run.specs.LineEndings.{IsLineEnd}
 use Rattle.load_run.specs.Ends.{IsLoadEnd}
+use Rattle.branch_export.specs.Imported.{IsImportEnd}
+use Rattle.export_run.specs.Exporting.{IsExportEnd}
 use Rattle.command_words.specs.Commands.{form_of, serving_of}
-use Rattle.command_words.specs.Forms.{AsRun, AsShell, AsAudit, AsWorld, AsServe, AsLoad, AsAuto}
+use Rattle.command_words.specs.Forms.{AsRun, AsShell, AsAudit, AsWorld, AsServe, AsLoad, AsAuto, AsExport, AsImport}
 use Rattle.command_words.specs.Places.{program_limits}
 use Rattle.tardis_main.specs.Program.{site_at, work_of}
 use Rattle.tardis_main.proofs.Unserved.{no_server}
@@ -35,6 +37,19 @@ returns-in-Ok-Auto-clause-usage g c = λ is. absurd (subst IsLineEnd is c.auto.e
 pub returns-in-Ok-Auto-clause-unknown : goal.returns-in-Ok-Auto-clause-unknown
 returns-in-Ok-Auto-clause-unknown g c = λ unknown. absurd (unknown (AsAuto c.in-Ok-Auto.place c.in-Ok-Auto.rules)
     (c.in-Ok-Auto.ensures.form ∙ ap (λ command. Some (form_of command)) c.in-Ok-Auto.field-0-is) tt)
+
+pub returns-in-Ok-Export-clause-usage : goal.returns-in-Ok-Export-clause-usage
+returns-in-Ok-Export-clause-usage g c = λ is. absurd (subst (IsExportEnd c.in-Ok-Export.state) is c.export.ensures.status)
+
+pub returns-in-Ok-Export-clause-unknown : goal.returns-in-Ok-Export-clause-unknown
+returns-in-Ok-Export-clause-unknown g c = λ unknown. absurd (unknown (AsExport c.in-Ok-Export.place c.in-Ok-Export.state)
+    (c.in-Ok-Export.ensures.form ∙ ap (λ command. Some (form_of command)) c.in-Ok-Export.field-0-is) tt)
+
+pub returns-in-Ok-Import-clause-usage : goal.returns-in-Ok-Import-clause-usage
+returns-in-Ok-Import-clause-usage g c = λ is. absurd (subst IsImportEnd is c.run_import.ensures.status)
+
+pub returns-in-Ok-Import-clause-unknown : goal.returns-in-Ok-Import-clause-unknown
+returns-in-Ok-Import-clause-unknown g c = λ unknown. absurd (unknown AsImport (c.in-Ok-Import.ensures.form ∙ ap (λ command. Some (form_of command)) c.in-Ok-Import.field-0-is) tt)
 
 pub returns-in-Ok-World-clause-usage : goal.returns-in-Ok-World-clause-usage
 returns-in-Ok-World-clause-usage g c = λ is. absurd (subst IsRunEnd is c.run_world.ensures.status)

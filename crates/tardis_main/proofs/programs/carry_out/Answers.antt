@@ -16,10 +16,11 @@ use Rattle.site_commands.proofs.LineRuns.{no_shell, no_audit}
 use Rattle.site_commands.proofs.NoMemory.{no_frames, no_lines}
 use Rattle.tardis_main.specs.Helps.{AreNone}
 use Rattle.tardis_main.specs.Words.{AreServe}
-use Rattle.tardis_main.specs.Program.{site_at, Autos, work_of, Runs, Shells, Audits, Worlds, Loads}
+use Rattle.tardis_main.specs.Program.{site_at, Autos, Exports, Imports, work_of, Runs, Shells, Audits, Worlds, Loads}
 use Rattle.tardis_main.proofs.WorldRuns.{no_world}
 use Rattle.tardis_main.proofs.Words.{limits_hold}
 use Rattle.tardis_main.proofs.Unserved.{no_server}
+use Rattle.tardis_main.proofs.Unexported.{no_export, no_import}
 use Rattle.tardis_main.proofs.programs.carry_out.Goals as goal
 
 pub returns-in-Err-clause-run : goal.returns-in-Err-clause-run
@@ -49,6 +50,16 @@ returns-in-Err-clause-auto g c = λ place rules are.
     let old = g.O.Sink.given c.args.output.now in
     no_lines g.I.Source.left g.I.Source.faults g.O.Sink.faults c.args.input.now c.args.output.now (AutoFrom (site_at place) rules NoMemory old old)
     (λ x. no_auto (site_at place) rules old x (opens (program_limits place.sites) place.site (limits_hold place.sites is.some is.most) is.first is.last))
+
+pub returns-in-Err-clause-export : goal.returns-in-Err-clause-export
+returns-in-Err-clause-export g c = λ place state are.
+    let is : IsPlace place = c.commands_are_at_a_site.ensures.export (map (λ w. string_bytes w) (drop 1 (into_iter_items c.args.args))) place state are in
+    no_export g.I.Source.left g.I.Source.faults g.O.Sink.given g.O.Sink.faults c.args.input.now c.args.output.now (map (λ w. string_bytes w) (drop 1 (into_iter_items c.args.args)))
+    (site_at place) state (opens (program_limits place.sites) place.site (limits_hold place.sites is.some is.most) is.first is.last)
+
+pub returns-in-Err-clause-import : goal.returns-in-Err-clause-import
+returns-in-Err-clause-import g c = λ are.
+    no_import g.I.Source.left g.I.Source.faults g.O.Sink.given g.O.Sink.faults c.args.input.now c.args.output.now (map (λ w. string_bytes w) (drop 1 (into_iter_items c.args.args)))
 
 pub returns-in-Err-clause-world : goal.returns-in-Err-clause-world
 returns-in-Err-clause-world g c = λ sites are.
@@ -90,6 +101,18 @@ returns-in-Ok-clause-auto g c =
     let words : c.as_slice.result.now ≡ drop 1 (into_iter_items c.args.args) = c.as_slice.ensures.value ∙ c.in-Ok.ensures in
     subst (λ ws. Autos g.I.Source.left g.I.Source.faults g.O.Sink.given g.O.Sink.faults c.args.input.now c.command.new.input c.args.output.now c.command.new.output (map (λ w. string_bytes w) ws) c.command.result)
     words c.command.ensures.auto
+
+pub returns-in-Ok-clause-export : goal.returns-in-Ok-clause-export
+returns-in-Ok-clause-export g c =
+    let words : c.as_slice.result.now ≡ drop 1 (into_iter_items c.args.args) = c.as_slice.ensures.value ∙ c.in-Ok.ensures in
+    subst (λ ws. Exports g.I.Source.left g.I.Source.faults g.O.Sink.given g.O.Sink.faults c.args.input.now c.command.new.input c.args.output.now c.command.new.output (map (λ w. string_bytes w) ws) c.command.result)
+    words c.command.ensures.export
+
+pub returns-in-Ok-clause-import : goal.returns-in-Ok-clause-import
+returns-in-Ok-clause-import g c =
+    let words : c.as_slice.result.now ≡ drop 1 (into_iter_items c.args.args) = c.as_slice.ensures.value ∙ c.in-Ok.ensures in
+    subst (λ ws. Imports g.I.Source.left g.I.Source.faults g.O.Sink.given g.O.Sink.faults c.args.input.now c.command.new.input c.args.output.now c.command.new.output (map (λ w. string_bytes w) ws) c.command.result)
+    words c.command.ensures.import
 
 pub returns-in-Ok-clause-world : goal.returns-in-Ok-clause-world
 returns-in-Ok-clause-world g c =
