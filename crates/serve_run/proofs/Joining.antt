@@ -101,6 +101,7 @@ served_in s NotMade = s
 served_in s (Served t) = t
 
 pub same_serving : (s t : Serving) → Served s ≡ Served t → s ≡ t
+unfolding served_in
 same_serving s t e = ap (served_in s) e
 
 module _ {M P L X D : Type 0} (opening : M → P) (m : PlainMachine P) (left given : L → Option (List ℕ)) (take_faults faults : L → ℕ)

@@ -1,17 +1,34 @@
 -- How a server ends that had no memory: it listened to nothing, called nobody, and wrote nothing.
-use Rattle.std.proofs.Common.{◌≡◌, ℕ, List, Option, refl, ap, inr, arith}
+use Rattle.std.proofs.Common.{◌≡◌, ℕ, Bool, true, false, ◌||◌, cond, nat_lt, List, Option, Result, Ok, Err, refl, ap, inr, arith}
 use Rattle.tardis_io.specs.Links.{ToldGate, ToldDial}
-use Rattle.tardis_io.specs.declared.statuses.Status.TheVariants.{NoMemory}
+use Rattle.tardis_io.specs.declared.faults.WriteFault.{WriteFault as NotWritten}
+use Rattle.tardis_io.specs.declared.statuses.Status.TheVariants.{Usage, NoMemory}
+use Rattle.tardis_io.specs.Statuses.{status_number}
+use Rattle.serve_pool.specs.declared.ends.PoolEnd.{PoolEnd}
+use Rattle.serve_pool.specs.declared.ends.PoolEnd.TheVariants.{Done as AllServed, GateFault as NextFailed}
 use Rattle.serve_run.specs.Serving.{Workload}
 use Rattle.serve_run.specs.declared.endings.ServeEnd.{ServeEnd}
 use Rattle.serve_run.specs.declared.endings.ServeEnd.TheVariants.{NotBound, NotMade, Served}
 use Rattle.plain_site.specs.Site.{Site}
-use Rattle.site_commands.specs.Ends.{ServerEnds}
+use Rattle.site_commands.specs.Ends.{ServerEnds, rounds_lack_memory, has_dial_fault, status_served, status_after}
 
 abbrev number_of : ServeEnd → ℕ
 number_of NotBound = 0
 number_of NotMade = 1
 number_of (Served s) = 2
+
+served_never : (lacks : Bool) (g : PoolEnd) (w : Result (Unit {0}) NotWritten) (d : Bool) → cond lacks NoMemory (status_served g w d) ≡ Usage → ⊥
+served_never true g w d e = absurd (omega (arith, ap status_number e))
+served_never false NextFailed w d e = absurd (omega (arith, ap status_number e))
+served_never false AllServed (Err x) d e = absurd (omega (arith, ap status_number e))
+served_never false AllServed (Ok u) true e = absurd (omega (arith, ap status_number e))
+served_never false AllServed (Ok u) false e = absurd (omega (arith, ap status_number e))
+
+-- no end of a server is told as words without a form
+pub never_usage : (end : ServeEnd) → status_after end ≡ Usage → ⊥
+never_usage NotBound e = absurd (omega (arith, ap status_number e))
+never_usage NotMade e = absurd (omega (arith, ap status_number e))
+never_usage (Served s) e = served_never (nat_lt 0 s.unserved || rounds_lack_memory s.rounds) s.gate s.written (has_dial_fault s.rounds) e
 
 module _ {L G X D O : Type 0} (link_left link_given : L → Option (List ℕ)) (link_takes link_gives : L → ℕ) (told : G → Option (ToldGate L)) (gates : G → ℕ)
     (peer_left peer_given : X → Option (List ℕ)) (peer_takes peer_gives : X → ℕ) (dial_told : D → Option (ToldDial X)) (dials : D → ℕ)

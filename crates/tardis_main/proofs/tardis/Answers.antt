@@ -1,4 +1,4 @@
-use Rattle.std.proofs.Common.{◌∙◌, Some, map, ap, subst, arith}
+use Rattle.std.proofs.Common.{◌≡◌, ◌∙◌, Some, map, ap, sym, subst, arith}
 use Rattle.std.proofs.lemmas.List.{length-map}
 use Rattle.std.specs.String.{string_bytes}
 use Rattle.site_run.specs.Endings.{IsRunEnd}
@@ -7,10 +7,11 @@ use Rattle.load_run.specs.Ends.{IsLoadEnd}
 use Rattle.branch_export.specs.Imported.{IsImportEnd}
 use Rattle.export_run.specs.Exporting.{IsExportEnd}
 use Rattle.command_words.specs.Commands.{form_of, serving_of}
-use Rattle.command_words.specs.Forms.{AsRun, AsShell, AsAudit, AsWorld, AsServe, AsLoad, AsAuto, AsExport, AsImport}
+use Rattle.command_words.specs.Forms.{Serving, AsRun, AsShell, AsAudit, AsWorld, AsServe, AsLoad, AsAuto, AsExport, AsImport}
 use Rattle.command_words.specs.Places.{program_limits}
+use Rattle.site_commands.specs.Ends.{ServerEnds}
 use Rattle.tardis_main.specs.Program.{site_at, work_of}
-use Rattle.tardis_main.proofs.Unserved.{no_server}
+use Rattle.tardis_main.proofs.Unserved.{never_usage, no_server}
 use Rattle.tardis_main.proofs.tardis.Goals as goal
 
 pub returns-in-Ok-Run-clause-usage : goal.returns-in-Ok-Run-clause-usage
@@ -65,17 +66,20 @@ returns-in-Ok-Load-clause-unknown g c = λ unknown. absurd (unknown (AsLoad c.in
     (c.in-Ok-Load.ensures.form ∙ ap (λ command. Some (form_of command)) c.in-Ok-Load.field-0-is) tt)
 
 pub serve_plan-requires-clause-peers : goal.serve_plan-requires-clause-peers
-serve_plan-requires-clause-peers g c κs within =
+serve_plan-requires-clause-peers g c =
     let words = map (λ w. string_bytes w) c.args.words.now in
     let plan = c.in-Ok-Serve.plan in
     let is = c.commands_are_at_a_site.ensures.serve words (serving_of plan) (c.in-Ok-Serve.ensures.form ∙ ap (λ command. Some (form_of command)) c.in-Ok-Serve.field-0-is) in
     omega (arith, is.peers, length-map (λ w. string_bytes w) plan.peers.items)
 
 pub serve_plan-requires-clause-rounds : goal.serve_plan-requires-clause-rounds
-serve_plan-requires-clause-rounds g c κs within =
+serve_plan-requires-clause-rounds g c =
     let words = map (λ w. string_bytes w) c.args.words.now in
     let is = c.commands_are_at_a_site.ensures.serve words (serving_of c.in-Ok-Serve.plan) (c.in-Ok-Serve.ensures.form ∙ ap (λ command. Some (form_of command)) c.in-Ok-Serve.field-0-is) in
     is.rounds
+
+pub returns-in-Ok-Serve-clause-usage : goal.returns-in-Ok-Serve-clause-usage
+returns-in-Ok-Serve-clause-usage g c = λ is. absurd (never_usage c.serve_plan.ensures.ends.end (sym c.serve_plan.ensures.ends.judged ∙ is))
 
 pub returns-in-Ok-Serve-clause-unknown : goal.returns-in-Ok-Serve-clause-unknown
 returns-in-Ok-Serve-clause-unknown g c = λ unknown. absurd (unknown (AsServe (serving_of c.in-Ok-Serve.plan))
@@ -84,6 +88,18 @@ returns-in-Ok-Serve-clause-unknown g c = λ unknown. absurd (unknown (AsServe (s
 pub returns-in-Ok-Serve-clause-unbound : goal.returns-in-Ok-Serve-clause-unbound
 returns-in-Ok-Serve-clause-unbound g c = λ others. absurd (others (serving_of c.in-Ok-Serve.plan)
     (c.in-Ok-Serve.ensures.form ∙ ap (λ command. Some (form_of command)) c.in-Ok-Serve.field-0-is))
+
+serve_same : (a b : Serving) → Some (AsServe a) ≡ Some (AsServe b) → a ≡ b
+serve_same a b e = cc
+
+pub returns-in-Ok-Serve-clause-serve : goal.returns-in-Ok-Serve-clause-serve
+returns-in-Ok-Serve-clause-serve g c = λ plan are.
+    let read = c.in-Ok-Serve.ensures.form ∙ ap (λ command. Some (form_of command)) c.in-Ok-Serve.field-0-is in
+    let same : serving_of c.in-Ok-Serve.plan ≡ plan = serve_same (serving_of c.in-Ok-Serve.plan) plan (sym read ∙ are) in
+    subst (λ p. ServerEnds g.G.Link.Duplex.left g.G.Link.Sink.given g.G.Link.Duplex.take_faults g.G.Link.Sink.faults g.G.Gate.told g.G.Gate.faults
+    g.D.Link.Duplex.left g.D.Link.Sink.given g.D.Link.Duplex.take_faults g.D.Link.Sink.faults g.D.Dial.told g.D.Dial.faults g.O.Sink.given g.O.Sink.faults
+    c.args.gate.now c.serve_plan.new.gate c.args.dial.now c.serve_plan.new.dial c.args.output.now c.serve_plan.new.output
+    (site_at p.place) (program_limits p.place.sites).max_trail (work_of p) c.serve_plan.result) same c.serve_plan.ensures.ends
 
 pub returns-clause-serve : goal.returns-clause-serve
 returns-clause-serve g c = λ plan are.
