@@ -9,3 +9,4 @@ mod SettlingLaws
 mod LeafLaws
 mod WrittenLaws
 mod StepLaws
+mod EndLaws

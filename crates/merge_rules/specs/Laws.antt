@@ -1,8 +1,23 @@
--- Laws of the values that rules give.
-use Rattle.std.specs.Prelude.{◌≡◌}
+-- Laws of the values that rules give, and of auto steps.
+use Rattle.std.specs.Prelude.{◌≡◌, ◌≤◌, ℕ, List, length}
+use Rattle.tardis_base.specs.declared.ids.StateId.{StateId}
+use Rattle.plain_dag.specs.Forks.{leaves}
+use Rattle.plain_site.specs.Site.{Site}
 use Rattle.rule_list.specs.declared.rules.Rule.{Rule}
+use Rattle.rule_list.specs.declared.rules.PrefixRule.{PrefixRule}
+use Rattle.merge_rules.specs.declared.steps.AutoEnd.TheVariants.{Single, Merged}
+use Rattle.merge_rules.specs.Auto.{auto_step}
 use Rattle.merge_rules.specs.Values.{Base, Side, merged}
 
 -- it doesn't matter which side comes first
 abbrev pub SidesMayBeExchanged : Type 0
 SidesMayBeExchanged = (rule : Rule) (base : Base) (a b : Side) → (a.0 ≡ b.0 → ⊥) → merged rule base a b ≡ merged rule base b a
+
+-- what ends as Single found no two leaves
+abbrev pub SingleMeansOneLeaf : Type 0
+SingleMeansOneLeaf = (site : Site) (n : ℕ) (rules : List PrefixRule) → (auto_step site n rules).1 ≡ Single → length (leaves site.dag) ≤ 1
+
+-- what doesn't end as Merged leaves the site as it was
+abbrev pub OnlyMergesChange : Type 0
+OnlyMergesChange =
+    (site : Site) (n : ℕ) (rules : List PrefixRule) → ((x : StateId) → (auto_step site n rules).1 ≡ Merged x → ⊥) → (auto_step site n rules).0 ≡ site

@@ -12,7 +12,7 @@ mod steps;
 mod unions;
 mod values;
 
-pub use laws::sides_may_be_exchanged;
+pub use laws::{auto_steps_merge_or_change_nothing, sides_may_be_exchanged};
 pub use settling::{Settled, settle};
 pub use steps::{AutoEnd, auto_step};
 pub use values::{Base, Side, merged};
