@@ -45,10 +45,18 @@ usage: tardis shell [--sites M] [--site N]
                           with the peers beside that, each with a collection or
                           without, and then write all that was asked as frames for
                           tardis run
+       tardis auto --rules RULES [--sites M] [--site N]
+                          as shell, with a line N auto, which merges two branches by
+                          rules for keys by their prefixes (docs/RULES.md)
+       tardis export --at ID [--sites M] [--site N]
+                          read frames as run does, and then write what the state of
+                          this id holds, key by key
+       tardis import      read an export, and write frames for tardis run that bring a
+                          fresh site to the same contents
        tardis --help      this text
        tardis --version   the version
 
-Shell, run, audit and serve answer as site N, from 1 to M, of M sites, from 1 to 16;
+Shell, run, audit, serve, auto and export answer as site N, from 1 to M, of M sites, from 1 to 16;
 both are 1 where they are left out. Try: printf '1 open\\n1 begin any\\n1 put cart milk\\n' | tardis shell
 
 Lines and frames are described in docs/FORMATS.md, the commands, with a session of

@@ -5,6 +5,7 @@ use std::hash::RandomState;
 use std::sync::Wait;
 use std::test::Fail;
 use std::thread::Threads;
+use tardis_base::StateId;
 use tardis_io::{
     MemoryDial, MemoryGate, MemoryLink, MemorySink, MemorySource, Sink, Source, Status,
 };
@@ -209,7 +210,9 @@ fn other_words_are_no_command(rt: HostRuntime) -> Result<(), Fail> {
         "world",
         "world --sites 17",
         "load --start 1 --steps 10001",
-        "import",
+        "import 1",
+        "export --at 01.1",
+        "auto --rules =sum",
         "Run",
         "runs",
     ] {
@@ -272,9 +275,30 @@ fn args_of(alloc: Global, line: &str) -> Result<Args, Fail> {
 #[test]
 fn a_program_is_its_words(rt: HostRuntime) -> Result<(), Fail> {
     let alloc = rt.alloc();
-    let ends: [(&str, Status, &[u8]); 7] = [
+    let ends: [(&str, Status, &[u8]); 11] = [
         ("run", Status::Ok, REPLIES),
         ("run --site 2 --sites 3", Status::Ok, REPLIES_OF_2),
+        (
+            "export --at 1.1",
+            Status::Ok,
+            b"\0\0\0\0\0\0\0\x01\x01x\0\x011",
+        ),
+        (
+            "export --at 1.2",
+            Status::NoState {
+                state: StateId {
+                    site: 1,
+                    sequence: 2,
+                },
+            },
+            b"",
+        ),
+        ("import", Status::BadExport, b""),
+        (
+            "auto --rules =last",
+            Status::Ok,
+            b"refused malformed\n",
+        ),
         ("", Status::Usage, b""),
         ("run extra", Status::Usage, b""),
         ("--help run", Status::Usage, b""),
@@ -306,6 +330,9 @@ fn a_program_is_its_words(rt: HostRuntime) -> Result<(), Fail> {
         "tardis run ",
         "tardis audit ",
         "tardis serve ",
+        "tardis auto ",
+        "tardis export ",
+        "tardis import",
         "tardis --help ",
         "tardis --version ",
     ] {
