@@ -14,7 +14,8 @@ What counts as well, in each run:
 - Or the program ends before it answered anything, with status 6 and its line on standard error.
 - A server that has no memory to listen ends with status 6 or 7, before anybody was served. One that has none for a link ends
   that link before it answers on it, and serves the next; at its end it says so by status 6, or 7 where the next link couldn't
-  be taken. Whatever was answered stands in its trail, and a run over the trail gives the same replies.
+  be taken. One that has none for a link's thread serves the link when those behind it are over. Whatever was answered stands
+  in its trail, and a run over the trail gives the same replies.
 
 Anything else, as another reply, another status, a signal, or a wait of more than 20 seconds, is a fault, and the script ends
 with it. One line for each session tells how many allocations were refused, and what came of them.
@@ -39,6 +40,8 @@ HERE = os.path.dirname(os.path.abspath(__file__))
 TOP = os.path.dirname(HERE)
 # No session takes so many allocations.
 MOST = 100_000
+# How long the first reply of a link is waited for, in seconds, before the link counts as late.
+A_WHILE = 1
 
 NO_MEMORY_FRAME, NO_MEMORY_LINE = b"\x00\x00\x00\x01\x16", b"nomemory\n"
 NO_MEMORY, GATE_FAULT = 6, 7
@@ -243,10 +246,11 @@ def whole(words, told):
 
 
 class Link:
-    """A link to a server. Where it ends before its first reply, it is made anew, once."""
+    """A link to a server. Where it ends before its first reply, or none comes in a while, it is made anew, once; what was
+    asked on the first one may then be answered when all others are over."""
 
     def __init__(self, path):
-        self.path, self.told, self.lost = path, [], 0
+        self.path, self.told, self.spare, self.late = path, [], True, None
         self.begin()
 
     def begin(self):
@@ -259,29 +263,43 @@ class Link:
     def ask(self, request):
         try:
             self.socket.sendall(request)
-            reply = next_reply(self.socket.recv, self.socket, self.held, False)
+            if not self.told and self.spare and not select.select([self.socket], [], [], A_WHILE)[0]:
+                self.spare, self.late = False, self.socket
+                self.begin()
+                return self.ask(request)
+            reply = self.next_reply()
         except (Ended, OSError):
             assert not self.told, "a link ended after %d replies" % len(self.told)
             self.socket.close()
-            if self.lost:
+            if not self.spare:
                 raise Ended from None
-            self.lost += 1
+            self.spare = False
             self.begin()
             return self.ask(request)
         if reply != NO_MEMORY_FRAME:
             self.told.append(reply)
         return reply
 
+    def next_reply(self):
+        return next_reply(self.socket.recv, self.socket, self.held, False)
+
+    def late_reply(self):
+        """What the link was told on which nothing came for a while: the others are over."""
+        try:
+            return next_reply(self.late.recv, self.late, bytearray(), False)
+        finally:
+            self.late.close()
+
 
 def trail_is_right(place, trail, links):
-    """Whether a run over a trail, with all memory, gives the replies that the links were given."""
+    """A run over a trail, with all memory, gives the replies that the links were given."""
     again = subprocess.run([place.program, "run"], input=trail, stdout=subprocess.PIPE, timeout=PATIENCE)
     assert again.returncode == 0, "a run over the trail ends with %d" % again.returncode
     told = {}
     for entry, reply in zip(frames_of(trail), frames_of(again.stdout)):
         told.setdefault(entry[4:6], []).append(reply)
     told = sorted(replies for replies in told.values() if replies != [NOT_OPEN])
-    assert told == sorted(link.told + [CLOSED] for link in links), "the trail tells something else"
+    assert told == sorted(replies + [CLOSED] for replies in links), "the trail tells something else"
 
 
 def ask_links(links, path, rows):
@@ -296,14 +314,17 @@ def ask_links(links, path, rows):
 
 
 def end_links(it, path, links):
-    """Ends all links, and makes the ones that the server still waits for, so that it ends."""
+    """Ends all links, and makes the ones that the server still waits for, so that it ends. What the late ones were told."""
     for link in links:
         link.socket.close()
     until = time.monotonic() + PATIENCE
-    while it.process.poll() is None and time.monotonic() < until:
+    late = [link for link in links if link.late]
+    while it.process.poll() is None and time.monotonic() < until and not (late and select.select([late[0].late], [], [], 0)[0]):
         with contextlib.suppress(OSError), socket.socket(socket.AF_UNIX) as probe:
+            probe.settimeout(PATIENCE)
             probe.connect(path)
         time.sleep(0.002)
+    return [link.late_reply() for link in late]
 
 
 def serve(rows):
@@ -311,28 +332,35 @@ def serve(rows):
     def run(place, number):
         path = os.path.join(place.folder, "site")
         with Refusing(place, number, ["serve", "--listen", "unix:" + path, "--links", "3"]) as it:
-            links, wants = {}, 0
+            links, wants, late, stopped = {}, 0, [], False
             line = it.first_error_line()
             is_heard = line == b"tardis: listens at unix:%s\n" % path.encode()
-            stopped = not is_heard
             if is_heard:
                 try:
                     wants = ask_links(links, path, rows)
                 except Ended:
                     stopped = True
-                end_links(it, path, links.values())
+                late = end_links(it, path, links.values())
             output, status, errors = it.end()
             errors = errors if is_heard else line + errors
             refused = it.was_refused()
-            lost = sum(link.lost for link in links.values())
-            ended_well(status, errors, [NO_MEMORY, GATE_FAULT] if stopped or lost else [0, NO_MEMORY, GATE_FAULT])
+            told = [link.told for link in links.values() if link.told] + [[reply] for reply in late]
             assert refused or status == 0, "status %d, and no allocation was refused" % status
-            if is_heard:
-                trail_is_right(place, output, [link for link in links.values() if link.told])
-            else:
-                assert output == b"", "nobody was served, and it wrote %r" % output
-            return refused, "the start's" if not is_heard else "a link's" if status else "a request's" if wants else "no one's"
+            ended_well(status, errors, [NO_MEMORY, GATE_FAULT] if stopped or not is_heard else [0, NO_MEMORY, GATE_FAULT])
+            assert all(reply == rows[0].told for reply in late), "a late link was told %r" % late
+            assert told or output == b"", "nobody was served, and it wrote %r" % output
+            trail_is_right(place, output, told)
+            return refused, what_came(told, status, late, wants)
     return run
+
+
+def what_came(told, status, late, wants):
+    """What came of a server's run."""
+    if not told:
+        return "the start's"
+    if status:
+        return "a link's"
+    return "a thread's" if late else "a request's" if wants else "no one's"
 
 
 # All.
@@ -343,6 +371,7 @@ OUTCOMES = {
     "the start's": "ended at once",
     "the run's": "wrote nothing",
     "a link's": "ended a link",
+    "a thread's": "answered a link when the others were over",
     "a request's": "answered NoMemory, and went on",
     "no one's": "answered all",
 }
