@@ -16,6 +16,9 @@ What counts as well, in each run:
   that link before it answers on it, and serves the next; at its end it says so by status 6, or 7 where the next link couldn't
   be taken. One that has none for a link's thread serves the link when those behind it are over. Whatever was answered stands
   in its trail, and a run over the trail gives the same replies.
+- A server that makes two rounds with a peer has all that the peer gave when they are over, since one exchange that finds no
+  memory leaves the rest to the next; or it ends with its status, and made no round. It ends with status 8 where it had no
+  memory for the call.
 
 Anything else, as another reply, another status, a signal, or a wait of more than 20 seconds, is a fault, and the script ends
 with it. One line for each session tells how many allocations were refused, and what came of them.
@@ -44,8 +47,10 @@ MOST = 100_000
 A_WHILE = 1
 
 NO_MEMORY_FRAME, NO_MEMORY_LINE = b"\x00\x00\x00\x01\x16", b"nomemory\n"
-NO_MEMORY, GATE_FAULT = 6, 7
-LINES = {0: b"", NO_MEMORY: b"tardis: out of memory\n", GATE_FAULT: b"tardis: gate fault\n"}
+NO_MEMORY, GATE_FAULT, DIAL_FAULT = 6, 7, 8
+LINES = {
+    0: b"", NO_MEMORY: b"tardis: out of memory\n", GATE_FAULT: b"tardis: gate fault\n", DIAL_FAULT: b"tardis: dial fault\n",
+}
 CLOSED = b"\x00\x00\x00\x01\x14"
 # what a link is answered that closes without having opened a session
 NOT_OPEN = b"\x00\x00\x00\x02\x15\x02"
@@ -363,6 +368,87 @@ def what_came(told, status, late, wants):
     return "a thread's" if late else "a request's" if wants else "no one's"
 
 
+def rounds(pull, batch, probes):
+    """A server that serves one link and makes two rounds with a peer, which gives this batch in each. After them all that
+    the batch has is there, since an exchange that finds no memory leaves the rest to the next; or no round was made."""
+    def run(place, number):
+        path, peer = os.path.join(place.folder, "site"), os.path.join(place.folder, "peer")
+        words = ["serve", "--sites", "2", "--listen", "unix:" + path, "--links", "1", "--peer", "unix:" + peer, "--rounds", "2"]
+        with socket.socket(socket.AF_UNIX) as gate:
+            gate.bind(peer)
+            gate.listen()
+            try:
+                with Refusing(place, number, words) as it:
+                    calls = answer_calls(it, gate, path, pull, batch)
+                    output, status, errors = it.end()
+                    refused = it.was_refused()
+            finally:
+                os.unlink(peer)
+        assert refused or (status, calls) == (0, 2), "status %d, %d rounds, and no allocation was refused" % (status, calls)
+        ended_well(status, errors, [0, NO_MEMORY, GATE_FAULT, DIAL_FAULT])
+        if not errors.startswith(b"tardis: listens"):
+            assert output == b"" and status, "it never listened, wrote %r and ended with %d" % (output, status)
+            return refused, "the start's"
+        return refused, what_rounds_came_to(place, output, status, calls, probes)
+    return run
+
+
+def answer_call(gate, pull, batch):
+    """Answers a call of a server's rounds, if one comes at once, and tells how many came."""
+    if not select.select([gate], [], [], 0.005)[0]:
+        return 0
+    with gate.accept()[0] as link:
+        link.settimeout(PATIENCE)
+        with contextlib.suppress(Ended, BrokenPipeError):
+            asked = next_reply(link.recv, link, bytearray(), False)
+            assert len(asked) == len(pull) and asked[:6] == pull[:6], "the peer was asked %r" % asked
+            link.sendall(batch)
+    return 1
+
+
+def answer_calls(it, gate, path, pull, batch):
+    """Answers the calls of a server's rounds, and makes its link when they are over, or none comes in a while: some come
+    after the link. Tells how many came."""
+    calls, until = 0, time.monotonic() + A_WHILE
+    while calls < 2 and it.process.poll() is None and time.monotonic() < until:
+        calls += answer_call(gate, pull, batch)
+    until = time.monotonic() + PATIENCE
+    while it.process.poll() is None and time.monotonic() < until:
+        with contextlib.suppress(OSError), socket.socket(socket.AF_UNIX) as link:
+            link.settimeout(PATIENCE)
+            link.connect(path)
+        calls += answer_call(gate, pull, batch)
+    return calls
+
+
+def what_rounds_came_to(place, trail, status, calls, probes):
+    """What came of a server's rounds, by its trail with some requests behind it."""
+    asked = b"".join(row.asked for row in probes)
+    again = subprocess.run(
+        [place.program, "run", "--sites", "2"], input=trail + asked, stdout=subprocess.PIPE, timeout=PATIENCE)
+    assert again.returncode == 0, "a run over the trail ends with %d" % again.returncode
+    told = frames_of(again.stdout)[-len(probes):]
+    if told == [row.told for row in probes]:
+        return "an exchange's" if status else "no one's"
+    assert calls == 0 and status, "after %d rounds it tells %r" % (calls, told)
+    return "all rounds'"
+
+
+def rounds_of_site_2():
+    """Site 2's news for a site that knows nothing, and what is read then: two states that site 2 made."""
+    key, root = b"\x01x", bytes(6)
+    first, second = struct.pack(">HI", 2, 1), struct.pack(">HI", 2, 2)
+    records = [first + b"\x01" + root + b"\x01" + key + b"\x01\x00\x011", second + b"\x01" + first + b"\x01\x01y\x01\x00\x012"]
+    actor = b"\x00\x07"
+    return (
+        frame(b"\x13\x02" + bytes(8)), frame(b"\x10\x00\x02" + b"".join(records) + b"\x00"), [
+            Row(frame(actor + b"\x01\x00"), frame(b"\x01" + root)),
+            Row(frame(actor + b"\x02\x00"), frame(b"\x02" + second)),
+            Row(frame(actor + b"\x03" + key), frame(b"\x04" + first + b"\x00\x011")),
+            Row(frame(actor + b"\x03\x01y"), frame(b"\x04" + second + b"\x00\x012")),
+        ])
+
+
 # All.
 
 Place = collections.namedtuple("Place", "program shim folder")
@@ -372,6 +458,8 @@ OUTCOMES = {
     "the run's": "wrote nothing",
     "a link's": "ended a link",
     "a thread's": "answered a link when the others were over",
+    "all rounds'": "made no round",
+    "an exchange's": "told of it at the end",
     "a request's": "answered NoMemory, and went on",
     "no one's": "answered all",
 }
@@ -400,6 +488,7 @@ def sessions(program):
         "world": talk(["world", "--sites", "3"], told_by(program, ["world", "--sites", "3"], world_frames())),
         "load": whole(load, loaded),
         "serve": serve(cart),
+        "rounds": rounds(*rounds_of_site_2()),
     }
 
 
