@@ -14,6 +14,8 @@ answers with an empty batch when the next round may begin: so rounds are made on
    nobody, and is lost. The others go on without it, and read the same.
 6. The servers of sites 1 and 2 end with status 8, since some calls failed; a run over each trail gives every reply again.
 
+Then `carry.py` carries between three servers without peers, of which one comes late and one goes for good.
+
 Every wait has an end, and nothing is left behind.
 """
 
@@ -75,30 +77,27 @@ class Pace:
         self.socket.close()
 
 
-class Server:
-    """One site: its server, its pace, and a client with a session that follows its commits."""
+class Served:
+    """One site: its server, and a client with a session that follows its commits."""
 
-    def __init__(self, program, folder, site):
+    def __init__(self, program, folder, site, words=()):
         self.site, self.address = site, "unix:" + os.path.join(folder, "site%d" % site)
-        self.pace = Pace(os.path.join(folder, "pace%d" % site))
         self.trail, self.errors = tempfile.TemporaryFile(), tempfile.TemporaryFile()
-        peers = [self.pace.address] + ["unix:" + os.path.join(folder, "site%d" % other) for other in SITES if other != site]
-        words = [word for peer in peers for word in ("--peer", peer)]
         self.process = subprocess.Popen(
             [program, "serve", "--sites", str(len(SITES)), "--site", str(site), "--listen", self.address,
-             "--links", str(LINKS), "--rounds", str(ROUNDS), "--tidy", *words],
+             "--links", str(LINKS), *words],
             stdin=subprocess.DEVNULL, stdout=self.trail, stderr=self.errors)
-        # it calls here once it listens
-        self.pace.wait()
+        self.wait_until_it_listens()
         self.client = tardis.connect(self.address, PATIENCE)
         self.client.open(follow=True)
 
-    def round(self):
-        self.pace.round()
+    def wait_until_it_listens(self):
+        until = time.monotonic() + PATIENCE
+        while not self.told() and time.monotonic() < until:
+            time.sleep(0.01)
 
     def told(self):
         """The lines on standard error so far."""
-        self.errors.flush()
         return os.pread(self.errors.fileno(), 1_000_000, 0).decode().splitlines()
 
     def put(self, **pairs):
@@ -117,6 +116,24 @@ class Server:
     def known(self):
         return [line.count for line in self.client.stat().sites]
 
+    def kill(self):
+        self.client.disconnect()
+        stop(self.process)
+
+
+class Server(Served):
+    """A site whose server makes rounds, at a pace."""
+
+    def __init__(self, program, folder, site):
+        self.pace = Pace(os.path.join(folder, "pace%d" % site))
+        peers = [self.pace.address] + ["unix:" + os.path.join(folder, "site%d" % other) for other in SITES if other != site]
+        super().__init__(program, folder, site, [
+            "--rounds", str(ROUNDS), "--tidy", *[word for peer in peers for word in ("--peer", peer)]])
+        self.pace.wait()
+
+    def round(self):
+        self.pace.round()
+
     def end(self):
         """Uses up rounds and links, and gives the status and the trail."""
         self.client.disconnect()
@@ -130,8 +147,7 @@ class Server:
         return status, self.trail.read()
 
     def kill(self):
-        self.client.disconnect()
-        stop(self.process)
+        super().kill()
         self.pace.close()
 
 
@@ -238,24 +254,64 @@ def ends_with_its_trail(program, server):
     print("site %d: %d entries, %d items fetched, %d of them applied" % (server.site, len(asked), len(fetched), applied))
 
 
-def main():
-    program = os.path.abspath(sys.argv[1]) if sys.argv[1:] else os.path.join(TOP, "crates", "tardis", "out", "tardis")
-    folder = tempfile.mkdtemp()
-    servers = []
+def servers_make_rounds(program, folder, servers):
+    for site in (1, 2):
+        servers.append(Server(program, folder, site))
+    two_fork_and_merge(*servers, "unix:" + os.path.join(folder, "site3"))
+    servers.append(Server(program, folder, 3))
+    a_late_one_comes(*servers)
+    what_is_closed_goes(servers)
+    one_goes_for_good(*servers)
+    for server in servers[:2]:
+        ends_with_its_trail(program, server)
+
+
+def carried(folder):
+    """One round of `carry.py` between all sites, and what it told on standard error."""
+    addresses = ["unix:" + os.path.join(folder, "site%d" % site) for site in SITES]
+    ran = subprocess.run(
+        [sys.executable, os.path.join(HERE, "carry.py"), "--rounds", "1", *addresses],
+        stdin=subprocess.DEVNULL, stderr=subprocess.PIPE, timeout=PATIENCE)
+    same(ran.returncode, 0)
+    return ran.stderr.decode().splitlines()
+
+
+def a_script_carries(program, folder, servers):
+    for site in (1, 2):
+        servers.append(Served(program, folder, site))
+    one, two = servers
+    one.put(cart="tea"), two.put(note="yes")
+    same([line.split(": ")[1] for line in carried(folder)], ["unix:" + os.path.join(folder, "site3")])
+    one.client.merge(union)
+    servers.append(Served(program, folder, 3))
+    same(carried(folder), [])
+    for server in servers:
+        same(server.reads("cart", "note"), [b"tea", b"yes"])
+    servers[2].put(last="given")
+    same(carried(folder), [])
+    servers[2].kill()
+    one.put(more="1")
+    carried(folder)
+    for server in (one, two):
+        same(server.reads("cart", "note", "last", "more"), [b"tea", b"yes", b"given", b"1"])
+    same(one.known(), two.known())
+    print("carried: %s states of the sites" % " ".join(map(str, one.known())))
+
+
+def test(story, program):
+    folder, servers = tempfile.mkdtemp(), []
     try:
-        for site in (1, 2):
-            servers.append(Server(program, folder, site))
-        two_fork_and_merge(*servers, "unix:" + os.path.join(folder, "site3"))
-        servers.append(Server(program, folder, 3))
-        a_late_one_comes(*servers)
-        what_is_closed_goes(servers)
-        one_goes_for_good(*servers)
-        for server in servers[:2]:
-            ends_with_its_trail(program, server)
+        story(program, folder, servers)
     finally:
         for server in servers:
             stop(server.process)
         shutil.rmtree(folder)
+
+
+def main():
+    program = os.path.abspath(sys.argv[1]) if sys.argv[1:] else os.path.join(TOP, "crates", "tardis", "out", "tardis")
+    test(servers_make_rounds, program)
+    test(a_script_carries, program)
 
 
 if __name__ == "__main__":
