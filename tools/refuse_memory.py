@@ -1,11 +1,12 @@
 #!/usr/bin/env python3
-"""Refuses `tardis` one allocation at a time, over the worked rows of the documents.
+"""Refuses `tardis` and `tardisd` one allocation at a time, over the worked rows of the documents.
 
-usage: tools/refuse_memory.py [TARDIS [NAME..]]
+usage: tools/refuse_memory.py [--tardis PROGRAM] [--tardisd PROGRAM] [NAME..]
 
-The program is the one that the last build left, unless another is named; names choose among the sessions (`sessions`, below).
-Each session is run again and again: in the first run the program's first allocation is refused, in the second the
-second, until a run ends in which none was. It needs a C compiler (`cc`, or $CC) for `refuse_memory.c`, and Linux.
+The programs are those that the last build left, unless others are named; one that isn't there is told, and left out. Names
+choose among the sessions (`sessions`, below). Each session is run again and again: in the first run the program's first
+allocation is refused, in the second the second, until a run ends in which none was. It needs a C compiler (`cc`, or $CC) for
+`refuse_memory.c`, and Linux.
 
 What counts as well, in each run:
 
@@ -19,11 +20,14 @@ What counts as well, in each run:
 - A server that makes two rounds with a peer has all that the peer gave when they are over, since one exchange that finds no
   memory leaves the rest to the next; or it ends with its status, and made no round. It ends with status 8 where it had no
   memory for the call.
+- `tardisd` ends with status 6 or 7 before anybody was served; or it serves on, and may have turned away one connection before
+  it answered on it.
 
 Anything else, as another reply, another status, a signal, or a wait of more than 20 seconds, is a fault, and the script ends
 with it. One line for each session tells how many allocations were refused, and what came of them.
 """
 
+import argparse
 import collections
 import contextlib
 import os
@@ -51,6 +55,7 @@ NO_MEMORY, GATE_FAULT, DIAL_FAULT = 6, 7, 8
 LINES = {
     0: b"", NO_MEMORY: b"tardis: out of memory\n", GATE_FAULT: b"tardis: gate fault\n", DIAL_FAULT: b"tardis: dial fault\n",
 }
+DAEMON_LINES = {NO_MEMORY: b"tardisd: out of memory\n", GATE_FAULT: b"tardisd: gate fault: "}
 CLOSED = b"\x00\x00\x00\x01\x14"
 # what a link is answered that closes without having opened a session
 NOT_OPEN = b"\x00\x00\x00\x02\x15\x02"
@@ -125,12 +130,12 @@ def shim(folder):
 class Refusing:
     """A program that runs, of whose allocations the one with this number is refused."""
 
-    def __init__(self, place, number, words):
+    def __init__(self, place, number, words, program=None):
         self.told, tell = os.pipe()
         names = dict(os.environ, LD_PRELOAD=place.shim, REFUSED_CALL=str(number), REFUSED_TELL=str(tell))
         try:
             self.process = subprocess.Popen(
-                [place.program, *words], stdin=subprocess.PIPE, stdout=subprocess.PIPE, stderr=subprocess.PIPE,
+                [program or place.program, *words], stdin=subprocess.PIPE, stdout=subprocess.PIPE, stderr=subprocess.PIPE,
                 env=names, pass_fds=[tell], bufsize=0)
         finally:
             os.close(tell)
@@ -150,6 +155,12 @@ class Refusing:
         except subprocess.TimeoutExpired:
             raise AssertionError("the program doesn't end") from None
         assert self.process.returncode >= 0, "the program was stopped by signal %d" % -self.process.returncode
+        return output, self.process.returncode, errors
+
+    def killed(self):
+        """The same, of a program that is ended here."""
+        self.process.kill()
+        output, errors = self.process.communicate(timeout=PATIENCE)
         return output, self.process.returncode, errors
 
     def first_error_line(self):
@@ -368,6 +379,34 @@ def what_came(told, status, late, wants):
     return "a thread's" if late else "a request's" if wants else "no one's"
 
 
+def daemon(program, rows):
+    """A `tardisd` and two clients. It serves until it is killed."""
+    def run(place, number):
+        path = os.path.join(place.folder, "site")
+        with Refusing(place, number, ["--listen", "unix:" + path], program) as it:
+            links, wants, stopped = {}, 0, False
+            line = it.first_error_line()
+            if line != b"tardisd: site 1 of 1 listens at unix:%s\n" % path.encode():
+                output, status, errors = it.end()
+                told = DAEMON_LINES.get(status)
+                assert output == errors == b"" and told and line.startswith(told), "status %d, %r" % (status, line + errors)
+                return it.was_refused(), "the start's"
+            try:
+                wants = ask_links(links, path, rows)
+            except Ended:
+                stopped = True
+            for link in links.values():
+                link.socket.close()
+            assert not stopped, "a client was turned away twice"
+            assert not any(link.late for link in links.values()), "a connection is left without an answer"
+            assert it.process.poll() is None, "it ended with %r" % it.process.returncode
+            output, _, errors = it.killed()
+            assert (output, errors) == (b"", b""), "it wrote %r and %r" % (output, errors)
+            is_away = not all(link.spare for link in links.values())
+            return it.was_refused(), "a link's" if is_away else "a request's" if wants else "no one's"
+    return run
+
+
 def rounds(pull, batch, probes):
     """A server that serves one link and makes two rounds with a peer, which gives this batch in each. After them all that
     the batch has is there, since an exchange that finds no memory leaves the rest to the next; or no round was made."""
@@ -473,23 +512,34 @@ def told_by(program, words, rows):
     return [Row(*row) for row in zip(rows, told)]
 
 
-def sessions(program):
+def sessions(program, daemon_program):
     """Each session's name, and how it is run. What is to be told stands in the documents, but for two: of the world they
     tell it in words, and of a load with steps they tell nothing."""
-    cart = frame_rows("README.md", "## A cart", "## W")
-    load = ["load", "--start", "1", "--steps", "60"]
-    loaded = subprocess.run([program, *load], stdout=subprocess.PIPE, timeout=PATIENCE, check=True).stdout
-    return {
-        "first": talk(["run"], frame_rows("README.md", "## Run it", "## A cart")),
-        "cart": talk(["run"], cart),
-        "floors": talk(["run"], frame_rows("docs/FLOORS.md", "| Frame in", "Had")),
-        "lines": talk(["shell"], line_rows("## A session of lines", "The first word"), lines=True),
-        "forms": talk(["shell", "--sites", "2"], line_rows("Every form", "Here"), lines=True),
-        "world": talk(["world", "--sites", "3"], told_by(program, ["world", "--sites", "3"], world_frames())),
-        "load": whole(load, loaded),
-        "serve": serve(cart),
-        "rounds": rounds(*rounds_of_site_2()),
-    }
+    cart, made = frame_rows("README.md", "## A cart", "## W"), {}
+    if is_there(program):
+        load = ["load", "--start", "1", "--steps", "60"]
+        loaded = subprocess.run([program, *load], stdout=subprocess.PIPE, timeout=PATIENCE, check=True).stdout
+        made = {
+            "first": talk(["run"], frame_rows("README.md", "## Run it", "## A cart")),
+            "cart": talk(["run"], cart),
+            "floors": talk(["run"], frame_rows("docs/FLOORS.md", "| Frame in", "Had")),
+            "lines": talk(["shell"], line_rows("## A session of lines", "The first word"), lines=True),
+            "forms": talk(["shell", "--sites", "2"], line_rows("Every form", "Here"), lines=True),
+            "world": talk(["world", "--sites", "3"], told_by(program, ["world", "--sites", "3"], world_frames())),
+            "load": whole(load, loaded),
+            "serve": serve(cart),
+            "rounds": rounds(*rounds_of_site_2()),
+        }
+    if is_there(daemon_program):
+        made["tardisd"] = daemon(daemon_program, cart)
+    return made
+
+
+def is_there(program):
+    if not os.access(program, os.X_OK):
+        print("left out: %s isn't there" % program)
+        return False
+    return True
 
 
 def sweep(name, run, place):
@@ -510,13 +560,18 @@ def sweep(name, run, place):
 
 
 def main():
-    words = sys.argv[1:]
-    program = os.path.abspath(words[0]) if words else os.path.join(TOP, "crates", "tardis", "out", "tardis")
+    words = argparse.ArgumentParser(description="refuses one allocation at a time")
+    for name in ("tardis", "tardisd"):
+        words.add_argument("--" + name, default=os.path.join(TOP, "crates", name, "out", name), metavar="PROGRAM")
+    words.add_argument("names", nargs="*", metavar="NAME")
+    words = words.parse_args()
+    program, daemon_program = os.path.abspath(words.tardis), os.path.abspath(words.tardisd)
+    all_of_them = sessions(program, daemon_program)
+    assert all_of_them, "no program is there"
     folder = tempfile.mkdtemp()
     try:
-        all_of_them = sessions(program)
         place = Place(program, shim(folder), folder)
-        for name in words[1:] or all_of_them:
+        for name in words.names or all_of_them:
             sweep(name, all_of_them[name], place)
     finally:
         shutil.rmtree(folder)
