@@ -11,15 +11,14 @@ allocation is refused, in the second the second, until a run ends in which none 
 What counts as well, in each run:
 
 - Each request is answered by its row's reply, or by NoMemory; after NoMemory the same request once more is answered by its
-  row's reply, and so is all that follows. So nothing was lost, nothing was done twice, and nothing else changed.
+  row's reply, and all that follows by theirs: by what a session reads later, nothing was lost and nothing was done twice.
 - Or the program ends before it answered anything, with status 6 and its line on standard error.
-- A server that has no memory to listen ends with status 6 or 7, before anybody was served. One that has none for a link ends
-  that link before it answers on it, and serves the next; at its end it says so by status 6, or 7 where the next link couldn't
-  be taken. One that has none for a link's thread serves the link when those behind it are over. Whatever was answered stands
-  in its trail, and a run over the trail gives the same replies.
+- A server that has no memory to begin ends with status 6, before anybody was served. One that has none for a link ends that
+  link before it answers on it, serves the next, and tells so by status 6 at its end. One that has none for a link's thread
+  serves the link when those behind it are over. Whatever was answered stands in its trail, and a run over the trail gives the
+  same replies.
 - A server that makes two rounds with a peer has all that the peer gave when they are over, since one exchange that finds no
-  memory leaves the rest to the next; or it ends with its status, and made no round. It ends with status 8 where it had no
-  memory for the call.
+  memory leaves the rest to the next; or it made no round. It tells so by status 6.
 - `tardisd` ends with status 6 or 7 before anybody was served; or it serves on, and may have turned away one connection before
   it answered on it.
 
@@ -51,10 +50,8 @@ MOST = 100_000
 A_WHILE = 1
 
 NO_MEMORY_FRAME, NO_MEMORY_LINE = b"\x00\x00\x00\x01\x16", b"nomemory\n"
-NO_MEMORY, GATE_FAULT, DIAL_FAULT = 6, 7, 8
-LINES = {
-    0: b"", NO_MEMORY: b"tardis: out of memory\n", GATE_FAULT: b"tardis: gate fault\n", DIAL_FAULT: b"tardis: dial fault\n",
-}
+NO_MEMORY, GATE_FAULT = 6, 7
+LINES = {0: b"", NO_MEMORY: b"tardis: out of memory\n"}
 DAEMON_LINES = {NO_MEMORY: b"tardisd: out of memory\n", GATE_FAULT: b"tardisd: gate fault: "}
 CLOSED = b"\x00\x00\x00\x01\x14"
 # what a link is answered that closes without having opened a session
@@ -362,7 +359,7 @@ def serve(rows):
             refused = it.was_refused()
             told = [link.told for link in links.values() if link.told] + [[reply] for reply in late]
             assert refused or status == 0, "status %d, and no allocation was refused" % status
-            ended_well(status, errors, [NO_MEMORY, GATE_FAULT] if stopped or not is_heard else [0, NO_MEMORY, GATE_FAULT])
+            ended_well(status, errors, [NO_MEMORY] if stopped or not is_heard else [0, NO_MEMORY])
             assert all(reply == rows[0].told for reply in late), "a late link was told %r" % late
             assert told or output == b"", "nobody was served, and it wrote %r" % output
             trail_is_right(place, output, told)
@@ -424,7 +421,7 @@ def rounds(pull, batch, probes):
             finally:
                 os.unlink(peer)
         assert refused or (status, calls) == (0, 2), "status %d, %d rounds, and no allocation was refused" % (status, calls)
-        ended_well(status, errors, [0, NO_MEMORY, GATE_FAULT, DIAL_FAULT])
+        ended_well(status, errors, [0, NO_MEMORY])
         if not errors.startswith(b"tardis: listens"):
             assert output == b"" and status, "it never listened, wrote %r and ended with %d" % (output, status)
             return refused, "the start's"
