@@ -216,7 +216,7 @@ def settled(ask, row, no_memory):
 
 
 def ended_well(status, errors, among):
-    assert status in among and errors.endswith(LINES[status]), "status %d, %r" % (status, errors)
+    assert status in among and errors == LINES[status], "status %d, %r" % (status, errors)
 
 
 def talk(words, rows, lines=False):
@@ -241,6 +241,7 @@ def talk(words, rows, lines=False):
                     came = "the start's"
                     break
             output, status, errors = it.end()
+            assert wants < 2, "%d replies were NoMemory" % wants
             assert output == b"" and not held, "more was written: %r" % output
             ended_well(status, errors, [NO_MEMORY if came == "the start's" else 0])
             return it.was_refused(), "a request's" if wants else came
@@ -323,6 +324,7 @@ def ask_links(links, path, rows):
         if actor not in links:
             links[actor] = Link(path)
         wants += settled(links[actor].ask, Row(frame(row.asked[6:]), row.told), NO_MEMORY_FRAME)
+    assert wants < 2, "%d replies were NoMemory" % wants
     return wants
 
 
@@ -421,8 +423,9 @@ def rounds(pull, batch, probes):
             finally:
                 os.unlink(peer)
         assert refused or (status, calls) == (0, 2), "status %d, %d rounds, and no allocation was refused" % (status, calls)
-        ended_well(status, errors, [0, NO_MEMORY])
-        if not errors.startswith(b"tardis: listens"):
+        on_the_way = (b"tardis: listens at ", b"tardis: no link to ")
+        ended_well(status, b"".join(line for line in errors.splitlines(True) if not line.startswith(on_the_way)), [0, NO_MEMORY])
+        if not errors.startswith(on_the_way[0]):
             assert output == b"" and status, "it never listened, wrote %r and ended with %d" % (output, status)
             return refused, "the start's"
         return refused, what_rounds_came_to(place, output, status, calls, probes)
