@@ -383,20 +383,21 @@ def daemon(program, rows):
     def run(place, number):
         path = os.path.join(place.folder, "site")
         with Refusing(place, number, ["--listen", "unix:" + path], program) as it:
-            links, wants, stopped = {}, 0, False
+            links, wants = {}, 0
             line = it.first_error_line()
-            if line != b"tardisd: site 1 of 1 listens at unix:%s\n" % path.encode():
-                output, status, errors = it.end()
-                told = DAEMON_LINES.get(status)
-                assert output == errors == b"" and told and line.startswith(told), "status %d, %r" % (status, line + errors)
-                return it.was_refused(), "the start's"
             try:
+                if line != b"tardisd: site 1 of 1 listens at unix:%s\n" % path.encode():
+                    raise Ended
+                line = b""
                 wants = ask_links(links, path, rows)
             except Ended:
-                stopped = True
+                output, status, errors = it.end()
+                told = DAEMON_LINES.get(status)
+                assert told and (line + errors).startswith(told) and output == b"", "status %d, %r" % (status, line + errors)
+                assert not any(link.told for link in links.values()), "it ended while it served"
+                return it.was_refused(), "the start's"
             for link in links.values():
                 link.socket.close()
-            assert not stopped, "a client was turned away twice"
             assert not any(link.late for link in links.values()), "a connection is left without an answer"
             assert it.process.poll() is None, "it ended with %r" % it.process.returncode
             output, _, errors = it.killed()
