@@ -1,9 +1,9 @@
 #!/usr/bin/env python3
 """Tests servers that fetch from each other: three sites of `tardis serve --peer`, over Unix sockets.
 
-usage: tools/test_sync.py [TARDIS]
+usage: tools/test_sync.py [TARDIS [TARDISD]]
 
-The program is the one that the last build left, unless another is named. Each server's first peer is this script, which
+The programs are those that the last build left, unless others are named. Each server's first peer is this script, which
 answers with an empty batch when the next round may begin: so rounds are made one at a time, where the story wants them.
 
 1. Sites 1 and 2 start, and each has a client. Site 3 isn't there yet: calls to it fail, and the round goes on without it.
@@ -14,7 +14,8 @@ answers with an empty batch when the next round may begin: so rounds are made on
    nobody, and is lost. The others go on without it, and read the same.
 6. The servers of sites 1 and 2 end with status 8, since some calls failed; a run over each trail gives every reply again.
 
-Then `carry.py` carries between three servers without peers, of which one comes late and one goes for good.
+Then `carry.py` carries between three servers without peers, of which one comes late and one goes for good: three of
+`tardis serve`, and three of `tardisd` where that is there.
 
 Every wait has an end, and nothing is left behind.
 """
@@ -80,13 +81,14 @@ class Pace:
 class Served:
     """One site: its server, and a client with a session that follows its commits."""
 
+    command = ["serve", "--links", str(LINKS)]
+
     def __init__(self, program, folder, site, words=()):
         self.site, self.address = site, "unix:" + os.path.join(folder, "site%d" % site)
         self.trail, self.errors = tempfile.TemporaryFile(), tempfile.TemporaryFile()
+        place = ["--sites", str(len(SITES)), "--site", str(site), "--listen", self.address]
         self.process = subprocess.Popen(
-            [program, "serve", "--sites", str(len(SITES)), "--site", str(site), "--listen", self.address,
-             "--links", str(LINKS), *words],
-            stdin=subprocess.DEVNULL, stdout=self.trail, stderr=self.errors)
+            [program, *self.command, *place, *words], stdin=subprocess.DEVNULL, stdout=self.trail, stderr=self.errors)
         self.wait_until_it_listens()
         self.client = tardis.connect(self.address, PATIENCE)
         self.client.open(follow=True)
@@ -119,6 +121,12 @@ class Served:
     def kill(self):
         self.client.disconnect()
         stop(self.process)
+
+
+class Daemon(Served):
+    """A site of `tardisd`."""
+
+    command = []
 
 
 class Server(Served):
@@ -276,14 +284,14 @@ def carried(folder):
     return ran.stderr.decode().splitlines()
 
 
-def a_script_carries(program, folder, servers):
+def a_script_carries(program, folder, servers, kind=Served):
     for site in (1, 2):
-        servers.append(Served(program, folder, site))
+        servers.append(kind(program, folder, site))
     one, two = servers
     one.put(cart="tea"), two.put(note="yes")
     same([line.split(": ")[1] for line in carried(folder)], ["unix:" + os.path.join(folder, "site3")])
     one.client.merge(union)
-    servers.append(Served(program, folder, 3))
+    servers.append(kind(program, folder, 3))
     same(carried(folder), [])
     for server in servers:
         same(server.reads("cart", "note"), [b"tea", b"yes"])
@@ -295,7 +303,11 @@ def a_script_carries(program, folder, servers):
     for server in (one, two):
         same(server.reads("cart", "note", "last", "more"), [b"tea", b"yes", b"given", b"1"])
     same(one.known(), two.known())
-    print("carried: %s states of the sites" % " ".join(map(str, one.known())))
+    print("%s: carried %d states" % (os.path.basename(program), sum(one.known())))
+
+
+def a_script_carries_between_daemons(program, folder, servers):
+    a_script_carries(program, folder, servers, Daemon)
 
 
 def test(story, program):
@@ -309,9 +321,15 @@ def test(story, program):
 
 
 def main():
-    program = os.path.abspath(sys.argv[1]) if sys.argv[1:] else os.path.join(TOP, "crates", "tardis", "out", "tardis")
+    named = [os.path.abspath(word) for word in sys.argv[1:]]
+    built = [os.path.join(TOP, "crates", name, "out", name) for name in ("tardis", "tardisd")]
+    program, daemon = (named + built[len(named):])[:2]
     test(servers_make_rounds, program)
     test(a_script_carries, program)
+    if os.access(daemon, os.X_OK):
+        test(a_script_carries_between_daemons, daemon)
+    else:
+        print("left out: %s isn't there" % daemon)
 
 
 if __name__ == "__main__":
