@@ -425,7 +425,8 @@ def rounds(pull, batch, probes):
                 os.unlink(peer)
         assert refused or (status, calls) == (0, 2), "status %d, %d rounds, and no allocation was refused" % (status, calls)
         on_the_way = (b"tardis: listens at ", b"tardis: no link to ")
-        ended_well(status, b"".join(line for line in errors.splitlines(True) if not line.startswith(on_the_way)), [0, NO_MEMORY])
+        last = b"".join(line for line in errors.splitlines(True) if not line.startswith(on_the_way))
+        ended_well(status, last, [0, NO_MEMORY])
         if not errors.startswith(on_the_way[0]):
             assert output == b"" and status, "it never listened, wrote %r and ended with %d" % (output, status)
             return refused, "the start's"
