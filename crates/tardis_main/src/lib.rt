@@ -106,7 +106,10 @@ pub fn tardis<I: Source, O: Sink, G: Gate, D: Dial + Send, R: Threads + Wait + S
         Ok(Command::Import) => run_import(alloc, input, output),
         // a site with a journal isn't built yet
         Ok(Command::Durable { .. }) | Err(WordsFault::Usage) => Status::Usage,
-        Err(WordsFault::NoMemory) => Status::NoMemory,
+        Err(WordsFault::NoMemory) => {
+            commands_are_at_a_site();
+            Status::NoMemory
+        }
     }
 }
 

@@ -294,11 +294,7 @@ fn a_program_is_its_words(rt: HostRuntime) -> Result<(), Fail> {
             b"",
         ),
         ("import", Status::BadExport, b""),
-        (
-            "auto --rules =last",
-            Status::Ok,
-            b"refused malformed\n",
-        ),
+        ("auto --rules =last", Status::Ok, b"refused malformed\n"),
         ("", Status::Usage, b""),
         ("run extra", Status::Usage, b""),
         ("--help run", Status::Usage, b""),

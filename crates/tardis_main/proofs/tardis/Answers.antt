@@ -5,13 +5,25 @@ use Rattle.site_run.specs.Endings.{IsRunEnd}
 use Rattle.site_run.specs.LineEndings.{IsLineEnd}
 use Rattle.load_run.specs.Ends.{IsLoadEnd}
 use Rattle.branch_export.specs.Imported.{IsImportEnd}
-use Rattle.export_run.specs.Exporting.{IsExportEnd}
+use Rattle.export_run.specs.Exporting.{ExportOutcome, IsExportEnd}
+use Rattle.tardis_base.specs.declared.records.Limits.{Limits}
+use Rattle.tardis_io.specs.Told.{WhileTold}
+use Rattle.plain_site.specs.Site.{opening}
+use Rattle.plain_site.specs.Sound.{IsSound}
 use Rattle.command_words.specs.Commands.{form_of, serving_of}
 use Rattle.command_words.specs.Forms.{Serving, AsRun, AsShell, AsAudit, AsWorld, AsServe, AsLoad, AsAuto, AsExport, AsImport}
-use Rattle.command_words.specs.Places.{program_limits}
+use Rattle.command_words.specs.Places.{IsPlace, program_limits}
+use Rattle.command_words.specs.declared.commands.Place.{Place}
+use Rattle.tardis_base.specs.declared.ids.StateId.{StateId}
+use Rattle.tardis_io.specs.declared.statuses.Status.TheVariants.{NoMemory}
+use Rattle.auto_run.specs.Outcomes.{AutoFrom}
+use Rattle.auto_run.proofs.AutoRuns.{no_auto}
 use Rattle.site_commands.specs.Ends.{ServerEnds}
-use Rattle.tardis_main.specs.Program.{site_at, work_of}
+use Rattle.site_commands.proofs.FrameRuns.{opens}
+use Rattle.site_commands.proofs.NoMemory.{no_lines}
+use Rattle.tardis_main.specs.Program.{ExportEnds, site_at, work_of}
 use Rattle.tardis_main.proofs.Unserved.{never_usage, no_server}
+use Rattle.tardis_main.proofs.Words.{limits_hold}
 use Rattle.tardis_main.proofs.tardis.Goals as goal
 
 pub returns-in-Ok-Run-clause-usage : goal.returns-in-Ok-Run-clause-usage
@@ -38,6 +50,23 @@ returns-in-Ok-Auto-clause-usage g c = λ is. absurd (subst IsLineEnd is c.auto.e
 pub returns-in-Ok-Auto-clause-unknown : goal.returns-in-Ok-Auto-clause-unknown
 returns-in-Ok-Auto-clause-unknown g c = λ unknown. absurd (unknown (AsAuto c.in-Ok-Auto.place c.in-Ok-Auto.rules)
     (c.in-Ok-Auto.ensures.form ∙ ap (λ command. Some (form_of command)) c.in-Ok-Auto.field-0-is) tt)
+
+export_same : (p q : Place) (x y : StateId) → Some (AsExport p x) ≡ Some (AsExport q y) → ◌≡◌ {A = Place × StateId} (p, x) (q, y)
+export_same p q x y e = cc
+
+pub returns-in-Ok-Export-clause-export : goal.returns-in-Ok-Export-clause-export
+returns-in-Ok-Export-clause-export g c = λ place state are.
+    let read = c.in-Ok-Export.ensures.form ∙ ap (λ command. Some (form_of command)) c.in-Ok-Export.field-0-is in
+    let same : ◌≡◌ {A = Place × StateId} (c.in-Ok-Export.place, c.in-Ok-Export.state) (place, state) = export_same c.in-Ok-Export.place place c.in-Ok-Export.state state (sym read ∙ are) in
+    subst (λ (p : Place × StateId). ExportEnds g.I.Source.left g.I.Source.faults g.O.Sink.given g.O.Sink.faults c.args.input.now c.export.new.input c.args.output.now c.export.new.output
+    (map (λ w. string_bytes w) c.args.words.now) c.export.result (site_at p.0) p.1) same
+    (record { outcome = subst (λ (l : Limits). WhileTold (g.I.Source.left c.args.input.now) (g.I.Source.left c.export.new.input)
+    (ExportOutcome c.export.result c.in-Ok-Export.state (λ s. s ≡ opening l c.in-Ok-Export.place.site) IsSound (g.O.Sink.given c.args.output.now) (g.O.Sink.given c.export.new.output)))
+    c.limits-in-Ok-Export.ensures.limits c.export.ensures.outcome; exact = c.export.ensures.exact; end = c.export.ensures.status; nothing = c.export.ensures.nothing })
+
+pub returns-in-Ok-Import-clause-import : goal.returns-in-Ok-Import-clause-import
+returns-in-Ok-Import-clause-import g c = λ are.
+    record { outcome = c.run_import.ensures.outcome; exact = c.run_import.ensures.exact; end = c.run_import.ensures.status; nothing = c.run_import.ensures.nothing }
 
 pub returns-in-Ok-Export-clause-usage : goal.returns-in-Ok-Export-clause-usage
 returns-in-Ok-Export-clause-usage g c = λ is. absurd (subst (IsExportEnd c.in-Ok-Export.state) is c.export.ensures.status)
@@ -70,10 +99,10 @@ serve_plan-requires-clause-peers g c =
     let words = map (λ w. string_bytes w) c.args.words.now in
     let plan = c.in-Ok-Serve.plan in
     let is = c.commands_are_at_a_site.ensures.serve words (serving_of plan) (c.in-Ok-Serve.ensures.form ∙ ap (λ command. Some (form_of command)) c.in-Ok-Serve.field-0-is) in
-    omega (arith, is.peers, length-map (λ w. string_bytes w) plan.peers.items)
+    omega (arith, is.peers, length-map plan.peers.items (λ w. string_bytes w))
 
 pub serve_plan-requires-clause-rounds : goal.serve_plan-requires-clause-rounds
-serve_plan-requires-clause-rounds g c =
+serve_plan-requires-clause-rounds g c = λ κs within.
     let words = map (λ w. string_bytes w) c.args.words.now in
     let is = c.commands_are_at_a_site.ensures.serve words (serving_of c.in-Ok-Serve.plan) (c.in-Ok-Serve.ensures.form ∙ ap (λ command. Some (form_of command)) c.in-Ok-Serve.field-0-is) in
     is.rounds
@@ -106,3 +135,10 @@ returns-clause-serve g c = λ plan are.
     no_server g.G.Link.Duplex.left g.G.Link.Sink.given g.G.Link.Duplex.take_faults g.G.Link.Sink.faults g.G.Gate.told g.G.Gate.faults
     g.D.Link.Duplex.left g.D.Link.Sink.given g.D.Link.Duplex.take_faults g.D.Link.Sink.faults g.D.Dial.told g.D.Dial.faults g.O.Sink.given g.O.Sink.faults c.args.gate.now c.args.dial.now c.args.output.now
     (site_at plan.place) (program_limits plan.place.sites).max_trail (work_of plan)
+
+pub returns-clause-auto : goal.returns-clause-auto
+returns-clause-auto g c = λ place rules are.
+    let is : IsPlace place = c.commands_are_at_a_site-in-Err-NoMemory.ensures.auto (map (λ w. string_bytes w) c.args.words.now) place rules are in
+    let old = g.O.Sink.given c.args.output.now in
+    no_lines g.I.Source.left g.I.Source.faults g.O.Sink.faults c.args.input.now c.args.output.now (AutoFrom (site_at place) rules NoMemory old old)
+    (λ x. no_auto (site_at place) rules old x (opens (program_limits place.sites) place.site (limits_hold place.sites is.some is.most) is.first is.last))

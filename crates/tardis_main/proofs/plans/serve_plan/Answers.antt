@@ -1,17 +1,22 @@
 use Rattle.std.proofs.Common.{◌≡◌, ◌∙◌, length, map, ap, sym, subst}
 use Rattle.std.proofs.lemmas.List.{length-map}
 use Rattle.std.specs.String.{string_bytes}
-use Rattle.command_words.specs.Places.{program_limits}
+use Rattle.tardis_base.specs.declared.records.Limits.{Limits}
+use Rattle.plain_site.specs.Site.{opening}
 use Rattle.site_commands.specs.Ends.{ServerEnds}
-use Rattle.tardis_main.specs.Program.{site_at}
 use Rattle.tardis_main.proofs.plans.serve_plan.Goals as goal
 
 pub returns-clause-ends : goal.returns-clause-ends
 returns-clause-ends g c =
     let plan = c.args.plan.now in
-    let same : length c.as_slice-peers.result.now ≡ length (map (λ w. string_bytes w) plan.peers.items) = ap length c.as_slice-peers.ensures.value ∙ sym (length-map (λ w. string_bytes w) plan.peers.items) in
-    subst (λ n. ServerEnds g.G.Link.Duplex.left g.G.Link.Sink.given g.G.Link.Duplex.take_faults g.G.Link.Sink.faults g.G.Gate.told g.G.Gate.faults
+    let same : length c.as_slice-peers.result.now ≡ length (map (λ w. string_bytes w) plan.peers.items) = ap length c.as_slice-peers.ensures.value ∙ sym (length-map plan.peers.items (λ w. string_bytes w)) in
+    subst (λ (l : Limits). ServerEnds g.G.Link.Duplex.left g.G.Link.Sink.given g.G.Link.Duplex.take_faults g.G.Link.Sink.faults g.G.Gate.told g.G.Gate.faults
     g.D.Link.Duplex.left g.D.Link.Sink.given g.D.Link.Duplex.take_faults g.D.Link.Sink.faults g.D.Dial.told g.D.Dial.faults g.O.Sink.given g.O.Sink.faults
     c.args.gate.now c.serve.new.gate c.args.dial.now c.serve.new.dial c.args.output.now c.serve.new.output
-    (site_at plan.place) (program_limits plan.place.sites).max_trail (record { links = plan.links; peers = n; rounds = plan.rounds; tidy = plan.tidy }) c.serve.result)
-    same c.serve.ensures.ends
+    (opening l plan.place.site) l.max_trail (record { links = plan.links; peers = length (map (λ w. string_bytes w) plan.peers.items); rounds = plan.rounds; tidy = plan.tidy }) c.serve.result)
+    c.limits.ensures.limits
+    (subst (λ n. ServerEnds g.G.Link.Duplex.left g.G.Link.Sink.given g.G.Link.Duplex.take_faults g.G.Link.Sink.faults g.G.Gate.told g.G.Gate.faults
+    g.D.Link.Duplex.left g.D.Link.Sink.given g.D.Link.Duplex.take_faults g.D.Link.Sink.faults g.D.Dial.told g.D.Dial.faults g.O.Sink.given g.O.Sink.faults
+    c.args.gate.now c.serve.new.gate c.args.dial.now c.serve.new.dial c.args.output.now c.serve.new.output
+    (opening c.limits.result plan.place.site) c.limits.result.max_trail (record { links = plan.links; peers = n; rounds = plan.rounds; tidy = plan.tidy }) c.serve.result)
+    same c.serve.ensures.ends)
