@@ -6,3 +6,4 @@ mod Bodies
 mod Outcomes
 mod Turning
 mod Running
+mod Sites

@@ -6,5 +6,7 @@ mod buffers;
 mod groups;
 mod pieces;
 mod runs;
+mod site_runs;
 
 pub use runs::run_durable;
+pub use site_runs::run_site_on;
