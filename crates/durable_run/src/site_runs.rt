@@ -1,7 +1,11 @@
 //! A durable run of a site.
 
-ghost use Rattle.std.specs.Prelude.{◌≡◌, ◌≤◌, ◌⊎◌, IsTrue, IfOk};
+ghost use Rattle.std.specs.Prelude.{◌≡◌, ◌<◌, ◌≤◌, ◌⊎◌, ℕ, List, length, IsTrue, IfOk};
 ghost use Rattle.tardis_base.specs.Valid.{are_limits};
+ghost use Rattle.tardis_io.specs.Told.{WhileTold};
+ghost use Rattle.tardis_io.specs.Faults.{Rose};
+ghost use Rattle.frame_cut.specs.Frames.{IsCut};
+ghost use Rattle.site_run.specs.Endings.{EndsAs, most_taken};
 ghost use Rattle.plain_site.specs.Site.{opening};
 ghost use Rattle.plain_site.specs.Step.{site_machine};
 ghost use Rattle.session_core.specs.Machine.{SiteStands, opened_with};
@@ -35,9 +39,14 @@ pub fn run_site_on<K: Disk, I: Source, O: Sink>(
     requires last { own ≤ limits.sites }
     ensures outcome { NotOpened site_machine K.honest K.reads K.may_leave K.moment K.left_since I.left O.given result.0 disk result.1 input.old input.new output.old output.new
         ⊎ RanOn site_machine K.honest K.reads K.may_leave K.moment K.left_since I.left O.given (opening limits own) 1073741824 result.0 disk result.1 input.old input.new output.old output.new }
+    ensures exact { WhileTold (I.left input.old) (I.left input.new) (λ first left. (all : List (List ℕ)) (rest : List ℕ)
+        → IsCut first all rest → length first < most_taken → (Rose (K.faults disk) (K.faults result.1) → ⊥)
+        → (Rose (I.faults input.old) (I.faults input.new) → ⊥) → (Rose (O.faults output.old) (O.faults output.new) → ⊥)
+        → EndsAs rest result.0) }
     ensures ended { Ended K.honest K.faults I.faults O.faults disk result.1 input.old input.new output.old output.new result.0 }
     ensures read_later { I.faults input.old ≤ I.faults input.new }
     ensures write_later { O.faults output.old ≤ O.faults output.new }
+    ensures nothing { result.0 ≡ Status.NoMemory → (input.new ≡ input.old) × (output.new ≡ output.old) }
 {
     match open_site(alloc, keys, limits, own) {
         Ok(site) => run_durable(alloc, site, disk, MOST_TRAIL, input, output),
