@@ -7,3 +7,4 @@ mod Outcomes
 mod Turning
 mod Running
 mod Sites
+pub mod Stores

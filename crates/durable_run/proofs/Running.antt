@@ -42,13 +42,13 @@ number ReadFault = 2
 number WriteFault = 3
 number _ = 0
 
-other_fault : DiskFault ≡ ReadFault → ⊥
+pub other_fault : DiskFault ≡ ReadFault → ⊥
 other_fault e = let n : 1 ≡ 2 = ap number e in omega (arith, n)
 
-another_fault : DiskFault ≡ WriteFault → ⊥
+pub another_fault : DiskFault ≡ WriteFault → ⊥
 another_fault e = let n : 1 ≡ 3 = ap number e in omega (arith, n)
 
-memory_no_disk : NoMemory ≡ DiskFault → ⊥
+pub memory_no_disk : NoMemory ≡ DiskFault → ⊥
 memory_no_disk e = let n : 0 ≡ 1 = ap number e in omega (arith, n)
 
 memory_no_read : NoMemory ≡ ReadFault → ⊥

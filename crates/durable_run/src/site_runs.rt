@@ -20,11 +20,8 @@ use std::hash::RandomState;
 use tardis_base::{Limits, NoMemory};
 use tardis_io::{Sink, Source, Status};
 
-/// The most bytes that the journal of a site may have: 1 GiB.
-const MOST_TRAIL: u64 = 1_073_741_824;
-
 /// Runs the site of this number, with these limits, over the journal on a disk, which comes back with the status. The journal may
-/// have at most a gibibyte. Keys are found by hashing with this seed.
+/// have at most as many bytes as its limits allow a trail. Keys are found by hashing with this seed.
 pub fn run_site_on<K: Disk, I: Source, O: Sink>(
     alloc: Global,
     keys: RandomState,
@@ -38,7 +35,7 @@ pub fn run_site_on<K: Disk, I: Source, O: Sink>(
     requires first { 1 ≤ own }
     requires last { own ≤ limits.sites }
     ensures outcome { NotOpened site_machine K.honest K.reads K.may_leave K.moment K.left_since I.left O.given result.0 disk result.1 input.old input.new output.old output.new
-        ⊎ RanOn site_machine K.honest K.reads K.may_leave K.moment K.left_since I.left O.given (opening limits own) 1073741824 result.0 disk result.1 input.old input.new output.old output.new }
+        ⊎ RanOn site_machine K.honest K.reads K.may_leave K.moment K.left_since I.left O.given (opening limits own) limits.max_trail result.0 disk result.1 input.old input.new output.old output.new }
     ensures exact { WhileTold (I.left input.old) (I.left input.new) (λ first left. (all : List (List ℕ)) (rest : List ℕ)
         → IsCut first all rest → length first < most_taken → (Rose (K.faults disk) (K.faults result.1) → ⊥)
         → (Rose (I.faults input.old) (I.faults input.new) → ⊥) → (Rose (O.faults output.old) (O.faults output.new) → ⊥)
@@ -49,7 +46,7 @@ pub fn run_site_on<K: Disk, I: Source, O: Sink>(
     ensures nothing { result.0 ≡ Status.NoMemory → (input.new ≡ input.old) × (output.new ≡ output.old) }
 {
     match open_site(alloc, keys, limits, own) {
-        Ok(site) => run_durable(alloc, site, disk, MOST_TRAIL, input, output),
+        Ok(site) => run_durable(alloc, site, disk, limits.max_trail, input, output),
         Err(NoMemory) => (Status::NoMemory, disk),
     }
 }

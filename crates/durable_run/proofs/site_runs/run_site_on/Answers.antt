@@ -10,7 +10,7 @@ pub returns-in-Ok-clause-outcome : goal.returns-in-Ok-clause-outcome
 returns-in-Ok-clause-outcome g c =
     let K = g.K.Disk in
     subst (λ s. NotOpened site_machine K.honest K.reads K.may_leave K.moment K.left_since g.I.Source.left g.O.Sink.given c.run_durable.result.0 c.args.disk c.run_durable.result.1 c.args.input.now c.run_durable.new.input c.args.output.now c.run_durable.new.output
-    ⊎ RanOn site_machine K.honest K.reads K.may_leave K.moment K.left_since g.I.Source.left g.O.Sink.given s 1073741824 c.run_durable.result.0 c.args.disk c.run_durable.result.1 c.args.input.now c.run_durable.new.input c.args.output.now c.run_durable.new.output)
+    ⊎ RanOn site_machine K.honest K.reads K.may_leave K.moment K.left_since g.I.Source.left g.O.Sink.given s c.args.limits.max_trail c.run_durable.result.0 c.args.disk c.run_durable.result.1 c.args.input.now c.run_durable.new.input c.args.output.now c.run_durable.new.output)
     c.in-Ok.ensures.opened c.run_durable.ensures.outcome
 
 pub returns-in-Err-clause-outcome : goal.returns-in-Err-clause-outcome
