@@ -97,10 +97,7 @@ module _ {S K I O : Type 0} (honest : K → Type 0) (reads : K → List ℕ) (ma
     nothing = nothing;
   }
 
--- a device's count, where it was left alone or ran on
-pub caused : (fault status : Status) (before now : ℕ) → before ≤ now → (status ≡ fault → Rose before now) → CausedBy fault before now status
-caused fault status before now later cause = record { later = later; cause = cause }
-
+-- what wasn't read or written counted nothing
 pub unread : (n : ℕ) → CausedBy ReadFault n n DiskFault
 unread n = record { later = omega arith; cause = λ e. absurd (other_fault e) }
 
