@@ -6,3 +6,5 @@ mod Bodies
 mod Outcomes
 mod Turning
 mod Running
+mod Sites
+pub mod Stores

@@ -21,7 +21,7 @@ use Rattle.durable_run.specs.Replies.{HasFront}
 use Rattle.durable_run.specs.Groups.{Start, Grouping}
 use Rattle.durable_run.specs.Ends.{Durable, NotOpened}
 use Rattle.durable_run.specs.Turns.{EndsSo, Went, Ended}
-use Rattle.durable_run.proofs.Bodies.{rose_earlier, went_then}
+use Rattle.durable_run.proofs.Bodies.{rose_earlier, went_then, went_same}
 use Rattle.durable_run.proofs.Moments.{front_found, mends_weaker}
 use Rattle.durable_run.proofs.Outcomes.{ends_as}
 
@@ -42,13 +42,13 @@ number ReadFault = 2
 number WriteFault = 3
 number _ = 0
 
-other_fault : DiskFault ≡ ReadFault → ⊥
+pub other_fault : DiskFault ≡ ReadFault → ⊥
 other_fault e = let n : 1 ≡ 2 = ap number e in omega (arith, n)
 
-another_fault : DiskFault ≡ WriteFault → ⊥
+pub another_fault : DiskFault ≡ WriteFault → ⊥
 another_fault e = let n : 1 ≡ 3 = ap number e in omega (arith, n)
 
-memory_no_disk : NoMemory ≡ DiskFault → ⊥
+pub memory_no_disk : NoMemory ≡ DiskFault → ⊥
 memory_no_disk e = let n : 0 ≡ 1 = ap number e in omega (arith, n)
 
 memory_no_read : NoMemory ≡ ReadFault → ⊥
@@ -163,4 +163,13 @@ module _ {M S K : Type 0} (plain : PlainMachine S) (stands : M → S → Type 0)
     disk_rose = λ s. rose_earlier (faults disk) (faults mid) (faults now) later (e.disk_rose s);
     read_rose = e.read_rose;
     write_rose = e.write_rose;
+  }
+
+  pub ended_none : {I O : Type 0} (faults : K → ℕ) (takes : I → ℕ) (gives : O → ℕ) (disk : K) (i : I) (o : O) → Ended honest faults takes gives disk disk i i o o NoMemory
+  ended_none faults takes gives disk i o = record {
+    end = tt;
+    went = went_same honest faults disk;
+    disk_rose = λ e. absurd (memory_no_disk e);
+    read_rose = λ e. absurd (memory_no_read e);
+    write_rose = λ e. absurd (memory_no_write e);
   }

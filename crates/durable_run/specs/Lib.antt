@@ -4,3 +4,4 @@ pub mod Groups
 pub mod Ends
 pub mod Buffering
 pub mod Turns
+pub mod Commands

@@ -3,8 +3,12 @@
 #![tactic(auto)]
 
 mod buffers;
+mod commands;
 mod groups;
 mod pieces;
 mod runs;
+mod site_runs;
 
+pub use commands::durable;
 pub use runs::run_durable;
+pub use site_runs::run_site_on;

@@ -1,0 +1,8 @@
+use Rattle.durable_run.proofs.Sites.{may_stand, may_open}
+use Rattle.durable_run.proofs.site_runs.open_site.Goals as goal
+
+pub returns-clause-stands : goal.returns-clause-stands
+returns-clause-stands c = may_stand c.new.result c.args.limits c.args.own c.new.ensures.stands c.new.ensures.sound
+
+pub returns-clause-opened : goal.returns-clause-opened
+returns-clause-opened c = may_open c.new.result c.args.limits c.args.own c.new.ensures.stands

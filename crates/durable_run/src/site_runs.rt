@@ -1,0 +1,68 @@
+//! A durable run of a site.
+
+ghost use Rattle.std.specs.Prelude.{◌≡◌, ◌<◌, ◌≤◌, ◌⊎◌, ℕ, List, length, IsTrue, IfOk};
+ghost use Rattle.tardis_base.specs.Valid.{are_limits};
+ghost use Rattle.tardis_io.specs.Told.{WhileTold};
+ghost use Rattle.tardis_io.specs.Faults.{Rose};
+ghost use Rattle.frame_cut.specs.Frames.{IsCut};
+ghost use Rattle.site_run.specs.Endings.{EndsAs, most_taken};
+ghost use Rattle.plain_site.specs.Site.{opening};
+ghost use Rattle.plain_site.specs.Step.{site_machine};
+ghost use Rattle.session_core.specs.Machine.{SiteStands, opened_with};
+ghost use Rattle.durable_run.specs.Ends.{RanOn, NotOpened};
+ghost use Rattle.durable_run.specs.Turns.{Ended};
+
+use crate::runs::run_durable;
+use disk_store::Disk;
+use session_core::SiteCore;
+use std::alloc::Global;
+use std::hash::RandomState;
+use tardis_base::{Limits, NoMemory};
+use tardis_io::{Sink, Source, Status};
+
+/// Runs the site of this number, with these limits, over the journal on a disk, which comes back with the status. The journal may
+/// have at most as many bytes as its limits allow a trail. Keys are found by hashing with this seed.
+pub fn run_site_on<K: Disk, I: Source, O: Sink>(
+    alloc: Global,
+    keys: RandomState,
+    limits: Limits,
+    own: u16,
+    disk: K,
+    input: &mut I,
+    output: &mut O,
+) -> (Status, K)
+    requires limits { IsTrue (are_limits limits) }
+    requires first { 1 ≤ own }
+    requires last { own ≤ limits.sites }
+    ensures outcome { NotOpened site_machine K.honest K.reads K.may_leave K.moment K.left_since I.left O.given result.0 disk result.1 input.old input.new output.old output.new
+        ⊎ RanOn site_machine K.honest K.reads K.may_leave K.moment K.left_since I.left O.given (opening limits own) limits.max_trail result.0 disk result.1 input.old input.new output.old output.new }
+    ensures exact { WhileTold (I.left input.old) (I.left input.new) (λ first left. (all : List (List ℕ)) (rest : List ℕ)
+        → IsCut first all rest → length first < most_taken → (Rose (K.faults disk) (K.faults result.1) → ⊥)
+        → (Rose (I.faults input.old) (I.faults input.new) → ⊥) → (Rose (O.faults output.old) (O.faults output.new) → ⊥)
+        → EndsAs rest result.0) }
+    ensures ended { Ended K.honest K.faults I.faults O.faults disk result.1 input.old input.new output.old output.new result.0 }
+    ensures read_later { I.faults input.old ≤ I.faults input.new }
+    ensures write_later { O.faults output.old ≤ O.faults output.new }
+    ensures nothing { result.0 ≡ Status.NoMemory → (input.new ≡ input.old) × (output.new ≡ output.old) }
+{
+    match open_site(alloc, keys, limits, own) {
+        Ok(site) => run_durable(alloc, site, disk, limits.max_trail, input, output),
+        Err(NoMemory) => (Status::NoMemory, disk),
+    }
+}
+
+/// The site of this number, with these limits, which opens.
+pub(crate) fn open_site(
+    alloc: Global,
+    keys: RandomState,
+    limits: Limits,
+    own: u16,
+) -> Result<SiteCore, NoMemory>
+    requires limits { IsTrue (are_limits limits) }
+    requires first { 1 ≤ own }
+    requires last { own ≤ limits.sites }
+    ensures stands { IfOk result (λ core. SiteStands core (opened_with core)) }
+    ensures opened { IfOk result (λ core. opened_with core ≡ opening limits own) }
+{
+    SiteCore::new(alloc, keys, limits, own)
+}
