@@ -1,4 +1,4 @@
-//! The program: makes the real input, output, gate and dial, hands them to `tardis_main`, and tells how it ended.
+//! The program: makes the real input, output, gate, dial and store, hands them to `tardis_main`, and tells how it ended.
 //!
 //! The commands and the statuses are stated in `docs/COMMANDS.md`.
 #![tactic(auto)]
@@ -9,11 +9,12 @@ ghost use Rattle.tardis_io.specs.Statuses.{status_number};
 
 mod gates;
 
+use disk_forms::FileStore;
 use gates::{TellingDial, TellingGate};
 use socket_links::{SocketDial, SocketGate};
 use std::alloc::Global;
 use std::env::{self, Args};
-use std::fs::Files;
+use std::fs::{File, Files};
 use std::hash::RandomState;
 use std::io::{self, Eprint};
 use std::net::{Net, TcpListener, TcpStream};
@@ -61,13 +62,19 @@ fn run<R>(
     output: StdOut,
 ) -> Status
 where
-    R: Threads + Wait + Sync + Files + Net<Listener = TcpListener, Stream = TcpStream> + Eprint,
+    R: Threads
+        + Wait
+        + Sync
+        + Files<File = File>
+        + Net<Listener = TcpListener, Stream = TcpStream>
+        + Eprint,
 {
     let (mut input, mut output) = (input, output);
     match given {
         Ok(Given { args, keys }) => {
             let mut gate = TellingGate::new(rt, SocketGate::new(rt));
             let mut dial = TellingDial::new(rt, SocketDial::new(rt));
+            let mut store = FileStore::new(rt);
             carry_out(
                 alloc,
                 rt,
@@ -77,6 +84,7 @@ where
                 &mut output,
                 &mut gate,
                 &mut dial,
+                &mut store,
             )
         }
         Err(status) => status,

@@ -20,10 +20,12 @@ use Rattle.export_run.specs.Exporting.{ExportOutcome, ExportEndsAs, IsExportEnd}
 use Rattle.frame_cut.specs.Frames.{IsCut}
 use Rattle.site_run.specs.Endings.{most_taken}
 use Rattle.plain_site.specs.Sound.{IsSound}
+use Rattle.disk_store.specs.Stores.{ToldStore}
+use Rattle.durable_run.specs.Commands.{DurableEnds}
 use Rattle.auto_run.specs.Outcomes.{AutoFrom}
 use Rattle.site_commands.specs.Runs.{RunFrom, ShellFrom, AuditFrom}
 use Rattle.site_commands.specs.Ends.{UnlessFaulty, FramesEnd, LinesEnd, ServerEnds}
-use Rattle.tardis_main.specs.Words.{AreRun, AreShell, AreAudit, AreWorld, AreLoad, AreServe, AreAuto, AreExport, AreImport}
+use Rattle.tardis_main.specs.Words.{AreRun, AreShell, AreAudit, AreWorld, AreLoad, AreServe, AreAuto, AreExport, AreImport, AreDurable}
 
 -- the plain site that opens at this place, with the program's limits
 abbrev pub site_at : Place → Site
@@ -98,3 +100,14 @@ module _ {L G X D O : Type 0} (link_left link_given : L → Option (List ℕ)) (
   Serves = (plan : Serving) → AreServe words plan
       → ServerEnds link_left link_given link_takes link_gives told gates peer_left peer_given peer_takes peer_gives dial_told dials given writes old new d e before after
       (site_at plan.place) (program_limits plan.place.sites).max_trail (work_of plan) status
+
+module _ {I O K S : Type 0} (left : I → Option (List ℕ)) (reads : I → ℕ) (given : O → Option (List ℕ)) (writes : O → ℕ)
+    (honest : K → Type 0) (shows : K → List ℕ) (may_leave : K → List ℕ → Type 0) (moment : K → ℕ) (left_since : K → ℕ → List ℕ → Type 0)
+    (opens_honest : S → Type 0) (told : S → Option (ToldStore K)) (faults : S → ℕ) (store store_now : S)
+    (old new : I) (before after : O) (words : List (List ℕ)) (status : Status) where
+  -- words of `durable`: frames are answered by the site of their place, which opens and then answered the entries of the journal
+  -- on the disk at their path; a reply is written once its entry is on the disk
+  abbrev pub Durables : Type 0
+  Durables = (place : Place) (path : List ℕ) → AreDurable words place path
+      → DurableEnds honest shows may_leave moment left_since opens_honest told faults left reads given writes store store_now old new before after
+      (site_at place) (program_limits place.sites).max_trail status

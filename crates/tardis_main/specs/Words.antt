@@ -4,7 +4,6 @@ use Rattle.command_words.specs.declared.commands.Place.{Place}
 use Rattle.command_words.specs.Forms.{Form, form, AsRun, AsShell, AsAudit, AsWorld, AsServe, AsLoad, AsAuto, AsDurable, AsExport, AsImport, Serving}
 use Rattle.tardis_base.specs.declared.ids.StateId.{StateId}
 use Rattle.rule_list.specs.declared.rules.PrefixRule.{PrefixRule}
-use Rattle.command_words.specs.Readings.{IsCopied}
 
 -- the words are a form of `run` at this place
 abbrev pub AreRun : List (List ℕ) → Place → Type 0
@@ -42,23 +41,10 @@ AreExport words place state = form words ≡ Some (AsExport place state)
 abbrev pub AreImport : List (List ℕ) → Type 0
 AreImport words = form words ≡ Some AsImport
 
--- the words have a form whose texts are copied, which takes memory
-abbrev pub MayLackMemory : List (List ℕ) → Type 0
-MayLackMemory words = (said : Form) × ((form words ≡ Some said) × IsCopied said)
+-- the words are a form of `durable` at this place, with this path
+abbrev pub AreDurable : List (List ℕ) → Place → List ℕ → Type 0
+AreDurable words place path = form words ≡ Some (AsDurable place path)
 
--- which forms are carried out; the others aren't built yet
-abbrev pub IsBuilt : Form → Type 0
-IsBuilt (AsRun place) = Unit {0}
-IsBuilt (AsShell place) = Unit {0}
-IsBuilt (AsAudit place) = Unit {0}
-IsBuilt (AsWorld sites) = Unit {0}
-IsBuilt (AsServe plan) = Unit {0}
-IsBuilt (AsLoad start steps) = Unit {0}
-IsBuilt (AsAuto place rules) = Unit {0}
-IsBuilt (AsDurable place path) = ⊥
-IsBuilt (AsExport place state) = Unit {0}
-IsBuilt AsImport = Unit {0}
-
--- the words are no command that is carried out: they have no form, or one that isn't built yet
+-- the words have no form
 abbrev pub AreUnknown : List (List ℕ) → Type 0
-AreUnknown words = (f : Form) → form words ≡ Some f → IsBuilt f → ⊥
+AreUnknown words = (f : Form) → form words ≡ Some f → ⊥

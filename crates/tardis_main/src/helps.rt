@@ -48,6 +48,9 @@ usage: tardis shell [--sites M] [--site N]
        tardis auto --rules RULES [--sites M] [--site N]
                           as shell, with a line N auto, which merges two branches by
                           rules for keys by their prefixes (docs/RULES.md)
+       tardis durable --file PATH [--sites M] [--site N]
+                          as run, with a journal in the file: each reply is written
+                          once its request is on the disk (docs/DURABLE.md)
        tardis export --at ID [--sites M] [--site N]
                           read frames as run does, and then write what the state of
                           this id holds, key by key
@@ -56,7 +59,7 @@ usage: tardis shell [--sites M] [--site N]
        tardis --help      this text
        tardis --version   the version
 
-Shell, run, audit, serve, auto and export answer as site N, from 1 to M, of M sites, from 1 to 16;
+Shell, run, audit, serve, auto, durable and export answer as site N, from 1 to M, of M sites, from 1 to 16;
 both are 1 where they are left out. Try: printf '1 open\\n1 begin any\\n1 put cart milk\\n' | tardis shell
 
 Lines and frames are described in docs/FORMATS.md, the commands, with a session of

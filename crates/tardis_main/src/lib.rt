@@ -3,12 +3,14 @@
 //! The commands and the statuses are stated in `docs/COMMANDS.md`.
 #![tactic(auto)]
 
-ghost use Rattle.std.specs.Prelude.{◌≡◌, ◌⊎◌, map};
+ghost use Rattle.std.specs.Prelude.{◌≡◌, List, ℕ, map};
 ghost use Rattle.std.specs.String.{string_bytes};
+ghost use Rattle.command_words.specs.declared.commands.Place.{Place};
 ghost use Rattle.command_words.specs.Forms.{Serving};
 ghost use Rattle.site_commands.specs.Ends.{CausedBy};
-ghost use Rattle.tardis_main.specs.Words.{AreServe, AreUnknown, MayLackMemory};
-ghost use Rattle.tardis_main.specs.Program.{Audits, Autos, Exports, Imports, Loads, Runs, Serves, Shells, Worlds};
+ghost use Rattle.durable_run.specs.Commands.{CausedByStore};
+ghost use Rattle.tardis_main.specs.Words.{AreDurable, AreServe, AreUnknown};
+ghost use Rattle.tardis_main.specs.Program.{Audits, Autos, Durables, Exports, Imports, Loads, Runs, Serves, Shells, Worlds};
 
 mod helps;
 mod laws;
@@ -18,6 +20,8 @@ mod programs;
 use auto_run::auto;
 use branch_export::run_import;
 use command_words::{Command, WordsFault, commands_are_at_a_site, read_words};
+use disk_store::Store;
+use durable_run::durable;
 use export_run::export;
 pub use helps::{Help, help_of};
 pub use laws::replies_have_lines;
@@ -32,12 +36,12 @@ use std::thread::Threads;
 use tardis_io::{Dial, Gate, Sink, Source, Status};
 use world_core::run_world;
 
-/// Carries out the command that the words name, at the place among the sites that they name. Words without a form, and
-/// those of what isn't built yet, are `Status::Usage`, or perhaps `Status::NoMemory` where their texts would be copied; then
-/// nothing is read, written or listened to.
+/// Carries out the command that the words name, at the place among the sites that they name. Words without a form
+/// are `Status::Usage`; then nothing is read, written, listened to, called or opened.
 ///
-/// Keys are found by hashing with this seed. Only `serve` starts threads and waits, and only it uses the gate and the dial.
-pub fn tardis<I: Source, O: Sink, G: Gate, D: Dial + Send, R: Threads + Wait + Sync>(
+/// Keys are found by hashing with this seed. Only `serve` starts threads and waits, and only it uses the gate and the dial. Only
+/// `durable` uses the store.
+pub fn tardis<I: Source, O: Sink, G: Gate, D: Dial + Send, S: Store, R: Threads + Wait + Sync>(
     alloc: Global,
     rt: &R,
     keys: RandomState,
@@ -46,11 +50,11 @@ pub fn tardis<I: Source, O: Sink, G: Gate, D: Dial + Send, R: Threads + Wait + S
     output: &mut O,
     gate: &mut G,
     dial: &mut D,
+    store: &mut S,
 ) -> Status
     ensures usage { result ≡ Status.Usage → AreUnknown (map (λ w. string_bytes w) words.now) }
-    ensures unknown { AreUnknown (map (λ w. string_bytes w) words.now)
-        → ((result ≡ Status.Usage) ⊎ ((result ≡ Status.NoMemory) × MayLackMemory (map (λ w. string_bytes w) words.now)))
-        × (input.new ≡ input.old) × (output.new ≡ output.old) × (gate.new ≡ gate.old) × (dial.new ≡ dial.old) }
+    ensures unknown { AreUnknown (map (λ w. string_bytes w) words.now) → (result ≡ Status.Usage)
+        × (input.new ≡ input.old) × (output.new ≡ output.old) × (gate.new ≡ gate.old) × (dial.new ≡ dial.old) × (store.new ≡ store.old) }
     ensures run { Runs I.left I.faults O.given O.faults input.old input.new output.old output.new (map (λ w. string_bytes w) words.now) result }
     ensures shell { Shells I.left I.faults O.given O.faults input.old input.new output.old output.new (map (λ w. string_bytes w) words.now) result }
     ensures audit { Audits I.left I.faults O.given O.faults input.old input.new output.old output.new (map (λ w. string_bytes w) words.now) result }
@@ -62,12 +66,16 @@ pub fn tardis<I: Source, O: Sink, G: Gate, D: Dial + Send, R: Threads + Wait + S
     ensures serve { Serves G.Link.left G.Link.given G.Link.take_faults G.Link.faults G.told G.faults
         D.Link.left D.Link.given D.Link.take_faults D.Link.faults D.told D.faults O.given O.faults gate.old gate.new dial.old dial.new output.old output.new
         (map (λ w. string_bytes w) words.now) result }
+    ensures durable { Durables I.left I.faults O.given O.faults S.Disk.honest S.Disk.reads S.Disk.may_leave S.Disk.moment S.Disk.left_since S.honest S.told S.faults
+        store.old store.new input.old input.new output.old output.new (map (λ w. string_bytes w) words.now) result }
     ensures unread { (plan : Serving) → AreServe (map (λ w. string_bytes w) words.now) plan → input.new ≡ input.old }
     ensures unbound { ((plan : Serving) → AreServe (map (λ w. string_bytes w) words.now) plan → ⊥) → (gate.new ≡ gate.old) × (dial.new ≡ dial.old) }
+    ensures unstored { ((place : Place) (path : List ℕ) → AreDurable (map (λ w. string_bytes w) words.now) place path → ⊥) → store.new ≡ store.old }
     ensures read { CausedBy Status.ReadFault (I.faults input.old) (I.faults input.new) result }
     ensures write { CausedBy Status.WriteFault (O.faults output.old) (O.faults output.new) result }
     ensures gate { CausedBy Status.GateFault (G.faults gate.old) (G.faults gate.new) result }
     ensures dial { CausedBy Status.DialFault (D.faults dial.old) (D.faults dial.new) result }
+    ensures disk { CausedByStore (S.faults store.old) (S.faults store.new) result }
 {
     match read_words(alloc, words) {
         Ok(Command::Run(place)) => run(alloc, keys, place.limits(), place.site, input, output),
@@ -104,8 +112,17 @@ pub fn tardis<I: Source, O: Sink, G: Gate, D: Dial + Send, R: Threads + Wait + S
             output,
         ),
         Ok(Command::Import) => run_import(alloc, input, output),
-        // a site with a journal isn't built yet
-        Ok(Command::Durable { .. }) | Err(WordsFault::Usage) => Status::Usage,
+        Ok(Command::Durable { place, path }) => durable(
+            alloc,
+            keys,
+            place.limits(),
+            place.site,
+            path.as_str(),
+            store,
+            input,
+            output,
+        ),
+        Err(WordsFault::Usage) => Status::Usage,
         Err(WordsFault::NoMemory) => {
             commands_are_at_a_site();
             Status::NoMemory

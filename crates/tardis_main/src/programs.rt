@@ -1,18 +1,21 @@
 //! The program over its arguments, its input and its output.
 
-ghost use Rattle.std.specs.Prelude.{◌≡◌, ◌≤◌, ◌⊎◌, map, drop, IfOk};
+ghost use Rattle.std.specs.Prelude.{◌≡◌, ◌≤◌, ◌⊎◌, List, ℕ, map, drop, IfOk};
 ghost use Rattle.std.specs.String.{string_bytes};
 ghost use Rattle.std.specs.Vec.Iter.{into_iter_items};
 ghost use Rattle.tardis_io.specs.Faults.{Rose};
+ghost use Rattle.command_words.specs.declared.commands.Place.{Place};
 ghost use Rattle.command_words.specs.Forms.{Serving};
 ghost use Rattle.site_commands.specs.Ends.{CausedBy};
+ghost use Rattle.durable_run.specs.Commands.{CausedByStore};
 ghost use Rattle.tardis_main.specs.Helps.{AreNone, AskUsage, AskVersion};
-ghost use Rattle.tardis_main.specs.Words.{AreServe};
-ghost use Rattle.tardis_main.specs.Program.{Audits, Autos, Exports, Imports, Loads, Runs, Serves, Shells, Worlds};
+ghost use Rattle.tardis_main.specs.Words.{AreDurable, AreServe};
+ghost use Rattle.tardis_main.specs.Program.{Audits, Autos, Durables, Exports, Imports, Loads, Runs, Serves, Shells, Worlds};
 
 use crate::helps::{Help, help_of};
 use crate::tardis;
 use command_words::commands_are_at_a_site;
+use disk_store::Store;
 use std::alloc::Global;
 use std::env::Args;
 use std::hash::RandomState;
@@ -23,7 +26,7 @@ use tardis_io::{Dial, Gate, Sink, Source, Status, WriteFault, write_all};
 
 /// Carries out the command that a program's arguments name, of which the first is the program's name: it tells of itself
 /// for `--help` and `--version`, and is `tardis` for other words.
-pub fn carry_out<I: Source, O: Sink, G: Gate, D: Dial + Send, R: Threads + Wait + Sync>(
+pub fn carry_out<I: Source, O: Sink, G: Gate, D: Dial + Send, S: Store, R: Threads + Wait + Sync>(
     alloc: Global,
     rt: &R,
     keys: RandomState,
@@ -32,10 +35,11 @@ pub fn carry_out<I: Source, O: Sink, G: Gate, D: Dial + Send, R: Threads + Wait 
     output: &mut O,
     gate: &mut G,
     dial: &mut D,
+    store: &mut S,
 ) -> Status
     ensures usage { result ≡ Status.Usage → AreNone (map (λ w. string_bytes w) (drop 1 (into_iter_items args))) }
     ensures none { AreNone (map (λ w. string_bytes w) (drop 1 (into_iter_items args)))
-        → ((result ≡ Status.Usage) ⊎ (result ≡ Status.NoMemory)) × (input.new ≡ input.old) × (output.new ≡ output.old) × (gate.new ≡ gate.old) × (dial.new ≡ dial.old) }
+        → ((result ≡ Status.Usage) ⊎ (result ≡ Status.NoMemory)) × (input.new ≡ input.old) × (output.new ≡ output.old) × (gate.new ≡ gate.old) × (dial.new ≡ dial.old) × (store.new ≡ store.old) }
     ensures help { AskUsage (map (λ w. string_bytes w) (drop 1 (into_iter_items args))) ⊎ AskVersion (map (λ w. string_bytes w) (drop 1 (into_iter_items args)))
         → ((result ≡ Status.Ok) ⊎ ((result ≡ Status.WriteFault) ⊎ ((result ≡ Status.NoMemory) × (output.new ≡ output.old)))) × (input.new ≡ input.old) }
     ensures run { Runs I.left I.faults O.given O.faults input.old input.new output.old output.new
@@ -57,15 +61,29 @@ pub fn carry_out<I: Source, O: Sink, G: Gate, D: Dial + Send, R: Threads + Wait 
     ensures serve { Serves G.Link.left G.Link.given G.Link.take_faults G.Link.faults G.told G.faults
         D.Link.left D.Link.given D.Link.take_faults D.Link.faults D.told D.faults O.given O.faults gate.old gate.new dial.old dial.new output.old output.new
         (map (λ w. string_bytes w) (drop 1 (into_iter_items args))) result }
+    ensures durable { Durables I.left I.faults O.given O.faults S.Disk.honest S.Disk.reads S.Disk.may_leave S.Disk.moment S.Disk.left_since S.honest S.told S.faults
+        store.old store.new input.old input.new output.old output.new (map (λ w. string_bytes w) (drop 1 (into_iter_items args))) result }
+    ensures unstored { ((place : Place) (path : List ℕ) → AreDurable (map (λ w. string_bytes w) (drop 1 (into_iter_items args))) place path → ⊥) → store.new ≡ store.old }
     ensures unread { (plan : Serving) → AreServe (map (λ w. string_bytes w) (drop 1 (into_iter_items args))) plan → input.new ≡ input.old }
     ensures unbound { ((plan : Serving) → AreServe (map (λ w. string_bytes w) (drop 1 (into_iter_items args))) plan → ⊥) → (gate.new ≡ gate.old) × (dial.new ≡ dial.old) }
     ensures read { CausedBy Status.ReadFault (I.faults input.old) (I.faults input.new) result }
     ensures write { CausedBy Status.WriteFault (O.faults output.old) (O.faults output.new) result }
     ensures gate { CausedBy Status.GateFault (G.faults gate.old) (G.faults gate.new) result }
     ensures dial { CausedBy Status.DialFault (D.faults dial.old) (D.faults dial.new) result }
+    ensures disk { CausedByStore (S.faults store.old) (S.faults store.new) result }
 {
     match words_behind_name(alloc, args) {
-        Ok(words) => command(alloc, rt, keys, words.as_slice(), input, output, gate, dial),
+        Ok(words) => command(
+            alloc,
+            rt,
+            keys,
+            words.as_slice(),
+            input,
+            output,
+            gate,
+            dial,
+            store,
+        ),
         Err(NoMemory) => {
             commands_are_at_a_site();
             Status::NoMemory
@@ -90,7 +108,7 @@ fn words_behind_name(alloc: Global, args: Args) -> Result<Vec<String>, NoMemory>
 }
 
 /// Carries out the command that the words name.
-fn command<I: Source, O: Sink, G: Gate, D: Dial + Send, R: Threads + Wait + Sync>(
+fn command<I: Source, O: Sink, G: Gate, D: Dial + Send, S: Store, R: Threads + Wait + Sync>(
     alloc: Global,
     rt: &R,
     keys: RandomState,
@@ -99,10 +117,11 @@ fn command<I: Source, O: Sink, G: Gate, D: Dial + Send, R: Threads + Wait + Sync
     output: &mut O,
     gate: &mut G,
     dial: &mut D,
+    store: &mut S,
 ) -> Status
     ensures usage { result ≡ Status.Usage → AreNone (map (λ w. string_bytes w) words.now) }
     ensures none { AreNone (map (λ w. string_bytes w) words.now)
-        → ((result ≡ Status.Usage) ⊎ (result ≡ Status.NoMemory)) × (input.new ≡ input.old) × (output.new ≡ output.old) × (gate.new ≡ gate.old) × (dial.new ≡ dial.old) }
+        → ((result ≡ Status.Usage) ⊎ (result ≡ Status.NoMemory)) × (input.new ≡ input.old) × (output.new ≡ output.old) × (gate.new ≡ gate.old) × (dial.new ≡ dial.old) × (store.new ≡ store.old) }
     ensures help { AskUsage (map (λ w. string_bytes w) words.now) ⊎ AskVersion (map (λ w. string_bytes w) words.now)
         → ((result ≡ Status.Ok) ⊎ ((result ≡ Status.WriteFault) ⊎ ((result ≡ Status.NoMemory) × (output.new ≡ output.old)))) × (input.new ≡ input.old) }
     ensures run { Runs I.left I.faults O.given O.faults input.old input.new output.old output.new
@@ -120,16 +139,20 @@ fn command<I: Source, O: Sink, G: Gate, D: Dial + Send, R: Threads + Wait + Sync
     ensures serve { Serves G.Link.left G.Link.given G.Link.take_faults G.Link.faults G.told G.faults
         D.Link.left D.Link.given D.Link.take_faults D.Link.faults D.told D.faults O.given O.faults gate.old gate.new dial.old dial.new output.old output.new
         (map (λ w. string_bytes w) words.now) result }
+    ensures durable { Durables I.left I.faults O.given O.faults S.Disk.honest S.Disk.reads S.Disk.may_leave S.Disk.moment S.Disk.left_since S.honest S.told S.faults
+        store.old store.new input.old input.new output.old output.new (map (λ w. string_bytes w) words.now) result }
+    ensures unstored { ((place : Place) (path : List ℕ) → AreDurable (map (λ w. string_bytes w) words.now) place path → ⊥) → store.new ≡ store.old }
     ensures unread { (plan : Serving) → AreServe (map (λ w. string_bytes w) words.now) plan → input.new ≡ input.old }
     ensures unbound { ((plan : Serving) → AreServe (map (λ w. string_bytes w) words.now) plan → ⊥) → (gate.new ≡ gate.old) × (dial.new ≡ dial.old) }
     ensures read { CausedBy Status.ReadFault (I.faults input.old) (I.faults input.new) result }
     ensures write { CausedBy Status.WriteFault (O.faults output.old) (O.faults output.new) result }
     ensures gate { CausedBy Status.GateFault (G.faults gate.old) (G.faults gate.new) result }
     ensures dial { CausedBy Status.DialFault (D.faults dial.old) (D.faults dial.new) result }
+    ensures disk { CausedByStore (S.faults store.old) (S.faults store.new) result }
 {
     match help_of(words) {
         Some(help) => tell(help, output),
-        None => tardis(alloc, rt, keys, words, input, output, gate, dial),
+        None => tardis(alloc, rt, keys, words, input, output, gate, dial, store),
     }
 }
 

@@ -3,7 +3,7 @@
 ghost use Rattle.std.specs.Prelude.{None};
 
 use crate::tardis;
-use crate::tests::words_of;
+use crate::tests::{a_file, words_of};
 use std::alloc::Global;
 use std::hash::RandomState;
 use std::test::Fail;
@@ -51,6 +51,7 @@ fn two_clients_are_served_beside_a_peer(rt: HostRuntime) -> Result<(), Fail> {
         let mut gate = MemoryGate::new(alloc, links, &[])?;
         let peers = vec![in alloc; link(alloc, PEER)?]?;
         let mut dial = MemoryDial::new(alloc, peers, &[])?;
+        let mut store = a_file(alloc)?;
         let mut source = MemorySource::new(alloc, b"", 9, &[])?;
         let mut sink = MemorySink::new(alloc, 1_000, 1_000, &[])?;
         let status = tardis(
@@ -62,6 +63,7 @@ fn two_clients_are_served_beside_a_peer(rt: HostRuntime) -> Result<(), Fail> {
             &mut sink,
             &mut gate,
             &mut dial,
+            &mut store,
         );
         assert_eq!(rt; status, Status::Ok);
         assert_eq!(rt; gate.back().len(), 2);
@@ -132,6 +134,7 @@ fn the_words_addresses_are_bound_and_called(rt: HostRuntime) -> Result<(), Fail>
         alloc,
         "serve --listen unix:s --links 1 --peer unix:p --peer unix:q --rounds 1",
     )?;
+    let mut store = a_file(alloc)?;
     let mut gate = NotingGate { is_bound: false };
     let mut dial = NotingDial {
         first: false,
@@ -149,6 +152,7 @@ fn the_words_addresses_are_bound_and_called(rt: HostRuntime) -> Result<(), Fail>
         &mut sink,
         &mut gate,
         &mut dial,
+        &mut store,
     );
     assert_eq!(rt; status, Status::DialFault);
     assert!(rt; gate.is_bound && dial.second);

@@ -1,4 +1,5 @@
 use crate::{Help, carry_out, tardis};
+use disk_forms::{MemoryDisk, MemoryStore};
 use std::alloc::Global;
 use std::env::Args;
 use std::hash::RandomState;
@@ -54,6 +55,11 @@ fn no_peers(alloc: Global) -> Result<MemoryDial<MemoryLink>, Fail> {
     Ok(MemoryDial::new(alloc, Vec::new(alloc), &WELL)?)
 }
 
+/// A store of an empty disk.
+pub(crate) fn a_file(alloc: Global) -> Result<MemoryStore, Fail> {
+    Ok(MemoryStore::new(MemoryDisk::new(alloc, &[], 1_000, &WELL)?))
+}
+
 /// How the command of these words ends.
 pub(crate) fn ends<I: Source, O: Sink, R: Threads + Wait + Sync>(
     alloc: Global,
@@ -65,7 +71,10 @@ pub(crate) fn ends<I: Source, O: Sink, R: Threads + Wait + Sync>(
 ) -> Result<Status, Fail> {
     let mut gate = no_links(alloc)?;
     let mut dial = no_peers(alloc)?;
-    Ok(tardis(alloc, rt, keys, words, input, output, &mut gate, &mut dial))
+    let mut store = a_file(alloc)?;
+    Ok(tardis(
+        alloc, rt, keys, words, input, output, &mut gate, &mut dial, &mut store,
+    ))
 }
 
 /// Whether `run` over this input ends so and writes that.
@@ -275,7 +284,7 @@ fn args_of(alloc: Global, line: &str) -> Result<Args, Fail> {
 #[test]
 fn a_program_is_its_words(rt: HostRuntime) -> Result<(), Fail> {
     let alloc = rt.alloc();
-    let ends: [(&str, Status, &[u8]); 11] = [
+    let ends: [(&str, Status, &[u8]); 12] = [
         ("run", Status::Ok, REPLIES),
         ("run --site 2 --sites 3", Status::Ok, REPLIES_OF_2),
         (
@@ -294,6 +303,7 @@ fn a_program_is_its_words(rt: HostRuntime) -> Result<(), Fail> {
             b"",
         ),
         ("import", Status::BadExport, b""),
+        ("durable --file carts", Status::Ok, REPLIES),
         ("auto --rules =last", Status::Ok, b"refused malformed\n"),
         ("", Status::Usage, b""),
         ("run extra", Status::Usage, b""),
@@ -307,6 +317,7 @@ fn a_program_is_its_words(rt: HostRuntime) -> Result<(), Fail> {
         let mut sink = MemorySink::new(alloc, 4_000, 65_536, &WELL)?;
         let mut gate = no_links(alloc)?;
         let mut dial = no_peers(alloc)?;
+        let mut store = a_file(alloc)?;
         let ended = carry_out(
             alloc,
             &rt,
@@ -316,6 +327,7 @@ fn a_program_is_its_words(rt: HostRuntime) -> Result<(), Fail> {
             &mut sink,
             &mut gate,
             &mut dial,
+            &mut store,
         );
         assert_eq!(rt; ended, status);
         assert!(rt; sink.bytes() == output);
@@ -327,6 +339,7 @@ fn a_program_is_its_words(rt: HostRuntime) -> Result<(), Fail> {
         "tardis audit ",
         "tardis serve ",
         "tardis auto ",
+        "tardis durable ",
         "tardis export ",
         "tardis import",
         "tardis --help ",

@@ -15,10 +15,11 @@ use Rattle.site_commands.proofs.FrameRuns.{no_run, opens}
 use Rattle.site_commands.proofs.LineRuns.{no_shell, no_audit}
 use Rattle.site_commands.proofs.NoMemory.{no_frames, no_lines}
 use Rattle.tardis_main.specs.Helps.{AreNone}
-use Rattle.tardis_main.specs.Words.{AreServe}
-use Rattle.tardis_main.specs.Program.{site_at, Autos, Exports, Imports, work_of, Runs, Shells, Audits, Worlds, Loads}
+use Rattle.tardis_main.specs.Words.{AreDurable, AreServe}
+use Rattle.tardis_main.specs.Program.{site_at, Autos, Durables, Exports, Imports, work_of, Runs, Shells, Audits, Worlds, Loads}
 use Rattle.tardis_main.proofs.WorldRuns.{no_world}
 use Rattle.tardis_main.proofs.Words.{limits_hold}
+use Rattle.durable_run.proofs.Stores.{no_durable}
 use Rattle.tardis_main.proofs.Unserved.{no_server}
 use Rattle.tardis_main.proofs.Unexported.{no_export, no_import}
 use Rattle.tardis_main.proofs.programs.carry_out.Goals as goal
@@ -60,6 +61,12 @@ returns-in-Err-clause-export g c = λ place state are.
 pub returns-in-Err-clause-import : goal.returns-in-Err-clause-import
 returns-in-Err-clause-import g c = λ are.
     no_import g.I.Source.left g.I.Source.faults g.O.Sink.given g.O.Sink.faults c.args.input.now c.args.output.now (map (λ w. string_bytes w) (drop 1 (into_iter_items c.args.args)))
+
+pub returns-in-Err-clause-durable : goal.returns-in-Err-clause-durable
+returns-in-Err-clause-durable g c = λ place path are.
+    no_durable g.S.Store.Disk.Disk.honest g.S.Store.Disk.Disk.reads g.S.Store.Disk.Disk.may_leave g.S.Store.Disk.Disk.moment g.S.Store.Disk.Disk.left_since
+    g.S.Store.honest g.S.Store.told g.S.Store.faults g.I.Source.left g.I.Source.faults g.O.Sink.given g.O.Sink.faults
+    c.args.store.now c.args.input.now c.args.output.now (site_at place) (program_limits place.sites).max_trail
 
 pub returns-in-Err-clause-world : goal.returns-in-Err-clause-world
 returns-in-Err-clause-world g c = λ sites are.
@@ -113,6 +120,18 @@ returns-in-Ok-clause-import g c =
     let words : c.as_slice.result.now ≡ drop 1 (into_iter_items c.args.args) = c.as_slice.ensures.value ∙ c.in-Ok.ensures in
     subst (λ ws. Imports g.I.Source.left g.I.Source.faults g.O.Sink.given g.O.Sink.faults c.args.input.now c.command.new.input c.args.output.now c.command.new.output (map (λ w. string_bytes w) ws) c.command.result)
     words c.command.ensures.import
+
+pub returns-in-Ok-clause-durable : goal.returns-in-Ok-clause-durable
+returns-in-Ok-clause-durable g c =
+    let words : c.as_slice.result.now ≡ drop 1 (into_iter_items c.args.args) = c.as_slice.ensures.value ∙ c.in-Ok.ensures in
+    subst (λ ws. Durables g.I.Source.left g.I.Source.faults g.O.Sink.given g.O.Sink.faults g.S.Store.Disk.Disk.honest g.S.Store.Disk.Disk.reads g.S.Store.Disk.Disk.may_leave g.S.Store.Disk.Disk.moment g.S.Store.Disk.Disk.left_since
+    g.S.Store.honest g.S.Store.told g.S.Store.faults c.args.store.now c.command.new.store c.args.input.now c.command.new.input c.args.output.now c.command.new.output (map (λ w. string_bytes w) ws) c.command.result)
+    words c.command.ensures.durable
+
+pub returns-in-Ok-clause-unstored : goal.returns-in-Ok-clause-unstored
+returns-in-Ok-clause-unstored g c = λ others.
+    let words : c.as_slice.result.now ≡ drop 1 (into_iter_items c.args.args) = c.as_slice.ensures.value ∙ c.in-Ok.ensures in
+    c.command.ensures.unstored (λ place path are. others place path (subst (λ ws. AreDurable (map (λ w. string_bytes w) ws) place path) words are))
 
 pub returns-in-Ok-clause-world : goal.returns-in-Ok-clause-world
 returns-in-Ok-clause-world g c =
