@@ -1,14 +1,13 @@
 -- Bodies that are cut and answered, and what a disk and a sink counted meanwhile.
-use Rattle.std.proofs.Common.{◌≡◌, ◌⊎◌, inl, inr, ⊎_elim, ℕ, ◌+◌, ◌≤◌, ◌<◌, length, take, drop, List, [], ◌∷◌, ◌++◌, refl, sym, ap, ◌∙◌, subst, arith, append_assoc}
+use Rattle.std.proofs.Common.{◌≡◌, inl, inr, ℕ, ◌+◌, ◌≤◌, length, take, drop, List, [], ◌∷◌, ◌++◌, refl, sym, ap, ◌∙◌, subst, arith, append_assoc}
 use Rattle.std.proofs.lemmas.List.{append-nil, length-append, take_all}
 use Rattle.tardis_io.specs.Faults.{Rose}
 use Rattle.frame_cut.specs.Frames.{frame, IsBody, Cuts}
-use Rattle.frame_cut.proofs.Joins.{more_bytes, more_bodies}
+use Rattle.frame_cut.proofs.Joins.{more_bodies}
 use Rattle.frame_cut.proofs.Words.{length-frame}
-use Rattle.disk_store.specs.Disks.{AsHonest}
 use Rattle.durable_run.specs.declared.groups.Stop.{Stop}
 use Rattle.durable_run.specs.declared.groups.Stop.TheVariants.{Disk, Output}
-use Rattle.durable_run.specs.Turns.{Went, Stopped, disk_stopped}
+use Rattle.durable_run.specs.Turns.{Went, Stopped}
 
 -- a count that rose since later rose since earlier
 pub rose_earlier : (a b c : ℕ) → a ≤ b → Rose b c → Rose a c

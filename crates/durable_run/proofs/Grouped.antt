@@ -1,11 +1,10 @@
 -- Groups: a body more, and their settling.
-use Rattle.std.proofs.Common.{◌≡◌, ◌⊎◌, inl, inr, ℕ, ◌+◌, ◌≤◌, ◌<◌, length, map, Option, Result, Ok, Err, List, [], ◌∷◌, ◌++◌, refl, sym, ap, ◌∙◌, subst, arith, append_assoc}
+use Rattle.std.proofs.Common.{◌≡◌, inl, inr, ℕ, ◌+◌, ◌≤◌, ◌<◌, length, map, Option, List, [], ◌∷◌, ◌++◌, refl, sym, ap, ◌∙◌, subst, arith, append_assoc}
 use Rattle.std.proofs.lemmas.List.{append-nil}
 use Rattle.std.specs.List.{concat}
 use Rattle.tardis_base.specs.Plain.{PlainMachine, Event, state_after}
-use Rattle.tardis_io.specs.Told.{WhileTold, GivesAll}
+use Rattle.tardis_io.specs.Told.{WhileTold}
 use Rattle.tardis_io.proofs.Told.{then, weaker}
-use Rattle.tardis_io.specs.declared.faults.WriteFault.{WriteFault as NotWritten}
 use Rattle.tardis_io.specs.declared.statuses.Status.{Status}
 use Rattle.tardis_io.specs.declared.statuses.Status.TheVariants.{DiskFault, WriteFault}
 use Rattle.frame_cut.specs.Frames.{frame}
@@ -14,9 +13,9 @@ use Rattle.disk_store.specs.Disks.{AsHonest, LeavesOnly}
 use Rattle.site_journal.specs.declared.journals.Journaled.{Journaled}
 use Rattle.site_journal.specs.declared.journals.Staged.{Staged}
 use Rattle.site_journal.specs.declared.journals.Staged.TheVariants.{Done, TrailFull, NoMemory}
-use Rattle.site_journal.specs.Texts.{entry_of, marked, HasEntries, HasAllOrNone}
+use Rattle.site_journal.specs.Texts.{entry_of, marked, HasAllOrNone}
 use Rattle.site_journal.specs.Opened.{IsOpen, StagedBy, Mends}
-use Rattle.site_run.specs.Responses.{InTurn, Whole, Front}
+use Rattle.site_run.specs.Responses.{Whole, Front}
 use Rattle.site_run.specs.Endings.{shape_of}
 use Rattle.durable_run.specs.Replies.{MayReply, MayAnswer, HasFront, reply_of}
 use Rattle.durable_run.specs.Groups.{Start, Grouping}

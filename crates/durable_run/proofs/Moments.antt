@@ -1,11 +1,11 @@
 -- What a disk leaves at each moment, and the entries that an image has.
-use Rattle.std.proofs.Common.{◌≡◌, ◌⊎◌, inl, inr, ⊎_elim, ℕ, ◌≤◌, List, [], ◌∷◌, ◌++◌, refl, sym, ap, ◌∙◌, subst, arith, append_assoc}
+use Rattle.std.proofs.Common.{◌≡◌, inl, inr, ⊎_elim, ℕ, ◌≤◌, List, [], ◌∷◌, ◌++◌, refl, sym, ap, ◌∙◌, subst, arith, append_assoc}
 use Rattle.std.proofs.lemmas.List.{append-nil}
 use Rattle.std.specs.List.{AllByRecursion}
 use Rattle.frame_cut.specs.Frames.{frame}
-use Rattle.disk_store.specs.Disks.{LeavesOnly, Only}
+use Rattle.disk_store.specs.Disks.{LeavesOnly}
 use Rattle.site_journal.specs.Texts.{IsEntry, journal_text, HasEntries, HasAllOrNone}
-use Rattle.site_journal.specs.Moments.{IsAtRest, WasRead}
+use Rattle.site_journal.specs.Moments.{IsAtRest}
 use Rattle.site_journal.specs.Opened.{Mends}
 use Rattle.durable_run.specs.Replies.{HasFront}
 

@@ -1,5 +1,5 @@
 -- What a store tells of the disk of a durable run, and the faults that it counts.
-use Rattle.std.proofs.Common.{◌≡◌, ◌⊎◌, inl, inr, ⊎_elim, ℕ, ◌+◌, ◌<◌, ◌≤◌, Option, Some, None, Result, Ok, Err, List, length, refl, sym, ap, subst, arith}
+use Rattle.std.proofs.Common.{◌≡◌, ◌⊎◌, inl, inr, ⊎_elim, ℕ, ◌<◌, ◌≤◌, Option, Some, None, Ok, Err, List, length, refl, sym, ap, subst, arith}
 use Rattle.std.proofs.lemmas.Bool.{cases_lt}
 use Rattle.tardis_io.specs.declared.faults.Failed.{Failed}
 use Rattle.tardis_io.specs.declared.statuses.Status.{Status}
@@ -15,7 +15,7 @@ use Rattle.site_run.specs.Endings.{EndsAs, most_taken}
 use Rattle.site_commands.specs.Ends.{CausedBy, UnlessFaulty}
 use Rattle.durable_run.specs.Ends.{NotOpened, RanOn}
 use Rattle.durable_run.specs.Turns.{Ended}
-use Rattle.durable_run.specs.Commands.{CausedByStore, OpenedAndBack, NoDisk, RanOver, DurableEnds}
+use Rattle.durable_run.specs.Commands.{OpenedAndBack, DurableEnds}
 use Rattle.durable_run.proofs.Running.{ExactEnd, other_fault, another_fault, memory_no_disk}
 
 module _ {K : Type 0} where

@@ -1,5 +1,5 @@
 -- Pieces that are taken and answered, and how their run ends.
-use Rattle.std.proofs.Common.{◌≡◌, ◌≢◌, ℕ, ◌+◌, ◌<◌, ◌≤◌, ◌==◌, Bool, true, false, if◌then◌else◌, List, [], ◌++◌, Option, Ok, length, take, refl, sym, ap, ◌∙◌, subst, arith, append_assoc}
+use Rattle.std.proofs.Common.{◌≡◌, ℕ, ◌+◌, ◌<◌, ◌≤◌, ◌==◌, Bool, true, false, if◌then◌else◌, List, [], ◌++◌, Option, Ok, length, take, refl, sym, ap, ◌∙◌, subst, arith, append_assoc}
 use Rattle.std.proofs.lemmas.Bool.{false≢true}
 use Rattle.std.proofs.lemmas.Bool.Decides.{nat_tests}
 use Rattle.std.proofs.lemmas.List.{nil_from_length, length-append, length-take-le}
@@ -11,7 +11,7 @@ use Rattle.tardis_io.specs.declared.statuses.Status.TheVariants.{Ok as Finished,
 use Rattle.frame_cut.specs.Frames.{IsPartial, IsLong, Cuts}
 use Rattle.frame_cut.proofs.Joins.{more_bytes, more_bodies}
 use Rattle.site_journal.specs.declared.journals.Journaled.{Journaled}
-use Rattle.site_run.specs.Endings.{Ends, most_taken, shape_of}
+use Rattle.site_run.specs.Endings.{Ends, most_taken}
 use Rattle.durable_run.specs.Groups.{Start, Grouping, Taking}
 use Rattle.durable_run.specs.Ends.{as_in_midst, Durable}
 use Rattle.durable_run.specs.declared.groups.Stop.{Stop}

@@ -1,5 +1,5 @@
 -- What becomes of a group, a piece and a turn of a durable run.
-use Rattle.std.specs.Prelude.{◌≡◌, ℕ, ◌+◌, ◌≤◌, List, [], ◌++◌, length, Option}
+use Rattle.std.specs.Prelude.{◌≡◌, ℕ, ◌≤◌, List, [], Option}
 use Rattle.tardis_base.specs.Plain.{PlainMachine}
 use Rattle.tardis_io.specs.declared.statuses.Status.{Status}
 use Rattle.tardis_io.specs.declared.statuses.Status.TheVariants.{DiskFault, WriteFault, ReadFault}

@@ -1,4 +1,4 @@
-use Rattle.std.proofs.Common.{◌≡◌, ◌+◌, ◌++◌, ◌∙◌, [], ◌∷◌, length, drop, subst, sym, arith}
+use Rattle.std.proofs.Common.{◌≡◌, ◌+◌, ◌++◌, ◌∙◌, length, drop, subst, sym, arith}
 use Rattle.frame_cut.specs.Frames.{frame, Cuts}
 use Rattle.frame_cut.specs.Cuts.{Leaves}
 use Rattle.durable_run.specs.Groups.{Grouping}

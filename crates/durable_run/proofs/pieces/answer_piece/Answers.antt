@@ -1,4 +1,4 @@
-use Rattle.std.proofs.Common.{◌≡◌, ◌≤◌, ◌++◌, [], subst, sym, arith}
+use Rattle.std.proofs.Common.{◌++◌, subst, sym}
 use Rattle.frame_cut.specs.Frames.{Cuts}
 use Rattle.durable_run.specs.Groups.{Grouping}
 use Rattle.durable_run.proofs.Bodies.{went_then, stopped_later, fed_all}

@@ -1,4 +1,4 @@
-use Rattle.std.proofs.Common.{◌+◌, ◌≤◌, ◌++◌, ◌∙◌, arith}
+use Rattle.std.proofs.Common.{◌+◌, ◌≤◌, ◌++◌, arith}
 use Rattle.durable_run.proofs.Bodies.{went_then}
 use Rattle.durable_run.proofs.Turning.{turns_on, turns_end, turns_spent}
 use Rattle.durable_run.proofs.runs.answer_input.Goals as goal
