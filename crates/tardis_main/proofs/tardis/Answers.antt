@@ -85,7 +85,7 @@ pub returns-in-Ok-Import-clause-usage : goal.returns-in-Ok-Import-clause-usage
 returns-in-Ok-Import-clause-usage g c = λ is. absurd (subst IsImportEnd is c.run_import.ensures.status)
 
 pub returns-in-Ok-Import-clause-unknown : goal.returns-in-Ok-Import-clause-unknown
-returns-in-Ok-Import-clause-unknown g c = λ unknown. absurd (unknown AsImport (c.in-Ok-Import.ensures.form ∙ ap (λ command. Some (form_of command)) c.in-Ok-Import.field-0-is) tt)
+returns-in-Ok-Import-clause-unknown g c = λ unknown. absurd (unknown AsImport (c.in-Ok-Import.ensures.form ∙ ap (λ command. Some (form_of command)) c.in-Ok-Import.field-0-is))
 
 pub returns-in-Ok-Durable-clause-unknown : goal.returns-in-Ok-Durable-clause-unknown
 returns-in-Ok-Durable-clause-unknown g c = λ unknown. absurd (unknown (AsDurable c.in-Ok-Durable.place (string_bytes c.in-Ok-Durable.path))
@@ -144,21 +144,21 @@ returns-in-Ok-Serve-clause-serve g c = λ plan are.
     c.args.gate.now c.serve_plan.new.gate c.args.dial.now c.serve_plan.new.dial c.args.output.now c.serve_plan.new.output
     (site_at p.place) (program_limits p.place.sites).max_trail (work_of p) c.serve_plan.result) same c.serve_plan.ensures.ends
 
-pub returns-clause-serve : goal.returns-clause-serve
-returns-clause-serve g c = λ plan are.
+pub returns-in-Err-NoMemory-clause-serve : goal.returns-in-Err-NoMemory-clause-serve
+returns-in-Err-NoMemory-clause-serve g c = λ plan are.
     no_server g.G.Link.Duplex.left g.G.Link.Sink.given g.G.Link.Duplex.take_faults g.G.Link.Sink.faults g.G.Gate.told g.G.Gate.faults
     g.D.Link.Duplex.left g.D.Link.Sink.given g.D.Link.Duplex.take_faults g.D.Link.Sink.faults g.D.Dial.told g.D.Dial.faults g.O.Sink.given g.O.Sink.faults c.args.gate.now c.args.dial.now c.args.output.now
     (site_at plan.place) (program_limits plan.place.sites).max_trail (work_of plan)
 
-pub returns-clause-auto : goal.returns-clause-auto
-returns-clause-auto g c = λ place rules are.
+pub returns-in-Err-NoMemory-clause-auto : goal.returns-in-Err-NoMemory-clause-auto
+returns-in-Err-NoMemory-clause-auto g c = λ place rules are.
     let is : IsPlace place = c.commands_are_at_a_site-in-Err-NoMemory.ensures.auto (map (λ w. string_bytes w) c.args.words.now) place rules are in
     let old = g.O.Sink.given c.args.output.now in
     no_lines g.I.Source.left g.I.Source.faults g.O.Sink.faults c.args.input.now c.args.output.now (AutoFrom (site_at place) rules NoMemory old old)
     (λ x. no_auto (site_at place) rules old x (opens (program_limits place.sites) place.site (limits_hold place.sites is.some is.most) is.first is.last))
 
-pub returns-clause-durable : goal.returns-clause-durable
-returns-clause-durable g c = λ place path are.
-    no_durable g.S.Store.Disk.Disk.honest g.S.Store.Disk.Disk.reads g.S.Store.Disk.Disk.may_leave g.S.Store.Disk.Disk.moment g.S.Store.Disk.Disk.left_since
+pub returns-in-Err-NoMemory-clause-durable : goal.returns-in-Err-NoMemory-clause-durable
+returns-in-Err-NoMemory-clause-durable g c = λ place path are.
+    no_durable g.S.Disk.Disk.honest g.S.Disk.Disk.reads g.S.Disk.Disk.may_leave g.S.Disk.Disk.moment g.S.Disk.Disk.left_since g.S.Disk.Disk.faults
     g.S.Store.honest g.S.Store.told g.S.Store.faults g.I.Source.left g.I.Source.faults g.O.Sink.given g.O.Sink.faults
     c.args.store.now c.args.input.now c.args.output.now (site_at place) (program_limits place.sites).max_trail

@@ -64,7 +64,7 @@ returns-in-Err-clause-import g c = λ are.
 
 pub returns-in-Err-clause-durable : goal.returns-in-Err-clause-durable
 returns-in-Err-clause-durable g c = λ place path are.
-    no_durable g.S.Store.Disk.Disk.honest g.S.Store.Disk.Disk.reads g.S.Store.Disk.Disk.may_leave g.S.Store.Disk.Disk.moment g.S.Store.Disk.Disk.left_since
+    no_durable g.S.Disk.Disk.honest g.S.Disk.Disk.reads g.S.Disk.Disk.may_leave g.S.Disk.Disk.moment g.S.Disk.Disk.left_since g.S.Disk.Disk.faults
     g.S.Store.honest g.S.Store.told g.S.Store.faults g.I.Source.left g.I.Source.faults g.O.Sink.given g.O.Sink.faults
     c.args.store.now c.args.input.now c.args.output.now (site_at place) (program_limits place.sites).max_trail
 
@@ -124,7 +124,7 @@ returns-in-Ok-clause-import g c =
 pub returns-in-Ok-clause-durable : goal.returns-in-Ok-clause-durable
 returns-in-Ok-clause-durable g c =
     let words : c.as_slice.result.now ≡ drop 1 (into_iter_items c.args.args) = c.as_slice.ensures.value ∙ c.in-Ok.ensures in
-    subst (λ ws. Durables g.I.Source.left g.I.Source.faults g.O.Sink.given g.O.Sink.faults g.S.Store.Disk.Disk.honest g.S.Store.Disk.Disk.reads g.S.Store.Disk.Disk.may_leave g.S.Store.Disk.Disk.moment g.S.Store.Disk.Disk.left_since
+    subst (λ ws. Durables g.I.Source.left g.I.Source.faults g.O.Sink.given g.O.Sink.faults g.S.Disk.Disk.honest g.S.Disk.Disk.reads g.S.Disk.Disk.may_leave g.S.Disk.Disk.moment g.S.Disk.Disk.left_since
     g.S.Store.honest g.S.Store.told g.S.Store.faults c.args.store.now c.command.new.store c.args.input.now c.command.new.input c.args.output.now c.command.new.output (map (λ w. string_bytes w) ws) c.command.result)
     words c.command.ensures.durable
 
