@@ -1,5 +1,5 @@
 -- The limits of the program.
-use Rattle.std.proofs.Common.{ℕ, ◌≤◌, ◌&&◌, leb, IsTrue, ◌≡◌, refl}
+use Rattle.std.proofs.Common.{ℕ, ◌≤◌, IsTrue, refl}
 use Rattle.std.proofs.lemmas.Bool.{le-leb}
 use Rattle.tardis_base.specs.Valid.{are_limits}
 use Rattle.command_words.specs.Places.{program_limits}
