@@ -129,12 +129,3 @@ pub fn tardis<I: Source, O: Sink, G: Gate, D: Dial + Send, S: Store, R: Threads 
         }
     }
 }
-
-#[cfg(test)]
-mod line_rows;
-#[cfg(test)]
-mod line_tests;
-#[cfg(test)]
-mod serve_tests;
-#[cfg(test)]
-mod tests;
