@@ -7,6 +7,7 @@ ghost use Rattle.trail_log.specs.Frames.{IsEntry};
 ghost use Rattle.dag_lock.specs.Turns.{kept_view, given_view};
 ghost use Rattle.dag_lock.specs.Told.{Rests, United};
 
+use crate::bells::Bells;
 use crate::passes::Pass;
 use crate::rules::{Both, Cut, Gives, Law, Origin, Settle};
 use crate::turns::{Seat, TICKET, Words, act, draw, pass_on, take_turn};
@@ -16,7 +17,6 @@ use std::alloc::Global;
 use std::marker::Brand;
 use std::snapshot::Snapshot;
 use std::sync::Wait;
-use std::sync::atomic::AtomicU64;
 use tardis_base::{Machine, NoMemory, ReplyBuf};
 use trail_log::{Acted, Trailed};
 
@@ -24,7 +24,7 @@ use trail_log::{Acted, Trailed};
 #[derive(Drop)]
 pub struct DagLock<M: Machine> {
     table: Table<Trailed<M>, View, Origin<M>, Law, Global>,
-    parked: AtomicU64,
+    bells: Bells,
     ghost sized: { (table.shared.table_id.words ≡ 2) × (table.shared.table_id.slots ≡ 1) },
 }
 
@@ -45,6 +45,7 @@ impl<M: Machine> DagLock<M> {
         ensures made { IfOk result (λ r. (start_of r.0 ≡ machine) × (pieces_of r.0 ≡ pieces)) }
         ensures pass { IfOk result (λ r. r.1 ≡ record { lock = lock_id r.0; seen = []; owned = []; pieces = pieces }) }
     {
+        let bells = Bells::new(alloc)?;
         let about = Origin {
             machine: Snapshot::of(&machine),
             pieces,
@@ -55,10 +56,7 @@ impl<M: Machine> DagLock<M> {
         slots.push_reserved(machine);
         match Table::new(alloc, &[0, 0], slots, &about) {
             Ok((table, seat)) => Ok((
-                DagLock {
-                    table,
-                    parked: AtomicU64::new(0),
-                },
+                DagLock { table, bells },
                 Pass {
                     badge: seat.into_badge(),
                 },
@@ -86,9 +84,9 @@ impl<M: Machine> DagLock<M> {
         let mut seat: Seat<M> = badge.into_seat();
         let words = &self.table.shared;
         let ticket = draw(rt, words, &mut seat);
-        take_turn::<M, Brand, R>(rt, words, &self.parked, &mut seat, ticket);
+        take_turn::<M, Brand, R>(rt, words, &self.bells, &mut seat, ticket);
         let acted = act(words, &mut seat, actor, request, out);
-        pass_on(words, &self.parked, &mut seat, acted);
+        pass_on(words, &self.bells, &mut seat, acted);
         (
             Pass {
                 badge: seat.into_badge(),
@@ -147,7 +145,7 @@ impl<M: Machine> DagLock<M> {
         ensures opening { M.opening result.machine ≡ M.opening (start_of self).machine }
         ensures most { result.max_trail ≡ (start_of self).max_trail }
     {
-        let DagLock { table, parked: _ } = self;
+        let DagLock { table, bells: _ } = self;
         let Pass { badge } = pass;
         let mut closed = table.close_with(badge.into_seat());
         let trailed = closed.take(0);

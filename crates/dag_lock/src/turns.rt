@@ -9,12 +9,12 @@ ghost use Rattle.dag_lock.specs.Told.{Rests, Awaits, Took, Holds, Returns, passe
 ghost use Rattle.dag_lock.specs.Steps.{IsOfLock, Acts};
 ghost use Rattle.dag_lock.specs.declared.views.Stage.TheVariants.{Waits, Takes};
 
+use crate::bells::Bells;
 use crate::rules::{Add, Draw, Keep, Kin, Law, Look, Origin};
 use crate::views::View;
 use atomic_table::Shared;
 use std::hint::spin_loop;
 use std::sync::Wait;
-use std::sync::atomic::{AtomicU64, Ordering};
 use tardis_base::{Machine, ReplyBuf};
 use trail_log::{Acted, Trailed};
 
@@ -54,7 +54,7 @@ pub(crate) fn draw<M: Machine, R: Wait>(rt: &R, words: &Words<M>, seat: &mut Sea
 pub(crate) fn take_turn<M: Machine, Z: Kin<Trailed<M>>, R: Wait>(
     rt: &R,
     words: &Words<M>,
-    parked: &AtomicU64,
+    bells: &Bells,
     seat: &mut Seat<M>,
     ticket: u64,
 )
@@ -70,18 +70,18 @@ pub(crate) fn take_turn<M: Machine, Z: Kin<Trailed<M>>, R: Wait>(
         if serving == ticket {
             return;
         }
-        looks = pause(rt, words, parked, looks, serving);
+        looks = pause(rt, words, bells, looks, ticket);
     }
     unreachable!()
 }
 
-/// Waits a little, and after so many looks until a turn is passed on. The answer counts the looks.
+/// Waits a little, and after so many looks until the ticket's bell rings. The answer counts the looks.
 fn pause<M: Machine, R: Wait>(
     rt: &R,
     words: &Words<M>,
-    parked: &AtomicU64,
+    bells: &Bells,
     looks: u32,
-    serving: u64,
+    ticket: u64,
 ) -> u32
     requires { words.now.table_id.words ≡ 2 }
 {
@@ -89,9 +89,7 @@ fn pause<M: Machine, R: Wait>(
         spin_loop();
         return looks + 1;
     }
-    parked.fetch_add(1, Ordering::SeqCst);
-    words.park(rt, SERVING, (serving & 0xffff_ffff) as u32);
-    parked.fetch_sub(1, Ordering::SeqCst);
+    bells.sleep(rt, ticket, || words.peek(SERVING) == ticket);
     looks
 }
 
@@ -116,37 +114,26 @@ pub(crate) fn act<M: Machine>(
     acted
 }
 
-/// Puts the machine back and passes the turn on. Only where a pass sleeps are those that sleep woken.
-pub(crate) fn pass_on<M: Machine>(
-    words: &Words<M>,
-    parked: &AtomicU64,
-    seat: &mut Seat<M>,
-    acted: Acted,
-)
+/// Puts the machine back and passes the turn on. The pass whose turn it is then is woken, where it sleeps.
+pub(crate) fn pass_on<M: Machine>(words: &Words<M>, bells: &Bells, seat: &mut Seat<M>, acted: Acted)
     requires lock { (seat.old.table_id ≡ words.now.table_id) × (words.now.table_id.words ≡ 2) × (words.now.table_id.slots ≡ 1) }
     requires turn { Returns (IsOfLock M.opening M.plain words.now.key.machine.value) acted seat.old.me }
     ensures lock { seat.new.table_id ≡ seat.old.table_id }
     ensures passed { seat.new.me ≡ passed acted seat.old.me }
 {
-    put_back(words, seat, acted);
-    if parked.load(Ordering::SeqCst) > 0 {
-        words.wake_all(SERVING);
-    }
+    let served = put_back(words, seat, acted);
+    bells.ring(served.wrapping_add(1));
 }
 
-/// Puts the machine back.
-fn put_back<M: Machine>(words: &Words<M>, seat: &mut Seat<M>, acted: Acted)
+/// Puts the machine back, and answers the ticket that was served.
+fn put_back<M: Machine>(words: &Words<M>, seat: &mut Seat<M>, acted: Acted) -> u64
     requires lock { (seat.old.table_id ≡ words.now.table_id) × (words.now.table_id.words ≡ 2) × (words.now.table_id.slots ≡ 1) }
     requires turn { Returns (IsOfLock M.opening M.plain words.now.key.machine.value) acted seat.old.me }
     ensures lock { seat.new.table_id ≡ seat.old.table_id }
     ensures passed { seat.new.me ≡ passed acted seat.old.me }
 {
     match acted {
-        Acted::Done => {
-            words.fetch_add::<Add>(seat, SERVING, 1);
-        }
-        _ => {
-            words.fetch_add::<Keep>(seat, SERVING, 1);
-        }
+        Acted::Done => words.fetch_add::<Add>(seat, SERVING, 1),
+        _ => words.fetch_add::<Keep>(seat, SERVING, 1),
     }
 }

@@ -7,8 +7,8 @@ use Rattle.dag_lock.specs.Steps.{IsOfLock}
 use Rattle.dag_lock.proofs.Closing.{opens}
 use Rattle.dag_lock.proofs.locks.DagLock.new.Goals as goal
 
-pub new-requires : goal.new-requires
-new-requires g c =
+pub new-requires-2 : goal.new-requires-2
+new-requires-2 g c =
     let IsOf = IsOfLock g.M.Machine.opening g.M.Machine.plain c.of.result.value in
     let one : c.push_reserved.new.self.items ≡ c.args.machine ∷ [] = c.push_reserved.ensures.items ∙ ap (λ (l : List (Kept g.row.M.Denot)). l ++ c.args.machine ∷ []) c.in-Ok.ensures.items in
     let same = sym c.of.ensures in
