@@ -13,7 +13,8 @@ use Rattle.auto_run.specs.Answers.{AutoMay}
 
 -- Over what was left of the input at first: lines were cut from its front, and the lines that answer them were given, all of
 -- them unless writing failed. Then what was given lacks at most a mebibyte and one line.
-abbrev pub AutoOutcome : PlainMachine Site → List PrefixRule → Status → (Site → Type 0) → (Site → Type 0) → Option (List ℕ) → Option (List ℕ) → List ℕ → List ℕ → Type 0
+abbrev pub AutoOutcome : PlainMachine Site → List PrefixRule → Status → (Site → Type 0) → (Site → Type 0) → Option (List ℕ) → Option (List ℕ) → List ℕ
+    → List ℕ → Type 0
 AutoOutcome m rules status from to old new first left =
     LineOutcome status from (λ s lines. AnsweredBy (AutoMay m rules) (shape_within 5242945 status) to old new [] [] s lines) first left
 

@@ -62,8 +62,10 @@ pub record IsWalk (table : Table) (rs : List Record) (ks xs : List StateId) (n b
   pub noted : IsNoted table rs ks xs b apart shared
   pub waiting : (k : ℕ) (s : Slot) → f k ≡ Some s → (k < b) × IsWaiting table rs xs k s
   pub starts : (x : StateId) → IsTrue (is_among x xs) → arrival rs x < b → Waits table rs f x
-  pub covers : (x : StateId) → IsTrue (is_kept rs ks x) → IsTrue (is_above_part rs x xs) → arrival rs x < b → (y : StateId) × Waits table rs f y × IsTrue (is_above rs x y)
-  pub parents : (x p : StateId) → IsTrue (is_kept rs ks x) → IsTrue (is_above_part rs x xs) → b ≤ arrival rs x → IsTrue (is_among p (parents_of rs x)) → IsTrue (is_kept rs ks p) × (arrival rs p < b → Waits table rs f p)
+  pub covers : (x : StateId) → IsTrue (is_kept rs ks x) → IsTrue (is_above_part rs x xs) → arrival rs x < b → (y : StateId) × Waits table rs f y
+      × IsTrue (is_above rs x y)
+  pub parents : (x p : StateId) → IsTrue (is_kept rs ks x) → IsTrue (is_above_part rs x xs) → b ≤ arrival rs x → IsTrue (is_among p (parents_of rs x))
+      → IsTrue (is_kept rs ks p) × (arrival rs p < b → Waits table rs f p)
   pub many : n ≤ length (filter (λ x. nat_le b (arrival rs x)) (kept_states rs ks))
 
 -- so it is with what a walk holds

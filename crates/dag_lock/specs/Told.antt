@@ -57,7 +57,8 @@ module _ {M : Type 0} where
 
   -- what the seat of two that were joined knows
   abbrev pub United : View → View → Me (Kept M) View → Type 0
-  United v w m = (m ≡ (knows Idle (longer v.seen w.seen) (merged v.owned w.owned) (v.pieces + w.pieces), [])) × Begins (shorter v.seen w.seen) (longer v.seen w.seen)
+  United v w m = (m ≡ (knows Idle (longer v.seen w.seen) (merged v.owned w.owned) (v.pieces + w.pieces), []))
+      × Begins (shorter v.seen w.seen) (longer v.seen w.seen)
       × Ascends 0 (length (longer v.seen w.seen)) (merged v.owned w.owned)
 
   -- the seat after it passed on

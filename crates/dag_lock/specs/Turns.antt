@@ -52,7 +52,8 @@ shorter a b = if nat_lt (length a) (length b) then a else b
 
 -- two views in one, with the shorter of the lists that they have seen beside the longer
 abbrev pub joined_view : View → View → View
-joined_view v w = record { stage = v.stage; seen = longer v.seen w.seen; owned = merged v.owned w.owned; pieces = v.pieces + w.pieces; beside = shorter v.seen w.seen }
+joined_view v w =
+    record { stage = v.stage; seen = longer v.seen w.seen; owned = merged v.owned w.owned; pieces = v.pieces + w.pieces; beside = shorter v.seen w.seen }
 
 abbrev pub ticket_of : Stage → Option ℕ
 ticket_of Idle = none

@@ -21,7 +21,8 @@ pub record Replied {S : Type 0} (m : PlainMachine S) (to : S → Type 0) (before
 
 -- From s replies answer these requests of the actor, their frames stand behind what waited, they are counted, and the value
 -- stands for the last state.
-pub record Answered {S : Type 0} (m : PlainMachine S) (to : S → Type 0) (actor : ℕ) (before after : List ℕ) (tally next : Tally) (bodies : List (List ℕ)) (s : S) : Type 0 where
+pub record Answered {S : Type 0} (m : PlainMachine S) (to : S → Type 0) (actor : ℕ) (before after : List ℕ) (tally next : Tally)
+    (bodies : List (List ℕ)) (s : S) : Type 0 where
   pub replies : List (List ℕ)
   pub state : S
   pub answers : Answers m s (asks actor bodies) replies state

@@ -47,21 +47,28 @@ IsTally None tally turns = Unit {0}
 IsTally (Some rule) tally turns = tally ≡ record { code = rule.code; left = rule.after - since rule.code turns }
 
 -- the run goes on by one turn, which began with this offer
-abbrev pub Went : {S : Type 0} → PlainMachine S → (S → Type 0) → S → List (Option LineState) → List Turn → Ready → (tally next : Tally) → (before after : Option (List Seen)) → Type 0
+abbrev pub Went : {S : Type 0} → PlainMachine S → (S → Type 0) → S → List (Option LineState) → List Turn → Ready → (tally next : Tally)
+    → (before after : Option (List Seen)) → Type 0
 Went m to s new turns offer tally next before after =
-    (turn : Turn) × (Keeps m to s new (turn ∷ turns) × (IsNoted tally next turn × ((calls : List Seen) × ((calls_of turn ≡ Offered offer ∷ calls) × Tells before after calls))))
+    (turn : Turn) × (Keeps m to s new (turn ∷ turns) × (IsNoted tally next turn
+        × ((calls : List Seen) × ((calls_of turn ≡ Offered offer ∷ calls) × Tells before after calls))))
 
 -- so does whatever run led here, once the offer was made
-abbrev pub GoesOn : {S : Type 0} → PlainMachine S → (from to : S → Type 0) → (old new : List (Option LineState)) → Ready → (tally next : Tally) → (before after : Option (List Seen)) → Type 0
-GoesOn m from to old new offer tally next before after = (s : _) (turns : List Turn) → Keeps m from s old turns → Went m to s new turns offer tally next before after
+abbrev pub GoesOn : {S : Type 0} → PlainMachine S → (from to : S → Type 0) → (old new : List (Option LineState)) → Ready → (tally next : Tally)
+    → (before after : Option (List Seen)) → Type 0
+GoesOn m from to old new offer tally next before after = (s : _) (turns : List Turn) → Keeps m from s old turns
+    → Went m to s new turns offer tally next before after
 
 -- whatever run led here, it went on by one turn
-abbrev pub Turned : {S : Type 0} → PlainMachine S → (from to : S → Type 0) → (old new : List (Option LineState)) → (tally next : Tally) → (before after : Option (List Seen)) → Type 0
+abbrev pub Turned : {S : Type 0} → PlainMachine S → (from to : S → Type 0) → (old new : List (Option LineState)) → (tally next : Tally)
+    → (before after : Option (List Seen)) → Type 0
 Turned m from to old new tally next before after =
-    (s : _) (turns : List Turn) → Keeps m from s old turns → (turn : Turn) × (Keeps m to s new (turn ∷ turns) × (IsNoted tally next turn × Tells before after (calls_of turn)))
+    (s : _) (turns : List Turn) → Keeps m from s old turns → (turn : Turn)
+        × (Keeps m to s new (turn ∷ turns) × (IsNoted tally next turn × Tells before after (calls_of turn)))
 
 -- from s so many turns led here, the edge told them, and upkeep was made whenever it was due
-pub record Led {S : Type 0} (m : PlainMachine S) (rule : Option UpkeepRule) (to : S → Type 0) (s : S) (lines : List (Option LineState)) (tally : Tally) (before after : Option (List Seen)) (count : ℕ) : Type 0 where
+pub record Led {S : Type 0} (m : PlainMachine S) (rule : Option UpkeepRule) (to : S → Type 0) (s : S) (lines : List (Option LineState)) (tally : Tally)
+    (before after : Option (List Seen)) (count : ℕ) : Type 0 where
   pub turns : List Turn
   pub keeps : Keeps m to s lines turns
   pub seen : Tells before after (calls_in turns)

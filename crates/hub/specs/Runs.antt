@@ -53,7 +53,8 @@ EndsAfter rule Spent turns = length turns ≡ 18446744073709551615
 
 -- A run from s: its turns, of which the edge saw just their calls; one trail; each connection's part of it; and upkeep
 -- whenever it was due. It ends where the edge says so.
-pub record IsRun {S : Type 0} (m : PlainMachine S) (rule : Option UpkeepRule) (to : S → Type 0) (s : S) (end : End) (before after : Option (List Seen)) : Type 0 where
+pub record IsRun {S : Type 0} (m : PlainMachine S) (rule : Option UpkeepRule) (to : S → Type 0) (s : S) (end : End)
+    (before after : Option (List Seen)) : Type 0 where
   pub turns : List Turn
   pub state : S
   pub ran : Ran m s turns state

@@ -53,7 +53,8 @@ pub(crate) fn answer_body<M: Machine>(
     tally: &mut Tally,
 )
     requires few { length waiting.old ≤ most_waiting }
-    ensures answered { (s : M.Plain) → M.stands machine.old s → Replied M.plain (M.stands machine.new) waiting.old waiting.new tally.old tally.new s (actor, body.now) }
+    ensures answered { (s : M.Plain) → M.stands machine.old s → Replied M.plain (M.stands machine.new) waiting.old waiting.new tally.old tally.new s
+        (actor, body.now) }
     ensures opening { M.opening machine.new ≡ M.opening machine.old }
 {
     match machine.act(actor, body, reply) {

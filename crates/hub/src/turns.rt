@@ -25,7 +25,8 @@ fn enter<M: Machine, P: Ports>(
     ports: &mut P,
 )
     requires slots { length lines.old ≡ 256 }
-    ensures turned { (tally : Tally) → GoesOn M.plain (M.stands machine.old) (M.stands machine.new) lines.old lines.new Ready.Accept tally tally (P.seen ports.old) (P.seen ports.new) }
+    ensures turned { (tally : Tally) → GoesOn M.plain (M.stands machine.old) (M.stands machine.new) lines.old lines.new Ready.Accept tally tally
+        (P.seen ports.old) (P.seen ports.new) }
     ensures slots { length lines.new ≡ length lines.old }
     ensures opening { M.opening machine.new ≡ M.opening machine.old }
 {
@@ -54,7 +55,8 @@ fn hear<M: Machine, P: Ports>(
 )
     requires slots { length lines.old ≡ 256 }
     requires room { length piece.old ≡ 65536 }
-    ensures turned { GoesOn M.plain (M.stands machine.old) (M.stands machine.new) lines.old lines.new (Ready.Read slot) tally.old tally.new (P.seen ports.old) (P.seen ports.new) }
+    ensures turned { GoesOn M.plain (M.stands machine.old) (M.stands machine.new) lines.old lines.new (Ready.Read slot) tally.old tally.new
+        (P.seen ports.old) (P.seen ports.new) }
     ensures slots { length lines.new ≡ length lines.old }
     ensures room { length piece.new ≡ length piece.old }
     ensures opening { M.opening machine.new ≡ M.opening machine.old }
@@ -83,7 +85,8 @@ fn tell<M: Machine, P: Ports>(
     tally: &mut Tally,
 )
     requires slots { length lines.old ≡ 256 }
-    ensures turned { GoesOn M.plain (M.stands machine.old) (M.stands machine.new) lines.old lines.new (Ready.Write slot) tally.old tally.new (P.seen ports.old) (P.seen ports.new) }
+    ensures turned { GoesOn M.plain (M.stands machine.old) (M.stands machine.new) lines.old lines.new (Ready.Write slot) tally.old tally.new
+        (P.seen ports.old) (P.seen ports.new) }
     ensures slots { length lines.new ≡ length lines.old }
     ensures opening { M.opening machine.new ≡ M.opening machine.old }
 {
@@ -111,7 +114,8 @@ fn leave<M: Machine, P: Ports>(
 )
     requires slots { length lines.old ≡ 256 }
     requires sure { (n : ℕ) → n < 256 → M.plain.is_sure (n + 1, close) ≡ true }
-    ensures turned { (tally : Tally) → GoesOn M.plain (M.stands machine.old) (M.stands machine.new) lines.old lines.new (Ready.Close slot) tally tally (P.seen ports.old) (P.seen ports.new) }
+    ensures turned { (tally : Tally) → GoesOn M.plain (M.stands machine.old) (M.stands machine.new) lines.old lines.new (Ready.Close slot) tally tally
+        (P.seen ports.old) (P.seen ports.new) }
     ensures slots { length lines.new ≡ length lines.old }
     ensures opening { M.opening machine.new ≡ M.opening machine.old }
 {
@@ -137,7 +141,8 @@ pub(crate) fn turn<M: Machine, P: Ports>(
     requires slots { length lines.old ≡ 256 }
     requires room { length piece.old ≡ 65536 }
     requires sure { (n : ℕ) → n < 256 → M.plain.is_sure (n + 1, close) ≡ true }
-    ensures turned { result ≡ true → Turned M.plain (M.stands machine.old) (M.stands machine.new) lines.old lines.new tally.old tally.new (P.seen ports.old) (P.seen ports.new) }
+    ensures turned { result ≡ true → Turned M.plain (M.stands machine.old) (M.stands machine.new) lines.old lines.new tally.old tally.new
+        (P.seen ports.old) (P.seen ports.new) }
     ensures stopped { result ≡ false → (machine.new ≡ machine.old) × (lines.new ≡ lines.old) × (tally.new ≡ tally.old)
         × Tells (P.seen ports.old) (P.seen ports.new) (Seen.Offered Ready.Stop ∷ []) }
     ensures slots { length lines.new ≡ length lines.old }

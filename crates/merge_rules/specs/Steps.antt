@@ -36,7 +36,8 @@ Ends stands answer old (Err fault) = stands old
 -- the conflict keys of the two states are too many, or one of them has no value, or these are their values
 abbrev pub SettledAs : List PrefixRule → List Record → StateId → StateId → Settled → Type 0
 SettledAs rules rs a b (Wide n) = (nat_lt 64 (length (conflict_keys rs (a ∷ b ∷ []))) ≡ true) × (n ≡ min (length (conflict_keys rs (a ∷ b ∷ []))) 4294967295)
-SettledAs rules rs a b (Unmerged k) = (nat_lt 64 (length (conflict_keys rs (a ∷ b ∷ []))) ≡ false) × (unmerged (value_of rules rs a b) (conflict_keys rs (a ∷ b ∷ [])) ≡ Some k)
+SettledAs rules rs a b (Unmerged k) = (nat_lt 64 (length (conflict_keys rs (a ∷ b ∷ []))) ≡ false)
+    × (unmerged (value_of rules rs a b) (conflict_keys rs (a ∷ b ∷ [])) ≡ Some k)
 SettledAs rules rs a b (Values ws) =
     (nat_lt 64 (length (conflict_keys rs (a ∷ b ∷ []))) ≡ false) × (unmerged (value_of rules rs a b) (conflict_keys rs (a ∷ b ∷ [])) ≡ None)
     × (ws ≡ values (value_of rules rs a b) (conflict_keys rs (a ∷ b ∷ [])))
@@ -72,7 +73,8 @@ only total first = if total == 1 then slice_get first 0 else None
 abbrev pub BeganAs : Store → Option Slot → List ℕ → Result (Option (StateId × Write)) OutOfMemory → Type 0
 BeganAs store None k result = IfOk result (λ began. began ≡ None)
 BeganAs store (Some slot) k result =
-    (rs : List Record) (ks : List StateId) → StoreStands store rs ks → (p : StateId) → id_at store.table slot ≡ Some p → IfOk result (λ began. began ≡ read rs k p)
+    (rs : List Record) (ks : List StateId) → StoreStands store rs ks → (p : StateId) → id_at store.table slot ≡ Some p
+        → IfOk result (λ began. began ≡ read rs k p)
 
 -- the values of these keys, which ascend; or the first that has none
 abbrev pub IsValued : (List ℕ → Option Write) → List (List ℕ) → Settled → Type 0

@@ -9,4 +9,5 @@ use Rattle.plain_dag.specs.Collection.{kept_states, is_collectable}
 
 -- no state is collectable but the kept ones before the place
 abbrev pub NoneCollectable : List Record → List Floor → List StateId → ℕ → Type 0
-NoneCollectable rs floors ks place = (y : StateId) → IsTrue (is_known rs y) → IsFalse (is_among y (take place (kept_states rs ks))) → IsFalse (is_collectable rs floors ks y)
+NoneCollectable rs floors ks place = (y : StateId) → IsTrue (is_known rs y) → IsFalse (is_among y (take place (kept_states rs ks)))
+    → IsFalse (is_collectable rs floors ks y)

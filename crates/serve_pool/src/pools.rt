@@ -32,7 +32,8 @@ pub fn serve_all<M: Machine + Send, G: Gate, R: Threads + Wait + Sync>(
     requires lock { pass.lock ≡ lock_id lock.now }
     requires numbers { first + links ≤ 65536 }
     requires pieces { links < pass.pieces }
-    ensures serves { Serves G.Link.left G.Link.given G.Link.take_faults G.Link.faults M.plain (M.opening (start_of lock.now).machine) (start_of lock.now).max_trail
+    ensures serves { Serves G.Link.left G.Link.given G.Link.take_faults G.Link.faults M.plain (M.opening (start_of lock.now).machine)
+        (start_of lock.now).max_trail
         first pass result.0 (G.told gate.old) (G.told gate.new) result.1.taken result.1.unserved }
     ensures most { result.1.taken ≤ links }
     ensures done { result.1.end ≡ PoolEnd.Done → (result.1.taken ≡ links) ⊎ HasNone (G.told gate.new) }
@@ -90,7 +91,8 @@ fn serve_beside<M: Machine + Send, G: Gate, R: Threads + Wait + Sync>(
     requires numbers { first + links ≤ 65536 }
     requires pieces { links < pass.pieces }
     ensures finished { G.Link.is_finished link.new }
-    ensures pools { PoolsBeside G.Link.left G.Link.given G.Link.take_faults G.Link.faults M.plain (M.opening (start_of lock.now).machine) (start_of lock.now).max_trail
+    ensures pools { PoolsBeside G.Link.left G.Link.given G.Link.take_faults G.Link.faults M.plain (M.opening (start_of lock.now).machine)
+        (start_of lock.now).max_trail
         G.told G.faults first links pass result.0 link.old link.new gate.old gate.new result.1 }
 {
     let session = first as u16;
@@ -103,7 +105,8 @@ fn serve_beside<M: Machine + Send, G: Gate, R: Threads + Wait + Sync>(
         &mut || -> Option<(Pass, SessionEnd)>
             requires { IsSync R.row × IsSend M.row × IsSend G.Link.row × IsSomeAnd mine (λ p. p.lock ≡ lock_id lock.now) }
             ensures finished { G.Link.is_finished link.exit.now }
-            ensures served { IfSome mine.entry (λ p. IsSomeAnd result (λ r. ServesOne G.Link.left G.Link.given G.Link.take_faults G.Link.faults M.plain (M.opening (start_of lock.entry.now).machine) (start_of lock.entry.now).max_trail
+            ensures served { IfSome mine.entry (λ p. IsSomeAnd result (λ r. ServesOne G.Link.left G.Link.given G.Link.take_faults G.Link.faults M.plain
+                (M.opening (start_of lock.entry.now).machine) (start_of lock.entry.now).max_trail
                 p r.0 session link.entry.now link.exit.now r.1)) }
         {
             match mine.take() {
@@ -112,8 +115,10 @@ fn serve_beside<M: Machine + Send, G: Gate, R: Threads + Wait + Sync>(
             }
         },
         &mut || -> Option<(Pass, Served)>
-            requires { IsSync R.row × IsSend M.row × IsSend G.Link.row × (next + left ≤ 65536) × IsSomeAnd others (λ p. (p.lock ≡ lock_id lock.now) × (left < p.pieces)) }
-            ensures { IfSome others.entry (λ p. IsSomeAnd result (λ r. Pools G.Link.left G.Link.given G.Link.take_faults G.Link.faults M.plain (M.opening (start_of lock.entry.now).machine) (start_of lock.entry.now).max_trail
+            requires { IsSync R.row × IsSend M.row × IsSend G.Link.row × (next + left ≤ 65536)
+                × IsSomeAnd others (λ p. (p.lock ≡ lock_id lock.now) × (left < p.pieces)) }
+            ensures { IfSome others.entry (λ p. IsSomeAnd result (λ r. Pools G.Link.left G.Link.given G.Link.take_faults G.Link.faults M.plain
+                (M.opening (start_of lock.entry.now).machine) (start_of lock.entry.now).max_trail
                 G.told G.faults next left p r.0 gate.entry.now gate.exit.now r.1)) }
         {
             match others.take() {

@@ -15,7 +15,8 @@ use Rattle.serve_pool.specs.declared.ends.Served.{Served}
 use Rattle.serve_pool.specs.declared.ends.PoolEnd.TheVariants.{Done, GateFault}
 
 -- the rounds
-pub record Synced {M P X D : Type 0} (opening : M → P) (m : PlainMachine P) (left given : X → Option (List ℕ)) (take_faults faults : X → ℕ) (told : D → Option (ToldDial X)) (dial_faults : D → ℕ)
+pub record Synced {M P X D : Type 0} (opening : M → P) (m : PlainMachine P) (left given : X → Option (List ℕ)) (take_faults faults : X → ℕ)
+    (told : D → Option (ToldDial X)) (dial_faults : D → ℕ)
     (machine : Kept M) (rounds peers : ℕ) (tidy : Bool) (p q : Known) (d e : D) (made : Result Rounds NoMemory) : Type 0 where
   pub goes_on : GoesOn p q
   pub rounds_made : IfOk made (λ n. AreRounds opening m machine left given take_faults faults told dial_faults rounds peers tidy p d n q e)
@@ -24,7 +25,8 @@ pub record Synced {M P X D : Type 0} (opening : M → P) (m : PlainMachine P) (l
   pub cause : IfOk made (λ n. 0 < n.dial → Rose (dial_faults d) (dial_faults e))
 
 -- the links
-pub record Pooled {P L G : Type 0} (m : PlainMachine P) (left given : L → Option (List ℕ)) (take_faults faults : L → ℕ) (told : G → Option (ToldGate L)) (gate_faults : G → ℕ)
+pub record Pooled {P L G : Type 0} (m : PlainMachine P) (left given : L → Option (List ℕ)) (take_faults faults : L → ℕ) (told : G → Option (ToldGate L))
+    (gate_faults : G → ℕ)
     (start : P) (most links : ℕ) (p q : Known) (old new : G) (s : Served) : Type 0 where
   pub serves : Serves left given take_faults faults m start most 1 p q (told old) (told new) s.taken s.unserved
   pub within : s.taken ≤ links

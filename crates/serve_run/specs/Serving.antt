@@ -73,7 +73,8 @@ module _ {M P L X D : Type 0} (opening : M → P) (m : PlainMachine P) (left giv
     -- by session 1, the next by session 2 and so on, and was put back. Beside this the rounds were made. The trail is all that
     -- the sessions and the rounds asked and were answered, and nothing else. At the end its frames were written, all of them,
     -- or a front of them where writing failed; whoever reads them frame by frame, as a run does, reads just the trail.
-    pub record ServesLinks (w : Workload) (old new : Option (ToldGate L)) (gate_before gate_after : ℕ) (d e : D) (before after : Option (List ℕ)) (write_before write_after : ℕ) (s : Serving) : Type 0 where
+    pub record ServesLinks (w : Workload) (old new : Option (ToldGate L)) (gate_before gate_after : ℕ) (d e : D) (before after : Option (List ℕ))
+        (write_before write_after : ℕ) (s : Serving) : Type 0 where
       pub machine : Kept M
       pub opens : (opening machine.machine ≡ start) × (machine.max_trail ≡ most)
       pub trail : List Event
@@ -96,7 +97,8 @@ module _ {M P L X D : Type 0} (opening : M → P) (m : PlainMachine P) (left giv
       -- cases nobody was served or called, and nothing was written.
       pub record ServeOutcome (w : Workload) (old new : G) (d e : D) (before after : O) (end : ServeEnd) : Type 0 where
         pub served : (s : Serving) → end ≡ Served s
-            → ServesLinks w (told old) (told new) (gate_faults old) (gate_faults new) d e (out_given before) (out_given after) (out_faults before) (out_faults after) s
+            → ServesLinks w (told old) (told new) (gate_faults old) (gate_faults new) d e (out_given before) (out_given after) (out_faults before)
+            (out_faults after) s
         pub not_bound : end ≡ NotBound → Rose (gate_faults old) (gate_faults new) × (told new ≡ told old) × (e ≡ d) × (after ≡ before)
         pub not_made : end ≡ NotMade → (told new ≡ told old) × (e ≡ d) × (after ≡ before)
         pub gate_later : gate_faults old ≤ gate_faults new

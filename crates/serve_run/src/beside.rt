@@ -50,7 +50,8 @@ pub(crate) fn serve_beside_rounds<
         &mut || -> Option<(Pass, Result<Rounds, NoMemory>)>
             requires { IsSync R.row × IsSend M.row × IsSend D.row × IsSomeAnd mine (λ p. p.lock ≡ lock_id lock.now)
                 × TellsCounts M.plain (M.opening (start_of lock.now).machine) × (length peers.now ≤ 15) × (rounds ≤ 1000000) }
-            ensures { IfSome mine.entry (λ p. IsSomeAnd result (λ r. Synced M.opening M.plain D.Link.left D.Link.given D.Link.take_faults D.Link.faults D.told D.faults
+            ensures { IfSome mine.entry (λ p. IsSomeAnd result (λ r. Synced M.opening M.plain D.Link.left D.Link.given D.Link.take_faults D.Link.faults
+                D.told D.faults
                 (start_of lock.entry.now) rounds (length peers.entry.now) tidy p r.0 dial.entry.now dial.exit.now r.1)) }
         {
             match mine.take() {
@@ -59,7 +60,8 @@ pub(crate) fn serve_beside_rounds<
             }
         },
         &mut || -> Option<(Pass, Served)>
-            requires { IsSync R.row × IsSend M.row × IsSend G.Link.row × (1 + links ≤ 65536) × IsSomeAnd others (λ p. (p.lock ≡ lock_id lock.now) × (links < p.pieces)) }
+            requires { IsSync R.row × IsSend M.row × IsSend G.Link.row × (1 + links ≤ 65536)
+                × IsSomeAnd others (λ p. (p.lock ≡ lock_id lock.now) × (links < p.pieces)) }
             ensures { IfSome others.entry (λ p. IsSomeAnd result (λ r. Pooled M.plain G.Link.left G.Link.given G.Link.take_faults G.Link.faults G.told G.faults
                 (M.opening (start_of lock.entry.now).machine) (start_of lock.entry.now).max_trail links p r.0 gate.entry.now gate.exit.now r.1)) }
         {

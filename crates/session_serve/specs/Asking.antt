@@ -26,7 +26,8 @@ module _ {M : Type 0} where
   at_first s = record { start = s.start; session = s.session; first = s.first; pass = s.first }
 
   -- the pass made one step of the lock
-  pub record AsksOnce {P : Type 0} (opening : M → P) (m : PlainMachine P) (s : Asking M) (request : List ℕ) (acted : Acted) (out : List ℕ) (t : Asking M) : Type 0 where
+  pub record AsksOnce {P : Type 0} (opening : M → P) (m : PlainMachine P) (s : Asking M) (request : List ℕ) (acted : Acted) (out : List ℕ)
+      (t : Asking M) : Type 0 where
     pub same : at_first t ≡ at_first s
     pub keeps : Keeps s.pass t.pass
     pub ended : Ended opening m s.start s.pass (s.session, request) out t.pass acted

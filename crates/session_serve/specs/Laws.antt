@@ -11,12 +11,15 @@ module _ {P : Type 0} (m : PlainMachine P) where
   abbrev pub LongerKeepsSessions : Type 0
   LongerKeepsSessions =
       (start : P) (most session : ℕ) (last : List Event) (from : ℕ) (seen longer : List Event) (places : List ℕ) (bodies replies : List (List ℕ))
-      → Begins seen longer → Session m start most session last from seen places bodies replies → Session m start most session last from longer places bodies replies
+      → Begins seen longer → Session m start most session last from seen places bodies replies
+      → Session m start most session last from longer places bodies replies
 
   abbrev pub LongerKeepsOutcomes : Type 0
   LongerKeepsOutcomes =
-      (start : P) (most session : ℕ) (end : SessionEnd) (from : ℕ) (seen longer : List Event) (places : List ℕ) (old new : Option (List ℕ)) (first left : List ℕ)
-      → Begins seen longer → SessionOutcome m start most session end from seen places old new first left → SessionOutcome m start most session end from longer places old new first left
+      (start : P) (most session : ℕ) (end : SessionEnd) (from : ℕ) (seen longer : List Event) (places : List ℕ) (old new : Option (List ℕ))
+          (first left : List ℕ)
+      → Begins seen longer → SessionOutcome m start most session end from seen places old new first left
+      → SessionOutcome m start most session end from longer places old new first left
 
   -- the places of a session ascend
   abbrev pub PlacesAscend : Type 0

@@ -17,6 +17,7 @@ pub record SoFar {P : Type 0} (m : PlainMachine P) (start : P) (most session fro
   pub given : WhileTold old now (λ y z. Whole y z (frames replies))
 
 -- At each take between the two, all frames that had been read to their end had been asked, and their replies given.
-abbrev pub RepliesAtOnce : {P : Type 0} → PlainMachine P → P → ℕ → ℕ → ℕ → Option (List ℕ) → Option (List ℕ) → Option (List Moment) → Option (List Moment) → Type 0
+abbrev pub RepliesAtOnce : {P : Type 0} → PlainMachine P → P → ℕ → ℕ → ℕ → Option (List ℕ) → Option (List ℕ) → Option (List Moment)
+    → Option (List Moment) → Type 0
 RepliesAtOnce m start most session from left given old new =
     EachTake old new (λ moment. WhileTold left moment.left (UpToDate (λ n. n ≡ from) (λ n bodies. SoFar m start most session n given moment.given bodies)))

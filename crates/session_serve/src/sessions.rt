@@ -37,7 +37,8 @@ pub fn serve_session<M: Machine, L: Link, R: Wait>(
 ) -> (Pass, SessionEnd)
     requires lock { pass.lock ≡ lock_id lock.now }
     ensures pass { Goes session pass result.0 }
-    ensures outcome { WhileTold (L.left link.old) (L.left link.new) (SessionOutcome M.plain (M.opening (start_of lock.now).machine) (start_of lock.now).max_trail
+    ensures outcome { WhileTold (L.left link.old) (L.left link.new) (SessionOutcome M.plain (M.opening (start_of lock.now).machine)
+        (start_of lock.now).max_trail
         session result.1 (length pass.seen) result.0.seen (new_places pass result.0) (L.given link.old) (L.given link.new)) }
     ensures prompt { RepliesAtOnce M.plain (M.opening (start_of lock.now).machine) (start_of lock.now).max_trail session (length pass.seen)
         (L.left link.old) (L.given link.old) (L.takes link.old) (L.takes link.new) }
@@ -70,7 +71,8 @@ fn ask_all<M: Machine, D: Duplex, R: Wait>(
 ) -> (Pass, SessionEnd)
     requires lock { pass.lock ≡ lock_id lock.now }
     ensures pass { Goes session pass result.0 }
-    ensures outcome { WhileTold (D.left device.old) (D.left device.new) (SessionOutcome M.plain (M.opening (start_of lock.now).machine) (start_of lock.now).max_trail
+    ensures outcome { WhileTold (D.left device.old) (D.left device.new) (SessionOutcome M.plain (M.opening (start_of lock.now).machine)
+        (start_of lock.now).max_trail
         session result.1 (length pass.seen) result.0.seen (new_places pass result.0) (D.given device.old) (D.given device.new)) }
     ensures prompt { RepliesAtOnce M.plain (M.opening (start_of lock.now).machine) (start_of lock.now).max_trail session (length pass.seen)
         (D.left device.old) (D.given device.old) (D.takes device.old) (D.takes device.new) }

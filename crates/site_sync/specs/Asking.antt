@@ -52,7 +52,8 @@ count_spelling line = u32_spelling line.count
 
 -- whatever a trail may hold was asked before, the machine answers Stat by statistics
 abbrev pub TellsCounts : {P : Type 0} → PlainMachine P → P → Type 0
-TellsCounts m start = (trail : List Event) → AllByRecursion IsEntry trail → (lines : List SiteLine) × AreStatistics (m.reply (state_after m start trail) stat) lines
+TellsCounts m start = (trail : List Event) → AllByRecursion IsEntry trail → (lines : List SiteLine)
+    × AreStatistics (m.reply (state_after m start trail) stat) lines
 
 -- the bytes of a reply of this code
 abbrev pub has_code : ℕ → List ℕ → Bool

@@ -37,16 +37,19 @@ abbrev pub upkeep_if : Bool → List Event
 upkeep_if tidy = if tidy then upkeep else []
 
 -- these were asked in order, answered or not, and what they add to the numbers
-pub record Tidies {M P : Type 0} (opening : M → P) (m : PlainMachine P) (z : Kept M) (p : Known) (asked : List Event) (before : Rounds) (q : Known) (after : Rounds) : Type 0 where
+pub record Tidies {M P : Type 0} (opening : M → P) (m : PlainMachine P) (z : Kept M) (p : Known) (asked : List Event) (before : Rounds) (q : Known)
+    (after : Rounds) : Type 0 where
   pub steps : List Acted
   pub tried : Tries opening m z p asked steps q
   pub numbers : after ≡ with_steps steps before
 
-module _ {M P L D : Type 0} (opening : M → P) (m : PlainMachine P) (z : Kept M) (left given : L → Option (List ℕ)) (take_faults faults : L → ℕ) (told : D → Option (ToldDial L)) (dial_faults : D → ℕ) where
+module _ {M P L D : Type 0} (opening : M → P) (m : PlainMachine P) (z : Kept M) (left given : L → Option (List ℕ)) (take_faults faults : L → ℕ)
+    (told : D → Option (ToldDial L)) (dial_faults : D → ℕ) where
   -- exchanges one after another, which ended so
   abbrev pub AreExchanges : Known → D → List SyncEnd → Known → D → Type 0
   AreExchanges p d [] q e = (q ≡ p) × (e ≡ d)
-  AreExchanges p d (end ∷ ends) q e = (mid : Known) × (via : D) × Syncs opening m z left given take_faults faults told dial_faults p mid d via end × AreExchanges mid via ends q e
+  AreExchanges p d (end ∷ ends) q e = (mid : Known) × (via : D) × Syncs opening m z left given take_faults faults told dial_faults p mid d via end
+      × AreExchanges mid via ends q e
 
   -- one exchange with each of so many peers, and what they add to the numbers
   pub record Calls (peers : ℕ) (p : Known) (d : D) (before : Rounds) (q : Known) (e : D) (after : Rounds) : Type 0 where

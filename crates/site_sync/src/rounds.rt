@@ -38,7 +38,8 @@ pub fn run_rounds<M: Machine, D: Dial, R: Wait>(
     requires peers { length peers.now ≤ 15 }
     requires rounds { rounds ≤ 1000000 }
     ensures goes_on { GoesOn pass result.0 }
-    ensures rounds { IfOk result.1 (λ n. AreRounds M.opening M.plain (start_of lock.now) D.Link.left D.Link.given D.Link.take_faults D.Link.faults D.told D.faults
+    ensures rounds { IfOk result.1 (λ n. AreRounds M.opening M.plain (start_of lock.now) D.Link.left D.Link.given D.Link.take_faults D.Link.faults
+        D.told D.faults
         rounds (length peers.now) tidy pass dial.old n result.0 dial.new) }
     ensures nothing { OnErr result.1 ((result.0 ≡ pass) × (dial.new ≡ dial.old)) }
     ensures later { D.faults dial.old ≤ D.faults dial.new }

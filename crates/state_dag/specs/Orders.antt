@@ -11,7 +11,8 @@ arrival_in : List Entry → ℕ → ℕ
 arrival_in es k = option_map_or (λ e. e.arrival) (find (λ e. eqb e.slot.0 k) es) 0
 
 -- what is found behind the first of entries in order arrived after it
-later : (e : Entry) (es : List Entry) (k : ℕ) → arrive_in_order (e ∷ es) ≡ true → is_some (find (λ f. eqb f.slot.0 k) es) ≡ true → e.arrival < option_map_or (λ f. f.arrival) (find (λ f. eqb f.slot.0 k) es) 0
+later : (e : Entry) (es : List Entry) (k : ℕ) → arrive_in_order (e ∷ es) ≡ true → is_some (find (λ f. eqb f.slot.0 k) es) ≡ true
+    → e.arrival < option_map_or (λ f. f.arrival) (find (λ f. eqb f.slot.0 k) es) 0
 later e [] k up there = absurd (both_ways false refl there)
 later e (f ∷ es) k up there =
     let parts = and_parts (ltb e.arrival f.arrival) (arrive_in_order (f ∷ es)) up in
@@ -27,7 +28,8 @@ rest-in_order : (e : Entry) (es : List Entry) → arrive_in_order (e ∷ es) ≡
 rest-in_order e [] up = refl
 rest-in_order e (f ∷ es) up = (and_parts (ltb e.arrival f.arrival) (arrive_in_order (f ∷ es)) up).1
 
-same-number : (es : List Entry) (a b : ℕ) → arrive_in_order es ≡ true → is_some (find (λ f. eqb f.slot.0 a) es) ≡ true → is_some (find (λ f. eqb f.slot.0 b) es) ≡ true →
+same-number : (es : List Entry) (a b : ℕ) → arrive_in_order es ≡ true → is_some (find (λ f. eqb f.slot.0 a) es) ≡ true
+    → is_some (find (λ f. eqb f.slot.0 b) es) ≡ true →
     option_map_or (λ f. f.arrival) (find (λ f. eqb f.slot.0 a) es) 0 ≡ option_map_or (λ f. f.arrival) (find (λ f. eqb f.slot.0 b) es) 0 → a ≡ b
 same-number [] a b up there_a there_b same = absurd (both_ways false refl there_a)
 same-number (e ∷ es) a b up there_a there_b same = elim (cases_Bool (eqb e.slot.0 a)) [
@@ -59,7 +61,8 @@ arrivals-differ table a b kept_a kept_b same =
 pub above-came_first : (table : Table) (a b : Slot) → IsTrue (is_slot_above table a b) → arrival_at table a ≤ arrival_at table b
 above-came_first table a b above = go (entry_at table a) (entry_at table b) above
   where
-    go : (o p : Option Entry) → option_map_or (λ e. option_map_or (λ f. is_entry_above e f) p false) o false ≡ true → option_map_or (λ e. e.arrival) o 0 ≤ option_map_or (λ e. e.arrival) p 0
+    go : (o p : Option Entry) → option_map_or (λ e. option_map_or (λ f. is_entry_above e f) p false) o false ≡ true
+        → option_map_or (λ e. e.arrival) o 0 ≤ option_map_or (λ e. e.arrival) p 0
     go None p h = absurd (both_ways false refl h)
     go (Some e) None h = absurd (both_ways false refl h)
     go (Some e) (Some f) h = leb-true e.arrival f.arrival (and_parts (leb e.arrival f.arrival) (has_pairs f.path e.path) h).0
