@@ -39,7 +39,7 @@ pub enum Judged {
 
 /// How the record is judged, as far as it concerns neither its writes nor room. It takes no memory.
 ///
-/// The writes are asked by `conflict_keys::first_open`, and room by `RecordStore::add_record`. A record that is known or early
+/// The writes are asked by `conflict_keys::open_conflict`, and room by `RecordStore::add_record`. A record that is known or early
 /// costs no search of the store. Else the cost grows for each parent with the logarithm of the number of kept states, and with
 /// the square of the number of parents and that times the number of sites: so many ancestries are asked.
 pub fn judge_record(store: &RecordStore, book: &CeilingBook, rec: &Record) -> Judged
