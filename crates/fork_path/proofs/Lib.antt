@@ -4,3 +4,5 @@ pub mod PairSets
 pub mod Merges
 pub mod TileBits
 pub mod TileLists
+pub mod TileViews
+pub mod TileMerges

@@ -14,7 +14,7 @@ before-cases a b h = elim (or_cases (ltb a.0 b.0) (eqb a.0 b.0 && ltb a.1 b.1) h
   | inr m ↦ let p = and_parts (eqb a.0 b.0) (ltb a.1 b.1) m in inr (eqb-true a.0 b.0 p.0, ltb-true a.1 b.1 p.1)
 ]
 
-before-from : (a b : ℕ × ℕ) → (a.0 < b.0) ⊎ ((a.0 ≡ b.0) × (a.1 < b.1)) → is_pair_before a b ≡ true
+pub before-from : (a b : ℕ × ℕ) → (a.0 < b.0) ⊎ ((a.0 ≡ b.0) × (a.1 < b.1)) → is_pair_before a b ≡ true
 before-from a b (inl lt) = or_left (ltb a.0 b.0) (eqb a.0 b.0 && ltb a.1 b.1) (lt-ltb a.0 b.0 lt)
 before-from a b (inr p) =
     or_right (ltb a.0 b.0) (eqb a.0 b.0 && ltb a.1 b.1) (and_from (eqb a.0 b.0) (ltb a.1 b.1) (eq-eqb a.0 b.0 p.0) (lt-ltb a.1 b.1 p.1))

@@ -158,7 +158,7 @@ grown p old new up e = record {
 
 -- ===== Pairs without those of a fork
 
-ascending-before : (p : ℕ × ℕ) (ps : List (ℕ × ℕ)) → list_all (is_pair_before p) ps ≡ true → are_ascending_pairs ps ≡ true → are_ascending_pairs (p ∷ ps) ≡ true
+pub ascending-before : (p : ℕ × ℕ) (ps : List (ℕ × ℕ)) → list_all (is_pair_before p) ps ≡ true → are_ascending_pairs ps ≡ true → are_ascending_pairs (p ∷ ps) ≡ true
 ascending-before p [] a up = refl
 ascending-before p (q ∷ ps) a up =
     and_from (is_pair_before p q) (are_ascending_pairs (q ∷ ps)) (and_parts (is_pair_before p q) (list_all (is_pair_before p) ps) a).0 up

@@ -202,3 +202,13 @@ without-holds t fork a b forks first second n made p = same_tests (holds (record
 
 pub cleared-holds : (t : Tile) (p : ℕ × ℕ) → holds (record t { bits = 0 }) p ≡ false
 cleared-holds t p = holds-clear (record t { bits = 0 }) p (bit_at-zero (bit_of p))
+
+-- a tile that is left out has no bits
+pub no_bits-hold : (t : Tile) (p : ℕ × ℕ) → not (eqb t.bits 0) ≡ false → holds t p ≡ false
+no_bits-hold t p n =
+    let zero : t.bits ≡ 0 = eqb-true t.bits 0 (given (eqb t.bits 0) n) in
+    holds-clear t p (ap (λ m. bit_at m (bit_of p)) zero ∙ bit_at-zero (bit_of p))
+  where
+    given : (b : Bool) → not b ≡ false → b ≡ true
+    given true e = refl
+    given false e = absurd (both_ways true e refl)
