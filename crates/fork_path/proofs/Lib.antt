@@ -6,3 +6,4 @@ pub mod TileBits
 pub mod TileLists
 pub mod TileViews
 pub mod TileMerges
+pub mod TilePaths
