@@ -1,7 +1,7 @@
 -- The bits of a tile, and the pairs that they stand for.
 use Rattle.std.proofs.Common.{◌≡◌, ℕ, ◌+◌, ◌-◌, ◌*◌, ◌/◌, ◌%◌, ◌^◌, ◌<◌, ◌≤◌, min, max, Bool, true, false, not, ◌&&◌, ◌||◌, eqb, refl, sym, ◌∙◌, ap, ap₂, subst, ◌⊎◌, inl, inr, eqb-true, eq-eqb, arith}
 use Rattle.std.specs.Int.{bit_at, bit_not, w64}
-use Rattle.std.specs.Int.Bits.{bit_and, bit_or}
+use Rattle.std.specs.Int.Bits.{bit_and, bit_or, and_zero_r}
 use Rattle.std.proofs.lemmas.Bool.{and_parts, and_from, or_cases, or_left, or_right, both_ways, false_from_ne_true, cases_lt, cases_Bool, cases_eq}
 use Rattle.std.proofs.lemmas.Nat.{and_le_l, one_shl}
 use Rattle.std.proofs.lemmas.Nat.Bits.{bit_at-lt, bit_at-zero, bit_at_and, bit_at_or, bit_at-pow_same, bit_at-pow_other, bit_at_clear_same, bit_at_clear_other, same_from_bits_below}
@@ -203,12 +203,22 @@ without-holds t fork a b forks first second n made p = same_tests (holds (record
 pub cleared-holds : (t : Tile) (p : ℕ × ℕ) → holds (record t { bits = 0 }) p ≡ false
 cleared-holds t p = holds-clear (record t { bits = 0 }) p (bit_at-zero (bit_of p))
 
--- a tile that is left out has no bits
-pub no_bits-hold : (t : Tile) (p : ℕ × ℕ) → not (eqb t.bits 0) ≡ false → holds t p ≡ false
-no_bits-hold t p n =
-    let zero : t.bits ≡ 0 = eqb-true t.bits 0 (given (eqb t.bits 0) n) in
+-- a tile without bits has none
+pub no_bit-holds : (t : Tile) (p : ℕ × ℕ) → eqb t.bits 0 ≡ true → holds t p ≡ false
+no_bit-holds t p none =
+    let zero : t.bits ≡ 0 = eqb-true t.bits 0 none in
     holds-clear t p (ap (λ m. bit_at m (bit_of p)) zero ∙ bit_at-zero (bit_of p))
+
+-- nor has one that is left out
+pub left_out-holds : (t : Tile) (p : ℕ × ℕ) → not (eqb t.bits 0) ≡ false → holds t p ≡ false
+left_out-holds t p n = no_bit-holds t p (given (eqb t.bits 0) n)
   where
     given : (b : Bool) → not b ≡ false → b ≡ true
     given true e = refl
     given false e = absurd (both_ways true e refl)
+
+-- a tile with bits has a pair
+pub some_bit-holds : (t : Tile) → t.bits < 2 ^ 64 → eqb t.bits 0 ≡ false → (p : ℕ × ℕ) × (holds t p ≡ true)
+some_bit-holds t fits some =
+    let w = within-outside t (record t { bits = 0 }) refl fits (λ e. both_ways (eqb t.bits 0) some (eq-eqb t.bits 0 (sym e ∙ and_zero_r t.bits))) in
+    (w.0, w.1)

@@ -1,8 +1,8 @@
 -- What calls on a path's tiles say of its pairs.
-use Rattle.std.proofs.Common.{◌≡◌, ℕ, ◌-◌, ◌<◌, ◌≤◌, Bool, true, false, not, ◌&&◌, ◌||◌, List, [], ◌∷◌, ◌++◌, length, get_or, drop, eqb, refl, sym, ◌∙◌, ap, ap₂, subst, inl, inr, arith}
+use Rattle.std.proofs.Common.{◌≡◌, ℕ, ◌+◌, ◌-◌, ◌<◌, ◌≤◌, Bool, true, false, not, ◌&&◌, ◌||◌, List, [], ◌∷◌, ◌++◌, length, get_or, drop, eqb, refl, sym, ◌∙◌, ap, ap₂, subst, inl, inr, eqb-true, arith}
 use Rattle.std.proofs.lemmas.List.{drop_all}
 use Rattle.std.proofs.Math.Seq.{drop-cons}
-use Rattle.std.proofs.lemmas.Bool.{or_cases, or_left, both_ways}
+use Rattle.std.proofs.lemmas.Bool.{or_cases, both_ways, false_from_ne_true}
 use Rattle.fork_path.specs.declared.tiles.Tile.{Tile}
 use Rattle.fork_path.specs.Pairs.{are_ascending_pairs, is_same_pair, has_pair, has_pairs, with_pair, without_pairs_of}
 use Rattle.fork_path.specs.Tiles.{holds, some_holds, pairs_of}
@@ -57,6 +57,18 @@ included own others true inside outside =
 included own others false inside outside =
     let w = outside refl in
     sym (has_pairs-false (pairs_of own) (pairs_of others) w.0 (has-pairs_of others w.0 ∙ w.1) (has-pairs_of own w.0 ∙ w.2))
+
+-- ===== No pairs
+
+pub emptied : (ts : List Tile) (r : Bool) → (r ≡ true → (p : ℕ × ℕ) → some_holds ts p ≡ false) → (r ≡ false → (p : ℕ × ℕ) × (some_holds ts p ≡ true)) → r ≡ eqb (length (pairs_of ts)) 0
+emptied ts true none some =
+    let is : pairs_of ts ≡ [] = same_members (pairs_of ts) [] (ascending-pairs_of ts) refl (λ p. has-pairs_of ts p ∙ none refl p) in
+    sym (ap (λ ps. eqb (length ps) 0) is)
+emptied ts false none some = let w = some refl in sym (longer (pairs_of ts) w.0 (has-pairs_of ts w.0 ∙ w.1))
+  where
+    longer : (ps : List (ℕ × ℕ)) (p : ℕ × ℕ) → has_pair p ps ≡ true → eqb (length ps) 0 ≡ false
+    longer [] p h = absurd (both_ways false refl h)
+    longer (q ∷ qs) p h = false_from_ne_true (eqb (length (q ∷ qs)) 0) (λ e. let none = eqb-true (length (q ∷ qs)) 0 e in omega (arith, none))
 
 -- ===== Changes
 

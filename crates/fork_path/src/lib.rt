@@ -9,7 +9,7 @@ ghost use Rattle.fork_path.specs.Tiles.{keys_of, some_holds};
 mod tile_lists;
 mod tiles;
 
-use crate::tile_lists::{count_of, drop_fork, merged, put_tile, tile_near, with_spare};
+use crate::tile_lists::{are_empty, count_of, drop_fork, merged, put_tile, tile_near, with_spare};
 use crate::tiles::Tile;
 use std::alloc::Global;
 use std::marker::Model;
@@ -60,7 +60,7 @@ impl ForkPath {
     pub fn is_empty(&self) -> bool
         ensures { result ≡ (length self.now.pairs == 0) }
     {
-        self.len() == 0
+        are_empty(self.tiles.as_slice())
     }
 
     /// Whether the pair is one of these, by a binary search.

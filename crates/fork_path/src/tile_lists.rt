@@ -23,6 +23,19 @@ pub fn count_of(tiles: &[Tile]) -> usize
     pairs
 }
 
+/// Whether the tiles have no pair.
+pub fn are_empty(tiles: &[Tile]) -> bool
+    ensures none { result ≡ true → (p : ℕ × ℕ) → some_holds tiles.now p ≡ false }
+    ensures some { result ≡ false → (p : ℕ × ℕ) × (some_holds tiles.now p ≡ true) }
+{
+    for tile in tiles {
+        if !tile.is_empty() {
+            return false;
+        }
+    }
+    true
+}
+
 /// The place of the first tile that doesn't stand before this one.
 fn place_of(tiles: &[Tile], tile: Tile) -> usize
     ensures bound { result ≤ length tiles.now }

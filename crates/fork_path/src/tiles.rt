@@ -43,7 +43,9 @@ impl Tile {
 
     /// Whether no pair is left.
     pub fn is_empty(self) -> bool
-        ensures { result ≡ (self.bits == 0) }
+        ensures bits { result ≡ (self.bits == 0) }
+        ensures none { result ≡ true → (p : ℕ × ℕ) → holds self p ≡ false }
+        ensures some { result ≡ false → (p : ℕ × ℕ) × (holds self p ≡ true) }
     {
         self.bits == 0
     }
