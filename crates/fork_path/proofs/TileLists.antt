@@ -1,17 +1,16 @@
 -- Lists of tiles: what they hold, and the order of their keys.
-use Rattle.std.proofs.Common.{◌≡◌, ℕ, ◌+◌, ◌-◌, ◌<◌, ◌≤◌, Bool, true, false, not, ◌&&◌, ◌||◌, List, [], ◌∷◌, ◌++◌, length, get_or, take, drop, set, map, filter, eqb, IsTrue, refl, sym, ◌∙◌, ap, ap₂, subst, ◌⊎◌, inl, inr, arith}
-use Rattle.std.specs.List.{AllWithin, insert, list_any, list_all}
+use Rattle.std.proofs.Common.{◌≡◌, ℕ, ◌<◌, ◌≤◌, Bool, true, false, not, ◌&&◌, ◌||◌, List, [], ◌∷◌, ◌++◌, length, get_or, take, drop, set, filter, eqb, IsTrue, refl, sym, ◌∙◌, ap, ap₂, subst, inl, inr, arith}
+use Rattle.std.specs.List.{AllWithin, insert, list_all}
 use Rattle.std.specs.List.Sorted.{IsPartitionPoint, IsPartitionedBy}
-use Rattle.std.proofs.lemmas.List.{get_or-map, get_or_default, length-map, take-map, drop-map, map-append, take-append-drop, take_rest}
+use Rattle.std.proofs.lemmas.List.{get_or-map, length-map, take-map, drop-map, map-append, take-append-drop}
 use Rattle.std.proofs.lemmas.List.Folds.{list_any-append}
-use Rattle.std.proofs.Math.Seq.{drop-cons}
-use Rattle.std.proofs.lemmas.Bool.{and_parts, and_from, or_cases, or_left, or_right, both_ways, false_from_ne_true, cases_Bool}
+use Rattle.std.proofs.lemmas.Bool.{and_parts, and_from, or_left, or_right, both_ways, cases_Bool}
 use Rattle.fork_path.specs.declared.tiles.Tile.{Tile}
 use Rattle.fork_path.specs.Pairs.{is_pair_before, are_ascending_pairs, is_same_pair, has_pair, with_pair}
 use Rattle.fork_path.specs.Tiles.{key_of, keys_of, holds, some_holds}
-use Rattle.fork_path.proofs.PairOrder.{before-isnt_same, after-isnt_same, same_pair-true, same_pair_self, same_pair_from, ascending-rest, before-rest, has-before, parted}
+use Rattle.fork_path.proofs.PairOrder.{before-isnt_same, after-isnt_same, ascending-rest, before-rest, parted}
 use Rattle.fork_path.proofs.PairSets.{ascending-with_pair, ascending-before, at-is_has, searched-with_pair}
-use Rattle.fork_path.proofs.TileBits.{holds-key, holds-beside}
+use Rattle.fork_path.proofs.TileBits.{holds-beside}
 
 -- ===== Tests
 
@@ -21,10 +20,6 @@ or_turn true true c = refl
 or_turn true false c = refl
 or_turn false true c = refl
 or_turn false false c = refl
-
-pub or_assoc : (a b c : Bool) → ((a || b) || c) ≡ (a || (b || c))
-or_assoc true b c = refl
-or_assoc false b c = refl
 
 -- ===== Keys
 
@@ -134,9 +129,10 @@ parted-tiles t ts up i j d le lt h =
 pub point-of_keys : (t : Tile) (ts : List Tile) (i : ℕ) → i ≤ length ts → IsPartitionPoint (λ u. is_pair_before (key_of u) (key_of t) ≡ true) (λ u. is_pair_before (key_of u) (key_of t) ≡ false) ts i →
     IsPartitionPoint (λ k. is_pair_before k (key_of t) ≡ true) (λ k. is_pair_before k (key_of t) ≡ false) (keys_of ts) i
 point-of_keys t ts i le point =
-    let len : length (keys_of ts) ≡ length ts = keys-length ts in
-    (within-keys (λ k. is_pair_before k (key_of t) ≡ true) t ts 0 i le point.0,
-    subst (λ n. AllWithin (λ k. is_pair_before k (key_of t) ≡ false) (keys_of ts) i n) (sym len) (within-keys (λ k. is_pair_before k (key_of t) ≡ false) t ts i (length ts) (omega arith) point.1))
+    let len : length (keys_of ts) ≡ length ts = keys-length ts in (
+      within-keys (λ k. is_pair_before k (key_of t) ≡ true) t ts 0 i le point.0,
+      subst (λ n. AllWithin (λ k. is_pair_before k (key_of t) ≡ false) (keys_of ts) i n) (sym len) (within-keys (λ k. is_pair_before k (key_of t) ≡ false) t ts i (length ts) (omega arith) point.1),
+    )
 
 -- a search that finds another tile, or none, shows that there is no tile of the key
 pub searched-none : (t : Tile) (ts : List Tile) (i : ℕ) → are_ascending_pairs (keys_of ts) ≡ true → i ≤ length ts →

@@ -1,13 +1,13 @@
 -- The tiles of two ascending lists as one.
-use Rattle.std.proofs.Common.{◌≡◌, ℕ, ◌+◌, ◌-◌, ◌<◌, ◌≤◌, Bool, true, false, ◌||◌, List, [], ◌∷◌, ◌++◌, length, get_or, take, drop, map, IsTrue, refl, sym, ◌∙◌, ap, ap₂, subst, arith}
+use Rattle.std.proofs.Common.{◌≡◌, ℕ, ◌+◌, ◌-◌, ◌<◌, ◌≤◌, Bool, true, false, ◌||◌, List, [], ◌∷◌, ◌++◌, length, get_or, take, drop, IsTrue, refl, sym, ◌∙◌, ap, ap₂, subst, arith}
 use Rattle.std.specs.List.{AllWithin}
-use Rattle.std.proofs.lemmas.List.{get_or_default, take-map, drop-map, drop_all, map-append, take_rest}
+use Rattle.std.proofs.lemmas.List.{take-map, drop-map, map-append, take_rest}
 use Rattle.std.proofs.Math.Seq.{drop-cons}
 use Rattle.fork_path.specs.declared.tiles.Tile.{Tile}
 use Rattle.fork_path.specs.Pairs.{is_pair_before, are_ascending_pairs, is_same_pair, with_pair, with_each}
 use Rattle.fork_path.specs.Tiles.{key_of, keys_of, holds, some_holds}
 use Rattle.fork_path.proofs.Merges.{Merging, merging-more, around-found, around-new, ascending-with_each, merged-whole}
-use Rattle.fork_path.proofs.TileLists.{key-at, keys-length, some-append, some-split, or_assoc}
+use Rattle.fork_path.proofs.TileLists.{key-at, keys-length, some-append, some-split}
 
 -- ===== Slices
 
@@ -128,29 +128,6 @@ tile_merging-more base own others out rest front behind mid new d joined index l
     made p =
         ap (λ xs. some_holds xs p) e₂ ∙ some-append mid (joined ∷ []) p
         ∙ ap₂ (λ a b. a || b) (ap (λ xs. some_holds xs p) e₁ ∙ some-append out front p) (or_false (holds joined p))
-
--- what the walk starts from
-pub tile_merging-starts : (base own others : List Tile) → TileMerging base own others base own 0
-tile_merging-starts base own others = record {
-  keys = λ up up₂. record { ascending = up; whole = refl };
-  pairs = λ p. refl;
-}
-
--- what it ends with
-pub tile_merging-keys : (base own others out rest new : List Tile) (index : ℕ) → are_ascending_pairs (keys_of own) ≡ true → are_ascending_pairs (keys_of others) ≡ true → index ≡ length others → TileMerging base own others out rest index → new ≡ out ++ rest →
-    keys_of new ≡ keys_of base ++ with_each (keys_of others) (keys_of own)
-tile_merging-keys base own others out rest new index up up₂ done m e =
-    let len : length (keys_of others) ≡ length others = keys-length others in
-    let none : drop index (keys_of others) ≡ [] = drop_all index (keys_of others) (omega arith) in
-    ap keys_of e ∙ map-append key_of out rest
-    ∙ sym ((m.keys up up₂).whole ∙ ap (λ ks. keys_of out ++ with_each ks (keys_of rest)) none)
-
-pub tile_merging-pairs : (base own others out rest new : List Tile) (index : ℕ) → index ≡ length others → TileMerging base own others out rest index → new ≡ out ++ rest → (p : ℕ × ℕ) →
-    some_holds new p ≡ (some_holds base p || (some_holds others p || some_holds own p))
-tile_merging-pairs base own others out rest new index done m e p =
-    let none : drop index others ≡ [] = drop_all index others (omega arith) in
-    ap (λ xs. some_holds xs p) e ∙ some-append out rest p
-    ∙ sym (m.pairs p ∙ ap (λ xs. some_holds out p || (some_holds xs p || some_holds rest p)) none)
 
 -- ===== What both lists begin with
 

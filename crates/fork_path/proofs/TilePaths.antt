@@ -1,14 +1,11 @@
 -- What calls on a path's tiles say of its pairs.
-use Rattle.std.proofs.Common.{◌≡◌, ℕ, ◌+◌, ◌-◌, ◌<◌, ◌≤◌, Bool, true, false, not, ◌&&◌, ◌||◌, List, [], ◌∷◌, ◌++◌, length, get_or, drop, eqb, refl, sym, ◌∙◌, ap, ap₂, subst, inl, inr, eqb-true, arith}
-use Rattle.std.proofs.lemmas.List.{drop_all}
-use Rattle.std.proofs.Math.Seq.{drop-cons}
-use Rattle.std.proofs.lemmas.Bool.{or_cases, both_ways, false_from_ne_true}
+use Rattle.std.proofs.Common.{◌≡◌, ℕ, Bool, true, false, not, ◌&&◌, ◌||◌, List, [], ◌∷◌, ◌++◌, length, eqb, refl, sym, ◌∙◌, ap, ap₂, subst, eqb-true, arith}
+use Rattle.std.proofs.lemmas.Bool.{both_ways, false_from_ne_true}
 use Rattle.fork_path.specs.declared.tiles.Tile.{Tile}
 use Rattle.fork_path.specs.Pairs.{are_ascending_pairs, is_same_pair, has_pair, has_pairs, with_pair, without_pairs_of}
 use Rattle.fork_path.specs.Tiles.{holds, some_holds, pairs_of}
 use Rattle.fork_path.proofs.PairOrder.{same_pair-true, same_pair_self}
 use Rattle.fork_path.proofs.PairSets.{ascending-with_pair, ascending-filter, has-with_pair}
-use Rattle.fork_path.proofs.TileLists.{some-at}
 use Rattle.fork_path.proofs.TileViews.{has-pairs_of, ascending-pairs_of, same_members, has-filter, has_pairs-true, has_pairs-false}
 
 -- the pairs of a path, seen from outside
@@ -30,26 +27,6 @@ contained ts tile own q false of near inside outside =
     sym (subst (λ z. some_holds ts z ≡ false) is (near w.0 w.1 ∙ w.2))
 
 -- ===== The walk along the tiles of another path
-
-pub inside-starts : (own others : List Tile) (p : ℕ × ℕ) → some_holds (drop (length others) others) p ≡ true → some_holds own p ≡ true
-inside-starts own others p h = absurd (both_ways false refl (sym (ap (λ xs. some_holds xs p) (drop_all (length others) others (omega arith))) ∙ h))
-
-pub inside-more : (own others : List Tile) (place : ℕ) (d tile : Tile) → 0 < place → place ≤ length others → ((p : ℕ × ℕ) → some_holds (drop place others) p ≡ true → some_holds own p ≡ true) →
-    ((p : ℕ × ℕ) → holds (get_or others (place - 1) d) p ≡ true → some_holds own p ≡ holds tile p) → ((p : ℕ × ℕ) → holds (get_or others (place - 1) d) p ≡ true → holds tile p ≡ true) →
-    (p : ℕ × ℕ) → some_holds (drop (place - 1) others) p ≡ true → some_holds own p ≡ true
-inside-more own others place d tile some le all near within p h =
-    let n = place - 1 in
-    let next : ℕ.suc n ≡ place = omega (arith, some) in
-    let left : drop n others ≡ get_or others n d ∷ drop place others = subst (λ k. drop n others ≡ get_or others n d ∷ drop k others) next (drop-cons others n d (omega (arith, some, le))) in
-    elim (or_cases (holds (get_or others n d) p) (some_holds (drop place others) p) (sym (ap (λ xs. some_holds xs p) left) ∙ h)) [
-      | inl here ↦ near p here ∙ within p here
-      | inr more ↦ all p more
-    ]
-
--- a pair of one tile that isn't in the tile found for it
-pub outside-at : (own others : List Tile) (n : ℕ) (d tile : Tile) → n < length others → ((p : ℕ × ℕ) → holds (get_or others n d) p ≡ true → some_holds own p ≡ holds tile p) →
-    (p : ℕ × ℕ) × (holds (get_or others n d) p ≡ true) × (holds tile p ≡ false) → (p : ℕ × ℕ) × (some_holds others p ≡ true) × (some_holds own p ≡ false)
-outside-at own others n d tile lt near w = (w.0, some-at others n d w.0 lt w.1, near w.0 w.1 ∙ w.2)
 
 pub included : (own others : List Tile) (r : Bool) → (r ≡ true → (p : ℕ × ℕ) → some_holds others p ≡ true → some_holds own p ≡ true) → (r ≡ false → (p : ℕ × ℕ) × (some_holds others p ≡ true) × (some_holds own p ≡ false)) → r ≡ has_pairs (pairs_of own) (pairs_of others)
 included own others true inside outside =

@@ -1,5 +1,5 @@
 -- The pairs that tiles stand for, ascending, each once.
-use Rattle.std.proofs.Common.{◌≡◌, ℕ, ◌+◌, ◌-◌, ◌*◌, ◌/◌, ◌%◌, ◌^◌, ◌<◌, ◌≤◌, Bool, true, false, ◌&&◌, ◌||◌, List, [], ◌∷◌, ◌++◌, length, get_or, map, filter, eqb, if◌then◌else◌, refl, sym, ◌∙◌, ap, ap₂, subst, inl, inr, arith}
+use Rattle.std.proofs.Common.{◌≡◌, ℕ, ◌+◌, ◌-◌, ◌*◌, ◌/◌, ◌%◌, ◌^◌, ◌<◌, ◌≤◌, Bool, true, false, ◌&&◌, ◌||◌, List, [], ◌∷◌, ◌++◌, length, get_or, map, filter, if◌then◌else◌, refl, sym, ◌∙◌, ap, ap₂, subst, inl, inr, arith}
 use Rattle.std.specs.Prelude.{sum_by, count_ones}
 use Rattle.std.specs.Int.{bit_at}
 use Rattle.std.specs.List.{flat_map, list_all}
@@ -197,7 +197,7 @@ length-new (p ∷ ps) qs up up₂ apart =
     further : (x : ℕ × ℕ) → has_pair x ps ≡ true → has_pair x (with_pair p qs) ≡ false
     further x h =
         let other : is_same_pair x p ≡ false = false_from_ne_true (is_same_pair x p) (λ same.
-            both_ways (has_pair x ps) (subst (λ z. has_pair z ps ≡ false) (sym (same_pair-true x p same)) (has-none p ps (before-rest p ps up))) h) in
+        both_ways (has_pair x ps) (subst (λ z. has_pair z ps ≡ false) (sym (same_pair-true x p same)) (has-none p ps (before-rest p ps up))) h) in
         has-with_pair x p qs ∙ or_from (is_same_pair x p) (has_pair x qs) other (apart x (or_right (is_same_pair x p) (has_pair x ps) h))
 
 -- each tile's bits are those of a word

@@ -181,7 +181,12 @@ mod tests {
         path.with_pair(2, 1);
         path.with_pair(7, 0);
         path.with_pair(2, 0);
-        assert!(rt; path.contains(2, 0) && path.contains(2, 1) && path.contains(7, 0) && !path.contains(7, 1));
+        assert!(rt;
+            path.contains(2, 0)
+                && path.contains(2, 1)
+                && path.contains(7, 0)
+                && !path.contains(7, 1)
+        );
         assert_eq!(rt; path.len(), 3);
         let mut other = path.copy().expect(&rt, "a copy");
         other.reserve(1).expect(&rt, "room");

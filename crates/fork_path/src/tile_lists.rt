@@ -138,11 +138,7 @@ pub fn with_spare(tiles: usize) -> usize {
 }
 
 /// The pairs of both lists of ascending tiles.
-pub fn merged(
-    alloc: Global,
-    own: &[Tile],
-    others: &[Tile],
-) -> Result<Vec<Tile>, NoMemory>
+pub fn merged(alloc: Global, own: &[Tile], others: &[Tile]) -> Result<Vec<Tile>, NoMemory>
     ensures ascending { IsTrue (are_ascending_pairs (keys_of own.now)) → IsTrue (are_ascending_pairs (keys_of others.now))
         → IfOk result (λ tiles. IsTrue (are_ascending_pairs (keys_of tiles.items))) }
     ensures pairs { IfOk result (λ tiles. (p : ℕ × ℕ) → some_holds tiles.items p ≡ (some_holds others.now p || some_holds own.now p)) }
@@ -159,11 +155,7 @@ pub fn merged(
 }
 
 /// Puts the pairs of both lists of ascending tiles behind these tiles.
-fn add_merged(
-    tiles: &mut Vec<Tile>,
-    own: &[Tile],
-    others: &[Tile],
-) -> Result<(), NoMemory>
+fn add_merged(tiles: &mut Vec<Tile>, own: &[Tile], others: &[Tile]) -> Result<(), NoMemory>
     ensures keys { IsTrue (are_ascending_pairs (keys_of own.now)) → IsTrue (are_ascending_pairs (keys_of others.now))
         → OnOk result (keys_of tiles.new.items ≡ keys_of tiles.old.items ++ with_each (keys_of others.now) (keys_of own.now)) }
     ensures pairs { OnOk result ((p : ℕ × ℕ)
@@ -204,7 +196,11 @@ fn around(tiles: &[Tile], tile: Tile) -> (&[Tile], Tile, &[Tile])
 {
     let place = first_not_before(tiles, tile);
     if is_at(tiles, place, tile) {
-        (&tiles[..place], tiles[place].joined(tile), &tiles[place + 1..])
+        (
+            &tiles[..place],
+            tiles[place].joined(tile),
+            &tiles[place + 1..],
+        )
     } else {
         (&tiles[..place], tile, &tiles[place..])
     }

@@ -1,4 +1,4 @@
-use Rattle.std.proofs.Common.{◌≡◌, ◌∙◌, ◌==◌, length, ap}
+use Rattle.std.proofs.Common.{◌∙◌, ◌==◌, length, ap}
 use Rattle.fork_path.specs.Tiles.{pairs_of}
 use Rattle.fork_path.proofs.TilePaths.{emptied}
 use Rattle.fork_path.proofs.ForkPath.is_empty.Goals as goal

@@ -1,4 +1,4 @@
-use Rattle.std.proofs.Common.{◌≡◌, ◌∙◌, ◌||◌, ◌++◌, [], false, length, ap, ap₂, sym, arith, eqb-true, vec_len}
+use Rattle.std.proofs.Common.{◌∙◌, ◌||◌, ap, ap₂, sym, arith, eqb-true, vec_len}
 use Rattle.fork_path.specs.Tiles.{some_holds}
 use Rattle.fork_path.proofs.TileViews.{ascending-pairs_of}
 use Rattle.fork_path.proofs.TilePaths.{seen-ascending, united-pairs, united-first}

@@ -1,4 +1,4 @@
-use Rattle.std.proofs.Common.{◌≡◌, ◌≤◌, length, true, subst, arith}
+use Rattle.std.proofs.Common.{◌≡◌, length, true, subst, arith}
 use Rattle.std.specs.List.{AllWithin}
 use Rattle.fork_path.specs.declared.tiles.Tile.{Tile}
 use Rattle.fork_path.specs.Pairs.{is_pair_before}

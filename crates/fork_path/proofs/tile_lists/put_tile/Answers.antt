@@ -1,10 +1,8 @@
-use Rattle.std.proofs.Common.{◌≡◌, ◌<◌, ◌≤◌, ◌∙◌, ◌||◌, true, false, length, get_or, IsTrue, IsOk, sym, ap, ap₂, subst}
+use Rattle.std.proofs.Common.{◌≡◌, ◌<◌, ◌≤◌, ◌∙◌, ◌||◌, true, false, length, get_or, IsTrue, sym, ap, subst}
 use Rattle.std.specs.List.{insert}
 use Rattle.std.specs.List.Sorted.{IsPartitionPoint}
 use Rattle.std.specs.Result.{is_ok}
 use Rattle.std.proofs.lemmas.Bool.{cond-true}
-use Rattle.std.proofs.lemmas.List.{get_or_default}
-use Rattle.fork_path.specs.declared.tiles.Tile.{Tile}
 use Rattle.fork_path.specs.Pairs.{is_pair_before, is_same_pair, are_ascending_pairs}
 use Rattle.fork_path.specs.Tiles.{key_of, keys_of, holds, some_holds}
 use Rattle.fork_path.proofs.TileLists.{keys-set, some-set, some-insert, inserted-keys}

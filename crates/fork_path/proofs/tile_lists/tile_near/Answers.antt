@@ -1,4 +1,4 @@
-use Rattle.std.proofs.Common.{◌≡◌, sym, ◌∙◌, ap}
+use Rattle.std.proofs.Common.{sym, ◌∙◌, ap}
 use Rattle.std.proofs.lemmas.List.{get_or_default}
 use Rattle.fork_path.specs.Tiles.{holds}
 use Rattle.fork_path.proofs.TileLists.{holds-at, holds-no_key}
