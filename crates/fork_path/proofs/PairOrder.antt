@@ -14,7 +14,7 @@ before-cases a b h = elim (or_cases (ltb a.0 b.0) (eqb a.0 b.0 && ltb a.1 b.1) h
   | inr m ↦ let p = and_parts (eqb a.0 b.0) (ltb a.1 b.1) m in inr (eqb-true a.0 b.0 p.0, ltb-true a.1 b.1 p.1)
 ]
 
-before-from : (a b : ℕ × ℕ) → (a.0 < b.0) ⊎ ((a.0 ≡ b.0) × (a.1 < b.1)) → is_pair_before a b ≡ true
+pub before-from : (a b : ℕ × ℕ) → (a.0 < b.0) ⊎ ((a.0 ≡ b.0) × (a.1 < b.1)) → is_pair_before a b ≡ true
 before-from a b (inl lt) = or_left (ltb a.0 b.0) (eqb a.0 b.0 && ltb a.1 b.1) (lt-ltb a.0 b.0 lt)
 before-from a b (inr p) =
     or_right (ltb a.0 b.0) (eqb a.0 b.0 && ltb a.1 b.1) (and_from (eqb a.0 b.0) (ltb a.1 b.1) (eq-eqb a.0 b.0 p.0) (lt-ltb a.1 b.1 p.1))
@@ -130,18 +130,6 @@ has-between p (q ∷ ps) ℕ.zero (ℕ.suc place) up le within below above =
 has-between p (q ∷ ps) (ℕ.suc start) ℕ.zero up le within below above = absurd (omega arith)
 has-between p (q ∷ ps) (ℕ.suc start) (ℕ.suc place) up le within below above =
     has-between p ps start place (ascending-rest q ps up) (omega arith) (omega arith) (λ k d lo hi. below (ℕ.suc k) d (omega arith) (omega arith)) (λ lt. above (omega arith))
-
--- of ascending pairs each stands before those at later places
-pub before-at : (ps : List (ℕ × ℕ)) (i k : ℕ) (d : ℕ × ℕ) → are_ascending_pairs ps ≡ true → i < k → k < length ps → is_pair_before (get_or ps i d) (get_or ps k d) ≡ true
-before-at [] i k d up lt within = absurd (omega arith)
-before-at (p ∷ ps) i ℕ.zero d up lt within = absurd (omega arith)
-before-at (p ∷ ps) ℕ.zero (ℕ.suc k) d up lt within = head ps k (before-rest p ps up) (omega arith)
-  where
-    head : (qs : List (ℕ × ℕ)) (n : ℕ) → list_all (is_pair_before p) qs ≡ true → n < length qs → is_pair_before p (get_or qs n d) ≡ true
-    head [] n a l = absurd (omega arith)
-    head (q ∷ qs) ℕ.zero a l = (and_parts (is_pair_before p q) (list_all (is_pair_before p) qs) a).0
-    head (q ∷ qs) (ℕ.suc n) a l = head qs n (and_parts (is_pair_before p q) (list_all (is_pair_before p) qs) a).1 (omega arith)
-before-at (p ∷ ps) (ℕ.suc i) (ℕ.suc k) d up lt within = before-at ps i k d (ascending-rest p ps up) (omega arith) (omega arith)
 
 -- what is at a place is one of these
 pub has-at : (p : ℕ × ℕ) (ps : List (ℕ × ℕ)) (n : ℕ) → n < length ps → get_or ps n p ≡ p → has_pair p ps ≡ true

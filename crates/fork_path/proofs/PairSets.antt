@@ -1,9 +1,8 @@
 -- What `with_pair` does to ascending pairs.
-use Rattle.std.proofs.Common.{◌≡◌, ℕ, ◌+◌, ◌<◌, ◌≤◌, Bool, true, false, ◌||◌, List, [], ◌∷◌, length, get_or, filter, if◌then◌else◌, IsTrue, Result, IsOk, refl, sym, ◌∙◌, ap, subst, inl, inr, arith}
+use Rattle.std.proofs.Common.{◌≡◌, ℕ, ◌+◌, ◌<◌, ◌≤◌, Bool, true, false, ◌||◌, List, [], ◌∷◌, length, get_or, filter, if◌then◌else◌, IsTrue, refl, sym, ◌∙◌, ap, subst, inl, inr, arith}
 use Rattle.std.specs.List.{AllWithin, insert, list_all}
 use Rattle.std.specs.List.Sorted.{IsPartitionPoint}
-use Rattle.std.specs.Result.{is_ok}
-use Rattle.std.proofs.lemmas.Bool.{and_parts, and_from, cases_Bool, both_ways, cond-true}
+use Rattle.std.proofs.lemmas.Bool.{and_parts, and_from, cases_Bool, both_ways}
 use Rattle.fork_path.specs.Pairs.{is_pair_before, are_ascending_pairs, is_same_pair, has_pair, with_pair}
 use Rattle.fork_path.proofs.PairOrder.{cases_pair, before-itself, before_isnt_after, after-isnt_same, same_pair_self, behind, ascending-rest, before-rest, has-before, has-at, has-between}
 
@@ -114,34 +113,12 @@ at-is_has p ps i true up le below above found missing = let w = found refl in sy
 at-is_has p ps i false up le below above found missing =
     sym (has-between p ps 0 i up (omega arith) le below (λ lt. behind p (get_or ps i p) (above i p (omega arith) lt) (missing refl lt)))
 
--- the same of what a search and a test told
-pub searched-is_has : (p : ℕ × ℕ) (ps qs : List (ℕ × ℕ)) (i : ℕ) (here : Bool) → are_ascending_pairs ps ≡ true → qs ≡ ps → i ≤ length ps → (IsTrue (are_ascending_pairs ps) → IsPartitionPoint (λ q. is_pair_before q p ≡ true) (λ q. is_pair_before q p ≡ false) ps i) →
-    (here ≡ true → (i < length qs) × (get_or qs i p ≡ p)) → (here ≡ false → i < length qs → is_same_pair p (get_or qs i p) ≡ false) → here ≡ has_pair p ps
-searched-is_has p ps qs i here up same le parts found missing =
-    let point = parts up in
-    at-is_has p ps i here up le point.0 point.1 (λ t. subst (λ zs. (i < length zs) × (get_or zs i p ≡ p)) same (found t)) (λ f. subst (λ zs. i < length zs → is_same_pair p (get_or zs i p) ≡ false) same (missing f))
-
 -- a pair that a search didn't find goes to the place that it told
 pub searched-with_pair : (p : ℕ × ℕ) (ps qs : List (ℕ × ℕ)) (i : ℕ) → are_ascending_pairs ps ≡ true → qs ≡ ps → i ≤ length ps → (IsTrue (are_ascending_pairs ps) → IsPartitionPoint (λ q. is_pair_before q p ≡ true) (λ q. is_pair_before q p ≡ false) ps i) →
     (i < length qs → is_same_pair p (get_or qs i p) ≡ false) → insert ps i p ≡ with_pair p ps
 searched-with_pair p ps qs i up same le parts missing =
     let point = parts up in
     sym (with_pair-insert p ps i up le point.0 (λ lt. point.1 i p (omega arith) lt) (subst (λ zs. i < length zs → is_same_pair p (get_or zs i p) ≡ false) same missing))
-
--- what an insertion with room leaves, at the place that a search told
-pub inserted-with_pair : {E : Type 0} (p : ℕ × ℕ) (ps qs zs : List (ℕ × ℕ)) (i : ℕ) (r : Result (Unit {0}) E) (new : List (ℕ × ℕ)) → are_ascending_pairs ps ≡ true → qs ≡ ps → zs ≡ ps → i ≤ length qs →
-    (IsTrue (are_ascending_pairs qs) → IsPartitionPoint (λ q. is_pair_before q p ≡ true) (λ q. is_pair_before q p ≡ false) qs i) → (i < length zs → is_same_pair p (get_or zs i p) ≡ false) →
-    new ≡ (if is_ok r then insert ps i p else ps) → IsOk r → new ≡ with_pair p ps
-inserted-with_pair p ps qs zs i r new up same₁ same₂ le parts missing items ok =
-    let le₂ : i ≤ length ps = subst (λ xs. i ≤ length xs) same₁ le in
-    let parts₂ : IsTrue (are_ascending_pairs ps) → IsPartitionPoint (λ q. is_pair_before q p ≡ true) (λ q. is_pair_before q p ≡ false) ps i =
-    subst (λ xs. IsTrue (are_ascending_pairs xs) → IsPartitionPoint (λ q. is_pair_before q p ≡ true) (λ q. is_pair_before q p ≡ false) xs i) same₁ parts in
-    items ∙ cond-true (is_ok r) (insert ps i p) ps ok ∙ searched-with_pair p ps zs i up same₂ le₂ parts₂ missing
-
-pub found-with_pair : (p : ℕ × ℕ) (ps zs : List (ℕ × ℕ)) (i : ℕ) → are_ascending_pairs ps ≡ true → zs ≡ ps → (i < length zs) × (get_or zs i p ≡ p) → ps ≡ with_pair p ps
-found-with_pair p ps zs i up same found =
-    let w : (i < length ps) × (get_or ps i p ≡ p) = subst (λ xs. (i < length xs) × (get_or xs i p ≡ p)) same found in
-    sym (with_pair-found p ps up (has-at p ps i w.0 w.1))
 
 -- what is known of pairs after one went in
 pub record Grown (p : ℕ × ℕ) (old new : List (ℕ × ℕ)) : Type 0 where
@@ -158,7 +135,7 @@ grown p old new up e = record {
 
 -- ===== Pairs without those of a fork
 
-ascending-before : (p : ℕ × ℕ) (ps : List (ℕ × ℕ)) → list_all (is_pair_before p) ps ≡ true → are_ascending_pairs ps ≡ true → are_ascending_pairs (p ∷ ps) ≡ true
+pub ascending-before : (p : ℕ × ℕ) (ps : List (ℕ × ℕ)) → list_all (is_pair_before p) ps ≡ true → are_ascending_pairs ps ≡ true → are_ascending_pairs (p ∷ ps) ≡ true
 ascending-before p [] a up = refl
 ascending-before p (q ∷ ps) a up =
     and_from (is_pair_before p q) (are_ascending_pairs (q ∷ ps)) (and_parts (is_pair_before p q) (list_all (is_pair_before p) ps) a).0 up

@@ -1,2 +1,3 @@
 -- What the lists of branches of forks are.
 pub mod Pairs
+pub mod Tiles

@@ -1,26 +1,36 @@
-use Rattle.std.proofs.Common.{◌≡◌, ◌∙◌, ◌||◌, true, ap, ap₂, subst, sym}
-use Rattle.fork_path.specs.Pairs.{are_ascending_pairs, has_pair, with_each}
-use Rattle.fork_path.proofs.Merges.{has-with_each, ascending-with_each}
+use Rattle.std.proofs.Common.{◌∙◌, ◌||◌, ap, ap₂, sym, arith, eqb-true, vec_len}
+use Rattle.fork_path.specs.Tiles.{some_holds}
+use Rattle.fork_path.proofs.TileViews.{ascending-pairs_of}
+use Rattle.fork_path.proofs.TilePaths.{seen-ascending, united-pairs, united-first}
 use Rattle.fork_path.proofs.ForkPath.unite.Goals as goal
 
-pub invariant_of-self-2 : goal.invariant_of-self-2
-invariant_of-self-2 c =
-    let up : are_ascending_pairs c.as_slice.result.now ≡ true = subst (λ ps. are_ascending_pairs ps ≡ true) (sym c.as_slice.ensures.value) c.self.invariant in
-    let up₂ : are_ascending_pairs c.as_slice-2.result.now ≡ true = subst (λ ps. are_ascending_pairs ps ≡ true) (sym c.as_slice-2.ensures.value) c.other.invariant in
-    let made : c.in_ok-self-inside.field-0.items ≡ with_each c.as_slice-2.result.now c.as_slice.result.now = c.in_ok-self-inside.ensures up up₂ in
-    subst (λ ps. are_ascending_pairs ps ≡ true) (sym made) (ascending-with_each c.as_slice-2.result.now c.as_slice.result.now up)
+pub returns-in_err-reserve_exact-clause-ascending : goal.returns-in_err-reserve_exact-clause-ascending
+returns-in_err-reserve_exact-clause-ascending c = ascending-pairs_of c.reserve_exact.new.self.items
+
+pub returns-in_err-extend_from_slice-clause-ascending : goal.returns-in_err-extend_from_slice-clause-ascending
+returns-in_err-extend_from_slice-clause-ascending c = ascending-pairs_of c.extend_from_slice.new.self.items
+
+pub returns-then-is_empty-clause-pairs : goal.returns-then-is_empty-clause-pairs
+returns-then-is_empty-clause-pairs c =
+    united-pairs c.self.inside.tiles.items c.other.inside.tiles.items c.extend_from_slice.new.self.items c.args.self.now.pairs c.args.other.now.pairs
+    (ap (λ v. v.pairs) c.self.view_is) (ap (λ v. v.pairs) c.other.view_is)
+    (united-first c.self.inside.tiles.items c.other.inside.tiles.items c.reserve_exact.new.self.items c.as_slice-others.result.now c.extend_from_slice.new.self.items
+    (let none = eqb-true (vec_len c.self.inside.tiles) 0 (sym c.is_empty.ensures ∙ c.if-is_empty.true) in omega (arith, none)) c.reserve_exact.ensures.items c.as_slice-others.ensures.value c.in_ok-extend_from_slice.ensures.items)
+
+pub returns-then-is_empty-clause-ascending : goal.returns-then-is_empty-clause-ascending
+returns-then-is_empty-clause-ascending c = ascending-pairs_of c.extend_from_slice.new.self.items
+
+pub returns-in_err-tiles-clause-ascending : goal.returns-in_err-tiles-clause-ascending
+returns-in_err-tiles-clause-ascending c = seen-ascending c.self.inside.tiles.items c.args.self.now.pairs (ap (λ v. v.pairs) c.self.view_is)
+
+pub returns-then-len-gt-MOST_TILES-clause-ascending : goal.returns-then-len-gt-MOST_TILES-clause-ascending
+returns-then-len-gt-MOST_TILES-clause-ascending c = seen-ascending c.self.inside.tiles.items c.args.self.now.pairs (ap (λ v. v.pairs) c.self.view_is)
 
 pub returns-clause-pairs : goal.returns-clause-pairs
-returns-clause-pairs c = λ p.
-    let up : are_ascending_pairs c.as_slice.result.now ≡ true = subst (λ ps. are_ascending_pairs ps ≡ true) (sym c.as_slice.ensures.value) c.self.invariant in
-    let up₂ : are_ascending_pairs c.as_slice-2.result.now ≡ true = subst (λ ps. are_ascending_pairs ps ≡ true) (sym c.as_slice-2.ensures.value) c.other.invariant in
-    let made : c.in_ok-self-inside.field-0.items ≡ with_each c.as_slice-2.result.now c.as_slice.result.now = c.in_ok-self-inside.ensures up up₂ in
-    ap (has_pair p) made ∙ has-with_each p c.as_slice-2.result.now c.as_slice.result.now
-    ∙ ap₂ (λ xs ys. has_pair p xs || has_pair p ys) (c.as_slice-2.ensures.value ∙ ap (λ v. v.pairs) c.other.view_is) (c.as_slice.ensures.value ∙ ap (λ v. v.pairs) c.self.view_is)
+returns-clause-pairs c =
+    united-pairs c.self.inside.tiles.items c.other.inside.tiles.items c.in_ok-tiles.tiles.items c.args.self.now.pairs c.args.other.now.pairs
+    (ap (λ v. v.pairs) c.self.view_is) (ap (λ v. v.pairs) c.other.view_is)
+    (λ p. c.in_ok-tiles.ensures.pairs p ∙ ap₂ (λ xs ys. some_holds xs p || some_holds ys p) c.as_slice-2.ensures.value c.as_slice.ensures.value)
 
 pub returns-clause-ascending : goal.returns-clause-ascending
-returns-clause-ascending c =
-    let up : are_ascending_pairs c.as_slice.result.now ≡ true = subst (λ ps. are_ascending_pairs ps ≡ true) (sym c.as_slice.ensures.value) c.self.invariant in
-    let up₂ : are_ascending_pairs c.as_slice-2.result.now ≡ true = subst (λ ps. are_ascending_pairs ps ≡ true) (sym c.as_slice-2.ensures.value) c.other.invariant in
-    let made : c.in_ok-self-inside.field-0.items ≡ with_each c.as_slice-2.result.now c.as_slice.result.now = c.in_ok-self-inside.ensures up up₂ in
-    subst (λ ps. are_ascending_pairs ps ≡ true) (sym made) (ascending-with_each c.as_slice-2.result.now c.as_slice.result.now up)
+returns-clause-ascending c = ascending-pairs_of c.in_ok-tiles.tiles.items
