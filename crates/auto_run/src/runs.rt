@@ -30,7 +30,7 @@ pub fn run_auto<I: Source, O: Sink>(
 ) -> Status
     ensures outcome { WhileTold (I.left input.old) (I.left input.new)
         (AutoOutcome (over_lines site_machine) site.old.rules result (SiteStands site.old.core) (SiteStands site.new.core) (O.given output.old)
-            (O.given output.new)) }
+        (O.given output.new)) }
     ensures exact { WhileTold (I.left input.old) (I.left input.new) (λ first left. (all : List (List ℕ)) (rest : List ℕ)
         → AreLines first all rest → length first < most_taken
         → (Rose (I.faults input.old) (I.faults input.new) → ⊥) → (Rose (O.faults output.old) (O.faults output.new) → ⊥)
@@ -51,7 +51,7 @@ pub fn run_auto<I: Source, O: Sink>(
 fn run_auto_device<D: Duplex>(alloc: Global, site: &mut RuledSite, device: &mut D) -> Status
     ensures outcome { WhileTold (D.left device.old) (D.left device.new)
         (AutoOutcome (over_lines site_machine) site.old.rules result (SiteStands site.old.core) (SiteStands site.new.core) (D.given device.old)
-            (D.given device.new)) }
+        (D.given device.new)) }
     ensures exact { WhileTold (D.left device.old) (D.left device.new) (λ first left. (all : List (List ℕ)) (rest : List ℕ)
         → AreLines first all rest → length first < most_taken
         → (Rose (D.take_faults device.old) (D.take_faults device.new) → ⊥) → (Rose (D.faults device.old) (D.faults device.new) → ⊥)

@@ -51,7 +51,7 @@ abbrev pub Went : {S : Type 0} → PlainMachine S → (S → Type 0) → S → L
     → (before after : Option (List Seen)) → Type 0
 Went m to s new turns offer tally next before after =
     (turn : Turn) × (Keeps m to s new (turn ∷ turns) × (IsNoted tally next turn
-        × ((calls : List Seen) × ((calls_of turn ≡ Offered offer ∷ calls) × Tells before after calls))))
+    × ((calls : List Seen) × ((calls_of turn ≡ Offered offer ∷ calls) × Tells before after calls))))
 
 -- so does whatever run led here, once the offer was made
 abbrev pub GoesOn : {S : Type 0} → PlainMachine S → (from to : S → Type 0) → (old new : List (Option LineState)) → Ready → (tally next : Tally)
@@ -64,7 +64,7 @@ abbrev pub Turned : {S : Type 0} → PlainMachine S → (from to : S → Type 0)
     → (before after : Option (List Seen)) → Type 0
 Turned m from to old new tally next before after =
     (s : _) (turns : List Turn) → Keeps m from s old turns → (turn : Turn)
-        × (Keeps m to s new (turn ∷ turns) × (IsNoted tally next turn × Tells before after (calls_of turn)))
+    × (Keeps m to s new (turn ∷ turns) × (IsNoted tally next turn × Tells before after (calls_of turn)))
 
 -- from s so many turns led here, the edge told them, and upkeep was made whenever it was due
 pub record Led {S : Type 0} (m : PlainMachine S) (rule : Option UpkeepRule) (to : S → Type 0) (s : S) (lines : List (Option LineState)) (tally : Tally)

@@ -74,7 +74,7 @@ abbrev pub BeganAs : Store → Option Slot → List ℕ → Result (Option (Stat
 BeganAs store None k result = IfOk result (λ began. began ≡ None)
 BeganAs store (Some slot) k result =
     (rs : List Record) (ks : List StateId) → StoreStands store rs ks → (p : StateId) → id_at store.table slot ≡ Some p
-        → IfOk result (λ began. began ≡ read rs k p)
+    → IfOk result (λ began. began ≡ read rs k p)
 
 -- the values of these keys, which ascend; or the first that has none
 abbrev pub IsValued : (List ℕ → Option Write) → List (List ℕ) → Settled → Type 0

@@ -74,7 +74,7 @@ fn serve_lock<M: Machine + Send, G: Gate, D: Dial + Send, O: Sink, R: Threads + 
     ensures served { ServesLinks M.opening M.plain G.Link.left G.Link.given G.Link.take_faults G.Link.faults D.Link.left D.Link.given
         D.Link.take_faults D.Link.faults
         D.told D.faults (M.opening (start_of lock).machine) (start_of lock).max_trail (workload options.entry) (G.told gate.old) (G.told gate.new)
-            (G.faults gate.old) (G.faults gate.new)
+        (G.faults gate.old) (G.faults gate.new)
         dial.old dial.new (O.given output.old) (O.given output.new) (O.faults output.old) (O.faults output.new) result }
     ensures later { (G.faults gate.old ≤ G.faults gate.new) × (D.faults dial.old ≤ D.faults dial.new) }
 {

@@ -17,7 +17,7 @@ module _ {P : Type 0} (m : PlainMachine P) where
   abbrev pub LongerKeepsOutcomes : Type 0
   LongerKeepsOutcomes =
       (start : P) (most session : ℕ) (end : SessionEnd) (from : ℕ) (seen longer : List Event) (places : List ℕ) (old new : Option (List ℕ))
-          (first left : List ℕ)
+      (first left : List ℕ)
       → Begins seen longer → SessionOutcome m start most session end from seen places old new first left
       → SessionOutcome m start most session end from longer places old new first left
 

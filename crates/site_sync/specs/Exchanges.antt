@@ -37,7 +37,7 @@ EndsWell _ = ⊥
 abbrev pub BatchIsTaken : Type 0 → Type 0 → SyncEnd → List ℕ → List ℕ → Type 0
 BatchIsTaken TakesRose GivesRose end first left =
     (body rest : List ℕ) (batch : Batch) → IsBody body → first ≡ frame body ++ rest → SpellsReply body (BatchIs batch) → (TakesRose → ⊥)
-        → (GivesRose → ⊥) → EndsWell end
+    → (GivesRose → ⊥) → EndsWell end
 
 -- the first link that was left was had, and stands as it is now behind those that were put back
 abbrev pub CallsBack : {L : Type 0} → L → L → Option (ToldDial L) → Option (ToldDial L) → Type 0
