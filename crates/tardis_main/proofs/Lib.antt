@@ -3,3 +3,4 @@ mod Words
 mod WorldRuns
 mod Unserved
 mod Unexported
+mod Helping

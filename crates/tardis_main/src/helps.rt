@@ -13,15 +13,22 @@ pub enum Help {
 
 impl Help {
     /// The lines that are written.
-    pub fn text(self) -> &'static str {
+    pub fn text(self) -> &'static str
+        ensures usage { self ≡ Help.Usage → result.now ≡ USAGE.now }
+        ensures version { self ≡ Help.Version → result.now ≡ VERSION.now }
+    {
         match self {
             Help::Usage => USAGE,
-            Help::Version => "tardis 0.1.0\n",
+            Help::Version => VERSION,
         }
     }
 }
 
-const USAGE: &str = "\
+/// What the program tells of its version.
+pub const VERSION: &str = "tardis 0.1.0\n";
+
+/// What it tells of its commands.
+pub const USAGE: &str = "\
 tardis: one site of a branch-and-merge key-value store
 
 usage: tardis shell [--sites M] [--site N]

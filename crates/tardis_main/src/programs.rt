@@ -8,11 +8,12 @@ ghost use Rattle.command_words.specs.declared.commands.Place.{Place};
 ghost use Rattle.command_words.specs.Forms.{Serving};
 ghost use Rattle.site_commands.specs.Ends.{CausedBy};
 ghost use Rattle.durable_run.specs.Commands.{CausedByStore};
-ghost use Rattle.tardis_main.specs.Helps.{AreNone, AskUsage, AskVersion};
+ghost use Rattle.tardis_io.specs.Told.{WhileTold};
+ghost use Rattle.tardis_main.specs.Helps.{AreNone, AskUsage, AskVersion, Tells};
 ghost use Rattle.tardis_main.specs.Words.{AreDurable, AreServe};
 ghost use Rattle.tardis_main.specs.Program.{Audits, Autos, Durables, Exports, Imports, Loads, Runs, Serves, Shells, Worlds};
 
-use crate::helps::{Help, help_of};
+use crate::helps::{Help, USAGE, VERSION, help_of};
 use crate::tardis;
 use command_words::commands_are_at_a_site;
 use disk_store::Store;
@@ -42,6 +43,10 @@ pub fn carry_out<I: Source, O: Sink, G: Gate, D: Dial + Send, S: Store, R: Threa
         → ((result ≡ Status.Usage) ⊎ (result ≡ Status.NoMemory)) × (input.new ≡ input.old) × (output.new ≡ output.old) × (gate.new ≡ gate.old) × (dial.new ≡ dial.old) × (store.new ≡ store.old) }
     ensures help { AskUsage (map (λ w. string_bytes w) (drop 1 (into_iter_items args))) ⊎ AskVersion (map (λ w. string_bytes w) (drop 1 (into_iter_items args)))
         → ((result ≡ Status.Ok) ⊎ ((result ≡ Status.WriteFault) ⊎ ((result ≡ Status.NoMemory) × (output.new ≡ output.old)))) × (input.new ≡ input.old) }
+    ensures told_usage { AskUsage (map (λ w. string_bytes w) (drop 1 (into_iter_items args)))
+        → WhileTold (O.given output.old) (O.given output.new) (Tells USAGE.now result) }
+    ensures told_version { AskVersion (map (λ w. string_bytes w) (drop 1 (into_iter_items args)))
+        → WhileTold (O.given output.old) (O.given output.new) (Tells VERSION.now result) }
     ensures run { Runs I.left I.faults O.given O.faults input.old input.new output.old output.new
         (map (λ w. string_bytes w) (drop 1 (into_iter_items args))) result }
     ensures shell { Shells I.left I.faults O.given O.faults input.old input.new output.old output.new
@@ -124,6 +129,10 @@ fn command<I: Source, O: Sink, G: Gate, D: Dial + Send, S: Store, R: Threads + W
         → ((result ≡ Status.Usage) ⊎ (result ≡ Status.NoMemory)) × (input.new ≡ input.old) × (output.new ≡ output.old) × (gate.new ≡ gate.old) × (dial.new ≡ dial.old) × (store.new ≡ store.old) }
     ensures help { AskUsage (map (λ w. string_bytes w) words.now) ⊎ AskVersion (map (λ w. string_bytes w) words.now)
         → ((result ≡ Status.Ok) ⊎ ((result ≡ Status.WriteFault) ⊎ ((result ≡ Status.NoMemory) × (output.new ≡ output.old)))) × (input.new ≡ input.old) }
+    ensures told_usage { AskUsage (map (λ w. string_bytes w) words.now)
+        → WhileTold (O.given output.old) (O.given output.new) (Tells USAGE.now result) }
+    ensures told_version { AskVersion (map (λ w. string_bytes w) words.now)
+        → WhileTold (O.given output.old) (O.given output.new) (Tells VERSION.now result) }
     ensures run { Runs I.left I.faults O.given O.faults input.old input.new output.old output.new
         (map (λ w. string_bytes w) words.now) result }
     ensures shell { Shells I.left I.faults O.given O.faults input.old input.new output.old output.new
@@ -159,6 +168,8 @@ fn command<I: Source, O: Sink, G: Gate, D: Dial + Send, S: Store, R: Threads + W
 /// Writes what the program tells of itself.
 fn tell<O: Sink>(help: Help, output: &mut O) -> Status
     ensures status { (result ≡ Status.Ok) ⊎ (result ≡ Status.WriteFault) }
+    ensures usage { help ≡ Help.Usage → WhileTold (O.given output.old) (O.given output.new) (Tells USAGE.now result) }
+    ensures version { help ≡ Help.Version → WhileTold (O.given output.old) (O.given output.new) (Tells VERSION.now result) }
     ensures write_later { O.faults output.old ≤ O.faults output.new }
     ensures write { result ≡ Status.WriteFault → Rose (O.faults output.old) (O.faults output.new) }
 {

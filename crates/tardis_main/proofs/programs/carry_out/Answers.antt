@@ -17,6 +17,8 @@ use Rattle.site_commands.proofs.NoMemory.{no_frames, no_lines}
 use Rattle.tardis_main.specs.Helps.{AreNone}
 use Rattle.tardis_main.specs.Words.{AreDurable, AreServe}
 use Rattle.tardis_main.specs.Program.{site_at, Autos, Durables, Exports, Imports, work_of, Runs, Shells, Audits, Worlds, Loads}
+use Rattle.tardis_main.specs.declared.helps.TheConstants.{USAGE, VERSION}
+use Rattle.tardis_main.proofs.Helping.{told_nothing}
 use Rattle.tardis_main.proofs.WorldRuns.{no_world}
 use Rattle.tardis_main.proofs.Words.{limits_hold}
 use Rattle.durable_run.proofs.Stores.{no_durable}
@@ -159,3 +161,9 @@ pub returns-in-Ok-clause-unbound : goal.returns-in-Ok-clause-unbound
 returns-in-Ok-clause-unbound g c = λ others.
     let words : c.as_slice.result.now ≡ drop 1 (into_iter_items c.args.args) = c.as_slice.ensures.value ∙ c.in-Ok.ensures in
     c.command.ensures.unbound (λ plan are. others plan (subst (λ ws. AreServe (map (λ w. string_bytes w) ws) plan) words are))
+
+pub returns-in-Err-clause-told_usage : goal.returns-in-Err-clause-told_usage
+returns-in-Err-clause-told_usage g c = λ ask. told_nothing USAGE.now (g.O.Sink.given c.args.output.now)
+
+pub returns-in-Err-clause-told_version : goal.returns-in-Err-clause-told_version
+returns-in-Err-clause-told_version g c = λ ask. told_nothing VERSION.now (g.O.Sink.given c.args.output.now)
