@@ -12,4 +12,5 @@ pub mod Reads
 pub mod Merges
 pub mod Exchange
 pub mod Joins
+pub mod Lent
 pub mod Machine

@@ -18,6 +18,7 @@ mod dispatch;
 mod exchange;
 mod floors;
 mod joins;
+mod lent;
 mod merges;
 mod reads_and_writes;
 mod sessions;

@@ -10,7 +10,8 @@ ghost use Rattle.plain_site.specs.Site.{Site};
 ghost use Rattle.plain_site.specs.Answers.{with_txn, found as reply_to};
 ghost use Rattle.plain_site.specs.Reads.{get, set_key, get_for as got_for};
 ghost use Rattle.session_core.specs.Stands.{CoreStands};
-ghost use Rattle.session_core.specs.Gives.{Answers, GivesOrStops};
+ghost use Rattle.tardis_base.specs.declared.replies.Reply.{Reply};
+ghost use Rattle.session_core.specs.Gives.{Answers, Does, GivesOrStops};
 ghost use Rattle.session_core.specs.Guards.{HasTxn};
 ghost use Rattle.session_core.specs.Machine.{NotesRead, reading};
 ghost use Rattle.session_core.specs.Reads.{ReadsAs};
@@ -87,11 +88,11 @@ impl Parts {
     ///
     /// Refused where no session is open (NotOpen), it has no transaction (NoTxn), or 64 other keys are written (TooMany).
     /// The cost is that of `Txn::put`, and of looking the transaction up; key and value are moved in.
-    pub(crate) fn put(&mut self, actor: u16, key: Key, write: Write) -> Result<Reply, Stop>
-        ensures { Answers self.old self.new result (λ site. with_txn site actor (λ s t. set_key site actor t key write)) }
+    pub(crate) fn put(&mut self, actor: u16, key: Key, write: Write) -> Result<(), Stop>
+        ensures { Does (λ _. Reply.Done) self.old self.new result (λ site. with_txn site actor (λ s t. set_key site actor t key write)) }
     {
         match self.txns.put(actor, key, write) {
-            Some(Ok(())) => Ok(Reply::Done),
+            Some(Ok(())) => Ok(()),
             Some(Err(fault)) => Err(Stop::from(fault)),
             None => {
                 self.session(actor)?;

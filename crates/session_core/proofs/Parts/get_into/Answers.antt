@@ -1,10 +1,11 @@
+use Rattle.tardis_base.specs.declared.requests.Request.TheVariants.{Get}
 use Rattle.std.proofs.Common.{◌≡◌, ◌∙◌, Some, sym, ap, subst}
 use Rattle.state_dag.specs.Table.{id_at}
 use Rattle.record_store.specs.Stands.{StoreStands}
 use Rattle.version_list.specs.Reads.{found as found_write}
 use Rattle.plain_site.specs.Answers.{Answer, found}
 use Rattle.session_core.specs.Guards.{HasTxn}
-use Rattle.session_core.proofs.Getting.{read-told}
+use Rattle.session_core.proofs.Getting.{reply-told}
 use Rattle.session_core.proofs.Reading.{single-own}
 use Rattle.session_core.proofs.Parts.get_into.Goals as goal
 
@@ -14,7 +15,7 @@ give_found-requires-clause-valid c =
     let n = c.args.actor in
     let k = c.args.key.now in
     let one = c.in-Single.single in
-    (read-told core n k c.requires.key c.requires.stands (found (found_write c.own_write.result))
+    (reply-told core n (Get k) c.requires.key c.requires.stands (found (found_write c.own_write.result))
     (λ site stands sound.
     let has = subst (HasTxn core.store.table site n) c.in-Single.is (c.in_ok-single.ensures.stands site stands sound) in
     ap (λ (a : Answer). a.1) (single-own core.store.table site n k one has c.in-Some.write.now (sym c.in-Some.ensures)) ∙ ap found (sym c.own_write.ensures))).valid
@@ -25,7 +26,7 @@ give_found-requires-clause-short c =
     let n = c.args.actor in
     let k = c.args.key.now in
     let one = c.in-Single.single in
-    (read-told core n k c.requires.key c.requires.stands (found (found_write c.own_write.result))
+    (reply-told core n (Get k) c.requires.key c.requires.stands (found (found_write c.own_write.result))
     (λ site stands sound.
     let has = subst (HasTxn core.store.table site n) c.in-Single.is (c.in_ok-single.ensures.stands site stands sound) in
     ap (λ (a : Answer). a.1) (single-own core.store.table site n k one has c.in-Some.write.now (sym c.in-Some.ensures)) ∙ ap found (sym c.own_write.ensures))).short
@@ -37,7 +38,7 @@ give_found-requires-2-clause-valid c =
     let k = c.args.key.now in
     let one = c.in-Single.single in
     let same = ap (λ v. v.store) c.self.view_is ∙ c.note_read.ensures.store in
-    (read-told core n k c.requires.key c.requires.stands (found (found_write c.read_at.result))
+    (reply-told core n (Get k) c.requires.key c.requires.stands (found (found_write c.read_at.result))
     (λ site stands sound.
     let has = subst (HasTxn core.store.table site n) c.in-Single.is (c.in_ok-single.ensures.stands site stands sound) in
     let at = c.in_ok-single.ensures.found ∙ ap (λ t. Some t) c.in-Single.is in
@@ -52,7 +53,7 @@ give_found-requires-2-clause-short c =
     let k = c.args.key.now in
     let one = c.in-Single.single in
     let same = ap (λ v. v.store) c.self.view_is ∙ c.note_read.ensures.store in
-    (read-told core n k c.requires.key c.requires.stands (found (found_write c.read_at.result))
+    (reply-told core n (Get k) c.requires.key c.requires.stands (found (found_write c.read_at.result))
     (λ site stands sound.
     let has = subst (HasTxn core.store.table site n) c.in-Single.is (c.in_ok-single.ensures.stands site stands sound) in
     let at = c.in_ok-single.ensures.found ∙ ap (λ t. Some t) c.in-Single.is in
