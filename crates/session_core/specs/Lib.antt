@@ -9,6 +9,7 @@ pub mod Gives
 pub mod Begins
 pub mod Commits
 pub mod Reads
+pub mod NotedReads
 pub mod Merges
 pub mod Exchange
 pub mod Joins

@@ -1,6 +1,6 @@
 //! The site as a machine over bytes.
 
-ghost use Rattle.std.specs.Prelude.{◌≡◌, ◌≤◌, Some, [], true, false, length, IsTrue, IsOk, IfOk, IfSome, OnErr};
+ghost use Rattle.std.specs.Prelude.{◌≡◌, ◌≤◌, Some, None, [], true, false, length, IsTrue, IsOk, IfOk, IfSome, OnErr};
 ghost use Rattle.std.specs.List.{list_all};
 ghost use Rattle.std.specs.Option.{option_map_or};
 ghost use Rattle.tardis_base.specs.Sizes.{longest_frame};
@@ -17,13 +17,17 @@ ghost use Rattle.plain_site.specs.Answers.{found as reply_to};
 ghost use Rattle.plain_site.specs.Step.{step, step_over_bytes, is_sure};
 ghost use Rattle.session_core.specs.Stands.{CoreStands, StandsForSite};
 ghost use Rattle.session_core.specs.Guards.{HasTxn};
+ghost use Rattle.plain_dag.specs.Entries.{entry_of};
+ghost use Rattle.merge_txn.specs.declared.Txn.{Txn};
 ghost use Rattle.session_core.specs.Lent.{request_lent};
+ghost use Rattle.session_core.specs.Txns.{slot_read};
 ghost use Rattle.session_core.specs.Machine.{AsksFor, SiteStands, GivesBytes, opened_with, writing, Wrote};
 
 use crate::dispatch::commit_reply;
 use crate::lent::{LentRequest, read_lent};
 use crate::reads_and_writes::own_write;
 use crate::stops::Stop;
+use crate::transactions::NotedRead;
 use crate::{Parts, SiteCore};
 use merge_txn::{MergeTxn, Txn};
 use std::alloc::Global;
@@ -92,26 +96,42 @@ fn give_found(what: Found<'_>, out: &mut ReplyBuf)
 
 impl Parts {
     /// Reads the key in the actor's transaction, notes the read, and writes the reply into the empty buffer; after a stop
-    /// that is still empty. The value isn't copied: the key is noted first, and the writing takes no memory.
-    fn get_into(&mut self, actor: u16, key: &Key, out: &mut ReplyBuf) -> Result<(), Stop>
-        requires key { IsTrue (is_key key.now) }
+    /// that is still empty. The transaction is looked up once where the read is noted, the key is moved, and the value isn't
+    /// copied.
+    fn get_into(&mut self, actor: u16, key: Key, out: &mut ReplyBuf) -> Result<(), Stop>
+        requires key { IsTrue (is_key key) }
         requires empty { out.old ≡ [] }
         requires stands { StandsForSite self.old }
-        ensures { Wrote self.old self.new actor (Request.Get key.now) result out.new }
+        ensures { Wrote self.old self.new actor (Request.Get key) result out.new }
     {
-        let slot = match self.open_txn(actor)? {
+        match self.txns.read(&self.store, actor, key) {
+            NotedRead::Found(found) => {
+                give_found(found, out);
+                Ok(())
+            },
+            NotedRead::Fault(fault) => Err(Stop::from(fault)),
+            NotedRead::Other(key) => self.get_unnoted(actor, &key, out),
+        }
+    }
+
+    /// Reads the key, where that isn't noted: it is written in the transaction, or this is a merge.
+    fn get_unnoted(&self, actor: u16, key: &Key, out: &mut ReplyBuf) -> Result<(), Stop>
+        requires other { (t : Txn) → entry_of actor self.now.txns ≡ Some t → slot_read key.now t ≡ None }
+        requires key { IsTrue (is_key key.now) }
+        requires empty { out.old ≡ [] }
+        requires stands { StandsForSite self.now }
+        ensures { Wrote self.now self.now actor (Request.Get key.now) result out.new }
+    {
+        match self.open_txn(actor)? {
             Txn::Single(single) => match single.writes.get(key) {
                 Some(write) => {
                     give_found(own_write(write), out);
-                    return Ok(());
+                    Ok(())
                 },
-                None => single.slot,
+                None => unreachable!(),
             },
-            Txn::Merge(merge) => return self.get_over_into(actor, merge, key, out),
-        };
-        self.note_read(actor, key)?;
-        give_found(self.store.read_at(slot, key), out);
-        Ok(())
+            Txn::Merge(merge) => self.get_over_into(actor, merge, key, out),
+        }
     }
 
     /// Reads the key in a merge, and writes the reply into the empty buffer.
@@ -156,7 +176,7 @@ impl Parts {
             LentRequest::Begin { begin } => self.begin_into(actor, &begin, out),
             LentRequest::Get { key } => {
                 let key = key_of(self.alloc, key)?;
-                self.get_into(actor, &key, out)
+                self.get_into(actor, key, out)
             },
             LentRequest::Put { key, value } => {
                 let key = key_of(self.alloc, key)?;

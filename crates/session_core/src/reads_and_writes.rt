@@ -44,14 +44,13 @@ impl Parts {
             Txn::Merge(merge) => return self.get_over(actor, merge, key),
         };
         let reply = reply_of(self.store.read_at(slot, key))?;
-        self.note_read(actor, key)?;
+        self.note_read(actor, key.copy()?)?;
         Ok(reply)
     }
 
     /// Notes that the actor's transaction, a single one that hasn't written to the key, reads it.
-    pub(crate) fn note_read(&mut self, actor: u16, key: &Key) -> Result<(), Stop>
-        ensures noted { NotesRead self.old self.new actor key.now result }
-        ensures store { self.new.store ≡ self.old.store }
+    fn note_read(&mut self, actor: u16, key: Key) -> Result<(), Stop>
+        ensures { NotesRead self.old self.new actor key result }
     {
         match self.txns.note_read(actor, key) {
             Some(Ok(())) => Ok(()),
