@@ -10,7 +10,7 @@ ghost use Rattle.state_dag.specs.Table.{is_slot};
 ghost use Rattle.version_list.specs.Reads.{found};
 ghost use Rattle.wire_talk.specs.RequestReadings.{request_of};
 ghost use Rattle.wire_talk.specs.Spellings.{reply_spelling};
-ghost use Rattle.wire_talk.specs.Valid.{is_begin, is_commit, is_request, is_reply};
+ghost use Rattle.wire_talk.specs.Valid.{is_commit, is_request, is_reply};
 ghost use Rattle.plain_site.specs.Site.{Site};
 ghost use Rattle.plain_site.specs.Sound.{IsSound};
 ghost use Rattle.plain_site.specs.Answers.{found as reply_to};
@@ -23,7 +23,7 @@ ghost use Rattle.session_core.specs.Lent.{request_lent};
 ghost use Rattle.session_core.specs.Txns.{slot_read};
 ghost use Rattle.session_core.specs.Machine.{AsksFor, SiteStands, GivesBytes, opened_with, writing, Wrote};
 
-use crate::dispatch::commit_reply;
+use crate::gives::{give_begun, give_done, give_end, give_found, give_refused};
 use crate::lent::{LentRequest, read_lent};
 use crate::reads_and_writes::own_write;
 use crate::stops::Stop;
@@ -32,10 +32,10 @@ use crate::{Parts, SiteCore};
 use merge_txn::{MergeTxn, Txn};
 use std::alloc::Global;
 use tardis_base::{
-    Begin, EndFlags, Found, Key, Machine, NoMemory, Over, ReadFault, Refusal, Reply, ReplyBuf,
-    Request, Value, Write,
+    Begin, EndFlags, Key, Machine, NoMemory, Over, ReadFault, Refusal, Reply, ReplyBuf, Request,
+    Value, Write,
 };
-use wire_talk::{read_request, talk_has_one_spelling, write_reply, write_value_reply};
+use wire_talk::{read_request, talk_has_one_spelling, write_reply};
 
 /// The request that the bytes spell; None of other bytes, which are malformed.
 fn asked(alloc: Global, bytes: &[u8]) -> Result<Option<Request>, NoMemory>
@@ -78,20 +78,6 @@ fn give(reply: &Reply, out: &mut ReplyBuf)
     ensures { out.new ≡ reply_spelling reply.now }
 {
     write_reply(reply, out);
-}
-
-/// Writes the reply to a read of what was found into the empty buffer; a value from the store's own bytes.
-fn give_found(what: Found<'_>, out: &mut ReplyBuf)
-    requires empty { out.old ≡ [] }
-    requires valid { IsTrue (is_reply (reply_to (found what))) }
-    requires short { length (reply_spelling (reply_to (found what))) ≤ longest_frame }
-    ensures { out.new ≡ reply_spelling (reply_to (found what.entry)) }
-{
-    match what {
-        Found::Value { writer, value } => write_value_reply(writer, value, out),
-        Found::Deleted { writer } => give(&Reply::Deleted { writer }, out),
-        Found::Absent => give(&Reply::Absent, out),
-    }
 }
 
 impl Parts {
@@ -193,13 +179,11 @@ impl Parts {
 
     /// Begins a transaction, and writes the reply into the empty buffer.
     fn begin_into(&mut self, actor: u16, begin: &Begin, out: &mut ReplyBuf) -> Result<(), Stop>
-        requires valid { IsTrue (is_begin begin.now) }
-        requires empty { out.old ≡ [] }
-        requires stands { StandsForSite self.old }
+        requires { out.old ≡ [] }
         ensures { Wrote self.old self.new actor (Request.Begin begin.now) result out.new }
     {
         let state = self.begin(actor, begin)?;
-        give(&Reply::Begun { state }, out);
+        give_begun(state, out);
         Ok(())
     }
 
@@ -211,12 +195,12 @@ impl Parts {
         write: Write,
         out: &mut ReplyBuf,
     ) -> Result<(), Stop>
-        requires empty { out.old ≡ [] }
+        requires { out.old ≡ [] }
         ensures { Wrote self.old self.new actor (writing key write) result out.new }
     {
         match self.put(actor, key, write) {
             Ok(()) => {
-                give(&Reply::Done, out);
+                give_done(out);
                 Ok(())
             },
             Err(stop) => Err(stop),
@@ -237,7 +221,7 @@ impl Parts {
         ensures { Wrote self.old self.new actor (Request.Commit flags k) result out.new }
     {
         let end = self.commit(actor, flags, k)?;
-        give(&commit_reply(end), out);
+        give_end(&end, out);
         Ok(())
     }
 }
@@ -261,7 +245,7 @@ impl SiteCore {
         match self.parts.serve_lent(actor, lent, out) {
             Ok(()) => Ok(()),
             Err(Stop::Refused(refusal)) => {
-                give(&Reply::Refused { refusal }, out);
+                give_refused(refusal, out);
                 Ok(())
             },
             Err(Stop::NoMemory) => Err(NoMemory),

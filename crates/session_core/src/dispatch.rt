@@ -64,7 +64,7 @@ impl Parts {
 }
 
 /// The reply to a commit.
-pub(crate) fn commit_reply(end: CommitEnd) -> Reply
+fn commit_reply(end: CommitEnd) -> Reply
     ensures { result ≡ commit_reply end }
 {
     match end {

@@ -17,6 +17,7 @@ mod commits;
 mod dispatch;
 mod exchange;
 mod floors;
+mod gives;
 mod joins;
 mod lent;
 mod merges;
