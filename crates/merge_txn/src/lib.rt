@@ -111,17 +111,17 @@ impl Txn {
     }
 
     /// Notes that the key is read; a merge notes none. A key that is noted takes no memory, and on a fault the transaction
-    /// is as before.
+    /// is as before, and the key is dropped.
     ///
-    /// A new key is copied. The cost grows with the logarithm of the number of noted keys, and for a new key with the number
+    /// The key is moved in. The cost grows with the logarithm of the number of noted keys, and for a new key with the number
     /// of those behind its place.
-    pub fn note_read(&mut self, key: &Key) -> Result<(), TxnFault>
-        ensures noted { OnOk result (self.new ≡ with_reads (with_key key.now (reads_of self.old)) self.old) }
+    pub fn note_read(&mut self, key: Key) -> Result<(), TxnFault>
+        ensures noted { OnOk result (self.new ≡ with_reads (with_key key (reads_of self.old)) self.old) }
         ensures same { OnErr result (self.new ≡ self.old) }
-        ensures known { IsTrue (is_key_among key.now (reads_of self.old)) → IsOk result }
+        ensures known { IsTrue (is_key_among key (reads_of self.old)) → IsOk result }
         ensures few { length (reads_of self.old) ≤ 256 → length (reads_of self.new) ≤ 256 }
-        ensures full { (result ≡ Err too_many_reads) ↔ IsTrue (has_no_place_to_read key.now (reads_of self.old)) }
-        ensures fault { IfErr result (λ fault. fault ≡ read_fault key.now (reads_of self.old)) }
+        ensures full { (result ≡ Err too_many_reads) ↔ IsTrue (has_no_place_to_read key (reads_of self.old)) }
+        ensures fault { IfErr result (λ fault. fault ≡ read_fault key (reads_of self.old)) }
     {
         match self {
             Txn::Single(txn) => note_key(&mut txn.reads, key),
@@ -167,22 +167,22 @@ fn put_write(writes: &mut WriteSet, key: Key, write: Write) -> Result<(), TxnFau
 }
 
 /// Notes the key among these.
-fn note_key(reads: &mut KeySet, key: &Key) -> Result<(), TxnFault>
-    ensures noted { OnOk result (reads.new ≡ with_key key.now reads.old) }
+fn note_key(reads: &mut KeySet, key: Key) -> Result<(), TxnFault>
+    ensures noted { OnOk result (reads.new ≡ with_key key reads.old) }
     ensures same { OnErr result (reads.new ≡ reads.old) }
-    ensures known { IsTrue (is_key_among key.now reads.old) → IsOk result }
+    ensures known { IsTrue (is_key_among key reads.old) → IsOk result }
     ensures few { length reads.old ≤ 256 → length reads.new ≤ 256 }
-    ensures full { (result ≡ Err too_many_reads) ↔ IsTrue (has_no_place_to_read key.now reads.old) }
-    ensures fault { IfErr result (λ fault. fault ≡ read_fault key.now reads.old) }
+    ensures full { (result ≡ Err too_many_reads) ↔ IsTrue (has_no_place_to_read key reads.old) }
+    ensures fault { IfErr result (λ fault. fault ≡ read_fault key reads.old) }
 {
     let count = reads.len();
-    if reads.contains(key) {
+    if reads.contains(&key) {
         return Ok(());
     }
     if count == MAX_READS {
         return Err(TxnFault::TooMany { what: 2, n: 257 });
     }
-    reads.insert(key.copy()?)?;
+    reads.insert(key)?;
     Ok(())
 }
 

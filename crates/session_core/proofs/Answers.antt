@@ -7,7 +7,7 @@ use Rattle.plain_site.specs.Site.{Site}
 use Rattle.plain_site.specs.Answers.{Answer, refused, when, refuse_found, unless}
 use Rattle.session_core.specs.declared.stops.Stop.{Stop}
 use Rattle.session_core.specs.declared.stops.Stop.TheVariants.{Refused, NoMemory}
-use Rattle.session_core.specs.Gives.{IsGiven, GivesOrStops, Stops}
+use Rattle.session_core.specs.Gives.{DoesOrStops, IsGiven, GivesOrStops, Stops}
 
 module _ (site : Site) (reply : Reply) (more : List (Option Reply)) (answer : Answer) where
   -- a reply that isn't given
@@ -48,3 +48,11 @@ module _ (stands : Site → Type 0) (answer : Answer) (site : Site) where
 -- one answer for another
 pub as-answer : (stands : Site → Type 0) (a b : Answer) (site : Site) (r : Result Reply Stop) → a ≡ b → GivesOrStops stands b site r → GivesOrStops stands a site r
 as-answer stands a b site r e h = subst (λ z. GivesOrStops stands z site r) (sym e) h
+
+-- the same of what is done
+pub as-done : {A : Type 0} (reply : A → Reply) (stands : Site → Type 0) (a b : Answer) (site : Site) (r : Result A Stop) → a ≡ b → DoesOrStops reply stands b site r → DoesOrStops reply stands a site r
+as-done reply stands a b site r e h = subst (λ z. DoesOrStops reply stands z site r) (sym e) h
+
+pub does-stop : {A : Type 0} (reply : A → Reply) (stands : Site → Type 0) (answer : Answer) (site : Site) (what : Stop) (r : Result A Stop) → IsErrAnd r (λ stop. stop ≡ what) → Stops stands answer site what → DoesOrStops reply stands answer site r
+does-stop reply stands answer site what (Ok a) is stops = absurd is
+does-stop reply stands answer site what (Err stop) is stops = subst (Stops stands answer site) (sym is) stops

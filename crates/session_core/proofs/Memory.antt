@@ -12,6 +12,10 @@ use Rattle.tardis_base.specs.declared.records.Write.{Write}
 use Rattle.session_core.specs.Txns.{has_slots, ChangedAs, PutAs, NotedAs, putting, noting}
 use Rattle.session_core.proofs.Reading.{noted-slots}
 use Rattle.session_core.proofs.Writing.{put-slots}
+use Rattle.record_store.specs.Store.{Store}
+use Rattle.session_core.specs.declared.transactions.NotedRead.{NotedRead}
+use Rattle.session_core.specs.declared.transactions.NotedRead.TheVariants.{Found, Fault, Other}
+use Rattle.session_core.specs.NotedReads.{ReadsIn}
 use Rattle.session_core.specs.Held.{IsHeld}
 use Rattle.session_core.proofs.Entries.{each-with, each-without, each-changed}
 
@@ -59,3 +63,9 @@ module _ (a : Inside) (held : IsHeld a) where
   pub note-held : (n : ℕ) (k : List ℕ) (es : List (ℕ × Txn)) (r : Option (Result (Unit {0}) TxnFault)) → NotedAs a.txns es n k r → IsHeld (record a { txns = es })
   note-held n k es None (none, e) = same-held es e
   note-held n k es (Some r) (t, at, changes) = as-held n (noting k) (has_no_place_to_read k (reads_of t)) too_many_reads es r (noted-slots a.store.table k) changes
+
+  -- a read by one look-up is noted, or not
+  pub read-held : (store : Store) (n : ℕ) (k : List ℕ) (es : List (ℕ × Txn)) (r : NotedRead) → ReadsIn store a.txns es n k r → IsHeld (record a { txns = es })
+  read-held store n k es (Found what) (t, at, slot, by, finds, room, e) = changed-held n (noting k) es (noted-slots a.store.table k) e
+  read-held store n k es (Fault fault) (t, at, slot, by, is, e) = same-held es e
+  read-held store n k es (Other key) (none, is, e) = same-held es e

@@ -14,7 +14,7 @@ use Rattle.tardis_base.specs.Keys.{write_of}
 use Rattle.plain_dag.specs.Entries.{entry_of}
 use Rattle.plain_dag.specs.Writers.{read}
 use Rattle.plain_dag.specs.Conflicts.{is_conflict_key, value_over}
-use Rattle.state_dag.specs.Table.{Table}
+use Rattle.state_dag.specs.Table.{Table, id_at}
 use Rattle.version_list.specs.Reads.{found as found_write}
 use Rattle.merge_txn.specs.declared.Txn.{Txn as Kept}
 use Rattle.merge_txn.specs.declared.Txn.TheVariants.{Single as KeptSingle, Merge as KeptMerge}
@@ -23,6 +23,8 @@ use Rattle.merge_txn.specs.declared.MergeTxn.{MergeTxn as MergeKept}
 use Rattle.merge_txn.specs.declared.TxnFault.{TxnFault}
 use Rattle.merge_txn.specs.Txns.{reads_of, has_no_place_to_read, read_fault}
 use Rattle.plain_site.specs.Site.{Site, SingleTxn, MergeTxn, Single, Merge, with_txn_changed}
+use Rattle.plain_site.specs.Sound.{IsSound}
+use Rattle.tardis_base.specs.declared.ids.Slot.{Slot}
 use Rattle.plain_site.specs.Answers.{refused, given, found, shown}
 use Rattle.plain_site.specs.Reads.{get, read_in, having_read}
 use Rattle.session_core.specs.Core.{Core}
@@ -33,9 +35,11 @@ use Rattle.session_core.specs.Reads.{ReadsAs}
 use Rattle.session_core.specs.Gives.{IsGiven, Stops, GivesOrStops}
 use Rattle.session_core.specs.declared.stops.Stop.{Stop}
 use Rattle.session_core.specs.Stops.{txn_stop}
-use Rattle.session_core.specs.Txns.{noting, IsNamed, NotedAs, has_slots}
+use Rattle.session_core.specs.declared.transactions.NotedRead.TheVariants.{Found as At, Fault}
+use Rattle.session_core.specs.NotedReads.{ReadsIn}
+use Rattle.session_core.specs.Txns.{noting, IsNamed, NotedAs, has_slots, slot_read, slot_unless}
 use Rattle.session_core.proofs.Answers.{skip, stop, as-given, stopped}
-use Rattle.session_core.proofs.Standing.{txn-answer, txn-changed, same-txns}
+use Rattle.session_core.proofs.Standing.{has-txn, txn-answer, txn-changed, same-txns}
 
 -- ===== Notes of reads
 
@@ -128,6 +132,47 @@ module _ (core : Core) (site : Site) (stands : CoreStands core site) (n : ℕ) (
   -- it is there
   pub note-there : NotedAs core.txns es n k None → ⊥
   note-there (missing, same) = absurd (none-some (KeptSingle t) (sym missing ∙ at))
+
+-- ===== A read by one look-up
+
+-- a single transaction that hasn't written to the key, and reads at the slot
+record ReadBy (k : List ℕ) (t : Kept) (slot : Slot) : Type 0 where
+  one : OneKept
+  is : t ≡ KeptSingle one
+  none : ◌≡◌ {A = Option Write} (write_of k one.writes) None
+  at : slot ≡ one.slot
+
+read-by : (k : List ℕ) (t : Kept) (slot : Slot) → slot_read k t ≡ Some slot → ReadBy k t slot
+read-by k (KeptSingle one) slot by = go (write_of k one.writes) refl by
+  where
+    go : (o : Option Write) → write_of k one.writes ≡ o → slot_unless o one.slot ≡ Some slot → ReadBy k (KeptSingle one) slot
+    go None e is = record { one = one; is = refl; none = e; at = same_Some slot one.slot (sym is) }
+    go (Some w) e is = absurd (none-some slot is)
+read-by k (KeptMerge m) slot by = absurd (none-some slot by)
+
+-- a single transaction that doesn't note the read has written to the key
+pub unnoted : (k : List ℕ) (one : OneKept) → slot_read k (KeptSingle one) ≡ None → ◌≡◌ {A = Option Write} (write_of k one.writes) None → ⊥
+unnoted k one by none = absurd (none-some one.slot (sym by ∙ ap (λ o. slot_unless o one.slot) none))
+
+module _ (core : Core) (site : Site) (stands : CoreStands core site) (sound : IsSound site) (n : ℕ) (k : List ℕ) (es : List (ℕ × Kept)) where
+  -- what was found is the answer, and the read is noted
+  pub read-found : (what : FoundAt) → ReadsIn core.store core.txns es n k (At what) →
+      (reading site n k ≡ (with_txn_changed n (having_read k) site, found (found_write what))) × CoreStands (record core { txns = es }) (with_txn_changed n (having_read k) site)
+  read-found what (t, at, slot, by, finds, room, e) =
+      let r = read-by k t slot by in
+      let one = r.one in
+      let here : entry_of n core.txns ≡ Some (KeptSingle one) = at ∙ ap (λ u. Some u) r.is in
+      let has = has-txn core site stands n sound (KeptSingle one) here in
+      let noted = note-done core site stands n k one here has r.none es tt (t, at, (room, e)) in
+      let named : id_at core.store.table slot ≡ Some one.state = ap (id_at core.store.table) r.at ∙ has.named in
+      let is = finds site.dag site.collected stands.store one.state named in
+      (noted.0 ∙ ap (λ v. (with_txn_changed n (having_read k) site, found v)) (sym is), noted.1)
+
+  pub read-fault : (fault : TxnFault) → ReadsIn core.store core.txns es n k (Fault fault) → Stops (CoreStands (record core { txns = es })) (reading site n k) site (txn_stop fault)
+  read-fault fault (t, at, slot, by, is, e) =
+      let r = read-by k t slot by in
+      let here : entry_of n core.txns ≡ Some (KeptSingle r.one) = at ∙ ap (λ u. Some u) r.is in
+      note-stops core site stands n k r.one here (has-txn core site stands n sound (KeptSingle r.one) here) r.none es fault (t, at, (is, e))
 
 -- ===== What is answered after a note
 

@@ -75,6 +75,9 @@ module _ (core : Core) (site : Site) (stands : CoreStands core site) (n : ℕ) w
       let was = sound.each_txn n (txn_of t) found in
       record { session = was.0; opened = was.1; found = found; named = stands.slots n t e }
 
+  pub txn-open : (t : Kept) → HasTxn core.store.table site n t → is_open core.book n ≡ true
+  txn-open t has = ap (λ ss. is_some (entry_of n ss)) stands.sessions ∙ ap is_some has.opened
+
   -- refusals before a request is looked at
   pub refuses-not_open : is_open core.book n ≡ false → RefusesAll site n NotOpen
   refuses-not_open closed go = session-missing site n go (absent (entry_of n site.sessions) (sym (ap (λ ss. is_some (entry_of n ss)) stands.sessions) ∙ closed))

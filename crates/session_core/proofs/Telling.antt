@@ -88,7 +88,3 @@ told-sure (Err NoMemory) reply is needs = absurd needs
 pub writes-step : (site : Site) (n : ℕ) (k : List ℕ) (w : Write) → step site n (writing k w) ≡ with_txn site n (λ s t. set_key site n t k w)
 writes-step site n k (Value v) = refl
 writes-step site n k Deletion = refl
-
-pub gave-write : (old new : Core) (n : ℕ) (k : List ℕ) (w : Write) (result : Result Reply Stop) →
-    ((site : Site) → CoreStands old site → IsSound site → GivesOrStops (CoreStands new) (with_txn site n (λ s t. set_key site n t k w)) site result) → Gave old new n (writing k w) result
-gave-write old new n k w result gave site stands sound = subst (λ a. GivesOrStops (CoreStands new) a site result) (sym (writes-step site n k w)) (gave site stands sound)

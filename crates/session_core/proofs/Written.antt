@@ -1,11 +1,12 @@
 -- A transaction is written over.
-use Rattle.std.proofs.Common.{◌≡◌, ◌↔◌, ℕ, Bool, true, false, ◌==◌, if◌then◌else◌, List, [], ◌∷◌, Option, Some, None, Result, Ok, Err, IsTrue, refl, sym, ap, ◌∙◌}
+use Rattle.std.proofs.Common.{◌≡◌, ◌↔◌, ℕ, Bool, true, false, ◌==◌, if◌then◌else◌, List, [], ◌∷◌, Option, Some, None, Result, Ok, Err, IsTrue, refl, sym, ap, subst, ◌∙◌}
 use Rattle.std.specs.Result.{OnOk, OnErr, IfErr}
 use Rattle.std.specs.Ordering.{nat_cmp}
 use Rattle.std.specs.Map.{lookup, set_value, keys_of}
 use Rattle.std.specs.BTreeMap.{is_at}
 use Rattle.std.specs.List.Sorted.{IsStrictlySortedBy}
 use Rattle.std.proofs.lemmas.Bool.{false_from_ne_true}
+use Rattle.std.proofs.lemmas.Option.{none-some, same_Some}
 use Rattle.plain_dag.specs.Entries.{entry_of, changed}
 use Rattle.tardis_base.specs.Keys.{KeyWrite}
 use Rattle.merge_txn.specs.declared.Txn.{Txn}
@@ -14,12 +15,20 @@ use Rattle.merge_txn.specs.declared.TxnFault.{TxnFault}
 use Rattle.merge_txn.specs.declared.TxnFault.TheVariants.{NoMemory}
 use Rattle.merge_txn.specs.Txns.{writes_of, with_writes}
 use Rattle.ceiling_book.proofs.Entries.{looked-up}
-use Rattle.session_core.specs.Txns.{ChangedAs}
+use Rattle.record_store.specs.Store.{Store}
+use Rattle.session_core.specs.declared.transactions.NotedRead.{NotedRead}
+use Rattle.session_core.specs.declared.transactions.NotedRead.TheVariants.{Found, Fault, Other}
+use Rattle.session_core.specs.NotedReads.{TxnReads, ReadsIn}
+use Rattle.session_core.specs.Txns.{ChangedAs, noting, slot_read}
 use Rattle.session_core.proofs.Entries.{is-written, changed-twice, changed-none}
 
 -- nothing is there
 pub nothing-there : (n : ℕ) (es now : List (ℕ × Txn)) → es ≡ now → ◌≡◌ {A = Option Txn} (lookup (is_at (nat_cmp n)) es) None → ◌≡◌ {A = Option Txn} (entry_of n now) None
 nothing-there n es now is none = ap (entry_of n) (sym is) ∙ sym (looked-up n es) ∙ none
+
+-- it is there
+pub is-there : (n : ℕ) (es now : List (ℕ × Txn)) (v : Txn) → es ≡ now → lookup (is_at (nat_cmp n)) es ≡ Some v → entry_of n now ≡ Some v
+is-there n es now v is found = ap (entry_of n) (sym is) ∙ sym (looked-up n es) ∙ found
 
 unchanged-entry : (b : Bool) (e : ℕ × Txn) → (if b then (e.0, e.1) else e) ≡ e
 unchanged-entry true e = refl
@@ -46,6 +55,10 @@ none-changed n f es now after is none same = same ∙ is ∙ sym (changed-none n
 
 pub none-back : (n : ℕ) (f : Txn → Txn) (es now after : List (ℕ × Txn)) → es ≡ now → ◌≡◌ {A = Option Txn} (lookup (is_at (nat_cmp n)) es) None → after ≡ es → changed n f after ≡ now
 none-back n f es now after is none same = ap (changed n f) (same ∙ is) ∙ changed-none n f now (nothing-there n es now is none)
+
+-- where there is no transaction, no read is noted
+pub none-read : (store : Store) (n : ℕ) (k key : List ℕ) (es now after : List (ℕ × Txn)) → es ≡ now → ◌≡◌ {A = Option Txn} (lookup (is_at (nat_cmp n)) es) None → after ≡ es → key ≡ k → ReadsIn store now after n k (Other key)
+none-read store n k key es now after is none same key_is = ((λ t e. absurd (none-some t (sym (nothing-there n es now is none) ∙ e))), key_is, same ∙ is)
 
 module _ (n : ℕ) (es now after : List (ℕ × Txn)) (v w : Txn) (is : es ≡ now) (put : after ≡ set_value (is_at (nat_cmp n)) es w) (ordered : IsStrictlySortedBy nat_cmp (keys_of es)) (found : lookup (is_at (nat_cmp n)) es ≡ Some v) where
   -- the transaction that was there
@@ -76,3 +89,9 @@ module _ (n : ℕ) (es now after : List (ℕ × Txn)) (v w : Txn) (is : es ≡ n
       IfErr r (λ fault. fault ≡ (if full then too_many else NoMemory)) → ChangedAs now after n f full too_many r
   is-changed f full too_many (Ok u) taken same both fault = (not-full u too_many full both, after-changed f taken)
   is-changed f full too_many (Err e) taken same both fault = (fault, after-same same)
+
+  -- a read
+  pub is-read : (store : Store) (k : List ℕ) (r : NotedRead) → TxnReads store v w k r → ReadsIn store now after n k r
+  is-read store k (Found what) (slot, at, finds, room, changes) = (v, was-there, slot, at, finds, room, after-changed (noting k) changes)
+  is-read store k (Fault fault) (slot, at, fault_is, same) = (v, was-there, slot, at, fault_is, after-same same)
+  is-read store k (Other key) (none, key_is, same) = ((λ t e. subst (λ u. slot_read k u ≡ None) (same_Some v t (sym was-there ∙ e)) none), key_is, after-same same)

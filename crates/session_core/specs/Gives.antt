@@ -32,6 +32,15 @@ abbrev pub GivesOrStops : (Site → Type 0) → Answer → Site → Result Reply
 GivesOrStops stands answer old (Ok reply) = IsGiven stands answer reply
 GivesOrStops stands answer old (Err stop) = Stops stands answer old stop
 
+-- the plain answer, whose reply is made of what was done; or a stop
+abbrev pub DoesOrStops : {A : Type 0} → (A → Reply) → (Site → Type 0) → Answer → Site → Result A Stop → Type 0
+DoesOrStops reply stands answer old (Ok done) = IsGiven stands answer (reply done)
+DoesOrStops reply stands answer old (Err stop) = Stops stands answer old stop
+
+-- for each sound site that it stood for, it does what the plain answer says, or stops
+abbrev pub Does : {A : Type 0} → (A → Reply) → Core → Core → Result A Stop → (Site → Answer) → Type 0
+Does reply old new result answer = (site : Site) → CoreStands old site → IsSound site → DoesOrStops reply (CoreStands new) (answer site) site result
+
 -- for each sound site that it stood for, it gives the plain answer, or stops
 abbrev pub Answers : Core → Core → Result Reply Stop → (Site → Answer) → Type 0
 Answers old new result answer = (site : Site) → CoreStands old site → IsSound site → GivesOrStops (CoreStands new) (answer site) site result

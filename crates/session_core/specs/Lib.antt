@@ -9,7 +9,9 @@ pub mod Gives
 pub mod Begins
 pub mod Commits
 pub mod Reads
+pub mod NotedReads
 pub mod Merges
 pub mod Exchange
 pub mod Joins
+pub mod Lent
 pub mod Machine

@@ -77,6 +77,6 @@ NotesRead old new n k result =
     (site : Site) → CoreStands old site → IsSound site → (t : OneKept) → entry_of n old.txns ≡ Some (KeptSingle t) → write_of k t.writes ≡ None →
     NotesOrStops (CoreStands new) site n k t.state result
 
--- the reply to a read of the key is written, or a stop and no byte
-abbrev pub Wrote : Core → Core → ℕ → List ℕ → Result (Unit {0}) Stop → List ℕ → Type 0
-Wrote old new n k result out = (site : Site) → CoreStands old site → IsSound site → WritesOrStops (CoreStands new) (reading site n k) site result out
+-- the reply to the request is written, or a stop and no byte
+abbrev pub Wrote : Core → Core → ℕ → Request → Result (Unit {0}) Stop → List ℕ → Type 0
+Wrote old new n q result out = (site : Site) → CoreStands old site → IsSound site → WritesOrStops (CoreStands new) (step site n q) site result out

@@ -2,7 +2,8 @@
 use Rattle.std.specs.Prelude.{◌≡◌, ℕ, Bool, false, List, Option, Some, None, Result, Ok, Err, map, if◌then◌else◌}
 use Rattle.std.specs.List.{list_all}
 use Rattle.tardis_base.specs.declared.records.Write.{Write}
-use Rattle.tardis_base.specs.Keys.{with_key, with_write}
+use Rattle.tardis_base.specs.declared.ids.Slot.{Slot}
+use Rattle.tardis_base.specs.Keys.{with_key, with_write, write_of}
 use Rattle.plain_dag.specs.Entries.{entry_of, changed}
 use Rattle.state_dag.specs.Table.{Table, is_slot, id_at}
 use Rattle.merge_txn.specs.declared.Txn.{Txn}
@@ -20,6 +21,16 @@ has_slots table (Merge t) = list_all (is_slot table) t.slots
 abbrev pub IsNamed : Table → Txn → Type 0
 IsNamed table (Single t) = id_at table t.slot ≡ Some t.state
 IsNamed table (Merge t) = map (id_at table) t.slots ≡ map (λ x. Some x) t.states
+
+-- the slot, where nothing is written
+abbrev pub slot_unless : Option Write → Slot → Option Slot
+slot_unless None slot = Some slot
+slot_unless (Some w) slot = None
+
+-- the slot at which the transaction reads the key and notes it: that of a single one, which hasn't written to the key
+abbrev pub slot_read : List ℕ → Txn → Option Slot
+slot_read k (Single t) = slot_unless (write_of k t.writes) t.slot
+slot_read k (Merge t) = None
 
 -- the transaction has read the key; a merge doesn't keep it
 abbrev pub noting : List ℕ → Txn → Txn

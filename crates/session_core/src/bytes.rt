@@ -1,6 +1,6 @@
 //! The site as a machine over bytes.
 
-ghost use Rattle.std.specs.Prelude.{◌≡◌, ◌≤◌, Some, [], true, false, length, IsTrue, IsOk, IfOk, IfSome};
+ghost use Rattle.std.specs.Prelude.{◌≡◌, ◌≤◌, Some, None, [], true, false, length, IsTrue, IsOk, IfOk, IfSome, OnErr};
 ghost use Rattle.std.specs.List.{list_all};
 ghost use Rattle.std.specs.Option.{option_map_or};
 ghost use Rattle.tardis_base.specs.Sizes.{longest_frame};
@@ -10,25 +10,32 @@ ghost use Rattle.state_dag.specs.Table.{is_slot};
 ghost use Rattle.version_list.specs.Reads.{found};
 ghost use Rattle.wire_talk.specs.RequestReadings.{request_of};
 ghost use Rattle.wire_talk.specs.Spellings.{reply_spelling};
-ghost use Rattle.wire_talk.specs.Valid.{is_request, is_reply};
+ghost use Rattle.wire_talk.specs.Valid.{is_commit, is_request, is_reply};
 ghost use Rattle.plain_site.specs.Site.{Site};
 ghost use Rattle.plain_site.specs.Sound.{IsSound};
 ghost use Rattle.plain_site.specs.Answers.{found as reply_to};
 ghost use Rattle.plain_site.specs.Step.{step, step_over_bytes, is_sure};
 ghost use Rattle.session_core.specs.Stands.{CoreStands, StandsForSite};
 ghost use Rattle.session_core.specs.Guards.{HasTxn};
-ghost use Rattle.session_core.specs.Machine.{AsksFor, SiteStands, GivesBytes, opened_with, Wrote};
+ghost use Rattle.plain_dag.specs.Entries.{entry_of};
+ghost use Rattle.merge_txn.specs.declared.Txn.{Txn};
+ghost use Rattle.session_core.specs.Lent.{request_lent};
+ghost use Rattle.session_core.specs.Txns.{slot_read};
+ghost use Rattle.session_core.specs.Machine.{AsksFor, SiteStands, GivesBytes, opened_with, writing, Wrote};
 
+use crate::gives::{give_begun, give_done, give_end, give_found, give_refused};
+use crate::lent::{LentRequest, read_lent};
 use crate::reads_and_writes::own_write;
 use crate::stops::Stop;
+use crate::transactions::NotedRead;
 use crate::{Parts, SiteCore};
 use merge_txn::{MergeTxn, Txn};
 use std::alloc::Global;
 use tardis_base::{
-    BytesFault, Found, Key, Machine, NoMemory, Over, ReadFault, Refusal, Reply, ReplyBuf, Request,
-    Write,
+    Begin, EndFlags, Key, Machine, NoMemory, Over, ReadFault, Refusal, Reply, ReplyBuf, Request,
+    Value, Write,
 };
-use wire_talk::{key_of_get, read_request, talk_has_one_spelling, write_reply, write_value_reply};
+use wire_talk::{read_request, talk_has_one_spelling, write_reply};
 
 /// The request that the bytes spell; None of other bytes, which are malformed.
 fn asked(alloc: Global, bytes: &[u8]) -> Result<Option<Request>, NoMemory>
@@ -43,70 +50,74 @@ fn asked(alloc: Global, bytes: &[u8]) -> Result<Option<Request>, NoMemory>
     }
 }
 
-/// The key that the bytes ask for, where they spell a Get; None of other bytes.
-///
-/// A Get is told apart first, since a `Request` is as large as the fields of all of them, and dear to move.
-fn asked_key(alloc: Global, bytes: &[u8]) -> Result<Option<Key>, NoMemory>
-    ensures key { IfOk result (λ asked. IfSome asked (λ key. AsksFor bytes.now (Some (Request.Get key)))) }
-    ensures sure { (q : Request) → request_of bytes.now ≡ Some q → IsTrue (is_sure q) → IsOk result }
+/// The key of these bytes, which are copied.
+fn key_of(alloc: Global, bytes: &[u8]) -> Result<Key, NoMemory>
+    ensures { IfOk result (λ key. key ≡ bytes.now) }
 {
-    talk_has_one_spelling();
-    match key_of_get(bytes) {
-        Some(key) => match Key::new(alloc, key) {
-            Ok(key) => Ok(Some(key)),
-            Err(BytesFault::NoMemory) => Err(NoMemory),
-            Err(BytesFault::Length) => Ok(None),
-        },
-        None => Ok(None),
+    match Key::new(alloc, bytes) {
+        Ok(key) => Ok(key),
+        Err(_) => Err(NoMemory),
+    }
+}
+
+/// The value of these bytes, which are copied.
+fn value_of(alloc: Global, bytes: &[u8]) -> Result<Value, NoMemory>
+    ensures { IfOk result (λ value. value ≡ bytes.now) }
+{
+    match Value::new(alloc, bytes) {
+        Ok(value) => Ok(value),
+        Err(_) => Err(NoMemory),
     }
 }
 
 /// Writes the reply into the empty buffer.
-fn give(reply: Reply, out: &mut ReplyBuf)
+fn give(reply: &Reply, out: &mut ReplyBuf)
     requires empty { out.old ≡ [] }
-    requires valid { IsTrue (is_reply reply) }
-    requires short { length (reply_spelling reply) ≤ longest_frame }
-    ensures { out.new ≡ reply_spelling reply }
+    requires valid { IsTrue (is_reply reply.now) }
+    requires short { length (reply_spelling reply.now) ≤ longest_frame }
+    ensures { out.new ≡ reply_spelling reply.now }
 {
-    write_reply(&reply, out);
-}
-
-/// Writes the reply to a read of what was found into the empty buffer; a value from the store's own bytes.
-fn give_found(what: Found<'_>, out: &mut ReplyBuf)
-    requires empty { out.old ≡ [] }
-    requires valid { IsTrue (is_reply (reply_to (found what))) }
-    requires short { length (reply_spelling (reply_to (found what))) ≤ longest_frame }
-    ensures { out.new ≡ reply_spelling (reply_to (found what.entry)) }
-{
-    match what {
-        Found::Value { writer, value } => write_value_reply(writer, value, out),
-        Found::Deleted { writer } => give(Reply::Deleted { writer }, out),
-        Found::Absent => give(Reply::Absent, out),
-    }
+    write_reply(reply, out);
 }
 
 impl Parts {
     /// Reads the key in the actor's transaction, notes the read, and writes the reply into the empty buffer; after a stop
-    /// that is still empty. The value isn't copied: the key is noted first, and the writing takes no memory.
-    fn get_into(&mut self, actor: u16, key: &Key, out: &mut ReplyBuf) -> Result<(), Stop>
-        requires key { IsTrue (is_key key.now) }
+    /// that is still empty. The transaction is looked up once where the read is noted, the key is moved, and the value isn't
+    /// copied.
+    fn get_into(&mut self, actor: u16, key: Key, out: &mut ReplyBuf) -> Result<(), Stop>
+        requires key { IsTrue (is_key key) }
         requires empty { out.old ≡ [] }
         requires stands { StandsForSite self.old }
-        ensures { Wrote self.old self.new actor key.now result out.new }
+        ensures { Wrote self.old self.new actor (Request.Get key) result out.new }
     {
-        let slot = match self.open_txn(actor)? {
+        match self.txns.read(&self.store, actor, key) {
+            NotedRead::Found(found) => {
+                give_found(found, out);
+                Ok(())
+            },
+            NotedRead::Fault(fault) => Err(Stop::from(fault)),
+            NotedRead::Other(key) => self.get_unnoted(actor, &key, out),
+        }
+    }
+
+    /// Reads the key, where that isn't noted: it is written in the transaction, or this is a merge.
+    fn get_unnoted(&self, actor: u16, key: &Key, out: &mut ReplyBuf) -> Result<(), Stop>
+        requires other { (t : Txn) → entry_of actor self.now.txns ≡ Some t → slot_read key.now t ≡ None }
+        requires key { IsTrue (is_key key.now) }
+        requires empty { out.old ≡ [] }
+        requires stands { StandsForSite self.now }
+        ensures { Wrote self.now self.now actor (Request.Get key.now) result out.new }
+    {
+        match self.open_txn(actor)? {
             Txn::Single(single) => match single.writes.get(key) {
                 Some(write) => {
                     give_found(own_write(write), out);
-                    return Ok(());
+                    Ok(())
                 },
-                None => single.slot,
+                None => unreachable!(),
             },
-            Txn::Merge(merge) => return self.get_over_into(actor, merge, key, out),
-        };
-        self.note_read(actor, key)?;
-        give_found(self.store.read_at(slot, key), out);
-        Ok(())
+            Txn::Merge(merge) => self.get_over_into(actor, merge, key, out),
+        }
     }
 
     /// Reads the key in a merge, and writes the reply into the empty buffer.
@@ -122,7 +133,7 @@ impl Parts {
         requires empty { out.old ≡ [] }
         requires stands { StandsForSite self.now }
         requires found { (site : Site) → CoreStands self.now site → IsSound site → HasTxn self.now.store.table site actor (Txn.Merge merge.now) }
-        ensures { Wrote self.now self.now actor key.now result out.new }
+        ensures { Wrote self.now self.now actor (Request.Get key.now) result out.new }
     {
         match self.found_over(merge, key) {
             Over::Found(found) => {
@@ -134,19 +145,107 @@ impl Parts {
     }
 }
 
+impl Parts {
+    /// Answers the request, and writes the reply into the empty buffer; after a stop that is still empty.
+    fn serve_lent(
+        &mut self,
+        actor: u16,
+        lent: LentRequest<'_>,
+        out: &mut ReplyBuf,
+    ) -> Result<(), Stop>
+        requires valid { IsTrue (is_request (request_lent lent)) }
+        requires empty { out.old ≡ [] }
+        requires stands { StandsForSite self.old }
+        ensures { Wrote self.old self.new actor (request_lent lent.entry) result out.new }
+    {
+        match lent {
+            LentRequest::Begin { begin } => self.begin_into(actor, &begin, out),
+            LentRequest::Get { key } => {
+                let key = key_of(self.alloc, key)?;
+                self.get_into(actor, key, out)
+            },
+            LentRequest::Put { key, value } => {
+                let key = key_of(self.alloc, key)?;
+                let value = value_of(self.alloc, value)?;
+                self.put_into(actor, key, Write::Put(value), out)
+            },
+            LentRequest::Delete { key } => {
+                let key = key_of(self.alloc, key)?;
+                self.put_into(actor, key, Write::Delete, out)
+            },
+            LentRequest::Commit { flags, k } => self.commit_into(actor, flags, k, out),
+        }
+    }
+
+    /// Begins a transaction, and writes the reply into the empty buffer.
+    fn begin_into(&mut self, actor: u16, begin: &Begin, out: &mut ReplyBuf) -> Result<(), Stop>
+        requires { out.old ≡ [] }
+        ensures { Wrote self.old self.new actor (Request.Begin begin.now) result out.new }
+    {
+        let state = self.begin(actor, begin)?;
+        give_begun(state, out);
+        Ok(())
+    }
+
+    /// Takes the write into the actor's transaction, and writes the reply into the empty buffer.
+    fn put_into(
+        &mut self,
+        actor: u16,
+        key: Key,
+        write: Write,
+        out: &mut ReplyBuf,
+    ) -> Result<(), Stop>
+        requires { out.old ≡ [] }
+        ensures { Wrote self.old self.new actor (writing key write) result out.new }
+    {
+        match self.put(actor, key, write) {
+            Ok(()) => {
+                give_done(out);
+                Ok(())
+            },
+            Err(stop) => Err(stop),
+        }
+    }
+
+    /// Commits the actor's transaction, and writes the reply into the empty buffer.
+    fn commit_into(
+        &mut self,
+        actor: u16,
+        flags: EndFlags,
+        k: u16,
+        out: &mut ReplyBuf,
+    ) -> Result<(), Stop>
+        requires valid { IsTrue (is_commit flags k) }
+        requires empty { out.old ≡ [] }
+        requires stands { StandsForSite self.old }
+        ensures { Wrote self.old self.new actor (Request.Commit flags k) result out.new }
+    {
+        let end = self.commit(actor, flags, k)?;
+        give_end(&end, out);
+        Ok(())
+    }
+}
+
 impl SiteCore {
-    /// Get. The value isn't copied.
-    fn get(&mut self, actor: u16, key: &Key, out: &mut ReplyBuf) -> Result<(), NoMemory>
-        requires key { IsTrue (is_key key.now) }
+    /// Writes the reply to the actor's request, which is done. Neither the request nor a value that is read is copied.
+    fn reply_lent(
+        &mut self,
+        actor: u16,
+        lent: LentRequest<'_>,
+        out: &mut ReplyBuf,
+    ) -> Result<(), NoMemory>
+        requires valid { IsTrue (is_request (request_lent lent)) }
         requires empty { out.old ≡ [] }
         ensures given { (site : Site) → SiteStands self.old site
-            → GivesBytes (SiteStands self.new) (step site actor (Request.Get key.now)) site result out.new }
+            → GivesBytes (SiteStands self.new) (step site actor (request_lent lent.entry)) site result out.new }
+        ensures empty { OnErr result (out.new ≡ []) }
+        ensures sure { IsTrue (is_sure (request_lent lent.entry)) → IsOk result }
         ensures opening { opened_with self.new ≡ opened_with self.old }
     {
-        match self.parts.get_into(actor, key, out) {
+        match self.parts.serve_lent(actor, lent, out) {
             Ok(()) => Ok(()),
             Err(Stop::Refused(refusal)) => {
-                give(Reply::Refused { refusal }, out);
+                give_refused(refusal, out);
                 Ok(())
             },
             Err(Stop::NoMemory) => Err(NoMemory),
@@ -162,25 +261,14 @@ impl SiteCore {
         ensures opening { opened_with self.new ≡ opened_with self.old }
     {
         match request {
-            Request::Get { key } => self.get(actor, &key, out),
-            Request::Put { key, value } => {
-                let reply = self.put(actor, key, Write::Put(value))?;
-                give(reply, out);
-                Ok(())
-            },
-            Request::Delete { key } => {
-                let reply = self.put(actor, key, Write::Delete)?;
-                give(reply, out);
-                Ok(())
-            },
             Request::Deliver { item } => {
                 let reply = self.deliver(item)?;
-                give(reply, out);
+                give(&reply, out);
                 Ok(())
             },
             request => {
                 let reply = self.answer(actor, &request)?;
-                give(reply, out);
+                give(&reply, out);
                 Ok(())
             },
         }
@@ -198,6 +286,7 @@ impl SiteCore {
         requires empty { out.old ≡ [] }
         ensures given { (site : Site) → SiteStands self.old site
             → GivesBytes (SiteStands self.new) (step_over_bytes site (actor, request.now)) site result out.new }
+        ensures empty { OnErr result (out.new ≡ []) }
         ensures sure { option_map_or is_sure (request_of request.now) false ≡ true → IsOk result }
         ensures opening { opened_with self.new ≡ opened_with self.old }
     {
@@ -205,7 +294,7 @@ impl SiteCore {
             Some(request) => self.reply(actor, request, out),
             None => {
                 let refusal = Refusal::Malformed;
-                give(Reply::Refused { refusal }, out);
+                give(&Reply::Refused { refusal }, out);
                 Ok(())
             },
         }
@@ -227,8 +316,8 @@ impl Machine for SiteCore {
 
     fn act(&mut self, actor: u16, request: &[u8], out: &mut ReplyBuf) -> Result<(), NoMemory> {
         out.clear();
-        match asked_key(self.parts.alloc, request)? {
-            Some(key) => self.get(actor, &key, out),
+        match read_lent(request) {
+            Some(lent) => self.reply_lent(actor, lent, out),
             None => self.reply_to_bytes(actor, request, out),
         }
     }

@@ -8,10 +8,11 @@ ghost use Rattle.ceiling_book.specs.Book.{is_open};
 ghost use Rattle.plain_site.specs.Site.{Site};
 ghost use Rattle.plain_site.specs.Answers.{with_txn};
 ghost use Rattle.plain_site.specs.Commits.{commit as commit_txn, abort, without_txn_of};
-ghost use Rattle.session_core.specs.Stands.{CoreStands};
-ghost use Rattle.session_core.specs.Gives.{Answers, IsGiven, NeedsNoMemory};
+ghost use Rattle.tardis_base.specs.declared.replies.Reply.{Reply};
+ghost use Rattle.session_core.specs.Stands.{CoreStands, StandsForSite};
+ghost use Rattle.session_core.specs.Gives.{Answers, Does, IsGiven, NeedsNoMemory};
 ghost use Rattle.session_core.specs.Merges.{MayMerge};
-ghost use Rattle.session_core.specs.Commits.{IsLandingOf, CommitsAt, CommitsBelow};
+ghost use Rattle.session_core.specs.Commits.{commit_reply, IsLandingOf, CommitsAt, CommitsBelow};
 ghost use Rattle.session_core.specs.Txns.{IsNamed};
 
 use crate::Parts;
@@ -19,7 +20,16 @@ use crate::merges::states_of;
 use crate::stops::Stop;
 use conflict_keys::open_conflict;
 use merge_txn::{MergeTxn, SingleTxn, Txn};
-use tardis_base::{EndFlags, ListOf, Refusal, Reply, Slot, StateId};
+use tardis_base::{EndFlags, ListOf, Refusal, Reply, Slot, StateId, StateList};
+
+/// How a transaction ended that was to commit.
+#[derive(Drop)]
+pub enum CommitEnd {
+    /// It made this state, below these.
+    Committed { id: StateId, parents: StateList },
+    /// It wrote nothing, and read this state.
+    Ended { state: StateId },
+}
 
 impl Parts {
     /// Commits the actor's transaction: a merge below all its read states, a single one below its landing. A single one
@@ -32,10 +42,10 @@ impl Parts {
     ///
     /// The cost is that of `RecordStore::commit`, and before it that of `ripple_commit::landing`, or for a merge that of
     /// `conflict_keys::open_conflict`. Where a single one wrote nothing, it is that of looking the transaction up.
-    pub(crate) fn commit(&mut self, actor: u16, flags: EndFlags, k: u16) -> Result<Reply, Stop>
-        ensures { Answers self.old self.new result (λ site. with_txn site actor (λ s t. commit_txn site actor t flags k)) }
+    pub(crate) fn commit(&mut self, actor: u16, flags: EndFlags, k: u16) -> Result<CommitEnd, Stop>
+        requires { StandsForSite self.old }
+        ensures { Does commit_reply self.old self.new result (λ site. with_txn site actor (λ s t. commit_txn site actor t flags k)) }
     {
-        self.session(actor)?;
         match self.open_txn(actor)? {
             Txn::Merge(merge) => {
                 let below = self.joined_slots(merge, flags)?;
@@ -75,11 +85,12 @@ impl Parts {
     }
 
     /// Ends the transaction, which wrote nothing and reads the state.
-    fn end_reading(&mut self, actor: u16, state: StateId) -> Reply
-        ensures { (site : Site) → CoreStands self.old site → IsGiven (CoreStands self.new) (without_txn_of actor site, Reply.Ended state) result }
+    fn end_reading(&mut self, actor: u16, state: StateId) -> CommitEnd
+        ensures { (site : Site) → CoreStands self.old site
+            → IsGiven (CoreStands self.new) (without_txn_of actor site, Reply.Ended state) (commit_reply result) }
     {
         self.txns.end(actor);
-        Reply::Ended { state }
+        CommitEnd::Ended { state }
     }
 
     /// The slot of the state below which the single transaction commits.
@@ -105,7 +116,7 @@ impl Parts {
         landing: Slot,
         flags: EndFlags,
         k: u16,
-    ) -> Result<Reply, Stop>
+    ) -> Result<CommitEnd, Stop>
         requires open { IsTrue (is_open self.old.book actor) }
         requires slot { IsTrue (is_slot self.old.store.table landing) }
         ensures { CommitsAt self.old self.new actor landing flags k result }
@@ -116,7 +127,7 @@ impl Parts {
 
     /// Commits the transaction below the states of these slots, as the next state of the site. What it has written is moved
     /// into the store; where the state isn't added, it is put back.
-    fn commit_below(&mut self, actor: u16, below: &[Slot]) -> Result<Reply, Stop>
+    fn commit_below(&mut self, actor: u16, below: &[Slot]) -> Result<CommitEnd, Stop>
         requires open { IsTrue (is_open self.old.book actor) }
         requires slots { IsTrue (list_all (is_slot self.old.store.table) below.now) }
         ensures { CommitsBelow self.old self.new actor below.now result }
@@ -136,7 +147,7 @@ impl Parts {
             Ok(slot) => {
                 self.book.committed(self.store.dag(), actor, slot);
                 self.txns.end(actor);
-                Ok(Reply::Committed { id, parents })
+                Ok(CommitEnd::Committed { id, parents })
             },
             Err(fault) => {
                 self.txns.set_writes(actor, writes);

@@ -8,11 +8,13 @@ ghost use Rattle.plain_site.specs.Step.{step, is_sure};
 ghost use Rattle.plain_site.specs.Exchange.{deliver};
 ghost use Rattle.session_core.specs.Gives.{Answers, Gives, IsGiven, NeedsNoMemory, ToldAs};
 ghost use Rattle.session_core.specs.Stands.{StandsForSite};
-ghost use Rattle.session_core.specs.Machine.{SiteStands, IsTold, opened_with, writing};
+ghost use Rattle.session_core.specs.Commits.{commit_reply};
+ghost use Rattle.session_core.specs.Machine.{SiteStands, IsTold, opened_with};
 
+use crate::commits::CommitEnd;
 use crate::stops::Stop;
 use crate::{Parts, SiteCore};
-use tardis_base::{Item, Key, NoMemory, Reply, Request, Write};
+use tardis_base::{Item, NoMemory, Reply, Request, Write};
 
 impl Parts {
     /// Answers the actor's request by its own method.
@@ -24,13 +26,23 @@ impl Parts {
     {
         match request {
             Request::Open { follow } => self.open(actor, *follow),
-            Request::Begin { begin } => self.begin(actor, begin),
+            Request::Begin { begin } => {
+                let state = self.begin(actor, begin)?;
+                Ok(Reply::Begun { state })
+            },
             Request::Get { key } => self.get(actor, key),
             Request::Put { key, value } => {
-                self.put(actor, key.copy()?, Write::Put(value.copy()?))
+                self.put(actor, key.copy()?, Write::Put(value.copy()?))?;
+                Ok(Reply::Done)
             },
-            Request::Delete { key } => self.put(actor, key.copy()?, Write::Delete),
-            Request::Commit { flags, k } => self.commit(actor, *flags, *k),
+            Request::Delete { key } => {
+                self.put(actor, key.copy()?, Write::Delete)?;
+                Ok(Reply::Done)
+            },
+            Request::Commit { flags, k } => {
+                let end = self.commit(actor, *flags, *k)?;
+                Ok(commit_reply(end))
+            },
             Request::Abort => self.abort(actor),
             Request::BeginMerge { of } => self.begin_merge(actor, of),
             Request::ForkPoints => self.fork_points(actor),
@@ -48,6 +60,16 @@ impl Parts {
             Request::Close => self.close(actor),
             Request::Tidy { n } => Ok(self.tidy(*n)),
         }
+    }
+}
+
+/// The reply to a commit.
+fn commit_reply(end: CommitEnd) -> Reply
+    ensures { result ≡ commit_reply end }
+{
+    match end {
+        CommitEnd::Committed { id, parents } => Reply::Committed { id, parents },
+        CommitEnd::Ended { state } => Reply::Ended { state },
     }
 }
 
@@ -72,16 +94,6 @@ impl SiteCore {
         ensures opening { opened_with self.new ≡ opened_with self.old }
     {
         told(self.parts.serve(actor, request))
-    }
-
-    /// The reply to the actor's Put or Delete, which is done. Key and value are moved in.
-    pub(crate) fn put(&mut self, actor: u16, key: Key, write: Write) -> Result<Reply, NoMemory>
-        requires { IsTrue (is_request (writing key write)) }
-        ensures given { (site : Site) → SiteStands self.old site → Gives (SiteStands self.new) (step site actor (writing key write)) site result }
-        ensures told { IfOk result (λ reply. IsTold reply) }
-        ensures opening { opened_with self.new ≡ opened_with self.old }
-    {
-        told(self.parts.put(actor, key, write))
     }
 
     /// The reply to the delivery of the item, which is done. A record is moved in.

@@ -10,7 +10,8 @@ ghost use Rattle.plain_site.specs.Site.{Site};
 ghost use Rattle.plain_site.specs.Answers.{with_txn, found as reply_to};
 ghost use Rattle.plain_site.specs.Reads.{get, set_key, get_for as got_for};
 ghost use Rattle.session_core.specs.Stands.{CoreStands};
-ghost use Rattle.session_core.specs.Gives.{Answers, GivesOrStops};
+ghost use Rattle.tardis_base.specs.declared.replies.Reply.{Reply};
+ghost use Rattle.session_core.specs.Gives.{Answers, Does, GivesOrStops};
 ghost use Rattle.session_core.specs.Guards.{HasTxn};
 ghost use Rattle.session_core.specs.Machine.{NotesRead, reading};
 ghost use Rattle.session_core.specs.Reads.{ReadsAs};
@@ -43,14 +44,13 @@ impl Parts {
             Txn::Merge(merge) => return self.get_over(actor, merge, key),
         };
         let reply = reply_of(self.store.read_at(slot, key))?;
-        self.note_read(actor, key)?;
+        self.note_read(actor, key.copy()?)?;
         Ok(reply)
     }
 
     /// Notes that the actor's transaction, a single one that hasn't written to the key, reads it.
-    pub(crate) fn note_read(&mut self, actor: u16, key: &Key) -> Result<(), Stop>
-        ensures noted { NotesRead self.old self.new actor key.now result }
-        ensures store { self.new.store ≡ self.old.store }
+    fn note_read(&mut self, actor: u16, key: Key) -> Result<(), Stop>
+        ensures { NotesRead self.old self.new actor key result }
     {
         match self.txns.note_read(actor, key) {
             Some(Ok(())) => Ok(()),
@@ -87,11 +87,11 @@ impl Parts {
     ///
     /// Refused where no session is open (NotOpen), it has no transaction (NoTxn), or 64 other keys are written (TooMany).
     /// The cost is that of `Txn::put`, and of looking the transaction up; key and value are moved in.
-    pub(crate) fn put(&mut self, actor: u16, key: Key, write: Write) -> Result<Reply, Stop>
-        ensures { Answers self.old self.new result (λ site. with_txn site actor (λ s t. set_key site actor t key write)) }
+    pub(crate) fn put(&mut self, actor: u16, key: Key, write: Write) -> Result<(), Stop>
+        ensures { Does (λ _. Reply.Done) self.old self.new result (λ site. with_txn site actor (λ s t. set_key site actor t key write)) }
     {
         match self.txns.put(actor, key, write) {
-            Some(Ok(())) => Ok(Reply::Done),
+            Some(Ok(())) => Ok(()),
             Some(Err(fault)) => Err(Stop::from(fault)),
             None => {
                 self.session(actor)?;

@@ -5,14 +5,15 @@ ghost use Rattle.state_dag.specs.Table.{is_slot};
 ghost use Rattle.ceiling_book.specs.Book.{is_open};
 ghost use Rattle.plain_site.specs.Answers.{with_session, without_txn};
 ghost use Rattle.plain_site.specs.Sessions.{open_session, close_session, begin as begin_txn};
-ghost use Rattle.session_core.specs.Gives.{Answers, NeedsNoMemory};
+ghost use Rattle.tardis_base.specs.declared.replies.Reply.{Reply};
+ghost use Rattle.session_core.specs.Gives.{Answers, Does, NeedsNoMemory};
 ghost use Rattle.session_core.specs.Begins.{ChoosesFor, BeginsAt};
 
 use crate::Parts;
 use crate::stops::Stop;
 use begin_rule::BeginFault;
 use merge_txn::Txn;
-use tardis_base::{Begin, Reply, Slot};
+use tardis_base::{Begin, Reply, Slot, StateId};
 
 impl Parts {
     /// Opens the actor's session under the own floor. A ceiling that follows goes down with the session's commits.
@@ -40,13 +41,13 @@ impl Parts {
         Ok(Reply::Closed)
     }
 
-    /// Begins a transaction of the actor's session at the state that is asked for.
+    /// Begins a transaction of the actor's session at the state that is asked for, and tells at which.
     ///
     /// Refused where no session is open (NotOpen), where it has a transaction (TxnOpen), where there is no such state
     /// (Unknown), and where the state is a proper ancestor of the session's ceiling (Below). The cost is that of
     /// `begin_rule::choose`, and of looking the session up.
-    pub(crate) fn begin(&mut self, actor: u16, begin: &Begin) -> Result<Reply, Stop>
-        ensures { Answers self.old self.new result (λ site. without_txn site actor (λ s. begin_txn site actor s begin.now)) }
+    pub(crate) fn begin(&mut self, actor: u16, begin: &Begin) -> Result<StateId, Stop>
+        ensures { Does Reply.Begun self.old self.new result (λ site. without_txn site actor (λ s. begin_txn site actor s begin.now)) }
     {
         self.no_txn(actor)?;
         let slot = self.choose(actor, begin)?;
@@ -65,13 +66,13 @@ impl Parts {
     }
 
     /// Begins the transaction at the state of this slot.
-    fn begin_at(&mut self, actor: u16, slot: Slot) -> Result<Reply, Stop>
+    fn begin_at(&mut self, actor: u16, slot: Slot) -> Result<StateId, Stop>
         requires { IsTrue (is_slot self.old.store.table slot) }
         ensures { BeginsAt self.old self.new actor slot result }
     {
         let state = self.store.dag().id_of(slot);
         self.txns
             .begin(actor, Txn::single(self.alloc, state, slot))?;
-        Ok(Reply::Begun { state })
+        Ok(state)
     }
 }

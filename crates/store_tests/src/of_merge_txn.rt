@@ -44,7 +44,7 @@ fn a_257th_key_is_not_read(rt: HostRuntime) -> Result<(), Fail> {
     for number in 0..258 {
         let key = key(alloc, number % 257)?;
         let wanted = if number == 256 { Err(many) } else { Ok(()) };
-        assert_eq!(rt; txn.note_read(&key), wanted, "{number}");
+        assert_eq!(rt; txn.note_read(key), wanted, "{number}");
     }
     Ok(())
 }

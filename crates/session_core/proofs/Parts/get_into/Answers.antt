@@ -1,61 +1,48 @@
-use Rattle.std.proofs.Common.{◌≡◌, ◌∙◌, Some, sym, ap, subst}
-use Rattle.state_dag.specs.Table.{id_at}
-use Rattle.record_store.specs.Stands.{StoreStands}
+use Rattle.std.proofs.Common.{◌≡◌, sym, ap, subst}
+use Rattle.tardis_base.specs.declared.requests.Request.TheVariants.{Get}
 use Rattle.version_list.specs.Reads.{found as found_write}
 use Rattle.plain_site.specs.Answers.{Answer, found}
-use Rattle.session_core.specs.Guards.{HasTxn}
-use Rattle.session_core.proofs.Getting.{read-told}
-use Rattle.session_core.proofs.Reading.{single-own}
+use Rattle.wire_talk.specs.Spellings.{reply_spelling}
+use Rattle.session_core.specs.Gives.{Stops}
+use Rattle.session_core.specs.Machine.{reading}
+use Rattle.session_core.specs.Held.{seen}
+use Rattle.session_core.specs.Stands.{CoreStands}
+use Rattle.session_core.proofs.Getting.{reply-told}
+use Rattle.session_core.proofs.Memory.{read-held}
+use Rattle.session_core.proofs.Reading.{read-found, read-fault}
 use Rattle.session_core.proofs.Parts.get_into.Goals as goal
 
 pub give_found-requires-clause-valid : goal.give_found-requires-clause-valid
 give_found-requires-clause-valid c =
-    let core = c.args.self.now in
     let n = c.args.actor in
-    let k = c.args.key.now in
-    let one = c.in-Single.single in
-    (read-told core n k c.requires.key c.requires.stands (found (found_write c.own_write.result))
+    let k = c.args.key in
+    (reply-told c.args.self.now n (Get k) c.requires.key c.requires.stands (found (found_write c.in-Found.found))
     (λ site stands sound.
-    let has = subst (HasTxn core.store.table site n) c.in-Single.is (c.in_ok-single.ensures.stands site stands sound) in
-    ap (λ (a : Answer). a.1) (single-own core.store.table site n k one has c.in-Some.write.now (sym c.in-Some.ensures)) ∙ ap found (sym c.own_write.ensures))).valid
+    ap (λ (a : Answer). a.1) (read-found (seen c.self.inside) site (subst (λ v. CoreStands v site) (sym c.self.view_is) stands) sound n k c.read.new.self c.in-Found.found c.in-Found.ensures).0)).valid
 
 pub give_found-requires-clause-short : goal.give_found-requires-clause-short
 give_found-requires-clause-short c =
-    let core = c.args.self.now in
     let n = c.args.actor in
-    let k = c.args.key.now in
-    let one = c.in-Single.single in
-    (read-told core n k c.requires.key c.requires.stands (found (found_write c.own_write.result))
+    let k = c.args.key in
+    (reply-told c.args.self.now n (Get k) c.requires.key c.requires.stands (found (found_write c.in-Found.found))
     (λ site stands sound.
-    let has = subst (HasTxn core.store.table site n) c.in-Single.is (c.in_ok-single.ensures.stands site stands sound) in
-    ap (λ (a : Answer). a.1) (single-own core.store.table site n k one has c.in-Some.write.now (sym c.in-Some.ensures)) ∙ ap found (sym c.own_write.ensures))).short
+    ap (λ (a : Answer). a.1) (read-found (seen c.self.inside) site (subst (λ v. CoreStands v site) (sym c.self.view_is) stands) sound n k c.read.new.self c.in-Found.found c.in-Found.ensures).0)).short
 
-pub give_found-requires-2-clause-valid : goal.give_found-requires-2-clause-valid
-give_found-requires-2-clause-valid c =
-    let core = c.args.self.now in
-    let n = c.args.actor in
-    let k = c.args.key.now in
-    let one = c.in-Single.single in
-    let same = ap (λ v. v.store) c.self.view_is ∙ c.note_read.ensures.store in
-    (read-told core n k c.requires.key c.requires.stands (found (found_write c.read_at.result))
-    (λ site stands sound.
-    let has = subst (HasTxn core.store.table site n) c.in-Single.is (c.in_ok-single.ensures.stands site stands sound) in
-    let at = c.in_ok-single.ensures.found ∙ ap (λ t. Some t) c.in-Single.is in
-    let note = c.in_ok-note_read.ensures.noted site stands sound one at (sym c.in-None.ensures) in
-    let is = c.read_at.ensures site.dag site.collected (subst (λ s. StoreStands s site.dag site.collected) (sym same) stands.store) one.state (subst (λ s. id_at s.table one.slot ≡ Some one.state) (sym same) has.named) in
-    ap (λ (a : Answer). a.1) note.0 ∙ ap found (sym is))).valid
+pub invariant_of-self : goal.invariant_of-self
+invariant_of-self c = read-held c.self.inside c.self.invariant c.self.inside.store c.args.actor c.args.key c.read.new.self c.read.result c.read.ensures
 
-pub give_found-requires-2-clause-short : goal.give_found-requires-2-clause-short
-give_found-requires-2-clause-short c =
-    let core = c.args.self.now in
-    let n = c.args.actor in
-    let k = c.args.key.now in
-    let one = c.in-Single.single in
-    let same = ap (λ v. v.store) c.self.view_is ∙ c.note_read.ensures.store in
-    (read-told core n k c.requires.key c.requires.stands (found (found_write c.read_at.result))
-    (λ site stands sound.
-    let has = subst (HasTxn core.store.table site n) c.in-Single.is (c.in_ok-single.ensures.stands site stands sound) in
-    let at = c.in_ok-single.ensures.found ∙ ap (λ t. Some t) c.in-Single.is in
-    let note = c.in_ok-note_read.ensures.noted site stands sound one at (sym c.in-None.ensures) in
-    let is = c.read_at.ensures site.dag site.collected (subst (λ s. StoreStands s site.dag site.collected) (sym same) stands.store) one.state (subst (λ s. id_at s.table one.slot ≡ Some one.state) (sym same) has.named) in
-    ap (λ (a : Answer). a.1) note.0 ∙ ap found (sym is))).short
+pub returns-in-Found : goal.returns-in-Found
+returns-in-Found c = λ site stands sound.
+    let core = seen c.self.inside in
+    let here = subst (λ v. CoreStands v site) (sym c.self.view_is) stands in
+    let got = read-found core site here sound c.args.actor c.args.key c.read.new.self c.in-Found.found c.in-Found.ensures in
+    subst (λ (a : Answer). CoreStands (record core { txns = c.read.new.self }) a.0 × (c.give_found.new.out ≡ reply_spelling a.1)) (sym got.0) (got.1, c.give_found.ensures)
+
+pub returns-in-Fault : goal.returns-in-Fault
+returns-in-Fault c = λ site stands sound.
+    let core = seen c.self.inside in
+    let here = subst (λ v. CoreStands v site) (sym c.self.view_is) stands in (
+      subst (Stops (CoreStands (record core { txns = c.read.new.self })) (reading site c.args.actor c.args.key) site) (sym c.from.ensures)
+          (read-fault core site here sound c.args.actor c.args.key c.read.new.self c.in-Fault.fault c.in-Fault.ensures),
+      c.requires.empty,
+    )

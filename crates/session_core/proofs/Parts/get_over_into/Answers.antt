@@ -1,7 +1,8 @@
+use Rattle.tardis_base.specs.declared.requests.Request.TheVariants.{Get}
 use Rattle.std.proofs.Common.{ap}
 use Rattle.version_list.specs.Reads.{found as found_write}
 use Rattle.plain_site.specs.Answers.{Answer, found}
-use Rattle.session_core.proofs.Getting.{read-told}
+use Rattle.session_core.proofs.Getting.{reply-told}
 use Rattle.session_core.proofs.Reading.{merge-found}
 use Rattle.session_core.proofs.Parts.get_over_into.Goals as goal
 
@@ -10,7 +11,7 @@ give_found-requires-clause-valid c =
     let core = c.args.self.now in
     let n = c.args.actor in
     let k = c.args.key.now in
-    (read-told core n k c.requires.key c.requires.stands (found (found_write c.in-Found.found))
+    (reply-told core n (Get k) c.requires.key c.requires.stands (found (found_write c.in-Found.found))
     (λ site stands sound.
     let has = c.requires.found site stands sound in
     ap (λ (a : Answer). a.1) (merge-found core.store.table site n k c.args.merge.now has c.in-Found.found (c.in-Found.ensures site stands has.named)))).valid
@@ -20,7 +21,7 @@ give_found-requires-clause-short c =
     let core = c.args.self.now in
     let n = c.args.actor in
     let k = c.args.key.now in
-    (read-told core n k c.requires.key c.requires.stands (found (found_write c.in-Found.found))
+    (reply-told core n (Get k) c.requires.key c.requires.stands (found (found_write c.in-Found.found))
     (λ site stands sound.
     let has = c.requires.found site stands sound in
     ap (λ (a : Answer). a.1) (merge-found core.store.table site n k c.args.merge.now has c.in-Found.found (c.in-Found.ensures site stands has.named)))).short

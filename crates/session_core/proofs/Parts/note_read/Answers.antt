@@ -13,13 +13,13 @@ use Rattle.session_core.proofs.Parts.note_read.Goals as goal
 use Rattle.session_core.proofs.Parts.note_read.Goals.{in-Some-Ok, in-Some-Err, in-None}
 
 pub invariant_of-self : goal.invariant_of-self
-invariant_of-self c = note-held c.self.inside c.self.invariant c.args.actor c.args.key.now c.note_read.new.self c.note_read.result c.note_read.ensures
+invariant_of-self c = note-held c.self.inside c.self.invariant c.args.actor c.args.key c.note_read.new.self c.note_read.result c.note_read.ensures
 
-pub returns-clause-noted : goal.returns-clause-noted
-returns-clause-noted c = λ site stands sound t at_now none.
+pub returns : goal.returns
+returns c = λ site stands sound t at_now none.
     let core = seen c.self.inside in
     let n = c.args.actor in
-    let k = c.args.key.now in
+    let k = c.args.key in
     let es = c.note_read.new.self in
     let here = subst (λ v. CoreStands v site) (sym c.self.view_is) stands in
     let at = subst (λ v. entry_of n v.txns ≡ Some (Single t)) (sym c.self.view_is) at_now in

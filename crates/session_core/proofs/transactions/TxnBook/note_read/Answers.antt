@@ -10,7 +10,7 @@ pub returns : goal.returns
 returns c =
     let now = c.args.self.now in
     let n = c.args.session in
-    let k = c.args.key.now in
+    let k = c.args.key in
     let es = c.self.inside.entries.entries in
     elim c.match-get_mut.branch [
       | in-Some w ↦
