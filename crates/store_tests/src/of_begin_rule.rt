@@ -40,6 +40,34 @@ fn chosen(
     Some(choose_all(alloc, dag, states, dag.slot_of(ceiling)?))
 }
 
+/// Whether a merge of these states begins at these slots.
+fn begins_at(
+    alloc: Global,
+    dag: &StateDag,
+    states: &[StateId],
+    ceiling: StateId,
+    slots: &[Slot],
+) -> bool {
+    match chosen(alloc, dag, states, ceiling) {
+        Some(Ok(found)) => found.as_slice() == slots,
+        _ => false,
+    }
+}
+
+/// Whether a merge of these states is refused so.
+fn is_refused(
+    alloc: Global,
+    dag: &StateDag,
+    states: &[StateId],
+    ceiling: StateId,
+    fault: MergeFault,
+) -> bool {
+    match chosen(alloc, dag, states, ceiling) {
+        Some(Err(told)) => told == fault,
+        _ => false,
+    }
+}
+
 #[test]
 fn a_lone_root_is_chosen(rt: HostRuntime) -> Result<(), Fail> {
     let dag = StateDag::new(rt.alloc(), &LIMITS)?;
@@ -62,10 +90,15 @@ fn a_merge_begins_where_no_state_is_refused(rt: HostRuntime) -> Result<(), Fail>
     let mut dag = StateDag::new(rt.alloc(), &LIMITS)?;
     let one = add_below(&mut dag, 0, None).expect(&rt, "room");
     let other = add_below(&mut dag, 0, None).expect(&rt, "room");
-    match chosen(rt.alloc(), &dag, &[FIRST, SECOND], StateId::ROOT) {
-        Some(Ok(slots)) => assert_eq!(rt; slots.as_slice(), [one, other].as_slice()),
-        _ => assert!(rt; false, "both are known, admitted and apart"),
-    }
+    assert!(rt;
+        begins_at(
+            rt.alloc(),
+            &dag,
+            &[FIRST, SECOND],
+            StateId::ROOT,
+            &[one, other]
+        )
+    );
     let unknown = MergeFault::Unknown { state: THIRD };
     let below = MergeFault::Below {
         state: StateId::ROOT,
@@ -82,10 +115,7 @@ fn a_merge_begins_where_no_state_is_refused(rt: HostRuntime) -> Result<(), Fail>
         ([StateId::ROOT, SECOND], StateId::ROOT, comparable),
     ];
     for (states, ceiling, fault) in rows {
-        match chosen(rt.alloc(), &dag, &states, ceiling) {
-            Some(Err(told)) => assert_eq!(rt; told, fault),
-            _ => assert!(rt; false, "it is refused"),
-        }
+        assert!(rt; is_refused(rt.alloc(), &dag, &states, ceiling, fault));
     }
     Ok(())
 }

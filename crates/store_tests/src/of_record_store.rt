@@ -140,7 +140,7 @@ struct Read<'a> {
     bytes: Option<&'a [u8]>,
 }
 
-fn read<'a>(at: u32, key: &'a [u8], writer: Option<u32>, bytes: Option<&'a [u8]>) -> Read<'a> {
+fn expects<'a>(at: u32, key: &'a [u8], writer: Option<u32>, bytes: Option<&'a [u8]>) -> Read<'a> {
     Read {
         at,
         key,
@@ -193,12 +193,12 @@ fn branches_read_their_own(rt: HostRuntime) {
     let keys = RandomState::new(&rt).expect(&rt, "random bytes");
     let store = forked(&rt, alloc, keys);
     for row in [
-        read(0, b"x", None, None),
-        read(1, b"x", Some(1), Some(b"1")),
-        read(2, b"x", Some(2), Some(b"2")),
-        read(2, b"y", None, None),
-        read(3, b"x", Some(3), None),
-        read(3, b"y", Some(3), Some(b"3")),
+        expects(0, b"x", None, None),
+        expects(1, b"x", Some(1), Some(b"1")),
+        expects(2, b"x", Some(2), Some(b"2")),
+        expects(2, b"y", None, None),
+        expects(3, b"x", Some(3), None),
+        expects(3, b"y", Some(3), Some(b"3")),
     ] {
         reads(&rt, alloc, &store, row);
     }
@@ -219,8 +219,8 @@ fn a_merge_comes_back_and_a_full_store_keeps_its_reads(rt: HostRuntime) {
     merged(&rt, alloc, &mut store);
     full(&rt, alloc, &mut store);
     for row in [
-        read(4, b"x", Some(4), Some(b"4")),
-        read(4, b"y", Some(3), Some(b"3")),
+        expects(4, b"x", Some(4), Some(b"4")),
+        expects(4, b"y", Some(3), Some(b"3")),
     ] {
         reads(&rt, alloc, &store, row);
     }

@@ -128,11 +128,19 @@ fn serve_row<R: Threads + Wait + Sync>(
         &mut dial,
         &mut output,
     );
-    let mut bytes = Vec::new(alloc);
-    for byte in output.bytes() {
-        bytes.push(*byte)?;
-    }
-    Ok((end, bytes))
+    Ok((end, Vec::from_slice(alloc, output.bytes())?))
+}
+
+/// Whether serving so ends so, and so many bytes of the trail are written.
+fn comes_to<R: Threads + Wait + Sync>(
+    alloc: Global,
+    rt: &R,
+    row: Row<'_>,
+    end: ServeEnd,
+    length: usize,
+) -> Result<bool, Fail> {
+    let (ended, bytes) = serve_row(alloc, rt, row)?;
+    Ok(ended == end && bytes.len() == length)
 }
 
 #[test]
@@ -185,9 +193,7 @@ fn a_server_writes_its_trail_and_tells_what_failed_first(rt: HostRuntime) -> Res
         ),
     ];
     for (row, end, length) in rows {
-        let (ended, bytes) = serve_row(rt.alloc(), &rt, row)?;
-        assert_eq!(rt; ended, end);
-        assert_eq!(rt; bytes.len(), length);
+        assert!(rt; comes_to(rt.alloc(), &rt, row, end, length)?);
     }
     Ok(())
 }
@@ -210,9 +216,8 @@ fn a_peer_that_fails_ends_its_exchange_alone(rt: HostRuntime) -> Result<(), Fail
             gives,
             calls,
         };
-        let (ended, bytes) = serve_row(rt.alloc(), &rt, syncs(failing, false))?;
-        assert_eq!(rt; ended, served(PoolEnd::Done, failed, Ok(())));
-        assert_eq!(rt; bytes.len(), length);
+        let end = served(PoolEnd::Done, failed, Ok(()));
+        assert!(rt; comes_to(rt.alloc(), &rt, syncs(failing, false), end, length)?);
     }
     Ok(())
 }

@@ -39,11 +39,7 @@ fn link(alloc: Global, sent: &[u8], takes: &[u64], gives: &[u64]) -> Result<Memo
 
 /// Makes the exchange of a row, and tells whether it ended so, what the links were given that were put back finished, and how
 /// many bytes the trail has.
-fn sync_row<R: Wait>(
-    alloc: Global,
-    rt: &R,
-    row: Row<'_>,
-) -> Result<(bool, Vec<u8>, usize), Fail> {
+fn sync_row<R: Wait>(alloc: Global, rt: &R, row: Row<'_>) -> Result<(bool, Vec<u8>, usize), Fail> {
     let (takes, gives, calls) = row.failing;
     let mut links = Vec::new(alloc);
     links.push(link(alloc, row.sent, takes, gives)?)?;

@@ -4,10 +4,10 @@ ghost use Rattle.std.specs.Prelude.{◌≡◌, nat_lt, nat_le, IsTrue};
 ghost use Rattle.std.proofs.Common.{ap};
 ghost use Rattle.std.proofs.lemmas.Bool.{leb-true};
 
-use tardis_base::*;
 use bitflags::Flags;
 use std::alloc::Global;
 use std::test::Fail;
+use tardis_base::*;
 
 fn key(alloc: Global, bytes: &[u8]) -> Result<Key, BytesFault> {
     Key::new(alloc, bytes)
