@@ -4,9 +4,13 @@
 #![tactic(auto)]
 
 #[cfg(test)]
+mod histories;
+#[cfg(test)]
 mod of_begin_rule;
 #[cfg(test)]
 mod of_branch_region;
+#[cfg(test)]
+mod of_ceiling_book;
 #[cfg(test)]
 mod of_conflict_keys;
 #[cfg(test)]

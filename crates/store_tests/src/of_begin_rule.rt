@@ -1,10 +1,11 @@
 //! What no clause says: that a choice is made, and that memory is had where there is enough.
 
+use crate::histories::add_below;
 use begin_rule::{BeginFault, MergeFault, choose, choose_all};
 use state_dag::StateDag;
 use std::alloc::Global;
 use std::test::Fail;
-use tardis_base::{AddFault, Begin, Limits, ListOf, Slot, StateId};
+use tardis_base::{Begin, Limits, ListOf, Slot, StateId};
 
 const LIMITS: Limits = Limits {
     sites: 1,
@@ -29,20 +30,6 @@ const THIRD: StateId = StateId {
     sequence: 3,
 };
 
-/// Adds the next state of site 1 below the root.
-fn add_below_root(dag: &mut StateDag) -> Result<Slot, AddFault> {
-    if dag.limits().sites == 0 {
-        return Err(AddFault::NoMemory);
-    }
-    let Some(sequence) = dag.count(1).checked_add(1) else {
-        return Err(AddFault::NoMemory);
-    };
-    let Some(root) = dag.slot_of(StateId::ROOT) else {
-        return Err(AddFault::NoMemory);
-    };
-    dag.add(StateId { site: 1, sequence }, &[root])
-}
-
 /// What a merge of these states comes to under the ceiling, if that is kept.
 fn chosen(
     alloc: Global,
@@ -51,6 +38,34 @@ fn chosen(
     ceiling: StateId,
 ) -> Option<Result<ListOf<Slot>, MergeFault>> {
     Some(choose_all(alloc, dag, states, dag.slot_of(ceiling)?))
+}
+
+/// Whether a merge of these states begins at these slots.
+fn begins_at(
+    alloc: Global,
+    dag: &StateDag,
+    states: &[StateId],
+    ceiling: StateId,
+    slots: &[Slot],
+) -> bool {
+    match chosen(alloc, dag, states, ceiling) {
+        Some(Ok(found)) => found.as_slice() == slots,
+        _ => false,
+    }
+}
+
+/// Whether a merge of these states is refused so.
+fn is_refused(
+    alloc: Global,
+    dag: &StateDag,
+    states: &[StateId],
+    ceiling: StateId,
+    fault: MergeFault,
+) -> bool {
+    match chosen(alloc, dag, states, ceiling) {
+        Some(Err(told)) => told == fault,
+        _ => false,
+    }
 }
 
 #[test]
@@ -73,12 +88,17 @@ fn a_lone_root_is_chosen(rt: HostRuntime) -> Result<(), Fail> {
 #[test]
 fn a_merge_begins_where_no_state_is_refused(rt: HostRuntime) -> Result<(), Fail> {
     let mut dag = StateDag::new(rt.alloc(), &LIMITS)?;
-    let one = add_below_root(&mut dag).expect(&rt, "room");
-    let other = add_below_root(&mut dag).expect(&rt, "room");
-    match chosen(rt.alloc(), &dag, &[FIRST, SECOND], StateId::ROOT) {
-        Some(Ok(slots)) => assert_eq!(rt; slots.as_slice(), [one, other].as_slice()),
-        _ => assert!(rt; false, "both are known, admitted and apart"),
-    }
+    let one = add_below(&mut dag, 0, None).expect(&rt, "room");
+    let other = add_below(&mut dag, 0, None).expect(&rt, "room");
+    assert!(rt;
+        begins_at(
+            rt.alloc(),
+            &dag,
+            &[FIRST, SECOND],
+            StateId::ROOT,
+            &[one, other]
+        )
+    );
     let unknown = MergeFault::Unknown { state: THIRD };
     let below = MergeFault::Below {
         state: StateId::ROOT,
@@ -95,10 +115,7 @@ fn a_merge_begins_where_no_state_is_refused(rt: HostRuntime) -> Result<(), Fail>
         ([StateId::ROOT, SECOND], StateId::ROOT, comparable),
     ];
     for (states, ceiling, fault) in rows {
-        match chosen(rt.alloc(), &dag, &states, ceiling) {
-            Some(Err(told)) => assert_eq!(rt; told, fault),
-            _ => assert!(rt; false, "it is refused"),
-        }
+        assert!(rt; is_refused(rt.alloc(), &dag, &states, ceiling, fault));
     }
     Ok(())
 }

@@ -4,12 +4,13 @@ ghost use Rattle.std.specs.Prelude.{IfOk, IsTrue};
 ghost use Rattle.std.specs.List.{list_all};
 ghost use Rattle.state_dag.specs.Table.{is_slot};
 
+use crate::histories::{state, write_below};
 use conflict_keys::{conflicts, first_open, open_conflict, value_over};
 use record_store::RecordStore;
 use std::alloc::Global;
 use std::hash::RandomState;
 use std::test::Fail;
-use tardis_base::{AddFault, Found, Key, Limits, NoMemory, Over, Slot, StateId, Write, WriteSet};
+use tardis_base::{AddFault, Found, Key, Limits, NoMemory, Over, Slot, Write, WriteSet};
 
 const LIMITS: Limits = Limits {
     sites: 1,
@@ -18,28 +19,6 @@ const LIMITS: Limits = Limits {
     max_sessions: 1,
     max_trail: 0,
 };
-
-/// The root, or the state of site 1 with this sequence.
-fn state(sequence: u32) -> StateId {
-    StateId {
-        site: if sequence == 0 { 0 } else { 1 },
-        sequence,
-    }
-}
-
-/// Adds the next state of site 1 below the root.
-fn add_below_root(store: &mut RecordStore, writes: &WriteSet) -> Result<Slot, AddFault> {
-    if store.dag().limits().sites == 0 {
-        return Err(AddFault::NoMemory);
-    }
-    let Some(sequence) = store.dag().count(1).checked_add(1) else {
-        return Err(AddFault::NoMemory);
-    };
-    let Some(root) = store.dag().slot_of(state(0)) else {
-        return Err(AddFault::NoMemory);
-    };
-    store.add_state(StateId { site: 1, sequence }, &[root], writes)
-}
 
 fn key(alloc: Global, bytes: &[u8]) -> Result<Key, NoMemory> {
     match Key::new(alloc, bytes) {
@@ -62,8 +41,8 @@ fn forked(alloc: Global, keys: RandomState) -> Result<(RecordStore, [Slot; 2]), 
     ensures { IfOk result (λ made. IsTrue (list_all (is_slot made.0.table) made.1)) }
 {
     let mut store = RecordStore::new(alloc, keys, &LIMITS)?;
-    add_below_root(&mut store, &deletes(alloc, &[b"a", b"c", b"d"])?)?;
-    add_below_root(&mut store, &deletes(alloc, &[b"b", b"c", b"d"])?)?;
+    write_below(&mut store, 0, None, &deletes(alloc, &[b"a", b"c", b"d"])?)?;
+    write_below(&mut store, 0, None, &deletes(alloc, &[b"b", b"c", b"d"])?)?;
     match (store.dag().slot_of(state(1)), store.dag().slot_of(state(2))) {
         (Some(one), Some(other)) => Ok((store, [one, other])),
         _ => Err(AddFault::NoMemory),

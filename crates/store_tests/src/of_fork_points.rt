@@ -1,10 +1,11 @@
 //! What no clause says: that memory is had where there is enough.
 
+use crate::histories::{add_below, state};
 use fork_points::{StatePage, fork_points, leaf_page};
 use state_dag::StateDag;
 use std::alloc::Global;
 use std::test::Fail;
-use tardis_base::{AddFault, Limits, NoMemory, Slot, StateId};
+use tardis_base::{Limits, NoMemory};
 
 const LIMITS: Limits = Limits {
     sites: 1,
@@ -13,28 +14,6 @@ const LIMITS: Limits = Limits {
     max_sessions: 1,
     max_trail: 0,
 };
-
-/// The root, or the state of site 1 with this sequence.
-fn state(sequence: u32) -> StateId {
-    StateId {
-        site: if sequence == 0 { 0 } else { 1 },
-        sequence,
-    }
-}
-
-/// Adds the next state of site 1 below the root.
-fn add_below_root(dag: &mut StateDag) -> Result<Slot, AddFault> {
-    if dag.limits().sites == 0 {
-        return Err(AddFault::NoMemory);
-    }
-    let Some(sequence) = dag.count(1).checked_add(1) else {
-        return Err(AddFault::NoMemory);
-    };
-    let Some(root) = dag.slot_of(state(0)) else {
-        return Err(AddFault::NoMemory);
-    };
-    dag.add(StateId { site: 1, sequence }, &[root])
-}
 
 /// The fork points of the states with these sequences, if both are kept.
 fn forks(
@@ -64,8 +43,8 @@ fn shows(page: &StatePage, sequences: &[u32]) -> bool {
 fn two_states_below_the_root_are_leaves_and_part_there(rt: HostRuntime) -> Result<(), Fail> {
     let mut dag = StateDag::new(rt.alloc(), &LIMITS)?;
     assert!(rt; shows(&leaf_page(rt.alloc(), &dag)?, &[0]));
-    assert!(rt; add_below_root(&mut dag).is_ok());
-    assert!(rt; add_below_root(&mut dag).is_ok());
+    assert!(rt; add_below(&mut dag, 0, None).is_ok());
+    assert!(rt; add_below(&mut dag, 0, None).is_ok());
     assert!(rt; shows(&leaf_page(rt.alloc(), &dag)?, &[1, 2]));
     for (one, other, sequence) in [(1, 2, 0), (1, 1, 1), (0, 2, 0)] {
         match forks(rt.alloc(), &dag, one, other)? {

@@ -131,18 +131,31 @@ fn full(rt: &impl Abort, alloc: Global, store: &mut RecordStore)
     assert_eq!(rt; fresh.len(), 2);
 }
 
-/// What is read of the key at this state: who wrote it, if anyone, and the value, unless it was deleted.
-fn reads(
-    rt: &impl Abort,
-    alloc: Global,
-    store: &RecordStore,
-    sequence: u32,
-    of: &[u8],
+/// What is to be read of a key at a state: who wrote it, if anyone, and the value, unless it was deleted.
+#[derive(Clone, Copy)]
+struct Read<'a> {
+    at: u32,
+    key: &'a [u8],
     writer: Option<u32>,
-    bytes: Option<&[u8]>,
-) {
-    let value = bytes.map(|bytes| value(rt, alloc, bytes));
-    let want = match (writer, &value) {
+    bytes: Option<&'a [u8]>,
+}
+
+fn expects<'a>(at: u32, key: &'a [u8], writer: Option<u32>, bytes: Option<&'a [u8]>) -> Read<'a> {
+    Read {
+        at,
+        key,
+        writer,
+        bytes,
+    }
+}
+
+/// Reads what is to be read.
+fn reads(rt: &impl Abort, alloc: Global, store: &RecordStore, read: Read<'_>) {
+    let value = match read.bytes {
+        Some(bytes) => Some(value(rt, alloc, bytes)),
+        None => None,
+    };
+    let want = match (read.writer, &value) {
         (None, _) => Found::Absent,
         (Some(writer), None) => Found::Deleted {
             writer: state(writer),
@@ -152,11 +165,12 @@ fn reads(
             value,
         },
     };
-    let slot = at(rt, store, sequence);
+    let slot = at(rt, store, read.at);
     assert_eq!(rt;
-        store.read_at(slot, &key(rt, alloc, of)),
+        store.read_at(slot, &key(rt, alloc, read.key)),
         want,
-        "at {sequence}"
+        "at {}",
+        read.at
     );
 }
 
@@ -178,15 +192,23 @@ fn branches_read_their_own(rt: HostRuntime) {
     let alloc = rt.alloc();
     let keys = RandomState::new(&rt).expect(&rt, "random bytes");
     let store = forked(&rt, alloc, keys);
-    reads(&rt, alloc, &store, 0, b"x", None, None);
-    reads(&rt, alloc, &store, 1, b"x", Some(1), Some(b"1"));
-    reads(&rt, alloc, &store, 2, b"x", Some(2), Some(b"2"));
-    reads(&rt, alloc, &store, 2, b"y", None, None);
-    reads(&rt, alloc, &store, 3, b"x", Some(3), None);
-    reads(&rt, alloc, &store, 3, b"y", Some(3), Some(b"3"));
-    assert!(rt; news(&rt, alloc, &store, 1, 2, b"x"));
-    assert!(rt; !news(&rt, alloc, &store, 1, 2, b"y"));
-    assert!(rt; !news(&rt, alloc, &store, 2, 1, b"x"));
+    for row in [
+        expects(0, b"x", None, None),
+        expects(1, b"x", Some(1), Some(b"1")),
+        expects(2, b"x", Some(2), Some(b"2")),
+        expects(2, b"y", None, None),
+        expects(3, b"x", Some(3), None),
+        expects(3, b"y", Some(3), Some(b"3")),
+    ] {
+        reads(&rt, alloc, &store, row);
+    }
+    for (from, child, of, is_news) in [
+        (1, 2, b"x", true),
+        (1, 2, b"y", false),
+        (2, 1, b"x", false),
+    ] {
+        assert_eq!(rt; news(&rt, alloc, &store, from, child, of), is_news);
+    }
 }
 
 #[test]
@@ -196,8 +218,12 @@ fn a_merge_comes_back_and_a_full_store_keeps_its_reads(rt: HostRuntime) {
     let mut store = forked(&rt, alloc, keys);
     merged(&rt, alloc, &mut store);
     full(&rt, alloc, &mut store);
-    reads(&rt, alloc, &store, 4, b"x", Some(4), Some(b"4"));
-    reads(&rt, alloc, &store, 4, b"y", Some(3), Some(b"3"));
+    for row in [
+        expects(4, b"x", Some(4), Some(b"4")),
+        expects(4, b"y", Some(3), Some(b"3")),
+    ] {
+        reads(&rt, alloc, &store, row);
+    }
     assert!(rt; news(&rt, alloc, &store, 2, 4, b"y"));
     assert_eq!(rt; store.versions().keys(), 2);
 }

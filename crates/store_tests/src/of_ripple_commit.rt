@@ -1,11 +1,12 @@
 //! What no clause says: that a landing is looked for, where the root is alone and where two branches meet.
 
+use crate::histories::{state, write_below};
 use record_store::RecordStore;
 use ripple_commit::landing;
 use std::alloc::Global;
 use std::hash::RandomState;
 use std::test::Fail;
-use tardis_base::{AddFault, EndFlags, Key, KeySet, Limits, Slot, StateId, Write, WriteSet};
+use tardis_base::{EndFlags, Key, KeySet, Limits, Write, WriteSet};
 
 const LIMITS: Limits = Limits {
     sites: 1,
@@ -14,45 +15,6 @@ const LIMITS: Limits = Limits {
     max_sessions: 1,
     max_trail: 0,
 };
-
-/// The root, or the state of site 1 with this sequence.
-fn state(sequence: u32) -> StateId {
-    StateId {
-        site: if sequence == 0 { 0 } else { 1 },
-        sequence,
-    }
-}
-
-/// Adds the next state of site 1 below the root.
-fn add_below_root(store: &mut RecordStore, writes: &WriteSet) -> Result<Slot, AddFault> {
-    if store.dag().limits().sites == 0 {
-        return Err(AddFault::NoMemory);
-    }
-    let Some(sequence) = store.dag().count(1).checked_add(1) else {
-        return Err(AddFault::NoMemory);
-    };
-    let Some(root) = store.dag().slot_of(state(0)) else {
-        return Err(AddFault::NoMemory);
-    };
-    store.add_state(StateId { site: 1, sequence }, &[root], writes)
-}
-
-/// Adds the next state of site 1 below its first two.
-fn add_below_both(store: &mut RecordStore, writes: &WriteSet) -> Result<Slot, AddFault> {
-    if store.dag().limits().sites == 0 {
-        return Err(AddFault::NoMemory);
-    }
-    let Some(sequence) = store.dag().count(1).checked_add(1) else {
-        return Err(AddFault::NoMemory);
-    };
-    let Some(one) = store.dag().slot_of(state(1)) else {
-        return Err(AddFault::NoMemory);
-    };
-    let Some(other) = store.dag().slot_of(state(2)) else {
-        return Err(AddFault::NoMemory);
-    };
-    store.add_state(StateId { site: 1, sequence }, &[one, other], writes)
-}
 
 /// Reads this key.
 fn reads(alloc: Global, bytes: &[u8]) -> Result<KeySet, Fail> {
@@ -85,9 +47,9 @@ fn nothing_lands_below_a_lone_root(rt: HostRuntime) -> Result<(), Fail> {
 fn a_merge_child_brings_the_news_of_the_other_branch(rt: HostRuntime) -> Result<(), Fail> {
     let alloc = rt.alloc();
     let mut store = RecordStore::new(alloc, RandomState::new(&rt)?, &LIMITS)?;
-    assert!(rt; add_below_root(&mut store, &deletes(alloc, b"x")?).is_ok());
-    assert!(rt; add_below_root(&mut store, &deletes(alloc, b"y")?).is_ok());
-    assert!(rt; add_below_both(&mut store, &WriteSet::new(alloc)).is_ok());
+    assert!(rt; write_below(&mut store, 0, None, &deletes(alloc, b"x")?).is_ok());
+    assert!(rt; write_below(&mut store, 0, None, &deletes(alloc, b"y")?).is_ok());
+    assert!(rt; write_below(&mut store, 1, Some(2), &WriteSet::new(alloc)).is_ok());
     let branch = store.dag().slot_of(state(1)).expect(&rt, "kept");
     let merge = store.dag().slot_of(state(3)).expect(&rt, "kept");
     let rows = [

@@ -80,9 +80,14 @@ fn add(rt: &impl Abort, alloc: Global, store: &mut RecordStore, rec: &Record)
 /// How many records a batch for these counts has, after two records of 262,144 bytes and a last one.
 fn given(rt: &impl Abort, alloc: Global, keys: RandomState, last: usize, counts: &[u32]) -> usize {
     let mut store = RecordStore::new(alloc, keys, &LIMITS).expect(rt, "room");
-    add(rt, alloc, &mut store, &wide_record(rt, alloc, 1, 3762));
-    add(rt, alloc, &mut store, &wide_record(rt, alloc, 2, 3762));
-    add(rt, alloc, &mut store, &wide_record(rt, alloc, 3, last));
+    for (sequence, size) in [(1, 3762), (2, 3762), (3, last)] {
+        add(
+            rt,
+            alloc,
+            &mut store,
+            &wide_record(rt, alloc, sequence, size),
+        );
+    }
     let book = opening_book(rt, alloc, &store);
     let batch = batch_for(alloc, &store, &book, counts).expect(rt, "room");
     batch.records.len()
@@ -92,9 +97,9 @@ fn given(rt: &impl Abort, alloc: Global, keys: RandomState, last: usize, counts:
 fn a_batch_ends_in_front_of_the_byte_that_is_too_many(rt: HostRuntime) -> Result<(), Fail> {
     let alloc = rt.alloc();
     let keys = RandomState::new(&rt)?;
-    assert!(rt; given(&rt, alloc, keys, 3762, &[0, 0]) == 3);
-    assert!(rt; given(&rt, alloc, keys, 3763, &[0, 0]) == 2);
-    assert!(rt; given(&rt, alloc, keys, 3763, &[0, 1]) == 2);
+    for (last, known, count) in [(3762, 0, 3), (3763, 0, 2), (3763, 1, 2)] {
+        assert_eq!(rt; given(&rt, alloc, keys, last, &[0, known]), count);
+    }
     Ok(())
 }
 

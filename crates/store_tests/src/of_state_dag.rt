@@ -4,12 +4,12 @@ ghost use Rattle.std.specs.Prelude.{◌<◌, length, IsTrue};
 ghost use Rattle.std.specs.List.{list_all};
 ghost use Rattle.state_dag.specs.Table.{is_slot};
 
-use rand_core::utils::NextWord;
-use rand_pcg::Lcg64Xsh32;
+use crate::histories::{History, add_below, is_above, random_history, state, walked};
 use state_dag::StateDag;
 use std::alloc::{AllocError, Global};
 use std::process::Abort;
-use tardis_base::{AddFault, Limits, Slot, StateId};
+use std::test::Fail;
+use tardis_base::{AddFault, Limits, Slot};
 
 const LIMITS: Limits = Limits {
     sites: 1,
@@ -18,49 +18,6 @@ const LIMITS: Limits = Limits {
     max_sessions: 1,
     max_trail: 0,
 };
-
-/// The state of this arrival number, where one site alone makes states.
-fn state(arrival: u32) -> StateId {
-    StateId {
-        site: if arrival == 0 { 0 } else { 1 },
-        sequence: arrival,
-    }
-}
-
-/// Adds the next state of site 1.
-fn add(dag: &mut StateDag, parents: &[Slot]) -> Result<Slot, AddFault>
-    requires { IsTrue (list_all (is_slot dag.old) parents.now) }
-{
-    if dag.limits().sites == 0 {
-        return Err(AddFault::NoMemory);
-    }
-    let Some(sequence) = dag.count(1).checked_add(1) else {
-        return Err(AddFault::NoMemory);
-    };
-    dag.add(StateId { site: 1, sequence }, parents)
-}
-
-/// Adds it below one or two states, by their arrival numbers.
-fn add_below(dag: &mut StateDag, first: u32, second: Option<u32>) -> Result<Slot, AddFault> {
-    let Some(first) = dag.slot_of(state(first)) else {
-        return Err(AddFault::NoMemory);
-    };
-    let Some(second) = second else {
-        return add(dag, &[first]);
-    };
-    let Some(second) = dag.slot_of(state(second)) else {
-        return Err(AddFault::NoMemory);
-    };
-    add(dag, &[first, second])
-}
-
-/// Whether the one state is at or above the other, by their arrival numbers.
-fn is_above(dag: &StateDag, a: u32, b: u32) -> bool {
-    match (dag.slot_of(state(a)), dag.slot_of(state(b))) {
-        (Some(a), Some(b)) => dag.is_ancestor(a, b),
-        _ => false,
-    }
-}
 
 /// A table of two states below the root, and of two below both of these.
 fn woven(rt: &impl Abort, alloc: Global) -> StateDag {
@@ -137,54 +94,24 @@ fn a_path_that_is_too_long_is_refused(rt: HostRuntime) {
     assert!(rt; add_below(&mut dag, 1, None) == Err(long));
 }
 
-/// Which of 200 states are at or above the one, by a walk along the parents of each.
-fn walked(alloc: Global, edges: &[(u32, u32)], state: u32) -> Result<Vec<bool>, AllocError> {
-    let mut reached = vec![in alloc; false; 200]?;
-    mark(&mut reached, state);
-    for place in (0..edges.len()).rev() {
-        if reached.get(place + 1).copied() == Some(true) {
-            let (first, second) = edges[place];
-            mark(&mut reached, first);
-            mark(&mut reached, second);
+/// Whether the states at or above this one are those along parents.
+fn agrees_along_parents(alloc: Global, history: &History, below: u32) -> Result<bool, AllocError> {
+    let reached = walked(alloc, history.edges.as_slice(), below)?;
+    for above in 0..200u32 {
+        if reached.get(above as usize).copied() != Some(is_above(&history.dag, above, below)) {
+            return Ok(false);
         }
     }
-    Ok(reached)
-}
-
-fn mark(reached: &mut Vec<bool>, state: u32) {
-    if let Some(mark) = reached.get_mut(state as usize) {
-        *mark = true;
-    }
+    Ok(true)
 }
 
 #[test]
-fn ancestors_of_200_states_are_those_along_parents(rt: HostRuntime) {
-    let mut dag = StateDag::new(rt.alloc(), &LIMITS).expect(&rt, "room");
-    let mut words = Lcg64Xsh32::new(7, 1);
-    let mut edges = Vec::new(rt.alloc());
-    for arrival in 1..200u32 {
-        let first = words.next_word() % arrival;
-        let other = if arrival % 5 == 0 {
-            words.next_word() % arrival
-        } else {
-            first
-        };
-        let comparable = is_above(&dag, first, other) || is_above(&dag, other, first);
-        let second = if comparable { None } else { Some(other) };
-        assert!(rt; add_below(&mut dag, first, second).is_ok());
-        edges
-            .push((first, second.unwrap_or(first)))
-            .expect(&rt, "room");
+fn ancestors_of_200_states_are_those_along_parents(rt: HostRuntime) -> Result<(), Fail> {
+    let history = random_history(rt.alloc(), &LIMITS, 5)?;
+    for below in 0..200u32 {
+        assert!(rt; agrees_along_parents(rt.alloc(), &history, below)?);
     }
-    for b in 0..200u32 {
-        let reached = walked(rt.alloc(), edges.as_slice(), b).expect(&rt, "room");
-        for a in 0..200u32 {
-            assert_eq!(rt;
-                Some(is_above(&dag, a, b)),
-                reached.get(a as usize).copied()
-            );
-        }
-    }
+    Ok(())
 }
 
 /// Whether the state at this place is an ancestor of exactly those of the last 256 that don't stand before it.
@@ -216,9 +143,8 @@ fn all_agree(dag: &StateDag, slots: &[Slot]) -> bool
 #[test]
 fn ancestry_in_a_chain_of_16384_takes_no_walk(rt: HostRuntime) {
     let mut dag = StateDag::new(rt.alloc(), &LIMITS).expect(&rt, "room");
-    for _ in 1..16_384u32 {
-        let last = dag.last();
-        assert!(rt; add(&mut dag, &[last]).is_ok());
+    for last in 0..16_383u32 {
+        assert!(rt; add_below(&mut dag, last, None).is_ok());
     }
     assert_eq!(rt; dag.kept_slots().len(), 16_384);
     assert!(rt; all_agree(&dag, dag.kept_slots()));

@@ -1,41 +1,14 @@
 ghost use Rattle.std.specs.Prelude.{◌≡◌, ◌+◌, ◌%◌, ◌<◌, ◌≤◌, [], ◌∷◌, ℕ, None, false, true, refl};
 ghost use Rattle.std.proofs.Common.{ap};
 
+use crate::counters::Counter;
 use dag_lock::DagLock;
 use serve_pool::{PoolEnd, Served, serve_all};
 use std::alloc::Global;
 use std::sync::atomic::{AtomicU64, Ordering};
 use std::test::Fail;
-use tardis_base::{Machine, NoMemory, ReplyBuf};
 use tardis_io::{Duplex, Failed, Link, MemoryGate, MemoryLink, MemorySink, MemorySource, Sink};
 use trail_log::Trailed;
-
-/// Replies by how many requests came before, and finds no memory for an empty one.
-#[derive(Drop)]
-struct Counter {
-    acts: u64,
-}
-
-impl Machine for Counter {
-    ghost Plain = { ℕ };
-
-    ghost plain = { record { step = λ s e. s + 1; reply = λ s e. (s % 256) ∷ []; is_sure = λ e. false } };
-
-    ghost stands = { λ m s. m.acts ≡ s };
-
-    ghost opening = { λ m. 0 };
-
-    fn act(&mut self, actor: u16, request: &[u8], out: &mut ReplyBuf) -> Result<(), NoMemory> {
-        out.clear();
-        let _ = actor;
-        if request.is_empty() || self.acts == u64::MAX {
-            return Err(NoMemory);
-        }
-        out.push_byte((self.acts % 256) as u8);
-        self.acts += 1;
-        Ok(())
-    }
-}
 
 /// Two frames, one in each take.
 fn link(alloc: Global) -> Result<MemoryLink, Fail> {

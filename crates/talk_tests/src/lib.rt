@@ -12,6 +12,8 @@ mod of_shell_text;
 #[cfg(test)]
 mod of_shell_text_lines;
 #[cfg(test)]
+mod of_tardis_base;
+#[cfg(test)]
 mod of_text_words;
 #[cfg(test)]
 mod of_wire_item;

@@ -1,0 +1,40 @@
+//! Tests of what runs over a whole site, over public calls: worked rows through its commands and through its step, merges by
+//! rules, exports and imports, and the server's ends.
+//!
+//! A crate with tests of its own is proved once more for them; so these stand here (`docs/ADDING.md`, 'A test').
+#![tactic(auto)]
+
+#[cfg(test)]
+mod auto_rows;
+#[cfg(test)]
+mod collection_rows;
+#[cfg(test)]
+mod exchange_rows;
+#[cfg(test)]
+mod floor_rows;
+#[cfg(test)]
+mod merge_rows;
+#[cfg(test)]
+mod of_auto_run;
+#[cfg(test)]
+mod of_collection;
+#[cfg(test)]
+mod of_exchange;
+#[cfg(test)]
+mod of_export_run;
+#[cfg(test)]
+mod of_floors;
+#[cfg(test)]
+mod of_limits;
+#[cfg(test)]
+mod of_merge_rules;
+#[cfg(test)]
+mod of_merges;
+#[cfg(test)]
+mod of_steps;
+#[cfg(test)]
+mod of_tardisd_main;
+#[cfg(test)]
+mod rows;
+#[cfg(test)]
+mod talks;
