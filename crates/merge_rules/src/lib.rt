@@ -17,5 +17,3 @@ pub use settling::{Settled, settle};
 pub use steps::{AutoEnd, auto_step};
 pub use values::{Base, Side, merged};
 
-#[cfg(test)]
-mod tests;

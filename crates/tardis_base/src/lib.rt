@@ -33,5 +33,3 @@ pub use sizes::{
     MAX_TRAIL, MAX_VALUE, MAX_WRITES,
 };
 
-#[cfg(test)]
-mod tests;
