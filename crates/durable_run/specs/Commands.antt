@@ -12,11 +12,6 @@ use Rattle.site_run.specs.Endings.{EndsAs, IsRunEnd, most_taken}
 use Rattle.site_commands.specs.Ends.{UnlessFaulty}
 use Rattle.durable_run.specs.Ends.{as_in_midst, NotOpened, RanOn}
 
--- A store's count doesn't fall, unless it was past its end at first, and a fault of a disk is told only where it rose.
-pub record CausedByStore (before now : ℕ) (status : Status) : Type 0 where
-  pub later : before ≤ 18446744073709551615 → before ≤ now
-  pub cause : status ≡ DiskFault → Rose before now
-
 -- where the store tells its disk, the one is that which stood within, and the other was put back
 abbrev pub OpenedAndBack : {K : Type 0} → Option (ToldStore K) → Option (ToldStore K) → K → K → Type 0
 OpenedAndBack None None disk back = Unit {0}
