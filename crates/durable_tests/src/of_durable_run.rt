@@ -3,7 +3,7 @@
 ghost use Rattle.std.specs.Prelude.{IsTrue};
 ghost use Rattle.tardis_base.specs.Valid.{are_limits};
 
-use crate::of_site_journal::{Opening, open};
+use crate::of_site_journal::{CRASHES, Opening, open};
 use crate::talks::{TALK, journal, replies, requests};
 use disk_forms::{MemoryDisk, MemoryStore};
 use durable_run::{durable, run_site_on};
@@ -113,9 +113,11 @@ fn goes_on(rt: &HostRuntime, disk: MemoryDisk, entries: usize) -> Result<bool, F
     let ended = run_from(rt, entries, 1_000, disk)?;
     let told = replies(alloc, &TALK[entries..])?;
     let kept = journal(alloc, &TALK)?;
-    Ok(ended.status == Status::Ok
-        && ended.output.bytes() == told.as_slice()
-        && ended.disk.bytes() == kept.as_slice())
+    Ok(
+        ended.status == Status::Ok
+            && ended.output.bytes() == told.as_slice()
+            && ended.disk.bytes() == kept.as_slice(),
+    )
 }
 
 /// A run over an empty disk whose listed call fails, in pieces of so many bytes, of which each has so many requests at most.
@@ -141,17 +143,11 @@ fn crash_leaves_whole_groups(rt: &HostRuntime, plan: Plan, choice: u64) -> Resul
     Ok(whole && goes_on(rt, disk, entries)?)
 }
 
-/// What spreads the numbers of crashes over all choices.
-const SPREAD: u64 = 0x9e37_79b9_7f4a_7c15;
-
-/// Whether many crashes do. Small choices go through what may become of the first call that isn't synced, large ones tear
-/// the later calls too.
+/// Whether many crashes do.
 fn crashes_leave_whole_groups(rt: &HostRuntime, plan: Plan) -> Result<bool, Fail> {
-    for number in 0..1u64 {
-        for choice in [number, number.wrapping_mul(SPREAD)] {
-            if !crash_leaves_whole_groups(rt, plan, choice)? {
-                return Ok(false);
-            }
+    for choice in CRASHES {
+        if !crash_leaves_whole_groups(rt, plan, choice)? {
+            return Ok(false);
         }
     }
     Ok(true)
