@@ -1,6 +1,6 @@
 //! Where disks come from.
 
-ghost use Rattle.std.specs.Prelude.{◌≡◌, ℕ, Option, IfOk};
+ghost use Rattle.std.specs.Prelude.{◌≡◌, ◌≤◌, ℕ, Option, IfOk};
 ghost use Rattle.tardis_io.specs.Faults.{HasCause};
 ghost use Rattle.disk_store.specs.Stores.{ToldStore, Opens, IsOut, with_back, count_after};
 
@@ -35,5 +35,6 @@ pub trait Store {
         requires { IsOut (told self.old) }
         ensures told { told self.new ≡ with_back (told self.old) disk }
         ensures still { honest self.old → honest self.new }
-        ensures faults { faults self.new ≡ count_after (Self.Disk.faults disk) (faults self.old) };
+        ensures faults { faults self.new ≡ count_after (Self.Disk.faults disk) (faults self.old) }
+        ensures later { faults self.old ≤ faults self.new };
 }

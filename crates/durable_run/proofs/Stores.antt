@@ -46,10 +46,6 @@ rose_back d ℕ.zero s0 s1 s2 fresh less is (inl more) = absurd (omega (arith, m
 rose_back d ℕ.zero s0 s1 s2 fresh less is (inr end) = absurd (omega (arith, end))
 rose_back d (ℕ.suc n) s0 s1 s2 fresh less is rose = rose_raised s0 s1 s2 less is
 
-pub later_back : (b s0 s1 s2 : ℕ) → s0 ≤ s1 → s2 ≡ count_after b s1 → s0 ≤ 18446744073709551615 → s0 ≤ s2
-later_back ℕ.zero s0 s1 s2 less is bound = omega (arith, less, is)
-later_back (ℕ.suc n) s0 s1 s2 less is bound = omega (arith, less, is, bound)
-
 module _ {S K I O : Type 0} (honest : K → Type 0) (reads : K → List ℕ) (may_leave : K → List ℕ → Type 0) (moment : K → ℕ) (left_since : K → ℕ → List ℕ → Type 0) (disk_faults : K → ℕ)
     (opens_honest : S → Type 0) (told : S → Option (ToldStore K)) (faults : S → ℕ) (left : I → Option (List ℕ)) (takes : I → ℕ) (given : O → Option (List ℕ)) (gives : O → ℕ) where
   -- no disk was opened: for want of memory

@@ -1,5 +1,5 @@
 -- How the command of a durable site ends.
-use Rattle.std.specs.Prelude.{◌≡◌, ◌⊎◌, ℕ, ◌<◌, ◌≤◌, List, length, Option, Some, None}
+use Rattle.std.specs.Prelude.{◌≡◌, ◌⊎◌, ℕ, ◌<◌, List, length, Option, Some, None}
 use Rattle.tardis_io.specs.declared.statuses.Status.{Status}
 use Rattle.tardis_io.specs.declared.statuses.Status.TheVariants.{DiskFault, NoMemory}
 use Rattle.tardis_io.specs.Told.{WhileTold}
@@ -11,11 +11,6 @@ use Rattle.plain_site.specs.Step.{site_machine}
 use Rattle.site_run.specs.Endings.{EndsAs, IsRunEnd, most_taken}
 use Rattle.site_commands.specs.Ends.{UnlessFaulty}
 use Rattle.durable_run.specs.Ends.{as_in_midst, NotOpened, RanOn}
-
--- A store's count doesn't fall, unless it was past its end at first, and a fault of a disk is told only where it rose.
-pub record CausedByStore (before now : ℕ) (status : Status) : Type 0 where
-  pub later : before ≤ 18446744073709551615 → before ≤ now
-  pub cause : status ≡ DiskFault → Rose before now
 
 -- where the store tells its disk, the one is that which stood within, and the other was put back
 abbrev pub OpenedAndBack : {K : Type 0} → Option (ToldStore K) → Option (ToldStore K) → K → K → Type 0

@@ -4,7 +4,7 @@ ghost use Rattle.std.specs.Prelude.{◌≤◌, IsTrue};
 ghost use Rattle.tardis_base.specs.Valid.{are_limits};
 ghost use Rattle.plain_site.specs.Site.{opening};
 ghost use Rattle.site_commands.specs.Ends.{CausedBy};
-ghost use Rattle.durable_run.specs.Commands.{CausedByStore, DurableEnds};
+ghost use Rattle.durable_run.specs.Commands.{DurableEnds};
 
 use crate::site_runs::run_site_on;
 use disk_store::Store;
@@ -34,7 +34,7 @@ pub fn durable<S: Store, I: Source, O: Sink>(
     requires last { own ≤ limits.sites }
     ensures ends { DurableEnds S.Disk.honest S.Disk.reads S.Disk.may_leave S.Disk.moment S.Disk.left_since S.honest S.told S.faults I.left I.faults O.given O.faults
         store.old store.new input.old input.new output.old output.new (opening limits own) limits.max_trail result }
-    ensures disk { CausedByStore (S.faults store.old) (S.faults store.new) result }
+    ensures disk { CausedBy Status.DiskFault (S.faults store.old) (S.faults store.new) result }
     ensures read { CausedBy Status.ReadFault (I.faults input.old) (I.faults input.new) result }
     ensures write { CausedBy Status.WriteFault (O.faults output.old) (O.faults output.new) result }
 {

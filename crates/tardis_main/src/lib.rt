@@ -8,7 +8,6 @@ ghost use Rattle.std.specs.String.{string_bytes};
 ghost use Rattle.command_words.specs.declared.commands.Place.{Place};
 ghost use Rattle.command_words.specs.Forms.{Serving};
 ghost use Rattle.site_commands.specs.Ends.{CausedBy};
-ghost use Rattle.durable_run.specs.Commands.{CausedByStore};
 ghost use Rattle.tardis_main.specs.Words.{AreDurable, AreServe, AreUnknown};
 ghost use Rattle.tardis_main.specs.Program.{Audits, Autos, Durables, Exports, Imports, Loads, Runs, Serves, Shells, Worlds};
 
@@ -75,7 +74,7 @@ pub fn tardis<I: Source, O: Sink, G: Gate, D: Dial + Send, S: Store, R: Threads 
     ensures write { CausedBy Status.WriteFault (O.faults output.old) (O.faults output.new) result }
     ensures gate { CausedBy Status.GateFault (G.faults gate.old) (G.faults gate.new) result }
     ensures dial { CausedBy Status.DialFault (D.faults dial.old) (D.faults dial.new) result }
-    ensures disk { CausedByStore (S.faults store.old) (S.faults store.new) result }
+    ensures disk { CausedBy Status.DiskFault (S.faults store.old) (S.faults store.new) result }
 {
     match read_words(alloc, words) {
         Ok(Command::Run(place)) => run(alloc, keys, place.limits(), place.site, input, output),

@@ -7,7 +7,6 @@ ghost use Rattle.tardis_io.specs.Faults.{Rose};
 ghost use Rattle.command_words.specs.declared.commands.Place.{Place};
 ghost use Rattle.command_words.specs.Forms.{Serving};
 ghost use Rattle.site_commands.specs.Ends.{CausedBy};
-ghost use Rattle.durable_run.specs.Commands.{CausedByStore};
 ghost use Rattle.tardis_io.specs.Told.{WhileTold};
 ghost use Rattle.tardis_main.specs.Helps.{AreNone, AskUsage, AskVersion, Tells};
 ghost use Rattle.tardis_main.specs.Words.{AreDurable, AreServe};
@@ -75,7 +74,7 @@ pub fn carry_out<I: Source, O: Sink, G: Gate, D: Dial + Send, S: Store, R: Threa
     ensures write { CausedBy Status.WriteFault (O.faults output.old) (O.faults output.new) result }
     ensures gate { CausedBy Status.GateFault (G.faults gate.old) (G.faults gate.new) result }
     ensures dial { CausedBy Status.DialFault (D.faults dial.old) (D.faults dial.new) result }
-    ensures disk { CausedByStore (S.faults store.old) (S.faults store.new) result }
+    ensures disk { CausedBy Status.DiskFault (S.faults store.old) (S.faults store.new) result }
 {
     match words_behind_name(alloc, args) {
         Ok(words) => command(
@@ -157,7 +156,7 @@ fn command<I: Source, O: Sink, G: Gate, D: Dial + Send, S: Store, R: Threads + W
     ensures write { CausedBy Status.WriteFault (O.faults output.old) (O.faults output.new) result }
     ensures gate { CausedBy Status.GateFault (G.faults gate.old) (G.faults gate.new) result }
     ensures dial { CausedBy Status.DialFault (D.faults dial.old) (D.faults dial.new) result }
-    ensures disk { CausedByStore (S.faults store.old) (S.faults store.new) result }
+    ensures disk { CausedBy Status.DiskFault (S.faults store.old) (S.faults store.new) result }
 {
     match help_of(words) {
         Some(help) => tell(help, output),

@@ -1,5 +1,6 @@
+use Rattle.std.proofs.Common.{arith}
 use Rattle.plain_site.specs.Site.{opening}
-use Rattle.durable_run.proofs.Stores.{rose_back, later_back, no_file, over_disk, unread, unwritten}
+use Rattle.durable_run.proofs.Stores.{rose_back, no_file, over_disk, unread, unwritten}
 use Rattle.durable_run.proofs.commands.durable.Goals as goal
 
 pub returns-in-Ok-clause-ends : goal.returns-in-Ok-clause-ends
@@ -17,7 +18,7 @@ returns-in-Ok-clause-disk g c =
     let K = g.S.Disk.Disk in
     let S = g.S.Store in
     record {
-      later = later_back (K.faults c.run_site_on-status.result.1) (S.faults c.args.store.now) (S.faults c.open_file.new.self) (S.faults c.put_back.new.self) c.in-Ok.ensures.cause.later c.put_back.ensures.faults;
+      later = omega (arith, c.in-Ok.ensures.cause.later, c.put_back.ensures.later);
       cause = λ e. rose_back (K.faults c.in-Ok.disk) (K.faults c.run_site_on-status.result.1) (S.faults c.args.store.now) (S.faults c.open_file.new.self) (S.faults c.put_back.new.self) c.in-Ok.ensures.fresh c.in-Ok.ensures.cause.later c.put_back.ensures.faults (c.run_site_on-status.ensures.ended.disk_rose e);
     }
 
