@@ -12,4 +12,3 @@ mod serves;
 pub use lines::{audit_frames, shell};
 pub use runs::run;
 pub use serves::serve;
-
