@@ -15,8 +15,3 @@ pub use commands::auto;
 pub use laws::auto_lines_have_one_reading;
 pub use ruled_sites::RuledSite;
 pub use runs::run_auto;
-
-#[cfg(test)]
-mod rows;
-#[cfg(test)]
-mod tests;

@@ -5,7 +5,5 @@
 
 mod exports;
 mod silence;
-#[cfg(test)]
-mod tests;
 
 pub use exports::{export, export_at, run_export};

@@ -6,8 +6,6 @@ mod events;
 mod heads;
 mod laws;
 mod moves;
-#[cfg(test)]
-mod tests;
 
 pub use cutters::{Cut, FrameCutter};
 pub use events::event;

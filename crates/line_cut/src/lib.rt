@@ -5,8 +5,6 @@ mod cutters;
 mod feeds;
 mod laws;
 mod moves;
-#[cfg(test)]
-mod tests;
 
 pub use cutters::{Cut, LineCutter};
 pub use laws::one_cut;

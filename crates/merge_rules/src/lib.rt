@@ -16,6 +16,3 @@ pub use laws::{auto_steps_merge_or_change_nothing, sides_may_be_exchanged};
 pub use settling::{Settled, settle};
 pub use steps::{AutoEnd, auto_step};
 pub use values::{Base, Side, merged};
-
-#[cfg(test)]
-mod tests;

@@ -6,8 +6,6 @@ mod beside;
 mod endings;
 mod options;
 mod runs;
-#[cfg(test)]
-mod tests;
 
 pub use endings::{ServeEnd, Serving};
 pub use options::ServeOptions;

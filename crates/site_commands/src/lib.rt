@@ -12,28 +12,3 @@ mod serves;
 pub use lines::{audit_frames, shell};
 pub use runs::run;
 pub use serves::serve;
-
-#[cfg(test)]
-mod collection_rows;
-#[cfg(test)]
-mod collection_tests;
-#[cfg(test)]
-mod exchange_rows;
-#[cfg(test)]
-mod exchange_tests;
-#[cfg(test)]
-mod floor_rows;
-#[cfg(test)]
-mod floor_tests;
-#[cfg(test)]
-mod limit_tests;
-#[cfg(test)]
-mod merge_rows;
-#[cfg(test)]
-mod merge_tests;
-#[cfg(test)]
-mod rows;
-#[cfg(test)]
-mod step_tests;
-#[cfg(test)]
-mod talks;

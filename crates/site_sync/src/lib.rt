@@ -8,8 +8,6 @@ mod fetches;
 mod pulls;
 mod rounds;
 mod tallies;
-#[cfg(test)]
-mod tests;
 
 pub use ends::{Rounds, SyncEnd};
 pub use exchanges::sync_round;

@@ -32,6 +32,3 @@ pub use sizes::{
     MAX_FRAME, MAX_KEPT, MAX_KEY, MAX_NAMED, MAX_PARENTS, MAX_PATH, MAX_SESSIONS, MAX_SITES,
     MAX_TRAIL, MAX_VALUE, MAX_WRITES,
 };
-
-#[cfg(test)]
-mod tests;

@@ -7,8 +7,6 @@ mod asks;
 mod endings;
 mod helps;
 mod sites;
-#[cfg(test)]
-mod tests;
 
 pub use asks::plan_of;
 pub use endings::{DaemonEnd, GateFault};

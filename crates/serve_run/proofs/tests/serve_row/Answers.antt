@@ -1,7 +1,0 @@
-use Rattle.std.proofs.Common.{refl}
-use Rattle.tardis_base.specs.declared.replies.Reply.TheVariants.{Stat as Statistics}
-use Rattle.site_sync.specs.Replier.{fresh_lines}
-use Rattle.serve_run.proofs.tests.serve_row.Goals as goal
-
-pub serve_links-end-requires-clause-counts : goal.serve_links-end-requires-clause-counts
-serve_links-end-requires-clause-counts t c κs within = λ trail each. (fresh_lines, record { told = Statistics 1 1 1 0 fresh_lines; spelled = (refl, refl); states = refl })

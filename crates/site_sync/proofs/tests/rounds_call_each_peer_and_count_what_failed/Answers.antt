@@ -1,7 +1,0 @@
-use Rattle.std.proofs.Common.{refl}
-use Rattle.tardis_base.specs.declared.replies.Reply.TheVariants.{Stat as Statistics}
-use Rattle.site_sync.specs.Replier.{fresh_lines}
-use Rattle.site_sync.proofs.tests.rounds_call_each_peer_and_count_what_failed.Goals as goal
-
-pub run_rounds-pass-requires-clause-counts : goal.run_rounds-pass-requires-clause-counts
-run_rounds-pass-requires-clause-counts t c = λ lt trail each. (fresh_lines, record { told = Statistics 1 1 1 0 fresh_lines; spelled = (refl, refl); states = refl })

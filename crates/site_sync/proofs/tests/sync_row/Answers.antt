@@ -1,7 +1,0 @@
-use Rattle.std.proofs.Common.{refl}
-use Rattle.tardis_base.specs.declared.replies.Reply.TheVariants.{Stat as Statistics}
-use Rattle.site_sync.specs.Replier.{fresh_lines}
-use Rattle.site_sync.proofs.tests.sync_row.Goals as goal
-
-pub sync_round-pass-requires-clause-counts : goal.sync_round-pass-requires-clause-counts
-sync_round-pass-requires-clause-counts g t c = λ lt trail each. (fresh_lines, record { told = Statistics 1 1 1 0 fresh_lines; spelled = (refl, refl); states = refl })
