@@ -5,4 +5,3 @@ pub mod Fetching
 pub mod Delivering
 pub mod Exchanges
 pub mod Rounds
-pub mod Replier

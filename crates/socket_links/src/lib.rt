@@ -4,8 +4,6 @@
 mod doors;
 mod gates;
 mod links;
-#[cfg(test)]
-mod tests;
 
 pub use gates::{SocketDial, SocketGate};
 pub use links::SocketLink;

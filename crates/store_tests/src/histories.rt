@@ -75,6 +75,15 @@ pub(crate) fn is_above(dag: &StateDag, a: u32, b: u32) -> bool {
     }
 }
 
+/// The limits of a random history.
+const LIMITS: Limits = Limits {
+    sites: 1,
+    max_kept: 256,
+    max_path: 4_096,
+    max_sessions: 1,
+    max_trail: 0,
+};
+
 /// A table of 200 states, and below which one or two states each but the root stands, by their arrival numbers.
 #[derive(Drop)]
 pub(crate) struct History {
@@ -83,8 +92,8 @@ pub(crate) struct History {
 }
 
 /// A random history, in which one state of so many stands below two, where these are apart.
-pub(crate) fn random_history(alloc: Global, limits: &Limits, every: u32) -> Result<History, Fail> {
-    let mut dag = StateDag::new(alloc, limits)?;
+pub(crate) fn random_history(alloc: Global, every: u32) -> Result<History, Fail> {
+    let mut dag = StateDag::new(alloc, &LIMITS)?;
     let mut words = Lcg64Xsh32::new(7, 1);
     let mut edges = Vec::new(alloc);
     for arrival in 1..200u32 {

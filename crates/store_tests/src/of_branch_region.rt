@@ -11,15 +11,7 @@ use rand_pcg::Lcg64Xsh32;
 use state_dag::StateDag;
 use std::alloc::{AllocError, Global};
 use std::test::Fail;
-use tardis_base::{Limits, NoMemory, Slot};
-
-const LIMITS: Limits = Limits {
-    sites: 1,
-    max_kept: 256,
-    max_path: 4_096,
-    max_sessions: 1,
-    max_trail: 0,
-};
+use tardis_base::{NoMemory, Slot};
 
 /// At or above how many of these states each of 200 is, by walks along the parents of each.
 fn counts(alloc: Global, edges: &[(u32, u32)], states: &[u32]) -> Result<Vec<u8>, AllocError> {
@@ -130,7 +122,7 @@ fn all_agree(alloc: Global, history: &History) -> Result<bool, NoMemory> {
 
 #[test]
 fn regions_in_200_states_are_as_defined(rt: HostRuntime) -> Result<(), Fail> {
-    let history = random_history(rt.alloc(), &LIMITS, 4)?;
+    let history = random_history(rt.alloc(), 4)?;
     assert!(rt; all_agree(rt.alloc(), &history)?);
     Ok(())
 }

@@ -13,19 +13,31 @@ fn put(alloc: Global, bytes: &[u8]) -> Result<Write, BytesFault> {
     Ok(Write::Put(Value::new(alloc, bytes)?))
 }
 
-#[test]
-fn a_65th_key_is_not_written(rt: HostRuntime) -> Result<(), Fail> {
-    let alloc = rt.alloc();
+/// A transaction that deletes 64 keys.
+fn full(alloc: Global) -> Result<Txn, Fail> {
     let mut txn = Txn::merge(alloc, StateList::new(alloc), ListOf::new(alloc));
     for number in 0..64 {
         txn.put(key(alloc, number)?, Write::Delete)?;
     }
+    Ok(txn)
+}
+
+/// Whether the transaction's own write of the key is this one.
+fn has_own(alloc: Global, txn: &Txn, number: u16, wanted: Option<&Write>) -> Result<bool, Fail> {
+    let key = key(alloc, number)?;
+    Ok(txn.own(&key) == wanted)
+}
+
+#[test]
+fn a_65th_key_is_not_written(rt: HostRuntime) -> Result<(), Fail> {
+    let alloc = rt.alloc();
+    let mut txn = full(alloc)?;
     let many = TxnFault::TooMany { what: 1, n: 65 };
     assert_eq!(rt; txn.put(key(alloc, 64)?, Write::Delete), Err(many));
     txn.put(key(alloc, 8)?, put(alloc, b"new")?)?;
     assert_eq!(rt; txn.writes().len(), 64);
-    assert_eq!(rt; txn.own(&key(alloc, 8)?), Some(&put(alloc, b"new")?));
-    assert_eq!(rt; txn.own(&key(alloc, 64)?), None);
+    assert!(rt; has_own(alloc, &txn, 8, Some(&put(alloc, b"new")?))?);
+    assert!(rt; has_own(alloc, &txn, 64, None)?);
     Ok(())
 }
 

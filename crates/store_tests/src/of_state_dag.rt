@@ -107,7 +107,7 @@ fn agrees_along_parents(alloc: Global, history: &History, below: u32) -> Result<
 
 #[test]
 fn ancestors_of_200_states_are_those_along_parents(rt: HostRuntime) -> Result<(), Fail> {
-    let history = random_history(rt.alloc(), &LIMITS, 5)?;
+    let history = random_history(rt.alloc(), 5)?;
     for below in 0..200u32 {
         assert!(rt; agrees_along_parents(rt.alloc(), &history, below)?);
     }

@@ -1,4 +1,5 @@
-//! Tests of devices, loops, trail, lock, sessions, hub, servers and exchanges, over their public calls: what no clause of theirs says.
+//! Tests of devices, loops, trail, lock, sessions, hub, servers, exchanges and sockets, over their public calls: what no
+//! clause of theirs says.
 //!
 //! A crate with tests of its own is proved once more for them; so these stand here (`docs/ADDING.md`, 'A test').
 #![tactic(auto)]
@@ -25,6 +26,8 @@ mod of_shell_run;
 mod of_site_run;
 #[cfg(test)]
 mod of_site_sync;
+#[cfg(test)]
+mod of_socket_links;
 #[cfg(test)]
 mod of_tardis_io;
 #[cfg(test)]

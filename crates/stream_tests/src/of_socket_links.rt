@@ -1,4 +1,4 @@
-use crate::{SocketDial, SocketGate};
+use socket_links::{SocketDial, SocketGate};
 use std::fs::{self, Files};
 use std::io::{Error, ErrorKind};
 use std::net::{Net, TcpListener, TcpStream};
