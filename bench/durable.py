@@ -18,14 +18,32 @@ import argparse
 import os
 import select
 import shutil
+import struct
 import subprocess
 import tempfile
-
-from serve import Redis, Tardisd, TOP, connect
 import time
 
+from serve import BEGIN, COMMIT, OPEN, Redis, TOP, VALUE, connect
+
 KEY = b"key00000"
-COUNTS = (("by turns", 200), ("by fours", 1_000), ("pipelined", 30_000))
+COUNTS = (("by turns", 200), ("by fours", 1_000), ("pipelined", 15_000))
+
+
+def frame(request):
+    """A request of actor 1."""
+    return struct.pack(">IH", len(request) + 2, 1) + request
+
+
+class Durable:
+    def transaction(self, key):
+        named = bytes([len(key)]) + key
+        put = b"\x04" + named + struct.pack(">H", len(VALUE)) + VALUE
+        return [(frame(BEGIN), 11), (frame(b"\x03" + named), 45), (frame(put), 5), (frame(COMMIT), 18)]
+
+    def first(self, key):
+        """What comes first: a session, and a transaction that puts the key."""
+        begin, _, put, commit = self.transaction(key)
+        return [(frame(OPEN), 11), begin, put, commit]
 
 
 class Pipes:
@@ -89,7 +107,7 @@ def of_tardis(program, folder, how, count):
     words = [program, "durable", "--file", os.path.join(folder, "journal")]
     process = subprocess.Popen(words, stdin=subprocess.PIPE, stdout=subprocess.PIPE, bufsize=0)
     try:
-        return timed(Pipes(process), Tardisd(program, "", 1), how, count)
+        return timed(Pipes(process), Durable(), how, count)
     finally:
         process.kill()
         process.wait()
