@@ -23,27 +23,30 @@ import subprocess
 import tempfile
 import time
 
-from serve import BEGIN, COMMIT, OPEN, Redis, TOP, VALUE, connect
+from serve import OPEN, Redis, TOP, Tardisd, connect, frame
 
 KEY = b"key00000"
 COUNTS = (("by turns", 200), ("by fours", 1_000), ("pipelined", 15_000))
 
 
-def frame(request):
-    """A request of actor 1."""
-    return struct.pack(">IH", len(request) + 2, 1) + request
+def of_actor_1(step):
+    """A request to a server, as the frame of actor 1, with the length of its reply."""
+    request, length = step
+    return struct.pack(">IH", len(request) - 2, 1) + request[4:], length
 
 
-class Durable:
+class Durable(Tardisd):
+    """The steps of `tardisd`, with the actor that a frame on a pipe names."""
+
+    def __init__(self):
+        pass
+
     def transaction(self, key):
-        named = bytes([len(key)]) + key
-        put = b"\x04" + named + struct.pack(">H", len(VALUE)) + VALUE
-        return [(frame(BEGIN), 11), (frame(b"\x03" + named), 45), (frame(put), 5), (frame(COMMIT), 18)]
+        return [of_actor_1(step) for step in super().transaction(key)]
 
     def first(self, key):
-        """What comes first: a session, and a transaction that puts the key."""
         begin, _, put, commit = self.transaction(key)
-        return [(frame(OPEN), 11), begin, put, commit]
+        return [of_actor_1((frame(OPEN), 11)), begin, put, commit]
 
 
 class Pipes:
