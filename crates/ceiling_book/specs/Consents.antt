@@ -6,7 +6,7 @@ use Rattle.tardis_base.specs.declared.records.Consent.{Consent}
 use Rattle.tardis_base.specs.declared.replies.Refusal.TheVariants.{BadSite, OwnItem, FloorBack}
 use Rattle.plain_dag.specs.States.{is_known, count_of_site}
 use Rattle.plain_dag.specs.Above.{is_above}
-use Rattle.plain_dag.specs.Floors.{Floor, floor_of, with_floor}
+use Rattle.plain_dag.specs.Floors.{Floor, floor_of, with_floor, consented}
 use Rattle.ceiling_book.specs.declared.consents.ConsentEnd.{ConsentEnd}
 use Rattle.ceiling_book.specs.declared.consents.ConsentEnd.TheVariants.{Applied, Known, Early, Refused}
 use Rattle.ceiling_book.specs.Book.{Book, floors_of}
@@ -25,10 +25,6 @@ consent_end rs floors own c =
     if c.site == own then Refused (OwnItem c.site c.number) else
     if is_early_consent rs c then Early (count_of_site rs c.site) else
     if not (is_above rs f.state c.floor) then Refused (FloorBack f.state) else Applied
-
--- what a consent says of its site's floor
-abbrev pub consented : Consent → Floor
-consented c = record { state = c.floor; number = c.number; stated = c.count }
 
 -- where the consent was taken, its site's floor is what it says; else the book is as before
 abbrev pub TakenIn : Book → Book → Consent → ConsentEnd → Type 0

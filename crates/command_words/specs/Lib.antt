@@ -10,3 +10,4 @@ pub mod Places
 pub mod Laws
 pub mod Daemons
 pub mod Readings
+pub mod Helps

@@ -6,6 +6,7 @@
 mod commands;
 mod daemons;
 mod forms;
+mod helps;
 mod ids;
 mod laws;
 mod limits;
@@ -17,5 +18,6 @@ mod settings;
 
 pub use commands::{Command, Place, ServePlan, WordsFault};
 pub use daemons::{DaemonPlan, read_daemon};
+pub use helps::{Help, help_of};
 pub use laws::commands_are_at_a_site;
 pub use reading::read_words;

@@ -2,6 +2,7 @@
 use Rattle.std.specs.Prelude.{ℕ, Bool, ◌-◌, ◌&&◌, not, List, find, Option, unwrap_or, slice_get, slice_set, if◌then◌else◌}
 use Rattle.std.specs.List.{list_all}
 use Rattle.tardis_base.specs.declared.ids.StateId.{StateId}
+use Rattle.tardis_base.specs.declared.records.Consent.{Consent}
 use Rattle.tardis_base.specs.declared.records.Record.{Record}
 use Rattle.tardis_base.specs.Ids.{root}
 use Rattle.plain_dag.specs.States.{states}
@@ -51,6 +52,10 @@ opening_floor = record { state = root; number = 0; stated = 0 }
 -- the floor of a site; sites are numbered from 1
 abbrev pub floor_of : List Floor → ℕ → Floor
 floor_of floors site = unwrap_or (slice_get floors (site - 1)) opening_floor
+
+-- what a consent says of its site's floor
+abbrev pub consented : Consent → Floor
+consented c = record { state = c.floor; number = c.number; stated = c.count }
 
 -- the floors with another one of this site
 abbrev pub with_floor : List Floor → ℕ → Floor → List Floor

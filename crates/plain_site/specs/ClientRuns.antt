@@ -13,7 +13,7 @@ use Rattle.tardis_base.specs.declared.replies.Reply.TheVariants.{Opened, Begun, 
 use Rattle.tardis_base.specs.Keys.{KeyWrite, has_key, with_write}
 use Rattle.tardis_base.specs.Valid.{is_u16, is_within, are_limits}
 use Rattle.wire_talk.specs.Valid.{is_request}
-use Rattle.plain_dag.specs.Floors.{Floor, Session, opening_session, after_commit, with_ceiling, with_floor}
+use Rattle.plain_dag.specs.Floors.{Floor, Session, opening_session, after_commit, with_ceiling, with_floor, consented}
 use Rattle.plain_site.specs.Site.{Site, opening, own_count}
 use Rattle.plain_site.specs.Answers.{Answer, found}
 use Rattle.plain_site.specs.Commits.{with_record}
@@ -133,7 +133,7 @@ abbrev pub regrown : Request → Reply → Option Told → Site → Site
 regrown (Commit flags k) (Committed x parents) (Some t) site = with_record (record { id = x; parents = parents; writes = t.writes }) site
 regrown (Deliver (State r)) Applied t site = with_record r site
 regrown (Deliver (State r)) (Early have) t site = with_held r site
-regrown (Deliver (Promise c)) Applied t site = with_floor_of c.site (record { state = c.floor; number = c.number; stated = c.count }) site
+regrown (Deliver (Promise c)) Applied t site = with_floor_of c.site (consented c) site
 regrown (Raise x) (Raised floor number) t site = having_raised floor number site
 regrown RaiseAuto (Raised floor number) t site = having_raised floor number site
 regrown Settle Applied t site = having_settled site

@@ -13,7 +13,7 @@ use Rattle.wire_item.specs.Spellings.{record_spelling}
 use Rattle.plain_dag.specs.States.{is_known, count_of_site}
 use Rattle.plain_dag.specs.Above.{is_above, comparable_pair}
 use Rattle.plain_dag.specs.Conflicts.{open_conflict}
-use Rattle.plain_dag.specs.Floors.{Floor, floor_of, with_floor, is_closed, is_above_floors}
+use Rattle.plain_dag.specs.Floors.{Floor, floor_of, with_floor, consented, is_closed, is_above_floors}
 use Rattle.plain_site.specs.Site.{Site}
 use Rattle.plain_site.specs.WaitingRoom.{hold, first_fit, without}
 use Rattle.plain_site.specs.Answers.{Answer, says_early, when, refuse, refuse_found, unless, given}
@@ -107,7 +107,7 @@ consent_judgements site c =
 abbrev pub deliver_consent : Site → Consent → Answer
 deliver_consent site c =
     unless site (consent_judgements site c)
-    (record site { floors = with_floor site.floors c.site (record { state = c.floor; number = c.number; stated = c.count }) }, Applied)
+    (record site { floors = with_floor site.floors c.site (consented c) }, Applied)
 
 abbrev pub deliver : Site → Item → Answer
 deliver site (State r) = deliver_record site r

@@ -10,7 +10,7 @@ use std::test::Fail;
 use std::thread::Threads;
 use tardis_base::StateId;
 use tardis_io::Status;
-use tardis_main::Help;
+use tardis_main::USAGE;
 
 /// A line of words and an input, and how the program ends with them and what it writes.
 type Row = (&'static str, &'static [u8], Status, &'static [u8]);
@@ -92,8 +92,7 @@ fn other_words_are_no_command(rt: HostRuntime) -> Result<(), Fail> {
 
 #[test]
 fn the_help_tells_each_command(rt: HostRuntime) -> Result<(), Fail> {
-    let help = Help::Usage.text();
-    let row: Row = ("--help", b"", Status::Ok, help.as_bytes());
+    let row: Row = ("--help", b"", Status::Ok, USAGE.as_bytes());
     assert!(rt; is_so(rt.alloc(), &rt, &row)?);
     for command in [
         "tardis shell ",
@@ -109,7 +108,7 @@ fn the_help_tells_each_command(rt: HostRuntime) -> Result<(), Fail> {
         "tardis --help ",
         "tardis --version ",
     ] {
-        assert!(rt; help.contains(command), "{command}");
+        assert!(rt; USAGE.contains(command), "{command}");
     }
     Ok(())
 }

@@ -1,10 +1,10 @@
-use command_words::Place;
+use command_words::{Help, Place, help_of};
 use hub::{End, MemoryPorts, Move, Seen};
 use std::alloc::Global;
 use std::hash::RandomState;
 use std::test::Fail;
 use tardis_base::ByteList;
-use tardisd_main::{DaemonEnd, GateFault, Help, help_of, plan_of, serve_place};
+use tardisd_main::{DaemonEnd, GateFault, help_text, plan_of, serve_place};
 
 /// The words of a line.
 fn words_of(alloc: Global, line: &str) -> Result<Vec<String>, Fail> {
@@ -34,7 +34,7 @@ fn words_are_a_plan_or_refused(rt: HostRuntime) -> Result<(), Fail> {
     }
     let words = words_of(alloc, "--version")?;
     assert!(rt; help_of(words.as_slice()) == Some(Help::Version));
-    assert!(rt; Help::Version.text() == "tardisd 0.1.0\n");
+    assert!(rt; help_text(Help::Version) == "tardisd 0.1.0\n");
     Ok(())
 }
 

@@ -1,26 +1,17 @@
-//! The two words that the program itself answers.
+//! What the program tells of itself.
 
-ghost use Rattle.std.specs.Prelude.{◌≡◌, ◌↔◌, Some, map};
-ghost use Rattle.std.specs.String.{string_bytes};
-ghost use Rattle.tardis_main.specs.Helps.{AskUsage, AskVersion};
+ghost use Rattle.std.specs.Prelude.{◌≡◌};
 
-/// What the program tells of itself.
-#[derive(Clone, Copy, Debug, PartialEq, Eq)]
-pub enum Help {
-    Usage,
-    Version,
-}
+use command_words::Help;
 
-impl Help {
-    /// The lines that are written.
-    pub fn text(self) -> &'static str
-        ensures usage { self ≡ Help.Usage → result.now ≡ USAGE.now }
-        ensures version { self ≡ Help.Version → result.now ≡ VERSION.now }
-    {
-        match self {
-            Help::Usage => USAGE,
-            Help::Version => VERSION,
-        }
+/// The lines that are written.
+pub fn help_text(help: Help) -> &'static str
+    ensures usage { help ≡ Help.Usage → result.now ≡ USAGE.now }
+    ensures version { help ≡ Help.Version → result.now ≡ VERSION.now }
+{
+    match help {
+        Help::Usage => USAGE,
+        Help::Version => VERSION,
     }
 }
 
@@ -72,18 +63,3 @@ both are 1 where they are left out. Try: printf '1 open\\n1 begin any\\n1 put ca
 Lines and frames are described in docs/FORMATS.md, the commands, with a session of
 lines, and the statuses in docs/COMMANDS.md.
 ";
-
-/// The help that these words ask for: `--help` or `--version`, alone.
-pub fn help_of(words: &[String]) -> Option<Help>
-    ensures usage { (result ≡ Some Help.Usage) ↔ AskUsage (map (λ w. string_bytes w) words.now) }
-    ensures version { (result ≡ Some Help.Version) ↔ AskVersion (map (λ w. string_bytes w) words.now) }
-{
-    if words.len() != 1 {
-        return None;
-    }
-    match words[0].as_str() {
-        "--help" => Some(Help::Usage),
-        "--version" => Some(Help::Version),
-        _ => None,
-    }
-}

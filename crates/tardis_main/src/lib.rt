@@ -22,7 +22,7 @@ use command_words::{Command, WordsFault, commands_are_at_a_site, read_words};
 use disk_store::Store;
 use durable_run::durable;
 use export_run::export;
-pub use helps::{Help, USAGE, VERSION, help_of};
+pub use helps::{USAGE, VERSION, help_text};
 pub use laws::replies_have_lines;
 use load_run::run_load;
 use plans::serve_plan;

@@ -8,13 +8,14 @@ ghost use Rattle.command_words.specs.declared.commands.Place.{Place};
 ghost use Rattle.command_words.specs.Forms.{Serving};
 ghost use Rattle.site_commands.specs.Ends.{CausedBy};
 ghost use Rattle.tardis_io.specs.Told.{WhileTold};
-ghost use Rattle.tardis_main.specs.Helps.{AreNone, AskUsage, AskVersion, Tells};
+ghost use Rattle.command_words.specs.Helps.{AskUsage, AskVersion};
+ghost use Rattle.tardis_main.specs.Helps.{AreNone, Tells};
 ghost use Rattle.tardis_main.specs.Words.{AreDurable, AreServe};
 ghost use Rattle.tardis_main.specs.Program.{Audits, Autos, Durables, Exports, Imports, Loads, Runs, Serves, Shells, Worlds};
 
-use crate::helps::{Help, USAGE, VERSION, help_of};
+use crate::helps::{USAGE, VERSION, help_text};
 use crate::tardis;
-use command_words::commands_are_at_a_site;
+use command_words::{Help, commands_are_at_a_site, help_of};
 use disk_store::Store;
 use std::alloc::Global;
 use std::env::Args;
@@ -172,7 +173,7 @@ fn tell<O: Sink>(help: Help, output: &mut O) -> Status
     ensures write_later { O.faults output.old ≤ O.faults output.new }
     ensures write { result ≡ Status.WriteFault → Rose (O.faults output.old) (O.faults output.new) }
 {
-    match write_all(output, help.text().as_bytes()) {
+    match write_all(output, help_text(help).as_bytes()) {
         Ok(()) => Status::Ok,
         Err(WriteFault) => Status::WriteFault,
     }

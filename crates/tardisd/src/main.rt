@@ -9,7 +9,7 @@ ghost use Rattle.std.specs.Vec.Iter.{into_iter_items};
 ghost use Rattle.command_words.specs.Places.{IsPlace};
 ghost use Rattle.tardisd_main.specs.Ends.{end_number};
 
-use command_words::{DaemonPlan, Place};
+use command_words::{DaemonPlan, Help, Place, help_of};
 use hub::End;
 use socket_ports::{DoorFault, SocketPorts, open_door};
 use std::alloc::Global;
@@ -18,7 +18,7 @@ use std::hash::RandomState;
 use std::process::ExitCode;
 use std::{env, io};
 use tardis_base::NoMemory;
-use tardisd_main::{DaemonEnd, GateFault, Help, help_of, plan_of, serve_place};
+use tardisd_main::{DaemonEnd, GateFault, help_text, plan_of, serve_place};
 
 fn main(rt: HostRuntime) -> ExitCode {
     let ended = run(&rt);
@@ -63,7 +63,7 @@ fn carry_out(rt: &HostRuntime, words: &[String]) -> DaemonEnd {
 
 /// Writes what the server tells of itself on standard output.
 fn tell(rt: &HostRuntime, help: Help) -> DaemonEnd {
-    match rt.print(help.text()) {
+    match rt.print(help_text(help)) {
         Ok(()) => DaemonEnd::Told,
         Err(_) => DaemonEnd::WriteFailed,
     }

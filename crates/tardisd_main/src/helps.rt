@@ -1,27 +1,25 @@
 //! What the server tells of itself.
 
-ghost use Rattle.std.specs.Prelude.{◌≡◌, ◌↔◌, Some, map};
-ghost use Rattle.std.specs.String.{string_bytes};
-ghost use Rattle.tardisd_main.specs.Helps.{AskUsage, AskVersion};
+ghost use Rattle.std.specs.Prelude.{◌≡◌};
 
-/// What the server tells of itself.
-#[derive(Clone, Copy, Debug, PartialEq, Eq)]
-pub enum Help {
-    Usage,
-    Version,
-}
+use command_words::Help;
 
-impl Help {
-    /// The lines that are written.
-    pub fn text(self) -> &'static str {
-        match self {
-            Help::Usage => USAGE,
-            Help::Version => "tardisd 0.1.0\n",
-        }
+/// The lines that are written.
+pub fn help_text(help: Help) -> &'static str
+    ensures usage { help ≡ Help.Usage → result.now ≡ USAGE.now }
+    ensures version { help ≡ Help.Version → result.now ≡ VERSION.now }
+{
+    match help {
+        Help::Usage => USAGE,
+        Help::Version => VERSION,
     }
 }
 
-const USAGE: &str = "\
+/// What the server tells of its version.
+pub const VERSION: &str = "tardisd 0.1.0\n";
+
+/// What it tells of its words.
+pub const USAGE: &str = "\
 tardisd: serves one site of a branch-and-merge key-value store to many clients
 
 usage: tardisd --listen ADDR [--sites M] [--site N] [--tidy]
@@ -34,18 +32,3 @@ usage: tardisd --listen ADDR [--sites M] [--site N] [--tidy]
 
 Requests and replies are described in docs/FORMATS.md, statuses in docs/COMMANDS.md.
 ";
-
-/// The help that these words ask for: `--help` or `--version`, alone.
-pub fn help_of(words: &[String]) -> Option<Help>
-    ensures usage { (result ≡ Some Help.Usage) ↔ AskUsage (map (λ w. string_bytes w) words.now) }
-    ensures version { (result ≡ Some Help.Version) ↔ AskVersion (map (λ w. string_bytes w) words.now) }
-{
-    if words.len() != 1 {
-        return None;
-    }
-    match words[0].as_str() {
-        "--help" => Some(Help::Usage),
-        "--version" => Some(Help::Version),
-        _ => None,
-    }
-}

@@ -10,5 +10,5 @@ mod sites;
 
 pub use asks::plan_of;
 pub use endings::{DaemonEnd, GateFault};
-pub use helps::{Help, help_of};
+pub use helps::{USAGE, VERSION, help_text};
 pub use sites::serve_place;
