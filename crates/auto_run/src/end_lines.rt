@@ -1,7 +1,8 @@
 //! Writing the lines that tell how an auto step ended. It takes no memory.
 
 ghost use Rattle.std.specs.Prelude.{◌≡◌, ◌+◌, ◌≤◌, ◌++◌, ◌∷◌, [], length, IsTrue};
-ghost use Rattle.merge_rules.specs.declared.steps.AutoEnd.TheVariants.{Merged as MergedAs, Refused as RefusedAs, Single as SingleAs, Unmerged as UnmergedAs, Wide as WideAs};
+ghost use Rattle.merge_rules.specs.declared.steps.AutoEnd.TheVariants.{Merged as MergedAs, Refused as RefusedAs, Single as SingleAs, Unmerged as UnmergedAs};
+ghost use Rattle.merge_rules.specs.declared.steps.AutoEnd.TheVariants.{Wide as WideAs};
 ghost use Rattle.wire_talk.specs.Valid.{is_refusal};
 ghost use Rattle.auto_run.specs.AutoLines.{end_line};
 ghost use Rattle.auto_run.specs.Telling.{CanBeTold};

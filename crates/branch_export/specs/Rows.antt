@@ -3,7 +3,8 @@ use Rattle.std.specs.Prelude.{◌≡◌, ℕ, List, [], ◌∷◌, ◌++◌, cod
 use Rattle.tardis_base.specs.declared.ids.StateId.{StateId}
 use Rattle.tardis_base.specs.declared.requests.Request.TheVariants.{Delete, RaiseAuto, Tidy, Close}
 use Rattle.tardis_base.specs.declared.replies.Reply.TheVariants.{Opened, Begun, Done, Committed, Merging, Raised, Tidied, Closed}
-use Rattle.plain_site.specs.RowWords.{Line, Talk, lone_site, site_after, ◌·◌, ◌asks◌=>◌, opens, opens_following, begin_any, get, put, value, none, ser, commit, merge_leaves}
+use Rattle.plain_site.specs.RowWords.{Line, Talk, lone_site, site_after, ◌·◌, ◌asks◌=>◌, opens, opens_following, begin_any, get, put, value, none, ser, commit}
+use Rattle.plain_site.specs.RowWords.{merge_leaves}
 use Rattle.branch_export.specs.Exports.{export_of}
 use Rattle.branch_export.specs.Scripts.{script_frames}
 

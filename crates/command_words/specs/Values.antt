@@ -1,5 +1,6 @@
 -- The values of options.
-use Rattle.std.specs.Prelude.{ℕ, Bool, true, false, ◌==◌, ◌&&◌, not, length, List, [], ◌∷◌, Option, None, Some, nat_le, nat_lt, nat_eq, filter_map, option_and_then, if◌then◌else◌, slice_index}
+use Rattle.std.specs.Prelude.{ℕ, Bool, true, false, ◌==◌, ◌&&◌, not, length, List, [], ◌∷◌, Option, None, Some, nat_le, nat_lt, nat_eq, filter_map}
+use Rattle.std.specs.Prelude.{option_and_then, if◌then◌else◌, slice_index}
 use Rattle.std.specs.Bool.{then_some}
 use Rattle.std.specs.List.{list_all, before_first, after_first}
 use Rattle.std.specs.Str.Parse.{digits_value}

@@ -18,7 +18,8 @@ abbrev pub as_in_midst : Status → Status
 as_in_midst DiskFault = WriteFault
 as_in_midst status = status
 
-module _ {S K : Type 0} (plain : PlainMachine S) (honest : K → Type 0) (reads : K → List ℕ) (may_leave : K → List ℕ → Type 0) (moment : K → ℕ) (left_since : K → ℕ → List ℕ → Type 0) where
+module _ {S K : Type 0} (plain : PlainMachine S) (honest : K → Type 0) (reads : K → List ℕ) (may_leave : K → List ℕ → Type 0) (moment : K → ℕ)
+    (left_since : K → ℕ → List ℕ → Type 0) where
   -- Since the start these bodies were answered in turn. All answers to the first of them were written, or a front where the
   -- sink failed, and their entries are in each image that a crash may leave. The rest are a group whose entries went to the
   -- disk when it failed, and are there all or none; no answer to them was written.
@@ -43,7 +44,8 @@ module _ {S K : Type 0} (plain : PlainMachine S) (honest : K → Type 0) (reads 
       pub entries : List (List ℕ)
       pub found : honest old → HasEntries entries (reads old)
       pub outcome : WhileTold (left input_old) (left input_new) (λ first rest. Outcome (as_in_midst status) (λ s. s ≡ entries)
-          (λ s bodies. Durable status (record { entries = s; state = opening; disk = old; given = given output_old; most = most }) new (given output_new) bodies) first rest)
+          (λ s bodies. Durable status (record { entries = s; state = opening; disk = old; given = given output_old; most = most }) new (given output_new)
+              bodies) first rest)
 
     -- The journal wasn't opened: nothing was read or written, and a crash leaves the entries that there were. Where the first
     -- sync failed, the disk was read alone.

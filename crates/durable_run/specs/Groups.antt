@@ -19,7 +19,8 @@ pub record Start (S K : Type 0) : Type 0 where
   pub given : Option (List ℕ)
   pub most : ℕ
 
-module _ {M S K : Type 0} (plain : PlainMachine S) (stands : M → S → Type 0) (opening : M → S) (honest : K → Type 0) (reads : K → List ℕ) (may_leave : K → List ℕ → Type 0) (moment : K → ℕ) (left_since : K → ℕ → List ℕ → Type 0) where
+module _ {M S K : Type 0} (plain : PlainMachine S) (stands : M → S → Type 0) (opening : M → S) (honest : K → Type 0) (reads : K → List ℕ)
+    (may_leave : K → List ℕ → Type 0) (moment : K → ℕ) (left_since : K → ℕ → List ℕ → Type 0) where
   -- Since the start these bodies were answered. The answers to the first of them were written, and their entries are on the
   -- disk. The rest are a group: its entries are staged, and its answers gathered.
   pub record Grouping (at : Start S K) (journal : Journaled M K) (given : Option (List ℕ)) (gathered : List ℕ) (bodies : List (List ℕ)) : Type 0 where

@@ -47,14 +47,16 @@ module _ {K : Type 0} where
     pub rose : StopRose faults writes disk old new stop
 
   -- a run ended so, and the fault that the status tells of was counted
-  pub record Ended {I O : Type 0} (honest : K → Type 0) (faults : K → ℕ) (reads : I → ℕ) (writes : O → ℕ) (disk now : K) (input input_now : I) (output output_now : O) (status : Status) : Type 0 where
+  pub record Ended {I O : Type 0} (honest : K → Type 0) (faults : K → ℕ) (reads : I → ℕ) (writes : O → ℕ) (disk now : K) (input input_now : I)
+      (output output_now : O) (status : Status) : Type 0 where
     pub end : IsRunEnd (as_in_midst status)
     pub went : Went honest faults disk now
     pub disk_rose : status ≡ DiskFault → Rose (faults disk) (faults now)
     pub read_rose : status ≡ ReadFault → Rose (reads input) (reads input_now)
     pub write_rose : status ≡ WriteFault → Rose (writes output) (writes output_now)
 
-module _ {S K : Type 0} (plain : PlainMachine S) (honest : K → Type 0) (reads : K → List ℕ) (may_leave : K → List ℕ → Type 0) (moment : K → ℕ) (left_since : K → ℕ → List ℕ → Type 0) where
+module _ {S K : Type 0} (plain : PlainMachine S) (honest : K → Type 0) (reads : K → List ℕ) (may_leave : K → List ℕ → Type 0) (moment : K → ℕ)
+    (left_since : K → ℕ → List ℕ → Type 0) where
   -- what the bodies came to that were answered when the run was stopped
   abbrev pub IsStop : Start S K → Stop K → Option (List ℕ) → List (List ℕ) → Type 0
   IsStop at (Disk disk) given bodies = Durable plain honest reads may_leave moment left_since DiskFault at disk given bodies
@@ -63,4 +65,5 @@ module _ {S K : Type 0} (plain : PlainMachine S) (honest : K → Type 0) (reads 
   -- from this start a run over what was left at first ended so
   abbrev pub EndsSo : Start S K → Status → K → Option (List ℕ) → List ℕ → List ℕ → Type 0
   EndsSo at status disk given first left = Outcome (as_in_midst status) (λ s. s ≡ at.entries)
-      (λ s bodies. Durable plain honest reads may_leave moment left_since status (record { entries = s; state = at.state; disk = at.disk; given = at.given; most = at.most }) disk given bodies) first left
+      (λ s bodies. Durable plain honest reads may_leave moment left_since status
+          (record { entries = s; state = at.state; disk = at.disk; given = at.given; most = at.most }) disk given bodies) first left

@@ -32,8 +32,8 @@ pub fn durable<S: Store, I: Source, O: Sink>(
     requires limits { IsTrue (are_limits limits) }
     requires first { 1 ≤ own }
     requires last { own ≤ limits.sites }
-    ensures ends { DurableEnds S.Disk.honest S.Disk.reads S.Disk.may_leave S.Disk.moment S.Disk.left_since S.honest S.told S.faults I.left I.faults O.given O.faults
-        store.old store.new input.old input.new output.old output.new (opening limits own) limits.max_trail result }
+    ensures ends { DurableEnds S.Disk.honest S.Disk.reads S.Disk.may_leave S.Disk.moment S.Disk.left_since S.honest S.told S.faults I.left I.faults O.given
+        O.faults store.old store.new input.old input.new output.old output.new (opening limits own) limits.max_trail result }
     ensures disk { CausedBy Status.DiskFault (S.faults store.old) (S.faults store.new) result }
     ensures read { CausedBy Status.ReadFault (I.faults input.old) (I.faults input.new) result }
     ensures write { CausedBy Status.WriteFault (O.faults output.old) (O.faults output.new) result }

@@ -35,10 +35,13 @@ pub(crate) fn answer_body<M: Machine, K: Disk>(
     requires body { length body.now ≤ longest_frame }
     requires staged { HasRoom journal.old }
     requires room { length gathered.old.bytes + 1048580 ≤ gathered.old.room }
-    requires group { (at : Start M.Plain K) × ((given : Option (List ℕ)) × ((bodies : List (List ℕ)) × Grouping M.plain M.stands M.opening K.honest K.reads K.may_leave K.moment K.left_since at journal.old given gathered.old.bytes bodies)) }
+    requires group { (at : Start M.Plain K) × ((given : Option (List ℕ))
+        × ((bodies : List (List ℕ)) × Grouping M.plain M.stands M.opening K.honest K.reads K.may_leave K.moment K.left_since at journal.old given
+        gathered.old.bytes bodies)) }
     ensures grouped { (at : Start M.Plain K) (given : Option (List ℕ)) (bodies : List (List ℕ))
         → Grouping M.plain M.stands M.opening K.honest K.reads K.may_leave K.moment K.left_since at journal.old given gathered.old.bytes bodies
-        → Grouping M.plain M.stands M.opening K.honest K.reads K.may_leave K.moment K.left_since at journal.new given gathered.new.bytes (bodies ++ body.now ∷ []) }
+        → Grouping M.plain M.stands M.opening K.honest K.reads K.may_leave K.moment K.left_since at journal.new given gathered.new.bytes
+            (bodies ++ body.now ∷ []) }
     ensures room { gathered.new.room ≡ gathered.old.room }
     ensures disk { journal.new.disk ≡ journal.old.disk }
 {
@@ -73,10 +76,12 @@ pub(crate) fn settle<M: Machine, K: Disk, O: Sink>(
     output: &mut O,
 ) -> Result<Journaled<M, K>, Stop<K>>
     requires room { gathered.old.room ≡ 2097156 }
-    requires group { (at : Start M.Plain K) × ((bodies : List (List ℕ)) × Grouping M.plain M.stands M.opening K.honest K.reads K.may_leave K.moment K.left_since at journal (O.given output.old) gathered.old.bytes bodies) }
+    requires group { (at : Start M.Plain K) × ((bodies : List (List ℕ))
+        × Grouping M.plain M.stands M.opening K.honest K.reads K.may_leave K.moment K.left_since at journal (O.given output.old) gathered.old.bytes bodies) }
     ensures grouped { (at : Start M.Plain K) (bodies : List (List ℕ))
         → Grouping M.plain M.stands M.opening K.honest K.reads K.may_leave K.moment K.left_since at journal (O.given output.old) gathered.old.bytes bodies
-        → IfOk result (λ j. Grouping M.plain M.stands M.opening K.honest K.reads K.may_leave K.moment K.left_since at j (O.given output.new) gathered.new.bytes bodies) }
+        → IfOk result (λ j. Grouping M.plain M.stands M.opening K.honest K.reads K.may_leave K.moment K.left_since at j (O.given output.new)
+            gathered.new.bytes bodies) }
     ensures stopped { (at : Start M.Plain K) (bodies : List (List ℕ))
         → Grouping M.plain M.stands M.opening K.honest K.reads K.may_leave K.moment K.left_since at journal (O.given output.old) gathered.old.bytes bodies
         → IfErr result (λ stop. IsStop M.plain K.honest K.reads K.may_leave K.moment K.left_since at stop (O.given output.new) bodies) }
@@ -103,10 +108,12 @@ pub(crate) fn make_room<M: Machine, K: Disk, O: Sink>(
     output: &mut O,
 ) -> Result<Journaled<M, K>, Stop<K>>
     requires room { gathered.old.room ≡ 2097156 }
-    requires group { (at : Start M.Plain K) × ((bodies : List (List ℕ)) × Grouping M.plain M.stands M.opening K.honest K.reads K.may_leave K.moment K.left_since at journal (O.given output.old) gathered.old.bytes bodies) }
+    requires group { (at : Start M.Plain K) × ((bodies : List (List ℕ))
+        × Grouping M.plain M.stands M.opening K.honest K.reads K.may_leave K.moment K.left_since at journal (O.given output.old) gathered.old.bytes bodies) }
     ensures grouped { (at : Start M.Plain K) (bodies : List (List ℕ))
         → Grouping M.plain M.stands M.opening K.honest K.reads K.may_leave K.moment K.left_since at journal (O.given output.old) gathered.old.bytes bodies
-        → IfOk result (λ j. Grouping M.plain M.stands M.opening K.honest K.reads K.may_leave K.moment K.left_since at j (O.given output.new) gathered.new.bytes bodies) }
+        → IfOk result (λ j. Grouping M.plain M.stands M.opening K.honest K.reads K.may_leave K.moment K.left_since at j (O.given output.new)
+            gathered.new.bytes bodies) }
     ensures stopped { (at : Start M.Plain K) (bodies : List (List ℕ))
         → Grouping M.plain M.stands M.opening K.honest K.reads K.may_leave K.moment K.left_since at journal (O.given output.old) gathered.old.bytes bodies
         → IfErr result (λ stop. IsStop M.plain K.honest K.reads K.may_leave K.moment K.left_since at stop (O.given output.new) bodies) }

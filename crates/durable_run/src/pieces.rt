@@ -33,10 +33,12 @@ fn answer_frame<M: Machine, K: Disk, O: Sink>(
 ) -> Result<Journaled<M, K>, Stop<K>>
     requires body { length body.now ≤ longest_frame }
     requires room { gathered.old.room ≡ 2097156 }
-    requires group { (at : Start M.Plain K) × ((bodies : List (List ℕ)) × Grouping M.plain M.stands M.opening K.honest K.reads K.may_leave K.moment K.left_since at journal (O.given output.old) gathered.old.bytes bodies) }
+    requires group { (at : Start M.Plain K) × ((bodies : List (List ℕ))
+        × Grouping M.plain M.stands M.opening K.honest K.reads K.may_leave K.moment K.left_since at journal (O.given output.old) gathered.old.bytes bodies) }
     ensures grouped { (at : Start M.Plain K) (bodies : List (List ℕ))
         → Grouping M.plain M.stands M.opening K.honest K.reads K.may_leave K.moment K.left_since at journal (O.given output.old) gathered.old.bytes bodies
-        → IfOk result (λ j. Grouping M.plain M.stands M.opening K.honest K.reads K.may_leave K.moment K.left_since at j (O.given output.new) gathered.new.bytes (bodies ++ body.now ∷ [])) }
+        → IfOk result (λ j. Grouping M.plain M.stands M.opening K.honest K.reads K.may_leave K.moment K.left_since at j (O.given output.new)
+            gathered.new.bytes (bodies ++ body.now ∷ [])) }
     ensures stopped { (at : Start M.Plain K) (bodies : List (List ℕ))
         → Grouping M.plain M.stands M.opening K.honest K.reads K.may_leave K.moment K.left_since at journal (O.given output.old) gathered.old.bytes bodies
         → IfErr result (λ stop. IsStop M.plain K.honest K.reads K.may_leave K.moment K.left_since at stop (O.given output.new) bodies) }
@@ -63,11 +65,13 @@ fn answer_held<M: Machine, K: Disk, O: Sink>(
     output: &mut O,
 ) -> Result<(Journaled<M, K>, Next), Stop<K>>
     requires room { gathered.old.room ≡ 2097156 }
-    requires group { (at : Start M.Plain K) × ((bodies : List (List ℕ)) × Grouping M.plain M.stands M.opening K.honest K.reads K.may_leave K.moment K.left_since at journal (O.given output.old) gathered.old.bytes bodies) }
+    requires group { (at : Start M.Plain K) × ((bodies : List (List ℕ))
+        × Grouping M.plain M.stands M.opening K.honest K.reads K.may_leave K.moment K.left_since at journal (O.given output.old) gathered.old.bytes bodies) }
     ensures grouped { (at : Start M.Plain K) (bodies : List (List ℕ))
         → Grouping M.plain M.stands M.opening K.honest K.reads K.may_leave K.moment K.left_since at journal (O.given output.old) gathered.old.bytes bodies
         → IfOk result (λ held. (more : List (List ℕ)) × (Cuts cutter.old more cutter.new
-        × Grouping M.plain M.stands M.opening K.honest K.reads K.may_leave K.moment K.left_since at held.0 (O.given output.new) gathered.new.bytes (bodies ++ more))) }
+        × Grouping M.plain M.stands M.opening K.honest K.reads K.may_leave K.moment K.left_since at held.0 (O.given output.new) gathered.new.bytes
+            (bodies ++ more))) }
     ensures stopped { (at : Start M.Plain K) (bodies : List (List ℕ))
         → Grouping M.plain M.stands M.opening K.honest K.reads K.may_leave K.moment K.left_since at journal (O.given output.old) gathered.old.bytes bodies
         → IfErr result (λ stop. (more : List (List ℕ)) × ((rest : List ℕ) × (Cuts cutter.old more rest
@@ -104,7 +108,8 @@ pub(crate) fn answer_piece<M: Machine, K: Disk, O: Sink>(
     requires size { length piece.now ≤ 65536 }
     requires none { gathered.old.bytes ≡ [] }
     requires room { gathered.old.room ≡ 2097156 }
-    requires group { (at : Start M.Plain K) × ((bodies : List (List ℕ)) × Grouping M.plain M.stands M.opening K.honest K.reads K.may_leave K.moment K.left_since at journal (O.given output.old) [] bodies) }
+    requires group { (at : Start M.Plain K) × ((bodies : List (List ℕ))
+        × Grouping M.plain M.stands M.opening K.honest K.reads K.may_leave K.moment K.left_since at journal (O.given output.old) [] bodies) }
     ensures grouped { (at : Start M.Plain K) (bodies : List (List ℕ))
         → Grouping M.plain M.stands M.opening K.honest K.reads K.may_leave K.moment K.left_since at journal (O.given output.old) [] bodies
         → IfOk result (λ held. (more : List (List ℕ)) × (Cuts (cutter.old ++ piece.now) more cutter.new

@@ -2,7 +2,8 @@
 use Rattle.std.specs.List.{list_all}
 use Rattle.std.specs.Option.{option_and_then}
 use Rattle.tardis_base.specs.declared.records.Write.{Write}
-use Rattle.std.specs.Prelude.{IsTrue, ◌&&◌, ◌==◌, slice_get, if◌then◌else◌, ◌≡◌, ℕ, true, false, nat_lt, min, length, List, [], ◌∷◌, Option, Some, None, Result, Ok, Err, IfOk}
+use Rattle.std.specs.Prelude.{IsTrue, ◌&&◌, ◌==◌, slice_get, if◌then◌else◌, ◌≡◌, ℕ, true, false, nat_lt, min, length, List, [], ◌∷◌, Option, Some, None, Result}
+use Rattle.std.specs.Prelude.{Ok, Err, IfOk}
 use Rattle.tardis_base.specs.declared.faults.NoMemory.{NoMemory as OutOfMemory}
 use Rattle.tardis_base.specs.declared.ids.StateId.{StateId}
 use Rattle.tardis_base.specs.declared.ids.Slot.{Slot}

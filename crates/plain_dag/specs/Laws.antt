@@ -129,7 +129,8 @@ LandsBelow rs keys s = IsTrue (is_known rs (landing rs keys s)) × IsTrue (is_ab
 
 -- no state at or above the landing and not at or above s writes a guarded key
 abbrev pub LandsWithoutNews : List Record → List (List ℕ) → StateId → Type 0
-LandsWithoutNews rs keys s = (k : List ℕ) (w : StateId) → IsTrue (is_key_among k keys) → IsTrue (is_writer rs k (landing rs keys s) w) → IsTrue (is_above rs w s)
+LandsWithoutNews rs keys s = (k : List ℕ) (w : StateId) → IsTrue (is_key_among k keys) → IsTrue (is_writer rs k (landing rs keys s) w)
+    → IsTrue (is_above rs w s)
 
 -- each guarded key reads the same at the landing as at s
 abbrev pub LandsWithSameReads : List Record → List (List ℕ) → StateId → Type 0
@@ -139,7 +140,8 @@ LandsWithSameReads rs keys s = (k : List ℕ) → IsTrue (is_key_among k keys) �
 -- writes a key that it wrote
 pub record IsTrueCommit (rs : List Record) (flags : EndFlags) (reads written : List (List ℕ)) (s : StateId) : Type 0 where
   pub same_reads : IsTrue (is_ser flags) → (k : List ℕ) → IsTrue (is_key_among k reads) → read rs k (landing rs (guarded flags reads written) s) ≡ read rs k s
-  pub no_writes : IsTrue (is_si flags) → (k : List ℕ) (w : StateId) → IsTrue (is_key_among k written) → IsTrue (is_writer rs k (landing rs (guarded flags reads written) s) w) → IsTrue (is_above rs w s)
+  pub no_writes : IsTrue (is_si flags) → (k : List ℕ) (w : StateId) → IsTrue (is_key_among k written)
+      → IsTrue (is_writer rs k (landing rs (guarded flags reads written) s) w) → IsTrue (is_above rs w s)
 
 -- ===== Collection
 
@@ -161,18 +163,21 @@ CollectedAreAboveCeilings rs floors ks = (x c : StateId) → IsTrue (is_known rs
 -- what stays kept: states admitted under a ceiling that is under a floor, and with them read states and leaves; these
 -- ceilings; floors; landings from an admitted state, which are admitted too; fork points of admitted states
 pub record StaysKept (rs : List Record) (floors : List Floor) (ks : List StateId) : Type 0 where
-  pub admitted : (x c : StateId) → IsTrue (is_known rs c) → IsUnderFloor rs floors c → IsTrue (is_known rs x) → IsTrue (is_admitted rs c x) → IsTrue (is_kept rs ks x)
+  pub admitted : (x c : StateId) → IsTrue (is_known rs c) → IsUnderFloor rs floors c → IsTrue (is_known rs x) → IsTrue (is_admitted rs c x)
+      → IsTrue (is_kept rs ks x)
   pub ceilings : (c : StateId) → IsTrue (is_known rs c) → IsUnderFloor rs floors c → IsTrue (is_kept rs ks c)
   pub floors_stay : IsTrue (list_all (λ f. is_known rs f.state) floors) → IsTrue (list_all (λ f. is_kept rs ks f.state) floors)
-  pub landings : (x c : StateId) (keys : List (List ℕ)) → IsTrue (is_known rs c) → IsUnderFloor rs floors c → IsTrue (is_known rs x) → IsTrue (is_admitted rs c x) →
-      IsTrue (is_admitted rs c (landing rs keys x)) × IsTrue (is_kept rs ks (landing rs keys x))
+  pub landings : (x c : StateId) (keys : List (List ℕ)) → IsTrue (is_known rs c) → IsUnderFloor rs floors c → IsTrue (is_known rs x)
+      → IsTrue (is_admitted rs c x) → IsTrue (is_admitted rs c (landing rs keys x)) × IsTrue (is_kept rs ks (landing rs keys x))
   pub fork_points_stay : (x y c : StateId) (ys : List StateId) → IsTrue (is_known rs c) → IsUnderFloor rs floors c →
-      IsTrue (list_all (is_known rs) (y ∷ ys)) → IsTrue (list_all (is_admitted rs c) (y ∷ ys)) → IsTrue (is_known rs x) → IsTrue (is_fork_point rs (y ∷ ys) x) → IsTrue (is_kept rs ks x)
+      IsTrue (list_all (is_known rs) (y ∷ ys)) → IsTrue (list_all (is_admitted rs c) (y ∷ ys)) → IsTrue (is_known rs x)
+          → IsTrue (is_fork_point rs (y ∷ ys) x) → IsTrue (is_kept rs ks x)
 
 -- a record with a parent that is admitted under such a ceiling, or that isn't closed, is no child of a collected state
 abbrev pub CollectedGetNoChild : List Record → List Floor → List StateId → Type 0
 CollectedGetNoChild rs floors ks = (p : StateId) → IsTrue (is_known rs p) →
-    IsFalse (is_closed rs floors p) ⊎ ((c : StateId) × IsTrue (is_known rs c) × IsUnderFloor rs floors c × IsTrue (is_admitted rs c p)) → IsFalse (is_among p ks)
+    IsFalse (is_closed rs floors p) ⊎ ((c : StateId) × IsTrue (is_known rs c) × IsUnderFloor rs floors c × IsTrue (is_admitted rs c p))
+        → IsFalse (is_among p ks)
 
 -- ===== Stand-ins and fork paths
 

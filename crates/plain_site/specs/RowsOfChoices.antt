@@ -4,9 +4,12 @@ use Rattle.tardis_base.specs.declared.ids.StateId.{StateId}
 use Rattle.tardis_base.specs.declared.records.Item.TheVariants.{State, Promise}
 use Rattle.tardis_base.specs.declared.requests.Request.{Request}
 use Rattle.tardis_base.specs.declared.requests.Request.TheVariants.{Ceiling, Raise, RaiseAuto, Tidy, Show, Deliver}
-use Rattle.tardis_base.specs.declared.replies.Refusal.TheVariants.{Branches, OwnItem, ClosedParent, PathFull, Collected, CeilingBack, Comparable, Unknown, Below}
-use Rattle.tardis_base.specs.declared.replies.Reply.TheVariants.{Opened, Begun, Merging, Absent, Done, Committed, Raised, Tidied, Shown, Applied, Known, Refused}
-use Rattle.plain_site.specs.RowWords.{Line, Talk, site_after, lone_site, program_limits, ◌·◌, ◌asks◌=>◌, opens, opens_following, begin_any, begin_at, get, put, none, ser, nb, commit, commit_kb, merge_leaves, merge, value}
+use Rattle.tardis_base.specs.declared.replies.Refusal.TheVariants.{Branches, OwnItem, ClosedParent, PathFull, Collected, CeilingBack, Comparable, Unknown}
+use Rattle.tardis_base.specs.declared.replies.Refusal.TheVariants.{Below}
+use Rattle.tardis_base.specs.declared.replies.Reply.TheVariants.{Opened, Begun, Merging, Absent, Done, Committed, Raised, Tidied, Shown, Applied, Known}
+use Rattle.tardis_base.specs.declared.replies.Reply.TheVariants.{Refused}
+use Rattle.plain_site.specs.RowWords.{Line, Talk, site_after, lone_site, program_limits, ◌·◌, ◌asks◌=>◌, opens, opens_following, begin_any, begin_at, get, put}
+use Rattle.plain_site.specs.RowWords.{none, ser, nb, commit, commit_kb, merge_leaves, merge, value}
 use Rattle.plain_site.specs.RowsOfCommits.{two_open, skewed}
 use Rattle.plain_site.specs.RowsOfFloors.{raised_chain}
 use Rattle.plain_site.specs.RowsOfCollection.{three_branches}

@@ -6,7 +6,8 @@ use Rattle.tardis_base.specs.declared.replies.Refusal.TheVariants.{Below}
 use Rattle.tardis_base.specs.declared.replies.Reply.TheVariants.{Refused, Begun, Absent, Done, Committed, NoMemory}
 use Rattle.plain_dag.specs.Floors.{Session}
 use Rattle.plain_site.specs.Step.{step}
-use Rattle.plain_site.specs.RowWords.{Line, lone_site, ◌·◌, ◌asks◌=>◌, begin_any, begin_ancestor, begin_parent, begin_at, get, get_for, none, ser, si, commit, value}
+use Rattle.plain_site.specs.RowWords.{Line, lone_site, ◌·◌, ◌asks◌=>◌, begin_any, begin_ancestor, begin_parent, begin_at, get, get_for, none, ser, si, commit}
+use Rattle.plain_site.specs.RowWords.{value}
 use Rattle.plain_site.specs.ClientRuns.{IsRun, Told, told, told_session}
 use Rattle.plain_site.specs.WrongSteps.{followed, raced, forked, both_wrote, merging_both, refused_commit}
 
@@ -36,7 +37,8 @@ WeakerIsSentAfter = AreRun (1 asks commit none => Committed (1 · 2) (1 · 1 ∷
 
 -- session 2 begins at its commit, where another state arrived last; anywhere it begins at that one
 abbrev pub CommitsAreFound : Type 0
-CommitsAreFound = AreRun (2 asks begin_any => Begun (1 · 2) ∷ 2 asks Abort => Done ∷ 2 asks begin_ancestor => Begun (1 · 1) ∷ 2 asks Abort => Done ∷ 2 asks begin_parent => Begun (1 · 1) ∷ forked)
+CommitsAreFound = AreRun (2 asks begin_any => Begun (1 · 2) ∷ 2 asks Abort => Done ∷ 2 asks begin_ancestor => Begun (1 · 1) ∷ 2 asks Abort => Done ∷
+    2 asks begin_parent => Begun (1 · 1) ∷ forked)
 
 -- a following session isn't let above its commit
 abbrev pub FollowersStayBelow : Type 0

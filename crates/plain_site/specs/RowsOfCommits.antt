@@ -3,7 +3,8 @@ use Rattle.std.specs.Prelude.{◌+◌, List, [], ◌∷◌, ◌++◌}
 use Rattle.tardis_base.specs.declared.requests.Request.TheVariants.{Stat as AskStat, Show, Abort}
 use Rattle.tardis_base.specs.declared.replies.Refusal.TheVariants.{NotOpen, AlreadyOpen, NoTxn, Branches}
 use Rattle.tardis_base.specs.declared.replies.Reply.TheVariants.{Opened, Begun, Absent, Done, Committed, Ended, Stat, Shown, Refused}
-use Rattle.plain_site.specs.RowWords.{Line, Talk, lone_site, ◌·◌, ◌asks◌=>◌, opens, begin_any, begin_ancestor, begin_parent, begin_at, get, put, ser, si, nb, kb, commit, commit_kb}
+use Rattle.plain_site.specs.RowWords.{Line, Talk, lone_site, ◌·◌, ◌asks◌=>◌, opens, begin_any, begin_ancestor, begin_parent, begin_at, get, put, ser, si, nb}
+use Rattle.plain_site.specs.RowWords.{kb, commit, commit_kb}
 
 -- two sessions open
 abbrev pub two_open : List Line

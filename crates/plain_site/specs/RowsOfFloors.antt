@@ -3,7 +3,8 @@ use Rattle.std.specs.Prelude.{List, [], ◌∷◌, ◌++◌}
 use Rattle.tardis_base.specs.declared.requests.Request.TheVariants.{Ceiling, Raise, RaiseAuto, Tidy, Stat as AskStat, Show}
 use Rattle.tardis_base.specs.declared.replies.Refusal.TheVariants.{Below, CeilingBack, TxnOpen, Held, FloorBack, Unknown, Collected}
 use Rattle.tardis_base.specs.declared.replies.Reply.TheVariants.{Opened, Begun, Absent, Done, Committed, Raised, Tidied, Stat, Refused}
-use Rattle.plain_site.specs.RowWords.{Line, Talk, lone_site, ◌·◌, ◌asks◌=>◌, opens, opens_following, begin_any, begin_ancestor, begin_parent, begin_at, get, put, ser, commit, value}
+use Rattle.plain_site.specs.RowWords.{Line, Talk, lone_site, ◌·◌, ◌asks◌=>◌, opens, opens_following, begin_any, begin_ancestor, begin_parent, begin_at, get}
+use Rattle.plain_site.specs.RowWords.{put, ser, commit, value}
 
 -- session 1 commits x five times, and session 2 read it before
 abbrev pub five_commits : List Line

@@ -3,7 +3,8 @@ use Rattle.std.specs.Prelude.{◌+◌, List, [], ◌∷◌, ◌++◌}
 use Rattle.tardis_base.specs.declared.requests.Request.TheVariants.{Abort}
 use Rattle.tardis_base.specs.declared.replies.Refusal.TheVariants.{Unknown, TxnOpen}
 use Rattle.tardis_base.specs.declared.replies.Reply.TheVariants.{Opened, Begun, Absent, Done, Committed, Ended, Refused}
-use Rattle.plain_site.specs.RowWords.{Line, Talk, lone_site, ◌·◌, ◌asks◌=>◌, opens, begin_any, begin_ancestor, begin_at, get, put, none, ser, si, nb, commit, merge_leaves, value}
+use Rattle.plain_site.specs.RowWords.{Line, Talk, lone_site, ◌·◌, ◌asks◌=>◌, opens, begin_any, begin_ancestor, begin_at, get, put, none, ser, si, nb, commit}
+use Rattle.plain_site.specs.RowWords.{merge_leaves, value}
 use Rattle.plain_site.specs.RowsOfCommits.{two_open, skewed}
 
 -- sessions 2 and 3 begin; 2 reads a and writes b, 3 reads b and writes c; then session 1 writes b in 1.1

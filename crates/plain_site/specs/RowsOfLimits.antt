@@ -4,7 +4,8 @@ use Rattle.tardis_base.specs.declared.requests.Request.TheVariants.{Get, Put, Ab
 use Rattle.tardis_base.specs.declared.replies.Refusal.TheVariants.{TooMany, Full, SessionsFull, PathFull}
 use Rattle.tardis_base.specs.declared.replies.Reply.TheVariants.{Opened, Begun, Absent, Done, Committed, Refused}
 use Rattle.plain_site.specs.Site.{Site, opening}
-use Rattle.plain_site.specs.RowWords.{Line, Talk, lone_site, program_limits, ◌·◌, ◌asks◌=>◌, opens, begin_any, begin_at, get, put, ser, commit, value, of_writes, of_reads}
+use Rattle.plain_site.specs.RowWords.{Line, Talk, lone_site, program_limits, ◌·◌, ◌asks◌=>◌, opens, begin_any, begin_at, get, put, ser, commit, value}
+use Rattle.plain_site.specs.RowWords.{of_writes, of_reads}
 
 abbrev pub begun : List Line
 begun =

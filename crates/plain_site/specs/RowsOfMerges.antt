@@ -4,7 +4,8 @@ use Rattle.std.specs.List.{range_with_len}
 use Rattle.tardis_base.specs.declared.requests.Request.TheVariants.{Show, Abort, ForkPoints}
 use Rattle.tardis_base.specs.declared.replies.Refusal.TheVariants.{OpenConflict, WrongMode, ConflictKey, NotRead, Comparable, Unknown, TooMany}
 use Rattle.tardis_base.specs.declared.replies.Reply.TheVariants.{Opened, Begun, Merging, Absent, Done, Committed, States, Shown, Refused}
-use Rattle.plain_site.specs.RowWords.{Line, Talk, lone_site, ◌·◌, ◌asks◌=>◌, opens, begin_any, get, put, none, ser, commit, merge_leaves, merge, conflicts, get_for, value, one_key, of_states}
+use Rattle.plain_site.specs.RowWords.{Line, Talk, lone_site, ◌·◌, ◌asks◌=>◌, opens, begin_any, get, put, none, ser, commit, merge_leaves, merge, conflicts}
+use Rattle.plain_site.specs.RowWords.{get_for, value, one_key, of_states}
 
 -- two branches: 1.1 and 1.2 both write x, and 1.2 writes y
 abbrev pub branched : List Line

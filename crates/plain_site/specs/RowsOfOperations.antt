@@ -5,13 +5,17 @@ use Rattle.tardis_base.specs.declared.records.Record.{Record}
 use Rattle.tardis_base.specs.declared.records.Consent.{Consent}
 use Rattle.tardis_base.specs.declared.records.Write.TheVariants.{Put as Written, Delete as Deletion}
 use Rattle.tardis_base.specs.declared.records.Item.TheVariants.{State, Promise}
-use Rattle.tardis_base.specs.declared.requests.Request.TheVariants.{Delete, Abort, ForkPoints, Conflicts, Ceiling, Raise, RaiseAuto, Stat as AskStat, Leaves, Pull, Deliver, Close}
-use Rattle.tardis_base.specs.declared.replies.Refusal.TheVariants.{NotOpen, AlreadyOpen, NoTxn, WrongMode, Unknown, Branches, OpenConflict, Held, FloorBack, Full, SeqEnd}
-use Rattle.tardis_base.specs.declared.replies.Reply.TheVariants.{Opened, Begun, Merging, Deleted, Absent, Done, Committed, States, Keys, Raised, Stat, Batch, Applied, Known, Early, Closed, Refused}
+use Rattle.tardis_base.specs.declared.requests.Request.TheVariants.{Delete, Abort, ForkPoints, Conflicts, Ceiling, Raise, RaiseAuto, Stat as AskStat, Leaves}
+use Rattle.tardis_base.specs.declared.requests.Request.TheVariants.{Pull, Deliver, Close}
+use Rattle.tardis_base.specs.declared.replies.Refusal.TheVariants.{NotOpen, AlreadyOpen, NoTxn, WrongMode, Unknown, Branches, OpenConflict, Held, FloorBack}
+use Rattle.tardis_base.specs.declared.replies.Refusal.TheVariants.{Full, SeqEnd}
+use Rattle.tardis_base.specs.declared.replies.Reply.TheVariants.{Opened, Begun, Merging, Deleted, Absent, Done, Committed, States, Keys, Raised, Stat, Batch}
+use Rattle.tardis_base.specs.declared.replies.Reply.TheVariants.{Applied, Known, Early, Closed, Refused}
 use Rattle.plain_site.specs.Site.{Site, opening}
 use Rattle.plain_site.specs.Merges.{page_of_states, page_of_keys}
 use Rattle.plain_site.specs.Exchange.{fitting}
-use Rattle.plain_site.specs.RowWords.{Line, Talk, lone_site, program_limits, ◌·◌, ◌asks◌=>◌, opens, opens_following, begin_any, begin_at, get, put, none, ser, nb, commit, merge_leaves, merge, conflicts, get_for, value}
+use Rattle.plain_site.specs.RowWords.{Line, Talk, lone_site, program_limits, ◌·◌, ◌asks◌=>◌, opens, opens_following, begin_any, begin_at, get, put, none, ser}
+use Rattle.plain_site.specs.RowWords.{nb, commit, merge_leaves, merge, conflicts, get_for, value}
 use Rattle.plain_site.specs.RowsOfCommits.{two_open}
 use Rattle.plain_site.specs.RowsOfMerges.{branched}
 use Rattle.plain_site.specs.RowsOfExchange.{first_of_two}

@@ -8,7 +8,8 @@ use Rattle.tardis_base.specs.declared.requests.Begin.TheVariants.{Any, Parent}
 use Rattle.tardis_base.specs.declared.requests.Request.TheVariants.{Begin, Get, GetFor, Commit, Tidy, Raise, Deliver, Settle}
 use Rattle.tardis_base.specs.declared.replies.Refusal.TheVariants.{NoTxn, Branches}
 use Rattle.tardis_base.specs.declared.replies.Reply.{Reply}
-use Rattle.tardis_base.specs.declared.replies.Reply.TheVariants.{Opened, Begun, Merging, Absent, Done, Committed, Ended, Raised, Tidied, Applied, Early, Refused}
+use Rattle.tardis_base.specs.declared.replies.Reply.TheVariants.{Opened, Begun, Merging, Absent, Done, Committed, Ended, Raised, Tidied, Applied, Early}
+use Rattle.tardis_base.specs.declared.replies.Reply.TheVariants.{Refused}
 use Rattle.tardis_base.specs.Ids.{root, is_among}
 use Rattle.plain_dag.specs.Begin.{last_arrived}
 use Rattle.plain_dag.specs.Entries.{changed}
@@ -19,7 +20,8 @@ use Rattle.plain_site.specs.Answers.{Answer, found, leaves_site, with_txn}
 use Rattle.plain_site.specs.Reads.{read_in}
 use Rattle.plain_site.specs.Commits.{without_txn_of, commit_below}
 use Rattle.plain_site.specs.Step.{step}
-use Rattle.plain_site.specs.RowWords.{Line, program_limits, ◌·◌, ◌asks◌=>◌, opens, opens_following, begin_any, begin_ancestor, begin_parent, begin_at, get, get_for, put, none, ser, si, nb, commit, merge_leaves, value}
+use Rattle.plain_site.specs.RowWords.{Line, program_limits, ◌·◌, ◌asks◌=>◌, opens, opens_following, begin_any, begin_ancestor, begin_parent, begin_at, get}
+use Rattle.plain_site.specs.RowWords.{get_for, put, none, ser, si, nb, commit, merge_leaves, value}
 use Rattle.plain_site.specs.ClientRuns.{Service}
 
 -- the service breaks the law

@@ -31,7 +31,8 @@ said c = record { state = c.floor; number = c.number; stated = c.count }
 
 -- this consent of site n is in the world, the one with number 0 included: a site has taken it, or a batch has it
 pub data HasConsent (world : World) (n : ℕ) (f : Floor) : Type 0 where
-  at_site : (m : ℕ) (site : Site) → site_at world.sites m ≡ Some site → IsTrue (is_within 1 (length world.sites) n) → floor_of site.floors n ≡ f → HasConsent world n f
+  at_site : (m : ℕ) (site : Site) → site_at world.sites m ≡ Some site → IsTrue (is_within 1 (length world.sites) n) → floor_of site.floors n ≡ f
+      → HasConsent world n f
   in_bag : (batch : Batch) (c : Consent) → IsOneOf batch world.bag → IsOneOf c batch.consents → c.site ≡ n → said c ≡ f → HasConsent world n f
 
 -- the record's own site has it

@@ -5,7 +5,8 @@ use Rattle.tardis_base.specs.declared.records.Consent.{Consent}
 use Rattle.tardis_base.specs.declared.requests.Request.TheVariants.{RaiseAuto, Tidy, Stat, Pull, Ceiling}
 use Rattle.tardis_base.specs.declared.replies.Refusal.TheVariants.{BadSite, NoSuchItem, BagFull}
 use Rattle.tardis_base.specs.declared.replies.Reply.{Reply}
-use Rattle.tardis_base.specs.declared.replies.Reply.TheVariants.{Opened, Begun, Merging, Done, Committed, Raised, Tidied, Stat as Statistics, Applied, Known, Early, Refused}
+use Rattle.tardis_base.specs.declared.replies.Reply.TheVariants.{Opened, Begun, Merging, Done, Committed, Raised, Tidied, Stat as Statistics, Applied, Known}
+use Rattle.tardis_base.specs.declared.replies.Reply.TheVariants.{Early, Refused}
 use Rattle.plain_site.specs.RowWords.{◌·◌, opens_following, begin_any, begin_ancestor, get, put, ser, none, commit, merge_leaves, conflicts, value, one_key}
 use Rattle.plain_site.specs.RowByteWords.{hex}
 use Rattle.plain_world.specs.Worlds.{World, opening_world, world_limits}

@@ -3,7 +3,8 @@ use Rattle.std.specs.Prelude.{◌≡◌, ℕ, List, [], ◌∷◌, ◌++◌, len
 use Rattle.tardis_base.specs.Plain.{Event, PlainMachine}
 use Rattle.tardis_io.specs.Told.{WhileTold}
 use Rattle.tardis_io.specs.declared.statuses.Status.{Status}
-use Rattle.tardis_io.specs.declared.statuses.Status.TheVariants.{Ok, Cut as InputCut, LongFrame as FrameTooLong, ReadFault as FaultRead, WriteFault as FaultWrite, Spent as InputSpent, NoMemory as OutOfMemory}
+use Rattle.tardis_io.specs.declared.statuses.Status.TheVariants.{Ok, Cut as InputCut, LongFrame as FrameTooLong, ReadFault as FaultRead}
+use Rattle.tardis_io.specs.declared.statuses.Status.TheVariants.{WriteFault as FaultWrite, Spent as InputSpent, NoMemory as OutOfMemory}
 use Rattle.frame_cut.specs.Frames.{frames}
 use Rattle.site_run.specs.Endings.{Outcome, shape_of}
 use Rattle.session_serve.specs.declared.ends.SessionEnd.{SessionEnd}

@@ -25,4 +25,5 @@ ReplyLinesFit = (r : Reply) → IsTrue (is_reply r) → length (reply_spelling r
 
 -- so has the line of a request
 abbrev pub RequestLinesFit : Type 0
-RequestLinesFit = (asked : ℕ × Request) → IsTrue (is_asked asked) → length (request_spelling asked.1) ≤ longest_frame → length (request_line asked) ≤ longest_line
+RequestLinesFit = (asked : ℕ × Request) → IsTrue (is_asked asked) → length (request_spelling asked.1) ≤ longest_frame
+    → length (request_line asked) ≤ longest_line

@@ -6,7 +6,8 @@ use Rattle.tardis_base.specs.declared.requests.Begin.TheVariants.{Any, Ancestor,
 use Rattle.tardis_base.specs.declared.requests.MergeOf.{MergeOf}
 use Rattle.tardis_base.specs.declared.requests.MergeOf.TheVariants.{Leaves as AllLeaves, States as TheseStates}
 use Rattle.tardis_base.specs.declared.requests.Request.{Request}
-use Rattle.tardis_base.specs.declared.requests.Request.TheVariants.{Open, Begin as BeginAt, Get, Put, Delete, Commit, Abort, BeginMerge, ForkPoints, Conflicts, GetFor, Ceiling, Raise, RaiseAuto, Tidy, Stat, Show, Leaves, Pull, Deliver, Close, Settle}
+use Rattle.tardis_base.specs.declared.requests.Request.TheVariants.{Open, Begin as BeginAt, Get, Put, Delete, Commit, Abort, BeginMerge, ForkPoints, Conflicts}
+use Rattle.tardis_base.specs.declared.requests.Request.TheVariants.{GetFor, Ceiling, Raise, RaiseAuto, Tidy, Stat, Show, Leaves, Pull, Deliver, Close, Settle}
 use Rattle.tardis_base.specs.Valid.{is_key, is_value}
 use Rattle.wire_item.specs.Fronts.{Front, nothing_but, made, only_if, both, whole}
 use Rattle.wire_item.specs.Readings.{item_of}
@@ -28,7 +29,8 @@ follow_text = either (by_prefix follow_rows) (ends false)
 
 abbrev pub begin_rows : List (List ℕ × Front Begin)
 begin_rows =
-    (codes "any ", nothing_but Any) ∷ (codes "ancestor ", nothing_but Ancestor) ∷ (codes "parent ", nothing_but Parent) ∷ (codes "at ", made At (id_until 32)) ∷ []
+    (codes "any ", nothing_but Any) ∷ (codes "ancestor ", nothing_but Ancestor) ∷ (codes "parent ", nothing_but Parent) ∷
+        (codes "at ", made At (id_until 32)) ∷ []
 
 abbrev pub begin_text : Front Begin
 begin_text = by_prefix begin_rows

@@ -8,4 +8,5 @@ use Rattle.plain_site.specs.Step.{site_machine}
 
 -- a site that opens answers Stat by statistics, whatever was asked before
 abbrev pub SitesTellCounts : Type 0
-SitesTellCounts = (limits : Limits) (own : ℕ) → IsTrue (are_limits limits) → IsTrue (is_within 1 limits.sites own) → TellsCounts site_machine (opening limits own)
+SitesTellCounts = (limits : Limits) (own : ℕ) → IsTrue (are_limits limits) → IsTrue (is_within 1 limits.sites own)
+    → TellsCounts site_machine (opening limits own)

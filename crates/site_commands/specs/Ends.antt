@@ -85,4 +85,5 @@ module _ {L G X D O : Type 0} (link_left link_given : L → Option (List ℕ)) (
     pub outcome : ServeOutcome opened_with site_machine link_left link_given link_takes link_gives peer_left peer_given peer_takes peer_gives dial_told dials
         site max_trail told gates given writes work old new d e before after end
     pub judged : status ≡ status_after end
-    pub complete : (Rose (gates old) (gates new) → ⊥) → (Rose (dials d) (dials e) → ⊥) → (Rose (writes before) (writes after) → ⊥) → (status ≡ Well) ⊎ (status ≡ NoMemory)
+    pub complete : (Rose (gates old) (gates new) → ⊥) → (Rose (dials d) (dials e) → ⊥) → (Rose (writes before) (writes after) → ⊥)
+        → (status ≡ Well) ⊎ (status ≡ NoMemory)

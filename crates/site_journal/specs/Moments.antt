@@ -10,7 +10,8 @@ pub record IsAtRest {D : Type 0} (reads : D → List ℕ) (may_leave : D → Lis
   pub durable : Only (reads disk) (may_leave disk)
 
 -- from old to new a disk was only read: no crash leaves an image that it might not have left before
-pub record WasRead {D : Type 0} (reads : D → List ℕ) (may_leave : D → List ℕ → Type 0) (moment : D → ℕ) (left_since : D → ℕ → List ℕ → Type 0) (old new : D) : Type 0 where
+pub record WasRead {D : Type 0} (reads : D → List ℕ) (may_leave : D → List ℕ → Type 0) (moment : D → ℕ) (left_since : D → ℕ → List ℕ → Type 0) (old new : D)
+    : Type 0 where
   pub same : reads new ≡ reads old
   pub crash : NoMore (may_leave old) (may_leave new)
   pub later : moment old ≤ moment new

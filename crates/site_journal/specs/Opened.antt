@@ -19,7 +19,8 @@ use Rattle.site_journal.specs.Moments.{IsAtRest, WasRead}
 -- At first the disk was only read, and from some moment on a crash leaves what has P: so it is where the journal was opened.
 -- Where it wasn't, the disk may have been read alone.
 abbrev pub Mends : {K : Type 0} → (K → List ℕ) → (K → List ℕ → Type 0) → (K → ℕ) → (K → ℕ → List ℕ → Type 0) → K → K → (List ℕ → Type 0) → Type 0
-Mends {K} reads may_leave moment left_since old new P = (synced : K) × (WasRead reads may_leave moment left_since old synced × LeavesOnly moment left_since synced new P)
+Mends {K} reads may_leave moment left_since old new P = (synced : K)
+    × (WasRead reads may_leave moment left_since old synced × LeavesOnly moment left_since synced new P)
 
 module _ {M K : Type 0} where
   -- a longest entry, and the byte that ends a journal, find room behind those that are staged
@@ -52,11 +53,14 @@ module _ {M K : Type 0} where
   ActRose faults disk (ActFault new) = Rose (faults disk) (faults new)
   ActRose faults disk _ = Unit {0}
 
-  abbrev pub OpenImages : (K → List ℕ) → (K → List ℕ → Type 0) → (K → ℕ) → (K → ℕ → List ℕ → Type 0) → K → Result (Journaled M K × ℕ) (OpenEnd K) → (List ℕ → Type 0) → Type 0
+  abbrev pub OpenImages : (K → List ℕ) → (K → List ℕ → Type 0) → (K → ℕ) → (K → ℕ → List ℕ → Type 0) → K → Result (Journaled M K × ℕ) (OpenEnd K)
+      → (List ℕ → Type 0) → Type 0
   OpenImages reads may_leave moment left_since old (Ok opened) P = Mends reads may_leave moment left_since old opened.0.disk P
-  OpenImages reads may_leave moment left_since old (Err end) P = Mends reads may_leave moment left_since old (disk_of (Err end)) P ⊎ WasRead reads may_leave moment left_since old (disk_of (Err end))
+  OpenImages reads may_leave moment left_since old (Err end) P = Mends reads may_leave moment left_since old (disk_of (Err end)) P
+      ⊎ WasRead reads may_leave moment left_since old (disk_of (Err end))
 
-module _ {M S K : Type 0} (plain : PlainMachine S) (stands : M → S → Type 0) (opening : M → S) (honest : K → Type 0) (reads : K → List ℕ) (may_leave : K → List ℕ → Type 0) where
+module _ {M S K : Type 0} (plain : PlainMachine S) (stands : M → S → Type 0) (opening : M → S) (honest : K → Type 0) (reads : K → List ℕ)
+    (may_leave : K → List ℕ → Type 0) where
   -- The machine answered the entries of the journal, which are those of its disk where it is honest, and those that are
   -- staged behind them.
   pub record IsOpen (j : Journaled M K) (entries staged : List (List ℕ)) : Type 0 where
@@ -89,7 +93,8 @@ module _ {M S K : Type 0} (plain : PlainMachine S) (stands : M → S → Type 0)
   -- what became of an event, with nothing staged before and after
   abbrev pub EndsAct : JournalEnd M K → Journaled M K → List (List ℕ) → Event → List ℕ → Type 0
   EndsAct (ActDone new) old entries e out =
-      IsOpen new (entries ++ entry_of e ∷ []) [] × (out ≡ plain.reply (state_of old entries []) e) × (length (marked entries) + (length e.1 + 7) ≤ old.max_trail)
+      IsOpen new (entries ++ entry_of e ∷ []) [] × (out ≡ plain.reply (state_of old entries []) e)
+          × (length (marked entries) + (length e.1 + 7) ≤ old.max_trail)
   EndsAct (ActFull new bytes) old entries e out =
       (new ≡ old) × (out ≡ []) × (bytes ≡ length (marked entries)) × (old.max_trail < bytes + (length e.1 + 7))
   EndsAct (ActNoMemory new) old entries e out =

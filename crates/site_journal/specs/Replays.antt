@@ -14,7 +14,8 @@ IsNextEntry bytes buf (Some count) = (bytes ≡ 1 ∷ (frame (take count buf) ++
 IsNextEntry bytes buf None = (entry more : List ℕ) → bytes ≡ 1 ∷ (frame entry ++ more) → IsEntry entry → more ≡ []
 
 -- the machine stands for the state after these entries, which are those of the disk where it is honest
-pub record Replayed {M S K : Type 0} (plain : PlainMachine S) (stands : M → S → Type 0) (opening : M → S) (honest : K → Type 0) (reads : K → List ℕ) (machine : M) (disk : K) (found : Found) : Type 0 where
+pub record Replayed {M S K : Type 0} (plain : PlainMachine S) (stands : M → S → Type 0) (opening : M → S) (honest : K → Type 0) (reads : K → List ℕ)
+    (machine : M) (disk : K) (found : Found) : Type 0 where
   pub entries : List (List ℕ)
   pub each : AllByRecursion IsEntry entries
   pub stood : stands machine (state_after plain (opening machine) (map event_of entries))

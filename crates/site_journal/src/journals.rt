@@ -101,7 +101,8 @@ impl<M: Machine, K: Disk> Journaled<M, K> {
         requires open { (entries staged : List (List ℕ)) × IsOpen M.plain M.stands M.opening K.honest K.reads K.may_leave self entries staged }
         ensures committed { (entries staged : List (List ℕ)) → IsOpen M.plain M.stands M.opening K.honest K.reads K.may_leave self entries staged
             → IfOk result (λ j. IsOpen M.plain M.stands M.opening K.honest K.reads K.may_leave j (entries ++ staged) []) }
-        ensures any_moment { K.honest self.disk → (entries staged : List (List ℕ)) → IsOpen M.plain M.stands M.opening K.honest K.reads K.may_leave self entries staged
+        ensures any_moment { K.honest self.disk → (entries staged : List (List ℕ))
+            → IsOpen M.plain M.stands M.opening K.honest K.reads K.may_leave self entries staged
             → LeavesOnly K.moment K.left_since self.disk (disk_after result) (HasAllOrNone entries staged) }
         ensures honest { AsHonest K.honest self.disk (disk_after result) }
         ensures failed { IfErr result (λ disk. Rose (K.faults self.disk) (K.faults disk)) }

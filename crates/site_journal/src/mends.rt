@@ -15,8 +15,10 @@ pub(crate) fn mend<K: Disk>(disk: &mut K, place: u64, size: u64) -> Result<(), F
     requires within { place ≤ size }
     requires end { size ≤ longest_disk }
     requires begin { (place ≡ 0) ⊎ (place < size) }
-    ensures at_rest { K.honest disk.old → (entries : List (List ℕ)) → IsTorn K.reads K.may_leave disk.old entries place size → OnOk result (IsAtRest K.reads K.may_leave disk.new entries) }
-    ensures any_moment { K.honest disk.old → (entries : List (List ℕ)) → IsTorn K.reads K.may_leave disk.old entries place size → LeavesOnly K.moment K.left_since disk.old disk.new (HasEntries entries) }
+    ensures at_rest { K.honest disk.old → (entries : List (List ℕ)) → IsTorn K.reads K.may_leave disk.old entries place size
+        → OnOk result (IsAtRest K.reads K.may_leave disk.new entries) }
+    ensures any_moment { K.honest disk.old → (entries : List (List ℕ)) → IsTorn K.reads K.may_leave disk.old entries place size
+        → LeavesOnly K.moment K.left_since disk.old disk.new (HasEntries entries) }
     ensures honest { AsHonest K.honest disk.old disk.new }
     ensures cause { HasCause (K.faults disk.old) (K.faults disk.new) result }
 {
@@ -31,8 +33,10 @@ pub(crate) fn mend<K: Disk>(disk: &mut K, place: u64, size: u64) -> Result<(), F
 pub(crate) fn cut_rest<K: Disk>(disk: &mut K, place: u64, size: u64) -> Result<(), Failed>
     requires torn { K.honest disk.old → (entries : List (List ℕ)) × IsTorn K.reads K.may_leave disk.old entries place size }
     requires within { place ≤ size }
-    ensures torn { K.honest disk.old → (entries : List (List ℕ)) → IsTorn K.reads K.may_leave disk.old entries place size → OnOk result (IsTorn K.reads K.may_leave disk.new entries place (min size (place + 1))) }
-    ensures any_moment { K.honest disk.old → (entries : List (List ℕ)) → IsTorn K.reads K.may_leave disk.old entries place size → LeavesOnly K.moment K.left_since disk.old disk.new (HasEntries entries) }
+    ensures torn { K.honest disk.old → (entries : List (List ℕ)) → IsTorn K.reads K.may_leave disk.old entries place size
+        → OnOk result (IsTorn K.reads K.may_leave disk.new entries place (min size (place + 1))) }
+    ensures any_moment { K.honest disk.old → (entries : List (List ℕ)) → IsTorn K.reads K.may_leave disk.old entries place size
+        → LeavesOnly K.moment K.left_since disk.old disk.new (HasEntries entries) }
     ensures honest { AsHonest K.honest disk.old disk.new }
     ensures cause { HasCause (K.faults disk.old) (K.faults disk.new) result }
 {
@@ -51,8 +55,10 @@ pub(crate) fn end_rest<K: Disk>(disk: &mut K, place: u64, size: u64) -> Result<(
     requires within { place ≤ size }
     requires few { size ≤ place + 1 }
     requires end { place + 1 ≤ longest_disk }
-    ensures at_rest { K.honest disk.old → (entries : List (List ℕ)) → IsTorn K.reads K.may_leave disk.old entries place size → OnOk result (IsAtRest K.reads K.may_leave disk.new entries) }
-    ensures any_moment { K.honest disk.old → (entries : List (List ℕ)) → IsTorn K.reads K.may_leave disk.old entries place size → LeavesOnly K.moment K.left_since disk.old disk.new (HasEntries entries) }
+    ensures at_rest { K.honest disk.old → (entries : List (List ℕ)) → IsTorn K.reads K.may_leave disk.old entries place size
+        → OnOk result (IsAtRest K.reads K.may_leave disk.new entries) }
+    ensures any_moment { K.honest disk.old → (entries : List (List ℕ)) → IsTorn K.reads K.may_leave disk.old entries place size
+        → LeavesOnly K.moment K.left_since disk.old disk.new (HasEntries entries) }
     ensures honest { AsHonest K.honest disk.old disk.new }
     ensures cause { HasCause (K.faults disk.old) (K.faults disk.new) result }
 {

@@ -105,8 +105,10 @@ fn recover<M: Machine, K: Disk>(
     requires room { longest_frame ≤ length body.old }
     requires durable { K.honest disk.old → Only (K.reads disk.old) (K.may_leave disk.old) }
     ensures replayed { IfOk result (λ found. Replayed M.plain M.stands M.opening K.honest K.reads machine.new disk.old found) }
-    ensures at_rest { K.honest disk.old → (entries : List (List ℕ)) → HasEntries entries (K.reads disk.old) → OnOk result (IsAtRest K.reads K.may_leave disk.new entries) }
-    ensures any_moment { K.honest disk.old → (entries : List (List ℕ)) → HasEntries entries (K.reads disk.old) → LeavesOnly K.moment K.left_since disk.old disk.new (HasEntries entries) }
+    ensures at_rest { K.honest disk.old → (entries : List (List ℕ)) → HasEntries entries (K.reads disk.old)
+        → OnOk result (IsAtRest K.reads K.may_leave disk.new entries) }
+    ensures any_moment { K.honest disk.old → (entries : List (List ℕ)) → HasEntries entries (K.reads disk.old)
+        → LeavesOnly K.moment K.left_since disk.old disk.new (HasEntries entries) }
     ensures opening { M.opening machine.new ≡ M.opening machine.old }
     ensures honest { AsHonest K.honest disk.old disk.new }
     ensures later { K.faults disk.old ≤ K.faults disk.new }

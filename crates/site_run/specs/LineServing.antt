@@ -4,7 +4,8 @@ use Rattle.line_cut.specs.Lines.{Cuts, IsLine}
 use Rattle.site_run.specs.Responses.{AnsweredBy}
 
 -- lines that a line feed ends were cut from the front of the bytes and answered
-pub record ServesLines {S : Type 0} (may : S → List ℕ → List ℕ → S → Type 0) (shape : List ℕ → List ℕ → List ℕ → Type 0) (from to : S → Type 0) (old new : Option (List ℕ)) (before after bytes rest : List ℕ) : Type 0 where
+pub record ServesLines {S : Type 0} (may : S → List ℕ → List ℕ → S → Type 0) (shape : List ℕ → List ℕ → List ℕ → Type 0) (from to : S → Type 0)
+    (old new : Option (List ℕ)) (before after bytes rest : List ℕ) : Type 0 where
   pub lines : List (List ℕ)
   pub read : Cuts bytes lines rest
   pub answered : (s : S) → from s → AnsweredBy may shape to old new before after s lines

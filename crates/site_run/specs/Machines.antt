@@ -10,7 +10,8 @@ abbrev pub MachineMay : {S : Type 0} → PlainMachine S → S → List ℕ → L
 MachineMay m s body answer t = (reply : List ℕ) × ((answer ≡ frame reply) × Answers m s (event_of body ∷ []) (reply ∷ []) t)
 
 -- From s, replies answer the events, their frames are what was given, and the value stands for the last state.
-pub record Answered {S : Type 0} (m : PlainMachine S) (shape : List ℕ → List ℕ → List ℕ → Type 0) (to : S → Type 0) (old new : Option (List ℕ)) (s : S) (events : List Event) : Type 0 where
+pub record Answered {S : Type 0} (m : PlainMachine S) (shape : List ℕ → List ℕ → List ℕ → Type 0) (to : S → Type 0) (old new : Option (List ℕ)) (s : S)
+    (events : List Event) : Type 0 where
   pub replies : List (List ℕ)
   pub state : S
   pub answers : Answers m s events replies state

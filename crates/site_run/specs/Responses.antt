@@ -29,7 +29,8 @@ pub record Responded {S : Type 0} (may : S → List ℕ → List ℕ → S → T
 
 -- From s the bodies were answered. Of what was gathered before and the answers, the sink was given what the shape says;
 -- the rest is gathered after.
-pub record AnsweredBy {S : Type 0} (may : S → List ℕ → List ℕ → S → Type 0) (shape : List ℕ → List ℕ → List ℕ → Type 0) (to : S → Type 0) (old new : Option (List ℕ)) (before after : List ℕ) (s : S) (bodies : List (List ℕ)) : Type 0 where
+pub record AnsweredBy {S : Type 0} (may : S → List ℕ → List ℕ → S → Type 0) (shape : List ℕ → List ℕ → List ℕ → Type 0) (to : S → Type 0)
+    (old new : Option (List ℕ)) (before after : List ℕ) (s : S) (bodies : List (List ℕ)) : Type 0 where
   pub answers : List (List ℕ)
   pub state : S
   pub each : InTurn may s bodies answers state
@@ -37,7 +38,8 @@ pub record AnsweredBy {S : Type 0} (may : S → List ℕ → List ℕ → S → 
   pub given : WhileTold old new (λ y z. shape (y ++ before) (z ++ after) (concat answers))
 
 -- bodies were cut from the front of the bytes and answered
-pub record Serves {S : Type 0} (may : S → List ℕ → List ℕ → S → Type 0) (shape : List ℕ → List ℕ → List ℕ → Type 0) (from to : S → Type 0) (old new : Option (List ℕ)) (before after bytes rest : List ℕ) : Type 0 where
+pub record Serves {S : Type 0} (may : S → List ℕ → List ℕ → S → Type 0) (shape : List ℕ → List ℕ → List ℕ → Type 0) (from to : S → Type 0)
+    (old new : Option (List ℕ)) (before after bytes rest : List ℕ) : Type 0 where
   pub bodies : List (List ℕ)
   pub read : Cuts bytes bodies rest
   pub answered : (s : S) → from s → AnsweredBy may shape to old new before after s bodies

@@ -1,5 +1,6 @@
 -- What the nodes of a table get as it grows.
-use Rattle.std.specs.Prelude.{◌≡◌, ℕ, ◌+◌, ◌≤◌, ◌<◌, Bool, false, ◌==◌, ◌&&◌, ◌||◌, List, [], ◌∷◌, ◌++◌, length, map, filter, Option, Some, None, Result, Ok, Err, IsTrue, nat_lt, nat_le, vec_len, vec_capacity, slice_get, slice_set, slice_index_or, unwrap_or, if◌then◌else◌, ⊤}
+use Rattle.std.specs.Prelude.{◌≡◌, ℕ, ◌+◌, ◌≤◌, ◌<◌, Bool, false, ◌==◌, ◌&&◌, ◌||◌, List, [], ◌∷◌, ◌++◌, length, map, filter, Option, Some, None, Result, Ok}
+use Rattle.std.specs.Prelude.{Err, IsTrue, nat_lt, nat_le, vec_len, vec_capacity, slice_get, slice_set, slice_index_or, unwrap_or, if◌then◌else◌, ⊤}
 use Rattle.std.specs.List.{list_any, list_all, flat_map}
 use Rattle.std.specs.Option.{option_map_or}
 use Rattle.tardis_base.specs.declared.ids.StateId.{StateId}

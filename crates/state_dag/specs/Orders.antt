@@ -1,5 +1,6 @@
 -- The order that a table lends.
-use Rattle.std.proofs.Common.{◌≡◌, ℕ, ◌<◌, ◌≤◌, true, false, eqb, ltb, leb, List, [], ◌∷◌, find, is_some, Option, Some, None, IsTrue, refl, sym, ap, subst, ◌∙◌, inl, inr, eqb-true, arith}
+use Rattle.std.proofs.Common.{◌≡◌, ℕ, ◌<◌, ◌≤◌, true, false, eqb, ltb, leb, List, [], ◌∷◌, find, is_some, Option, Some, None, IsTrue, refl, sym, ap, subst, ◌∙◌}
+use Rattle.std.proofs.Common.{inl, inr, eqb-true, arith}
 use Rattle.std.specs.Option.{option_map_or}
 use Rattle.std.proofs.lemmas.Bool.{and_parts, cases_Bool, both_ways, ltb-true, leb-true, cond-false}
 use Rattle.tardis_base.specs.declared.ids.Slot.{Slot}

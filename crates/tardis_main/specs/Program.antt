@@ -69,7 +69,8 @@ module _ {I O : Type 0} (left : I → Option (List ℕ)) (reads : I → ℕ) (gi
   -- How an import ends, likewise; its bytes decide.
   pub record ImportEnds : Type 0 where
     pub outcome : WhileTold (left old) (left new) (Imported status (given before) (given after))
-    pub exact : WhileTold (left old) (left new) (λ first now. length first < most_taken → UnlessFaulty left reads writes old new before after (ImportsAs first status))
+    pub exact : WhileTold (left old) (left new) (λ first now. length first < most_taken
+        → UnlessFaulty left reads writes old new before after (ImportsAs first status))
     pub end : IsImportEnd status
     pub nothing : has_given status ≡ false → after ≡ before
 
@@ -85,7 +86,8 @@ module _ {I O : Type 0} (left : I → Option (List ℕ)) (reads : I → ℕ) (gi
   -- words of `load`: the line of the script is written, or a front of it, or nothing where memory was wanting; nothing is read
   abbrev pub Loads : Type 0
   Loads = (start steps : ℕ) → AreLoad words start steps
-      → WhileTold (given before) (given after) (WritesLine status (load_line start steps)) × IsLoadEnd status × (status ≡ NoMemory → after ≡ before) × (new ≡ old)
+      → WhileTold (given before) (given after) (WritesLine status (load_line start steps)) × IsLoadEnd status × (status ≡ NoMemory → after ≡ before)
+          × (new ≡ old)
 
 -- what these words of `serve` ask for
 abbrev pub work_of : Serving → Workload
@@ -98,7 +100,8 @@ module _ {L G X D O : Type 0} (link_left link_given : L → Option (List ℕ)) (
   -- they say, and the trail is written
   abbrev pub Serves : Type 0
   Serves = (plan : Serving) → AreServe words plan
-      → ServerEnds link_left link_given link_takes link_gives told gates peer_left peer_given peer_takes peer_gives dial_told dials given writes old new d e before after
+      → ServerEnds link_left link_given link_takes link_gives told gates peer_left peer_given peer_takes peer_gives dial_told dials given writes old new d e
+          before after
       (site_at plan.place) (program_limits plan.place.sites).max_trail (work_of plan) status
 
 module _ {I O K S : Type 0} (left : I → Option (List ℕ)) (reads : I → ℕ) (given : O → Option (List ℕ)) (writes : O → ℕ)

@@ -40,7 +40,8 @@ pub fn carry_out<I: Source, O: Sink, G: Gate, D: Dial + Send, S: Store, R: Threa
 ) -> Status
     ensures usage { result ≡ Status.Usage → AreNone (map (λ w. string_bytes w) (drop 1 (into_iter_items args))) }
     ensures none { AreNone (map (λ w. string_bytes w) (drop 1 (into_iter_items args)))
-        → ((result ≡ Status.Usage) ⊎ (result ≡ Status.NoMemory)) × (input.new ≡ input.old) × (output.new ≡ output.old) × (gate.new ≡ gate.old) × (dial.new ≡ dial.old) × (store.new ≡ store.old) }
+        → ((result ≡ Status.Usage) ⊎ (result ≡ Status.NoMemory)) × (input.new ≡ input.old) × (output.new ≡ output.old) × (gate.new ≡ gate.old)
+            × (dial.new ≡ dial.old) × (store.new ≡ store.old) }
     ensures help { AskUsage (map (λ w. string_bytes w) (drop 1 (into_iter_items args))) ⊎ AskVersion (map (λ w. string_bytes w) (drop 1 (into_iter_items args)))
         → ((result ≡ Status.Ok) ⊎ ((result ≡ Status.WriteFault) ⊎ ((result ≡ Status.NoMemory) × (output.new ≡ output.old)))) × (input.new ≡ input.old) }
     ensures told_usage { AskUsage (map (λ w. string_bytes w) (drop 1 (into_iter_items args)))
@@ -66,11 +67,13 @@ pub fn carry_out<I: Source, O: Sink, G: Gate, D: Dial + Send, S: Store, R: Threa
     ensures serve { Serves G.Link.left G.Link.given G.Link.take_faults G.Link.faults G.told G.faults
         D.Link.left D.Link.given D.Link.take_faults D.Link.faults D.told D.faults O.given O.faults gate.old gate.new dial.old dial.new output.old output.new
         (map (λ w. string_bytes w) (drop 1 (into_iter_items args))) result }
-    ensures durable { Durables I.left I.faults O.given O.faults S.Disk.honest S.Disk.reads S.Disk.may_leave S.Disk.moment S.Disk.left_since S.honest S.told S.faults
-        store.old store.new input.old input.new output.old output.new (map (λ w. string_bytes w) (drop 1 (into_iter_items args))) result }
-    ensures unstored { ((place : Place) (path : List ℕ) → AreDurable (map (λ w. string_bytes w) (drop 1 (into_iter_items args))) place path → ⊥) → store.new ≡ store.old }
+    ensures durable { Durables I.left I.faults O.given O.faults S.Disk.honest S.Disk.reads S.Disk.may_leave S.Disk.moment S.Disk.left_since S.honest S.told
+        S.faults store.old store.new input.old input.new output.old output.new (map (λ w. string_bytes w) (drop 1 (into_iter_items args))) result }
+    ensures unstored { ((place : Place) (path : List ℕ) → AreDurable (map (λ w. string_bytes w) (drop 1 (into_iter_items args))) place path → ⊥)
+        → store.new ≡ store.old }
     ensures unread { (plan : Serving) → AreServe (map (λ w. string_bytes w) (drop 1 (into_iter_items args))) plan → input.new ≡ input.old }
-    ensures unbound { ((plan : Serving) → AreServe (map (λ w. string_bytes w) (drop 1 (into_iter_items args))) plan → ⊥) → (gate.new ≡ gate.old) × (dial.new ≡ dial.old) }
+    ensures unbound { ((plan : Serving) → AreServe (map (λ w. string_bytes w) (drop 1 (into_iter_items args))) plan → ⊥)
+        → (gate.new ≡ gate.old) × (dial.new ≡ dial.old) }
     ensures read { CausedBy Status.ReadFault (I.faults input.old) (I.faults input.new) result }
     ensures write { CausedBy Status.WriteFault (O.faults output.old) (O.faults output.new) result }
     ensures gate { CausedBy Status.GateFault (G.faults gate.old) (G.faults gate.new) result }
@@ -126,7 +129,8 @@ fn command<I: Source, O: Sink, G: Gate, D: Dial + Send, S: Store, R: Threads + W
 ) -> Status
     ensures usage { result ≡ Status.Usage → AreNone (map (λ w. string_bytes w) words.now) }
     ensures none { AreNone (map (λ w. string_bytes w) words.now)
-        → ((result ≡ Status.Usage) ⊎ (result ≡ Status.NoMemory)) × (input.new ≡ input.old) × (output.new ≡ output.old) × (gate.new ≡ gate.old) × (dial.new ≡ dial.old) × (store.new ≡ store.old) }
+        → ((result ≡ Status.Usage) ⊎ (result ≡ Status.NoMemory)) × (input.new ≡ input.old) × (output.new ≡ output.old) × (gate.new ≡ gate.old)
+            × (dial.new ≡ dial.old) × (store.new ≡ store.old) }
     ensures help { AskUsage (map (λ w. string_bytes w) words.now) ⊎ AskVersion (map (λ w. string_bytes w) words.now)
         → ((result ≡ Status.Ok) ⊎ ((result ≡ Status.WriteFault) ⊎ ((result ≡ Status.NoMemory) × (output.new ≡ output.old)))) × (input.new ≡ input.old) }
     ensures told_usage { AskUsage (map (λ w. string_bytes w) words.now)
@@ -148,8 +152,8 @@ fn command<I: Source, O: Sink, G: Gate, D: Dial + Send, S: Store, R: Threads + W
     ensures serve { Serves G.Link.left G.Link.given G.Link.take_faults G.Link.faults G.told G.faults
         D.Link.left D.Link.given D.Link.take_faults D.Link.faults D.told D.faults O.given O.faults gate.old gate.new dial.old dial.new output.old output.new
         (map (λ w. string_bytes w) words.now) result }
-    ensures durable { Durables I.left I.faults O.given O.faults S.Disk.honest S.Disk.reads S.Disk.may_leave S.Disk.moment S.Disk.left_since S.honest S.told S.faults
-        store.old store.new input.old input.new output.old output.new (map (λ w. string_bytes w) words.now) result }
+    ensures durable { Durables I.left I.faults O.given O.faults S.Disk.honest S.Disk.reads S.Disk.may_leave S.Disk.moment S.Disk.left_since S.honest S.told
+        S.faults store.old store.new input.old input.new output.old output.new (map (λ w. string_bytes w) words.now) result }
     ensures unstored { ((place : Place) (path : List ℕ) → AreDurable (map (λ w. string_bytes w) words.now) place path → ⊥) → store.new ≡ store.old }
     ensures unread { (plan : Serving) → AreServe (map (λ w. string_bytes w) words.now) plan → input.new ≡ input.old }
     ensures unbound { ((plan : Serving) → AreServe (map (λ w. string_bytes w) words.now) plan → ⊥) → (gate.new ≡ gate.old) × (dial.new ≡ dial.old) }

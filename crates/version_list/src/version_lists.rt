@@ -3,7 +3,8 @@
 ghost use Rattle.std.specs.Prelude.{◌≡◌, ◌<◌, ◌||◌, ◌++◌, [], ℕ, List, false, length, take, drop, slice_get, bytes_eq, option_map, IsTrue, OnOk, OnErr};
 ghost use Rattle.std.specs.List.{IsDistinct};
 ghost use Rattle.tardis_base.specs.Keys.{is_key_among, write_of};
-ghost use Rattle.version_list.specs.Versions.{listed_keys, new_keys, versions_of, has_room, has_room_for, version_by, has_version_at, is_noted, is_key_in, same_slot, IsInOrder, IsBefore};
+ghost use Rattle.version_list.specs.Versions.{listed_keys, new_keys, versions_of, has_room, has_room_for, version_by, has_version_at, is_noted, is_key_in};
+ghost use Rattle.version_list.specs.Versions.{same_slot, IsInOrder, IsBefore};
 ghost use Rattle.version_list.specs.Promoted.{promoted};
 ghost use Rattle.version_list.specs.Reads.{latest_version, written, found};
 
