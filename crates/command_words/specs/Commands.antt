@@ -7,8 +7,14 @@ use Rattle.command_words.specs.declared.commands.ServePlan.{ServePlan}
 use Rattle.command_words.specs.Forms.{Form, AsRun, AsShell, AsAudit, AsWorld, AsServe, AsLoad, AsAuto, AsDurable, AsExport, AsImport, Serving}
 
 abbrev pub serving_of : ServePlan → Serving
-serving_of p = record { place = p.place; listen = string_bytes p.listen; links = p.links; peers = map (λ w. string_bytes w) p.peers.items;
-    rounds = p.rounds; tidy = p.tidy }
+serving_of p = record {
+  place = p.place;
+  listen = string_bytes p.listen;
+  links = p.links;
+  peers = map (λ w. string_bytes w) p.peers.items;
+  rounds = p.rounds;
+  tidy = p.tidy;
+}
 
 -- the form of a command
 abbrev pub form_of : Command → Form

@@ -71,7 +71,7 @@ abbrev pub load : List Setting → Option Form
 load found =
     if are_only (codes "--start" ∷ codes "--steps" ∷ []) found
     then option_and_then (λ start. option_map (λ steps. AsLoad start steps) (needed 0 10000 (of found (codes "--steps"))))
-        (needed 0 4294967295 (of found (codes "--start")))
+    (needed 0 4294967295 (of found (codes "--start")))
     else None
 
 -- a place, and the value of one more option, which must be there

@@ -11,8 +11,13 @@ use Rattle.disk_forms.specs.Memory.{Call, Known, after, known_after, IsStep, Ste
 pub length_written : (place : ℕ) (old bytes : List ℕ)
     → length (with_bytes old place bytes) ≡ min place (length old) + length bytes + (length old - (place + length bytes))
 length_written place old bytes =
-    omega (arith, length-append (take place old ++ bytes) (drop (place + length bytes) old), length-append (take place old) bytes, length-take place old,
-        length-drop (place + length bytes) old)
+    omega (
+      arith,
+      length-append (take place old ++ bytes) (drop (place + length bytes) old),
+      length-append (take place old) bytes,
+      length-take place old,
+      length-drop (place + length bytes) old,
+    )
 
 -- a write that is done is one of those that a crash may cut short
 pub torn_written : (place : ℕ) (old bytes : List ℕ) → Torn place (length bytes) old (with_bytes old place bytes)
@@ -24,7 +29,7 @@ torn_written place old bytes =
       after = elim (cases_lt (length old) place) [
         | inl past ↦
             let none : drop (place + length bytes) (with_bytes old place bytes) ≡ [] =
-                drop_all (place + length bytes) (with_bytes old place bytes) (omega (arith, long, past)) in
+            drop_all (place + length bytes) (with_bytes old place bytes) (omega (arith, long, past)) in
             none ∙ sym (drop_all (place + length bytes) old (omega (arith, past)))
         | inr within ↦ drop_at (take place old ++ bytes) rest (place + length bytes)
             (omega (arith, length-append (take place old) bytes, length-take place old, within))

@@ -21,7 +21,7 @@ OpenedAndBack (Some old) None disk back = ⊥
 
 module _ {S K I O : Type 0} (honest : K → Type 0) (reads : K → List ℕ) (may_leave : K → List ℕ → Type 0) (moment : K → ℕ) (left_since : K → ℕ → List ℕ → Type 0)
     (opens_honest : S → Type 0) (told : S → Option (ToldStore K)) (faults : S → ℕ) (left : I → Option (List ℕ)) (takes : I → ℕ)
-        (given : O → Option (List ℕ)) (gives : O → ℕ)
+    (given : O → Option (List ℕ)) (gives : O → ℕ)
     (before after : S) (old new : I) (was now : O) where
   -- No disk was opened, and nothing was read or written: memory was wanting, and the store wasn't asked, or the store failed.
   pub record NoDisk (status : Status) : Type 0 where
@@ -45,7 +45,7 @@ module _ {S K I O : Type 0} (honest : K → Type 0) (reads : K → List ℕ) (ma
     pub outcome : NoDisk status ⊎ RanOver site most status
     pub exact : WhileTold (left old) (left new) (λ first rest_now. (all : List (List ℕ)) (rest : List ℕ)
         → IsCut first all rest → length first < most_taken → (Rose (faults before) (faults after) → ⊥)
-            → UnlessFaulty left takes gives old new was now (EndsAs rest status))
+        → UnlessFaulty left takes gives old new was now (EndsAs rest status))
     pub end : IsRunEnd (as_in_midst status)
     pub still : opens_honest before → opens_honest after
     pub nothing : status ≡ NoMemory → (new ≡ old) × (now ≡ was)

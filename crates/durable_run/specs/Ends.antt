@@ -45,7 +45,7 @@ module _ {S K : Type 0} (plain : PlainMachine S) (honest : K → Type 0) (reads 
       pub found : honest old → HasEntries entries (reads old)
       pub outcome : WhileTold (left input_old) (left input_new) (λ first rest. Outcome (as_in_midst status) (λ s. s ≡ entries)
           (λ s bodies. Durable status (record { entries = s; state = opening; disk = old; given = given output_old; most = most }) new (given output_new)
-              bodies) first rest)
+          bodies) first rest)
 
     -- The journal wasn't opened: nothing was read or written, and a crash leaves the entries that there were. Where the first
     -- sync failed, the disk was read alone.

@@ -66,4 +66,4 @@ module _ {S K : Type 0} (plain : PlainMachine S) (honest : K → Type 0) (reads 
   abbrev pub EndsSo : Start S K → Status → K → Option (List ℕ) → List ℕ → List ℕ → Type 0
   EndsSo at status disk given first left = Outcome (as_in_midst status) (λ s. s ≡ at.entries)
       (λ s bodies. Durable plain honest reads may_leave moment left_since status
-          (record { entries = s; state = at.state; disk = at.disk; given = at.given; most = at.most }) disk given bodies) first left
+      (record { entries = s; state = at.state; disk = at.disk; given = at.given; most = at.most }) disk given bodies) first left

@@ -41,7 +41,7 @@ pub(crate) fn answer_body<M: Machine, K: Disk>(
     ensures grouped { (at : Start M.Plain K) (given : Option (List ℕ)) (bodies : List (List ℕ))
         → Grouping M.plain M.stands M.opening K.honest K.reads K.may_leave K.moment K.left_since at journal.old given gathered.old.bytes bodies
         → Grouping M.plain M.stands M.opening K.honest K.reads K.may_leave K.moment K.left_since at journal.new given gathered.new.bytes
-            (bodies ++ body.now ∷ []) }
+        (bodies ++ body.now ∷ []) }
     ensures room { gathered.new.room ≡ gathered.old.room }
     ensures disk { journal.new.disk ≡ journal.old.disk }
 {
@@ -81,7 +81,7 @@ pub(crate) fn settle<M: Machine, K: Disk, O: Sink>(
     ensures grouped { (at : Start M.Plain K) (bodies : List (List ℕ))
         → Grouping M.plain M.stands M.opening K.honest K.reads K.may_leave K.moment K.left_since at journal (O.given output.old) gathered.old.bytes bodies
         → IfOk result (λ j. Grouping M.plain M.stands M.opening K.honest K.reads K.may_leave K.moment K.left_since at j (O.given output.new)
-            gathered.new.bytes bodies) }
+        gathered.new.bytes bodies) }
     ensures stopped { (at : Start M.Plain K) (bodies : List (List ℕ))
         → Grouping M.plain M.stands M.opening K.honest K.reads K.may_leave K.moment K.left_since at journal (O.given output.old) gathered.old.bytes bodies
         → IfErr result (λ stop. IsStop M.plain K.honest K.reads K.may_leave K.moment K.left_since at stop (O.given output.new) bodies) }
@@ -113,7 +113,7 @@ pub(crate) fn make_room<M: Machine, K: Disk, O: Sink>(
     ensures grouped { (at : Start M.Plain K) (bodies : List (List ℕ))
         → Grouping M.plain M.stands M.opening K.honest K.reads K.may_leave K.moment K.left_since at journal (O.given output.old) gathered.old.bytes bodies
         → IfOk result (λ j. Grouping M.plain M.stands M.opening K.honest K.reads K.may_leave K.moment K.left_since at j (O.given output.new)
-            gathered.new.bytes bodies) }
+        gathered.new.bytes bodies) }
     ensures stopped { (at : Start M.Plain K) (bodies : List (List ℕ))
         → Grouping M.plain M.stands M.opening K.honest K.reads K.may_leave K.moment K.left_since at journal (O.given output.old) gathered.old.bytes bodies
         → IfErr result (λ stop. IsStop M.plain K.honest K.reads K.may_leave K.moment K.left_since at stop (O.given output.new) bodies) }

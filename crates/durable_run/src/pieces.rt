@@ -38,7 +38,7 @@ fn answer_frame<M: Machine, K: Disk, O: Sink>(
     ensures grouped { (at : Start M.Plain K) (bodies : List (List ℕ))
         → Grouping M.plain M.stands M.opening K.honest K.reads K.may_leave K.moment K.left_since at journal (O.given output.old) gathered.old.bytes bodies
         → IfOk result (λ j. Grouping M.plain M.stands M.opening K.honest K.reads K.may_leave K.moment K.left_since at j (O.given output.new)
-            gathered.new.bytes (bodies ++ body.now ∷ [])) }
+        gathered.new.bytes (bodies ++ body.now ∷ [])) }
     ensures stopped { (at : Start M.Plain K) (bodies : List (List ℕ))
         → Grouping M.plain M.stands M.opening K.honest K.reads K.may_leave K.moment K.left_since at journal (O.given output.old) gathered.old.bytes bodies
         → IfErr result (λ stop. IsStop M.plain K.honest K.reads K.may_leave K.moment K.left_since at stop (O.given output.new) bodies) }
@@ -71,7 +71,7 @@ fn answer_held<M: Machine, K: Disk, O: Sink>(
         → Grouping M.plain M.stands M.opening K.honest K.reads K.may_leave K.moment K.left_since at journal (O.given output.old) gathered.old.bytes bodies
         → IfOk result (λ held. (more : List (List ℕ)) × (Cuts cutter.old more cutter.new
         × Grouping M.plain M.stands M.opening K.honest K.reads K.may_leave K.moment K.left_since at held.0 (O.given output.new) gathered.new.bytes
-            (bodies ++ more))) }
+        (bodies ++ more))) }
     ensures stopped { (at : Start M.Plain K) (bodies : List (List ℕ))
         → Grouping M.plain M.stands M.opening K.honest K.reads K.may_leave K.moment K.left_since at journal (O.given output.old) gathered.old.bytes bodies
         → IfErr result (λ stop. (more : List (List ℕ)) × ((rest : List ℕ) × (Cuts cutter.old more rest

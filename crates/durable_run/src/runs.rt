@@ -48,7 +48,7 @@ pub fn run_durable<M: Machine, K: Disk, I: Source, O: Sink>(
     ensures outcome { NotOpened M.plain K.honest K.reads K.may_leave K.moment K.left_since I.left O.given result.0 disk result.1 input.old input.new
         output.old output.new
         ⊎ RanOn M.plain K.honest K.reads K.may_leave K.moment K.left_since I.left O.given (M.opening machine) max_trail result.0 disk result.1 input.old
-            input.new output.old output.new }
+        input.new output.old output.new }
     ensures exact { WhileTold (I.left input.old) (I.left input.new) (λ first left. (all : List (List ℕ)) (rest : List ℕ)
         → IsCut first all rest → length first < most_taken → (Rose (K.faults disk) (K.faults result.1) → ⊥)
         → (Rose (I.faults input.old) (I.faults input.new) → ⊥) → (Rose (O.faults output.old) (O.faults output.new) → ⊥)
@@ -88,7 +88,7 @@ fn answer_input<M: Machine, K: Disk, I: Source, O: Sink>(
     ensures outcome { (at : Start M.Plain K) → Grouping M.plain M.stands M.opening K.honest K.reads K.may_leave K.moment K.left_since at journal
         (O.given output.old) [] []
         → WhileTold (I.left input.old) (I.left input.new)
-            (EndsSo M.plain K.honest K.reads K.may_leave K.moment K.left_since at result.0 result.1 (O.given output.new)) }
+        (EndsSo M.plain K.honest K.reads K.may_leave K.moment K.left_since at result.0 result.1 (O.given output.new)) }
     ensures ended { Ended K.honest K.faults I.faults O.faults journal.disk result.1 input.old input.new output.old output.new result.0 }
     ensures read_later { I.faults input.old ≤ I.faults input.new }
     ensures write_later { O.faults output.old ≤ O.faults output.new }
@@ -126,17 +126,17 @@ fn turn<M: Machine, K: Disk, I: Source, O: Sink>(
         × Grouping M.plain M.stands M.opening K.honest K.reads K.may_leave K.moment K.left_since at journal (O.given output.old) [] bodies) }
     ensures turned { IfOk result (λ on. WhileTold (I.left input.old) (I.left input.new) (λ before after. (at : Start M.Plain K) (taken : ℕ) (first : List ℕ)
         → Taking M.plain M.stands M.opening K.honest K.reads K.may_leave K.moment K.left_since at taken journal (O.given output.old) buffers.old.cutter
-            first before
+        first before
         → Taking M.plain M.stands M.opening K.honest K.reads K.may_leave K.moment K.left_since at (taken + on.1) on.0 (O.given output.new)
-            buffers.new.cutter first after)) }
+        buffers.new.cutter first after)) }
     ensures outcome { IfErr result (λ end. WhileTold (I.left input.old) (I.left input.new) (λ before after. (at : Start M.Plain K) (taken : ℕ) (first : List ℕ)
         → Taking M.plain M.stands M.opening K.honest K.reads K.may_leave K.moment K.left_since at taken journal (O.given output.old) buffers.old.cutter
-            first before
+        first before
         → taken + size ≤ most_taken → EndsSo M.plain K.honest K.reads K.may_leave K.moment K.left_since at end.0 end.1 (O.given output.new) first after)) }
     ensures grouped { (at : Start M.Plain K) (bodies : List (List ℕ))
         → Grouping M.plain M.stands M.opening K.honest K.reads K.may_leave K.moment K.left_since at journal (O.given output.old) [] bodies
         → IfOk result (λ on. (more : List (List ℕ))
-            × Grouping M.plain M.stands M.opening K.honest K.reads K.may_leave K.moment K.left_since at on.0 (O.given output.new) [] (bodies ++ more)) }
+        × Grouping M.plain M.stands M.opening K.honest K.reads K.may_leave K.moment K.left_since at on.0 (O.given output.new) [] (bodies ++ more)) }
     ensures ready { IfOk result (λ on. AreReady buffers.new) }
     ensures room { length piece.new ≡ 65536 }
     ensures count { IfOk result (λ on. (0 < on.1) × (on.1 ≤ size)) }

@@ -37,7 +37,7 @@ pub fn run_site_on<K: Disk, I: Source, O: Sink>(
     ensures outcome { NotOpened site_machine K.honest K.reads K.may_leave K.moment K.left_since I.left O.given result.0 disk result.1 input.old input.new
         output.old output.new
         ⊎ RanOn site_machine K.honest K.reads K.may_leave K.moment K.left_since I.left O.given (opening limits own) limits.max_trail result.0 disk result.1
-            input.old input.new output.old output.new }
+        input.old input.new output.old output.new }
     ensures exact { WhileTold (I.left input.old) (I.left input.new) (λ first left. (all : List (List ℕ)) (rest : List ℕ)
         → IsCut first all rest → length first < most_taken → (Rose (K.faults disk) (K.faults result.1) → ⊥)
         → (Rose (I.faults input.old) (I.faults input.new) → ⊥) → (Rose (O.faults output.old) (O.faults output.new) → ⊥)

@@ -18,7 +18,7 @@ kept site = length (kept_states site.dag site.collected)
 abbrev pub line_of : ℕ → ℕ → Counts → ℕ → ℕ → List ℕ
 line_of start steps counts known kept =
     codes "load start " ++ decimal start ++ codes " steps " ++ decimal steps ++ codes " events " ++ decimal counts.events ++ codes " committed "
-        ++ decimal counts.committed
+    ++ decimal counts.committed
     ++ codes " refused " ++ decimal counts.refused ++ codes " known " ++ decimal known ++ codes " kept " ++ decimal kept ++ 10 ∷ []
 
 -- the line of the script's play

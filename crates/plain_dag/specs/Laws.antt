@@ -171,13 +171,13 @@ pub record StaysKept (rs : List Record) (floors : List Floor) (ks : List StateId
       → IsTrue (is_admitted rs c x) → IsTrue (is_admitted rs c (landing rs keys x)) × IsTrue (is_kept rs ks (landing rs keys x))
   pub fork_points_stay : (x y c : StateId) (ys : List StateId) → IsTrue (is_known rs c) → IsUnderFloor rs floors c →
       IsTrue (list_all (is_known rs) (y ∷ ys)) → IsTrue (list_all (is_admitted rs c) (y ∷ ys)) → IsTrue (is_known rs x)
-          → IsTrue (is_fork_point rs (y ∷ ys) x) → IsTrue (is_kept rs ks x)
+      → IsTrue (is_fork_point rs (y ∷ ys) x) → IsTrue (is_kept rs ks x)
 
 -- a record with a parent that is admitted under such a ceiling, or that isn't closed, is no child of a collected state
 abbrev pub CollectedGetNoChild : List Record → List Floor → List StateId → Type 0
 CollectedGetNoChild rs floors ks = (p : StateId) → IsTrue (is_known rs p) →
     IsFalse (is_closed rs floors p) ⊎ ((c : StateId) × IsTrue (is_known rs c) × IsUnderFloor rs floors c × IsTrue (is_admitted rs c p))
-        → IsFalse (is_among p ks)
+    → IsFalse (is_among p ks)
 
 -- ===== Stand-ins and fork paths
 

@@ -26,9 +26,11 @@ site_lines rs n (f ∷ fs) = line_of rs n f ∷ site_lines rs (n + 1) fs
 
 -- how many states are known, the root among them, and how many are kept; the leaves of the whole history; the sessions
 abbrev pub stat : Site → Answer
-stat site =
-    (site, Stat (length site.dag) (length (kept_states site.dag site.collected)) (length (leaves site.dag)) (length site.sessions)
-        (site_lines site.dag 1 site.floors))
+stat site = (
+  site,
+  Stat (length site.dag) (length (kept_states site.dag site.collected)) (length (leaves site.dag)) (length site.sessions)
+      (site_lines site.dag 1 site.floors),
+)
 
 -- a kept state: when it arrived, all its children, its fork path
 abbrev pub show : Site → StateId → Answer

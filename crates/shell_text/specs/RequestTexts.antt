@@ -30,7 +30,7 @@ follow_text = either (by_prefix follow_rows) (ends false)
 abbrev pub begin_rows : List (List ℕ × Front Begin)
 begin_rows =
     (codes "any ", nothing_but Any) ∷ (codes "ancestor ", nothing_but Ancestor) ∷ (codes "parent ", nothing_but Parent) ∷
-        (codes "at ", made At (id_until 32)) ∷ []
+    (codes "at ", made At (id_until 32)) ∷ []
 
 abbrev pub begin_text : Front Begin
 begin_text = by_prefix begin_rows

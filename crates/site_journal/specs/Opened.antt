@@ -94,7 +94,7 @@ module _ {M S K : Type 0} (plain : PlainMachine S) (stands : M → S → Type 0)
   abbrev pub EndsAct : JournalEnd M K → Journaled M K → List (List ℕ) → Event → List ℕ → Type 0
   EndsAct (ActDone new) old entries e out =
       IsOpen new (entries ++ entry_of e ∷ []) [] × (out ≡ plain.reply (state_of old entries []) e)
-          × (length (marked entries) + (length e.1 + 7) ≤ old.max_trail)
+      × (length (marked entries) + (length e.1 + 7) ≤ old.max_trail)
   EndsAct (ActFull new bytes) old entries e out =
       (new ≡ old) × (out ≡ []) × (bytes ≡ length (marked entries)) × (old.max_trail < bytes + (length e.1 + 7))
   EndsAct (ActNoMemory new) old entries e out =

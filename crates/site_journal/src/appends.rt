@@ -20,7 +20,7 @@ pub(crate) fn append<K: Disk>(disk: &mut K, place: u64, text: &[u8]) -> Result<(
         → text.now ≡ journal_text more → AllByRecursion IsEntry more → 0 < length more → OnOk result (IsAtRest K.reads K.may_leave disk.new (entries ++ more)) }
     ensures any_moment { K.honest disk.old → (entries more : List (List ℕ)) → IsBehind K.reads K.may_leave disk.old place entries
         → text.now ≡ journal_text more → AllByRecursion IsEntry more → 0 < length more
-            → LeavesOnly K.moment K.left_since disk.old disk.new (HasAllOrNone entries more) }
+        → LeavesOnly K.moment K.left_since disk.old disk.new (HasAllOrNone entries more) }
     ensures honest { AsHonest K.honest disk.old disk.new }
     ensures cause { HasCause (K.faults disk.old) (K.faults disk.new) result }
 {

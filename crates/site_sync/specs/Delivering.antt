@@ -19,8 +19,12 @@ tally_of replies = record { applied = how_many 17 replies; known = how_many 18 r
 -- one reply more
 abbrev pub tally_with : Tally → List ℕ → Tally
 tally_with t reply =
-    record { applied = t.applied + one_if 17 reply; known = t.known + one_if 18 reply; early = t.early + one_if 19 reply;
-        refused = t.refused + one_if 21 reply }
+    record {
+      applied = t.applied + one_if 17 reply;
+      known = t.known + one_if 18 reply;
+      early = t.early + one_if 19 reply;
+      refused = t.refused + one_if 21 reply;
+    }
 
 module _ {M P : Type 0} (opening : M → P) (m : PlainMachine P) (z : Kept M) where
   -- each item was delivered, in order, and the numbers count the replies

@@ -87,7 +87,7 @@ module _ {I O : Type 0} (left : I → Option (List ℕ)) (reads : I → ℕ) (gi
   abbrev pub Loads : Type 0
   Loads = (start steps : ℕ) → AreLoad words start steps
       → WhileTold (given before) (given after) (WritesLine status (load_line start steps)) × IsLoadEnd status × (status ≡ NoMemory → after ≡ before)
-          × (new ≡ old)
+      × (new ≡ old)
 
 -- what these words of `serve` ask for
 abbrev pub work_of : Serving → Workload
@@ -101,7 +101,7 @@ module _ {L G X D O : Type 0} (link_left link_given : L → Option (List ℕ)) (
   abbrev pub Serves : Type 0
   Serves = (plan : Serving) → AreServe words plan
       → ServerEnds link_left link_given link_takes link_gives told gates peer_left peer_given peer_takes peer_gives dial_told dials given writes old new d e
-          before after
+      before after
       (site_at plan.place) (program_limits plan.place.sites).max_trail (work_of plan) status
 
 module _ {I O K S : Type 0} (left : I → Option (List ℕ)) (reads : I → ℕ) (given : O → Option (List ℕ)) (writes : O → ℕ)

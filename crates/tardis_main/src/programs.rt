@@ -41,7 +41,7 @@ pub fn carry_out<I: Source, O: Sink, G: Gate, D: Dial + Send, S: Store, R: Threa
     ensures usage { result ≡ Status.Usage → AreNone (map (λ w. string_bytes w) (drop 1 (into_iter_items args))) }
     ensures none { AreNone (map (λ w. string_bytes w) (drop 1 (into_iter_items args)))
         → ((result ≡ Status.Usage) ⊎ (result ≡ Status.NoMemory)) × (input.new ≡ input.old) × (output.new ≡ output.old) × (gate.new ≡ gate.old)
-            × (dial.new ≡ dial.old) × (store.new ≡ store.old) }
+        × (dial.new ≡ dial.old) × (store.new ≡ store.old) }
     ensures help { AskUsage (map (λ w. string_bytes w) (drop 1 (into_iter_items args))) ⊎ AskVersion (map (λ w. string_bytes w) (drop 1 (into_iter_items args)))
         → ((result ≡ Status.Ok) ⊎ ((result ≡ Status.WriteFault) ⊎ ((result ≡ Status.NoMemory) × (output.new ≡ output.old)))) × (input.new ≡ input.old) }
     ensures told_usage { AskUsage (map (λ w. string_bytes w) (drop 1 (into_iter_items args)))
@@ -130,7 +130,7 @@ fn command<I: Source, O: Sink, G: Gate, D: Dial + Send, S: Store, R: Threads + W
     ensures usage { result ≡ Status.Usage → AreNone (map (λ w. string_bytes w) words.now) }
     ensures none { AreNone (map (λ w. string_bytes w) words.now)
         → ((result ≡ Status.Usage) ⊎ (result ≡ Status.NoMemory)) × (input.new ≡ input.old) × (output.new ≡ output.old) × (gate.new ≡ gate.old)
-            × (dial.new ≡ dial.old) × (store.new ≡ store.old) }
+        × (dial.new ≡ dial.old) × (store.new ≡ store.old) }
     ensures help { AskUsage (map (λ w. string_bytes w) words.now) ⊎ AskVersion (map (λ w. string_bytes w) words.now)
         → ((result ≡ Status.Ok) ⊎ ((result ≡ Status.WriteFault) ⊎ ((result ≡ Status.NoMemory) × (output.new ≡ output.old)))) × (input.new ≡ input.old) }
     ensures told_usage { AskUsage (map (λ w. string_bytes w) words.now)
