@@ -8,8 +8,6 @@ mod histories;
 mod memory_disks;
 mod memory_stores;
 mod plans;
-#[cfg(test)]
-mod tests;
 
 pub use file_disks::FileDisk;
 pub use file_stores::FileStore;

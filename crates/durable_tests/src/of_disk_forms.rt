@@ -1,6 +1,6 @@
 //! A crash of a disk in memory, a store of it, and a file of the system.
 
-use crate::{FileStore, MemoryDisk, MemoryStore};
+use disk_forms::{FileStore, MemoryDisk, MemoryStore};
 use disk_store::{Disk, Store};
 use std::test::Fail;
 use std::{env, fs, process};
