@@ -1,13 +1,14 @@
 -- Lists of tiles: what they hold, and the order of their keys.
-use Rattle.std.proofs.Common.{◌≡◌, ℕ, ◌<◌, ◌≤◌, Bool, true, false, not, ◌&&◌, ◌||◌, List, [], ◌∷◌, ◌++◌, length, get_or, take, drop, set, filter, eqb, IsTrue, refl, sym, ◌∙◌, ap, ap₂, subst, inl, inr, arith}
-use Rattle.std.specs.List.{AllWithin, insert, list_all}
+use Rattle.std.proofs.Common.{◌≡◌, ℕ, ◌-◌, ◌<◌, ◌≤◌, Bool, true, false, not, ◌&&◌, ◌||◌, List, [], ◌∷◌, ◌++◌, length, get_or, take, drop, set, filter, eqb, IsTrue, refl, sym, ◌∙◌, ap, ap₂, subst, inl, inr, arith}
+use Rattle.std.specs.List.{All, AllWithin, insert, list_all}
 use Rattle.std.specs.List.Sorted.{IsPartitionPoint, IsPartitionedBy}
 use Rattle.std.proofs.lemmas.List.{get_or-map, length-map, take-map, drop-map, map-append, take-append-drop}
 use Rattle.std.proofs.lemmas.List.Folds.{list_any-append}
+use Rattle.std.proofs.lemmas.List.Elements.{All-cons, All-append, All-take, All-drop}
 use Rattle.std.proofs.lemmas.Bool.{and_parts, and_from, or_left, or_right, both_ways, cases_Bool}
 use Rattle.fork_path.specs.declared.tiles.Tile.{Tile}
 use Rattle.fork_path.specs.Pairs.{is_pair_before, are_ascending_pairs, is_same_pair, has_pair, with_pair}
-use Rattle.fork_path.specs.Tiles.{key_of, keys_of, holds, some_holds}
+use Rattle.fork_path.specs.Tiles.{key_of, keys_of, holds, some_holds, HoldsPair}
 use Rattle.fork_path.proofs.PairOrder.{before-isnt_same, after-isnt_same, ascending-rest, before-rest, parted}
 use Rattle.fork_path.proofs.PairSets.{ascending-with_pair, ascending-before, at-is_has, searched-with_pair}
 use Rattle.fork_path.proofs.TileBits.{holds-beside}
@@ -112,6 +113,19 @@ pub keys-set : (new : Tile) (ts : List Tile) (i : ℕ) (d : Tile) → i < length
 keys-set new [] i d lt e = absurd (omega arith)
 keys-set new (t ∷ ts) ℕ.zero d lt e = ap (λ k. k ∷ keys_of ts) e
 keys-set new (t ∷ ts) (ℕ.suc i) d lt e = ap (λ ks. key_of t ∷ ks) (keys-set new ts i d (omega arith) e)
+
+-- ===== Tiles that each hold a pair
+
+pub filled-joined : (t u new : Tile) → ((p : ℕ × ℕ) → holds new p ≡ (holds t p || holds u p)) → HoldsPair u → HoldsPair new
+filled-joined t u new made some = (some.0, made some.0 ∙ or_right (holds t some.0) (holds u some.0) some.1)
+
+pub filled-insert : (t : Tile) (ts : List Tile) (i : ℕ) → HoldsPair t → All HoldsPair ts → All HoldsPair (insert ts i t)
+filled-insert t ts i some all =
+    All-append HoldsPair (take i ts) (t ∷ drop i ts) (All-take HoldsPair i ts all) (All-cons HoldsPair t (drop i ts) some (All-drop HoldsPair i ts all))
+
+-- what a place has in front of it and behind it
+pub filled-around : (ts : List Tile) (i k : ℕ) → All HoldsPair ts → All HoldsPair (take i ts) × All HoldsPair (take (length ts - k) (drop k ts))
+filled-around ts i k all = (All-take HoldsPair i ts all, All-take HoldsPair (length ts - k) (drop k ts) (All-drop HoldsPair k ts all))
 
 -- ===== Where a tile is
 

@@ -1,11 +1,12 @@
 -- The tiles of two ascending lists as one.
 use Rattle.std.proofs.Common.{◌≡◌, ℕ, ◌+◌, ◌-◌, ◌<◌, ◌≤◌, Bool, true, false, ◌||◌, List, [], ◌∷◌, ◌++◌, length, get_or, take, drop, IsTrue, refl, sym, ◌∙◌, ap, ap₂, subst, arith}
-use Rattle.std.specs.List.{AllWithin}
+use Rattle.std.specs.List.{All, AllWithin}
 use Rattle.std.proofs.lemmas.List.{take-map, drop-map, map-append, take_rest}
+use Rattle.std.proofs.lemmas.List.Elements.{All-same, All-append, All-push, All-take}
 use Rattle.std.proofs.Math.Seq.{drop-cons}
 use Rattle.fork_path.specs.declared.tiles.Tile.{Tile}
 use Rattle.fork_path.specs.Pairs.{is_pair_before, are_ascending_pairs, is_same_pair, with_pair, with_each}
-use Rattle.fork_path.specs.Tiles.{key_of, keys_of, holds, some_holds}
+use Rattle.fork_path.specs.Tiles.{key_of, keys_of, holds, some_holds, HoldsPair}
 use Rattle.fork_path.proofs.Merges.{Merging, merging-more, around-found, around-new, ascending-with_each, merged-whole}
 use Rattle.fork_path.proofs.TileLists.{key-at, keys-length, some-append, some-split}
 
@@ -76,13 +77,15 @@ around-pairs-new t ts i p =
 pub record TileMerging (base own others out rest : List Tile) (index : ℕ) : Type 0 where
   pub keys : are_ascending_pairs (keys_of own) ≡ true → are_ascending_pairs (keys_of others) ≡ true → Merging (keys_of base) (keys_of own) (keys_of others) (keys_of out) (keys_of rest) index
   pub pairs : (p : ℕ × ℕ) → (some_holds base p || (some_holds others p || some_holds own p)) ≡ (some_holds out p || (some_holds (drop index others) p || some_holds rest p))
+  pub filled : All HoldsPair base → All HoldsPair own → All HoldsPair others → All HoldsPair out × All HoldsPair rest
 
 pub tile_merging-more : (base own others out rest front behind mid new : List Tile) (d joined : Tile) (index : ℕ) → index < length others → TileMerging base own others out rest index →
     key_of joined ≡ key_of (get_or others index d) →
     (IsTrue (are_ascending_pairs (keys_of rest)) → with_pair (key_of (get_or others index d)) (keys_of rest) ≡ keys_of front ++ key_of (get_or others index d) ∷ keys_of behind) →
     ((p : ℕ × ℕ) → (holds (get_or others index d) p || some_holds rest p) ≡ (some_holds front p || (holds joined p || some_holds behind p))) →
+    (HoldsPair (get_or others index d) → All HoldsPair rest → All HoldsPair front × HoldsPair joined × All HoldsPair behind) →
     mid ≡ out ++ front → new ≡ mid ++ joined ∷ [] → TileMerging base own others new behind (index + 1)
-tile_merging-more base own others out rest front behind mid new d joined index lt m key put pairs e₁ e₂ = record {
+tile_merging-more base own others out rest front behind mid new d joined index lt m key put pairs filled e₁ e₂ = record {
   keys = λ up up₂.
       let len : length (keys_of others) ≡ length others = keys-length others in
       let at : get_or (keys_of others) index (0, 0) ≡ key_of (get_or others index d) = key-at others index d (0, 0) lt in
@@ -102,6 +105,11 @@ tile_merging-more base own others out rest front behind mid new d joined index l
       ∙ ap (λ b. some_holds out p || (some_holds (drop (index + 1) others) p || b)) (pairs p)
       ∙ moved (some_holds out p) (some_holds (drop (index + 1) others) p) (some_holds front p) (holds joined p) (some_holds behind p)
       ∙ ap (λ b. b || (some_holds (drop (index + 1) others) p || some_holds behind p)) (sym (made p));
+  filled = λ base_filled own_filled others_filled.
+      let so_far = m.filled base_filled own_filled others_filled in
+      let parts = filled (others_filled index d lt) so_far.1 in
+      let mid_filled = All-same HoldsPair mid (out ++ front) e₁ (All-append HoldsPair out front so_far.0 parts.0) in
+      (All-same HoldsPair new (mid ++ joined ∷ []) e₂ (All-push HoldsPair mid joined mid_filled parts.1), parts.2);
 }
   where
     regrouped : (o q ds r : Bool) → (o || ((q || ds) || r)) ≡ (o || (ds || (q || r)))
@@ -154,3 +162,6 @@ merged-pairs own others start out new n same e₀ e₁ p made =
     shared : (f o w : Bool) → (f || (o || w)) ≡ ((f || o) || (f || w))
     shared true o w = refl
     shared false o w = refl
+
+pub merged-filled : (own start out : List Tile) (n : ℕ) → start ≡ [] → out ≡ start ++ take n own → All HoldsPair own → All HoldsPair out
+merged-filled own start out n e₀ e₁ filled = All-same HoldsPair out (take n own) (e₁ ∙ ap (λ xs. xs ++ take n own) e₀) (All-take HoldsPair n own filled)

@@ -1,8 +1,8 @@
 -- Pairs of a fork and the number of one of its branches.
-use Rattle.std.specs.Prelude.{ℕ, Bool, true, ◌==◌, ◌&&◌, ◌||◌, not, List, [], ◌∷◌, filter, nat_lt, if◌then◌else◌}
+use Rattle.std.specs.Prelude.{ℕ, Bool, true, ◌==◌, ◌&&◌, ◌||◌, ◌/◌, not, List, [], ◌∷◌, map, filter, nat_lt, if◌then◌else◌}
 use Rattle.std.specs.List.{list_any, list_all}
 
--- pairs, and for how many more of them there is memory
+-- pairs, and for how many more groups of them there is memory: so for at least so many more pairs
 pub record Pairs : Type 0 where
   pub pairs : List (ℕ × ℕ)
   pub room : ℕ
@@ -44,3 +44,11 @@ with_each (p ∷ ps) qs = with_each ps (with_pair p qs)
 -- the pairs of the other forks
 abbrev pub without_pairs_of : ℕ → List (ℕ × ℕ) → List (ℕ × ℕ)
 without_pairs_of fork ps = filter (λ (p : ℕ × ℕ). not (p.0 == fork)) ps
+
+-- pairs stand in groups: of 32 forks in a row, and of two branches in a row
+abbrev pub group_of : ℕ × ℕ → ℕ × ℕ
+group_of p = (p.0 / 32, p.1 / 2)
+
+-- the groups that the pairs are of, each once
+unfoldable pub groups_of : List (ℕ × ℕ) → List (ℕ × ℕ)
+groups_of ps = with_each (map group_of ps) []

@@ -3,13 +3,13 @@
 
 ghost use Rattle.std.specs.Prelude.{◌≡◌, ◌==◌, ℕ, ◌+◌, ◌-◌, ◌≤◌, ◌<◌, ◌||◌, Bool, true, false, Some, None, [], ◌∷◌, ◌++◌, length, take};
 ghost use Rattle.std.specs.Prelude.{slice_index_or, vec_len, vec_capacity, if◌then◌else◌, IsTrue, IfOk, OnOk, OnErr, IfSome};
-ghost use Rattle.fork_path.specs.Pairs.{are_ascending_pairs, is_same_pair, has_pair, has_pairs, with_pair, without_pairs_of};
+ghost use Rattle.fork_path.specs.Pairs.{are_ascending_pairs, is_same_pair, has_pair, has_pairs, with_pair, without_pairs_of, groups_of};
 ghost use Rattle.fork_path.specs.Tiles.{keys_of, some_holds};
 
 mod tile_lists;
 mod tiles;
 
-use crate::tile_lists::{are_empty, count_of, drop_fork, merged, put_tile, tile_near, with_spare};
+use crate::tile_lists::{count_of, drop_fork, merged, put_tile, tile_near, with_spare};
 use crate::tiles::Tile;
 use std::alloc::Global;
 use std::marker::Model;
@@ -30,13 +30,14 @@ pub struct ForkPath {
 impl Model for ForkPath {
     ghost use Rattle.std.specs.Prelude.{IsTrue, ◌-◌, ◌^◌, ◌≤◌, min, vec_len, vec_capacity};
     ghost use Rattle.fork_path.specs.Pairs.{Pairs, are_ascending_pairs};
-    ghost use Rattle.fork_path.specs.Tiles.{keys_of, pairs_of};
+    ghost use Rattle.std.specs.List.{All};
+    ghost use Rattle.fork_path.specs.Tiles.{keys_of, pairs_of, HoldsPair};
 
     ghost Value = { Pairs };
 
     ghost view = { λ p. record { pairs = pairs_of p.tiles.items; room = min (vec_capacity p.tiles) (2 ^ 57) - vec_len p.tiles } };
 
-    ghost invariant = { λ p. IsTrue (are_ascending_pairs (keys_of p.tiles.items)) × (vec_len p.tiles ≤ 2 ^ 57) };
+    ghost invariant = { λ p. IsTrue (are_ascending_pairs (keys_of p.tiles.items)) × All HoldsPair p.tiles.items × (vec_len p.tiles ≤ 2 ^ 57) };
 }
 
 impl ForkPath {
@@ -57,10 +58,11 @@ impl ForkPath {
         count_of(self.tiles.as_slice())
     }
 
+    /// Whether there are none.
     pub fn is_empty(&self) -> bool
         ensures { result ≡ (length self.now.pairs == 0) }
     {
-        are_empty(self.tiles.as_slice())
+        self.tiles.is_empty()
     }
 
     /// Whether the pair is one of these, by a binary search.
@@ -96,7 +98,7 @@ impl ForkPath {
         Ok(())
     }
 
-    /// Puts the pair in its place. It takes no memory.
+    /// Puts the pair in its place. It takes no memory, and room only where it is the first of its group.
     ///
     /// The cost grows with the number of tiles behind that place.
     pub fn with_pair(&mut self, fork: u32, branch: u32)
@@ -106,13 +108,14 @@ impl ForkPath {
         ensures pairs { (p : ℕ × ℕ) → has_pair p self.new.pairs ≡ (is_same_pair p (fork, branch) || has_pair p self.old.pairs) }
         ensures count { length self.new.pairs ≡ (if has_pair (fork, branch) self.old.pairs then length self.old.pairs else length self.old.pairs + 1) }
         ensures room { self.old.room ≤ self.new.room + 1 }
+        ensures exact { self.new.room + length (groups_of self.new.pairs) ≡ self.old.room + length (groups_of self.old.pairs) }
     {
         put_tile(&mut self.tiles, Tile::of(fork, branch));
     }
 
-    /// Removes all pairs of the fork. The room for more stays, and grows by the tiles that are left with no pair.
+    /// Removes all pairs of the fork. Each group that is left with no pair is room for another then.
     pub fn without_fork(&mut self, fork: u32)
-        ensures room { self.old.room ≤ self.new.room }
+        ensures room { self.new.room + length (groups_of self.new.pairs) ≡ self.old.room + length (groups_of self.old.pairs) }
         ensures pairs { self.new.pairs ≡ without_pairs_of fork self.old.pairs }
         ensures ascending { IsTrue (are_ascending_pairs self.new.pairs) }
     {
@@ -141,14 +144,6 @@ impl ForkPath {
         }
         self.tiles = tiles;
         Ok(())
-    }
-
-    /// The same pairs, in memory of their own.
-    pub fn copy(&self) -> Result<ForkPath, NoMemory>
-        ensures { IfOk result (λ path. path.pairs ≡ self.now.pairs) }
-    {
-        let tiles = Vec::from_slice(*self.tiles.allocator(), self.tiles.as_slice())?;
-        Ok(ForkPath { tiles })
     }
 }
 
@@ -188,7 +183,8 @@ mod tests {
                 && !path.contains(7, 1)
         );
         assert_eq!(rt; path.len(), 3);
-        let mut other = path.copy().expect(&rt, "a copy");
+        let mut other = ForkPath::new(rt.alloc());
+        other.unite(&path).expect(&rt, "room");
         other.reserve(1).expect(&rt, "room");
         other.with_pair(9, 3);
         assert!(rt; other.includes(&path) && !path.includes(&other));

@@ -2,10 +2,10 @@
 
 ghost use Rattle.std.specs.Prelude.{◌≡◌, ◌==◌, ℕ, ◌+◌, ◌≤◌, ◌<◌, ◌^◌, ◌||◌, ◌&&◌, not, true, false, None, ◌∷◌, ◌++◌, length, take};
 ghost use Rattle.std.specs.Prelude.{slice_index_or, vec_len, vec_capacity, IsTrue, IfOk, OnOk};
-ghost use Rattle.std.specs.List.{AllWithin};
+ghost use Rattle.std.specs.List.{All, AllWithin};
 ghost use Rattle.std.specs.List.Sorted.{IsPartitionPoint};
 ghost use Rattle.fork_path.specs.Pairs.{is_pair_before, are_ascending_pairs, is_same_pair, has_pair, with_pair, with_each};
-ghost use Rattle.fork_path.specs.Tiles.{key_of, keys_of, holds, some_holds, pairs_of};
+ghost use Rattle.fork_path.specs.Tiles.{key_of, keys_of, holds, some_holds, pairs_of, HoldsPair};
 
 use crate::tiles::Tile;
 use std::alloc::Global;
@@ -21,19 +21,6 @@ pub fn count_of(tiles: &[Tile]) -> usize
         pairs += tile.bits.count_ones() as usize;
     }
     pairs
-}
-
-/// Whether the tiles have no pair.
-pub fn are_empty(tiles: &[Tile]) -> bool
-    ensures none { result ≡ true → (p : ℕ × ℕ) → some_holds tiles.now p ≡ false }
-    ensures some { result ≡ false → (p : ℕ × ℕ) × (some_holds tiles.now p ≡ true) }
-{
-    for tile in tiles {
-        if !tile.is_empty() {
-            return false;
-        }
-    }
-    true
 }
 
 /// The place of the first tile that doesn't stand before this one.
@@ -84,9 +71,10 @@ pub fn tile_near(tiles: &[Tile], guess: usize, tile: Tile) -> (usize, Tile)
 pub fn put_tile(tiles: &mut Vec<Tile>, tile: Tile)
     requires { vec_len tiles.old < vec_capacity tiles.old }
     ensures ascending { IsTrue (are_ascending_pairs (keys_of tiles.old.items)) → IsTrue (are_ascending_pairs (keys_of tiles.new.items)) }
+    ensures filled { HoldsPair tile → All HoldsPair tiles.old.items → All HoldsPair tiles.new.items }
     ensures pairs { (p : ℕ × ℕ) → some_holds tiles.new.items p ≡ (holds tile p || some_holds tiles.old.items p) }
     ensures len { vec_len tiles.new ≤ vec_len tiles.old + 1 }
-    ensures capacity { vec_capacity tiles.old ≤ vec_capacity tiles.new }
+    ensures capacity { vec_capacity tiles.new ≡ vec_capacity tiles.old }
 {
     let place = place_of(tiles.as_slice(), tile);
     if is_at(tiles.as_slice(), place, tile) {
@@ -96,9 +84,10 @@ pub fn put_tile(tiles: &mut Vec<Tile>, tile: Tile)
     }
 }
 
-/// Removes the pairs of a fork.
+/// Removes the pairs of a fork, and the tiles that are left with no pair.
 pub fn drop_fork(tiles: &mut Vec<Tile>, fork: u32)
     ensures ascending { IsTrue (are_ascending_pairs (keys_of tiles.old.items)) → IsTrue (are_ascending_pairs (keys_of tiles.new.items)) }
+    ensures filled { All HoldsPair tiles.new.items }
     ensures pairs { (p : ℕ × ℕ) → some_holds tiles.new.items p ≡ (not (p.0 == fork) && some_holds tiles.old.items p) }
     ensures len { vec_len tiles.new ≤ vec_len tiles.old }
     ensures capacity { vec_capacity tiles.new ≡ vec_capacity tiles.old }
@@ -141,6 +130,7 @@ pub fn with_spare(tiles: usize) -> usize {
 pub fn merged(alloc: Global, own: &[Tile], others: &[Tile]) -> Result<Vec<Tile>, NoMemory>
     ensures ascending { IsTrue (are_ascending_pairs (keys_of own.now)) → IsTrue (are_ascending_pairs (keys_of others.now))
         → IfOk result (λ tiles. IsTrue (are_ascending_pairs (keys_of tiles.items))) }
+    ensures filled { All HoldsPair own.now → All HoldsPair others.now → IfOk result (λ tiles. All HoldsPair tiles.items) }
     ensures pairs { IfOk result (λ tiles. (p : ℕ × ℕ) → some_holds tiles.items p ≡ (some_holds others.now p || some_holds own.now p)) }
 {
     let front = common_front(own, others);
@@ -158,6 +148,7 @@ pub fn merged(alloc: Global, own: &[Tile], others: &[Tile]) -> Result<Vec<Tile>,
 fn add_merged(tiles: &mut Vec<Tile>, own: &[Tile], others: &[Tile]) -> Result<(), NoMemory>
     ensures keys { IsTrue (are_ascending_pairs (keys_of own.now)) → IsTrue (are_ascending_pairs (keys_of others.now))
         → OnOk result (keys_of tiles.new.items ≡ keys_of tiles.old.items ++ with_each (keys_of others.now) (keys_of own.now)) }
+    ensures filled { All HoldsPair tiles.old.items → All HoldsPair own.now → All HoldsPair others.now → OnOk result (All HoldsPair tiles.new.items) }
     ensures pairs { OnOk result ((p : ℕ × ℕ)
         → some_holds tiles.new.items p ≡ (some_holds tiles.old.items p || (some_holds others.now p || some_holds own.now p))) }
 {
@@ -191,6 +182,7 @@ fn around(tiles: &[Tile], tile: Tile) -> (&[Tile], Tile, &[Tile])
     ensures key { key_of result.1 ≡ key_of tile }
     ensures keys { IsTrue (are_ascending_pairs (keys_of tiles.now))
         → with_pair (key_of tile) (keys_of tiles.now) ≡ keys_of result.0.now ++ key_of tile ∷ keys_of result.2.now }
+    ensures filled { HoldsPair tile → All HoldsPair tiles.now → All HoldsPair result.0.now × HoldsPair result.1 × All HoldsPair result.2.now }
     ensures pairs { (p : ℕ × ℕ)
         → (holds tile p || some_holds tiles.now p) ≡ (some_holds result.0.now p || (holds result.1 p || some_holds result.2.now p)) }
 {

@@ -2,7 +2,7 @@
 
 ghost use Rattle.std.specs.Prelude.{ℕ, ◌≡◌, ◌<◌, ◌==◌, ◌&&◌, ◌||◌, true, false, not};
 ghost use Rattle.fork_path.specs.Pairs.{is_same_pair, is_pair_before};
-ghost use Rattle.fork_path.specs.Tiles.{key_of, bit_of, holds};
+ghost use Rattle.fork_path.specs.Tiles.{key_of, bit_of, holds, HoldsPair};
 
 /// How many forks a tile has bits for.
 const FORKS: u32 = 32;
@@ -44,8 +44,7 @@ impl Tile {
     /// Whether no pair is left.
     pub fn is_empty(self) -> bool
         ensures bits { result ≡ (self.bits == 0) }
-        ensures none { result ≡ true → (p : ℕ × ℕ) → holds self p ≡ false }
-        ensures some { result ≡ false → (p : ℕ × ℕ) × (holds self p ≡ true) }
+        ensures some { result ≡ false → HoldsPair self }
     {
         self.bits == 0
     }

@@ -1,7 +1,8 @@
-use Rattle.std.proofs.Common.{ℕ, ap}
+use Rattle.std.proofs.Common.{ℕ, ◌≡◌, ◌-◌, ◌^◌, ◌∙◌, min, vec_len, vec_capacity, ap, sym, refl, arith}
+use Rattle.fork_path.proofs.PairOrder.{same_pair_self}
 use Rattle.fork_path.proofs.PairSets.{grown}
 use Rattle.fork_path.proofs.TileViews.{ascending-pairs_of}
-use Rattle.fork_path.proofs.TilePaths.{seen-ascending, put-pairs}
+use Rattle.fork_path.proofs.TilePaths.{seen-ascending, put-pairs, whole-room}
 use Rattle.fork_path.specs.Tiles.{pairs_of}
 use Rattle.fork_path.proofs.ForkPath.with_pair.Goals as goal
 
@@ -26,3 +27,17 @@ returns-clause-count c =
     let seen = ap (λ v. v.pairs) c.self.view_is in
     let added = put-pairs c.self.inside.tiles.items c.put_tile.new.tiles.items c.of.result pair c.args.self.now.pairs seen c.of.ensures c.put_tile.ensures.pairs in
     (grown pair c.args.self.now.pairs (pairs_of c.put_tile.new.tiles.items) (seen-ascending c.self.inside.tiles.items c.args.self.now.pairs seen) added).count
+
+pub invariant_of-self : goal.invariant_of-self
+invariant_of-self c =
+    let made = c.put_tile.ensures in
+    let pair : ℕ × ℕ = (c.args.fork, c.args.branch) in
+    let room : c.args.self.now.room ≡ min (vec_capacity c.self.inside.tiles) (2 ^ 57) - vec_len c.self.inside.tiles = sym (ap (λ v. v.room) c.self.view_is) in
+    (made.ascending c.self.invariant.0, made.filled (pair, c.of.ensures pair ∙ same_pair_self pair) c.self.invariant.1, omega (arith, room))
+
+pub returns-clause-exact : goal.returns-clause-exact
+returns-clause-exact c =
+    let after = invariant_of-self c in
+    whole-room c.put_tile.new.tiles _ after.0 after.1 after.2 refl
+    ∙ ap (λ n. min n (2 ^ 57)) c.put_tile.ensures.capacity
+    ∙ sym (whole-room c.self.inside.tiles c.args.self.now c.self.invariant.0 c.self.invariant.1 c.self.invariant.2 c.self.view_is)

@@ -1,3 +1,5 @@
+use Rattle.std.proofs.Common.{◌+◌}
+use Rattle.fork_path.proofs.TileLists.{filled-joined, filled-around}
 use Rattle.fork_path.proofs.TileMerges.{around-keys-found, around-keys-new, around-pairs-found, around-pairs-new}
 use Rattle.fork_path.proofs.tile_lists.around.Goals as goal
 
@@ -18,3 +20,15 @@ returns-else-is_at-clause-keys c = λ up.
 
 pub returns-else-is_at-clause-pairs : goal.returns-else-is_at-clause-pairs
 returns-else-is_at-clause-pairs c = λ p. around-pairs-new c.args.tile c.args.tiles.now c.first_not_before-place.result p
+
+pub returns-then-is_at-clause-filled : goal.returns-then-is_at-clause-filled
+returns-then-is_at-clause-filled c = λ some all.
+    let place = c.first_not_before-place.result in
+    let sides = filled-around c.args.tiles.now place (place + 1) all in
+    (sides.0, filled-joined _ c.args.tile c.joined.result c.joined.ensures.pairs some, sides.1)
+
+pub returns-else-is_at-clause-filled : goal.returns-else-is_at-clause-filled
+returns-else-is_at-clause-filled c = λ some all.
+    let place = c.first_not_before-place.result in
+    let sides = filled-around c.args.tiles.now place place all in
+    (sides.0, some, sides.1)

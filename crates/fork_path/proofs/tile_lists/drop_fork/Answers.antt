@@ -1,8 +1,8 @@
 use Rattle.std.proofs.Common.{◌≡◌, ◌∙◌, ◌==◌, ◌&&◌, ◌++◌, true, not, length, take, drop, filter, subst, sym, ap, rules}
-use Rattle.std.proofs.lemmas.Fn.{filter_same}
+use Rattle.std.proofs.lemmas.Fn.{filter_same, All-from_retain}
 use Rattle.fork_path.specs.declared.tiles.Tile.{Tile}
 use Rattle.fork_path.specs.Pairs.{are_ascending_pairs}
-use Rattle.fork_path.specs.Tiles.{keys_of, some_holds}
+use Rattle.fork_path.specs.Tiles.{keys_of, some_holds, HoldsPair}
 use Rattle.fork_path.proofs.TileBits.{left_out-holds}
 use Rattle.fork_path.proofs.TileLists.{kept-keys, kept-pairs, written}
 use Rattle.fork_path.proofs.tile_lists.drop_fork.Goals as goal
@@ -26,3 +26,6 @@ returns-clause-pairs c = λ p.
     let kept : c.retain.new.self.items ≡ filter keep (take c.args.tiles.now.len (new ++ drop (length new) old)) = filter_same _ _ _ (λ x b f' k. search rules) _ _ c.retain.ensures.filtered in
     ap (λ ts. some_holds ts p) (kept ∙ ap (filter keep) whole) ∙ kept-pairs keep new p (λ t n. left_out-holds t p n)
     ∙ c.clear_fork.ensures.pairs p ∙ ap (λ ts. not (p.0 == c.args.fork) && some_holds ts p) c.as_mut_slice.ensures.value
+
+pub returns-clause-filled : goal.returns-clause-filled
+returns-clause-filled c = All-from_retain _ HoldsPair _ (λ x b f' k. (λ t. search rules, search rules)) _ _ c.retain.ensures.filtered

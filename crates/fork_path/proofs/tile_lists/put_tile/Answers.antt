@@ -3,9 +3,10 @@ use Rattle.std.specs.List.{insert}
 use Rattle.std.specs.List.Sorted.{IsPartitionPoint}
 use Rattle.std.specs.Result.{is_ok}
 use Rattle.std.proofs.lemmas.Bool.{cond-true}
+use Rattle.std.proofs.lemmas.List.Elements.{All-same, All-set}
 use Rattle.fork_path.specs.Pairs.{is_pair_before, is_same_pair, are_ascending_pairs}
-use Rattle.fork_path.specs.Tiles.{key_of, keys_of, holds, some_holds}
-use Rattle.fork_path.proofs.TileLists.{keys-set, some-set, some-insert, inserted-keys}
+use Rattle.fork_path.specs.Tiles.{key_of, keys_of, holds, some_holds, HoldsPair}
+use Rattle.fork_path.proofs.TileLists.{keys-set, some-set, some-insert, inserted-keys, filled-joined, filled-insert}
 use Rattle.fork_path.proofs.tile_lists.put_tile.Goals as goal
 
 pub returns-then-is_at-clause-ascending : goal.returns-then-is_at-clause-ascending
@@ -44,3 +45,16 @@ returns-else-is_at-clause-pairs c = λ p.
     let place = c.place_of-place.result in
     let made : c.insert.new.self.items ≡ insert tiles place tile = c.insert.ensures.items ∙ cond-true (is_ok c.insert.result) (insert tiles place tile) tiles (c.insert.ensures.succeeds c.requires) in
     ap (λ ts. some_holds ts p) made ∙ some-insert tile tiles place p
+
+pub returns-then-is_at-clause-filled : goal.returns-then-is_at-clause-filled
+returns-then-is_at-clause-filled c = λ some all.
+    All-set HoldsPair c.args.tiles.now.items c.place_of-place.result c.joined.result
+    (filled-joined c.index.result.now c.args.tile c.joined.result c.joined.ensures.pairs some) all
+
+pub returns-else-is_at-clause-filled : goal.returns-else-is_at-clause-filled
+returns-else-is_at-clause-filled c = λ some all.
+    let tile = c.args.tile in
+    let tiles = c.args.tiles.now.items in
+    let place = c.place_of-place.result in
+    let made : c.insert.new.self.items ≡ insert tiles place tile = c.insert.ensures.items ∙ cond-true (is_ok c.insert.result) (insert tiles place tile) tiles (c.insert.ensures.succeeds c.requires) in
+    All-same HoldsPair c.insert.new.self.items (insert tiles place tile) made (filled-insert tile tiles place some all)
