@@ -6,4 +6,4 @@ pub mod ReplyFields
 pub mod Arms
 pub mod Laws
 pub mod RequestCodes
-pub mod KeysGot
+pub mod Lending

@@ -3,9 +3,15 @@ use Rattle.std.specs.Prelude.{ℕ, List, [], ◌∷◌, Option}
 use Rattle.tardis_base.specs.declared.ids.StateId.{StateId}
 use Rattle.tardis_base.specs.declared.replies.SiteLine.{SiteLine}
 use Rattle.tardis_base.specs.declared.replies.Refusal.{Refusal}
-use Rattle.tardis_base.specs.declared.replies.Refusal.TheVariants.{Malformed, NotOpen, AlreadyOpen, SessionsFull, TxnOpen, NoTxn, WrongMode, TooMany, Unknown, Below, Comparable, NotRead, ConflictKey, OpenConflict, Branches, CeilingBack, FloorBack, Held, Collected, Full, PathFull, SeqEnd, BadSite, ClosedParent, OwnItem, TrailFull, Unsupported, NoSuchItem, BagFull}
+use Rattle.tardis_base.specs.declared.replies.Refusal.TheVariants.{Malformed, NotOpen, AlreadyOpen, SessionsFull, TxnOpen, NoTxn, WrongMode}
+use Rattle.tardis_base.specs.declared.replies.Refusal.TheVariants.{TooMany, Unknown, Below, Comparable, NotRead, ConflictKey, OpenConflict}
+use Rattle.tardis_base.specs.declared.replies.Refusal.TheVariants.{Branches, CeilingBack, FloorBack, Held, Collected, Full, PathFull}
+use Rattle.tardis_base.specs.declared.replies.Refusal.TheVariants.{SeqEnd, BadSite, ClosedParent, OwnItem, TrailFull, Unsupported}
+use Rattle.tardis_base.specs.declared.replies.Refusal.TheVariants.{NoSuchItem, BagFull}
 use Rattle.tardis_base.specs.declared.replies.Reply.{Reply}
-use Rattle.tardis_base.specs.declared.replies.Reply.TheVariants.{Opened, Begun, Merging, Value, Deleted, Absent, Done, Committed, Ended, States, Keys, Raised, Tidied, Stat as Statistics, Shown, Batch, Applied, Known, Early, Closed, Refused, NoMemory}
+use Rattle.tardis_base.specs.declared.replies.Reply.TheVariants.{Opened, Begun, Merging, Value, Deleted, Absent, Done, Committed, Ended}
+use Rattle.tardis_base.specs.declared.replies.Reply.TheVariants.{States, Keys, Raised, Tidied, Stat as Statistics, Shown, Batch, Applied}
+use Rattle.tardis_base.specs.declared.replies.Reply.TheVariants.{Known, Early, Closed, Refused, NoMemory}
 use Rattle.wire_item.specs.Fronts.{Front, nothing_but, made, only_if, both, times, counted, by_code, whole}
 use Rattle.wire_item.specs.Readings.{u8_front, u16_front, u32_front, u64_front, id_front, key_front, value_front, parents_front, batch_front}
 use Rattle.wire_talk.specs.Valid.{is_what, is_constraint, are_first_ids, are_first_keys, are_site_lines}

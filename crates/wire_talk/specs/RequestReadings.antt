@@ -1,12 +1,14 @@
 -- How requests are read back from bytes.
-use Rattle.std.specs.Prelude.{ℕ, Bool, true, false, List, [], ◌∷◌, Option, Some, None}
+use Rattle.std.specs.Prelude.{ℕ, Bool, true, false, List, [], ◌∷◌, Option}
 use Rattle.tardis_base.specs.declared.ids.StateId.{StateId}
 use Rattle.tardis_base.specs.declared.requests.Begin.{Begin}
 use Rattle.tardis_base.specs.declared.requests.Begin.TheVariants.{Any, Ancestor, Parent, At}
 use Rattle.tardis_base.specs.declared.requests.MergeOf.{MergeOf}
 use Rattle.tardis_base.specs.declared.requests.MergeOf.TheVariants.{Leaves as AllLeaves, States as TheseStates}
 use Rattle.tardis_base.specs.declared.requests.Request.{Request}
-use Rattle.tardis_base.specs.declared.requests.Request.TheVariants.{Open, Begin as BeginAt, Get, Put, Delete, Commit, Abort, BeginMerge, ForkPoints, Conflicts, GetFor, Ceiling, Raise, RaiseAuto, Tidy, Stat, Show, Leaves, Pull, Deliver, Close, Settle}
+use Rattle.tardis_base.specs.declared.requests.Request.TheVariants.{Open, Begin as BeginAt, Get, Put, Delete, Commit, Abort, BeginMerge}
+use Rattle.tardis_base.specs.declared.requests.Request.TheVariants.{ForkPoints, Conflicts, GetFor, Ceiling, Raise, RaiseAuto, Tidy, Stat}
+use Rattle.tardis_base.specs.declared.requests.Request.TheVariants.{Show, Leaves, Pull, Deliver, Close, Settle}
 use Rattle.wire_item.specs.Fronts.{Front, nothing_but, bytes_front, made, only_if, both, times, counted, by_code, whole}
 use Rattle.wire_item.specs.Readings.{u8_front, u16_front, u32_front, id_front, key_front, value_front, item_front}
 use Rattle.wire_talk.specs.Valid.{is_commit, is_after, are_counts}
@@ -72,8 +74,3 @@ request_front = by_code request_rows
 -- the request that the bytes spell
 abbrev pub request_of : List ℕ → Option Request
 request_of = whole request_front
-
--- the key that a Get asks for; none of another request
-abbrev pub key_got : Request → Option (List ℕ)
-key_got (Get key) = Some key
-key_got _ = None

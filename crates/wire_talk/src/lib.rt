@@ -2,6 +2,7 @@
 #![tactic(auto)]
 
 mod field_writers;
+mod lent_requests;
 mod list_readers;
 mod refusal_readers;
 mod refusal_writers;
@@ -13,10 +14,14 @@ mod request_readers;
 mod request_writers;
 mod spelling_laws;
 
+pub use lent_requests::{LentRequest, read_lent};
 pub use refusal_writers::write_refusal;
 pub use reply_readers::read_reply;
-pub use reply_writers::{write_reply, write_value_reply};
-pub use request_readers::{key_of_get, read_request};
+pub use reply_writers::{
+    write_absent, write_begun, write_committed, write_deleted, write_done, write_ended,
+    write_refused, write_reply, write_value_reply,
+};
+pub use request_readers::read_request;
 pub use request_writers::write_request;
 pub use spelling_laws::{
     no_memory_is_spelled, requests_are_read, requests_begin_with_their_code, talk_has_one_spelling,

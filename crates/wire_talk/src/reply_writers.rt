@@ -6,7 +6,7 @@ ghost use Rattle.wire_item.specs.Spellings.{batch_spelling, id_spelling, key_spe
 ghost use Rattle.wire_item.specs.Valid.{is_batch};
 ghost use Rattle.tardis_base.specs.Valid.{are_parents};
 ghost use Rattle.wire_talk.specs.Spellings.{children_spelling, first_ids_spelling, first_keys_spelling, pair_spelling, path_spelling};
-ghost use Rattle.wire_talk.specs.Spellings.{refusal_spelling, reply_spelling, site_line_spelling, site_lines_spelling};
+ghost use Rattle.wire_talk.specs.Spellings.{reply_spelling, site_line_spelling, site_lines_spelling};
 ghost use Rattle.wire_talk.specs.Valid.{are_children, are_first_ids, are_first_keys, is_path, is_refusal, is_reply};
 
 use crate::field_writers::{write_code_with_id, write_code_with_id_and_u32, write_code_with_u32};
@@ -39,13 +39,54 @@ pub fn write_value_reply(writer: StateId, value: &Value, out: &mut ReplyBuf)
     write_value(value, out);
 }
 
-fn write_committed(id: StateId, parents: &StateList, out: &mut ReplyBuf)
+/// Writes the reply that a transaction began at the state, behind the bytes that are there.
+pub fn write_begun(state: StateId, out: &mut ReplyBuf)
+    requires { length out.old + 7 ≤ longest_frame }
+    ensures { out.new ≡ out.old ++ reply_spelling (Reply.Begun state) }
+{
+    write_code_with_id(2, state, out);
+}
+
+/// Writes the reply that the value which is read was deleted, behind the bytes that are there.
+pub fn write_deleted(writer: StateId, out: &mut ReplyBuf)
+    requires { length out.old + 7 ≤ longest_frame }
+    ensures { out.new ≡ out.old ++ reply_spelling (Reply.Deleted writer) }
+{
+    write_code_with_id(5, writer, out);
+}
+
+/// Writes the reply that there is no value to read, behind the bytes that are there.
+pub fn write_absent(out: &mut ReplyBuf)
+    requires { length out.old + 1 ≤ longest_frame }
+    ensures { out.new ≡ out.old ++ reply_spelling Reply.Absent }
+{
+    out.push_byte(6);
+}
+
+/// Writes the reply that the request is done, behind the bytes that are there.
+pub fn write_done(out: &mut ReplyBuf)
+    requires { length out.old + 1 ≤ longest_frame }
+    ensures { out.new ≡ out.old ++ reply_spelling Reply.Done }
+{
+    out.push_byte(7);
+}
+
+/// Writes the reply that a state was made by a commit, behind the bytes that are there, from parents that are only lent.
+pub fn write_committed(id: StateId, parents: &StateList, out: &mut ReplyBuf)
     requires valid { IsTrue (are_parents parents.now) }
-    requires fits { length out.old + length (8 ∷ (id_spelling id ++ parents_spelling parents.now)) ≤ longest_frame }
-    ensures { out.new ≡ out.old ++ 8 ∷ (id_spelling id ++ parents_spelling parents.now) }
+    requires fits { length out.old + length (reply_spelling (Reply.Committed id parents.now)) ≤ longest_frame }
+    ensures { out.new ≡ out.old ++ reply_spelling (Reply.Committed id parents.now) }
 {
     write_code_with_id(8, id, out);
     write_parents(parents, out);
+}
+
+/// Writes the reply that a transaction ended at the state with no write, behind the bytes that are there.
+pub fn write_ended(state: StateId, out: &mut ReplyBuf)
+    requires { length out.old + 7 ≤ longest_frame }
+    ensures { out.new ≡ out.old ++ reply_spelling (Reply.Ended state) }
+{
+    write_code_with_id(9, state, out);
 }
 
 fn write_code_with_counts(code: u8, total: u32, count: u16, out: &mut ReplyBuf)
@@ -183,10 +224,11 @@ fn write_batch_reply(batch: &Batch, out: &mut ReplyBuf)
     write_batch(batch, out);
 }
 
-fn write_refused(refusal: &Refusal, out: &mut ReplyBuf)
+/// Writes the reply that the request is refused, behind the bytes that are there, from a refusal that is only lent.
+pub fn write_refused(refusal: &Refusal, out: &mut ReplyBuf)
     requires valid { IsTrue (is_refusal refusal.now) }
-    requires fits { length out.old + length (21 ∷ refusal_spelling refusal.now) ≤ longest_frame }
-    ensures { out.new ≡ out.old ++ 21 ∷ refusal_spelling refusal.now }
+    requires fits { length out.old + length (reply_spelling (Reply.Refused refusal.now)) ≤ longest_frame }
+    ensures { out.new ≡ out.old ++ reply_spelling (Reply.Refused refusal.now) }
 {
     out.push_byte(21);
     write_refusal(refusal, out);
@@ -215,14 +257,14 @@ pub fn write_reply(reply: &Reply, out: &mut ReplyBuf)
 {
     match reply {
         Reply::Opened { ceiling } => write_code_with_id(1, *ceiling, out),
-        Reply::Begun { state } => write_code_with_id(2, *state, out),
+        Reply::Begun { state } => write_begun(*state, out),
         Reply::Merging { states } => write_merging(states, out),
         Reply::Value { writer, value } => write_value_reply(*writer, value, out),
-        Reply::Deleted { writer } => write_code_with_id(5, *writer, out),
-        Reply::Absent => out.push_byte(6),
-        Reply::Done => out.push_byte(7),
+        Reply::Deleted { writer } => write_deleted(*writer, out),
+        Reply::Absent => write_absent(out),
+        Reply::Done => write_done(out),
         Reply::Committed { id, parents } => write_committed(*id, parents, out),
-        Reply::Ended { state } => write_code_with_id(9, *state, out),
+        Reply::Ended { state } => write_ended(*state, out),
         Reply::States { total, first } => write_states(*total, first, out),
         Reply::Keys { total, first } => write_keys(*total, first, out),
         Reply::Raised { floor, number } => write_code_with_id_and_u32(12, *floor, *number, out),

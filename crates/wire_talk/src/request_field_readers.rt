@@ -6,22 +6,20 @@
 ghost use Rattle.std.specs.Prelude.{◌≡◌, ℕ, List, ◌&&◌, [], ◌∷◌, ◌++◌, nat_le, IfOk};
 ghost use Rattle.tardis_base.specs.declared.ids.StateId.{StateId};
 ghost use Rattle.tardis_base.specs.declared.records.Item.{Item};
-ghost use Rattle.tardis_base.specs.declared.requests.Request.TheVariants.{Commit, Put as PutKey};
 ghost use Rattle.tardis_base.specs.declared.requests.Request.{Request};
 ghost use Rattle.tardis_base.specs.Sizes.{longest_key};
 ghost use Rattle.tardis_base.specs.Valid.{is_within};
 ghost use Rattle.wire_item.specs.Fronts.{both, made, times};
-ghost use Rattle.wire_item.specs.Readings.{id_front, item_front, key_front, u32_front, value_front};
+ghost use Rattle.wire_item.specs.Readings.{id_front, item_front, key_front, u32_front};
 ghost use Rattle.wire_item.specs.Takings.{Makes, Takes};
-ghost use Rattle.wire_talk.specs.RequestReadings.{after_front, begin_front, commit_front, counts_front, flag_front, merge_of, merge_of_front};
-ghost use Rattle.wire_talk.specs.Valid.{is_commit};
+ghost use Rattle.wire_talk.specs.RequestReadings.{after_front, counts_front, flag_front, merge_of, merge_of_front};
 
 use crate::list_readers::{ids, is_count_of_sites};
 use crate::refusal_readers::new_key;
 use std::alloc::Global;
 use tardis_base::{
-    Begin, ByteList, CountList, EndFlags, Item, Key, ListOf, MAX_KEY, MergeOf, NoMemory, Request,
-    StateId, StateList, Value, pushed,
+    ByteList, CountList, Item, Key, ListOf, MAX_KEY, MergeOf, NoMemory, Request, StateId,
+    StateList, pushed,
 };
 use wire_item::Reader;
 
@@ -36,63 +34,6 @@ pub fn read_open(reader: &mut Reader) -> Option<Request>
         return Some(Request::Open { follow: true });
     }
     None
-}
-
-/// Where a transaction begins.
-fn begin(reader: &mut Reader) -> Option<Begin>
-    ensures { Takes begin_front reader.old result reader.new }
-{
-    match reader.u8()? {
-        0 => Some(Begin::Any),
-        1 => Some(Begin::Ancestor),
-        2 => Some(Begin::Parent),
-        3 => Some(Begin::At(reader.id()?)),
-        _ => None,
-    }
-}
-
-pub fn read_begin(reader: &mut Reader) -> Option<Request>
-    ensures { Takes (made Request.Begin begin_front) reader.old result reader.new }
-{
-    let begin = begin(reader)?;
-    Some(Request::Begin { begin })
-}
-
-pub fn read_get(alloc: Global, reader: &mut Reader) -> Option<Result<Request, NoMemory>>
-    ensures { Makes (made Request.Get key_front) reader.old result reader.new }
-{
-    let key = reader.key()?;
-    Some(get(alloc, key))
-}
-
-pub fn read_put(alloc: Global, reader: &mut Reader) -> Option<Result<Request, NoMemory>>
-    ensures { Makes (made (λ p. PutKey p.0 p.1) (both key_front value_front)) reader.old result reader.new }
-{
-    let key = reader.key()?;
-    let value = reader.value()?;
-    Some(put(alloc, key, value))
-}
-
-pub fn read_delete(alloc: Global, reader: &mut Reader) -> Option<Result<Request, NoMemory>>
-    ensures { Makes (made Request.Delete key_front) reader.old result reader.new }
-{
-    let key = reader.key()?;
-    Some(delete(alloc, key))
-}
-
-pub fn read_commit(reader: &mut Reader) -> Option<Request>
-    ensures { Takes (made (λ p. Commit (record { 0 = p.0 }) p.1) commit_front) reader.old result reader.new }
-{
-    let flags = reader.u8()?;
-    let k = reader.u16()?;
-    if is_commit(flags, k) {
-        Some(Request::Commit {
-            flags: EndFlags(flags),
-            k,
-        })
-    } else {
-        None
-    }
 }
 
 pub fn read_begin_merge(alloc: Global, reader: &mut Reader) -> Option<Result<Request, NoMemory>>
@@ -154,48 +95,10 @@ fn numbers(alloc: Global, count: u8, reader: &mut Reader) -> Option<Result<Count
     Some(numbers)
 }
 
-fn is_commit(flags: u8, k: u16) -> bool
-    ensures { result ≡ is_commit (record { 0 = flags }) k }
-{
-    let is_counted = flags & EndFlags::KB.0 == EndFlags::KB.0;
-    flags < 16 && (if is_counted { k >= 1 } else { k == 0 })
-}
-
 fn is_after_length(count: u8) -> bool
     ensures { result ≡ nat_le count longest_key }
 {
     usize::from(count) <= MAX_KEY
-}
-
-fn value_of(alloc: Global, value: &[u8]) -> Result<Value, NoMemory>
-    ensures { IfOk result (λ v. v ≡ value.now) }
-{
-    match Value::new(alloc, value) {
-        Ok(value) => Ok(value),
-        Err(_) => Err(NoMemory),
-    }
-}
-
-fn get(alloc: Global, key: &[u8]) -> Result<Request, NoMemory>
-    ensures { IfOk result (λ q. q ≡ Request.Get key.now) }
-{
-    let key = new_key(alloc, key)?;
-    Ok(Request::Get { key })
-}
-
-fn put(alloc: Global, key: &[u8], value: &[u8]) -> Result<Request, NoMemory>
-    ensures { IfOk result (λ q. q ≡ PutKey key.now value.now) }
-{
-    let key = new_key(alloc, key)?;
-    let value = value_of(alloc, value)?;
-    Ok(Request::Put { key, value })
-}
-
-fn delete(alloc: Global, key: &[u8]) -> Result<Request, NoMemory>
-    ensures { IfOk result (λ q. q ≡ Request.Delete key.now) }
-{
-    let key = new_key(alloc, key)?;
-    Ok(Request::Delete { key })
 }
 
 fn get_for(alloc: Global, key: &[u8], state: StateId) -> Result<Request, NoMemory>

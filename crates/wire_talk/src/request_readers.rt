@@ -2,20 +2,19 @@
 //!
 //! How requests are spelled is stated in `docs/FORMATS.md`. The cost grows with the number of bytes.
 
-ghost use Rattle.std.specs.Prelude.{◌≡◌, ◌↔◌, None, Some, Err, IfOk, IsTrue, option_and_then};
-ghost use Rattle.std.specs.Option.{option_copied};
+ghost use Rattle.std.specs.Prelude.{◌≡◌, ◌↔◌, None, Some, Err, IfOk, IsTrue};
 ghost use Rattle.tardis_base.specs.declared.faults.NoMemory.{NoMemory};
 ghost use Rattle.tardis_base.specs.declared.requests.Request.{Request};
 ghost use Rattle.wire_item.specs.Fronts.{front_of_code};
 ghost use Rattle.wire_item.specs.Takings.{Makes};
 ghost use Rattle.wire_talk.specs.Codes.{code_of};
 ghost use Rattle.wire_talk.specs.Memory.{takes_no_memory};
-ghost use Rattle.wire_talk.specs.RequestReadings.{key_got, request_front, request_of, request_rows};
+ghost use Rattle.wire_talk.specs.RequestReadings.{request_front, request_of, request_rows};
 ghost use Rattle.wire_talk.specs.Spelled.{SpellsRequest};
 
+use crate::lent_requests::{lent_fields, owned};
 use crate::request_field_readers::{
-    read_begin, read_begin_merge, read_commit, read_conflicts, read_delete, read_deliver, read_get,
-    read_get_for, read_open, read_pull, read_put,
+    read_begin_merge, read_conflicts, read_deliver, read_get_for, read_open, read_pull,
 };
 use std::alloc::Global;
 use tardis_base::{NoMemory, ReadFault, Request};
@@ -30,21 +29,6 @@ pub fn read_request(alloc: Global, bytes: &[u8]) -> Result<Request, ReadFault>
     let mut reader = Reader::new(bytes);
     let taken = request(alloc, &mut reader);
     whole(taken, reader.is_done())
-}
-
-/// The key of the Get that the bytes spell; None of any other bytes. It is lent from them, and takes no memory.
-///
-/// `read_request` tells the same of all requests. A `Request` is as large as the fields of all of them together, so a machine
-/// that asks for a Get first needn't move one.
-pub fn key_of_get(bytes: &[u8]) -> Option<&[u8]>
-    ensures { option_copied result ≡ option_and_then key_got (request_of bytes.now) }
-{
-    let mut reader = Reader::new(bytes);
-    if reader.u8()? != 3 {
-        return None;
-    }
-    let key = reader.key()?;
-    if reader.is_done() { Some(key) } else { None }
 }
 
 fn request(alloc: Global, reader: &mut Reader) -> Option<Result<Request, NoMemory>>
@@ -62,11 +46,10 @@ fn fields(alloc: Global, code: u8, reader: &mut Reader) -> Option<Result<Request
 {
     match code {
         1 => Some(Ok(read_open(reader)?)),
-        2 => Some(Ok(read_begin(reader)?)),
-        3 => read_get(alloc, reader),
-        4 => read_put(alloc, reader),
-        5 => read_delete(alloc, reader),
-        6 => Some(Ok(read_commit(reader)?)),
+        2..=6 => {
+            let lent = lent_fields(code, reader)?;
+            Some(owned(alloc, lent))
+        },
         7 => Some(Ok(Request::Abort)),
         8 => read_begin_merge(alloc, reader),
         9 => Some(Ok(Request::ForkPoints)),

@@ -1,10 +1,15 @@
-use Rattle.std.proofs.Common.{refl, None, Ok, ◌∙◌, ap, arith}
-use Rattle.tardis_base.specs.declared.requests.Request.TheVariants.{Open, Begin, Commit, Abort, ForkPoints, Ceiling, Raise, RaiseAuto, Tidy, Stat, Show, Leaves, Close, Settle}
+use Rattle.std.proofs.Common.{◌≡◌, refl, None, Some, Result, Ok, Err, ◌∙◌, ap, arith}
+use Rattle.tardis_base.specs.declared.faults.NoMemory.{NoMemory}
+use Rattle.tardis_base.specs.declared.requests.Request.{Request}
+use Rattle.tardis_base.specs.declared.requests.Request.TheVariants.{Open, Abort, ForkPoints, Ceiling, Raise, RaiseAuto, Tidy, Stat, Show, Leaves, Close, Settle}
 use Rattle.wire_item.specs.Fronts.{made, front_of_code}
 use Rattle.wire_item.specs.Readings.{id_front, u16_front}
 use Rattle.wire_item.proofs.Fronts.{made-read}
 use Rattle.wire_item.proofs.Takings.{taken, untaken, makes, makes-none, made-none}
-use Rattle.wire_talk.specs.RequestReadings.{flag_front, begin_front, commit_front, request_rows}
+use Rattle.wire_talk.specs.RequestReadings.{flag_front, request_rows}
+use Rattle.wire_talk.specs.Lent.{request_lent}
+use Rattle.wire_talk.proofs.Lending.{behind-none, behind-some, within}
+use Rattle.wire_talk.proofs.RequestCodes.{takes-same}
 use Rattle.wire_talk.proofs.RequestFields.{rows-other}
 use Rattle.wire_talk.proofs.request_readers.fields.Goals as goal
 
@@ -18,28 +23,6 @@ pub returns-in_ok-read_open-in-1-clause-read : goal.returns-in_ok-read_open-in-1
 returns-in_ok-read_open-in-1-clause-read c =
     let read = taken (made Open flag_front) c.args.reader.now c.read_open.new.reader c.in_ok-read_open-in-1.field-0 c.in_ok-read_open-in-1.ensures in
     makes (front_of_code c.args.code request_rows) c.args.reader.now c.read_open.new.reader (Ok c.in_ok-read_open-in-1.field-0) c.in_ok-read_open-in-1.field-0 (ap (λ k. front_of_code k request_rows c.args.reader.now) c.in-1.is ∙ read) refl
-
-pub returns-in_err-read_begin-in-2-clause-read : goal.returns-in_err-read_begin-in-2-clause-read
-returns-in_err-read_begin-in-2-clause-read c =
-    let none = untaken (made Begin begin_front) c.args.reader.now c.read_begin.new.reader c.in_err-read_begin-in-2.ensures in
-    makes-none (front_of_code c.args.code request_rows) c.args.reader.now c.read_begin.new.reader c.from_residual-in_err-read_begin-in-2.result c.from_residual-in_err-read_begin-in-2.ensures
-    (ap (λ k. front_of_code k request_rows c.args.reader.now) c.in-2.is ∙ none)
-
-pub returns-in_ok-read_begin-in-2-clause-read : goal.returns-in_ok-read_begin-in-2-clause-read
-returns-in_ok-read_begin-in-2-clause-read c =
-    let read = taken (made Begin begin_front) c.args.reader.now c.read_begin.new.reader c.in_ok-read_begin-in-2.field-0 c.in_ok-read_begin-in-2.ensures in
-    makes (front_of_code c.args.code request_rows) c.args.reader.now c.read_begin.new.reader (Ok c.in_ok-read_begin-in-2.field-0) c.in_ok-read_begin-in-2.field-0 (ap (λ k. front_of_code k request_rows c.args.reader.now) c.in-2.is ∙ read) refl
-
-pub returns-in_err-read_commit-in-6-clause-read : goal.returns-in_err-read_commit-in-6-clause-read
-returns-in_err-read_commit-in-6-clause-read c =
-    let none = untaken (made (λ p. Commit (record { 0 = p.0 }) p.1) commit_front) c.args.reader.now c.read_commit.new.reader c.in_err-read_commit-in-6.ensures in
-    makes-none (front_of_code c.args.code request_rows) c.args.reader.now c.read_commit.new.reader c.from_residual-in_err-read_commit-in-6.result c.from_residual-in_err-read_commit-in-6.ensures
-    (ap (λ k. front_of_code k request_rows c.args.reader.now) c.in-6.is ∙ none)
-
-pub returns-in_ok-read_commit-in-6-clause-read : goal.returns-in_ok-read_commit-in-6-clause-read
-returns-in_ok-read_commit-in-6-clause-read c =
-    let read = taken (made (λ p. Commit (record { 0 = p.0 }) p.1) commit_front) c.args.reader.now c.read_commit.new.reader c.in_ok-read_commit-in-6.field-0 c.in_ok-read_commit-in-6.ensures in
-    makes (front_of_code c.args.code request_rows) c.args.reader.now c.read_commit.new.reader (Ok c.in_ok-read_commit-in-6.field-0) c.in_ok-read_commit-in-6.field-0 (ap (λ k. front_of_code k request_rows c.args.reader.now) c.in-6.is ∙ read) refl
 
 pub returns-in_err-id-in-12-clause-read : goal.returns-in_err-id-in-12-clause-read
 returns-in_err-id-in-12-clause-read c =
@@ -121,3 +104,23 @@ pub returns-in_default-clause-read : goal.returns-in_default-clause-read
 returns-in_default-clause-read c =
     makes-none (front_of_code c.args.code request_rows) c.args.reader.now c.args.reader.now None refl
     (rows-other request_rows 1 22 c.args.code c.args.reader.now refl (λ m low high e. omega (arith, low, high, e)))
+
+pub returns-in_err-lent-in-2-to-6-clause-read : goal.returns-in_err-lent-in-2-to-6-clause-read
+returns-in_err-lent-in-2-to-6-clause-read c =
+    makes-none (front_of_code c.args.code request_rows) c.args.reader.now c.lent_fields.new.reader c.from_residual-in_err-lent-in-2-to-6.result c.from_residual-in_err-lent-in-2-to-6.ensures
+    (behind-none c.args.code c.args.reader.now c.lent_fields.new.reader (within c.args.code (omega arith) (omega arith)) c.in_err-lent-in-2-to-6.ensures)
+
+pub returns-in_ok-lent-in-2-to-6-clause-read : goal.returns-in_ok-lent-in-2-to-6-clause-read
+returns-in_ok-lent-in-2-to-6-clause-read c =
+    let lent = request_lent c.in_ok-lent-in-2-to-6.lent in
+    makes (front_of_code c.args.code request_rows) c.args.reader.now c.lent_fields.new.reader c.owned.result lent
+    (behind-some c.args.code c.args.reader.now lent c.lent_fields.new.reader c.in_ok-lent-in-2-to-6.ensures) c.owned.ensures.request
+
+made-is : (made : Result Request NoMemory) (e : NoMemory) → Some made ≡ Some (Err e) → made ≡ Err e
+made-is made e is = cc
+
+pub returns-in_ok-lent-in-2-to-6-clause-sure : goal.returns-in_ok-lent-in-2-to-6-clause-sure
+returns-in_ok-lent-in-2-to-6-clause-sure c = λ q e code free fault.
+    let lent = request_lent c.in_ok-lent-in-2-to-6.lent in
+    let read = behind-some c.args.code c.args.reader.now lent c.lent_fields.new.reader c.in_ok-lent-in-2-to-6.ensures in
+    c.owned.ensures.sure e (takes-same q lent c.args.code c.args.reader.now c.lent_fields.new.reader code read free) (made-is c.owned.result e fault)

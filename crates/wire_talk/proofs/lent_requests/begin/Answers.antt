@@ -7,7 +7,7 @@ use Rattle.wire_item.proofs.Takings.{taken, untaken, takes, takes-none, made-non
 use Rattle.wire_item.proofs.Codes.{code-none, code-read}
 use Rattle.wire_talk.specs.RequestReadings.{begin_rows, begin_front}
 use Rattle.wire_talk.proofs.RequestFields.{rows-other}
-use Rattle.wire_talk.proofs.request_field_readers.begin.Goals as goal
+use Rattle.wire_talk.proofs.lent_requests.begin.Goals as goal
 
 pub returns-in_err-u8 : goal.returns-in_err-u8
 returns-in_err-u8 c =
