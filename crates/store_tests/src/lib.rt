@@ -16,6 +16,8 @@ mod of_conflict_keys;
 #[cfg(test)]
 mod of_end_rule;
 #[cfg(test)]
+mod of_fork_path;
+#[cfg(test)]
 mod of_fork_points;
 #[cfg(test)]
 mod of_merge_txn;
