@@ -1,10 +1,9 @@
 -- Replies that are written as bytes.
-use Rattle.std.proofs.Common.{◌≡◌, ℕ, ◌+◌, ◌≤◌, List, [], ◌++◌, length, Result, Ok, Err, IsTrue, arith, refl, sym, ap, subst, ◌∙◌}
+use Rattle.std.proofs.Common.{◌≡◌, ℕ, List, [], Result, Ok, Err, IsTrue, refl, sym, ap, subst, ◌∙◌}
 use Rattle.tardis_base.specs.declared.replies.Refusal.{Refusal}
 use Rattle.tardis_base.specs.declared.replies.Reply.{Reply}
 use Rattle.tardis_base.specs.declared.replies.Reply.TheVariants.{Refused as RefusedWith}
 use Rattle.tardis_base.specs.declared.requests.Request.{Request}
-use Rattle.tardis_base.specs.Sizes.{longest_frame}
 use Rattle.tardis_base.specs.Valid.{is_u16}
 use Rattle.wire_talk.specs.Valid.{is_request}
 use Rattle.wire_talk.specs.Spellings.{reply_spelling}
@@ -36,14 +35,6 @@ module _ (old : Core) (n : ℕ) (q : Request) (valid : IsTrue (is_request q)) (b
         reply-told (RefusedWith refusal)
         (λ site stands sound. ap (λ (a : Answer). a.1) (subst (λ s. WritesOrStops (CoreStands new) (step site n q) site (Err s) out) e (wrote site stands sound)).0.1)
 
-    -- it fits behind the bytes that are there, which are none
-    pub refusal-fits : (stop : Stop) (refusal : Refusal) → stop ≡ Refused refusal → Wrote old new n q (Err stop) out
-        → length out + length (reply_spelling (RefusedWith refusal)) ≤ longest_frame
-    refusal-fits stop refusal e wrote =
-        let short = (refusal-told stop refusal e wrote).short in
-        let none = ap length (wrote before.site before.stands before.sound).1 in
-        omega (arith, short, none)
-
     module _ (small : IsTrue (is_u16 n)) where
       pub wrote-stands : (r : Result (Unit {0}) Stop) → Wrote old new n q r out → StandsForSite new
       wrote-stands (Ok u) wrote =
@@ -62,11 +53,11 @@ module _ (old new : Core) (n : ℕ) (q : Request) (valid : IsTrue (is_request q)
   is-written u after wrote e = let w = wrote site at.0 at.1 in ((w.0, stays-sound site n q small valid at.1), e ∙ w.1)
 
   -- it was refused, and then the refusal was written
-  pub is-refused : (stop : Stop) (refusal : Refusal) (after : List ℕ) → stop ≡ Refused refusal → Wrote old new n q (Err stop) out → after ≡ out ++ reply_spelling (RefusedWith refusal) →
+  pub is-refused : (stop : Stop) (refusal : Refusal) (after : List ℕ) → stop ≡ Refused refusal → Wrote old new n q (Err stop) out → after ≡ reply_spelling (RefusedWith refusal) →
       SiteStands new (step site n q).0 × (after ≡ reply_spelling (step site n q).1)
   is-refused stop refusal after e wrote written =
       let w = subst (λ s. WritesOrStops (CoreStands new) (step site n q) site (Err s) out) e (wrote site at.0 at.1) in
-      subst (λ (a : Answer). SiteStands new a.0 × (after ≡ reply_spelling a.1)) (sym w.0.1) ((w.0.0, at.1), written ∙ ap (λ o. o ++ reply_spelling (RefusedWith refusal)) w.1)
+      subst (λ (a : Answer). SiteStands new a.0 × (after ≡ reply_spelling a.1)) (sym w.0.1) ((w.0.0, at.1), written)
 
   -- there was no memory
   pub is-short : (stop : Stop) (after : List ℕ) → stop ≡ NoMemory → Wrote old new n q (Err stop) out → after ≡ out → SiteStands new site × (after ≡ [])

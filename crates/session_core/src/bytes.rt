@@ -23,7 +23,7 @@ ghost use Rattle.wire_talk.specs.Lent.{request_lent};
 ghost use Rattle.session_core.specs.Txns.{slot_read};
 ghost use Rattle.session_core.specs.Machine.{AsksFor, SiteStands, GivesBytes, opened_with, writing, Wrote};
 
-use crate::gives::{give_end, give_found};
+use crate::gives::{give_end, give_found, give_refused};
 use crate::reads_and_writes::own_write;
 use crate::stops::Stop;
 use crate::transactions::NotedRead;
@@ -36,7 +36,7 @@ use tardis_base::{
 };
 use wire_talk::{
     LentRequest, read_lent, read_request, talk_has_one_spelling, write_begun, write_done,
-    write_refused, write_reply,
+    write_reply,
 };
 
 /// The request that the bytes spell; None of other bytes, which are malformed.
@@ -255,7 +255,7 @@ impl SiteCore {
         match self.parts.serve_lent(actor, lent, out) {
             Ok(()) => Ok(()),
             Err(Stop::Refused(refusal)) => {
-                write_refused(&refusal, out);
+                give_refused(refusal, out);
                 Ok(())
             },
             Err(Stop::NoMemory) => Err(NoMemory),

@@ -3,21 +3,16 @@ use Rattle.plain_site.specs.Site.{Site}
 use Rattle.plain_site.specs.Step.{step}
 use Rattle.wire_talk.specs.Lent.{request_lent}
 use Rattle.session_core.specs.Machine.{SiteStands, GivesBytes, opened_with}
-use Rattle.session_core.proofs.Getting.{refusal-told, refusal-fits, wrote-stands, wrote-opening, is-written, is-refused, is-short}
+use Rattle.session_core.proofs.Getting.{refusal-told, wrote-stands, wrote-opening, is-written, is-refused, is-short}
 use Rattle.session_core.proofs.Telling.{small}
 use Rattle.session_core.proofs.Lending.{lent-unsure}
 use Rattle.session_core.proofs.SiteCore.reply_lent.Goals as goal
 use Rattle.session_core.proofs.SiteCore.reply_lent.Goals.{in-Ok, in-Err-Refused, in-Err-NoMemory}
 
-pub write_refused-requires-clause-valid : goal.write_refused-requires-clause-valid
-write_refused-requires-clause-valid c =
+pub give_refused-requires-clause-valid : goal.give_refused-requires-clause-valid
+give_refused-requires-clause-valid c =
     (refusal-told c.self.inside.parts c.args.actor (request_lent c.args.lent) c.requires.valid c.self.invariant c.serve_lent.new.self c.serve_lent.new.out c.in-Err-Refused.field-0 c.in-Err-Refused.refusal c.in-Err-Refused.field-0-is
     c.in-Err-Refused.ensures).valid
-
-pub write_refused-requires-clause-fits : goal.write_refused-requires-clause-fits
-write_refused-requires-clause-fits c =
-    refusal-fits c.self.inside.parts c.args.actor (request_lent c.args.lent) c.requires.valid c.self.invariant c.serve_lent.new.self c.serve_lent.new.out c.in-Err-Refused.field-0 c.in-Err-Refused.refusal c.in-Err-Refused.field-0-is
-    c.in-Err-Refused.ensures
 
 pub invariant_of-self : goal.invariant_of-self
 invariant_of-self c =
@@ -38,7 +33,7 @@ returns-clause-given c =
           subst (λ r. GivesBytes (SiteStands new) (step site n q) site r after) (sym w.result-is) (is-written old new n q c.requires.valid below site at out w.in-Ok.field-0 after w.in-Ok.ensures w.out-is)
       | in-Err-Refused w ↦ λ site at.
           subst (λ r. GivesBytes (SiteStands new) (step site n q) site r after) (sym w.result-is)
-          (is-refused old new n q c.requires.valid below site at out w.in-Err-Refused.field-0 w.in-Err-Refused.refusal after w.in-Err-Refused.field-0-is w.in-Err-Refused.ensures (w.out-is ∙ w.write_refused.ensures))
+          (is-refused old new n q c.requires.valid below site at out w.in-Err-Refused.field-0 w.in-Err-Refused.refusal after w.in-Err-Refused.field-0-is w.in-Err-Refused.ensures (w.out-is ∙ w.give_refused.ensures))
       | in-Err-NoMemory w ↦ λ site at.
           subst (λ r. GivesBytes (SiteStands new) (step site n q) site r after) (sym w.result-is)
           (is-short old new n q c.requires.valid below site at out w.in-Err-NoMemory.field-0 after w.in-Err-NoMemory.field-0-is w.in-Err-NoMemory.ensures w.out-is)
