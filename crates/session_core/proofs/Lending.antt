@@ -1,24 +1,19 @@
 -- Requests that are lent from their bytes.
-use Rattle.std.proofs.Common.{◌≡◌, ℕ, List, [], ◌∷◌, ◌==◌, length, true, Some, IsTrue, refl, ap, ◌∙◌, arith, eqb-true}
-use Rattle.std.specs.Prelude.{option_and_then}
-use Rattle.tardis_base.specs.declared.requests.Request.{Request}
-use Rattle.wire_item.specs.Fronts.{alone, front_of_code}
-use Rattle.wire_item.specs.Readings.{u8_front}
-use Rattle.wire_item.proofs.Codes.{code-read}
-use Rattle.wire_talk.specs.RequestReadings.{request_of, request_rows}
+use Rattle.std.proofs.Common.{ℕ, List, IsTrue, Option, Some, None, IfSome}
 use Rattle.plain_site.specs.Step.{is_sure}
-use Rattle.session_core.specs.declared.lent.LentRequest.{LentRequest}
-use Rattle.session_core.specs.declared.lent.LentRequest.TheVariants.{Begin, Get, Put, Delete, Commit}
-use Rattle.session_core.specs.Lent.{request_lent}
+use Rattle.wire_talk.specs.Laws.{RequestsHaveOneSpelling}
+use Rattle.wire_talk.specs.Lent.{request_lent}
+use Rattle.wire_talk.specs.Spelled.{SpellsRequest}
+use Rattle.wire_talk.specs.declared.lent_requests.LentRequest.{LentRequest}
+use Rattle.wire_talk.specs.declared.lent_requests.LentRequest.TheVariants.{Begin, Get, Put, Delete, Commit}
+use Rattle.session_core.specs.Machine.{AsksFor}
+use Rattle.session_core.proofs.Asking.{asks-for}
 
--- all of the bytes are read
-pub all-read : (bytes mid left : List ℕ) (code : ℕ) (q : Request) → u8_front bytes ≡ Some (code, mid) → front_of_code code request_rows mid ≡ Some (q, left) → (length left == 0) ≡ true → request_of bytes ≡ Some q
-all-read bytes mid left code q at read done =
-    ap (option_and_then (λ r. alone r.0 r.1)) (code-read request_rows bytes code mid at ∙ read) ∙ go left done
-  where
-    go : (left : List ℕ) → (length left == 0) ≡ true → alone q left ≡ Some q
-    go [] e = refl
-    go (x ∷ left) e = absurd (omega (arith, eqb-true (length (x ∷ left)) 0 e))
+-- the bytes ask for what is lent from them
+pub lent-asked : (bytes : List ℕ) (o : Option LentRequest) → RequestsHaveOneSpelling
+    → IfSome o (λ lent. SpellsRequest bytes (request_lent lent)) → IfSome o (λ lent. AsksFor bytes (Some (request_lent lent)))
+lent-asked bytes None law spelled = spelled
+lent-asked bytes (Some lent) law spelled = asks-for bytes (request_lent lent) law ((law.some bytes (request_lent lent)).1 spelled)
 
 -- memory may be wanting for each of them
 pub lent-unsure : (lent : LentRequest) → IsTrue (is_sure (request_lent lent)) → ⊥

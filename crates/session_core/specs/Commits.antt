@@ -31,8 +31,9 @@ commit_reply (Ended state) = EndedAt state
 -- the slot of the state below which the single transaction commits, where nothing below its read state is collected
 abbrev pub IsLandingOf : Core → OneKept → EndFlags → Slot → Type 0
 IsLandingOf core t flags slot =
-    (site : Site) → CoreStands core site → id_at core.store.table t.slot ≡ Some t.state → ((y : StateId) → IsTrue (is_above site.dag t.state y) → IsFalse (is_among y site.collected)) →
-    id_at core.store.table slot ≡ Some (landing site.dag (guarded flags t.reads (keys_of t.writes)) t.state)
+    (site : Site) → CoreStands core site → id_at core.store.table t.slot ≡ Some t.state
+    → ((y : StateId) → IsTrue (is_above site.dag t.state y) → IsFalse (is_among y site.collected))
+    → id_at core.store.table slot ≡ Some (landing site.dag (guarded flags t.reads (keys_of t.writes)) t.state)
 
 -- the next record of the site may arrive below these states
 abbrev pub NextMayArrive : Site → List StateId → List KeyWrite → Type 0
@@ -41,11 +42,15 @@ NextMayArrive site xs ws = own_count site ≢ 4294967295 → MayArrive site.limi
 -- the session's single transaction commits below the state of this slot
 abbrev pub CommitsAt : Core → Core → ℕ → Slot → EndFlags → ℕ → Result CommitEnd Stop → Type 0
 CommitsAt old new n slot flags k result =
-    (site : Site) → CoreStands old site → IsSound site → (t : SingleTxn) (x : StateId) → entry_of n site.txns ≡ Some (Single t) → id_at old.store.table slot ≡ Some x →
-    NextMayArrive site (x ∷ []) t.writes → DoesOrStops commit_reply (CoreStands new) (commit_at site n t flags k x) site result
+    (site : Site) → CoreStands old site → IsSound site
+    → (t : SingleTxn) (x : StateId) → entry_of n site.txns ≡ Some (Single t) → id_at old.store.table slot ≡ Some x
+    → NextMayArrive site (x ∷ []) t.writes
+    → DoesOrStops commit_reply (CoreStands new) (commit_at site n t flags k x) site result
 
 -- the session's transaction commits below the states of these slots
 abbrev pub CommitsBelow : Core → Core → ℕ → List Slot → Result CommitEnd Stop → Type 0
 CommitsBelow old new n below result =
-    (site : Site) → CoreStands old site → (t : Txn) (xs : List StateId) → entry_of n site.txns ≡ Some t → map (id_at old.store.table) below ≡ map (λ x. Some x) xs →
-    NextMayArrive site xs (writes_of t) → DoesOrStops commit_reply (CoreStands new) (commit_below site n xs (writes_of t) []) site result
+    (site : Site) → CoreStands old site
+    → (t : Txn) (xs : List StateId) → entry_of n site.txns ≡ Some t → map (id_at old.store.table) below ≡ map (λ x. Some x) xs
+    → NextMayArrive site xs (writes_of t)
+    → DoesOrStops commit_reply (CoreStands new) (commit_below site n xs (writes_of t) []) site result

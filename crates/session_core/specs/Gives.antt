@@ -48,7 +48,9 @@ Answers old new result answer = (site : Site) → CoreStands old site → IsSoun
 -- so for its open session
 abbrev pub AnswersIn : Core → Core → ℕ → Result Reply Stop → (Site → Session → Answer) → Type 0
 AnswersIn old new n result answer =
-    (site : Site) → CoreStands old site → IsSound site → (s : Session) → entry_of n site.sessions ≡ Some s → GivesOrStops (CoreStands new) (answer site s) site result
+    (site : Site) → CoreStands old site → IsSound site
+    → (s : Session) → entry_of n site.sessions ≡ Some s
+    → GivesOrStops (CoreStands new) (answer site s) site result
 
 -- it isn't memory that is wanting
 abbrev pub NeedsNoMemory : {A : Type 0} → Result A Stop → Type 0

@@ -13,5 +13,4 @@ pub mod NotedReads
 pub mod Merges
 pub mod Exchange
 pub mod Joins
-pub mod Lent
 pub mod Machine

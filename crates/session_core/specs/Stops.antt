@@ -1,7 +1,10 @@
 -- Why a request stops, by the fault that is met.
 use Rattle.tardis_base.specs.declared.faults.AddFault.{AddFault}
 use Rattle.tardis_base.specs.declared.faults.AddFault.TheVariants.{Full, PathFull, NoMemory as NoMemoryToAdd}
-use Rattle.tardis_base.specs.declared.replies.Refusal.TheVariants.{Unknown as IsUnknown, Below as IsBelow, Comparable as AreComparable, AlreadyOpen as IsOpen, SessionsFull as AreFull, TooMany as AreTooMany, Branches as HasBranches, Full as IsFull, PathFull as IsPathFull, FloorBack as IsFloorBack, Held as IsHeld, SeqEnd as HasNoNumber}
+use Rattle.tardis_base.specs.declared.replies.Refusal.TheVariants.{Unknown as IsUnknown, Below as IsBelow, Comparable as AreComparable}
+use Rattle.tardis_base.specs.declared.replies.Refusal.TheVariants.{AlreadyOpen as IsOpen, SessionsFull as AreFull, TooMany as AreTooMany}
+use Rattle.tardis_base.specs.declared.replies.Refusal.TheVariants.{Branches as HasBranches, Full as IsFull, PathFull as IsPathFull}
+use Rattle.tardis_base.specs.declared.replies.Refusal.TheVariants.{FloorBack as IsFloorBack, Held as IsHeld, SeqEnd as HasNoNumber}
 use Rattle.tardis_base.specs.declared.replies.Refusal.{Refusal}
 use Rattle.begin_rule.specs.declared.BeginFault.{BeginFault}
 use Rattle.begin_rule.specs.declared.BeginFault.TheVariants.{Unknown, Below}

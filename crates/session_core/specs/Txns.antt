@@ -47,10 +47,14 @@ ChangedAs old new n f full too_many (Err fault) = (fault ≡ (if full then too_m
 
 -- the session's transaction has read the key, which 256 others may not have been; or it has no transaction, and all is as before
 abbrev pub NotedAs : List (ℕ × Txn) → List (ℕ × Txn) → ℕ → List ℕ → Option (Result Unit TxnFault) → Type 0
-NotedAs old new n k (Some noted) = (t : Txn) × (entry_of n old ≡ Some t) × ChangedAs old new n (noting k) (has_no_place_to_read k (reads_of t)) too_many_reads noted
+NotedAs old new n k (Some noted) =
+    (t : Txn) × (entry_of n old ≡ Some t)
+    × ChangedAs old new n (noting k) (has_no_place_to_read k (reads_of t)) too_many_reads noted
 NotedAs old new n k None = (entry_of n old ≡ None) × (new ≡ old)
 
 -- the session's transaction has written to the key, beside at most 63 others; or it has no transaction, and all is as before
 abbrev pub PutAs : List (ℕ × Txn) → List (ℕ × Txn) → ℕ → List ℕ → Write → Option (Result Unit TxnFault) → Type 0
-PutAs old new n k w (Some put) = (t : Txn) × (entry_of n old ≡ Some t) × ChangedAs old new n (putting k w) (has_no_place_to_write k (writes_of t)) too_many_writes put
+PutAs old new n k w (Some put) =
+    (t : Txn) × (entry_of n old ≡ Some t)
+    × ChangedAs old new n (putting k w) (has_no_place_to_write k (writes_of t)) too_many_writes put
 PutAs old new n k w None = (entry_of n old ≡ None) × (new ≡ old)

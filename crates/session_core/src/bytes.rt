@@ -19,12 +19,11 @@ ghost use Rattle.session_core.specs.Stands.{CoreStands, StandsForSite};
 ghost use Rattle.session_core.specs.Guards.{HasTxn};
 ghost use Rattle.plain_dag.specs.Entries.{entry_of};
 ghost use Rattle.merge_txn.specs.declared.Txn.{Txn};
-ghost use Rattle.session_core.specs.Lent.{request_lent};
+ghost use Rattle.wire_talk.specs.Lent.{request_lent};
 ghost use Rattle.session_core.specs.Txns.{slot_read};
 ghost use Rattle.session_core.specs.Machine.{AsksFor, SiteStands, GivesBytes, opened_with, writing, Wrote};
 
-use crate::gives::{give_begun, give_done, give_end, give_found, give_refused};
-use crate::lent::{LentRequest, read_lent};
+use crate::gives::{give_end, give_found, give_refused};
 use crate::reads_and_writes::own_write;
 use crate::stops::Stop;
 use crate::transactions::NotedRead;
@@ -35,7 +34,10 @@ use tardis_base::{
     Begin, EndFlags, Key, Machine, NoMemory, Over, ReadFault, Refusal, Reply, ReplyBuf, Request,
     Value, Write,
 };
-use wire_talk::{read_request, talk_has_one_spelling, write_reply};
+use wire_talk::{
+    LentRequest, read_lent, read_request, talk_has_one_spelling, write_begun, write_done,
+    write_reply,
+};
 
 /// The request that the bytes spell; None of other bytes, which are malformed.
 fn asked(alloc: Global, bytes: &[u8]) -> Result<Option<Request>, NoMemory>
@@ -48,6 +50,14 @@ fn asked(alloc: Global, bytes: &[u8]) -> Result<Option<Request>, NoMemory>
         Err(ReadFault::Malformed) => Ok(None),
         Err(ReadFault::NoMemory) => Err(NoMemory),
     }
+}
+
+/// The request that the bytes spell, lent from them, where it is one that can be lent.
+fn asked_lent(bytes: &[u8]) -> Option<LentRequest<'_>>
+    ensures { IfSome result (λ lent. AsksFor bytes.now (Some (request_lent lent))) }
+{
+    talk_has_one_spelling();
+    read_lent(bytes)
 }
 
 /// The key of these bytes, which are copied.
@@ -183,7 +193,7 @@ impl Parts {
         ensures { Wrote self.old self.new actor (Request.Begin begin.now) result out.new }
     {
         let state = self.begin(actor, begin)?;
-        give_begun(state, out);
+        write_begun(state, out);
         Ok(())
     }
 
@@ -200,7 +210,7 @@ impl Parts {
     {
         match self.put(actor, key, write) {
             Ok(()) => {
-                give_done(out);
+                write_done(out);
                 Ok(())
             },
             Err(stop) => Err(stop),
@@ -316,7 +326,7 @@ impl Machine for SiteCore {
 
     fn act(&mut self, actor: u16, request: &[u8], out: &mut ReplyBuf) -> Result<(), NoMemory> {
         out.clear();
-        match read_lent(request) {
+        match asked_lent(request) {
             Some(lent) => self.reply_lent(actor, lent, out),
             None => self.reply_to_bytes(actor, request, out),
         }

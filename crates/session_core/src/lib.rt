@@ -19,7 +19,6 @@ mod exchange;
 mod floors;
 mod gives;
 mod joins;
-mod lent;
 mod merges;
 mod reads_and_writes;
 mod sessions;
