@@ -1,5 +1,5 @@
 -- The memory of a table that a state has left.
-use Rattle.std.proofs.Common.{◌≡◌, ℕ, suc, ◌+◌, ◌-◌, ◌<◌, ◌≤◌, Bool, true, false, not, ◌&&◌, ◌||◌, cond, eqb, leb, ltb, List, [], ◌∷◌, ◌++◌, length, map, filter, find, sum, take, drop, get_or, Option, Some, None, is_some, IsTrue, ◌⊎◌, inl, inr, refl, sym, ap, ap₂, subst, ◌∙◌, eqb-true, eq-eqb, length-append, arith}
+use Rattle.std.proofs.Common.{◌≡◌, ℕ, ◌+◌, ◌-◌, ◌<◌, ◌≤◌, Bool, true, false, not, ◌||◌, cond, eqb, leb, ltb, List, [], ◌∷◌, ◌++◌, length, map, sum, take, drop, get_or, Some, None, is_some, IsTrue, inl, inr, refl, sym, ap, ap₂, subst, ◌∙◌, eqb-true, eq-eqb, length-append, arith}
 use Rattle.std.specs.List.{list_all}
 use Rattle.std.specs.Option.{option_map_or, option_and_then}
 use Rattle.std.proofs.lemmas.Bool.{cases_Bool, and_parts, and_from, both_ways, ltb-true, lt-ltb, leb-true, le-leb, ne_eqb}
@@ -21,8 +21,8 @@ use Rattle.state_dag.specs.Shared.{common}
 use Rattle.state_dag.specs.Detached.{shared_slot, without_slot, passed_on, passing_on, forgetting, changed_at}
 use Rattle.state_dag.proofs.Following.{Follow, childless_slots}
 use Rattle.state_dag.proofs.Became.{follow-all, follow-in}
-use Rattle.state_dag.proofs.KeptEntries.{slots_of, placed, all-found, entries-first, found-in, found-none, placed-wider}
-use Rattle.state_dag.proofs.Memory.{kept-placed, kept-slots, entries-apart, slot-kept}
+use Rattle.state_dag.proofs.KeptEntries.{slots_of, placed, all-found, entries-first, found-in, found-none}
+use Rattle.state_dag.proofs.Memory.{kept-placed, kept-slots, entries-apart}
 use Rattle.state_dag.proofs.Known.{differ-filter}
 use Rattle.state_dag.proofs.LeftEntries.{Left, all-mid, before-mid, behind-mid, ids-mid, childless-mid, searched-mid, ids-left, childless-left, searched-left}
 use Rattle.state_dag.proofs.LeftTables.{common-passes, found-gone, gone-arrives, slot-other, arrives-other, order-new, heir-later, heir-other}

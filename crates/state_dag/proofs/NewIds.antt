@@ -14,9 +14,9 @@ uncounted-none counts x (e ∷ es) all beyond =
     let parts = and_parts (is_counted counts e.id) (list_all (λ (f : Entry). is_counted counts f.id) es) all in
     let rest = uncounted-none counts x es parts.1 beyond in
     let other : same_id x e.id ≡ false = false_from_ne_true (same_id x e.id) (λ same.
-        let both = and_parts (eqb x.site e.id.site) (eqb x.sequence e.id.sequence) same in
-        let of_site = ap (λ (n : ℕ). get_or counts (n - 1) 0) (eqb-true x.site e.id.site both.0) in
-        let as_late = eqb-true x.sequence e.id.sequence both.1 in
-        let within = leb-true e.id.sequence (get_or counts (e.id.site - 1) 0) parts.0 in
-        omega arith) in
+    let both = and_parts (eqb x.site e.id.site) (eqb x.sequence e.id.sequence) same in
+    let of_site = ap (λ (n : ℕ). get_or counts (n - 1) 0) (eqb-true x.site e.id.site both.0) in
+    let as_late = eqb-true x.sequence e.id.sequence both.1 in
+    let within = leb-true e.id.sequence (get_or counts (e.id.site - 1) 0) parts.0 in
+    omega arith) in
     rw rest (rw other refl)

@@ -1,10 +1,10 @@
 -- Slots by rising numbers.
-use Rattle.std.proofs.Common.{◌≡◌, ◌≢◌, ℕ, zero, suc, ◌+◌, ◌<◌, ◌≤◌, Bool, true, false, ltb, eqb, cond, List, [], ◌∷◌, ◌++◌, length, take, drop, get_or, find, Option, Some, None, ◌⊎◌, inl, inr, IsTrue, set, ◌&&◌, refl, sym, ap, ◌∙◌, le_refl, not-suc-le-zero, arith}
+use Rattle.std.proofs.Common.{◌≡◌, ◌≢◌, ℕ, zero, suc, ◌<◌, ◌≤◌, Bool, true, false, ltb, eqb, cond, List, [], ◌∷◌, ◌++◌, length, get_or, Option, Some, None, ◌⊎◌, inl, inr, set, ◌&&◌, refl, sym, ap, ◌∙◌, le_refl, not-suc-le-zero, arith}
 use Rattle.std.specs.List.{list_all, remove}
 use Rattle.std.specs.List.Sorted.{IsNonDecreasingBy}
 use Rattle.std.specs.Option.{option_and_then}
 use Rattle.std.specs.Prelude.{slice_get}
-use Rattle.std.proofs.lemmas.Bool.{cases_Bool, both_ways, and_parts, and_from, lt-ltb, ltb-true, ltb-false, eq-eqb, eqb-true, ne_eqb, cond-true, cond-false}
+use Rattle.std.proofs.lemmas.Bool.{cases_Bool, both_ways, and_parts, and_from, lt-ltb, ltb-true, ltb-false, eq-eqb, eqb-true, ne_eqb}
 use Rattle.std.proofs.lemmas.Option.{none-some, slice_get-get_or}
 use Rattle.tardis_base.specs.declared.ids.Slot.{Slot}
 use Rattle.state_dag.specs.declared.id_slots.NumberedSlot.{NumberedSlot}
@@ -57,21 +57,21 @@ pub number-removed : (es : List NumberedSlot) (n i m : ℕ) (d : NumberedSlot) �
     slot_of_number (remove es i) m ≡ cond (eqb m n) None (slot_of_number es m)
 number-removed [] n i m d rise lt is = absurd (not-suc-le-zero lt)
 number-removed (e ∷ es) n zero m d rise lt is = elim (cases_Bool (eqb m n)) [
-    | inl t ↦
-        let same = eqb-true m n t in
-        rw t (none-above e.sequence m es (omega arith) rise.0)
-    | inr f ↦
-        let other : eqb e.sequence m ≡ false = ne_eqb e.sequence m (λ q. both_ways (eqb m n) f (eq-eqb m n (omega arith))) in
-        rw f (rw other refl)
-  ]
+  | inl t ↦
+      let same = eqb-true m n t in
+      rw t (none-above e.sequence m es (omega arith) rise.0)
+  | inr f ↦
+      let other : eqb e.sequence m ≡ false = ne_eqb e.sequence m (λ q. both_ways (eqb m n) f (eq-eqb m n (omega arith))) in
+      rw f (rw other refl)
+]
 number-removed (e ∷ es) n (suc i) m d rise lt is = elim (cases_Bool (eqb e.sequence m)) [
-    | inl t ↦
-        let same = eqb-true e.sequence m t in
-        let less = one-above e.sequence es i d rise.0 (omega arith) in
-        let other : eqb m n ≡ false = ne_eqb m n (λ q. omega arith) in
-        rw other (rw t refl)
-    | inr f ↦ rw f (number-removed es n i m d rise.1 (omega arith) is)
-  ]
+  | inl t ↦
+      let same = eqb-true e.sequence m t in
+      let less = one-above e.sequence es i d rise.0 (omega arith) in
+      let other : eqb m n ≡ false = ne_eqb m n (λ q. omega arith) in
+      rw other (rw t refl)
+  | inr f ↦ rw f (number-removed es n i m d rise.1 (omega arith) is)
+]
 
 above-removed : (n : ℕ) (es : List NumberedSlot) (i : ℕ) → above n es ≡ true → above n (remove es i) ≡ true
 above-removed n [] zero up = refl
@@ -92,22 +92,22 @@ removed-rise (e ∷ es) (suc i) rise = (above-removed e.sequence es i rise.0, re
 pub number-added : (es : List NumberedSlot) (f : NumberedSlot) (m : ℕ) → slot_of_number es f.sequence ≡ None →
     slot_of_number (es ++ f ∷ []) m ≡ cond (eqb m f.sequence) (Some f.slot) (slot_of_number es m)
 number-added [] f m none = elim (cases_Bool (eqb m f.sequence)) [
-    | inl t ↦
-        let same : eqb f.sequence m ≡ true = eq-eqb f.sequence m (sym (eqb-true m f.sequence t)) in
-        rw t (rw same refl)
-    | inr u ↦
-        let other : eqb f.sequence m ≡ false = ne_eqb f.sequence m (λ q. both_ways (eqb m f.sequence) u (eq-eqb m f.sequence (sym q))) in
-        rw u (rw other refl)
-  ]
+  | inl t ↦
+      let same : eqb f.sequence m ≡ true = eq-eqb f.sequence m (sym (eqb-true m f.sequence t)) in
+      rw t (rw same refl)
+  | inr u ↦
+      let other : eqb f.sequence m ≡ false = ne_eqb f.sequence m (λ q. both_ways (eqb m f.sequence) u (eq-eqb m f.sequence (sym q))) in
+      rw u (rw other refl)
+]
 number-added (e ∷ es) f m none = elim (cases_Bool (eqb e.sequence f.sequence)) [
-    | inl t ↦ absurd (none-some e.slot (sym (rw t at none)))
-    | inr u ↦ elim (cases_Bool (eqb e.sequence m)) [
-        | inl t ↦
-            let other : eqb m f.sequence ≡ false = ne_eqb m f.sequence (λ q. both_ways (eqb e.sequence f.sequence) u (eq-eqb e.sequence f.sequence (eqb-true e.sequence m t ∙ q))) in
-            rw other (rw t refl)
-        | inr v ↦ rw v (number-added es f m (rw u at none))
-      ]
+  | inl t ↦ absurd (none-some e.slot (sym (rw t at none)))
+  | inr u ↦ elim (cases_Bool (eqb e.sequence m)) [
+    | inl t ↦
+        let other : eqb m f.sequence ≡ false = ne_eqb m f.sequence (λ q. both_ways (eqb e.sequence f.sequence) u (eq-eqb e.sequence f.sequence (eqb-true e.sequence m t ∙ q))) in
+        rw other (rw t refl)
+    | inr v ↦ rw v (number-added es f m (rw u at none))
   ]
+]
 
 -- one more that is above the number
 added-above : (n : ℕ) (es : List NumberedSlot) (f : NumberedSlot) → above n es ≡ true → n < f.sequence → above n (es ++ f ∷ []) ≡ true
@@ -120,9 +120,10 @@ added-above n (e ∷ es) f up less =
 pub added-rise : (es : List NumberedSlot) (f : NumberedSlot) → NumbersRise es → ((n : ℕ) → f.sequence ≤ n → slot_of_number es n ≡ None) → NumbersRise (es ++ f ∷ [])
 added-rise [] f rise none = (refl, tt)
 added-rise (e ∷ es) f rise none =
-    let less : e.sequence < f.sequence = below (cases_Bool (ltb e.sequence f.sequence)) in
-    (added-above e.sequence es f rise.0 less,
-    added-rise es f rise.1 (λ n le. let other : eqb e.sequence n ≡ false = ne_eqb e.sequence n (λ q. omega arith) in let told = none n le in rw other at told))
+    let less : e.sequence < f.sequence = below (cases_Bool (ltb e.sequence f.sequence)) in (
+      added-above e.sequence es f rise.0 less,
+      added-rise es f rise.1 (λ n le. let other : eqb e.sequence n ≡ false = ne_eqb e.sequence n (λ q. omega arith) in let told = none n le in rw other at told),
+    )
   where
     here : slot_of_number (e ∷ es) e.sequence ≡ Some e.slot
     here = (let same = eq-eqb e.sequence e.sequence refl in rw same refl)

@@ -1,5 +1,5 @@
 -- How the slots of ids stand in memory.
-use Rattle.std.specs.Prelude.{ℕ, Bool, ◌==◌, List, [], ◌∷◌, map, find, Option, nat_lt, IsTrue, slice_get}
+use Rattle.std.specs.Prelude.{ℕ, ◌==◌, List, [], ◌∷◌, find, Option, nat_lt, IsTrue, slice_get}
 use Rattle.std.specs.List.{list_all}
 use Rattle.std.specs.Option.{option_map, option_and_then}
 use Rattle.tardis_base.specs.declared.ids.StateId.{StateId}

@@ -43,9 +43,7 @@ use leads::gains;
 use named_paths::named_path;
 use nodes::{Node, first_from, is_node_above, node_at, root_node};
 use rooms::make_room;
-use slots::{
-    common_slot, drop_slot, drop_slots, list_slot, make_slot_room, next_slot, slot_at,
-};
+use slots::{common_slot, drop_slot, drop_slots, list_slot, make_slot_room, next_slot, slot_at};
 use std::alloc::Global;
 use std::marker::Model;
 use tardis_base::{Above, AddFault, Limits, NoMemory, PathList, Slot, StateId};

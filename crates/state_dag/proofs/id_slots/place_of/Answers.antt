@@ -1,4 +1,4 @@
-use Rattle.std.proofs.Common.{◌≡◌, ℕ, false, ltb, length, refl, sym, ap, rules, arith}
+use Rattle.std.proofs.Common.{false, ltb, refl, ap, rules, arith}
 use Rattle.std.proofs.lemmas.Bool.{both_ways, ltb-true, ltb-false}
 use Rattle.std.proofs.lemmas.List.Sorted.{IsPartitionPoint-from_clause, IsPartitionedBy-ltb}
 use Rattle.state_dag.specs.declared.id_slots.NumberedSlot.{NumberedSlot}

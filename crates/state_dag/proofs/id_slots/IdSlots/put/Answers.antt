@@ -1,4 +1,4 @@
-use Rattle.std.proofs.Common.{◌≡◌, ℕ, ◌<◌, ◌≤◌, ◌&&◌, List, Option, None, Some, Result, Ok, Err, cond, eqb, length, refl, sym, ap, ◌∙◌}
+use Rattle.std.proofs.Common.{List, Some, Result, Ok, Err, cond, eqb, refl, sym, ap, ◌∙◌}
 use Rattle.std.specs.Result.{OnOk}
 use Rattle.tardis_base.specs.declared.ids.StateId.{StateId}
 use Rattle.tardis_base.specs.declared.faults.NoMemory.{NoMemory}

@@ -1,5 +1,4 @@
-use Rattle.std.proofs.Common.{◌≡◌, sym, ap, subst, ◌∙◌, Option, Some}
-use Rattle.tardis_base.specs.declared.ids.Slot.{Slot}
+use Rattle.std.proofs.Common.{sym, ap, ◌∙◌, Some}
 use Rattle.state_dag.specs.declared.id_slots.NumberedSlot.{NumberedSlot}
 use Rattle.state_dag.specs.IdSlots.{slot_of_number}
 use Rattle.state_dag.proofs.NumberedSlots.{number-found}

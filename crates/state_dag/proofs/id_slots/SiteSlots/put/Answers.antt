@@ -1,4 +1,4 @@
-use Rattle.std.proofs.Common.{◌≡◌, ℕ, ◌≤◌, ◌++◌, ◌∷◌, [], None, cond, Some, eqb, sym, ap, subst, ◌∙◌, le_refl}
+use Rattle.std.proofs.Common.{◌≡◌, ℕ, ◌≤◌, None, cond, Some, eqb, sym, ap, subst, ◌∙◌, le_refl}
 use Rattle.state_dag.specs.declared.id_slots.NumberedSlot.{NumberedSlot}
 use Rattle.state_dag.specs.IdSlots.{slot_of_number, NumbersRise}
 use Rattle.state_dag.proofs.NumberedSlots.{number-added, added-rise}
