@@ -2,7 +2,6 @@
 use Rattle.std.proofs.Common.{◌≡◌, ℕ, ◌+◌, ◌-◌, ◌<◌, ◌≤◌, Bool, true, false, not, ◌&&◌, cond, eqb, leb, ltb, List, [], ◌∷◌, ◌++◌, length, map, filter, find, sum, take, get_or, set, Some, None, is_some, IsTrue, inl, inr, refl, sym, ap, ap₂, subst, ◌∙◌, arith}
 use Rattle.std.specs.List.{list_all}
 use Rattle.std.specs.Option.{option_map_or}
-use Rattle.std.specs.BTreeMap.{get}
 use Rattle.std.proofs.lemmas.Bool.{cases_eq, or_from, false_from_ne_true, and_parts, and_from, cases_Bool, cond-true, cond-false, ltb-true, ltb-false, leb-true, le-leb, lt-ltb}
 use Rattle.std.proofs.lemmas.List.{length-set, get_or-set_same, get_or-set_other}
 use Rattle.std.proofs.lemmas.Option.{none-some}
@@ -14,7 +13,7 @@ use Rattle.tardis_base.specs.Valid.{are_limits}
 use Rattle.fork_path.specs.Pairs.{are_ascending_pairs}
 use Rattle.state_dag.specs.declared.StateDag.TheInside.{Inside}
 use Rattle.state_dag.specs.declared.nodes.Node.{Node}
-use Rattle.state_dag.specs.Ids.{id_cmp}
+use Rattle.state_dag.specs.IdSlots.{slot_of_state}
 use Rattle.state_dag.specs.Table.{Entry, Table, entry_at, is_slot, arrive_in_order, arrival_at}
 use Rattle.state_dag.specs.Views.{entry_of, entries_from, entries_in, slot_of_id, is_counted, AllDiffer}
 use Rattle.state_dag.specs.Held.{kept_of, seen, IsHeld}
@@ -45,7 +44,7 @@ entries-same ns ms same (s ∷ slots) all =
     ∙ sym w.1
 
 module _ (a b : Inside) (held : IsHeld a) (limits : b.limits ≡ a.limits) (counts : b.counts ≡ a.counts) (known : b.known ≡ a.known) (leaves : b.leaves.items ≡ a.leaves.items) (order : b.order.items ≡ a.order.items) (kept : b.kept ≡ a.kept)
-    (same : entries_from 0 b.nodes.items ≡ entries_from 0 a.nodes.items) (slots : (x : StateId) → get id_cmp b.slots x ≡ get id_cmp a.slots x) where
+    (same : entries_from 0 b.nodes.items ≡ entries_from 0 a.nodes.items) (slots : (x : StateId) → slot_of_state b.slots x ≡ slot_of_state a.slots x) where
   pub seen-same : (seen b).entries ≡ (seen a).entries
   seen-same = ap (entries_in b.nodes.items) (ap₂ (λ (k : ℕ) (ss : List Slot). take k ss) kept order) ∙ entries-same b.nodes.items a.nodes.items same (kept_of a) (kept-placed a held)
 
@@ -165,7 +164,7 @@ module _ (a b : Inside) (held : IsHeld a) (ns : List Node) (n : Node) (id : Stat
   slot-fresh = found-none a.nodes.items (kept_of a) slot.0 (kept-placed a held) next.out
 
   module _ (f : Follow (Became (seen a) parents id slot) (seen a).entries (entries_in ns (kept_of a))) where
-    pub held-next : (i c : ℕ) → b.limits ≡ a.limits → b.known ≡ a.known + 1 → b.counts.items ≡ set a.counts.items i c → ((x : StateId) → get id_cmp b.slots x ≡ cond (same_id x id) (Some slot) (get id_cmp a.slots x)) →
+    pub held-next : (i c : ℕ) → b.limits ≡ a.limits → b.known ≡ a.known + 1 → b.counts.items ≡ set a.counts.items i c → ((x : StateId) → slot_of_state b.slots x ≡ cond (same_id x id) (Some slot) (slot_of_state a.slots x)) →
         b.leaves.items ≡ filter (λ s. not (is_slot_among s parents)) a.leaves.items ++ slot ∷ [] → a.kept < a.limits.max_kept →
         n.id ≡ id → n.arrival ≡ a.known → n.children.items ≡ [] → n.stand_ins.items ≡ [] → are_ascending_pairs n.path.pairs ≡ true →
         too_long (seen a) parents ≡ None → length n.path.pairs ≤ a.limits.max_path → i < length a.counts.items → c ≡ get_or a.counts.items i 0 + 1 → c < 4294967296 → i ≡ id.site - 1 → c ≡ id.sequence → IsHeld b

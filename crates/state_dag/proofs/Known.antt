@@ -14,7 +14,7 @@ use Rattle.plain_dag.specs.Begin.{last_arrived}
 use Rattle.plain_dag.specs.Laws.{StandInsAreShared}
 use Rattle.plain_dag.specs.Collection.{is_kept, kept_states}
 use Rattle.plain_dag.proofs.States.{Grows, dag-grows, any-witness, arrival-newest, arrival_is_below, child_is_known, child_arrives_later}
-use Rattle.plain_dag.proofs.Ids.{same_test, not-both, same_id_turns, same_id-true, same_id_self, among-append, among-first, among-cases}
+use Rattle.plain_dag.proofs.Ids.{same_test, not-both, same_id_turns, same_id-true, same_id_self, among-append, among-first}
 use Rattle.plain_dag.proofs.Histories.{known-stays, known-cases, newest-is-known}
 use Rattle.plain_dag.proofs.Known.{arrived-is_known}
 use Rattle.plain_dag.proofs.Searches.{among-filter, filtered-passes}

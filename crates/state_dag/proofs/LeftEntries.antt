@@ -1,13 +1,12 @@
 -- Entries of which one has gone, and what the others became.
-use Rattle.std.proofs.Common.{◌≡◌, ℕ, ◌<◌, ◌≤◌, Bool, true, false, not, ◌&&◌, ◌||◌, cond, eqb, ltb, List, [], ◌∷◌, ◌++◌, length, map, filter, find, Option, Some, None, IsTrue, ◌⊎◌, inl, inr, refl, sym, ap, ap₂, subst, ◌∙◌, eqb-true, eq-eqb, arith}
+use Rattle.std.proofs.Common.{◌≡◌, ℕ, ◌<◌, ◌≤◌, Bool, true, false, not, ◌||◌, cond, eqb, ltb, List, [], ◌∷◌, ◌++◌, length, map, filter, find, Option, Some, None, IsTrue, ◌⊎◌, inl, inr, refl, sym, ap, ap₂, subst, ◌∙◌, eqb-true, eq-eqb, arith}
 use Rattle.std.specs.List.{list_all}
-use Rattle.std.proofs.lemmas.Bool.{cases_Bool, and_parts, and_from, or_parts, or_left, or_right, both_ways, ltb-true, lt-ltb, ne_eqb, false_from_ne_true}
-use Rattle.std.proofs.lemmas.Option.{none-some, same_Some}
+use Rattle.std.proofs.lemmas.Bool.{cases_Bool, and_parts, and_from, or_parts, both_ways, ltb-true, lt-ltb, ne_eqb, false_from_ne_true}
 use Rattle.tardis_base.specs.declared.ids.StateId.{StateId}
 use Rattle.tardis_base.specs.declared.ids.Slot.{Slot}
 use Rattle.tardis_base.specs.Ids.{same_id, is_among}
 use Rattle.fork_path.specs.Pairs.{are_ascending_pairs, without_pairs_of}
-use Rattle.plain_dag.proofs.Ids.{same_id_turns, same_id-true, same_id_self, among-append}
+use Rattle.plain_dag.proofs.Ids.{same_id_turns, same_id-true, same_id_self}
 use Rattle.state_dag.specs.Table.{Entry, arrive_in_order}
 use Rattle.state_dag.specs.Views.{is_childless, slot_or, slot_of_id}
 use Rattle.state_dag.specs.Grown.{is_slot_among}

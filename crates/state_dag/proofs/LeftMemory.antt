@@ -1,8 +1,7 @@
 -- The memory of a table that a state has left.
-use Rattle.std.proofs.Common.{◌≡◌, ℕ, suc, ◌+◌, ◌-◌, ◌<◌, ◌≤◌, Bool, true, false, not, ◌&&◌, ◌||◌, cond, eqb, leb, ltb, List, [], ◌∷◌, ◌++◌, length, map, filter, find, sum, take, drop, get_or, Option, Some, None, is_some, IsTrue, ◌⊎◌, inl, inr, refl, sym, ap, ap₂, subst, ◌∙◌, eqb-true, eq-eqb, length-append, arith}
+use Rattle.std.proofs.Common.{◌≡◌, ℕ, ◌+◌, ◌-◌, ◌<◌, ◌≤◌, Bool, true, false, not, ◌||◌, cond, eqb, leb, ltb, List, [], ◌∷◌, ◌++◌, length, map, sum, take, drop, get_or, Some, None, is_some, IsTrue, inl, inr, refl, sym, ap, ap₂, subst, ◌∙◌, eqb-true, eq-eqb, length-append, arith}
 use Rattle.std.specs.List.{list_all}
 use Rattle.std.specs.Option.{option_map_or, option_and_then}
-use Rattle.std.specs.BTreeMap.{get}
 use Rattle.std.proofs.lemmas.Bool.{cases_Bool, and_parts, and_from, both_ways, ltb-true, lt-ltb, leb-true, le-leb, ne_eqb}
 use Rattle.tardis_base.specs.declared.ids.StateId.{StateId}
 use Rattle.tardis_base.specs.declared.ids.Slot.{Slot}
@@ -12,7 +11,7 @@ use Rattle.tardis_base.specs.Valid.{are_limits}
 use Rattle.fork_path.specs.Pairs.{are_ascending_pairs, without_pairs_of}
 use Rattle.state_dag.specs.declared.StateDag.TheInside.{Inside}
 use Rattle.state_dag.specs.declared.nodes.Node.{Node}
-use Rattle.state_dag.specs.Ids.{id_cmp}
+use Rattle.state_dag.specs.IdSlots.{slot_of_state}
 use Rattle.state_dag.specs.Table.{Entry, Table, entry_at, is_slot, arrive_in_order, arrival_at}
 use Rattle.state_dag.specs.Views.{entry_of, entries_in, slot_of_id, is_counted, AllDiffer}
 use Rattle.state_dag.specs.Held.{kept_of, seen, IsHeld}
@@ -22,8 +21,8 @@ use Rattle.state_dag.specs.Shared.{common}
 use Rattle.state_dag.specs.Detached.{shared_slot, without_slot, passed_on, passing_on, forgetting, changed_at}
 use Rattle.state_dag.proofs.Following.{Follow, childless_slots}
 use Rattle.state_dag.proofs.Became.{follow-all, follow-in}
-use Rattle.state_dag.proofs.KeptEntries.{slots_of, placed, all-found, entries-first, found-in, found-none, placed-wider}
-use Rattle.state_dag.proofs.Memory.{kept-placed, kept-slots, entries-apart, slot-kept}
+use Rattle.state_dag.proofs.KeptEntries.{slots_of, placed, all-found, entries-first, found-in, found-none}
+use Rattle.state_dag.proofs.Memory.{kept-placed, kept-slots, entries-apart}
 use Rattle.state_dag.proofs.Known.{differ-filter}
 use Rattle.state_dag.proofs.LeftEntries.{Left, all-mid, before-mid, behind-mid, ids-mid, childless-mid, searched-mid, ids-left, childless-left, searched-left}
 use Rattle.state_dag.proofs.LeftTables.{common-passes, found-gone, gone-arrives, slot-other, arrives-other, order-new, heir-later, heir-other}
@@ -283,7 +282,7 @@ module _ (a b : Inside) (held : IsHeld a) (slot heir : Slot) (fork : Bool) (p : 
       ]
 
       pub held-left : b.limits ≡ a.limits → b.counts ≡ a.counts → b.known ≡ a.known → b.leaves.items ≡ without_slot slot a.leaves.items →
-          ((x : StateId) → get id_cmp b.slots x ≡ cond (same_id x (get_or a.nodes.items slot.0 d).id) None (get id_cmp a.slots x)) → IsHeld b
+          ((x : StateId) → slot_of_state b.slots x ≡ cond (same_id x (get_or a.nodes.items slot.0 d).id) None (slot_of_state a.slots x)) → IsHeld b
       held-left limits counts known leaves slots =
           let most = ap (λ (l : Limits). l.max_kept) limits in
           let total = w.count in

@@ -1,18 +1,13 @@
 -- What the nodes become as a state leaves the table.
-use Rattle.std.proofs.Common.{◌≡◌, ℕ, ◌+◌, ◌<◌, ◌≤◌, Bool, true, false, not, ◌||◌, cond, eqb, ltb, List, [], ◌∷◌, ◌++◌, length, map, filter, take, drop, get_or, set, inl, inr, refl, sym, ap, ap₂, subst, ◌∙◌, eqb-true, eq-eqb, arith}
-use Rattle.std.specs.List.{list_any, list_all, cons_option}
-use Rattle.std.specs.Option.{option_map}
-use Rattle.std.proofs.lemmas.Bool.{cases_Bool, and_parts, ltb-true, ne_eqb}
-use Rattle.std.proofs.lemmas.List.Folds.{list_any_more, list_any_at}
+use Rattle.std.proofs.Common.{◌≡◌, ℕ, ◌+◌, ◌<◌, Bool, true, false, not, ◌||◌, cond, eqb, List, [], ◌∷◌, length, map, take, drop, get_or, inl, inr, refl, sym, ap, ap₂, ◌∙◌, eq-eqb}
+use Rattle.std.specs.List.{list_all}
+use Rattle.std.proofs.lemmas.Bool.{cases_Bool, and_parts, ne_eqb}
+use Rattle.std.proofs.lemmas.List.Folds.{list_any_more}
 use Rattle.tardis_base.specs.declared.ids.Slot.{Slot}
-use Rattle.state_dag.specs.declared.nodes.Node.{Node}
 use Rattle.state_dag.specs.Table.{Entry}
-use Rattle.state_dag.specs.Views.{entry_of, entries_in}
 use Rattle.state_dag.specs.Grown.{is_slot_among}
-use Rattle.state_dag.specs.Nodes.{are_places}
 use Rattle.state_dag.specs.Detached.{passed_on, passing_on, forgetting, changed_at}
 use Rattle.fork_path.specs.Pairs.{without_pairs_of}
-use Rattle.state_dag.proofs.KeptEntries.{placed, entries-first}
 
 -- ===== Changes that say the same a second time
 

@@ -1,8 +1,8 @@
 -- What a table stands for once a state has left it.
-use Rattle.std.proofs.Common.{◌≡◌, ℕ, suc, ◌+◌, ◌<◌, ◌≤◌, Bool, true, false, not, ◌&&◌, ◌||◌, cond, eqb, leb, ltb, List, [], ◌∷◌, ◌++◌, length, map, filter, find, slice_get, get_or, Option, Some, None, is_some, IsTrue, IsFalse, ◌⊎◌, inl, inr, refl, sym, ap, ap₂, subst, ◌∙◌, eqb-true, eq-eqb, arith}
-use Rattle.std.specs.List.{list_any, list_all, range_with_len}
+use Rattle.std.proofs.Common.{◌≡◌, ℕ, suc, ◌<◌, ◌≤◌, Bool, true, false, not, ◌&&◌, ◌||◌, cond, eqb, leb, ltb, List, [], ◌∷◌, ◌++◌, length, map, filter, find, slice_get, get_or, Option, Some, None, is_some, IsTrue, IsFalse, ◌⊎◌, inl, inr, refl, sym, ap, ap₂, subst, ◌∙◌, eqb-true, eq-eqb, arith}
+use Rattle.std.specs.List.{list_all, range_with_len}
 use Rattle.std.specs.Option.{option_map, option_map_or, option_and_then}
-use Rattle.std.proofs.lemmas.Bool.{cases_Bool, and_parts, and_from, or_parts, both_ways, ltb-true, leb-true, le-ltb, lt-ltb, ne_eqb, not-true, cond-true, cond-false, false_from_ne_true}
+use Rattle.std.proofs.lemmas.Bool.{cases_Bool, and_parts, and_from, or_parts, both_ways, ltb-true, ne_eqb, not-true, cond-true, cond-false, false_from_ne_true}
 use Rattle.std.proofs.lemmas.Option.{none-some, same_Some}
 use Rattle.tardis_base.specs.declared.ids.StateId.{StateId}
 use Rattle.tardis_base.specs.declared.ids.Slot.{Slot}
@@ -16,7 +16,7 @@ use Rattle.plain_dag.specs.Above.{is_above}
 use Rattle.plain_dag.specs.Collection.{is_kept, kept_states, stand_in, shared_stand_in, common}
 use Rattle.plain_dag.specs.Paths.{is_fork, leads_to, fork_path}
 use Rattle.plain_dag.specs.Laws.{HandsOver}
-use Rattle.plain_dag.proofs.Ids.{not-both, among-first, among-later, among-cases, same_id_self}
+use Rattle.plain_dag.proofs.Ids.{not-both, among-first, among-later, among-cases}
 use Rattle.plain_dag.proofs.Order.{ancestors-arrive-earlier}
 use Rattle.plain_dag.proofs.States.{child_arrives_later}
 use Rattle.plain_dag.proofs.Joining.{hands-over}
@@ -34,7 +34,7 @@ use Rattle.state_dag.proofs.SharedSlots.{common-named}
 use Rattle.state_dag.proofs.Standing.{shown, slot-is_kept, slots-tell}
 use Rattle.state_dag.proofs.Calls.{named-of_slot}
 use Rattle.state_dag.proofs.ParentSlots.{same-slot}
-use Rattle.state_dag.proofs.LeftEntries.{Left, found-mid, found-other, found-out, all-mid, order-mid, ids-mid, slots-mid, distinct-without, ids-left, slots-left, order-left}
+use Rattle.state_dag.proofs.LeftEntries.{Left, found-mid, found-other, found-out, order-mid, ids-mid, slots-mid, distinct-without, ids-left, slots-left, order-left}
 
 -- ===== What all of several slots are
 

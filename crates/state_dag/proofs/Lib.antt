@@ -1,4 +1,6 @@
 -- Lemmas on the table of states.
+pub mod NumberedSlots
+pub mod NewIds
 pub mod Places
 pub mod Following
 pub mod Rising

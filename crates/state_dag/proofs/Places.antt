@@ -1,7 +1,7 @@
 -- Entries by the places of their nodes.
 pub use Rattle.state_dag.specs.Views.{AllDiffer}
-use Rattle.std.proofs.Common.{◌≡◌, ℕ, ◌+◌, ◌<◌, ◌≤◌, true, false, cond, ◌≢◌, List, [], ◌∷◌, ◌++◌, length, map, get_or, find, Option, Some, None, is_some, eqb, refl, sym, ◌∙◌, ap, subst, inl, inr, eq-eqb, eqb-true, arith}
-use Rattle.std.proofs.lemmas.Bool.{cases_Bool, both_ways, false_from_ne_true, or_left, or_right, cases_lt, cond-true, cond-false}
+use Rattle.std.proofs.Common.{◌≡◌, ℕ, ◌+◌, ◌<◌, ◌≤◌, true, false, ◌≢◌, List, [], ◌∷◌, ◌++◌, length, map, get_or, find, Some, None, is_some, eqb, refl, sym, ap, subst, inl, inr, eq-eqb, eqb-true, arith}
+use Rattle.std.proofs.lemmas.Bool.{cases_Bool, both_ways, false_from_ne_true, or_left, or_right}
 use Rattle.std.specs.Option.{option_map}
 use Rattle.std.specs.Prelude.{slice_get}
 use Rattle.std.proofs.lemmas.Option.{none-some, same_Some}

@@ -1,13 +1,12 @@
 -- What holds of the table's memory at all times.
 use Rattle.std.specs.Prelude.{◌≡◌, ◌+◌, ◌^◌, ◌≤◌, ◌<◌, List, length, map, filter, take, sum, IsTrue, nat_lt, nat_le}
 use Rattle.std.specs.List.{list_all}
-use Rattle.std.specs.BTreeMap.{get}
 use Rattle.tardis_base.specs.declared.ids.StateId.{StateId}
 use Rattle.tardis_base.specs.declared.ids.Slot.{Slot}
 use Rattle.tardis_base.specs.Valid.{are_limits}
 use Rattle.fork_path.specs.Pairs.{are_ascending_pairs}
 use Rattle.state_dag.specs.declared.StateDag.TheInside.{Inside}
-use Rattle.state_dag.specs.Ids.{id_cmp}
+use Rattle.state_dag.specs.IdSlots.{slot_of_state}
 use Rattle.state_dag.specs.Table.{Table, is_slot, arrive_in_order, arrival_at}
 use Rattle.state_dag.specs.Views.{entries_in, is_childless, slot_of_id, is_counted, AllDiffer}
 use Rattle.state_dag.specs.Nodes.{are_places, AreDistinct}
@@ -51,4 +50,4 @@ pub record IsHeld (a : Inside) : Type 0 where
   pub counted : a.known ≡ sum a.counts.items + 1
   pub among_counted : IsTrue (list_all (λ e. is_counted a.counts.items e.id) (seen a).entries)
   pub once : AllDiffer (map (λ e. e.id) (seen a).entries)
-  pub indexed : (x : StateId) → get id_cmp a.slots x ≡ slot_of_id (seen a).entries x
+  pub indexed : (x : StateId) → slot_of_state a.slots x ≡ slot_of_id (seen a).entries x

@@ -1,11 +1,10 @@
 -- What the nodes of a table get as it grows.
 use Rattle.std.specs.Prelude.{◌≡◌, ℕ, ◌+◌, ◌≤◌, ◌<◌, Bool, false, ◌==◌, ◌&&◌, ◌||◌, List, [], ◌∷◌, ◌++◌, length, map, filter, Option, Some, None, Result, Ok}
-use Rattle.std.specs.Prelude.{Err, IsTrue, nat_lt, nat_le, vec_len, vec_capacity, slice_get, slice_set, slice_index_or, unwrap_or, if◌then◌else◌, ⊤}
+use Rattle.std.specs.Prelude.{Err, IsTrue, nat_lt, vec_len, vec_capacity, slice_get, slice_set, slice_index_or, unwrap_or, if◌then◌else◌, ⊤}
 use Rattle.std.specs.List.{list_any, list_all, flat_map}
 use Rattle.std.specs.Option.{option_map_or}
 use Rattle.tardis_base.specs.declared.ids.StateId.{StateId}
 use Rattle.tardis_base.specs.declared.ids.Slot.{Slot}
-use Rattle.tardis_base.specs.declared.records.Limits.{Limits}
 use Rattle.tardis_base.specs.declared.faults.AddFault.{AddFault}
 use Rattle.tardis_base.specs.declared.faults.AddFault.TheVariants.{Full, PathFull, NoMemory}
 use Rattle.tardis_base.specs.declared.replies.Refusal.{Refusal}

@@ -26,6 +26,7 @@ ghost use Rattle.state_dag.specs.Answers.{MayBeAdded, AddedTo, IsNewSlot, KeepsS
 mod changes;
 mod collection;
 mod growth;
+mod id_slots;
 mod leads;
 mod named_paths;
 mod new_paths;
@@ -37,16 +38,13 @@ mod sums;
 use changes::{grow, put_node, set_count};
 use collection::{free_slot, hand_over};
 use growth::{check_path, new_node};
+use id_slots::IdSlots;
 use leads::gains;
 use named_paths::named_path;
 use nodes::{Node, first_from, is_node_above, node_at, root_node};
 use rooms::make_room;
-use slots::{
-    common_slot, drop_id, drop_slot, drop_slots, list_slot, make_slot_room, next_slot, put_slot,
-    slot_at, slot_in,
-};
+use slots::{common_slot, drop_slot, drop_slots, list_slot, make_slot_room, next_slot, slot_at};
 use std::alloc::Global;
-use std::collections::BTreeMap;
 use std::marker::Model;
 use tardis_base::{Above, AddFault, Limits, NoMemory, PathList, Slot, StateId};
 
@@ -65,7 +63,7 @@ pub struct StateDag {
     /// How many states are kept.
     kept: u32,
     leaves: Vec<Slot>,
-    slots: BTreeMap<StateId, Slot>,
+    slots: IdSlots,
 }
 
 impl Model for StateDag {
@@ -94,8 +92,8 @@ impl StateDag {
         order.push(Slot(0))?;
         let mut leaves = Vec::new(alloc);
         leaves.push(Slot(0))?;
-        let mut slots = BTreeMap::new(alloc);
-        slots.insert(StateId::ROOT, Slot(0))?;
+        let mut slots = IdSlots::new(alloc);
+        slots.put(StateId::ROOT, Slot(0))?;
         Ok(StateDag {
             limits: *limits,
             counts,
@@ -145,7 +143,7 @@ impl StateDag {
         make_slot_room(&mut self.order)?;
         make_slot_room(&mut self.leaves)?;
         let slot = next_slot(&self.order, self.kept);
-        put_slot(&mut self.slots, id, slot)?;
+        self.slots.put(id, slot)?;
         drop_slots(&self.nodes, &mut self.leaves, parents);
         grow(&mut self.nodes, parents, &gains, id, slot);
         put_node(&mut self.nodes, slot, node);
@@ -193,7 +191,7 @@ impl StateDag {
         let heir = node.stand_ins[0];
         let is_fork = node.children.len() > 1;
         drop_slot(&self.nodes, &mut self.leaves, slot);
-        drop_id(&mut self.slots, id);
+        self.slots.remove(id);
         let kept = &self.order[..self.kept as usize];
         hand_over(&mut self.nodes, kept, place, slot, heir, is_fork);
         free_slot(&mut self.order, place);
@@ -228,7 +226,7 @@ impl StateDag {
         ensures kept { IfSome result (λ slot. IsTrue (is_kept_at self.now slot)) }
         ensures none { result ≡ None → (rs : List Record) (ks : List StateId) → Stands self.now rs ks → is_kept rs ks id ≡ false }
     {
-        slot_in(&self.slots, id)
+        self.slots.get(id)
     }
 
     /// Whether a state is kept at the slot. The cost grows with the logarithm of the number of kept states.

@@ -1,45 +1,13 @@
 //! Which slot each kept state has.
 
-ghost use Rattle.std.specs.Prelude.{◌≡◌, ℕ, ◌==◌, ◌≤◌, ◌<◌, not, filter, slice_get, Some, None, OnErr, OnOk, vec_len, vec_capacity, if◌then◌else◌};
-ghost use Rattle.std.specs.BTreeMap.{get};
-ghost use Rattle.tardis_base.specs.declared.ids.StateId.{StateId};
-ghost use Rattle.tardis_base.specs.Ids.{same_id};
-ghost use Rattle.state_dag.specs.Ids.{id_cmp};
+ghost use Rattle.std.specs.Prelude.{◌≡◌, ◌==◌, ◌≤◌, ◌<◌, not, filter, slice_get, OnOk, vec_len, vec_capacity};
 ghost use Rattle.state_dag.specs.Shared.{common};
 ghost use Rattle.state_dag.specs.Table.{arrival_at};
 ghost use Rattle.state_dag.specs.Grown.{is_slot_among};
 ghost use Rattle.state_dag.specs.Nodes.{table_of, slot_after_all, with_slot, Rise};
 
 use crate::nodes::{Node, arrival_in, first_from};
-use std::collections::BTreeMap;
-use tardis_base::{NoMemory, Slot, StateId};
-
-/// The slot of the state, if it has one.
-pub fn slot_in(slots: &BTreeMap<StateId, Slot>, id: StateId) -> Option<Slot>
-    ensures { result ≡ get id_cmp slots.now id }
-{
-    slots.get(&id).copied()
-}
-
-/// Gives the state the slot. With no memory all slots stay.
-pub fn put_slot(
-    slots: &mut BTreeMap<StateId, Slot>,
-    id: StateId,
-    slot: Slot,
-) -> Result<(), NoMemory>
-    ensures put { OnOk result ((x : StateId) → get id_cmp slots.new x ≡ (if same_id x id then Some slot else get id_cmp slots.old x)) }
-    ensures same { OnErr result ((x : StateId) → get id_cmp slots.new x ≡ get id_cmp slots.old x) }
-{
-    slots.insert(id, slot)?;
-    Ok(())
-}
-
-/// The state has no slot any more.
-pub fn drop_id(slots: &mut BTreeMap<StateId, Slot>, id: StateId)
-    ensures { (x : StateId) → get id_cmp slots.new x ≡ (if same_id x id then None else get id_cmp slots.old x) }
-{
-    let _ = slots.remove(&id);
-}
+use tardis_base::{NoMemory, Slot};
 
 /// Makes room for one more slot.
 pub fn make_slot_room(slots: &mut Vec<Slot>) -> Result<(), NoMemory>

@@ -17,6 +17,7 @@ use Rattle.state_dag.specs.Answers.{MayBeAdded, AddedTo, IsNewSlot, KeepsSlots}
 use Rattle.state_dag.specs.Grown.{is_slot_among, refusal_of, IsNewEntry, IsGrown}
 use Rattle.state_dag.specs.Nodes.{path_refusal, slot_after_all, with_slot}
 use Rattle.state_dag.specs.Held.{kept_of, seen}
+use Rattle.state_dag.proofs.NewIds.{uncounted-none}
 use Rattle.state_dag.proofs.Following.{Follow}
 use Rattle.state_dag.proofs.Became.{Became}
 use Rattle.state_dag.proofs.Memory.{entries-long, found-all, kept-placed}
@@ -120,11 +121,19 @@ invariant_of-self-in_err-make_slot_room-2 c =
     let b : Inside = record { limits = a.limits; counts = a.counts; known = a.known; nodes = c.make_room.new.nodes; order = c.make_slot_room.new.slots; kept = a.kept; leaves = c.make_slot_room-2.new.slots; slots = a.slots } in
     held-stays a b c.self.invariant refl refl refl c.make_slot_room-2.ensures.items c.make_slot_room.ensures.items refl c.make_room.ensures.same (λ x. refl)
 
-pub invariant_of-self-in_err-put_slot : goal.invariant_of-self-in_err-put_slot
-invariant_of-self-in_err-put_slot c =
+pub put-requires : goal.put-requires
+put-requires c = λ x of_site from.
     let a = c.self.inside in
-    let b : Inside = record { limits = a.limits; counts = a.counts; known = a.known; nodes = c.make_room.new.nodes; order = c.make_slot_room.new.slots; kept = a.kept; leaves = c.make_slot_room-2.new.slots; slots = c.put_slot.new.slots } in
-    held-stays a b c.self.invariant refl refl refl c.make_slot_room-2.ensures.items c.make_slot_room.ensures.items refl c.make_room.ensures.same c.in_err-put_slot.ensures.same
+    let i = c.args.id.site - 1 in
+    let next = c.requires.next ∙ ap (λ (m : ℕ). m + 1) (unwrap_or-slice_get c.args.self.now.counts i 0 ∙ ap (λ (t : Table). get_or t.counts i 0) (sym c.self.view_is)) in
+    let counted = ap (λ (n : ℕ). get_or a.counts.items (n - 1) 0) of_site in
+    c.self.invariant.indexed x ∙ uncounted-none a.counts.items x (seen a).entries c.self.invariant.among_counted (omega arith)
+
+pub invariant_of-self-in_err-put : goal.invariant_of-self-in_err-put
+invariant_of-self-in_err-put c =
+    let a = c.self.inside in
+    let b : Inside = record { limits = a.limits; counts = a.counts; known = a.known; nodes = c.make_room.new.nodes; order = c.make_slot_room.new.slots; kept = a.kept; leaves = c.make_slot_room-2.new.slots; slots = c.put.new.self } in
+    held-stays a b c.self.invariant refl refl refl c.make_slot_room-2.ensures.items c.make_slot_room.ensures.items refl c.make_room.ensures.same c.in_err-put.ensures.same
 
 pub overflow_add-self : goal.overflow_add-self
 overflow_add-self c =
@@ -247,37 +256,37 @@ returns-in_err-make_slot_room-2-clause-added c = λ rs ks r stands is may.
     let wrong : AddFault → Result Slot AddFault = λ f. Err f in
     subst (λ (z : Result Slot AddFault). AddedTo old (seen b) rs ks r z) (sym (p.1 ∙ ap wrong p.2)) stays
 
-pub returns-in_err-put_slot-clause-same : goal.returns-in_err-put_slot-clause-same
-returns-in_err-put_slot-clause-same c =
+pub returns-in_err-put-clause-same : goal.returns-in_err-put-clause-same
+returns-in_err-put-clause-same c =
     let a = c.self.inside in
     let old = c.args.self.now in
-    let b : Inside = record { limits = a.limits; counts = a.counts; known = a.known; nodes = c.make_room.new.nodes; order = c.make_slot_room.new.slots; kept = a.kept; leaves = c.make_slot_room-2.new.slots; slots = c.put_slot.new.slots } in
-    let stays : seen b ≡ old = view-same a b c.self.invariant refl refl refl c.make_slot_room-2.ensures.items c.make_slot_room.ensures.items refl c.make_room.ensures.same c.in_err-put_slot.ensures.same old c.self.view_is in
-    on_err c.from_residual-in_err-put_slot.result (seen b ≡ old) stays
+    let b : Inside = record { limits = a.limits; counts = a.counts; known = a.known; nodes = c.make_room.new.nodes; order = c.make_slot_room.new.slots; kept = a.kept; leaves = c.make_slot_room-2.new.slots; slots = c.put.new.self } in
+    let stays : seen b ≡ old = view-same a b c.self.invariant refl refl refl c.make_slot_room-2.ensures.items c.make_slot_room.ensures.items refl c.make_room.ensures.same c.in_err-put.ensures.same old c.self.view_is in
+    on_err c.from_residual-in_err-put.result (seen b ≡ old) stays
 
-pub returns-in_err-put_slot-clause-keeps : goal.returns-in_err-put_slot-clause-keeps
-returns-in_err-put_slot-clause-keeps c =
+pub returns-in_err-put-clause-keeps : goal.returns-in_err-put-clause-keeps
+returns-in_err-put-clause-keeps c =
     let a = c.self.inside in
     let old = c.args.self.now in
-    let b : Inside = record { limits = a.limits; counts = a.counts; known = a.known; nodes = c.make_room.new.nodes; order = c.make_slot_room.new.slots; kept = a.kept; leaves = c.make_slot_room-2.new.slots; slots = c.put_slot.new.slots } in
-    let stays : seen b ≡ old = view-same a b c.self.invariant refl refl refl c.make_slot_room-2.ensures.items c.make_slot_room.ensures.items refl c.make_room.ensures.same c.in_err-put_slot.ensures.same old c.self.view_is in
+    let b : Inside = record { limits = a.limits; counts = a.counts; known = a.known; nodes = c.make_room.new.nodes; order = c.make_slot_room.new.slots; kept = a.kept; leaves = c.make_slot_room-2.new.slots; slots = c.put.new.self } in
+    let stays : seen b ≡ old = view-same a b c.self.invariant refl refl refl c.make_slot_room-2.ensures.items c.make_slot_room.ensures.items refl c.make_room.ensures.same c.in_err-put.ensures.same old c.self.view_is in
     subst (λ (t : Table). KeepsSlots old t) (sym stays) (λ s x h. h)
 
-pub returns-in_err-put_slot-clause-kept : goal.returns-in_err-put_slot-clause-kept
-returns-in_err-put_slot-clause-kept c =
+pub returns-in_err-put-clause-kept : goal.returns-in_err-put-clause-kept
+returns-in_err-put-clause-kept c =
     let a = c.self.inside in
     let old = c.args.self.now in
-    let b : Inside = record { limits = a.limits; counts = a.counts; known = a.known; nodes = c.make_room.new.nodes; order = c.make_slot_room.new.slots; kept = a.kept; leaves = c.make_slot_room-2.new.slots; slots = c.put_slot.new.slots } in
-    let stays : seen b ≡ old = view-same a b c.self.invariant refl refl refl c.make_slot_room-2.ensures.items c.make_slot_room.ensures.items refl c.make_room.ensures.same c.in_err-put_slot.ensures.same old c.self.view_is in
+    let b : Inside = record { limits = a.limits; counts = a.counts; known = a.known; nodes = c.make_room.new.nodes; order = c.make_slot_room.new.slots; kept = a.kept; leaves = c.make_slot_room-2.new.slots; slots = c.put.new.self } in
+    let stays : seen b ≡ old = view-same a b c.self.invariant refl refl refl c.make_slot_room-2.ensures.items c.make_slot_room.ensures.items refl c.make_room.ensures.same c.in_err-put.ensures.same old c.self.view_is in
     subst (λ (t : Table). (s : Slot) → IsTrue (is_kept_at old s) → IsTrue (is_kept_at t s) × (arrival_at t s ≡ arrival_at old s)) (sym stays) (λ s h. (h, refl))
 
-pub returns-in_err-put_slot-clause-added : goal.returns-in_err-put_slot-clause-added
-returns-in_err-put_slot-clause-added c = λ rs ks r stands is may.
+pub returns-in_err-put-clause-added : goal.returns-in_err-put-clause-added
+returns-in_err-put-clause-added c = λ rs ks r stands is may.
     let a = c.self.inside in
     let old = c.args.self.now in
-    let b : Inside = record { limits = a.limits; counts = a.counts; known = a.known; nodes = c.make_room.new.nodes; order = c.make_slot_room.new.slots; kept = a.kept; leaves = c.make_slot_room-2.new.slots; slots = c.put_slot.new.slots } in
-    let stays : seen b ≡ old = view-same a b c.self.invariant refl refl refl c.make_slot_room-2.ensures.items c.make_slot_room.ensures.items refl c.make_room.ensures.same c.in_err-put_slot.ensures.same old c.self.view_is in
-    let p = err_from_is_err_and c.from_residual-in_err-put_slot.result c.from_residual-in_err-put_slot.ensures.1 in
+    let b : Inside = record { limits = a.limits; counts = a.counts; known = a.known; nodes = c.make_room.new.nodes; order = c.make_slot_room.new.slots; kept = a.kept; leaves = c.make_slot_room-2.new.slots; slots = c.put.new.self } in
+    let stays : seen b ≡ old = view-same a b c.self.invariant refl refl refl c.make_slot_room-2.ensures.items c.make_slot_room.ensures.items refl c.make_room.ensures.same c.in_err-put.ensures.same old c.self.view_is in
+    let p = err_from_is_err_and c.from_residual-in_err-put.result c.from_residual-in_err-put.ensures.1 in
     let wrong : AddFault → Result Slot AddFault = λ f. Err f in
     subst (λ (z : Result Slot AddFault). AddedTo old (seen b) rs ks r z) (sym (p.1 ∙ ap wrong p.2)) stays
 
@@ -300,7 +309,7 @@ same-nodes : (c : goal.After-drop-gains-2) → length c.grow.new.nodes.items ≡
 same-nodes c = c.grow.ensures.count ∙ (same-count c.make_room.new.nodes.items c.self.inside.nodes.items c.make_room.ensures.same)
 
 abbrev inside-next : goal.After-drop-gains-2 → Inside
-inside-next c = record { limits = c.self.inside.limits; counts = c.set_count.new.counts; known = c.self.inside.known + 1; nodes = c.put_node.new.nodes; order = c.list_slot.new.order; kept = c.self.inside.kept + 1; leaves = c.push_reserved.new.self; slots = c.put_slot.new.slots }
+inside-next c = record { limits = c.self.inside.limits; counts = c.set_count.new.counts; known = c.self.inside.known + 1; nodes = c.put_node.new.nodes; order = c.list_slot.new.order; kept = c.self.inside.kept + 1; leaves = c.push_reserved.new.self; slots = c.put.new.self }
 
 listed : (c : goal.After-drop-gains-2) → c.list_slot.new.order.items ≡ with_slot c.self.inside.order.items c.self.inside.kept c.next_slot-slot.result
 listed c = c.list_slot.ensures ∙ ap (λ (ss : List Slot). with_slot ss c.self.inside.kept c.next_slot-slot.result) c.make_slot_room.ensures.items
@@ -341,7 +350,7 @@ invariant_of-self-2 c =
     let most = ap (λ (t : Table). t.limits.sites) c.self.view_is in
     let has_room = c.if-self.false in
     held-next a (inside-next c) c.self.invariant c.grow.new.nodes.items n id slot parents (is-next c) (same-nodes c) c.put_node.ensures (listed c) refl (follows c) i id.sequence refl refl c.set_count.ensures.set
-    c.in_ok-put_slot.ensures.put
+    c.in_ok-put.ensures.put
     (c.push_reserved.ensures.items ∙ ap (λ (ss : List Slot). ss ++ slot ∷ []) (c.drop_slots.ensures.items ∙ ap (filter (λ (s : Slot). not (is_slot_among s parents))) c.make_slot_room-2.ensures.items))
     (omega arith) entry.id_is (entry.arrival_is ∙ sym (ap (λ (t : Table). t.known) c.self.view_is)) entry.no_children entry.no_stand_ins entry.path.ascending
     (short-told (seen a) parents n.id (length n.path.pairs) (found-all a c.self.invariant) (none-seen c.self.inside c.self.invariant c.args.self.now c.self.view_is c.args.parents.now c.requires.slots c.deref-3.result.now (take c.self.inside.kept c.deref-2.result.now) c.deref-3.ensures.value (ap (take c.self.inside.kept) c.deref-2.ensures.value) c.in_ok-gains.ensures.long)) c.in_ok-check_path.ensures (let first = c.requires.first in let last = c.requires.last in omega arith)

@@ -1,8 +1,7 @@
-use Rattle.std.proofs.Common.{◌≡◌, ◌∙◌, ◌+◌, ◌-◌, ◌++◌, ◌∷◌, [], ◌<◌, ℕ, Bool, true, eqb, ltb, List, length, take, drop, get_or, Option, Some, None, cond, is_some, IsTrue, refl, sym, ap, subst, arith}
+use Rattle.std.proofs.Common.{◌≡◌, ◌∙◌, ◌+◌, ◌-◌, ◌++◌, ◌∷◌, [], ◌<◌, ℕ, Bool, true, eqb, ltb, List, length, take, drop, get_or, Option, Some, None, cond, is_some, refl, sym, ap, subst, arith}
 use Rattle.std.specs.List.{list_all}
 use Rattle.std.specs.Option.{option_and_then}
-use Rattle.std.specs.BTreeMap.{get}
-use Rattle.state_dag.specs.Ids.{id_cmp}
+use Rattle.state_dag.specs.IdSlots.{slot_of_state}
 use Rattle.tardis_base.specs.Ids.{same_id}
 use Rattle.std.proofs.lemmas.Option.{same_Some}
 use Rattle.std.proofs.lemmas.List.{append_assoc}
@@ -10,7 +9,7 @@ use Rattle.tardis_base.specs.declared.ids.StateId.{StateId}
 use Rattle.tardis_base.specs.declared.ids.Slot.{Slot}
 use Rattle.state_dag.specs.declared.StateDag.TheInside.{Inside}
 use Rattle.state_dag.specs.declared.nodes.Node.{Node}
-use Rattle.state_dag.specs.Table.{Entry, Table, entry_at, id_at, is_slot}
+use Rattle.state_dag.specs.Table.{Entry, Table, entry_at, is_slot}
 use Rattle.state_dag.specs.Views.{entry_of, entries_in}
 use Rattle.state_dag.specs.Held.{kept_of, seen}
 use Rattle.state_dag.specs.Shared.{common}
@@ -50,7 +49,7 @@ free_slot-requires c =
 
 -- what the memory is afterwards
 abbrev inside-left : goal.After-self-1 → Inside
-inside-left c = record { limits = c.self.inside.limits; counts = c.self.inside.counts; known = c.self.inside.known; nodes = c.hand_over.new.nodes; order = c.free_slot.new.order; kept = c.self.inside.kept - 1; leaves = c.drop_slot.new.slots; slots = c.drop_id.new.slots }
+inside-left c = record { limits = c.self.inside.limits; counts = c.self.inside.counts; known = c.self.inside.known; nodes = c.hand_over.new.nodes; order = c.free_slot.new.order; kept = c.self.inside.kept - 1; leaves = c.drop_slot.new.slots; slots = c.remove.new.self }
 
 place-within : (c : goal.After-self-1) → c.place-place.result < c.self.inside.kept
 place-within c =
@@ -149,7 +148,7 @@ invariant_of-self c =
     let n = c.node-node.result.now in
     held-left a (inside-left c) c.self.invariant c.args.slot c.index-heir.result.now (ltb 1 c.len-is_fork.result) c.place-place.result n (parts c) c.hand_over.ensures.count (each-changed c) c.hand_over.ensures.ascending (freed c) refl (shares-before c) refl
     refl refl refl c.drop_slot.ensures.items
-    (subst (λ (z : StateId). (x : StateId) → get id_cmp c.drop_id.new.slots x ≡ cond (same_id x z) None (get id_cmp a.slots x)) (ap (λ (e : Entry). e.id) (node-read c)) c.drop_id.ensures)
+    (subst (λ (z : StateId). (x : StateId) → slot_of_state c.remove.new.self x ≡ cond (same_id x z) None (slot_of_state a.slots x)) (ap (λ (e : Entry). e.id) (node-read c)) c.remove.ensures)
 
 pub returns-clause-detached : goal.returns-clause-detached
 returns-clause-detached c = left-detached c.args.self.now (seen (inside-left c)) c.args.slot c.index-heir.result.now (has-left-now c)

@@ -1,8 +1,7 @@
-use Rattle.std.proofs.Common.{◌≡◌, ◌∙◌, ◌+◌, ◌++◌, ℕ, true, leb, ltb, List, [], ◌∷◌, length, map, get_or, find, take, cond, Some, None, is_some, eqb, ap₂, sum, replicate, refl, subst, sym, ap, arith, rules}
+use Rattle.std.proofs.Common.{◌≡◌, ◌∙◌, ◌+◌, ◌++◌, ℕ, true, leb, ltb, List, [], ◌∷◌, length, map, get_or, find, take, cond, Some, None, is_some, eqb, ap₂, sum, replicate, refl, subst, sym, ap, arith}
 use Rattle.std.specs.List.{list_all}
 use Rattle.std.specs.Option.{option_map_or}
-use Rattle.std.specs.BTreeMap.{get}
-use Rattle.state_dag.specs.Ids.{id_cmp}
+use Rattle.state_dag.specs.IdSlots.{slot_of_state}
 use Rattle.tardis_base.specs.Ids.{root, same_id}
 use Rattle.tardis_base.specs.declared.ids.StateId.{StateId}
 use Rattle.std.proofs.lemmas.Bool.{and_from, lt-ltb, le-leb}
@@ -20,6 +19,9 @@ use Rattle.state_dag.specs.Views.{entry_of, entries_in, slot_of_id, is_counted, 
 use Rattle.state_dag.specs.Stands.{Stands}
 use Rattle.state_dag.proofs.Opening.{root-entry, stands-opening}
 use Rattle.state_dag.proofs.StateDag.new.Goals as goal
+
+pub put-requires : goal.put-requires
+put-requires c = λ x of_site from. ap (λ sites. slot_of_state sites x) c.new-slots.ensures
 
 -- the first entry is the root's
 seen-root : (ns : List Node) (ss : List Slot) (n : Node) → ns ≡ n ∷ [] → ss ≡ record { 0 = 0 } ∷ [] → entries_in ns (take 1 ss) ≡ entry_of 0 n ∷ []
@@ -80,6 +82,7 @@ invariant_of-result c =
           (and_from (is_counted c.in_ok-counts.counts.items n.id) true (subst (λ z. is_counted c.in_ok-counts.counts.items z ≡ true) (sym r.id) (le-leb 0 (get_or c.in_ok-counts.counts.items 0 0) (omega arith))) refl);
       once = subst (λ (es : List Entry). AllDiffer (map (λ (e : Entry). e.id) es)) (sym view) (refl, tt);
       indexed = λ x.
-          (let put : get id_cmp c.insert.new.self x ≡ cond (same_id x root) (Some (record { 0 = 0 })) None = search rules in put)
+          c.in_ok-put.ensures.put x
+          ∙ ap (λ sites. cond (same_id x root) (Some (record { 0 = 0 })) (slot_of_state sites x)) c.new-slots.ensures
           ∙ sym (ap (λ es. slot_of_id es x) view ∙ ap (λ (i : StateId). cond (same_id x i) (Some (record { 0 = 0 })) None) r.id);
     }

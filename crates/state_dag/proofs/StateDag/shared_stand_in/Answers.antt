@@ -1,12 +1,11 @@
-use Rattle.std.proofs.Common.{◌≡◌, ◌∙◌, true, Bool, eqb, ltb, List, Option, Some, None, sym, ap, subst}
+use Rattle.std.proofs.Common.{◌≡◌, ◌∙◌, true, eqb, ltb, List, Option, Some, None, sym, ap, subst}
 use Rattle.std.specs.List.{list_all}
 use Rattle.std.specs.Option.{option_map, option_and_then}
 use Rattle.std.proofs.lemmas.Option.{none-some, same_Some}
 use Rattle.tardis_base.specs.declared.ids.Slot.{Slot}
 use Rattle.plain_dag.specs.States.{children}
 use Rattle.state_dag.specs.Table.{Entry, Table, entry_at, id_at, is_slot, arrive_in_order, arrival_at}
-use Rattle.state_dag.specs.Shared.{common, shared_stand_in}
-use Rattle.state_dag.proofs.Calls.{named-of_slot}
+use Rattle.state_dag.specs.Shared.{common}
 use Rattle.state_dag.proofs.SharedSlots.{common-named}
 use Rattle.state_dag.proofs.Heirs.{heir-is_kept, heir-is_later}
 use Rattle.state_dag.proofs.StateDag.shared_stand_in.Goals as goal

@@ -1,7 +1,5 @@
-use Rattle.std.proofs.Common.{◌≡◌, ◌∙◌, ◌<◌, ◌+◌, List, length, get_or, map, take, drop, set, refl, sym, ap, arith, length-append}
-use Rattle.std.proofs.lemmas.List.{length-take, length-drop, length-map}
+use Rattle.std.proofs.Common.{◌∙◌, set, ap, arith}
 use Rattle.std.proofs.lemmas.List.Edits.{map_over_more}
-use Rattle.tardis_base.specs.declared.ids.Slot.{Slot}
 use Rattle.state_dag.specs.Detached.{passed_on}
 use Rattle.state_dag.proofs.collection.pass_slots.Goals as goal
 
