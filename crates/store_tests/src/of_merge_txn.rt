@@ -13,11 +13,16 @@ fn put(alloc: Global, bytes: &[u8]) -> Result<Write, BytesFault> {
     Ok(Write::Put(Value::new(alloc, bytes)?))
 }
 
+/// Deletes the key of this number.
+fn delete(alloc: Global, txn: &mut Txn, number: u16) -> Result<(), Fail> {
+    Ok(txn.put(key(alloc, number)?, Write::Delete)?)
+}
+
 /// A transaction that deletes 64 keys.
 fn full(alloc: Global) -> Result<Txn, Fail> {
     let mut txn = Txn::merge(alloc, StateList::new(alloc), ListOf::new(alloc));
     for number in 0..64 {
-        txn.put(key(alloc, number)?, Write::Delete)?;
+        delete(alloc, &mut txn, number)?;
     }
     Ok(txn)
 }

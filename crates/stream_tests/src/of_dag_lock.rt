@@ -28,6 +28,22 @@ fn answered<'a>(request: &'a [u8], acted: Acted, reply: &'a [u8]) -> Row<'a> {
     }
 }
 
+/// Whether the request comes to what the row says.
+fn step_to<R: Wait>(
+    rt: &R,
+    lock: &DagLock<Counter>,
+    pass: Pass,
+    row: &Row<'_>,
+    out: &mut ReplyBuf,
+) -> (Pass, bool)
+    requires { pass.lock ≡ lock_id lock.now }
+    ensures { Keeps pass result.0 }
+{
+    let request = &row.request[..row.request.len().min(100)];
+    let (pass, acted) = lock.step(rt, pass, 1, request, out);
+    (pass, acted == row.acted && out.bytes() == row.reply)
+}
+
 /// Whether the requests come to what the rows say.
 fn comes_to<R: Wait>(
     rt: &R,
@@ -42,12 +58,33 @@ fn comes_to<R: Wait>(
     let mut mine = pass;
     let mut right = true;
     for row in rows {
-        let request = &row.request[..row.request.len().min(100)];
-        let (next, acted) = lock.step(rt, mine, 1, request, out);
+        let (next, is_right) = step_to(rt, lock, mine, row, out);
         mine = next;
-        right = right && acted == row.acted && out.bytes() == row.reply;
+        right = right && is_right;
     }
     (mine, right)
+}
+
+/// Whether the trail is written as these bytes.
+fn is_written(alloc: Global, trail: &Trailed<Counter>, written: &[u8]) -> Result<bool, Fail> {
+    let mut sink = MemorySink::new(alloc, 100, 100, &[])?;
+    Ok(trail.write_trail(&mut sink).is_ok() && sink.bytes() == written)
+}
+
+/// Whether the requests come to what the rows say under a lock of a trail of so many bytes at most, which is written so
+/// when the lock is closed.
+fn closes_with<R: Wait>(
+    alloc: Global,
+    rt: &R,
+    most: u64,
+    rows: &[Row<'_>],
+    written: &[u8],
+) -> Result<bool, Fail> {
+    let mut out = ReplyBuf::new(alloc)?;
+    let trail = Trailed::new(alloc, Counter { acts: 0 }, most);
+    let (lock, pass) = DagLock::new(alloc, trail, 1)?;
+    let (pass, right) = comes_to(rt, &lock, pass, rows, &mut out);
+    Ok(right && is_written(alloc, &lock.close(pass), written)?)
 }
 
 #[test]
@@ -72,16 +109,31 @@ fn a_lock_is_closed_with_the_trail_of_what_was_answered(rt: HostRuntime) -> Resu
             b"\x00\x00\x00\x05\x00\x01abc\x00\x00\x00\x03\x00\x01a",
         ),
     ];
-    let mut out = ReplyBuf::new(rt.alloc())?;
     for (most, rows, written) in rows {
-        let trail = Trailed::new(rt.alloc(), Counter { acts: 0 }, most);
-        let (lock, pass) = DagLock::new(rt.alloc(), trail, 1)?;
-        let (pass, right) = comes_to(&rt, &lock, pass, &rows, &mut out);
-        assert!(rt; right, "at most {most} bytes");
-        let mut sink = MemorySink::new(rt.alloc(), 100, 100, &[])?;
-        assert!(rt; lock.close(pass).write_trail(&mut sink).is_ok() && sink.bytes() == written);
+        assert!(rt;
+            closes_with(rt.alloc(), &rt, most, &rows, written)?,
+            "at most {most} bytes"
+        );
     }
     Ok(())
+}
+
+/// Asks for a write of the value, and tells whether it was answered.
+fn put<R: Wait>(
+    rt: &R,
+    lock: &DagLock<Counter>,
+    pass: Pass,
+    actor: u16,
+    value: u16,
+    out: &mut ReplyBuf,
+) -> (Pass, bool)
+    requires { pass.lock ≡ lock_id lock.now }
+    ensures { Keeps pass result.0 }
+{
+    let [high, low] = value.to_be_bytes();
+    let request = [4, 1, b'x', 0, 2, high, low];
+    let (pass, acted) = lock.step(rt, pass, actor, &request, out);
+    (pass, acted == Acted::Done)
 }
 
 /// Asks for so many writes, each of another value, and counts those that were answered.
@@ -102,13 +154,9 @@ fn puts<R: Wait>(
         return (mine, 0);
     };
     for value in 0..writes {
-        let [high, low] = value.to_be_bytes();
-        let request = [4, 1, b'x', 0, 2, high, low];
-        let (next, acted) = lock.step(rt, mine, actor, &request, &mut out);
+        let (next, is_done) = put(rt, lock, mine, actor, value, &mut out);
         mine = next;
-        if acted == Acted::Done {
-            done = done.saturating_add(1);
-        }
+        done = done.saturating_add(u64::from(is_done));
     }
     (mine, done)
 }

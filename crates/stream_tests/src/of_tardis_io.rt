@@ -93,17 +93,24 @@ fn a_steady_source_gives_all(rt: HostRuntime) -> Result<(), Fail> {
     Ok(())
 }
 
+/// Whether writing five bytes to a sink with so much room ends so, after these were given.
+fn writes_end(
+    alloc: Global,
+    room: u32,
+    end: Result<(), WriteFault>,
+    given: &[u8],
+) -> Result<bool, Fail> {
+    let mut sink = MemorySink::new(alloc, room, 2, &[])?;
+    Ok(write_all(&mut sink, b"abcde") == end && sink.bytes() == given)
+}
+
 #[test]
 fn all_bytes_are_written_or_a_fault_is_answered(rt: HostRuntime) -> Result<(), Fail> {
     let mut count = CountSink::new();
     assert!(rt; write_all(&mut count, b"abcde") == Ok(()));
     assert_eq!(rt; count.bytes, 5);
-    let mut whole = MemorySink::new(rt.alloc(), 5, 2, &[])?;
-    assert!(rt; write_all(&mut whole, b"abcde") == Ok(()));
-    assert!(rt; whole.bytes() == b"abcde".as_slice());
-    let mut short = MemorySink::new(rt.alloc(), 3, 2, &[])?;
-    assert!(rt; write_all(&mut short, b"abcde") == Err(WriteFault));
-    assert!(rt; short.bytes() == b"abc".as_slice());
+    assert!(rt; writes_end(rt.alloc(), 5, Ok(()), b"abcde")?);
+    assert!(rt; writes_end(rt.alloc(), 3, Err(WriteFault), b"abc")?);
     Ok(())
 }
 
@@ -321,27 +328,46 @@ fn link(alloc: Global, bytes: &[u8]) -> Result<MemoryLink, Fail> {
     Ok(MemoryLink::new(source, sink))
 }
 
+/// A gate of two links, of which the second call fails.
+fn gate(alloc: Global) -> Result<MemoryGate<MemoryLink>, Fail> {
+    let mut links = Vec::new(alloc);
+    for bytes in [b"a", b"b"] {
+        links.push(link(alloc, bytes)?)?;
+    }
+    Ok(MemoryGate::new(alloc, links, &[2])?)
+}
+
+/// Whether the next link gives one byte and takes it back. It is put back with this number.
+fn echoes(gate: &mut MemoryGate<MemoryLink>, session: u16) -> bool {
+    let Ok(Some(mut link)) = gate.next() else {
+        return false;
+    };
+    let mut buf = [0u8; 4];
+    let is_right = link.take(&mut buf) == Ok(1) && link.give(&buf[..1]) == Ok(1);
+    link.finish();
+    gate.put_back(session, link);
+    is_right
+}
+
+/// Whether a link was put back at this place with this number, has nothing left and was given this.
+fn is_back(gate: &MemoryGate<MemoryLink>, at: usize, session: u16, given: &[u8]) -> bool {
+    let Some((number, link)) = gate.back().get(at) else {
+        return false;
+    };
+    *number == session && link.source().left().is_empty() && link.sink().bytes() == given
+}
+
 #[test]
 fn a_gate_in_memory_keeps_what_is_put_back(rt: HostRuntime) -> Result<(), Fail> {
-    let links = vec![in rt.alloc(); link(rt.alloc(), b"a")?, link(rt.alloc(), b"b")?]?;
-    let mut gate = MemoryGate::new(rt.alloc(), links, &[2])?;
+    let mut gate = gate(rt.alloc())?;
     assert!(rt; gate.bind("x:1") == Ok(()));
     assert!(rt; matches!(gate.next(), Err(Failed)));
-    let mut buf = [0u8; 4];
-    for session in [1, 2] {
-        let Ok(Some(mut link)) = gate.next() else {
-            return Err(io::Error::from(ErrorKind::NotFound).into());
-        };
-        assert!(rt; link.take(&mut buf) == Ok(1));
-        assert!(rt; link.give(&buf[..1]) == Ok(1));
-        link.finish();
-        gate.put_back(session, link);
-    }
+    assert!(rt; echoes(&mut gate, 1));
+    assert!(rt; echoes(&mut gate, 2));
     assert!(rt; matches!(gate.next(), Ok(None)));
-    for ((session, link), want) in gate.back().iter().zip([(1, b"a"), (2, b"b")]) {
-        assert!(rt; *session == want.0 && link.source().left().is_empty());
-        assert!(rt; link.sink().bytes() == want.1.as_slice());
-    }
+    assert_eq!(rt; gate.back().len(), 2);
+    assert!(rt; is_back(&gate, 0, 1, b"a"));
+    assert!(rt; is_back(&gate, 1, 2, b"b"));
     Ok(())
 }
 

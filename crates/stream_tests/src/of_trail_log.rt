@@ -15,17 +15,29 @@ struct Row<'a> {
     reply: &'a [u8],
 }
 
-/// Whether the requests of actor 1 come to what the rows say.
-fn comes_to(alloc: Global, trail: &mut Trailed<Counter>, rows: &[Row<'_>]) -> Result<bool, Fail> {
+/// Whether the request of actor 1 comes to what the row says.
+fn comes_to(trail: &mut Trailed<Counter>, row: &Row<'_>, out: &mut ReplyBuf) -> bool {
+    let request = &row.request[..row.request.len().min(100)];
+    trail.act(1, request, out) == row.acted && out.bytes() == row.reply
+}
+
+/// Whether the trail is written as these bytes, and counts them.
+fn is_written(alloc: Global, trail: &Trailed<Counter>, written: &[u8]) -> Result<bool, Fail> {
+    let mut sink = MemorySink::new(alloc, 100, 100, &[])?;
+    let is_whole = trail.write_trail(&mut sink).is_ok();
+    Ok(is_whole && sink.bytes() == written && trail.bytes() == written.len() as u64)
+}
+
+/// Whether a trail of so many bytes at most comes to what the rows say, and is written so then.
+fn fills(alloc: Global, most: u64, rows: &[Row<'_>], written: &[u8]) -> Result<bool, Fail> {
+    let mut trail = Trailed::new(alloc, Counter { acts: 0 }, most);
     let mut out = ReplyBuf::new(alloc)?;
     for row in rows {
-        let request = &row.request[..row.request.len().min(100)];
-        let acted = trail.act(1, request, &mut out);
-        if acted != row.acted || out.bytes() != row.reply {
+        if !comes_to(&mut trail, row, &mut out) {
             return Ok(false);
         }
     }
-    Ok(true)
+    is_written(alloc, &trail, written)
 }
 
 #[test]
@@ -53,14 +65,10 @@ fn a_trail_is_full_by_its_bytes(rt: HostRuntime) -> Result<(), Fail> {
         ),
     ];
     for (most, rows, written) in rows {
-        let mut trail = Trailed::new(rt.alloc(), Counter { acts: 0 }, most);
         assert!(rt;
-            comes_to(rt.alloc(), &mut trail, &rows)?,
+            fills(rt.alloc(), most, &rows, written)?,
             "at most {most} bytes"
         );
-        let mut sink = MemorySink::new(rt.alloc(), 100, 100, &[])?;
-        assert!(rt; trail.write_trail(&mut sink).is_ok() && sink.bytes() == written);
-        assert_eq!(rt; trail.bytes(), written.len() as u64);
     }
     Ok(())
 }
@@ -73,29 +81,41 @@ fn answered<'a>(request: &'a [u8], acted: Acted, reply: &'a [u8]) -> Row<'a> {
     }
 }
 
-/// Asks for so many bytes by so many requests of actor 9, and answers the trail's bytes.
-fn bytes_after(alloc: Global, counts: &[usize]) -> Result<u64, Fail> {
-    let mut trail = Trailed::new(alloc, Counter { acts: 0 }, 1 << 30);
-    let mut out = ReplyBuf::new(alloc)?;
-    for count in counts {
-        let request = vec![in alloc; 7; (*count).min(1_048_574)]?;
-        let _ = trail.act(9, request.as_slice(), &mut out);
-    }
+/// Asks for so many bytes by a request of actor 9.
+fn ask(
+    alloc: Global,
+    trail: &mut Trailed<Counter>,
+    count: usize,
+    out: &mut ReplyBuf,
+) -> Result<(), Fail> {
+    let request = vec![in alloc; 7; count.min(1_048_574)]?;
+    let _ = trail.act(9, request.as_slice(), out);
+    Ok(())
+}
+
+/// Whether a sink of five bytes has just these after the trail was not written whole.
+fn is_cut(alloc: Global, trail: &Trailed<Counter>) -> Result<bool, Fail> {
+    let mut short = MemorySink::new(alloc, 5, 2, &[])?;
+    Ok(trail.write_trail(&mut short).is_err() && short.bytes().len() == 5)
+}
+
+/// How many bytes of the trail are written.
+fn bytes_written(trail: &Trailed<Counter>) -> u64 {
     let mut sink = CountSink::new();
     let _ = trail.write_trail(&mut sink);
-    let mut short = MemorySink::new(alloc, 5, 2, &[])?;
-    let is_cut = trail.write_trail(&mut short).is_err() && short.bytes().len() == 5;
-    let all = trail.machine().acts as usize == counts.len();
-    Ok(if is_cut && all && sink.bytes == trail.bytes() {
-        sink.bytes
-    } else {
-        0
-    })
+    sink.bytes
 }
 
 #[test]
 fn a_trail_has_more_than_one_chunk(rt: HostRuntime) -> Result<(), Fail> {
-    let counts = [600_000, 500_000, 1_048_574, 10, 1_048_574, 400];
-    assert_eq!(rt; bytes_after(rt.alloc(), &counts)?, 3_197_594);
+    let mut trail = Trailed::new(rt.alloc(), Counter { acts: 0 }, 1 << 30);
+    let mut out = ReplyBuf::new(rt.alloc())?;
+    for count in [600_000, 500_000, 1_048_574, 10, 1_048_574, 400] {
+        ask(rt.alloc(), &mut trail, count, &mut out)?;
+    }
+    assert!(rt; is_cut(rt.alloc(), &trail)?);
+    assert_eq!(rt; trail.machine().acts, 6);
+    assert_eq!(rt; trail.bytes(), 3_197_594);
+    assert_eq!(rt; bytes_written(&trail), 3_197_594);
     Ok(())
 }
