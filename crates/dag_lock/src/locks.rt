@@ -150,7 +150,7 @@ impl<M: Machine> DagLock<M> {
         let mut closed = table.close_with(badge.into_seat());
         let trailed = closed.take(0);
         closed.free();
-        let _ = trailed.machine();
+        let _ = trailed.machine(); // for the proof alone
         trailed
     }
 }

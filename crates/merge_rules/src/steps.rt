@@ -90,7 +90,7 @@ fn join(
     ensures joined { JoinsAs core.old core.new actor a b writes result }
     ensures opening { opened_with core.new ≡ opened_with core.old }
 {
-    let _ = writes.as_slice();
+    let _ = writes.as_slice(); // for the proof alone
     let reply = core.commit_merge(actor, &[a, b], writes)?;
     Ok(end_of(reply))
 }

@@ -379,7 +379,7 @@ impl StateDag {
         ensures kept { IfSome result (λ s. IsTrue (is_kept_at self.now s)) }
         ensures later { IfSome result (λ s. arrival_at self.now slot < arrival_at self.now s) }
     {
-        let _ = &self.limits;
+        let _ = &self.limits; // for the proof alone
         common_slot(self.child_slots(slot))
     }
 
@@ -402,7 +402,7 @@ impl StateDag {
         ensures next { (rs : List Record) (ks : List StateId) → Stands self.now rs ks → (s : Slot) (x : StateId) → slot ≡ Some s
             → id_at self.now s ≡ Some x → option_and_then (id_at self.now) result ≡ next_of (kept_states rs ks) (Some x) }
     {
-        let _ = &self.limits;
+        let _ = &self.limits; // for the proof alone
         match slot {
             None => slot_at(self.kept_slots(), 0),
             Some(slot) => {
@@ -424,7 +424,7 @@ impl StateDag {
         ensures before { (rs : List Record) (ks : List StateId) → Stands self.now rs ks → (s : Slot) (x : StateId) → slot ≡ Some s
             → id_at self.now s ≡ Some x → next_of (kept_states rs ks) (option_and_then (id_at self.now) result) ≡ Some x }
     {
-        let _ = &self.limits;
+        let _ = &self.limits; // for the proof alone
         match slot {
             None => Some(self.last()),
             Some(slot) => {

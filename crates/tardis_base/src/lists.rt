@@ -225,7 +225,7 @@ impl KeySet {
         ensures same { OnErr result (self.new ≡ self.old) }
         ensures known { IsTrue (is_key_among key self.old) → IsOk result }
     {
-        let _ = key.as_slice();
+        let _ = key.as_slice(); // for the proof alone
         match place_of_key(self.keys.as_slice(), &key) {
             Ok(_) => Ok(()),
             Err(place) => {
@@ -302,8 +302,8 @@ impl WriteSet {
         ensures same { OnErr result (self.new ≡ self.old) }
         ensures known { IsTrue (has_key key self.old) → IsOk result }
     {
-        let _ = key.as_slice();
-        let _ = write.value();
+        let _ = key.as_slice(); // for the proof alone
+        let _ = write.value(); // for the proof alone
         match place_of_write(self.writes.as_slice(), &key) {
             Ok(place) => {
                 self.writes[place] = (key, write);

@@ -97,7 +97,7 @@ impl Write {
     {
         match self {
             Write::Put(value) => {
-                let _ = value.as_slice();
+                let _ = value.as_slice(); // for the proof alone
                 Some(value)
             },
             Write::Delete => None,

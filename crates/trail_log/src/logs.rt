@@ -78,7 +78,7 @@ impl EntryLog {
     pub(crate) fn entries_fit(&self)
         ensures { AllByRecursion IsEntry self.now.trail }
     {
-        let _ = &self.chunks;
+        let _ = &self.chunks; // for the proof alone
     }
 
     /// Gives the frames of the entries, in order. After a fault a front of them was given.
