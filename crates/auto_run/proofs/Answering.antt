@@ -16,7 +16,8 @@ use Rattle.auto_run.specs.Ruled.{Ruled, RuledStands, RuledMay}
 
 -- the step was done, and its line put
 pub stepped : (actor : ℕ) (rules : List PrefixRule) (To : Site → Type 0) (site : Site) (old new : List ℕ) (end : AutoEnd)
-    → To (auto_step site actor rules).0 → end ≡ (auto_step site actor rules).1 → new ≡ old ++ (end_line end ++ 10 ∷ []) → Responded (StepAnswers actor rules) To site [] old new
+    → To (auto_step site actor rules).0 → end ≡ (auto_step site actor rules).1 → new ≡ old ++ (end_line end ++ 10 ∷ []) →
+    Responded (StepAnswers actor rules) To site [] old new
 stepped actor rules To site old new end stands is put = record {
   answer = end_line end ++ 10 ∷ [];
   state = (auto_step site actor rules).0;
@@ -28,10 +29,18 @@ stepped actor rules To site old new end stands is put = record {
 -- there was no memory for it
 pub wanting : (actor : ℕ) (rules : List PrefixRule) (To : Site → Type 0) (site : Site) (old new : List ℕ)
     → To site → new ≡ old ++ (codes "nomemory" ++ 10 ∷ []) → Responded (StepAnswers actor rules) To site [] old new
-wanting actor rules To site old new stands put = record { answer = codes "nomemory" ++ 10 ∷ []; state = site; allowed = inr (refl, refl); stands = stands; put = put }
+wanting actor rules To site old new stands put = record {
+  answer = codes "nomemory" ++ 10 ∷ [];
+  state = site;
+  allowed = inr (refl, refl);
+  stands =
+      stands;
+  put = put;
+}
 
 -- what was answered so stands for a site still
-pub still-stands : {may : Site → List ℕ → List ℕ → Site → Type 0} {s : Site} {line old new : List ℕ} (core : Core) → Responded may (SiteStands core) s line old new → StandsForSite core
+pub still-stands : {may : Site → List ℕ → List ℕ → Site → Type 0} {s : Site} {line old new : List ℕ} (core : Core) →
+    Responded may (SiteStands core) s line old new → StandsForSite core
 still-stands core r = record { site = r.state; stands = r.stands.0; sound = r.stands.1 }
 
 module _ (s : Ruled) (core : Core) (rules : List PrefixRule) (line old new : List ℕ) where

@@ -37,7 +37,8 @@ in_turn rules s [] (answer ∷ answers) t is p = absurd p
 in_turn rules s (line ∷ lines) [] t is p = absurd p
 
 module _ (core now : Core) (rules later : List PrefixRule) (status : Status) (old new : Option (List ℕ)) (first left : List ℕ) where
-  site_answered : (s : Site) (lines : List (List ℕ)) → AnsweredBy RuledMay (shape_within 5242945 status) (RuledStands now later) old new [] [] (ruled s rules) lines
+  site_answered : (s : Site) (lines : List (List ℕ)) → AnsweredBy RuledMay (shape_within 5242945 status) (RuledStands now later) old new [] []
+      (ruled s rules) lines
       → AnsweredBy (AutoMay (over_lines site_machine) rules) (shape_within 5242945 status) (SiteStands now) old new [] [] s lines
   unfolding ruled
   site_answered s lines a = record {
@@ -48,7 +49,8 @@ module _ (core now : Core) (rules later : List PrefixRule) (status : Status) (ol
     given = a.given;
   }
 
-  pub of_site : LineOutcome status (RuledStands core rules) (λ s lines. AnsweredBy RuledMay (shape_within 5242945 status) (RuledStands now later) old new [] [] s lines) first left
+  pub of_site : LineOutcome status (RuledStands core rules) (λ s lines. AnsweredBy RuledMay (shape_within 5242945 status) (RuledStands now later) old new
+      [] [] s lines) first left
       → AutoOutcome (over_lines site_machine) rules status (SiteStands core) (SiteStands now) old new first left
   unfolding ruled
   of_site o = record {
@@ -73,12 +75,17 @@ asked_may rules s line None answer t may = shell_may s line answer t may
 site_turn : (rules : List PrefixRule) (s : Site) (lines answers : List (List ℕ)) (t : Site) → InTurn (AutoMay (over_lines site_machine) rules) s lines answers t
     → InTurn (AutoMay site_machine rules) s lines answers t
 site_turn rules s [] [] t p = p
-site_turn rules s (line ∷ lines) (answer ∷ answers) t p = (p.0, (asked_may rules s line (auto_actor line) answer p.0 p.1.0, site_turn rules p.0 lines answers t p.1.1))
+site_turn rules s (line ∷ lines) (answer ∷ answers) t p = (
+  p.0,
+  (asked_may rules s line (auto_actor line) answer p.0 p.1.0, site_turn rules p.0 lines answers t p.1.1),
+)
 site_turn rules s [] (answer ∷ answers) t p = absurd p
 site_turn rules s (line ∷ lines) [] t p = absurd p
 
-auto_answered : (rules : List PrefixRule) (shape : List ℕ → List ℕ → List ℕ → Type 0) (To : Site → Type 0) (old new : Option (List ℕ)) (s : Site) (lines : List (List ℕ)) → ((t : Site) → To t → IsSound t)
-    → AnsweredBy (AutoMay (over_lines site_machine) rules) shape To old new [] [] s lines → AnsweredBy (AutoMay site_machine rules) shape IsSound old new [] [] s lines
+auto_answered : (rules : List PrefixRule) (shape : List ℕ → List ℕ → List ℕ → Type 0) (To : Site → Type 0) (old new : Option (List ℕ)) (s : Site)
+    (lines : List (List ℕ)) → ((t : Site) → To t → IsSound t)
+    → AnsweredBy (AutoMay (over_lines site_machine) rules) shape To old new [] [] s lines →
+    AnsweredBy (AutoMay site_machine rules) shape IsSound old new [] [] s lines
 auto_answered rules shape To old new s lines sound a = record {
   answers = a.answers;
   state = a.state;
@@ -87,7 +94,8 @@ auto_answered rules shape To old new s lines sound a = record {
   given = a.given;
 }
 
-pub auto_from : (site : Site) (rules : List PrefixRule) (From To : Site → Type 0) (status : Status) (old new : Option (List ℕ)) (first left : List ℕ) → From site → ((t : Site) → To t → IsSound t)
+pub auto_from : (site : Site) (rules : List PrefixRule) (From To : Site → Type 0) (status : Status) (old new : Option (List ℕ)) (first left : List ℕ) →
+    From site → ((t : Site) → To t → IsSound t)
     → AutoOutcome (over_lines site_machine) rules status From To old new first left → AutoFrom site rules status old new first left
 auto_from site rules From To status old new first left here sound o = record {
   cut = o.cut;

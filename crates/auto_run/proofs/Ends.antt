@@ -1,5 +1,6 @@
 -- The lines of how auto steps end.
-use Rattle.std.proofs.Common.{◌≡◌, ℕ, ◌+◌, ◌^◌, ◌≤◌, ◌<◌, IsTrue, List, [], ◌++◌, length, Option, Some, None, nat_le, ap, ◌∙◌, arith, le-leb, leb-true, length-append, codes}
+use Rattle.std.proofs.Common.{◌≡◌, ℕ, ◌+◌, ◌^◌, ◌≤◌, ◌<◌, IsTrue, List, [], ◌++◌, length, Option, Some, None, nat_le, ap, ◌∙◌, arith, le-leb, leb-true}
+use Rattle.std.proofs.Common.{length-append, codes}
 use Rattle.std.proofs.lemmas.Bool.{and_parts}
 use Rattle.std.proofs.lemmas.Fmt.{length-decimal-le}
 use Rattle.std.specs.Bool.{then_some}
@@ -25,7 +26,8 @@ said view out text e fits =
     line-of view out [] text (e ∙ ap (λ t. then_some t ([], text)) (le-leb (length {A = ℕ} [] + length text) longest_line room))
 
 -- two texts were
-pub said-both : (view : Option (List ℕ)) (out first second : List ℕ) → putting view out ≡ says second (says first (Some ([], []))) → length (first ++ second) ≤ longest_line → out ≡ first ++ second
+pub said-both : (view : Option (List ℕ)) (out first second : List ℕ) → putting view out ≡ says second (says first (Some ([], []))) →
+    length (first ++ second) ≤ longest_line → out ≡ first ++ second
 said-both view out first second e fits = said view out (first ++ second) (e ∙ says-twice first second (Some ([], []))) fits
 
 -- ===== How long they are
@@ -36,7 +38,8 @@ number-length n h = length-decimal-le 20 n (omega arith) (omega arith) h
 pub wide-fits : (keys : ℕ) → keys < 2 ^ 64 → length (codes "auto wide " ++ number_word keys) ≤ longest_line
 wide-fits keys h = omega (arith, number-length keys h)
 
-pub merged-fits : (site sequence : ℕ) → site < 2 ^ 64 → sequence < 2 ^ 64 → length ((codes "auto " ++ number_word site) ++ (codes "." ++ number_word sequence)) ≤ longest_line
+pub merged-fits : (site sequence : ℕ) → site < 2 ^ 64 → sequence < 2 ^ 64 →
+    length ((codes "auto " ++ number_word site) ++ (codes "." ++ number_word sequence)) ≤ longest_line
 merged-fits site sequence h i =
     omega (arith, length-append (codes "auto " ++ number_word site) (codes "." ++ number_word sequence), number-length site h, number-length sequence i)
 

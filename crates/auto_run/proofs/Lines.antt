@@ -22,7 +22,8 @@ and-true false = refl
 
 reads-auto : ReadsAll is_u16 (λ n. (number_word n ++ 32 ∷ []) ++ codes "auto ") auto_text
 reads-auto =
-    all-made {A = ℕ × Unit {0}} (λ p. p.0) (λ n. (n, tt)) is_u16 (λ n. (number_word n ++ 32 ∷ []) ++ codes "auto ") (λ n h. refl) (λ p. and-true (is_u16 p.0)) (λ p. refl)
+    all-made {A = ℕ × Unit {0}} (λ p. p.0) (λ n. (n, tt)) is_u16 (λ n. (number_word n ++ 32 ∷ []) ++ codes "auto ") (λ n h. refl)
+    (λ p. and-true (is_u16 p.0)) (λ p. refl)
     (all-both reads-u16-word reads-word)
 
 pub auto-lines : AutoLinesHaveOneReading

@@ -1,5 +1,6 @@
 -- What an auto step is refused can be spelled.
-use Rattle.std.proofs.Common.{◌≡◌, ℕ, ◌+◌, ◌≤◌, ◌<◌, ◌^◌, ◌≢◌, Bool, true, false, ◌&&◌, ◌||◌, ◌==◌, List, [], ◌∷◌, length, Option, Some, None, nat_le, nat_lt, IsTrue, IsFalse, refl, sym, ◌∙◌, arith, lt-ltb, le-leb, eq-eqb, if◌then◌else◌}
+use Rattle.std.proofs.Common.{◌≡◌, ℕ, ◌+◌, ◌≤◌, ◌<◌, ◌^◌, ◌≢◌, Bool, true, false, ◌&&◌, ◌||◌, ◌==◌, List, [], ◌∷◌, length, Option, Some, None, nat_le, nat_lt}
+use Rattle.std.proofs.Common.{IsTrue, IsFalse, refl, sym, ◌∙◌, arith, lt-ltb, le-leb, eq-eqb, if◌then◌else◌}
 use Rattle.std.proofs.lemmas.Bool.{and_from, or_right, both_ways}
 use Rattle.std.specs.List.{list_all}
 use Rattle.tardis_base.specs.declared.ids.StateId.{StateId}
@@ -45,20 +46,24 @@ next-is-id site ranged f =
 
 -- a refusal of growth doesn't look at what the record writes
 without-writes : (site : Site) (xs : List StateId) (ws : List KeyWrite)
-    → growth_refusal true site.limits site.collected site.dag (next_record site xs ws) ≡ growth_refusal true site.limits site.collected site.dag (next_record site xs [])
+    → growth_refusal true site.limits site.collected site.dag (next_record site xs ws) ≡ growth_refusal true site.limits site.collected site.dag
+    (next_record site xs [])
 without-writes site xs ws = refl
 
-grows-in-range : (site : Site) (xs : List StateId) → IsRanged site → IsTrue (is_id (next_id site)) → GrowsInRange site.dag site.collected site.limits (next_record site xs [])
+grows-in-range : (site : Site) (xs : List StateId) → IsRanged site → IsTrue (is_id (next_id site)) →
+    GrowsInRange site.dag site.collected site.limits (next_record site xs [])
 grows-in-range site xs ranged id = record {
   stored = and_from (is_stored (next_record site xs [])) (list_all is_stored site.dag) (and_from (is_id (next_id site)) (are_writes []) id refl) ranged.stored;
   few_children = ranged.few_children;
   few_kept = ranged.few_kept;
 }
 
-growth-ends : (site : Site) (xs : List StateId) (ws : List KeyWrite) → IsRanged site → IsTrue (is_id (next_id site)) → AllGood EndsWell (growth_refusals site (next_record site xs ws))
+growth-ends : (site : Site) (xs : List StateId) (ws : List KeyWrite) → IsRanged site → IsTrue (is_id (next_id site)) →
+    AllGood EndsWell (growth_refusals site (next_record site xs ws))
 growth-ends site xs ws ranged id =
     good-found (λ f. f) (growth_refusal true site.limits site.collected site.dag (next_record site xs ws)) []
-    (λ f e. growth-refusal-is-valid true site.limits site.collected site.dag (next_record site xs []) f (grows-in-range site xs ranged id) (sym (without-writes site xs ws) ∙ e))
+    (λ f e. growth-refusal-is-valid true site.limits site.collected site.dag (next_record site xs []) f (grows-in-range site xs ranged id)
+    (sym (without-writes site xs ws) ∙ e))
     good-none
 
 commit-ends : (site : Site) (n : ℕ) (xs : List StateId) (ws : List KeyWrite) → IsRanged site → EndsWell (commit_below site n xs ws []).1
@@ -67,7 +72,8 @@ commit-ends site n xs ws ranged = go (own_count site == 4294967295) refl
     r : Record
     r = next_record site xs ws
 
-    go : (b : Bool) → (own_count site == 4294967295) ≡ b → EndsWell (unless site (refuse b SeqEnd ∷ growth_refusals site (next_record site xs ws)) (committed site n (next_record site xs ws))).1
+    go : (b : Bool) → (own_count site == 4294967295) ≡ b → EndsWell
+        (unless site (refuse b SeqEnd ∷ growth_refusals site (next_record site xs ws)) (committed site n (next_record site xs ws))).1
     go true e = refl
     go false e = (growth-ends site xs ws ranged (next-is-id site ranged e)).each site (committed site n (next_record site xs ws)) (λ none. tt)
 
@@ -82,9 +88,11 @@ both-end site n rules a b ranged = go (nat_lt 64 (length (conflict_keys site.dag
     ks : List (List ℕ)
     ks = conflict_keys site.dag (a ∷ b ∷ [])
 
-    go : (t : Bool) → CanBeTold (if t then (site, AutoEnd.Wide (Rattle.std.specs.Prelude.min (length (conflict_keys site.dag (a ∷ b ∷ []))) 4294967295)) else merge_values site n a b (value_of rules site.dag a b) (conflict_keys site.dag (a ∷ b ∷ []))).1
+    go : (t : Bool) → CanBeTold (if t then (site, AutoEnd.Wide (Rattle.std.specs.Prelude.min (length (conflict_keys site.dag (a ∷ b ∷ []))) 4294967295))
+        else merge_values site n a b (value_of rules site.dag a b) (conflict_keys site.dag (a ∷ b ∷ []))).1
     go true = tt
-    go false = values-end site n a b (values (value_of rules site.dag a b) (conflict_keys site.dag (a ∷ b ∷ []))) (unmerged (value_of rules site.dag a b) (conflict_keys site.dag (a ∷ b ∷ []))) ranged
+    go false = values-end site n a b (values (value_of rules site.dag a b) (conflict_keys site.dag (a ∷ b ∷ [])))
+        (unmerged (value_of rules site.dag a b) (conflict_keys site.dag (a ∷ b ∷ []))) ranged
 
 begins-end : (site : Site) (answer : AutoAnswer) (s : Option Session) (t : Option Txn) → CanBeTold answer.1
     → CanBeTold (unless_refused site (elim s [ None ↦ Some Refusal.NotOpen | Some s ↦ elim t [ None ↦ None | Some t ↦ Some Refusal.TxnOpen ] ]) answer).1
@@ -96,7 +104,8 @@ over-ends : (site : Site) (n : ℕ) (rules : List PrefixRule) (xs : List StateId
 over-ends site n rules [] ranged = tt
 over-ends site n rules (x ∷ []) ranged = tt
 over-ends site n rules (x ∷ y ∷ more) ranged =
-    begins-end site (if is_before x y then merge_both site n rules x y else merge_both site n rules y x) (entry_of n site.sessions) (entry_of n site.txns) (go (is_before x y))
+    begins-end site (if is_before x y then merge_both site n rules x y else merge_both site n rules y x) (entry_of n site.sessions) (entry_of n site.txns)
+    (go (is_before x y))
   where
     go : (t : Bool) → CanBeTold (if t then merge_both site n rules x y else merge_both site n rules y x).1
     go true = both-end site n rules x y ranged

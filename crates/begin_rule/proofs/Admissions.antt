@@ -1,5 +1,6 @@
 -- Which of a merge's states are admitted.
-use Rattle.std.proofs.Common.{◌≡◌, ◌∙◌, ℕ, ◌+◌, ◌<◌, ◌==◌, Bool, not, List, ◌∷◌, [], length, map, find, get_or, drop, Some, None, Result, Ok, Err, IsTrue, IsFalse, inl, inr, sym, ap, subst}
+use Rattle.std.proofs.Common.{◌≡◌, ◌∙◌, ℕ, ◌+◌, ◌<◌, ◌==◌, Bool, not, List, ◌∷◌, [], length, map, find, get_or, drop, Some, None, Result, Ok, Err, IsTrue}
+use Rattle.std.proofs.Common.{IsFalse, inl, inr, sym, ap, subst}
 use Rattle.std.specs.Result.{IsErrAnd}
 use Rattle.std.specs.Option.{option_map}
 use Rattle.std.proofs.lemmas.Bool.{cases_Bool, not_from_false, cond-true, cond-false}
@@ -33,17 +34,20 @@ named-is_listed table slot x named = go table.entries named
       | inl t ↦
           let same = same_Some e.id x (sym (ap (option_map (λ (f : Entry). f.id)) (cond-true (here e) (Some e) (find here es) t)) ∙ is) in
           subst (λ y. IsTrue (is_among x (y ∷ map (λ f. f.id) es))) (sym same) (among-first x (map (λ f. f.id) es))
-      | inr f ↦ among-later x e.id (map (λ f. f.id) es) (go es (sym (ap (option_map (λ (f : Entry). f.id)) (cond-false (here e) (Some e) (find here es) f)) ∙ is))
+      | inr f ↦ among-later x e.id (map (λ f. f.id) es) (go es (sym (ap (option_map (λ (f : Entry). f.id)) (cond-false (here e) (Some e) (find here es) f))
+          ∙ is))
     ]
 
 -- where none is unknown, each is known
 pub known-at : (rs : List Record) (xs : List StateId) (i : ℕ) (d : StateId) → first_unknown rs xs ≡ None → i < length xs → IsTrue (is_known rs (get_or xs i d))
 known-at rs xs i d none lt = elim (cases_Bool (is_known rs (get_or xs i d))) [
   | inl t ↦ t
-  | inr f ↦ not-both (not (is_known rs (get_or xs i d))) (not_from_false (is_known rs (get_or xs i d)) f) (none-passes (λ x. not (is_known rs x)) xs i d none lt)
+  | inr f ↦ not-both (not (is_known rs (get_or xs i d))) (not_from_false (is_known rs (get_or xs i d)) f)
+      (none-passes (λ x. not (is_known rs x)) xs i d none lt)
 ]
 
-module _ (table : Table) (rs : List Record) (c : StateId) (xs : List StateId) (i : ℕ) (d : StateId) (lt : i < length xs) (met : first_below rs c xs ≡ first_below rs c (drop i xs)) where
+module _ (table : Table) (rs : List Record) (c : StateId) (xs : List StateId) (i : ℕ) (d : StateId) (lt : i < length xs)
+    (met : first_below rs c xs ≡ first_below rs c (drop i xs)) where
   abbrev x : StateId
   x = get_or xs i d
 
@@ -51,11 +55,13 @@ module _ (table : Table) (rs : List Record) (c : StateId) (xs : List StateId) (i
   is_below y = not (is_admitted rs c y)
 
   -- the first that isn't admitted is told
-  pub refusal-told : (fault : BeginFault) (r : Result Unit BeginFault) → IsTrue (is_known rs x) → ChosenAs table rs c x (Err fault) → IsErrAnd r (λ told. told ≡ fault) → AdmittedAllAs rs c xs r
+  pub refusal-told : (fault : BeginFault) (r : Result Unit BeginFault) → IsTrue (is_known rs x) → ChosenAs table rs c x (Err fault) →
+      IsErrAnd r (λ told. told ≡ fault) → AdmittedAllAs rs c xs r
   refusal-told (Unknown y) r known chosen is = not-both (is_known rs x) known chosen.1
   refusal-told (Below y e) (Ok done) known chosen is = absurd (is)
   refusal-told (Below y e) (Err told) known chosen is =
-      let first = met ∙ (ap (first_below rs c) (drop_more xs i d lt) ∙ found-here is_below x (drop (i + 1) xs) (not_from_false (is_admitted rs c x) chosen.3)) in
+      let first = met ∙ (ap (first_below rs c) (drop_more xs i d lt)
+      ∙ found-here is_below x (drop (i + 1) xs) (not_from_false (is_admitted rs c x) chosen.3)) in
       subst (λ f. AdmittedAllAs rs c xs (Err f)) (sym is) (first ∙ ap (λ z. Some z) (sym chosen.0), chosen.1)
 
   -- one more is admitted

@@ -1,5 +1,6 @@
 -- States, one after another, and the slots that name them.
-use Rattle.std.proofs.Common.{◌≡◌, ℕ, ◌+◌, ◌<◌, Bool, List, [], ◌∷◌, length, map, find, get_or, drop, Option, Some, None, IsTrue, IsFalse, inl, inr, refl, sym, ap, ◌∙◌, arith}
+use Rattle.std.proofs.Common.{◌≡◌, ℕ, ◌+◌, ◌<◌, Bool, List, [], ◌∷◌, length, map, find, get_or, drop, Option, Some, None, IsTrue, IsFalse, inl, inr, refl}
+use Rattle.std.proofs.Common.{sym, ap, ◌∙◌, arith}
 use Rattle.std.specs.List.{list_all}
 use Rattle.std.proofs.lemmas.Bool.{and_parts, cases_Bool, cond-true, cond-false}
 use Rattle.std.proofs.lemmas.Option.{none-some}
@@ -27,7 +28,8 @@ none-passes p (x ∷ xs) i d e lt = elim (cases_Bool (p x)) [
   | inr f ↦ at i lt f (sym (found-behind p x xs f) ∙ e) (none-passes p xs)
 ]
   where
-    at : (i : ℕ) → i < length (x ∷ xs) → IsFalse (p x) → find p xs ≡ None → ((i : ℕ) (d : StateId) → find p xs ≡ None → i < length xs → IsFalse (p (get_or xs i d))) → IsFalse (p (get_or (x ∷ xs) i d))
+    at : (i : ℕ) → i < length (x ∷ xs) → IsFalse (p x) → find p xs ≡ None →
+        ((i : ℕ) (d : StateId) → find p xs ≡ None → i < length xs → IsFalse (p (get_or xs i d))) → IsFalse (p (get_or (x ∷ xs) i d))
     at ℕ.zero lt f rest later = f
     at (ℕ.suc i) lt f rest later = later i d rest (omega arith)
 
@@ -47,7 +49,8 @@ pub named-length : (name : Slot → Option StateId) (ss : List Slot) (xs : List 
 named-length name ss xs are = sym (length-map ss name) ∙ (ap length are ∙ length-map xs (λ x. Some x))
 
 -- each slot has its state at its place
-pub named-next : (name : Slot → Option StateId) (ss : List Slot) (xs : List StateId) (i : ℕ) (d : Slot) → map name ss ≡ map (λ x. Some x) xs → i < length ss → IsNamedNext name ss xs i (get_or ss i d)
+pub named-next : (name : Slot → Option StateId) (ss : List Slot) (xs : List StateId) (i : ℕ) (d : Slot) → map name ss ≡ map (λ x. Some x) xs →
+    i < length ss → IsNamedNext name ss xs i (get_or ss i d)
 named-next name ss xs i d are lt =
     let same = named-length name ss xs are in
     let within : i < length xs = omega arith in

@@ -1,5 +1,6 @@
 -- The newest kept state below another.
-use Rattle.std.proofs.Common.{◌≡◌, ◌≤◌, ◌<◌, Bool, true, false, not, List, [], ◌∷◌, find, Some, None, IsTrue, IsFalse, unwrap_or, inl, inr, refl, sym, ap, subst, ◌∙◌, arith}
+use Rattle.std.proofs.Common.{◌≡◌, ◌≤◌, ◌<◌, Bool, true, false, not, List, [], ◌∷◌, find, Some, None, IsTrue, IsFalse, unwrap_or, inl, inr, refl, sym, ap}
+use Rattle.std.proofs.Common.{subst, ◌∙◌, arith}
 use Rattle.std.proofs.lemmas.Bool.{and_parts, and_from, cases_Bool, both_ways, cond-true, cond-false, false_from_ne_true, not_from_false, cases_lt}
 use Rattle.std.proofs.lemmas.Option.{none-some, same_Some}
 use Rattle.tardis_base.specs.declared.ids.StateId.{StateId}
@@ -21,7 +22,8 @@ use Rattle.state_dag.specs.Stands.{Stands}
 use Rattle.state_dag.proofs.Known.{known-is_arrived}
 
 -- what is found arrived last of those that pass
-found-is-last : (rs : List Record) → Grows rs → (p : StateId → Bool) (y n : StateId) → find p (states rs) ≡ Some y → IsTrue (is_known rs n) → IsTrue (p n) → arrival rs n ≤ arrival rs y
+found-is-last : (rs : List Record) → Grows rs → (p : StateId → Bool) (y n : StateId) → find p (states rs) ≡ Some y → IsTrue (is_known rs n) → IsTrue (p n)
+    → arrival rs n ≤ arrival rs y
 found-is-last [] g p y n e known passes = absurd (none-some y e)
 found-is-last (r ∷ rs) g p y n e known passes = elim (cases_Bool (p r.id)) [
   | inl t ↦
@@ -32,7 +34,8 @@ found-is-last (r ∷ rs) g p y n e known passes = elim (cases_Bool (p r.id)) [
       omega arith
   | inr f ↦
       let rest = sym (cond-false (p r.id) (Some r.id) (find p (states rs)) f) ∙ e in
-      let other : IsFalse (same_id n r.id) = false_from_ne_true (same_id n r.id) (λ t. both_ways (p r.id) f (subst (λ z. IsTrue (p z)) (same_id-true n r.id t) passes)) in
+      let other : IsFalse (same_id n r.id) = false_from_ne_true (same_id n r.id)
+      (λ t. both_ways (p r.id) f (subst (λ z. IsTrue (p z)) (same_id-true n r.id t) passes)) in
       let old_y = arrival-before rs r y (known-isnt-newest rs r y g.0 (found-passes p (states rs) y rest).0) in
       let old_n = arrival-before rs r n other in
       let le = found-is-last rs g.1 p y n rest (known-before rs r n known other) passes in
@@ -60,7 +63,8 @@ module _ (table : Table) (rs : List Record) (ks : List StateId) (stands : Stands
   some-leaf none = both_ways (is_above rs last (last_below rs last)) (none (last_below rs last) newest-is_listed) newest-is_below
 
   -- where n is below it and no later leaf is, n is the last-arrived state below the last commit
-  pub newest-found : (n : StateId) → IsTrue (is_kept rs ks n) → IsTrue (is_above rs (stand_in rs ks last) n) → ((z : StateId) → IsTrue (is_among z (leaves rs)) → arrival rs n < arrival rs z → IsFalse (is_above rs last z)) → n ≡ last_below rs last
+  pub newest-found : (n : StateId) → IsTrue (is_kept rs ks n) → IsTrue (is_above rs (stand_in rs ks last) n) →
+      ((z : StateId) → IsTrue (is_among z (leaves rs)) → arrival rs n < arrival rs z → IsFalse (is_above rs last z)) → n ≡ last_below rs last
   newest-found n kept_n above none =
       let w = finds-passing (is_above rs last) (states rs) last known (above-reflexive rs last) in
       let y = last_below rs last in

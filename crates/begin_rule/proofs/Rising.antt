@@ -12,7 +12,8 @@ module _ (f : StateId → ℕ) where
   front-is_among (w ∷ xs) (suc i) x zs e = among-later x w xs (front-is_among xs i x zs e)
 
   -- what has a greater number than the one at a place stands behind it
-  pub stands-behind : (xs : List StateId) (i : ℕ) (x y : StateId) (zs : List StateId) → Rising f xs → drop i xs ≡ x ∷ zs → IsTrue (is_among y xs) → f x < f y → IsTrue (is_among y zs)
+  pub stands-behind : (xs : List StateId) (i : ℕ) (x y : StateId) (zs : List StateId) → Rising f xs → drop i xs ≡ x ∷ zs → IsTrue (is_among y xs) →
+      f x < f y → IsTrue (is_among y zs)
   stands-behind xs zero x y zs up e m lt = elim (among-cases y x zs (subst (λ ys. IsTrue (is_among y ys)) e m)) [
     | inl is ↦ (let at = ap f is in absurd (omega arith))
     | inr later ↦ later

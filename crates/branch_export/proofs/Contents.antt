@@ -1,5 +1,6 @@
 -- The contents of a state, out of the keys that a store lists.
-use Rattle.std.proofs.Common.{◌≡◌, ℕ, ◌+◌, ◌≤◌, ◌⊎◌, Bool, true, false, ◌&&◌, ◌||◌, List, [], ◌∷◌, ◌++◌, length, filter, filter_map, take, Option, Some, None, is_some, IsPermutation, IsSorted, bytes_eq, nat_cmp, inl, inr, refl, sym, ap, ap₂, subst, ◌∙◌, arith}
+use Rattle.std.proofs.Common.{◌≡◌, ℕ, ◌+◌, ◌≤◌, ◌⊎◌, Bool, true, false, ◌&&◌, ◌||◌, List, [], ◌∷◌, ◌++◌, length, filter, filter_map, take, Option, Some, None}
+use Rattle.std.proofs.Common.{is_some, IsPermutation, IsSorted, bytes_eq, nat_cmp, inl, inr, refl, sym, ap, ap₂, subst, ◌∙◌, arith}
 use Rattle.std.specs.Cmp.Lexicographic.{slice_cmp}
 use Rattle.std.specs.List.{IsDistinct, cons_option}
 use Rattle.std.specs.Option.{option_map, option_and_then}
@@ -29,7 +30,8 @@ use Rattle.record_store.specs.Stands.{StoreStands}
 use Rattle.record_store.proofs.Reading.{found-is_read}
 use Rattle.branch_export.specs.Exports.{Entry, with_keys, written_keys, value_read}
 use Rattle.branch_export.specs.Live.{is_live, live_keys}
-use Rattle.branch_export.proofs.Orders.{Key, texts, count, count-permutation, among-counted, counted-among, counted-once, filter-counted, ascending-sorted, same-keys}
+use Rattle.branch_export.proofs.Orders.{Key, texts, count, count-permutation, among-counted, counted-among, counted-once, filter-counted, ascending-sorted}
+use Rattle.branch_export.proofs.Orders.{same-keys}
 
 abbrev entry : List ℕ → List ℕ → Entry
 entry k value = (k, value)
@@ -59,7 +61,8 @@ among-with_keys : (j : List ℕ) (ks ls : List (List ℕ)) → (is_key_among j k
 among-with_keys j [] ls h = h
 among-with_keys j (k ∷ ks) ls h = among-with_key j k (with_keys ks ls) (go (bytes_eq j k) (λ e. among-with_keys j ks ls e) h)
   where
-    go : (b : Bool) → ((is_key_among j ks || is_key_among j ls) ≡ true → is_key_among j (with_keys ks ls) ≡ true) → ((b || is_key_among j ks) || is_key_among j ls) ≡ true → (b || is_key_among j (with_keys ks ls)) ≡ true
+    go : (b : Bool) → ((is_key_among j ks || is_key_among j ls) ≡ true → is_key_among j (with_keys ks ls) ≡ true) →
+        ((b || is_key_among j ks) || is_key_among j ls) ≡ true → (b || is_key_among j (with_keys ks ls)) ≡ true
     go true rest e = refl
     go false rest e = rest e
 
@@ -72,7 +75,8 @@ ascending-written [] = refl
 ascending-written (r ∷ rs) = ascending-with_keys (keys_of r.writes) (written_keys rs) (ascending-written rs)
 
 -- a key that a record writes is one of them
-at-is_written : (rs : List Record) (k : List ℕ) (o : Option Record) (x : StateId) → o ≡ record_at rs x → is_some (option_and_then (λ r. write_of k r.writes) o) ≡ true → is_key_among k (written_keys rs) ≡ true
+at-is_written : (rs : List Record) (k : List ℕ) (o : Option Record) (x : StateId) → o ≡ record_at rs x →
+    is_some (option_and_then (λ r. write_of k r.writes) o) ≡ true → is_key_among k (written_keys rs) ≡ true
 at-is_written [] k o x is h = absurd (both_ways false refl (sym (ap (λ p. is_some (option_and_then (λ (r : Record). write_of k r.writes) p)) is) ∙ h))
 at-is_written (r ∷ rs) k o x is h = elim (cases_Bool (same_id x r.id)) [
   | inl t ↦
@@ -113,11 +117,13 @@ among-filter p k [] = none (p k)
     none true = refl
     none false = refl
 among-filter p k (l ∷ ls) = elim (cases_Bool (p l)) [
-  | inl t ↦ ap (is_key_among k) (cond-true (p l) (l ∷ filter p ls) (filter p ls) t) ∙ (ap (λ c. bytes_eq k l || c) (among-filter p k ls) ∙ passes (cases_Bool (bytes_eq k l)) t)
+  | inl t ↦ ap (is_key_among k) (cond-true (p l) (l ∷ filter p ls) (filter p ls) t)
+      ∙ (ap (λ c. bytes_eq k l || c) (among-filter p k ls) ∙ passes (cases_Bool (bytes_eq k l)) t)
   | inr f ↦ ap (is_key_among k) (cond-false (p l) (l ∷ filter p ls) (filter p ls) f) ∙ (among-filter p k ls ∙ fails (cases_Bool (bytes_eq k l)) f)
 ]
   where
-    passes : (bytes_eq k l ≡ true) ⊎ (bytes_eq k l ≡ false) → p l ≡ true → (bytes_eq k l || (p k && is_key_among k ls)) ≡ (p k && (bytes_eq k l || is_key_among k ls))
+    passes : (bytes_eq k l ≡ true) ⊎ (bytes_eq k l ≡ false) → p l ≡ true → (bytes_eq k l || (p k && is_key_among k ls))
+        ≡ (p k && (bytes_eq k l || is_key_among k ls))
     passes (inl e) t =
         let pk : p k ≡ true = ap p ((bytes_eq-Decides k l).0 e) ∙ t in
         ap (λ b. b || (p k && is_key_among k ls)) e ∙ sym (ap₂ (λ a b. a && (b || is_key_among k ls)) pk e)
@@ -149,18 +155,21 @@ ascending-filter p [] up = refl
 ascending-filter p (k ∷ ks) up =
     let rest = ascending-filter p ks (ascending-parts k ks up).1 in
     elim (cases_Bool (p k)) [
-      | inl t ↦ subst (λ zs. are_ascending_keys zs ≡ true) (sym (cond-true (p k) (k ∷ filter p ks) (filter p ks) t)) (ascending-from k (filter p ks) (first-filter p k ks up) rest)
+      | inl t ↦ subst (λ zs. are_ascending_keys zs ≡ true) (sym (cond-true (p k) (k ∷ filter p ks) (filter p ks) t))
+          (ascending-from k (filter p ks) (first-filter p k ks up) rest)
       | inr f ↦ subst (λ zs. are_ascending_keys zs ≡ true) (sym (cond-false (p k) (k ∷ filter p ks) (filter p ks) f)) rest
     ]
 
 -- ===== The listed keys
 
 -- a key that isn't listed has no value
-pub unlisted-read : (store : Store) (rs : List Record) (ks : List StateId) → StoreStands store rs ks → (slot : Slot) (x : StateId) → id_at store.table slot ≡ Some x
+pub unlisted-read : (store : Store) (rs : List Record) (ks : List StateId) → StoreStands store rs ks → (slot : Slot) (x : StateId) → id_at store.table slot
+    ≡ Some x
     → (k : List ℕ) → versions_of store.versions k ≡ [] → is_live rs x k ≡ false
 unlisted-read store rs ks stands slot x named k none =
     let found = found-is_read store rs ks stands slot x named k in
-    let absent : read rs k x ≡ None = sym (ap (λ vs. option_map written (latest_version (is_slot_above store.table) (arrival_at store.table) vs slot)) (sym none) ∙ found) in
+    let absent : read rs k x ≡ None = sym (ap (λ vs. option_map written (latest_version (is_slot_above store.table) (arrival_at store.table) vs slot))
+    (sym none) ∙ found) in
     ap (λ o. is_some (option_map (entry k) (value_read o))) absent
 
 -- the keys that were found, in order, are those that are live
@@ -210,8 +219,10 @@ pub entries-of_some : {A B : Type 0} (f : A → Option B) (xs : List A) → filt
 entries-of_some f [] = refl
 entries-of_some {A} {B} f (x ∷ xs) = go (f x) refl (entries-of_some f xs)
   where
-    go : (o : Option B) → f x ≡ o → filter_map f (filter (λ a. is_some (f a)) xs) ≡ filter_map f xs → filter_map f (filter (λ a. is_some (f a)) (x ∷ xs)) ≡ filter_map f (x ∷ xs)
-    go (Some b) is rest = ap (filter_map f) (cond-true (is_some (f x)) (x ∷ filter (λ a. is_some (f a)) xs) (filter (λ a. is_some (f a)) xs) (ap is_some is)) ∙ ap (cons_option (f x)) rest
+    go : (o : Option B) → f x ≡ o → filter_map f (filter (λ a. is_some (f a)) xs) ≡ filter_map f xs → filter_map f (filter (λ a. is_some (f a)) (x ∷ xs))
+        ≡ filter_map f (x ∷ xs)
+    go (Some b) is rest = ap (filter_map f) (cond-true (is_some (f x)) (x ∷ filter (λ a. is_some (f a)) xs) (filter (λ a. is_some (f a)) xs)
+        (ap is_some is)) ∙ ap (cons_option (f x)) rest
     go None is rest =
         ap (filter_map f) (cond-false (is_some (f x)) (x ∷ filter (λ a. is_some (f a)) xs) (filter (λ a. is_some (f a)) xs) (ap is_some is))
         ∙ (rest ∙ sym (ap (λ o. cons_option o (filter_map f xs)) is))
@@ -220,7 +231,8 @@ pub length-of_some : {A B : Type 0} (f : A → Option B) (xs : List A) → lengt
 length-of_some f [] = refl
 length-of_some {A} {B} f (x ∷ xs) = go (f x) refl (length-of_some f xs)
   where
-    go : (o : Option B) → f x ≡ o → length (filter_map f xs) ≡ length (filter (λ a. is_some (f a)) xs) → length (filter_map f (x ∷ xs)) ≡ length (filter (λ a. is_some (f a)) (x ∷ xs))
+    go : (o : Option B) → f x ≡ o → length (filter_map f xs) ≡ length (filter (λ a. is_some (f a)) xs) → length (filter_map f (x ∷ xs))
+        ≡ length (filter (λ a. is_some (f a)) (x ∷ xs))
     go (Some b) is rest =
         ap (λ o. length (cons_option o (filter_map f xs))) is
         ∙ (ap ℕ.suc rest ∙ sym (ap length (cond-true (is_some (f x)) (x ∷ filter (λ a. is_some (f a)) xs) (filter (λ a. is_some (f a)) xs) (ap is_some is))))

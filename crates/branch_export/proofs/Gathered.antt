@@ -1,5 +1,6 @@
 -- What is gathered and given, entry by entry.
-use Rattle.std.proofs.Common.{◌≡◌, ℕ, ◌+◌, ◌<◌, ◌≤◌, IsTrue, List, [], ◌∷◌, ◌++◌, length, filter_map, take, drop, get_or, Option, Some, None, refl, sym, ap, ◌∙◌, append_assoc, append-nil, take-append-drop, take_all}
+use Rattle.std.proofs.Common.{◌≡◌, ℕ, ◌+◌, ◌<◌, ◌≤◌, IsTrue, List, [], ◌∷◌, ◌++◌, length, filter_map, take, drop, get_or, Option, Some, None, refl, sym, ap}
+use Rattle.std.proofs.Common.{◌∙◌, append_assoc, append-nil, take-append-drop, take_all}
 use Rattle.std.specs.Prelude.{flat_map, Result, Ok, Err, nat_le}
 use Rattle.std.proofs.lemmas.Bool.{and_parts, leb-true}
 use Rattle.std.proofs.lemmas.Grind.{flat_map-append}
@@ -20,7 +21,8 @@ use Rattle.branch_export.specs.Gathering.{Moves, entry_bytes}
 -- ===== Lengths
 
 pub key-short : (k : List ℕ) → IsTrue (is_key k) → length k ≤ 128
-key-short k h = leb-true (length k) longest_key (and_parts (nat_le 1 (length k)) (nat_le (length k) longest_key) (and_parts (is_within 1 longest_key (length k)) (are_bytes k) h).0).1
+key-short k h = leb-true (length k) longest_key (and_parts (nat_le 1 (length k)) (nat_le (length k) longest_key)
+    (and_parts (is_within 1 longest_key (length k)) (are_bytes k) h).0).1
 
 pub value-short : (v : List ℕ) → IsTrue (is_value v) → length v ≤ 4096
 value-short v h = leb-true (length v) longest_value (and_parts (nat_le (length v) longest_value) (are_bytes v) h).0
@@ -46,7 +48,8 @@ entries-bytes rs x (k ∷ ks) = go (value_read (read rs k x)) refl (entries-byte
 abbrev pub begun : List Record → StateId → List (List ℕ) → ℕ → List ℕ
 begun rs x ks n = u64_spelling (length ks) ++ flat_map (bytes_at rs x) (take n ks)
 
-pub begun-next : (rs : List Record) (x : StateId) (ks : List (List ℕ)) (i : ℕ) (d k : List ℕ) → i < length ks → k ≡ get_or ks i d → begun rs x ks (i + 1) ≡ begun rs x ks i ++ bytes_at rs x k
+pub begun-next : (rs : List Record) (x : StateId) (ks : List (List ℕ)) (i : ℕ) (d k : List ℕ) → i < length ks → k ≡ get_or ks i d → begun rs x ks (i + 1)
+    ≡ begun rs x ks i ++ bytes_at rs x k
 begun-next rs x ks i d k h is =
     ap (λ zs. u64_spelling (length ks) ++ flat_map (bytes_at rs x) zs) (take_more ks i d h ∙ ap (λ z. take i ks ++ z ∷ []) (sym is))
     ∙ sym (flat_map_more (bytes_at rs x) (u64_spelling (length ks)) (take i ks) k)
@@ -60,7 +63,8 @@ begun-rest rs x ks i =
 
 pub begun-whole : (rs : List Record) (x : StateId) (ks : List (List ℕ)) (n : ℕ) → length ks ≤ n → begun rs x ks n ≡ spelled rs x ks
 begun-whole rs x ks n h =
-    ap (λ zs. u64_spelling (length ks) ++ flat_map (bytes_at rs x) zs) (take_all n ks h) ∙ ap (λ zs. u64_spelling (length ks) ++ zs) (sym (entries-bytes rs x ks))
+    ap (λ zs. u64_spelling (length ks) ++ flat_map (bytes_at rs x) zs) (take_all n ks h)
+    ∙ ap (λ zs. u64_spelling (length ks) ++ zs) (sym (entries-bytes rs x ks))
 
 -- ===== What is given
 
@@ -100,7 +104,8 @@ begun-lost old mid new rs x ks i waited told moved =
     (λ b m a p q. front b m a waited (begun rs x ks i) (flat_map (bytes_at rs x) (drop i ks)) (spelled rs x ks) p q (begun-rest rs x ks i))
 
 -- the last bytes were given, or a front of them
-pub begun-given : {E : Type 0} (old mid new : Option (List ℕ)) (rs : List Record) (x : StateId) (ks : List (List ℕ)) (n : ℕ) (waited : List ℕ) (result : Result (Unit {0}) E) → length ks ≤ n
+pub begun-given : {E : Type 0} (old mid new : Option (List ℕ)) (rs : List Record) (x : StateId) (ks : List (List ℕ)) (n : ℕ) (waited : List ℕ)
+    (result : Result (Unit {0}) E) → length ks ≤ n
     → WhileTold old mid (λ before after. after ++ waited ≡ before ++ begun rs x ks n)
     → WhileTold mid new (λ before after. GivesAll before after result waited)
     → WhileTold old new (λ before after. Moves before (spelled rs x ks) after [] result)

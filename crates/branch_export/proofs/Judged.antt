@@ -1,5 +1,6 @@
 -- How an export is read back from bytes.
-use Rattle.std.proofs.Common.{◌≡◌, ℕ, ◌==◌, Bool, true, false, ◌&&◌, IsTrue, List, [], ◌∷◌, length, Option, Some, None, ap, sym, ◌∙◌, subst, refl, arith, eqb-true}
+use Rattle.std.proofs.Common.{◌≡◌, ℕ, ◌==◌, Bool, true, false, ◌&&◌, IsTrue, List, [], ◌∷◌, length, Option, Some, None, ap, sym, ◌∙◌, subst, refl, arith}
+use Rattle.std.proofs.Common.{eqb-true}
 use Rattle.std.specs.Prelude.{option_and_then}
 use Rattle.std.proofs.lemmas.Bool.{false_from_ne_true}
 use Rattle.std.specs.List.{list_all}
@@ -58,7 +59,8 @@ judged-wrong bytes n mid e none =
     (ap (option_and_then (λ read. alone read.0 read.1)) (counted-unordered u64_front entry_front are_entries are_ascending is_u64 tested bytes n mid e none))
 
 -- they do; then it is for what is left
-pub judged-read : (bytes : List ℕ) (n : ℕ) (mid : List ℕ) (es : List Entry) (rest : List ℕ) (done : Bool) → u64_front bytes ≡ Some (n, mid) → entries_front n mid ≡ Some (es, rest)
+pub judged-read : (bytes : List ℕ) (n : ℕ) (mid : List ℕ) (es : List Entry) (rest : List ℕ) (done : Bool) → u64_front bytes ≡ Some (n, mid) →
+    entries_front n mid ≡ Some (es, rest)
     → done ≡ (length rest == 0) → IsJudged bytes done
 judged-read bytes n mid es rest done e f d =
     let h = counted-ordered u64_front entry_front are_entries are_ascending is_u64 tested bytes n mid es rest e f in

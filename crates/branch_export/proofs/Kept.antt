@@ -39,14 +39,17 @@ found-listed (f ∷ es) k e h = elim (cases_Bool (f.slot.0 == k)) [
 ]
 
 -- the state that the table names at a slot is kept
-pub named-kept : (table : Table) (rs : List Record) (ks : List StateId) → Stands table rs ks → (slot : Slot) (x : StateId) → id_at table slot ≡ Some x → is_kept rs ks x ≡ true
+pub named-kept : (table : Table) (rs : List Record) (ks : List StateId) → Stands table rs ks → (slot : Slot) (x : StateId) → id_at table slot ≡ Some x →
+    is_kept rs ks x ≡ true
 named-kept table rs ks stands slot x named = go (entry_at table slot) refl
   where
     go : (o : Option Entry) → entry_at table slot ≡ o → is_kept rs ks x ≡ true
     go None is = let none : option_map (λ (e : Entry). e.id) (entry_at table slot) ≡ None = ap (option_map (λ (e : Entry). e.id)) is in absurd (cc)
     go (Some e) is =
         let here : e.id ≡ x = same_Some e.id x (sym (ap (option_map (λ (f : Entry). f.id)) is) ∙ named) in
-        let among : IsTrue (is_among x (kept_states rs ks)) = subst (λ xs. IsTrue (is_among x xs)) stands.ids (subst (λ z. IsTrue (is_among z (map (λ (f : Entry). f.id) table.entries))) here (found-listed table.entries slot.0 e is)) in
+        let among : IsTrue (is_among x (kept_states rs ks)) =
+        subst (λ xs. IsTrue (is_among x xs)) stands.ids (subst (λ z. IsTrue (is_among z (map (λ (f : Entry). f.id) table.entries))) here
+        (found-listed table.entries slot.0 e is)) in
         let parts = filtered-passes (λ z. not (is_among z ks)) (arrived rs) x among in
         and_from (is_known rs x) (not (is_among x ks)) (arrived-is_known rs x parts.0) parts.1
 
@@ -54,16 +57,19 @@ named-kept table rs ks stands slot x named = go (entry_at table slot) refl
 pub live-spelled : (rs : List Record) (x : StateId) (ks : List (List ℕ)) → ks ≡ live_keys rs x → spelled rs x ks ≡ export_of rs x
 live-spelled rs x ks are =
     ap (spelled rs x) are
-    ∙ ap₂ (λ n es. u64_spelling n ++ flat_map entry_spelling es) (sym (length-of_some (export_entry rs x) (written_keys rs))) (entries-of_some (export_entry rs x) (written_keys rs))
+    ∙ ap₂ (λ n es. u64_spelling n ++ flat_map entry_spelling es) (sym (length-of_some (export_entry rs x) (written_keys rs)))
+    (entries-of_some (export_entry rs x) (written_keys rs))
 
 -- there was no memory
-pub wanting : (rs : List Record) (ks : List StateId) (x : StateId) (old : Option (List ℕ)) (r : Result (Unit {0}) ExportFault) → is_kept rs ks x ≡ true → IsErr r × IsErrAnd r (λ fault. fault ≡ NoMemory)
+pub wanting : (rs : List Record) (ks : List StateId) (x : StateId) (old : Option (List ℕ)) (r : Result (Unit {0}) ExportFault) → is_kept rs ks x ≡ true →
+    IsErr r × IsErrAnd r (λ fault. fault ≡ NoMemory)
     → Exported rs ks x old old r
 wanting rs ks x old (Ok done) kept h = absurd (both_ways false refl h.0)
 wanting rs ks x old (Err fault) kept h = subst (λ f. Exported rs ks x old old (Err f)) (sym h.1) (kept, refl)
 
 -- the entries were written, or a front of them
-pub written : (rs : List Record) (ks : List StateId) (x : StateId) (old new : Option (List ℕ)) (keys : List (List ℕ)) → is_kept rs ks x ≡ true → keys ≡ live_keys rs x
+pub written : (rs : List Record) (ks : List StateId) (x : StateId) (old new : Option (List ℕ)) (keys : List (List ℕ)) → is_kept rs ks x ≡ true →
+    keys ≡ live_keys rs x
     → WhileTold old new (λ before after. after ++ [] ≡ before ++ spelled rs x keys) → Exported rs ks x old new (Ok tt)
 written rs ks x old new keys kept are told = (
   kept,
@@ -71,7 +77,8 @@ written rs ks x old new keys kept are told = (
       (λ b a p. sym (append-nil a) ∙ p ∙ ap (λ s. b ++ s) (live-spelled rs x keys are)),
 )
 
-pub cut_short : (rs : List Record) (ks : List StateId) (x : StateId) (old new : Option (List ℕ)) (keys : List (List ℕ)) → is_kept rs ks x ≡ true → keys ≡ live_keys rs x
+pub cut_short : (rs : List Record) (ks : List StateId) (x : StateId) (old new : Option (List ℕ)) (keys : List (List ℕ)) → is_kept rs ks x ≡ true →
+    keys ≡ live_keys rs x
     → WhileTold old new (λ before after. IsFrontGiven before after (spelled rs x keys)) → Exported rs ks x old new (Err WriteFault)
 cut_short rs ks x old new keys kept are told = (
   kept,

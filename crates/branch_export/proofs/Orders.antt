@@ -1,5 +1,6 @@
 -- Keys in another order, and the one ascending list of them.
-use Rattle.std.proofs.Common.{◌≡◌, ℕ, ◌+◌, ◌<◌, ◌≤◌, Bool, true, false, ◌||◌, List, [], ◌∷◌, length, map, filter, get_or, IsPermutation, IsSorted, Bor, nat_cmp, bytes_eq, inl, inr, refl, sym, ap, ap₂, subst, ◌∙◌, arith}
+use Rattle.std.proofs.Common.{◌≡◌, ℕ, ◌+◌, ◌<◌, ◌≤◌, Bool, true, false, ◌||◌, List, [], ◌∷◌, length, map, filter, get_or, IsPermutation, IsSorted, Bor}
+use Rattle.std.proofs.Common.{nat_cmp, bytes_eq, inl, inr, refl, sym, ap, ap₂, subst, ◌∙◌, arith}
 use Rattle.std.specs.Cmp.Lexicographic.{slice_cmp}
 use Rattle.std.specs.List.{IsDistinct, AllByRecursion, sum_by}
 use Rattle.std.proofs.lemmas.Bool.{cases_Bool, both_ways, or_left, cond-true, cond-false}
@@ -90,7 +91,8 @@ ascending-once (k ∷ l ∷ ks) sorted once = elim (cases_key k l) [
       absurd (omega (arith, once k, first, second))
 ]
 
-pub ascending-sorted : (ks : List Key) → IsSorted (λ a b. slice_cmp nat_cmp a.now b.now) ks → ((k : List ℕ) → count k (texts ks) ≤ 1) → are_ascending_keys (texts ks) ≡ true
+pub ascending-sorted : (ks : List Key) → IsSorted (λ a b. slice_cmp nat_cmp a.now b.now) ks → ((k : List ℕ) → count k (texts ks) ≤ 1) →
+    are_ascending_keys (texts ks) ≡ true
 ascending-sorted ks sorted once = ascending-once (texts ks) (λ i d h. ordered i d h) once
   where
     bor : List ℕ → Key
@@ -101,7 +103,8 @@ ascending-sorted ks sorted once = ascending-once (texts ks) (λ i d h. ordered i
         let next : ℕ.suc i ≡ i + 1 = omega arith in
         let inside : i + 1 < length ks = omega (arith, h, length-map ks (λ (k : Key). k.now)) in
         ap (λ j. is_key_before (get_or (texts ks) j d) (get_or (texts ks) i d)) next
-        ∙ (ap₂ is_key_before (get_or-map (λ (k : Key). k.now) ks (i + 1) (bor d) d inside) (get_or-map (λ (k : Key). k.now) ks i (bor d) d (omega (arith, inside)))
+        ∙ (ap₂ is_key_before (get_or-map (λ (k : Key). k.now) ks (i + 1) (bor d) d inside)
+        (get_or-map (λ (k : Key). k.now) ks i (bor d) d (omega (arith, inside)))
         ∙ sorted i (bor d) (omega arith) inside)
 
 -- ===== One list
@@ -121,7 +124,8 @@ here : (k : List ℕ) (ks : List (List ℕ)) → is_key_among k (k ∷ ks) ≡ t
 here k ks = or_left (bytes_eq k k) (is_key_among k ks) (bytes_eq-itself k)
 
 -- ascending keys among which the same keys are, are the same
-pub same-keys : (xs ys : List (List ℕ)) → are_ascending_keys xs ≡ true → are_ascending_keys ys ≡ true → ((k : List ℕ) → is_key_among k xs ≡ is_key_among k ys) → xs ≡ ys
+pub same-keys : (xs ys : List (List ℕ)) → are_ascending_keys xs ≡ true → are_ascending_keys ys ≡ true →
+    ((k : List ℕ) → is_key_among k xs ≡ is_key_among k ys) → xs ≡ ys
 same-keys [] [] up up_too same = refl
 same-keys [] (y ∷ ys) up up_too same = absurd (both_ways (is_key_among y []) refl (same y ∙ here y ys))
 same-keys (x ∷ xs) [] up up_too same = absurd (both_ways (is_key_among x []) refl (sym (same x) ∙ here x xs))

@@ -1,5 +1,6 @@
 -- The states that slots name, place by place.
-use Rattle.std.proofs.Common.{◌≡◌, ℕ, zero, suc, ◌+◌, ◌<◌, Bool, true, ◌&&◌, List, [], ◌∷◌, ◌++◌, length, take, map, filter, reverse, get_or, slice_get, Option, Some, IsTrue, IsFalse, refl, sym, ap, subst, ◌∙◌, arith, add-one, append-nil}
+use Rattle.std.proofs.Common.{◌≡◌, ℕ, zero, suc, ◌+◌, ◌<◌, Bool, true, ◌&&◌, List, [], ◌∷◌, ◌++◌, length, take, map, filter, reverse, get_or, slice_get}
+use Rattle.std.proofs.Common.{Option, Some, IsTrue, IsFalse, refl, sym, ap, subst, ◌∙◌, arith, add-one, append-nil}
 use Rattle.std.specs.List.{list_all}
 use Rattle.std.proofs.lemmas.Bool.{and_parts, and_from, cond-true, cond-false}
 use Rattle.std.proofs.lemmas.Option.{none-some, same_Some}
@@ -43,7 +44,8 @@ module _ (name : Slot → Option StateId) where
     pub one : IsTrue (is_among state xs)
     pub next : take (i + 1) xs ≡ take i xs ++ state ∷ []
 
-  named-at : (ss : List Slot) (xs : List StateId) (i : ℕ) (d : Slot) → map name ss ≡ map (λ x. Some x) xs → i < length ss → (x : StateId) × (name (get_or ss i d) ≡ Some x) × (slice_get xs i ≡ Some x)
+  named-at : (ss : List Slot) (xs : List StateId) (i : ℕ) (d : Slot) → map name ss ≡ map (λ x. Some x) xs → i < length ss → (x : StateId)
+      × (name (get_or ss i d) ≡ Some x) × (slice_get xs i ≡ Some x)
   named-at [] xs i d are lt = absurd (omega arith)
   named-at (s ∷ ss) [] i d are lt = absurd (let bad : ⊥ = cc in bad)
   named-at (s ∷ ss) (x ∷ xs) zero d are lt = (let here : name s ≡ Some x = cc in (x, here, refl))
@@ -52,23 +54,34 @@ module _ (name : Slot → Option StateId) where
   pub named-next : (ss : List Slot) (xs : List StateId) (i : ℕ) (d : Slot) → map name ss ≡ map (λ x. Some x) xs → i < length ss → IsNamedAt xs i (get_or ss i d)
   named-next ss xs i d are lt =
       let w = named-at ss xs i d are lt in
-      record { state = w.0; named = w.1; got = w.2; one = got-is_among xs i w.0 w.2; next = subst (λ n. take n xs ≡ take i xs ++ w.0 ∷ []) (sym (add-one i)) (take-suc xs i w.0 w.2) }
+      record {
+        state = w.0;
+        named = w.1;
+        got = w.2;
+        one = got-is_among xs i w.0 w.2;
+        next =
+            subst (λ n. take n xs ≡ take i xs ++ w.0 ∷ []) (sym (add-one i)) (take-suc xs i w.0 w.2);
+      }
 
   -- of one place more one slot more passes, or none
-  pub passing-more : (p : StateId → Bool) (xs : List StateId) (i : ℕ) (x : StateId) (ss : List Slot) (s : Slot) → take (i + 1) xs ≡ take i xs ++ x ∷ [] → name s ≡ Some x → IsTrue (p x) → map name ss ≡ map (λ y. Some y) (filter p (take i xs)) →
+  pub passing-more : (p : StateId → Bool) (xs : List StateId) (i : ℕ) (x : StateId) (ss : List Slot) (s : Slot) → take (i + 1) xs ≡ take i xs ++ x ∷ [] →
+      name s ≡ Some x → IsTrue (p x) → map name ss ≡ map (λ y. Some y) (filter p (take i xs)) →
       map name (ss ++ s ∷ []) ≡ map (λ y. Some y) (filter p (take (i + 1) xs))
   passing-more p xs i x ss s next named passes are =
       let some : StateId → Option StateId = λ y. Some y in
-      let more : filter p (take (i + 1) xs) ≡ filter p (take i xs) ++ x ∷ [] = ap (filter p) next ∙ filter-append p (take i xs) (x ∷ []) ∙ ap (λ zs. filter p (take i xs) ++ zs) (cond-true (p x) (x ∷ []) [] passes) in
+      let more : filter p (take (i + 1) xs) ≡ filter p (take i xs) ++ x ∷ [] = ap (filter p) next ∙ filter-append p (take i xs) (x ∷ [])
+      ∙ ap (λ zs. filter p (take i xs) ++ zs) (cond-true (p x) (x ∷ []) [] passes) in
       map-append name ss (s ∷ [])
       ∙ ap (λ os. os ++ name s ∷ []) are
       ∙ ap (λ o. map some (filter p (take i xs)) ++ o ∷ []) named
       ∙ sym (map-append some (filter p (take i xs)) (x ∷ []))
       ∙ ap (map some) (sym more)
 
-  pub passing-same : (p : StateId → Bool) (xs : List StateId) (i : ℕ) (x : StateId) (ss : List Slot) → take (i + 1) xs ≡ take i xs ++ x ∷ [] → IsFalse (p x) → map name ss ≡ map (λ y. Some y) (filter p (take i xs)) → map name ss ≡ map (λ y. Some y) (filter p (take (i + 1) xs))
+  pub passing-same : (p : StateId → Bool) (xs : List StateId) (i : ℕ) (x : StateId) (ss : List Slot) → take (i + 1) xs ≡ take i xs ++ x ∷ [] →
+      IsFalse (p x) → map name ss ≡ map (λ y. Some y) (filter p (take i xs)) → map name ss ≡ map (λ y. Some y) (filter p (take (i + 1) xs))
   passing-same p xs i x ss next fails are =
-      let none : filter p (take (i + 1) xs) ≡ filter p (take i xs) ++ [] = ap (filter p) next ∙ filter-append p (take i xs) (x ∷ []) ∙ ap (λ zs. filter p (take i xs) ++ zs) (cond-false (p x) (x ∷ []) [] fails) in
+      let none : filter p (take (i + 1) xs) ≡ filter p (take i xs) ++ [] = ap (filter p) next ∙ filter-append p (take i xs) (x ∷ [])
+      ∙ ap (λ zs. filter p (take i xs) ++ zs) (cond-false (p x) (x ∷ []) [] fails) in
       let same : filter p (take i xs) ++ [] ≡ filter p (take i xs) = simp append-nil in
       are ∙ ap (map (λ y. Some y)) (sym (none ∙ same))
 
@@ -78,7 +91,8 @@ pub all-reversed : (p : Slot → Bool) (ss : List Slot) → IsTrue (list_all p s
 all-reversed p [] all = refl
 all-reversed p (s ∷ ss) all =
     let parts = and_parts (p s) (list_all p ss) all in
-    ap (list_all p) (reverse-append (s ∷ []) ss) ∙ (list_all-append p (reverse ss) (s ∷ []) ∙ and_from (list_all p (reverse ss)) (p s && true) (all-reversed p ss parts.1) (and_from (p s) true parts.0 refl))
+    ap (list_all p) (reverse-append (s ∷ []) ss) ∙ (list_all-append p (reverse ss) (s ∷ [])
+    ∙ and_from (list_all p (reverse ss)) (p s && true) (all-reversed p ss parts.1) (and_from (p s) true parts.0 refl))
 
 pub all-both : (p : Slot → Bool) (ss ts : List Slot) → IsTrue (list_all p ss) → IsTrue (list_all p ts) → IsTrue (list_all p (ss ++ ts))
 all-both p ss ts a b = list_all-append p ss ts ∙ and_from (list_all p ss) (list_all p ts) a b

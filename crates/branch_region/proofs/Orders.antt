@@ -1,5 +1,6 @@
 -- Lists of states in the order of their arrival, and what of them arrived before a bound and since.
-use Rattle.std.proofs.Common.{◌≡◌, ℕ, zero, suc, ◌+◌, ◌<◌, ◌≤◌, Bool, true, false, ◌&&◌, not, leb, ltb, List, [], ◌∷◌, ◌++◌, length, take, filter, slice_get, Some, IsTrue, IsFalse, inl, inr, refl, sym, ap, subst, ◌∙◌, arith}
+use Rattle.std.proofs.Common.{◌≡◌, ℕ, zero, suc, ◌+◌, ◌<◌, ◌≤◌, Bool, true, false, ◌&&◌, not, leb, ltb, List, [], ◌∷◌, ◌++◌, length, take, filter, slice_get}
+use Rattle.std.proofs.Common.{Some, IsTrue, IsFalse, inl, inr, refl, sym, ap, subst, ◌∙◌, arith}
 use Rattle.std.proofs.lemmas.Bool.{and_parts, and_from, and_left, and_right, cases_Bool, false_from_ne_true, le-leb, leb-true, leb-false, ltb-true, lt-ltb}
 use Rattle.std.proofs.lemmas.Option.{none-some, same_Some}
 use Rattle.tardis_base.specs.declared.ids.StateId.{StateId}
@@ -95,11 +96,13 @@ module _ (arr : StateId → ℕ) where
     -- where none that passes arrived between, those since the one bound are those since the other
     pub none-between : (a b : ℕ) (xs : List StateId) → a ≤ b → ((x : StateId) → IsTrue (is_among x xs) → IsTrue (q x) → a ≤ arr x → arr x < b → ⊥) →
         filter (λ x. q x && leb a (arr x)) xs ≡ filter (λ x. q x && leb b (arr x)) xs
-    none-between a b xs le gap = filter-agrees (λ x. q x && leb a (arr x)) (λ x. q x && leb b (arr x)) xs (λ x m. same_test (q x && leb a (arr x)) (q x && leb b (arr x))
+    none-between a b xs le gap = filter-agrees (λ x. q x && leb a (arr x)) (λ x. q x && leb b (arr x)) xs
+        (λ x m. same_test (q x && leb a (arr x)) (q x && leb b (arr x))
         (λ t.
         let parts = and_parts (q x) (leb a (arr x)) t in
         let from = leb-true a (arr x) parts.1 in
-        and_from (q x) (leb b (arr x)) parts.0 (elim (cases_Bool (leb b (arr x))) [ inl u ↦ u | inr n ↦ absurd (gap x m parts.0 from (let lt = leb-false b (arr x) n in omega arith)) ]))
+        and_from (q x) (leb b (arr x)) parts.0 (elim (cases_Bool (leb b (arr x)))
+        [ inl u ↦ u | inr n ↦ absurd (gap x m parts.0 from (let lt = leb-false b (arr x) n in omega arith)) ]))
         (λ t.
         let parts = and_parts (q x) (leb b (arr x)) t in
         let from = leb-true b (arr x) parts.1 in
@@ -115,7 +118,8 @@ module _ (arr : StateId → ℕ) where
           let at = ap arr e in
           let here = since-is a z (subst (λ w. IsTrue (q w)) e t) (omega arith) in
           let out = since-isnt b z (omega arith) in
-          let rest = none-between a b zs (omega arith) (λ x later passes from to. gap x (among-later x z zs later) passes (let l = up.0 x later in omega arith) to) in
+          let rest = none-between a b zs (omega arith) (λ x later passes from to. gap x (among-later x z zs later) passes (let l = up.0 x later in
+          omega arith) to) in
           rw (here, out) (subst (λ w. z ∷ filter (λ x. q x && leb a (arr x)) zs ≡ w ∷ filter (λ x. q x && leb b (arr x)) zs) (sym e) (ap (λ ws. z ∷ ws) rest))
       | inr later ↦
           let l = up.0 p later in
@@ -125,7 +129,11 @@ module _ (arr : StateId → ℕ) where
     ]
 
     pub until-is : (b : ℕ) (x : StateId) → arr x < b → (q x && ltb (arr x) b) ≡ q x
-    until-is b x lt = elim (cases_Bool (q x)) [ inl t ↦ and_from (q x) (ltb (arr x) b) t (lt-ltb (arr x) b lt) ∙ sym t | inr n ↦ and_left (q x) (ltb (arr x) b) n ∙ sym n ]
+    until-is b x lt = elim (cases_Bool (q x)) [
+      | inl t ↦ and_from (q x) (ltb (arr x) b) t (lt-ltb (arr x) b lt) ∙ sym t
+      | inr n ↦
+          and_left (q x) (ltb (arr x) b) n ∙ sym n
+    ]
 
     until-isnt : (b : ℕ) (x : StateId) → b ≤ arr x → (q x && ltb (arr x) b) ≡ false
     until-isnt b x le = and_right (q x) (ltb (arr x) b) (false_from_ne_true (ltb (arr x) b) (λ u. let m = ltb-true (arr x) b u in omega arith))
@@ -136,8 +144,10 @@ module _ (arr : StateId → ℕ) where
     parted b (z ∷ zs) up = elim (cases_Bool (leb b (arr z))) [
       | inl t ↦
           let from = leb-true b (arr z) t in
-          let before : filter (λ x. q x && ltb (arr x) b) (z ∷ zs) ≡ [] = filter-none (λ x. q x && ltb (arr x) b) (z ∷ zs) (λ x m. until-isnt b x (later x m from)) in
-          let after : filter q (z ∷ zs) ≡ filter (λ x. q x && leb b (arr x)) (z ∷ zs) = filter-agrees q (λ x. q x && leb b (arr x)) (z ∷ zs) (λ x m. all-since x (later x m from)) in
+          let before : filter (λ x. q x && ltb (arr x) b) (z ∷ zs) ≡ [] =
+          filter-none (λ x. q x && ltb (arr x) b) (z ∷ zs) (λ x m. until-isnt b x (later x m from)) in
+          let after : filter q (z ∷ zs) ≡ filter (λ x. q x && leb b (arr x)) (z ∷ zs) =
+          filter-agrees q (λ x. q x && leb b (arr x)) (z ∷ zs) (λ x m. all-since x (later x m from)) in
           after ∙ ap (λ ws. ws ++ filter (λ x. q x && leb b (arr x)) (z ∷ zs)) (sym before)
       | inr n ↦
           let lt : arr z < b = (let l = leb-false b (arr z) n in omega arith) in
@@ -156,7 +166,8 @@ module _ (arr : StateId → ℕ) where
         all-since x le = elim (cases_Bool (q x)) [ inl t ↦ t ∙ sym (since-is b x t le) | inr o ↦ o ∙ sym (and_left (q x) (leb b (arr x)) o) ]
 
     -- those before the bound stand in front of the first that isn't
-    pub until-front : (b : ℕ) (xs : List StateId) (i : ℕ) (x : StateId) → Rising arr xs → slice_get xs i ≡ Some x → b ≤ arr x → filter (λ y. q y && ltb (arr y) b) xs ≡ filter (λ y. q y && ltb (arr y) b) (take i xs)
+    pub until-front : (b : ℕ) (xs : List StateId) (i : ℕ) (x : StateId) → Rising arr xs → slice_get xs i ≡ Some x → b ≤ arr x →
+        filter (λ y. q y && ltb (arr y) b) xs ≡ filter (λ y. q y && ltb (arr y) b) (take i xs)
     until-front b [] i x up e le = absurd (none-some x e)
     until-front b (z ∷ zs) zero x up e le =
         let same = same_Some z x e in

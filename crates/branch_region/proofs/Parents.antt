@@ -27,14 +27,25 @@ stand_in-parent (r ∷ rs) g ks x =
       | inl t ↦
           let parts = and_parts (is_among here ks) (is_among here r.parents) t in
           let at : stand_in (r ∷ rs) ks x ≡ r.id = cond-true goes r.id here t in
-          inr (here, subst (λ z. IsTrue (is_among here (parents_of (r ∷ rs) z))) (sym at) (subst (λ ps. IsTrue (is_among here ps)) (sym (cond-true (same_id r.id r.id) r.parents (parents_of rs r.id) (same_id_self r.id))) parts.1), parts.0)
+          inr (
+            here,
+            subst (λ z. IsTrue (is_among here (parents_of (r ∷ rs) z))) (sym at)
+                (subst (λ ps. IsTrue (is_among here ps)) (sym (cond-true (same_id r.id r.id) r.parents (parents_of rs r.id) (same_id_self r.id))) parts.1),
+            parts.0,
+          )
       | inr n ↦
           let at : stand_in (r ∷ rs) ks x ≡ here = cond-false goes r.id here n in
           elim (stand_in-parent rs g.1 ks x) [
             | inl same ↦ inl (at ∙ same)
             | inr w ↦
                 let known = child-known rs here w.0 w.1 in
-                let old : IsFalse (same_id here r.id) = false_from_ne_true (same_id here r.id) (λ u. both_ways (is_known rs r.id) g.0.new (subst (λ z. IsTrue (is_known rs z)) (same_id-true here r.id u) known)) in
-                inr (w.0, subst (λ z. IsTrue (is_among w.0 (parents_of (r ∷ rs) z))) (sym at) (subst (λ ps. IsTrue (is_among w.0 ps)) (sym (cond-false (same_id here r.id) r.parents (parents_of rs here) old)) w.1), w.2)
+                let old : IsFalse (same_id here r.id) = false_from_ne_true (same_id here r.id)
+                (λ u. both_ways (is_known rs r.id) g.0.new (subst (λ z. IsTrue (is_known rs z)) (same_id-true here r.id u) known)) in
+                inr (
+                  w.0,
+                  subst (λ z. IsTrue (is_among w.0 (parents_of (r ∷ rs) z))) (sym at)
+                      (subst (λ ps. IsTrue (is_among w.0 ps)) (sym (cond-false (same_id here r.id) r.parents (parents_of rs here) old)) w.1),
+                  w.2,
+                )
           ]
     ]

@@ -1,7 +1,9 @@
 -- The walk up from several states, step by step.
-use Rattle.std.proofs.Common.{◌≡◌, ℕ, ◌+◌, ◌<◌, ◌≤◌, Bool, false, ◌&&◌, ◌||◌, not, eqb, leb, List, [], ◌∷◌, ◌++◌, length, reverse, map, filter, Option, Some, IsTrue, IsFalse, ◌⊎◌, inl, inr, refl, sym, ap, subst, ◌∙◌, eqb-true, eq-eqb, arith}
+use Rattle.std.proofs.Common.{◌≡◌, ℕ, ◌+◌, ◌<◌, ◌≤◌, Bool, false, ◌&&◌, ◌||◌, not, eqb, leb, List, [], ◌∷◌, ◌++◌, length, reverse, map, filter, Option, Some}
+use Rattle.std.proofs.Common.{IsTrue, IsFalse, ◌⊎◌, inl, inr, refl, sym, ap, subst, ◌∙◌, eqb-true, eq-eqb, arith}
 use Rattle.std.specs.List.{list_any, list_all}
-use Rattle.std.proofs.lemmas.Bool.{and_parts, and_from, or_cases, or_left, or_right, cases_Bool, both_ways, not_from_false, not-true, false_from_ne_true, leb-true, leb-false}
+use Rattle.std.proofs.lemmas.Bool.{and_parts, and_from, or_cases, or_left, or_right, cases_Bool, both_ways, not_from_false, not-true, false_from_ne_true}
+use Rattle.std.proofs.lemmas.Bool.{leb-true, leb-false}
 use Rattle.std.proofs.lemmas.Option.{same_Some}
 use Rattle.std.proofs.lemmas.List.{reverse-append}
 use Rattle.tardis_base.specs.declared.ids.StateId.{StateId}
@@ -11,7 +13,8 @@ use Rattle.tardis_base.specs.Ids.{same_id, is_among}
 use Rattle.plain_dag.specs.States.{parents_of, children, arrival, is_known}
 use Rattle.plain_dag.specs.Above.{is_above, is_above_all}
 use Rattle.plain_dag.specs.Collection.{is_kept, kept_states, stand_in}
-use Rattle.plain_dag.proofs.States.{dag-grows, not-both, child_is_known, child_arrives_later, children_know_parent, parent_is_above, arrival_is_below, same_id-true}
+use Rattle.plain_dag.proofs.States.{dag-grows, not-both, child_is_known, child_arrives_later, children_know_parent, parent_is_above, arrival_is_below}
+use Rattle.plain_dag.proofs.States.{same_id-true}
 use Rattle.plain_dag.proofs.Ids.{any-witness, any-from}
 use Rattle.plain_dag.proofs.Order.{above-reflexive, above-transitive, ancestors-arrive-earlier, arrivals-differ, above-along-edges}
 use Rattle.state_dag.specs.Table.{Table, id_at}
@@ -29,15 +32,18 @@ module _ (table : Table) (rs : List Record) (ks : List StateId) (stands : Stands
   -- ===== What is noted
 
   -- one more is noted
-  noted-more : (a b : ℕ) (passes : StateId → Bool) (ss : List Slot) (s : Slot) (p : StateId) → AreSince table rs ks b passes ss → id_at table s ≡ Some p → filter (is_since rs a passes) (kept_states rs ks) ≡ p ∷ filter (is_since rs b passes) (kept_states rs ks) →
+  noted-more : (a b : ℕ) (passes : StateId → Bool) (ss : List Slot) (s : Slot) (p : StateId) → AreSince table rs ks b passes ss → id_at table s ≡ Some p →
+      filter (is_since rs a passes) (kept_states rs ks) ≡ p ∷ filter (is_since rs b passes) (kept_states rs ks) →
       AreSince table rs ks a passes (ss ++ s ∷ [])
   noted-more a b passes ss s p are named more =
       ap (map (id_at table)) (reverse-append ss (s ∷ []))
-      ∙ (subst (λ o. o ∷ map (id_at table) (reverse ss) ≡ Some p ∷ map (λ x. Some x) (filter (is_since rs b passes) (kept_states rs ks))) (sym named) (ap (λ os. Some p ∷ os) are)
+      ∙ (subst (λ o. o ∷ map (id_at table) (reverse ss) ≡ Some p ∷ map (λ x. Some x) (filter (is_since rs b passes) (kept_states rs ks))) (sym named)
+      (ap (λ os. Some p ∷ os) are)
       ∙ ap (map (λ x. Some x)) (sym more))
 
   -- none more is
-  noted-same : (a b : ℕ) (passes : StateId → Bool) (ss : List Slot) → AreSince table rs ks b passes ss → filter (is_since rs a passes) (kept_states rs ks) ≡ filter (is_since rs b passes) (kept_states rs ks) → AreSince table rs ks a passes ss
+  noted-same : (a b : ℕ) (passes : StateId → Bool) (ss : List Slot) → AreSince table rs ks b passes ss → filter (is_since rs a passes) (kept_states rs ks)
+      ≡ filter (is_since rs b passes) (kept_states rs ks) → AreSince table rs ks a passes ss
   noted-same a b passes ss are same = are ∙ ap (map (λ x. Some x)) (sym same)
 
   module _ (xs : List StateId) (kept : (x : StateId) → IsTrue (is_among x xs) → IsTrue (is_kept rs ks x)) where
@@ -47,13 +53,15 @@ module _ (table : Table) (rs : List Record) (ks : List StateId) (stands : Stands
     -- ===== What is between those that wait and the bound
 
     module _ (n b : ℕ) (f : ℕ → Option Slot) (apart shared : List Slot) (w : IsWalk table rs ks xs n b f apart shared) where
-      apart-gap : (x : StateId) → IsTrue (is_kept rs ks x) → IsTrue (is_above_part rs x xs) → arrival rs x < b → ((k : ℕ) (s : Slot) → f k ≡ Some s → k < arrival rs x) → ⊥
+      apart-gap : (x : StateId) → IsTrue (is_kept rs ks x) → IsTrue (is_above_part rs x xs) → arrival rs x < b →
+          ((k : ℕ) (s : Slot) → f k ≡ Some s → k < arrival rs x) → ⊥
       apart-gap x is_kept_x p before below =
           let c = w.covers x is_kept_x p before in
           let lt = below (arrival rs c.0) c.1.0 c.1.1 in
           elim (ancestors-arrive-earlier rs stands.dag x c.0 c.2) [ inl e ↦ (let at = ap (arrival rs) e in omega arith) | inr l ↦ omega arith ]
 
-      shared-gap : (x : StateId) → IsTrue (is_kept rs ks x) → IsTrue (is_last_shared rs xs x) → arrival rs x < b → ((k : ℕ) (s : Slot) → f k ≡ Some s → k < arrival rs x) → ⊥
+      shared-gap : (x : StateId) → IsTrue (is_kept rs ks x) → IsTrue (is_last_shared rs xs x) → arrival rs x < b →
+          ((k : ℕ) (s : Slot) → f k ≡ Some s → k < arrival rs x) → ⊥
       shared-gap x is_kept_x l before below =
           let parts = and_parts (is_above_all rs x xs) (is_among x xs || list_any (λ c. is_above_part rs c xs) (children rs x)) l in
           elim (or_cases (is_among x xs) (list_any (λ c. is_above_part rs c xs) (children rs x)) parts.1) [
@@ -70,14 +78,16 @@ module _ (table : Table) (rs : List Record) (ks : List StateId) (stands : Stands
               let s_kept = stands_well.kept c known in
               let s_part = stand-in-part table rs ks stands xs kept c known ∙ p in
               let below_c = stands_well.tells c s known s_kept ∙ above-reflexive rs s in
-              let no_earlier : arrival rs c ≤ arrival rs s = elim (ancestors-arrive-earlier rs stands.dag c s below_c) [ inl e ↦ (let at = ap (arrival rs) e in omega arith) | inr lt ↦ omega arith ] in
+              let no_earlier : arrival rs c ≤ arrival rs s =
+              elim (ancestors-arrive-earlier rs stands.dag c s below_c) [ inl e ↦ (let at = ap (arrival rs) e in omega arith) | inr lt ↦ omega arith ] in
               elim (cases_Bool (leb b (arrival rs s))) [
                 | inr n ↦ (let lt = leb-false b (arrival rs s) n in apart-gap s s_kept s_part lt (λ k t e. let u = below k t e in omega arith))
                 | inl t ↦
                     let le = leb-true b (arrival rs s) t in
                     elim (stand_in-parent rs (dag-grows rs stands.dag) ks c) [
                       | inl same ↦
-                          let parent : IsTrue (is_among x (parents_of rs s)) = subst (λ z. IsTrue (is_among x (parents_of rs z))) (sym same) (sym (children_know_parent rs stands.dag x c) ∙ is_child) in
+                          let parent : IsTrue (is_among x (parents_of rs s)) =
+                          subst (λ z. IsTrue (is_among x (parents_of rs z))) (sym same) (sym (children_know_parent rs stands.dag x c) ∙ is_child) in
                           let waits = (w.parents s x s_kept s_part le parent).1 before in
                           let lt = below (arrival rs x) waits.0 waits.1 in
                           omega arith
@@ -91,8 +101,12 @@ module _ (table : Table) (rs : List Record) (ks : List StateId) (stands : Stands
 
       pub all-noted : ((k : ℕ) (s : Slot) → f k ≡ Some s → ⊥) → IsNoted table rs ks xs 0 apart shared
       all-noted none = record {
-        apart_are = noted-same 0 b (λ x. is_above_part rs x xs) apart w.noted.apart_are (none-between (arrival rs) (λ x. is_above_part rs x xs) 0 b (kept_states rs ks) (omega arith) (λ x m p from to. apart-gap x (listed-is_kept rs ks x m) p to (λ k s e. absurd (none k s e))));
-        shared_are = noted-same 0 b (is_last_shared rs xs) shared w.noted.shared_are (none-between (arrival rs) (is_last_shared rs xs) 0 b (kept_states rs ks) (omega arith) (λ x m p from to. shared-gap x (listed-is_kept rs ks x m) p to (λ k s e. absurd (none k s e))));
+        apart_are = noted-same 0 b (λ x. is_above_part rs x xs) apart w.noted.apart_are
+            (none-between (arrival rs) (λ x. is_above_part rs x xs) 0 b (kept_states rs ks) (omega arith)
+            (λ x m p from to. apart-gap x (listed-is_kept rs ks x m) p to (λ k s e. absurd (none k s e))));
+        shared_are = noted-same 0 b (is_last_shared rs xs) shared w.noted.shared_are
+            (none-between (arrival rs) (is_last_shared rs xs) 0 b (kept_states rs ks) (omega arith)
+            (λ x m p from to. shared-gap x (listed-is_kept rs ks x m) p to (λ k s e. absurd (none k s e))));
       }
 
       -- after as many steps as there are kept states none waits
@@ -108,7 +122,8 @@ module _ (table : Table) (rs : List Record) (ks : List StateId) (stands : Stands
 
       -- ===== The newest of those that wait
 
-      module _ (a : ℕ) (s : Slot) (here : f a ≡ Some s) (newest : (k : ℕ) (t : Slot) → f k ≡ Some t → k ≤ a) (g : ℕ → Option Slot) (gone : (k : ℕ) (t : Slot) → g k ≡ Some t → (f k ≡ Some t) × (k < a)) (stay : (k : ℕ) → eqb k a ≡ false → g k ≡ f k) where
+      module _ (a : ℕ) (s : Slot) (here : f a ≡ Some s) (newest : (k : ℕ) (t : Slot) → f k ≡ Some t → k ≤ a) (g : ℕ → Option Slot)
+          (gone : (k : ℕ) (t : Slot) → g k ≡ Some t → (f k ≡ Some t) × (k < a)) (stay : (k : ℕ) → eqb k a ≡ false → g k ≡ f k) where
         abbrev pub it : (a < b) × IsWaiting table rs xs a s
         it = w.waiting a s here
 
@@ -146,12 +161,14 @@ module _ (table : Table) (rs : List Record) (ks : List StateId) (stands : Stands
         is-last : IsTrue (is_above_all rs p xs) → IsTrue (is_last_shared rs xs p)
         is-last t = and_from (is_above_all rs p xs) (is_among p xs || list_any (λ c. is_above_part rs c xs) (children rs p)) t (elim it.1.why [
           | inl m ↦ or_left (is_among p xs) (list_any (λ c. is_above_part rs c xs) (children rs p)) m
-          | inr c ↦ or_right (is_among p xs) (list_any (λ c. is_above_part rs c xs) (children rs p)) (any-from (λ d. is_above_part rs d xs) (children rs p) c.0 (as_child c.0 c.2) c.1)
+          | inr c ↦ or_right (is_among p xs) (list_any (λ c. is_above_part rs c xs) (children rs p))
+              (any-from (λ d. is_above_part rs d xs) (children rs p) c.0 (as_child c.0 c.2) c.1)
         ])
 
         -- one of the two, and not both
         part-isnt-all : (x : StateId) → IsTrue (is_above_part rs x xs) → IsTrue (is_above_all rs x xs) → ⊥
-        part-isnt-all x q t = not-both (is_above_all rs x xs) t (not-true (is_above_all rs x xs) (and_parts (list_any (is_above rs x) xs) (not (is_above_all rs x xs)) q).1)
+        part-isnt-all x q t = not-both (is_above_all rs x xs) t
+            (not-true (is_above_all rs x xs) (and_parts (list_any (is_above rs x) xs) (not (is_above_all rs x xs)) q).1)
 
         last-is-all : (x : StateId) → IsTrue (is_last_shared rs xs x) → IsTrue (is_above_all rs x xs)
         last-is-all x l = (and_parts (is_above_all rs x xs) (is_among x xs || list_any (λ c. is_above_part rs c xs) (children rs x)) l).0
@@ -181,11 +198,13 @@ module _ (table : Table) (rs : List Record) (ks : List StateId) (stands : Stands
         shared-between x m l from to = shared-gap x (listed-is_kept rs ks x m) l to (λ k t e. let le = newest k t e in omega arith)
 
         -- where neither it passes nor what is between, no more pass
-        none-from : (passes : StateId → Bool) → IsFalse (passes p) → ((x : StateId) → IsTrue (is_among x (kept_states rs ks)) → IsTrue (passes x) → a < arrival rs x → arrival rs x < b → ⊥) →
+        none-from : (passes : StateId → Bool) → IsFalse (passes p) →
+            ((x : StateId) → IsTrue (is_among x (kept_states rs ks)) → IsTrue (passes x) → a < arrival rs x → arrival rs x < b → ⊥) →
             filter (is_since rs a passes) (kept_states rs ks) ≡ filter (is_since rs b passes) (kept_states rs ks)
         none-from passes out between = none-between (arrival rs) passes a b (kept_states rs ks) (let lt = it.0 in omega arith) (λ x m q from to.
             elim (cases_Bool (eqb (arrival rs x) a)) [
-              | inl t ↦ not-both (passes p) (subst (λ z. IsTrue (passes z)) (is-it x (and_parts (is_known rs x) (not (is_among x ks)) (listed-is_kept rs ks x m)).0 (eqb-true (arrival rs x) a t)) q) out
+              | inl t ↦ not-both (passes p) (subst (λ z. IsTrue (passes z))
+                  (is-it x (and_parts (is_known rs x) (not (is_among x ks)) (listed-is_kept rs ks x m)).0 (eqb-true (arrival rs x) a t)) q) out
               | inr n ↦ between x m q (apart-from (arrival rs x) from n) to
             ])
           where
@@ -198,17 +217,22 @@ module _ (table : Table) (rs : List Record) (ks : List StateId) (stands : Stands
         -- it is shared
         pub noted-shared : IsTrue (is_above_all rs p xs) → IsNoted table rs ks xs a apart (shared ++ s ∷ [])
         noted-shared all = record {
-          apart_are = noted-same a b (λ x. is_above_part rs x xs) apart w.noted.apart_are (none-from (λ x. is_above_part rs x xs) (false_from_ne_true (is_above_part rs p xs) (λ q. part-isnt-all p q all)) apart-between);
+          apart_are = noted-same a b (λ x. is_above_part rs x xs) apart w.noted.apart_are
+              (none-from (λ x. is_above_part rs x xs) (false_from_ne_true (is_above_part rs p xs) (λ q. part-isnt-all p q all)) apart-between);
           shared_are = noted-more a b (is_last_shared rs xs) shared s p w.noted.shared_are p_named
-              (one-more (arrival rs) (is_last_shared rs xs) a b (kept_states rs ks) p (kept-rise rs ks stands.dag) (kept-is_listed rs ks p p_kept) p_arrived it.0 (is-last all) shared-between);
+              (one-more (arrival rs) (is_last_shared rs xs) a b (kept_states rs ks) p (kept-rise rs ks stands.dag) (kept-is_listed rs ks p p_kept)
+              p_arrived it.0 (is-last all) shared-between);
         }
 
         -- it is apart
         pub noted-apart : IsFalse (is_above_all rs p xs) → IsNoted table rs ks xs a (apart ++ s ∷ []) shared
         noted-apart some = record {
           apart_are = noted-more a b (λ x. is_above_part rs x xs) apart s p w.noted.apart_are p_named
-              (one-more (arrival rs) (λ x. is_above_part rs x xs) a b (kept_states rs ks) p (kept-rise rs ks stands.dag) (kept-is_listed rs ks p p_kept) p_arrived it.0 (is-part some) apart-between);
-          shared_are = noted-same a b (is_last_shared rs xs) shared w.noted.shared_are (none-from (is_last_shared rs xs) (false_from_ne_true (is_last_shared rs xs p) (λ l. both_ways (is_above_all rs p xs) some (last-is-all p l))) shared-between);
+              (one-more (arrival rs) (λ x. is_above_part rs x xs) a b (kept_states rs ks) p (kept-rise rs ks stands.dag) (kept-is_listed rs ks p p_kept)
+              p_arrived it.0 (is-part some) apart-between);
+          shared_are = noted-same a b (is_last_shared rs xs) shared w.noted.shared_are
+              (none-from (is_last_shared rs xs) (false_from_ne_true (is_last_shared rs xs p)
+              (λ l. both_ways (is_above_all rs p xs) some (last-is-all p l))) shared-between);
         }
 
         one-step-more : n + 1 ≤ length (filter (λ x. leb a (arrival rs x)) (kept_states rs ks))
@@ -217,8 +241,10 @@ module _ (table : Table) (rs : List Record) (ks : List StateId) (stands : Stands
             let more = count-more (arrival rs) a b (kept_states rs ks) p (kept-is_listed rs ks p p_kept) p_arrived it.0 in
             omega arith
 
-        old-parents : (x q : StateId) → IsTrue (is_kept rs ks x) → IsTrue (is_above_part rs x xs) → b ≤ arrival rs x → IsTrue (is_among q (parents_of rs x)) → IsTrue (is_kept rs ks q) × (arrival rs q < a → Waits table rs g q)
-        old-parents x q kept_x part_x from m = (let old = w.parents x q kept_x part_x from m in (old.0, λ lt. waits-still q (old.1 (let before = it.0 in omega arith)) lt))
+        old-parents : (x q : StateId) → IsTrue (is_kept rs ks x) → IsTrue (is_above_part rs x xs) → b ≤ arrival rs x →
+            IsTrue (is_among q (parents_of rs x)) → IsTrue (is_kept rs ks q) × (arrival rs q < a → Waits table rs g q)
+        old-parents x q kept_x part_x from m = (let old = w.parents x q kept_x part_x from m in
+            (old.0, λ lt. waits-still q (old.1 (let before = it.0 in omega arith)) lt))
 
         -- what is apart, arrived since it and is not noted is it
         is-noted : (x : StateId) → IsTrue (is_kept rs ks x) → IsTrue (is_above_part rs x xs) → a ≤ arrival rs x → (x ≡ p) ⊎ (b ≤ arrival rs x)
@@ -259,7 +285,8 @@ module _ (table : Table) (rs : List Record) (ks : List StateId) (stands : Stands
                     and_from (is_above rs x y) (list_all (is_above rs x) ys) (above-transitive rs stands.dag x p y above parts.0) (all-below ys parts.1)
 
         -- and where it is apart and its parents are kept
-        pub walk-apart : IsFalse (is_above_all rs p xs) → (h : ℕ → Option Slot) → HasThese table rs ks (parents_of rs p) g h → IsWalk table rs ks xs (n + 1) a h (apart ++ s ∷ []) shared
+        pub walk-apart : IsFalse (is_above_all rs p xs) → (h : ℕ → Option Slot) → HasThese table rs ks (parents_of rs p) g h →
+            IsWalk table rs ks xs (n + 1) a h (apart ++ s ∷ []) shared
         walk-apart some h put = record {
           noted = noted-apart some;
           waiting = λ k t e. elim (put.only k t e) [
@@ -285,10 +312,11 @@ module _ (table : Table) (rs : List Record) (ks : List StateId) (stands : Stands
         }
           where
             by-parent : (x : StateId) → arrival rs x < a → IsTrue (is_above rs x p) → (y : StateId) × Waits table rs h y × IsTrue (is_above rs x y)
-            by-parent x lt above = elim (or_cases (same_id x p) (list_any (is_above rs x) (parents_of rs p)) (sym (above-along-edges rs stands.dag x p) ∙ above)) [
-              | inl same ↦ (let at = ap (arrival rs) (same_id-true x p same) in let here = p_arrived in absurd (omega arith))
-              | inr some ↦ (let q = any-witness (is_above rs x) (parents_of rs p) some in (q.0, (put.come q.0 q.1).1, q.2))
-            ]
+            by-parent x lt above = elim (or_cases (same_id x p) (list_any (is_above rs x) (parents_of rs p))
+                (sym (above-along-edges rs stands.dag x p) ∙ above)) [
+                  | inl same ↦ (let at = ap (arrival rs) (same_id-true x p same) in let here = p_arrived in absurd (omega arith))
+                  | inr some ↦ (let q = any-witness (is_above rs x) (parents_of rs p) some in (q.0, (put.come q.0 q.1).1, q.2))
+                ]
 
     -- ===== The beginning
 

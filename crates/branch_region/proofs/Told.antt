@@ -78,7 +78,8 @@ module _ (table : Table) (rs : List Record) (ks : List StateId) (stands : Stands
         (any-agrees (is_above rs (stand_in rs ks c)) (is_above rs c) xs (λ x m. sym (well.tells c x known (kept x m))))
         (all-agrees (is_above rs (stand_in rs ks c)) (is_above rs c) xs (λ x m. sym (well.tells c x known (kept x m))))
 
-    children-told : (ss : List Slot) → Named table ss xs → (cs : List Slot) (ds : List StateId) → map (id_at table) cs ≡ map (λ d. Some (stand_in rs ks d)) ds → ((d : StateId) → IsTrue (is_among d ds) → IsTrue (is_known rs d)) →
+    children-told : (ss : List Slot) → Named table ss xs → (cs : List Slot) (ds : List StateId) → map (id_at table) cs
+        ≡ map (λ d. Some (stand_in rs ks d)) ds → ((d : StateId) → IsTrue (is_among d ds) → IsTrue (is_known rs d)) →
         list_any (λ c. is_slot_above_part table c ss) cs ≡ list_any (λ d. is_above_part rs d xs) ds
     children-told ss are [] [] e known = refl
     children-told ss are [] (d ∷ ds) e known = absurd (let bad : ⊥ = cc in bad)
@@ -86,22 +87,27 @@ module _ (table : Table) (rs : List Record) (ks : List StateId) (stands : Stands
     children-told ss are (c ∷ cs) (d ∷ ds) e known =
         let here : id_at table c ≡ Some (stand_in rs ks d) = cc in
         let rest : map (id_at table) cs ≡ map (λ z. Some (stand_in rs ks z)) ds = cc in
-        ap₂ ◌||◌ (part-told c (stand_in rs ks d) here ss xs are ∙ stand-in-part d (known d (among-first d ds))) (children-told ss are cs ds rest (λ z m. known z (among-later z d ds m)))
+        ap₂ ◌||◌ (part-told c (stand_in rs ks d) here ss xs are ∙ stand-in-part d (known d (among-first d ds)))
+        (children-told ss are cs ds rest (λ z m. known z (among-later z d ds m)))
 
   -- what is asked of a slot is whether its state is a last shared one
-  pub shared-told : (slot : Slot) (x : StateId) → id_at table slot ≡ Some x → (ss : List Slot) (xs : List StateId) → Named table ss xs → (cs : List Slot) → map (id_at table) cs ≡ map (λ c. Some (stand_in rs ks c)) (children rs x) →
+  pub shared-told : (slot : Slot) (x : StateId) → id_at table slot ≡ Some x → (ss : List Slot) (xs : List StateId) → Named table ss xs → (cs : List Slot) →
+      map (id_at table) cs ≡ map (λ c. Some (stand_in rs ks c)) (children rs x) →
       (is_slot_above_all table slot ss && (list_any (λ s. eqb s.0 slot.0) ss || list_any (λ c. is_slot_above_part table c ss) cs)) ≡ is_last_shared rs xs x
   shared-told slot x named ss xs are cs children_are =
       ap₂ ◌&&◌ (all-told slot x named ss xs are)
-      (ap₂ ◌||◌ (one-told slot x named ss xs are) (children-told xs (named-are_kept ss xs are) ss are cs (children rs x) children_are (λ d m. child_is_known rs x d m)))
+      (ap₂ ◌||◌ (one-told slot x named ss xs are) (children-told xs (named-are_kept ss xs are) ss are cs (children rs x) children_are
+      (λ d m. child_is_known rs x d m)))
 
 -- what isn't above all isn't a last shared one
 pub not-last : (rs : List Record) (xs : List StateId) (x : StateId) → IsFalse (is_above_all rs x xs) → IsFalse (is_last_shared rs xs x)
 not-last rs xs x n = and_left (is_above_all rs x xs) (is_among x xs || list_any (λ c. is_above_part rs c xs) (children rs x)) n
 
 -- what is above all and one of them is
-pub one-is_last : (rs : List Record) (xs : List StateId) (x : StateId) → IsTrue (is_above_all rs x xs) → IsTrue (is_among x xs) → IsTrue (is_last_shared rs xs x)
-one-is_last rs xs x t m = and_from (is_above_all rs x xs) (is_among x xs || list_any (λ c. is_above_part rs c xs) (children rs x)) t (or_left (is_among x xs) (list_any (λ c. is_above_part rs c xs) (children rs x)) m)
+pub one-is_last : (rs : List Record) (xs : List StateId) (x : StateId) → IsTrue (is_above_all rs x xs) → IsTrue (is_among x xs) →
+    IsTrue (is_last_shared rs xs x)
+one-is_last rs xs x t m = and_from (is_above_all rs x xs) (is_among x xs || list_any (λ c. is_above_part rs c xs) (children rs x)) t
+    (or_left (is_among x xs) (list_any (λ c. is_above_part rs c xs) (children rs x)) m)
 
 -- what is above a part isn't above all
 pub part-isnt_last : (rs : List Record) (xs : List StateId) (x : StateId) → IsTrue (is_above_part rs x xs) → IsFalse (is_last_shared rs xs x)

@@ -1,9 +1,11 @@
 -- What waits after one more is put to it, and after the newest is taken.
-use Rattle.std.proofs.Common.{◌≡◌, ◌↔◌, length, ℕ, ◌<◌, ◌≤◌, true, false, not, eqb, ltb, List, [], ◌∷◌, ◌++◌, Option, Some, None, is_some, IsTrue, ◌⊎◌, inl, inr, refl, sym, ap, subst, ◌∙◌, if◌then◌else◌, eqb-true, eq-eqb, arith}
+use Rattle.std.proofs.Common.{◌≡◌, ◌↔◌, length, ℕ, ◌<◌, ◌≤◌, true, false, not, eqb, ltb, List, [], ◌∷◌, ◌++◌, Option, Some, None, is_some, IsTrue, ◌⊎◌, inl}
+use Rattle.std.proofs.Common.{inr, refl, sym, ap, subst, ◌∙◌, if◌then◌else◌, eqb-true, eq-eqb, arith}
 use Rattle.std.specs.Ordering.{nat_cmp, is_eq, is_lt}
 use Rattle.std.specs.Map.{lookup}
 use Rattle.std.specs.BTreeMap.{get, is_at, IsUpperBound, Updates}
-use Rattle.std.proofs.lemmas.Bool.{and_parts, or_cases, or_left, or_right, cases_Bool, cond-true, cond-false, both_ways, false_from_ne_true, ltb-true, ltb-false}
+use Rattle.std.proofs.lemmas.Bool.{and_parts, or_cases, or_left, or_right, cases_Bool, cond-true, cond-false, both_ways, false_from_ne_true, ltb-true}
+use Rattle.std.proofs.lemmas.Bool.{ltb-false}
 use Rattle.std.proofs.lemmas.Option.{none-some, same_Some}
 use Rattle.tardis_base.specs.declared.ids.StateId.{StateId}
 use Rattle.tardis_base.specs.declared.ids.Slot.{Slot}
@@ -20,21 +22,24 @@ use Rattle.branch_region.specs.Walks.{Waiting, waits_at, Waits, HasThese, AreWai
 
 -- ===== One more
 
-module _ (table : Table) (rs : List Record) (ks : List StateId) (stands : Stands table rs ks) (f g : ℕ → Option Slot) (s : Slot) (x : StateId) (named : id_at table s ≡ Some x) (put : (k : ℕ) → g k ≡ (if eqb k (arrival_at table s) then Some s else f k)) where
+module _ (table : Table) (rs : List Record) (ks : List StateId) (stands : Stands table rs ks) (f g : ℕ → Option Slot) (s : Slot) (x : StateId)
+    (named : id_at table s ≡ Some x) (put : (k : ℕ) → g k ≡ (if eqb k (arrival_at table s) then Some s else f k)) where
   known : (t : Slot) (y : StateId) → id_at table t ≡ Some y → IsTrue (is_known rs y)
   known t y is = (and_parts (is_known rs y) (not (is_among y ks)) (slot-is_kept table rs ks stands t y is)).0
 
   put-here : Waits table rs g x
   put-here = (
     s,
-    put (arrival rs x) ∙ cond-true (eqb (arrival rs x) (arrival_at table s)) (Some s) (f (arrival rs x)) (eq-eqb (arrival rs x) (arrival_at table s) (sym (slots-arrive table rs ks stands s x named))),
+    put (arrival rs x) ∙ cond-true (eqb (arrival rs x) (arrival_at table s)) (Some s) (f (arrival rs x))
+        (eq-eqb (arrival rs x) (arrival_at table s) (sym (slots-arrive table rs ks stands s x named))),
     named,
   )
 
   put-stay : (y : StateId) → Waits table rs f y → Waits table rs g y
   put-stay y waits = elim (cases_Bool (eqb (arrival rs y) (arrival_at table s))) [
     | inl t ↦
-        let same : y ≡ x = arrivals-differ rs stands.dag y x (known waits.0 y waits.2) (known s x named) (eqb-true (arrival rs y) (arrival_at table s) t ∙ slots-arrive table rs ks stands s x named) in
+        let same : y ≡ x = arrivals-differ rs stands.dag y x (known waits.0 y waits.2) (known s x named)
+        (eqb-true (arrival rs y) (arrival_at table s) t ∙ slots-arrive table rs ks stands s x named) in
         subst (λ z. Waits table rs g z) (sym same) put-here
     | inr n ↦ (waits.0, put (arrival rs y) ∙ (cond-false (eqb (arrival rs y) (arrival_at table s)) (Some s) (f (arrival rs y)) n ∙ waits.1), waits.2)
   ]
@@ -65,7 +70,10 @@ module _ (table : Table) (rs : List Record) (ks : List StateId) (stands : Stands
     come = λ y m. elim (or_cases (is_among y ps) (is_among y (x ∷ [])) (sym (among-append y ps (x ∷ [])) ∙ m)) [
       | inl old ↦ (let come = has.come y old in (come.0, put-stay y come.1))
       | inr new ↦ elim (among-cases y x [] new) [
-        | inl is ↦ (subst (λ z. IsTrue (is_kept rs ks z)) (sym is) (slot-is_kept table rs ks stands s x named), subst (λ z. Waits table rs g z) (sym is) put-here)
+        | inl is ↦ (
+          subst (λ z. IsTrue (is_kept rs ks z)) (sym is) (slot-is_kept table rs ks stands s x named),
+          subst (λ z. Waits table rs g z) (sym is) put-here,
+        )
         | inr none ↦ not-both false none refl
       ]
     ];
@@ -99,7 +107,8 @@ other a q n = elim (cases_Bool (ltb a q)) [
   | inr m ↦ (let apart : eqb a q ≡ false = false_from_ne_true (eqb a q) (λ u. both_ways (eqb q a) n (eq-eqb q a (sym (eqb-true a q u)))) in rw (m, apart) refl)
 ]
 
-module _ (old new : Waiting) (a : ℕ) (s : Slot) (value : get nat_cmp old a ≡ Some s) (greatest : IsUpperBound nat_cmp old a) (updates : Updates nat_cmp old new a None) where
+module _ (old new : Waiting) (a : ℕ) (s : Slot) (value : get nat_cmp old a ≡ Some s) (greatest : IsUpperBound nat_cmp old a)
+    (updates : Updates nat_cmp old new a None) where
   pub newest-of : (k : ℕ) (t : Slot) → waits_at old k ≡ Some t → k ≤ a
   newest-of k t e = not-less a k (greatest k (ap is_some e))
 

@@ -1,5 +1,6 @@
 -- How a consent is judged.
-use Rattle.std.proofs.Common.{◌≡◌, ℕ, ◌-◌, ◌<◌, ◌≤◌, Bool, true, false, not, ◌&&◌, ◌||◌, ◌==◌, nat_lt, nat_le, List, [], ◌∷◌, length, Option, Some, None, is_some, IsTrue, IsFalse, map, eqb-true, refl, sym, ap, subst, ◌∙◌, arith}
+use Rattle.std.proofs.Common.{◌≡◌, ℕ, ◌-◌, ◌<◌, ◌≤◌, Bool, true, false, not, ◌&&◌, ◌||◌, ◌==◌, nat_lt, nat_le, List, [], ◌∷◌, length, Option, Some, None}
+use Rattle.std.proofs.Common.{is_some, IsTrue, IsFalse, map, eqb-true, refl, sym, ap, subst, ◌∙◌, arith}
 use Rattle.std.specs.Prelude.{slice_get, slice_set}
 use Rattle.std.specs.Option.{unwrap_or, option_map}
 use Rattle.std.proofs.lemmas.Option.{none-some}
@@ -27,7 +28,8 @@ use Rattle.ceiling_book.specs.Places.{AllPlaces}
 use Rattle.ceiling_book.specs.Consents.{is_early_consent, consent_end}
 
 -- a known state without a slot is collected, so it isn't below what every collected state is above
-pub gone-above : (rs : List Record) → IsDag rs → (ks : List StateId) (x c : StateId) → IsTrue (is_known rs x) → is_kept rs ks x ≡ false → ((y : StateId) → IsTrue (is_among y ks) → IsTrue (is_proper_ancestor rs y c)) →
+pub gone-above : (rs : List Record) → IsDag rs → (ks : List StateId) (x c : StateId) → IsTrue (is_known rs x) → is_kept rs ks x ≡ false →
+    ((y : StateId) → IsTrue (is_among y ks) → IsTrue (is_proper_ancestor rs y c)) →
     IsFalse (is_above rs c x)
 gone-above rs dag ks x c known gone under =
     let collected : is_among x ks ≡ true = not-kept (is_known rs x) (is_among x ks) known gone in
@@ -39,12 +41,14 @@ gone-above rs dag ks x c known gone under =
     not-kept false b e f = (cc)
 
 -- what is closed is a proper ancestor of each floor
-closed-get : (rs : List Record) (fs : List Floor) (x : StateId) (k : ℕ) → k < length fs → IsTrue (is_closed rs fs x) → IsTrue (is_proper_ancestor rs x (unwrap_or (slice_get fs k) opening_floor).state)
+closed-get : (rs : List Record) (fs : List Floor) (x : StateId) (k : ℕ) → k < length fs → IsTrue (is_closed rs fs x) →
+    IsTrue (is_proper_ancestor rs x (unwrap_or (slice_get fs k) opening_floor).state)
 closed-get rs [] x k lt closed = absurd (omega arith)
 closed-get rs (f ∷ fs) x ℕ.zero lt closed = (and_parts (is_proper_ancestor rs x f.state) (is_closed rs fs x) closed).0
 closed-get rs (f ∷ fs) x (ℕ.suc k) lt closed = closed-get rs fs x k (omega arith) (and_parts (is_proper_ancestor rs x f.state) (is_closed rs fs x) closed).1
 
-pub closed-at : (rs : List Record) (floors : List Floor) (x : StateId) (site : ℕ) → 1 ≤ site → site ≤ length floors → IsTrue (is_closed rs floors x) → IsTrue (is_proper_ancestor rs x (floor_of floors site).state)
+pub closed-at : (rs : List Record) (floors : List Floor) (x : StateId) (site : ℕ) → 1 ≤ site → site ≤ length floors → IsTrue (is_closed rs floors x) →
+    IsTrue (is_proper_ancestor rs x (floor_of floors site).state)
 closed-at rs floors x site first last closed = closed-get rs floors x (site - 1) (omega arith) closed
 
 module _ (rs : List Record) (floors : List Floor) (own : ℕ) (c : Consent) where
@@ -107,7 +111,8 @@ module _ (book now : Book) (is : book ≡ now) (site : ℕ) (g : KnownFloor) whe
   pub floor-written : map known_floor (slice_set book.floors (site - 1) g) ≡ with_floor (floors_of now) site (known_floor g)
   floor-written = map-set known_floor book.floors (site - 1) g ∙ ap (λ b. with_floor (floors_of b) site (known_floor g)) is
 
-  pub places-kept : (At Near : Place → Type 0) → AllPlaces At Near now → At g.place → AllPlaces At Near (record book { floors = slice_set book.floors (site - 1) g })
+  pub places-kept : (At Near : Place → Type 0) → AllPlaces At Near now → At g.place →
+      AllPlaces At Near (record book { floors = slice_set book.floors (site - 1) g })
   places-kept At Near all at =
       let here = subst (AllPlaces At Near) (sym is) all in
       record {

@@ -1,5 +1,6 @@
 -- The entries of a map are those of the definitions.
-use Rattle.std.proofs.Common.{◌≡◌, ℕ, Bool, true, false, cond, not, eqb, ltb, List, [], ◌∷◌, map, find, Option, Some, None, refl, sym, ap, ap₂, subst, ◌∙◌, inl, inr, eqb-true, arith}
+use Rattle.std.proofs.Common.{◌≡◌, ℕ, Bool, true, false, cond, not, eqb, ltb, List, [], ◌∷◌, map, find, Option, Some, None, refl, sym, ap, ap₂, subst, ◌∙◌}
+use Rattle.std.proofs.Common.{inl, inr, eqb-true, arith}
 use Rattle.std.specs.Option.{option_map}
 use Rattle.std.specs.declared.cmp.Ordering.TheVariants.{Less, Equal, Greater}
 use Rattle.std.specs.Ordering.{nat_cmp, is_eq, match_ordering, eq_by_cmp}
@@ -40,8 +41,10 @@ module _ {A : Type 0} (k : ℕ) where
       let get : Option (ℕ × A) → Option A = option_map (λ (d : ℕ × A). d.1) in
       let rest = find (λ (d : ℕ × A). eqb k d.0) es in
       elim (cases_Bool (eqb k e.0)) [
-        | inl t ↦ cond-true (is_eq (nat_cmp k e.0)) (Some e.1) (lookup (is_at (nat_cmp k)) es) (tests ∙ t) ∙ ap get (sym (cond-true (eqb k e.0) (Some e) rest t))
-        | inr n ↦ cond-false (is_eq (nat_cmp k e.0)) (Some e.1) (lookup (is_at (nat_cmp k)) es) (tests ∙ n) ∙ later ∙ ap get (sym (cond-false (eqb k e.0) (Some e) rest n))
+        | inl t ↦ cond-true (is_eq (nat_cmp k e.0)) (Some e.1) (lookup (is_at (nat_cmp k)) es) (tests ∙ t)
+            ∙ ap get (sym (cond-true (eqb k e.0) (Some e) rest t))
+        | inr n ↦ cond-false (is_eq (nat_cmp k e.0)) (Some e.1) (lookup (is_at (nat_cmp k)) es) (tests ∙ n) ∙ later
+            ∙ ap get (sym (cond-false (eqb k e.0) (Some e) rest n))
       ]
 
 module _ {A B : Type 0} (f : A → B) (k : ℕ) where
@@ -57,7 +60,8 @@ module _ {A B : Type 0} (f : A → B) (k : ℕ) where
       let rest_mapped = find (λ (g : ℕ × B). eqb k g.0) (mapped f es) in
       elim (cases_Bool (eqb k e.0)) [
         | inl t ↦ ap get_mapped (cond-true (eqb k e.0) (Some d) rest_mapped t) ∙ ap (λ o. option_map f (get o)) (sym (cond-true (eqb k e.0) (Some e) rest t))
-        | inr n ↦ ap get_mapped (cond-false (eqb k e.0) (Some d) rest_mapped n) ∙ later ∙ ap (λ o. option_map f (get o)) (sym (cond-false (eqb k e.0) (Some e) rest n))
+        | inr n ↦ ap get_mapped (cond-false (eqb k e.0) (Some d) rest_mapped n) ∙ later
+            ∙ ap (λ o. option_map f (get o)) (sym (cond-false (eqb k e.0) (Some e) rest n))
       ]
 
   -- what is looked up, mapped
@@ -72,7 +76,8 @@ module _ {A B : Type 0} (f : A → B) (k : ℕ) where
       let number = e.0 in
       let held = e.1 in
       let rest : List (ℕ × A) = insert_entry nat_cmp es k a in
-      let all : Bool → Bool → List (ℕ × A) = λ less equal. match_ordering (cond less Less (cond equal Equal Greater)) ((k, a) ∷ e ∷ es) ((e.0, a) ∷ es) (e ∷ rest) in
+      let all : Bool → Bool → List (ℕ × A) = λ less equal. match_ordering (cond less Less (cond equal Equal Greater)) ((k, a) ∷ e ∷ es) ((e.0, a) ∷ es)
+      (e ∷ rest) in
       let with : Bool → Bool → List (ℕ × B) = λ less more.
       cond less ((k, f a) ∷ (e.0, f e.1) ∷ mapped f es) (cond more ((e.0, f e.1) ∷ with_entry k (f a) (mapped f es)) ((k, f a) ∷ mapped f es)) in
       elim (cases_Bool (ltb k e.0)) [
@@ -135,7 +140,8 @@ module _ {A B : Type 0} (f : A → B) (k : ℕ) where
       ]
 
   -- what an entry has is written over, and no other has its number
-  pub written : (g : B → B) (es : List (ℕ × A)) (v w : A) → IsDistinct (eq_by_cmp nat_cmp) (keys_of es) → lookup (is_at (nat_cmp k)) es ≡ Some v → f w ≡ g (f v) →
+  pub written : (g : B → B) (es : List (ℕ × A)) (v w : A) → IsDistinct (eq_by_cmp nat_cmp) (keys_of es) → lookup (is_at (nat_cmp k)) es ≡ Some v →
+      f w ≡ g (f v) →
       mapped f (set_value (is_at (nat_cmp k)) es w) ≡ changed k g (mapped f es)
   written g [] v w distinct found same = absurd (none-some v found)
   written g (e ∷ es) v w distinct found same =
@@ -153,6 +159,7 @@ module _ {A B : Type 0} (f : A → B) (k : ℕ) where
             ∙ sym (ap (λ b. cond b c d ∷ changed k g (mapped f es)) t)
         | inr n ↦
             let is = at-number k e.0 ∙ n in
-            let later = written g es v w (IsDistinct-tail (eq_by_cmp nat_cmp) e.0 (keys_of es) distinct) (sym (cond-false (is_eq (nat_cmp k e.0)) (Some e.1) (lookup test es) is) ∙ found) same in
+            let later = written g es v w (IsDistinct-tail (eq_by_cmp nat_cmp) e.0 (keys_of es) distinct)
+            (sym (cond-false (is_eq (nat_cmp k e.0)) (Some e.1) (lookup test es) is) ∙ found) same in
             ap (λ b. mapped f (after b)) is ∙ ap (λ z. d ∷ z) later ∙ sym (ap (λ b. cond b c d ∷ changed k g (mapped f es)) n)
       ]

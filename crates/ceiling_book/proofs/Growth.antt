@@ -35,7 +35,8 @@ slot-names table slot h = go (entry_at table slot) h
     go (Some e) _ = (e.id, refl)
 
 -- what is so of each place stays so where it follows
-all-follow : (At Near At_then Near_then : Place → Type 0) (book : Book) → ((p : Place) → At p → At_then p) → ((p : Place) → Near p → Near_then p) → AllPlaces At Near book → AllPlaces At_then Near_then book
+all-follow : (At Near At_then Near_then : Place → Type 0) (book : Book) → ((p : Place) → At p → At_then p) → ((p : Place) → Near p → Near_then p) →
+    AllPlaces At Near book → AllPlaces At_then Near_then book
 all-follow At Near At_then Near_then book at near all = record {
   of_root = near (record { state = root; slot = book.root }) all.of_root;
   ceilings = λ k d within. at _ (all.ceilings k d within);
@@ -67,19 +68,24 @@ pub kept-is_stand_in : (rs : List Record) (ks : List StateId) (x : StateId) → 
 kept-is_stand_in rs ks x kept = kept-stands-for-itself ks rs x (kept-is_uncollected rs ks x kept)
 
 -- a state that is named stands for itself
-pub named-is_stand_in : (table : Table) (rs : List Record) (ks : List StateId) (slot : Slot) (x : StateId) → Stands table rs ks → id_at table slot ≡ Some x → id_at table slot ≡ Some (stand_in rs ks x)
+pub named-is_stand_in : (table : Table) (rs : List Record) (ks : List StateId) (slot : Slot) (x : StateId) → Stands table rs ks → id_at table slot ≡ Some x
+    → id_at table slot ≡ Some (stand_in rs ks x)
 named-is_stand_in table rs ks slot x stands named = named ∙ ap (λ y. Some y) (sym (kept-is_stand_in rs ks x (slot-is_kept table rs ks stands slot x named)))
 
 -- a stand-in that is kept stays when a state is added
-stand_in-stays : (rs : List Record) (ks : List StateId) (r : Record) (x : StateId) → IsTrue (is_kept rs ks (stand_in rs ks x)) → stand_in (r ∷ rs) ks x ≡ stand_in rs ks x
+stand_in-stays : (rs : List Record) (ks : List StateId) (r : Record) (x : StateId) → IsTrue (is_kept rs ks (stand_in rs ks x)) → stand_in (r ∷ rs) ks x
+    ≡ stand_in rs ks x
 stand_in-stays rs ks r x kept =
     let here = stand_in rs ks x in
-    cond-false (is_among here ks && is_among here r.parents) r.id here (and_left (is_among here ks) (is_among here r.parents) (kept-is_uncollected rs ks here kept))
+    cond-false (is_among here ks && is_among here r.parents) r.id here
+    (and_left (is_among here ks) (is_among here r.parents) (kept-is_uncollected rs ks here kept))
 
 -- the places stay right when a state is added and each slot still names its state
-pub placed-grow : (book : Book) (old new : Table) (rs : List Record) (ks : List StateId) (r : Record) → Stands old rs ks → KeepsSlots old new → ArePlaced book old rs ks → ArePlaced book new (r ∷ rs) ks
+pub placed-grow : (book : Book) (old new : Table) (rs : List Record) (ks : List StateId) (r : Record) → Stands old rs ks → KeepsSlots old new →
+    ArePlaced book old rs ks → ArePlaced book new (r ∷ rs) ks
 placed-grow book old new rs ks r stands keeps =
     all-follow (IsAt old) (HasStandIn old rs ks) (IsAt new) (HasStandIn new (r ∷ rs) ks) book
     (λ p named. keeps p.slot p.state named)
     (λ p named.
-    keeps p.slot (stand_in rs ks p.state) named ∙ ap (λ y. Some y) (sym (stand_in-stays rs ks r p.state (slot-is_kept old rs ks stands p.slot (stand_in rs ks p.state) named))))
+    keeps p.slot (stand_in rs ks p.state) named ∙ ap (λ y. Some y)
+    (sym (stand_in-stays rs ks r p.state (slot-is_kept old rs ks stands p.slot (stand_in rs ks p.state) named))))

@@ -1,5 +1,6 @@
 -- What a book keeps through its calls.
-use Rattle.std.proofs.Common.{◌≡◌, ℕ, ◌-◌, ◌<◌, ◌≤◌, Bool, false, ◌&&◌, nat_le, List, [], ◌∷◌, length, map, get_or, replicate, Option, Some, None, is_some, Result, Ok, Err, IsTrue, IsFalse, eqb-true, ◌⊎◌, inl, inr, refl, sym, ap, subst, ◌∙◌}
+use Rattle.std.proofs.Common.{◌≡◌, ℕ, ◌-◌, ◌<◌, ◌≤◌, Bool, false, ◌&&◌, nat_le, List, [], ◌∷◌, length, map, get_or, replicate, Option, Some, None, is_some}
+use Rattle.std.proofs.Common.{Result, Ok, Err, IsTrue, IsFalse, eqb-true, ◌⊎◌, inl, inr, refl, sym, ap, subst, ◌∙◌}
 use Rattle.std.specs.Option.{option_map, unwrap_or, IfSome}
 use Rattle.std.specs.Result.{IsErrAnd}
 use Rattle.std.specs.Ordering.{nat_cmp}
@@ -51,7 +52,8 @@ open-found book n = sym (ap is_some (entry-found session_of n book.sessions) ∙
     mapped-is_some (Some s) = refl
 
 -- no open session is missing
-pub never-missing : (book now : Book) → book ≡ now → (n : ℕ) → IsTrue (is_open now n) → ◌≡◌ {A = Option OpenSession} (lookup (is_at (nat_cmp n)) book.sessions) None → ⊥
+pub never-missing : (book now : Book) → book ≡ now → (n : ℕ) → IsTrue (is_open now n) →
+    ◌≡◌ {A = Option OpenSession} (lookup (is_at (nat_cmp n)) book.sessions) None → ⊥
 never-missing book now is n opened none = both_ways false refl (sym (ap is_some none) ∙ open-found book n ∙ ap (λ b. is_open b n) is ∙ opened)
 
 -- how many are open
@@ -60,10 +62,12 @@ number-open book now is = sym (length-map book.sessions (λ (e : ℕ × OpenSess
 
 pub not-full : (book now : Book) → book ≡ now → (number : ℕ) → number ≡ length book.sessions → ¬ (number ≡ book.max_sessions) → IsFalse (is_full now)
 not-full book now is number counted apart =
-    false_from_ne_true (is_full now) (λ full. apart (counted ∙ number-open book now is ∙ eqb-true (length (sessions_of now)) now.max_sessions full ∙ ap (λ b. b.max_sessions) (sym is)))
+    false_from_ne_true (is_full now) (λ full. apart (counted ∙ number-open book now is ∙ eqb-true (length (sessions_of now)) now.max_sessions full
+    ∙ ap (λ b. b.max_sessions) (sym is)))
 
 -- without memory the book is as before
-pub refused-for_memory : (book now : Book) → book ≡ now → (es : List (ℕ × OpenSession)) (n : ℕ) (follow : Bool) (answer : Result Slot OpenFault) → IsFalse (is_open now n) → IsFalse (is_full now) →
+pub refused-for_memory : (book now : Book) → book ≡ now → (es : List (ℕ × OpenSession)) (n : ℕ) (follow : Bool) (answer : Result Slot OpenFault) →
+    IsFalse (is_open now n) → IsFalse (is_full now) →
     es ≡ book.sessions → IsErrAnd answer (λ fault. fault ≡ NoMemory) → OpenedIn now (record book { sessions = es }) n follow answer
 refused-for_memory book now is es n follow (Ok slot) closed room same refused = absurd refused
 refused-for_memory book now is es n follow (Err fault) closed room same refused =
@@ -71,14 +75,17 @@ refused-for_memory book now is es n follow (Err fault) closed room same refused 
     subst (λ f. OpenedIn now (record book { sessions = es }) n follow (Err f)) (sym refused) (closed, room, before)
 
 -- the session that was found, without its slots
-pub session-found : (book : Book) (n : ℕ) (s : OpenSession) (t : Session) → entry_of n book.sessions ≡ Some s → entry_of n (sessions_of book) ≡ Some t → session_of s ≡ t
+pub session-found : (book : Book) (n : ℕ) (s : OpenSession) (t : Session) → entry_of n book.sessions ≡ Some s → entry_of n (sessions_of book) ≡ Some t →
+    session_of s ≡ t
 session-found book n s t found is = same_Some (session_of s) t (sym (entry-mapped session_of n book.sessions ∙ ap (option_map session_of) found) ∙ is)
 
 module _ (book now : Book) (is : book ≡ now) (es : List (ℕ × OpenSession)) (n : ℕ) where
-  pub sessions-opened : (follow : Bool) (s : OpenSession) (x : StateId) → es ≡ insert_entry nat_cmp book.sessions n s → session_of s ≡ opening_session follow x → x ≡ (own_floor now).state →
+  pub sessions-opened : (follow : Bool) (s : OpenSession) (x : StateId) → es ≡ insert_entry nat_cmp book.sessions n s →
+      session_of s ≡ opening_session follow x → x ≡ (own_floor now).state →
       sessions_of (record book { sessions = es }) ≡ with_entry n (opening_session follow (own_floor now).state) (sessions_of now)
   sessions-opened follow s x put same floor =
-      ap (mapped session_of) put ∙ inserted session_of n s book.sessions ∙ ap (λ t. with_entry n t (sessions_of book)) (same ∙ ap (opening_session follow) floor)
+      ap (mapped session_of) put ∙ inserted session_of n s book.sessions
+      ∙ ap (λ t. with_entry n t (sessions_of book)) (same ∙ ap (opening_session follow) floor)
       ∙ ap (λ b. with_entry n (opening_session follow (own_floor now).state) (sessions_of b)) is
 
   pub sessions-closed : es ≡ remove_entry (is_at (nat_cmp n)) book.sessions → ◌≡◌ {A = Option OpenSession} (lookup (is_at (nat_cmp n)) es) None →
@@ -88,8 +95,10 @@ module _ (book now : Book) (is : book ≡ now) (es : List (ℕ × OpenSession)) 
       ∙ removed session_of n book.sessions (subst (λ z. ◌≡◌ {A = Option OpenSession} (lookup (is_at (nat_cmp n)) z) None) left none)
       ∙ ap (λ b. without_entry n (sessions_of b)) is
 
-  pub sessions-committed : (g : Session → Session) (v w : OpenSession) → es ≡ set_value (is_at (nat_cmp n)) book.sessions w → IsStrictlySortedBy nat_cmp (keys_of book.sessions) →
-      lookup (is_at (nat_cmp n)) book.sessions ≡ Some v → session_of w ≡ g (session_of v) → sessions_of (record book { sessions = es }) ≡ changed n g (sessions_of now)
+  pub sessions-committed : (g : Session → Session) (v w : OpenSession) → es ≡ set_value (is_at (nat_cmp n)) book.sessions w →
+      IsStrictlySortedBy nat_cmp (keys_of book.sessions) →
+      lookup (is_at (nat_cmp n)) book.sessions ≡ Some v → session_of w ≡ g (session_of v) → sessions_of (record book { sessions = es })
+      ≡ changed n g (sessions_of now)
   sessions-committed g v w put ordered found same =
       ap (mapped session_of) put ∙ written session_of n g book.sessions v w (IsDistinct-from_sorted nat_cmp (keys_of book.sessions) ordered) found same
       ∙ ap (λ b. changed n g (sessions_of b)) is
@@ -97,10 +106,12 @@ module _ (book now : Book) (is : book ≡ now) (es : List (ℕ × OpenSession)) 
 -- ===== Floors
 
 -- the own floor is what is known of the site's own number
-pub own-floor-is : (book now : Book) → book ≡ now → (f : KnownFloor) → book.own - 1 < length book.floors → f ≡ get_or book.floors (book.own - 1) f → f.place.state ≡ (own_floor now).state
+pub own-floor-is : (book now : Book) → book ≡ now → (f : KnownFloor) → book.own - 1 < length book.floors → f ≡ get_or book.floors (book.own - 1) f →
+    f.place.state ≡ (own_floor now).state
 own-floor-is book now is f within at =
     subst (λ b. f.place.state ≡ (own_floor b).state) is
-    (sym (ap (λ o. (unwrap_or o opening_floor).state) (slice_get-map known_floor book.floors (book.own - 1) ∙ ap (option_map known_floor) (slice_get-get_or book.floors (book.own - 1) f within ∙ ap (λ g. Some g) (sym at)))))
+    (sym (ap (λ o. (unwrap_or o opening_floor).state) (slice_get-map known_floor book.floors (book.own - 1)
+    ∙ ap (option_map known_floor) (slice_get-get_or book.floors (book.own - 1) f within ∙ ap (λ g. Some g) (sym at)))))
 
 -- all alike, and known as the floors before any consent
 pub floors-alike : (n : ℕ) (f : KnownFloor) → map known_floor (replicate n f) ≡ replicate n (known_floor f)
@@ -111,7 +122,8 @@ floors-alike (ℕ.suc n) f = ap (λ fs. known_floor f ∷ fs) (floors-alike n f)
 
 module _ (At Near : Place → Type 0) where
   -- no session, and all floors at one place, where the root is too
-  pub opening-keeps : (book : Book) (n : ℕ) (f : KnownFloor) → book.sessions ≡ [] → book.floors ≡ replicate n f → At f.place → Near (record { state = root; slot = book.root }) → AllPlaces At Near book
+  pub opening-keeps : (book : Book) (n : ℕ) (f : KnownFloor) → book.sessions ≡ [] → book.floors ≡ replicate n f → At f.place →
+      Near (record { state = root; slot = book.root }) → AllPlaces At Near book
   opening-keeps book n f none alike at near = record {
     of_root = near;
     ceilings = subst (λ z. All (λ t. At t.ceiling) (values_of z)) (sym none) (All-nil (λ (t : OpenSession). At t.ceiling));
@@ -128,7 +140,8 @@ module _ (At Near : Place → Type 0) where
   found-last book n s all found =
       subst (λ o. IfSome o (λ t. Near t.last)) found (IfSome-lookup_from_All (λ t. Near t.last) (is_at (nat_cmp n)) book.sessions all.last_commits)
 
-  pub found-floor : (book now : Book) → book ≡ now → (k : ℕ) (f : KnownFloor) → AllPlaces At Near now → k < length book.floors → f ≡ get_or book.floors k f → At f.place
+  pub found-floor : (book now : Book) → book ≡ now → (k : ℕ) (f : KnownFloor) → AllPlaces At Near now → k < length book.floors → f ≡ get_or book.floors k f
+      → At f.place
   found-floor book now is k f all within at =
       let here = subst (AllPlaces At Near) (sym is) all in
       subst (λ g. At g.place) (sym at) (here.of_floors k f within)
@@ -138,13 +151,16 @@ module _ (At Near : Place → Type 0) where
     here = subst (AllPlaces At Near) (sym is) all
 
     -- a session opens under a floor
-    pub opened-keeps : (s : OpenSession) → es ≡ insert_entry nat_cmp book.sessions n s → At s.ceiling → s.last ≡ record { state = root; slot = book.root } → AllPlaces At Near (record book { sessions = es })
+    pub opened-keeps : (s : OpenSession) → es ≡ insert_entry nat_cmp book.sessions n s → At s.ceiling → s.last ≡ record { state = root; slot = book.root }
+        → AllPlaces At Near (record book { sessions = es })
     opened-keeps s put at last =
         let near = subst Near (sym last) here.of_root in
         record {
           of_root = here.of_root;
-          ceilings = subst (λ z. All (λ t. At t.ceiling) (values_of z)) (sym put) (All-values-insert_entry nat_cmp n s (λ t. At t.ceiling) book.sessions here.ceilings at);
-          last_commits = subst (λ z. All (λ t. Near t.last) (values_of z)) (sym put) (All-values-insert_entry nat_cmp n s (λ t. Near t.last) book.sessions here.last_commits near);
+          ceilings = subst (λ z. All (λ t. At t.ceiling) (values_of z)) (sym put)
+              (All-values-insert_entry nat_cmp n s (λ t. At t.ceiling) book.sessions here.ceilings at);
+          last_commits = subst (λ z. All (λ t. Near t.last) (values_of z)) (sym put)
+              (All-values-insert_entry nat_cmp n s (λ t. Near t.last) book.sessions here.last_commits near);
           of_floors = here.of_floors;
         }
 
@@ -152,22 +168,28 @@ module _ (At Near : Place → Type 0) where
     pub closed-keeps : es ≡ remove_entry (is_at (nat_cmp n)) book.sessions → AllPlaces At Near (record book { sessions = es })
     closed-keeps left = record {
       of_root = here.of_root;
-      ceilings = subst (λ z. All (λ t. At t.ceiling) (values_of z)) (sym left) (All-map-remove_entry (is_at (nat_cmp n)) (λ e. e.1) (λ t. At t.ceiling) book.sessions here.ceilings);
-      last_commits = subst (λ z. All (λ t. Near t.last) (values_of z)) (sym left) (All-map-remove_entry (is_at (nat_cmp n)) (λ e. e.1) (λ t. Near t.last) book.sessions here.last_commits);
+      ceilings = subst (λ z. All (λ t. At t.ceiling) (values_of z)) (sym left)
+          (All-map-remove_entry (is_at (nat_cmp n)) (λ e. e.1) (λ t. At t.ceiling) book.sessions here.ceilings);
+      last_commits = subst (λ z. All (λ t. Near t.last) (values_of z)) (sym left)
+          (All-map-remove_entry (is_at (nat_cmp n)) (λ e. e.1) (λ t. Near t.last) book.sessions here.last_commits);
       of_floors = here.of_floors;
     }
 
     -- a session changes
-    pub changed-keeps : (w : OpenSession) → es ≡ set_value (is_at (nat_cmp n)) book.sessions w → At w.ceiling → Near w.last → AllPlaces At Near (record book { sessions = es })
+    pub changed-keeps : (w : OpenSession) → es ≡ set_value (is_at (nat_cmp n)) book.sessions w → At w.ceiling → Near w.last →
+        AllPlaces At Near (record book { sessions = es })
     changed-keeps w put at near = record {
       of_root = here.of_root;
-      ceilings = subst (λ z. All (λ t. At t.ceiling) (values_of z)) (sym put) (All-values-set_value (is_at (nat_cmp n)) (λ t. At t.ceiling) book.sessions w here.ceilings at);
-      last_commits = subst (λ z. All (λ t. Near t.last) (values_of z)) (sym put) (All-values-set_value (is_at (nat_cmp n)) (λ t. Near t.last) book.sessions w here.last_commits near);
+      ceilings = subst (λ z. All (λ t. At t.ceiling) (values_of z)) (sym put)
+          (All-values-set_value (is_at (nat_cmp n)) (λ t. At t.ceiling) book.sessions w here.ceilings at);
+      last_commits = subst (λ z. All (λ t. Near t.last) (values_of z)) (sym put)
+          (All-values-set_value (is_at (nat_cmp n)) (λ t. Near t.last) book.sessions w here.last_commits near);
       of_floors = here.of_floors;
     }
 
     -- a session commits: its ceiling stays or is the commit
-    pub committed-keeps : (v w : OpenSession) (commit : Place) → es ≡ set_value (is_at (nat_cmp n)) book.sessions w → (w.ceiling ≡ v.ceiling) ⊎ (w.ceiling ≡ commit) → w.last ≡ commit → At v.ceiling → At commit → Near commit →
+    pub committed-keeps : (v w : OpenSession) (commit : Place) → es ≡ set_value (is_at (nat_cmp n)) book.sessions w → (w.ceiling ≡ v.ceiling)
+        ⊎ (w.ceiling ≡ commit) → w.last ≡ commit → At v.ceiling → At commit → Near commit →
         AllPlaces At Near (record book { sessions = es })
     committed-keeps v w commit put ceiling last at here_at near =
         changed-keeps w put (elim ceiling [ inl stays ↦ subst At (sym stays) at | inr moves ↦ subst At (sym moves) here_at ]) (subst Near (sym last) near)

@@ -1,5 +1,6 @@
 -- States that arrived after an open ceiling aren't at or above it.
-use Rattle.std.proofs.Common.{◌≡◌, ℕ, zero, suc, ◌<◌, ◌≤◌, Bool, false, leb, List, [], ◌∷◌, length, map, take, get_or, Some, None, if◌then◌else◌, IsTrue, inl, inr, refl, sym, ap, subst, ◌∙◌, arith}
+use Rattle.std.proofs.Common.{◌≡◌, ℕ, zero, suc, ◌<◌, ◌≤◌, Bool, false, leb, List, [], ◌∷◌, length, map, take, get_or, Some, None, if◌then◌else◌, IsTrue, inl}
+use Rattle.std.proofs.Common.{inr, refl, sym, ap, subst, ◌∙◌, arith}
 use Rattle.std.specs.List.{All}
 use Rattle.std.specs.Map.{values_of}
 use Rattle.std.proofs.lemmas.Bool.{and_parts, and_from, false_from_ne_true, le-leb, leb-true}
@@ -26,7 +27,8 @@ use Rattle.ceiling_book.proofs.Moves.{first-at, rest-at}
 use Rattle.ceiling_book.proofs.Newest.{last_passing, or_else}
 
 -- each open ceiling has a slot of the table
-slots-each : (table : Table) (es : List (ℕ × OpenSession)) → All (λ (s : OpenSession). IsSlotOf table s.ceiling) (values_of es) → IsTrue (each_ceiling (is_slot table) es)
+slots-each : (table : Table) (es : List (ℕ × OpenSession)) → All (λ (s : OpenSession). IsSlotOf table s.ceiling) (values_of es) →
+    IsTrue (each_ceiling (is_slot table) es)
 slots-each table [] at = refl
 slots-each table (e ∷ es) at =
     and_from (is_slot table e.1.ceiling.slot) (each_ceiling (is_slot table) es)
@@ -36,10 +38,12 @@ pub ceilings-are_slots : (book : Book) (table : Table) → AreSlots book table �
 ceilings-are_slots book table slots = slots-each table book.sessions slots.ceilings
 
 -- a test that holds at each ceiling holds at the first, and at each of the rest
-pub first-tested : (test : Slot → Bool) (all es : List (ℕ × OpenSession)) (n : ℕ) (s : OpenSession) → all ≡ (n, s) ∷ es → IsTrue (each_ceiling test all) → IsTrue (test s.ceiling.slot)
+pub first-tested : (test : Slot → Bool) (all es : List (ℕ × OpenSession)) (n : ℕ) (s : OpenSession) → all ≡ (n, s) ∷ es → IsTrue (each_ceiling test all) →
+    IsTrue (test s.ceiling.slot)
 first-tested test all es n s is h = (and_parts (test s.ceiling.slot) (each_ceiling test es) (subst (λ z. IsTrue (each_ceiling test z)) is h)).0
 
-pub rest-tested : (test : Slot → Bool) (all es : List (ℕ × OpenSession)) (n : ℕ) (s : OpenSession) → all ≡ (n, s) ∷ es → IsTrue (each_ceiling test all) → IsTrue (each_ceiling test es)
+pub rest-tested : (test : Slot → Bool) (all es : List (ℕ × OpenSession)) (n : ℕ) (s : OpenSession) → all ≡ (n, s) ∷ es → IsTrue (each_ceiling test all) →
+    IsTrue (each_ceiling test es)
 rest-tested test all es n s is h = (and_parts (test s.ceiling.slot) (each_ceiling test es) (subst (λ z. IsTrue (each_ceiling test z)) is h)).1
 
 -- of a list that rises, what stands later is greater
@@ -72,7 +76,8 @@ module _ (table : Table) (rs : List Record) (ks : List StateId) (stands : Stands
       (none-earlier x es (rest-at (IsAt table) (e ∷ es) es e.0 e.1 refl at) parts.1)
 
   -- the state at the place of a slot
-  placed-state : (slot : Slot) (p : ℕ) (d : StateId) → ((e : Entry) → (get_or table.entries p e).slot ≡ slot) → p < length table.entries → id_at table slot ≡ Some (get_or (kept_states rs ks) p d)
+  placed-state : (slot : Slot) (p : ℕ) (d : StateId) → ((e : Entry) → (get_or table.entries p e).slot ≡ slot) → p < length table.entries → id_at table slot
+      ≡ Some (get_or (kept_states rs ks) p d)
   placed-state slot p d at within = go table.entries (kept_states rs ks) p stands.slots stands.ids at within
     where
       go : (es : List Entry) (xs : List StateId) (p : ℕ) → map (λ e. id_at table e.slot) es ≡ map (λ e. Some e.id) es → map (λ e. e.id) es ≡ xs →
@@ -86,19 +91,22 @@ module _ (table : Table) (rs : List Record) (ks : List StateId) (stands : Stands
       go (e ∷ es) (x ∷ xs) (suc p) slots ids at within = go es xs p (let rest = slots in cc) (let rest = ids in cc) at (omega arith)
 
   -- what arrived after an open ceiling isn't at or above every ceiling
-  pub late : (book : Book) → ArePlaced book table rs ks → (slot : Slot) (p k : ℕ) (d : StateId) → ((e : Entry) → (get_or table.entries p e).slot ≡ slot) → p < length table.entries →
+  pub late : (book : Book) → ArePlaced book table rs ks → (slot : Slot) (p k : ℕ) (d : StateId) → ((e : Entry) → (get_or table.entries p e).slot ≡ slot) →
+      p < length table.entries →
       ((test : Slot → Bool) → IsTrue (each_ceiling test book.sessions) → IsTrue (test slot)) → p < k → k < length (kept_states rs ks) →
       is_above_ceilings rs (sessions_of book) (get_or (kept_states rs ks) k d) ≡ false
   late book placed slot p k d at within tested lt end =
       let x = get_or (kept_states rs ks) k d in
       false_from_ne_true (is_above_ceilings rs (sessions_of book) x) (λ above.
-      let no_later = leb-true (arrival rs x) (arrival_at table slot) (tested (λ s. leb (arrival rs x) (arrival_at table s)) (none-earlier x book.sessions placed.ceilings above)) in
+      let no_later = leb-true (arrival rs x) (arrival_at table slot)
+      (tested (λ s. leb (arrival rs x) (arrival_at table s)) (none-earlier x book.sessions placed.ceilings above)) in
       let there = slots-arrive table rs ks stands slot (get_or (kept_states rs ks) p d) (placed-state slot p d at within) in
       let later = rising-at (arrival rs) (kept_states rs ks) p k d (kept-rise rs ks stands.dag) lt end in
       omega arith)
 
 -- where none passes from a place on, the last that passes stands before it
-pub last-before : (p : StateId → Bool) (xs : List StateId) (n : ℕ) → ((k : ℕ) (d : StateId) → n ≤ k → k < length xs → p (get_or xs k d) ≡ false) → last_passing p xs ≡ last_passing p (take n xs)
+pub last-before : (p : StateId → Bool) (xs : List StateId) (n : ℕ) → ((k : ℕ) (d : StateId) → n ≤ k → k < length xs → p (get_or xs k d) ≡ false) →
+    last_passing p xs ≡ last_passing p (take n xs)
 last-before p [] zero fails = refl
 last-before p [] (suc n) fails = refl
 last-before p (x ∷ xs) zero fails =

@@ -1,5 +1,6 @@
 -- How ceilings and floors move.
-use Rattle.std.proofs.Common.{◌≡◌, ℕ, ◌-◌, ◌<◌, ◌≤◌, Bool, true, false, not, List, [], ◌∷◌, length, map, find, take, get_or, Some, inl, inr, refl, sym, ap, subst, ◌∙◌, take_all, arith}
+use Rattle.std.proofs.Common.{◌≡◌, ℕ, ◌-◌, ◌<◌, ◌≤◌, Bool, true, false, not, List, [], ◌∷◌, length, map, find, take, get_or, Some, inl, inr, refl, sym, ap}
+use Rattle.std.proofs.Common.{subst, ◌∙◌, take_all, arith}
 use Rattle.std.specs.Option.{option_map, unwrap_or}
 use Rattle.std.specs.List.{All, list_all}
 use Rattle.std.specs.Map.{values_of}
@@ -30,45 +31,54 @@ use Rattle.ceiling_book.proofs.Entries.{mapped}
 
 module _ (p : StateId → Bool) (items fs : List KnownFloor) (same : items ≡ fs) where
   -- one floor fails, and so not all pass
-  pub one-fails : (i : ℕ) (d : KnownFloor) → i < length items → p (get_or items i d).place.state ≡ false → false ≡ list_all (λ (f : Floor). p f.state) (map known_floor fs)
+  pub one-fails : (i : ℕ) (d : KnownFloor) → i < length items → p (get_or items i d).place.state ≡ false →
+      false ≡ list_all (λ (f : Floor). p f.state) (map known_floor fs)
   one-fails i d within fails =
       subst (λ gs. false ≡ list_all (λ (f : Floor). p f.state) (map known_floor gs)) same
       (sym (list_all-map (λ (f : Floor). p f.state) known_floor items ∙ list_all_at (λ (f : KnownFloor). p f.place.state) items i d within fails))
 
   -- all pass that were asked, and all were asked
-  pub all-pass : (i : ℕ) → length items ≤ i → list_all (λ (f : KnownFloor). p f.place.state) (take i items) ≡ true → true ≡ list_all (λ (f : Floor). p f.state) (map known_floor fs)
+  pub all-pass : (i : ℕ) → length items ≤ i → list_all (λ (f : KnownFloor). p f.place.state) (take i items) ≡ true →
+      true ≡ list_all (λ (f : Floor). p f.state) (map known_floor fs)
   all-pass i end pass =
       subst (λ gs. true ≡ list_all (λ (f : Floor). p f.state) (map known_floor gs)) same
-      (sym (list_all-map (λ (f : Floor). p f.state) known_floor items ∙ ap (list_all (λ (f : KnownFloor). p f.place.state)) (sym (take_all i items end)) ∙ pass))
+      (sym (list_all-map (λ (f : Floor). p f.state) known_floor items ∙ ap (list_all (λ (f : KnownFloor). p f.place.state)) (sym (take_all i items end))
+      ∙ pass))
 
 -- what stands at a place past the end
 abbrev pub no_floor : KnownFloor
 no_floor = record { place = record { state = root; slot = record { 0 = 0 } }; number = 0; stated = 0 }
 
 -- each of them is where it is kept
-pub floor-at : (At Near : Place → Type 0) (book : Book) (items : List KnownFloor) (i : ℕ) (d : KnownFloor) → items ≡ book.floors → i < length items → AllPlaces At Near book → At (get_or items i d).place
+pub floor-at : (At Near : Place → Type 0) (book : Book) (items : List KnownFloor) (i : ℕ) (d : KnownFloor) → items ≡ book.floors → i < length items →
+    AllPlaces At Near book → At (get_or items i d).place
 floor-at At Near book items i d same within all = subst (λ fs. All (λ f. At f.place) fs) (sym same) all.of_floors i d within
 
 -- ===== Who holds the floor
 
-module _ (At : Place → Type 0) (all es : List (ℕ × OpenSession)) (n : ℕ) (s : OpenSession) (is : all ≡ (n, s) ∷ es) (at : All (λ (t : OpenSession). At t.ceiling) (values_of all)) where
+module _ (At : Place → Type 0) (all es : List (ℕ × OpenSession)) (n : ℕ) (s : OpenSession) (is : all ≡ (n, s) ∷ es)
+    (at : All (λ (t : OpenSession). At t.ceiling) (values_of all)) where
   pub first-at : At s.ceiling
   first-at = subst (λ z. All (λ (t : OpenSession). At t.ceiling) (values_of z)) is at 0 s (omega arith)
 
   pub rest-at : All (λ (t : OpenSession). At t.ceiling) (values_of es)
   rest-at = λ k d within. subst (λ z. All (λ (t : OpenSession). At t.ceiling) (values_of z)) is at (ℕ.suc k) d (omega arith)
 
-pub holder-behind : (table : Table) (all es : List (ℕ × OpenSession)) (n : ℕ) (s : OpenSession) (slot : Slot) → all ≡ (n, s) ∷ es → is_slot_above table slot s.ceiling.slot ≡ true → slot_holder table all slot ≡ slot_holder table es slot
+pub holder-behind : (table : Table) (all es : List (ℕ × OpenSession)) (n : ℕ) (s : OpenSession) (slot : Slot) → all ≡ (n, s) ∷ es →
+    is_slot_above table slot s.ceiling.slot ≡ true → slot_holder table all slot ≡ slot_holder table es slot
 holder-behind table all es n s slot is above =
     let test = λ (t : ℕ × OpenSession). not (is_slot_above table slot t.1.ceiling.slot) in
     ap (λ z. slot_holder table z slot) is
     ∙ ap (option_map (λ (t : ℕ × OpenSession). (t.0, t.1.ceiling.state))) (cond-false (test (n, s)) (Some (n, s)) (find test es) (ap not above))
 
-module _ (table : Table) (rs : List Record) (ks : List StateId) (stands : Stands table rs ks) (slot : Slot) (x : StateId) (named : id_at table slot ≡ Some x) where
-  holders-agree : (es : List (ℕ × OpenSession)) → All (λ (t : OpenSession). IsAt table t.ceiling) (values_of es) → slot_holder table es slot ≡ holder rs (mapped session_of es) x
+module _ (table : Table) (rs : List Record) (ks : List StateId) (stands : Stands table rs ks) (slot : Slot) (x : StateId)
+    (named : id_at table slot ≡ Some x) where
+  holders-agree : (es : List (ℕ × OpenSession)) → All (λ (t : OpenSession). IsAt table t.ceiling) (values_of es) → slot_holder table es slot
+      ≡ holder rs (mapped session_of es) x
   holders-agree [] at = refl
   holders-agree (e ∷ es) at =
-      let same : is_slot_above table slot e.1.ceiling.slot ≡ is_above rs x e.1.ceiling.state = slots-tell table rs ks stands slot e.1.ceiling.slot x e.1.ceiling.state named (at 0 e.1 (omega arith)) in
+      let same : is_slot_above table slot e.1.ceiling.slot ≡ is_above rs x e.1.ceiling.state =
+      slots-tell table rs ks stands slot e.1.ceiling.slot x e.1.ceiling.state named (at 0 e.1 (omega arith)) in
       let rest = holders-agree es (λ k d within. at (ℕ.suc k) d (omega arith)) in
       let test = λ (t : ℕ × OpenSession). not (is_slot_above table slot t.1.ceiling.slot) in
       let plain = λ (t : ℕ × Session). not (is_above rs x t.1.ceiling) in
@@ -96,13 +106,15 @@ module _ (book now : Book) (is : book ≡ now) where
   pub own-floor-known : (f : KnownFloor) → book.own - 1 < length book.floors → f ≡ get_or book.floors (book.own - 1) f → known_floor f ≡ own_floor now
   own-floor-known f within at =
       subst (λ b. known_floor f ≡ own_floor b) is
-      (sym (ap (λ o. unwrap_or o opening_floor) (slice_get-map known_floor book.floors (book.own - 1) ∙ ap (option_map known_floor) (slice_get-get_or book.floors (book.own - 1) f within ∙ ap (λ g. Some g) (sym at)))))
+      (sym (ap (λ o. unwrap_or o opening_floor) (slice_get-map known_floor book.floors (book.own - 1)
+      ∙ ap (option_map known_floor) (slice_get-get_or book.floors (book.own - 1) f within ∙ ap (λ g. Some g) (sym at)))))
 
   -- what is written there is the own floor
   pub own-floor-written : (f : KnownFloor) → map known_floor (slice_set book.floors (book.own - 1) f) ≡ with_floor (floors_of now) now.own (known_floor f)
   own-floor-written f = map-set known_floor book.floors (book.own - 1) f ∙ ap (λ b. with_floor (floors_of b) b.own (known_floor f)) is
 
-  pub floor-keeps : (At Near : Place → Type 0) (f : KnownFloor) → AllPlaces At Near now → At f.place → AllPlaces At Near (record book { floors = slice_set book.floors (book.own - 1) f })
+  pub floor-keeps : (At Near : Place → Type 0) (f : KnownFloor) → AllPlaces At Near now → At f.place →
+      AllPlaces At Near (record book { floors = slice_set book.floors (book.own - 1) f })
   floor-keeps At Near f all at =
       let here = subst (AllPlaces At Near) (sym is) all in
       record {

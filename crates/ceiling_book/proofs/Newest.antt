@@ -1,5 +1,6 @@
 -- The last-arrived state that passes a test, among the states that are kept.
-use Rattle.std.proofs.Common.{◌≡◌, ℕ, ◌+◌, ◌<◌, Bool, true, false, not, ◌&&◌, List, [], ◌∷◌, ◌++◌, length, map, find, filter, take, get_or, Option, Some, None, is_some, is_none, if◌then◌else◌, IsTrue, IsFalse, inl, inr, refl, sym, ap, ◌∙◌, append-nil, arith}
+use Rattle.std.proofs.Common.{◌≡◌, ℕ, ◌+◌, ◌<◌, Bool, true, false, not, ◌&&◌, List, [], ◌∷◌, ◌++◌, length, map, find, filter, take, get_or, Option, Some}
+use Rattle.std.proofs.Common.{None, is_some, is_none, if◌then◌else◌, IsTrue, IsFalse, inl, inr, refl, sym, ap, ◌∙◌, append-nil, arith}
 use Rattle.std.proofs.lemmas.Bool.{cases_Bool, cond-true, cond-false, and_parts, both_ways, false_from_ne_true}
 use Rattle.std.proofs.lemmas.List.{length-map, get_or-map, take_more}
 use Rattle.tardis_base.specs.declared.ids.StateId.{StateId}
@@ -39,7 +40,8 @@ module _ (p : StateId → Bool) where
   last-fails (x ∷ xs) y f = rw (last-fails xs y f) refl
 
   -- where what passes isn't collected, the newest that passes is the last kept one that does
-  pub newest-is_last : (rs : List Record) (ks : List StateId) → ((x : StateId) → IsTrue (p x) → IsTrue (not (is_among x ks))) → find p (states rs) ≡ last_passing p (kept_states rs ks)
+  pub newest-is_last : (rs : List Record) (ks : List StateId) → ((x : StateId) → IsTrue (p x) → IsTrue (not (is_among x ks))) → find p (states rs)
+      ≡ last_passing p (kept_states rs ks)
   newest-is_last [] ks kept = refl
   newest-is_last (r ∷ rs) ks kept =
       let q : StateId → Bool = λ x. not (is_among x ks) in
@@ -48,7 +50,8 @@ module _ (p : StateId → Bool) where
       elim (cases_Bool (p r.id)) [
         | inl t ↦
             let one : filter q (r.id ∷ []) ≡ r.id ∷ [] = cond-true (q r.id) (r.id ∷ []) [] (kept r.id t) in
-            cond-true (p r.id) (Some r.id) (find p (states rs)) t ∙ sym (ap (last_passing p) (split ∙ ap (λ zs. kept_states rs ks ++ zs) one) ∙ last-passes (kept_states rs ks) r.id t)
+            cond-true (p r.id) (Some r.id) (find p (states rs)) t
+            ∙ sym (ap (last_passing p) (split ∙ ap (λ zs. kept_states rs ks ++ zs) one) ∙ last-passes (kept_states rs ks) r.id t)
         | inr f ↦
             cond-false (p r.id) (Some r.id) (find p (states rs)) f ∙ before ∙ sym (elim (cases_Bool (q r.id)) [
               | inl u ↦
@@ -61,7 +64,8 @@ module _ (p : StateId → Bool) where
       ]
 
 -- where the collected states are proper ancestors of the floor, what fits isn't collected
-pub fitting-is_kept : (rs : List Record) → IsDag rs → (ks : List StateId) (floor : StateId) (sessions : Sessions) → ((x : StateId) → IsTrue (is_among x ks) → IsTrue (is_proper_ancestor rs x floor)) →
+pub fitting-is_kept : (rs : List Record) → IsDag rs → (ks : List StateId) (floor : StateId) (sessions : Sessions) →
+    ((x : StateId) → IsTrue (is_among x ks) → IsTrue (is_proper_ancestor rs x floor)) →
     (x : StateId) → IsTrue (fits rs floor sessions x) → IsTrue (not (is_among x ks))
 fitting-is_kept rs dag ks floor sessions under x fit =
     let above = (and_parts (is_above rs floor x) (is_above_ceilings rs sessions x) fit).0 in
@@ -93,7 +97,8 @@ pub record IsPlaced (name : Slot → Option StateId) (xs : List StateId) (i : �
 pub lengths-agree : (name : Slot → Option StateId) (ss : List Slot) (xs : List StateId) → map name ss ≡ map (λ x. Some x) xs → length ss ≡ length xs
 lengths-agree name ss xs are = sym (length-map ss name) ∙ (ap length are ∙ length-map xs (λ x. Some x))
 
-pub placed-at : (name : Slot → Option StateId) (ss : List Slot) (xs : List StateId) (i : ℕ) (d : Slot) → map name ss ≡ map (λ x. Some x) xs → i < length ss → IsPlaced name xs i (get_or ss i d)
+pub placed-at : (name : Slot → Option StateId) (ss : List Slot) (xs : List StateId) (i : ℕ) (d : Slot) → map name ss ≡ map (λ x. Some x) xs → i < length ss
+    → IsPlaced name xs i (get_or ss i d)
 placed-at name ss xs i d are lt =
     let same = lengths-agree name ss xs are in
     let within : i < length xs = omega arith in

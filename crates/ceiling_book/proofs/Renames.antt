@@ -36,11 +36,13 @@ pub sessions-stay : (from to : Slot) (book : Book) → sessions_of (renamed from
 sessions-stay from to book = sessions-same from to book.sessions
 
 -- what was written is the renamed book
-pub is-renamed : (from to : Slot) (book now : Book) → book ≡ now → (r : Slot) (es : List (ℕ × OpenSession)) → r ≡ renamed_slot from to book.root → es ≡ mapped (renamed_session from to) book.sessions →
+pub is-renamed : (from to : Slot) (book now : Book) → book ≡ now → (r : Slot) (es : List (ℕ × OpenSession)) → r ≡ renamed_slot from to book.root →
+    es ≡ mapped (renamed_session from to) book.sessions →
     record book { root = r; sessions = es } ≡ renamed from to now
 is-renamed from to book now is r es at sessions = ap₂ (λ z zs. record book { root = z; sessions = zs }) at sessions ∙ ap (renamed from to) is
 
-module _ (old new : Table) (rs : List Record) (ks : List StateId) (from to : Slot) (x s : StateId) (stands : Stands old rs ks) (gives : GivesUp old new rs ks from to x s) where
+module _ (old new : Table) (rs : List Record) (ks : List StateId) (from to : Slot) (x s : StateId) (stands : Stands old rs ks)
+    (gives : GivesUp old new rs ks from to x s) where
   over : HandsOver rs ks x s
   over = hands-over rs ks stands.dag x s (kept-is_uncollected rs ks x (slot-is_kept old rs ks stands from x gives.given_up)) gives.shared
 
@@ -61,13 +63,15 @@ module _ (old new : Table) (rs : List Record) (ks : List StateId) (from to : Slo
         | inr f ↦ ap (λ b. id_at new (now_at b)) (test ∙ f) ∙ stays-there p.slot y f named ∙ ap (λ z. Some z) (sym (over.stand_ins p.state ∙ ap heir f))
       ]
 
-  ceilings-stay : (es : List (ℕ × OpenSession)) → list_all (λ (t : ℕ × Session). not (same_id t.1.ceiling x)) (mapped session_of es) ≡ true → All (λ (t : OpenSession). IsAt old t.ceiling) (values_of es) →
+  ceilings-stay : (es : List (ℕ × OpenSession)) → list_all (λ (t : ℕ × Session). not (same_id t.1.ceiling x)) (mapped session_of es) ≡ true →
+      All (λ (t : OpenSession). IsAt old t.ceiling) (values_of es) →
       All (λ (t : OpenSession). IsAt new t.ceiling) (values_of (mapped (renamed_session from to) es))
   ceilings-stay [] free at = All-nil (λ (t : OpenSession). IsAt new t.ceiling)
   ceilings-stay (e ∷ es) free at =
       let parts = and_parts (not (same_id e.1.ceiling.state x)) (list_all (λ (t : ℕ × Session). not (same_id t.1.ceiling x)) (mapped session_of es)) free in
       All-cons (λ (t : OpenSession). IsAt new t.ceiling) (renamed_session from to e.1) (values_of (mapped (renamed_session from to) es))
-      (stays-there e.1.ceiling.slot e.1.ceiling.state (not-true (same_id e.1.ceiling.state x) parts.0) (All-head (λ (t : OpenSession). IsAt old t.ceiling) e.1 (values_of es) at))
+      (stays-there e.1.ceiling.slot e.1.ceiling.state (not-true (same_id e.1.ceiling.state x) parts.0)
+      (All-head (λ (t : OpenSession). IsAt old t.ceiling) e.1 (values_of es) at))
       (ceilings-stay es parts.1 (All-tail (λ (t : OpenSession). IsAt old t.ceiling) e.1 (values_of es) at))
 
   commits-move : (es : List (ℕ × OpenSession)) → All (λ (t : OpenSession). HasStandIn old rs ks t.last) (values_of es) →
@@ -78,7 +82,8 @@ module _ (old new : Table) (rs : List Record) (ks : List StateId) (from to : Slo
       (moves e.1.last (All-head (λ (t : OpenSession). HasStandIn old rs ks t.last) e.1 (values_of es) near))
       (commits-move es (All-tail (λ (t : OpenSession). HasStandIn old rs ks t.last) e.1 (values_of es) near))
 
-  floors-stay : (fs : List KnownFloor) → list_all (λ (f : Floor). not (same_id f.state x)) (map known_floor fs) ≡ true → All (λ (f : KnownFloor). IsAt old f.place) fs → All (λ (f : KnownFloor). IsAt new f.place) fs
+  floors-stay : (fs : List KnownFloor) → list_all (λ (f : Floor). not (same_id f.state x)) (map known_floor fs) ≡ true →
+      All (λ (f : KnownFloor). IsAt old f.place) fs → All (λ (f : KnownFloor). IsAt new f.place) fs
   floors-stay [] free at = All-nil (λ (f : KnownFloor). IsAt new f.place)
   floors-stay (f ∷ fs) free at =
       let parts = and_parts (not (same_id f.place.state x)) (list_all (λ (g : Floor). not (same_id g.state x)) (map known_floor fs)) free in
@@ -89,7 +94,8 @@ module _ (old new : Table) (rs : List Record) (ks : List StateId) (from to : Slo
   -- so a book stands that is renamed, if x is no ceiling and no floor
   pub placed-renamed : (book : Book) → IsTrue (is_free book x) → ArePlaced book old rs ks → ArePlaced (renamed from to book) new rs (x ∷ ks)
   placed-renamed book free placed =
-      let parts = and_parts (list_all (λ (t : ℕ × Session). not (same_id t.1.ceiling x)) (sessions_of book)) (list_all (λ (f : Floor). not (same_id f.state x)) (floors_of book)) free in
+      let parts = and_parts (list_all (λ (t : ℕ × Session). not (same_id t.1.ceiling x)) (sessions_of book))
+      (list_all (λ (f : Floor). not (same_id f.state x)) (floors_of book)) free in
       record {
         of_root = moves (record { state = root; slot = book.root }) placed.of_root;
         ceilings = ceilings-stay book.sessions parts.0 placed.ceilings;

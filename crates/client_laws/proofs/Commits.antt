@@ -62,7 +62,8 @@ module _ (site : Site) (n : ℕ) (flags : EndFlags) (k : ℕ) where
   refused-tells refusal = record { told = λ x parents e. absurd (cc) }
 
   module _ (t : Txn) (there : entry_of n site.txns ≡ Some t) where
-    committed-tells : (parents : List StateId) → IsPlaced site.dag flags t parents → TellsCommit site n flags (committed site n (next_record site parents (writes_of t)))
+    committed-tells : (parents : List StateId) → IsPlaced site.dag flags t parents →
+        TellsCommit site n flags (committed site n (next_record site parents (writes_of t)))
     committed-tells parents placed =
         let r = next_record site parents (writes_of t) in
         record {
@@ -91,7 +92,11 @@ module _ (site : Site) (n : ℕ) (flags : EndFlags) (k : ℕ) where
   single-tells : (t : SingleTxn) → entry_of n site.txns ≡ Some (Single t) → TellsCommit site n flags (commit_single site n t flags k)
   single-tells t there = go t.writes
     where
-      go : (ws : List KeyWrite) → TellsCommit site n flags (elim ws as (λ v. Answer) [ [] ↦ (without_txn_of n site, Ended t.state) | w ∷ vs ↦ commit_writes site n t flags k ])
+      go : (ws : List KeyWrite) → TellsCommit site n flags (elim ws as (λ v. Answer) [
+        | [] ↦ (without_txn_of n site, Ended t.state)
+        | w ∷ vs ↦
+            commit_writes site n t flags k
+      ])
       go [] = record { told = λ y parents e. absurd (cc) }
       go (w ∷ ws) =
           let y = landing site.dag (guarded flags t.reads (keys_of t.writes)) t.state in
@@ -122,7 +127,8 @@ module _ (site : Site) (n : ℕ) (flags : EndFlags) (k : ℕ) where
 
 -- where a single transaction of an open session is told to begin, it begins there
 pub record TellsBegin (site : Site) (n : ℕ) (b : Begin) (answer : Answer) : Type 0 where
-  pub told : (x : StateId) → answer.1 ≡ Begun x → (s : Session) × (entry_of n site.sessions ≡ Some s) × (begin_state site.dag s.last b ≡ x) × IsTrue (is_admitted site.dag s.ceiling x)
+  pub told : (x : StateId) → answer.1 ≡ Begun x → (s : Session) × (entry_of n site.sessions ≡ Some s) × (begin_state site.dag s.last b ≡ x)
+      × IsTrue (is_admitted site.dag s.ceiling x)
 
 not-false : (b : Bool) → IsFalse (not b) → IsTrue b
 not-false true f = refl
@@ -142,7 +148,8 @@ module _ (site : Site) (n : ℕ) (b : Begin) where
       (refuse-only unknown (Unknown x) (refuse below (Below x s.ceiling) ∷ []) (refuse-only below (Below x s.ceiling) [] tt)) refused-begins
       (λ none.
       let second = none-parts (refuse unknown (Unknown x)) (refuse below (Below x s.ceiling) ∷ []) none in
-      let admitted = not-false (is_admitted site.dag s.ceiling x) (when-none below (Refused (Below x s.ceiling)) (none-parts (refuse below (Below x s.ceiling)) [] second.1).0) in
+      let admitted = not-false (is_admitted site.dag s.ceiling x)
+      (when-none below (Refused (Below x s.ceiling)) (none-parts (refuse below (Below x s.ceiling)) [] second.1).0) in
       record {
         told = λ y e.
             let same : x ≡ y = cc in
@@ -152,4 +159,5 @@ module _ (site : Site) (n : ℕ) (b : Begin) where
   pub step-tells-begin : TellsBegin site n b (step site n (BeginAt b))
   step-tells-begin =
       by-no-txn {site = site} {Good = TellsBegin site n b}
-      (record { not_open = refused-begins NotOpen; no_txn = refused-begins NoTxn; txn_open = refused-begins TxnOpen }) n (λ s. begin site n s b) (λ s e. begin-tells s e)
+      (record { not_open = refused-begins NotOpen; no_txn = refused-begins NoTxn; txn_open = refused-begins TxnOpen }) n (λ s. begin site n s b)
+      (λ s e. begin-tells s e)

@@ -47,7 +47,8 @@ module _ (rs : List Record) (r : Record) (f : Fits rs r) (g : Grows rs) (k : Lis
       let origin = mapped-from (latest_writer rs k) xs w m in
       writer-is-known rs k w (and_parts (writes_key rs k w) (is_above rs w origin.0) (latest-is-latest rs k origin.0 w origin.2).writes).0
 
-  lowest-writer-stays : (xs : List StateId) → IsTrue (list_all (is_known rs) xs) → lowest (r ∷ rs) (latest_writers (r ∷ rs) k xs) ≡ lowest rs (latest_writers rs k xs)
+  lowest-writer-stays : (xs : List StateId) → IsTrue (list_all (is_known rs) xs) → lowest (r ∷ rs) (latest_writers (r ∷ rs) k xs)
+      ≡ lowest rs (latest_writers rs k xs)
   lowest-writer-stays xs known =
       ap (lowest (r ∷ rs)) (latest-writers-stay xs known) ∙ lowest-stays rs r f g (latest_writers rs k xs) (latest-are-known xs)
 
@@ -132,6 +133,7 @@ module _ (rs : List Record) (r : Record) (f : Fits rs r) (g : Grows rs) (k : Lis
   pub newest-joins : IsDag (r ∷ rs) → read (r ∷ rs) k r.id ≡ value_over rs r.parents k
   newest-joins dag = ap (option_and_then (version_at (r ∷ rs) k)) (latest-is-lowest dag) ∙ at (lowest rs (latest_writers rs k r.parents)) refl
     where
-      at : (o : Option StateId) → lowest rs (latest_writers rs k r.parents) ≡ o → option_and_then (version_at (r ∷ rs) k) o ≡ option_and_then (version_at rs k) o
+      at : (o : Option StateId) → lowest rs (latest_writers rs k r.parents) ≡ o → option_and_then (version_at (r ∷ rs) k) o
+          ≡ option_and_then (version_at rs k) o
       at None e = refl
       at (Some w) e = version-stays rs r f g k w (latest-are-known rs r f g k r.parents w (lowest-is-one rs (latest_writers rs k r.parents) w e))

@@ -20,8 +20,9 @@ use Rattle.client_laws.proofs.Tellings.{Tells}
 abbrev pub bare : Site → Site
 bare site = record site { collected = []; sessions = []; txns = [] }
 
--- the history stays or has one record more; history, floors and waiting room are as the request and its reply tell; the other actors' transactions and sessions stay; the actor's session is as the
--- request and its reply tell; and if its transaction was as its lines told, it is as these and the request with its reply tell
+-- the history stays or has one record more; history, floors and waiting room are as the request and its reply tell; the other actors' transactions and
+-- sessions stay; the actor's session is as the request and its reply tell; and if its transaction was as its lines told, it is as these and the request
+-- with its reply tell
 pub record Does (site : Site) (n : ℕ) (q : Request) (answer : Answer) : Type 0 where
   pub grows : (answer.0.dag ≡ site.dag) ⊎ ((r : Record) × (answer.0.dag ≡ r ∷ site.dag))
   pub shared : (seen : Option Told) → Tells site.dag (entry_of n site.txns) seen → bare answer.0 ≡ regrown q answer.1 seen (bare site)
@@ -71,19 +72,22 @@ wanting-records-nothing q seen rs = refl
 -- ===== Answers that leave transactions and sessions
 
 pub same-books : (site : Site) (n : ℕ) (q : Request) (next : Site) (reply : Reply) → (next.dag ≡ site.dag) ⊎ ((r : Record) × (next.dag ≡ r ∷ site.dag)) →
-    ((seen : Option Told) → bare next ≡ regrown q reply seen (bare site)) → next.txns ≡ site.txns → next.sessions ≡ site.sessions → ((seen : Option Told) → retold q reply seen ≡ seen) → ((rs : List Record) (s : Option Session) → resession rs q reply s ≡ s) →
+    ((seen : Option Told) → bare next ≡ regrown q reply seen (bare site)) → next.txns ≡ site.txns → next.sessions ≡ site.sessions →
+    ((seen : Option Told) → retold q reply seen ≡ seen) → ((rs : List Record) (s : Option Session) → resession rs q reply s ≡ s) →
     Does site n q (next, reply)
 same-books site n q next reply grows records txns sessions tells keeps = record {
   grows = grows;
   shared = λ seen h. records seen;
   other_txns = λ m differ. ap (entry_of m) txns;
   other_sessions = λ m differ. ap (entry_of m) sessions;
-  txn = λ seen h. subst (λ ts. Tells next.dag (entry_of n ts) (retold q reply seen)) (sym txns) (subst (Tells next.dag (entry_of n site.txns)) (sym (tells seen)) h);
+  txn = λ seen h. subst (λ ts. Tells next.dag (entry_of n ts) (retold q reply seen)) (sym txns)
+      (subst (Tells next.dag (entry_of n site.txns)) (sym (tells seen)) h);
   session = ap (entry_of n) sessions ∙ sym (keeps next.dag (entry_of n site.sessions));
 }
 
 -- nothing is done, and the reply tells nothing
-pub does-nothing : (site : Site) (n : ℕ) (q : Request) (reply : Reply) → ((seen : Option Told) → retold q reply seen ≡ seen) → ((rs : List Record) (s : Option Session) → resession rs q reply s ≡ s) →
+pub does-nothing : (site : Site) (n : ℕ) (q : Request) (reply : Reply) → ((seen : Option Told) → retold q reply seen ≡ seen) →
+    ((rs : List Record) (s : Option Session) → resession rs q reply s ≡ s) →
     ((seen : Option Told) (s : Site) → regrown q reply seen s ≡ s) → Does site n q (site, reply)
 does-nothing site n q reply tells keeps records = same-books site n q site reply (inl refl) (λ seen. sym (records seen (bare site))) refl refl tells keeps
 
@@ -123,7 +127,8 @@ unless-refused P site (None ∷ more) answer only refused h = unless-refused P s
 unless-refused P site (Some reply ∷ more) answer only refused h = subst (λ r. P (site, r)) (sym only.0.1) (refused only.0.0)
 
 -- what holds of each reply that leaves the site
-pub unless-any : (P : Answer → Type 0) (site : Site) (replies : List (Option Reply)) (answer : Answer) → ((reply : Reply) → P (site, reply)) → P answer → P (unless site replies answer)
+pub unless-any : (P : Answer → Type 0) (site : Site) (replies : List (Option Reply)) (answer : Answer) → ((reply : Reply) → P (site, reply)) → P answer →
+    P (unless site replies answer)
 unless-any P site [] answer same h = h
 unless-any P site (None ∷ more) answer same h = unless-any P site more answer same h
 unless-any P site (Some reply ∷ more) answer same h = same reply
@@ -140,14 +145,16 @@ AreNoTaking [] = Unit {0}
 AreNoTaking (None ∷ more) = AreNoTaking more
 AreNoTaking (Some reply ∷ more) = (reply ≡ Applied → ⊥) × AreNoTaking more
 
-pub when-no-taking : (test : Bool) (reply : Reply) (more : List (Option Reply)) → (reply ≡ Applied → ⊥) → AreNoTaking more → AreNoTaking (when test reply ∷ more)
+pub when-no-taking : (test : Bool) (reply : Reply) (more : List (Option Reply)) → (reply ≡ Applied → ⊥) → AreNoTaking more →
+    AreNoTaking (when test reply ∷ more)
 when-no-taking true reply more h m = (h, m)
 when-no-taking false reply more h m = m
 
 pub refuse-no-taking : (test : Bool) (refusal : Refusal) (more : List (Option Reply)) → AreNoTaking more → AreNoTaking (refuse test refusal ∷ more)
 refuse-no-taking test refusal more m = when-no-taking test (Refused refusal) more (λ e. absurd (cc)) m
 
-pub found-no-taking : {A : Type 0} (refusal : A → Refusal) (o : Option A) (more : List (Option Reply)) → AreNoTaking more → AreNoTaking (refuse_found refusal o ∷ more)
+pub found-no-taking : {A : Type 0} (refusal : A → Refusal) (o : Option A) (more : List (Option Reply)) → AreNoTaking more →
+    AreNoTaking (refuse_found refusal o ∷ more)
 found-no-taking refusal None more m = m
 found-no-taking refusal (Some a) more m = (λ e. absurd (cc), m)
 

@@ -1,5 +1,6 @@
 -- What the other requests do, and so what each request does.
-use Rattle.std.proofs.Common.{◌≡◌, ℕ, Bool, true, not, List, [], ◌∷◌, ◌++◌, length, Option, Some, None, is_some, IsTrue, IsFalse, inl, inr, refl, sym, ap, subst}
+use Rattle.std.proofs.Common.{◌≡◌, ℕ, Bool, true, not, List, [], ◌∷◌, ◌++◌, length, Option, Some, None, is_some, IsTrue, IsFalse, inl, inr, refl, sym, ap}
+use Rattle.std.proofs.Common.{subst}
 use Rattle.std.proofs.lemmas.Bool.{both_ways, cond_both}
 use Rattle.std.specs.Prelude.{◌==◌, ◌||◌, nat_lt, nat_le, find}
 use Rattle.tardis_base.specs.declared.ids.StateId.{StateId}
@@ -9,8 +10,10 @@ use Rattle.tardis_base.specs.declared.records.Item.{Item}
 use Rattle.tardis_base.specs.declared.records.Item.TheVariants.{State, Promise}
 use Rattle.tardis_base.specs.declared.records.Write.TheVariants.{Put as Value, Delete as Deletion}
 use Rattle.tardis_base.specs.declared.requests.Request.{Request}
-use Rattle.tardis_base.specs.declared.requests.Request.TheVariants.{Open, Begin, Get, Put, Delete, Commit, Abort, BeginMerge, ForkPoints, Conflicts, GetFor, Ceiling, Raise, RaiseAuto, Tidy, Stat, Show, Leaves, Pull, Deliver, Settle, Close}
-use Rattle.tardis_base.specs.declared.replies.Refusal.TheVariants.{AlreadyOpen, SessionsFull, Unknown, CeilingBack, WrongMode, NotRead, FloorBack, Held, SeqEnd, Collected, BadSite, OwnItem, ClosedParent, Comparable, OpenConflict}
+use Rattle.tardis_base.specs.declared.requests.Request.TheVariants.{Open, Begin, Get, Put, Delete, Commit, Abort, BeginMerge, ForkPoints, Conflicts, GetFor}
+use Rattle.tardis_base.specs.declared.requests.Request.TheVariants.{Ceiling, Raise, RaiseAuto, Tidy, Stat, Show, Leaves, Pull, Deliver, Settle, Close}
+use Rattle.tardis_base.specs.declared.replies.Refusal.TheVariants.{AlreadyOpen, SessionsFull, Unknown, CeilingBack, WrongMode, NotRead, FloorBack, Held}
+use Rattle.tardis_base.specs.declared.replies.Refusal.TheVariants.{SeqEnd, Collected, BadSite, OwnItem, ClosedParent, Comparable, OpenConflict}
 use Rattle.tardis_base.specs.declared.replies.Reply.{Reply}
 use Rattle.tardis_base.specs.declared.replies.Reply.TheVariants.{Opened, Done, Applied, Known, Early, Shown, Batch as BatchIs}
 use Rattle.tardis_base.specs.Ids.{is_among}
@@ -31,14 +34,18 @@ use Rattle.plain_site.specs.Commits.{with_record, growth_refusals, abort, commit
 use Rattle.plain_site.specs.Merges.{states_to_merge, begin_merge, fork_points_of, conflicts_of}
 use Rattle.plain_site.specs.FloorSteps.{raised, raise_to, raise, tidy}
 use Rattle.plain_site.specs.Shows.{show}
-use Rattle.plain_site.specs.Exchange.{is_early, judgements, take_record, with_held, deliver_record, consent_judgements, deliver, pull, batch_for, first_fit_record, with_settled, settle_record, settle}
+use Rattle.plain_site.specs.Exchange.{is_early, judgements, take_record, with_held, deliver_record, consent_judgements, deliver, pull, batch_for}
+use Rattle.plain_site.specs.Exchange.{first_fit_record, with_settled, settle_record, settle}
 use Rattle.plain_site.specs.Step.{step}
 use Rattle.plain_site.specs.ClientRuns.{Told, having_settled, retold, regrown, resession}
 use Rattle.plain_site.proofs.SoundDeliveries.{taken-stays}
 use Rattle.plain_site.proofs.RepliesFrame.{given-good, by-session, by-txn, by-no-txn}
-use Rattle.plain_site.proofs.SoundEntries.{entry-changed, entry-changed_other, entry-with_entry, entry-with_entry_other, entry-without_entry, entry-without_entry_other}
+use Rattle.plain_site.proofs.SoundEntries.{entry-changed, entry-changed_other, entry-with_entry, entry-with_entry_other, entry-without_entry}
+use Rattle.plain_site.proofs.SoundEntries.{entry-without_entry_other}
 use Rattle.client_laws.proofs.Tellings.{Tells}
-use Rattle.client_laws.proofs.Effects.{bare, Does, same-books, does-nothing, does-refused, refuses-does, OnlyRefuse, refuse-only, found-only, both-only, unless-any, unless-does, AreNoTaking, when-no-taking, refuse-no-taking, found-no-taking, both-no-taking, unless-no-taking}
+use Rattle.client_laws.proofs.Effects.{bare, Does, same-books, does-nothing, does-refused, refuses-does, OnlyRefuse, refuse-only, found-only, both-only}
+use Rattle.client_laws.proofs.Effects.{unless-any, unless-does, AreNoTaking, when-no-taking, refuse-no-taking, found-no-taking, both-no-taking}
+use Rattle.client_laws.proofs.Effects.{unless-no-taking}
 use Rattle.client_laws.proofs.EffectsOfTxns.{begin-does, merge-does, get-does, set-does, abort-does, commit-does}
 
 -- the judgements of a record take none
@@ -71,7 +78,8 @@ module _ (site : Site) (n : ℕ) where
       let s = opening_session follow ceiling in
       let there = is_some (entry_of n site.sessions) in
       let full = number_open == site.limits.max_sessions in
-      unless-does site n (Open follow) (refuse there AlreadyOpen ∷ refuse full (SessionsFull number_open) ∷ []) (record site { sessions = with_entry n s site.sessions }, Opened ceiling)
+      unless-does site n (Open follow) (refuse there AlreadyOpen ∷ refuse full (SessionsFull number_open) ∷ [])
+      (record site { sessions = with_entry n s site.sessions }, Opened ceiling)
       (refuse-only there AlreadyOpen (refuse full (SessionsFull number_open) ∷ []) (refuse-only full (SessionsFull number_open) [] tt))
       (record {
         grows = inl refl;
@@ -96,7 +104,8 @@ module _ (site : Site) (n : ℕ) where
   ceiling-does s x =
       let unknown = not (is_known site.dag x) in
       let back = not (is_above site.dag s.ceiling x) in
-      unless-does site n (Ceiling x) (refuse unknown (Unknown x) ∷ refuse back (CeilingBack s.ceiling) ∷ []) (record site { sessions = changed n (with_ceiling x) site.sessions }, Done)
+      unless-does site n (Ceiling x) (refuse unknown (Unknown x) ∷ refuse back (CeilingBack s.ceiling) ∷ [])
+      (record site { sessions = changed n (with_ceiling x) site.sessions }, Done)
       (refuse-only unknown (Unknown x) (refuse back (CeilingBack s.ceiling) ∷ []) (refuse-only back (CeilingBack s.ceiling) [] tt))
       (record {
         grows = inl refl;
@@ -109,8 +118,10 @@ module _ (site : Site) (n : ℕ) where
 
   -- ===== Floors and collection
 
-  raise_to-does : (q : Request) (x : StateId) (refusals : List (Option Reply)) → OnlyRefuse refusals → ((reply : Reply) (seen : Option Told) → retold q reply seen ≡ seen) →
-      ((reply : Reply) (rs : List Record) (s : Option Session) → resession rs q reply s ≡ s) → ((seen : Option Told) → bare (raised site x).0 ≡ regrown q (raised site x).1 seen (bare site)) →
+  raise_to-does : (q : Request) (x : StateId) (refusals : List (Option Reply)) → OnlyRefuse refusals →
+      ((reply : Reply) (seen : Option Told) → retold q reply seen ≡ seen) →
+      ((reply : Reply) (rs : List Record) (s : Option Session) → resession rs q reply s ≡ s) →
+      ((seen : Option Told) → bare (raised site x).0 ≡ regrown q (raised site x).1 seen (bare site)) →
       Does site n q (raise_to site x refusals)
   raise_to-does q x refusals only tells keeps moves =
       let next = raised site x in
@@ -121,7 +132,8 @@ module _ (site : Site) (n : ℕ) where
   -- ===== Exchange
 
   -- a record isn't taken where the reply isn't Applied, and doesn't wait where it isn't Early
-  untaken : (r : Record) (reply : Reply) → (reply ≡ Applied → ⊥) → IsFalse (says_early reply) → (seen : Option Told) (s : Site) → regrown (Deliver (State r)) reply seen s ≡ s
+  untaken : (r : Record) (reply : Reply) → (reply ≡ Applied → ⊥) → IsFalse (says_early reply) → (seen : Option Told) (s : Site) →
+      regrown (Deliver (State r)) reply seen s ≡ s
   untaken r Applied other late seen s = absurd (other refl)
   untaken r (Early have) other late seen s = absurd (both_ways true late refl)
   untaken r reply other late seen s = refl
@@ -136,7 +148,8 @@ module _ (site : Site) (n : ℕ) where
   -- a record that isn't early
   take-does : (r : Record) → IsFalse (says_early (take_record site r).1) → Does site n (Deliver (State r)) (take_record site r)
   take-does r late =
-      unless-no-taking (λ answer. IsFalse (says_early answer.1) → Does site n (Deliver (State r)) answer) site (judgements site r ++ growth_refusals site r) (with_record r site, Applied)
+      unless-no-taking (λ answer. IsFalse (says_early answer.1) → Does site n (Deliver (State r)) answer) site
+      (judgements site r ++ growth_refusals site r) (with_record r site, Applied)
       (both-no-taking (judgements site r) (growth_refusals site r) (judged-no-taking site r)
       (found-no-taking (λ f. f) (growth_refusal true site.limits site.collected site.dag r) [] tt)) (tells-nothing r)
       (λ never. same-books site n (Deliver (State r)) (with_record r site) Applied (inr (r, refl)) (λ seen. refl) refl refl (λ seen. refl) (λ rs s. refl)) late
@@ -147,7 +160,8 @@ module _ (site : Site) (n : ℕ) where
       cond_both (says_early answer.1) (with_held r answer.0) answer.0 (λ (next : Site). Does site n (Deliver (State r)) (next, answer.1))
       (λ early.
       subst (λ (next : Site). Does site n (Deliver (State r)) (with_held r next, answer.1)) (sym (taken-stays site r early))
-      (same-books site n (Deliver (State r)) (with_held r site) answer.1 (inl refl) (λ seen. sym (held r answer.1 early seen (bare site))) refl refl (λ seen. refl) (λ rs s. refl)))
+      (same-books site n (Deliver (State r)) (with_held r site) answer.1 (inl refl) (λ seen. sym (held r answer.1 early seen (bare site))) refl refl
+      (λ seen. refl) (λ rs s. refl)))
       (λ late. take-does r late)
 
   -- a consent isn't taken where the reply isn't Applied
@@ -189,11 +203,14 @@ module _ (site : Site) (n : ℕ) where
       (λ found is.
       unless-does site n Settle (growth_refusals site found.1) (with_settled found site, Applied)
       (found-only (λ f. f) (growth_refusal true site.limits site.collected site.dag found.1) [] tt)
-      (same-books site n Settle (with_settled found site) Applied (inr (found.1, refl)) (λ seen. settled-told found is) refl refl (λ seen. refl) (λ rs s. refl)))
+      (same-books site n Settle (with_settled found site) Applied (inr (found.1, refl)) (λ seen. settled-told found is) refl refl (λ seen. refl)
+      (λ rs s. refl)))
 
   -- ===== What only shows
 
-  shows : (q : Request) (reply : Reply) → ((r : Reply) (seen : Option Told) → retold q r seen ≡ seen) → ((r : Reply) (rs : List Record) (s : Option Session) → resession rs q r s ≡ s) → ((r : Reply) (seen : Option Told) (s : Site) → regrown q r seen s ≡ s) → Does site n q (site, reply)
+  shows : (q : Request) (reply : Reply) → ((r : Reply) (seen : Option Told) → retold q r seen ≡ seen) →
+      ((r : Reply) (rs : List Record) (s : Option Session) → resession rs q r s ≡ s) →
+      ((r : Reply) (seen : Option Told) (s : Site) → regrown q r seen s ≡ s) → Does site n q (site, reply)
   shows q reply tells keeps records = does-nothing site n q reply (tells reply) (keeps reply) (records reply)
 
   fork-points-does : (t : Txn) → Does site n ForkPoints (fork_points_of site t)
@@ -209,19 +226,22 @@ module _ (site : Site) (n : ℕ) where
   get-for-does (Merge t) k x =
       let reply = found (read site.dag k x) in
       unless-any (Does site n (GetFor k x)) site (refuse (not (is_among x t.states)) (NotRead x) ∷ []) (site, reply)
-      (λ r. shows (GetFor k x) r (λ q seen. refl) (λ q rs s. refl) (λ q seen rs. refl)) (shows (GetFor k x) reply (λ q seen. refl) (λ q rs s. refl) (λ q seen rs. refl))
+      (λ r. shows (GetFor k x) r (λ q seen. refl) (λ q rs s. refl) (λ q seen rs. refl))
+      (shows (GetFor k x) reply (λ q seen. refl) (λ q rs s. refl) (λ q seen rs. refl))
 
   show-does : (x : StateId) → Does site n (Show x) (show site x)
   show-does x =
       let reply = Shown (arrival site.dag x) (children site.dag x) (fork_path site.dag site.collected x) in
-      unless-any (Does site n (Show x)) site (refuse (not (is_known site.dag x)) (Unknown x) ∷ refuse (is_among x site.collected) (Collected x) ∷ []) (site, reply)
+      unless-any (Does site n (Show x)) site (refuse (not (is_known site.dag x)) (Unknown x) ∷ refuse (is_among x site.collected) (Collected x) ∷ [])
+      (site, reply)
       (λ r. shows (Show x) r (λ q seen. refl) (λ q rs s. refl) (λ q seen rs. refl)) (shows (Show x) reply (λ q seen. refl) (λ q rs s. refl) (λ q seen rs. refl))
 
   pull-does : (counts : List ℕ) → Does site n (Pull counts) (pull site counts)
   pull-does counts =
       let reply = BatchIs (batch_for site counts) in
       unless-any (Does site n (Pull counts)) site (refuse (not (length counts == site.limits.sites)) (BadSite (length counts)) ∷ []) (site, reply)
-      (λ r. shows (Pull counts) r (λ q seen. refl) (λ q rs s. refl) (λ q seen rs. refl)) (shows (Pull counts) reply (λ q seen. refl) (λ q rs s. refl) (λ q seen rs. refl))
+      (λ r. shows (Pull counts) r (λ q seen. refl) (λ q rs s. refl) (λ q seen rs. refl))
+      (shows (Pull counts) reply (λ q seen. refl) (λ q rs s. refl) (λ q seen rs. refl))
 
   raise-does : (x : StateId) → Does site n (Raise x) (raise site x)
   raise-does x =
@@ -239,7 +259,8 @@ module _ (site : Site) (n : ℕ) where
 
   pub step-does : (q : Request) → Does site n q (step site n q)
   step-does (Open follow) = open-does follow
-  step-does (Begin b) = by-no-txn (refuses-does site n (Begin b)) n (λ s. begin site n s b) (λ s e. begin-does site n b s.ceiling (begin_state site.dag s.last b))
+  step-does (Begin b) = by-no-txn (refuses-does site n (Begin b)) n (λ s. begin site n s b)
+      (λ s e. begin-does site n b s.ceiling (begin_state site.dag s.last b))
   step-does (Get k) = by-txn (refuses-does site n (Get k)) n (λ s t. get site n t k) (λ s t e d. get-does site n t k d)
   step-does (Put k v) =
       by-txn (refuses-does site n (Put k v)) n (λ s t. set_key site n t k (Value v))

@@ -31,11 +31,13 @@ use Rattle.plain_site.specs.Site.{Site, SingleTxn, Txn, Single, Merge, own_count
 use Rattle.plain_site.specs.Answers.{Answer, refuse, refuse_found, shown, found}
 use Rattle.plain_site.specs.Sessions.{begin_at}
 use Rattle.plain_site.specs.Reads.{having_read, having_written, read_in, get, set_key}
-use Rattle.plain_site.specs.Commits.{with_record, without_txn_of, abort, growth_refusals, committed, commit_below, commit_at, commit_writes, commit_single, commit}
+use Rattle.plain_site.specs.Commits.{with_record, without_txn_of, abort, growth_refusals, committed, commit_below, commit_at, commit_writes, commit_single}
+use Rattle.plain_site.specs.Commits.{commit}
 use Rattle.plain_site.specs.Merges.{in_order, merge_at}
 use Rattle.plain_site.specs.ClientRuns.{Told, begun, is_shown, having_got, having_put, retold, regrown, resession}
 use Rattle.plain_site.proofs.RepliesFrame.{given-good}
-use Rattle.plain_site.proofs.SoundEntries.{entry-changed, entry-changed_other, entry-with_entry, entry-with_entry_other, entry-without_entry, entry-without_entry_other}
+use Rattle.plain_site.proofs.SoundEntries.{entry-changed, entry-changed_other, entry-with_entry, entry-with_entry_other, entry-without_entry}
+use Rattle.plain_site.proofs.SoundEntries.{entry-without_entry_other}
 use Rattle.client_laws.proofs.Dags.{value-over-one}
 use Rattle.client_laws.proofs.Records.{write-has-key, no-write-no-key}
 use Rattle.client_laws.proofs.Tellings.{KeepsReads, is_merge, IsTold, Tells, kept-more, tells-changed}
@@ -51,7 +53,8 @@ found-is-shown : (o : Option (StateId × Write)) → IsTrue (is_shown (found o))
 found-is-shown None = refl
 found-is-shown (Some version) = shown-is-shown version.0 version.1
 
-got-found : (k : List ℕ) (o : Option (StateId × Write)) (seen : Told) → IsFalse (has_key k seen.writes) → having_got k (found o) seen ≡ record seen { reads = (k, found o) ∷ seen.reads }
+got-found : (k : List ℕ) (o : Option (StateId × Write)) (seen : Told) → IsFalse (has_key k seen.writes) → having_got k (found o) seen
+    ≡ record seen { reads = (k, found o) ∷ seen.reads }
 got-found k o seen lacks =
     cond-true (is_shown (found o) && not (has_key k seen.writes)) (record seen { reads = (k, found o) ∷ seen.reads }) seen
     (and_from (is_shown (found o)) (not (has_key k seen.writes)) (found-is-shown o) (not_from_false (has_key k seen.writes) lacks))
@@ -69,8 +72,10 @@ module _ (site : Site) (n : ℕ) where
   -- ===== Beginnings
 
   -- a transaction begins at these states
-  begun-does : (q : Request) (t : Txn) (reply : Reply) (states : List StateId) → ((seen : Option Told) → retold q reply seen ≡ Some (begun (is_merge t) states)) → read_states t ≡ states →
-      writes_of t ≡ [] → KeepsReads t [] → ((rs : List Record) (s : Option Session) → resession rs q reply s ≡ s) → ((seen : Option Told) (s : Site) → regrown q reply seen s ≡ s) →
+  begun-does : (q : Request) (t : Txn) (reply : Reply) (states : List StateId) →
+      ((seen : Option Told) → retold q reply seen ≡ Some (begun (is_merge t) states)) → read_states t ≡ states →
+      writes_of t ≡ [] → KeepsReads t [] → ((rs : List Record) (s : Option Session) → resession rs q reply s ≡ s) →
+      ((seen : Option Told) (s : Site) → regrown q reply seen s ≡ s) →
       Does site n q (record site { txns = with_entry n t site.txns }, reply)
   begun-does q t reply states tells at none kept keeps records = record {
     grows = inl refl;
@@ -112,7 +117,8 @@ module _ (site : Site) (n : ℕ) where
 
   -- ===== Reads and writes
 
-  own-read-does : (t : Txn) (k : List ℕ) (w : Write) → entry_of n site.txns ≡ Some t → write_of k (writes_of t) ≡ Some w → Does site n (Get k) (site, shown root w)
+  own-read-does : (t : Txn) (k : List ℕ) (w : Write) → entry_of n site.txns ≡ Some t → write_of k (writes_of t) ≡ Some w →
+      Does site n (Get k) (site, shown root w)
   own-read-does t k w e own = record {
     grows = inl refl;
     shared = λ seen h. refl;
@@ -130,7 +136,8 @@ module _ (site : Site) (n : ℕ) where
   read-does (Single t) k e none =
       let o = read site.dag k t.state in
       let more : Txn = Single (record t { reads = with_key k t.reads }) in
-      unless-does site n (Get k) (refuse (length t.reads == 256 && not (is_key_among k t.reads)) (TooMany 2 257) ∷ []) (with_txn_changed n (having_read k) site, found o)
+      unless-does site n (Get k) (refuse (length t.reads == 256 && not (is_key_among k t.reads)) (TooMany 2 257) ∷ [])
+      (with_txn_changed n (having_read k) site, found o)
       (refuse-only (length t.reads == 256 && not (is_key_among k t.reads)) (TooMany 2 257) [] tt)
       (record {
         grows = inl refl;
@@ -178,7 +185,8 @@ module _ (site : Site) (n : ℕ) where
       (λ w own. own-read-does t k w e own)
 
   pub set-does : (q : Request) (t : Txn) (k : List ℕ) (w : Write) → ((seen : Option Told) → retold q Done seen ≡ option_map (having_put k w) seen) →
-      ((rs : List Record) (s : Option Session) → resession rs q Done s ≡ s) → ((seen : Option Told) (s : Site) → regrown q Done seen s ≡ s) → entry_of n site.txns ≡ Some t → Does site n q (set_key site n t k w)
+      ((rs : List Record) (s : Option Session) → resession rs q Done s ≡ s) → ((seen : Option Told) (s : Site) → regrown q Done seen s ≡ s) →
+      entry_of n site.txns ≡ Some t → Does site n q (set_key site n t k w)
   set-does q t k w tells keeps records e =
       let full = length (writes_of t) == 64 && not (has_key k (writes_of t)) in
       unless-does site n q (refuse full (TooMany 1 65) ∷ []) (with_txn_changed n (having_written k w) site, Done) (refuse-only full (TooMany 1 65) [] tt)
@@ -200,7 +208,8 @@ module _ (site : Site) (n : ℕ) where
   gone-is-told : (rs : List Record) → Tells rs (entry_of n (without_entry n site.txns)) None
   gone-is-told rs = subst (λ (o : Option Txn). Tells rs o None) (sym (entry-without_entry n site.txns)) tt
 
-  ended-does : (q : Request) (reply : Reply) → ((seen : Option Told) → retold q reply seen ≡ None) → ((rs : List Record) (s : Option Session) → resession rs q reply s ≡ s) → ((seen : Option Told) (s : Site) → regrown q reply seen s ≡ s) →
+  ended-does : (q : Request) (reply : Reply) → ((seen : Option Told) → retold q reply seen ≡ None) →
+      ((rs : List Record) (s : Option Session) → resession rs q reply s ≡ s) → ((seen : Option Told) (s : Site) → regrown q reply seen s ≡ s) →
       Does site n q (without_txn_of n site, reply)
   ended-does q reply tells keeps records = record {
     grows = inl refl;
@@ -216,7 +225,8 @@ module _ (site : Site) (n : ℕ) where
 
   module _ (flags : EndFlags) (k : ℕ) where
     -- the record is as the actor's lines and the reply tell
-    recorded : (t : Txn) → entry_of n site.txns ≡ Some t → (r : Record) → r.writes ≡ writes_of t → (seen : Option Told) → Tells site.dag (entry_of n site.txns) seen →
+    recorded : (t : Txn) → entry_of n site.txns ≡ Some t → (r : Record) → r.writes ≡ writes_of t → (seen : Option Told) →
+        Tells site.dag (entry_of n site.txns) seen →
         with_record r (bare site) ≡ regrown (Commit flags k) (Committed r.id r.parents) seen (bare site)
     recorded t there r writes None h = absurd (subst (λ o. Tells site.dag o None) there h)
     recorded t there r writes (Some u) h =
@@ -255,7 +265,8 @@ module _ (site : Site) (n : ℕ) where
     single-does : (t : SingleTxn) → entry_of n site.txns ≡ Some (Single t) → Does site n (Commit flags k) (commit_single site n t flags k)
     single-does t there = go t.writes
       where
-        go : (ws : List KeyWrite) → Does site n (Commit flags k) (elim ws as (λ v. Answer) [ [] ↦ (without_txn_of n site, Ended t.state) | w ∷ vs ↦ commit_writes site n t flags k ])
+        go : (ws : List KeyWrite) → Does site n (Commit flags k)
+            (elim ws as (λ v. Answer) [ [] ↦ (without_txn_of n site, Ended t.state) | w ∷ vs ↦ commit_writes site n t flags k ])
         go [] = ended-does (Commit flags k) (Ended t.state) (λ seen. refl) (λ rs s. refl) (λ seen rs. refl)
         go (w ∷ ws) = commit_at-does t there (landing site.dag (guarded flags t.reads (keys_of t.writes)) t.state)
 

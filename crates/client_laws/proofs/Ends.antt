@@ -46,7 +46,8 @@ module _ (site : Site) (n : ℕ) (flags : EndFlags) (k : ℕ) where
   refused-ends : (refusal : Refusal) → TellsEnd site n (site, Refused refusal)
   refused-ends refusal = record { told = λ x e. absurd (cc) }
 
-  below-ends : (parents : List StateId) (writes : List KeyWrite) (refusals : List (Option Reply)) → OnlyRefuse refusals → TellsEnd site n (commit_below site n parents writes refusals)
+  below-ends : (parents : List StateId) (writes : List KeyWrite) (refusals : List (Option Reply)) → OnlyRefuse refusals →
+      TellsEnd site n (commit_below site n parents writes refusals)
   below-ends parents writes refusals only =
       let r = next_record site parents writes in
       let over = own_count site == 4294967295 in
@@ -104,7 +105,8 @@ readers-end-where-they-read start older n flags k x run =
 record TellsTaken (site : Site) (r : Record) (answer : Answer) : Type 0 where
   taken : answer.1 ≡ Applied → answer.0.dag ≡ r ∷ site.dag
 
-unless-taken : (site : Site) (r : Record) (replies : List (Option Reply)) (answer : Answer) → AreNoTaking replies → TellsTaken site r answer → TellsTaken site r (unless site replies answer)
+unless-taken : (site : Site) (r : Record) (replies : List (Option Reply)) (answer : Answer) → AreNoTaking replies → TellsTaken site r answer →
+    TellsTaken site r (unless site replies answer)
 unless-taken site r [] answer none h = h
 unless-taken site r (None ∷ more) answer none h = unless-taken site r more answer none h
 unless-taken site r (Some reply ∷ more) answer none h = record { taken = λ e. absurd (none.0 e) }
@@ -119,7 +121,8 @@ step-takes site n r =
     (record { taken = λ e. refl }) in
     record {
       taken = λ e.
-          cond_both (says_early answer.1) (with_held r answer.0) answer.0 (λ (next : Site). next.dag ≡ r ∷ site.dag) (λ early. taken.taken e) (λ late. taken.taken e);
+          cond_both (says_early answer.1) (with_held r answer.0) answer.0 (λ (next : Site). next.dag ≡ r ∷ site.dag) (λ early. taken.taken e)
+          (λ late. taken.taken e);
     }
 
 pub deliveries-are-kept : DeliveriesAreKept step
@@ -138,7 +141,8 @@ deliveries-are-kept start newer older n r run =
 record TellsSettled (site : Site) (answer : Answer) : Type 0 where
   settled : answer.1 ≡ Applied → (found : ℕ × Record) × (first_fit_record site ≡ Some found) × (answer.0.dag ≡ found.1 ∷ site.dag)
 
-unless-settled : (site : Site) (replies : List (Option Reply)) (answer : Answer) → AreNoTaking replies → TellsSettled site answer → TellsSettled site (unless site replies answer)
+unless-settled : (site : Site) (replies : List (Option Reply)) (answer : Answer) → AreNoTaking replies → TellsSettled site answer →
+    TellsSettled site (unless site replies answer)
 unless-settled site [] answer none h = h
 unless-settled site (None ∷ more) answer none h = unless-settled site more answer none h
 unless-settled site (Some reply ∷ more) answer none h = record { settled = λ e. absurd (none.0 e) }

@@ -70,7 +70,8 @@ module _ (read : RequestsHaveOneSpelling) where
     pub are : IsLineOf event bytes lines
 
   reply-wants-none : (site : Site) (n : ℕ) (q : Request) → IsFalse (wants_memory (step site n q).1)
-  reply-wants-none site n q = false_from_ne_true (wants_memory (step site n q).1) (λ wants. never-wants-memory.reply site n q (wanting-is (step site n q).1 wants))
+  reply-wants-none site n q = false_from_ne_true (wants_memory (step site n q).1)
+      (λ wants. never-wants-memory.reply site n q (wanting-is (step site n q).1 wants))
 
   stepped : (site : Site) (n : ℕ) (bytes reply : List ℕ) → IsTrue (is_u16 n) → reply ≡ site_machine.reply site (n, bytes) →
       LinesFrom site (site_machine.step site (n, bytes)) (n, bytes) reply
@@ -106,7 +107,8 @@ module _ (read : RequestsHaveOneSpelling) where
     pub leads : site_after step site lines ≡ last
     pub are : AreLinesOf events replies lines
 
-  joined : (site next last : Site) (event : Event) (events : List Event) (bytes : List ℕ) (replies : List (List ℕ)) → LinesFrom site next event bytes → RunFrom next last events replies →
+  joined : (site next last : Site) (event : Event) (events : List Event) (bytes : List ℕ) (replies : List (List ℕ)) → LinesFrom site next event bytes →
+      RunFrom next last events replies →
       RunFrom site last (event ∷ events) (bytes ∷ replies)
   joined site next last event events bytes replies one more = record {
     lines = more.lines ++ one.lines;

@@ -16,7 +16,8 @@ use Rattle.plain_site.specs.Site.{Site, Txn, opening, read_states}
 use Rattle.plain_site.specs.Step.{step}
 use Rattle.plain_site.specs.Sound.{IsSound}
 use Rattle.plain_site.specs.RowWords.{Line}
-use Rattle.plain_site.specs.ClientRuns.{wants_memory, after_line, site_after, is_asked, IsAnswered, AreAnswered, IsRun, retold, told, regrown, told_site, history, resession, told_session}
+use Rattle.plain_site.specs.ClientRuns.{wants_memory, after_line, site_after, is_asked, IsAnswered, AreAnswered, IsRun, retold, told, regrown, told_site}
+use Rattle.plain_site.specs.ClientRuns.{history, resession, told_session}
 use Rattle.plain_site.specs.ClientLaws.{HistoryIsTold}
 use Rattle.plain_site.proofs.SoundBooks.{at-each}
 use Rattle.plain_site.proofs.SoundOpening.{opening-is-sound}
@@ -45,7 +46,8 @@ newest-is-next [] r dag more = absurd (dag)
 newest-is-next (s ∷ rs) r dag more = more.0
 
 -- what stays as records arrive is so in a later history
-pub stays-later : (P : List Record → Type 0) (rs next : List Record) → Later rs next → IsDag rs → IsDag next → ((r : Record) → Fits rs r → P rs → P (r ∷ rs)) → P rs → P next
+pub stays-later : (P : List Record → Type 0) (rs next : List Record) → Later rs next → IsDag rs → IsDag next →
+    ((r : Record) → Fits rs r → P rs → P (r ∷ rs)) → P rs → P next
 stays-later P rs next (inl e) dag more step h = subst P (sym e) h
 stays-later P rs next (inr (r, e)) dag more step h =
     subst P (sym e) (step r (next-fits rs r (newest-is-next rs r dag (subst IsDag e more))) h)
@@ -53,10 +55,12 @@ stays-later P rs next (inr (r, e)) dag more step h =
 -- ===== What one line tells
 
 told-here : (line : Line) (older : List Line) → told line.actor (line ∷ older) ≡ retold line.request line.reply (told line.actor older)
-told-here line older = cond-true (line.actor == line.actor) (retold line.request line.reply (told line.actor older)) (told line.actor older) (eq-eqb line.actor line.actor refl)
+told-here line older = cond-true (line.actor == line.actor) (retold line.request line.reply (told line.actor older)) (told line.actor older)
+    (eq-eqb line.actor line.actor refl)
 
 told-other : (line : Line) (older : List Line) (m : ℕ) → (m ≡ line.actor → ⊥) → told m (line ∷ older) ≡ told m older
-told-other line older m differ = cond-false (line.actor == m) (retold line.request line.reply (told m older)) (told m older) (ne_eqb line.actor m (λ e. differ (sym e)))
+told-other line older m differ = cond-false (line.actor == m) (retold line.request line.reply (told m older)) (told m older)
+    (ne_eqb line.actor m (λ e. differ (sym e)))
 
 -- ===== One line
 
@@ -66,16 +70,19 @@ wanting-is reply t = absurd (cc)
 
 module _ (start : Site) where
   module _ (line : Line) (older : List Line) (h : Holds start (site_after step start older) older) where
-    session-here : (rs : List Record) → rs ≡ history start (line ∷ older) → told_session start line.actor (line ∷ older) ≡ resession rs line.request line.reply (told_session start line.actor older)
+    session-here : (rs : List Record) → rs ≡ history start (line ∷ older) → told_session start line.actor (line ∷ older)
+        ≡ resession rs line.request line.reply (told_session start line.actor older)
     session-here rs e =
         let before = told_session start line.actor older in
-        cond-true (line.actor == line.actor) (resession (history start (line ∷ older)) line.request line.reply before) before (eq-eqb line.actor line.actor refl)
+        cond-true (line.actor == line.actor) (resession (history start (line ∷ older)) line.request line.reply before) before
+        (eq-eqb line.actor line.actor refl)
         ∙ ap (λ qs. resession qs line.request line.reply before) (sym e)
 
     session-other : (m : ℕ) → (m ≡ line.actor → ⊥) → told_session start m (line ∷ older) ≡ told_session start m older
     session-other m differ =
         let before = told_session start m older in
-        cond-false (line.actor == m) (resession (history start (line ∷ older)) line.request line.reply before) before (ne_eqb line.actor m (λ e. differ (sym e)))
+        cond-false (line.actor == m) (resession (history start (line ∷ older)) line.request line.reply before) before
+        (ne_eqb line.actor m (λ e. differ (sym e)))
 
     -- memory was wanting, and nothing was done
     holds-wanting : IsTrue (wants_memory line.reply) → Holds start (site_after step start older) (line ∷ older)
@@ -100,12 +107,14 @@ module _ (start : Site) where
               at-each (λ i. entry_of i site.sessions ≡ told_session start i (line ∷ older)) n
               (h.session n
               ∙ sym (session-here site.dag same
-              ∙ (ap (λ r. resession site.dag line.request r (told_session start n older)) e ∙ wanting-leaves-session line.request site.dag (told_session start n older))))
+              ∙ (ap (λ r. resession site.dag line.request r (told_session start n older)) e
+              ∙ wanting-leaves-session line.request site.dag (told_session start n older))))
               (λ i differ. h.session i ∙ sym (session-other i differ));
         }
 
     -- an open transaction reads at known states
-    open-is-known : (i : ℕ) (t : Txn) → entry_of i (site_after step start older).txns ≡ Some t → IsTrue (list_all (is_known (site_after step start older).dag) (read_states t))
+    open-is-known : (i : ℕ) (t : Txn) → entry_of i (site_after step start older).txns ≡ Some t →
+        IsTrue (list_all (is_known (site_after step start older).dag) (read_states t))
     open-is-known i t e = (h.sound.each_txn i t e).2.known
 
     -- the site answered
@@ -131,7 +140,8 @@ module _ (start : Site) where
           dag = same;
           txn =
               at-each (λ i. Tells next.dag (entry_of i next.txns) (told i (line ∷ older))) n
-              (subst (Tells next.dag (entry_of n next.txns)) (sym (told-here line older ∙ ap (λ r. retold line.request r (told n older)) e)) (does.txn (told n older) (before n)))
+              (subst (Tells next.dag (entry_of n next.txns)) (sym (told-here line older ∙ ap (λ r. retold line.request r (told n older)) e))
+              (does.txn (told n older) (before n)))
               (λ i differ.
               subst (λ o. Tells next.dag o (told i (line ∷ older))) (sym (does.other_txns i differ))
               (subst (Tells next.dag (entry_of i site.txns)) (sym (told-other line older i differ)) (before i)));

@@ -31,7 +31,8 @@ use Rattle.plain_site.specs.Site.{Site, Txn, Single, Merge, read_states, writes_
 use Rattle.plain_site.specs.Step.{step}
 use Rattle.plain_site.specs.RowWords.{Line, ◌asks◌=>◌}
 use Rattle.plain_site.specs.ClientRuns.{wants_memory, after_line, site_after, history, IsRun, Told, told, told_session}
-use Rattle.plain_site.specs.ClientLaws.{DoneCommit, as_line, CommitsAreKept, CommitsAreShown, OtherKeysAreJoined, CommitsJoinWhatTheyRead, ParentReadsTheLastCommit, AncestorReadsTheLastCommit, AnyReadsTheLastCommit, SessionsStayUnderCeilings}
+use Rattle.plain_site.specs.ClientLaws.{DoneCommit, as_line, CommitsAreKept, CommitsAreShown, OtherKeysAreJoined, CommitsJoinWhatTheyRead}
+use Rattle.plain_site.specs.ClientLaws.{ParentReadsTheLastCommit, AncestorReadsTheLastCommit, AnyReadsTheLastCommit, SessionsStayUnderCeilings}
 use Rattle.client_laws.proofs.Records.{record-of-newest, record-stays, shown-below, joined, no-conflict}
 use Rattle.client_laws.proofs.Tellings.{is_merge}
 use Rattle.client_laws.proofs.EffectsOfSites.{step-does}
@@ -53,7 +54,8 @@ older-run start [] older run = run
 older-run start (line ∷ newer) older run = older-run start newer older (run-before start line (newer ++ older) run)
 
 -- what stays as records arrive stays with newer lines
-pub keeps-on : (P : List Record → Type 0) → ((rs : List Record) (r : Record) → IsDag rs → Fits rs r → P rs → P (r ∷ rs)) → (start : Site) (newer older : List Line) →
+pub keeps-on : (P : List Record → Type 0) → ((rs : List Record) (r : Record) → IsDag rs → Fits rs r → P rs → P (r ∷ rs)) →
+    (start : Site) (newer older : List Line) →
     IsRun step start (newer ++ older) → P (dag_after start older) → P (dag_after start (newer ++ older))
 keeps-on P stays start [] older run h = h
 keeps-on P stays start (line ∷ newer) older run h =
@@ -74,7 +76,8 @@ its-record start older d run =
     subst (λ rs. record_at rs d.state ≡ Some r) (sym c.grown) (record-of-newest (dag_after start older) r) in
     (u.0, u.1, newest ∙ ap (λ (ws : List KeyWrite). Some (record r { writes = ws })) (sym u.2.writes))
 
-record-is-kept : (start : Site) (newer older : List Line) (d : DoneCommit) → IsRun step start (newer ++ as_line d ∷ older) → (t : Told) × (told d.actor older ≡ Some t)
+record-is-kept : (start : Site) (newer older : List Line) (d : DoneCommit) → IsRun step start (newer ++ as_line d ∷ older) → (t : Told)
+    × (told d.actor older ≡ Some t)
     × (record_at (dag_after start (newer ++ as_line d ∷ older)) d.state ≡ Some (record { id = d.state; parents = d.parents; writes = t.writes }))
 record-is-kept start newer older d run =
     let own = its-record start older d (older-run start newer (as_line d ∷ older) run) in
@@ -87,7 +90,8 @@ commits-are-kept start newer older d run =
     let r : Record = record { id = d.state; parents = d.parents; writes = kept.0.writes } in
     (kept.0, kept.1, subst (λ rs. record_at rs d.state ≡ Some r) (dag-is-told start (newer ++ as_line d ∷ older) run) kept.2)
 
-pub told-record : (start : Site) (newer older : List Line) (d : DoneCommit) (t : Told) → IsRun step start (newer ++ as_line d ∷ older) → told d.actor older ≡ Some t →
+pub told-record : (start : Site) (newer older : List Line) (d : DoneCommit) (t : Told) → IsRun step start (newer ++ as_line d ∷ older) → told d.actor older
+    ≡ Some t →
     record_at (dag_after start (newer ++ as_line d ∷ older)) d.state ≡ Some (record { id = d.state; parents = d.parents; writes = t.writes })
 told-record start newer older d t run e =
     let kept = record-is-kept start newer older d run in
@@ -125,7 +129,8 @@ below-parent : (rs : List Record) (r : Record) (p s : StateId) → r.parents ≡
 below-parent rs r p s e above =
     above-by-parent rs r s p r.id (same_id_self r.id) (subst (λ (ps : List StateId). IsTrue (is_among p ps)) (sym e) (among-first p [])) above
 
-joins-reads : (rs : List Record) → IsDag rs → (flags : EndFlags) (t : Txn) (x : StateId) (parents : List StateId) → IsTrue (list_all (is_known rs) (read_states t)) →
+joins-reads : (rs : List Record) → IsDag rs → (flags : EndFlags) (t : Txn) (x : StateId) (parents : List StateId) →
+    IsTrue (list_all (is_known rs) (read_states t)) →
     IsPlaced rs flags t parents →
     IsTrue (are_above (record { id = x; parents = parents; writes = writes_of t } ∷ rs) (read_states t) x) × (IsTrue (is_merge t) → parents ≡ read_states t)
 joins-reads rs dag flags (Single t) x parents known placed =
@@ -165,7 +170,8 @@ commits-join-what-they-read start newer older d t run e =
     subst (λ qs. IsTrue (is_known qs d.state) × IsTrue (are_above qs t.states d.state)) (sym c.grown)
     (newest-is-known rs r, subst (λ xs. IsTrue (are_above (r ∷ rs) xs d.state)) states j.0) in (
       subst (λ qs. IsTrue (are_above qs t.states d.state)) (dag-is-told start (newer ++ line ∷ older) run)
-          (keeps-on (λ qs. IsTrue (is_known qs d.state) × IsTrue (are_above qs t.states d.state)) (above-stay d.state t.states) start newer (line ∷ older) run at).1,
+          (keeps-on (λ qs. IsTrue (is_known qs d.state) × IsTrue (are_above qs t.states d.state)) (above-stay d.state t.states) start newer
+          (line ∷ older) run at).1,
       λ m. j.1 (sym merges ∙ m) ∙ states,
     )
 
@@ -173,7 +179,8 @@ commits-join-what-they-read start newer older d t run e =
 
 -- a transaction begins where it is told to, by the session's last commit, and not above its ceiling
 begun-at : (b : Begin) (start : Site) (older : List Line) (n : ℕ) (x : StateId) → IsRun step start (n asks BeginAt b => Begun x ∷ older) →
-    (s : Session) × (told_session start n older ≡ Some s) × (begin_state (history start older) s.last b ≡ x) × IsTrue (is_admitted (history start older) s.ceiling x)
+    (s : Session) × (told_session start n older ≡ Some s) × (begin_state (history start older) s.last b ≡ x)
+    × IsTrue (is_admitted (history start older) s.ceiling x)
 begun-at b start older n x run =
     let site = site_after step start older in
     let line = n asks BeginAt b => Begun x in

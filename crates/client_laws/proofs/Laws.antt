@@ -30,12 +30,14 @@ use Rattle.client_laws.proofs.Commits.{IsPlaced, IsCommit, step-tells-commit}
 
 -- ===== What is told of an open transaction
 
-pub tells-seen : (rs : List Record) (o : Option Txn) (seen : Option Told) (t : Txn) → o ≡ Some t → Tells rs o seen → (u : Told) × (seen ≡ Some u) × IsTold rs t u
+pub tells-seen : (rs : List Record) (o : Option Txn) (seen : Option Told) (t : Txn) → o ≡ Some t → Tells rs o seen → (u : Told) × (seen ≡ Some u)
+    × IsTold rs t u
 tells-seen rs None seen t e h = absurd (none-some t e)
 tells-seen rs (Some s) None t e h = absurd (h)
 tells-seen rs (Some s) (Some u) t e h = (u, refl, subst (λ z. IsTold rs z u) (same_Some s t e) h)
 
-pub tells-open : (rs : List Record) (o : Option Txn) (seen : Option Told) (u : Told) → seen ≡ Some u → Tells rs o seen → (t : Txn) × (o ≡ Some t) × IsTold rs t u
+pub tells-open : (rs : List Record) (o : Option Txn) (seen : Option Told) (u : Told) → seen ≡ Some u → Tells rs o seen → (t : Txn) × (o ≡ Some t)
+    × IsTold rs t u
 tells-open rs o None u e h = absurd (none-some u e)
 tells-open rs None (Some v) u e h = absurd (h)
 tells-open rs (Some t) (Some v) u e h = (t, refl, subst (IsTold rs t) (same_Some v u e) h)
@@ -45,7 +47,8 @@ has-key-among k [] = refl
 has-key-among k (w ∷ ws) = ap (λ b. bytes_eq k w.0 || b) (has-key-among k ws)
 
 -- the reply of a line that was answered is the step's, unless memory was wanting
-pub was-answered : (site : Site) (line : Line) → IsAnswered step site line → IsFalse (wants_memory line.reply) → line.reply ≡ (step site line.actor line.request).1
+pub was-answered : (site : Site) (line : Line) → IsAnswered step site line → IsFalse (wants_memory line.reply) →
+    line.reply ≡ (step site line.actor line.request).1
 was-answered site line (inl e) f = e
 was-answered site line (inr wants) f = absurd (cc)
 
@@ -56,7 +59,8 @@ reads-one-snapshot start lines n t run e =
     let h = run-holds start lines run in
     let site = site_after step start lines in
     let open_there = tells-open site.dag (entry_of n site.txns) (told n lines) t e (h.txn n) in
-    subst (λ rs. ReadsShow (value_over rs t.states) t.reads) h.dag (subst (λ xs. ReadsShow (value_over site.dag xs) t.reads) (sym open_there.2.states) open_there.2.shown)
+    subst (λ rs. ReadsShow (value_over rs t.states) t.reads) h.dag
+    (subst (λ xs. ReadsShow (value_over site.dag xs) t.reads) (sym open_there.2.states) open_there.2.shown)
 
 pub reads-at-its-state : ReadsAtItsState step
 reads-at-its-state start lines n t s run e at =
@@ -71,7 +75,8 @@ module _ (start : Site) (older : List Line) (d : DoneCommit)
   pub before : Holds start (site_after step start older) older
   before = run-holds start older (run-before start (as_line d) older run)
 
-  pub is-commit : IsCommit (site_after step start older) d.actor d.flags (step (site_after step start older) d.actor (Commit d.flags d.k)).0.dag d.state d.parents
+  pub is-commit : IsCommit (site_after step start older) d.actor d.flags (step (site_after step start older) d.actor (Commit d.flags d.k)).0.dag d.state
+      d.parents
   is-commit =
       (step-tells-commit (site_after step start older) d.actor d.flags d.k).told d.state d.parents
       (sym (was-answered (site_after step start older) (as_line d) run.answered.1 refl))
@@ -91,7 +96,8 @@ not-si : {P : Type 0} (flags : EndFlags) → flags.0 ≡ 0 → IsTrue (is_si fla
 not-si flags e si = let none : IsTrue (bit_and 0 2 == 2) = subst (λ bits. IsTrue (bit_and bits 2 == 2)) e si in absurd (cc)
 
 -- what was read at the read state is read at the landing
-single-holds : (rs : List Record) → IsDag rs → (flags : EndFlags) (t : SingleTxn) (u : Told) → IsTrue (is_known rs t.state) → IsTrue (is_ser flags) → IsTold rs (Single t) u →
+single-holds : (rs : List Record) → IsDag rs → (flags : EndFlags) (t : SingleTxn) (u : Told) → IsTrue (is_known rs t.state) → IsTrue (is_ser flags) →
+    IsTold rs (Single t) u →
     ReadsShow (λ key. read rs key (landing rs (guarded flags t.reads (keys_of t.writes)) t.state)) u.reads
 single-holds rs dag flags t u known ser h =
     let c = true-commit rs flags t.reads (keys_of t.writes) t.state dag known in
@@ -135,7 +141,8 @@ abbrev NothingUnseen : List Record → List KeyWrite → StateId → StateId →
 NothingUnseen rs writes s p = (key : List ℕ) (w : StateId) → IsTrue (has_key key writes) → IsTrue (is_writer rs key p w) → IsTrue (is_above rs w s)
 
 si-holds : (rs : List Record) → IsDag rs → (flags : EndFlags) (t : Txn) (parents : List StateId) (u : Told) → IsTrue (list_all (is_known rs) (read_states t)) →
-    IsTrue (is_si flags) → IsPlaced rs flags t parents → IsTold rs t u → (s : StateId) × (p : StateId) × (u.states ≡ s ∷ []) × (parents ≡ p ∷ []) × ReadsShow (λ key. read rs key s) u.reads × NothingUnseen rs u.writes s p
+    IsTrue (is_si flags) → IsPlaced rs flags t parents → IsTold rs t u → (s : StateId) × (p : StateId) × (u.states ≡ s ∷ []) × (parents ≡ p ∷ [])
+    × ReadsShow (λ key. read rs key s) u.reads × NothingUnseen rs u.writes s p
 si-holds rs dag flags (Single t) parents u known si placed h =
     let c = true-commit rs flags t.reads (keys_of t.writes) t.state dag (and_parts (is_known rs t.state) true known).0 in (
       t.state,

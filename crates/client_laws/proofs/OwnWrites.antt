@@ -69,7 +69,8 @@ own-writes-are-read start older n key w reply t run e writes h =
 
 -- where a value is shown, it is what is read at one of the states of the actor's merge
 record ShowsSide (site : Site) (n : ℕ) (k : List ℕ) (x : StateId) (answer : Answer) : Type 0 where
-  side : IsTrue (is_shown answer.1) → (t : MergeTxn) × (entry_of n site.txns ≡ Some (Merge t)) × IsTrue (is_among x t.states) × (answer.1 ≡ found (read site.dag k x))
+  side : IsTrue (is_shown answer.1) → (t : MergeTxn) × (entry_of n site.txns ≡ Some (Merge t)) × IsTrue (is_among x t.states)
+      × (answer.1 ≡ found (read site.dag k x))
 
 not-false : (b : Bool) → IsFalse (not b) → IsTrue b
 not-false true f = refl
@@ -83,7 +84,8 @@ module _ (site : Site) (n : ℕ) (k : List ℕ) (x : StateId) where
   get-for-shows (Single t) there = refused-side WrongMode
   get-for-shows (Merge t) there =
       let other = not (is_among x t.states) in
-      unless-none (ShowsSide site n k x) site (refuse other (NotRead x) ∷ []) (site, found (read site.dag k x)) (refuse-only other (NotRead x) [] tt) refused-side
+      unless-none (ShowsSide site n k x) site (refuse other (NotRead x) ∷ []) (site, found (read site.dag k x)) (refuse-only other (NotRead x) [] tt)
+      refused-side
       (λ none.
       let among = not-false (is_among x t.states) (when-none other (Refused (NotRead x)) (none-parts (refuse other (NotRead x)) [] none).0) in
       record { side = λ h. (t, there, among, refl) })

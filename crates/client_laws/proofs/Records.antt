@@ -105,7 +105,8 @@ record-writes (r ∷ rs) k x q e has = elim (cases_Bool (same_id x r.id)) [
 -- ===== What it wrote
 
 -- where its state is the latest writer, what it wrote is read
-pub latest-is-read : (rs : List Record) → IsDag rs → (k : List ℕ) (y x : StateId) (q : Record) (w : Write) → record_at rs x ≡ Some q → write_of k q.writes ≡ Some w →
+pub latest-is-read : (rs : List Record) → IsDag rs → (k : List ℕ) (y x : StateId) (q : Record) (w : Write) → record_at rs x ≡ Some q → write_of k q.writes
+    ≡ Some w →
     IsLatestWriter rs k y x → read rs k y ≡ Some (x, w)
 latest-is-read rs dag k y x q w e writes l =
     let u = latest-is-found rs k y x l in
@@ -116,7 +117,8 @@ latest-is-read rs dag k y x q w e writes l =
     ap (option_and_then (version_at rs k)) (u.1 ∙ ap (λ z. Some z) same) ∙ written
 
 -- at a state at or below it that no state below it wrote over
-pub shown-below : (rs : List Record) → IsDag rs → (k : List ℕ) (x y : StateId) (q : Record) (w : Write) → record_at rs x ≡ Some q → write_of k q.writes ≡ Some w →
+pub shown-below : (rs : List Record) → IsDag rs → (k : List ℕ) (x y : StateId) (q : Record) (w : Write) → record_at rs x ≡ Some q → write_of k q.writes
+    ≡ Some w →
     IsTrue (is_known rs y) → IsTrue (is_above rs x y) → ((z : StateId) → IsTrue (is_proper_ancestor rs x z) → IsTrue (is_writer rs k y z) → ⊥) →
     read rs k y ≡ Some (x, w)
 shown-below rs dag k x y q w e writes known above none =
@@ -130,7 +132,8 @@ shown-below rs dag k x y q w e writes known above none =
     ]
 
 -- at its own state
-pub own-is-read : (rs : List Record) → IsDag rs → (k : List ℕ) (x : StateId) (q : Record) (w : Write) → record_at rs x ≡ Some q → write_of k q.writes ≡ Some w → read rs k x ≡ Some (x, w)
+pub own-is-read : (rs : List Record) → IsDag rs → (k : List ℕ) (x : StateId) (q : Record) (w : Write) → record_at rs x ≡ Some q → write_of k q.writes
+    ≡ Some w → read rs k x ≡ Some (x, w)
 own-is-read rs dag k x q w e writes =
     let key = record-writes rs k x q e (write-has-key k q.writes w writes) in
     latest-is-read rs dag k x x q w e writes
@@ -155,7 +158,8 @@ joined (r ∷ rs) dag k x q e lacks =
       | inl t ↦
           let same = same_Some r q (sym (record-newest rs r x t) ∙ e) in
           let at : read (r ∷ rs) k r.id ≡ value_over (r ∷ rs) r.parents k =
-          newest-joins rs r g.0 g.1 k (ap (λ (p : Record). has_key k p.writes) same ∙ lacks) dag ∙ sym (value-over-stays rs r g.0 g.1 k r.parents g.0.parents) in
+          newest-joins rs r g.0 g.1 k (ap (λ (p : Record). has_key k p.writes) same ∙ lacks) dag
+          ∙ sym (value-over-stays rs r g.0 g.1 k r.parents g.0.parents) in
           ap (read (r ∷ rs) k) (same_id-true x r.id t) ∙ (at ∙ ap (λ (p : Record). value_over (r ∷ rs) p.parents k) same)
       | inr f ↦
           let before = sym (record-older rs r x f) ∙ e in
@@ -186,9 +190,11 @@ root-has-record : (rs : List Record) → IsDag rs → record_at rs root ≡ Some
 root-has-record [] dag = absurd (dag)
 root-has-record (r ∷ []) dag = subst (λ (p : Record). record_at (p ∷ []) root ≡ Some root_record) (sym dag) refl
 root-has-record (r ∷ s ∷ rs) dag =
-    record-older (s ∷ rs) r root (known-isnt-newest (s ∷ rs) r root (next-fits (s ∷ rs) r dag.0) (root-is-known (s ∷ rs) dag.1)) ∙ root-has-record (s ∷ rs) dag.1
+    record-older (s ∷ rs) r root (known-isnt-newest (s ∷ rs) r root (next-fits (s ∷ rs) r dag.0) (root-is-known (s ∷ rs) dag.1))
+    ∙ root-has-record (s ∷ rs) dag.1
 
-pub branch-is-read : (rs : List Record) → IsDag rs → (k : List ℕ) (branch : List Record) (x : StateId) → IsBranch rs branch x → read rs k x ≡ one_after_another branch k
+pub branch-is-read : (rs : List Record) → IsDag rs → (k : List ℕ) (branch : List Record) (x : StateId) → IsBranch rs branch x →
+    read rs k x ≡ one_after_another branch k
 branch-is-read rs dag k [] x e = ap (read rs k) e ∙ joined rs dag k root root_record (root-has-record rs dag) refl
 branch-is-read rs dag k (r ∷ branch) x h = go (branch-is-read rs dag k branch h.0 h.3) (write_of k r.writes) refl
   where

@@ -25,7 +25,8 @@ use Rattle.client_laws.proofs.Kept.{keeps-on, older-run, told-record}
 abbrev IsReadAs : List ℕ → StateId → Option (StateId × Write) → List Record → Type 0
 IsReadAs key p v rs = IsTrue (is_known rs p) × (read rs key p ≡ v)
 
-read-stays-so : (key : List ℕ) (p : StateId) (v : Option (StateId × Write)) (rs : List Record) (r : Record) → IsDag rs → Fits rs r → IsReadAs key p v rs → IsReadAs key p v (r ∷ rs)
+read-stays-so : (key : List ℕ) (p : StateId) (v : Option (StateId × Write)) (rs : List Record) (r : Record) → IsDag rs → Fits rs r → IsReadAs key p v rs →
+    IsReadAs key p v (r ∷ rs)
 read-stays-so key p v rs r dag f h = (known-stays rs r p h.0, read-stays rs r f (dag-grows rs dag) key p h.0 ∙ h.1)
 
 same-parent : (p q : StateId) → ◌≡◌ {A = List StateId} (p ∷ []) (q ∷ []) → p ≡ q
@@ -41,7 +42,8 @@ read-after start newer older line key p run known =
     (keeps-on (IsReadAs key p v) (read-stays-so key p v) start newer (line ∷ older) run next).1
 
 -- what a serializable transaction read is what is read for good at the parent of its state
-read-at-parent : (start : Site) (newer older : List Line) (d : DoneCommit) (r : Record) (t : Told) (q : StateId) → IsRun step start (newer ++ as_line d ∷ older) →
+read-at-parent : (start : Site) (newer older : List Line) (d : DoneCommit) (r : Record) (t : Told) (q : StateId) →
+    IsRun step start (newer ++ as_line d ∷ older) →
     told d.actor older ≡ Some t → IsTrue (is_ser d.flags) → record_at (dag_after start (newer ++ as_line d ∷ older)) d.state ≡ Some r → r.parents ≡ q ∷ [] →
     ReadsShow (λ key. read (dag_after start (newer ++ as_line d ∷ older)) key q) t.reads
 read-at-parent start newer older d r t q run e ser at one =
@@ -67,7 +69,8 @@ module _ (start : Site) (lines : List Line) (run : IsRun step start lines) where
             subst (λ ls. ReadsShow (λ key. read (dag_after start ls) key is_branch.0) t.reads) (sym made.2)
             (read-at-parent start made.0 made.1 d r t is_branch.0 (subst (IsRun step start) made.2 run) made.3 ser
             (subst (λ ls. record_at (dag_after start ls) d.state ≡ Some r) made.2 there) is_branch.2) in
-            shows-alike (λ key. read rs key is_branch.0) (one_after_another before) t.reads (λ key. branch-is-read rs dag key before is_branch.0 is_branch.3) reads,
+            shows-alike (λ key. read rs key is_branch.0) (one_after_another before) t.reads
+            (λ key. branch-is-read rs dag key before is_branch.0 is_branch.3) reads,
         serial-branch before is_branch.0 is_branch.3,
       )
 

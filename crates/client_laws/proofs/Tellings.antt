@@ -62,7 +62,8 @@ shows-kept-alike keys f g (got ∷ earlier) same kept h = (h.0 ∙ ap found (sam
 
 -- ===== A change, and a longer history
 
-pub tells-changed : (rs : List Record) (o next : Option Txn) (t u : Txn) (f : Told → Told) → o ≡ Some t → next ≡ Some u → ((seen : Told) → IsTold rs t seen → IsTold rs u (f seen)) →
+pub tells-changed : (rs : List Record) (o next : Option Txn) (t u : Txn) (f : Told → Told) → o ≡ Some t → next ≡ Some u →
+    ((seen : Told) → IsTold rs t seen → IsTold rs u (f seen)) →
     (seen : Option Told) → Tells rs o seen → Tells rs next (option_map f seen)
 tells-changed rs o next t u f e d change None h = absurd (subst (λ p. Tells rs p None) e h)
 tells-changed rs o next t u f e d change (Some seen) h = subst (λ p. Tells rs p (Some (f seen))) (sym d) (change seen (subst (λ p. Tells rs p (Some seen)) e h))

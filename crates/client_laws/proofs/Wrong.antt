@@ -20,8 +20,17 @@ use Rattle.plain_dag.specs.Writers.{is_writer, read}
 use Rattle.plain_dag.specs.Floors.{Session}
 use Rattle.plain_site.specs.RowWords.{Line, lone_site, ◌·◌, ◌asks◌=>◌, put, none, ser, si, commit, merge_leaves, value}
 use Rattle.plain_site.specs.ClientRuns.{Service, IsRun, AreAnswered, Told, told, told_session, history, ReadsShow}
-use Rattle.plain_site.specs.ClientLaws.{DoneCommit, as_line, HistoryIsTold, SettledAreKept, ReadsOneSnapshot, ReadsAtItsState, ReadersEndWhereTheyRead, DeliveriesAreKept, SerializableReadsHold, BranchesAreSerial, SnapshotsOverwriteNothingUnseen, CommitsAreKept, CommitsAreShown, OtherKeysAreJoined, CommitsJoinWhatTheyRead, OwnWritesAreRead, ParentReadsTheLastCommit, AncestorReadsTheLastCommit, AnyReadsTheLastCommit, MergesShowEachSide, SessionsStayUnderCeilings, RefusalsHideNothing}
-use Rattle.plain_site.specs.WrongSteps.{IsBrokenBy, forgets_reads, forgets_constraints, reads_newest, forgets_own_writes, forgets_collected, leaves_conflicts, drops_sides, forgets_commits, shows_newest_side, stays_with_own, forked, other_branch_read, newest_missed, other_side_shown, forgets_ceilings, ends_refused, followed, read_above, ends_at_newest, forgets_deliveries, forgets_waiting, forgets_settled, came_early, settled_nothing, ended_elsewhere, begun_three, first_site, of_second_site, delivered, delivered_again, raced, begun_both, both_wrote, stale_read, lost_update, unstable_read, own_write_missed, own_commit_missed, refused_commit, commit_after_refusal, after_conflict, merging_both, written_again, collected, name_given_twice}
+use Rattle.plain_site.specs.ClientLaws.{DoneCommit, as_line, HistoryIsTold, SettledAreKept, ReadsOneSnapshot, ReadsAtItsState, ReadersEndWhereTheyRead}
+use Rattle.plain_site.specs.ClientLaws.{DeliveriesAreKept, SerializableReadsHold, BranchesAreSerial, SnapshotsOverwriteNothingUnseen, CommitsAreKept}
+use Rattle.plain_site.specs.ClientLaws.{CommitsAreShown, OtherKeysAreJoined, CommitsJoinWhatTheyRead, OwnWritesAreRead, ParentReadsTheLastCommit}
+use Rattle.plain_site.specs.ClientLaws.{AncestorReadsTheLastCommit, AnyReadsTheLastCommit, MergesShowEachSide, SessionsStayUnderCeilings, RefusalsHideNothing}
+use Rattle.plain_site.specs.WrongSteps.{IsBrokenBy, forgets_reads, forgets_constraints, reads_newest, forgets_own_writes, forgets_collected, leaves_conflicts}
+use Rattle.plain_site.specs.WrongSteps.{drops_sides, forgets_commits, shows_newest_side, stays_with_own, forked, other_branch_read, newest_missed}
+use Rattle.plain_site.specs.WrongSteps.{other_side_shown, forgets_ceilings, ends_refused, followed, read_above, ends_at_newest, forgets_deliveries}
+use Rattle.plain_site.specs.WrongSteps.{forgets_waiting, forgets_settled, came_early, settled_nothing, ended_elsewhere, begun_three, first_site}
+use Rattle.plain_site.specs.WrongSteps.{of_second_site, delivered, delivered_again, raced, begun_both, both_wrote, stale_read, lost_update, unstable_read}
+use Rattle.plain_site.specs.WrongSteps.{own_write_missed, own_commit_missed, refused_commit, commit_after_refusal, after_conflict, merging_both}
+use Rattle.plain_site.specs.WrongSteps.{written_again, collected, name_given_twice}
 
 -- lines of the only site that were answered are a run
 run-of : (service : Service) (lines : List Line) → AreAnswered service lone_site lines → IsRun service lone_site lines
@@ -41,7 +50,11 @@ abbrev of_one : Told
 of_one = record { merges = false; states = 0 · 0 ∷ []; reads = (codes "x", Absent) ∷ []; writes = (codes "y", Put (codes "1")) ∷ [] }
 
 stale-run : IsRun forgets_reads lone_site stale_read
-stale-run = run-of forgets_reads stale_read (refl, inl refl, (refl, inl refl, (refl, inl refl, (refl, inl refl, (refl, inl refl, (refl, inl refl, (refl, inl refl, (refl, inl refl, (refl, inl refl, tt)))))))))
+stale-run = run-of forgets_reads stale_read (
+  refl,
+  inl refl,
+  (refl, inl refl, (refl, inl refl, (refl, inl refl, (refl, inl refl, (refl, inl refl, (refl, inl refl, (refl, inl refl, (refl, inl refl, tt)))))))),
+)
 
 pub forgotten-reads-break : IsBrokenBy SerializableReadsHold forgets_reads
 forgotten-reads-break law =
@@ -64,7 +77,11 @@ forgotten-reads-break-branches law =
     absurd (cc)
 
 unstable-run : IsRun reads_newest lone_site unstable_read
-unstable-run = run-of reads_newest unstable_read (refl, inl refl, (refl, inl refl, (refl, inl refl, (refl, inl refl, (refl, inl refl, (refl, inl refl, (refl, inl refl, (refl, inl refl, (refl, inl refl, tt)))))))))
+unstable-run = run-of reads_newest unstable_read (
+  refl,
+  inl refl,
+  (refl, inl refl, (refl, inl refl, (refl, inl refl, (refl, inl refl, (refl, inl refl, (refl, inl refl, (refl, inl refl, (refl, inl refl, tt)))))))),
+)
 
 pub newest-reads-break-state : IsBrokenBy ReadsAtItsState reads_newest
 newest-reads-break-state law =
@@ -79,7 +96,11 @@ newest-reads-break law =
     absurd (cc)
 
 own-missed-run : IsRun forgets_own_writes lone_site own_write_missed
-own-missed-run = run-of forgets_own_writes own_write_missed (refl, inl refl, (refl, inl refl, (refl, inl refl, (refl, inl refl, (refl, inl refl, (refl, inl refl, (refl, inl refl, (refl, inl refl, (refl, inl refl, tt)))))))))
+own-missed-run = run-of forgets_own_writes own_write_missed (
+  refl,
+  inl refl,
+  (refl, inl refl, (refl, inl refl, (refl, inl refl, (refl, inl refl, (refl, inl refl, (refl, inl refl, (refl, inl refl, (refl, inl refl, tt)))))))),
+)
 
 pub forgotten-own-writes-break : IsBrokenBy OwnWritesAreRead forgets_own_writes
 forgotten-own-writes-break law =
@@ -87,7 +108,27 @@ forgotten-own-writes-break law =
     absurd (cc)
 
 ended-run : IsRun ends_at_newest lone_site ended_elsewhere
-ended-run = run-of ends_at_newest ended_elsewhere (refl, inl refl, (refl, inl refl, (refl, inl refl, (refl, inl refl, (refl, inl refl, (refl, inl refl, (refl, inl refl, (refl, inl refl, (refl, inl refl, (refl, inl refl, (refl, inl refl, (refl, inl refl, tt))))))))))))
+ended-run = run-of ends_at_newest ended_elsewhere (
+  refl,
+  inl refl,
+  (
+    refl,
+    inl refl,
+    (
+      refl,
+      inl refl,
+      (
+        refl,
+        inl refl,
+        (
+          refl,
+          inl refl,
+          (refl, inl refl, (refl, inl refl, (refl, inl refl, (refl, inl refl, (refl, inl refl, (refl, inl refl, (refl, inl refl, tt))))))),
+        ),
+      ),
+    ),
+  ),
+)
 
 pub moved-ends-break : IsBrokenBy ReadersEndWhereTheyRead ends_at_newest
 moved-ends-break law =
@@ -101,19 +142,34 @@ moved-ends-break law =
 -- ===== SI
 
 lost-run : IsRun forgets_constraints lone_site lost_update
-lost-run = run-of forgets_constraints lost_update (refl, inl refl, (refl, inl refl, (refl, inl refl, (refl, inl refl, (refl, inl refl, (refl, inl refl, (refl, inl refl, (refl, inl refl, (refl, inl refl, (refl, inl refl, tt))))))))))
+lost-run = run-of forgets_constraints lost_update (
+  refl,
+  inl refl,
+  (
+    refl,
+    inl refl,
+    (refl, inl refl, (refl, inl refl, (refl, inl refl, (refl, inl refl, (refl, inl refl, (refl, inl refl, (refl, inl refl, (refl, inl refl, tt)))))))),
+  ),
+)
 
 pub forgotten-constraints-break : IsBrokenBy SnapshotsOverwriteNothingUnseen forgets_constraints
 forgotten-constraints-break law =
     let h = law lone_site both_wrote (done 1 si (1 · 2) (1 · 1 ∷ [])) lost-run refl in
     let rs = history lone_site both_wrote in
-    let t : Told = record { merges = false; states = 0 · 0 ∷ []; reads = (codes "x", Absent) ∷ []; writes = (codes "x", Put (codes "1")) ∷ (codes "y", Put (codes "1")) ∷ [] } in
+    let t : Told = record {
+      merges = false;
+      states = 0 · 0 ∷ [];
+      reads = (codes "x", Absent) ∷ [];
+      writes = (codes "x", Put (codes "1"))
+          ∷ (codes "y", Put (codes "1")) ∷ [];
+    } in
     let it : told 1 both_wrote ≡ Some t = refl in
     let same : t ≡ h.0 = same_Some t h.0 (sym it ∙ h.3) in
     let at : h.2 ≡ 1 · 1 = same-parent (1 · 1) h.2 h.5 in
     let from : 0 · 0 ≡ h.1 = sym (same-parent (0 · 0) h.1 (ap (λ (u : Told). u.states) same ∙ h.4)) in
     let above : IsTrue (is_above rs (1 · 1) h.1) =
-    h.7 (codes "x") (1 · 1) (subst (λ (u : Told). IsTrue (has_key (codes "x") u.writes)) same refl) (subst (λ p. IsTrue (is_writer rs (codes "x") p (1 · 1))) (sym at) refl) in
+    h.7 (codes "x") (1 · 1) (subst (λ (u : Told). IsTrue (has_key (codes "x") u.writes)) same refl)
+    (subst (λ p. IsTrue (is_writer rs (codes "x") p (1 · 1))) (sym at) refl) in
     let none_above : IsTrue false = subst (λ s. IsTrue (is_above rs (1 · 1) s)) (sym from) above in
     absurd (cc)
 
@@ -147,7 +203,11 @@ forgotten-settled-break law =
     absurd (none-some h.0 none)
 
 collecting-run : IsRun forgets_collected lone_site (collected ++ as_line (done 1 none (1 · 2) (1 · 1 ∷ [])) ∷ written_again)
-collecting-run = run-of forgets_collected (collected ++ as_line (done 1 none (1 · 2) (1 · 1 ∷ [])) ∷ written_again) (refl, inl refl, (refl, inl refl, (refl, inl refl, (refl, inl refl, (refl, inl refl, (refl, inl refl, (refl, inl refl, (refl, inl refl, (refl, inl refl, tt)))))))))
+collecting-run = run-of forgets_collected (collected ++ as_line (done 1 none (1 · 2) (1 · 1 ∷ [])) ∷ written_again) (
+  refl,
+  inl refl,
+  (refl, inl refl, (refl, inl refl, (refl, inl refl, (refl, inl refl, (refl, inl refl, (refl, inl refl, (refl, inl refl, (refl, inl refl, tt)))))))),
+)
 
 pub forgotten-records-break-history : IsBrokenBy HistoryIsTold forgets_collected
 forgotten-records-break-history law =
@@ -156,7 +216,27 @@ forgotten-records-break-history law =
     absurd (omega arith)
 
 name-given-twice-run : IsRun forgets_collected lone_site (name_given_twice ++ as_line (done 1 none (1 · 2) (1 · 1 ∷ [])) ∷ written_again)
-name-given-twice-run = run-of forgets_collected (name_given_twice ++ as_line (done 1 none (1 · 2) (1 · 1 ∷ [])) ∷ written_again) (refl, inl refl, (refl, inl refl, (refl, inl refl, (refl, inl refl, (refl, inl refl, (refl, inl refl, (refl, inl refl, (refl, inl refl, (refl, inl refl, (refl, inl refl, (refl, inl refl, (refl, inl refl, tt))))))))))))
+name-given-twice-run = run-of forgets_collected (name_given_twice ++ as_line (done 1 none (1 · 2) (1 · 1 ∷ [])) ∷ written_again) (
+  refl,
+  inl refl,
+  (
+    refl,
+    inl refl,
+    (
+      refl,
+      inl refl,
+      (
+        refl,
+        inl refl,
+        (
+          refl,
+          inl refl,
+          (refl, inl refl, (refl, inl refl, (refl, inl refl, (refl, inl refl, (refl, inl refl, (refl, inl refl, (refl, inl refl, tt))))))),
+        ),
+      ),
+    ),
+  ),
+)
 
 pub forgotten-records-break : IsBrokenBy CommitsAreKept forgets_collected
 forgotten-records-break law =
@@ -168,7 +248,27 @@ forgotten-records-break law =
     absurd (omega arith)
 
 conflict-run : IsRun leaves_conflicts lone_site (after_conflict ++ as_line (done 2 none (1 · 1) (0 · 0 ∷ [])) ∷ begun_both)
-conflict-run = run-of leaves_conflicts (after_conflict ++ as_line (done 2 none (1 · 1) (0 · 0 ∷ [])) ∷ begun_both) (refl, inl refl, (refl, inl refl, (refl, inl refl, (refl, inl refl, (refl, inl refl, (refl, inl refl, (refl, inl refl, (refl, inl refl, (refl, inl refl, (refl, inl refl, (refl, inl refl, (refl, inl refl, tt))))))))))))
+conflict-run = run-of leaves_conflicts (after_conflict ++ as_line (done 2 none (1 · 1) (0 · 0 ∷ [])) ∷ begun_both) (
+  refl,
+  inl refl,
+  (
+    refl,
+    inl refl,
+    (
+      refl,
+      inl refl,
+      (
+        refl,
+        inl refl,
+        (
+          refl,
+          inl refl,
+          (refl, inl refl, (refl, inl refl, (refl, inl refl, (refl, inl refl, (refl, inl refl, (refl, inl refl, (refl, inl refl, tt))))))),
+        ),
+      ),
+    ),
+  ),
+)
 
 pub open-conflicts-break-joins : IsBrokenBy OtherKeysAreJoined leaves_conflicts
 open-conflicts-break-joins law =
@@ -206,11 +306,28 @@ pub open-conflicts-break : IsBrokenBy CommitsAreShown leaves_conflicts
 open-conflicts-break law =
     let t : Told = record { merges = false; states = 0 · 0 ∷ []; reads = []; writes = (codes "x", Put (codes "2")) ∷ [] } in
     let shown : read conflicting (codes "x") (1 · 3) ≡ Some (1 · 1, Put (codes "2")) =
-    law lone_site after_conflict begun_both (done 2 none (1 · 1) (0 · 0 ∷ [])) t conflict-run refl (codes "x") (Put (codes "2")) (1 · 3) refl refl refl none-below in
+    law lone_site after_conflict begun_both (done 2 none (1 · 1) (0 · 0 ∷ [])) t conflict-run refl (codes "x") (Put (codes "2"))
+    (1 · 3) refl refl refl none-below in
     absurd (none-some (1 · 1, Put (codes "2")) shown)
 
 side-run : IsRun shows_newest_side lone_site other_side_shown
-side-run = run-of shows_newest_side other_side_shown (refl, inl refl, (refl, inl refl, (refl, inl refl, (refl, inl refl, (refl, inl refl, (refl, inl refl, (refl, inl refl, (refl, inl refl, (refl, inl refl, (refl, inl refl, (refl, inl refl, tt)))))))))))
+side-run = run-of shows_newest_side other_side_shown (
+  refl,
+  inl refl,
+  (
+    refl,
+    inl refl,
+    (
+      refl,
+      inl refl,
+      (
+        refl,
+        inl refl,
+        (refl, inl refl, (refl, inl refl, (refl, inl refl, (refl, inl refl, (refl, inl refl, (refl, inl refl, (refl, inl refl, tt))))))),
+      ),
+    ),
+  ),
+)
 
 pub newest-sides-break : IsBrokenBy MergesShowEachSide shows_newest_side
 newest-sides-break law =
@@ -219,7 +336,23 @@ newest-sides-break law =
     absurd (cc)
 
 dropping-run : IsRun drops_sides lone_site (1 asks commit none => Committed (1 · 3) (1 · 1 ∷ []) ∷ merging_both)
-dropping-run = run-of drops_sides (1 asks commit none => Committed (1 · 3) (1 · 1 ∷ []) ∷ merging_both) (refl, inl refl, (refl, inl refl, (refl, inl refl, (refl, inl refl, (refl, inl refl, (refl, inl refl, (refl, inl refl, (refl, inl refl, (refl, inl refl, (refl, inl refl, (refl, inl refl, tt)))))))))))
+dropping-run = run-of drops_sides (1 asks commit none => Committed (1 · 3) (1 · 1 ∷ []) ∷ merging_both) (
+  refl,
+  inl refl,
+  (
+    refl,
+    inl refl,
+    (
+      refl,
+      inl refl,
+      (
+        refl,
+        inl refl,
+        (refl, inl refl, (refl, inl refl, (refl, inl refl, (refl, inl refl, (refl, inl refl, (refl, inl refl, (refl, inl refl, tt))))))),
+      ),
+    ),
+  ),
+)
 
 pub dropped-sides-break : IsBrokenBy CommitsJoinWhatTheyRead drops_sides
 dropped-sides-break law =
@@ -231,7 +364,11 @@ dropped-sides-break law =
 -- ===== Sessions
 
 missed-run : IsRun forgets_commits lone_site own_commit_missed
-missed-run = run-of forgets_commits own_commit_missed (refl, inl refl, (refl, inl refl, (refl, inl refl, (refl, inl refl, (refl, inl refl, (refl, inl refl, (refl, inl refl, (refl, inl refl, (refl, inl refl, tt)))))))))
+missed-run = run-of forgets_commits own_commit_missed (
+  refl,
+  inl refl,
+  (refl, inl refl, (refl, inl refl, (refl, inl refl, (refl, inl refl, (refl, inl refl, (refl, inl refl, (refl, inl refl, (refl, inl refl, tt)))))))),
+)
 
 pub forgotten-commits-break : IsBrokenBy ParentReadsTheLastCommit forgets_commits
 forgotten-commits-break law =
@@ -247,7 +384,15 @@ abbrev of_two : Session
 of_two = record { follow = false; ceiling = 0 · 0; last = 1 · 1 }
 
 other-branch-run : IsRun forgets_commits lone_site other_branch_read
-other-branch-run = run-of forgets_commits other_branch_read (refl, inl refl, (refl, inl refl, (refl, inl refl, (refl, inl refl, (refl, inl refl, (refl, inl refl, (refl, inl refl, (refl, inl refl, (refl, inl refl, (refl, inl refl, tt))))))))))
+other-branch-run = run-of forgets_commits other_branch_read (
+  refl,
+  inl refl,
+  (
+    refl,
+    inl refl,
+    (refl, inl refl, (refl, inl refl, (refl, inl refl, (refl, inl refl, (refl, inl refl, (refl, inl refl, (refl, inl refl, (refl, inl refl, tt)))))))),
+  ),
+)
 
 pub forgotten-commits-break-ancestor : IsBrokenBy AncestorReadsTheLastCommit forgets_commits
 forgotten-commits-break-ancestor law =
@@ -257,14 +402,23 @@ forgotten-commits-break-ancestor law =
     absurd (cc)
 
 newest-missed-run : IsRun stays_with_own lone_site newest_missed
-newest-missed-run = run-of stays_with_own newest_missed (refl, inl refl, (refl, inl refl, (refl, inl refl, (refl, inl refl, (refl, inl refl, (refl, inl refl, (refl, inl refl, (refl, inl refl, (refl, inl refl, (refl, inl refl, tt))))))))))
+newest-missed-run = run-of stays_with_own newest_missed (
+  refl,
+  inl refl,
+  (
+    refl,
+    inl refl,
+    (refl, inl refl, (refl, inl refl, (refl, inl refl, (refl, inl refl, (refl, inl refl, (refl, inl refl, (refl, inl refl, (refl, inl refl, tt)))))))),
+  ),
+)
 
 pub own-beginnings-break : IsBrokenBy AnyReadsTheLastCommit stays_with_own
 own-beginnings-break law =
     let h = law lone_site forked 2 (1 · 1) newest-missed-run in
     let it : told_session lone_site 2 forked ≡ Some of_two = refl in
     let same = same_Some h.0 of_two (sym h.1 ∙ it) in
-    let newest : IsTrue (is_above (history lone_site forked) h.0.last (1 · 2)) = h.2.0 (subst (λ (s : Session). IsTrue (is_above (history lone_site forked) s.last (1 · 1))) (sym same) refl) in
+    let newest : IsTrue (is_above (history lone_site forked) h.0.last (1 · 2)) =
+    h.2.0 (subst (λ (s : Session). IsTrue (is_above (history lone_site forked) s.last (1 · 1))) (sym same) refl) in
     let none : IsTrue false = subst (λ (s : Session). IsTrue (is_above (history lone_site forked) s.last (1 · 2))) same newest in
     absurd (cc)
 
@@ -276,13 +430,22 @@ forgotten-ceilings-break law =
     let h = law lone_site followed 1 (At (0 · 0)) (0 · 0) above-run in
     let made : Session = record { follow = true; ceiling = 1 · 1; last = 1 · 1 } in
     let it : told_session lone_site 1 followed ≡ Some made = refl in
-    let none : true ≡ false = subst (λ (s : Session). IsFalse (is_proper_ancestor (history lone_site followed) (0 · 0) s.ceiling)) (same_Some h.0 made (sym h.1 ∙ it)) h.2 in
+    let none : true ≡ false = subst (λ (s : Session). IsFalse (is_proper_ancestor (history lone_site followed) (0 · 0) s.ceiling))
+    (same_Some h.0 made (sym h.1 ∙ it)) h.2 in
     absurd (cc)
 
 -- ===== Refusals
 
 refused-run : IsRun ends_refused lone_site (commit_after_refusal ∷ refused_commit ∷ raced)
-refused-run = run-of ends_refused (commit_after_refusal ∷ refused_commit ∷ raced) (refl, inl refl, (refl, inl refl, (refl, inl refl, (refl, inl refl, (refl, inl refl, (refl, inl refl, (refl, inl refl, (refl, inl refl, (refl, inl refl, (refl, inl refl, tt))))))))))
+refused-run = run-of ends_refused (commit_after_refusal ∷ refused_commit ∷ raced) (
+  refl,
+  inl refl,
+  (
+    refl,
+    inl refl,
+    (refl, inl refl, (refl, inl refl, (refl, inl refl, (refl, inl refl, (refl, inl refl, (refl, inl refl, (refl, inl refl, (refl, inl refl, tt)))))))),
+  ),
+)
 
 wants-none : (reply : Reply) → (Refused NoTxn ≡ Committed (1 · 2) (1 · 1 ∷ [])) ⊎ IsTrue false → ⊥
 wants-none reply (inl e) = absurd (cc)

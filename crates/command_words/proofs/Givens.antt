@@ -15,13 +15,24 @@ Told name all left found = (done : List (Option (List ℕ))) × (IsGiven done fo
 pub hit : (name n : List ℕ) (v : Option (List ℕ)) (all left rest : List Setting) (found new : Given) → left ≡ (n, v) ∷ rest → bytes_eq n name ≡ true
     → ((before : List (Option (List ℕ))) → IsGiven before found → IsGiven (before ++ v ∷ []) new) → Told name all left found → Told name all rest new
 hit name n v all left rest found new is same adds told =
-    let here : values name ((n, v) ∷ rest) ≡ v ∷ values name rest = ap (map (λ (s : Setting). s.1)) (cond-true (bytes_eq n name) ((n, v) ∷ filter (λ (s : Setting). bytes_eq s.0 name) rest) (filter (λ (s : Setting). bytes_eq s.0 name) rest) same) in
-    (told.0 ++ v ∷ [], (adds told.0 told.1.0, told.1.1 ∙ (ap (λ l. told.0 ++ values name l) is ∙ (ap (λ vs. told.0 ++ vs) here ∙ sym (append_assoc told.0 (v ∷ []) (values name rest))))))
+    let here : values name ((n, v) ∷ rest) ≡ v ∷ values name rest =
+    ap (map (λ (s : Setting). s.1)) (cond-true (bytes_eq n name) ((n, v) ∷ filter (λ (s : Setting). bytes_eq s.0 name) rest)
+    (filter (λ (s : Setting). bytes_eq s.0 name) rest) same) in (
+      told.0 ++ v ∷ [],
+      (
+        adds told.0 told.1.0,
+        told.1.1 ∙ (ap (λ l. told.0 ++ values name l) is
+            ∙ (ap (λ vs. told.0 ++ vs) here ∙ sym (append_assoc told.0 (v ∷ []) (values name rest)))),
+      ),
+    )
 
 -- another adds none
-pub miss : (name n : List ℕ) (v : Option (List ℕ)) (all left rest : List Setting) (found : Given) → left ≡ (n, v) ∷ rest → bytes_eq n name ≡ false → Told name all left found → Told name all rest found
+pub miss : (name n : List ℕ) (v : Option (List ℕ)) (all left rest : List Setting) (found : Given) → left ≡ (n, v) ∷ rest → bytes_eq n name ≡ false →
+    Told name all left found → Told name all rest found
 miss name n v all left rest found is other told =
-    let here : values name ((n, v) ∷ rest) ≡ values name rest = ap (map (λ (s : Setting). s.1)) (cond-false (bytes_eq n name) ((n, v) ∷ filter (λ (s : Setting). bytes_eq s.0 name) rest) (filter (λ (s : Setting). bytes_eq s.0 name) rest) other) in
+    let here : values name ((n, v) ∷ rest) ≡ values name rest =
+    ap (map (λ (s : Setting). s.1)) (cond-false (bytes_eq n name) ((n, v) ∷ filter (λ (s : Setting). bytes_eq s.0 name) rest)
+    (filter (λ (s : Setting). bytes_eq s.0 name) rest) other) in
     (told.0, (told.1.0, told.1.1 ∙ (ap (λ l. told.0 ++ values name l) is ∙ ap (λ vs. told.0 ++ vs) here)))
 
 -- an option that is given twice says nothing

@@ -31,8 +31,10 @@ too_large {E} e word h is =
     ]
 
 -- so it is none of a range of numbers of 32 bits
-pub not_read : {E : Type 0} (e : E) (least most : ℕ) (word : List ℕ) → ParsesUnsigned {E = E} 32 10 word (Err e) → is_numeral word ≡ true → most < 2 ^ 32 → None ≡ number least most word
+pub not_read : {E : Type 0} (e : E) (least most : ℕ) (word : List ℕ) → ParsesUnsigned {E = E} 32 10 word (Err e) → is_numeral word ≡ true → most < 2 ^ 32 →
+    None ≡ number least most word
 not_read {E} e least most word h is fits =
     sym (cond-false (is_numeral word && is_within least most (digits_value 10 word)) (Some (digits_value 10 word)) None
     (and_right (is_numeral word) (is_within least most (digits_value 10 word))
-    (and_right (leb least (digits_value 10 word)) (leb (digits_value 10 word) most) (lt-leb (digits_value 10 word) most (omega (arith, fits, too_large {E = E} e word h is))))))
+    (and_right (leb least (digits_value 10 word)) (leb (digits_value 10 word) most)
+    (lt-leb (digits_value 10 word) most (omega (arith, fits, too_large {E = E} e word h is))))))

@@ -1,5 +1,6 @@
 -- The place of a form of `run`, `shell`, `audit`, `serve`, `auto`, `durable` or `export`, and what `serve` may ask for.
-use Rattle.std.proofs.Common.{◌≡◌, ◌∙◌, ℕ, ◌≤◌, Bool, true, false, ◌&&◌, leb, cond, List, [], ◌∷◌, length, Option, Some, None, bytes_eq, codes, option_map, option_and_then, refl, sym, ap, subst, inl, inr, arith}
+use Rattle.std.proofs.Common.{◌≡◌, ◌∙◌, ℕ, ◌≤◌, Bool, true, false, ◌&&◌, leb, cond, List, [], ◌∷◌, length, Option, Some, None, bytes_eq, codes, option_map}
+use Rattle.std.proofs.Common.{option_and_then, refl, sym, ap, subst, inl, inr, arith}
 use Rattle.std.specs.Str.Parse.{digits_value}
 use Rattle.std.proofs.lemmas.Bool.{and_parts, leb-true, cases_Bool, cond-true, cond-false}
 use Rattle.tardis_base.specs.Bytes.{is_within}
@@ -12,7 +13,8 @@ use Rattle.rule_list.specs.RuleTexts.{rules_of}
 use Rattle.command_words.specs.declared.commands.Place.{Place}
 use Rattle.command_words.specs.Settings.{Setting, settings, are_only}
 use Rattle.command_words.specs.Values.{is_numeral, number, needed, number_or, flag, address, addresses, are_addresses, is_some_address, once, is_address, id_of}
-use Rattle.command_words.specs.Forms.{Form, AsRun, AsShell, AsAudit, AsWorld, AsServe, AsLoad, AsAuto, AsDurable, AsExport, AsImport, of, place, place_alone, world, Serving, serving, serving_at, load, placed, auto, durable, export, import, form}
+use Rattle.command_words.specs.Forms.{Form, AsRun, AsShell, AsAudit, AsWorld, AsServe, AsLoad, AsAuto, AsDurable, AsExport, AsImport, of, place, place_alone}
+use Rattle.command_words.specs.Forms.{world, Serving, serving, serving_at, load, placed, auto, durable, export, import, form}
 use Rattle.command_words.specs.Places.{IsPlace}
 use Rattle.command_words.specs.Laws.{IsServing, ServesAtASite, RunsAtASite, ShellsAtASite, AuditsAtASite, AutosAtASite, DurablesAtASite, ExportsAtASite}
 
@@ -47,7 +49,8 @@ number_within least most word n e =
       | inr f ↦ absurd (none_some n (sym (cond-false (is_numeral word && is_within least most v) (Some v) None f) ∙ e))
     ]
 
-or_within : (default least most : ℕ) (found : List (Option (List ℕ))) (n : ℕ) → least ≤ default → default ≤ most → number_or default least most found ≡ Some n → Within least most n
+or_within : (default least most : ℕ) (found : List (Option (List ℕ))) (n : ℕ) → least ≤ default → default ≤ most → number_or default least most found
+    ≡ Some n → Within least most n
 unfolding Within
 or_within default least most [] n from to e = let same : default ≡ n = some_same default n e in (omega (arith, from, same), omega (arith, to, same))
 or_within default least most (None ∷ []) n from to e = absurd (none_some n e)
@@ -66,7 +69,8 @@ map_some f (Some a) b e = (a, (refl, some_same (f a) b e))
 place_is : (found : List Setting) (p : Place) → place found ≡ Some p → IsPlace p
 unfolding Within
 place_is found p e =
-    let first = then_some_of (λ (sites : ℕ). option_map (λ (site : ℕ). record { sites = sites; site = site }) (number_or 1 1 sites (of found (codes "--site")))) (number_or 1 1 16 (of found (codes "--sites"))) p e in
+    let first = then_some_of (λ (sites : ℕ). option_map (λ (site : ℕ). record { sites = sites; site = site })
+    (number_or 1 1 sites (of found (codes "--site")))) (number_or 1 1 16 (of found (codes "--sites"))) p e in
     let second = map_some (λ (site : ℕ). record { sites = first.0; site = site }) (number_or 1 1 first.0 (of found (codes "--site"))) p first.1.1 in
     let sites = or_within 1 1 16 (of found (codes "--sites")) first.0 (omega arith) (omega arith) first.1.0 in
     let site = or_within 1 1 first.0 (of found (codes "--site")) second.0 (omega arith) sites.0 second.1.0 in
@@ -86,7 +90,8 @@ placed_is name found p e =
     let both : Option (Place × List ℕ) = option_and_then (λ (q : Place). option_map (λ (word : List ℕ). (q, word)) (once (of found name))) (place found) in
     elim (cases_Bool only) [
       | inl t ↦
-          let first = then_some_of (λ (q : Place). option_map (λ (word : List ℕ). (q, word)) (once (of found name))) (place found) p (sym (cond-true only both None t) ∙ e) in
+          let first = then_some_of (λ (q : Place). option_map (λ (word : List ℕ). (q, word)) (once (of found name))) (place found) p
+          (sym (cond-true only both None t) ∙ e) in
           let second = map_some (λ (word : List ℕ). (first.0, word)) (once (of found name)) p first.1.1 in
           let same : first.0 ≡ p.0 = ap (λ (q : Place × List ℕ). q.0) second.1.1 in
           subst IsPlace same (place_is found first.0 first.1.0)
@@ -120,10 +125,12 @@ addresses_few found words e =
 -- the options of `serve`, from the last on
 abbrev tidied : List Setting → Place → List ℕ → ℕ → List (List ℕ) → ℕ → Option Serving
 tidied found p listen links peers rounds =
-    option_map (λ (tidy : Bool). record { place = p; listen = listen; links = links; peers = peers; rounds = rounds; tidy = tidy }) (flag (of found (codes "--tidy")))
+    option_map (λ (tidy : Bool). record { place = p; listen = listen; links = links; peers = peers; rounds = rounds; tidy = tidy })
+    (flag (of found (codes "--tidy")))
 
 abbrev rounded : List Setting → Place → List ℕ → ℕ → List (List ℕ) → Option Serving
-rounded found p listen links peers = option_and_then (λ (rounds : ℕ). tidied found p listen links peers rounds) (number_or 0 0 1000000 (of found (codes "--rounds")))
+rounded found p listen links peers = option_and_then (λ (rounds : ℕ). tidied found p listen links peers rounds)
+    (number_or 0 0 1000000 (of found (codes "--rounds")))
 
 abbrev peered : List Setting → Place → List ℕ → ℕ → Option Serving
 peered found p listen links = option_and_then (λ (peers : List (List ℕ)). rounded found p listen links peers) (addresses (of found (codes "--peer")))
@@ -138,7 +145,8 @@ serving_at_is found p s is e =
     let b = then_some_of (λ (links : ℕ). peered found p a.0 links) (needed 1 64 (of found (codes "--links"))) s a.1.1 in
     let c = then_some_of (λ (peers : List (List ℕ)). rounded found p a.0 b.0 peers) (addresses (of found (codes "--peer"))) s b.1.1 in
     let d = then_some_of (λ (rounds : ℕ). tidied found p a.0 b.0 c.0 rounds) (number_or 0 0 1000000 (of found (codes "--rounds"))) s c.1.1 in
-    let t = map_some (λ (tidy : Bool). record { place = p; listen = a.0; links = b.0; peers = c.0; rounds = d.0; tidy = tidy }) (flag (of found (codes "--tidy"))) s d.1.1 in
+    let t = map_some (λ (tidy : Bool). record { place = p; listen = a.0; links = b.0; peers = c.0; rounds = d.0; tidy = tidy })
+    (flag (of found (codes "--tidy"))) s d.1.1 in
     let links = needed_within 1 64 (of found (codes "--links")) b.0 b.1.0 in
     let rounds = or_within 0 0 1000000 (of found (codes "--rounds")) d.0 (omega arith) (omega arith) d.1.0 in
     subst IsServing t.1.1 (record { place = is; links = links.1; peers = addresses_few (of found (codes "--peer")) c.0 c.1.0; rounds = rounds.1 })
@@ -186,10 +194,12 @@ load_at : (found : List Setting) → AtASite (load found)
 load_at found =
     let steps = needed 0 10000 (of found (codes "--steps")) in
     let starts = needed 0 4294967295 (of found (codes "--start")) in
-    chosen (are_only (codes "--start" ∷ codes "--steps" ∷ []) found) (option_and_then (λ (start : ℕ). option_map (λ (n : ℕ). AsLoad start n) steps) starts) None (loaded starts steps) tt
+    chosen (are_only (codes "--start" ∷ codes "--steps" ∷ []) found) (option_and_then (λ (start : ℕ). option_map (λ (n : ℕ). AsLoad start n) steps) starts)
+    None (loaded starts steps) tt
 
 -- what is made of a place and a value is at the place
-kept : (make : Place × List ℕ → Option Form) (o : Option (Place × List ℕ)) → ((p : Place × List ℕ) → o ≡ Some p → AtASite (make p)) → AtASite (option_and_then make o)
+kept : (make : Place × List ℕ → Option Form) (o : Option (Place × List ℕ)) → ((p : Place × List ℕ) → o ≡ Some p → AtASite (make p)) →
+    AtASite (option_and_then make o)
 kept make None at = tt
 kept make (Some p) at = at p refl
 
@@ -210,13 +220,16 @@ imported true = tt
 imported false = tt
 
 auto_at : (found : List Setting) → AtASite (auto found)
-auto_at found = kept (λ (p : Place × List ℕ). option_map (λ (rules : List PrefixRule). AsAuto p.0 rules) (rules_of p.1)) (placed (codes "--rules") found) (λ p is. ruled p.0 (rules_of p.1) (placed_is (codes "--rules") found p is))
+auto_at found = kept (λ (p : Place × List ℕ). option_map (λ (rules : List PrefixRule). AsAuto p.0 rules) (rules_of p.1)) (placed (codes "--rules") found)
+    (λ p is. ruled p.0 (rules_of p.1) (placed_is (codes "--rules") found p is))
 
 durable_at : (found : List Setting) → AtASite (durable found)
-durable_at found = kept (λ (p : Place × List ℕ). then_some (is_address p.1) (AsDurable p.0 p.1)) (placed (codes "--file") found) (λ p is. filed p.0 p.1 (is_address p.1) (placed_is (codes "--file") found p is))
+durable_at found = kept (λ (p : Place × List ℕ). then_some (is_address p.1) (AsDurable p.0 p.1)) (placed (codes "--file") found)
+    (λ p is. filed p.0 p.1 (is_address p.1) (placed_is (codes "--file") found p is))
 
 export_at : (found : List Setting) → AtASite (export found)
-export_at found = kept (λ (p : Place × List ℕ). option_map (λ (state : StateId). AsExport p.0 state) (id_of p.1)) (placed (codes "--at") found) (λ p is. given p.0 (id_of p.1) (placed_is (codes "--at") found p is))
+export_at found = kept (λ (p : Place × List ℕ). option_map (λ (state : StateId). AsExport p.0 state) (id_of p.1)) (placed (codes "--at") found)
+    (λ p is. given p.0 (id_of p.1) (placed_is (codes "--at") found p is))
 
 form_at : (words : List (List ℕ)) → AtASite (form words)
 form_at [] = tt
@@ -236,11 +249,16 @@ form_at (command ∷ rest) =
     let g : AtASite seventh = chosen (bytes_eq command (codes "durable")) (durable found) eighth (durable_at found) h in
     let f : AtASite sixth = chosen (bytes_eq command (codes "auto")) (auto found) seventh (auto_at found) g in
     let e : AtASite fifth = chosen (bytes_eq command (codes "load")) (load found) sixth (load_at found) f in
-    let d : AtASite fourth = chosen (bytes_eq command (codes "world")) (option_map AsWorld (world found)) fifth (made (λ (n : ℕ). AsWorld n) (world found) (λ n is. tt)) e in
-    let c : AtASite third = chosen (bytes_eq command (codes "audit")) (option_map AsAudit (place_alone found)) fourth (made (λ (q : Place). AsAudit q) (place_alone found) (λ q is. alone_is found q is)) d in
-    let b : AtASite second = chosen (bytes_eq command (codes "shell")) (option_map AsShell (place_alone found)) third (made (λ (q : Place). AsShell q) (place_alone found) (λ q is. alone_is found q is)) c in
-    let a : AtASite first = chosen (bytes_eq command (codes "run")) (option_map AsRun (place_alone found)) second (made (λ (q : Place). AsRun q) (place_alone found) (λ q is. alone_is found q is)) b in
-    chosen (bytes_eq command (codes "serve")) (option_map AsServe (serving found)) first (made (λ s. AsServe s) (serving found) (λ s is. serving_is found s is)) a
+    let d : AtASite fourth = chosen (bytes_eq command (codes "world")) (option_map AsWorld (world found)) fifth
+    (made (λ (n : ℕ). AsWorld n) (world found) (λ n is. tt)) e in
+    let c : AtASite third = chosen (bytes_eq command (codes "audit")) (option_map AsAudit (place_alone found)) fourth
+    (made (λ (q : Place). AsAudit q) (place_alone found) (λ q is. alone_is found q is)) d in
+    let b : AtASite second = chosen (bytes_eq command (codes "shell")) (option_map AsShell (place_alone found)) third
+    (made (λ (q : Place). AsShell q) (place_alone found) (λ q is. alone_is found q is)) c in
+    let a : AtASite first = chosen (bytes_eq command (codes "run")) (option_map AsRun (place_alone found)) second
+    (made (λ (q : Place). AsRun q) (place_alone found) (λ q is. alone_is found q is)) b in
+    chosen (bytes_eq command (codes "serve")) (option_map AsServe (serving found)) first
+    (made (λ s. AsServe s) (serving found) (λ s is. serving_is found s is)) a
 
 pub runs_at_a_site : RunsAtASite
 runs_at_a_site words place are = subst AtASite are (form_at words)

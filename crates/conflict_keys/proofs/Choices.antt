@@ -1,5 +1,6 @@
 -- The latest writers of a key at kept states, and the lowest of them.
-use Rattle.std.proofs.Common.{◌≡◌, ℕ, Bool, true, false, ◌&&◌, ◌⊎◌, List, [], ◌∷◌, ◌++◌, filter_map, Option, Some, None, is_none, IsTrue, IsFalse, IfSome, inl, inr, refl, sym, ap, subst, ◌∙◌, append-nil}
+use Rattle.std.proofs.Common.{◌≡◌, ℕ, Bool, true, false, ◌&&◌, ◌⊎◌, List, [], ◌∷◌, ◌++◌, filter_map, Option, Some, None, is_none, IsTrue, IsFalse, IfSome}
+use Rattle.std.proofs.Common.{inl, inr, refl, sym, ap, subst, ◌∙◌, append-nil}
 use Rattle.std.specs.Option.{option_map, option_and_then}
 use Rattle.std.proofs.lemmas.Bool.{or_cases, or_left, or_right, and_parts, and_from, cases_Bool, cond-true, cond-false}
 use Rattle.std.proofs.lemmas.Option.{none-some}
@@ -36,7 +37,8 @@ listed (Some w) = w ∷ []
 -- ===== Latest writers
 
 -- those at one more state
-pub one-more : (rs : List Record) (k : List ℕ) (xs : List StateId) (x : StateId) → latest_writers rs k (xs ++ x ∷ []) ≡ latest_writers rs k xs ++ listed (latest_writer rs k x)
+pub one-more : (rs : List Record) (k : List ℕ) (xs : List StateId) (x : StateId) → latest_writers rs k (xs ++ x ∷ []) ≡ latest_writers rs k xs
+    ++ listed (latest_writer rs k x)
 one-more rs k xs x = filter_map-append (latest_writer rs k) xs (x ∷ []) ∙ ap (λ zs. latest_writers rs k xs ++ zs) (go (latest_writer rs k x) refl)
   where
     go : (o : Option StateId) → latest_writer rs k x ≡ o → filter_map (latest_writer rs k) (x ∷ []) ≡ listed (latest_writer rs k x)
@@ -50,22 +52,26 @@ and_right_true false = refl
 -- whether all are at or above w, with those at one more state
 pub more-above : (rs : List Record) (k : List ℕ) (w : StateId) (xs : List StateId) (x : StateId) →
     are_above rs (latest_writers rs k (xs ++ x ∷ [])) w ≡ (are_above rs (latest_writers rs k xs) w && are_above rs (listed (latest_writer rs k x)) w)
-more-above rs k w xs x = ap (λ us. are_above rs us w) (one-more rs k xs x) ∙ list_all-append (λ v. is_above rs v w) (latest_writers rs k xs) (listed (latest_writer rs k x))
+more-above rs k w xs x = ap (λ us. are_above rs us w) (one-more rs k xs x)
+    ∙ list_all-append (λ v. is_above rs v w) (latest_writers rs k xs) (listed (latest_writer rs k x))
 
 -- where all are, so is that of each state
-pub all-then-one : (rs : List Record) (k : List ℕ) (w : StateId) (xs : List StateId) (x : StateId) → IsTrue (is_among x xs) → IsTrue (are_above rs (latest_writers rs k xs) w) → IsTrue (are_above rs (listed (latest_writer rs k x)) w)
+pub all-then-one : (rs : List Record) (k : List ℕ) (w : StateId) (xs : List StateId) (x : StateId) → IsTrue (is_among x xs) →
+    IsTrue (are_above rs (latest_writers rs k xs) w) → IsTrue (are_above rs (listed (latest_writer rs k x)) w)
 all-then-one rs k w xs x m all = go (latest_writer rs k x) refl
   where
     go : (q : Option StateId) → latest_writer rs k x ≡ q → IsTrue (are_above rs (listed q) w)
     go None e = refl
-    go (Some u) e = and_right_true (is_above rs u w) ∙ all-at (λ v. is_above rs v w) (latest_writers rs k xs) u all (among-mapped (latest_writer rs k) xs x u m e)
+    go (Some u) e = and_right_true (is_above rs u w) ∙ all-at (λ v. is_above rs v w) (latest_writers rs k xs) u all
+        (among-mapped (latest_writer rs k) xs x u m e)
 
 module _ (rs : List Record) (ks : List StateId) (dag : IsDag rs) (shared : StandInsAreShared rs ks) (k : List ℕ) where
   -- w is the latest writer at a kept state
   abbrev pub IsRead : StateId → Type 0
   IsRead w = (x : StateId) × IsTrue (is_kept rs ks x) × (latest_writer rs k x ≡ Some w)
 
-  pub are-read : (xs : List StateId) → ((x : StateId) → IsTrue (is_among x xs) → IsTrue (is_kept rs ks x)) → (w : StateId) → IsTrue (is_among w (latest_writers rs k xs)) → IsRead w
+  pub are-read : (xs : List StateId) → ((x : StateId) → IsTrue (is_among x xs) → IsTrue (is_kept rs ks x)) → (w : StateId) →
+      IsTrue (is_among w (latest_writers rs k xs)) → IsRead w
   are-read xs kept w m = let at = mapped-from (latest_writer rs k) xs w m in (at.0, kept at.0 at.1, at.2)
 
   well : StandsInWell rs ks
@@ -86,7 +92,8 @@ module _ (rs : List Record) (ks : List StateId) (dag : IsDag rs) (shared : Stand
       let w_above = (and_parts (writes_key rs k w) (is_above rs w s) there.writes).1 in
       let u_writes = (and_parts (writes_key rs k u) (is_above rs u at_u.0) (latest-is-latest rs k at_u.0 u at_u.2).writes).0 in
       sym (well.tells u s (read-is_known u at_u) kept)
-      ∙ same_test (is_above rs u s) (is_above rs u w) (λ h. there.below u (and_from (writes_key rs k u) (is_above rs u s) u_writes h)) (λ h. above-transitive rs dag u w s h w_above)
+      ∙ same_test (is_above rs u s) (is_above rs u w) (λ h. there.below u (and_from (writes_key rs k u) (is_above rs u s) u_writes h))
+      (λ h. above-transitive rs dag u w s h w_above)
 
   -- what is read at its stand-in is what it wrote
   pub read-told : (w : StateId) → IsRead w → read rs k (stand_in rs ks w) ≡ version_at rs k w
@@ -97,7 +104,8 @@ module _ (rs : List Record) (ks : List StateId) (dag : IsDag rs) (shared : Stand
 module _ (rs : List Record) (dag : IsDag rs) (ws : List StateId) (w : StateId) where
   -- the only one
   pub first-choice : ws ≡ [] → IsChoice rs (ws ++ w ∷ []) (Some w)
-  first-choice none = subst (λ us. IsChoice rs (us ++ w ∷ []) (Some w)) (sym none) (among-first w [], λ v e. one v (among-cases v w [] (lowest-is-one rs (w ∷ []) v e)))
+  first-choice none = subst (λ us. IsChoice rs (us ++ w ∷ []) (Some w)) (sym none)
+      (among-first w [], λ v e. one v (among-cases v w [] (lowest-is-one rs (w ∷ []) v e)))
     where
       one : (v : StateId) → (v ≡ w) ⊎ IsTrue (is_among v []) → v ≡ w
       one v (inl e) = e
@@ -172,40 +180,53 @@ lower-none : (table : Table) (a : Option Slot) → lower_slot table a None ≡ a
 lower-none table None = refl
 lower-none table (Some s) = refl
 
-module _ (table : Table) (rs : List Record) (ks : List StateId) (stands : Stands table rs ks) (k : List ℕ) (ws : List StateId) (read : (w : StateId) → IsTrue (is_among w ws) → IsRead rs ks stands.dag stands.shared k w) where
-  two-slots : (a b : Slot) (u w : StateId) → id_at table a ≡ Some (stand_in rs ks u) → IsChoice rs ws (Some u) → id_at table b ≡ Some (stand_in rs ks w) → IsRead rs ks stands.dag stands.shared k w →
+module _ (table : Table) (rs : List Record) (ks : List StateId) (stands : Stands table rs ks) (k : List ℕ) (ws : List StateId)
+    (read : (w : StateId) → IsTrue (is_among w ws) → IsRead rs ks stands.dag stands.shared k w) where
+  two-slots : (a b : Slot) (u w : StateId) → id_at table a ≡ Some (stand_in rs ks u) → IsChoice rs ws (Some u) → id_at table b ≡ Some (stand_in rs ks w) →
+      IsRead rs ks stands.dag stands.shared k w →
       IsChosen table rs ks (ws ++ w ∷ []) (lower_slot table (Some a) (Some b))
   two-slots a b u w a_is choice b_is w_read =
-      let test = slots-tell table rs ks stands a b (stand_in rs ks u) (stand_in rs ks w) a_is b_is ∙ above-told rs ks stands.dag stands.shared k u w (read u choice.0) w_read in
+      let test = slots-tell table rs ks stands a b (stand_in rs ks u) (stand_in rs ks w) a_is b_is
+      ∙ above-told rs ks stands.dag stands.shared k u w (read u choice.0) w_read in
       elim (cases_Bool (is_above rs u w)) [
-        | inl t ↦ subst (λ o. IsChosen table rs ks (ws ++ w ∷ []) o) (sym (cond-true (is_slot_above table a b) (Some b) (Some a) (test ∙ t))) (record { writer = Some w; held = b_is; choice = new-choice rs stands.dag ws w u choice t })
-        | inr f ↦ subst (λ o. IsChosen table rs ks (ws ++ w ∷ []) o) (sym (cond-false (is_slot_above table a b) (Some b) (Some a) (test ∙ f))) (record { writer = Some u; held = a_is; choice = old-choice rs stands.dag ws w u choice f })
+        | inl t ↦ subst (λ o. IsChosen table rs ks (ws ++ w ∷ []) o) (sym (cond-true (is_slot_above table a b) (Some b) (Some a) (test ∙ t)))
+            (record { writer = Some w; held = b_is; choice = new-choice rs stands.dag ws w u choice t })
+        | inr f ↦ subst (λ o. IsChosen table rs ks (ws ++ w ∷ []) o) (sym (cond-false (is_slot_above table a b) (Some b) (Some a) (test ∙ f)))
+            (record { writer = Some u; held = a_is; choice = old-choice rs stands.dag ws w u choice f })
       ]
 
-  with-new : (a : Option Slot) → IfSome a (λ s. IsTrue (is_slot table s)) → (p : Option StateId) → option_and_then (id_at table) a ≡ option_map (stand_in rs ks) p → IsChoice rs ws p → (b : Slot) (w : StateId) → id_at table b ≡ Some (stand_in rs ks w) →
+  with-new : (a : Option Slot) → IfSome a (λ s. IsTrue (is_slot table s)) → (p : Option StateId) → option_and_then (id_at table) a
+      ≡ option_map (stand_in rs ks) p → IsChoice rs ws p → (b : Slot) (w : StateId) → id_at table b ≡ Some (stand_in rs ks w) →
       IsRead rs ks stands.dag stands.shared k w → IsChosen table rs ks (ws ++ w ∷ []) (lower_slot table a (Some b))
   with-new None here None held choice b w b_is w_read = record { writer = Some w; held = b_is; choice = first-choice rs stands.dag ws w choice }
   with-new None here (Some u) held choice b w b_is w_read = absurd (none-some (stand_in rs ks u) held)
   with-new (Some a) here None held choice b w b_is w_read = (let n = named-of_slot table a here in absurd (none-some n.0 (sym held ∙ n.1)))
   with-new (Some a) here (Some u) held choice b w b_is w_read = two-slots a b u w held choice b_is w_read
 
-  pub chosen-next : (a b : Option Slot) (x : StateId) → IfSome a (λ s. IsTrue (is_slot table s)) → IfSome b (λ s. IsTrue (is_slot table s)) → IsTrue (is_kept rs ks x) → IsChosen table rs ks ws a →
-      option_and_then (id_at table) b ≡ option_map (stand_in rs ks) (latest_writer rs k x) → IsChosen table rs ks (ws ++ listed (latest_writer rs k x)) (lower_slot table a b)
+  pub chosen-next : (a b : Option Slot) (x : StateId) → IfSome a (λ s. IsTrue (is_slot table s)) → IfSome b (λ s. IsTrue (is_slot table s)) →
+      IsTrue (is_kept rs ks x) → IsChosen table rs ks ws a →
+      option_and_then (id_at table) b ≡ option_map (stand_in rs ks) (latest_writer rs k x) →
+      IsChosen table rs ks (ws ++ listed (latest_writer rs k x)) (lower_slot table a b)
   chosen-next a b x a_slot b_slot kept chosen e = go (latest_writer rs k x) refl b b_slot e
     where
-      go : (q : Option StateId) → latest_writer rs k x ≡ q → (b : Option Slot) → IfSome b (λ s. IsTrue (is_slot table s)) → option_and_then (id_at table) b ≡ option_map (stand_in rs ks) q →
+      go : (q : Option StateId) → latest_writer rs k x ≡ q → (b : Option Slot) → IfSome b (λ s. IsTrue (is_slot table s)) → option_and_then (id_at table) b
+          ≡ option_map (stand_in rs ks) q →
           IsChosen table rs ks (ws ++ listed q) (lower_slot table a b)
-      go None is None there f = subst (λ us. IsChosen table rs ks us (lower_slot table a None)) (sym (append-nil ws)) (subst (λ o. IsChosen table rs ks ws o) (sym (lower-none table a)) chosen)
+      go None is None there f = subst (λ us. IsChosen table rs ks us (lower_slot table a None)) (sym (append-nil ws))
+          (subst (λ o. IsChosen table rs ks ws o) (sym (lower-none table a)) chosen)
       go None is (Some b) there f = (let n = named-of_slot table b there in absurd (none-some n.0 (sym f ∙ n.1)))
       go (Some w) is None there f = absurd (none-some (stand_in rs ks w) f)
       go (Some w) is (Some b) there f = with-new a a_slot chosen.writer chosen.held chosen.choice b w f (x, kept, is)
 
   -- whether all are at or above one of them, with one more
-  pub above-next : (w : StateId) → IsRead rs ks stands.dag stands.shared k w → (lowest : Slot) → id_at table lowest ≡ Some (stand_in rs ks w) → (b : Option Slot) (x : StateId) → IfSome b (λ s. IsTrue (is_slot table s)) → IsTrue (is_kept rs ks x) →
-      option_and_then (id_at table) b ≡ option_map (stand_in rs ks) (latest_writer rs k x) → is_above_or_none table b lowest ≡ are_above rs (listed (latest_writer rs k x)) w
+  pub above-next : (w : StateId) → IsRead rs ks stands.dag stands.shared k w → (lowest : Slot) → id_at table lowest ≡ Some (stand_in rs ks w) →
+      (b : Option Slot) (x : StateId) → IfSome b (λ s. IsTrue (is_slot table s)) → IsTrue (is_kept rs ks x) →
+      option_and_then (id_at table) b ≡ option_map (stand_in rs ks) (latest_writer rs k x) → is_above_or_none table b lowest
+      ≡ are_above rs (listed (latest_writer rs k x)) w
   above-next w w_read lowest named b x b_slot kept e = go (latest_writer rs k x) refl b b_slot e
     where
-      go : (q : Option StateId) → latest_writer rs k x ≡ q → (b : Option Slot) → IfSome b (λ s. IsTrue (is_slot table s)) → option_and_then (id_at table) b ≡ option_map (stand_in rs ks) q → is_above_or_none table b lowest ≡ are_above rs (listed q) w
+      go : (q : Option StateId) → latest_writer rs k x ≡ q → (b : Option Slot) → IfSome b (λ s. IsTrue (is_slot table s)) → option_and_then (id_at table) b
+          ≡ option_map (stand_in rs ks) q → is_above_or_none table b lowest ≡ are_above rs (listed q) w
       go None is None there f = refl
       go None is (Some b) there f = (let n = named-of_slot table b there in absurd (none-some n.0 (sym f ∙ n.1)))
       go (Some u) is None there f = absurd (none-some (stand_in rs ks u) f)
@@ -222,9 +243,11 @@ none-chosen table rs ks ws chosen = go chosen.writer chosen.held chosen.choice
     go None held choice = choice
     go (Some w) held choice = absurd (none-some (stand_in rs ks w) held)
 
-pub some-chosen : (table : Table) (rs : List Record) (ks ws : List StateId) (slot : Slot) → IsTrue (is_slot table slot) → IsChosen table rs ks ws (Some slot) → (w : StateId) × (id_at table slot ≡ Some (stand_in rs ks w)) × IsChoice rs ws (Some w)
+pub some-chosen : (table : Table) (rs : List Record) (ks ws : List StateId) (slot : Slot) → IsTrue (is_slot table slot) →
+    IsChosen table rs ks ws (Some slot) → (w : StateId) × (id_at table slot ≡ Some (stand_in rs ks w)) × IsChoice rs ws (Some w)
 some-chosen table rs ks ws slot there chosen = go chosen.writer chosen.held chosen.choice
   where
-    go : (p : Option StateId) → option_and_then (id_at table) (Some slot) ≡ option_map (stand_in rs ks) p → IsChoice rs ws p → (w : StateId) × (id_at table slot ≡ Some (stand_in rs ks w)) × IsChoice rs ws (Some w)
+    go : (p : Option StateId) → option_and_then (id_at table) (Some slot) ≡ option_map (stand_in rs ks) p → IsChoice rs ws p → (w : StateId)
+        × (id_at table slot ≡ Some (stand_in rs ks w)) × IsChoice rs ws (Some w)
     go None held choice = (let n = named-of_slot table slot there in absurd (none-some n.0 (sym held ∙ n.1)))
     go (Some w) held choice = (w, held, choice)

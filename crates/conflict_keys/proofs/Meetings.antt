@@ -39,7 +39,8 @@ failing p (x ∷ xs) none = elim (cases_Bool (p x)) [
 
 -- ===== The law
 
-module _ (rs : List Record) (ks : List StateId) (table : Table) (stands : Stands table rs ks) (xs : List StateId) (kept : (x : StateId) → IsTrue (is_among x xs) → IsTrue (is_kept rs ks x)) (k : List ℕ) where
+module _ (rs : List Record) (ks : List StateId) (table : Table) (stands : Stands table rs ks) (xs : List StateId)
+    (kept : (x : StateId) → IsTrue (is_among x xs) → IsTrue (is_kept rs ks x)) (k : List ℕ) where
   well : StandsInWell rs ks
   well = stands-in-well rs ks stands.dag stands.shared
 
@@ -78,7 +79,8 @@ module _ (rs : List Record) (ks : List StateId) (table : Table) (stands : Stands
   ]
 
 -- and by one of the states apart
-pub apart-is_met : (rs : List Record) (ks xs : List StateId) (k : List ℕ) → IsTrue (is_met rs ks xs (kept_states rs ks) k) → IsTrue (is_met rs ks xs (apart_states rs ks xs) k)
+pub apart-is_met : (rs : List Record) (ks xs : List StateId) (k : List ℕ) → IsTrue (is_met rs ks xs (kept_states rs ks) k) →
+    IsTrue (is_met rs ks xs (apart_states rs ks xs) k)
 apart-is_met rs ks xs k met =
     let y = any-witness (λ y. is_above_part rs y xs && holds_key rs ks k y) (kept_states rs ks) met in
     any-from (λ y. is_above_part rs y xs && holds_key rs ks k y) (apart_states rs ks xs) y.0
@@ -87,24 +89,28 @@ apart-is_met rs ks xs k met =
 -- ===== One more state
 
 module _ (rs : List Record) (ks xs zs : List StateId) (i : ℕ) (k : List ℕ) where
-  met-more : (x : StateId) → slice_get zs i ≡ Some x → is_met rs ks xs (take (i + 1) zs) k ≡ (is_met rs ks xs (take i zs) k || (is_above_part rs x xs && holds_key rs ks k x || false))
+  met-more : (x : StateId) → slice_get zs i ≡ Some x → is_met rs ks xs (take (i + 1) zs) k
+      ≡ (is_met rs ks xs (take i zs) k || (is_above_part rs x xs && holds_key rs ks k x || false))
   met-more x e =
       ap (λ ys. is_met rs ks xs ys k) (take-next zs i x e)
       ∙ list_any-append (λ y. is_above_part rs y xs && holds_key rs ks k y) (take i zs) (x ∷ [])
 
   -- what is met with it was met or is held by it
-  pub met-here : (x : StateId) (chunks : Chunks) → slice_get zs i ≡ Some x → is_key_in k chunks ≡ holds_key rs ks k x → IsTrue (is_met rs ks xs (take (i + 1) zs) k) →
+  pub met-here : (x : StateId) (chunks : Chunks) → slice_get zs i ≡ Some x → is_key_in k chunks ≡ holds_key rs ks k x →
+      IsTrue (is_met rs ks xs (take (i + 1) zs) k) →
       IsTrue (is_met rs ks xs (take i zs) k || is_key_in k chunks)
-  met-here x chunks e holds m = elim (or_cases (is_met rs ks xs (take i zs) k) (is_above_part rs x xs && holds_key rs ks k x || false) (sym (met-more x e) ∙ m)) [
-    | inl old ↦ or_left (is_met rs ks xs (take i zs) k) (is_key_in k chunks) old
-    | inr new ↦ elim (or_cases (is_above_part rs x xs && holds_key rs ks k x) false new) [
-      | inl both ↦ or_right (is_met rs ks xs (take i zs) k) (is_key_in k chunks) (holds ∙ (and_parts (is_above_part rs x xs) (holds_key rs ks k x) both).1)
-      | inr none ↦ not-both false none refl
-    ]
-  ]
+  met-here x chunks e holds m = elim (or_cases (is_met rs ks xs (take i zs) k) (is_above_part rs x xs && holds_key rs ks k x || false)
+      (sym (met-more x e) ∙ m)) [
+        | inl old ↦ or_left (is_met rs ks xs (take i zs) k) (is_key_in k chunks) old
+        | inr new ↦ elim (or_cases (is_above_part rs x xs && holds_key rs ks k x) false new) [
+          | inl both ↦ or_right (is_met rs ks xs (take i zs) k) (is_key_in k chunks) (holds ∙ (and_parts (is_above_part rs x xs) (holds_key rs ks k x) both).1)
+          | inr none ↦ not-both false none refl
+        ]
+      ]
 
   -- where it isn't above a part of the states, what is met with it was met
-  pub met-passed : (x : StateId) → slice_get zs i ≡ Some x → IsFalse (is_above_part rs x xs) → IsTrue (is_met rs ks xs (take (i + 1) zs) k) → IsTrue (is_met rs ks xs (take i zs) k)
+  pub met-passed : (x : StateId) → slice_get zs i ≡ Some x → IsFalse (is_above_part rs x xs) → IsTrue (is_met rs ks xs (take (i + 1) zs) k) →
+      IsTrue (is_met rs ks xs (take i zs) k)
   met-passed x e apart m = elim (or_cases (is_met rs ks xs (take i zs) k) (is_above_part rs x xs && holds_key rs ks k x || false) (sym (met-more x e) ∙ m)) [
     | inl old ↦ old
     | inr new ↦ elim (or_cases (is_above_part rs x xs && holds_key rs ks k x) false new) [
@@ -116,7 +122,8 @@ module _ (rs : List Record) (ks xs zs : List StateId) (i : ℕ) (k : List ℕ) w
 -- ===== One more chunk
 
 -- what is met or in one more chunk is met, in those before, or in that one
-pub chunk-met : (met : List ℕ → Bool) (done : Chunks) (chunk keys : List (List ℕ)) → keys ≡ chunk → (k : List ℕ) → IsTrue (met k || is_key_in k (done ++ chunk ∷ [])) → IsTrue ((met k || is_key_in k done) || is_key_among k keys)
+pub chunk-met : (met : List ℕ → Bool) (done : Chunks) (chunk keys : List (List ℕ)) → keys ≡ chunk → (k : List ℕ) →
+    IsTrue (met k || is_key_in k (done ++ chunk ∷ [])) → IsTrue ((met k || is_key_in k done) || is_key_among k keys)
 chunk-met met done chunk keys is k m =
     ap (λ (js : List (List ℕ)). (met k || is_key_in k done) || is_key_among k js) is
     ∙ turned (met k) (is_key_in k done) (is_key_among k chunk)

@@ -1,5 +1,6 @@
 -- The keys that are noted.
-use Rattle.std.proofs.Common.{◌≡◌, ℕ, Bool, false, ◌&&◌, ◌||◌, List, [], ◌∷◌, ◌++◌, length, take, ◌≤◌, take_all, arith, filter, IsTrue, ◌⊎◌, inl, inr, refl, sym, ap, ap₂, subst, ◌∙◌, bytes_eq, BTreeSet}
+use Rattle.std.proofs.Common.{◌≡◌, ℕ, Bool, false, ◌&&◌, ◌||◌, List, [], ◌∷◌, ◌++◌, length, take, ◌≤◌, take_all, arith, filter, IsTrue, ◌⊎◌, inl, inr, refl}
+use Rattle.std.proofs.Common.{sym, ap, ap₂, subst, ◌∙◌, bytes_eq, BTreeSet}
 use Rattle.std.specs.declared.cmp.Ordering.{Ordering}
 use Rattle.std.specs.declared.cmp.Ordering.TheVariants.{Less, Equal, Greater}
 use Rattle.std.specs.Ordering.{nat_cmp, match_ordering}
@@ -32,7 +33,8 @@ pub taken-as_with : (ks : List (List ℕ)) (k : List ℕ) → insert_key (slice_
 taken-as_with [] k = refl
 taken-as_with (l ∷ ls) k = go (taken-as_with ls k) (slice_cmp nat_cmp k l) refl
   where
-    go : insert_key (slice_cmp nat_cmp) ls k ≡ with_key k ls → (o : Ordering) → slice_cmp nat_cmp k l ≡ o → match_ordering o (k ∷ l ∷ ls) (l ∷ ls) (l ∷ insert_key (slice_cmp nat_cmp) ls k) ≡ with_key k (l ∷ ls)
+    go : insert_key (slice_cmp nat_cmp) ls k ≡ with_key k ls → (o : Ordering) → slice_cmp nat_cmp k l ≡ o →
+        match_ordering o (k ∷ l ∷ ls) (l ∷ ls) (l ∷ insert_key (slice_cmp nat_cmp) ls k) ≡ with_key k (l ∷ ls)
     go rest Less e = sym (with_key-before k l ls (before-from_Less k l e))
     go rest Equal e = (let same = same-from_Equal k l e in subst (λ z. l ∷ ls ≡ with_key z (l ∷ ls)) (sym same) (sym (with_key-here l ls)))
     go rest Greater e = ap (λ zs. l ∷ zs) rest ∙ sym (with_key-after k l ls (before-from_Greater k l e))
@@ -47,7 +49,11 @@ was-or_is j k (l ∷ ls) m =
       | inl e ↦ inl (or_left (bytes_eq j l) (is_key_among j ls) e)
       | inr later ↦ elim (was-or_is j k ls later) [ inl old ↦ inl (or_right (bytes_eq j l) (is_key_among j ls) old) | inr is ↦ inr is ]
     ])
-    (λ same n. elim (or_cases (bytes_eq j k) (is_key_among j ls) n) [ inl e ↦ inr (same-key j k e) | inr old ↦ inl (or_right (bytes_eq j l) (is_key_among j ls) old) ])
+    (λ same n. elim (or_cases (bytes_eq j k) (is_key_among j ls) n) [
+      | inl e ↦ inr (same-key j k e)
+      | inr old ↦
+          inl (or_right (bytes_eq j l) (is_key_among j ls) old)
+    ])
     m
 
 module _ (p met more : List ℕ → Bool) (ks : List (List ℕ)) where
@@ -79,18 +85,21 @@ module _ (p met more : List ℕ → Bool) (ks : List (List ℕ)) where
 -- ===== All of them
 
 -- where each conflict key was met, what is noted is the list of those behind the bytes
-pub noted-are_all : (rs : List Record) (xs : List StateId) (after : List ℕ) (met : List ℕ → Bool) (ks : List (List ℕ)) → ((k : List ℕ) → IsTrue (is_conflict_key rs xs k) → IsTrue (met k)) → AreNoted (is_conflict_behind rs xs after) met ks →
+pub noted-are_all : (rs : List Record) (xs : List StateId) (after : List ℕ) (met : List ℕ → Bool) (ks : List (List ℕ)) →
+    ((k : List ℕ) → IsTrue (is_conflict_key rs xs k) → IsTrue (met k)) → AreNoted (is_conflict_behind rs xs after) met ks →
     filter (is_key_before after) (conflict_keys rs xs) ≡ ks
 noted-are_all rs xs after met ks all noted =
     same-keys (filter (is_key_before after) (conflict_keys rs xs)) ks (chosen-ascend (is_key_before after) (conflict_keys rs xs) law.ascends) noted.ascend
-    (λ k. filtered k ∙ same_test (is_conflict_behind rs xs after k) (is_key_among k ks) (λ h. noted.complete k (all k (and_parts (is_key_before after k) (is_conflict_key rs xs k) h).1) h) (noted.pass k))
+    (λ k. filtered k ∙ same_test (is_conflict_behind rs xs after k) (is_key_among k ks)
+    (λ h. noted.complete k (all k (and_parts (is_key_before after k) (is_conflict_key rs xs k) h).1) h) (noted.pass k))
   where
     law : ListsConflictKeys rs xs
     law = lists-conflict-keys rs xs
 
     filtered : (k : List ℕ) → is_key_among k (filter (is_key_before after) (conflict_keys rs xs)) ≡ is_conflict_behind rs xs after k
     filtered k =
-        any-filter_same (bytes_eq k) (is_key_before after) (is_key_before after k) (λ l e. ap (is_key_before after) (sym (same-key k l e))) (conflict_keys rs xs)
+        any-filter_same (bytes_eq k) (is_key_before after) (is_key_before after k) (λ l e. ap (is_key_before after) (sym (same-key k l e)))
+        (conflict_keys rs xs)
         ∙ ap (λ b. is_key_before after k && b) (law.complete k)
 
 -- ===== In a set
@@ -99,8 +108,10 @@ noted-are_all rs xs after met ks all noted =
 pub none-noted : (p : List ℕ → Bool) → AreNoted p (λ k. false) []
 none-noted p = record { ascend = refl; pass = λ k m. not-both false m refl; complete = λ k m passes. not-both false m refl }
 
-pub taken-noted : (p met more : List ℕ → Bool) (ks : List (List ℕ)) (key : List ℕ) → ((k : List ℕ) → IsTrue (more k) → IsTrue (met k) ⊎ (k ≡ key)) → IsTrue (p key) → AreNoted p met ks → AreNoted p more (insert_key (slice_cmp nat_cmp) ks key)
-taken-noted p met more ks key wider passes noted = subst (λ zs. AreNoted p more zs) (sym (taken-as_with ks key)) (noted-taken p met more ks key wider passes noted)
+pub taken-noted : (p met more : List ℕ → Bool) (ks : List (List ℕ)) (key : List ℕ) → ((k : List ℕ) → IsTrue (more k) → IsTrue (met k) ⊎ (k ≡ key)) →
+    IsTrue (p key) → AreNoted p met ks → AreNoted p more (insert_key (slice_cmp nat_cmp) ks key)
+taken-noted p met more ks key wider passes noted = subst (λ zs. AreNoted p more zs) (sym (taken-as_with ks key))
+    (noted-taken p met more ks key wider passes noted)
 
 -- a set has a key where it is one of its keys
 pub contained-is_among : (s : BTreeSet Key) (k : List ℕ) → contains_by (slice_cmp nat_cmp k) s ≡ is_key_among k s.keys

@@ -1,5 +1,6 @@
 -- Walks along the states that slots name.
-use Rattle.std.proofs.Common.{◌≡◌, ℕ, zero, suc, ◌+◌, ◌<◌, Bool, List, [], ◌∷◌, ◌++◌, length, take, map, get_or, Option, Some, true, IsTrue, inl, inr, refl, sym, ap, subst, ◌∙◌, arith, add-one}
+use Rattle.std.proofs.Common.{◌≡◌, ℕ, zero, suc, ◌+◌, ◌<◌, Bool, List, [], ◌∷◌, ◌++◌, length, take, map, get_or, Option, Some, true, IsTrue, inl, inr, refl}
+use Rattle.std.proofs.Common.{sym, ap, subst, ◌∙◌, arith, add-one}
 use Rattle.std.specs.Prelude.{slice_get}
 use Rattle.std.specs.List.{list_all}
 use Rattle.std.proofs.lemmas.Bool.{and_parts}
@@ -57,19 +58,22 @@ pub record IsNamedAt (name : Slot → Option StateId) (xs : List StateId) (i : �
   pub one : IsTrue (is_among state xs)
   pub next : take (i + 1) xs ≡ take i xs ++ state ∷ []
 
-named-at : (name : Slot → Option StateId) (ss : List Slot) (xs : List StateId) (i : ℕ) (d : Slot) → Named name ss xs → i < length ss → (x : StateId) × (name (get_or ss i d) ≡ Some x) × (slice_get xs i ≡ Some x)
+named-at : (name : Slot → Option StateId) (ss : List Slot) (xs : List StateId) (i : ℕ) (d : Slot) → Named name ss xs → i < length ss → (x : StateId)
+    × (name (get_or ss i d) ≡ Some x) × (slice_get xs i ≡ Some x)
 named-at name [] xs i d are lt = absurd (omega arith)
 named-at name (s ∷ ss) [] i d are lt = absurd (let bad : ⊥ = cc in bad)
 named-at name (s ∷ ss) (x ∷ xs) zero d are lt = (let here : name s ≡ Some x = cc in (x, here, refl))
 named-at name (s ∷ ss) (x ∷ xs) (suc i) d are lt = (let rest : Named name ss xs = cc in named-at name ss xs i d rest (omega arith))
 
-pub named-next : (name : Slot → Option StateId) (ss : List Slot) (xs : List StateId) (i : ℕ) (d : Slot) → Named name ss xs → i < length ss → IsNamedAt name xs i (get_or ss i d)
+pub named-next : (name : Slot → Option StateId) (ss : List Slot) (xs : List StateId) (i : ℕ) (d : Slot) → Named name ss xs → i < length ss →
+    IsNamedAt name xs i (get_or ss i d)
 named-next name ss xs i d are lt =
     let w = named-at name ss xs i d are lt in
     record { state = w.0; named = w.1; got = w.2; one = got-is_among xs i w.0 w.2; next = take-next xs i w.0 w.2 }
 
 -- they are kept
-pub named-are_kept : (table : Table) (rs : List Record) (ks : List StateId) → Stands table rs ks → (ss : List Slot) (xs : List StateId) → Named (id_at table) ss xs → (x : StateId) → IsTrue (is_among x xs) → IsTrue (is_kept rs ks x)
+pub named-are_kept : (table : Table) (rs : List Record) (ks : List StateId) → Stands table rs ks → (ss : List Slot) (xs : List StateId) →
+    Named (id_at table) ss xs → (x : StateId) → IsTrue (is_among x xs) → IsTrue (is_kept rs ks x)
 named-are_kept table rs ks stands ss [] are x m = not-both true refl (sym m)
 named-are_kept table rs ks stands [] (y ∷ ys) are x m = absurd (let bad : ⊥ = cc in bad)
 named-are_kept table rs ks stands (s ∷ ss) (y ∷ ys) are x m =
@@ -94,4 +98,5 @@ GivesKept table ss = (rs : List Record) (ks : List StateId) → Stands table rs 
 
 -- and these are those of the states apart of the states at those
 abbrev pub GivesApart : Table → List Slot → List Slot → Type 0
-GivesApart table ss apart = (rs : List Record) (ks : List StateId) → Stands table rs ks → (xs : List StateId) → map (id_at table) ss ≡ map (λ x. Some x) xs → map (id_at table) apart ≡ map (λ x. Some x) (apart_states rs ks xs)
+GivesApart table ss apart = (rs : List Record) (ks : List StateId) → Stands table rs ks → (xs : List StateId) → map (id_at table) ss ≡ map (λ x. Some x) xs
+    → map (id_at table) apart ≡ map (λ x. Some x) (apart_states rs ks xs)

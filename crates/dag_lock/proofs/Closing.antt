@@ -26,7 +26,8 @@ once_none p true is = let less : p < 0 = ltb-true p 0 is in absurd (omega arith)
 once_none p false is = refl
 
 -- where all others count nothing, the sum is that of one view
-total_one : (f : View → ℕ) (l : List View) (i : ℕ) (v : View) → get_elem? l i ≡ some v → ((j : ℕ) (u : View) → j ≢ i → get_elem? l j ≡ some u → f u ≡ 0) → total f l ≡ f v
+total_one : (f : View → ℕ) (l : List View) (i : ℕ) (v : View) → get_elem? l i ≡ some v → ((j : ℕ) (u : View) → j ≢ i → get_elem? l j ≡ some u → f u ≡ 0) →
+    total f l ≡ f v
 total_one f [] i v at others = absurd (some-ne-none v (sym at))
 total_one f (x ∷ xs) ℕ.zero v at others =
     let here : f x ≡ f v = ap f (some-injective x v at) in
@@ -35,7 +36,8 @@ total_one f (x ∷ xs) (ℕ.suc i) v at others =
     omega (arith, others 0 x (λ z. omega arith) refl, total_one f xs i v at (λ j u ne e. others (ℕ.suc j) u (λ z. ne (omega arith)) e))
 
 module _ {M : Type 0} (IsOf : Kept M → Type 0) (pieces : ℕ) where
-  first_view : (homes : List (Option (Kept M))) (j : ℕ) (u : View) → 0 < pieces → get_elem? (knows Idle [] [] pieces ∷ []) j ≡ some u → Fits IsOf pieces homes 0 0 (λ t. 0) [] j u
+  first_view : (homes : List (Option (Kept M))) (j : ℕ) (u : View) → 0 < pieces → get_elem? (knows Idle [] [] pieces ∷ []) j ≡ some u →
+      Fits IsOf pieces homes 0 0 (λ t. 0) [] j u
   first_view homes ℕ.zero u some_pieces e = subst (Fits IsOf pieces homes 0 0 (λ t. 0) [] 0) (some-injective (knows Idle [] [] pieces) u e) record {
     turn = tt;
     seen = ([], refl);
@@ -71,12 +73,14 @@ module _ {M : Type 0} (IsOf : Kept M → Type 0) (pieces : ℕ) where
     pub is_of : IsOf machine
     pub places : owned ≡ range_with_len 0 (length seen)
 
-  pub closes : (s : State (Kept M) View) (k : Turns IsOf pieces s) (id : ℕ) (v : View) → get_elem? s.views id ≡ some v → v.stage ≡ Idle → v.pieces ≡ pieces → Closes v.seen v.owned s
+  pub closes : (s : State (Kept M) View) (k : Turns IsOf pieces s) (id : ℕ) (v : View) → get_elem? s.views id ≡ some v → v.stage ≡ Idle → v.pieces ≡ pieces
+      → Closes v.seen v.owned s
   closes s k id v at idle all =
       let own = k.each id v at in
       let without = total_set pieces_in s.views id v spent_view at in
       let spent : (j : ℕ) (u : View) → j ≢ id → get_elem? s.views j ≡ some u → u ≡ spent_view = λ j u ne there.
-      (k.each j u there).spent (let little = total_at pieces_in (set s.views id spent_view) j u (set_else s.views id j spent_view ne ∙ there) in omega (arith, k.whole)) in
+      (k.each j u there).spent (let little = total_at pieces_in (set s.views id spent_view) j u (set_else s.views id j spent_view ne ∙ there) in
+      omega (arith, k.whole)) in
       let once : (p : ℕ) → times p v.owned ≡ once_below p (length k.history) = λ p.
       sym (total_one (times_in p) s.views id v at (λ j u ne there. ap (times_in p) (spent j u ne there))) ∙ k.places p in
       let seen : v.seen ≡ k.history = begins_whole v.seen k.history own.seen (elim (cases_lt (length v.seen) (length k.history)) [
@@ -92,7 +96,8 @@ module _ {M : Type 0} (IsOf : Kept M → Type 0) (pieces : ℕ) where
         | inr away ↦
             let holder = away.1 in
             dite (ℕ_discrete holder.0 id)
-            (λ e. let both : Idle ≡ Takes k.serving = sym idle ∙ (ap (λ (u : View). u.stage) (one_there s.views id holder.0 v holder.1 at holder.2 (sym e)) ∙ holder.3) in cc)
+            (λ e. let both : Idle ≡ Takes k.serving = sym idle
+            ∙ (ap (λ (u : View). u.stage) (one_there s.views id holder.0 v holder.1 at holder.2 (sym e)) ∙ holder.3) in cc)
             (λ ne. let both : Idle ≡ Takes k.serving = sym (ap (λ (u : View). u.stage) (spent holder.0 holder.1 ne holder.2)) ∙ holder.3 in cc)
       ] in record {
         machine = machine.0;
@@ -106,7 +111,8 @@ module _ {M : Type 0} (IsOf : Kept M → Type 0) (pieces : ℕ) where
       }
 
   -- what is taken out of the lock when the whole pass closes it
-  pub closed : (id : ℕ) (v : View) (words : List ℕ) (slots : List (Kept M)) (x : Kept M) → Final (Seen (Turns IsOf pieces) id v) words slots → v.stage ≡ Idle → v.pieces ≡ pieces → get_elem? slots 0 ≡ some x
+  pub closed : (id : ℕ) (v : View) (words : List ℕ) (slots : List (Kept M)) (x : Kept M) → Final (Seen (Turns IsOf pieces) id v) words slots →
+      v.stage ≡ Idle → v.pieces ≡ pieces → get_elem? slots 0 ≡ some x
       → (x.trail ≡ v.seen) × IsOf x × (v.owned ≡ range_with_len 0 (length x.trail))
   closed id v words slots x final idle all first =
       let s = final.0 in

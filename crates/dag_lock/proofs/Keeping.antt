@@ -29,7 +29,8 @@ one_there l i j a b p q e = some-injective a b (sym p ∙ (ap (get_elem? l) e �
 -- a queue where one view changes: each ticket is held by that view, or by another as before
 pub queue_set : (views : List View) (id : ℕ) (v w : View) (ticket serving next served : ℕ) (owner keeper : ℕ → ℕ)
     → get_elem? views id ≡ some v → Queue views ticket serving owner
-    → ((t : ℕ) → served ≤ t → t < next → ((keeper t ≡ id) × (ticket_of w.stage ≡ some t)) ⊎ ((keeper t ≡ owner t) × (serving ≤ t) × (t < ticket) × (ticket_of v.stage ≢ some t)))
+    → ((t : ℕ) → served ≤ t → t < next → ((keeper t ≡ id) × (ticket_of w.stage ≡ some t))
+    ⊎ ((keeper t ≡ owner t) × (serving ≤ t) × (t < ticket) × (ticket_of v.stage ≢ some t)))
     → Queue (set views id w) next served keeper
 queue_set views id v w ticket serving next served owner keeper at queue each t from below =
     elim (each t from below) [
@@ -80,7 +81,8 @@ module _ {M : Type 0} (IsOf : Kept M → Type 0) (pieces : ℕ) where
   pub keeps_rule : (s : State (Kept M) View) (k : Turns IsOf pieces s) (id : ℕ) (v w : View) → get_elem? s.views id ≡ some v
       → (words : List ℕ) (homes : List (Option (Kept M))) (ticket serving : ℕ) (history : List Event) (owner : ℕ → ℕ)
       → words ≡ ticket ∷ serving ∷ [] → serving ≤ ticket → ticket < 18446744073709551616
-      → ((j : ℕ) (u : View) → j ≢ id → get_elem? s.views j ≡ some u → Fits IsOf pieces s.homes k.ticket k.serving k.owner k.history j u → Fits IsOf pieces homes ticket serving owner history j u)
+      → ((j : ℕ) (u : View) → j ≢ id → get_elem? s.views j ≡ some u → Fits IsOf pieces s.homes k.ticket k.serving k.owner k.history j u →
+      Fits IsOf pieces homes ticket serving owner history j u)
       → Fits IsOf pieces homes ticket serving owner history id w
       → Queue (set s.views id w) ticket serving owner
       → Home IsOf pieces homes (set s.views id w) serving history
@@ -96,7 +98,8 @@ module _ {M : Type 0} (IsOf : Kept M → Type 0) (pieces : ℕ) where
     order = order;
     low = low;
     each = λ j u e. elim (at_set s.views id j w u e) [
-      | inl here ↦ subst (λ x. Fits IsOf pieces homes ticket serving owner history x u) (sym here.0) (subst (Fits IsOf pieces homes ticket serving owner history id) here.1 own)
+      | inl here ↦ subst (λ x. Fits IsOf pieces homes ticket serving owner history x u) (sym here.0)
+          (subst (Fits IsOf pieces homes ticket serving owner history id) here.1 own)
       | inr there ↦ others j u there.0 there.1 (k.each j u there.1)
     ];
     queue = queue;

@@ -1,5 +1,6 @@
 -- The steps of a turn keep the rule.
-use Rattle.std.proofs.Common.{◌≡◌, ◌≢◌, ℕ, ◌+◌, ◌%◌, ◌^◌, ◌<◌, ◌≤◌, ◌==◌, List, [], ◌∷◌, ◌++◌, length, get_or, set, refl, sym, ap, ◌∙◌, subst, inl, inr, arith, length-append, if◌then◌else◌, eq-eqb, ne_eqb}
+use Rattle.std.proofs.Common.{◌≡◌, ◌≢◌, ℕ, ◌+◌, ◌%◌, ◌^◌, ◌<◌, ◌≤◌, ◌==◌, List, [], ◌∷◌, ◌++◌, length, get_or, set, refl, sym, ap, ◌∙◌, subst, inl, inr}
+use Rattle.std.proofs.Common.{arith, length-append, if◌then◌else◌, eq-eqb, ne_eqb}
 use mathlib.Core.Logic.{dite}
 use mathlib.Core.Option.{Option, none, some, some-injective, some-ne-none}
 use native.Mathlib.Decide.{ℕ_discrete}
@@ -32,7 +33,8 @@ next_is n low = omega arith
 module _ {M : Type 0} (IsOf : Kept M → Type 0) (pieces : ℕ) where
   -- the machine's home where a view changes that doesn't have it
   home_other : (homes : List (Option (Kept M))) (views : List View) (serving : ℕ) (history : List Event) (id : ℕ) (v w : View)
-      → get_elem? views id ≡ some v → (v.stage ≢ Takes serving) → Home IsOf pieces homes views serving history → Home IsOf pieces homes (set views id w) serving history
+      → get_elem? views id ≡ some v → (v.stage ≢ Takes serving) → Home IsOf pieces homes views serving history →
+      Home IsOf pieces homes (set views id w) serving history
   home_other homes views serving history id v w at apart home =
       elim home [
         | inl here ↦ inl here
@@ -44,7 +46,8 @@ module _ {M : Type 0} (IsOf : Kept M → Type 0) (pieces : ℕ) where
 
   -- where a ticket more is drawn, others stand as before
   draws_other : (homes : List (Option (Kept M))) (ticket serving id : ℕ) (owner keeper : ℕ → ℕ) (history seen : List Event) (j : ℕ) (stage : Stage)
-      → ((t : ℕ) → t < ticket → keeper t ≡ owner t) → InTurn IsOf pieces homes ticket serving owner history j seen stage → InTurn IsOf pieces homes (ticket + 1) serving keeper history j seen stage
+      → ((t : ℕ) → t < ticket → keeper t ≡ owner t) → InTurn IsOf pieces homes ticket serving owner history j seen stage →
+      InTurn IsOf pieces homes (ticket + 1) serving keeper history j seen stage
   draws_other homes ticket serving id owner keeper history seen j Idle same turn = tt
   draws_other homes ticket serving id owner keeper history seen j (Waits t) same turn = (turn.0, omega (arith, turn.1), same t turn.1 ∙ turn.2)
   draws_other homes ticket serving id owner keeper history seen j (Takes t) same turn = (turn.0, omega (arith, turn.1), same t turn.1 ∙ turn.2, turn.3, turn.4)
@@ -60,8 +63,14 @@ module _ {M : Type 0} (IsOf : Kept M → Type 0) (pieces : ℕ) where
   given_else ticket id owner t ne = rw (ne_eqb t ticket ne) refl
 
   -- a pass without a ticket draws the next one
-  draws_one : (s : State (Kept M) View) (k : Turns IsOf pieces s) (id : ℕ) (v : View) → get_elem? s.views id ≡ some v → v.stage ≡ Idle → 0 < v.pieces → k.ticket < 18446744073709551615
-      → Turns IsOf pieces record { words = set s.words 0 (k.ticket + 1); homes = s.homes; views = set s.views id (knows (Waits k.ticket) v.seen v.owned v.pieces) }
+  draws_one : (s : State (Kept M) View) (k : Turns IsOf pieces s) (id : ℕ) (v : View) → get_elem? s.views id ≡ some v → v.stage ≡ Idle → 0 < v.pieces →
+      k.ticket < 18446744073709551615
+      → Turns IsOf pieces record {
+        words = set s.words 0 (k.ticket + 1);
+        homes = s.homes;
+        views =
+            set s.views id (knows (Waits k.ticket) v.seen v.owned v.pieces);
+      }
   draws_one s k id v at idle some_pieces low =
       let own = k.each id v at in
       let keeper = given_to k.ticket id k.owner in
@@ -69,7 +78,8 @@ module _ {M : Type 0} (IsOf : Kept M → Type 0) (pieces : ℕ) where
       keeps_rule IsOf pieces s k id v w at (set s.words 0 (k.ticket + 1)) s.homes (k.ticket + 1) k.serving k.history keeper
       (ap (λ ws. set ws 0 (k.ticket + 1)) k.words) (omega (arith, k.order)) (omega arith)
       (λ j u ne there old. record {
-        turn = draws_other s.homes k.ticket k.serving id k.owner keeper k.history u.seen j u.stage (λ t below. given_else k.ticket id k.owner t (λ e. omega arith)) old.turn;
+        turn = draws_other s.homes k.ticket k.serving id k.owner keeper k.history u.seen j u.stage
+            (λ t below. given_else k.ticket id k.owner t (λ e. omega arith)) old.turn;
         seen = old.seen;
         beside = old.beside;
         owned = old.owned;
@@ -101,14 +111,25 @@ module _ {M : Type 0} (IsOf : Kept M → Type 0) (pieces : ℕ) where
   draws slots id m old low idle some_pieces s k long at range =
       let next : get_or s.words 0 0 ≡ k.ticket = ap (λ ws. get_or ws 0 0) k.words in
       exchanged (get_or s.words 0 0) old (old + 1)
-      (λ x. (w : View) × (a : Act (Kept M)) × Valid s.homes m.1 a × Turns IsOf pieces (stepped s 0 x id m.1 w a) × drawn (step slots 0 old (old + 1) none) m (get_or s.words 0 0) (w, carried_after m.1 a))
+      (λ x. (w : View) × (a : Act (Kept M)) × Valid s.homes m.1 a × Turns IsOf pieces (stepped s 0 x id m.1 w a)
+      × drawn (step slots 0 old (old + 1) none) m (get_or s.words 0 0) (w, carried_after m.1 a))
       (λ hit.
       let same : old ≡ k.ticket = sym hit ∙ next in (
         knows (Waits (get_or s.words 0 0)) m.0.seen m.0.owned m.0.pieces,
         keeps,
         tt,
-        subst (λ n. Turns IsOf pieces record { words = set s.words 0 (old + 1); homes = s.homes; views = set s.views id (knows (Waits n) m.0.seen m.0.owned m.0.pieces) }) (sym next)
-            (subst (λ n. Turns IsOf pieces record { words = set s.words 0 (n + 1); homes = s.homes; views = set s.views id (knows (Waits k.ticket) m.0.seen m.0.owned m.0.pieces) }) (sym same)
+        subst (λ n. Turns IsOf pieces record {
+          words = set s.words 0 (old + 1);
+          homes = s.homes;
+          views =
+              set s.views id (knows (Waits n) m.0.seen m.0.owned m.0.pieces);
+        }) (sym next)
+            (subst (λ n. Turns IsOf pieces record {
+              words = set s.words 0 (n + 1);
+              homes = s.homes;
+              views =
+                  set s.views id (knows (Waits k.ticket) m.0.seen m.0.owned m.0.pieces);
+            }) (sym same)
             (draws_one s k id m.0 at idle some_pieces (omega arith))),
         ((λ _. refl), λ miss. absurd (miss hit)),
       ))
@@ -116,18 +137,26 @@ module _ {M : Type 0} (IsOf : Kept M → Type 0) (pieces : ℕ) where
 
   -- where the served pass takes the machine, others stand as before
   looks_other : (homes : List (Option (Kept M))) (ticket serving id : ℕ) (owner : ℕ → ℕ) (history seen : List Event) (j : ℕ) (stage : Stage)
-      → owner serving ≡ id → j ≢ id → InTurn IsOf pieces homes ticket serving owner history j seen stage → InTurn IsOf pieces (none ∷ []) ticket serving owner history j seen stage
+      → owner serving ≡ id → j ≢ id → InTurn IsOf pieces homes ticket serving owner history j seen stage →
+      InTurn IsOf pieces (none ∷ []) ticket serving owner history j seen stage
   looks_other homes ticket serving id owner history seen j Idle mine ne turn = tt
   looks_other homes ticket serving id owner history seen j (Waits t) mine ne turn = turn
   looks_other homes ticket serving id owner history seen j (Takes t) mine ne turn = absurd (ne (sym turn.2 ∙ (ap owner turn.0 ∙ mine)))
 
   -- the pass whose ticket is served takes the machine
-  takes_it : (s : State (Kept M) View) (k : Turns IsOf pieces s) (id : ℕ) (v : View) (x : Kept M) (t : ℕ) → get_elem? s.views id ≡ some v → v.stage ≡ Waits t → t ≡ k.serving
+  takes_it : (s : State (Kept M) View) (k : Turns IsOf pieces s) (id : ℕ) (v : View) (x : Kept M) (t : ℕ) → get_elem? s.views id ≡ some v →
+      v.stage ≡ Waits t → t ≡ k.serving
       → s.homes ≡ some x ∷ [] → x.trail ≡ k.history
-      → Turns IsOf pieces record { words = set s.words 1 (get_or s.words 1 0); homes = set s.homes 0 none; views = set s.views id (knows (Takes t) x.trail v.owned v.pieces) }
+      → Turns IsOf pieces record {
+        words = set s.words 1 (get_or s.words 1 0);
+        homes = set s.homes 0 none;
+        views =
+            set s.views id (knows (Takes t) x.trail v.owned v.pieces);
+      }
   takes_it s k id v x t at waits served home trail =
       let own = k.each id v at in
-      let turn : (k.serving ≤ t) × (t < k.ticket) × (k.owner t ≡ id) = subst (InTurn IsOf pieces s.homes k.ticket k.serving k.owner k.history id v.seen) waits own.turn in
+      let turn : (k.serving ≤ t) × (t < k.ticket) × (k.owner t ≡ id) =
+      subst (InTurn IsOf pieces s.homes k.ticket k.serving k.owner k.history id v.seen) waits own.turn in
       let mine : k.owner k.serving ≡ id = ap k.owner (sym served) ∙ turn.2 in
       let gone : set s.homes 0 none ≡ none ∷ [] = ap (λ hs. set hs 0 none) home in
       let w : View = knows (Takes t) x.trail v.owned v.pieces in
@@ -158,7 +187,8 @@ module _ {M : Type 0} (IsOf : Kept M → Type 0) (pieces : ℕ) where
   looks Z kin slots id m t waits s k long at range =
       let found : get_or s.words 1 0 ≡ k.serving = ap (λ ws. get_or ws 1 0) k.words in
       let own = k.each id m.0 at in
-      let turn : (k.serving ≤ t) × (t < k.ticket) × (k.owner t ≡ id) = subst (InTurn IsOf pieces s.homes k.ticket k.serving k.owner k.history id m.0.seen) waits own.turn in
+      let turn : (k.serving ≤ t) × (t < k.ticket) × (k.owner t ≡ id) =
+      subst (InTurn IsOf pieces s.homes k.ticket k.serving k.owner k.history id m.0.seen) waits own.turn in
       dite (ℕ_discrete t (get_or s.words 1 0))
       (λ hit.
       let served : t ≡ k.serving = hit ∙ found in
@@ -168,7 +198,12 @@ module _ {M : Type 0} (IsOf : Kept M → Type 0) (pieces : ℕ) where
               knows (Takes (get_or s.words 1 0)) x.trail m.0.owned m.0.pieces,
               takes 0 x,
               ap (λ hs. get_elem? hs 0) here.1,
-              subst (λ n. Turns IsOf pieces record { words = set s.words 1 (get_or s.words 1 0); homes = set s.homes 0 none; views = set s.views id (knows (Takes n) x.trail m.0.owned m.0.pieces) }) hit
+              subst (λ n. Turns IsOf pieces record {
+                words = set s.words 1 (get_or s.words 1 0);
+                homes = set s.homes 0 none;
+                views =
+                    set s.views id (knows (Takes n) x.trail m.0.owned m.0.pieces);
+              }) hit
                   (takes_it s k id m.0 x t at waits served here.1 here.2),
               (
                 (λ _. (x, refl, subst (Begins m.0.seen) (sym here.2) own.seen, kin x here.3)),
@@ -178,9 +213,11 @@ module _ {M : Type 0} (IsOf : Kept M → Type 0) (pieces : ℕ) where
         | inr away ↦
             let holder = away.1 in
             let held = (k.each holder.0 holder.1 holder.2).turn in
-            let taken : (k.serving ≡ k.serving) × (k.serving < k.ticket) × (k.owner k.serving ≡ holder.0) × (holder.1.seen ≡ k.history) × (s.homes ≡ none ∷ []) = subst (InTurn IsOf pieces s.homes k.ticket k.serving k.owner k.history holder.0 holder.1.seen) holder.3 held in
+            let taken : (k.serving ≡ k.serving) × (k.serving < k.ticket) × (k.owner k.serving ≡ holder.0) × (holder.1.seen ≡ k.history)
+            × (s.homes ≡ none ∷ []) = subst (InTurn IsOf pieces s.homes k.ticket k.serving k.owner k.history holder.0 holder.1.seen) holder.3 held in
             let me : id ≡ holder.0 = sym turn.2 ∙ (ap k.owner served ∙ taken.2) in
-            let both : Waits t ≡ Takes k.serving = sym waits ∙ (ap (λ (u : View). u.stage) (one_there s.views id holder.0 m.0 holder.1 at holder.2 me) ∙ holder.3) in
+            let both : Waits t ≡ Takes k.serving = sym waits
+            ∙ (ap (λ (u : View). u.stage) (one_there s.views id holder.0 m.0 holder.1 at holder.2 me) ∙ holder.3) in
             cc
       ])
       (λ miss. (
@@ -193,7 +230,8 @@ module _ {M : Type 0} (IsOf : Kept M → Type 0) (pieces : ℕ) where
 
   -- where the turn is passed on, those that wait still do
   passes_other : (homes after : List (Option (Kept M))) (ticket serving id : ℕ) (owner : ℕ → ℕ) (history later seen : List Event) (j : ℕ) (stage : Stage)
-      → owner serving ≡ id → j ≢ id → InTurn IsOf pieces homes ticket serving owner history j seen stage → InTurn IsOf pieces after ticket (serving + 1) owner later j seen stage
+      → owner serving ≡ id → j ≢ id → InTurn IsOf pieces homes ticket serving owner history j seen stage →
+      InTurn IsOf pieces after ticket (serving + 1) owner later j seen stage
   passes_other homes after ticket serving id owner history later seen j Idle mine ne turn = tt
   passes_other homes after ticket serving id owner history later seen j (Waits t) mine ne turn =
       let other : t ≢ serving = λ e. ne (sym turn.2 ∙ (ap owner e ∙ mine)) in
@@ -202,20 +240,35 @@ module _ {M : Type 0} (IsOf : Kept M → Type 0) (pieces : ℕ) where
 
   -- The pass that has the machine puts it back and passes the turn on. The trail may have grown, by places that the pass
   -- then owns.
-  hands_on : (s : State (Kept M) View) (k : Turns IsOf pieces s) (id : ℕ) (v : View) (y : Kept M) (t : ℕ) (owned : List ℕ) → get_elem? s.views id ≡ some v → v.stage ≡ Takes t
-      → IsOf y → Begins v.seen y.trail → Ascends 0 (length y.trail) owned → ((p : ℕ) → times p owned + once_below p (length v.seen) ≡ times p v.owned + once_below p (length y.trail))
-      → Turns IsOf pieces record { words = set s.words 1 ((get_or s.words 1 0 + 1) % 18446744073709551616); homes = set s.homes 0 (some y); views = set s.views id (knows Idle y.trail owned v.pieces) }
+  hands_on : (s : State (Kept M) View) (k : Turns IsOf pieces s) (id : ℕ) (v : View) (y : Kept M) (t : ℕ) (owned : List ℕ) → get_elem? s.views id ≡ some v
+      → v.stage ≡ Takes t
+      → IsOf y → Begins v.seen y.trail → Ascends 0 (length y.trail) owned →
+      ((p : ℕ) → times p owned + once_below p (length v.seen) ≡ times p v.owned + once_below p (length y.trail))
+      → Turns IsOf pieces record {
+        words = set s.words 1 ((get_or s.words 1 0 + 1) % 18446744073709551616);
+        homes = set s.homes 0 (some y);
+        views =
+            set s.views id (knows Idle y.trail owned v.pieces);
+      }
   hands_on s k id v y t owned at taken is grown up places =
       let own = k.each id v at in
-      let turn : (t ≡ k.serving) × (t < k.ticket) × (k.owner t ≡ id) × (v.seen ≡ k.history) × (s.homes ≡ none ∷ []) = subst (InTurn IsOf pieces s.homes k.ticket k.serving k.owner k.history id v.seen) taken own.turn in
+      let turn : (t ≡ k.serving) × (t < k.ticket) × (k.owner t ≡ id) × (v.seen ≡ k.history) × (s.homes ≡ none ∷ []) =
+      subst (InTurn IsOf pieces s.homes k.ticket k.serving k.owner k.history id v.seen) taken own.turn in
       let mine : k.owner k.serving ≡ id = ap k.owner (sym turn.0) ∙ turn.2 in
       let found : get_or s.words 1 0 ≡ k.serving = ap (λ ws. get_or ws 1 0) k.words in
       let later : Begins k.history y.trail = subst (λ h. Begins h y.trail) turn.3 grown in
-      let next : (get_or s.words 1 0 + 1) % 18446744073709551616 ≡ k.serving + 1 = ap (λ n. (n + 1) % 18446744073709551616) found ∙ next_is k.serving (omega (arith, turn.0, turn.1, k.low)) in
+      let next : (get_or s.words 1 0 + 1) % 18446744073709551616 ≡ k.serving + 1 = ap (λ n. (n + 1) % 18446744073709551616) found
+      ∙ next_is k.serving (omega (arith, turn.0, turn.1, k.low)) in
       let back : set s.homes 0 (some y) ≡ some y ∷ [] = ap (λ hs. set hs 0 (some y)) turn.4 in
       let w : View = knows Idle y.trail owned v.pieces in
-      subst (λ hs. Turns IsOf pieces record { words = set s.words 1 ((get_or s.words 1 0 + 1) % 18446744073709551616); homes = hs; views = set s.views id w }) (sym back)
-      (keeps_rule IsOf pieces s k id v w at (set s.words 1 ((get_or s.words 1 0 + 1) % 18446744073709551616)) (some y ∷ []) k.ticket (k.serving + 1) y.trail k.owner
+      subst (λ hs. Turns IsOf pieces record {
+        words = set s.words 1 ((get_or s.words 1 0 + 1) % 18446744073709551616);
+        homes = hs;
+        views =
+            set s.views id w;
+      }) (sym back)
+      (keeps_rule IsOf pieces s k id v w at (set s.words 1 ((get_or s.words 1 0 + 1) % 18446744073709551616)) (some y ∷ []) k.ticket
+      (k.serving + 1) y.trail k.owner
       (ap (λ n. set s.words 1 n) next ∙ ap (λ ws. set ws 1 (k.serving + 1)) k.words) (omega (arith, turn.0, turn.1)) k.low
       (λ j u ne there old. record {
         turn = passes_other s.homes (some y ∷ []) k.ticket k.serving id k.owner k.history y.trail u.seen j u.stage mine ne old.turn;
@@ -251,14 +304,23 @@ module _ {M : Type 0} (IsOf : Kept M → Type 0) (pieces : ℕ) where
         w,
         gives,
         tt,
-        subst (λ (c : List (ℕ × Kept M)). Turns IsOf pieces record { words = set s.words 1 next; homes = put_back s.homes c; views = set s.views id w }) (sym is)
-            (subst (λ seen. Turns IsOf pieces record { words = set s.words 1 next; homes = set s.homes 0 (some y); views = set s.views id (knows Idle seen m.0.owned m.0.pieces) }) same
-            (hands_on s k id m.0 y t m.0.owned at taken of (begins_is m.0.seen y.trail (sym same)) (subst (λ seen. Ascends 0 (length seen) m.0.owned) (sym same) own.owned) (λ p. ap (λ seen. times p m.0.owned + once_below p (length seen)) (sym same)))),
+        subst (λ (c : List (ℕ × Kept M)). Turns IsOf pieces record { words = set s.words 1 next; homes = put_back s.homes c; views = set s.views id w })
+            (sym is)
+            (subst (λ seen. Turns IsOf pieces record {
+              words = set s.words 1 next;
+              homes = set s.homes 0 (some y);
+              views =
+                  set s.views id (knows Idle seen m.0.owned m.0.pieces);
+            }) same
+            (hands_on s k id m.0 y t m.0.owned at taken of (begins_is m.0.seen y.trail (sym same))
+            (subst (λ seen. Ascends 0 (length seen) m.0.owned) (sym same) own.owned)
+            (λ p. ap (λ seen. times p m.0.owned + once_below p (length seen)) (sym same)))),
         ap (λ (c : List (ℕ × Kept M)). (w, rest c)) is,
       )
 
   -- the machine goes back with an entry more
-  pub passes_added : (slots id : ℕ) (m : Me (Kept M) View) (y : Kept M) (t : ℕ) (e : Event) → m.0.stage ≡ Takes t → m.1 ≡ (0, y) ∷ [] → IsOf y → y.trail ≡ m.0.seen ++ e ∷ []
+  pub passes_added : (slots id : ℕ) (m : Me (Kept M) View) (y : Kept M) (t : ℕ) (e : Event) → m.0.stage ≡ Takes t → m.1 ≡ (0, y) ∷ [] → IsOf y →
+      y.trail ≡ m.0.seen ++ e ∷ []
       → Allows (Turns IsOf pieces) slots id m 1 (λ n. (n + 1) % 2 ^ 64) (added (step slots 1 1 0 none) m)
   passes_added slots id m y t e taken is of more s k long at range =
       let own = k.each id m.0 at in
@@ -270,9 +332,16 @@ module _ {M : Type 0} (IsOf : Kept M → Type 0) (pieces : ℕ) where
         w,
         gives,
         tt,
-        subst (λ (c : List (ℕ × Kept M)). Turns IsOf pieces record { words = set s.words 1 next; homes = put_back s.homes c; views = set s.views id w }) (sym is)
-            (subst (λ seen. Turns IsOf pieces record { words = set s.words 1 next; homes = set s.homes 0 (some y); views = set s.views id (knows Idle seen owned m.0.pieces) }) (sym trail)
-            (hands_on s k id m.0 y t owned at taken of (e ∷ [], more) (subst (λ n. Ascends 0 n owned) (sym count) (ascends_snoc 0 (length m.0.seen) m.0.owned own.owned (omega arith)))
+        subst (λ (c : List (ℕ × Kept M)). Turns IsOf pieces record { words = set s.words 1 next; homes = put_back s.homes c; views = set s.views id w })
+            (sym is)
+            (subst (λ seen. Turns IsOf pieces record {
+              words = set s.words 1 next;
+              homes = set s.homes 0 (some y);
+              views =
+                  set s.views id (knows Idle seen owned m.0.pieces);
+            }) (sym trail)
+            (hands_on s k id m.0 y t owned at taken of (e ∷ [], more)
+            (subst (λ n. Ascends 0 n owned) (sym count) (ascends_snoc 0 (length m.0.seen) m.0.owned own.owned (omega arith)))
             (λ p. omega (arith, times_snoc p m.0.owned (length m.0.seen), once_more p (length m.0.seen), ap (once_below p) count)))),
         ap (λ (c : List (ℕ × Kept M)). (w, rest c)) is,
       )

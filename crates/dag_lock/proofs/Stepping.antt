@@ -21,7 +21,8 @@ use Rattle.dag_lock.proofs.Places.{ascends_more, ascends_snoc}
 
 module _ {M : Type 0} where
   -- what was taken, at the pass that waited
-  pub took_here : (Z : Kept M → Type 0) (m start after : Me (Kept M) View) (n t : ℕ) → m ≡ start → n ≡ t → start.0.stage ≡ Waits t → (m.0.stage ≡ Waits n → Took Z m n after) → Took Z start t after
+  pub took_here : (Z : Kept M → Type 0) (m start after : Me (Kept M) View) (n t : ℕ) → m ≡ start → n ≡ t → start.0.stage ≡ Waits t →
+      (m.0.stage ≡ Waits n → Took Z m n after) → Took Z start t after
   took_here Z m start after n t same served waits took =
       subst (λ k. Took Z start k after) served
       (subst (λ (x : Me (Kept M) View). Took Z x n after) same
@@ -48,7 +49,8 @@ live_view lock views v p is one live =
 
 module _ {M P : Type 0} (opening : M → P) (plain : PlainMachine P) where
   -- the machine that comes back
-  pub returns_it : (z : Kept M) (m taken after : Me (Kept M) View) (t : ℕ) (e : Event) (r : Acted) (out : List ℕ) → m.1 ≡ [] → Took (IsOfLock opening plain z) m t taken → after.0 ≡ taken.0
+  pub returns_it : (z : Kept M) (m taken after : Me (Kept M) View) (t : ℕ) (e : Event) (r : Acted) (out : List ℕ) → m.1 ≡ [] →
+      Took (IsOfLock opening plain z) m t taken → after.0 ≡ taken.0
       → Holds taken (λ x. Holds after (λ y. Acts opening plain e r out x y)) → Returns (IsOfLock opening plain z) r after
   unfolding holds_it
   returns_it z m taken after t e r out empty took same acts =
@@ -67,7 +69,8 @@ module _ {M P : Type 0} (opening : M → P) (plain : PlainMachine P) where
       )
 
   -- how the step ends, for each answer
-  ended_by : (z x y : Kept M) (v : View) (t : ℕ) (e : Event) (r : Acted) (out : List ℕ) (lock other : TableId) → Begins v.seen x.trail → IsOfLock opening plain z x → Acts opening plain e r out x y
+  ended_by : (z x y : Kept M) (v : View) (t : ℕ) (e : Event) (r : Acted) (out : List ℕ) (lock other : TableId) → Begins v.seen x.trail →
+      IsOfLock opening plain z x → Acts opening plain e r out x y
       → Ended opening plain z (known_of lock (v ∷ [])) e out (known_of other ((passed r (knows (Takes t) x.trail v.owned v.pieces, (0, y) ∷ [])).0 ∷ [])) r
   ended_by z x y v t e Done out lock other seen of did = (
     x.trail,
@@ -89,23 +92,37 @@ module _ {M P : Type 0} (opening : M → P) (plain : PlainMachine P) where
   )
 
   -- the seat is then a pass's
-  rests_by : (x y : Kept M) (v : View) (t : ℕ) (e : Event) (r : Acted) (out : List ℕ) → Begins v.seen x.trail → Acts opening plain e r out x y → Ascends 0 (length v.seen) v.owned
-      → ((passed r (knows (Takes t) x.trail v.owned v.pieces, (0, y) ∷ [])).1 ≡ []) × ((passed r (knows (Takes t) x.trail v.owned v.pieces, (0, y) ∷ [])).0.stage ≡ Idle)
+  rests_by : (x y : Kept M) (v : View) (t : ℕ) (e : Event) (r : Acted) (out : List ℕ) → Begins v.seen x.trail → Acts opening plain e r out x y →
+      Ascends 0 (length v.seen) v.owned
+      → ((passed r (knows (Takes t) x.trail v.owned v.pieces, (0, y) ∷ [])).1 ≡ [])
+      × ((passed r (knows (Takes t) x.trail v.owned v.pieces, (0, y) ∷ [])).0.stage ≡ Idle)
       × ((passed r (knows (Takes t) x.trail v.owned v.pieces, (0, y) ∷ [])).0.pieces ≡ v.pieces)
-      × Ascends 0 (length (passed r (knows (Takes t) x.trail v.owned v.pieces, (0, y) ∷ [])).0.seen) (passed r (knows (Takes t) x.trail v.owned v.pieces, (0, y) ∷ [])).0.owned
+      × Ascends 0 (length (passed r (knows (Takes t) x.trail v.owned v.pieces, (0, y) ∷ [])).0.seen)
+      (passed r (knows (Takes t) x.trail v.owned v.pieces, (0, y) ∷ [])).0.owned
       × AllByRecursion IsEntry (passed r (knows (Takes t) x.trail v.owned v.pieces, (0, y) ∷ [])).0.seen
   rests_by x y v t e Done out seen did up = (
     refl,
     refl,
     refl,
     subst (λ n. Ascends 0 n (v.owned ++ length x.trail ∷ [])) (sym (ap length did.trail ∙ omega (arith, length-append x.trail (e ∷ []))))
-        (ascends_snoc 0 (length x.trail) v.owned (ascends_more 0 (length v.seen) (length x.trail) v.owned up (begins_length v.seen x.trail seen)) (omega arith)),
+        (ascends_snoc 0 (length x.trail) v.owned (ascends_more 0 (length v.seen) (length x.trail) v.owned up (begins_length v.seen x.trail seen))
+        (omega arith)),
     did.each,
   )
-  rests_by x y v t e (TrailFull bytes) out seen did up =
-      (refl, refl, refl, ascends_more 0 (length v.seen) (length x.trail) v.owned up (begins_length v.seen x.trail seen), subst (λ l. AllByRecursion IsEntry l) did.trail did.each)
-  rests_by x y v t e NoMemory out seen did up =
-      (refl, refl, refl, ascends_more 0 (length v.seen) (length x.trail) v.owned up (begins_length v.seen x.trail seen), subst (λ l. AllByRecursion IsEntry l) did.trail did.each)
+  rests_by x y v t e (TrailFull bytes) out seen did up = (
+    refl,
+    refl,
+    refl,
+    ascends_more 0 (length v.seen) (length x.trail) v.owned up (begins_length v.seen x.trail seen),
+    subst (λ l. AllByRecursion IsEntry l) did.trail did.each,
+  )
+  rests_by x y v t e NoMemory out seen did up = (
+    refl,
+    refl,
+    refl,
+    ascends_more 0 (length v.seen) (length x.trail) v.owned up (begins_length v.seen x.trail seen),
+    subst (λ l. AllByRecursion IsEntry l) did.trail did.each,
+  )
 
   pub record StepEnds (z : Kept M) (v : View) (e : Event) (r : Acted) (out : List ℕ) (lock other : TableId) (last : Me (Kept M) View) : Type 0 where
     pub ended : Ended opening plain z (known_of lock (v ∷ [])) e out (known_of other (last.0 ∷ [])) r
@@ -115,7 +132,8 @@ module _ {M P : Type 0} (opening : M → P) (plain : PlainMachine P) where
     pub up : Ascends 0 (length last.0.seen) last.0.owned
     pub each : AllByRecursion IsEntry last.0.seen
 
-  pub step_ends : (z : Kept M) (v : View) (m taken after last : Me (Kept M) View) (t : ℕ) (e : Event) (r : Acted) (out : List ℕ) (lock other : TableId) (none : List (ℕ × Kept M))
+  pub step_ends : (z : Kept M) (v : View) (m taken after last : Me (Kept M) View) (t : ℕ) (e : Event) (r : Acted) (out : List ℕ) (lock other : TableId)
+      (none : List (ℕ × Kept M))
       → m ≡ (knows (Waits t) v.seen v.owned v.pieces, none) → none ≡ [] → Took (IsOfLock opening plain z) m t taken → after.0 ≡ taken.0
       → Holds taken (λ x. Holds after (λ y. Acts opening plain e r out x y)) → last ≡ passed r after → Ascends 0 (length v.seen) v.owned
       → StepEnds z v e r out lock other last

@@ -1,10 +1,12 @@
 -- A history with one more call.
-use Rattle.std.proofs.Common.{◌≡◌, ◌⊎◌, inl, inr, ⊎_elim, ℕ, ◌+◌, ◌≤◌, List, [], ◌∷◌, ◌++◌, length, take, drop, refl, sym, ap, ◌∙◌, subst, arith, length-append, append-nil}
+use Rattle.std.proofs.Common.{◌≡◌, ◌⊎◌, inl, inr, ⊎_elim, ℕ, ◌+◌, ◌≤◌, List, [], ◌∷◌, ◌++◌, length, take, drop, refl, sym, ap, ◌∙◌, subst, arith}
+use Rattle.std.proofs.Common.{length-append, append-nil}
 use Rattle.std.proofs.lemmas.List.{take-append-le, drop-append-le, take_all, length-drop}
 use Rattle.disk_forms.specs.declared.histories.Kept.{Kept}
 use Rattle.disk_forms.specs.declared.histories.Kept.TheVariants.{Looked, Wrote, Tore, CutTo, MayCut, Synced}
 use Rattle.disk_store.specs.Disks.{with_bytes, Torn, Shortened, Follows, NoMore, Only, Elapses}
-use Rattle.disk_forms.specs.Memory.{Call, Known, Recorded, fresh, after, known_after, known_of, with_call, IsImage, LeftSince, used, used_of, with_written, MayNote, IsQuiet}
+use Rattle.disk_forms.specs.Memory.{Call, Known, Recorded, fresh, after, known_after, known_of, with_call, IsImage, LeftSince, used, used_of, with_written}
+use Rattle.disk_forms.specs.Memory.{MayNote, IsQuiet}
 use Rattle.disk_forms.specs.MemoryLaws.{steps_last, torn_same, shortened_same, reads_is}
 
 pub used_more : (calls : List Kept) (kept : Kept) → used_of (calls ++ kept ∷ []) ≡ used_of calls + used kept
@@ -12,7 +14,8 @@ used_more [] kept = omega arith
 used_more (first ∷ calls) kept = omega (arith, used_more calls kept)
 
 -- one more call, with the bytes that it wrote
-pub with_more : (calls : List Kept) (kept : Kept) (written bytes : List ℕ) → used_of calls ≡ length written → used kept ≡ length bytes → with_written (calls ++ kept ∷ []) (written ++ bytes) ≡ with_written calls written ++ (kept, bytes) ∷ []
+pub with_more : (calls : List Kept) (kept : Kept) (written bytes : List ℕ) → used_of calls ≡ length written → used kept ≡ length bytes →
+    with_written (calls ++ kept ∷ []) (written ++ bytes) ≡ with_written calls written ++ (kept, bytes) ∷ []
 with_more [] kept [] bytes all is = ap (λ b. (kept, b) ∷ []) (take_all (used kept) bytes (omega (arith, is)))
 with_more [] kept (x ∷ written) bytes all is = absurd (omega (arith, all))
 with_more (first ∷ calls) kept written bytes all is =
@@ -26,10 +29,12 @@ pub known_more : (s : Known) (calls : List Call) (call : Call) → known_after s
 known_more s [] call = refl
 known_more s (first ∷ calls) call = known_more (after s first) calls call
 
-since_more : (t : ℕ) (s : Known) (calls : List Call) (call : Call) (image : List ℕ) → t ≤ length calls → LeftSince t s (calls ++ call ∷ []) image → LeftSince t s calls image ⊎ IsImage (known_after s (calls ++ call ∷ [])) image
+since_more : (t : ℕ) (s : Known) (calls : List Call) (call : Call) (image : List ℕ) → t ≤ length calls → LeftSince t s (calls ++ call ∷ []) image →
+    LeftSince t s calls image ⊎ IsImage (known_after s (calls ++ call ∷ [])) image
 since_more ℕ.zero s [] call image le left = left
 since_more ℕ.zero s (first ∷ calls) call image le (inl here) = inl (inl here)
-since_more ℕ.zero s (first ∷ calls) call image le (inr later) = ⊎_elim (λ was. inl (inr was)) (λ now. inr now) (since_more ℕ.zero (after s first) calls call image (omega arith) later)
+since_more ℕ.zero s (first ∷ calls) call image le (inr later) =
+    ⊎_elim (λ was. inl (inr was)) (λ now. inr now) (since_more ℕ.zero (after s first) calls call image (omega arith) later)
 since_more (ℕ.suc t) s [] call image le left = absurd (omega arith)
 since_more (ℕ.suc t) s (first ∷ calls) call image le left = since_more t (after s first) calls call image (omega arith) left
 
@@ -44,7 +49,8 @@ abbrev pub Since : Recorded → ℕ → List ℕ → Type 0
 Since r t image = LeftSince t (fresh r.first) r.calls image
 
 -- time goes on by a call
-pub elapses_more : (old new : Recorded) (kept : Kept) (bytes : List ℕ) → new ≡ with_call old kept bytes → Elapses (length old.calls) (length new.calls) (Since old) (Since new) (IsImage (known_of new))
+pub elapses_more : (old new : Recorded) (kept : Kept) (bytes : List ℕ) → new ≡ with_call old kept bytes →
+    Elapses (length old.calls) (length new.calls) (Since old) (Since new) (IsImage (known_of new))
 elapses_more old new kept bytes is = subst (λ r. Elapses (length old.calls) (length r.calls) (Since old) (Since r) (IsImage (known_of r))) (sym is) (record {
   later = omega (arith, length-append old.calls ((kept, bytes) ∷ []));
   nothing_else = λ t image le left. since_more t (fresh old.first) old.calls (kept, bytes) image le left;
@@ -58,7 +64,8 @@ elapses_same old new is = subst (λ r. Elapses (length old.calls) (length r.call
   keeps = λ t image le left. left;
 })
 
-pub elapses_noted : (old new : Recorded) (kept : Kept) → MayNote kept old new → Elapses (length old.calls) (length new.calls) (Since old) (Since new) (IsImage (known_of new))
+pub elapses_noted : (old new : Recorded) (kept : Kept) → MayNote kept old new → Elapses (length old.calls) (length new.calls) (Since old) (Since new)
+    (IsImage (known_of new))
 elapses_noted old new kept (inl is) = elapses_more old new kept [] is
 elapses_noted old new kept (inr is) = elapses_same old new is
 
@@ -84,12 +91,15 @@ quiet_reads s (MayCut len) bytes quiet = refl
 quiet_reads s Synced bytes quiet = refl
 
 -- the same of a call that wrote nothing
-pub with_none : (calls : List Kept) (kept : Kept) (written : List ℕ) → used_of calls ≡ length written → used kept ≡ 0 → with_written (calls ++ kept ∷ []) written ≡ with_written calls written ++ (kept, []) ∷ []
+pub with_none : (calls : List Kept) (kept : Kept) (written : List ℕ) → used_of calls ≡ length written → used kept ≡ 0 →
+    with_written (calls ++ kept ∷ []) written ≡ with_written calls written ++ (kept, []) ∷ []
 with_none calls kept written all is = ap (with_written (calls ++ kept ∷ [])) (sym (append-nil written)) ∙ with_more calls kept written [] all is
 
 -- what a read gives after one more call
-pub reads_more : (first : List ℕ) (calls more : List Call) (call : Call) (bytes : List ℕ) → more ≡ calls ++ call ∷ [] → bytes ≡ (after (known_after (fresh first) calls) call).reads → bytes ≡ (known_after (fresh first) more).reads
-reads_more first calls more call bytes is gives = gives ∙ (ap (λ s. s.reads) (sym (known_more (fresh first) calls call)) ∙ ap (λ ks. (known_after (fresh first) ks).reads) (sym is))
+pub reads_more : (first : List ℕ) (calls more : List Call) (call : Call) (bytes : List ℕ) → more ≡ calls ++ call ∷ [] →
+    bytes ≡ (after (known_after (fresh first) calls) call).reads → bytes ≡ (known_after (fresh first) more).reads
+reads_more first calls more call bytes is gives = gives ∙ (ap (λ s. s.reads) (sym (known_more (fresh first) calls call))
+    ∙ ap (λ ks. (known_after (fresh first) ks).reads) (sym is))
 
 pub length_with : (calls : List Kept) (written : List ℕ) → length (with_written calls written) ≡ length calls
 length_with [] written = refl
@@ -107,10 +117,12 @@ pub looked_crash : (old new : Recorded) → MayNote Looked old new → NoMore (I
 looked_crash old new is = λ image left. subst (λ s. IsImage s image) (looked old new is) left
 
 -- a write
-pub wrote_reads : (old new : Recorded) (place n : ℕ) (bytes : List ℕ) → new ≡ with_call old (Wrote place n) bytes → (known_of new).reads ≡ with_bytes (known_of old).reads place bytes
+pub wrote_reads : (old new : Recorded) (place n : ℕ) (bytes : List ℕ) → new ≡ with_call old (Wrote place n) bytes → (known_of new).reads
+    ≡ with_bytes (known_of old).reads place bytes
 wrote_reads old new place n bytes is = ap (λ s. s.reads) (known_is old new (Wrote place n) bytes is)
 
-pub wrote_crash : (old new : Recorded) (place n : ℕ) (bytes : List ℕ) → new ≡ with_call old (Wrote place n) bytes → Follows (Torn place (length bytes)) (IsImage (known_of old)) (IsImage (known_of new))
+pub wrote_crash : (old new : Recorded) (place n : ℕ) (bytes : List ℕ) → new ≡ with_call old (Wrote place n) bytes →
+    Follows (Torn place (length bytes)) (IsImage (known_of old)) (IsImage (known_of new))
 wrote_crash old new place n bytes is = λ image left.
     let s = known_of old in
     let last = steps_last s.base s.pending (Wrote place n, bytes) image (subst (λ k. IsImage k image) (known_is old new (Wrote place n) bytes is) left) in
@@ -150,6 +162,8 @@ synced old new is = λ image left. subst (λ k. IsImage k image) (known_is old n
 pub synced_crash : (old new : Recorded) → new ≡ with_call old Synced [] → NoMore (IsImage (known_of old)) (IsImage (known_of new))
 synced_crash old new is = λ image left. subst (IsImage (known_of old)) (sym (synced old new is image left)) (reads_is (fresh old.first) old.calls refl)
 
-pub view_call : (first : List ℕ) (calls more : List Call) (n m room : ℕ) (kept : Kept) (bytes : List ℕ) → more ≡ calls ++ (kept, bytes) ∷ [] → m ≡ n + length bytes
-    → record { first = first; calls = more; written = m; room = room } ≡ with_call (record { first = first; calls = calls; written = n; room = room }) kept bytes
+pub view_call : (first : List ℕ) (calls more : List Call) (n m room : ℕ) (kept : Kept) (bytes : List ℕ) → more ≡ calls ++ (kept, bytes) ∷ [] →
+    m ≡ n + length bytes
+    → record { first = first; calls = more; written = m; room = room } ≡ with_call (record { first = first; calls = calls; written = n; room = room }) kept
+    bytes
 view_call first calls more n m room kept bytes is count = λ i. record { first = first; calls = is i; written = count i; room = room }

@@ -1,5 +1,6 @@
 -- What a crash leaves, from the last good sync on.
-use Rattle.std.proofs.Common.{◌≡◌, inl, inr, ℕ, ◌+◌, ◌≤◌, List, [], ◌∷◌, ◌++◌, length, take, drop, refl, sym, ap, ◌∙◌, subst, arith, take-append-drop, length-drop}
+use Rattle.std.proofs.Common.{◌≡◌, inl, inr, ℕ, ◌+◌, ◌≤◌, List, [], ◌∷◌, ◌++◌, length, take, drop, refl, sym, ap, ◌∙◌, subst, arith, take-append-drop}
+use Rattle.std.proofs.Common.{length-drop}
 use Rattle.std.proofs.lemmas.List.{drop-drop}
 use Rattle.disk_forms.specs.declared.histories.Kept.{Kept}
 use Rattle.disk_forms.specs.declared.histories.Kept.TheVariants.{Looked, Wrote, Tore, CutTo, MayCut, Synced}
@@ -13,7 +14,8 @@ pub used_split : (one other : List Kept) → used_of (one ++ other) ≡ used_of 
 used_split [] other = omega arith
 used_split (kept ∷ one) other = omega (arith, used_split one other)
 
-pub with_split : (one other : List Kept) (written : List ℕ) → with_written (one ++ other) written ≡ with_written one written ++ with_written other (drop (used_of one) written)
+pub with_split : (one other : List Kept) (written : List ℕ) → with_written (one ++ other) written ≡ with_written one written
+    ++ with_written other (drop (used_of one) written)
 with_split [] other written = refl
 with_split (kept ∷ one) other written =
     let rest = with_split one other (drop (used kept) written) in
@@ -38,12 +40,15 @@ reads_by s [] = refl
 reads_by s (call ∷ calls) = ap (λ b. read_after_all b calls) (reads_one s call) ∙ reads_by (after s call) calls
 
 -- after a sync nothing is pending
-settled_fresh : (first : List ℕ) (calls : List Kept) (written : List ℕ) → IsSettled calls → known_after (fresh first) (with_written calls written) ≡ fresh (known_after (fresh first) (with_written calls written)).reads
-settled_fresh first calls written (inl none) = subst (λ ks. known_after (fresh first) (with_written ks written) ≡ fresh (known_after (fresh first) (with_written ks written)).reads) (sym none) refl
+settled_fresh : (first : List ℕ) (calls : List Kept) (written : List ℕ) → IsSettled calls → known_after (fresh first) (with_written calls written)
+    ≡ fresh (known_after (fresh first) (with_written calls written)).reads
+settled_fresh first calls written (inl none) = subst (λ ks. known_after (fresh first) (with_written ks written)
+    ≡ fresh (known_after (fresh first) (with_written ks written)).reads) (sym none) refl
 settled_fresh first calls written (inr (before, is)) =
     let done = with_written before written in
     let last : with_written calls written ≡ done ++ (Synced, []) ∷ [] = ap (λ ks. with_written ks written) is ∙ with_split before (Synced ∷ []) written in
-    let known : known_after (fresh first) (with_written calls written) ≡ fresh (known_after (fresh first) done).reads = ap (known_after (fresh first)) last ∙ known_more (fresh first) done (Synced, []) in
+    let known : known_after (fresh first) (with_written calls written) ≡ fresh (known_after (fresh first) done).reads = ap (known_after (fresh first)) last
+    ∙ known_more (fresh first) done (Synced, []) in
     known ∙ sym (ap (λ s. fresh s.reads) known)
 
 -- without a sync the base stays
@@ -57,7 +62,8 @@ base_stays s (MayCut len ∷ calls) written none = base_stays (after s (MayCut l
 base_stays s (Synced ∷ calls) written none = absurd (none)
 
 -- steps by calls among which no sync is lead from images to images
-pub image_on : (s : Known) (calls : List Kept) (written old image : List ℕ) → HasNoSync calls → IsImage s old → Steps old (with_written calls written) image → IsImage (known_after s (with_written calls written)) image
+pub image_on : (s : Known) (calls : List Kept) (written old image : List ℕ) → HasNoSync calls → IsImage s old →
+    Steps old (with_written calls written) image → IsImage (known_after s (with_written calls written)) image
 image_on s [] written old image none is steps = subst (IsImage s) (sym steps) is
 image_on s (Looked ∷ calls) written old image none is steps =
     image_on s calls (drop 0 written) steps.0 image none (subst (IsImage s) (sym steps.1.0) is) steps.1.1
@@ -93,10 +99,12 @@ pub record Cut (first : List ℕ) (calls one other : List Kept) (written : List 
   pub base : read_after_all first (with_written one written) ≡ (known_after (fresh first) (with_written calls written)).base
   pub since : IsSince (known_after (fresh first) (with_written calls written)) (with_written other (drop (used_of one) written))
 
-pub cut_at : (first : List ℕ) (calls one other : List Kept) (written : List ℕ) → one ++ other ≡ calls → IsSettled one → HasNoSync other → Cut first calls one other written
+pub cut_at : (first : List ℕ) (calls one other : List Kept) (written : List ℕ) → one ++ other ≡ calls → IsSettled one → HasNoSync other →
+    Cut first calls one other written
 cut_at first calls one other written is settled none = record {
   base = reads_by (fresh first) done ∙ sym base;
-  since = λ image steps. subst (λ s. IsImage s image) (sym known) (image_on (fresh left) other rest left image none refl (subst (λ b. Steps b later image) base steps));
+  since = λ image steps. subst (λ s. IsImage s image) (sym known)
+      (image_on (fresh left) other rest left image none refl (subst (λ b. Steps b later image) base steps));
 }
   where
     done : List Call
@@ -120,11 +128,13 @@ cut_at first calls one other written is settled none = record {
     base : (known_after (fresh first) (with_written calls written)).base ≡ left
     base = ap (λ s. s.base) known ∙ base_stays (fresh left) other rest none
 
-pub cut_here : (first : List ℕ) (calls : List Kept) (written : List ℕ) (n : ℕ) → IsSettled (take n calls) → HasNoSync (drop n calls) → Cut first calls (take n calls) (drop n calls) written
+pub cut_here : (first : List ℕ) (calls : List Kept) (written : List ℕ) (n : ℕ) → IsSettled (take n calls) → HasNoSync (drop n calls) →
+    Cut first calls (take n calls) (drop n calls) written
 cut_here first calls written n settled none = cut_at first calls (take n calls) (drop n calls) written (take-append-drop n calls) settled none
 
 -- the same of what is seen of the calls and the bytes
-pub since_seen : (first : List ℕ) (calls later : List Kept) (written rest : List ℕ) (n : ℕ) (known : Known) → Cut first calls (take n calls) (drop n calls) written → known_after (fresh first) (with_written calls written) ≡ known
+pub since_seen : (first : List ℕ) (calls later : List Kept) (written rest : List ℕ) (n : ℕ) (known : Known) →
+    Cut first calls (take n calls) (drop n calls) written → known_after (fresh first) (with_written calls written) ≡ known
     → later ≡ drop n calls → rest ≡ drop (used_of (take n calls)) written → IsSince known (with_written later rest)
 since_seen first calls later written rest n known cut is late left =
     subst (λ s. IsSince s (with_written later rest)) is
@@ -135,9 +145,18 @@ pub used_front : (calls : List Kept) (written : List ℕ) (n : ℕ) → used_of 
 used_front calls written n all =
     omega (arith, used_split (take n calls) (drop n calls), ap used_of (take-append-drop n calls), all)
 
-pub used_back : (calls later : List Kept) (written rest : List ℕ) (n : ℕ) → used_of calls ≡ length written → later ≡ drop n calls → rest ≡ drop (used_of (take n calls)) written → used_of later ≤ length rest
+pub used_back : (calls later : List Kept) (written rest : List ℕ) (n : ℕ) → used_of calls ≡ length written → later ≡ drop n calls →
+    rest ≡ drop (used_of (take n calls)) written → used_of later ≤ length rest
 used_back calls later written rest n all late left =
-    omega (arith, used_split (take n calls) (drop n calls), ap used_of (take-append-drop n calls), all, ap used_of late, ap length left, length-drop (used_of (take n calls)) written)
+    omega (
+      arith,
+      used_split (take n calls) (drop n calls),
+      ap used_of (take-append-drop n calls),
+      all,
+      ap used_of late,
+      ap length left,
+      length-drop (used_of (take n calls)) written,
+    )
 
 pub reads_image : (r : Recorded) (bytes : List ℕ) → bytes ≡ (known_of r).reads → IsImage (known_of r) bytes
 reads_image r bytes is = subst (IsImage (known_of r)) (sym is) (reads_is (fresh r.first) r.calls refl)

@@ -1,5 +1,6 @@
 -- Writes that a crash tore.
-use Rattle.std.proofs.Common.{◌≡◌, ℕ, ◌+◌, ◌-◌, ◌<◌, ◌≤◌, List, ◌++◌, length, take, drop, refl, sym, ap, ◌∙◌, subst, arith, length-take, length-drop, length-append}
+use Rattle.std.proofs.Common.{◌≡◌, ℕ, ◌+◌, ◌-◌, ◌<◌, ◌≤◌, List, ◌++◌, length, take, drop, refl, sym, ap, ◌∙◌, subst, arith, length-take, length-drop}
+use Rattle.std.proofs.Common.{length-append}
 use Rattle.std.specs.Prelude.{min}
 use Rattle.std.proofs.lemmas.List.{take-take, drop-drop, take_at, take_min, drop_all}
 use Rattle.disk_store.specs.Disks.{with_bytes, Torn, Shortened}
@@ -23,7 +24,8 @@ torn_within place from count long old new fits t = record {
     end = omega (arith, fits)
 
     back : drop (place + long) new ≡ drop (place + long) old
-    back = subst (λ n. drop n new ≡ drop n old) end (sym (drop-drop (long - (from + count)) (place + from + count) new) ∙ (ap (drop (long - (from + count))) t.after ∙ drop-drop (long - (from + count)) (place + from + count) old))
+    back = subst (λ n. drop n new ≡ drop n old) end (sym (drop-drop (long - (from + count)) (place + from + count) new)
+        ∙ (ap (drop (long - (from + count))) t.after ∙ drop-drop (long - (from + count)) (place + from + count) old))
 
 -- one write over another
 pub torn_torn : (place count : ℕ) (old mid new : List ℕ) → Torn place count old mid → Torn place count mid new → Torn place count old new
@@ -46,9 +48,11 @@ torn_gap place count old gap short fills =
     }
 
 -- and then a write at it
-pub torn_past : (place : ℕ) (old gap bytes : List ℕ) → length old < place → length gap ≡ place - length old → Torn place (length bytes) old (with_bytes (take place old ++ gap) place bytes)
+pub torn_past : (place : ℕ) (old gap bytes : List ℕ) → length old < place → length gap ≡ place - length old →
+    Torn place (length bytes) old (with_bytes (take place old ++ gap) place bytes)
 torn_past place old gap bytes short fills =
-    torn_torn place (length bytes) old (take place old ++ gap) (with_bytes (take place old ++ gap) place bytes) (torn_gap place (length bytes) old gap short fills) (torn_written place (take place old ++ gap) bytes)
+    torn_torn place (length bytes) old (take place old ++ gap) (with_bytes (take place old ++ gap) place bytes)
+    (torn_gap place (length bytes) old gap short fills) (torn_written place (take place old ++ gap) bytes)
 
 pub torn_wider : (place junk count : ℕ) (old new : List ℕ) → junk ≤ count → Torn place junk old new → Torn place count old new
 torn_wider place junk count old new fits t =
@@ -56,10 +60,12 @@ torn_wider place junk count old new fits t =
     torn_within place 0 junk count old new (omega (arith, fits)) (subst (λ p. Torn p junk old new) at t)
 
 -- junk, and a part of what was written over it
-pub torn_part : (place count junk from to start : ℕ) (old mid new bytes : List ℕ) → count ≡ length bytes → junk ≤ count → from ≤ to → to ≤ count → start ≡ place + from
+pub torn_part : (place count junk from to start : ℕ) (old mid new bytes : List ℕ) → count ≡ length bytes → junk ≤ count → from ≤ to → to ≤ count →
+    start ≡ place + from
     → Torn place junk old mid → Torn start (length (take (to - from) (drop from bytes))) mid new → Torn place count old new
 torn_part place count junk from to start old mid new bytes all fits order within at spoiled put =
-    let long : length (take (to - from) (drop from bytes)) ≡ to - from = omega (arith, length-take (to - from) (drop from bytes), length-drop from bytes, all, order, within) in
+    let long : length (take (to - from) (drop from bytes)) ≡ to - from =
+    omega (arith, length-take (to - from) (drop from bytes), length-drop from bytes, all, order, within) in
     torn_torn place count old mid new
     (torn_wider place junk count old mid fits spoiled)
     (torn_within place from (to - from) count mid new (omega (arith, order, within))

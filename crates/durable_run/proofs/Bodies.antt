@@ -24,9 +24,18 @@ module _ {K : Type 0} (honest : K → Type 0) (faults : K → ℕ) where
     as_honest = ((λ h. q.as_honest.0 (p.as_honest.0 h)), (λ h. p.as_honest.1 (q.as_honest.1 h)));
   }
 
-  pub stopped_later : {O : Type 0} (writes : O → ℕ) (a b : K) (x y z : O) (stop : Stop K) → Went honest faults a b → writes x ≤ writes y → Stopped honest faults writes b y z stop → Stopped honest faults writes a x z stop
-  stopped_later writes a b x y z (Disk d) w less s = record { went = went_then a b d w s.went; rose = rose_earlier (faults a) (faults b) (faults d) w.later s.rose }
-  stopped_later writes a b x y z (Output d) w less s = record { went = went_then a b d w s.went; rose = rose_earlier (writes x) (writes y) (writes z) less s.rose }
+  pub stopped_later : {O : Type 0} (writes : O → ℕ) (a b : K) (x y z : O) (stop : Stop K) → Went honest faults a b → writes x ≤ writes y →
+      Stopped honest faults writes b y z stop → Stopped honest faults writes a x z stop
+  stopped_later writes a b x y z (Disk d) w less s = record {
+    went = went_then a b d w s.went;
+    rose =
+        rose_earlier (faults a) (faults b) (faults d) w.later s.rose;
+  }
+  stopped_later writes a b x y z (Output d) w less s = record {
+    went = went_then a b d w s.went;
+    rose =
+        rose_earlier (writes x) (writes y) (writes z) less s.rose;
+  }
 
 -- one body is at the front
 one_body : (bytes body rest : List ℕ) → IsBody body → bytes ≡ frame body ++ rest → Cuts bytes (body ∷ []) rest
@@ -41,7 +50,8 @@ cut_none bytes = record { whole = refl; each = tt }
 
 -- a body more was cut
 pub more_body : (P Q : List (List ℕ) → Type 0) (bytes between rest body : List ℕ) (bodies : List (List ℕ)) → IsBody body → between ≡ frame body ++ rest
-    → (more : List (List ℕ)) × (Cuts bytes more between × P (bodies ++ more)) → ((before : List (List ℕ)) → P before → Q (before ++ body ∷ [])) → (more : List (List ℕ)) × (Cuts bytes more rest × Q (bodies ++ more))
+    → (more : List (List ℕ)) × (Cuts bytes more between × P (bodies ++ more)) → ((before : List (List ℕ)) → P before → Q (before ++ body ∷ [])) →
+    (more : List (List ℕ)) × (Cuts bytes more rest × Q (bodies ++ more))
 more_body P Q bytes between rest body bodies fits is cut f = (
   cut.0 ++ body ∷ [],
   (
@@ -53,7 +63,8 @@ more_body P Q bytes between rest body bodies fits is cut f = (
 -- a cutter holds less when it has handed out a frame
 pub fewer : (old new body : List ℕ) → new ≡ drop (4 + length body) old → old ≡ frame body ++ drop (4 + length body) old → ℕ.suc (length new) ≤ length old
 fewer old new body left whole =
-    let long : length old ≡ length (frame body) + length (drop (4 + length body) old) = ap length whole ∙ length-append (frame body) (drop (4 + length body) old) in
+    let long : length old ≡ length (frame body) + length (drop (4 + length body) old) = ap length whole
+    ∙ length-append (frame body) (drop (4 + length body) old) in
     let head : length (frame body) ≡ 4 + length body = length-frame body in
     let less : length new ≡ length (drop (4 + length body) old) = ap length left in
     omega (arith, long, head, less)

@@ -23,13 +23,18 @@ use Rattle.durable_run.specs.Ends.{Durable}
 use Rattle.durable_run.proofs.Moments.{front_more, front_of, mends_then, mends_weaker, left_now, rest_has}
 use Rattle.durable_run.proofs.InTurns.{concat-append, in_turn_then, none_answered, none_staged}
 
-module _ {M S K : Type 0} (plain : PlainMachine S) (stands : M → S → Type 0) (opening : M → S) (honest : K → Type 0) (reads : K → List ℕ) (may_leave : K → List ℕ → Type 0) (moment : K → ℕ) (left_since : K → ℕ → List ℕ → Type 0) where
+module _ {M S K : Type 0} (plain : PlainMachine S) (stands : M → S → Type 0) (opening : M → S) (honest : K → Type 0) (reads : K → List ℕ)
+    (may_leave : K → List ℕ → Type 0) (moment : K → ℕ) (left_since : K → ℕ → List ℕ → Type 0) where
   -- what was staged gave a reply, and the journal has these entries staged then
   abbrev Replied : Start S K → Journaled M K → List (List ℕ) → List (List ℕ) → Event → List ℕ → Type 0
-  Replied at new entries staged e reply = (now : List (List ℕ)) × (MayReply plain at.state at.most (entries ++ staged) e reply (entries ++ now) × IsOpen plain stands opening honest reads may_leave new entries now)
+  Replied at new entries staged e reply = (now : List (List ℕ))
+      × (MayReply plain at.state at.most (entries ++ staged) e reply (entries ++ now) × IsOpen plain stands opening honest reads may_leave new entries now)
 
-  replied : (at : Start S K) (old new : Journaled M K) (entries staged : List (List ℕ)) (e : Event) (out reply : List ℕ) (became : Staged) → opening old.machine ≡ at.state → old.max_trail ≡ at.most
-      → IsOpen plain stands opening honest reads may_leave old entries staged → StagedBy plain stands opening honest reads may_leave became old new entries staged e out → reply ≡ reply_of became out → Replied at new entries staged e reply
+  replied : (at : Start S K) (old new : Journaled M K) (entries staged : List (List ℕ)) (e : Event) (out reply : List ℕ) (became : Staged) →
+      opening old.machine ≡ at.state → old.max_trail ≡ at.most
+      → IsOpen plain stands opening honest reads may_leave old entries staged →
+      StagedBy plain stands opening honest reads may_leave became old new entries staged e out → reply ≡ reply_of became out →
+      Replied at new entries staged e reply
   replied at old new entries staged e out reply Done state most was by is = (
     staged ++ entry_of e ∷ [],
     (
@@ -66,14 +71,18 @@ module _ {M S K : Type 0} (plain : PlainMachine S) (stands : M → S → Type 0)
   )
 
   -- a body more was answered
-  pub one_more : (at : Start S K) (old new : Journaled M K) (given : Option (List ℕ)) (before after out reply body : List ℕ) (bodies : List (List ℕ)) (e : Event) (became : Staged)
-      → e ≡ event_of body → ((entries staged : List (List ℕ)) → IsOpen plain stands opening honest reads may_leave old entries staged → StagedBy plain stands opening honest reads may_leave became old new entries staged e out)
-      → reply ≡ reply_of became out → after ≡ before ++ frame reply → opening new.machine ≡ opening old.machine → new.max_trail ≡ old.max_trail → new.disk ≡ old.disk
+  pub one_more : (at : Start S K) (old new : Journaled M K) (given : Option (List ℕ)) (before after out reply body : List ℕ) (bodies : List (List ℕ))
+      (e : Event) (became : Staged)
+      → e ≡ event_of body → ((entries staged : List (List ℕ)) → IsOpen plain stands opening honest reads may_leave old entries staged →
+      StagedBy plain stands opening honest reads may_leave became old new entries staged e out)
+      → reply ≡ reply_of became out → after ≡ before ++ frame reply → opening new.machine ≡ opening old.machine → new.max_trail ≡ old.max_trail →
+      new.disk ≡ old.disk
       → Grouping plain stands opening honest reads may_leave moment left_since at old given before bodies
       → Grouping plain stands opening honest reads may_leave moment left_since at new given after (bodies ++ body ∷ [])
   one_more at old new given before after out reply body bodies e became event by is put opened limit disk g =
       let r = replied at old new g.entries g.staged e out reply became g.state g.most g.is_open (by g.entries g.staged g.is_open) is in
-      let may : MayAnswer plain at.state at.most (g.entries ++ g.staged) body (frame reply) (g.entries ++ r.0) = (reply, (refl, subst (λ x. MayReply plain at.state at.most (g.entries ++ g.staged) x reply (g.entries ++ r.0)) event r.1.0)) in
+      let may : MayAnswer plain at.state at.most (g.entries ++ g.staged) body (frame reply) (g.entries ++ r.0) =
+      (reply, (refl, subst (λ x. MayReply plain at.state at.most (g.entries ++ g.staged) x reply (g.entries ++ r.0)) event r.1.0)) in
       record {
         written = g.written;
         grouped = g.grouped ++ body ∷ [];
@@ -84,8 +93,10 @@ module _ {M S K : Type 0} (plain : PlainMachine S) (stands : M → S → Type 0)
         staged = r.0;
         each = g.each;
         told = g.told;
-        waiting = in_turn_then (MayAnswer plain at.state at.most) g.entries g.grouped g.others (g.entries ++ g.staged) (body ∷ []) (frame reply ∷ []) (g.entries ++ r.0) g.waiting (g.entries ++ r.0, (may, refl));
-        holds = put ∙ (ap (λ z. z ++ frame reply) g.holds ∙ (ap (λ z. concat g.others ++ z) (sym (append-nil (frame reply))) ∙ sym (concat-append g.others (frame reply ∷ []))));
+        waiting = in_turn_then (MayAnswer plain at.state at.most) g.entries g.grouped g.others (g.entries ++ g.staged) (body ∷ []) (frame reply ∷ [])
+            (g.entries ++ r.0) g.waiting (g.entries ++ r.0, (may, refl));
+        holds = put ∙ (ap (λ z. z ++ frame reply) g.holds ∙ (ap (λ z. concat g.others ++ z) (sym (append-nil (frame reply)))
+            ∙ sym (concat-append g.others (frame reply ∷ []))));
         is_open = r.1.1;
         state = opened ∙ g.state;
         most = limit ∙ g.most;
@@ -96,17 +107,23 @@ module _ {M S K : Type 0} (plain : PlainMachine S) (stands : M → S → Type 0)
       }
 
   -- what is written behind what was written
-  told_more : (a b c : Option (List ℕ)) (answers others : List (List ℕ)) (gathered : List ℕ) (shape : List ℕ → List ℕ → List ℕ → Type 0) → WhileTold a b (λ y z. z ≡ y ++ concat answers) → gathered ≡ concat others
-      → (after : List ℕ → List ℕ → Type 0) → WhileTold b c after → ((x y z : List ℕ) → y ≡ x ++ concat answers → after y z → shape x z (concat answers ++ concat others)) → WhileTold a c (λ y z. shape y z (concat (answers ++ others)))
+  told_more : (a b c : Option (List ℕ)) (answers others : List (List ℕ)) (gathered : List ℕ) (shape : List ℕ → List ℕ → List ℕ → Type 0) →
+      WhileTold a b (λ y z. z ≡ y ++ concat answers) → gathered ≡ concat others
+      → (after : List ℕ → List ℕ → Type 0) → WhileTold b c after →
+      ((x y z : List ℕ) → y ≡ x ++ concat answers → after y z → shape x z (concat answers ++ concat others)) →
+      WhileTold a c (λ y z. shape y z (concat (answers ++ others)))
   told_more a b c answers others gathered shape p holds after w f =
       then a b c (λ y z. z ≡ y ++ concat answers) after (λ y z. shape y z (concat (answers ++ others))) p w
       (λ x y z m n. subst (shape x z) (sym (concat-append answers others)) (f x y z m n))
 
-  mended : (at : Start S K) (old : Journaled M K) (now : K) (given : Option (List ℕ)) (gathered : List ℕ) (bodies : List (List ℕ)) (g : Grouping plain stands opening honest reads may_leave moment left_since at old given gathered bodies)
-      → (honest old.disk → (entries staged : List (List ℕ)) → IsOpen plain stands opening honest reads may_leave old entries staged → LeavesOnly moment left_since old.disk now (HasAllOrNone entries staged))
+  mended : (at : Start S K) (old : Journaled M K) (now : K) (given : Option (List ℕ)) (gathered : List ℕ) (bodies : List (List ℕ))
+      (g : Grouping plain stands opening honest reads may_leave moment left_since at old given gathered bodies)
+      → (honest old.disk → (entries staged : List (List ℕ)) → IsOpen plain stands opening honest reads may_leave old entries staged →
+      LeavesOnly moment left_since old.disk now (HasAllOrNone entries staged))
       → honest at.disk → Mends reads may_leave moment left_since at.disk now (HasFront at.entries (g.entries ++ g.staged))
   mended at old now given gathered bodies g leaves h =
-      mends_then reads may_leave moment left_since at.disk old.disk now (HasFront at.entries g.entries) (HasAllOrNone g.entries g.staged) (HasFront at.entries (g.entries ++ g.staged))
+      mends_then reads may_leave moment left_since at.disk old.disk now (HasFront at.entries g.entries) (HasAllOrNone g.entries g.staged)
+      (HasFront at.entries (g.entries ++ g.staged))
       (g.any_moment h) (leaves (g.as_honest.0 h) g.entries g.staged g.is_open)
       (λ image. front_more at.entries g.entries g.staged image) (λ image. front_of at.entries g.new g.entries g.staged image g.grew)
 
@@ -115,8 +132,10 @@ module _ {M S K : Type 0} (plain : PlainMachine S) (stands : M → S → Type 0)
 
   -- the group's entries came to the disk, and its answers were written
   pub settled : (at : Start S K) (old new : Journaled M K) (given now : Option (List ℕ)) (gathered after : List ℕ) (bodies : List (List ℕ))
-      → ((entries staged : List (List ℕ)) → IsOpen plain stands opening honest reads may_leave old entries staged → IsOpen plain stands opening honest reads may_leave new (entries ++ staged) [])
-      → (honest old.disk → (entries staged : List (List ℕ)) → IsOpen plain stands opening honest reads may_leave old entries staged → LeavesOnly moment left_since old.disk new.disk (HasAllOrNone entries staged))
+      → ((entries staged : List (List ℕ)) → IsOpen plain stands opening honest reads may_leave old entries staged →
+      IsOpen plain stands opening honest reads may_leave new (entries ++ staged) [])
+      → (honest old.disk → (entries staged : List (List ℕ)) → IsOpen plain stands opening honest reads may_leave old entries staged →
+      LeavesOnly moment left_since old.disk new.disk (HasAllOrNone entries staged))
       → AsHonest honest old.disk new.disk → opening new.machine ≡ opening old.machine → new.max_trail ≡ old.max_trail
       → WhileTold given now (λ y z. z ≡ y ++ gathered) → after ≡ []
       → Grouping plain stands opening honest reads may_leave moment left_since at old given gathered bodies
@@ -145,8 +164,10 @@ module _ {M S K : Type 0} (plain : PlainMachine S) (stands : M → S → Type 0)
 
   -- the group's entries came to the disk, and of its answers a front was written
   pub unwritten : (at : Start S K) (old new : Journaled M K) (disk : K) (given now : Option (List ℕ)) (gathered : List ℕ) (bodies : List (List ℕ))
-      → ((entries staged : List (List ℕ)) → IsOpen plain stands opening honest reads may_leave old entries staged → IsOpen plain stands opening honest reads may_leave new (entries ++ staged) [])
-      → (honest old.disk → (entries staged : List (List ℕ)) → IsOpen plain stands opening honest reads may_leave old entries staged → LeavesOnly moment left_since old.disk new.disk (HasAllOrNone entries staged))
+      → ((entries staged : List (List ℕ)) → IsOpen plain stands opening honest reads may_leave old entries staged →
+      IsOpen plain stands opening honest reads may_leave new (entries ++ staged) [])
+      → (honest old.disk → (entries staged : List (List ℕ)) → IsOpen plain stands opening honest reads may_leave old entries staged →
+      LeavesOnly moment left_since old.disk new.disk (HasAllOrNone entries staged))
       → AsHonest honest old.disk new.disk → disk ≡ new.disk
       → WhileTold given now (λ y z. (lost : List ℕ) × ((z ++ lost ≡ y ++ gathered) × (length lost ≤ length gathered))) → length gathered ≤ 2097156
       → Grouping plain stands opening honest reads may_leave moment left_since at old given gathered bodies
@@ -161,20 +182,31 @@ module _ {M S K : Type 0} (plain : PlainMachine S) (stands : M → S → Type 0)
         others = [];
         entries = g.entries ++ g.staged;
         staged = [];
-        each = in_turn_then (MayAnswer plain at.state at.most) at.entries g.written g.answers g.entries g.grouped g.others (g.entries ++ g.staged) g.each g.waiting;
-        told = told_more at.given given now g.answers g.others gathered (Front 2097156) g.told g.holds (λ y z. (lost : List ℕ) × ((z ++ lost ≡ y ++ gathered) × (length lost ≤ length gathered))) gave
-            (λ x y z m n. (n.0, (n.1.0 ∙ (ap (λ w. w ++ gathered) m ∙ (append_assoc x (concat g.answers) gathered ∙ ap (λ w. x ++ (concat g.answers ++ w)) g.holds)), omega (arith, n.1.1, few))));
+        each = in_turn_then (MayAnswer plain at.state at.most) at.entries g.written g.answers g.entries g.grouped g.others (g.entries ++ g.staged) g.each
+            g.waiting;
+        told = told_more at.given given now g.answers g.others gathered (Front 2097156) g.told g.holds
+            (λ y z. (lost : List ℕ) × ((z ++ lost ≡ y ++ gathered) × (length lost ≤ length gathered))) gave
+            (λ x y z m n. (
+              n.0,
+              (
+                n.1.0 ∙ (ap (λ w. w ++ gathered) m ∙ (append_assoc x (concat g.answers) gathered ∙ ap (λ w. x ++ (concat g.answers ++ w)) g.holds)),
+                omega (arith, n.1.1, few),
+              ),
+            ));
         waiting = append-nil (g.entries ++ g.staged);
         whole = λ ok. (refl, refl);
-        images = λ h image leaves_it. inl (rest_has reads may_leave moment left_since new.disk (g.entries ++ g.staged) rested.each (rested.rest (as_honest.0 (g.as_honest.0 h))) image (subst (λ d. may_leave d image) same leaves_it));
+        images = λ h image leaves_it. inl (rest_has reads may_leave moment left_since new.disk (g.entries ++ g.staged) rested.each
+            (rested.rest (as_honest.0 (g.as_honest.0 h))) image (subst (λ d. may_leave d image) same leaves_it));
         any_moment = λ h. subst (λ d. Mends reads may_leave moment left_since at.disk d (HasFront at.entries ((g.entries ++ g.staged) ++ []))) (sym same)
-            (subst (λ z. Mends reads may_leave moment left_since at.disk new.disk (HasFront at.entries z)) (sym (append-nil (g.entries ++ g.staged))) (mended at old new.disk given gathered bodies g leaves h));
+            (subst (λ z. Mends reads may_leave moment left_since at.disk new.disk (HasFront at.entries z)) (sym (append-nil (g.entries ++ g.staged)))
+            (mended at old new.disk given gathered bodies g leaves h));
       }
 
   -- the group's entries went to the disk when it failed
   pub broken : (at : Start S K) (old : Journaled M K) (disk : K) (given : Option (List ℕ)) (gathered : List ℕ) (bodies : List (List ℕ))
       → ((t : ℕ) (image : List ℕ) → t ≤ moment disk → may_leave disk image → left_since disk t image)
-      → (honest old.disk → (entries staged : List (List ℕ)) → IsOpen plain stands opening honest reads may_leave old entries staged → LeavesOnly moment left_since old.disk disk (HasAllOrNone entries staged))
+      → (honest old.disk → (entries staged : List (List ℕ)) → IsOpen plain stands opening honest reads may_leave old entries staged →
+      LeavesOnly moment left_since old.disk disk (HasAllOrNone entries staged))
       → Grouping plain stands opening honest reads may_leave moment left_since at old given gathered bodies
       → Durable plain honest reads may_leave moment left_since DiskFault at disk given bodies
   broken at old disk given gathered bodies counts leaves g = record {
@@ -189,12 +221,14 @@ module _ {M S K : Type 0} (plain : PlainMachine S) (stands : M → S → Type 0)
     told = g.told;
     waiting = g.waiting;
     whole = λ ok. absurd (ok refl);
-    images = λ h image leaves_it. left_now reads may_leave moment left_since old.disk disk (HasAllOrNone g.entries g.staged) counts (leaves (g.as_honest.0 h) g.entries g.staged g.is_open) image leaves_it;
+    images = λ h image leaves_it. left_now reads may_leave moment left_since old.disk disk (HasAllOrNone g.entries g.staged) counts
+        (leaves (g.as_honest.0 h) g.entries g.staged g.is_open) image leaves_it;
     any_moment = mended at old disk given gathered bodies g leaves;
   }
 
   -- a run ended between two groups
-  pub rested : (status : Status) (at : Start S K) (old : Journaled M K) (disk : K) (given : Option (List ℕ)) (bodies : List (List ℕ)) → ((y z u : List ℕ) → z ≡ y ++ u → shape_of status y z u) → disk ≡ old.disk
+  pub rested : (status : Status) (at : Start S K) (old : Journaled M K) (disk : K) (given : Option (List ℕ)) (bodies : List (List ℕ)) →
+      ((y z u : List ℕ) → z ≡ y ++ u → shape_of status y z u) → disk ≡ old.disk
       → Grouping plain stands opening honest reads may_leave moment left_since at old given [] bodies
       → Durable plain honest reads may_leave moment left_since status at disk given bodies
   rested status at old disk given bodies shape same g =
@@ -209,10 +243,13 @@ module _ {M S K : Type 0} (plain : PlainMachine S) (stands : M → S → Type 0)
         entries = g.entries;
         staged = g.staged;
         each = g.each;
-        told = weaker at.given given (λ y z. z ≡ y ++ concat g.answers) (λ y z. shape_of status y z (concat g.answers)) g.told (λ y z m. shape y z (concat g.answers) m);
+        told = weaker at.given given (λ y z. z ≡ y ++ concat g.answers) (λ y z. shape_of status y z (concat g.answers)) g.told
+            (λ y z m. shape y z (concat g.answers) m);
         waiting = g.waiting;
         whole = λ ok. (no_group, no_entry);
-        images = λ h image leaves_it. inl (rest_has reads may_leave moment left_since old.disk g.entries g.is_open.each (g.is_open.rest (g.as_honest.0 h)) image (subst (λ d. may_leave d image) same leaves_it));
+        images = λ h image leaves_it. inl (rest_has reads may_leave moment left_since old.disk g.entries g.is_open.each (g.is_open.rest (g.as_honest.0 h))
+            image (subst (λ d. may_leave d image) same leaves_it));
         any_moment = λ h. subst (λ d. Mends reads may_leave moment left_since at.disk d (HasFront at.entries (g.entries ++ g.staged))) (sym same)
-            (mends_weaker reads may_leave moment left_since at.disk old.disk (HasFront at.entries g.entries) (HasFront at.entries (g.entries ++ g.staged)) (g.any_moment h) (λ image. front_more at.entries g.entries g.staged image));
+            (mends_weaker reads may_leave moment left_since at.disk old.disk (HasFront at.entries g.entries) (HasFront at.entries (g.entries ++ g.staged))
+            (g.any_moment h) (λ image. front_more at.entries g.entries g.staged image));
       }

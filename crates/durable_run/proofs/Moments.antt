@@ -38,7 +38,8 @@ front_more old now more bytes h = record {
 }
 
 -- all of the staged entries or none, behind those that came since
-pub front_of : (old new entries staged : List (List ℕ)) (bytes : List ℕ) → entries ≡ old ++ new → HasAllOrNone entries staged bytes → HasFront old (entries ++ staged) bytes
+pub front_of : (old new entries staged : List (List ℕ)) (bytes : List ℕ) → entries ≡ old ++ new → HasAllOrNone entries staged bytes →
+    HasFront old (entries ++ staged) bytes
 front_of old new entries staged bytes grew (inl none) = record {
   some = new;
   more = staged;
@@ -65,7 +66,8 @@ front_found entries bytes h = record {
 
 module _ {K : Type 0} (reads : K → List ℕ) (may_leave : K → List ℕ → Type 0) (moment : K → ℕ) (left_since : K → ℕ → List ℕ → Type 0) where
   -- each image has what a weaker fact asks
-  pub leaves_weaker : (a b : K) (P Q : List ℕ → Type 0) → LeavesOnly moment left_since a b P → ((image : List ℕ) → P image → Q image) → LeavesOnly moment left_since a b Q
+  pub leaves_weaker : (a b : K) (P Q : List ℕ → Type 0) → LeavesOnly moment left_since a b P → ((image : List ℕ) → P image → Q image) →
+      LeavesOnly moment left_since a b Q
   leaves_weaker a b P Q p f = record {
     later = p.later;
     each = λ image left. f image (p.each image left);
@@ -82,7 +84,8 @@ module _ {K : Type 0} (reads : K → List ℕ) (may_leave : K → List ℕ → T
         (λ now. inr (g image now)) (q.before t image (omega (arith, le, p.later)) left);
   }
 
-  pub mends_weaker : (a b : K) (P Q : List ℕ → Type 0) → Mends reads may_leave moment left_since a b P → ((image : List ℕ) → P image → Q image) → Mends reads may_leave moment left_since a b Q
+  pub mends_weaker : (a b : K) (P Q : List ℕ → Type 0) → Mends reads may_leave moment left_since a b P → ((image : List ℕ) → P image → Q image) →
+      Mends reads may_leave moment left_since a b Q
   mends_weaker a b P Q p f = (p.0, (p.1.0, leaves_weaker p.0 b P Q p.1.1 f))
 
   pub mends_then : (a b c : K) (P Q R : List ℕ → Type 0) → Mends reads may_leave moment left_since a b P → LeavesOnly moment left_since b c Q
@@ -90,10 +93,12 @@ module _ {K : Type 0} (reads : K → List ℕ) (may_leave : K → List ℕ → T
   mends_then a b c P Q R p q f g = (p.0, (p.1.0, leaves_then p.0 b c P Q R p.1.1 q f g))
 
   -- what a crash now may leave is what some moment since then left
-  pub left_now : (a b : K) (P : List ℕ → Type 0) → ((t : ℕ) (image : List ℕ) → t ≤ moment b → may_leave b image → left_since b t image) → LeavesOnly moment left_since a b P → (image : List ℕ) → may_leave b image → P image
+  pub left_now : (a b : K) (P : List ℕ → Type 0) → ((t : ℕ) (image : List ℕ) → t ≤ moment b → may_leave b image → left_since b t image) →
+      LeavesOnly moment left_since a b P → (image : List ℕ) → may_leave b image → P image
   left_now a b P counts p image leaves = p.each image (counts (moment a) image p.later leaves)
 
   -- a disk at rest leaves its entries
-  pub rest_has : (disk : K) (entries : List (List ℕ)) → AllByRecursion IsEntry entries → IsAtRest reads may_leave disk entries → (image : List ℕ) → may_leave disk image → HasEntries entries image
+  pub rest_has : (disk : K) (entries : List (List ℕ)) → AllByRecursion IsEntry entries → IsAtRest reads may_leave disk entries → (image : List ℕ) →
+      may_leave disk image → HasEntries entries image
   rest_has disk entries each rest image leaves =
       subst (HasEntries entries) (sym (rest.durable image leaves ∙ rest.text)) (text_has entries each)

@@ -27,7 +27,8 @@ use Rattle.durable_run.proofs.Outcomes.{ends_as}
 
 -- a status that comes without a fault, where nothing was counted
 abbrev pub ExactEnd : Status → Type 0 → Type 0 → Type 0 → List ℕ → List ℕ → Type 0
-ExactEnd status Disks Reads Writes first left = (all : List (List ℕ)) (rest : List ℕ) → IsCut first all rest → length first < most_taken → (Disks → ⊥) → (Reads → ⊥) → (Writes → ⊥) → EndsAs rest status
+ExactEnd status Disks Reads Writes first left = (all : List (List ℕ)) (rest : List ℕ) → IsCut first all rest → length first < most_taken → (Disks → ⊥) →
+    (Reads → ⊥) → (Writes → ⊥) → EndsAs rest status
 
 pub exact_memory : (a : Option (List ℕ)) (Disks Reads Writes : Type 0) → WhileTold a a (ExactEnd NoMemory Disks Reads Writes)
 exact_memory a Disks Reads Writes = same a (ExactEnd NoMemory Disks Reads Writes) (λ x all rest d few nd nr nw. tt)
@@ -58,15 +59,19 @@ memory_no_write : NoMemory ≡ WriteFault → ⊥
 memory_no_write e = let n : 0 ≡ 3 = ap number e in omega (arith, n)
 
 -- a disk that wasn't touched
-pub untouched : {K : Type 0} (reads : K → List ℕ) (may_leave : K → List ℕ → Type 0) (moment : K → ℕ) (left_since : K → ℕ → List ℕ → Type 0) (disk : K) → WasRead reads may_leave moment left_since disk disk
+pub untouched : {K : Type 0} (reads : K → List ℕ) (may_leave : K → List ℕ → Type 0) (moment : K → ℕ) (left_since : K → ℕ → List ℕ → Type 0) (disk : K) →
+    WasRead reads may_leave moment left_since disk disk
 untouched reads may_leave moment left_since disk = record { same = refl; crash = λ image is. is; later = omega arith; since = λ t image le left. left }
 
-module _ {M S K : Type 0} (plain : PlainMachine S) (stands : M → S → Type 0) (opening : M → S) (honest : K → Type 0) (reads : K → List ℕ) (may_leave : K → List ℕ → Type 0) (moment : K → ℕ) (left_since : K → ℕ → List ℕ → Type 0) where
+module _ {M S K : Type 0} (plain : PlainMachine S) (stands : M → S → Type 0) (opening : M → S) (honest : K → Type 0) (reads : K → List ℕ)
+    (may_leave : K → List ℕ → Type 0) (moment : K → ℕ) (left_since : K → ℕ → List ℕ → Type 0) where
   -- the journal was opened
-  pub begun : (entries : List (List ℕ)) (state : S) (disk : K) (given : Option (List ℕ)) (most : ℕ) (journal : Journaled M K) → IsOpen plain stands opening honest reads may_leave journal entries []
+  pub begun : (entries : List (List ℕ)) (state : S) (disk : K) (given : Option (List ℕ)) (most : ℕ) (journal : Journaled M K) →
+      IsOpen plain stands opening honest reads may_leave journal entries []
       → opening journal.machine ≡ state → journal.max_trail ≡ most → AsHonest honest disk journal.disk → (honest disk → HasEntries entries (reads disk))
       → (honest disk → (found : List (List ℕ)) → HasEntries found (reads disk) → Mends reads may_leave moment left_since disk journal.disk (HasEntries found))
-      → Grouping plain stands opening honest reads may_leave moment left_since (record { entries = entries; state = state; disk = disk; given = given; most = most }) journal given [] []
+      → Grouping plain stands opening honest reads may_leave moment left_since
+      (record { entries = entries; state = state; disk = disk; given = given; most = most }) journal given [] []
   begun entries state disk given most journal is_open opened limit as_honest found images = record {
     written = [];
     grouped = [];
@@ -85,40 +90,50 @@ module _ {M S K : Type 0} (plain : PlainMachine S) (stands : M → S → Type 0)
     new = [];
     grew = sym (append-nil entries);
     as_honest = as_honest;
-    any_moment = λ h. mends_weaker reads may_leave moment left_since disk journal.disk (HasEntries entries) (HasFront entries entries) (images h entries (found h)) (λ image. front_found entries image);
+    any_moment = λ h. mends_weaker reads may_leave moment left_since disk journal.disk (HasEntries entries) (HasFront entries entries)
+        (images h entries (found h)) (λ image. front_found entries image);
   }
 
   -- the status tells what ended the run
-  pub exact_end : (at : Start S K) (a b : Option (List ℕ)) (status : Status) (disk : K) (now : Option (List ℕ)) (Disks Reads Writes : Type 0) → (status ≡ DiskFault → Disks) → (status ≡ ReadFault → Reads) → (status ≡ WriteFault → Writes)
+  pub exact_end : (at : Start S K) (a b : Option (List ℕ)) (status : Status) (disk : K) (now : Option (List ℕ)) (Disks Reads Writes : Type 0) →
+      (status ≡ DiskFault → Disks) → (status ≡ ReadFault → Reads) → (status ≡ WriteFault → Writes)
       → WhileTold a b (EndsSo plain honest reads may_leave moment left_since at status disk now) → WhileTold a b (ExactEnd status Disks Reads Writes)
   exact_end at a b status disk now Disks Reads Writes k r w told =
       weaker a b (EndsSo plain honest reads may_leave moment left_since at status disk now) (ExactEnd status Disks Reads Writes) told
       (λ x y o all rest d few nd nr nw. ends_as status (λ s. s ≡ at.entries)
-      (λ s bodies. Durable plain honest reads may_leave moment left_since status (record { entries = s; state = at.state; disk = at.disk; given = at.given; most = at.most }) disk now bodies)
+      (λ s bodies. Durable plain honest reads may_leave moment left_since status
+      (record { entries = s; state = at.state; disk = at.disk; given = at.given; most = at.most }) disk now bodies)
       x y o (λ e. nr (r e)) (λ e. nw (w e)) (λ e. nd (k e)) all rest d few)
 
   -- the journal wasn't opened
-  pub unopened_fault : {I O : Type 0} (left : I → Option (List ℕ)) (given : O → Option (List ℕ)) (disk d : K) (end : OpenEnd K) (i : I) (o : O) → end ≡ OpenFaulted d
-      → (honest disk → (entries : List (List ℕ)) → HasEntries entries (reads disk) → OpenImages {M = M} {K = K} reads may_leave moment left_since disk (Err end) (HasEntries entries))
+  pub unopened_fault : {I O : Type 0} (left : I → Option (List ℕ)) (given : O → Option (List ℕ)) (disk d : K) (end : OpenEnd K) (i : I) (o : O) →
+      end ≡ OpenFaulted d
+      → (honest disk → (entries : List (List ℕ)) → HasEntries entries (reads disk) →
+      OpenImages {M = M} {K = K} reads may_leave moment left_since disk (Err end) (HasEntries entries))
       → NotOpened plain honest reads may_leave moment left_since left given DiskFault disk d i i o o
   unopened_fault left given disk d end i o is images = record {
     end = inr refl;
     unread = refl;
     unwritten = refl;
-    any_moment = λ h entries has. subst (λ e. OpenImages {M = M} {K = K} reads may_leave moment left_since disk (Err e) (HasEntries entries)) is (images h entries has);
+    any_moment = λ h entries has. subst (λ e. OpenImages {M = M} {K = K} reads may_leave moment left_since disk (Err e) (HasEntries entries)) is
+        (images h entries has);
   }
 
-  pub unopened_memory : {I O : Type 0} (left : I → Option (List ℕ)) (given : O → Option (List ℕ)) (disk d : K) (end : OpenEnd K) (i : I) (o : O) → end ≡ OpenWanting d
-      → (honest disk → (entries : List (List ℕ)) → HasEntries entries (reads disk) → OpenImages {M = M} {K = K} reads may_leave moment left_since disk (Err end) (HasEntries entries))
+  pub unopened_memory : {I O : Type 0} (left : I → Option (List ℕ)) (given : O → Option (List ℕ)) (disk d : K) (end : OpenEnd K) (i : I) (o : O) →
+      end ≡ OpenWanting d
+      → (honest disk → (entries : List (List ℕ)) → HasEntries entries (reads disk) →
+      OpenImages {M = M} {K = K} reads may_leave moment left_since disk (Err end) (HasEntries entries))
       → NotOpened plain honest reads may_leave moment left_since left given NoMemory disk d i i o o
   unopened_memory left given disk d end i o is images = record {
     end = inl refl;
     unread = refl;
     unwritten = refl;
-    any_moment = λ h entries has. subst (λ e. OpenImages {M = M} {K = K} reads may_leave moment left_since disk (Err e) (HasEntries entries)) is (images h entries has);
+    any_moment = λ h entries has. subst (λ e. OpenImages {M = M} {K = K} reads may_leave moment left_since disk (Err e) (HasEntries entries)) is
+        (images h entries has);
   }
 
-  pub no_buffers : {I O : Type 0} (left : I → Option (List ℕ)) (given : O → Option (List ℕ)) (disk : K) (i : I) (o : O) → NotOpened plain honest reads may_leave moment left_since left given NoMemory disk disk i i o o
+  pub no_buffers : {I O : Type 0} (left : I → Option (List ℕ)) (given : O → Option (List ℕ)) (disk : K) (i : I) (o : O) →
+      NotOpened plain honest reads may_leave moment left_since left given NoMemory disk disk i i o o
   no_buffers left given disk i o = record {
     end = inl refl;
     unread = refl;
@@ -126,17 +141,24 @@ module _ {M S K : Type 0} (plain : PlainMachine S) (stands : M → S → Type 0)
     any_moment = λ h entries has. inr (untouched reads may_leave moment left_since disk);
   }
 
-  pub rose_of : (faults : K → ℕ) (disk d : K) (end : OpenEnd K) → end ≡ OpenFaulted d → OpenFault {M = M} {K = K} faults disk (Err end) → Rose (faults disk) (faults d)
+  pub rose_of : (faults : K → ℕ) (disk d : K) (end : OpenEnd K) → end ≡ OpenFaulted d → OpenFault {M = M} {K = K} faults disk (Err end) →
+      Rose (faults disk) (faults d)
   rose_of faults disk d end is failed = subst (λ e. OpenFault {M = M} {K = K} faults disk (Err e)) is failed
 
-  went_fault : (faults : K → ℕ) (disk d : K) (end : OpenEnd K) → end ≡ OpenFaulted d → faults disk ≤ faults (disk_of {M = M} {K = K} (Err end)) → AsHonest honest disk (disk_of {M = M} {K = K} (Err end)) → Went honest faults disk d
-  went_fault faults disk d end is later as_honest = subst (λ e. Went honest faults disk (disk_of {M = M} {K = K} (Err e))) is (record { later = later; as_honest = as_honest })
+  went_fault : (faults : K → ℕ) (disk d : K) (end : OpenEnd K) → end ≡ OpenFaulted d → faults disk ≤ faults (disk_of {M = M} {K = K} (Err end)) →
+      AsHonest honest disk (disk_of {M = M} {K = K} (Err end)) → Went honest faults disk d
+  went_fault faults disk d end is later as_honest = subst (λ e. Went honest faults disk (disk_of {M = M} {K = K} (Err e))) is
+      (record { later = later; as_honest = as_honest })
 
-  went_memory : (faults : K → ℕ) (disk d : K) (end : OpenEnd K) → end ≡ OpenWanting d → faults disk ≤ faults (disk_of {M = M} {K = K} (Err end)) → AsHonest honest disk (disk_of {M = M} {K = K} (Err end)) → Went honest faults disk d
-  went_memory faults disk d end is later as_honest = subst (λ e. Went honest faults disk (disk_of {M = M} {K = K} (Err e))) is (record { later = later; as_honest = as_honest })
+  went_memory : (faults : K → ℕ) (disk d : K) (end : OpenEnd K) → end ≡ OpenWanting d → faults disk ≤ faults (disk_of {M = M} {K = K} (Err end)) →
+      AsHonest honest disk (disk_of {M = M} {K = K} (Err end)) → Went honest faults disk d
+  went_memory faults disk d end is later as_honest = subst (λ e. Went honest faults disk (disk_of {M = M} {K = K} (Err e))) is
+      (record { later = later; as_honest = as_honest })
 
-  pub ended_fault : {I O : Type 0} (faults : K → ℕ) (takes : I → ℕ) (gives : O → ℕ) (disk d : K) (end : OpenEnd K) (i : I) (o : O) → end ≡ OpenFaulted d → OpenFault {M = M} {K = K} faults disk (Err end)
-      → faults disk ≤ faults (disk_of {M = M} {K = K} (Err end)) → AsHonest honest disk (disk_of {M = M} {K = K} (Err end)) → Ended honest faults takes gives disk d i i o o DiskFault
+  pub ended_fault : {I O : Type 0} (faults : K → ℕ) (takes : I → ℕ) (gives : O → ℕ) (disk d : K) (end : OpenEnd K) (i : I) (o : O) → end ≡ OpenFaulted d →
+      OpenFault {M = M} {K = K} faults disk (Err end)
+      → faults disk ≤ faults (disk_of {M = M} {K = K} (Err end)) → AsHonest honest disk (disk_of {M = M} {K = K} (Err end)) →
+      Ended honest faults takes gives disk d i i o o DiskFault
   ended_fault faults takes gives disk d end i o is failed later as_honest = record {
     end = tt;
     went = went_fault faults disk d end is later as_honest;
@@ -146,7 +168,8 @@ module _ {M S K : Type 0} (plain : PlainMachine S) (stands : M → S → Type 0)
   }
 
   pub ended_memory : {I O : Type 0} (faults : K → ℕ) (takes : I → ℕ) (gives : O → ℕ) (disk d : K) (end : OpenEnd K) (i : I) (o : O) → end ≡ OpenWanting d
-      → faults disk ≤ faults (disk_of {M = M} {K = K} (Err end)) → AsHonest honest disk (disk_of {M = M} {K = K} (Err end)) → Ended honest faults takes gives disk d i i o o NoMemory
+      → faults disk ≤ faults (disk_of {M = M} {K = K} (Err end)) → AsHonest honest disk (disk_of {M = M} {K = K} (Err end)) →
+      Ended honest faults takes gives disk d i i o o NoMemory
   ended_memory faults takes gives disk d end i o is later as_honest = record {
     end = tt;
     went = went_memory faults disk d end is later as_honest;
@@ -155,7 +178,8 @@ module _ {M S K : Type 0} (plain : PlainMachine S) (stands : M → S → Type 0)
     write_rose = λ e. absurd (memory_no_write e);
   }
 
-  pub ended_later : {I O : Type 0} (faults : K → ℕ) (takes : I → ℕ) (gives : O → ℕ) (disk mid now : K) (i j : I) (o p : O) (status : Status) → faults disk ≤ faults mid → AsHonest honest disk mid
+  pub ended_later : {I O : Type 0} (faults : K → ℕ) (takes : I → ℕ) (gives : O → ℕ) (disk mid now : K) (i j : I) (o p : O) (status : Status) →
+      faults disk ≤ faults mid → AsHonest honest disk mid
       → Ended honest faults takes gives mid now i j o p status → Ended honest faults takes gives disk now i j o p status
   ended_later faults takes gives disk mid now i j o p status later as_honest e = record {
     end = e.end;
@@ -165,7 +189,8 @@ module _ {M S K : Type 0} (plain : PlainMachine S) (stands : M → S → Type 0)
     write_rose = e.write_rose;
   }
 
-  pub ended_none : {I O : Type 0} (faults : K → ℕ) (takes : I → ℕ) (gives : O → ℕ) (disk : K) (i : I) (o : O) → Ended honest faults takes gives disk disk i i o o NoMemory
+  pub ended_none : {I O : Type 0} (faults : K → ℕ) (takes : I → ℕ) (gives : O → ℕ) (disk : K) (i : I) (o : O) →
+      Ended honest faults takes gives disk disk i i o o NoMemory
   ended_none faults takes gives disk i o = record {
     end = tt;
     went = went_same honest faults disk;

@@ -29,7 +29,8 @@ module _ {K : Type 0} where
   opened_and_back None None c d back o e = subst (λ t. OpenedAndBack None t d back) (sym e) tt
   opened_and_back None (Some b) c d back o e = absurd o
   opened_and_back (Some a) None c d back o e = absurd o
-  opened_and_back (Some a) (Some b) c d back o e = subst (λ t. OpenedAndBack (Some a) t d back) (sym e) (o.0, ap (λ t. record { within = t.within; back = Some back; out = 0 }) o.1)
+  opened_and_back (Some a) (Some b) c d back o e = subst (λ t. OpenedAndBack (Some a) t d back) (sym e)
+      (o.0, ap (λ t. record { within = t.within; back = Some back; out = 0 }) o.1)
 
   pub told_same : (a b : Option (ToldStore K)) (f : Failed) → Opens a b (Err f) → b ≡ a
   told_same None None f o = refl
@@ -46,15 +47,19 @@ rose_back d ℕ.zero s0 s1 s2 fresh less is (inl more) = absurd (omega (arith, m
 rose_back d ℕ.zero s0 s1 s2 fresh less is (inr end) = absurd (omega (arith, end))
 rose_back d (ℕ.suc n) s0 s1 s2 fresh less is rose = rose_raised s0 s1 s2 less is
 
-module _ {S K I O : Type 0} (honest : K → Type 0) (reads : K → List ℕ) (may_leave : K → List ℕ → Type 0) (moment : K → ℕ) (left_since : K → ℕ → List ℕ → Type 0) (disk_faults : K → ℕ)
-    (opens_honest : S → Type 0) (told : S → Option (ToldStore K)) (faults : S → ℕ) (left : I → Option (List ℕ)) (takes : I → ℕ) (given : O → Option (List ℕ)) (gives : O → ℕ) where
+module _ {S K I O : Type 0} (honest : K → Type 0) (reads : K → List ℕ) (may_leave : K → List ℕ → Type 0) (moment : K → ℕ)
+    (left_since : K → ℕ → List ℕ → Type 0) (disk_faults : K → ℕ)
+    (opens_honest : S → Type 0) (told : S → Option (ToldStore K)) (faults : S → ℕ) (left : I → Option (List ℕ)) (takes : I → ℕ)
+    (given : O → Option (List ℕ)) (gives : O → ℕ) where
   -- no disk was opened: for want of memory
   pub no_durable : (store : S) (input : I) (output : O) (site : Site) (most : ℕ)
-      → DurableEnds honest reads may_leave moment left_since opens_honest told faults left takes given gives store store input input output output site most NoMemory
+      → DurableEnds honest reads may_leave moment left_since opens_honest told faults left takes given gives store store input input output output site
+      most NoMemory
   no_durable store input output site most = record {
     outcome = inl (record { cause = inl (refl, refl); same = refl; unread = refl; unwritten = refl });
     exact = same (left input) (λ first rest_now. (all : List (List ℕ)) (rest : List ℕ)
-        → IsCut first all rest → length first < most_taken → (Rose (faults store) (faults store) → ⊥) → UnlessFaulty left takes gives input input output output (EndsAs rest NoMemory))
+        → IsCut first all rest → length first < most_taken → (Rose (faults store) (faults store) → ⊥) →
+        UnlessFaulty left takes gives input input output output (EndsAs rest NoMemory))
         (λ x all rest cut few nd nr nw. tt);
     end = tt;
     still = λ h. h;
@@ -62,12 +67,14 @@ module _ {S K I O : Type 0} (honest : K → Type 0) (reads : K → List ℕ) (ma
   }
 
   -- or as the store failed
-  pub no_file : (a b : S) (input : I) (output : O) (site : Site) (most : ℕ) (f : Failed) → Opens (told a) (told b) (Err f) → Rose (faults a) (faults b) → (opens_honest a → opens_honest b)
+  pub no_file : (a b : S) (input : I) (output : O) (site : Site) (most : ℕ) (f : Failed) → Opens (told a) (told b) (Err f) → Rose (faults a) (faults b) →
+      (opens_honest a → opens_honest b)
       → DurableEnds honest reads may_leave moment left_since opens_honest told faults left takes given gives a b input input output output site most DiskFault
   no_file a b input output site most f opens rose still = record {
     outcome = inl (record { cause = inr (refl, rose); same = told_same (told a) (told b) f opens; unread = refl; unwritten = refl });
     exact = same (left input) (λ first rest_now. (all : List (List ℕ)) (rest : List ℕ)
-        → IsCut first all rest → length first < most_taken → (Rose (faults a) (faults b) → ⊥) → UnlessFaulty left takes gives input input output output (EndsAs rest DiskFault))
+        → IsCut first all rest → length first < most_taken → (Rose (faults a) (faults b) → ⊥) →
+        UnlessFaulty left takes gives input input output output (EndsAs rest DiskFault))
         (λ x all rest cut few nd nr nw. absurd (nd rose));
     end = tt;
     still = still;
@@ -75,7 +82,8 @@ module _ {S K I O : Type 0} (honest : K → Type 0) (reads : K → List ℕ) (ma
   }
 
   -- or it was opened, run over, and put back
-  pub over_disk : (a b c : S) (disk back : K) (i j : I) (o p : O) (site : Site) (most : ℕ) (status : Status) → Opens (told a) (told b) (Ok disk) → told c ≡ with_back (told b) back
+  pub over_disk : (a b c : S) (disk back : K) (i j : I) (o p : O) (site : Site) (most : ℕ) (status : Status) → Opens (told a) (told b) (Ok disk) →
+      told c ≡ with_back (told b) back
       → (opens_honest a → honest disk) → (opens_honest a → opens_honest c) → (Rose (disk_faults disk) (disk_faults back) → Rose (faults a) (faults c))
       → (NotOpened site_machine honest reads may_leave moment left_since left given status disk back i j o p
       ⊎ RanOn site_machine honest reads may_leave moment left_since left given site most status disk back i j o p)
@@ -83,7 +91,14 @@ module _ {S K I O : Type 0} (honest : K → Type 0) (reads : K → List ℕ) (ma
       → Ended honest disk_faults takes gives disk back i j o p status → (status ≡ NoMemory → (j ≡ i) × (p ≡ o))
       → DurableEnds honest reads may_leave moment left_since opens_honest told faults left takes given gives a c i j o p site most status
   over_disk a b c disk back i j o p site most status opens put as_honest still rose run exact ended nothing = record {
-    outcome = inr (record { disk = disk; back = back; handled = opened_and_back (told a) (told b) (told c) disk back opens put; is_honest = as_honest; run = run });
+    outcome = inr (record {
+      disk = disk;
+      back = back;
+      handled = opened_and_back (told a) (told b) (told c) disk back opens put;
+      is_honest =
+          as_honest;
+      run = run;
+    });
     exact = weaker (left i) (left j) (ExactEnd status (Rose (disk_faults disk) (disk_faults back)) (Rose (takes i) (takes j)) (Rose (gives o) (gives p)))
         (λ first rest_now. (all : List (List ℕ)) (rest : List ℕ)
         → IsCut first all rest → length first < most_taken → (Rose (faults a) (faults c) → ⊥) → UnlessFaulty left takes gives i j o p (EndsAs rest status))

@@ -1,8 +1,10 @@
 -- The history that a script makes: a chain, one state for each group, in the order of the groups.
-use Rattle.std.proofs.Common.{◌≡◌, ℕ, ◌+◌, ◌≤◌, Bool, false, not, ◌||◌, List, [], ◌∷◌, ◌++◌, length, map, filter, flat_map, find, Some, None, IsTrue, IsFalse, inl, inr, refl, sym, ap, subst, ◌∙◌, arith}
+use Rattle.std.proofs.Common.{◌≡◌, ℕ, ◌+◌, ◌≤◌, Bool, false, not, ◌||◌, List, [], ◌∷◌, ◌++◌, length, map, filter, flat_map, find, Some, None, IsTrue, IsFalse}
+use Rattle.std.proofs.Common.{inl, inr, refl, sym, ap, subst, ◌∙◌, arith}
 use Rattle.std.specs.Prelude.{nat_lt, ◌==◌}
 use Rattle.std.specs.Option.{option_map, option_map_or}
-use Rattle.std.proofs.lemmas.Bool.{cases_Bool, and_right, or_cases, or_left, or_right, or_parts, cond-true, cond-false, ne_eqb, eqb-true, lt-leb, and_parts, false_from_ne_true, not_from_true}
+use Rattle.std.proofs.lemmas.Bool.{cases_Bool, and_right, or_cases, or_left, or_right, or_parts, cond-true, cond-false, ne_eqb, eqb-true, lt-leb, and_parts}
+use Rattle.std.proofs.lemmas.Bool.{false_from_ne_true, not_from_true}
 use Rattle.std.proofs.lemmas.List.Elements.{filter-append}
 use Rattle.tardis_base.specs.declared.ids.StateId.{StateId}
 use Rattle.tardis_base.specs.declared.records.Record.{Record}
@@ -141,7 +143,8 @@ no-branches gs ks = ap (λ (xs : List StateId). flat_map (branches_of (chain gs)
 pub no-long-path : (gs : List (List Entry)) (ks : List StateId) → long_path (chain gs) ks 4096 ≡ None
 no-long-path gs ks =
     let long : StateId → Bool = λ x. nat_lt 4096 (length (fork_path (chain gs) ks x)) in
-    let short : (x : StateId) → IsFalse (long x) = λ x. ap (λ (bs : List (StateId × ℕ)). nat_lt 4096 (length (filter (leads_to (chain gs) x) bs))) (no-branches gs ks) in
+    let short : (x : StateId) → IsFalse (long x) = λ x. ap (λ (bs : List (StateId × ℕ)). nat_lt 4096 (length (filter (leads_to (chain gs) x) bs)))
+    (no-branches gs ks) in
     ap (option_map (λ (x : StateId). (x, length (fork_path (chain gs) ks x)))) (find-none long short (kept_states (chain gs) ks))
 
 -- ===== What is kept where all but the last state are collected
@@ -152,7 +155,8 @@ all-collected [] ks each = refl
 all-collected (r ∷ rs) ks each =
     let stays : StateId → Bool = λ x. not (is_among x ks) in
     filter-append stays (arrived rs) (r.id ∷ [])
-    ∙ (ap (λ (xs : List StateId). xs ++ filter stays (r.id ∷ [])) (all-collected rs ks (λ x among. each x (or_right (same_id x r.id) (is_among x (states rs)) among)))
+    ∙ (ap (λ (xs : List StateId). xs ++ filter stays (r.id ∷ []))
+    (all-collected rs ks (λ x among. each x (or_right (same_id x r.id) (is_among x (states rs)) among)))
     ∙ cond-false (stays r.id) (r.id ∷ []) [] (not_from_true (is_among r.id ks) (each r.id (among-first r.id (states rs)))))
 
 pub tip-isnt-collected : (gs : List (List Entry)) → IsFalse (is_among (tip gs) (older gs))
@@ -165,7 +169,8 @@ one-is-kept (g ∷ gs) =
     let ks = older (g ∷ gs) in
     let stays : StateId → Bool = λ x. not (is_among x ks) in
     filter-append stays (arrived (chain gs)) (tip (g ∷ gs) ∷ [])
-    ∙ (ap (λ (xs : List StateId). xs ++ filter stays (tip (g ∷ gs) ∷ [])) (all-collected (chain gs) ks (λ x among. subst (λ (xs : List StateId). IsTrue (is_among x xs)) (states-are gs) among))
+    ∙ (ap (λ (xs : List StateId). xs ++ filter stays (tip (g ∷ gs) ∷ []))
+    (all-collected (chain gs) ks (λ x among. subst (λ (xs : List StateId). IsTrue (is_among x xs)) (states-are gs) among))
     ∙ cond-true (stays (tip (g ∷ gs))) (tip (g ∷ gs) ∷ []) [] (ap not (tip-isnt-collected (g ∷ gs))))
 
 -- before the one above it is collected, there are two

@@ -1,5 +1,6 @@
 -- The contents of the last state of a chain are the entries of its groups.
-use Rattle.std.proofs.Common.{◌≡◌, ℕ, true, false, ◌&&◌, ◌||◌, List, [], ◌∷◌, ◌++◌, map, find, filter_map, Option, Some, None, is_some, IsTrue, IsFalse, bytes_eq, inl, inr, refl, sym, ap, subst, ◌∙◌}
+use Rattle.std.proofs.Common.{◌≡◌, ℕ, true, false, ◌&&◌, ◌||◌, List, [], ◌∷◌, ◌++◌, map, find, filter_map, Option, Some, None, is_some, IsTrue, IsFalse}
+use Rattle.std.proofs.Common.{bytes_eq, inl, inr, refl, sym, ap, subst, ◌∙◌}
 use Rattle.std.specs.List.{cons_option}
 use Rattle.std.specs.Option.{option_map, option_and_then}
 use Rattle.std.proofs.lemmas.Bool.{cases_Bool, and_from, or_cases, or_left, or_right, or_from, or_parts, cond-true, cond-false, both_ways}
@@ -108,7 +109,8 @@ written-key : (k : List ℕ) (es : List Entry) → has_key k (map as_write es) �
 written-key k es = has_key-keys_of k (map as_write es) ∙ ap (is_key_among k) (written-keys-are es)
 
 -- what a later group writes, no earlier one does
-earlier-lacks : (k : List ℕ) (es fs : List Entry) → IsTrue (are_ascending_keys (keys (es ++ fs))) → IsTrue (is_key_among k (keys fs)) → IsFalse (has_key k (map as_write es))
+earlier-lacks : (k : List ℕ) (es fs : List Entry) → IsTrue (are_ascending_keys (keys (es ++ fs))) → IsTrue (is_key_among k (keys fs)) →
+    IsFalse (has_key k (map as_write es))
 earlier-lacks k es fs up among =
     written-key k es
     ∙ behind-is-new k (keys es) (keys fs) (subst (λ ks. IsTrue (are_ascending_keys ks)) (map-append (λ (e : Entry). e.0) es fs) up) among
@@ -117,7 +119,8 @@ has-key-written : (k : List ℕ) (es : List Entry) (w : Write) → write_of k (m
 has-key-written k es w e = has_key-write_of k (map as_write es) ∙ ap is_some e
 
 -- what a state writes to a key is what all groups write to it
-written-by-state : (gs : List (List Entry)) (k : List ℕ) (x : StateId) (w : Write) → IsTrue (are_ascending_keys (keys (entries_in gs))) → write_at (chain gs) k x ≡ Some w →
+written-by-state : (gs : List (List Entry)) (k : List ℕ) (x : StateId) (w : Write) → IsTrue (are_ascending_keys (keys (entries_in gs))) →
+    write_at (chain gs) k x ≡ Some w →
     write_of k (map as_write (entries_in gs)) ≡ Some w
 written-by-state [] k x w up e = elim (cases_Bool (same_id x root)) [
   | inl t ↦ sym (ap (option_and_then (λ (r : Record). write_of k r.writes)) (cond-true (same_id x root) (Some root_record) None t)) ∙ e
@@ -191,12 +194,14 @@ module _ (gs : List (List Entry)) (dag : IsDag (chain gs)) (up : IsTrue (are_asc
       latest (latest_writer rs k x) refl
       (law.found h.writer (and_from (writes_key rs k h.writer) (is_above rs h.writer x) h.writes (above-tip gs h.writer h.known)))
     where
-      wrote : (w : StateId) (o : Option Write) → write_at rs k w ≡ o → is_some (option_map (version w) o) ≡ true → value_read (option_map (version w) o) ≡ Some value
+      wrote : (w : StateId) (o : Option Write) → write_at rs k w ≡ o → is_some (option_map (version w) o) ≡ true → value_read (option_map (version w) o)
+          ≡ Some value
       wrote w None is some = absurd (both_ways false refl some)
       wrote w (Some v) is some =
           ap (λ (u : Write). value_read (Some (w, u))) (same_Some v (Value value) (sym (written-by-state gs k w v up is) ∙ e))
 
-      latest : (o : Option StateId) → latest_writer rs k (tip gs) ≡ o → is_some (latest_writer rs k (tip gs)) ≡ true → value_read (read rs k (tip gs)) ≡ Some value
+      latest : (o : Option StateId) → latest_writer rs k (tip gs) ≡ o → is_some (latest_writer rs k (tip gs)) ≡ true → value_read (read rs k (tip gs))
+          ≡ Some value
       latest None is some = absurd (both_ways false refl (sym (ap is_some is) ∙ some))
       latest (Some w) is some =
           let law = one-latest-writer rs dag k (tip gs) (tip-is-known gs) in

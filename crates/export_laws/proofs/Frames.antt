@@ -1,5 +1,6 @@
 -- The frames of a script ask its requests.
-use Rattle.std.proofs.Common.{◌≡◌, ℕ, List, [], ◌∷◌, ◌++◌, length, map, flat_map, take, drop, Some, IsTrue, inl, refl, sym, ap, subst, ◌∙◌, arith, IsFalse, inr, ap₂, bytes_eq}
+use Rattle.std.proofs.Common.{◌≡◌, ℕ, List, [], ◌∷◌, ◌++◌, length, map, flat_map, take, drop, Some, IsTrue, inl, refl, sym, ap, subst, ◌∙◌, arith, IsFalse}
+use Rattle.std.proofs.Common.{inr, ap₂, bytes_eq}
 use Rattle.std.specs.Prelude.{nat_le, slice_get}
 use Rattle.std.specs.List.{list_any, list_all, AllByRecursion}
 use Rattle.std.proofs.lemmas.Slice.Eq.{bytes_eq-Decides}
@@ -76,7 +77,8 @@ module _ (read : RequestsHaveOneSpelling) where
   asks : (site : Site) (q : Request) → IsTrue (is_request q) → step_over_bytes site (event_of (body q)) ≡ step site 1 q
   asks site q valid = ap (λ o. given o (refused site Malformed) (step site 1)) (read.read_back q valid)
 
-  events-lead : (qs : List Request) (site : Site) → IsTrue (list_all is_request qs) → state_after site_machine site (map event_of (map body qs)) ≡ site_after step site qs
+  events-lead : (qs : List Request) (site : Site) → IsTrue (list_all is_request qs) → state_after site_machine site (map event_of (map body qs))
+      ≡ site_after step site qs
   events-lead [] site each = refl
   events-lead (q ∷ qs) site each =
       let parts = and_parts (is_request q) (list_all is_request qs) each in
@@ -105,11 +107,13 @@ module _ (read : RequestsHaveOneSpelling) where
       let parts = and_parts (is_request q) (list_all is_request qs) each in
       let asked = asks site q parts.0 in
       let rest =
-      runs-answer qs (step site 1 q).0 told last parts.1 (subst (λ (answer : Answer). Answers site_machine answer.0 (map event_of (map body qs)) told last) asked h.1)
+      runs-answer qs (step site 1 q).0 told last parts.1 (subst (λ (answer : Answer). Answers site_machine answer.0 (map event_of (map body qs)) told last)
+      asked h.1)
       (or_parts (bytes_eq no_memory y) (list_any (bytes_eq no_memory) told) sure).1 in
       (ap₂ (λ z zs. z ∷ zs) (h.0 ∙ ap (λ (answer : Answer). reply_spelling answer.1) asked) rest.0, rest.1)
   runs-answer (q ∷ qs) site (y ∷ told) last each (inr h) sure =
-      absurd (both_ways (bytes_eq no_memory y) (or_parts (bytes_eq no_memory y) (list_any (bytes_eq no_memory) told) sure).0 ((bytes_eq-Decides no_memory y).1 (sym h.0)))
+      absurd (both_ways (bytes_eq no_memory y) (or_parts (bytes_eq no_memory y) (list_any (bytes_eq no_memory) told) sure).0
+      ((bytes_eq-Decides no_memory y).1 (sym h.0)))
 
   pub frames-ask : FramesAskTheScript
   frames-ask es h =

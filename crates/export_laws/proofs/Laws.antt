@@ -22,7 +22,8 @@ use Rattle.plain_site.proofs.SoundOpening.{opening-is-sound}
 use Rattle.plain_site.proofs.SoundRequests.{request-keeps-sound}
 use Rattle.branch_export.specs.Exports.{Entry, is_entry, are_entries, contents, export_spelling}
 use Rattle.branch_export.specs.Scripts.{groups_up_to, put, group_requests, script}
-use Rattle.export_laws.specs.Laws.{AreScripted, site_after, ScriptsAreCarriedOut, ContentsComeBack, ExportsComeBack, ScriptedStateIsKept, FewStatesAreKept, StatesAreNumbered, numbered}
+use Rattle.export_laws.specs.Laws.{AreScripted, site_after, ScriptsAreCarriedOut, ContentsComeBack, ExportsComeBack, ScriptedStateIsKept, FewStatesAreKept}
+use Rattle.export_laws.specs.Laws.{StatesAreNumbered, numbered}
 use Rattle.export_laws.proofs.Chains.{chain, number, number-is, tip, older, tip-is-known, tip-isnt-collected}
 use Rattle.export_laws.proofs.Steps.{standing}
 use Rattle.export_laws.proofs.Runs.{keys, entries_in, IsCarriedOut, carries-out}
@@ -89,7 +90,8 @@ contents-come-back es h =
     let parts = entries-parts es h.0 in
     let run = out es h in
     let there = run.leads.there in
-    let sound : IsSound (standing run.made) = subst IsSound there (stays-sound (script es) lone_site (script-can-be-asked es h.0) (opening-is-sound (program_limits 1) 1 refl refl)) in
+    let sound : IsSound (standing run.made) = subst IsSound there
+    (stays-sound (script es) lone_site (script-can-be-asked es h.0) (opening-is-sound (program_limits 1) 1 refl refl)) in
     let up : IsTrue (are_ascending_keys (keys (entries_in run.made))) = subst (λ fs. IsTrue (are_ascending_keys (keys fs))) (sym run.all) parts.ascend in
     ap (λ (site : Site). contents site.dag (last_arrived site.dag)) there ∙ (contents-of-chain run.made sound.dag up ∙ run.all)
 
@@ -101,7 +103,8 @@ state-is-kept es h =
     let run = out es h in
     let gs = run.made in
     subst (λ (site : Site). IsTrue (is_kept site.dag site.collected (last_arrived site.dag))) (sym run.leads.there)
-    (and_from (is_known (chain gs) (tip gs)) (not (is_among (tip gs) (older gs))) (tip-is-known gs) (not_from_false (is_among (tip gs) (older gs)) (tip-isnt-collected gs)))
+    (and_from (is_known (chain gs) (tip gs)) (not (is_among (tip gs) (older gs))) (tip-is-known gs)
+    (not_from_false (is_among (tip gs) (older gs)) (tip-isnt-collected gs)))
 
 -- a chain has one state for each group, named by its number
 tip-is-numbered : (gs : List (List Entry)) → tip gs ≡ numbered (length gs)

@@ -1,5 +1,6 @@
 -- The script of an export is carried out, and leads to the chain of its groups.
-use Rattle.std.proofs.Common.{◌≡◌, ℕ, ◌+◌, ◌*◌, ◌-◌, ◌≤◌, ◌<◌, true, ◌||◌, List, [], ◌∷◌, ◌++◌, length, map, flat_map, take, drop, IsTrue, IsFalse, refl, sym, ap, subst, ◌∙◌, arith}
+use Rattle.std.proofs.Common.{◌≡◌, ℕ, ◌+◌, ◌*◌, ◌-◌, ◌≤◌, ◌<◌, true, ◌||◌, List, [], ◌∷◌, ◌++◌, length, map, flat_map, take, drop, IsTrue, IsFalse, refl, sym}
+use Rattle.std.proofs.Common.{ap, subst, ◌∙◌, arith}
 use Rattle.std.proofs.lemmas.Bool.{and_parts, and_from, or_parts, or_from}
 use Rattle.std.proofs.lemmas.List.{append_assoc, append-nil, map-append, length-append, length-map, length-take, length-drop, take-append-drop}
 use Rattle.tardis_base.specs.declared.requests.Begin.TheVariants.{Any}
@@ -35,10 +36,12 @@ pub record Leads (a : Site) (qs : List Request) (b : Site) : Type 0 where
 leads-nowhere : (a : Site) → IsTrue (keeps_few a) → Leads a [] a
 leads-nowhere a few = record { done = refl; there = refl; few = few }
 
-leads-on : (a b c : Site) (q : Request) (qs : List Request) (reply : Reply) → step a 1 q ≡ (b, reply) → IsFalse (is_refusal reply) → IsTrue (keeps_few a) → Leads b qs c →
+leads-on : (a b c : Site) (q : Request) (qs : List Request) (reply : Reply) → step a 1 q ≡ (b, reply) → IsFalse (is_refusal reply) → IsTrue (keeps_few a) →
+    Leads b qs c →
     Leads a (q ∷ qs) c
 leads-on a b c q qs reply e fine few h = record {
-  done = subst (λ (answer : Answer). IsFalse (is_refusal answer.1 || refuses step answer.0 qs)) (sym e) (or_from (is_refusal reply) (refuses step b qs) fine h.done);
+  done = subst (λ (answer : Answer). IsFalse (is_refusal answer.1 || refuses step answer.0 qs)) (sym e)
+      (or_from (is_refusal reply) (refuses step b qs) fine h.done);
   there = ap (λ (answer : Answer). site_after step answer.0 qs) e ∙ h.there;
   few =
       and_from (keeps_few a) (all_keep_few step (step a 1 q).0 qs) few
@@ -53,7 +56,12 @@ leads-through (p ∷ ps) qs a b c h more =
     let parts = or_parts refused (refuses step next ps) h.done in
     let kept = and_parts (keeps_few a) (all_keep_few step next ps) h.few in
     let rest = leads-through ps qs next b c (record { done = parts.1; there = h.there; few = kept.1 }) more in
-    record { done = or_from refused (refuses step next (ps ++ qs)) parts.0 rest.done; there = rest.there; few = and_from (keeps_few a) (all_keep_few step next (ps ++ qs)) kept.0 rest.few }
+    record {
+      done = or_from refused (refuses step next (ps ++ qs)) parts.0 rest.done;
+      there = rest.there;
+      few =
+          and_from (keeps_few a) (all_keep_few step next (ps ++ qs)) kept.0 rest.few;
+    }
 
 -- ===== Ascending keys
 
@@ -98,7 +106,8 @@ puts-lead gs before (e ∷ rest) few up =
     (subst (λ es. Leads (within gs now) (map put rest) (within gs es)) same
     (puts-lead gs now rest (subst (λ es. length es ≤ 64) (sym same) few) up_now))
 
-group-leads : (gs : List (List Entry)) (e : Entry) (es : List Entry) → length (e ∷ es) ≤ 64 → IsTrue (are_ascending_keys (keys (e ∷ es))) → number gs < 4294967295 →
+group-leads : (gs : List (List Entry)) (e : Entry) (es : List Entry) → length (e ∷ es) ≤ 64 → IsTrue (are_ascending_keys (keys (e ∷ es))) →
+    number gs < 4294967295 →
     Leads (standing gs) (group_requests (e ∷ es)) (standing ((e ∷ es) ∷ gs))
 group-leads gs e es few up numbers =
     let g = e ∷ es in
@@ -110,7 +119,8 @@ group-leads gs e es few up numbers =
     let collected = Tidied (length (older (g ∷ gs)) - length (older gs)) in
     leads-on site (within gs []) next (Begin Any) (map put g ++ ending) (Begun (tip gs)) (begins gs) refl (standing-keeps-few gs)
     (leads-through (map put g) ending (within gs []) (within gs g) next (puts-lead gs [] g few up)
-    (leads-on (within gs g) (grown g gs) next (Commit (record { 0 = 0 }) 0) raising (Committed (tip (g ∷ gs)) (tip gs ∷ [])) (commits gs e es numbers) refl (standing-keeps-few gs)
+    (leads-on (within gs g) (grown g gs) next (Commit (record { 0 = 0 }) 0) raising (Committed (tip (g ∷ gs)) (tip gs ∷ [])) (commits gs e es numbers) refl
+    (standing-keeps-few gs)
     (leads-on (grown g gs) (floored g gs) next RaiseAuto last (Raised (tip (g ∷ gs)) (number gs + 1)) (raises g gs numbers) refl (grown-keeps-few g gs)
     (leads-on (floored g gs) next next (Tidy 64) [] collected (tidies g gs) refl (grown-keeps-few g gs) (leads-nowhere next (standing-keeps-few (g ∷ gs)))))))
 
@@ -154,7 +164,8 @@ groups-bring (ℕ.suc n) gs (e ∷ es) few up numbers =
     let first = take 64 all in
     let rest = drop 64 all in
     let split : first ++ rest ≡ all = take-append-drop 64 all in
-    let up_all : IsTrue (are_ascending_keys (keys (first ++ rest))) = subst (λ fs. IsTrue (are_ascending_keys (keys fs))) (sym split) (back-ascends (entries_in gs) all up) in
+    let up_all : IsTrue (are_ascending_keys (keys (first ++ rest))) =
+    subst (λ fs. IsTrue (are_ascending_keys (keys fs))) (sym split) (back-ascends (entries_in gs) all up) in
     let moved : (entries_in gs ++ first) ++ rest ≡ entries_in gs ++ all = regrouped (entries_in gs) first rest all split in
     let short = length-take 64 all in
     let left = length-drop 64 all in
@@ -182,5 +193,6 @@ carries-out es up few =
       made = brought.after;
       all = brought.all;
       count = let counted = brought.count in omega arith;
-      leads = leads-on lone_site (standing []) (standing brought.after) (Open true) (flat_map group_requests (groups_up_to (length es) es)) (Opened root) opens refl refl brought.leads;
+      leads = leads-on lone_site (standing []) (standing brought.after) (Open true) (flat_map group_requests (groups_up_to (length es) es))
+          (Opened root) opens refl refl brought.leads;
     }

@@ -1,5 +1,6 @@
 -- What each request of a group does at a site whose history is a chain.
-use Rattle.std.proofs.Common.{◌≡◌, ℕ, ◌+◌, ◌<◌, Bool, true, not, ◌&&◌, List, [], ◌∷◌, ◌++◌, length, map, find, Option, Some, None, is_some, unwrap_or, ◌-◌, IsTrue, IsFalse, refl, sym, ap, subst, ◌∙◌, arith}
+use Rattle.std.proofs.Common.{◌≡◌, ℕ, ◌+◌, ◌<◌, Bool, true, not, ◌&&◌, List, [], ◌∷◌, ◌++◌, length, map, find, Option, Some, None, is_some, unwrap_or, ◌-◌}
+use Rattle.std.proofs.Common.{IsTrue, IsFalse, refl, sym, ap, subst, ◌∙◌, arith}
 use Rattle.std.specs.Prelude.{◌==◌, nat_le}
 use Rattle.std.specs.Option.{option_map}
 use Rattle.std.proofs.lemmas.Bool.{and_left, and_right, and_from, cond-true, cond-false, ne_eqb, not_from_true, not_from_false}
@@ -33,7 +34,8 @@ use Rattle.plain_site.specs.Step.{step}
 use Rattle.plain_site.specs.RowWords.{lone_site, program_limits}
 use Rattle.branch_export.specs.Exports.{Entry}
 use Rattle.export_laws.specs.Laws.{keeps_few}
-use Rattle.export_laws.proofs.Chains.{as_write, chain, number, tip, older, find-none-among, tip-is-new, states-are, tip-is-known, tip-has-no-child, one-child, no-long-path, one-is-kept, two-are-kept, tip-isnt-collected, above-tip, not-below-itself, admits-itself, stays-at-leaf}
+use Rattle.export_laws.proofs.Chains.{as_write, chain, number, tip, older, find-none-among, tip-is-new, states-are, tip-is-known, tip-has-no-child, one-child}
+use Rattle.export_laws.proofs.Chains.{no-long-path, one-is-kept, two-are-kept, tip-isnt-collected, above-tip, not-below-itself, admits-itself, stays-at-leaf}
 
 -- ===== The site between groups, and within one
 
@@ -94,12 +96,15 @@ begins gs =
     passes-two (standing gs) (not (is_known (chain gs) x)) (not (is_admitted (chain gs) x x)) (Unknown x) (Below x x) (begun (standing gs) 1 x)
     (not_from_true (is_known (chain gs) x) (tip-is-known gs)) (not_from_true (is_admitted (chain gs) x x) (admits-itself (chain gs) x))
 
-pub puts : (gs : List (List Entry)) (before : List Entry) (e : Entry) → length before < 64 → IsTrue (are_ascending_keys (keys_of (map as_write before ++ as_write e ∷ []))) →
+pub puts : (gs : List (List Entry)) (before : List Entry) (e : Entry) → length before < 64 →
+    IsTrue (are_ascending_keys (keys_of (map as_write before ++ as_write e ∷ []))) →
     map as_write (before ++ e ∷ []) ≡ map as_write before ++ as_write e ∷ [] → length (map as_write before) ≡ length before →
     step (within gs before) 1 (Put e.0 e.1) ≡ (within gs (before ++ e ∷ []), Done)
 puts gs before e few up maps lengths =
     let ws = map as_write before in
-    passes-one (within gs before) (length ws == 64 && not (has_key e.0 ws)) (TooMany 1 65) (with_txn_changed 1 (having_written e.0 (Value e.1)) (within gs before), Done) (and_left (length ws == 64) (not (has_key e.0 ws)) (ne_eqb (length ws) 64 (λ same. omega arith)))
+    passes-one (within gs before) (length ws == 64 && not (has_key e.0 ws)) (TooMany 1 65)
+    (with_txn_changed 1 (having_written e.0 (Value e.1)) (within gs before), Done)
+    (and_left (length ws == 64) (not (has_key e.0 ws)) (ne_eqb (length ws) 64 (λ same. omega arith)))
     ∙ ap (λ (vs : List KeyWrite). (record (standing gs) { txns = (1, Single (writing gs vs)) ∷ [] }, Done)) (with_write-last ws e.0 (Value e.1) up ∙ sym maps)
 
 commits-below : (gs : List (List Entry)) (e : Entry) (es : List Entry) → number gs < 4294967295 →
@@ -125,18 +130,24 @@ commits gs e es few =
     let x = tip (g ∷ gs) in
     ap (commit_at site 1 (writing gs (map as_write g)) (record { 0 = 0 }) 0) (stays-at-leaf (length (chain gs)) (chain gs) (tip gs) (tip-has-no-child gs))
     ∙ (commits-below gs e es few
-    ∙ ap (λ (c : StateId). (record (standing gs) { dag = chain (g ∷ gs); sessions = (1, record { follow = true; ceiling = c; last = x }) ∷ [] }, Committed x (tip gs ∷ [])))
+    ∙ ap (λ (c : StateId). (
+      record (standing gs) { dag = chain (g ∷ gs); sessions = (1, record { follow = true; ceiling = c; last = x }) ∷ [] },
+      Committed x (tip gs ∷ []),
+    ))
     (cond-true (is_above (chain (g ∷ gs)) (tip gs) x) x (tip gs) (above-tip (g ∷ gs) (tip gs) (among-later (tip gs) x (states (chain gs)) (tip-is-known gs)))))
 
-pub raises : (g : List Entry) (gs : List (List Entry)) → number gs < 4294967295 → step (grown g gs) 1 RaiseAuto ≡ (floored g gs, Raised (tip (g ∷ gs)) (number gs + 1))
+pub raises : (g : List Entry) (gs : List (List Entry)) → number gs < 4294967295 → step (grown g gs) 1 RaiseAuto
+    ≡ (floored g gs, Raised (tip (g ∷ gs)) (number gs + 1))
 raises g gs few =
     let x = tip (g ∷ gs) in
     let rs = chain (g ∷ gs) in
     let fits : StateId → Bool = λ y. is_above rs (tip gs) y && is_above_ceilings rs ((1, session x) ∷ []) y in
     let first : IsTrue (fits x) =
-    and_from (is_above rs (tip gs) x) (is_above_ceilings rs ((1, session x) ∷ []) x) (above-tip (g ∷ gs) (tip gs) (among-later (tip gs) x (states (chain gs)) (tip-is-known gs)))
+    and_from (is_above rs (tip gs) x) (is_above_ceilings rs ((1, session x) ∷ []) x)
+    (above-tip (g ∷ gs) (tip gs) (among-later (tip gs) x (states (chain gs)) (tip-is-known gs)))
     (and_from (is_above rs x x) true (above-reflexive rs x) refl) in
-    let found : automatic_floor rs (tip gs) ((1, session x) ∷ []) ≡ x = ap (λ (o : Option StateId). unwrap_or o (tip gs)) (cond-true (fits x) (Some x) (find fits (states (chain gs))) first) in
+    let found : automatic_floor rs (tip gs) ((1, session x) ∷ []) ≡ x =
+    ap (λ (o : Option StateId). unwrap_or o (tip gs)) (cond-true (fits x) (Some x) (find fits (states (chain gs))) first) in
     ap (λ (y : StateId). raise_to (grown g gs) y []) found
     ∙ passes-one (grown g gs) (number gs == 4294967295) SeqEnd (floored g gs, Raised x (number gs + 1)) (ne_eqb (number gs) 4294967295 (λ same. omega arith))
 
@@ -165,7 +176,8 @@ module _ (g : List Entry) (gs : List (List Entry)) where
       let above : IsTrue (is_above rs x newest) = above-tip (g ∷ gs) x (among-later x newest (states (chain gs)) (tip-is-known gs)) in
       let differs : IsFalse (same_id x newest) = among-differs x newest (states (chain gs)) (tip-is-known gs) (tip-is-new g gs) in
       let closed : IsTrue (is_closed rs floors x) =
-      and_from (is_proper_ancestor rs x newest) true (and_from (is_above rs x newest) (not (same_id x newest)) above (not_from_false (same_id x newest) differs)) refl in
+      and_from (is_proper_ancestor rs x newest) true (and_from (is_above rs x newest) (not (same_id x newest)) above
+      (not_from_false (same_id x newest) differs)) refl in
       let absorbed : IsTrue (is_absorbed rs (older gs) x) =
       ap (λ (cs : List StateId). is_some (common same_id (map (stand_in rs (older gs)) cs))) (one-child g gs) in
       and_from (not (is_among x (older gs)) && is_closed rs floors x) (is_absorbed rs (older gs) x)
@@ -196,7 +208,8 @@ module _ (g : List Entry) (gs : List (List Entry)) where
   collects : tidied 64 rs floors (older gs) ≡ older (g ∷ gs)
   collects = ap (after 63 (older gs)) first-is-before ∙ ap (after 62 (older (g ∷ gs))) none-is-left
 
-pub tidies : (g : List Entry) (gs : List (List Entry)) → step (floored g gs) 1 (Tidy 64) ≡ (standing (g ∷ gs), Tidied (length (older (g ∷ gs)) - length (older gs)))
+pub tidies : (g : List Entry) (gs : List (List Entry)) → step (floored g gs) 1 (Tidy 64)
+    ≡ (standing (g ∷ gs), Tidied (length (older (g ∷ gs)) - length (older gs)))
 tidies g gs = ap (λ (ks : List StateId). (record (floored g gs) { collected = ks }, Tidied (length ks - length (older gs)))) (collects g gs)
 
 -- ===== What is kept

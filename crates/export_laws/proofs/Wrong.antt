@@ -14,7 +14,8 @@ forgotten-breaks law = let wrong : ((65 ∷ [], []) ∷ []) ≡ short_entries 65
 
 pub forgotten-breaks-exports : IsBrokenBy ExportsComeBack forgets_collected
 forgotten-breaks-exports law =
-    let wrong : export_spelling ((65 ∷ [], []) ∷ []) ≡ export_spelling (short_entries 65) = law (export_spelling (short_entries 65)) (short_entries 65) (refl, refl) (omega arith) in
+    let wrong : export_spelling ((65 ∷ [], []) ∷ []) ≡ export_spelling (short_entries 65) =
+    law (export_spelling (short_entries 65)) (short_entries 65) (refl, refl) (omega arith) in
     absurd (cc)
 
 pub all-collected-breaks : IsBrokenBy ScriptedStateIsKept collects_all

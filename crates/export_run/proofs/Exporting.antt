@@ -2,7 +2,8 @@
 use Rattle.std.proofs.Common.{◌≡◌, ℕ, ◌<◌, ◌≤◌, false, List, [], length, Option, map, refl, sym, ap, subst, arith}
 use Rattle.tardis_base.specs.declared.ids.StateId.{StateId}
 use Rattle.tardis_io.specs.declared.statuses.Status.{Status}
-use Rattle.tardis_io.specs.declared.statuses.Status.TheVariants.{Ok, Usage, ReadFault, WriteFault, Cut, LongFrame, NoMemory, GateFault, DialFault, Spent, DiskFault, BadExport, NoState}
+use Rattle.tardis_io.specs.declared.statuses.Status.TheVariants.{Ok, Usage, ReadFault, WriteFault, Cut, LongFrame, NoMemory, GateFault, DialFault, Spent}
+use Rattle.tardis_io.specs.declared.statuses.Status.TheVariants.{DiskFault, BadExport, NoState}
 use Rattle.tardis_io.specs.Told.{WhileTold}
 use Rattle.tardis_io.proofs.Told.{weaker}
 use Rattle.frame_cut.specs.Frames.{IsCut}
@@ -26,7 +27,8 @@ module _ (x : StateId) (from to : Site → Type 0) where
   Asked status first left = Outcome status from (λ s bodies. Led site_machine status to s (map event_of bodies)) first left
 
   module _ (old new : Option (List ℕ)) where
-    pub ended-well : (first left : List ℕ) → ((t : Site) → to t → GivesExport Ok x t old new) → Asked Ok first left → ExportOutcome Ok x from to old new first left
+    pub ended-well : (first left : List ℕ) → ((t : Site) → to t → GivesExport Ok x t old new) → Asked Ok first left →
+        ExportOutcome Ok x from to old new first left
     ended-well first left gives o = record {
       bodies = o.bodies;
       held = o.held;
@@ -37,7 +39,8 @@ module _ (x : StateId) (from to : Site → Type 0) where
       whole = o.whole;
     }
 
-    pub ended-broken : (first left : List ℕ) → ((t : Site) → to t → GivesExport WriteFault x t old new) → Asked Ok first left → ExportOutcome WriteFault x from to old new first left
+    pub ended-broken : (first left : List ℕ) → ((t : Site) → to t → GivesExport WriteFault x t old new) → Asked Ok first left →
+        ExportOutcome WriteFault x from to old new first left
     ended-broken first left gives o = record {
       bodies = o.bodies;
       held = o.held;
@@ -48,12 +51,14 @@ module _ (x : StateId) (from to : Site → Type 0) where
       whole = o.whole;
     }
 
-    pub ended-without : (first left : List ℕ) → ((t : Site) → to t → (is_kept t.dag t.collected x ≡ false) × (new ≡ old)) → Asked Ok first left → ExportOutcome (NoState x) x from to old new first left
+    pub ended-without : (first left : List ℕ) → ((t : Site) → to t → (is_kept t.dag t.collected x ≡ false) × (new ≡ old)) → Asked Ok first left →
+        ExportOutcome (NoState x) x from to old new first left
     ended-without first left gives o = record {
       bodies = o.bodies;
       held = o.held;
       read = o.read;
-      exported = λ s f. let l = o.answered s f in let g = gives l.state l.stands in record { site = l.state; leads = l.leads; stands = l.stands; given = (refl, g.0, g.1) };
+      exported = λ s f. let l = o.answered s f in let g = gives l.state l.stands in
+          record { site = l.state; leads = l.leads; stands = l.stands; given = (refl, g.0, g.1) };
       ends = o.ends;
       front = o.front;
       whole = o.whole;
@@ -65,7 +70,13 @@ module _ (x : StateId) (from to : Site → Type 0) where
       bodies = o.bodies;
       held = o.held;
       read = o.read;
-      exported = λ s f. let l = o.answered s f in record { site = l.state; leads = plainly site_machine s (map event_of o.bodies) l.state l.leads; stands = l.stands; given = nothing };
+      exported = λ s f. let l = o.answered s f in record {
+        site = l.state;
+        leads = plainly site_machine s (map event_of o.bodies) l.state l.leads;
+        stands =
+            l.stands;
+        given = nothing;
+      };
       ends = omega (arith, o.ends.2);
       front = o.front;
       whole = λ all rest cut. tt;
@@ -84,7 +95,8 @@ module _ (x : StateId) (from to : Site → Type 0) where
   }
 
   -- the input wasn't read to its end, or had no whole frame there
-  pub ended-early : (old : Option (List ℕ)) (status : Status) (first left : List ℕ) → IsRunEnd status → (status ≡ Ok → ⊥) → (status ≡ WriteFault → ⊥) → Asked status first left → ExportOutcome status x from to old old first left
+  pub ended-early : (old : Option (List ℕ)) (status : Status) (first left : List ℕ) → IsRunEnd status → (status ≡ Ok → ⊥) → (status ≡ WriteFault → ⊥) →
+      Asked status first left → ExportOutcome status x from to old old first left
   ended-early old Ok first left end notok notwrite o = absurd (notok refl)
   ended-early old WriteFault first left end notok notwrite o = absurd (notwrite refl)
   ended-early old ReadFault first left end notok notwrite o = record {
@@ -127,7 +139,13 @@ module _ (x : StateId) (from to : Site → Type 0) where
     bodies = o.bodies;
     held = o.held;
     read = o.read;
-    exported = λ s f. let l = o.answered s f in record { site = l.state; leads = plainly site_machine s (map event_of o.bodies) l.state l.leads; stands = l.stands; given = refl };
+    exported = λ s f. let l = o.answered s f in record {
+      site = l.state;
+      leads = plainly site_machine s (map event_of o.bodies) l.state l.leads;
+      stands =
+          l.stands;
+      given = refl;
+    };
     ends = omega (arith, ap length o.ends.2);
     front = o.front;
     whole = λ all rest cut. tt;
@@ -160,23 +178,30 @@ module _ (x : StateId) (before after : Option (List ℕ)) (Faultless Written : T
   -- the one cut decides a status of reading
   abbrev pub Decides : Status → Type 0
   Decides status =
-      WhileTold before after (λ first left. (all : List (List ℕ)) (rest : List ℕ) → IsCut first all rest → length first < most_taken → Faultless → (status ≡ WriteFault → ⊥) → EndsAs rest status)
+      WhileTold before after (λ first left. (all : List (List ℕ)) (rest : List ℕ) → IsCut first all rest → length first < most_taken → Faultless →
+      (status ≡ WriteFault → ⊥) → EndsAs rest status)
 
   abbrev pub DecidesExport : Status → Type 0
   DecidesExport status =
-      WhileTold before after (λ first left. (all : List (List ℕ)) (rest : List ℕ) → IsCut first all rest → length first < most_taken → Faultless → Written → ExportEndsAs x rest status)
+      WhileTold before after (λ first left. (all : List (List ℕ)) (rest : List ℕ) → IsCut first all rest → length first < most_taken → Faultless → Written
+      → ExportEndsAs x rest status)
 
   -- the status of an export by that of its reading
-  pub decided : (status final : Status) → (status ≡ WriteFault → ⊥) → ((rest : List ℕ) → EndsAs rest status → Written → ExportEndsAs x rest final) → Decides status → DecidesExport final
+  pub decided : (status final : Status) → (status ≡ WriteFault → ⊥) → ((rest : List ℕ) → EndsAs rest status → Written → ExportEndsAs x rest final) →
+      Decides status → DecidesExport final
   decided status final notwrite f d =
-      weaker before after (λ first left. (all : List (List ℕ)) (rest : List ℕ) → IsCut first all rest → length first < most_taken → Faultless → (status ≡ WriteFault → ⊥) → EndsAs rest status)
-      (λ first left. (all : List (List ℕ)) (rest : List ℕ) → IsCut first all rest → length first < most_taken → Faultless → Written → ExportEndsAs x rest final) d
+      weaker before after (λ first left. (all : List (List ℕ)) (rest : List ℕ) → IsCut first all rest → length first < most_taken → Faultless →
+      (status ≡ WriteFault → ⊥) → EndsAs rest status)
+      (λ first left. (all : List (List ℕ)) (rest : List ℕ) → IsCut first all rest → length first < most_taken → Faultless → Written →
+      ExportEndsAs x rest final) d
       (λ a b h. λ all rest cut short quiet written. f rest (h all rest cut short quiet notwrite) written)
 
   pub decided-wanting : (status : Status) → Decides status → DecidesExport NoMemory
   decided-wanting status d =
-      weaker before after (λ first left. (all : List (List ℕ)) (rest : List ℕ) → IsCut first all rest → length first < most_taken → Faultless → (status ≡ WriteFault → ⊥) → EndsAs rest status)
-      (λ first left. (all : List (List ℕ)) (rest : List ℕ) → IsCut first all rest → length first < most_taken → Faultless → Written → ExportEndsAs x rest NoMemory) d
+      weaker before after (λ first left. (all : List (List ℕ)) (rest : List ℕ) → IsCut first all rest → length first < most_taken → Faultless →
+      (status ≡ WriteFault → ⊥) → EndsAs rest status)
+      (λ first left. (all : List (List ℕ)) (rest : List ℕ) → IsCut first all rest → length first < most_taken → Faultless → Written →
+      ExportEndsAs x rest NoMemory) d
       (λ a b h. λ all rest cut short quiet written. tt)
 
   pub decided-early : (status : Status) → (status ≡ Ok → ⊥) → (status ≡ WriteFault → ⊥) → Decides status → DecidesExport status
@@ -199,7 +224,8 @@ early-end x (NoState y) end = absurd (end)
 
 -- ===== The site that opens
 
-pub from_opening : (status : Status) (x : StateId) (site : Site) (From To : Site → Type 0) (old new : Option (List ℕ)) (first left : List ℕ) → From site → ((t : Site) → To t → IsSound t)
+pub from_opening : (status : Status) (x : StateId) (site : Site) (From To : Site → Type 0) (old new : Option (List ℕ)) (first left : List ℕ) → From site →
+    ((t : Site) → To t → IsSound t)
     → ExportOutcome status x From To old new first left → ExportOutcome status x (λ s. s ≡ site) IsSound old new first left
 from_opening status x site From To old new first left here sound o = record {
   bodies = o.bodies;
@@ -207,14 +233,16 @@ from_opening status x site From To old new first left here sound o = record {
   read = o.read;
   exported = λ s e.
       let l = o.exported site here in
-      subst (λ z. Exports status x IsSound old new z (map event_of o.bodies)) (sym e) (record { site = l.site; leads = l.leads; stands = sound l.site l.stands; given = l.given });
+      subst (λ z. Exports status x IsSound old new z (map event_of o.bodies)) (sym e)
+      (record { site = l.site; leads = l.leads; stands = sound l.site l.stands; given = l.given });
   ends = o.ends;
   front = o.front;
   whole = o.whole;
 }
 
 -- there was no memory for the site
-pub unopened : (x : StateId) (site : Site) (old : Option (List ℕ)) (first : List ℕ) → IsSound site → ExportOutcome NoMemory x (λ s. s ≡ site) IsSound old old first first
+pub unopened : (x : StateId) (site : Site) (old : Option (List ℕ)) (first : List ℕ) → IsSound site →
+    ExportOutcome NoMemory x (λ s. s ≡ site) IsSound old old first first
 unopened x site old first sound = record {
   bodies = [];
   held = [];

@@ -1,5 +1,6 @@
 -- The pairs of two ascending lists as one.
-use Rattle.std.proofs.Common.{◌≡◌, ℕ, ◌+◌, ◌-◌, ◌<◌, ◌≤◌, Bool, true, false, ◌||◌, List, [], ◌∷◌, ◌++◌, length, get_or, take, drop, IsTrue, refl, sym, ◌∙◌, ap, ap₂, subst, arith}
+use Rattle.std.proofs.Common.{◌≡◌, ℕ, ◌+◌, ◌-◌, ◌<◌, ◌≤◌, Bool, true, false, ◌||◌, List, [], ◌∷◌, ◌++◌, length, get_or, take, drop, IsTrue, refl, sym, ◌∙◌}
+use Rattle.std.proofs.Common.{ap, ap₂, subst, arith}
 use Rattle.std.specs.List.{AllWithin, list_all}
 use Rattle.std.proofs.lemmas.List.{take_rest, take-append-drop}
 use Rattle.std.proofs.Math.Seq.{drop-cons}
@@ -37,13 +38,15 @@ pub around-found : (p : ℕ × ℕ) (ps : List (ℕ × ℕ)) (i : ℕ) → are_a
     with_pair p ps ≡ take i ps ++ p ∷ take (length ps - (i + 1)) (drop (i + 1) ps)
 around-found p ps i up lt here =
     let next : ℕ.suc i ≡ i + 1 = omega arith in
-    let behind : drop i ps ≡ p ∷ drop (i + 1) ps = subst (λ n. drop i ps ≡ p ∷ drop n ps) next (subst (λ z. drop i ps ≡ z ∷ drop (ℕ.suc i) ps) here (drop-cons ps i p lt)) in
+    let behind : drop i ps ≡ p ∷ drop (i + 1) ps = subst (λ n. drop i ps ≡ p ∷ drop n ps) next
+    (subst (λ z. drop i ps ≡ z ∷ drop (ℕ.suc i) ps) here (drop-cons ps i p lt)) in
     with_pair-found p ps up (has-at p ps i lt here)
     ∙ sym (take-append-drop i ps)
     ∙ ap (λ zs. take i ps ++ zs) (behind ∙ ap (λ zs. p ∷ zs) (sym (take_rest ps (i + 1))))
 
 -- a pair that wasn't goes between those before it and the others
-pub around-new : (p : ℕ × ℕ) (ps : List (ℕ × ℕ)) (i : ℕ) → are_ascending_pairs ps ≡ true → i ≤ length ps → AllWithin (λ q. is_pair_before q p ≡ true) ps 0 i → (i < length ps → is_pair_before (get_or ps i p) p ≡ false) →
+pub around-new : (p : ℕ × ℕ) (ps : List (ℕ × ℕ)) (i : ℕ) → are_ascending_pairs ps ≡ true → i ≤ length ps →
+    AllWithin (λ q. is_pair_before q p ≡ true) ps 0 i → (i < length ps → is_pair_before (get_or ps i p) p ≡ false) →
     (i < length ps → is_same_pair p (get_or ps i p) ≡ false) → with_pair p ps ≡ take i ps ++ p ∷ take (length ps - i) (drop i ps)
 around-new p ps i up le below above other =
     with_pair-insert p ps i up le below above other ∙ ap (λ zs. take i ps ++ p ∷ zs) (sym (take_rest ps i))
@@ -69,7 +72,8 @@ before-inner : (p q : ℕ × ℕ) (front behind : List (ℕ × ℕ)) → list_al
 before-inner p q [] behind a = (and_parts (is_pair_before p q) (list_all (is_pair_before p) behind) a).0
 before-inner p q (x ∷ xs) behind a = before-inner p q xs behind (and_parts (is_pair_before p x) (list_all (is_pair_before p) (xs ++ q ∷ behind)) a).1
 
-front-stays : (front behind qs : List (ℕ × ℕ)) (q : ℕ × ℕ) → are_ascending_pairs (front ++ q ∷ behind) ≡ true → list_all (is_pair_before q) qs ≡ true → with_each qs (front ++ q ∷ behind) ≡ front ++ q ∷ with_each qs behind
+front-stays : (front behind qs : List (ℕ × ℕ)) (q : ℕ × ℕ) → are_ascending_pairs (front ++ q ∷ behind) ≡ true → list_all (is_pair_before q) qs ≡ true →
+    with_each qs (front ++ q ∷ behind) ≡ front ++ q ∷ with_each qs behind
 front-stays [] behind qs q up a = first-stays_first q qs behind a
 front-stays (x ∷ xs) behind qs q up a =
     first-stays_first x qs (xs ++ q ∷ behind) (before-further x q qs (before-inner x q xs behind (before-rest x (xs ++ q ∷ behind) up)) a)
@@ -88,8 +92,10 @@ pub record Merging (base own others out rest : List (ℕ × ℕ)) (index : ℕ) 
   pub ascending : are_ascending_pairs rest ≡ true
   pub whole : base ++ with_each others own ≡ out ++ with_each (drop index others) rest
 
-pub merging-more : (base own others out rest front behind mid new : List (ℕ × ℕ)) (index : ℕ) → are_ascending_pairs others ≡ true → index < length others → Merging base own others out rest index →
-    (IsTrue (are_ascending_pairs rest) → with_pair (get_or others index (0, 0)) rest ≡ front ++ get_or others index (0, 0) ∷ behind) → mid ≡ out ++ front → new ≡ mid ++ get_or others index (0, 0) ∷ [] →
+pub merging-more : (base own others out rest front behind mid new : List (ℕ × ℕ)) (index : ℕ) → are_ascending_pairs others ≡ true → index < length others →
+    Merging base own others out rest index →
+    (IsTrue (are_ascending_pairs rest) → with_pair (get_or others index (0, 0)) rest ≡ front ++ get_or others index (0, 0) ∷ behind) → mid ≡ out ++ front →
+    new ≡ mid ++ get_or others index (0, 0) ∷ [] →
     Merging base own others new behind (index + 1)
 merging-more base own others out rest front behind mid new index up lt m put e₁ e₂ =
     let q = get_or others index (0, 0) in
@@ -119,20 +125,23 @@ with_each-front (f ∷ fs) ps qs up =
     ∙ ap (λ zs. f ∷ zs) (with_each-front fs ps qs (ascending-rest f (fs ++ ps) up))
 
 -- the same where the front is cut off
-merged-front : (own others : List (ℕ × ℕ)) (n : ℕ) → are_ascending_pairs others ≡ true → take n own ≡ take n others → take n own ++ with_each (drop n others) (drop n own) ≡ with_each others own
+merged-front : (own others : List (ℕ × ℕ)) (n : ℕ) → are_ascending_pairs others ≡ true → take n own ≡ take n others → take n own
+    ++ with_each (drop n others) (drop n own) ≡ with_each others own
 merged-front own others n up e =
     let whole : take n own ++ drop n others ≡ others = ap (λ zs. zs ++ drop n others) e ∙ take-append-drop n others in
     sym (with_each-front (take n own) (drop n others) (drop n own) (subst (λ zs. are_ascending_pairs zs ≡ true) (sym whole) up))
     ∙ ap (λ zs. with_each zs (take n own ++ drop n own)) whole
     ∙ ap (with_each others) (take-append-drop n own)
 
-pub merged-whole : (own others start out new : List (ℕ × ℕ)) (n : ℕ) → are_ascending_pairs own ≡ true → are_ascending_pairs others ≡ true → take n own ≡ take n others → start ≡ [] → out ≡ start ++ take n own →
+pub merged-whole : (own others start out new : List (ℕ × ℕ)) (n : ℕ) → are_ascending_pairs own ≡ true → are_ascending_pairs others ≡ true →
+    take n own ≡ take n others → start ≡ [] → out ≡ start ++ take n own →
     (are_ascending_pairs (take (length own - n) (drop n own)) ≡ true → are_ascending_pairs (take (length others - n) (drop n others)) ≡ true →
     new ≡ out ++ with_each (take (length others - n) (drop n others)) (take (length own - n) (drop n own))) → new ≡ with_each others own
 merged-whole own others start out new n up up₂ same e₀ e₁ made =
     let a = take_rest own n in
     let b = take_rest others n in
-    made (subst (λ zs. are_ascending_pairs zs ≡ true) (sym a) (ascending-drop n own up)) (subst (λ zs. are_ascending_pairs zs ≡ true) (sym b) (ascending-drop n others up₂))
+    made (subst (λ zs. are_ascending_pairs zs ≡ true) (sym a) (ascending-drop n own up))
+    (subst (λ zs. are_ascending_pairs zs ≡ true) (sym b) (ascending-drop n others up₂))
     ∙ ap₂ (λ xs ys. out ++ with_each xs ys) b a
     ∙ ap (λ zs. zs ++ with_each (drop n others) (drop n own)) (e₁ ∙ ap (λ zs. zs ++ take n own) e₀)
     ∙ merged-front own others n up₂ same

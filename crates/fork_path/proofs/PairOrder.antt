@@ -1,5 +1,6 @@
 -- The order of pairs, and what stands in ascending ones.
-use Rattle.std.proofs.Common.{◌≡◌, ℕ, ◌<◌, ◌≤◌, true, false, ◌&&◌, List, [], ◌∷◌, length, get_or, drop, ltb, eqb, refl, sym, ◌∙◌, ap₂, subst, ◌⊎◌, inl, inr, eqb-true, eq-eqb, arith}
+use Rattle.std.proofs.Common.{◌≡◌, ℕ, ◌<◌, ◌≤◌, true, false, ◌&&◌, List, [], ◌∷◌, length, get_or, drop, ltb, eqb, refl, sym, ◌∙◌, ap₂, subst, ◌⊎◌, inl, inr}
+use Rattle.std.proofs.Common.{eqb-true, eq-eqb, arith}
 use Rattle.std.specs.List.{AllWithin, list_all}
 use Rattle.std.specs.List.Sorted.{IsPartitionedBy}
 use Rattle.std.proofs.lemmas.Bool.{and_parts, and_from, or_cases, or_left, or_right, both_ways, false_from_ne_true, ltb-true, lt-ltb, cases_lt}
@@ -105,7 +106,8 @@ before-rest p (q ∷ ps) up =
     further [] a = refl
     further (r ∷ rs) a =
         let h = and_parts (is_pair_before q r) (list_all (is_pair_before q) rs) a in
-        and_from (is_pair_before p r) (list_all (is_pair_before p) rs) (before_trans p q r (and_parts (is_pair_before p q) (are_ascending_pairs (q ∷ ps)) up).0 h.0) (further rs h.1)
+        and_from (is_pair_before p r) (list_all (is_pair_before p) rs)
+        (before_trans p q r (and_parts (is_pair_before p q) (are_ascending_pairs (q ∷ ps)) up).0 h.0) (further rs h.1)
 
 -- what stands before each of these is none of them
 pub has-none : (p : ℕ × ℕ) (ps : List (ℕ × ℕ)) → list_all (is_pair_before p) ps ≡ true → has_pair p ps ≡ false
@@ -120,16 +122,19 @@ has-before p q qs up h = has-none p (q ∷ qs) (before-rest p (q ∷ qs) (and_fr
 
 -- a pair is none of ascending ones from a place on where those before another place stand before it, and it before that one
 pub has-between : (p : ℕ × ℕ) (ps : List (ℕ × ℕ)) (start place : ℕ) → are_ascending_pairs ps ≡ true → start ≤ place → place ≤ length ps →
-    AllWithin (λ q. is_pair_before q p ≡ true) ps start place → (place < length ps → is_pair_before p (get_or ps place p) ≡ true) → has_pair p (drop start ps) ≡ false
+    AllWithin (λ q. is_pair_before q p ≡ true) ps start place → (place < length ps → is_pair_before p (get_or ps place p) ≡ true) →
+    has_pair p (drop start ps) ≡ false
 has-between p [] ℕ.zero place up le within below above = refl
 has-between p [] (ℕ.suc start) place up le within below above = refl
 has-between p (q ∷ ps) ℕ.zero ℕ.zero up le within below above = has-before p q ps up (above (omega arith))
 has-between p (q ∷ ps) ℕ.zero (ℕ.suc place) up le within below above =
     rw (after-isnt_same p q (below 0 q (omega arith) (omega arith)))
-    (has-between p ps 0 place (ascending-rest q ps up) (omega arith) (omega arith) (λ k d lo hi. below (ℕ.suc k) d (omega arith) (omega arith)) (λ lt. above (omega arith)))
+    (has-between p ps 0 place (ascending-rest q ps up) (omega arith) (omega arith) (λ k d lo hi. below (ℕ.suc k) d (omega arith) (omega arith))
+    (λ lt. above (omega arith)))
 has-between p (q ∷ ps) (ℕ.suc start) ℕ.zero up le within below above = absurd (omega arith)
 has-between p (q ∷ ps) (ℕ.suc start) (ℕ.suc place) up le within below above =
-    has-between p ps start place (ascending-rest q ps up) (omega arith) (omega arith) (λ k d lo hi. below (ℕ.suc k) d (omega arith) (omega arith)) (λ lt. above (omega arith))
+    has-between p ps start place (ascending-rest q ps up) (omega arith) (omega arith) (λ k d lo hi. below (ℕ.suc k) d (omega arith) (omega arith))
+    (λ lt. above (omega arith))
 
 -- what is at a place is one of these
 pub has-at : (p : ℕ × ℕ) (ps : List (ℕ × ℕ)) (n : ℕ) → n < length ps → get_or ps n p ≡ p → has_pair p ps ≡ true
@@ -141,12 +146,14 @@ has-at p (q ∷ ps) (ℕ.suc n) lt e = or_right (is_same_pair p q) (has_pair p p
 pub parted : (p : ℕ × ℕ) (ps : List (ℕ × ℕ)) → are_ascending_pairs ps ≡ true → IsPartitionedBy (λ q. is_pair_before q p) ps
 parted p ps up i j d le lt h = go ps i j up le lt h
   where
-    head : (q : ℕ × ℕ) (qs : List (ℕ × ℕ)) (k : ℕ) → list_all (is_pair_before q) qs ≡ true → k < length qs → is_pair_before (get_or qs k d) p ≡ true → is_pair_before q p ≡ true
+    head : (q : ℕ × ℕ) (qs : List (ℕ × ℕ)) (k : ℕ) → list_all (is_pair_before q) qs ≡ true → k < length qs → is_pair_before (get_or qs k d) p ≡ true →
+        is_pair_before q p ≡ true
     head q [] k a lt' h' = absurd (omega arith)
     head q (r ∷ rs) ℕ.zero a lt' h' = before_trans q r p (and_parts (is_pair_before q r) (list_all (is_pair_before q) rs) a).0 h'
     head q (r ∷ rs) (ℕ.suc k) a lt' h' = head q rs k (and_parts (is_pair_before q r) (list_all (is_pair_before q) rs) a).1 (omega arith) h'
 
-    go : (qs : List (ℕ × ℕ)) (a b : ℕ) → are_ascending_pairs qs ≡ true → a ≤ b → b < length qs → is_pair_before (get_or qs b d) p ≡ true → is_pair_before (get_or qs a d) p ≡ true
+    go : (qs : List (ℕ × ℕ)) (a b : ℕ) → are_ascending_pairs qs ≡ true → a ≤ b → b < length qs → is_pair_before (get_or qs b d) p ≡ true →
+        is_pair_before (get_or qs a d) p ≡ true
     go [] a b u l m t = absurd (omega arith)
     go (q ∷ qs) ℕ.zero ℕ.zero u l m t = t
     go (q ∷ qs) ℕ.zero (ℕ.suc b) u l m t = head q qs b (before-rest q qs u) (omega arith) t

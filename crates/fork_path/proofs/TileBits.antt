@@ -1,10 +1,12 @@
 -- The bits of a tile, and the pairs that they stand for.
-use Rattle.std.proofs.Common.{◌≡◌, ℕ, ◌+◌, ◌*◌, ◌/◌, ◌%◌, ◌^◌, ◌<◌, ◌≤◌, min, Bool, true, false, not, ◌&&◌, ◌||◌, eqb, refl, sym, ◌∙◌, ap, ap₂, subst, ◌⊎◌, inl, inr, eqb-true, eq-eqb, arith}
+use Rattle.std.proofs.Common.{◌≡◌, ℕ, ◌+◌, ◌*◌, ◌/◌, ◌%◌, ◌^◌, ◌<◌, ◌≤◌, min, Bool, true, false, not, ◌&&◌, ◌||◌, eqb, refl, sym, ◌∙◌, ap, ap₂, subst, ◌⊎◌}
+use Rattle.std.proofs.Common.{inl, inr, eqb-true, eq-eqb, arith}
 use Rattle.std.specs.Int.{bit_at, bit_not, w64}
 use Rattle.std.specs.Int.Bits.{bit_and, bit_or, and_zero_r}
 use Rattle.std.proofs.lemmas.Bool.{and_parts, and_from, or_cases, or_left, or_right, both_ways, false_from_ne_true, cases_lt, cases_Bool, cases_eq}
 use Rattle.std.proofs.lemmas.Nat.{and_le_l, one_shl}
-use Rattle.std.proofs.lemmas.Nat.Bits.{bit_at-lt, bit_at-zero, bit_at_and, bit_at_or, bit_at-pow_same, bit_at-pow_other, bit_at_clear_same, bit_at_clear_other, same_from_bits_below}
+use Rattle.std.proofs.lemmas.Nat.Bits.{bit_at-lt, bit_at-zero, bit_at_and, bit_at_or, bit_at-pow_same, bit_at-pow_other, bit_at_clear_same}
+use Rattle.std.proofs.lemmas.Nat.Bits.{bit_at_clear_other, same_from_bits_below}
 use Rattle.fork_path.specs.declared.tiles.Tile.{Tile}
 use Rattle.fork_path.specs.Pairs.{is_same_pair}
 use Rattle.fork_path.specs.Tiles.{key_of, bit_of, holds}
@@ -44,7 +46,8 @@ holds-clear t p z = false_from_ne_true (holds t p) (λ h. let w = holds-parts t 
 
 -- a tile of other pairs has none of these
 pub holds-beside : (t u : Tile) (p : ℕ × ℕ) → holds t p ≡ true → is_same_pair (key_of t) (key_of u) ≡ false → holds u p ≡ false
-holds-beside t u p h n = false_from_ne_true (holds u p) (λ k. both_ways (is_same_pair (key_of t) (key_of u)) n (same_pair_from (key_of t) (key_of u) (holds-key t p h ∙ sym (holds-key u p k))))
+holds-beside t u p h n = false_from_ne_true (holds u p) (λ k. both_ways (is_same_pair (key_of t) (key_of u)) n
+    (same_pair_from (key_of t) (key_of u) (holds-key t p h ∙ sym (holds-key u p k))))
 
 -- ===== One tile within another
 
@@ -70,16 +73,21 @@ differ (ℕ.suc w) a b = elim (differ w a b) [
   ]
 ]
 
-pub within-outside : (t u : Tile) → key_of t ≡ key_of u → t.bits < 2 ^ 64 → (bit_and t.bits u.bits ≡ t.bits → ⊥) → (p : ℕ × ℕ) × (holds t p ≡ true) × (holds u p ≡ false)
+pub within-outside : (t u : Tile) → key_of t ≡ key_of u → t.bits < 2 ^ 64 → (bit_and t.bits u.bits ≡ t.bits → ⊥) → (p : ℕ × ℕ) × (holds t p ≡ true)
+    × (holds u p ≡ false)
 within-outside t u key fits other = elim (differ 64 t.bits u.bits) [
   | inl d ↦
       let i = d.0 in
       let lt : i < 64 = d.1 in
       let p : ℕ × ℕ = (t.forks * 32 + i / 2, t.branches * 2 + i % 2) in
-      let at : i ≡ bit_of p = omega (arith, lt) in
-      (p, holds-from t p (omega (arith, lt)) (omega (arith, lt)) (subst (λ n. bit_at t.bits n ≡ 1) at d.2), holds-clear u p (subst (λ n. bit_at u.bits n ≡ 0) at d.3))
+      let at : i ≡ bit_of p = omega (arith, lt) in (
+        p,
+        holds-from t p (omega (arith, lt)) (omega (arith, lt)) (subst (λ n. bit_at t.bits n ≡ 1) at d.2),
+        holds-clear u p (subst (λ n. bit_at u.bits n ≡ 0) at d.3),
+      )
   | inr h ↦
-      absurd (other (same_from_bits_below 64 (bit_and t.bits u.bits) t.bits (omega (arith, and_le_l t.bits u.bits, fits)) fits (λ i l. bit_at_and t.bits u.bits i ∙ omega (arith, h i l))))
+      absurd (other (same_from_bits_below 64 (bit_and t.bits u.bits) t.bits (omega (arith, and_le_l t.bits u.bits, fits)) fits
+      (λ i l. bit_at_and t.bits u.bits i ∙ omega (arith, h i l))))
 ]
 
 -- ===== Two tiles as one, and a tile of one pair
@@ -108,10 +116,12 @@ joined-holds t u key p = same_tests (holds (record t { bits = bit_or t.bits u.bi
           | inr k ↦
               let w = holds-parts u p k in
               let one = w.1 in
-              holds-from (record t { bits = bit_or t.bits u.bits }) p (w.0.0 ∙ ap (λ k. k.0) (sym key)) (w.0.1 ∙ ap (λ k. k.1) (sym key)) (omega (arith, m, one, bit_at-lt t.bits (bit_of p)))
+              holds-from (record t { bits = bit_or t.bits u.bits }) p (w.0.0 ∙ ap (λ k. k.0) (sym key)) (w.0.1 ∙ ap (λ k. k.1) (sym key))
+              (omega (arith, m, one, bit_at-lt t.bits (bit_of p)))
         ]
 
-pub one-holds : (t : Tile) (fork branch k : ℕ) → t.forks ≡ fork / 32 → t.branches ≡ branch / 2 → k ≡ bit_of (fork, branch) → t.bits ≡ 1 * 2 ^ k % 2 ^ 64 → (p : ℕ × ℕ) → holds t p ≡ is_same_pair p (fork, branch)
+pub one-holds : (t : Tile) (fork branch k : ℕ) → t.forks ≡ fork / 32 → t.branches ≡ branch / 2 → k ≡ bit_of (fork, branch) → t.bits ≡ 1 * 2 ^ k % 2 ^ 64 →
+    (p : ℕ × ℕ) → holds t p ≡ is_same_pair p (fork, branch)
 one-holds t fork branch k e₀ e₁ place made p = same_tests (holds t p) (is_same_pair p (fork, branch)) there back
   where
     lt : k < 64
@@ -126,7 +136,8 @@ one-holds t fork branch k e₀ e₁ place made p = same_tests (holds t p) (is_sa
         let f = w.0.0 in
         let b = w.0.1 in
         elim (cases_eq (bit_of p) k) [
-          | inl e ↦ and_from (eqb p.0 fork) (eqb p.1 branch) (eq-eqb p.0 fork (omega (arith, e, place, f, e₀))) (eq-eqb p.1 branch (omega (arith, e, place, b, e₁)))
+          | inl e ↦ and_from (eqb p.0 fork) (eqb p.1 branch) (eq-eqb p.0 fork (omega (arith, e, place, f, e₀)))
+              (eq-eqb p.1 branch (omega (arith, e, place, b, e₁)))
           | inr ne ↦
               let one : bit_at t.bits (bit_of p) ≡ 1 = w.1 in
               let none : bit_at t.bits (bit_of p) ≡ 0 = ap (λ n. bit_at n (bit_of p)) bits ∙ bit_at-pow_other k (bit_of p) ne in
@@ -151,7 +162,8 @@ without-other t fork other p = elim (cases_Bool (eqb p.0 fork)) [
 ]
 
 pub without-holds : (t : Tile) (fork a b : ℕ) → t.forks ≡ fork / 32 → a ≡ bit_of (fork, 0) → b ≡ bit_of (fork, 1) →
-    (n : ℕ) → n ≡ bit_and (bit_and t.bits (bit_not w64 (1 * 2 ^ a % 2 ^ 64))) (bit_not w64 (1 * 2 ^ b % 2 ^ 64)) → (p : ℕ × ℕ) → holds (record t { bits = n }) p ≡ (not (eqb p.0 fork) && holds t p)
+    (n : ℕ) → n ≡ bit_and (bit_and t.bits (bit_not w64 (1 * 2 ^ a % 2 ^ 64))) (bit_not w64 (1 * 2 ^ b % 2 ^ 64)) → (p : ℕ × ℕ) →
+    holds (record t { bits = n }) p ≡ (not (eqb p.0 fork) && holds t p)
 without-holds t fork a b forks first second n made p = same_tests (holds (record t { bits = n }) p) (not (eqb p.0 fork) && holds t p) there back
   where
     cleared : ℕ

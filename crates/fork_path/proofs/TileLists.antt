@@ -1,5 +1,6 @@
 -- Lists of tiles: what they hold, and the order of their keys.
-use Rattle.std.proofs.Common.{◌≡◌, ℕ, ◌-◌, ◌<◌, ◌≤◌, Bool, true, false, not, ◌&&◌, ◌||◌, List, [], ◌∷◌, ◌++◌, length, get_or, take, drop, set, filter, eqb, IsTrue, refl, sym, ◌∙◌, ap, ap₂, subst, inl, inr, arith}
+use Rattle.std.proofs.Common.{◌≡◌, ℕ, ◌-◌, ◌<◌, ◌≤◌, Bool, true, false, not, ◌&&◌, ◌||◌, List, [], ◌∷◌, ◌++◌, length, get_or, take, drop, set, filter, eqb}
+use Rattle.std.proofs.Common.{IsTrue, refl, sym, ◌∙◌, ap, ap₂, subst, inl, inr, arith}
 use Rattle.std.specs.List.{All, AllWithin, insert, list_all}
 use Rattle.std.specs.List.Sorted.{IsPartitionPoint, IsPartitionedBy}
 use Rattle.std.proofs.lemmas.List.{get_or-map, length-map, take-map, drop-map, map-append, take-append-drop}
@@ -36,12 +37,14 @@ keys-length ts = length-map ts key_of
 pub holds-no_key : (t : Tile) (ts : List Tile) (p : ℕ × ℕ) → holds t p ≡ true → has_pair (key_of t) (keys_of ts) ≡ false → some_holds ts p ≡ false
 holds-no_key t [] p h n = refl
 holds-no_key t (u ∷ us) p h n = elim (cases_Bool (is_same_pair (key_of t) (key_of u))) [
-  | inl same ↦ absurd (both_ways (has_pair (key_of t) (keys_of (u ∷ us))) n (or_left (is_same_pair (key_of t) (key_of u)) (has_pair (key_of t) (keys_of us)) same))
+  | inl same ↦ absurd (both_ways (has_pair (key_of t) (keys_of (u ∷ us))) n
+      (or_left (is_same_pair (key_of t) (key_of u)) (has_pair (key_of t) (keys_of us)) same))
   | inr other ↦ rw (holds-beside t u p h other) (holds-no_key t us p h (rw other at n))
 ]
 
 -- of ascending tiles only the one of the key has its pairs
-pub holds-at : (t : Tile) (ts : List Tile) (i : ℕ) (p : ℕ × ℕ) → are_ascending_pairs (keys_of ts) ≡ true → i < length ts → key_of (get_or ts i t) ≡ key_of t → holds t p ≡ true → some_holds ts p ≡ holds (get_or ts i t) p
+pub holds-at : (t : Tile) (ts : List Tile) (i : ℕ) (p : ℕ × ℕ) → are_ascending_pairs (keys_of ts) ≡ true → i < length ts → key_of (get_or ts i t)
+    ≡ key_of t → holds t p ≡ true → some_holds ts p ≡ holds (get_or ts i t) p
 holds-at t [] i p up lt key h = absurd (omega arith)
 holds-at t (u ∷ us) ℕ.zero p up lt key h =
     let none : has_pair (key_of u) (keys_of us) ≡ false = none_later in
@@ -64,11 +67,14 @@ holds-at t (u ∷ us) (ℕ.suc i) p up lt key h =
     let other : is_same_pair (key_of t) (key_of u) ≡ false = apart us i (before-rest (key_of u) (keys_of us) up) (omega arith) key in
     rw (holds-beside t u p h other) (holds-at t us i p (ascending-rest (key_of u) (keys_of us) up) (omega arith) key h)
   where
-    apart : (vs : List Tile) (n : ℕ) → list_all (is_pair_before (key_of u)) (keys_of vs) ≡ true → n < length vs → key_of (get_or vs n t) ≡ key_of t → is_same_pair (key_of t) (key_of u) ≡ false
+    apart : (vs : List Tile) (n : ℕ) → list_all (is_pair_before (key_of u)) (keys_of vs) ≡ true → n < length vs → key_of (get_or vs n t) ≡ key_of t →
+        is_same_pair (key_of t) (key_of u) ≡ false
     apart [] n a l k = absurd (omega arith)
     apart (v ∷ vs) ℕ.zero a l k =
-        after-isnt_same (key_of t) (key_of u) (subst (λ z. is_pair_before (key_of u) z ≡ true) k (and_parts (is_pair_before (key_of u) (key_of v)) (list_all (is_pair_before (key_of u)) (keys_of vs)) a).0)
-    apart (v ∷ vs) (ℕ.suc n) a l k = apart vs n (and_parts (is_pair_before (key_of u) (key_of v)) (list_all (is_pair_before (key_of u)) (keys_of vs)) a).1 (omega arith) k
+        after-isnt_same (key_of t) (key_of u) (subst (λ z. is_pair_before (key_of u) z ≡ true) k
+        (and_parts (is_pair_before (key_of u) (key_of v)) (list_all (is_pair_before (key_of u)) (keys_of vs)) a).0)
+    apart (v ∷ vs) (ℕ.suc n) a l k = apart vs n (and_parts (is_pair_before (key_of u) (key_of v)) (list_all (is_pair_before (key_of u)) (keys_of vs)) a).1
+        (omega arith) k
 
 -- what one of the tiles has, some of them have
 pub some-at : (ts : List Tile) (i : ℕ) (d : Tile) (p : ℕ × ℕ) → i < length ts → holds (get_or ts i d) p ≡ true → some_holds ts p ≡ true
@@ -91,7 +97,8 @@ some-insert t ts i p =
     ∙ ap (λ b. holds t p || b) (sym (some-split ts i p))
 
 -- a tile that was joined with another
-pub some-set : (t new : Tile) (ts : List Tile) (i : ℕ) (d : Tile) (p : ℕ × ℕ) → i < length ts → holds new p ≡ (holds (get_or ts i d) p || holds t p) → some_holds (set ts i new) p ≡ (holds t p || some_holds ts p)
+pub some-set : (t new : Tile) (ts : List Tile) (i : ℕ) (d : Tile) (p : ℕ × ℕ) → i < length ts → holds new p ≡ (holds (get_or ts i d) p || holds t p) →
+    some_holds (set ts i new) p ≡ (holds t p || some_holds ts p)
 some-set t new [] i d p lt e = absurd (omega arith)
 some-set t new (u ∷ us) ℕ.zero d p lt e = ap (λ b. b || some_holds us p) e ∙ swap (holds u p) (holds t p) (some_holds us p)
   where
@@ -130,27 +137,32 @@ filled-around ts i k all = (All-take HoldsPair i ts all, All-take HoldsPair (len
 -- ===== Where a tile is
 
 -- what holds of the keys of tiles holds of the list of keys
-pub within-keys : (P : ℕ × ℕ → Type 0) (d : Tile) (ts : List Tile) (low high : ℕ) → high ≤ length ts → AllWithin (λ t. P (key_of t)) ts low high → AllWithin P (keys_of ts) low high
+pub within-keys : (P : ℕ × ℕ → Type 0) (d : Tile) (ts : List Tile) (low high : ℕ) → high ≤ length ts → AllWithin (λ t. P (key_of t)) ts low high →
+    AllWithin P (keys_of ts) low high
 within-keys P d ts low high le all k e from below = subst P (sym (key-at ts k d e (omega arith))) (all k d from below)
 
 pub parted-tiles : (t : Tile) (ts : List Tile) → are_ascending_pairs (keys_of ts) ≡ true → IsPartitionedBy (λ u. is_pair_before (key_of u) (key_of t)) ts
 parted-tiles t ts up i j d le lt h =
     let len : length (keys_of ts) ≡ length ts = keys-length ts in
-    let there : is_pair_before (get_or (keys_of ts) j (key_of d)) (key_of t) ≡ true = subst (λ k. is_pair_before k (key_of t) ≡ true) (sym (key-at ts j d (key_of d) lt)) h in
+    let there : is_pair_before (get_or (keys_of ts) j (key_of d)) (key_of t) ≡ true =
+    subst (λ k. is_pair_before k (key_of t) ≡ true) (sym (key-at ts j d (key_of d) lt)) h in
     subst (λ k. is_pair_before k (key_of t) ≡ true) (key-at ts i d (key_of d) (omega arith))
     (parted (key_of t) (keys_of ts) up i j (key_of d) le (omega arith) there)
 
-pub point-of_keys : (t : Tile) (ts : List Tile) (i : ℕ) → i ≤ length ts → IsPartitionPoint (λ u. is_pair_before (key_of u) (key_of t) ≡ true) (λ u. is_pair_before (key_of u) (key_of t) ≡ false) ts i →
+pub point-of_keys : (t : Tile) (ts : List Tile) (i : ℕ) → i ≤ length ts → IsPartitionPoint (λ u. is_pair_before (key_of u) (key_of t) ≡ true)
+    (λ u. is_pair_before (key_of u) (key_of t) ≡ false) ts i →
     IsPartitionPoint (λ k. is_pair_before k (key_of t) ≡ true) (λ k. is_pair_before k (key_of t) ≡ false) (keys_of ts) i
 point-of_keys t ts i le point =
     let len : length (keys_of ts) ≡ length ts = keys-length ts in (
       within-keys (λ k. is_pair_before k (key_of t) ≡ true) t ts 0 i le point.0,
-      subst (λ n. AllWithin (λ k. is_pair_before k (key_of t) ≡ false) (keys_of ts) i n) (sym len) (within-keys (λ k. is_pair_before k (key_of t) ≡ false) t ts i (length ts) (omega arith) point.1),
+      subst (λ n. AllWithin (λ k. is_pair_before k (key_of t) ≡ false) (keys_of ts) i n) (sym len)
+          (within-keys (λ k. is_pair_before k (key_of t) ≡ false) t ts i (length ts) (omega arith) point.1),
     )
 
 -- a search that finds another tile, or none, shows that there is no tile of the key
 pub searched-none : (t : Tile) (ts : List Tile) (i : ℕ) → are_ascending_pairs (keys_of ts) ≡ true → i ≤ length ts →
-    (IsTrue (are_ascending_pairs (keys_of ts)) → IsPartitionPoint (λ k. is_pair_before k (key_of t) ≡ true) (λ k. is_pair_before k (key_of t) ≡ false) (keys_of ts) i) →
+    (IsTrue (are_ascending_pairs (keys_of ts)) → IsPartitionPoint (λ k. is_pair_before k (key_of t) ≡ true) (λ k. is_pair_before k (key_of t) ≡ false)
+    (keys_of ts) i) →
     (i < length ts → is_same_pair (key_of t) (key_of (get_or ts i t)) ≡ false) → has_pair (key_of t) (keys_of ts) ≡ false
 searched-none t ts i up le parts missing =
     let len : length (keys_of ts) ≡ length ts = keys-length ts in
@@ -160,7 +172,8 @@ searched-none t ts i up le parts missing =
 
 -- a tile that a search didn't find goes to the place that it told
 pub inserted-keys : (t : Tile) (ts : List Tile) (i : ℕ) → are_ascending_pairs (keys_of ts) ≡ true → i ≤ length ts →
-    (IsTrue (are_ascending_pairs (keys_of ts)) → IsPartitionPoint (λ k. is_pair_before k (key_of t) ≡ true) (λ k. is_pair_before k (key_of t) ≡ false) (keys_of ts) i) →
+    (IsTrue (are_ascending_pairs (keys_of ts)) → IsPartitionPoint (λ k. is_pair_before k (key_of t) ≡ true) (λ k. is_pair_before k (key_of t) ≡ false)
+    (keys_of ts) i) →
     (i < length ts → is_same_pair (key_of t) (key_of (get_or ts i t)) ≡ false) → are_ascending_pairs (keys_of (insert ts i t)) ≡ true
 inserted-keys t ts i up le parts missing =
     let len : length (keys_of ts) ≡ length ts = keys-length ts in
@@ -181,14 +194,17 @@ pub record ClearedUpTo (fork : ℕ) (old new : List Tile) (n : ℕ) : Type 0 whe
   pub cleared : (k : ℕ) (d : Tile) → k < n → k < length old → Cleared fork (get_or old k d) (get_or new k d)
   pub rest : (k : ℕ) (d : Tile) → n ≤ k → get_or new k d ≡ get_or old k d
 
-pub cleared-keys : (fork : ℕ) (old new : List Tile) → length new ≡ length old → ((k : ℕ) (d : Tile) → k < length old → Cleared fork (get_or old k d) (get_or new k d)) → keys_of new ≡ keys_of old
+pub cleared-keys : (fork : ℕ) (old new : List Tile) → length new ≡ length old →
+    ((k : ℕ) (d : Tile) → k < length old → Cleared fork (get_or old k d) (get_or new k d)) → keys_of new ≡ keys_of old
 cleared-keys fork [] [] len all = refl
 cleared-keys fork [] (u ∷ us) len all = absurd (omega arith)
 cleared-keys fork (t ∷ ts) [] len all = absurd (omega arith)
 cleared-keys fork (t ∷ ts) (u ∷ us) len all =
     ap₂ (λ k ks. k ∷ ks) (all 0 t (omega arith)).key (cleared-keys fork ts us (omega arith) (λ k d lt. all (ℕ.suc k) d (omega arith)))
 
-pub cleared-pairs : (fork : ℕ) (old new : List Tile) → length new ≡ length old → ((k : ℕ) (d : Tile) → k < length old → Cleared fork (get_or old k d) (get_or new k d)) → (p : ℕ × ℕ) → some_holds new p ≡ (not (eqb p.0 fork) && some_holds old p)
+pub cleared-pairs : (fork : ℕ) (old new : List Tile) → length new ≡ length old →
+    ((k : ℕ) (d : Tile) → k < length old → Cleared fork (get_or old k d) (get_or new k d)) → (p : ℕ × ℕ) → some_holds new p
+    ≡ (not (eqb p.0 fork) && some_holds old p)
 cleared-pairs fork [] [] len all p = sym (and_false (not (eqb p.0 fork)))
   where
     and_false : (b : Bool) → (b && false) ≡ false
@@ -205,7 +221,8 @@ cleared-pairs fork (t ∷ ts) (u ∷ us) len all p =
     spread false b c = refl
 
 -- tiles that are left out with no pair
-pub kept-pairs : (keep : Tile → Bool) (ts : List Tile) (p : ℕ × ℕ) → ((t : Tile) → keep t ≡ false → holds t p ≡ false) → some_holds (filter keep ts) p ≡ some_holds ts p
+pub kept-pairs : (keep : Tile → Bool) (ts : List Tile) (p : ℕ × ℕ) → ((t : Tile) → keep t ≡ false → holds t p ≡ false) → some_holds (filter keep ts) p
+    ≡ some_holds ts p
 kept-pairs keep [] p none = refl
 kept-pairs keep (t ∷ ts) p none = elim (cases_Bool (keep t)) [
   | inl k ↦ rw k (ap (λ b. holds t p || b) (kept-pairs keep ts p none))
@@ -215,7 +232,8 @@ kept-pairs keep (t ∷ ts) p none = elim (cases_Bool (keep t)) [
 pub kept-keys : (keep : Tile → Bool) (ts : List Tile) → are_ascending_pairs (keys_of ts) ≡ true → are_ascending_pairs (keys_of (filter keep ts)) ≡ true
 kept-keys keep [] up = refl
 kept-keys keep (t ∷ ts) up = elim (cases_Bool (keep t)) [
-  | inl k ↦ rw k (ascending-before (key_of t) (keys_of (filter keep ts)) (later ts (before-rest (key_of t) (keys_of ts) up)) (kept-keys keep ts (ascending-rest (key_of t) (keys_of ts) up)))
+  | inl k ↦ rw k (ascending-before (key_of t) (keys_of (filter keep ts)) (later ts (before-rest (key_of t) (keys_of ts) up))
+      (kept-keys keep ts (ascending-rest (key_of t) (keys_of ts) up)))
   | inr n ↦ rw n (kept-keys keep ts (ascending-rest (key_of t) (keys_of ts) up))
 ]
   where

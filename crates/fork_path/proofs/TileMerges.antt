@@ -1,5 +1,6 @@
 -- The tiles of two ascending lists as one.
-use Rattle.std.proofs.Common.{◌≡◌, ℕ, ◌+◌, ◌-◌, ◌<◌, ◌≤◌, Bool, true, false, ◌||◌, List, [], ◌∷◌, ◌++◌, length, get_or, take, drop, IsTrue, refl, sym, ◌∙◌, ap, ap₂, subst, arith}
+use Rattle.std.proofs.Common.{◌≡◌, ℕ, ◌+◌, ◌-◌, ◌<◌, ◌≤◌, Bool, true, false, ◌||◌, List, [], ◌∷◌, ◌++◌, length, get_or, take, drop, IsTrue, refl, sym, ◌∙◌}
+use Rattle.std.proofs.Common.{ap, ap₂, subst, arith}
 use Rattle.std.specs.List.{All, AllWithin}
 use Rattle.std.proofs.lemmas.List.{take-map, drop-map, map-append, take_rest}
 use Rattle.std.proofs.lemmas.List.Elements.{All-same, All-append, All-push, All-take}
@@ -31,7 +32,8 @@ around-keys-found t ts i up lt here =
     around-found (key_of t) (keys_of ts) i up (omega arith) (key-at ts i t (key_of t) lt ∙ here)
     ∙ ap₂ (λ xs ys. xs ++ key_of t ∷ ys) (sym (keys-take i ts)) (sym (keys-rest (i + 1) ts))
 
-pub around-keys-new : (t : Tile) (ts : List Tile) (i : ℕ) → are_ascending_pairs (keys_of ts) ≡ true → i ≤ length ts → AllWithin (λ k. is_pair_before k (key_of t) ≡ true) (keys_of ts) 0 i →
+pub around-keys-new : (t : Tile) (ts : List Tile) (i : ℕ) → are_ascending_pairs (keys_of ts) ≡ true → i ≤ length ts →
+    AllWithin (λ k. is_pair_before k (key_of t) ≡ true) (keys_of ts) 0 i →
     (i < length ts → is_pair_before (key_of (get_or ts i t)) (key_of t) ≡ false) → (i < length ts → is_same_pair (key_of t) (key_of (get_or ts i t)) ≡ false) →
     with_pair (key_of t) (keys_of ts) ≡ keys_of (take i ts) ++ key_of t ∷ keys_of (take (length ts - i) (drop i ts))
 around-keys-new t ts i up le below above other =
@@ -75,13 +77,17 @@ around-pairs-new t ts i p =
 
 -- where the walk is: the keys so far and those that are left, and what they hold
 pub record TileMerging (base own others out rest : List Tile) (index : ℕ) : Type 0 where
-  pub keys : are_ascending_pairs (keys_of own) ≡ true → are_ascending_pairs (keys_of others) ≡ true → Merging (keys_of base) (keys_of own) (keys_of others) (keys_of out) (keys_of rest) index
-  pub pairs : (p : ℕ × ℕ) → (some_holds base p || (some_holds others p || some_holds own p)) ≡ (some_holds out p || (some_holds (drop index others) p || some_holds rest p))
+  pub keys : are_ascending_pairs (keys_of own) ≡ true → are_ascending_pairs (keys_of others) ≡ true →
+      Merging (keys_of base) (keys_of own) (keys_of others) (keys_of out) (keys_of rest) index
+  pub pairs : (p : ℕ × ℕ) → (some_holds base p || (some_holds others p || some_holds own p))
+      ≡ (some_holds out p || (some_holds (drop index others) p || some_holds rest p))
   pub filled : All HoldsPair base → All HoldsPair own → All HoldsPair others → All HoldsPair out × All HoldsPair rest
 
-pub tile_merging-more : (base own others out rest front behind mid new : List Tile) (d joined : Tile) (index : ℕ) → index < length others → TileMerging base own others out rest index →
+pub tile_merging-more : (base own others out rest front behind mid new : List Tile) (d joined : Tile) (index : ℕ) → index < length others →
+    TileMerging base own others out rest index →
     key_of joined ≡ key_of (get_or others index d) →
-    (IsTrue (are_ascending_pairs (keys_of rest)) → with_pair (key_of (get_or others index d)) (keys_of rest) ≡ keys_of front ++ key_of (get_or others index d) ∷ keys_of behind) →
+    (IsTrue (are_ascending_pairs (keys_of rest)) → with_pair (key_of (get_or others index d)) (keys_of rest) ≡ keys_of front
+    ++ key_of (get_or others index d) ∷ keys_of behind) →
     ((p : ℕ × ℕ) → (holds (get_or others index d) p || some_holds rest p) ≡ (some_holds front p || (holds joined p || some_holds behind p))) →
     (HoldsPair (get_or others index d) → All HoldsPair rest → All HoldsPair front × HoldsPair joined × All HoldsPair behind) →
     mid ≡ out ++ front → new ≡ mid ++ joined ∷ [] → TileMerging base own others new behind (index + 1)
@@ -89,10 +95,12 @@ tile_merging-more base own others out rest front behind mid new d joined index l
   keys = λ up up₂.
       let len : length (keys_of others) ≡ length others = keys-length others in
       let at : get_or (keys_of others) index (0, 0) ≡ key_of (get_or others index d) = key-at others index d (0, 0) lt in
-      let put₂ : IsTrue (are_ascending_pairs (keys_of rest)) → with_pair (get_or (keys_of others) index (0, 0)) (keys_of rest) ≡ keys_of front ++ get_or (keys_of others) index (0, 0) ∷ keys_of behind =
+      let put₂ : IsTrue (are_ascending_pairs (keys_of rest)) → with_pair (get_or (keys_of others) index (0, 0)) (keys_of rest) ≡ keys_of front
+      ++ get_or (keys_of others) index (0, 0) ∷ keys_of behind =
       subst (λ k. IsTrue (are_ascending_pairs (keys_of rest)) → with_pair k (keys_of rest) ≡ keys_of front ++ k ∷ keys_of behind) (sym at) put in
       let k₁ : keys_of mid ≡ keys_of out ++ keys_of front = ap keys_of e₁ ∙ map-append key_of out front in
-      let k₂ : keys_of new ≡ keys_of mid ++ get_or (keys_of others) index (0, 0) ∷ [] = ap keys_of e₂ ∙ map-append key_of mid (joined ∷ []) ∙ ap (λ k. keys_of mid ++ k ∷ []) (key ∙ sym at) in
+      let k₂ : keys_of new ≡ keys_of mid ++ get_or (keys_of others) index (0, 0) ∷ [] = ap keys_of e₂ ∙ map-append key_of mid (joined ∷ [])
+      ∙ ap (λ k. keys_of mid ++ k ∷ []) (key ∙ sym at) in
       merging-more (keys_of base) (keys_of own) (keys_of others) (keys_of out) (keys_of rest) (keys_of front) (keys_of behind) (keys_of mid) (keys_of new) index
       up₂ (omega arith) (m.keys up up₂) put₂ k₁ k₂;
   pairs = λ p.
@@ -139,20 +147,25 @@ tile_merging-more base own others out rest front behind mid new d joined index l
 
 -- ===== What both lists begin with
 
-pub merged-keys : (own others start out new : List Tile) (n : ℕ) → are_ascending_pairs (keys_of own) ≡ true → are_ascending_pairs (keys_of others) ≡ true → take n own ≡ take n others → start ≡ [] → out ≡ start ++ take n own →
-    (IsTrue (are_ascending_pairs (keys_of (take (length own - n) (drop n own)))) → IsTrue (are_ascending_pairs (keys_of (take (length others - n) (drop n others)))) →
-    keys_of new ≡ keys_of out ++ with_each (keys_of (take (length others - n) (drop n others))) (keys_of (take (length own - n) (drop n own)))) → are_ascending_pairs (keys_of new) ≡ true
+pub merged-keys : (own others start out new : List Tile) (n : ℕ) → are_ascending_pairs (keys_of own) ≡ true → are_ascending_pairs (keys_of others) ≡ true →
+    take n own ≡ take n others → start ≡ [] → out ≡ start ++ take n own →
+    (IsTrue (are_ascending_pairs (keys_of (take (length own - n) (drop n own)))) →
+    IsTrue (are_ascending_pairs (keys_of (take (length others - n) (drop n others)))) →
+    keys_of new ≡ keys_of out ++ with_each (keys_of (take (length others - n) (drop n others))) (keys_of (take (length own - n) (drop n own)))) →
+    are_ascending_pairs (keys_of new) ≡ true
 merged-keys own others start out new n up up₂ same e₀ e₁ made =
     let a = keys-rest n own in
     let b = keys-rest n others in
     let whole = merged-whole (keys_of own) (keys_of others) (keys_of start) (keys_of out) (keys_of new) n up up₂
     (sym (keys-take n own) ∙ ap keys_of same ∙ keys-take n others) (ap keys_of e₀)
     (ap keys_of e₁ ∙ map-append key_of start (take n own) ∙ ap (λ ks. keys_of start ++ ks) (keys-take n own))
-    (λ u v. made (subst (λ ks. are_ascending_pairs ks ≡ true) (sym a) u) (subst (λ ks. are_ascending_pairs ks ≡ true) (sym b) v) ∙ ap₂ (λ xs ys. keys_of out ++ with_each xs ys) b a) in
+    (λ u v. made (subst (λ ks. are_ascending_pairs ks ≡ true) (sym a) u) (subst (λ ks. are_ascending_pairs ks ≡ true) (sym b) v)
+    ∙ ap₂ (λ xs ys. keys_of out ++ with_each xs ys) b a) in
     subst (λ ks. are_ascending_pairs ks ≡ true) (sym whole) (ascending-with_each (keys_of others) (keys_of own) up)
 
 pub merged-pairs : (own others start out new : List Tile) (n : ℕ) → take n own ≡ take n others → start ≡ [] → out ≡ start ++ take n own → (p : ℕ × ℕ) →
-    some_holds new p ≡ (some_holds out p || (some_holds (take (length others - n) (drop n others)) p || some_holds (take (length own - n) (drop n own)) p)) → some_holds new p ≡ (some_holds others p || some_holds own p)
+    some_holds new p ≡ (some_holds out p || (some_holds (take (length others - n) (drop n others)) p || some_holds (take (length own - n) (drop n own)) p))
+    → some_holds new p ≡ (some_holds others p || some_holds own p)
 merged-pairs own others start out new n same e₀ e₁ p made =
     made
     ∙ ap₂ (λ a b. a || b) (ap (λ xs. some_holds xs p) (e₁ ∙ ap (λ xs. xs ++ take n own) e₀)) (ap₂ (λ a b. a || b) (some-rest n others p) (some-rest n own p))

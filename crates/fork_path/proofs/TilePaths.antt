@@ -1,5 +1,6 @@
 -- What calls on a path's tiles say of its pairs.
-use Rattle.std.proofs.Common.{◌≡◌, ℕ, ◌+◌, ◌-◌, ◌^◌, ◌<◌, ◌≤◌, min, Bool, true, false, not, ◌&&◌, ◌||◌, List, [], ◌∷◌, ◌++◌, length, map, eqb, Vec, vec_len, vec_capacity, refl, sym, ◌∙◌, ap, ap₂, subst, inl, inr, eqb-true, arith}
+use Rattle.std.proofs.Common.{◌≡◌, ℕ, ◌+◌, ◌-◌, ◌^◌, ◌<◌, ◌≤◌, min, Bool, true, false, not, ◌&&◌, ◌||◌, List, [], ◌∷◌, ◌++◌, length, map, eqb, Vec, vec_len}
+use Rattle.std.proofs.Common.{vec_capacity, refl, sym, ◌∙◌, ap, ap₂, subst, inl, inr, eqb-true, arith}
 use Rattle.std.specs.List.{All}
 use Rattle.std.proofs.lemmas.Bool.{or_cases, or_left, or_right, both_ways, false_from_ne_true}
 use Rattle.std.proofs.lemmas.List.Elements.{All-same, All-head, All-tail}
@@ -21,8 +22,10 @@ pub seen-has : (ts : List Tile) (seen : List (ℕ × ℕ)) (p : ℕ × ℕ) → 
 seen-has ts seen p e = ap (has_pair p) (sym e) ∙ has-pairs_of ts p
 
 -- whether the tile of one pair is within the tile that a search found
-pub contained : (ts : List Tile) (tile own : Tile) (q : ℕ × ℕ) (r : Bool) → ((p : ℕ × ℕ) → holds tile p ≡ is_same_pair p q) → ((p : ℕ × ℕ) → holds tile p ≡ true → some_holds ts p ≡ holds own p) →
-    (r ≡ true → (p : ℕ × ℕ) → holds tile p ≡ true → holds own p ≡ true) → (r ≡ false → (p : ℕ × ℕ) × (holds tile p ≡ true) × (holds own p ≡ false)) → r ≡ some_holds ts q
+pub contained : (ts : List Tile) (tile own : Tile) (q : ℕ × ℕ) (r : Bool) → ((p : ℕ × ℕ) → holds tile p ≡ is_same_pair p q) →
+    ((p : ℕ × ℕ) → holds tile p ≡ true → some_holds ts p ≡ holds own p) →
+    (r ≡ true → (p : ℕ × ℕ) → holds tile p ≡ true → holds own p ≡ true) → (r ≡ false → (p : ℕ × ℕ) × (holds tile p ≡ true) × (holds own p ≡ false)) →
+    r ≡ some_holds ts q
 contained ts tile own q true of near inside outside =
     let here : holds tile q ≡ true = of q ∙ same_pair_self q in
     sym (near q here ∙ inside refl q here)
@@ -33,7 +36,8 @@ contained ts tile own q false of near inside outside =
 
 -- ===== The walk along the tiles of another path
 
-pub included : (own others : List Tile) (r : Bool) → (r ≡ true → (p : ℕ × ℕ) → some_holds others p ≡ true → some_holds own p ≡ true) → (r ≡ false → (p : ℕ × ℕ) × (some_holds others p ≡ true) × (some_holds own p ≡ false)) → r ≡ has_pairs (pairs_of own) (pairs_of others)
+pub included : (own others : List Tile) (r : Bool) → (r ≡ true → (p : ℕ × ℕ) → some_holds others p ≡ true → some_holds own p ≡ true) →
+    (r ≡ false → (p : ℕ × ℕ) × (some_holds others p ≡ true) × (some_holds own p ≡ false)) → r ≡ has_pairs (pairs_of own) (pairs_of others)
 included own others true inside outside =
     sym (has_pairs-true (pairs_of own) (pairs_of others) (λ p h. has-pairs_of own p ∙ inside refl p (sym (has-pairs_of others p) ∙ h)))
 included own others false inside outside =
@@ -69,7 +73,8 @@ some-group g (p ∷ ps) h = elim (or_cases (is_same_pair g (group_of p)) (has_pa
 has-group : (p : ℕ × ℕ) (ps : List (ℕ × ℕ)) → has_pair p ps ≡ true → has_pair (group_of p) (map group_of ps) ≡ true
 has-group p [] h = absurd (both_ways false refl h)
 has-group p (q ∷ qs) h = elim (or_cases (is_same_pair p q) (has_pair p qs) h) [
-  | inl here ↦ or_left (is_same_pair (group_of p) (group_of q)) (has_pair (group_of p) (map group_of qs)) (same_pair_from (group_of p) (group_of q) (ap group_of (same_pair-true p q here)))
+  | inl here ↦ or_left (is_same_pair (group_of p) (group_of q)) (has_pair (group_of p) (map group_of qs))
+      (same_pair_from (group_of p) (group_of q) (ap group_of (same_pair-true p q here)))
   | inr there ↦ or_right (is_same_pair (group_of p) (group_of q)) (has_pair (group_of p) (map group_of qs)) (has-group p qs there)
 ]
 
@@ -77,7 +82,8 @@ has-group p (q ∷ qs) h = elim (or_cases (is_same_pair p q) (has_pair p qs) h) 
 held-key : (p : ℕ × ℕ) (ts : List Tile) → some_holds ts p ≡ true → has_pair (group_of p) (keys_of ts) ≡ true
 held-key p [] h = absurd (both_ways false refl h)
 held-key p (t ∷ ts) h = elim (or_cases (holds t p) (some_holds ts p) h) [
-  | inl here ↦ or_left (is_same_pair (group_of p) (key_of t)) (has_pair (group_of p) (keys_of ts)) (same_pair_from (group_of p) (key_of t) (sym (holds-key t p here)))
+  | inl here ↦ or_left (is_same_pair (group_of p) (key_of t)) (has_pair (group_of p) (keys_of ts))
+      (same_pair_from (group_of p) (key_of t) (sym (holds-key t p here)))
   | inr there ↦ or_right (is_same_pair (group_of p) (key_of t)) (has_pair (group_of p) (keys_of ts)) (held-key p ts there)
 ]
 
@@ -93,7 +99,8 @@ key-held g (t ∷ ts) filled h = elim (or_cases (is_same_pair g (key_of t)) (has
 
 groups-are_keys : (ts : List Tile) → are_ascending_pairs (keys_of ts) ≡ true → All HoldsPair ts → groups_of (pairs_of ts) ≡ keys_of ts
 unfolding groups_of
-groups-are_keys ts up filled = same_members (with_each groups []) (keys_of ts) (ascending-with_each groups [] refl) up (λ g. same_tests (has_pair g (with_each groups [])) (has_pair g (keys_of ts)) (there g) (back g))
+groups-are_keys ts up filled = same_members (with_each groups []) (keys_of ts) (ascending-with_each groups [] refl) up
+    (λ g. same_tests (has_pair g (with_each groups [])) (has_pair g (keys_of ts)) (there g) (back g))
   where
     groups : List (ℕ × ℕ)
     groups = map group_of (pairs_of ts)
@@ -120,8 +127,10 @@ groups-length : (ts : List Tile) → are_ascending_pairs (keys_of ts) ≡ true �
 groups-length ts up filled = ap length (groups-are_keys ts up filled) ∙ keys-length ts
 
 -- the groups that are there and the room for more make what there is memory for
-pub whole-room : {Z : Type 0} (tiles : Vec Tile Z) (seen : Pairs) → are_ascending_pairs (keys_of tiles.items) ≡ true → All HoldsPair tiles.items → vec_len tiles ≤ 2 ^ 57 →
-    record { pairs = pairs_of tiles.items; room = min (vec_capacity tiles) (2 ^ 57) - vec_len tiles } ≡ seen → seen.room + length (groups_of seen.pairs) ≡ min (vec_capacity tiles) (2 ^ 57)
+pub whole-room : {Z : Type 0} (tiles : Vec Tile Z) (seen : Pairs) → are_ascending_pairs (keys_of tiles.items) ≡ true → All HoldsPair tiles.items →
+    vec_len tiles ≤ 2 ^ 57 →
+    record { pairs = pairs_of tiles.items; room = min (vec_capacity tiles) (2 ^ 57) - vec_len tiles } ≡ seen → seen.room + length (groups_of seen.pairs)
+    ≡ min (vec_capacity tiles) (2 ^ 57)
 whole-room tiles seen up filled bound is =
     let groups : length (groups_of seen.pairs) ≡ length tiles.items = ap (λ v. length (groups_of v.pairs)) (sym is) ∙ groups-length tiles.items up filled in
     let room : min (vec_capacity tiles) (2 ^ 57) - vec_len tiles ≡ seen.room = ap (λ v. v.room) is in
@@ -129,20 +138,24 @@ whole-room tiles seen up filled bound is =
 
 -- ===== Changes
 
-pub put-pairs : (old new : List Tile) (tile : Tile) (q : ℕ × ℕ) (seen : List (ℕ × ℕ)) → pairs_of old ≡ seen → ((p : ℕ × ℕ) → holds tile p ≡ is_same_pair p q) → ((p : ℕ × ℕ) → some_holds new p ≡ (holds tile p || some_holds old p)) → pairs_of new ≡ with_pair q seen
+pub put-pairs : (old new : List Tile) (tile : Tile) (q : ℕ × ℕ) (seen : List (ℕ × ℕ)) → pairs_of old ≡ seen →
+    ((p : ℕ × ℕ) → holds tile p ≡ is_same_pair p q) → ((p : ℕ × ℕ) → some_holds new p ≡ (holds tile p || some_holds old p)) → pairs_of new ≡ with_pair q seen
 put-pairs old new tile q seen e of made =
     same_members (pairs_of new) (with_pair q seen) (ascending-pairs_of new) (ascending-with_pair q seen (seen-ascending old seen e))
     (λ p. has-pairs_of new p ∙ made p ∙ ap₂ (λ a b. a || b) (of p) (sym (seen-has old seen p e)) ∙ sym (has-with_pair p q seen))
 
-pub dropped-pairs : (old new : List Tile) (fork : ℕ) (seen : List (ℕ × ℕ)) → pairs_of old ≡ seen → ((p : ℕ × ℕ) → some_holds new p ≡ (not (eqb p.0 fork) && some_holds old p)) → pairs_of new ≡ without_pairs_of fork seen
+pub dropped-pairs : (old new : List Tile) (fork : ℕ) (seen : List (ℕ × ℕ)) → pairs_of old ≡ seen →
+    ((p : ℕ × ℕ) → some_holds new p ≡ (not (eqb p.0 fork) && some_holds old p)) → pairs_of new ≡ without_pairs_of fork seen
 dropped-pairs old new fork seen e made =
     let keep : ℕ × ℕ → Bool = λ p. not (eqb p.0 fork) in
     same_members (pairs_of new) (without_pairs_of fork seen) (ascending-pairs_of new) (ascending-filter keep seen (seen-ascending old seen e))
     (λ p. has-pairs_of new p ∙ made p ∙ ap (λ b. not (eqb p.0 fork) && b) (sym (seen-has old seen p e)) ∙ sym (has-filter keep seen p))
 
-pub united-pairs : (own others new : List Tile) (seen seen₂ : List (ℕ × ℕ)) → pairs_of own ≡ seen → pairs_of others ≡ seen₂ → ((p : ℕ × ℕ) → some_holds new p ≡ (some_holds others p || some_holds own p)) → (p : ℕ × ℕ) →
+pub united-pairs : (own others new : List Tile) (seen seen₂ : List (ℕ × ℕ)) → pairs_of own ≡ seen → pairs_of others ≡ seen₂ →
+    ((p : ℕ × ℕ) → some_holds new p ≡ (some_holds others p || some_holds own p)) → (p : ℕ × ℕ) →
     has_pair p (pairs_of new) ≡ (has_pair p seen₂ || has_pair p seen)
-united-pairs own others new seen seen₂ e e₂ made p = has-pairs_of new p ∙ made p ∙ ap₂ (λ a b. a || b) (sym (seen-has others seen₂ p e₂)) (sym (seen-has own seen p e))
+united-pairs own others new seen seen₂ e e₂ made p = has-pairs_of new p ∙ made p
+    ∙ ap₂ (λ a b. a || b) (sym (seen-has others seen₂ p e₂)) (sym (seen-has own seen p e))
 
 -- where there were no tiles, those of the other are copied
 pub copied-first : (own others room slice new : List Tile) → length own ≡ 0 → room ≡ own → slice ≡ others → new ≡ room ++ slice → new ≡ others
@@ -158,5 +171,6 @@ united-first [] others new none is p = ap (λ xs. some_holds xs p) is ∙ sym (o
 united-first (t ∷ ts) others new none is p = absurd (omega arith)
 
 -- what holds of the tiles of a path
-pub filled-same : (new old : List Tile) → new ≡ old → (are_ascending_pairs (keys_of old) ≡ true) × All HoldsPair old → (are_ascending_pairs (keys_of new) ≡ true) × All HoldsPair new
+pub filled-same : (new old : List Tile) → new ≡ old → (are_ascending_pairs (keys_of old) ≡ true) × All HoldsPair old →
+    (are_ascending_pairs (keys_of new) ≡ true) × All HoldsPair new
 filled-same new old e whole = (subst (λ ts. are_ascending_pairs (keys_of ts) ≡ true) (sym e) whole.0, All-same HoldsPair new old e whole.1)

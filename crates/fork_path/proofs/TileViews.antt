@@ -1,5 +1,6 @@
 -- The pairs that tiles stand for, ascending, each once.
-use Rattle.std.proofs.Common.{◌≡◌, ℕ, ◌+◌, ◌-◌, ◌*◌, ◌/◌, ◌%◌, ◌^◌, ◌<◌, ◌≤◌, Bool, true, false, ◌&&◌, ◌||◌, List, [], ◌∷◌, ◌++◌, length, get_or, map, filter, if◌then◌else◌, refl, sym, ◌∙◌, ap, ap₂, subst, inl, inr, arith}
+use Rattle.std.proofs.Common.{◌≡◌, ℕ, ◌+◌, ◌-◌, ◌*◌, ◌/◌, ◌%◌, ◌^◌, ◌<◌, ◌≤◌, Bool, true, false, ◌&&◌, ◌||◌, List, [], ◌∷◌, ◌++◌, length, get_or, map, filter}
+use Rattle.std.proofs.Common.{if◌then◌else◌, refl, sym, ◌∙◌, ap, ap₂, subst, inl, inr, arith}
 use Rattle.std.specs.Prelude.{sum_by, count_ones}
 use Rattle.std.specs.Int.{bit_at}
 use Rattle.std.specs.List.{flat_map, list_all}
@@ -14,7 +15,8 @@ use Rattle.std.proofs.lemmas.Nat.Bits.{bit_at_lowest, bit_at-suc}
 use Rattle.fork_path.specs.declared.tiles.Tile.{Tile}
 use Rattle.fork_path.specs.Pairs.{is_pair_before, are_ascending_pairs, is_same_pair, has_pair, has_pairs, with_pair, with_each}
 use Rattle.fork_path.specs.Tiles.{key_of, keys_of, bit_of, holds, some_holds, set_places, pairs_in, pairs_of}
-use Rattle.fork_path.proofs.PairOrder.{before-from, cases_pair, same_pair-true, same_pair_self, same_pair_from, ascending-rest, before-rest, has-none, has-before}
+use Rattle.fork_path.proofs.PairOrder.{before-from, cases_pair, same_pair-true, same_pair_self, same_pair_from, ascending-rest, before-rest, has-none}
+use Rattle.fork_path.proofs.PairOrder.{has-before}
 use Rattle.fork_path.proofs.PairSets.{ascending-before, ascending-with_pair, has-with_pair, length-with_pair}
 use Rattle.fork_path.proofs.Merges.{has-with_each, ascending-with_each}
 use Rattle.fork_path.proofs.TileBits.{same_tests, holds-parts, holds-from}
@@ -43,7 +45,8 @@ length-places (ℕ.suc count) from n fits =
     let rest = length-places count (from + 1) (n / 2) half in
     elim (cases_lt (n % 2) 1) [
       | inl lt ↦ ap length (places-clear count from n (omega (arith, lt))) ∙ rest ∙ omega (arith, step, lt)
-      | inr le ↦ ap length (places-set count from n (omega (arith, le))) ∙ (let e : 1 + length (set_places count (from + 1) (n / 2)) ≡ count_ones n = omega (arith, step, le, rest) in omega (arith, e))
+      | inr le ↦ ap length (places-set count from n (omega (arith, le)))
+          ∙ (let e : 1 + length (set_places count (from + 1) (n / 2)) ≡ count_ones n = omega (arith, step, le, rest) in omega (arith, e))
     ]
 
 module _ (t : Tile) where
@@ -65,7 +68,8 @@ module _ (t : Tile) where
         | inl less ↦ ap (λ is. list_all (is_pair_before (at i)) (map at is)) (places-clear count from n (omega (arith, less))) ∙ rest
         | inr le ↦
             ap (λ is. list_all (is_pair_before (at i)) (map at is)) (places-set count from n (omega (arith, le)))
-            ∙ and_from (is_pair_before (at i) (at from)) (list_all (is_pair_before (at i)) (map at (set_places count (from + 1) (n / 2)))) (at-before i from lt) rest
+            ∙ and_from (is_pair_before (at i) (at from)) (list_all (is_pair_before (at i)) (map at (set_places count (from + 1) (n / 2))))
+            (at-before i from lt) rest
       ]
 
   ascending-places : (count from n : ℕ) → are_ascending_pairs (map at (set_places count from n)) ≡ true
@@ -90,10 +94,12 @@ module _ (t : Tile) where
       (i, omega (arith, low), omega (arith, high), ap (bit_at n) next ∙ bit_at-suc n (i - (from + 1)) ∙ w.3, w.4)
 
   -- each of the pairs has its bit set
-  place-of : (p : ℕ × ℕ) (count from n : ℕ) → has_pair p (map at (set_places count from n)) ≡ true → (i : ℕ) × (from ≤ i) × (i < from + count) × (bit_at n (i - from) ≡ 1) × (p ≡ at i)
+  place-of : (p : ℕ × ℕ) (count from n : ℕ) → has_pair p (map at (set_places count from n)) ≡ true → (i : ℕ) × (from ≤ i) × (i < from + count)
+      × (bit_at n (i - from) ≡ 1) × (p ≡ at i)
   place-of p ℕ.zero from n h = absurd (both_ways false refl (sym (ap (λ is. has_pair p (map at is)) (places-none from n)) ∙ h))
   place-of p (ℕ.suc count) from n h = elim (cases_lt (n % 2) 1) [
-    | inl less ↦ place-behind p count from n (place-of p count (from + 1) (n / 2) (sym (ap (λ is. has_pair p (map at is)) (places-clear count from n (omega (arith, less)))) ∙ h))
+    | inl less ↦ place-behind p count from n (place-of p count (from + 1) (n / 2)
+        (sym (ap (λ is. has_pair p (map at is)) (places-clear count from n (omega (arith, less)))) ∙ h))
     | inr le ↦
         let e = places-set count from n (omega (arith, le)) in
         elim (or_cases (is_same_pair p (at from)) (has_pair p (map at (set_places count (from + 1) (n / 2)))) (sym (ap (λ is. has_pair p (map at is)) e) ∙ h)) [
@@ -110,7 +116,8 @@ module _ (t : Tile) where
   has-place (ℕ.suc count) from n i low high set = elim (cases_lt from i) [
     | inl lt ↦
         let next : i - from ≡ ℕ.suc (i - (from + 1)) = omega (arith, lt) in
-        let rest = has-place count (from + 1) (n / 2) i (omega (arith, lt)) (omega (arith, high)) (sym (ap (bit_at n) next ∙ bit_at-suc n (i - (from + 1))) ∙ set) in
+        let rest = has-place count (from + 1) (n / 2) i (omega (arith, lt)) (omega (arith, high)) (sym (ap (bit_at n) next ∙ bit_at-suc n (i - (from + 1)))
+        ∙ set) in
         elim (cases_lt (n % 2) 1) [
           | inl less ↦ ap (λ is. has_pair (at i) (map at is)) (places-clear count from n (omega (arith, less))) ∙ rest
           | inr le ↦
@@ -122,7 +129,8 @@ module _ (t : Tile) where
         let zero : i - from ≡ 0 = omega (arith, ge) in
         let odd : n % 2 ≡ 1 = sym (bit_at_lowest n) ∙ sym (ap (bit_at n) zero) ∙ set in
         ap (λ is. has_pair (at i) (map at is)) (places-set count from n odd)
-        ∙ or_left (is_same_pair (at i) (at from)) (has_pair (at i) (map at (set_places count (from + 1) (n / 2)))) (same_pair_from (at i) (at from) (ap at here))
+        ∙ or_left (is_same_pair (at i) (at from)) (has_pair (at i) (map at (set_places count (from + 1) (n / 2))))
+        (same_pair_from (at i) (at from) (ap at here))
   ]
 
   pub has-pairs_in : (p : ℕ × ℕ) → has_pair p (pairs_in t) ≡ holds t p
@@ -148,7 +156,8 @@ module _ (t : Tile) where
           let e₀ : t.forks * 32 + bit_of p / 2 ≡ p.0 = omega (arith, f) in
           let e₁ : t.branches * 2 + bit_of p % 2 ≡ p.1 = omega (arith, b) in
           let is : at (bit_of p) ≡ p = ap₂ pair e₀ e₁ in
-          subst (λ q. has_pair q (map at (set_places 64 0 t.bits)) ≡ true) is (has-place 64 0 t.bits (bit_of p) (omega arith) (omega arith) (ap (bit_at t.bits) zero ∙ w.1))
+          subst (λ q. has_pair q (map at (set_places 64 0 t.bits)) ≡ true) is
+          (has-place 64 0 t.bits (bit_of p) (omega arith) (omega arith) (ap (bit_at t.bits) zero ∙ w.1))
 
   pub ascending-pairs_in : are_ascending_pairs (pairs_in t) ≡ true
   unfolding pairs_in
@@ -186,7 +195,8 @@ with_each-append : (ps rs qs : List (ℕ × ℕ)) → with_each (ps ++ rs) qs �
 with_each-append [] rs qs = refl
 with_each-append (p ∷ ps) rs qs = with_each-append ps rs (with_pair p qs)
 
-length-new : (ps qs : List (ℕ × ℕ)) → are_ascending_pairs ps ≡ true → are_ascending_pairs qs ≡ true → ((p : ℕ × ℕ) → has_pair p ps ≡ true → has_pair p qs ≡ false) → length (with_each ps qs) ≡ length ps + length qs
+length-new : (ps qs : List (ℕ × ℕ)) → are_ascending_pairs ps ≡ true → are_ascending_pairs qs ≡ true →
+    ((p : ℕ × ℕ) → has_pair p ps ≡ true → has_pair p qs ≡ false) → length (with_each ps qs) ≡ length ps + length qs
 length-new [] qs up up₂ apart = omega arith
 length-new (p ∷ ps) qs up up₂ apart =
     let new : has_pair p qs ≡ false = apart p (or_left (is_same_pair p p) (has_pair p ps) (same_pair_self p)) in
@@ -209,19 +219,23 @@ pub words-from : (ts : List Tile) → ((i : ℕ) (d : Tile) → i < length ts �
 words-from [] each = tt
 words-from (t ∷ ts) each = (each 0 t (omega arith), words-from ts (λ i d lt. each (ℕ.suc i) d (omega arith)))
 
-length-flat : (ts : List Tile) (qs : List (ℕ × ℕ)) → are_ascending_pairs (keys_of ts) ≡ true → AreWords ts → are_ascending_pairs qs ≡ true → ((p : ℕ × ℕ) → some_holds ts p ≡ true → has_pair p qs ≡ false) →
+length-flat : (ts : List Tile) (qs : List (ℕ × ℕ)) → are_ascending_pairs (keys_of ts) ≡ true → AreWords ts → are_ascending_pairs qs ≡ true →
+    ((p : ℕ × ℕ) → some_holds ts p ≡ true → has_pair p qs ≡ false) →
     length (with_each (flat_map pairs_in ts) qs) ≡ sum_by (λ t. count_ones t.bits) ts + length qs
 length-flat [] qs up words up₂ apart = omega arith
 length-flat (t ∷ ts) qs up words up₂ apart =
     let own = length-new (pairs_in t) qs (ascending-pairs_in t) up₂ (λ p h. apart p (or_left (holds t p) (some_holds ts p) (sym (has-pairs_in t p) ∙ h))) in
     let many = length-pairs_in t words.0 in
-    let rest = length-flat ts (with_each (pairs_in t) qs) (ascending-rest (key_of t) (keys_of ts) up) words.1 (ascending-with_each (pairs_in t) qs up₂) further in
+    let rest = length-flat ts (with_each (pairs_in t) qs) (ascending-rest (key_of t) (keys_of ts) up) words.1 (ascending-with_each (pairs_in t) qs up₂)
+    further in
     ap length (with_each-append (pairs_in t) (flat_map pairs_in ts) qs) ∙ rest ∙ omega (arith, own, many, sum_by-cons (λ (u : Tile). count_ones u.bits) t ts)
   where
     further : (p : ℕ × ℕ) → some_holds ts p ≡ true → has_pair p (with_each (pairs_in t) qs) ≡ false
     further p h =
-        let other : holds t p ≡ false = false_from_ne_true (holds t p) (λ k. both_ways (some_holds ts p) (holds-no_key t ts p k (has-none (key_of t) (keys_of ts) (before-rest (key_of t) (keys_of ts) up))) h) in
-        has-with_each p (pairs_in t) qs ∙ or_from (has_pair p (pairs_in t)) (has_pair p qs) (has-pairs_in t p ∙ other) (apart p (or_right (holds t p) (some_holds ts p) h))
+        let other : holds t p ≡ false = false_from_ne_true (holds t p)
+        (λ k. both_ways (some_holds ts p) (holds-no_key t ts p k (has-none (key_of t) (keys_of ts) (before-rest (key_of t) (keys_of ts) up))) h) in
+        has-with_each p (pairs_in t) qs ∙ or_from (has_pair p (pairs_in t)) (has_pair p qs) (has-pairs_in t p ∙ other)
+        (apart p (or_right (holds t p) (some_holds ts p) h))
 
 pub length-pairs_of : (ts : List Tile) → are_ascending_pairs (keys_of ts) ≡ true → AreWords ts → length (pairs_of ts) ≡ sum_by (λ t. count_ones t.bits) ts
 unfolding pairs_of
@@ -229,7 +243,8 @@ length-pairs_of ts up words = length-flat ts [] up words refl (λ p h. refl) ∙
 
 -- ===== Ascending pairs by their members
 
-pub same_members : (ps qs : List (ℕ × ℕ)) → are_ascending_pairs ps ≡ true → are_ascending_pairs qs ≡ true → ((p : ℕ × ℕ) → has_pair p ps ≡ has_pair p qs) → ps ≡ qs
+pub same_members : (ps qs : List (ℕ × ℕ)) → are_ascending_pairs ps ≡ true → are_ascending_pairs qs ≡ true → ((p : ℕ × ℕ) → has_pair p ps ≡ has_pair p qs) →
+    ps ≡ qs
 same_members [] [] up up₂ same = refl
 same_members [] (q ∷ qs) up up₂ same = absurd (both_ways false refl (same q ∙ or_left (is_same_pair q q) (has_pair q qs) (same_pair_self q)))
 same_members (p ∷ ps) [] up up₂ same = absurd (both_ways false refl (sym (same p) ∙ or_left (is_same_pair p p) (has_pair p ps) (same_pair_self p)))
@@ -278,5 +293,6 @@ pub has_pairs-false : (ps qs : List (ℕ × ℕ)) (p : ℕ × ℕ) → has_pair 
 has_pairs-false ps [] p h n = absurd (both_ways false refl h)
 has_pairs-false ps (q ∷ qs) p h n = elim (or_cases (is_same_pair p q) (has_pair p qs) h) [
   | inl here ↦ let none : has_pair q ps ≡ false = subst (λ z. has_pair z ps ≡ false) (same_pair-true p q here) n in rw none refl
-  | inr there ↦ let none = has_pairs-false ps qs p there n in false_from_ne_true (has_pairs ps (q ∷ qs)) (λ t. both_ways (has_pairs ps qs) none (and_parts (has_pair q ps) (has_pairs ps qs) t).1)
+  | inr there ↦ let none = has_pairs-false ps qs p there n in
+      false_from_ne_true (has_pairs ps (q ∷ qs)) (λ t. both_ways (has_pairs ps qs) none (and_parts (has_pair q ps) (has_pairs ps qs) t).1)
 ]

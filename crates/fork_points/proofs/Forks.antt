@@ -1,5 +1,6 @@
 -- Fork points among the states that are shared last, and leaves.
-use Rattle.std.proofs.Common.{◌≡◌, ℕ, ◌≤◌, ◌+◌, Bool, true, false, ◌&&◌, ◌||◌, not, ◌==◌, List, [], ◌∷◌, length, map, filter, Some, IsTrue, IsFalse, inl, inr, refl, sym, ap, subst, ◌∙◌, eqb-true, arith}
+use Rattle.std.proofs.Common.{◌≡◌, ℕ, ◌≤◌, ◌+◌, Bool, true, false, ◌&&◌, ◌||◌, not, ◌==◌, List, [], ◌∷◌, length, map, filter, Some, IsTrue, IsFalse, inl, inr}
+use Rattle.std.proofs.Common.{refl, sym, ap, subst, ◌∙◌, eqb-true, arith}
 use Rattle.std.specs.List.{list_any, list_all}
 use Rattle.std.proofs.lemmas.Bool.{and_parts, and_from, or_left, or_right, cases_Bool, both_ways, not_from_false, not-true, false_from_ne_true}
 use Rattle.std.proofs.lemmas.List.Elements.{filter_agree}
@@ -28,7 +29,8 @@ few-pass p (x ∷ xs) =
     elim (cases_Bool (p x)) [ inl t ↦ rw t (omega arith) | inr n ↦ rw n (omega arith) ]
 
 -- a fork point of some states is one that they share last
-fork-is_last : (rs : List Record) → IsDag rs → (y : StateId) (ys : List StateId) (x : StateId) → IsTrue (is_fork_point rs (y ∷ ys) x) → IsTrue (is_last_shared rs (y ∷ ys) x)
+fork-is_last : (rs : List Record) → IsDag rs → (y : StateId) (ys : List StateId) (x : StateId) → IsTrue (is_fork_point rs (y ∷ ys) x) →
+    IsTrue (is_last_shared rs (y ∷ ys) x)
 fork-is_last rs dag y ys x fork =
     let xs = y ∷ ys in
     let below : StateId → Bool = λ c. is_above_all rs c xs in
@@ -41,7 +43,8 @@ fork-is_last rs dag y ys x fork =
       | inr n ↦
           let c = proper_goes_by_child rs dag x y above_y (λ e. both_ways (same_id x y) n (same_id_from x y e)) in
           let some = or_left (is_above rs c.0 y) (list_any (is_above rs c.0) ys) c.2 in
-          let part = and_from (list_any (is_above rs c.0) xs) (not (is_above_all rs c.0 xs)) some (not_from_false (is_above_all rs c.0 xs) (any-false-at below (children rs x) c.0 none c.1)) in
+          let part = and_from (list_any (is_above rs c.0) xs) (not (is_above_all rs c.0 xs)) some
+          (not_from_false (is_above_all rs c.0 xs) (any-false-at below (children rs x) c.0 none c.1)) in
           or_right (is_among x xs) (list_any (λ c. is_above_part rs c xs) (children rs x)) (any-from (λ c. is_above_part rs c xs) (children rs x) c.0 c.1 part)
     ])
 
@@ -54,12 +57,14 @@ module _ (table : Table) (rs : List Record) (ks : List StateId) (stands : Stands
       omega arith
 
   -- the fork points of some states are those of the states that they share last
-  pub forks-are_shared : (ss : List Slot) (y : StateId) (ys : List StateId) → map (id_at table) ss ≡ map (λ z. Some z) (y ∷ ys) → filter (is_fork_point rs (y ∷ ys)) (shared_states rs ks (y ∷ ys)) ≡ fork_points rs (y ∷ ys)
+  pub forks-are_shared : (ss : List Slot) (y : StateId) (ys : List StateId) → map (id_at table) ss ≡ map (λ z. Some z) (y ∷ ys) →
+      filter (is_fork_point rs (y ∷ ys)) (shared_states rs ks (y ∷ ys)) ≡ fork_points rs (y ∷ ys)
   forks-are_shared ss y ys are =
       filter-behind (is_fork_point rs (y ∷ ys)) (is_last_shared rs (y ∷ ys)) (kept_states rs ks) (λ x m fork. fork-is_last rs stands.dag y ys x fork)
       ∙ among-kept table rs ks stands (is_fork_point rs (y ∷ ys)) (fork-point-is_kept table rs ks stands ss (y ∷ ys) are)
 
-  pub forks-of_some : (ss : List Slot) (xs : List StateId) → IsFalse (length ss == 0) → map (id_at table) ss ≡ map (λ z. Some z) xs → filter (is_fork_point rs xs) (shared_states rs ks xs) ≡ fork_points rs xs
+  pub forks-of_some : (ss : List Slot) (xs : List StateId) → IsFalse (length ss == 0) → map (id_at table) ss ≡ map (λ z. Some z) xs →
+      filter (is_fork_point rs xs) (shared_states rs ks xs) ≡ fork_points rs xs
   forks-of_some [] [] some are = absurd (both_ways true some refl)
   forks-of_some (s ∷ ss) [] some are = absurd (let bad : ⊥ = cc in bad)
   forks-of_some ss (y ∷ ys) some are = forks-are_shared ss y ys are
@@ -70,7 +75,8 @@ module _ (table : Table) (rs : List Record) (ks : List StateId) (stands : Stands
   none-named (s ∷ ss) (y ∷ ys) none are = absurd (let n = eqb-true (length (s ∷ ss)) 0 none in omega arith)
 
   pub few-forks : (ss : List Slot) (xs : List StateId) → map (id_at table) ss ≡ map (λ z. Some z) xs → length (fork_points rs xs) ≤ 16384
-  few-forks ss xs are = subst (λ zs. length zs ≤ 16384) (among-kept table rs ks stands (is_fork_point rs xs) (fork-point-is_kept table rs ks stands ss xs are)) (few-kept (is_fork_point rs xs))
+  few-forks ss xs are = subst (λ zs. length zs ≤ 16384) (among-kept table rs ks stands (is_fork_point rs xs)
+      (fork-point-is_kept table rs ks stands ss xs are)) (few-kept (is_fork_point rs xs))
 
   pub few-leaves : length (leaves rs) ≤ 16384
   few-leaves = subst (λ zs. length zs ≤ 16384) (among-kept table rs ks stands (is_leaf rs) (leaf-is_kept table rs ks stands)) (few-kept (is_leaf rs))

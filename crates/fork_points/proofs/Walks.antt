@@ -6,7 +6,8 @@ use Rattle.tardis_base.specs.Ids.{is_among}
 use Rattle.plain_dag.proofs.Ids.{among-first, among-later}
 
 -- what passes one test passes the other: it is found behind that one too
-pub filter-behind : (p q : StateId → Bool) (xs : List StateId) → ((x : StateId) → IsTrue (is_among x xs) → IsTrue (p x) → IsTrue (q x)) → filter p (filter q xs) ≡ filter p xs
+pub filter-behind : (p q : StateId → Bool) (xs : List StateId) → ((x : StateId) → IsTrue (is_among x xs) → IsTrue (p x) → IsTrue (q x)) →
+    filter p (filter q xs) ≡ filter p xs
 filter-behind p q [] f = refl
 filter-behind p q (x ∷ xs) f =
     let rest = filter-behind p q xs (λ y m. f y (among-later y x xs m)) in

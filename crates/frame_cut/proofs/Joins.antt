@@ -21,8 +21,10 @@ more_bytes bytes more bodies rest c = record {
 }
 
 -- more bodies are cut from the rest
-pub more_bodies : (bytes : List ℕ) (bodies others : List (List ℕ)) (rest left : List ℕ) → Cuts bytes bodies rest → Cuts rest others left → Cuts bytes (bodies ++ others) left
+pub more_bodies : (bytes : List ℕ) (bodies others : List (List ℕ)) (rest left : List ℕ) → Cuts bytes bodies rest → Cuts rest others left →
+    Cuts bytes (bodies ++ others) left
 more_bodies bytes bodies others rest left c d = record {
-  whole = c.whole ∙ (ap (λ z. frames bodies ++ z) d.whole ∙ (sym (append_assoc (frames bodies) (frames others) left) ∙ ap (λ z. z ++ left) (sym (frames-append bodies others))));
+  whole = c.whole ∙ (ap (λ z. frames bodies ++ z) d.whole ∙ (sym (append_assoc (frames bodies) (frames others) left)
+      ∙ ap (λ z. z ++ left) (sym (frames-append bodies others))));
   each = all_bodies bodies others c.each d.each;
 }

@@ -20,20 +20,23 @@ not_end body rest fits ends =
     ]
 
 -- two cuts of the same bytes are one
-pub one : (bytes : List ℕ) (bodies others : List (List ℕ)) (rest left : List ℕ) → bytes ≡ frames bodies ++ rest → AllByRecursion IsBody bodies → IsEnd rest → bytes ≡ frames others ++ left → AllByRecursion IsBody others → IsEnd left → (bodies ≡ others) × (rest ≡ left)
+pub one : (bytes : List ℕ) (bodies others : List (List ℕ)) (rest left : List ℕ) → bytes ≡ frames bodies ++ rest → AllByRecursion IsBody bodies → IsEnd rest
+    → bytes ≡ frames others ++ left → AllByRecursion IsBody others → IsEnd left → (bodies ≡ others) × (rest ≡ left)
 one bytes [] [] rest left p a e q b f = (refl, sym p ∙ q)
 one bytes [] (other ∷ others) rest left p a e q b f =
     absurd (not_end other (frames others ++ left) b.0 (subst IsEnd (sym p ∙ (q ∙ append_assoc (frame other) (frames others) left)) e))
 one bytes (body ∷ bodies) [] rest left p a e q b f =
     absurd (not_end body (frames bodies ++ rest) a.0 (subst IsEnd (sym q ∙ (p ∙ append_assoc (frame body) (frames bodies) rest)) f))
 one bytes (body ∷ bodies) (other ∷ others) rest left p a e q b f =
-    let same : frame body ++ (frames bodies ++ rest) ≡ frame other ++ (frames others ++ left) = sym (append_assoc (frame body) (frames bodies) rest) ∙ (sym p ∙ (q ∙ append_assoc (frame other) (frames others) left)) in
+    let same : frame body ++ (frames bodies ++ rest) ≡ frame other ++ (frames others ++ left) = sym (append_assoc (frame body) (frames bodies) rest)
+    ∙ (sym p ∙ (q ∙ append_assoc (frame other) (frames others) left)) in
     let first = same_frame body other (frames bodies ++ rest) (frames others ++ left) a.0 b.0 same in
     let more = one (frames bodies ++ rest) bodies others rest left refl a.1 e first.1 b.1 f in
     (λ i. first.0 i ∷ more.0 i, more.1)
 
 -- a frame in front of a cut
-front_cut : (bytes body rest : List ℕ) → bytes ≡ frame body ++ rest → IsBody body → (bodies : List (List ℕ)) (left : List ℕ) → IsCut rest bodies left → IsCut bytes (body ∷ bodies) left
+front_cut : (bytes body rest : List ℕ) → bytes ≡ frame body ++ rest → IsBody body → (bodies : List (List ℕ)) (left : List ℕ) → IsCut rest bodies left →
+    IsCut bytes (body ∷ bodies) left
 front_cut bytes body rest is fits bodies left c = record {
   cuts = record {
     whole = is ∙ (ap (λ z. frame body ++ z) c.cuts.whole ∙ sym (append_assoc (frame body) (frames bodies) left));
@@ -43,7 +46,8 @@ front_cut bytes body rest is fits bodies left c = record {
 }
 
 -- what is left of the bytes is less than before
-pub cut_within : (fuel : ℕ) (bytes : List ℕ) → length bytes ≤ fuel → ((place : ℕ) → get_or bytes place 0 < 256) → (bodies : List (List ℕ)) × ((rest : List ℕ) × IsCut bytes bodies rest)
+pub cut_within : (fuel : ℕ) (bytes : List ℕ) → length bytes ≤ fuel → ((place : ℕ) → get_or bytes place 0 < 256) → (bodies : List (List ℕ))
+    × ((rest : List ℕ) × IsCut bytes bodies rest)
 cut_within ℕ.zero bytes within small = ([], (bytes, record { cuts = record { whole = refl; each = tt }; ends = inl (inl (omega arith)) }))
 cut_within (ℕ.suc fuel) bytes within small =
     elim (cases_lt (length bytes) 4) [
@@ -66,12 +70,14 @@ cut_within (ℕ.suc fuel) bytes within small =
     ]
 
 -- bodies that were cut from the front of the bytes are a front of those of their cut
-pub front_of : (bytes : List ℕ) (bodies all : List (List ℕ)) (tail rest : List ℕ) → bytes ≡ frames bodies ++ tail → AllByRecursion IsBody bodies → bytes ≡ frames all ++ rest → AllByRecursion IsBody all → IsEnd rest → (more : List (List ℕ)) × (all ≡ bodies ++ more)
+pub front_of : (bytes : List ℕ) (bodies all : List (List ℕ)) (tail rest : List ℕ) → bytes ≡ frames bodies ++ tail → AllByRecursion IsBody bodies →
+    bytes ≡ frames all ++ rest → AllByRecursion IsBody all → IsEnd rest → (more : List (List ℕ)) × (all ≡ bodies ++ more)
 front_of bytes [] all tail rest p a q b e = (all, refl)
 front_of bytes (body ∷ bodies) [] tail rest p a q b e =
     absurd (not_end body (frames bodies ++ tail) a.0 (subst IsEnd (sym q ∙ (p ∙ append_assoc (frame body) (frames bodies) tail)) e))
 front_of bytes (body ∷ bodies) (other ∷ all) tail rest p a q b e =
-    let same : frame body ++ (frames bodies ++ tail) ≡ frame other ++ (frames all ++ rest) = sym (append_assoc (frame body) (frames bodies) tail) ∙ (sym p ∙ (q ∙ append_assoc (frame other) (frames all) rest)) in
+    let same : frame body ++ (frames bodies ++ tail) ≡ frame other ++ (frames all ++ rest) = sym (append_assoc (frame body) (frames bodies) tail)
+    ∙ (sym p ∙ (q ∙ append_assoc (frame other) (frames all) rest)) in
     let first = same_frame body other (frames bodies ++ tail) (frames all ++ rest) a.0 b.0 same in
     let more = front_of (frames bodies ++ tail) bodies all tail rest refl a.1 first.1 b.1 e in
     (more.0, λ i. sym first.0 i ∷ more.1 i)

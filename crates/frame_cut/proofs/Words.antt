@@ -3,7 +3,8 @@ use Rattle.std.proofs.Common.{◌≡◌, ℕ, ◌+◌, ◌-◌, ◌<◌, ◌≤�
 use Rattle.std.specs.Int.{w32, to_be_bytes, from_be_bytes}
 use Rattle.std.proofs.lemmas.Bool.{cases_lt}
 use Rattle.std.proofs.lemmas.Nat.{be_bytes_4, from_be_bytes-to_be_bytes_4}
-use Rattle.std.proofs.lemmas.List.{take_at, drop_at, take-append-drop, take-append-le, drop-drop, length-take-le, length-append, get_or-take, get_or-drop, get_or_past}
+use Rattle.std.proofs.lemmas.List.{take_at, drop_at, take-append-drop, take-append-le, drop-drop, length-take-le, length-append, get_or-take, get_or-drop}
+use Rattle.std.proofs.lemmas.List.{get_or_past}
 use Rattle.frame_cut.specs.Frames.{frame, word, IsBody, IsLong}
 
 -- a frame has four bytes more than its body
@@ -21,7 +22,8 @@ pub small_front : (bytes : List ℕ) (n : ℕ) → ((i : ℕ) → get_or bytes i
 small_front bytes n small within i =
     elim (cases_lt i n) [
       | inl below ↦ subst (λ k. k < 256) (sym (get_or-take n bytes i 0 below)) (small i)
-      | inr past ↦ let none : get_or (take n bytes) i 0 ≡ 0 = get_or_past (take n bytes) i 0 (omega (arith, length-take-le n bytes within)) in omega (arith, none)
+      | inr past ↦ let none : get_or (take n bytes) i 0 ≡ 0 = get_or_past (take n bytes) i 0 (omega (arith, length-take-le n bytes within)) in
+          omega (arith, none)
     ]
 
 pub small_rest : (bytes : List ℕ) (n : ℕ) → ((i : ℕ) → get_or bytes i 0 < 256) → (i : ℕ) → get_or (drop n bytes) i 0 < 256
@@ -36,7 +38,8 @@ length_behind bytes n within =
     omega arith
 
 -- bytes with a whole frame at the front are that frame and the rest
-pub whole_frame : (bytes : List ℕ) (n : ℕ) → ((i : ℕ) → get_or bytes i 0 < 256) → word bytes ≡ n → 4 + n ≤ length bytes → bytes ≡ frame (take n (drop 4 bytes)) ++ drop (4 + n) bytes
+pub whole_frame : (bytes : List ℕ) (n : ℕ) → ((i : ℕ) → get_or bytes i 0 < 256) → word bytes ≡ n → 4 + n ≤ length bytes →
+    bytes ≡ frame (take n (drop 4 bytes)) ++ drop (4 + n) bytes
 unfolding frame word
 whole_frame bytes n small says enough =
     let four : length (take 4 bytes) ≡ 4 = length-take-le 4 bytes (omega arith) in
@@ -45,7 +48,8 @@ whole_frame bytes n small says enough =
     let count : length (take n (drop 4 bytes)) ≡ n = length-take-le n (drop 4 bytes) (omega arith) in
     let head' : to_be_bytes w32 (length (take n (drop 4 bytes))) ≡ take 4 bytes = ap (to_be_bytes w32) count ∙ head in
     let rest : drop n (drop 4 bytes) ≡ drop (4 + n) bytes = drop-drop n 4 bytes in
-    let joined : take n (drop 4 bytes) ++ drop (4 + n) bytes ≡ drop 4 bytes = subst (λ r. take n (drop 4 bytes) ++ r ≡ drop 4 bytes) rest (take-append-drop n (drop 4 bytes)) in
+    let joined : take n (drop 4 bytes) ++ drop (4 + n) bytes ≡ drop 4 bytes =
+    subst (λ r. take n (drop 4 bytes) ++ r ≡ drop 4 bytes) rest (take-append-drop n (drop 4 bytes)) in
     sym (append_assoc (to_be_bytes w32 (length (take n (drop 4 bytes)))) (take n (drop 4 bytes)) (drop (4 + n) bytes)
     ∙ (ap (λ h. h ++ (take n (drop 4 bytes) ++ drop (4 + n) bytes)) head'
     ∙ (ap (λ r. take 4 bytes ++ r) joined
@@ -57,8 +61,10 @@ unfolding frame
 same_frame body other rest left fits fits' same =
     let counts : length body ≡ length other = sym (word-frame body rest fits) ∙ (ap word same ∙ word-frame other left fits') in
     let long : length (frame body) ≡ 4 + length other = length-frame body ∙ ap (λ n. 4 + n) counts in
-    let fronts : frame body ≡ frame other = sym (take_at (frame body) rest (4 + length other) long) ∙ (ap (take (4 + length other)) same ∙ take_at (frame other) left (4 + length other) (length-frame other)) in
-    let rests : rest ≡ left = sym (drop_at (frame body) rest (4 + length other) long) ∙ (ap (drop (4 + length other)) same ∙ drop_at (frame other) left (4 + length other) (length-frame other)) in
+    let fronts : frame body ≡ frame other = sym (take_at (frame body) rest (4 + length other) long)
+    ∙ (ap (take (4 + length other)) same ∙ take_at (frame other) left (4 + length other) (length-frame other)) in
+    let rests : rest ≡ left = sym (drop_at (frame body) rest (4 + length other) long)
+    ∙ (ap (drop (4 + length other)) same ∙ drop_at (frame other) left (4 + length other) (length-frame other)) in
     (ap (drop 4) fronts, rests)
 
 -- a length word that is too large stays so when more bytes come

@@ -1,5 +1,6 @@
 -- What a line tells of a connection.
-use Rattle.std.proofs.Common.{◌≡◌, ℕ, ◌<◌, ◌==◌, Bool, true, false, List, [], ◌++◌, length, drop, Option, Some, None, IfSome, ◌⊎◌, refl, sym, ap, ◌∙◌, subst, inl, inr, arith, append_assoc}
+use Rattle.std.proofs.Common.{◌≡◌, ℕ, ◌<◌, ◌==◌, Bool, true, false, List, [], ◌++◌, length, drop, Option, Some, None, IfSome, ◌⊎◌, refl, sym, ap, ◌∙◌, subst}
+use Rattle.std.proofs.Common.{inl, inr, arith, append_assoc}
 use Rattle.std.proofs.lemmas.Bool.{cases_eq, eq-eqb, eqb-true, false_from_ne_true}
 use Rattle.std.proofs.lemmas.List.{drop_at}
 use Rattle.frame_cut.specs.Frames.{frames, Cuts, IsEnd}
@@ -30,7 +31,8 @@ is_talk t l f =
     record {
       asked = subst (λ r. Cuts t.came t.bodies r) (sym h) f.cut;
       given = subst (λ z. t.wrote ++ z ≡ frames t.replies) (sym w) f.given;
-      prompt = subst (λ r. IsEnd r ⊎ (65536 < length (waits t))) (sym h) (subst (λ z. IsEnd l.cutter ⊎ (65536 < length z)) (sym w) (ends l.long l.cutter l.waiting f.stopped));
+      prompt = subst (λ r. IsEnd r ⊎ (65536 < length (waits t))) (sym h)
+          (subst (λ z. IsEnd l.cutter ⊎ (65536 < length z)) (sym w) (ends l.long l.cutter l.waiting f.stopped));
     }
 
 -- a connection that a line fits has its replies
@@ -52,7 +54,8 @@ fresh_line l is = subst (λ k. IsLineOf no_talk k) (sym is) (record {
 })
 
 -- what was written and what waits now
-given_more : (tw w lw left kw : List ℕ) (old new : List (List ℕ)) → tw ++ lw ≡ frames old → lw ≡ w ++ left → kw ≡ left ++ frames new → (tw ++ w) ++ kw ≡ frames (old ++ new)
+given_more : (tw w lw left kw : List ℕ) (old new : List (List ℕ)) → tw ++ lw ≡ frames old → lw ≡ w ++ left → kw ≡ left ++ frames new → (tw ++ w)
+    ++ kw ≡ frames (old ++ new)
 given_more tw w lw left kw old new given parts put =
     ap (λ z. (tw ++ w) ++ z) put
     ∙ (sym (append_assoc (tw ++ w) left (frames new))
@@ -60,7 +63,9 @@ given_more tw w lw left kw old new given parts put =
     ∙ sym (frames-append old new)))
 
 -- bytes came, a front of what waits was written, and requests were answered
-pub line_more : (t : Talk) (l k : LineState) (came w left : List ℕ) (bodies replies : List (List ℕ)) → IsLineOf t l → l.waiting ≡ w ++ left → Cuts (l.cutter ++ came) bodies k.cutter → k.waiting ≡ left ++ frames replies → IsStopped k.long k.cutter k.waiting → IsLineOf (more_talk t came w bodies replies) k
+pub line_more : (t : Talk) (l k : LineState) (came w left : List ℕ) (bodies replies : List (List ℕ)) → IsLineOf t l → l.waiting ≡ w ++ left →
+    Cuts (l.cutter ++ came) bodies k.cutter → k.waiting ≡ left ++ frames replies → IsStopped k.long k.cutter k.waiting →
+    IsLineOf (more_talk t came w bodies replies) k
 line_more t l k came w left bodies replies f parts cut put stopped = record {
   cut = more_bodies (t.came ++ came) t.bodies bodies (l.cutter ++ came) k.cutter (more_bytes t.came came t.bodies l.cutter f.cut) cut;
   given = given_more t.wrote w l.waiting left k.waiting t.replies replies f.given parts put;
@@ -68,9 +73,12 @@ line_more t l k came w left bodies replies f parts cut put stopped = record {
 }
 
 -- one slot is as said, and the others are as before
-pub fits_there : (slot : ℕ) (here talks : ℕ → Option Talk) (old new : List (Option LineState)) → ((n : ℕ) → Fits (talks n) (line_at old n)) → Fits (here slot) (line_at new slot) → OthersStay slot old new → (n : ℕ) → Fits (there (n == slot) (here n) (talks n)) (line_at new n)
+pub fits_there : (slot : ℕ) (here talks : ℕ → Option Talk) (old new : List (Option LineState)) → ((n : ℕ) → Fits (talks n) (line_at old n)) →
+    Fits (here slot) (line_at new slot) → OthersStay slot old new → (n : ℕ) → Fits (there (n == slot) (here n) (talks n)) (line_at new n)
 fits_there slot here talks old new before now others n =
     elim (cases_eq n slot) [
-      | inl same ↦ subst (λ b. Fits (there b (here n) (talks n)) (line_at new n)) (sym (eq-eqb n slot same)) (subst (λ k. Fits (here k) (line_at new k)) (sym same) now)
-      | inr other ↦ subst (λ b. Fits (there b (here n) (talks n)) (line_at new n)) (sym (false_from_ne_true (n == slot) (λ e. other (eqb-true n slot e)))) (subst (λ l. Fits (talks n) l) (sym (others n other)) (before n))
+      | inl same ↦ subst (λ b. Fits (there b (here n) (talks n)) (line_at new n)) (sym (eq-eqb n slot same))
+          (subst (λ k. Fits (here k) (line_at new k)) (sym same) now)
+      | inr other ↦ subst (λ b. Fits (there b (here n) (talks n)) (line_at new n)) (sym (false_from_ne_true (n == slot) (λ e. other (eqb-true n slot e))))
+          (subst (λ l. Fits (talks n) l) (sym (others n other)) (before n))
     ]

@@ -40,7 +40,8 @@ pub tells_lost : (o n : Option (List Seen)) (calls : List Seen) → n ≡ None �
 tells_lost o n calls none = subst (λ z. Tells o z calls) (sym none) (tells_no_more o calls)
 
 -- an offer, and what was done of it
-pub turned : {S : Type 0} (m : PlainMachine S) (from to : S → Type 0) (old new : List (Option LineState)) (offer : Ready) (tally next : Tally) (a b c : Option (List Seen)) → Tells a b (Offered offer ∷ []) → GoesOn m from to old new offer tally next b c → Turned m from to old new tally next a c
+pub turned : {S : Type 0} (m : PlainMachine S) (from to : S → Type 0) (old new : List (Option LineState)) (offer : Ready) (tally next : Tally)
+    (a b c : Option (List Seen)) → Tells a b (Offered offer ∷ []) → GoesOn m from to old new offer tally next b c → Turned m from to old new tally next a c
 turned m from to old new offer tally next a b c p goes s turns keeps =
     let w = goes s turns keeps in
     (w.0, (w.1.0, (w.1.1.0, subst (λ calls. Tells a c calls) (sym w.1.1.1.1.0) (tells_then a b c (Offered offer ∷ []) w.1.1.1.0 p w.1.1.1.1.1))))
@@ -55,7 +56,8 @@ tally_start : (rule : Option UpkeepRule) → IsTally rule (whole_tally rule) []
 tally_start None = tt
 tally_start (Some rule) = all_left rule
 
-pub led_start : {S : Type 0} (m : PlainMachine S) (rule : Option UpkeepRule) (from : S → Type 0) (s : S) (lines : List (Option LineState)) (tally : Tally) (a : Option (List Seen)) → from s → ((n : ℕ) → line_at lines n ≡ None) → tally ≡ whole_tally rule → Led m rule from s lines tally a a 0
+pub led_start : {S : Type 0} (m : PlainMachine S) (rule : Option UpkeepRule) (from : S → Type 0) (s : S) (lines : List (Option LineState)) (tally : Tally)
+    (a : Option (List Seen)) → from s → ((n : ℕ) → line_at lines n ≡ None) → tally ≡ whole_tally rule → Led m rule from s lines tally a a 0
 led_start m rule from s lines tally a f free whole = record {
   turns = [];
   keeps = record { state = s; ran = refl; stands = f; served = tt; fits = λ n. subst (λ l. Fits None l) (sym (free n)) tt };
@@ -78,7 +80,8 @@ due_is (Some rule) tally turns is =
     ap (λ b. if b then Some rule.requests else None) (due_some rule (since rule.code turns) tally.left (ap (λ t. t.left) is))
 
 -- the next turn is one of the edge where nothing is due
-timely_more : (rule : Option UpkeepRule) (tally next : Tally) (older : List Turn) (turn : Turn) → IsNoted tally next turn → due rule older ≡ None → IsTimely rule older turn
+timely_more : (rule : Option UpkeepRule) (tally next : Tally) (older : List Turn) (turn : Turn) → IsNoted tally next turn → due rule older ≡ None →
+    IsTimely rule older turn
 timely_more rule tally next older (Rested offer) p none = none
 timely_more rule tally next older (Opened slot) p none = none
 timely_more rule tally next older (Missed slot) p none = none
@@ -89,12 +92,14 @@ timely_more rule tally next older (Ended slot) p none = none
 timely_more rule tally next older (KeptUp bodies replies) p none = absurd p
 
 -- and its replies are counted
-noted_since : (rule : UpkeepRule) (tally next : Tally) (n : ℕ) (replies : List (List ℕ)) → tally ≡ record { code = rule.code; left = rule.after - n } → next ≡ noted tally replies → next ≡ record { code = rule.code; left = rule.after - (n + counted rule.code replies) }
+noted_since : (rule : UpkeepRule) (tally next : Tally) (n : ℕ) (replies : List (List ℕ)) → tally ≡ record { code = rule.code; left = rule.after - n } →
+    next ≡ noted tally replies → next ≡ record { code = rule.code; left = rule.after - (n + counted rule.code replies) }
 noted_since rule tally next n replies is p =
     let less : (rule.after - n) - counted rule.code replies ≡ rule.after - (n + counted rule.code replies) = omega arith in
     subst (λ t. next ≡ noted t replies) is p ∙ ap (λ k. record { code = rule.code; left = k }) less
 
-tally_more : (rule : Option UpkeepRule) (tally next : Tally) (older : List Turn) (turn : Turn) → IsTally rule tally older → IsNoted tally next turn → IsTally rule next (turn ∷ older)
+tally_more : (rule : Option UpkeepRule) (tally next : Tally) (older : List Turn) (turn : Turn) → IsTally rule tally older → IsNoted tally next turn →
+    IsTally rule next (turn ∷ older)
 tally_more None tally next older turn is p = tt
 tally_more (Some rule) tally next older (Rested offer) is p = p ∙ is
 tally_more (Some rule) tally next older (Opened slot) is p = p ∙ is
@@ -106,12 +111,15 @@ tally_more (Some rule) tally next older (Ended slot) is p = p ∙ is
 tally_more (Some rule) tally next older (KeptUp bodies replies) is p = absurd p
 
 -- the count begins anew with an upkeep
-kept_tally : (rule : Option UpkeepRule) (next : Tally) (bodies replies : List (List ℕ)) (older : List Turn) → next ≡ whole_tally rule → IsTally rule next (KeptUp bodies replies ∷ older)
+kept_tally : (rule : Option UpkeepRule) (next : Tally) (bodies replies : List (List ℕ)) (older : List Turn) → next ≡ whole_tally rule →
+    IsTally rule next (KeptUp bodies replies ∷ older)
 kept_tally None next bodies replies older whole = tt
 kept_tally (Some rule) next bodies replies older whole = whole ∙ all_left rule
 
 -- one turn of the edge more
-pub led_more : {S : Type 0} (m : PlainMachine S) (rule : Option UpkeepRule) (from to : S → Type 0) (s : S) (old new : List (Option LineState)) (tally next : Tally) (a b c : Option (List Seen)) (count : ℕ) → Led m rule from s old tally a b count → due_by tally rule ≡ None → Turned m from to old new tally next b c → Led m rule to s new next a c (count + 1)
+pub led_more : {S : Type 0} (m : PlainMachine S) (rule : Option UpkeepRule) (from to : S → Type 0) (s : S) (old new : List (Option LineState))
+    (tally next : Tally) (a b c : Option (List Seen)) (count : ℕ) → Led m rule from s old tally a b count → due_by tally rule ≡ None →
+    Turned m from to old new tally next b c → Led m rule to s new next a c (count + 1)
 led_more m rule from to s old new tally next a b c count led none goes =
     let w = goes s led.turns led.keeps in
     record {
@@ -124,7 +132,9 @@ led_more m rule from to s old new tally next a b c count led none goes =
     }
 
 -- an upkeep more
-pub led_kept : {S : Type 0} (m : PlainMachine S) (rule : Option UpkeepRule) (from to : S → Type 0) (s : S) (lines : List (Option LineState)) (tally next : Tally) (a b : Option (List Seen)) (count : ℕ) (bodies : List (List ℕ)) → Led m rule from s lines tally a b count → due_by tally rule ≡ Some bodies → next ≡ whole_tally rule
+pub led_kept : {S : Type 0} (m : PlainMachine S) (rule : Option UpkeepRule) (from to : S → Type 0) (s : S) (lines : List (Option LineState))
+    (tally next : Tally) (a b : Option (List Seen)) (count : ℕ) (bodies : List (List ℕ)) → Led m rule from s lines tally a b count → due_by tally rule
+    ≡ Some bodies → next ≡ whole_tally rule
     → ((u : S) → from u → Asked m to bodies u) → Led m rule to s lines next a b (count + 1)
 led_kept m rule from to s lines tally next a b count bodies led is whole asked =
     let k = asked led.keeps.state led.keeps.stands in
@@ -144,7 +154,9 @@ led_kept m rule from to s lines tally next a b count bodies led is whole asked =
     }
 
 -- the edge said stop
-pub run_stopped : {S : Type 0} (m : PlainMachine S) (rule : Option UpkeepRule) (to : S → Type 0) (s : S) (lines : List (Option LineState)) (tally : Tally) (a b c : Option (List Seen)) (count : ℕ) → Led m rule to s lines tally a b count → due_by tally rule ≡ None → Tells b c (Offered Stop ∷ []) → IsRun m rule to s Stopped a c
+pub run_stopped : {S : Type 0} (m : PlainMachine S) (rule : Option UpkeepRule) (to : S → Type 0) (s : S) (lines : List (Option LineState)) (tally : Tally)
+    (a b c : Option (List Seen)) (count : ℕ) → Led m rule to s lines tally a b count → due_by tally rule ≡ None → Tells b c (Offered Stop ∷ []) →
+    IsRun m rule to s Stopped a c
 run_stopped m rule to s lines tally a b c count led none stop = record {
   turns = led.turns;
   state = led.keeps.state;
@@ -157,7 +169,8 @@ run_stopped m rule to s lines tally a b c count led none stop = record {
 }
 
 -- as many turns were made as may be
-pub run_spent : {S : Type 0} (m : PlainMachine S) (rule : Option UpkeepRule) (to : S → Type 0) (s : S) (lines : List (Option LineState)) (tally : Tally) (a b : Option (List Seen)) (count : ℕ) → Led m rule to s lines tally a b count → count ≡ 18446744073709551615 → IsRun m rule to s Spent a b
+pub run_spent : {S : Type 0} (m : PlainMachine S) (rule : Option UpkeepRule) (to : S → Type 0) (s : S) (lines : List (Option LineState)) (tally : Tally)
+    (a b : Option (List Seen)) (count : ℕ) → Led m rule to s lines tally a b count → count ≡ 18446744073709551615 → IsRun m rule to s Spent a b
 run_spent m rule to s lines tally a b count led all = record {
   turns = led.turns;
   state = led.keeps.state;

@@ -1,5 +1,6 @@
 -- Requests that are cut from bytes and answered, one after another.
-use Rattle.std.proofs.Common.{◌≡◌, ℕ, ◌+◌, ◌-◌, ◌≤◌, ◌<◌, min, Bool, true, false, List, [], ◌∷◌, ◌++◌, length, take, drop, get_or, ◌⊎◌, map, refl, sym, ap, ◌∙◌, subst, inl, inr, arith, append_assoc}
+use Rattle.std.proofs.Common.{◌≡◌, ℕ, ◌+◌, ◌-◌, ◌≤◌, ◌<◌, min, Bool, true, false, List, [], ◌∷◌, ◌++◌, length, take, drop, get_or, ◌⊎◌, map, refl, sym, ap}
+use Rattle.std.proofs.Common.{◌∙◌, subst, inl, inr, arith, append_assoc}
 use Rattle.std.specs.Prelude.{filter}
 use denote.Ref.{Bor}
 use Rattle.std.proofs.Math.Seq.{take-suc}
@@ -16,10 +17,12 @@ use Rattle.hub.specs.Answering.{asks, Replied, Answered, Serves, Asked}
 use Rattle.hub.specs.Lines.{IsStopped}
 
 -- answers, and then more answers
-pub answers_append : {S : Type 0} (m : PlainMachine S) (s : S) (es fs : List Event) (ys zs : List (List ℕ)) (t u : S) → Answers m s es ys t → Answers m t fs zs u → Answers m s (es ++ fs) (ys ++ zs) u
+pub answers_append : {S : Type 0} (m : PlainMachine S) (s : S) (es fs : List Event) (ys zs : List (List ℕ)) (t u : S) → Answers m s es ys t →
+    Answers m t fs zs u → Answers m s (es ++ fs) (ys ++ zs) u
 answers_append m s [] fs [] zs t u p q = subst (λ x. Answers m x fs zs u) p q
 answers_append m s (e ∷ es) fs (y ∷ ys) zs t u p q =
-    elim p as (λ _. ((y ≡ m.reply s e) × Answers m (m.step s e) (es ++ fs) (ys ++ zs) u) ⊎ ((y ≡ no_memory) × (m.is_sure e ≡ false) × Answers m s (es ++ fs) (ys ++ zs) u)) [
+    elim p as (λ _. ((y ≡ m.reply s e) × Answers m (m.step s e) (es ++ fs) (ys ++ zs) u)
+    ⊎ ((y ≡ no_memory) × (m.is_sure e ≡ false) × Answers m s (es ++ fs) (ys ++ zs) u)) [
       | inl a ↦ inl (a.0, answers_append m (m.step s e) es fs ys zs t u a.1 q)
       | inr b ↦ inr (b.0, b.1, answers_append m s es fs ys zs t u b.2 q)
     ]
@@ -32,7 +35,8 @@ noted_none tally =
     let all : tally.left ≡ tally.left - 0 = omega arith in
     ap (λ n. record { code = tally.code; left = n }) all
 
-abbrev pub serves_none : {S : Type 0} (m : PlainMachine S) (from : S → Type 0) (actor : ℕ) (held waiting : List ℕ) (tally : Tally) → Serves m from from actor held held waiting waiting tally tally
+abbrev pub serves_none : {S : Type 0} (m : PlainMachine S) (from : S → Type 0) (actor : ℕ) (held waiting : List ℕ) (tally : Tally) →
+    Serves m from from actor held held waiting waiting tally tally
 serves_none m from actor held waiting tally = record {
   bodies = [];
   read = record { whole = refl; each = tt };
@@ -60,7 +64,9 @@ noted_more tally mid next xs ys p q =
     subst (λ t. next ≡ noted t ys) p q ∙ ap (λ n. record { code = tally.code; left = n }) less
 
 -- requests were answered, and then one more
-answered_body : {S : Type 0} (m : PlainMachine S) (mid to : S → Type 0) (actor : ℕ) (p q r : List ℕ) (k l n : Tally) (s : S) (bodies : List (List ℕ)) (body : List ℕ) → Answered m mid actor p q k l bodies s → ((t : S) → mid t → Replied m to q r l n t (actor, body)) → Answered m to actor p r k n (bodies ++ body ∷ []) s
+answered_body : {S : Type 0} (m : PlainMachine S) (mid to : S → Type 0) (actor : ℕ) (p q r : List ℕ) (k l n : Tally) (s : S) (bodies : List (List ℕ))
+    (body : List ℕ) → Answered m mid actor p q k l bodies s → ((t : S) → mid t → Replied m to q r l n t (actor, body)) →
+    Answered m to actor p r k n (bodies ++ body ∷ []) s
 answered_body m mid to actor p q r k l n s bodies body a one =
     let b = one a.state a.stands in
     record {
@@ -69,12 +75,14 @@ answered_body m mid to actor p q r k l n s bodies body a one =
       answers = subst (λ es. Answers m s es (a.replies ++ b.reply ∷ []) b.state) (sym (map-append (λ z. (actor, z)) bodies (body ∷ [])))
           (answers_append m s (asks actor bodies) ((actor, body) ∷ []) a.replies (b.reply ∷ []) a.state b.state a.answers b.answers);
       stands = b.stands;
-      put = b.put ∙ (ap (λ z. z ++ frame b.reply) a.put ∙ (append_assoc p (frames a.replies) (frame b.reply) ∙ ap (λ z. p ++ z) (sym (frames_one a.replies b.reply))));
+      put = b.put ∙ (ap (λ z. z ++ frame b.reply) a.put ∙ (append_assoc p (frames a.replies) (frame b.reply)
+          ∙ ap (λ z. p ++ z) (sym (frames_one a.replies b.reply))));
       counts = noted_more k l n a.replies (b.reply ∷ []) a.counts b.counts;
     }
 
 pub serves_body : {S : Type 0} (m : PlainMachine S) (from mid to : S → Type 0) (actor : ℕ) (held between rest p q r body : List ℕ) (k l n : Tally)
-    → Serves m from mid actor held between p q k l → IsBody body → between ≡ frame body ++ rest → ((s : S) → mid s → Replied m to q r l n s (actor, body)) → Serves m from to actor held rest p r k n
+    → Serves m from mid actor held between p q k l → IsBody body → between ≡ frame body ++ rest → ((s : S) → mid s → Replied m to q r l n s (actor, body))
+    → Serves m from to actor held rest p r k n
 serves_body m from mid to actor held between rest p q r body k l n a fits is one = record {
   bodies = a.bodies ++ body ∷ [];
   read = more_bodies held a.bodies (body ∷ []) between rest a.read (one_body between body rest fits is);
@@ -84,7 +92,8 @@ serves_body m from mid to actor held between rest p q r body k l n a fits is one
 -- a cutter holds less when it has handed out a frame
 pub fewer : (old new body : List ℕ) → new ≡ drop (4 + length body) old → old ≡ frame body ++ drop (4 + length body) old → ℕ.suc (length new) ≤ length old
 fewer old new body left whole =
-    let long : length old ≡ length (frame body) + length (drop (4 + length body) old) = ap length whole ∙ length-append (frame body) (drop (4 + length body) old) in
+    let long : length old ≡ length (frame body) + length (drop (4 + length body) old) = ap length whole
+    ∙ length-append (frame body) (drop (4 + length body) old) in
     let head : length (frame body) ≡ 4 + length body = length-frame body in
     let less : length new ≡ length (drop (4 + length body) old) = ap length left in
     omega (arith, long, head, less)
@@ -106,7 +115,8 @@ still_long true held waiting other is s = s
 still_long false held waiting other is s = absurd (cc)
 
 -- all of a piece was fed
-pub fed_all : {S : Type 0} (m : PlainMachine S) (from to : S → Type 0) (actor : ℕ) (held piece fed rest p q : List ℕ) (k l : Tally) (n : ℕ) → fed ≡ held ++ take n piece → n ≡ min (length piece) (1114116 - length held) → length held ≤ 1048580 → length piece ≤ 65536
+pub fed_all : {S : Type 0} (m : PlainMachine S) (from to : S → Type 0) (actor : ℕ) (held piece fed rest p q : List ℕ) (k l : Tally) (n : ℕ) → fed ≡ held
+    ++ take n piece → n ≡ min (length piece) (1114116 - length held) → length held ≤ 1048580 → length piece ≤ 65536
     → Serves m from to actor fed rest p q k l → Serves m from to actor (held ++ piece) rest p q k l
 fed_all m from to actor held piece fed rest p q k l n is count few size a =
     subst (λ b. Serves m from to actor b rest p q k l) (is ∙ ap (λ z. held ++ z) (take_all n piece (omega (arith, count, few, size)))) a
@@ -115,18 +125,21 @@ fed_all m from to actor held piece fed rest p q k l n is count few size a =
 pub asked_none : {S : Type 0} (m : PlainMachine S) (from : S → Type 0) (s : S) → from s → Asked m from [] s
 asked_none m from s f = record { replies = []; state = s; answers = refl; stands = f }
 
-pub asked_more : {S : Type 0} (m : PlainMachine S) (mid to : S → Type 0) (bodies more : List (List ℕ)) (s : S) → Asked m mid bodies s → ((t : S) → mid t → Asked m to more t) → Asked m to (bodies ++ more) s
+pub asked_more : {S : Type 0} (m : PlainMachine S) (mid to : S → Type 0) (bodies more : List (List ℕ)) (s : S) → Asked m mid bodies s →
+    ((t : S) → mid t → Asked m to more t) → Asked m to (bodies ++ more) s
 asked_more m mid to bodies more s a one =
     let b = one a.state a.stands in
     record {
       replies = a.replies ++ b.replies;
       state = b.state;
-      answers = subst (λ es. Answers m s es (a.replies ++ b.replies) b.state) (sym (map-append (λ z. (0, z)) bodies more)) (answers_append m s (asks 0 bodies) (asks 0 more) a.replies b.replies a.state b.state a.answers b.answers);
+      answers = subst (λ es. Answers m s es (a.replies ++ b.replies) b.state) (sym (map-append (λ z. (0, z)) bodies more))
+          (answers_append m s (asks 0 bodies) (asks 0 more) a.replies b.replies a.state b.state a.answers b.answers);
       stands = b.stands;
     }
 
 -- the requests up to this place, and the next
-pub one_more : (requests : List (Bor (List ℕ))) (place : ℕ) (other : Bor (List ℕ)) → place < length requests → take (place + 1) (map (λ r. r.now) requests) ≡ take place (map (λ r. r.now) requests) ++ (get_or requests place other).now ∷ []
+pub one_more : (requests : List (Bor (List ℕ))) (place : ℕ) (other : Bor (List ℕ)) → place < length requests → take (place + 1) (map (λ r. r.now) requests)
+    ≡ take place (map (λ r. r.now) requests) ++ (get_or requests place other).now ∷ []
 one_more requests place other within =
     let next : place + 1 ≡ ℕ.suc place = omega arith in
     let many : length (map (λ r. r.now) requests) ≡ length requests = length-map requests (λ (r : Bor (List ℕ)). r.now) in
@@ -143,5 +156,12 @@ all_of requests place past =
 pub asked_ok : {S : Type 0} (m : PlainMachine S) (to : S → Type 0) (body : List ℕ) (s : S) → to (m.step s (0, body)) → Asked m to (body ∷ []) s
 asked_ok m to body s stepped = record { replies = m.reply s (0, body) ∷ []; state = m.step s (0, body); answers = inl (refl, refl); stands = stepped }
 
-pub asked_err : {S : Type 0} (m : PlainMachine S) (to : S → Type 0) (body : List ℕ) (s : S) → (m.is_sure (0, body) ≡ true → false ≡ true) → to s → Asked m to (body ∷ []) s
-asked_err m to body s unsure same = record { replies = no_memory ∷ []; state = s; answers = inr (refl, false_from_ne_true (m.is_sure (0, body)) (λ e. let p : false ≡ true = unsure e in absurd (cc)), refl); stands = same }
+pub asked_err : {S : Type 0} (m : PlainMachine S) (to : S → Type 0) (body : List ℕ) (s : S) → (m.is_sure (0, body) ≡ true → false ≡ true) → to s →
+    Asked m to (body ∷ []) s
+asked_err m to body s unsure same = record {
+  replies = no_memory ∷ [];
+  state = s;
+  answers =
+      inr (refl, false_from_ne_true (m.is_sure (0, body)) (λ e. let p : false ≡ true = unsure e in absurd (cc)), refl);
+  stands = same;
+}

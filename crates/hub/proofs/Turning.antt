@@ -1,5 +1,6 @@
 -- A run goes on by one turn.
-use Rattle.std.proofs.Common.{◌≡◌, ℕ, ◌+◌, ◌<◌, ◌≤◌, false, List, true, [], ◌∷◌, ◌++◌, length, take, drop, Option, Some, None, IsSome, ◌⊎◌, inl, inr, refl, sym, ◌∙◌, subst, arith}
+use Rattle.std.proofs.Common.{◌≡◌, ℕ, ◌+◌, ◌<◌, ◌≤◌, false, List, true, [], ◌∷◌, ◌++◌, length, take, drop, Option, Some, None, IsSome, ◌⊎◌, inl, inr, refl}
+use Rattle.std.proofs.Common.{sym, ◌∙◌, subst, arith}
 use Rattle.std.proofs.lemmas.List.{append-nil, take-append-drop}
 use Rattle.std.proofs.lemmas.Bool.{cases_eq}
 use Rattle.tardis_base.specs.Plain.{PlainMachine}
@@ -24,15 +25,19 @@ tells_none None = tt
 tells_none (Some seen) = sym (append-nil seen)
 
 -- bytes came of a connection, and requests were answered
-received_at : {S : Type 0} (m : PlainMachine S) (from to : S → Type 0) (old new : List (Option LineState)) (slot room : ℕ) (came : List ℕ) (l k : LineState) (tally next : Tally) (before after : Option (List Seen)) (s : S) (turns : List Turn) (o : Option Talk)
+received_at : {S : Type 0} (m : PlainMachine S) (from to : S → Type 0) (old new : List (Option LineState)) (slot room : ℕ) (came : List ℕ)
+    (l k : LineState) (tally next : Tally) (before after : Option (List Seen)) (s : S) (turns : List Turn) (o : Option Talk)
     → talk slot turns ≡ o → Fits o (Some l) → line_at new slot ≡ Some k → OthersStay slot old new → length l.waiting ≤ 65536 → room ≡ 65536
-    → Serves m from to (slot + 1) (l.cutter ++ came) k.cutter l.waiting k.waiting tally next → IsStopped k.long k.cutter k.waiting → Tells before after (ReadFrom slot room came ∷ [])
+    → Serves m from to (slot + 1) (l.cutter ++ came) k.cutter l.waiting k.waiting tally next → IsStopped k.long k.cutter k.waiting →
+    Tells before after (ReadFrom slot room came ∷ [])
     → Keeps m from s old turns → Went m to s new turns (Read slot) tally next before after
 received_at m from to old new slot room came l k tally next before after s turns None e f is others few much serves stopped tells keeps = absurd f
 received_at m from to old new slot room came l k tally next before after s turns (Some t) e f is others few much serves stopped tells keeps =
     let a = serves.answered keeps.state keeps.stands in
     let line = line_more t l k came [] l.waiting serves.bodies a.replies f refl serves.read a.put stopped in
-    let here : Fits (more_of (talk slot turns) came [] serves.bodies a.replies) (line_at new slot) = subst (λ z. Fits (more_of (talk slot turns) came [] serves.bodies a.replies) z) (sym is) (subst (λ z. Fits (more_of z came [] serves.bodies a.replies) (Some k)) (sym e) line) in
+    let here : Fits (more_of (talk slot turns) came [] serves.bodies a.replies) (line_at new slot) =
+    subst (λ z. Fits (more_of (talk slot turns) came [] serves.bodies a.replies) z) (sym is)
+    (subst (λ z. Fits (more_of z came [] serves.bodies a.replies) (Some k)) (sym e) line) in
     let fits = fits_there slot (λ n. more_of (talk n turns) came [] serves.bodies a.replies) (λ n. talk n turns) old new keeps.fits here others in
     let few' : length (waits t) ≤ 65536 = subst (λ w. length w ≤ 65536) (sym (waits_is t l.waiting f.given)) few in (
       Received slot room came serves.bodies a.replies,
@@ -41,24 +46,32 @@ received_at m from to old new slot room came l k tally next before after s turns
           state = a.state;
           ran = (keeps.state, (keeps.ran, a.answers));
           stands = a.stands;
-          served = ((subst (λ z. WaitFew z) (sym e) few', much), (λ n. each_talk (talk n (Received slot room came serves.bodies a.replies ∷ turns)) (line_at new n) (fits n), keeps.served));
+          served = (
+            (subst (λ z. WaitFew z) (sym e) few', much),
+            (λ n. each_talk (talk n (Received slot room came serves.bodies a.replies ∷ turns)) (line_at new n) (fits n), keeps.served),
+          );
           fits = fits;
         },
         (a.counts, (ReadFrom slot room came ∷ [], (refl, tells))),
       ),
     )
 
-pub received : {S : Type 0} (m : PlainMachine S) (from to : S → Type 0) (old new : List (Option LineState)) (slot room : ℕ) (came : List ℕ) (l k : LineState) (tally next : Tally) (before after : Option (List Seen))
+pub received : {S : Type 0} (m : PlainMachine S) (from to : S → Type 0) (old new : List (Option LineState)) (slot room : ℕ) (came : List ℕ)
+    (l k : LineState) (tally next : Tally) (before after : Option (List Seen))
     → line_at old slot ≡ Some l → line_at new slot ≡ Some k → OthersStay slot old new → length l.waiting ≤ 65536 → room ≡ 65536
-    → Serves m from to (slot + 1) (l.cutter ++ came) k.cutter l.waiting k.waiting tally next → IsStopped k.long k.cutter k.waiting → Tells before after (ReadFrom slot room came ∷ [])
+    → Serves m from to (slot + 1) (l.cutter ++ came) k.cutter l.waiting k.waiting tally next → IsStopped k.long k.cutter k.waiting →
+    Tells before after (ReadFrom slot room came ∷ [])
     → GoesOn m from to old new (Read slot) tally next before after
 received m from to old new slot room came l k tally next before after was is others few much serves stopped tells s turns keeps =
-    received_at m from to old new slot room came l k tally next before after s turns (talk slot turns) refl (subst (λ o. Fits (talk slot turns) o) was (keeps.fits slot)) is others few much serves stopped tells keeps
+    received_at m from to old new slot room came l k tally next before after s turns (talk slot turns) refl
+    (subst (λ o. Fits (talk slot turns) o) was (keeps.fits slot)) is others few much serves stopped tells keeps
 
 -- a front of what waits was written to a connection, and requests were answered
-sent_at : {S : Type 0} (m : PlainMachine S) (from to : S → Type 0) (old new : List (Option LineState)) (slot offered count : ℕ) (l k : LineState) (tally next : Tally) (before after : Option (List Seen)) (s : S) (turns : List Turn) (o : Option Talk)
+sent_at : {S : Type 0} (m : PlainMachine S) (from to : S → Type 0) (old new : List (Option LineState)) (slot offered count : ℕ) (l k : LineState)
+    (tally next : Tally) (before after : Option (List Seen)) (s : S) (turns : List Turn) (o : Option Talk)
     → talk slot turns ≡ o → Fits o (Some l) → line_at new slot ≡ Some k → OthersStay slot old new → offered ≡ length l.waiting
-    → Serves m from to (slot + 1) l.cutter k.cutter (drop count l.waiting) k.waiting tally next → (IsStopped l.long l.cutter l.waiting → IsStopped k.long k.cutter k.waiting) → Tells before after (WroteTo slot offered (take count l.waiting) ∷ [])
+    → Serves m from to (slot + 1) l.cutter k.cutter (drop count l.waiting) k.waiting tally next →
+    (IsStopped l.long l.cutter l.waiting → IsStopped k.long k.cutter k.waiting) → Tells before after (WroteTo slot offered (take count l.waiting) ∷ [])
     → Keeps m from s old turns → Went m to s new turns (Write slot) tally next before after
 sent_at m from to old new slot offered count l k tally next before after s turns None e f is others all serves stopped tells keeps = absurd f
 sent_at m from to old new slot offered count l k tally next before after s turns (Some t) e f is others all serves stopped tells keeps =
@@ -66,7 +79,9 @@ sent_at m from to old new slot offered count l k tally next before after s turns
     let a = serves.answered keeps.state keeps.stands in
     let cut : Cuts (l.cutter ++ []) serves.bodies k.cutter = subst (λ z. Cuts z serves.bodies k.cutter) (sym (append-nil l.cutter)) serves.read in
     let line = line_more t l k [] w (drop count l.waiting) serves.bodies a.replies f (sym (take-append-drop count l.waiting)) cut a.put (stopped f.stopped) in
-    let here : Fits (more_of (talk slot turns) [] w serves.bodies a.replies) (line_at new slot) = subst (λ z. Fits (more_of (talk slot turns) [] w serves.bodies a.replies) z) (sym is) (subst (λ z. Fits (more_of z [] w serves.bodies a.replies) (Some k)) (sym e) line) in
+    let here : Fits (more_of (talk slot turns) [] w serves.bodies a.replies) (line_at new slot) =
+    subst (λ z. Fits (more_of (talk slot turns) [] w serves.bodies a.replies) z) (sym is)
+    (subst (λ z. Fits (more_of z [] w serves.bodies a.replies) (Some k)) (sym e) line) in
     let fits = fits_there slot (λ n. more_of (talk n turns) [] w serves.bodies a.replies) (λ n. talk n turns) old new keeps.fits here others in
     let all' : offered ≡ length (waits t) = subst (λ z. offered ≡ length z) (sym (waits_is t l.waiting f.given)) all in (
       Sent slot offered w serves.bodies a.replies,
@@ -75,23 +90,31 @@ sent_at m from to old new slot offered count l k tally next before after s turns
           state = a.state;
           ran = (keeps.state, (keeps.ran, a.answers));
           stands = a.stands;
-          served = (subst (λ z. WaitSoMany z offered) (sym e) all', (λ n. each_talk (talk n (Sent slot offered w serves.bodies a.replies ∷ turns)) (line_at new n) (fits n), keeps.served));
+          served = (
+            subst (λ z. WaitSoMany z offered) (sym e) all',
+            (λ n. each_talk (talk n (Sent slot offered w serves.bodies a.replies ∷ turns)) (line_at new n) (fits n), keeps.served),
+          );
           fits = fits;
         },
         (a.counts, (WroteTo slot offered w ∷ [], (refl, tells))),
       ),
     )
 
-pub sent : {S : Type 0} (m : PlainMachine S) (from to : S → Type 0) (old new : List (Option LineState)) (slot offered count : ℕ) (l k : LineState) (tally next : Tally) (before after : Option (List Seen))
+pub sent : {S : Type 0} (m : PlainMachine S) (from to : S → Type 0) (old new : List (Option LineState)) (slot offered count : ℕ) (l k : LineState)
+    (tally next : Tally) (before after : Option (List Seen))
     → line_at old slot ≡ Some l → line_at new slot ≡ Some k → OthersStay slot old new → offered ≡ length l.waiting
-    → Serves m from to (slot + 1) l.cutter k.cutter (drop count l.waiting) k.waiting tally next → (IsStopped l.long l.cutter l.waiting → IsStopped k.long k.cutter k.waiting) → Tells before after (WroteTo slot offered (take count l.waiting) ∷ [])
+    → Serves m from to (slot + 1) l.cutter k.cutter (drop count l.waiting) k.waiting tally next →
+    (IsStopped l.long l.cutter l.waiting → IsStopped k.long k.cutter k.waiting) → Tells before after (WroteTo slot offered (take count l.waiting) ∷ [])
     → GoesOn m from to old new (Write slot) tally next before after
 sent m from to old new slot offered count l k tally next before after was is others all serves stopped tells s turns keeps =
-    sent_at m from to old new slot offered count l k tally next before after s turns (talk slot turns) refl (subst (λ o. Fits (talk slot turns) o) was (keeps.fits slot)) is others all serves stopped tells keeps
+    sent_at m from to old new slot offered count l k tally next before after s turns (talk slot turns) refl
+    (subst (λ o. Fits (talk slot turns) o) was (keeps.fits slot)) is others all serves stopped tells keeps
 
 -- a connection came into a free slot
-pub opened : {S : Type 0} (m : PlainMachine S) (from to : S → Type 0) (old new : List (Option LineState)) (slot : ℕ) (l : LineState) (tally : Tally) (before after : Option (List Seen))
-    → ((s : S) → from s → to s) → slot < 256 → line_at old slot ≡ None → line_at new slot ≡ Some l → l ≡ record { cutter = []; waiting = []; long = false } → OthersStay slot old new → Tells before after (Accepted slot true ∷ [])
+pub opened : {S : Type 0} (m : PlainMachine S) (from to : S → Type 0) (old new : List (Option LineState)) (slot : ℕ) (l : LineState) (tally : Tally)
+    (before after : Option (List Seen))
+    → ((s : S) → from s → to s) → slot < 256 → line_at old slot ≡ None → line_at new slot ≡ Some l → l ≡ record { cutter = []; waiting = []; long = false }
+    → OthersStay slot old new → Tells before after (Accepted slot true ∷ [])
     → GoesOn m from to old new Accept tally tally before after
 opened m from to old new slot l tally before after same within was is fresh others tells s turns keeps =
     let here : Fits (Some no_talk) (line_at new slot) = subst (λ z. Fits (Some no_talk) z) (sym is) (fresh_line l fresh) in
@@ -111,7 +134,8 @@ opened m from to old new slot l tally before after same within was is fresh othe
     )
 
 -- none came after all
-pub missed : {S : Type 0} (m : PlainMachine S) (from to : S → Type 0) (old new : List (Option LineState)) (slot : ℕ) (tally : Tally) (before after : Option (List Seen))
+pub missed : {S : Type 0} (m : PlainMachine S) (from to : S → Type 0) (old new : List (Option LineState)) (slot : ℕ) (tally : Tally)
+    (before after : Option (List Seen))
     → ((s : S) → from s → to s) → new ≡ old → slot < 256 → line_at old slot ≡ None → Tells before after (Accepted slot false ∷ [])
     → GoesOn m from to old new Accept tally tally before after
 missed m from to old new slot tally before after same unchanged within was tells s turns keeps =
@@ -131,7 +155,8 @@ missed m from to old new slot tally before after same unchanged within was tells
     )
 
 -- a connection was turned away
-pub turned_away : {S : Type 0} (m : PlainMachine S) (from to : S → Type 0) (old new : List (Option LineState)) (tally : Tally) (before after : Option (List Seen))
+pub turned_away : {S : Type 0} (m : PlainMachine S) (from to : S → Type 0) (old new : List (Option LineState)) (tally : Tally)
+    (before after : Option (List Seen))
     → ((s : S) → from s → to s) → new ≡ old → Tells before after (Declined ∷ []) → GoesOn m from to old new Accept tally tally before after
 turned_away m from to old new tally before after same unchanged tells s turns keeps =
     let fits : (n : ℕ) → Fits (talk n turns) (line_at new n) = λ n. subst (λ z. Fits (talk n turns) (line_at z n)) (sym unchanged) (keeps.fits n) in (
@@ -149,8 +174,10 @@ turned_away m from to old new tally before after same unchanged tells s turns ke
     )
 
 -- nothing was to do
-pub rested : {S : Type 0} (m : PlainMachine S) (from to : S → Type 0) (old new : List (Option LineState)) (offer : Ready) (tally : Tally) (before after : Option (List Seen))
-    → ((s : S) → from s → to s) → ((n : ℕ) → line_at new n ≡ line_at old n) → after ≡ before → ((turns : List Turn) → ((n : ℕ) → Fits (talk n turns) (line_at old n)) → MayRest turns offer)
+pub rested : {S : Type 0} (m : PlainMachine S) (from to : S → Type 0) (old new : List (Option LineState)) (offer : Ready) (tally : Tally)
+    (before after : Option (List Seen))
+    → ((s : S) → from s → to s) → ((n : ℕ) → line_at new n ≡ line_at old n) → after ≡ before →
+    ((turns : List Turn) → ((n : ℕ) → Fits (talk n turns) (line_at old n)) → MayRest turns offer)
     → GoesOn m from to old new offer tally tally before after
 rested m from to old new offer tally before after same unchanged none may s turns keeps =
     let fits : (n : ℕ) → Fits (talk n turns) (line_at new n) = λ n. subst (λ z. Fits (talk n turns) z) (sym (unchanged n)) (keeps.fits n) in (
@@ -172,8 +199,10 @@ some_of : (o : Option Talk) (l : LineState) → Fits o (Some l) → IsSome o
 some_of None l f = absurd f
 some_of (Some t) l f = refl
 
-pub ended : {S : Type 0} (m : PlainMachine S) (from to : S → Type 0) (old new : List (Option LineState)) (slot : ℕ) (l : LineState) (tally : Tally) (before after : Option (List Seen))
-    → ((s : S) → from s → to (m.step s (slot + 1, close))) → line_at old slot ≡ Some l → line_at new slot ≡ None → OthersStay slot old new → Tells before after (Closed slot ∷ [])
+pub ended : {S : Type 0} (m : PlainMachine S) (from to : S → Type 0) (old new : List (Option LineState)) (slot : ℕ) (l : LineState) (tally : Tally)
+    (before after : Option (List Seen))
+    → ((s : S) → from s → to (m.step s (slot + 1, close))) → line_at old slot ≡ Some l → line_at new slot ≡ None → OthersStay slot old new →
+    Tells before after (Closed slot ∷ [])
     → GoesOn m from to old new (Close slot) tally tally before after
 ended m from to old new slot l tally before after stepped was is others tells s turns keeps =
     let here : Fits None (line_at new slot) = subst (λ z. Fits None z) (sym is) tt in
@@ -184,7 +213,10 @@ ended m from to old new slot l tally before after stepped was is others tells s 
           state = m.step keeps.state (slot + 1, close);
           ran = (keeps.state, (keeps.ran, refl));
           stands = stepped keeps.state keeps.stands;
-          served = (some_of (talk slot turns) l (subst (λ z. Fits (talk slot turns) z) was (keeps.fits slot)), (λ n. each_talk (talk n (Ended slot ∷ turns)) (line_at new n) (fits n), keeps.served));
+          served = (
+            some_of (talk slot turns) l (subst (λ z. Fits (talk slot turns) z) was (keeps.fits slot)),
+            (λ n. each_talk (talk n (Ended slot ∷ turns)) (line_at new n) (fits n), keeps.served),
+          );
           fits = fits;
         },
         (refl, (Closed slot ∷ [], (refl, tells))),
@@ -197,7 +229,8 @@ some_talk None None f s = s
 some_talk None (Some l) f s = absurd f
 some_talk (Some t) l f s = refl
 
-pub full_rests : (old : List (Option LineState)) (turns : List Turn) → ((n : ℕ) → Fits (talk n turns) (line_at old n)) → length old ≡ 256 → ((n : ℕ) → n < length old → IsSome (line_at old n)) → MayRest turns Accept
+pub full_rests : (old : List (Option LineState)) (turns : List Turn) → ((n : ℕ) → Fits (talk n turns) (line_at old n)) → length old ≡ 256 →
+    ((n : ℕ) → n < length old → IsSome (line_at old n)) → MayRest turns Accept
 full_rests old turns fits slots full = λ n within. some_talk (talk n turns) (line_at old n) (fits n) (full n (omega (arith, within, slots)))
 
 shut_at : (o : Option Talk) (l : LineState) → Fits o (Some l) → (l.long ≡ true) ⊎ (65536 < length l.waiting) → IsShut o
@@ -207,28 +240,34 @@ shut_at (Some t) l f why = elim why [
   | inr much ↦ inl (subst (λ w. 65536 < length w) (sym (waits_is t l.waiting f.given)) much)
 ]
 
-pub shut_rests : (old : List (Option LineState)) (turns : List Turn) (slot : ℕ) (l : LineState) → ((n : ℕ) → Fits (talk n turns) (line_at old n)) → line_at old slot ≡ Some l → (l.long ≡ true) ⊎ (65536 < length l.waiting) → MayRest turns (Read slot)
+pub shut_rests : (old : List (Option LineState)) (turns : List Turn) (slot : ℕ) (l : LineState) → ((n : ℕ) → Fits (talk n turns) (line_at old n)) →
+    line_at old slot ≡ Some l → (l.long ≡ true) ⊎ (65536 < length l.waiting) → MayRest turns (Read slot)
 shut_rests old turns slot l fits was why = shut_at (talk slot turns) l (subst (λ z. Fits (talk slot turns) z) was (fits slot)) why
 
 empty_at : (o : Option Talk) (l : LineState) → Fits o (Some l) → l.waiting ≡ [] → HasNothing o
 empty_at None l f empty = absurd f
 empty_at (Some t) l f empty = waits_is t l.waiting f.given ∙ empty
 
-pub empty_rests : (old : List (Option LineState)) (turns : List Turn) (slot : ℕ) (l : LineState) → ((n : ℕ) → Fits (talk n turns) (line_at old n)) → line_at old slot ≡ Some l → l.waiting ≡ [] → MayRest turns (Write slot)
+pub empty_rests : (old : List (Option LineState)) (turns : List Turn) (slot : ℕ) (l : LineState) → ((n : ℕ) → Fits (talk n turns) (line_at old n)) →
+    line_at old slot ≡ Some l → l.waiting ≡ [] → MayRest turns (Write slot)
 empty_rests old turns slot l fits was empty = empty_at (talk slot turns) l (subst (λ z. Fits (talk slot turns) z) was (fits slot)) empty
 
 -- where no connection is, nothing is to do
-pub no_read : (old : List (Option LineState)) (turns : List Turn) (slot : ℕ) → ((n : ℕ) → Fits (talk n turns) (line_at old n)) → line_at old slot ≡ None → MayRest turns (Read slot)
+pub no_read : (old : List (Option LineState)) (turns : List Turn) (slot : ℕ) → ((n : ℕ) → Fits (talk n turns) (line_at old n)) → line_at old slot ≡ None →
+    MayRest turns (Read slot)
 no_read old turns slot fits was = subst (λ o. IsShut o) (sym (none_of (talk slot turns) (subst (λ z. Fits (talk slot turns) z) was (fits slot)))) tt
 
-pub no_write : (old : List (Option LineState)) (turns : List Turn) (slot : ℕ) → ((n : ℕ) → Fits (talk n turns) (line_at old n)) → line_at old slot ≡ None → MayRest turns (Write slot)
+pub no_write : (old : List (Option LineState)) (turns : List Turn) (slot : ℕ) → ((n : ℕ) → Fits (talk n turns) (line_at old n)) → line_at old slot ≡ None →
+    MayRest turns (Write slot)
 no_write old turns slot fits was = subst (λ o. HasNothing o) (sym (none_of (talk slot turns) (subst (λ z. Fits (talk slot turns) z) was (fits slot)))) tt
 
-pub no_close : (old : List (Option LineState)) (turns : List Turn) (slot : ℕ) → ((n : ℕ) → Fits (talk n turns) (line_at old n)) → line_at old slot ≡ None → MayRest turns (Close slot)
+pub no_close : (old : List (Option LineState)) (turns : List Turn) (slot : ℕ) → ((n : ℕ) → Fits (talk n turns) (line_at old n)) → line_at old slot ≡ None →
+    MayRest turns (Close slot)
 no_close old turns slot fits was = none_of (talk slot turns) (subst (λ z. Fits (talk slot turns) z) was (fits slot))
 
 -- the slot was free before, and is again; or it has its line again
-pub all_stay : (slot : ℕ) (old taken : List (Option LineState)) → OthersStay slot old taken → line_at old slot ≡ line_at taken slot → (n : ℕ) → line_at taken n ≡ line_at old n
+pub all_stay : (slot : ℕ) (old taken : List (Option LineState)) → OthersStay slot old taken → line_at old slot ≡ line_at taken slot → (n : ℕ) →
+    line_at taken n ≡ line_at old n
 all_stay slot old taken others same n = elim (cases_eq n slot) [
   | inl here ↦ subst (λ k. line_at taken k ≡ line_at old k) (sym here) (sym same)
   | inr other ↦ others n other

@@ -21,8 +21,10 @@ more_bytes bytes more lines rest c = record {
 }
 
 -- more lines are cut from the rest
-pub more_lines : (bytes : List ℕ) (lines others : List (List ℕ)) (rest left : List ℕ) → Cuts bytes lines rest → Cuts rest others left → Cuts bytes (lines ++ others) left
+pub more_lines : (bytes : List ℕ) (lines others : List (List ℕ)) (rest left : List ℕ) → Cuts bytes lines rest → Cuts rest others left →
+    Cuts bytes (lines ++ others) left
 more_lines bytes lines others rest left c d = record {
-  whole = c.whole ∙ (ap (λ z. texts lines ++ z) d.whole ∙ (sym (append_assoc (texts lines) (texts others) left) ∙ ap (λ z. z ++ left) (sym (texts-append lines others))));
+  whole = c.whole ∙ (ap (λ z. texts lines ++ z) d.whole ∙ (sym (append_assoc (texts lines) (texts others) left)
+      ∙ ap (λ z. z ++ left) (sym (texts-append lines others))));
   each = all_lines lines others c.each d.each;
 }

@@ -7,7 +7,8 @@ use Rattle.line_cut.specs.Lines.{ended, IsLine}
 behind : (xs : List ℕ) (s e m : ℕ) → s ≤ e → m ≤ e - s → take (e - (s + m)) (drop (s + m) xs) ≡ drop m (take (e - s) (drop s xs))
 behind xs s e m order room =
     let split : e - s ≡ m + (e - (s + m)) = omega arith in
-    let inner : drop m (take (e - s) (drop s xs)) ≡ take (e - (s + m)) (drop m (drop s xs)) = subst (λ k. drop m (take k (drop s xs)) ≡ take (e - (s + m)) (drop m (drop s xs))) (sym split) (drop-take m (e - (s + m)) (drop s xs)) in
+    let inner : drop m (take (e - s) (drop s xs)) ≡ take (e - (s + m)) (drop m (drop s xs)) =
+    subst (λ k. drop m (take k (drop s xs)) ≡ take (e - (s + m)) (drop m (drop s xs))) (sym split) (drop-take m (e - (s + m)) (drop s xs)) in
     sym (inner ∙ ap (take (e - (s + m))) (drop-drop m s xs))
 
 -- the line at its place in the buffer, and what is held without it and its line feed
@@ -34,14 +35,18 @@ lent_at xs s e n order within room is whole line here =
 
 -- the same, as the code reads its buffer
 pub lent : (xs first second held : List ℕ) (s e n : ℕ) → first ≡ xs → second ≡ xs → take (e - s) (drop s xs) ≡ held → s ≤ e → e ≤ length xs
-    → IsLine (take n (take (e - s) (drop s first))) → n < length (take (e - s) (drop s first)) → take (e - s) (drop s first) ≡ ended (take n (take (e - s) (drop s first))) ++ drop (n + 1) (take (e - s) (drop s first))
+    → IsLine (take n (take (e - s) (drop s first))) → n < length (take (e - s) (drop s first)) → take (e - s) (drop s first)
+    ≡ ended (take n (take (e - s) (drop s first))) ++ drop (n + 1) (take (e - s) (drop s first))
     → (take (e - (s + n + 1)) (drop (s + n + 1) xs) ≡ drop (length (take (s + n - s) (drop s second)) + 1) held)
-    × (IsLine (take (s + n - s) (drop s second)) × (held ≡ ended (take (s + n - s) (drop s second)) ++ drop (length (take (s + n - s) (drop s second)) + 1) held))
+    × (IsLine (take (s + n - s) (drop s second)) × (held ≡ ended (take (s + n - s) (drop s second))
+    ++ drop (length (take (s + n - s) (drop s second)) + 1) held))
 lent xs first second held s e n is is' view order within fits enough whole =
     let width : s + n - s ≡ n = omega arith in
     let line : take (s + n - s) (drop s second) ≡ take n (drop s xs) = ap (λ k. take k (drop s second)) width ∙ ap (λ z. take n (drop s z)) is' in
     let fits' = subst (λ z. IsLine (take n (take (e - s) (drop s z)))) is fits in
     let enough' = subst (λ z. n < length (take (e - s) (drop s z))) is enough in
     let whole' = subst (λ z. take (e - s) (drop s z) ≡ ended (take n (take (e - s) (drop s z))) ++ drop (n + 1) (take (e - s) (drop s z))) is whole in
-    subst (λ h. (take (e - (s + n + 1)) (drop (s + n + 1) xs) ≡ drop (length (take (s + n - s) (drop s second)) + 1) h) × (IsLine (take (s + n - s) (drop s second)) × (h ≡ ended (take (s + n - s) (drop s second)) ++ drop (length (take (s + n - s) (drop s second)) + 1) h))) view
+    subst (λ h. (take (e - (s + n + 1)) (drop (s + n + 1) xs) ≡ drop (length (take (s + n - s) (drop s second)) + 1) h)
+    × (IsLine (take (s + n - s) (drop s second)) × (h ≡ ended (take (s + n - s) (drop s second))
+    ++ drop (length (take (s + n - s) (drop s second)) + 1) h))) view
     (lent_at xs s e n order within enough' fits' whole' (take (s + n - s) (drop s second)) line)

@@ -1,5 +1,6 @@
 -- Bytes without a line feed.
-use Rattle.std.proofs.Common.{◌≡◌, ◌≢◌, ℕ, ◌+◌, ◌<◌, ◌≤◌, ◌-◌, List, [], ◌∷◌, ◌++◌, length, take, drop, get_or, eqb, refl, sym, ap, ◌∙◌, subst, inl, inr, arith, append_assoc}
+use Rattle.std.proofs.Common.{◌≡◌, ◌≢◌, ℕ, ◌+◌, ◌<◌, ◌≤◌, ◌-◌, List, [], ◌∷◌, ◌++◌, length, take, drop, get_or, eqb, refl, sym, ap, ◌∙◌, subst, inl, inr}
+use Rattle.std.proofs.Common.{arith, append_assoc}
 use Rattle.std.proofs.lemmas.List.{length-append, get_or-take}
 use Rattle.std.proofs.Math.ListN.{get_or-append}
 use Rattle.line_cut.specs.Lines.{HasNoFeed, IsLine, IsLong, IsEnd, ended}
@@ -64,5 +65,8 @@ same_line (x ∷ line) (y ∷ other) rest left p q same =
 
 -- a line that is too long stays so when more bytes come
 pub long_more : (bytes more : List ℕ) → IsLong bytes → IsLong (bytes ++ more)
-long_more bytes more long =
-    (omega (arith, length-append bytes more, long.0), λ place within is. long.1 place within (sym (get_or-append bytes more 0 place (omega (arith, long.0, within))) ∙ is))
+long_more bytes more long = (
+  omega (arith, length-append bytes more, long.0),
+  λ place within is. long.1 place within
+      (sym (get_or-append bytes more 0 place (omega (arith, long.0, within))) ∙ is),
+)

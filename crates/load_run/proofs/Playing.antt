@@ -1,5 +1,6 @@
 -- What acts do, one more; and what is told by a reply.
-use Rattle.std.proofs.Common.{◌≡◌, ◌∙◌, ℕ, zero, suc, ◌+◌, ◌<◌, List, [], ◌∷◌, Result, length, take, get_or, refl, ap, sym, subst, arith, add-one, true, false, is_some, if◌then◌else◌}
+use Rattle.std.proofs.Common.{◌≡◌, ◌∙◌, ℕ, zero, suc, ◌+◌, ◌<◌, List, [], ◌∷◌, Result, length, take, get_or, refl, ap, sym, subst, arith, add-one, true}
+use Rattle.std.proofs.Common.{false, is_some, if◌then◌else◌}
 use Rattle.std.proofs.lemmas.Result.{IfOk-weaker}
 use Rattle.tardis_base.specs.declared.requests.Request.{Request}
 use Rattle.tardis_base.specs.declared.replies.Reply.{Reply}
@@ -21,7 +22,8 @@ one_past (y ∷ ys) (suc k) x act play lt is = one_past ys k x act (act y play) 
 
 pub one_further : {A : Type 0} (xs : List A) (k : ℕ) (x : A) (act : A → Act) (play : Play) → k < length xs → x ≡ get_or xs k x →
     each_of (take (k + 1) xs) act play ≡ act x (each_of (take k xs) act play)
-one_further xs k x act play lt is = subst (λ m. each_of (take m xs) act play ≡ act x (each_of (take k xs) act play)) (sym (add-one k)) (one_past xs k x act play lt is)
+one_further xs k x act play lt is = subst (λ m. each_of (take m xs) act play ≡ act x (each_of (take k xs) act play)) (sym (add-one k))
+    (one_past xs k x act play lt is)
 
 pub counted_as : (r s : Reply) (a b : Counts) → r ≡ s → a ≡ b → counted r a ≡ counted s b
 counted_as r s a b e f = ap (λ x. counted x a) e ∙ ap (counted s) f
@@ -38,13 +40,16 @@ kept_in _ = 0
 
 -- a question, and what its reply tells
 pub then_told : {A E : Type 0} (old mid new : Held) (r : Result A E) (n : ℕ) (q : Request) (reply : Reply) (next : Reply → Act) →
-    ((play : Play) → Plays old play → Plays mid (asks n q play) × (reply ≡ reply_to n q play)) → Does mid new r (next reply) → Does old new r (asks_then n q next)
+    ((play : Play) → Plays old play → Plays mid (asks n q play) × (reply ≡ reply_to n q play)) → Does mid new r (next reply) →
+    Does old new r (asks_then n q next)
 then_told old mid new r n q reply next p d =
-    IfOk-weaker r (λ x. (play : Play) → Plays mid play → Plays new (next reply play)) (λ x. (play : Play) → Plays old play → Plays new (asks_then n q next play))
+    IfOk-weaker r (λ x. (play : Play) → Plays mid play → Plays new (next reply play))
+    (λ x. (play : Play) → Plays old play → Plays new (asks_then n q next play))
     (λ x f play h. subst (λ s. Plays new (next s (asks n q play))) (p play h).1 (f (asks n q play) (p play h).0)) d
 
 -- a word, and what it tells
-pub then_drawn : {A E : Type 0} (old mid new : Held) (r : Result A E) (w : ℕ) (next : ℕ → Act) → Drew old mid w → Does mid new r (next w) → Does old new r (draws next)
+pub then_drawn : {A E : Type 0} (old mid new : Held) (r : Result A E) (w : ℕ) (next : ℕ → Act) → Drew old mid w → Does mid new r (next w) →
+    Does old new r (draws next)
 then_drawn old mid new r w next p d =
     IfOk-weaker r (λ x. (play : Play) → Plays mid play → Plays new (next w play)) (λ x. (play : Play) → Plays old play → Plays new (draws next play))
     (λ x f play h. subst (λ s. Plays new (next s (drawn play))) (p play h).1 (f (drawn play) (p play h).0)) d

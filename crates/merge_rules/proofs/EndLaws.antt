@@ -36,7 +36,8 @@ module _ (site : Site) (n : ℕ) where
       r : Record
       r = next_record site xs ws
 
-      go : (over : Bool) (grown : Option Refusal) → EndsWell site (ended_as (unless site (refuse over SeqEnd ∷ refuse_found (λ f. f) grown ∷ []) (committed site n r)))
+      go : (over : Bool) (grown : Option Refusal) → EndsWell site
+          (ended_as (unless site (refuse over SeqEnd ∷ refuse_found (λ f. f) grown ∷ []) (committed site n r)))
       go true grown = record { other = λ e. (cc); stays = λ none. refl }
       go false (Some refusal) = record { other = λ e. (cc); stays = λ none. refl }
       go false None = record { other = λ e. (cc); stays = λ none. absurd (none r.id refl) }
@@ -44,7 +45,11 @@ module _ (site : Site) (n : ℕ) where
   values-well : (a b : StateId) (value : List ℕ → Option Write) (ks : List (List ℕ)) → EndsWell site (merge_values site n a b value ks)
   values-well a b value ks = go (unmerged value ks)
     where
-      go : (o : Option (List ℕ)) → EndsWell site (elim o as (λ v. AutoAnswer) [ Some k ↦ (site, Unmerged k) | None ↦ ended_as (commit_below site n (a ∷ b ∷ []) (values value ks) []) ])
+      go : (o : Option (List ℕ)) → EndsWell site (elim o as (λ v. AutoAnswer) [
+        | Some k ↦ (site, Unmerged k)
+        | None ↦
+            ended_as (commit_below site n (a ∷ b ∷ []) (values value ks) [])
+      ])
       go (Some k) = record { other = λ e. (cc); stays = λ none. refl }
       go None = commit-well (a ∷ b ∷ []) (values value ks)
 
@@ -59,7 +64,8 @@ module _ (site : Site) (n : ℕ) where
       go false = values-well a b (value_of rules site.dag a b) ks
 
   two-well : (rules : List PrefixRule) (x y : StateId) (more : List StateId) → EndsWell site (auto_over site n rules (x ∷ y ∷ more))
-  two-well rules x y more = refused-well (begin_refusal site n) (if is_before x y then merge_both site n rules x y else merge_both site n rules y x) (go (is_before x y))
+  two-well rules x y more = refused-well (begin_refusal site n) (if is_before x y then merge_both site n rules x y else merge_both site n rules y x)
+      (go (is_before x y))
     where
       go : (t : Bool) → EndsWell site (if t then merge_both site n rules x y else merge_both site n rules y x)
       go true = both-well rules x y

@@ -1,5 +1,6 @@
 -- The value of a rule is the same with the sides exchanged.
-use Rattle.std.proofs.Common.{◌≡◌, ℕ, Bool, true, false, not, ◌==◌, ◌&&◌, ◌||◌, nat_lt, List, [], ◌∷◌, Option, Some, None, ap, sym, ◌∙◌, refl, arith, ap₂, if◌then◌else◌}
+use Rattle.std.proofs.Common.{◌≡◌, ℕ, Bool, true, false, not, ◌==◌, ◌&&◌, ◌||◌, nat_lt, List, [], ◌∷◌, Option, Some, None, ap, sym, ◌∙◌, refl, arith, ap₂}
+use Rattle.std.proofs.Common.{if◌then◌else◌}
 use Rattle.std.proofs.Math.IntN.{+ℤ_comm}
 use Rattle.std.proofs.lemmas.Bool.Decides.{nat_tests}
 use Rattle.std.specs.Bool.{then_some}
@@ -53,7 +54,8 @@ set-ascends Delete xs e = some-items [] xs true refl e
 set-ascends (Put []) xs e = some-items [] xs true refl e
 set-ascends (Put (c ∷ cs)) xs e = some-items (parts (c ∷ cs)) xs (are_items (parts (c ∷ cs))) refl e
 
-united-exchanged : (a b : Option (List (List ℕ))) → ((xs : List (List ℕ)) → a ≡ Some xs → are_ascending_keys xs ≡ true) → ((ys : List (List ℕ)) → b ≡ Some ys → are_ascending_keys ys ≡ true) →
+united-exchanged : (a b : Option (List (List ℕ))) → ((xs : List (List ℕ)) → a ≡ Some xs → are_ascending_keys xs ≡ true) →
+    ((ys : List (List ℕ)) → b ≡ Some ys → are_ascending_keys ys ≡ true) →
     united a b ≡ united b a
 united-exchanged None None h g = refl
 united-exchanged None (Some ys) h g = refl

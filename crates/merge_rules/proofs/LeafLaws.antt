@@ -1,6 +1,8 @@
 -- Leaves may be merged: they are known, apart and not closed, and where two of them part is kept.
-use Rattle.std.proofs.Common.{◌≡◌, ◌≢◌, ℕ, zero, suc, ◌-◌, ◌≤◌, ◌<◌, Bool, true, false, ◌&&◌, ◌==◌, not, List, [], ◌∷◌, ◌++◌, length, filter, nat_lt, Option, Some, IsTrue, IsFalse, unwrap_or, slice_get, inl, inr, refl, sym, subst, ◌∙◌, arith, lt-ltb, eq-eqb, ltb-false}
-use Rattle.std.proofs.lemmas.Bool.{and_parts, and_from, or_parts, or_from, or_left, or_right, cases_Bool, both_ways, not-true, not_from_false, false_from_ne_true}
+use Rattle.std.proofs.Common.{◌≡◌, ◌≢◌, ℕ, zero, suc, ◌-◌, ◌≤◌, ◌<◌, Bool, true, false, ◌&&◌, ◌==◌, not, List, [], ◌∷◌, ◌++◌, length, filter, nat_lt, Option}
+use Rattle.std.proofs.Common.{Some, IsTrue, IsFalse, unwrap_or, slice_get, inl, inr, refl, sym, subst, ◌∙◌, arith, lt-ltb, eq-eqb, ltb-false}
+use Rattle.std.proofs.lemmas.Bool.{and_parts, and_from, or_parts, or_from, or_left, or_right, cases_Bool, both_ways, not-true, not_from_false}
+use Rattle.std.proofs.lemmas.Bool.{false_from_ne_true}
 use Rattle.std.specs.List.{list_any, list_all}
 use Rattle.tardis_base.specs.declared.ids.StateId.{StateId}
 use Rattle.tardis_base.specs.declared.records.Record.{Record}
@@ -39,14 +41,18 @@ before-or-behind x y f n =
       | inr g ↦ or_right (nat_lt y.site x.site) (y.site == x.site && nat_lt y.sequence x.sequence) (level a.0 a.1 g)
     ]
   where
-    level : IsFalse (nat_lt x.site y.site) → IsFalse (x.site == y.site && nat_lt x.sequence y.sequence) → IsFalse (nat_lt y.site x.site) → IsTrue (y.site == x.site && nat_lt y.sequence x.sequence)
+    level : IsFalse (nat_lt x.site y.site) → IsFalse (x.site == y.site && nat_lt x.sequence y.sequence) → IsFalse (nat_lt y.site x.site) →
+        IsTrue (y.site == x.site && nat_lt y.sequence x.sequence)
     level p q g =
         let l : y.site ≤ x.site = ltb-false x.site y.site p in
         let m : x.site ≤ y.site = ltb-false y.site x.site g in
         let e : y.site ≡ x.site = omega arith in
-        let up : IsFalse (nat_lt x.sequence y.sequence) = false_from_ne_true (nat_lt x.sequence y.sequence) (λ t. both_ways (x.site == y.site && nat_lt x.sequence y.sequence) q (and_from (x.site == y.site) (nat_lt x.sequence y.sequence) (eq-eqb x.site y.site (sym e)) t)) in
+        let up : IsFalse (nat_lt x.sequence y.sequence) = false_from_ne_true (nat_lt x.sequence y.sequence)
+        (λ t. both_ways (x.site == y.site && nat_lt x.sequence y.sequence) q
+        (and_from (x.site == y.site) (nat_lt x.sequence y.sequence) (eq-eqb x.site y.site (sym e)) t)) in
         let le : y.sequence ≤ x.sequence = ltb-false x.sequence y.sequence up in
-        let ne : x.sequence ≢ y.sequence = λ d. both_ways (same_id x y) n (and_from (x.site == y.site) (x.sequence == y.sequence) (eq-eqb x.site y.site (sym e)) (eq-eqb x.sequence y.sequence d)) in
+        let ne : x.sequence ≢ y.sequence = λ d. both_ways (same_id x y) n
+        (and_from (x.site == y.site) (x.sequence == y.sequence) (eq-eqb x.site y.site (sym e)) (eq-eqb x.sequence y.sequence d)) in
         let lt : y.sequence < x.sequence = omega arith in
         and_from (y.site == x.site) (nat_lt y.sequence x.sequence) (eq-eqb y.site x.site e) (lt-ltb y.sequence x.sequence lt)
 
@@ -108,7 +114,8 @@ module _ (site : Site) (sound : IsSound site) (x y : StateId) (more : List State
 
   first-differ : IsFalse (same_id x y)
   first-differ =
-      let all = subst (λ zs. IsTrue (are_distinct zs)) are (filtered-distinct (is_leaf site.dag) (arrived site.dag) (arrived-distinct site.dag (dag-grows site.dag sound.dag))) in
+      let all = subst (λ zs. IsTrue (are_distinct zs)) are (filtered-distinct (is_leaf site.dag) (arrived site.dag)
+      (arrived-distinct site.dag (dag-grows site.dag sound.dag))) in
       let out = not-true (is_among x (y ∷ more)) (and_parts (not (is_among x (y ∷ more))) (are_distinct (y ∷ more)) all).0 in
       (or_parts (same_id x y) (is_among x more) out).0
 
@@ -144,7 +151,8 @@ module _ (site : Site) (sound : IsSound site) where
   leaf-isnt_closed : (z : StateId) → IsKnownLeaf site.dag z → IsFalse (is_closed site.dag site.floors z)
   leaf-isnt_closed z leaf =
       false_from_ne_true (is_closed site.dag site.floors z) (λ closed.
-      both_ways (is_proper_ancestor site.dag z floor) (not-true (is_proper_ancestor site.dag z floor) (leaf-under_floor z leaf)) (closed-above_own site z sound closed))
+      both_ways (is_proper_ancestor site.dag z floor) (not-true (is_proper_ancestor site.dag z floor) (leaf-under_floor z leaf))
+      (closed-above_own site z sound closed))
 
   floor-under_itself : IsUnderFloor site.dag site.floors floor
   floor-under_itself =
@@ -171,7 +179,8 @@ module _ (site : Site) (sound : IsSound site) where
         (leaf-isnt_above y x two.second two.first.known (λ e. two.differ (sym e))) in
         let none : IsFalse (list_any (are_comparable site.dag x) (y ∷ [])) = or_from (are_comparable site.dag x y) false neither refl in
         apart-means-incomparable site.dag x (y ∷ [])
-        ∙ and_from (not (list_any (are_comparable site.dag x) (y ∷ []))) (are_apart site.dag (y ∷ [])) (not_from_false (list_any (are_comparable site.dag x) (y ∷ [])) none) refl
+        ∙ and_from (not (list_any (are_comparable site.dag x) (y ∷ []))) (are_apart site.dag (y ∷ []))
+        (not_from_false (list_any (are_comparable site.dag x) (y ∷ [])) none) refl
 
     pub two-free : (z : StateId) → IsTrue (is_among z (x ∷ y ∷ [])) → IsFalse (is_closed site.dag site.floors z)
     two-free z m = elim (among-cases z x (y ∷ []) m) [
@@ -194,4 +203,5 @@ module _ (site : Site) (sound : IsSound site) where
     fork-is_kept p e =
         let stays = stays-kept site.dag site.floors site.collected sound.dag sound.collected in
         let at = filtered-passes (is_fork_point site.dag (x ∷ y ∷ [])) (arrived site.dag) p (subst (λ zs. IsTrue (is_among p zs)) (sym e) (among-first p [])) in
-        stays.fork_points_stay p x floor (y ∷ []) (sound-own_floor site sound).known floor-under_itself two-known two-admitted (arrived-is_known site.dag p at.0) at.1
+        stays.fork_points_stay p x floor (y ∷ []) (sound-own_floor site sound).known floor-under_itself two-known two-admitted
+        (arrived-is_known site.dag p at.0) at.1

@@ -1,5 +1,6 @@
 -- Text is parted at its commas.
-use Rattle.std.proofs.Common.{Bor, Option, Some, None, is_some, not, ◌≡◌, ℕ, suc, ◌+◌, ◌-◌, ◌<◌, ◌≤◌, Bool, true, false, ◌==◌, List, [], ◌∷◌, length, take, drop, slice_index, ap, sym, ◌∙◌, refl, arith, if◌then◌else◌}
+use Rattle.std.proofs.Common.{Bor, Option, Some, None, is_some, not, ◌≡◌, ℕ, suc, ◌+◌, ◌-◌, ◌<◌, ◌≤◌, Bool, true, false, ◌==◌, List, [], ◌∷◌, length, take}
+use Rattle.std.proofs.Common.{drop, slice_index, ap, sym, ◌∙◌, refl, arith, if◌then◌else◌}
 use Rattle.std.proofs.lemmas.Bool.{ne_eqb}
 use Rattle.std.proofs.lemmas.List.{take_rest}
 use Rattle.std.proofs.lemmas.List.Sums.{position_or_len_is}
@@ -37,13 +38,15 @@ parts-none (x ∷ xs) none =
     ∙ ap (with_byte x) (parts-none xs (λ j low high. none (suc j) (omega arith) (omega (arith, high))))
 
 -- the place of the first `=`
-pub equals-at : (k : ℕ) (xs : List ℕ) → k < length xs → ((j : ℕ) → 0 ≤ j → j < k → (slice_index xs j == 61) ≡ true → ⊥) → (slice_index xs k == 61) ≡ true → position_or_len (λ c. c == 61) xs ≡ k
+pub equals-at : (k : ℕ) (xs : List ℕ) → k < length xs → ((j : ℕ) → 0 ≤ j → j < k → (slice_index xs j == 61) ≡ true → ⊥) → (slice_index xs k == 61) ≡ true →
+    position_or_len (λ c. c == 61) xs ≡ k
 equals-at k xs inside none hit =
     position_or_len_is (λ c. c == 61) xs k 0 (omega (arith, inside)) (λ j below. differs (slice_index xs j == 61) (none j (omega arith) below)) (λ below. hit)
 
 no-equals : (xs : List ℕ) → ((j : ℕ) → 0 ≤ j → j < length xs → (slice_index xs j == 61) ≡ true → ⊥) → position_or_len (λ c. c == 61) xs ≡ length xs
 no-equals xs none =
-    position_or_len_is (λ c. c == 61) xs (length xs) 0 (omega arith) (λ j below. differs (slice_index xs j == 61) (none j (omega arith) below)) (λ below. absurd (omega (arith, below)))
+    position_or_len_is (λ c. c == 61) xs (length xs) 0 (omega arith) (λ j below. differs (slice_index xs j == 61) (none j (omega arith) below))
+    (λ below. absurd (omega (arith, below)))
 
 pub behind-equals : (k : ℕ) (xs : List ℕ) → k < length xs → ((j : ℕ) → 0 ≤ j → j < k → (slice_index xs j == 61) ≡ true → ⊥) → (slice_index xs k == 61) ≡ true →
     take (length xs - (k + 1)) (drop (k + 1) xs) ≡ after_first (λ c. c == 61) xs

@@ -13,7 +13,8 @@ fits (pos n) h = record { sfits = ltb-true n (2 ^ 63) h }
 fits (negsuc n) h = record { sfits = ltb-true n (2 ^ 63) h }
 
 -- the decimal form of a number that fits is read
-pub is-read : {E : Type 0} (text : List ℕ) (r : Result ℤ E) (e : E) → ParsesSigned w64 10 text r → r ≡ Err e → (n : ℤ) → IsTrue (is_i64 n) → text ≡ signed_decimal n → ⊥
+pub is-read : {E : Type 0} (text : List ℕ) (r : Result ℤ E) (e : E) → ParsesSigned w64 10 text r → r ≡ Err e → (n : ℤ) → IsTrue (is_i64 n) →
+    text ≡ signed_decimal n → ⊥
 is-read text r e parses failed n h is =
     let read : r ≡ Ok n = parse-signed_decimal w64 n text r (fits n h) (fits n h).sfits is parses in
     (cc)

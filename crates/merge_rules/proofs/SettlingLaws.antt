@@ -1,5 +1,6 @@
 -- Two states are settled.
-use Rattle.std.proofs.Common.{◌≡◌, ℕ, suc, ◌<◌, ◌≤◌, true, false, ◌==◌, List, [], ◌∷◌, length, filter, take, min, nat_lt, Option, Some, None, is_some, Result, Ok, Err, ap, ap₂, ◌∙◌, subst, refl, arith, if◌then◌else◌, lt-ltb}
+use Rattle.std.proofs.Common.{◌≡◌, ℕ, suc, ◌<◌, ◌≤◌, true, false, ◌==◌, List, [], ◌∷◌, length, filter, take, min, nat_lt, Option, Some, None, is_some, Result}
+use Rattle.std.proofs.Common.{Ok, Err, ap, ap₂, ◌∙◌, subst, refl, arith, if◌then◌else◌, lt-ltb}
 use Rattle.std.proofs.lemmas.Bool.{and_parts, both_ways, ne_eqb, cond-true}
 use Rattle.std.proofs.lemmas.Bool.Decides.{nat_tests}
 use Rattle.std.specs.List.{list_all}
@@ -35,8 +36,10 @@ two-arent-one n = ne_eqb (suc (suc n)) 1 (λ z. omega arith)
 only-many : (p q : StateId) (ps : List StateId) → ◌≡◌ {A = Option StateId} (only (length (p ∷ q ∷ ps)) (take 256 (p ∷ q ∷ ps))) None
 only-many p q ps = ap (λ t. if t then Some p else None) (two-arent-one (length ps))
 
-pub parted-at : (table : Table) (rs : List Record) (ks forks : List StateId) (state : StateId) (slot : Option Slot) → Some state ≡ only (length forks) (take 256 forks) →
-    IfSome slot (λ s. id_at table s ≡ Some state) → (slot ≡ None → is_kept rs ks state ≡ false) → ((p : StateId) → forks ≡ p ∷ [] → is_kept rs ks p ≡ true) → IsParting table forks slot
+pub parted-at : (table : Table) (rs : List Record) (ks forks : List StateId) (state : StateId) (slot : Option Slot) →
+    Some state ≡ only (length forks) (take 256 forks) →
+    IfSome slot (λ s. id_at table s ≡ Some state) → (slot ≡ None → is_kept rs ks state ≡ false) → ((p : StateId) → forks ≡ p ∷ [] → is_kept rs ks p ≡ true)
+    → IsParting table forks slot
 parted-at table rs ks [] state slot e found none kept = absurd (cc)
 parted-at table rs ks (p ∷ []) state None e found none kept =
     let same : state ≡ p = (cc) in
@@ -53,7 +56,8 @@ unparted table (p ∷ q ∷ ps) e = refl
 
 -- ===== The value of a key
 
-pub known-base : (store : Store) (rs : List Record) (ks : List StateId) → StoreStands store rs ks → (forks : List StateId) (parting : Option Slot) (k : List ℕ) (began : Option (StateId × Write)) →
+pub known-base : (store : Store) (rs : List Record) (ks : List StateId) → StoreStands store rs ks →
+    (forks : List StateId) (parting : Option Slot) (k : List ℕ) (began : Option (StateId × Write)) →
     IsParting store.table forks parting → BeganAs store parting k (Ok began) → (if is_some parting then written_base began else Unknown) ≡ base_at rs k forks
 known-base store rs ks stands [] None k began parts h = refl
 known-base store rs ks stands [] (Some s) k began parts h = absurd (cc)
@@ -62,7 +66,8 @@ known-base store rs ks stands (p ∷ []) (Some s) k began parts h = ap written_b
 known-base store rs ks stands (p ∷ q ∷ ps) None k began parts h = refl
 known-base store rs ks stands (p ∷ q ∷ ps) (Some s) k began parts h = absurd (cc)
 
-pub value-is : (rules : List PrefixRule) (rs : List Record) (x y : StateId) (k : List ℕ) (rule : Rule) (base : Base) (left right : Option (StateId × Write)) → rule ≡ rule_for rules k →
+pub value-is : (rules : List PrefixRule) (rs : List Record) (x y : StateId) (k : List ℕ) (rule : Rule) (base : Base)
+    (left right : Option (StateId × Write)) → rule ≡ rule_for rules k →
     base ≡ base_at rs k (fork_points rs (x ∷ y ∷ [])) → left ≡ read rs k x → right ≡ read rs k y → (r : Result (Option Write) OutOfMemory) →
     IfOk r (λ v. v ≡ merged_sides rule base left right) → IfOk r (λ v. v ≡ value_of rules rs x y k)
 value-is rules rs x y k rule base left right er eb el em r h =
@@ -100,7 +105,8 @@ take-over (suc n) (x ∷ xs) h = ap (λ ys. x ∷ ys) (take-over n xs (omega (ar
 pub shown-all : (ks shown : List (List ℕ)) → length ks ≤ 64 → shown ≡ take 256 ks → shown ≡ ks
 shown-all ks shown h e = e ∙ take-over 256 ks (omega (arith, h))
 
-pub settled : (rules : List PrefixRule) (rs : List Record) (x y : StateId) (keys : List (List ℕ)) (r : Result Settled OutOfMemory) → keys ≡ conflict_keys rs (x ∷ y ∷ []) →
+pub settled : (rules : List PrefixRule) (rs : List Record) (x y : StateId) (keys : List (List ℕ)) (r : Result Settled OutOfMemory) →
+    keys ≡ conflict_keys rs (x ∷ y ∷ []) →
     nat_lt 64 (length (conflict_keys rs (x ∷ y ∷ []))) ≡ false → IfOk r (IsValued (value_of rules rs x y) keys) → IfOk r (SettledAs rules rs x y)
 settled rules rs x y keys (Err fault) e narrow h = h
 settled rules rs x y keys (Ok (Wide n)) e narrow h = absurd (h)

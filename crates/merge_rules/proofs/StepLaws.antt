@@ -1,5 +1,6 @@
 -- What an auto step comes to, part by part.
-use Rattle.std.proofs.Common.{◌≡◌, ℕ, false, List, [], ◌∷◌, length, map, min, nat_lt, Option, Some, None, Result, Ok, Err, IsTrue, inl, inr, refl, sym, ap, ap₂, subst, ◌∙◌, ltb-false}
+use Rattle.std.proofs.Common.{◌≡◌, ℕ, false, List, [], ◌∷◌, length, map, min, nat_lt, Option, Some, None, Result, Ok, Err, IsTrue, inl, inr, refl, sym, ap}
+use Rattle.std.proofs.Common.{ap₂, subst, ◌∙◌, ltb-false}
 use Rattle.std.proofs.lemmas.Bool.{cases_Bool, cond-true, cond-false}
 use Rattle.std.proofs.lemmas.Option.{same_Some}
 use Rattle.std.specs.List.{list_all}
@@ -79,7 +80,8 @@ at-leaves table site sound slots first = go (leaves site.dag) refl first
     ]
 
 -- where there aren't two, nothing is merged
-pub no-leaves : (table : Table) (site : Site) (n : ℕ) (rules : List PrefixRule) → AreFirst table (leaves site.dag) None → auto_step site n rules ≡ (site, Single)
+pub no-leaves : (table : Table) (site : Site) (n : ℕ) (rules : List PrefixRule) → AreFirst table (leaves site.dag) None → auto_step site n rules
+    ≡ (site, Single)
 no-leaves table site n rules first = go (leaves site.dag) first
   where
     go : (xs : List StateId) → AreFirst table xs None → auto_over site n rules xs ≡ (site, Single)
@@ -111,7 +113,8 @@ module _ (table : Table) (site : Site) (sound : IsSound site) (slots : Slot × S
           ∙ ap (λ (c : ℕ). (site, Wide c)) (sym is)
 
       few-keys : nat_lt 64 (length keys) ≡ false → auto_step site n rules ≡ merge_values site n at.x at.y value keys
-      few-keys few = step-merges ∙ cond-false (nat_lt 64 (length keys)) (site, Wide (min (length keys) 4294967295)) (merge_values site n at.x at.y value keys) few
+      few-keys few = step-merges ∙ cond-false (nat_lt 64 (length keys)) (site, Wide (min (length keys) 4294967295))
+          (merge_values site n at.x at.y value keys) few
 
       abbrev valued : Option (List ℕ) → AutoAnswer
       valued o = elim o as (λ v. AutoAnswer) [ Some k ↦ (site, Unmerged k) | None ↦ ended_as (commit_below site n (at.x ∷ at.y ∷ []) (values value keys) []) ]
@@ -124,19 +127,26 @@ module _ (table : Table) (site : Site) (sound : IsSound site) (slots : Slot × S
       merges-below ws = go (entry_of n site.sessions) (entry_of n site.txns) free
         where
           go : (s : Option Session) (t : Option Txn) →
-              ◌≡◌ {A = Option Refusal} None (elim s as (λ v. Option Refusal) [ None ↦ Some NotOpen | Some u ↦ elim t as (λ v. Option Refusal) [ None ↦ None | Some v ↦ Some TxnOpen ] ]) →
-              given s (refused site NotOpen) (λ u. given t (commit_below site n (at.x ∷ at.y ∷ []) ws []) (λ v. refused site TxnOpen)) ≡ commit_below site n (at.x ∷ at.y ∷ []) ws []
+              ◌≡◌ {A = Option Refusal} None (elim s as (λ v. Option Refusal) [
+                | None ↦ Some NotOpen
+                | Some u ↦
+                    elim t as (λ v. Option Refusal) [ None ↦ None | Some v ↦ Some TxnOpen ]
+              ]) →
+              given s (refused site NotOpen) (λ u. given t (commit_below site n (at.x ∷ at.y ∷ []) ws []) (λ v. refused site TxnOpen))
+              ≡ commit_below site n (at.x ∷ at.y ∷ []) ws []
           go None t e = absurd (cc)
           go (Some s) None e = refl
           go (Some s) (Some t) e = absurd (cc)
 
-      pub step-joins : (ws : List KeyWrite) → SettledAs rules site.dag at.x at.y (Values ws) → auto_step site n rules ≡ ended_as (merge_in_one site n (at.x ∷ at.y ∷ []) ws)
+      pub step-joins : (ws : List KeyWrite) → SettledAs rules site.dag at.x at.y (Values ws) → auto_step site n rules
+          ≡ ended_as (merge_in_one site n (at.x ∷ at.y ∷ []) ws)
       step-joins ws (few, none, is) =
           few-keys few ∙ ap valued none ∙ ap (λ vs. ended_as (commit_below site n (at.x ∷ at.y ∷ []) vs [])) (sym is) ∙ ap ended_as (sym (merges-below ws))
 
   -- the values may be committed
   pub values-may-be-merged : (rules : List PrefixRule) (ws : List KeyWrite) → SettledAs rules site.dag at.x at.y (Values ws) →
-      IsTrue (list_all (λ (w : KeyWrite). is_key w.0 && is_write w.1) ws) → (x y : StateId) → id_at table slots.0 ≡ Some x → id_at table slots.1 ≡ Some y → MayBeMerged site (x ∷ y ∷ []) ws
+      IsTrue (list_all (λ (w : KeyWrite). is_key w.0 && is_write w.1) ws) → (x y : StateId) → id_at table slots.0 ≡ Some x → id_at table slots.1 ≡ Some y →
+      MayBeMerged site (x ∷ y ∷ []) ws
   values-may-be-merged rules ws (few, none, is) valid x y ex ey =
       let xs = at.x ∷ at.y ∷ [] in
       let ks = conflict_keys site.dag xs in
@@ -158,7 +168,8 @@ module _ (core : Core) (site : Site) (stands : SiteStands core site) (slots : Sl
   pub leaves-at : (table : Table) → table ≡ core.store.table → FirstTwo table (Some slots) → AtLeaves core.store.table site slots
   leaves-at table same first =
       at-leaves core.store.table site stands.1 slots
-      (subst (λ t. AreFirst t (leaves site.dag) (Some slots)) same (first site.dag site.collected (subst (λ t. Stands t site.dag site.collected) (sym same) stands.0.store.table)))
+      (subst (λ t. AreFirst t (leaves site.dag) (Some slots)) same
+      (first site.dag site.collected (subst (λ t. Stands t site.dag site.collected) (sym same) stands.0.store.table)))
 
   -- their conflict keys are settled
   pub settled-at : (at : AtLeaves core.store.table site slots) (store : Store) → store ≡ core.store → (rules : List PrefixRule) (settled : Settled) →
@@ -171,15 +182,18 @@ module _ (core : Core) (site : Site) (stands : SiteStands core site) (slots : Sl
 -- ===== How it ends
 
 -- it ended so, and the site is as before
-pub ended-so : (stands : Site → Type 0) (site : Site) (end : AutoEnd) (answer : AutoAnswer) → answer ≡ (site, end) → stands site → stands answer.0 × (end ≡ answer.1)
+pub ended-so : (stands : Site → Type 0) (site : Site) (end : AutoEnd) (answer : AutoAnswer) → answer ≡ (site, end) → stands site → stands answer.0
+    × (end ≡ answer.1)
 ended-so stands site end answer e there = subst (λ (a : AutoAnswer). stands a.0 × (end ≡ a.1)) (sym e) (there, refl)
 
-pub ended-short : (stands : Site → Type 0) (site : Site) (answer : AutoAnswer) (fault : OutOfMemory) (r : Result AutoEnd OutOfMemory) → IsErrAnd r (λ f. f ≡ fault) → stands site → Ends stands answer site r
+pub ended-short : (stands : Site → Type 0) (site : Site) (answer : AutoAnswer) (fault : OutOfMemory) (r : Result AutoEnd OutOfMemory) →
+    IsErrAnd r (λ f. f ≡ fault) → stands site → Ends stands answer site r
 ended-short stands site answer fault (Ok end) is there = absurd (is)
 ended-short stands site answer fault (Err f) is there = there
 
 -- two states have these names
-pub two-named : (o p : Option StateId) (xs : List StateId) → o ∷ p ∷ [] ≡ map (λ x. Some x) xs → (P : List StateId → Type 0) → ((x y : StateId) → o ≡ Some x → p ≡ Some y → P (x ∷ y ∷ [])) → P xs
+pub two-named : (o p : Option StateId) (xs : List StateId) → o ∷ p ∷ [] ≡ map (λ x. Some x) xs → (P : List StateId → Type 0) →
+    ((x y : StateId) → o ≡ Some x → p ≡ Some y → P (x ∷ y ∷ [])) → P xs
 two-named o p [] e P h = absurd (cc)
 two-named o p (x ∷ []) e P h = absurd (cc)
 two-named o p (x ∷ y ∷ []) e P h = h x y (cc) (cc)

@@ -37,7 +37,8 @@ pub union-nil : (xs : List (List ℕ)) → are_ascending_keys xs ≡ true → un
 union-nil [] h = refl
 union-nil (x ∷ xs) h = ap (with_key x) (union-nil xs (ascending-parts x xs h).1) ∙ with_key-least x xs (behind-first x xs h)
 
-pub union-less : (x : List ℕ) (xs : List (List ℕ)) (y : List ℕ) (ys : List (List ℕ)) → are_ascending_keys (x ∷ xs) ≡ true → are_ascending_keys (y ∷ ys) ≡ true → is_key_before x y ≡ true →
+pub union-less : (x : List ℕ) (xs : List (List ℕ)) (y : List ℕ) (ys : List (List ℕ)) → are_ascending_keys (x ∷ xs) ≡ true → are_ascending_keys (y ∷ ys)
+    ≡ true → is_key_before x y ≡ true →
     union (x ∷ xs) (y ∷ ys) ≡ x ∷ union xs (y ∷ ys)
 union-less x xs y ys h g b =
     with_key-least x (union xs (y ∷ ys))
@@ -61,17 +62,21 @@ union-same x xs ys h = ap (with_key x) (union-first x xs ys (behind-first x xs h
 -- ===== The first item
 
 module _ (l r left right : List (List ℕ)) where
-  pub first-less : (again : List (List ℕ)) (a b : List ℕ) → are_ascending_keys l ≡ true → are_ascending_keys r ≡ true → l ≡ a ∷ left → r ≡ b ∷ right → again ≡ r → slice_cmp nat_cmp a b ≡ Less →
+  pub first-less : (again : List (List ℕ)) (a b : List ℕ) → are_ascending_keys l ≡ true → are_ascending_keys r ≡ true → l ≡ a ∷ left → r ≡ b ∷ right →
+      again ≡ r → slice_cmp nat_cmp a b ≡ Less →
       union l r ≡ a ∷ union left again
   first-less again a b h g el er same less =
-      ap₂ union el er ∙ union-less a left b right (subst (λ z. are_ascending_keys z ≡ true) el h) (subst (λ z. are_ascending_keys z ≡ true) er g) (before-from_Less a b less)
+      ap₂ union el er ∙ union-less a left b right (subst (λ z. are_ascending_keys z ≡ true) el h) (subst (λ z. are_ascending_keys z ≡ true) er g)
+      (before-from_Less a b less)
       ∙ ap (λ z. a ∷ union left z) (sym (same ∙ er))
 
-  pub first-same : (a b : List ℕ) → are_ascending_keys l ≡ true → l ≡ a ∷ left → r ≡ b ∷ right → slice_cmp nat_cmp a b ≡ Equal → union l r ≡ a ∷ union left right
+  pub first-same : (a b : List ℕ) → are_ascending_keys l ≡ true → l ≡ a ∷ left → r ≡ b ∷ right → slice_cmp nat_cmp a b ≡ Equal → union l r ≡ a
+      ∷ union left right
   first-same a b h el er equal =
       ap₂ union el (er ∙ ap (λ z. z ∷ right) (sym (same-from_Equal a b equal))) ∙ union-same a left right (subst (λ z. are_ascending_keys z ≡ true) el h)
 
-  pub first-more : (again : List (List ℕ)) (a b : List ℕ) → are_ascending_keys l ≡ true → l ≡ a ∷ left → r ≡ b ∷ right → again ≡ l → slice_cmp nat_cmp a b ≡ Greater →
+  pub first-more : (again : List (List ℕ)) (a b : List ℕ) → are_ascending_keys l ≡ true → l ≡ a ∷ left → r ≡ b ∷ right → again ≡ l → slice_cmp nat_cmp a b
+      ≡ Greater →
       union l r ≡ b ∷ union again right
   first-more again a b h el er same more =
       ap₂ union el er ∙ union-more a left b right (subst (λ z. are_ascending_keys z ≡ true) el h) (before-from_Greater a b more)
@@ -83,7 +88,8 @@ first-alone l r h e = ap (union l) e ∙ union-nil l h
 
 -- ===== The sides exchanged
 
-with-first : (x : List ℕ) (xs : List (List ℕ)) → ((zs : List (List ℕ)) → are_ascending_keys zs ≡ true → union xs zs ≡ union zs xs) → are_ascending_keys (x ∷ xs) ≡ true →
+with-first : (x : List ℕ) (xs : List (List ℕ)) → ((zs : List (List ℕ)) → are_ascending_keys zs ≡ true → union xs zs ≡ union zs xs) →
+    are_ascending_keys (x ∷ xs) ≡ true →
     (ys : List (List ℕ)) → are_ascending_keys ys ≡ true → union (x ∷ xs) ys ≡ union ys (x ∷ xs)
 with-first x xs sooner h [] g = union-nil (x ∷ xs) h
 with-first x xs sooner h (y ∷ ys) g =

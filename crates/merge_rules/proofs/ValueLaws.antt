@@ -1,5 +1,6 @@
 -- The values of keys, key by key.
-use Rattle.std.proofs.Common.{◌≡◌, ℕ, suc, ◌+◌, ◌<◌, ◌≤◌, true, List, [], ◌∷◌, ◌++◌, length, drop, get_or, Option, Some, None, is_none, ap, sym, ◌∙◌, subst, refl, arith, append_assoc}
+use Rattle.std.proofs.Common.{◌≡◌, ℕ, suc, ◌+◌, ◌<◌, ◌≤◌, true, List, [], ◌∷◌, ◌++◌, length, drop, get_or, Option, Some, None, is_none, ap, sym, ◌∙◌, subst}
+use Rattle.std.proofs.Common.{refl, arith, append_assoc}
 use Rattle.std.proofs.Math.Seq.{drop-cons}
 use Rattle.std.proofs.lemmas.Bool.{and_parts, and_from}
 use Rattle.std.proofs.lemmas.List.{append-nil}
@@ -56,11 +57,13 @@ module _ (value : List ℕ → Option Write) (keys : List (List ℕ)) where
     so-far-fails ws so none =
         so.none ∙ ap (unmerged value) left ∙ ap (λ (o : Option Write). if is_none o then Some k else unmerged value (drop (i + 1) keys)) none
 
-    pub so-far-next : (ws new : List KeyWrite) (w : Write) → SoFar value keys i ws → value k ≡ Some w → are_ascending_keys keys ≡ true → new ≡ with_write k w ws → SoFar value keys (i + 1) new
+    pub so-far-next : (ws new : List KeyWrite) (w : Write) → SoFar value keys i ws → value k ≡ Some w → are_ascending_keys keys ≡ true →
+        new ≡ with_write k w ws → SoFar value keys (i + 1) new
     so-far-next ws new w so some ascend put =
         let rest = drop (i + 1) keys in
         let all : keys ≡ keys_of (ws ++ (k, w) ∷ []) ++ rest =
-        so.written ∙ ap (λ ks. keys_of ws ++ ks) left ∙ sym (append_assoc (keys_of ws) (k ∷ []) rest) ∙ ap (λ ks. ks ++ rest) (sym (keys_of-append ws ((k, w) ∷ []))) in
+        so.written ∙ ap (λ ks. keys_of ws ++ ks) left ∙ sym (append_assoc (keys_of ws) (k ∷ []) rest)
+        ∙ ap (λ ks. ks ++ rest) (sym (keys_of-append ws ((k, w) ∷ []))) in
         let last : new ≡ ws ++ (k, w) ∷ [] =
         put ∙ with_write-last ws k w (ascending-front (keys_of (ws ++ (k, w) ∷ [])) rest (ap are_ascending_keys (sym all) ∙ ascend)) in
         subst (λ vs. SoFar value keys (i + 1) vs) (sym last)

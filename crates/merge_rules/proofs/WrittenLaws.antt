@@ -28,7 +28,8 @@ has-key-of : (k : List ℕ) (ws : List KeyWrite) → is_key_among k (keys_of ws)
 has-key-of k [] = refl
 has-key-of k (w ∷ ws) = ap (λ b. bytes_eq k w.0 || b) (has-key-of k ws)
 
-none-open : (ws : List KeyWrite) (ks : List (List ℕ)) → ((k : List ℕ) → IsTrue (is_key_among k ks) → IsTrue (has_key k ws)) → find (λ k. not (has_key k ws)) ks ≡ None
+none-open : (ws : List KeyWrite) (ks : List (List ℕ)) → ((k : List ℕ) → IsTrue (is_key_among k ks) → IsTrue (has_key k ws)) →
+    find (λ k. not (has_key k ws)) ks ≡ None
 none-open ws [] h = refl
 none-open ws (k ∷ ks) h =
     let here = h k (or_left (bytes_eq k k) (is_key_among k ks) (same-key-from k k refl)) in

@@ -37,7 +37,8 @@ length-with_key k (l ∷ ls) =
     (λ _. omega arith)
 
 -- with one more key they are at most n, if they were, and the key is there where they were n
-pub few-with_key : (n : ℕ) (k : List ℕ) (ks : List (List ℕ)) → are_ascending_keys ks ≡ true → (length ks ≡ n → is_key_among k ks ≡ true) → length ks ≤ n → length (with_key k ks) ≤ n
+pub few-with_key : (n : ℕ) (k : List ℕ) (ks : List (List ℕ)) → are_ascending_keys ks ≡ true → (length ks ≡ n → is_key_among k ks ≡ true) → length ks ≤ n →
+    length (with_key k ks) ≤ n
 few-with_key n k ks up full le =
     elim (cases_lt (length ks) n) [
       | inl lt ↦ omega (arith, length-with_key k ks)
@@ -45,7 +46,8 @@ few-with_key n k ks up full le =
     ]
 
 -- with one more write they are at most n, if they were, and the key is written where they were n
-pub few-with_write : (n : ℕ) (k : List ℕ) (w : Write) (ws : List KeyWrite) → are_ascending_keys (keys_of ws) ≡ true → (length ws ≡ n → has_key k ws ≡ true) → length ws ≤ n → length (with_write k w ws) ≤ n
+pub few-with_write : (n : ℕ) (k : List ℕ) (w : Write) (ws : List KeyWrite) → are_ascending_keys (keys_of ws) ≡ true → (length ws ≡ n → has_key k ws ≡ true)
+    → length ws ≤ n → length (with_write k w ws) ≤ n
 few-with_write n k w ws up full le =
     let count : length (keys_of ws) ≡ length ws = length-map ws (λ (v : KeyWrite). v.0) in
     let after : length (with_key k (keys_of ws)) ≤ n =

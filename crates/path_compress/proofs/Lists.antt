@@ -1,5 +1,6 @@
 -- Places in lists of states in arrival order.
-use Rattle.std.proofs.Common.{◌≡◌, ℕ, zero, suc, ◌<◌, ◌≤◌, false, not, List, [], ◌∷◌, length, map, filter, take, get_or, slice_get, Option, Some, IsTrue, inl, inr, refl, sym, ap, subst, ◌∙◌, arith}
+use Rattle.std.proofs.Common.{◌≡◌, ℕ, zero, suc, ◌<◌, ◌≤◌, false, not, List, [], ◌∷◌, length, map, filter, take, get_or, slice_get, Option, Some, IsTrue, inl}
+use Rattle.std.proofs.Common.{inr, refl, sym, ap, subst, ◌∙◌, arith}
 use Rattle.std.proofs.lemmas.Bool.{cond-true, not_from_false, false_from_ne_true}
 use Rattle.std.proofs.lemmas.Option.{none-some, same_Some}
 use Rattle.tardis_base.specs.declared.ids.StateId.{StateId}
@@ -16,7 +17,8 @@ pub record IsPlaced (name : Slot → Option StateId) (xs : List StateId) (i : �
   pub named : name slot ≡ Some state
   pub got : slice_get xs i ≡ Some state
 
-pub placed-at : (name : Slot → Option StateId) (ss : List Slot) (xs : List StateId) (i : ℕ) (d : Slot) → map name ss ≡ map (λ x. Some x) xs → i < length ss → IsPlaced name xs i (get_or ss i d)
+pub placed-at : (name : Slot → Option StateId) (ss : List Slot) (xs : List StateId) (i : ℕ) (d : Slot) → map name ss ≡ map (λ x. Some x) xs → i < length ss
+    → IsPlaced name xs i (get_or ss i d)
 placed-at name [] xs i d are lt = absurd (let bad : ⊥ = omega arith in bad)
 placed-at name (s ∷ ss) [] i d are lt = absurd (let bad : ⊥ = cc in bad)
 placed-at name (s ∷ ss) (x ∷ xs) zero d are lt = record { state = x; named = (let e : name s ≡ Some x = cc in e); got = refl }
@@ -30,7 +32,8 @@ got-within (y ∷ xs) zero x e = omega arith
 got-within (y ∷ xs) (suc i) x e = let rest = got-within xs i x e in omega arith
 
 -- which state stands at the place of a slot
-pub placed-got : (name : Slot → Option StateId) (es : List Entry) (xs : List StateId) (p : ℕ) (slot : Slot) (x : StateId) → map (λ e. name e.slot) es ≡ map (λ e. Some e.id) es → map (λ e. e.id) es ≡ xs →
+pub placed-got : (name : Slot → Option StateId) (es : List Entry) (xs : List StateId) (p : ℕ) (slot : Slot) (x : StateId) → map (λ e. name e.slot) es
+    ≡ map (λ e. Some e.id) es → map (λ e. e.id) es ≡ xs →
     ((e : Entry) → (get_or es p e).slot ≡ slot) → p < length es → name slot ≡ Some x → slice_get xs p ≡ Some x
 placed-got name [] xs p slot x slots ids at within named = absurd (let bad : ⊥ = omega arith in bad)
 placed-got name (e ∷ es) [] p slot x slots ids at within named = absurd (let bad : ⊥ = cc in bad)
@@ -38,7 +41,8 @@ placed-got name (e ∷ es) (y ∷ xs) zero slot x slots ids at within named =
     let here : name e.slot ≡ Some e.id = cc in
     let is : e.id ≡ y = cc in
     ap (λ z. Some z) (sym is) ∙ sym here ∙ ap name (at e) ∙ named
-placed-got name (e ∷ es) (y ∷ xs) (suc p) slot x slots ids at within named = placed-got name es xs p slot x (let rest = slots in cc) (let rest = ids in cc) at (omega arith) named
+placed-got name (e ∷ es) (y ∷ xs) (suc p) slot x slots ids at within named = placed-got name es xs p slot x (let rest = slots in cc) (let rest = ids in
+    cc) at (omega arith) named
 
 module _ (f : StateId → ℕ) where
   -- what stands before a place doesn't lose by the state there
@@ -77,7 +81,8 @@ module _ (f : StateId → ℕ) where
   ]
 
   -- and what arrived before it is among those before the place
-  pub before-place : (xs : List StateId) (i : ℕ) (x y : StateId) → Rising f xs → slice_get xs i ≡ Some x → IsTrue (is_among y xs) → f y < f x → IsTrue (is_among y (take i xs))
+  pub before-place : (xs : List StateId) (i : ℕ) (x y : StateId) → Rising f xs → slice_get xs i ≡ Some x → IsTrue (is_among y xs) → f y < f x →
+      IsTrue (is_among y (take i xs))
   before-place [] i x y up e m lt = absurd (none-some x e)
   before-place (z ∷ xs) zero x y up e m lt =
       let same = ap f (same_Some z x e) in

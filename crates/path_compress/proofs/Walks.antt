@@ -1,7 +1,10 @@
 -- How far the walk has come, and what a step of it changes.
-use Rattle.std.proofs.Common.{◌≡◌, ℕ, zero, suc, unwrap_or, ◌+◌, ◌-◌, ◌<◌, ◌≤◌, Bool, true, false, leb, slice_get, option_map, ap₂, ◌&&◌, not, List, [], ◌∷◌, ◌++◌, length, map, take, get_or, Option, Some, None, is_some, IsTrue, IsFalse, inl, inr, refl, sym, ap, subst, ◌∙◌, take_all, arith}
+use Rattle.std.proofs.Common.{◌≡◌, ℕ, zero, suc, unwrap_or, ◌+◌, ◌-◌, ◌<◌, ◌≤◌, Bool, true, false, leb, slice_get, option_map, ap₂, ◌&&◌, not, List, [], ◌∷◌}
+use Rattle.std.proofs.Common.{◌++◌, length, map, take, get_or, Option, Some, None, is_some, IsTrue, IsFalse, inl, inr, refl, sym, ap, subst, ◌∙◌, take_all}
+use Rattle.std.proofs.Common.{arith}
 use Rattle.std.specs.List.{list_any, list_all}
-use Rattle.std.proofs.lemmas.Bool.{and_parts, and_from, both_ways, not-true, not_from_false, false_from_ne_true, cases_Bool, or_cases, or_parts, leb-true, leb-false}
+use Rattle.std.proofs.lemmas.Bool.{and_parts, and_from, both_ways, not-true, not_from_false, false_from_ne_true, cases_Bool, or_cases, or_parts, leb-true}
+use Rattle.std.proofs.lemmas.Bool.{leb-false}
 use Rattle.std.proofs.lemmas.Option.{none-some, same_Some}
 use Rattle.std.proofs.lemmas.List.{length-map}
 use Rattle.tardis_base.specs.declared.ids.StateId.{StateId}
@@ -59,7 +62,8 @@ module _ (rs : List Record) (dag : IsDag rs) (x : StateId) where
       let parts = and_parts (is_proper_ancestor rs x f.state) (is_closed rs fs x) closed in
       and_from (not (same_id f.state x)) (list_all (λ (g : Floor). not (same_id g.state x)) fs) (proper-differs f.state parts.0) (no-floor fs parts.1)
 
-  no-ceiling : (fs : List Floor) → IsTrue (is_closed rs fs x) → (es : Sessions) → IsTrue (are_under_floors rs fs es) → IsTrue (list_all (λ (s : ℕ × Session). not (same_id s.1.ceiling x)) es)
+  no-ceiling : (fs : List Floor) → IsTrue (is_closed rs fs x) → (es : Sessions) → IsTrue (are_under_floors rs fs es) →
+      IsTrue (list_all (λ (s : ℕ × Session). not (same_id s.1.ceiling x)) es)
   no-ceiling fs closed [] under = refl
   no-ceiling fs closed (e ∷ es) under =
       let parts = and_parts (list_any (λ (f : Floor). is_above rs f.state e.1.ceiling) fs) (are_under_floors rs fs es) under in
@@ -67,9 +71,11 @@ module _ (rs : List Record) (dag : IsDag rs) (x : StateId) where
       (proper-differs e.1.ceiling (closed-above rs dag fs x e.1.ceiling closed parts.0)) (no-ceiling fs closed es parts.1)
 
   -- a closed state is no floor, and no ceiling under one
-  pub closed-is_free : (book : Book) → IsTrue (is_closed rs (floors_of book) x) → IsTrue (are_under_floors rs (floors_of book) (sessions_of book)) → IsTrue (is_free book x)
+  pub closed-is_free : (book : Book) → IsTrue (is_closed rs (floors_of book) x) → IsTrue (are_under_floors rs (floors_of book) (sessions_of book)) →
+      IsTrue (is_free book x)
   closed-is_free book closed under =
-      and_from (list_all (λ (s : ℕ × Session). not (same_id s.1.ceiling x)) (sessions_of book)) (list_all (λ (f : Floor). not (same_id f.state x)) (floors_of book))
+      and_from (list_all (λ (s : ℕ × Session). not (same_id s.1.ceiling x)) (sessions_of book))
+      (list_all (λ (f : Floor). not (same_id f.state x)) (floors_of book))
       (no-ceiling (floors_of book) closed (sessions_of book) under) (no-floor (floors_of book) closed)
 
 -- what a collectable state is
@@ -106,27 +112,33 @@ pub record Tidied (old store : Store) (book : Book) (rs : List Record) (ks : Lis
 -- ===== Where it begins
 
 -- what isn't kept isn't collectable
-unkept-isnt : (rs : List Record) (floors : List Floor) (ks : List StateId) (y : StateId) → IsTrue (is_known rs y) → IsFalse (is_among y (kept_states rs ks)) → IsFalse (is_collectable rs floors ks y)
+unkept-isnt : (rs : List Record) (floors : List Floor) (ks : List StateId) (y : StateId) → IsTrue (is_known rs y) →
+    IsFalse (is_among y (kept_states rs ks)) → IsFalse (is_collectable rs floors ks y)
 unkept-isnt rs floors ks y known out = elim (cases_Bool (is_among y ks)) [
   | inl gone ↦ collected-isnt rs floors ks y gone
-  | inr here ↦ absurd (both_ways (is_among y (kept_states rs ks)) out (kept-is_listed rs ks y (and_from (is_known rs y) (not (is_among y ks)) known (not_from_false (is_among y ks) here))))
+  | inr here ↦ absurd (both_ways (is_among y (kept_states rs ks)) out
+      (kept-is_listed rs ks y (and_from (is_known rs y) (not (is_among y ks)) known (not_from_false (is_among y ks) here))))
 ]
 
 -- behind all kept states there is none
-pub none-behind : (table : Table) (rs : List Record) (floors : List Floor) (ks : List StateId) (place : ℕ) → Stands table rs ks → place ≡ length table.entries → NoneCollectable rs floors ks place
+pub none-behind : (table : Table) (rs : List Record) (floors : List Floor) (ks : List StateId) (place : ℕ) → Stands table rs ks →
+    place ≡ length table.entries → NoneCollectable rs floors ks place
 none-behind table rs floors ks place stands all y known out =
     let long = sym (ap length stands.ids) ∙ length-map table.entries (λ (e : Entry). e.id) in
     unkept-isnt rs floors ks y known (sym (ap (is_among y) (take_all place (kept_states rs ks) (omega arith))) ∙ out)
 
 -- a closed state is a proper ancestor of each floor
-closed-at : (rs : List Record) (x : StateId) (fs : List Floor) (i : ℕ) → i < length fs → IsTrue (is_closed rs fs x) → IsTrue (is_proper_ancestor rs x (unwrap_or (slice_get fs i) opening_floor).state)
+closed-at : (rs : List Record) (x : StateId) (fs : List Floor) (i : ℕ) → i < length fs → IsTrue (is_closed rs fs x) →
+    IsTrue (is_proper_ancestor rs x (unwrap_or (slice_get fs i) opening_floor).state)
 closed-at rs x [] i lt closed = absurd (let bad : ⊥ = omega arith in bad)
 closed-at rs x (f ∷ fs) zero lt closed = (and_parts (is_proper_ancestor rs x f.state) (is_closed rs fs x) closed).0
 closed-at rs x (f ∷ fs) (suc i) lt closed = closed-at rs x fs i (omega arith) (and_parts (is_proper_ancestor rs x f.state) (is_closed rs fs x) closed).1
 
 -- from a floor on there is none
-pub none-from_floor : (table : Table) (rs : List Record) (floors : List Floor) (ks : List StateId) (site : ℕ) (slot : Slot) (place : ℕ) → Stands table rs ks → 1 ≤ site → site ≤ length floors →
-    id_at table slot ≡ Some (floor_of floors site).state → place < length table.entries → ((e : Entry) → (get_or table.entries place e).slot ≡ slot) → NoneCollectable rs floors ks place
+pub none-from_floor : (table : Table) (rs : List Record) (floors : List Floor) (ks : List StateId) (site : ℕ) (slot : Slot) (place : ℕ) →
+    Stands table rs ks → 1 ≤ site → site ≤ length floors →
+    id_at table slot ≡ Some (floor_of floors site).state → place < length table.entries → ((e : Entry) → (get_or table.entries place e).slot ≡ slot) →
+    NoneCollectable rs floors ks place
 none-from_floor table rs floors ks site slot place stands first last named within at y known out =
     let f = (floor_of floors site).state in
     let kept = kept_states rs ks in
@@ -144,7 +156,8 @@ none-from_floor table rs floors ks site slot place stands first last named withi
 
 module _ (old : Store) (rs : List Record) (ks : List StateId) (floors : List Floor) (n : ℕ) where
   -- where none is collectable but those before the place, it begins there
-  pub walk-begins : (book : Book) (place : ℕ) → place ≤ length old.table.entries → StandTogether old book rs ks → NoneCollectable rs floors ks place → Walk old old book rs ks floors n 0 place
+  pub walk-begins : (book : Book) (place : ℕ) → place ≤ length old.table.entries → StandTogether old book rs ks → NoneCollectable rs floors ks place →
+      Walk old old book rs ks floors n 0 place
   walk-begins book place within together none =
       let long = sym (ap length together.history.table.ids) ∙ length-map old.table.entries (λ (e : Entry). e.id) in
       record {
@@ -158,7 +171,8 @@ module _ (old : Store) (rs : List Record) (ks : List StateId) (floors : List Flo
       }
 
   -- when so many have joined it ends
-  pub walk-fills : (store : Store) (book : Book) (count place : ℕ) → count ≡ n → Walk old store book rs ks floors n count place → Tidied old store book rs ks floors n count
+  pub walk-fills : (store : Store) (book : Book) (count place : ℕ) → count ≡ n → Walk old store book rs ks floors n count place →
+      Tidied old store book rs ks floors n count
   walk-fills store book count place full walk =
       let none : n - count ≡ 0 = omega arith in
       let is : walk.now ≡ tidied n rs floors ks = sym (walk.rest ∙ ap (λ m. tidied m rs floors walk.now) none) in
@@ -182,7 +196,8 @@ module _ (old : Store) (rs : List Record) (ks : List StateId) (floors : List Flo
         uncollected = subst (KeepsUncollected old.table store.table) is walk.uncollected;
       }
 
-  module _ (store : Store) (book : Book) (count i : ℕ) (walk : Walk old store book rs ks floors n count (suc i)) (x : StateId) (got : slice_get (kept_states rs walk.now) i ≡ Some x) where
+  module _ (store : Store) (book : Book) (count i : ℕ) (walk : Walk old store book rs ks floors n count (suc i)) (x : StateId)
+      (got : slice_get (kept_states rs walk.now) i ≡ Some x) where
     dag : IsDag rs
     dag = walk.together.history.table.dag
 
@@ -202,14 +217,16 @@ module _ (old : Store) (rs : List Record) (ks : List StateId) (floors : List Flo
       uncollected = walk.uncollected;
     }
       where
-        other : (y : StateId) → IsFalse (same_id y x) → IsFalse (is_among y (take i (kept_states rs walk.now))) → IsTrue (is_among y (take i (kept_states rs walk.now) ++ x ∷ [])) → ⊥
-        other y f out m = elim (or_cases (is_among y (take i (kept_states rs walk.now))) (is_among y (x ∷ [])) (sym (among-append y (take i (kept_states rs walk.now)) (x ∷ [])) ∙ m)) [
-          | inl early ↦ both_ways (is_among y (take i (kept_states rs walk.now))) out early
-          | inr last ↦ elim (among-cases y x [] last) [
-            | inl is ↦ both_ways (same_id y x) f (same_id_from y x is)
-            | inr none ↦ both_ways false refl none
-          ]
-        ]
+        other : (y : StateId) → IsFalse (same_id y x) → IsFalse (is_among y (take i (kept_states rs walk.now))) →
+            IsTrue (is_among y (take i (kept_states rs walk.now) ++ x ∷ [])) → ⊥
+        other y f out m = elim (or_cases (is_among y (take i (kept_states rs walk.now))) (is_among y (x ∷ []))
+            (sym (among-append y (take i (kept_states rs walk.now)) (x ∷ [])) ∙ m)) [
+              | inl early ↦ both_ways (is_among y (take i (kept_states rs walk.now))) out early
+              | inr last ↦ elim (among-cases y x [] last) [
+                | inl is ↦ both_ways (same_id y x) f (same_id_from y x is)
+                | inr none ↦ both_ways false refl none
+              ]
+            ]
 
     known-here : IsTrue (is_known rs x)
     known-here = (and_parts (is_known rs x) (not (is_among x walk.now)) (listed-is_kept rs walk.now x (got-is_among (kept_states rs walk.now) i x got))).0
@@ -220,8 +237,10 @@ module _ (old : Store) (rs : List Record) (ks : List StateId) (floors : List Flo
         let bad : ⊥ = omega arith in bad))
 
     -- one that is collectable joins
-    pub walk-collects : (new : Store) (renamed : Book) → IsTrue (is_collectable rs floors walk.now x) → count < n → StandTogether new renamed rs (x ∷ walk.now) →
-        ((slot : Slot) (y : StateId) → IsFalse (same_id y x) → id_at store.table slot ≡ Some y → id_at new.table slot ≡ Some y) → Walk old new renamed rs ks floors n (count + 1) i
+    pub walk-collects : (new : Store) (renamed : Book) → IsTrue (is_collectable rs floors walk.now x) → count < n →
+        StandTogether new renamed rs (x ∷ walk.now) →
+        ((slot : Slot) (y : StateId) → IsFalse (same_id y x) → id_at store.table slot ≡ Some y → id_at new.table slot ≡ Some y) →
+        Walk old new renamed rs ks floors n (count + 1) i
     walk-collects new renamed collectable few together names =
         let kept = kept_states rs walk.now in
         let rise = kept-rise rs walk.now dag in
@@ -241,7 +260,8 @@ module _ (old : Store) (rs : List Record) (ks : List StateId) (floors : List Flo
               | inl gone ↦ collected-isnt rs floors (x ∷ walk.now) y gone
               | inr here ↦
                   let parts = or_parts (same_id y x) (is_among y walk.now) here in
-                  let listed = kept-is_listed rs walk.now y (and_from (is_known rs y) (not (is_among y walk.now)) known (not_from_false (is_among y walk.now) parts.1)) in
+                  let listed = kept-is_listed rs walk.now y (and_from (is_known rs y) (not (is_among y walk.now)) known
+                  (not_from_false (is_among y walk.now) parts.1)) in
                   let early = before-place (arrival rs) kept i x y rise got listed (leb-false (arrival rs x) (arrival rs y) gt) in
                   let still = ap (take i) without ∙ take-without (arrival rs) kept i x rise got in
                   absurd (both_ways (is_among y (take i kept)) (sym (ap (is_among y) still) ∙ out) early)
@@ -255,8 +275,10 @@ module _ (old : Store) (rs : List Record) (ks : List StateId) (floors : List Flo
 -- ===== One state
 
 -- the slot of a collectable state is given up
-pub gives-up : (old new : Table) (rs : List Record) (ks : List StateId) (from to : Slot) (x : StateId) → IsTrue (is_absorbed rs ks x) → id_at old from ≡ Some x → id_at old to ≡ shared_stand_in rs ks x →
-    ◌≡◌ {A = Option StateId} (id_at new from) None → IsTrue (is_slot new to) → ((s : Slot) → (s ≡ from → ⊥) → id_at new s ≡ id_at old s) → (s : StateId) × GivesUp old new rs ks from to x s
+pub gives-up : (old new : Table) (rs : List Record) (ks : List StateId) (from to : Slot) (x : StateId) → IsTrue (is_absorbed rs ks x) → id_at old from
+    ≡ Some x → id_at old to ≡ shared_stand_in rs ks x →
+    ◌≡◌ {A = Option StateId} (id_at new from) None → IsTrue (is_slot new to) → ((s : Slot) → (s ≡ from → ⊥) → id_at new s ≡ id_at old s) → (s : StateId)
+    × GivesUp old new rs ks from to x s
 gives-up old new rs ks from to x absorbed named stand_in gone stays names =
     let shares = absorbed-parts rs ks x absorbed in
     let apart : to ≡ from → ⊥ = λ same. unslotted new from gone (subst (λ s. IsTrue (is_slot new s)) same stays) in
@@ -270,7 +292,8 @@ gives-up old new rs ks from to x absorbed named stand_in gone stays names =
         go (Some e) none t = none-some e.id (sym none)
 
 -- the sessions and floors are the same, so the ceilings are under floors still
-pub together-renamed : (book renamed : Book) (store new : Store) (rs : List Record) (now : List StateId) (x : StateId) → StandTogether store book rs now → StoreStands new rs (x ∷ now) → ArePlaced renamed new.table rs (x ∷ now) →
+pub together-renamed : (book renamed : Book) (store new : Store) (rs : List Record) (now : List StateId) (x : StateId) → StandTogether store book rs now →
+    StoreStands new rs (x ∷ now) → ArePlaced renamed new.table rs (x ∷ now) →
     sessions_of renamed ≡ sessions_of book → floors_of renamed ≡ floors_of book → StandTogether new renamed rs (x ∷ now)
 together-renamed book renamed store new rs now x together history placed sessions floors = record {
   history = history;
@@ -279,8 +302,10 @@ together-renamed book renamed store new rs now x together history placed session
 }
 
 -- what is told of a state whose children share a stand-in
-pub told-collectable : (table : Table) (rs : List Record) (ks : List StateId) (floors : List Floor) (slot : Slot) (x : StateId) (o : Option Slot) (b : Bool) → Stands table rs ks → id_at table slot ≡ Some x →
-    option_map (id_at table) o ≡ option_map (λ c. Some c) (shared_stand_in rs ks x) → IsTrue (is_some o) → b ≡ is_closed rs floors x → b ≡ is_collectable rs floors ks x
+pub told-collectable : (table : Table) (rs : List Record) (ks : List StateId) (floors : List Floor) (slot : Slot) (x : StateId) (o : Option Slot)
+    (b : Bool) → Stands table rs ks → id_at table slot ≡ Some x →
+    option_map (id_at table) o ≡ option_map (λ c. Some c) (shared_stand_in rs ks x) → IsTrue (is_some o) → b ≡ is_closed rs floors x →
+    b ≡ is_collectable rs floors ks x
 told-collectable table rs ks floors slot x o b stands named shared some closed =
     let kept = (and_parts (is_known rs x) (not (is_among x ks)) (slot-is_kept table rs ks stands slot x named)).1 in
     let absorbed : IsTrue (is_absorbed rs ks x) = same-some o (shared_stand_in rs ks x) shared some in
@@ -296,7 +321,8 @@ told-collectable table rs ks floors slot x o b stands named shared some closed =
     and-true false = refl
 
 -- all slots but the one name what they named, so each other state is where it was
-pub stays-named : (old new : Table) (from : Slot) (x : StateId) → id_at old from ≡ Some x → ((s : Slot) → (s ≡ from → ⊥) → id_at new s ≡ id_at old s) → (slot : Slot) (y : StateId) → IsFalse (same_id y x) →
+pub stays-named : (old new : Table) (from : Slot) (x : StateId) → id_at old from ≡ Some x → ((s : Slot) → (s ≡ from → ⊥) → id_at new s ≡ id_at old s) →
+    (slot : Slot) (y : StateId) → IsFalse (same_id y x) →
     id_at old slot ≡ Some y → id_at new slot ≡ Some y
 stays-named old new from x given names slot y apart named =
     names slot (λ same. both_ways (same_id y x) apart (same_id_from y x (same_Some y x (sym named ∙ ap (id_at old) same ∙ given)))) ∙ named
@@ -304,20 +330,23 @@ stays-named old new from x given names slot y apart named =
 -- ===== What is asked at a place
 
 -- the place is behind another
-pub one-more : (old store : Store) (book : Book) (rs : List Record) (ks : List StateId) (floors : List Floor) (n count place : ℕ) → 0 < place → Walk old store book rs ks floors n count place →
+pub one-more : (old store : Store) (book : Book) (rs : List Record) (ks : List StateId) (floors : List Floor) (n count place : ℕ) → 0 < place →
+    Walk old store book rs ks floors n count place →
     Walk old store book rs ks floors n count (suc (place - 1))
 one-more old store book rs ks floors n count place more walk =
     let is : place ≡ suc (place - 1) = omega arith in subst (Walk old store book rs ks floors n count) is walk
 
 -- the place is the first
-pub ended : (old store : Store) (book : Book) (rs : List Record) (ks : List StateId) (floors : List Floor) (n count place : ℕ) → place ≤ 0 → Walk old store book rs ks floors n count place →
+pub ended : (old store : Store) (book : Book) (rs : List Record) (ks : List StateId) (floors : List Floor) (n count place : ℕ) → place ≤ 0 →
+    Walk old store book rs ks floors n count place →
     Walk old store book rs ks floors n count 0
 ended old store book rs ks floors n count place none walk =
     let is : place ≡ 0 = omega arith in subst (Walk old store book rs ks floors n count) is walk
 
 -- which state is at the place
 pub reached : (table seen : Table) (slots : List Slot) (rs : List Record) (ks : List StateId) (i : ℕ) (d : Slot) → seen ≡ table → Stands table rs ks →
-    ((ws : List Record) (zs : List StateId) → Stands seen ws zs → map (id_at seen) slots ≡ map (λ x. Some x) (kept_states ws zs)) → i < length (kept_states rs ks) →
+    ((ws : List Record) (zs : List StateId) → Stands seen ws zs → map (id_at seen) slots ≡ map (λ x. Some x) (kept_states ws zs)) →
+    i < length (kept_states rs ks) →
     IsPlaced (id_at table) (kept_states rs ks) i (get_or slots i d)
 reached table seen slots rs ks i d is stands kept lt =
     let are : map (id_at table) slots ≡ map (λ x. Some x) (kept_states rs ks) =
@@ -326,8 +355,10 @@ reached table seen slots rs ks i d is stands kept lt =
     placed-at (id_at table) slots (kept_states rs ks) i d are (omega arith)
 
 -- whether it is collectable
-pub judged : (table seen : Table) (book : Book) (rs : List Record) (ks : List StateId) (slot : Slot) (x : StateId) (b : Bool) → seen ≡ table → Stands table rs ks → ArePlaced book table rs ks → id_at table slot ≡ Some x →
-    ((ws : List Record) (zs : List StateId) → Stands seen ws zs → ArePlaced book seen ws zs → (y : StateId) → id_at seen slot ≡ Some y → b ≡ is_collectable ws (floors_of book) zs y) → b ≡ is_collectable rs (floors_of book) ks x
+pub judged : (table seen : Table) (book : Book) (rs : List Record) (ks : List StateId) (slot : Slot) (x : StateId) (b : Bool) → seen ≡ table →
+    Stands table rs ks → ArePlaced book table rs ks → id_at table slot ≡ Some x →
+    ((ws : List Record) (zs : List StateId) → Stands seen ws zs → ArePlaced book seen ws zs → (y : StateId) → id_at seen slot ≡ Some y →
+    b ≡ is_collectable ws (floors_of book) zs y) → b ≡ is_collectable rs (floors_of book) ks x
 judged table seen book rs ks slot x b is stands placed named told =
     let back = sym is in
     told rs ks (subst (λ t. Stands t rs ks) back stands) (subst (λ t. ArePlaced book t rs ks) back placed) x (ap (λ t. id_at t slot) is ∙ named)

@@ -37,14 +37,16 @@ pub proper-of-itself : (rs : List Record) (x : StateId) → IsTrue (is_proper_an
 proper-of-itself rs x proper = (proper-parts rs x x proper).1 refl
 
 -- a proper ancestor of a state is one of each state below that
-pub proper-above : (rs : List Record) → IsDag rs → (x y z : StateId) → IsTrue (is_proper_ancestor rs x y) → IsTrue (is_above rs y z) → IsTrue (is_proper_ancestor rs x z)
+pub proper-above : (rs : List Record) → IsDag rs → (x y z : StateId) → IsTrue (is_proper_ancestor rs x y) → IsTrue (is_above rs y z) →
+    IsTrue (is_proper_ancestor rs x z)
 proper-above rs dag x y z proper above =
     let parts = proper-parts rs x y proper in
     proper-from rs x z (above-transitive rs dag x y z parts.0 above) (λ e.
     parts.1 (above-antisymmetric rs dag x y parts.0 (subst (λ w. IsTrue (is_above rs y w)) (sym e) above)))
 
 -- a state at or above a proper ancestor is one too
-pub above-proper : (rs : List Record) → IsDag rs → (x y z : StateId) → IsTrue (is_above rs x y) → IsTrue (is_proper_ancestor rs y z) → IsTrue (is_proper_ancestor rs x z)
+pub above-proper : (rs : List Record) → IsDag rs → (x y z : StateId) → IsTrue (is_above rs x y) → IsTrue (is_proper_ancestor rs y z) →
+    IsTrue (is_proper_ancestor rs x z)
 above-proper rs dag x y z above proper =
     let parts = proper-parts rs y z proper in
     proper-from rs x z (above-transitive rs dag x y z above parts.0) (λ e.
@@ -53,7 +55,8 @@ above-proper rs dag x y z above proper =
 -- ===== Floors
 
 -- a closed state is a proper ancestor of what some floor is at or above
-pub closed-above : (rs : List Record) → IsDag rs → (floors : List Floor) (x c : StateId) → IsTrue (is_closed rs floors x) → IsUnderFloor rs floors c → IsTrue (is_proper_ancestor rs x c)
+pub closed-above : (rs : List Record) → IsDag rs → (floors : List Floor) (x c : StateId) → IsTrue (is_closed rs floors x) → IsUnderFloor rs floors c →
+    IsTrue (is_proper_ancestor rs x c)
 closed-above rs dag [] x c closed under = not-both true refl (sym under)
 closed-above rs dag (f ∷ floors) x c closed under =
     let parts = and_parts (is_proper_ancestor rs x f.state) (is_closed rs floors x) closed in
@@ -73,7 +76,8 @@ module _ (rs : List Record) (floors : List Floor) (ks : List StateId) (dag : IsD
   kept-from : (x : StateId) → IsTrue (is_known rs x) → IsFalse (is_among x ks) → IsTrue (is_kept rs ks x)
   kept-from x known out = and_from (is_known rs x) (not (is_among x ks)) known (not_from_false (is_among x ks) out)
 
-  admitted-is-kept : (x c : StateId) → IsTrue (is_known rs c) → IsUnderFloor rs floors c → IsTrue (is_known rs x) → IsTrue (is_admitted rs c x) → IsTrue (is_kept rs ks x)
+  admitted-is-kept : (x c : StateId) → IsTrue (is_known rs c) → IsUnderFloor rs floors c → IsTrue (is_known rs x) → IsTrue (is_admitted rs c x) →
+      IsTrue (is_kept rs ks x)
   admitted-is-kept x c ceiling under known admitted =
       kept-from x known (uncollected x c ceiling under (λ proper. both_ways (is_proper_ancestor rs x c) (not-true (is_proper_ancestor rs x c) admitted) proper))
 
@@ -88,7 +92,8 @@ module _ (rs : List Record) (floors : List Floor) (ks : List StateId) (dag : IsD
       (floors-are-kept fs (λ x among. (and_parts (is_proper_ancestor rs x f.state) (is_closed rs fs x) (closed x among)).1) parts.1)
 
   -- a landing from an admitted state is admitted
-  landing-is-admitted : (x c : StateId) (keys : List (List ℕ)) → IsTrue (is_known rs x) → IsTrue (is_admitted rs c x) → IsTrue (is_admitted rs c (landing rs keys x))
+  landing-is-admitted : (x c : StateId) (keys : List (List ℕ)) → IsTrue (is_known rs x) → IsTrue (is_admitted rs c x) →
+      IsTrue (is_admitted rs c (landing rs keys x))
   landing-is-admitted x c keys known admitted =
       let there = landing rs keys x in
       not_from_false (is_proper_ancestor rs there c) (false_from_ne_true (is_proper_ancestor rs there c) (λ proper.
@@ -97,7 +102,8 @@ module _ (rs : List Record) (floors : List Floor) (ks : List StateId) (dag : IsD
 
   -- a collected state is no fork point of admitted states: each child would be above all of them too, as its stand-in is
   fork-point-is-uncollected : (x y c : StateId) (ys : List StateId) → IsTrue (is_known rs c) → IsUnderFloor rs floors c →
-      IsTrue (list_all (is_known rs) (y ∷ ys)) → IsTrue (list_all (is_admitted rs c) (y ∷ ys)) → IsTrue (is_fork_point rs (y ∷ ys) x) → IsTrue (is_among x ks) → ⊥
+      IsTrue (list_all (is_known rs) (y ∷ ys)) → IsTrue (list_all (is_admitted rs c) (y ∷ ys)) → IsTrue (is_fork_point rs (y ∷ ys) x) →
+      IsTrue (is_among x ks) → ⊥
   fork-point-is-uncollected x y c ys ceiling under known admitted fork among =
       let children_above = list_any (λ d. is_above_all rs d (y ∷ ys)) (children rs x) in
       let parts = and_parts (is_above_all rs x (y ∷ ys)) (not children_above) fork in
@@ -108,12 +114,14 @@ module _ (rs : List Record) (floors : List Floor) (ks : List StateId) (dag : IsD
       shared : StandInsAreShared rs ks
       shared = collected-share-stand-ins rs floors ks dag collected
 
-      by_child : IsTrue (is_above_all rs x (y ∷ ys)) → (z : StateId) → IsTrue (is_among z (y ∷ ys)) → (d : StateId) × IsTrue (is_among d (children rs x)) × IsTrue (is_above rs d z)
+      by_child : IsTrue (is_above_all rs x (y ∷ ys)) → (z : StateId) → IsTrue (is_among z (y ∷ ys)) → (d : StateId) × IsTrue (is_among d (children rs x))
+          × IsTrue (is_above rs d z)
       by_child above z m = proper_goes_by_child rs dag x z (all-at (is_above rs x) (y ∷ ys) z above m) (λ e.
           both_ways (is_proper_ancestor rs z c) (not-true (is_proper_ancestor rs z c) (all-at (is_admitted rs c) (y ∷ ys) z admitted m))
           (subst (λ v. IsTrue (is_proper_ancestor rs v c)) e (collected-are-above-ceilings x c ceiling under among)))
 
-      also : IsTrue (is_above_all rs x (y ∷ ys)) → (d : StateId) → IsTrue (is_among d (children rs x)) → (z : StateId) → IsTrue (is_among z (y ∷ ys)) → IsTrue (is_above rs d z)
+      also : IsTrue (is_above_all rs x (y ∷ ys)) → (d : StateId) → IsTrue (is_among d (children rs x)) → (z : StateId) → IsTrue (is_among z (y ∷ ys)) →
+          IsTrue (is_above rs d z)
       also above d child z m =
           let w = by_child above z m in
           let well = stands-in-well rs ks dag shared in

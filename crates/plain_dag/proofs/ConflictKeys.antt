@@ -56,7 +56,8 @@ module _ (rs : List Record) (g : Grows rs) (x y : StateId) (k : List ℕ)
       let least = has-lowest rs ws w.0 (among-mapped (latest_writer rs k) (x ∷ y ∷ []) x w.0 (among-first x (y ∷ [])) w.1) (above-latest w.0 w.1) in
       not-both (is_conflict_key rs (x ∷ y ∷ []) k) h (lowest-is-unsplit rs ws least.0 least.1)
     where
-      above-latest : (w : StateId) → latest_writer rs k x ≡ Some w → (v : StateId) → IsTrue (is_among v (latest_writers rs k (x ∷ y ∷ []))) → IsTrue (is_above rs v w)
+      above-latest : (w : StateId) → latest_writer rs k x ≡ Some w → (v : StateId) → IsTrue (is_among v (latest_writers rs k (x ∷ y ∷ []))) →
+          IsTrue (is_above rs v w)
       above-latest w e v m =
           let at = mapped-from (latest_writer rs k) (x ∷ y ∷ []) v m in
           (latest-is-latest rs k x w e).below v (writer-at-one at.0 v at.1 (latest-is-latest rs k at.0 v at.2).writes)

@@ -32,8 +32,10 @@ pub writes-before : (rs : List Record) (r : Record) (k : List ℕ) (w : StateId)
 writes-before rs r k w f = ap (λ b. b && has_key k r.writes || writes_key rs k w) f
 
 -- the newest state writes the keys of its record
-pub writes-newest : (rs : List Record) (r : Record) (k : List ℕ) (w : StateId) → Fits rs r → IsTrue (same_id w r.id) → writes_key (r ∷ rs) k w ≡ has_key k r.writes
-writes-newest rs r k w f t = same_test (writes_key (r ∷ rs) k w) (has_key k r.writes) (λ h. there h) (λ h. or_left (same_id w r.id && has_key k r.writes) (writes_key rs k w) (and_from (same_id w r.id) (has_key k r.writes) t h))
+pub writes-newest : (rs : List Record) (r : Record) (k : List ℕ) (w : StateId) → Fits rs r → IsTrue (same_id w r.id) → writes_key (r ∷ rs) k w
+    ≡ has_key k r.writes
+writes-newest rs r k w f t = same_test (writes_key (r ∷ rs) k w) (has_key k r.writes) (λ h. there h)
+    (λ h. or_left (same_id w r.id && has_key k r.writes) (writes_key rs k w) (and_from (same_id w r.id) (has_key k r.writes) t h))
   where
     there : IsTrue (writes_key (r ∷ rs) k w) → IsTrue (has_key k r.writes)
     there h = elim (or_cases (same_id w r.id && has_key k r.writes) (writes_key rs k w) h) [

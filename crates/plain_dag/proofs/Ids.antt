@@ -1,5 +1,6 @@
 -- Names of states, and tests over lists of them.
-use Rattle.std.proofs.Common.{◌≡◌, ℕ, Bool, true, false, ◌&&◌, ◌||◌, not, List, [], ◌∷◌, ◌++◌, IsTrue, IsFalse, ◌⊎◌, inl, inr, refl, sym, ap, ap₂, ◌∙◌, subst, eqb, eqb-true, eq-eqb, is_none, find}
+use Rattle.std.proofs.Common.{◌≡◌, ℕ, Bool, true, false, ◌&&◌, ◌||◌, not, List, [], ◌∷◌, ◌++◌, IsTrue, IsFalse, ◌⊎◌, inl, inr, refl, sym, ap, ap₂, ◌∙◌, subst}
+use Rattle.std.proofs.Common.{eqb, eqb-true, eq-eqb, is_none, find}
 use Rattle.std.proofs.lemmas.Bool.{and_parts, and_from, or_cases, or_left, or_right, cases_Bool, both_ways, false_from_ne_true}
 use Rattle.std.specs.List.{list_any, list_all}
 use Rattle.tardis_base.specs.declared.ids.StateId.{StateId}

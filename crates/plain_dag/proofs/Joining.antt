@@ -1,7 +1,9 @@
 -- One collected state more: what it changes of stand-ins, kept states and fork paths.
-use Rattle.std.proofs.Common.{◌≡◌, ℕ, zero, suc, ◌+◌, ◌≤◌, Bool, true, false, ◌&&◌, ◌||◌, not, List, [], ◌∷◌, ◌++◌, length, map, filter, Some, IsTrue, IsFalse, is_some, if◌then◌else◌, inl, inr, refl, sym, ap, subst, ◌∙◌, arith}
+use Rattle.std.proofs.Common.{◌≡◌, ℕ, zero, suc, ◌+◌, ◌≤◌, Bool, true, false, ◌&&◌, ◌||◌, not, List, [], ◌∷◌, ◌++◌, length, map, filter, Some, IsTrue}
+use Rattle.std.proofs.Common.{IsFalse, is_some, if◌then◌else◌, inl, inr, refl, sym, ap, subst, ◌∙◌, arith}
 use Rattle.std.specs.Prelude.{flat_map}
-use Rattle.std.proofs.lemmas.Bool.{and_parts, and_from, and_left, and_right, or_from, cases_Bool, both_ways, not-true, false_from_ne_true, cond-true, cond-false}
+use Rattle.std.proofs.lemmas.Bool.{and_parts, and_from, and_left, and_right, or_from, cases_Bool, both_ways, not-true, false_from_ne_true, cond-true}
+use Rattle.std.proofs.lemmas.Bool.{cond-false}
 use Rattle.std.proofs.Math.Bool.{and_comm}
 use Rattle.std.proofs.lemmas.List.Elements.{filter-append}
 use Rattle.std.proofs.lemmas.List.Concat.{flat_map-cons}
@@ -15,8 +17,10 @@ use Rattle.plain_dag.specs.Collection.{kept_states, stand_in, shared_stand_in, i
 use Rattle.plain_dag.specs.Paths.{is_fork, branches_of, branches, leads_to, fork_path}
 use Rattle.plain_dag.specs.Dag.{IsDag}
 use Rattle.plain_dag.specs.Laws.{AreCollected, StandInsAreShared, HandsOver}
-use Rattle.plain_dag.proofs.States.{dag-grows, same_id-true, same_id_self, among-first, among-later, among-cases, any-witness, arrival_is_below, child_is_known, child_arrives_later, has_child_is_known}
-use Rattle.plain_dag.proofs.StandIns.{by_first, goes-by-first-child, kept-stands-for-itself, unknown-stands-for-itself, common-is, common-from, absorbed-parts, stands-in-shared}
+use Rattle.plain_dag.proofs.States.{dag-grows, same_id-true, same_id_self, among-first, among-later, among-cases, any-witness, arrival_is_below}
+use Rattle.plain_dag.proofs.States.{child_is_known, child_arrives_later, has_child_is_known}
+use Rattle.plain_dag.proofs.StandIns.{by_first, goes-by-first-child, kept-stands-for-itself, unknown-stands-for-itself, common-is, common-from}
+use Rattle.plain_dag.proofs.StandIns.{absorbed-parts, stands-in-shared}
 
 -- ===== Filters
 
@@ -74,7 +78,8 @@ module _ (rs : List Record) (x : StateId) where
       let kept : List (StateId × ℕ) = filter (λ (b : StateId × ℕ). not (same_id b.0 x)) rest in
       cond-false (not (same_id y x)) ((y, n) ∷ kept) kept same ∙ own-branches-go y ns same
 
-  branches-without : (ys : List StateId) → flat_map (branches_of rs) (filter (λ z. not (same_id z x)) ys) ≡ filter (λ (b : StateId × ℕ). not (same_id b.0 x)) (flat_map (branches_of rs) ys)
+  branches-without : (ys : List StateId) → flat_map (branches_of rs) (filter (λ z. not (same_id z x)) ys)
+      ≡ filter (λ (b : StateId × ℕ). not (same_id b.0 x)) (flat_map (branches_of rs) ys)
   branches-without [] = refl
   branches-without (y ∷ ys) =
       let off : StateId × ℕ → Bool = λ b. not (same_id b.0 x) in
@@ -107,7 +112,8 @@ module _ (rs : List Record) (x : StateId) where
 
 -- ===== Stand-ins
 
-module _ (rs : List Record) (ks : List StateId) (dag : IsDag rs) (x s : StateId) (fresh : IsFalse (is_among x ks)) (shares : shared_stand_in rs ks x ≡ Some s) where
+module _ (rs : List Record) (ks : List StateId) (dag : IsDag rs) (x s : StateId) (fresh : IsFalse (is_among x ks))
+    (shares : shared_stand_in rs ks x ≡ Some s) where
   -- what x stood in for, s stands in for
   abbrev moved : StateId → StateId
   moved z = if same_id z x then s else z
@@ -145,7 +151,8 @@ module _ (rs : List Record) (ks : List StateId) (dag : IsDag rs) (x s : StateId)
 
   collected-moves : (z : StateId) → IsTrue (is_among z ks) → ((c : StateId) → IsTrue (is_among c (children rs z)) → Moves c) → Moves z
   collected-moves z gone below =
-      go (children rs z) (goes-by-first-child (x ∷ ks) rs (dag-grows rs dag) z (among-later z x ks gone)) (goes-by-first-child ks rs (dag-grows rs dag) z gone) below
+      go (children rs z) (goes-by-first-child (x ∷ ks) rs (dag-grows rs dag) z (among-later z x ks gone))
+      (goes-by-first-child ks rs (dag-grows rs dag) z gone) below
     where
       other : IsFalse (same_id z x)
       other = false_from_ne_true (same_id z x) (λ t. both_ways (is_among x ks) fresh (subst (λ w. IsTrue (is_among w ks)) (same_id-true z x t) gone))
@@ -173,7 +180,8 @@ module _ (rs : List Record) (ks : List StateId) (dag : IsDag rs) (x s : StateId)
   unknown-moves : (z : StateId) → IsFalse (is_known rs z) → Moves z
   unknown-moves z unknown =
       let g = dag-grows rs dag in
-      let other = false_from_ne_true (same_id z x) (λ t. both_ways (is_known rs z) unknown (subst (λ w. IsTrue (is_known rs w)) (sym (same_id-true z x t)) known-here)) in
+      let other = false_from_ne_true (same_id z x) (λ t. both_ways (is_known rs z) unknown
+      (subst (λ w. IsTrue (is_known rs w)) (sym (same_id-true z x t)) known-here)) in
       unknown-stands-for-itself (x ∷ ks) rs g z unknown ∙ sym (ap moved (unknown-stands-for-itself ks rs g z unknown) ∙ moved-other z other)
 
   -- where x stood in, s stands in; all else stays
@@ -194,7 +202,8 @@ module _ (rs : List Record) (ks : List StateId) (dag : IsDag rs) (x s : StateId)
   ]
     where
       Shared : StateId → Type 0
-      Shared y = IsTrue (list_any (λ c. true) (children rs y)) × ((c : StateId) → IsTrue (is_among c (children rs y)) → stand_in rs (x ∷ ks) c ≡ stand_in rs (x ∷ ks) y)
+      Shared y = IsTrue (list_any (λ c. true) (children rs y))
+          × ((c : StateId) → IsTrue (is_among c (children rs y)) → stand_in rs (x ∷ ks) c ≡ stand_in rs (x ∷ ks) y)
 
   -- what children shared they still share
   pub shares-still : (y t : StateId) → shared_stand_in rs ks y ≡ Some t → shared_stand_in rs (x ∷ ks) y ≡ Some (if same_id t x then s else t)
@@ -215,7 +224,8 @@ module _ (rs : List Record) (ks : List StateId) (dag : IsDag rs) (x s : StateId)
   }
 
 -- what is collectable may join
-pub collected-join : (rs : List Record) (floors : List Floor) (ks : List StateId) (x : StateId) → IsDag rs → AreCollected rs floors ks → IsTrue (is_collectable rs floors ks x) → AreCollected rs floors (x ∷ ks)
+pub collected-join : (rs : List Record) (floors : List Floor) (ks : List StateId) (x : StateId) → IsDag rs → AreCollected rs floors ks →
+    IsTrue (is_collectable rs floors ks x) → AreCollected rs floors (x ∷ ks)
 collected-join rs floors ks x dag collected collectable =
     let fits = and_parts (not (is_among x ks) && is_closed rs floors x) (is_absorbed rs ks x) collectable in
     let first = and_parts (not (is_among x ks)) (is_closed rs floors x) fits.0 in

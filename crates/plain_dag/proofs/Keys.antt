@@ -1,6 +1,7 @@
 -- Keys in order: lists of keys that stay ascending, and which keys they have.
 pub use Rattle.tardis_base.proofs.KeySets.{ascending-with_key as with-key-ascends}
-pub use Rattle.tardis_base.proofs.KeyOrder.{before-trans as key-before-transitive, cases_key as key-cases, is_first as is_before_first, ascending-parts, ascending-from}
+pub use Rattle.tardis_base.proofs.KeyOrder.{before-trans as key-before-transitive, cases_key as key-cases, is_first as is_before_first, ascending-parts}
+pub use Rattle.tardis_base.proofs.KeyOrder.{ascending-from}
 use Rattle.std.proofs.Common.{◌≡◌, ℕ, Bool, true, false, ◌&&◌, cond, List, [], ◌∷◌, IsTrue, IsFalse, inl, inr, refl, sym, subst, ◌∙◌, filter, bytes_eq}
 use Rattle.std.proofs.lemmas.Bool.{and_parts, or_cases, or_left, or_right, cases_Bool, cond-true, cond-false}
 use Rattle.std.proofs.lemmas.Slice.Eq.{bytes_eq-Decides}

@@ -1,5 +1,6 @@
 -- Where transactions land.
-use Rattle.std.proofs.Common.{◌≡◌, ℕ, zero, suc, ◌+◌, ◌≤◌, ◌<◌, Bool, true, ◌||◌, ◌&&◌, not, List, [], ◌∷◌, ◌++◌, length, Option, Some, None, IsTrue, IsFalse, refl, sym, ap, subst, ◌∙◌, inl, inr, arith, bytes_eq, if◌then◌else◌}
+use Rattle.std.proofs.Common.{◌≡◌, ℕ, zero, suc, ◌+◌, ◌≤◌, ◌<◌, Bool, true, ◌||◌, ◌&&◌, not, List, [], ◌∷◌, ◌++◌, length, Option, Some, None, IsTrue, IsFalse}
+use Rattle.std.proofs.Common.{refl, sym, ap, subst, ◌∙◌, inl, inr, arith, bytes_eq, if◌then◌else◌}
 use Rattle.std.proofs.lemmas.Bool.{or_cases, or_parts, or_left, or_right, and_parts, and_from, cases_Bool, not-true, not_from_false, cond-true}
 use Rattle.std.specs.List.{list_any}
 use Rattle.std.proofs.lemmas.Slice.Eq.{bytes_eq-Decides}
@@ -35,7 +36,8 @@ stays-at rs keys s zero e = refl
 stays-at rs keys s (suc n) e = ap (λ o. option_map_or (after_steps n rs keys) o s) e
 
 -- a step goes to the first child that passes
-steps-to : (rs : List Record) (keys : List (List ℕ)) (s c : StateId) (n : ℕ) → first_passing rs keys s ≡ Some c → after_steps (suc n) rs keys s ≡ after_steps n rs keys c
+steps-to : (rs : List Record) (keys : List (List ℕ)) (s c : StateId) (n : ℕ) → first_passing rs keys s ≡ Some c → after_steps (suc n) rs keys s
+    ≡ after_steps n rs keys c
 steps-to rs keys s c n e = ap (λ o. option_map_or (after_steps n rs keys) o s) e
 
 -- a first child that passes arrived later than s and is known, and s is at or above it
@@ -121,7 +123,8 @@ passes-without-news rs dag keys x c k among e w writer =
       | inl t ↦ t
       | inr f ↦
           not-both (writes_key rs k w && is_between rs x c w)
-          (and_from (writes_key rs k w) (is_between rs x c w) parts.0 (and_from (is_above rs w c) (not (is_above rs w x)) parts.1 (not_from_false (is_above rs w x) f))) none
+          (and_from (writes_key rs k w) (is_between rs x c w) parts.0
+          (and_from (is_above rs w c) (not (is_above rs w x)) parts.1 (not_from_false (is_above rs w x) f))) none
     ]
 
 pub lands-without-news : (rs : List Record) (keys : List (List ℕ)) (s : StateId) → IsDag rs → LandsWithoutNews rs keys s
@@ -139,7 +142,8 @@ same-writers : (rs : List Record) (keys : List (List ℕ)) (s : StateId) → IsD
 same-writers rs keys s dag known k among w =
     let there = landing rs keys s in
     same_test (is_writer rs k there w) (is_writer rs k s w)
-    (λ t. and_from (writes_key rs k w) (is_above rs w s) (and_parts (writes_key rs k w) (is_above rs w there) t).0 (lands-without-news rs keys s dag k w among t))
+    (λ t. and_from (writes_key rs k w) (is_above rs w s) (and_parts (writes_key rs k w) (is_above rs w there) t).0
+    (lands-without-news rs keys s dag k w among t))
     (λ t. let parts = and_parts (writes_key rs k w) (is_above rs w s) t in
     and_from (writes_key rs k w) (is_above rs w there) parts.0 (above-transitive rs dag w s there parts.1 (lands-below rs keys s dag known).1))
 
@@ -154,7 +158,8 @@ lands-with-same-reads rs keys s dag known k among =
 key-of-either : (k : List ℕ) (ks ls : List (List ℕ)) → is_key_among k (ks ++ ls) ≡ (is_key_among k ks || is_key_among k ls)
 key-of-either k ks ls = list_any-append (bytes_eq k) ks ls
 
-pub true-commit : (rs : List Record) (flags : EndFlags) (reads written : List (List ℕ)) (s : StateId) → IsDag rs → IsTrue (is_known rs s) → IsTrueCommit rs flags reads written s
+pub true-commit : (rs : List Record) (flags : EndFlags) (reads written : List (List ℕ)) (s : StateId) → IsDag rs → IsTrue (is_known rs s) →
+    IsTrueCommit rs flags reads written s
 true-commit rs flags reads written s dag known = record {
   same_reads = λ ser k read. lands-with-same-reads rs (guarded flags reads written) s dag known k (guards_reads ser k read);
   no_writes = λ si k w write. lands-without-news rs (guarded flags reads written) s dag k w (guards_written si k write);

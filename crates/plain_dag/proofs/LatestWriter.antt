@@ -13,7 +13,8 @@ use Rattle.plain_dag.specs.Dag.{IsDag}
 use Rattle.plain_dag.specs.Laws.{IsLatestWriter, WritersHaveOneLatest}
 use Rattle.plain_dag.proofs.Ids.{not-both, among-first, all-at, all-from}
 use Rattle.plain_dag.proofs.Histories.{Fits, Grows, dag-grows, known-before, known-isnt-newest, parent-is-known}
-use Rattle.plain_dag.proofs.Order.{known-above, above-newest-cases, above-by-parent, above-reflexive, above-through, above-antisymmetric, ancestors-arrive-earlier}
+use Rattle.plain_dag.proofs.Order.{known-above, above-newest-cases, above-by-parent, above-reflexive, above-through, above-antisymmetric}
+use Rattle.plain_dag.proofs.Order.{ancestors-arrive-earlier}
 use Rattle.plain_dag.proofs.Growth.{writer-is-known, writes-before, writes-newest, above-stays, writer-stays}
 use Rattle.plain_dag.proofs.Versions.{writers-have-versions}
 use Rattle.std.specs.Option.{option_and_then}
@@ -101,7 +102,8 @@ module _ (rs : List Record) (g : Grows rs) (k : List ℕ) (each : (x : StateId) 
       )
     where
       -- the latest writer at one of these
-      its : (q u : StateId) → IsTrue (is_among q ps) → IsTrue (is_writer rs k q u) → (w : StateId) × IsTrue (is_among w (latest_writers rs k ps)) × IsTrue (is_above rs u w)
+      its : (q u : StateId) → IsTrue (is_among q ps) → IsTrue (is_writer rs k q u) → (w : StateId) × IsTrue (is_among w (latest_writers rs k ps))
+          × IsTrue (is_above rs u w)
       its q u n i =
           let l = each q (known q n) u i in
           let w = latest-is-found rs k q l.0 l.1 in
@@ -145,7 +147,8 @@ module _ (rs : List Record) (r : Record) (f : Fits rs r) (g : Grows rs) (k : Lis
       ]
 
   -- and then the lowest of the parents' latest writers is the latest one
-  latest-is-lowest : IsTrue (same_id x r.id) → IsFalse (has_key k r.writes) → ((y : StateId) → IsTrue (is_known rs y) → HasLatest rs k y) → HasLatest (r ∷ rs) k x
+  latest-is-lowest : IsTrue (same_id x r.id) → IsFalse (has_key k r.writes) → ((y : StateId) → IsTrue (is_known rs y) → HasLatest rs k y) →
+      HasLatest (r ∷ rs) k x
   latest-is-lowest t lacks each v h =
       let at = writer-at-parent t lacks v h in
       let unsplit = false_from_ne_true (is_conflict_key rs r.parents k) (λ c. both_ways (has_key k r.writes) lacks (f.merges k c)) in

@@ -1,6 +1,7 @@
 -- Leaves: they are admitted everywhere, and transactions that may begin anywhere begin at one.
 use Rattle.std.proofs.Common.{◌≡◌, Bool, true, false, not, List, [], ◌∷◌, find, Some, IsTrue, IsFalse, unwrap_or, refl, sym, ap, subst, ◌∙◌, inl, inr}
-use Rattle.std.proofs.lemmas.Bool.{or_cases, or_parts, or_from, and_parts, cases_Bool, both_ways, not-true, not_from_false, false_from_ne_true, cond-true, cond-false}
+use Rattle.std.proofs.lemmas.Bool.{or_cases, or_parts, or_from, and_parts, cases_Bool, both_ways, not-true, not_from_false, false_from_ne_true, cond-true}
+use Rattle.std.proofs.lemmas.Bool.{cond-false}
 use Rattle.std.specs.List.{list_any}
 use Rattle.tardis_base.specs.declared.ids.StateId.{StateId}
 use Rattle.tardis_base.specs.declared.records.Record.{Record}
@@ -77,12 +78,14 @@ last-leaf (r ∷ rs) g last known = elim (cases_Bool (is_above (r ∷ rs) last r
       both_ways (is_above (r ∷ rs) last r.id) f (above-same (r ∷ rs) last r.id (same_id-true last r.id e)))) in
       let w = last-leaf rs g.1 last older in
       let above : IsTrue (is_above rs last w.0) = (found-passes (is_above rs last) (states rs) w.0 w.1.is).1 in
-      let as_before = find-agrees (is_above (r ∷ rs) last) (is_above rs last) (states rs) (λ z m. above-before rs r last z (known-isnt-newest rs r z g.0 m)) in (
+      let as_before = find-agrees (is_above (r ∷ rs) last) (is_above rs last) (states rs)
+      (λ z m. above-before rs r last z (known-isnt-newest rs r z g.0 m)) in (
         w.0,
         record {
           is = cond-false (is_above (r ∷ rs) last r.id) (Some r.id) (find (is_above (r ∷ rs) last) (states rs)) f ∙ (as_before ∙ w.1.is);
           leaf = not_from_false (is_parent (r ∷ rs) w.0) (or_from (is_among w.0 r.parents) (is_parent rs w.0)
-              (false_from_ne_true (is_among w.0 r.parents) (λ m. both_ways (is_above (r ∷ rs) last r.id) f (above-by-parent rs r last w.0 r.id (same_id_self r.id) m above)))
+              (false_from_ne_true (is_among w.0 r.parents) (λ m. both_ways (is_above (r ∷ rs) last r.id) f
+              (above-by-parent rs r last w.0 r.id (same_id_self r.id) m above)))
               (not-true (is_parent rs w.0) w.1.leaf));
         },
       )

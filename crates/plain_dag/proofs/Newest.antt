@@ -11,7 +11,8 @@ use Rattle.plain_dag.proofs.Histories.{Grows, known-before, known-isnt-newest, a
 use Rattle.plain_dag.proofs.Searches.{found-passes}
 
 -- what is found arrived last of those that pass
-pub found-is-last : (rs : List Record) → Grows rs → (p : StateId → Bool) (y n : StateId) → find p (states rs) ≡ Some y → IsTrue (is_known rs n) → IsTrue (p n) → arrival rs n ≤ arrival rs y
+pub found-is-last : (rs : List Record) → Grows rs → (p : StateId → Bool) (y n : StateId) → find p (states rs) ≡ Some y → IsTrue (is_known rs n) →
+    IsTrue (p n) → arrival rs n ≤ arrival rs y
 found-is-last [] g p y n e known passes = absurd (none-some y e)
 found-is-last (r ∷ rs) g p y n e known passes = elim (cases_Bool (p r.id)) [
   | inl t ↦
@@ -22,7 +23,8 @@ found-is-last (r ∷ rs) g p y n e known passes = elim (cases_Bool (p r.id)) [
       omega arith
   | inr f ↦
       let rest = sym (cond-false (p r.id) (Some r.id) (find p (states rs)) f) ∙ e in
-      let other : IsFalse (same_id n r.id) = false_from_ne_true (same_id n r.id) (λ t. both_ways (p r.id) f (subst (λ z. IsTrue (p z)) (same_id-true n r.id t) passes)) in
+      let other : IsFalse (same_id n r.id) = false_from_ne_true (same_id n r.id)
+      (λ t. both_ways (p r.id) f (subst (λ z. IsTrue (p z)) (same_id-true n r.id t) passes)) in
       let old_y = arrival-before rs r y (known-isnt-newest rs r y g.0 (found-passes p (states rs) y rest).0) in
       let old_n = arrival-before rs r n other in
       let le = found-is-last rs g.1 p y n rest (known-before rs r n known other) passes in

@@ -1,5 +1,6 @@
 -- The order of states.
-use Rattle.std.proofs.Common.{◌≡◌, true, ◌||◌, ◌&&◌, List, [], ◌∷◌, IsTrue, IsFalse, ◌⊎◌, inl, inr, refl, sym, ap, subst, ◌∙◌, arith, Option, Some, None, is_none, find}
+use Rattle.std.proofs.Common.{◌≡◌, true, ◌||◌, ◌&&◌, List, [], ◌∷◌, IsTrue, IsFalse, ◌⊎◌, inl, inr, refl, sym, ap, subst, ◌∙◌, arith, Option, Some, None}
+use Rattle.std.proofs.Common.{is_none, find}
 use Rattle.std.proofs.lemmas.Bool.{or_cases, or_parts, or_left, or_right, cases_Bool, cond-true, cond-false}
 use Rattle.std.specs.List.{list_any}
 use Rattle.tardis_base.specs.declared.ids.StateId.{StateId}
@@ -9,9 +10,11 @@ use Rattle.plain_dag.specs.States.{is_known, parents_of}
 use Rattle.plain_dag.specs.Above.{is_above, are_comparable, comparable_pair, are_apart}
 use Rattle.plain_dag.specs.Way.{AtOrAbove}
 use Rattle.plain_dag.specs.Dag.{IsDag}
-use Rattle.plain_dag.specs.Laws.{AboveIsReflexive, AboveIsTransitive, AboveIsAntisymmetric, AncestorsArriveEarlier, AncestorsAreKnown, ArrivalsDiffer, ApartMeansIncomparable, AboveGoesAlongEdges, AboveIsTheWay}
+use Rattle.plain_dag.specs.Laws.{AboveIsReflexive, AboveIsTransitive, AboveIsAntisymmetric, AncestorsArriveEarlier, AncestorsAreKnown, ArrivalsDiffer}
+use Rattle.plain_dag.specs.Laws.{ApartMeansIncomparable, AboveGoesAlongEdges, AboveIsTheWay}
 use Rattle.plain_dag.proofs.Ids.{or-false, not-both, same_id-true, same_id_self, any-witness, any-from, none-found, any-agrees}
-use Rattle.plain_dag.proofs.Histories.{Fits, Grows, dag-grows, known-stays, known-before, known-isnt-newest, parent-is-known, arrival-newest, arrival-before, arrival_is_below, parents-newest, parents-before, has-parent-is-known, parents-are-known}
+use Rattle.plain_dag.proofs.Histories.{Fits, Grows, dag-grows, known-stays, known-before, known-isnt-newest, parent-is-known, arrival-newest, arrival-before}
+use Rattle.plain_dag.proofs.Histories.{arrival_is_below, parents-newest, parents-before, has-parent-is-known, parents-are-known}
 
 -- ===== One more record
 
@@ -72,14 +75,16 @@ unknown-above (r ∷ rs) x y n =
     above-before rs r x y parts.0 ∙ unknown-above rs x y parts.1
 
 -- what is at or above a state that isn't the newest isn't the newest
-pub above-isnt-newest : (rs : List Record) (r : Record) → Fits rs r → Grows rs → (x y : StateId) → IsFalse (same_id y r.id) → IsTrue (is_above rs x y) → IsFalse (same_id x r.id)
+pub above-isnt-newest : (rs : List Record) (r : Record) → Fits rs r → Grows rs → (x y : StateId) → IsFalse (same_id y r.id) → IsTrue (is_above rs x y) →
+    IsFalse (same_id x r.id)
 above-isnt-newest rs r f g x y n h = elim (cases_Bool (is_known rs y)) [
   | inl k ↦ known-isnt-newest rs r x f (known-above rs g x y k h)
   | inr u ↦ subst (λ z. IsFalse (same_id z r.id)) (sym (same_id-true x y (sym (unknown-above rs x y u) ∙ h))) n
 ]
 
 -- what is at or above a parent of the newest state was known before
-pub known-above-parent : (rs : List Record) (r : Record) → Fits rs r → Grows rs → (x p : StateId) → IsTrue (is_among p r.parents) → IsTrue (is_above rs x p) → IsTrue (is_known rs x)
+pub known-above-parent : (rs : List Record) (r : Record) → Fits rs r → Grows rs → (x p : StateId) → IsTrue (is_among p r.parents) →
+    IsTrue (is_above rs x p) → IsTrue (is_known rs x)
 known-above-parent rs r f g x p m h = known-above rs g x p (parent-is-known rs r p f m) h
 
 -- ===== Transitive
@@ -154,11 +159,13 @@ edges-above [] g x y = sym (or-false (same_id x y))
 edges-above (r ∷ rs) g x y = elim (cases_Bool (same_id y r.id)) [
   | inl t ↦
       above-newest rs r x y t
-      ∙ ap (λ b. same_id x y || b) (ap (list_any (is_above rs x)) (sym (parents-newest rs r y t)) ∙ as-before (λ p h. parent-is-known rs r p g.0 (subst (λ ps. IsTrue (is_among p ps)) (parents-newest rs r y t) h)))
+      ∙ ap (λ b. same_id x y || b) (ap (list_any (is_above rs x)) (sym (parents-newest rs r y t))
+      ∙ as-before (λ p h. parent-is-known rs r p g.0 (subst (λ ps. IsTrue (is_among p ps)) (parents-newest rs r y t) h)))
   | inr f ↦
       above-before rs r x y f
       ∙ (edges-above rs g.1 x y
-      ∙ ap (λ b. same_id x y || b) (ap (list_any (is_above rs x)) (sym (parents-before rs r y f)) ∙ as-before (λ p h. parents-are-known rs g.1 p y (subst (λ ps. IsTrue (is_among p ps)) (parents-before rs r y f) h))))
+      ∙ ap (λ b. same_id x y || b) (ap (list_any (is_above rs x)) (sym (parents-before rs r y f))
+      ∙ as-before (λ p h. parents-are-known rs g.1 p y (subst (λ ps. IsTrue (is_among p ps)) (parents-before rs r y f) h))))
 ]
   where
     as-before : ((p : StateId) → IsTrue (is_among p (parents_of (r ∷ rs) y)) → IsTrue (is_known rs p)) →

@@ -1,5 +1,6 @@
 -- Fork paths tell ancestry: where a way to a leaves the states above b, it leaves by a branch of a kept fork.
-use Rattle.std.proofs.Common.{◌≡◌, ℕ, zero, suc, ◌+◌, ◌≤◌, true, false, ◌&&◌, not, List, [], ◌∷◌, length, Option, Some, None, slice_get, le-leb, IsTrue, IsFalse, inl, inr, refl, sym, ap, subst, ◌∙◌, arith}
+use Rattle.std.proofs.Common.{◌≡◌, ℕ, zero, suc, ◌+◌, ◌≤◌, true, false, ◌&&◌, not, List, [], ◌∷◌, length, Option, Some, None, slice_get, le-leb, IsTrue}
+use Rattle.std.proofs.Common.{IsFalse, inl, inr, refl, sym, ap, subst, ◌∙◌, arith}
 use Rattle.std.proofs.lemmas.Bool.{and_parts, and_from, cases_Bool, both_ways, not_from_false, false_from_ne_true}
 use Rattle.std.specs.Option.{option_map_or}
 use Rattle.tardis_base.specs.declared.ids.StateId.{StateId}
@@ -13,7 +14,8 @@ use Rattle.plain_dag.specs.Collection.{is_kept, stand_in}
 use Rattle.plain_dag.specs.Paths.{is_fork, leads_to}
 use Rattle.plain_dag.specs.Dag.{IsDag}
 use Rattle.plain_dag.specs.Laws.{AreCollected, StandInsAreShared, ForkPathsTell}
-use Rattle.plain_dag.proofs.States.{next-fits, known-cases, known-isnt-newest, not-both, same_id_from, among-first, among-cases, all-at, arrival_is_below, child_is_known, child_arrives_later, proper_goes_by_child}
+use Rattle.plain_dag.proofs.States.{next-fits, known-cases, known-isnt-newest, not-both, same_id_from, among-first, among-cases, all-at, arrival_is_below}
+use Rattle.plain_dag.proofs.States.{child_is_known, child_arrives_later, proper_goes_by_child}
 use Rattle.plain_dag.proofs.Order.{above-before, above-by-parent, above-same, above-transitive, ancestors-arrive-earlier, ancestors-are-known}
 use Rattle.plain_dag.proofs.StandIns.{two-of, collected-share-stand-ins, stands-in-well}
 
@@ -93,7 +95,8 @@ leads-where rs x p c n e = ap (λ o. option_map_or (λ d. is_above rs d x) o fal
 -- ===== Fork paths
 
 -- a way keeps its branches as it goes on
-keeps-branches : (rs : List Record) → IsDag rs → (a b p : StateId) (n : ℕ) → IsTrue (is_above rs a b) → IsTrue (leads_to rs a (p, n)) → IsTrue (leads_to rs b (p, n))
+keeps-branches : (rs : List Record) → IsDag rs → (a b p : StateId) (n : ℕ) → IsTrue (is_above rs a b) → IsTrue (leads_to rs a (p, n)) →
+    IsTrue (leads_to rs b (p, n))
 keeps-branches rs dag a b p n above leads = go (slice_get (children rs p) n) leads
   where
     go : (o : Option StateId) → IsTrue (option_map_or (λ c. is_above rs c a) o false) → IsTrue (option_map_or (λ c. is_above rs c b) o false)

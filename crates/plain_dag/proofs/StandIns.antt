@@ -1,6 +1,8 @@
 -- Stand-ins: what a collected state leaves behind, and that nothing is lost by it.
-use Rattle.std.proofs.Common.{◌≡◌, ℕ, zero, suc, ◌+◌, ◌≤◌, true, ◌&&◌, not, List, [], ◌∷◌, ◌++◌, length, map, Option, Some, None, is_some, IsTrue, IsFalse, if◌then◌else◌, inl, inr, refl, sym, ap, subst, ◌∙◌, arith}
-use Rattle.std.proofs.lemmas.Bool.{and_parts, and_from, and_left, and_right, cases_Bool, both_ways, not-true, not_from_false, false_from_ne_true, cond-true, cond-false}
+use Rattle.std.proofs.Common.{◌≡◌, ℕ, zero, suc, ◌+◌, ◌≤◌, true, ◌&&◌, not, List, [], ◌∷◌, ◌++◌, length, map, Option, Some, None, is_some, IsTrue, IsFalse}
+use Rattle.std.proofs.Common.{if◌then◌else◌, inl, inr, refl, sym, ap, subst, ◌∙◌, arith}
+use Rattle.std.proofs.lemmas.Bool.{and_parts, and_from, and_left, and_right, cases_Bool, both_ways, not-true, not_from_false, false_from_ne_true, cond-true}
+use Rattle.std.proofs.lemmas.Bool.{cond-false}
 use Rattle.std.proofs.lemmas.Option.{none-some, same_Some}
 use Rattle.std.specs.List.{list_any, list_all}
 use Rattle.tardis_base.specs.declared.ids.StateId.{StateId}
@@ -12,7 +14,9 @@ use Rattle.plain_dag.specs.Floors.{Floor}
 use Rattle.plain_dag.specs.Collection.{is_kept, stand_in, common, shared_stand_in, is_absorbed}
 use Rattle.plain_dag.specs.Dag.{IsDag}
 use Rattle.plain_dag.specs.Laws.{StandInsAreShared, CollectedShareStandIns, StandsInWell}
-use Rattle.plain_dag.proofs.States.{Grows, dag-grows, same_test, not-both, same_id-true, same_id_from, among-first, among-later, among-cases, any-witness, arrival_is_below, parent-is-known, known-stays, children-of-parent, children-before, child_is_known, child_arrives_later, parent_is_above, proper_goes_by_child}
+use Rattle.plain_dag.proofs.States.{Grows, dag-grows, same_test, not-both, same_id-true, same_id_from, among-first, among-later, among-cases, any-witness}
+use Rattle.plain_dag.proofs.States.{arrival_is_below, parent-is-known, known-stays, children-of-parent, children-before, child_is_known, child_arrives_later}
+use Rattle.plain_dag.proofs.States.{parent_is_above, proper_goes_by_child}
 use Rattle.plain_dag.proofs.Order.{above-transitive}
 
 -- ===== One state, and two
@@ -39,13 +43,15 @@ module _ (ks : List StateId) where
   -- ===== One more record
 
   -- where the stand-in is collected and has the new state as a child, the new state takes its place
-  pub moves-on : (rs : List Record) (r : Record) (x : StateId) → IsTrue (is_among (stand_in rs ks x) ks) → IsTrue (is_among (stand_in rs ks x) r.parents) → stand_in (r ∷ rs) ks x ≡ r.id
+  pub moves-on : (rs : List Record) (r : Record) (x : StateId) → IsTrue (is_among (stand_in rs ks x) ks) → IsTrue (is_among (stand_in rs ks x) r.parents) →
+      stand_in (r ∷ rs) ks x ≡ r.id
   moves-on rs r x gone child =
       let here = stand_in rs ks x in
       cond-true (is_among here ks && is_among here r.parents) r.id here (and_from (is_among here ks) (is_among here r.parents) gone child)
 
   -- else it stays
-  pub stays-put : (rs : List Record) (r : Record) (x : StateId) → IsFalse (is_among (stand_in rs ks x) ks && is_among (stand_in rs ks x) r.parents) → stand_in (r ∷ rs) ks x ≡ stand_in rs ks x
+  pub stays-put : (rs : List Record) (r : Record) (x : StateId) → IsFalse (is_among (stand_in rs ks x) ks && is_among (stand_in rs ks x) r.parents) →
+      stand_in (r ∷ rs) ks x ≡ stand_in rs ks x
   stays-put rs r x f = let here = stand_in rs ks x in cond-false (is_among here ks && is_among here r.parents) r.id here f
 
   -- two states with one stand-in keep having one
@@ -57,7 +63,8 @@ module _ (ks : List StateId) where
   kept-stands-for-itself [] x out = refl
   kept-stands-for-itself (r ∷ rs) x out =
       let here = kept-stands-for-itself rs x out in
-      stays-put rs r x (and_left (is_among (stand_in rs ks x) ks) (is_among (stand_in rs ks x) r.parents) (subst (λ z. IsFalse (is_among z ks)) (sym here) out)) ∙ here
+      stays-put rs r x (and_left (is_among (stand_in rs ks x) ks) (is_among (stand_in rs ks x) r.parents)
+      (subst (λ z. IsFalse (is_among z ks)) (sym here) out)) ∙ here
 
   -- so does one that isn't known
   pub unknown-stands-for-itself : (rs : List Record) → Grows rs → (x : StateId) → IsFalse (is_known rs x) → stand_in rs ks x ≡ x
@@ -66,16 +73,20 @@ module _ (ks : List StateId) where
       let older = false_from_ne_true (is_known rs x) (λ k. both_ways (is_known (r ∷ rs) x) out (known-stays rs r x k)) in
       let here = unknown-stands-for-itself rs g.1 x older in
       stays-put rs r x (and_right (is_among (stand_in rs ks x) ks) (is_among (stand_in rs ks x) r.parents)
-      (subst (λ z. IsFalse (is_among z r.parents)) (sym here) (false_from_ne_true (is_among x r.parents) (λ m. both_ways (is_known rs x) older (parent-is-known rs r x g.0 m))))) ∙ here
+      (subst (λ z. IsFalse (is_among z r.parents)) (sym here)
+      (false_from_ne_true (is_among x r.parents) (λ m. both_ways (is_known rs x) older (parent-is-known rs r x g.0 m))))) ∙ here
 
   -- ===== The first child
 
   -- a collected state's stand-in is that of its first child
-  pub goes-by-first-child : (rs : List Record) → Grows rs → (x : StateId) → IsTrue (is_among x ks) → stand_in rs ks x ≡ by_first (stand_in rs ks) x (children rs x)
+  pub goes-by-first-child : (rs : List Record) → Grows rs → (x : StateId) → IsTrue (is_among x ks) → stand_in rs ks x
+      ≡ by_first (stand_in rs ks) x (children rs x)
   goes-by-first-child [] g x gone = refl
   goes-by-first-child (r ∷ rs) g x gone = elim (cases_Bool (is_among x r.parents)) [
-    | inl child ↦ subst (λ cs. stand_in (r ∷ rs) ks x ≡ by_first (stand_in (r ∷ rs) ks) x cs) (sym (children-of-parent rs r x child)) (next (children rs x) (goes-by-first-child rs g.1 x gone) child)
-    | inr none ↦ subst (λ cs. stand_in (r ∷ rs) ks x ≡ by_first (stand_in (r ∷ rs) ks) x cs) (sym (children-before rs r x none)) (same (children rs x) (goes-by-first-child rs g.1 x gone) none)
+    | inl child ↦ subst (λ cs. stand_in (r ∷ rs) ks x ≡ by_first (stand_in (r ∷ rs) ks) x cs) (sym (children-of-parent rs r x child))
+        (next (children rs x) (goes-by-first-child rs g.1 x gone) child)
+    | inr none ↦ subst (λ cs. stand_in (r ∷ rs) ks x ≡ by_first (stand_in (r ∷ rs) ks) x cs) (sym (children-before rs r x none))
+        (same (children rs x) (goes-by-first-child rs g.1 x gone) none)
   ]
     where
       next : (cs : List StateId) → stand_in rs ks x ≡ by_first (stand_in rs ks) x cs → IsTrue (is_among x r.parents) →
@@ -84,12 +95,14 @@ module _ (ks : List StateId) where
           let itself = unknown-stands-for-itself rs g.1 r.id g.0.new in
           moves-on rs r x (subst (λ z. IsTrue (is_among z ks)) (sym e) gone) (subst (λ z. IsTrue (is_among z r.parents)) (sym e) child)
           ∙ sym (stays-put rs r r.id (and_right (is_among (stand_in rs ks r.id) ks) (is_among (stand_in rs ks r.id) r.parents)
-          (subst (λ z. IsFalse (is_among z r.parents)) (sym itself) (false_from_ne_true (is_among r.id r.parents) (λ m. both_ways (is_known rs r.id) g.0.new (parent-is-known rs r r.id g.0 m))))) ∙ itself)
+          (subst (λ z. IsFalse (is_among z r.parents)) (sym itself)
+          (false_from_ne_true (is_among r.id r.parents) (λ m. both_ways (is_known rs r.id) g.0.new (parent-is-known rs r r.id g.0 m))))) ∙ itself)
       next (c ∷ cs) e child = moves-together rs r x c e
 
       same : (cs : List StateId) → stand_in rs ks x ≡ by_first (stand_in rs ks) x cs → IsFalse (is_among x r.parents) →
           stand_in (r ∷ rs) ks x ≡ by_first (stand_in (r ∷ rs) ks) x cs
-      same [] e none = stays-put rs r x (and_right (is_among (stand_in rs ks x) ks) (is_among (stand_in rs ks x) r.parents) (subst (λ z. IsFalse (is_among z r.parents)) (sym e) none)) ∙ e
+      same [] e none = stays-put rs r x (and_right (is_among (stand_in rs ks x) ks) (is_among (stand_in rs ks x) r.parents)
+          (subst (λ z. IsFalse (is_among z r.parents)) (sym e) none)) ∙ e
       same (c ∷ cs) e none = moves-together rs r x c e
 
 -- ===== Shared stand-ins
@@ -126,7 +139,8 @@ module _ (f : StateId → StateId) where
   common-from [] s some each = not-both true refl (sym some)
   common-from (d ∷ ds) s some each =
       let first = each d (among-first d ds) in
-      cond-true (list_all (λ y. same_id y (f d)) (map f ds)) (Some (f d)) None (all ds (λ c m. each c (among-later c d ds m) ∙ sym first)) ∙ ap (λ z. Some z) first
+      cond-true (list_all (λ y. same_id y (f d)) (map f ds)) (Some (f d)) None (all ds (λ c m. each c (among-later c d ds m) ∙ sym first))
+      ∙ ap (λ z. Some z) first
     where
       all : (cs : List StateId) → ((c : StateId) → IsTrue (is_among c cs) → f c ≡ f d) → IsTrue (list_all (λ y. same_id y (f d)) (map f cs))
       all [] each = refl
@@ -141,7 +155,8 @@ some-there None t = not-both true refl (sym t)
 
 -- an absorbed state has children, and they share one stand-in
 pub absorbed-parts : (rs : List Record) (ks : List StateId) (x : StateId) → IsTrue (is_absorbed rs ks x) →
-    (s : StateId) × (shared_stand_in rs ks x ≡ Some s) × IsTrue (list_any (λ c. true) (children rs x)) × ((c : StateId) → IsTrue (is_among c (children rs x)) → stand_in rs ks c ≡ s)
+    (s : StateId) × (shared_stand_in rs ks x ≡ Some s) × IsTrue (list_any (λ c. true) (children rs x))
+    × ((c : StateId) → IsTrue (is_among c (children rs x)) → stand_in rs ks c ≡ s)
 absorbed-parts rs ks x absorbed =
     let there = some-there (shared_stand_in rs ks x) absorbed in
     let parts = common-is (stand_in rs ks) (children rs x) there.0 there.1 in
@@ -158,7 +173,8 @@ stands-in-shared rs ks g x s gone some each = go (children rs x) (goes-by-first-
     go (d ∷ ds) e some each = e ∙ each d (among-first d ds)
 
 -- an absorbed state that gets no child stays absorbed: what its children shared moves on as one
-pub absorbed-before : (rs : List Record) (r : Record) (ks : List StateId) (x : StateId) → IsFalse (is_among x r.parents) → IsTrue (is_absorbed rs ks x) → IsTrue (is_absorbed (r ∷ rs) ks x)
+pub absorbed-before : (rs : List Record) (r : Record) (ks : List StateId) (x : StateId) → IsFalse (is_among x r.parents) → IsTrue (is_absorbed rs ks x) →
+    IsTrue (is_absorbed (r ∷ rs) ks x)
 absorbed-before rs r ks x childless absorbed =
     let was = absorbed-parts rs ks x absorbed in
     let s = was.0 in
@@ -193,7 +209,8 @@ module _ (rs : List Record) (ks : List StateId) (dag : IsDag rs) (shared : Stand
       }
 
   -- a collected one is where its children are
-  collected-is-well : (z : StateId) → IsTrue (is_among z ks) → ((c : StateId) → IsTrue (is_among c (children rs z)) → IsWellStoodFor rs ks c) → IsWellStoodFor rs ks z
+  collected-is-well : (z : StateId) → IsTrue (is_among z ks) → ((c : StateId) → IsTrue (is_among c (children rs z)) → IsWellStoodFor rs ks c) →
+      IsWellStoodFor rs ks z
   collected-is-well z gone below = record {
     kept = subst (λ y. IsTrue (is_kept rs ks y)) (some_same) (below some.0 some.1).kept;
     tells = λ x kept. same_test (is_above rs z x) (is_above rs (stand_in rs ks z) x) (down x kept) (up x kept);

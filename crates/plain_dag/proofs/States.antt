@@ -1,6 +1,10 @@
 -- Children and parents of states. The lemmas that most proofs of this crate start from are passed on from here.
-pub use Rattle.plain_dag.proofs.Ids.{same_test, not-both, same_id-true, same_id_self, same_id_from, same_id_symmetric, same_id_turns, among-first, among-later, among-cases, among-append, among-differs, any-witness, any-from, any-false-from, any-false-at, all-at, all-from, any-agrees, all-agrees, none-found}
-pub use Rattle.plain_dag.proofs.Histories.{Fits, Grows, dag-grows, next-fits, next-is-dag, newest-is-known, known-stays, known-cases, known-before, known-isnt-newest, parent-is-known, arrival-newest, arrival-before, arrival_is_below, parents-newest, parents-before, has-parent-is-known, parents-are-known}
+pub use Rattle.plain_dag.proofs.Ids.{same_test, not-both, same_id-true, same_id_self, same_id_from, same_id_symmetric, same_id_turns, among-first}
+pub use Rattle.plain_dag.proofs.Ids.{among-later, among-cases, among-append, among-differs, any-witness, any-from, any-false-from, any-false-at, all-at}
+pub use Rattle.plain_dag.proofs.Ids.{all-from, any-agrees, all-agrees, none-found}
+pub use Rattle.plain_dag.proofs.Histories.{Fits, Grows, dag-grows, next-fits, next-is-dag, newest-is-known, known-stays, known-cases, known-before}
+pub use Rattle.plain_dag.proofs.Histories.{known-isnt-newest, parent-is-known, arrival-newest, arrival-before, arrival_is_below, parents-newest}
+pub use Rattle.plain_dag.proofs.Histories.{parents-before, has-parent-is-known, parents-are-known}
 use Rattle.std.proofs.Common.{◌≡◌, ◌<◌, true, List, [], ◌∷◌, ◌++◌, IsTrue, IsFalse, ◌⊎◌, inl, inr, refl, sym, subst, ◌∙◌, arith}
 use Rattle.std.proofs.lemmas.Bool.{or_cases, or_left, or_right, cases_Bool, cond-true, cond-false, false_from_ne_true}
 use Rattle.std.specs.List.{list_any}

@@ -1,5 +1,6 @@
 -- Collection is one walk from the newest state to the oldest.
-use Rattle.std.proofs.Common.{◌≡◌, ℕ, zero, suc, ◌<◌, ◌≤◌, true, ◌&&◌, not, List, [], ◌∷◌, map, find, Option, Some, None, IsTrue, IsFalse, is_some, inl, inr, refl, sym, ap, ap₂, subst, ◌∙◌, arith}
+use Rattle.std.proofs.Common.{◌≡◌, ℕ, zero, suc, ◌<◌, ◌≤◌, true, ◌&&◌, not, List, [], ◌∷◌, map, find, Option, Some, None, IsTrue, IsFalse, is_some, inl, inr}
+use Rattle.std.proofs.Common.{refl, sym, ap, ap₂, subst, ◌∙◌, arith}
 use Rattle.std.proofs.lemmas.Bool.{and_parts, and_from, and_right, or_parts, cases_Bool, both_ways, not-true, not_from_false, false_from_ne_true, cond-false}
 use Rattle.std.proofs.Math.Nat.{eq-or-lt_of_le}
 use Rattle.tardis_base.specs.declared.ids.StateId.{StateId}
@@ -10,7 +11,9 @@ use Rattle.plain_dag.specs.Floors.{Floor, is_closed}
 use Rattle.plain_dag.specs.Collection.{stand_in, common, shared_stand_in, is_absorbed, is_collectable, tidied}
 use Rattle.plain_dag.specs.Dag.{IsDag}
 use Rattle.plain_dag.specs.Laws.{NoLaterCollectable, TidiesInOneWalk}
-use Rattle.plain_dag.proofs.States.{Grows, dag-grows, not-both, same_id-true, same_id_self, same_id_from, among-first, among-later, arrival_is_below, arrival-newest, arrival-before, newest-is-known, known-stays, known-cases, known-isnt-newest, parent-is-known, child_is_known, child_arrives_later}
+use Rattle.plain_dag.proofs.States.{Grows, dag-grows, not-both, same_id-true, same_id_self, same_id_from, among-first, among-later, arrival_is_below}
+use Rattle.plain_dag.proofs.States.{arrival-newest, arrival-before, newest-is-known, known-stays, known-cases, known-isnt-newest, parent-is-known}
+use Rattle.plain_dag.proofs.States.{child_is_known, child_arrives_later}
 use Rattle.plain_dag.proofs.Order.{arrivals-differ}
 use Rattle.plain_dag.proofs.Searches.{found-passes, finds-passing, option-cases}
 use Rattle.plain_dag.proofs.Newest.{found-is-last}
@@ -23,8 +26,10 @@ use Rattle.plain_dag.proofs.Joining.{stand-ins-move}
 newest-stands-for-itself : (rs : List Record) (ks : List StateId) (r : Record) → Grows (r ∷ rs) → stand_in (r ∷ rs) ks r.id ≡ r.id
 newest-stands-for-itself rs ks r g =
     let itself = unknown-stands-for-itself ks rs g.1 r.id g.0.new in
-    let childless : IsFalse (is_among r.id r.parents) = false_from_ne_true (is_among r.id r.parents) (λ m. both_ways (is_known rs r.id) g.0.new (parent-is-known rs r r.id g.0 m)) in
-    stays-put ks rs r r.id (and_right (is_among (stand_in rs ks r.id) ks) (is_among (stand_in rs ks r.id) r.parents) (subst (λ z. IsFalse (is_among z r.parents)) (sym itself) childless)) ∙ itself
+    let childless : IsFalse (is_among r.id r.parents) = false_from_ne_true (is_among r.id r.parents)
+    (λ m. both_ways (is_known rs r.id) g.0.new (parent-is-known rs r r.id g.0 m)) in
+    stays-put ks rs r r.id (and_right (is_among (stand_in rs ks r.id) ks) (is_among (stand_in rs ks r.id) r.parents)
+    (subst (λ z. IsFalse (is_among z r.parents)) (sym itself) childless)) ∙ itself
 
 -- a stand-in is known, and arrived no earlier than what it stands for
 record IsNoEarlier (rs : List Record) (z y : StateId) : Type 0 where
@@ -76,13 +81,15 @@ module _ (rs : List Record) (floors : List Floor) (ks : List StateId) (dag : IsD
           absurd (omega arith))
 
   -- what is collectable is fresh, closed, and its children share a stand-in
-  collectable-parts : (x : StateId) → IsTrue (is_collectable rs floors ks x) → IsTrue (not (is_among x ks)) × IsTrue (is_closed rs floors x) × IsTrue (is_absorbed rs ks x)
+  collectable-parts : (x : StateId) → IsTrue (is_collectable rs floors ks x) → IsTrue (not (is_among x ks)) × IsTrue (is_closed rs floors x)
+      × IsTrue (is_absorbed rs ks x)
   collectable-parts x collectable =
       let fits = and_parts (not (is_among x ks) && is_closed rs floors x) (is_absorbed rs ks x) collectable in
       let first = and_parts (not (is_among x ks)) (is_closed rs floors x) fits.0 in
       (first.0, first.1, fits.1)
 
-  goes-on : (x y : StateId) → IsTrue (is_known rs x) → IsTrue (is_collectable rs floors ks x) → NoLaterCollectable rs floors ks x → IsTrue (is_known rs y) → arrival rs x ≤ arrival rs y →
+  goes-on : (x y : StateId) → IsTrue (is_known rs x) → IsTrue (is_collectable rs floors ks x) → NoLaterCollectable rs floors ks x → IsTrue (is_known rs y)
+      → arrival rs x ≤ arrival rs y →
       IsFalse (is_collectable rs floors (x ∷ ks) y)
   goes-on x y known collectable none known_y no_earlier = false_from_ne_true (is_collectable rs floors (x ∷ ks) y) (λ t.
       let old = collectable-parts x collectable in
@@ -104,7 +111,8 @@ module _ (rs : List Record) (floors : List Floor) (ks : List StateId) (dag : IsD
         | inr l ↦ l
       ]
 
-  finds-newest : (x : StateId) → IsTrue (is_known rs x) → IsTrue (is_collectable rs floors ks x) → NoLaterCollectable rs floors ks x → find (is_collectable rs floors ks) (states rs) ≡ Some x
+  finds-newest : (x : StateId) → IsTrue (is_known rs x) → IsTrue (is_collectable rs floors ks x) → NoLaterCollectable rs floors ks x →
+      find (is_collectable rs floors ks) (states rs) ≡ Some x
   finds-newest x known collectable none =
       let found = finds-passing (is_collectable rs floors ks) (states rs) x known collectable in
       let passes = found-passes (is_collectable rs floors ks) (states rs) found.0 found.1 in
@@ -118,7 +126,8 @@ module _ (rs : List Record) (floors : List Floor) (ks : List StateId) (dag : IsD
         | inr l ↦ absurd (none l)
       ]
 
-  joins : (n : ℕ) (x : StateId) → IsTrue (is_known rs x) → IsTrue (is_collectable rs floors ks x) → NoLaterCollectable rs floors ks x → tidied (suc n) rs floors ks ≡ tidied n rs floors (x ∷ ks)
+  joins : (n : ℕ) (x : StateId) → IsTrue (is_known rs x) → IsTrue (is_collectable rs floors ks x) → NoLaterCollectable rs floors ks x →
+      tidied (suc n) rs floors ks ≡ tidied n rs floors (x ∷ ks)
   joins n x known collectable none =
       ap (λ (o : Option StateId). elim o as (λ u. List StateId) [ None ↦ ks | Some y ↦ tidied n rs floors (y ∷ ks) ]) (finds-newest x known collectable none)
 

@@ -18,10 +18,12 @@ use Rattle.plain_dag.proofs.Growth.{writer-is-known}
 written-is-found : (k : List ℕ) (ws : List KeyWrite) → IsTrue (has_key k ws) → IsTrue (is_some (write_of k ws))
 written-is-found k [] h = not-both true refl (sym h)
 written-is-found k (w ∷ ws) h = elim (cases_Bool (bytes_eq k w.0)) [
-  | inl t ↦ subst (λ o. IsTrue (is_some (option_map (λ (v : KeyWrite). v.1) o))) (sym (cond-true (bytes_eq k w.0) (Some w) (find (λ (v : KeyWrite). bytes_eq k v.0) ws) t)) refl
+  | inl t ↦ subst (λ o. IsTrue (is_some (option_map (λ (v : KeyWrite). v.1) o)))
+      (sym (cond-true (bytes_eq k w.0) (Some w) (find (λ (v : KeyWrite). bytes_eq k v.0) ws) t)) refl
   | inr f ↦ elim (or_cases (bytes_eq k w.0) (has_key k ws) h) [
     | inl t ↦ not-both (bytes_eq k w.0) t f
-    | inr m ↦ subst (λ o. IsTrue (is_some (option_map (λ (v : KeyWrite). v.1) o))) (sym (cond-false (bytes_eq k w.0) (Some w) (find (λ (v : KeyWrite). bytes_eq k v.0) ws) f)) (written-is-found k ws m)
+    | inr m ↦ subst (λ o. IsTrue (is_some (option_map (λ (v : KeyWrite). v.1) o)))
+        (sym (cond-false (bytes_eq k w.0) (Some w) (find (λ (v : KeyWrite). bytes_eq k v.0) ws) f)) (written-is-found k ws m)
   ]
 ]
 

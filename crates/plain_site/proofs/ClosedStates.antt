@@ -12,12 +12,15 @@ use Rattle.tardis_base.specs.declared.records.Item.TheVariants.{Promise, State}
 use Rattle.tardis_base.specs.declared.records.Record.{Record}
 use Rattle.tardis_base.specs.declared.records.Write.{Write}
 use Rattle.tardis_base.specs.declared.records.Write.TheVariants.{Delete as Deletion, Put as Value}
-use Rattle.tardis_base.specs.declared.replies.Refusal.TheVariants.{AlreadyOpen, BadSite, Below, Branches, CeilingBack, Collected, Comparable, ConflictKey, FloorBack, Held, NotRead, SeqEnd, SessionsFull, TooMany, Unknown}
+use Rattle.tardis_base.specs.declared.replies.Refusal.TheVariants.{AlreadyOpen, BadSite, Below, Branches, CeilingBack, Collected, Comparable, ConflictKey}
+use Rattle.tardis_base.specs.declared.replies.Refusal.TheVariants.{FloorBack, Held, NotRead, SeqEnd, SessionsFull, TooMany, Unknown}
 use Rattle.tardis_base.specs.declared.replies.Reply.{Reply}
 use Rattle.tardis_base.specs.declared.replies.Reply.TheVariants.{Applied, Batch as BatchIs, Done, Ended, Opened, Shown}
 use Rattle.tardis_base.specs.declared.requests.EndFlags.{EndFlags}
 use Rattle.tardis_base.specs.declared.requests.Request.{Request}
-use Rattle.tardis_base.specs.declared.requests.Request.TheVariants.{Abort, Begin as BeginAt, BeginMerge, Ceiling, Close, Commit, Conflicts, Delete, Deliver, ForkPoints, Get, GetFor, Leaves, Open, Pull, Put, Raise, RaiseAuto, Settle, Show, Stat, Tidy}
+use Rattle.tardis_base.specs.declared.requests.Request.TheVariants.{Abort, Begin as BeginAt, BeginMerge, Ceiling, Close, Commit, Conflicts, Delete, Deliver}
+use Rattle.tardis_base.specs.declared.requests.Request.TheVariants.{ForkPoints, Get, GetFor, Leaves, Open, Pull, Put, Raise, RaiseAuto, Settle, Show, Stat}
+use Rattle.tardis_base.specs.declared.requests.Request.TheVariants.{Tidy}
 use Rattle.wire_item.specs.Valid.{is_item}
 use Rattle.wire_talk.specs.Valid.{is_request}
 use Rattle.plain_dag.specs.Above.{comparable_pair, is_above}
@@ -37,7 +40,8 @@ use Rattle.plain_site.proofs.SoundDeliveries.{waiting-is-record, welcome}
 use Rattle.plain_site.proofs.SoundRooms.{first-is-fit}
 use Rattle.plain_site.specs.Answers.{Answer, found, refuse, refuse_found, says_early, shown}
 use Rattle.plain_site.specs.Commits.{abort, commit, commit_below, commit_single, commit_writes, committed, growth_refusals, with_record, without_txn_of}
-use Rattle.plain_site.specs.Exchange.{batch_for, consent_judgements, deliver, deliver_consent, deliver_record, first_fit_record, is_fit, judgements, pull, settle, settle_record, take_record, with_held, with_settled}
+use Rattle.plain_site.specs.Exchange.{batch_for, consent_judgements, deliver, deliver_consent, deliver_record, first_fit_record, is_fit, judgements, pull}
+use Rattle.plain_site.specs.Exchange.{settle, settle_record, take_record, with_held, with_settled}
 use Rattle.plain_site.specs.FloorSteps.{raise, raise_to, raised}
 use Rattle.plain_site.specs.Laws.{ClosedGetNoChild}
 use Rattle.plain_site.specs.Merges.{begin_merge, conflicts_of, first_below, first_unknown, fork_points_of, in_order, merge_at, merging, states_to_merge}
@@ -78,7 +82,8 @@ module _ (site : Site) (n : ℕ) (x : StateId) where
       unless-keeps Stays site refl (refuse (length t.reads == 256 && not (is_key_among k t.reads)) (TooMany 2 257) ∷ [])
       (with_txn_changed n (having_read k) site, found (read site.dag k t.state)) (λ none. refl)
   read-stays (Merge t) k =
-      unless-keeps Stays site refl (refuse (is_conflict_key site.dag t.states k) (ConflictKey k) ∷ []) (site, found (value_over site.dag t.states k)) (λ none. refl)
+      unless-keeps Stays site refl (refuse (is_conflict_key site.dag t.states k) (ConflictKey k) ∷ []) (site, found (value_over site.dag t.states k))
+      (λ none. refl)
 
   get-stays : (t : Txn) (k : List ℕ) → Stays (get site n t k).0
   get-stays t k = given-keeps Stays site refl (write_of k (writes_of t)) (read_in site n t k) (λ w. (site, shown root w)) (λ none. read-stays t k) (λ w e. refl)
@@ -90,7 +95,8 @@ module _ (site : Site) (n : ℕ) (x : StateId) where
 
   get_for-stays : (t : Txn) (k : List ℕ) (y : StateId) → Stays (get_for site t k y).0
   get_for-stays (Single t) k y = refl
-  get_for-stays (Merge t) k y = unless-keeps Stays site refl (refuse (not (is_among y t.states)) (NotRead y) ∷ []) (site, found (read site.dag k y)) (λ none. refl)
+  get_for-stays (Merge t) k y = unless-keeps Stays site refl (refuse (not (is_among y t.states)) (NotRead y) ∷ []) (site, found (read site.dag k y))
+      (λ none. refl)
 
   forks-stay : (t : Txn) → Stays (fork_points_of site t).0
   forks-stay (Single t) = refl
@@ -106,7 +112,8 @@ module _ (site : Site) (n : ℕ) (x : StateId) where
       (site, Shown (arrival site.dag y) (children site.dag y) (fork_path site.dag site.collected y)) (λ none. refl)
 
   pull-stays : (counts : List ℕ) → Stays (pull site counts).0
-  pull-stays counts = unless-keeps Stays site refl (refuse (not (length counts == site.limits.sites)) (BadSite (length counts)) ∷ []) (site, BatchIs (batch_for site counts)) (λ none. refl)
+  pull-stays counts = unless-keeps Stays site refl (refuse (not (length counts == site.limits.sites)) (BadSite (length counts)) ∷ [])
+      (site, BatchIs (batch_for site counts)) (λ none. refl)
 
   raise-stays : (y : StateId) (refusals : List (Option Reply)) → Stays (raise_to site y refusals).0
   raise-stays y refusals = unless-keeps Stays site refl (refusals ++ refuse ((own_floor site).number == 4294967295) SeqEnd ∷ []) (raised site y) (λ none. refl)
@@ -138,8 +145,10 @@ module _ (site : Site) (n : ℕ) (x : StateId) where
   -- ===== Records whose parents aren't closed
 
   module _ (sound : IsSound site) (closed : IsTrue (is_closed site.dag site.floors x)) where
-    joined-stays : (r : Record) → ((p : StateId) → IsTrue (is_among p r.parents) → IsFalse (is_closed site.dag site.floors p)) → children (r ∷ site.dag) x ≡ children site.dag x
-    joined-stays r free = children-before site.dag r x (false_from_ne_true (is_among x r.parents) (λ m. both_ways (is_closed site.dag site.floors x) (free x m) closed))
+    joined-stays : (r : Record) → ((p : StateId) → IsTrue (is_among p r.parents) → IsFalse (is_closed site.dag site.floors p)) → children (r ∷ site.dag) x
+        ≡ children site.dag x
+    joined-stays r free = children-before site.dag r x (false_from_ne_true (is_among x r.parents)
+        (λ m. both_ways (is_closed site.dag site.floors x) (free x m) closed))
 
     below-stays : (parents : List StateId) (writes : List KeyWrite) (refusals : List (Option Reply)) → (AreNone refusals → MayJoin site parents writes) →
         Stays (commit_below site n parents writes refusals).0
@@ -160,7 +169,8 @@ module _ (site : Site) (n : ℕ) (x : StateId) where
 
         go : (ws : List KeyWrite) → Stays (elim ws as (λ v. Answer) [ [] ↦ (without_txn_of n site, Ended t.state) | w ∷ vs ↦ commit_writes site n t flags k ]).0
         go [] = refl
-        go (w ∷ ws) = below-stays (at ∷ []) t.writes (refuse_found (λ c. Branches c at number) (broken flags k number) ∷ []) (λ none. single-joins site n s t flags has txn sound)
+        go (w ∷ ws) = below-stays (at ∷ []) t.writes (refuse_found (λ c. Branches c at number) (broken flags k number) ∷ [])
+            (λ none. single-joins site n s t flags has txn sound)
 
     commit-stays : (t : Txn) (flags : EndFlags) (k : ℕ) → entry_of n site.txns ≡ Some t → Stays (commit site n t flags k).0
     commit-stays t flags k has = let was = sound.each_txn n t has in go was.0 t was.1 was.2
@@ -205,7 +215,8 @@ module _ (site : Site) (n : ℕ) (x : StateId) where
     request-stays (Delete k) valid = txn-keeps Stays site refl n (λ s t. set_key site n t k Deletion) (λ s e t f. write-stays t k Deletion)
     request-stays (Commit flags k) valid = txn-keeps Stays site refl n (λ s t. commit site n t flags k) (λ s e t f. commit-stays t flags k f)
     request-stays Abort valid = txn-keeps Stays site refl n (λ s t. abort site n) (λ s e t f. refl)
-    request-stays (BeginMerge of) valid = no_txn-keeps Stays site refl n (λ s. begin_merge site n s of) (λ s e none. merge-stays s.ceiling (states_to_merge site of))
+    request-stays (BeginMerge of) valid = no_txn-keeps Stays site refl n (λ s. begin_merge site n s of)
+        (λ s e none. merge-stays s.ceiling (states_to_merge site of))
     request-stays ForkPoints valid = txn-keeps Stays site refl n (λ s t. fork_points_of site t) (λ s e t f. forks-stay t)
     request-stays (Conflicts after) valid = txn-keeps Stays site refl n (λ s t. conflicts_of site t after) (λ s e t f. conflicts-stay t after)
     request-stays (GetFor k y) valid = txn-keeps Stays site refl n (λ s t. get_for site t k y) (λ s e t f. get_for-stays t k y)

@@ -31,7 +31,8 @@ abbrev judged : Site → Bool → Refusal → Bool → Bool → Refusal → Bool
 judged site bad one known own three early have closed more answer =
     (unless site (refuse bad one ∷ when known Known ∷ refuse own three ∷ when early (Early have) ∷ refuse_found ClosedParent closed ∷ more) answer).1
 
-never-applied : (site : Site) (bad : Bool) (one : Refusal) (known own : Bool) (three : Refusal) (early : Bool) (have : ℕ) (q : StateId) (more : List (Option Reply)) (answer : Answer) →
+never-applied : (site : Site) (bad : Bool) (one : Refusal) (known own : Bool) (three : Refusal) (early : Bool) (have : ℕ) (q : StateId)
+    (more : List (Option Reply)) (answer : Answer) →
     judged site bad one known own three early have (Some q) more answer ≡ Applied → ⊥
 never-applied site true one known own three early have q more answer e = let bad : ⊥ = cc in bad
 never-applied site false one true own three early have q more answer e = let bad : ⊥ = cc in bad
@@ -39,7 +40,8 @@ never-applied site false one false true three early have q more answer e = let b
 never-applied site false one false false three true have q more answer e = let bad : ⊥ = cc in bad
 never-applied site false one false false three false have q more answer e = let bad : ⊥ = cc in bad
 
-names-parent : (site : Site) (bad : Bool) (one : Refusal) (known own : Bool) (three : Refusal) (early : Bool) (have : ℕ) (q : StateId) (more : List (Option Reply)) (answer : Answer) →
+names-parent : (site : Site) (bad : Bool) (one : Refusal) (known own : Bool) (three : Refusal) (early : Bool) (have : ℕ) (q : StateId)
+    (more : List (Option Reply)) (answer : Answer) →
     IsFalse bad → IsFalse known → IsFalse own → IsFalse early → judged site bad one known own three early have (Some q) more answer ≡ Refused (ClosedParent q)
 names-parent site true one known own three early have q more answer a b c d = not-both true refl a
 names-parent site false one true own three early have q more answer a b c d = not-both true refl b
@@ -54,16 +56,20 @@ below-collected-is-turned-away site r p sound parent among =
     let q = found.0 in
     let count = count_of_site rs r.id.site in
     let more : List (Option Reply) =
-    refuse_found (λ (pair : StateId × StateId). Comparable pair.0 pair.1) (comparable_pair rs r.parents) ∷ refuse_found OpenConflict (open_conflict rs r.parents r.writes) ∷ growth_refusals site r in
+    refuse_found (λ (pair : StateId × StateId). Comparable pair.0 pair.1) (comparable_pair rs r.parents)
+    ∷ refuse_found OpenConflict (open_conflict rs r.parents r.writes) ∷ growth_refusals site r in
     let says : Option StateId → Reply =
-    λ o. judged site (nat_lt site.limits.sites r.id.site) (BadSite r.id.site) (nat_le r.id.sequence count) (r.id.site == site.own) (OwnItem r.id.site r.id.sequence) (is_early site r) count o more (with_record r site, Applied) in
+    λ o. judged site (nat_lt site.limits.sites r.id.site) (BadSite r.id.site) (nat_le r.id.sequence count) (r.id.site == site.own)
+    (OwnItem r.id.site r.id.sequence) (is_early site r) count o more (with_record r site, Applied) in
     record {
-      never = λ e. never-applied site (nat_lt site.limits.sites r.id.site) (BadSite r.id.site) (nat_le r.id.sequence count) (r.id.site == site.own) (OwnItem r.id.site r.id.sequence) (is_early site r) count q more (with_record r site, Applied)
+      never = λ e. never-applied site (nat_lt site.limits.sites r.id.site) (BadSite r.id.site) (nat_le r.id.sequence count) (r.id.site == site.own)
+          (OwnItem r.id.site r.id.sequence) (is_early site r) count q more (with_record r site, Applied)
           (subst (λ o. says o ≡ Applied) found.1 e);
       named = λ a b c d. (
         q,
         (found-passes (is_closed rs site.floors) r.parents q found.1).0,
         subst (λ o. says o ≡ Refused (ClosedParent q)) (sym found.1)
-            (names-parent site (nat_lt site.limits.sites r.id.site) (BadSite r.id.site) (nat_le r.id.sequence count) (r.id.site == site.own) (OwnItem r.id.site r.id.sequence) (is_early site r) count q more (with_record r site, Applied) a b c d),
+            (names-parent site (nat_lt site.limits.sites r.id.site) (BadSite r.id.site) (nat_le r.id.sequence count) (r.id.site == site.own)
+            (OwnItem r.id.site r.id.sequence) (is_early site r) count q more (with_record r site, Applied) a b c d),
       );
     }

@@ -2,7 +2,9 @@
 use Rattle.std.proofs.Common.{ℕ, IsTrue, refl}
 use Rattle.tardis_base.specs.declared.records.Write.TheVariants.{Put as Value, Delete as Deletion}
 use Rattle.tardis_base.specs.declared.requests.Request.{Request}
-use Rattle.tardis_base.specs.declared.requests.Request.TheVariants.{Open, Begin as BeginAt, Get, Put, Delete, Commit, Abort, BeginMerge, ForkPoints, Conflicts, GetFor, Ceiling, Raise, RaiseAuto, Tidy, Stat, Show, Leaves, Pull, Deliver, Settle, Close}
+use Rattle.tardis_base.specs.declared.requests.Request.TheVariants.{Open, Begin as BeginAt, Get, Put, Delete, Commit, Abort, BeginMerge, ForkPoints}
+use Rattle.tardis_base.specs.declared.requests.Request.TheVariants.{Conflicts, GetFor, Ceiling, Raise, RaiseAuto, Tidy, Stat, Show, Leaves, Pull, Deliver}
+use Rattle.tardis_base.specs.declared.requests.Request.TheVariants.{Settle, Close}
 use Rattle.tardis_base.specs.declared.replies.Reply.TheVariants.{Done}
 use Rattle.tardis_base.specs.Valid.{is_id, is_key}
 use Rattle.wire_talk.specs.Valid.{is_request}
@@ -28,22 +30,27 @@ use Rattle.plain_site.proofs.RepliesOfExchange.{pull-fits, deliver-fits, settle-
 
 ranged-fits : (site : Site) (n : ℕ) (q : Request) → IsTrue (is_request q) → IsSound site → IsRanged site → Replies Fits (step site n q)
 ranged-fits site n (Open follow) h sound ranged = open-fits site n follow ranged
-ranged-fits site n (BeginAt at) h sound ranged = by-no-txn (refuses-fit site) n (λ s. begin site n s at) (λ s e. begin-fits site n s at ranged (ranged.sessions n s e) h)
+ranged-fits site n (BeginAt at) h sound ranged = by-no-txn (refuses-fit site) n (λ s. begin site n s at)
+    (λ s e. begin-fits site n s at ranged (ranged.sessions n s e) h)
 ranged-fits site n (Get k) h sound ranged =
     by-txn (refuses-fit site) n (λ s t. get site n t k) (λ s t e d. get-fits site n t k ranged.stored (txn-at site n s t sound e d).shape h)
 ranged-fits site n (Put k v) h sound ranged = by-txn (refuses-fit site) n (λ s t. set_key site n t k (Value v)) (λ s t e d. set-fits site n t k (Value v))
 ranged-fits site n (Delete k) h sound ranged = by-txn (refuses-fit site) n (λ s t. set_key site n t k Deletion) (λ s t e d. set-fits site n t k Deletion)
 ranged-fits site n (Commit flags k) h sound ranged =
-    by-txn (refuses-fit site) n (λ s t. commit site n t flags k) (λ s t e d. commit-fits site n s.ceiling t flags k sound.dag ranged (txn-at site n s t sound e d))
-ranged-fits site n Abort h sound ranged = by-txn (refuses-fit site) n (λ s t. abort site n) (λ s t e d. good-reply (without_txn_of n site) Done (reply-fits Done refl refl))
+    by-txn (refuses-fit site) n (λ s t. commit site n t flags k)
+    (λ s t e d. commit-fits site n s.ceiling t flags k sound.dag ranged (txn-at site n s t sound e d))
+ranged-fits site n Abort h sound ranged = by-txn (refuses-fit site) n (λ s t. abort site n)
+    (λ s t e d. good-reply (without_txn_of n site) Done (reply-fits Done refl refl))
 ranged-fits site n (BeginMerge of) h sound ranged =
     by-no-txn (refuses-fit site) n (λ s. begin_merge site n s of) (λ s e. begin-merge-fits site n s of sound ranged (ranged.sessions n s e) h)
 ranged-fits site n ForkPoints h sound ranged =
     by-txn (refuses-fit site) n (λ s t. fork_points_of site t) (λ s t e d. fork-points-fit site n s t sound ranged e (txn-at site n s t sound e d))
-ranged-fits site n (Conflicts after) h sound ranged = by-txn (refuses-fit site) n (λ s t. conflicts_of site t after) (λ s t e d. conflicts-fit site t after ranged)
+ranged-fits site n (Conflicts after) h sound ranged = by-txn (refuses-fit site) n (λ s t. conflicts_of site t after)
+    (λ s t e d. conflicts-fit site t after ranged)
 ranged-fits site n (GetFor k x) h sound ranged =
     by-txn (refuses-fit site) n (λ s t. get_for site t k x) (λ s t e d. get-for-fits site t k x ranged.stored (second (is_key k) (is_id x) h))
-ranged-fits site n (Ceiling x) h sound ranged = by-no-txn (refuses-fit site) n (λ s. set_ceiling site n s x) (λ s e. ceiling-fits site n s x (ranged.sessions n s e) h)
+ranged-fits site n (Ceiling x) h sound ranged = by-no-txn (refuses-fit site) n (λ s. set_ceiling site n s x)
+    (λ s e. ceiling-fits site n s x (ranged.sessions n s e) h)
 ranged-fits site n (Raise x) h sound ranged = raise-fits site x sound ranged h
 ranged-fits site n RaiseAuto h sound ranged = raise-auto-fits site ranged
 ranged-fits site n (Tidy count) h sound ranged = tidy-fits site count h

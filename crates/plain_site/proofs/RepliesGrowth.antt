@@ -1,5 +1,6 @@
 -- Fork paths are valid and not too many, and so are the refusals of growth.
-use Rattle.std.proofs.Common.{◌≡◌, ℕ, zero, suc, ◌+◌, ◌*◌, ◌≤◌, ◌<◌, ◌^◌, Bool, true, false, ◌&&◌, ◌==◌, not, List, [], ◌∷◌, ◌++◌, length, filter, find, map, if◌then◌else◌, Option, Some, None, nat_lt, IsTrue, refl, sym, ◌∙◌, ap, subst, inl, inr, arith, lt-ltb, length-append}
+use Rattle.std.proofs.Common.{◌≡◌, ℕ, zero, suc, ◌+◌, ◌*◌, ◌≤◌, ◌<◌, ◌^◌, Bool, true, false, ◌&&◌, ◌==◌, not, List, [], ◌∷◌, ◌++◌, length, filter, find, map}
+use Rattle.std.proofs.Common.{if◌then◌else◌, Option, Some, None, nat_lt, IsTrue, refl, sym, ◌∙◌, ap, subst, inl, inr, arith, lt-ltb, length-append}
 use Rattle.std.proofs.lemmas.Bool.{and_from, cases_Bool, cond-true, cond-false}
 use Rattle.std.proofs.lemmas.Option.{none-some, same_Some}
 use Rattle.std.proofs.lemmas.List.FromFn.{length-map-range_with_len}
@@ -39,7 +40,8 @@ HaveFewChildren rs = (x : StateId) → length (children rs x) ≤ 16385
 branches-of-are-pairs : (rs : List Record) (x : StateId) → HaveFewChildren rs → IsTrue (is_id x) → IsTrue (list_all is_pair (branches_of rs x))
 branches-of-are-pairs rs x few h = let l = few x in pairs-from x 0 (length (children rs x)) h (omega arith)
 
-all-branches : (rs : List Record) (xs : List StateId) → HaveFewChildren rs → IsTrue (list_all is_id xs) → IsTrue (list_all is_pair (flat_map (branches_of rs) xs))
+all-branches : (rs : List Record) (xs : List StateId) → HaveFewChildren rs → IsTrue (list_all is_id xs) →
+    IsTrue (list_all is_pair (flat_map (branches_of rs) xs))
 all-branches rs [] few h = refl
 all-branches rs (x ∷ xs) few h =
     all-append is_pair (branches_of rs x) (flat_map (branches_of rs) xs)
@@ -57,12 +59,14 @@ number-of-branches rs (x ∷ xs) few =
 pub kept-are-ids : (rs : List Record) (ks : List StateId) → IsTrue (list_all is_stored rs) → IsTrue (list_all is_id (kept_states rs ks))
 kept-are-ids rs ks h = all-filter is_id (λ x. not (is_among x ks)) (arrived rs) (arrived-are-ids rs h)
 
-pub path-is-valid : (rs : List Record) (ks : List StateId) (x : StateId) → HaveFewChildren rs → IsTrue (list_all is_stored rs) → IsTrue (list_all is_pair (fork_path rs ks x))
+pub path-is-valid : (rs : List Record) (ks : List StateId) (x : StateId) → HaveFewChildren rs → IsTrue (list_all is_stored rs) →
+    IsTrue (list_all is_pair (fork_path rs ks x))
 path-is-valid rs ks x few h =
     all-filter is_pair (leads_to rs x) (branches rs ks)
     (all-branches rs (filter (is_fork rs) (kept_states rs ks)) few (all-filter is_id (is_fork rs) (kept_states rs ks) (kept-are-ids rs ks h)))
 
-path-is-short : (rs : List Record) (ks : List StateId) (x : StateId) → HaveFewChildren rs → length (kept_states rs ks) ≤ 16385 → length (fork_path rs ks x) < 2 ^ 32
+path-is-short : (rs : List Record) (ks : List StateId) (x : StateId) → HaveFewChildren rs → length (kept_states rs ks) ≤ 16385 → length (fork_path rs ks x)
+    < 2 ^ 32
 path-is-short rs ks x few kept =
     let a = length-of-filter (leads_to rs x) (branches rs ks) in
     let b = number-of-branches rs (filter (is_fork rs) (kept_states rs ks)) few in
@@ -101,10 +105,12 @@ pub record GrowsInRange (rs : List Record) (ks : List StateId) (limits : Limits)
   pub few_children : (x : StateId) → length (children rs x) ≤ 16384
   pub few_kept : length (kept_states rs ks) ≤ 16384
 
-long-path-is-valid : (rs : List Record) (ks : List StateId) (most : ℕ) (p : StateId × ℕ) → IsTrue (list_all is_stored rs) → HaveFewChildren rs → length (kept_states rs ks) ≤ 16385 → long_path rs ks most ≡ Some p → IsTrue (is_id p.0 && is_u32 p.1)
+long-path-is-valid : (rs : List Record) (ks : List StateId) (most : ℕ) (p : StateId × ℕ) → IsTrue (list_all is_stored rs) → HaveFewChildren rs →
+    length (kept_states rs ks) ≤ 16385 → long_path rs ks most ≡ Some p → IsTrue (is_id p.0 && is_u32 p.1)
 long-path-is-valid rs ks most p h few kept e = go (find (λ x. nat_lt most (length (fork_path rs ks x))) (kept_states rs ks)) refl e
   where
-    go : (o : Option StateId) → find (λ x. nat_lt most (length (fork_path rs ks x))) (kept_states rs ks) ≡ o → option_map (λ x. (x, length (fork_path rs ks x))) o ≡ Some p → IsTrue (is_id p.0 && is_u32 p.1)
+    go : (o : Option StateId) → find (λ x. nat_lt most (length (fork_path rs ks x))) (kept_states rs ks) ≡ o →
+        option_map (λ x. (x, length (fork_path rs ks x))) o ≡ Some p → IsTrue (is_id p.0 && is_u32 p.1)
     go None is e = absurd (none-some p e)
     go (Some x) is e =
         subst (λ (q : StateId × ℕ). IsTrue (is_id q.0 && is_u32 q.1)) (same_Some (x, length (fork_path rs ks x)) p e)
@@ -112,11 +118,13 @@ long-path-is-valid rs ks most p h few kept e = go (find (λ x. nat_lt most (leng
         (all-found is_id (λ x. nat_lt most (length (fork_path rs ks x))) (kept_states rs ks) x (kept-are-ids rs ks h) is)
         (lt-ltb (length (fork_path rs ks x)) (2 ^ 32) (path-is-short rs ks x few kept)))
 
-pub growth-refusal-is-valid : (tries : Bool) (limits : Limits) (ks : List StateId) (rs : List Record) (r : Record) (f : Refusal) → GrowsInRange rs ks limits r → growth_refusal tries limits ks rs r ≡ Some f → IsTrue (is_refusal f)
+pub growth-refusal-is-valid : (tries : Bool) (limits : Limits) (ks : List StateId) (rs : List Record) (r : Record) (f : Refusal) →
+    GrowsInRange rs ks limits r → growth_refusal tries limits ks rs r ≡ Some f → IsTrue (is_refusal f)
 growth-refusal-is-valid tries limits ks rs r f g e = elim (cases_Bool (length (kept_states rs ks) == limits.max_kept)) [
   | inl t ↦
       let kept : length (kept_states rs ks) < 2 ^ 32 = omega (arith, g.few_kept) in
-      subst (λ q. IsTrue (is_refusal q)) (same_Some (Full (length (kept_states rs ks))) f (sym (cond-true (length (kept_states rs ks) == limits.max_kept) (Some (Full (length (kept_states rs ks)))) (too-long tries) t) ∙ e))
+      subst (λ q. IsTrue (is_refusal q)) (same_Some (Full (length (kept_states rs ks))) f
+      (sym (cond-true (length (kept_states rs ks) == limits.max_kept) (Some (Full (length (kept_states rs ks)))) (too-long tries) t) ∙ e))
       (lt-ltb (length (kept_states rs ks)) (2 ^ 32) kept)
   | inr n ↦ by-path tries (sym (cond-false (length (kept_states rs ks) == limits.max_kept) (Some (Full (length (kept_states rs ks)))) (too-long tries) n) ∙ e)
 ]

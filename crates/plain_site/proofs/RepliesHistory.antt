@@ -1,5 +1,6 @@
 -- Of a history: its ids, keys and values are valid, and its numbers fit their bits.
-use Rattle.std.proofs.Common.{◌≡◌, ℕ, zero, suc, ◌+◌, ◌*◌, ◌≤◌, ◌<◌, ◌^◌, Bool, true, ◌&&◌, ◌||◌, ◌==◌, not, List, [], ◌∷◌, length, find, Option, Some, None, nat_le, IsTrue, IsFalse, refl, sym, ◌∙◌, ap, subst, inl, inr, arith, leb-true, ltb-true, eqb-true, eq-eqb, ◌≢◌}
+use Rattle.std.proofs.Common.{◌≡◌, ℕ, zero, suc, ◌+◌, ◌*◌, ◌≤◌, ◌<◌, ◌^◌, Bool, true, ◌&&◌, ◌||◌, ◌==◌, not, List, [], ◌∷◌, length, find, Option, Some, None}
+use Rattle.std.proofs.Common.{nat_le, IsTrue, IsFalse, refl, sym, ◌∙◌, ap, subst, inl, inr, arith, leb-true, ltb-true, eqb-true, eq-eqb, ◌≢◌}
 use Rattle.std.proofs.lemmas.Bool.{both_ways, and_parts, and_from, or_cases, cases_Bool, cond-true, cond-false}
 use Rattle.std.proofs.lemmas.Option.{none-some, same_Some}
 use Rattle.std.specs.List.{list_all}
@@ -112,14 +113,16 @@ all-with-key k (l ∷ ls) h a = elim (cases_Bool (is_key_before k l)) [
   | inr f ↦ elim (cases_Bool (is_key_before l k)) [
     | inl t ↦
         subst (λ zs. IsTrue (list_all is_key zs)) (sym (with-key-after k l ls f t))
-        (and_from (is_key l) (list_all is_key (with_key k ls)) (first (is_key l) (list_all is_key ls) a) (all-with-key k ls h (second (is_key l) (list_all is_key ls) a)))
+        (and_from (is_key l) (list_all is_key (with_key k ls)) (first (is_key l) (list_all is_key ls) a)
+        (all-with-key k ls h (second (is_key l) (list_all is_key ls) a)))
     | inr n ↦
         subst (λ zs. IsTrue (list_all is_key zs)) (sym (with-key-same k l ls f n))
         (and_from (is_key k) (list_all is_key ls) h (second (is_key l) (list_all is_key ls) a))
   ]
 ]
 
-all-with-keys : (ws : List KeyWrite) (ks : List (List ℕ)) → IsTrue (list_all is_key_write ws) → IsTrue (list_all is_key ks) → IsTrue (list_all is_key (with_keys_of ws ks))
+all-with-keys : (ws : List KeyWrite) (ks : List (List ℕ)) → IsTrue (list_all is_key_write ws) → IsTrue (list_all is_key ks) →
+    IsTrue (list_all is_key (with_keys_of ws ks))
 all-with-keys [] ks h a = a
 all-with-keys (w ∷ ws) ks h a =
     all-with-key w.0 (with_keys_of ws ks) (first (is_key w.0) (is_write w.1) (first (is_key_write w) (list_all is_key_write ws) h))
@@ -136,10 +139,12 @@ written-are-keys (r ∷ rs) h =
 abbrev pub is_version : StateId × Write → Bool
 is_version v = is_id v.0 && is_write v.1
 
-pub version-is-valid : (rs : List Record) (k : List ℕ) (x : StateId) (v : StateId × Write) → IsTrue (list_all is_stored rs) → version_at rs k x ≡ Some v → IsTrue (is_version v)
+pub version-is-valid : (rs : List Record) (k : List ℕ) (x : StateId) (v : StateId × Write) → IsTrue (list_all is_stored rs) → version_at rs k x ≡ Some v →
+    IsTrue (is_version v)
 version-is-valid rs k x v h e = go (record_at rs x) refl e
   where
-    written : (r : Record) (o : Option Write) → IsTrue (is_stored r) → x ≡ r.id → write_of k r.writes ≡ o → option_map (λ w. (x, w)) o ≡ Some v → IsTrue (is_version v)
+    written : (r : Record) (o : Option Write) → IsTrue (is_stored r) → x ≡ r.id → write_of k r.writes ≡ o → option_map (λ w. (x, w)) o ≡ Some v →
+        IsTrue (is_version v)
     written r None s same is e = absurd (none-some v e)
     written r (Some w) s same is e =
         subst (λ z. IsTrue (is_version z)) (same_Some (x, w) v e)
@@ -168,7 +173,8 @@ found-is-reply : (o : Option (StateId × Write)) → ((v : StateId × Write) →
 found-is-reply None f = refl
 found-is-reply (Some v) f = shown-is-reply v (f v refl)
 
-chosen-is-valid : (rs : List Record) (k : List ℕ) (o : Option StateId) (v : StateId × Write) → IsTrue (list_all is_stored rs) → option_and_then (version_at rs k) o ≡ Some v → IsTrue (is_version v)
+chosen-is-valid : (rs : List Record) (k : List ℕ) (o : Option StateId) (v : StateId × Write) → IsTrue (list_all is_stored rs) →
+    option_and_then (version_at rs k) o ≡ Some v → IsTrue (is_version v)
 chosen-is-valid rs k None v h e = absurd (none-some v e)
 chosen-is-valid rs k (Some x) v h e = version-is-valid rs k x v h e
 

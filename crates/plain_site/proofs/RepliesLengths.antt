@@ -8,9 +8,13 @@ use Rattle.tardis_base.specs.declared.ids.StateId.{StateId}
 use Rattle.tardis_base.specs.declared.records.Consent.{Consent}
 use Rattle.tardis_base.specs.declared.replies.SiteLine.{SiteLine}
 use Rattle.tardis_base.specs.declared.replies.Refusal.{Refusal}
-use Rattle.tardis_base.specs.declared.replies.Refusal.TheVariants.{Malformed, NotOpen, AlreadyOpen, SessionsFull, TxnOpen, NoTxn, WrongMode, TooMany, Unknown, Below, Comparable, NotRead, ConflictKey, OpenConflict, Branches, CeilingBack, FloorBack, Held, Collected, Full, PathFull, SeqEnd, BadSite, ClosedParent, OwnItem, TrailFull, Unsupported, NoSuchItem, BagFull}
+use Rattle.tardis_base.specs.declared.replies.Refusal.TheVariants.{Malformed, NotOpen, AlreadyOpen, SessionsFull, TxnOpen, NoTxn, WrongMode, TooMany, Unknown}
+use Rattle.tardis_base.specs.declared.replies.Refusal.TheVariants.{Below, Comparable, NotRead, ConflictKey, OpenConflict, Branches, CeilingBack, FloorBack}
+use Rattle.tardis_base.specs.declared.replies.Refusal.TheVariants.{Held, Collected, Full, PathFull, SeqEnd, BadSite, ClosedParent, OwnItem, TrailFull}
+use Rattle.tardis_base.specs.declared.replies.Refusal.TheVariants.{Unsupported, NoSuchItem, BagFull}
 use Rattle.tardis_base.specs.declared.replies.Reply.{Reply}
-use Rattle.tardis_base.specs.declared.replies.Reply.TheVariants.{Opened, Begun, Merging, Value, Deleted, Absent, Done, Committed, Ended, States, Keys, Raised, Tidied, Stat as Statistics, Shown, Batch, Applied, Known, Early, Closed, Refused, NoMemory}
+use Rattle.tardis_base.specs.declared.replies.Reply.TheVariants.{Opened, Begun, Merging, Value, Deleted, Absent, Done, Committed, Ended, States, Keys, Raised}
+use Rattle.tardis_base.specs.declared.replies.Reply.TheVariants.{Tidied, Stat as Statistics, Shown, Batch, Applied, Known, Early, Closed, Refused, NoMemory}
 use Rattle.tardis_base.specs.Ids.{are_ascending}
 use Rattle.tardis_base.specs.Keys.{are_ascending_keys}
 use Rattle.tardis_base.specs.Valid.{is_u32, is_u64, is_u16, is_within, are_bytes, is_id, is_key, is_value, are_parents}
@@ -54,7 +58,8 @@ parents-length xs h =
 
 pub parents-some : (xs : List StateId) → IsTrue (are_parents xs) → 1 ≤ length xs
 parents-some xs h =
-    let within = (and_parts (is_within 1 8 (length xs)) (list_all is_id xs) (and_parts (is_within 1 8 (length xs) && list_all is_id xs) (are_ascending xs) h).0).0 in
+    let within = (and_parts (is_within 1 8 (length xs)) (list_all is_id xs)
+    (and_parts (is_within 1 8 (length xs) && list_all is_id xs) (are_ascending xs) h).0).0 in
     leb-true 1 (length xs) (and_parts (nat_le 1 (length xs)) (nat_le (length xs) 8) within).0
 
 first-length : (total number : ℕ) → IsTrue (is_first_of total number) → number ≤ 256

@@ -1,6 +1,7 @@
 -- What holds of each element of a list holds of what is found, kept or taken of it.
 pub use Rattle.tardis_base.proofs.TestParts.{first, second}
-use Rattle.std.proofs.Common.{◌≡◌, ℕ, zero, suc, ◌≤◌, Bool, List, [], ◌∷◌, ◌++◌, length, filter, find, take, unwrap_or, Option, Some, None, IsTrue, refl, sym, ◌∙◌, ap, subst, inl, inr, arith}
+use Rattle.std.proofs.Common.{◌≡◌, ℕ, zero, suc, ◌≤◌, Bool, List, [], ◌∷◌, ◌++◌, length, filter, find, take, unwrap_or, Option, Some, None, IsTrue, refl, sym}
+use Rattle.std.proofs.Common.{◌∙◌, ap, subst, inl, inr, arith}
 use Rattle.std.proofs.lemmas.Bool.{and_from, cases_Bool, cond-true, cond-false}
 use Rattle.std.proofs.lemmas.Option.{none-some, same_Some}
 use Rattle.std.specs.Prelude.{slice_get}
@@ -68,7 +69,8 @@ module _ {A : Type 0} (p : A → Bool) where
 -- ===== How many
 
 -- what passes the first test passes the second, so there is no more of it
-pub fewer-pass : {A : Type 0} (ok p q : A → Bool) (xs : List A) → IsTrue (list_all ok xs) → ((x : A) → IsTrue (ok x) → IsTrue (p x) → IsTrue (q x)) → length (filter p xs) ≤ length (filter q xs)
+pub fewer-pass : {A : Type 0} (ok p q : A → Bool) (xs : List A) → IsTrue (list_all ok xs) → ((x : A) → IsTrue (ok x) → IsTrue (p x) → IsTrue (q x)) →
+    length (filter p xs) ≤ length (filter q xs)
 fewer-pass ok p q [] a f = omega arith
 fewer-pass ok p q (x ∷ xs) a f =
     let l = fewer-pass ok p q xs (second (ok x) (list_all ok xs) a) f in

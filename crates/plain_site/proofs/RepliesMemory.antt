@@ -1,5 +1,6 @@
 -- No reply says that memory is wanting, and none is a refusal of a program around the site.
-use Rattle.std.proofs.Common.{◌≡◌, ℕ, Bool, true, false, ◌==◌, List, [], ◌∷◌, length, Option, Some, None, IsFalse, refl, sym, ap, ◌∙◌, ◌≢◌, get_or, arith, if◌then◌else◌}
+use Rattle.std.proofs.Common.{◌≡◌, ℕ, Bool, true, false, ◌==◌, List, [], ◌∷◌, length, Option, Some, None, IsFalse, refl, sym, ap, ◌∙◌, ◌≢◌, get_or, arith}
+use Rattle.std.proofs.Common.{if◌then◌else◌}
 use Rattle.std.specs.Option.{option_map, option_map_or}
 use Rattle.tardis_base.specs.declared.ids.StateId.{StateId}
 use Rattle.tardis_base.specs.declared.records.Write.{Write}
@@ -9,11 +10,14 @@ use Rattle.tardis_base.specs.declared.records.Consent.{Consent}
 use Rattle.tardis_base.specs.declared.records.Item.{Item}
 use Rattle.tardis_base.specs.declared.records.Item.TheVariants.{State, Promise}
 use Rattle.tardis_base.specs.declared.requests.Request.{Request}
-use Rattle.tardis_base.specs.declared.requests.Request.TheVariants.{Open, Begin, Get, Put, Delete, Commit, Abort, BeginMerge, ForkPoints, Conflicts, GetFor, Ceiling, Raise, RaiseAuto, Tidy, Stat, Show, Leaves, Pull, Deliver, Settle, Close}
+use Rattle.tardis_base.specs.declared.requests.Request.TheVariants.{Open, Begin, Get, Put, Delete, Commit, Abort, BeginMerge, ForkPoints, Conflicts, GetFor}
+use Rattle.tardis_base.specs.declared.requests.Request.TheVariants.{Ceiling, Raise, RaiseAuto, Tidy, Stat, Show, Leaves, Pull, Deliver, Settle, Close}
 use Rattle.tardis_base.specs.declared.requests.EndFlags.{EndFlags}
 use Rattle.tardis_base.specs.declared.replies.Refusal.{Refusal}
 use Rattle.tardis_base.specs.declared.replies.Refusal.TheVariants.{Malformed, NotOpen, NoTxn, TxnOpen, WrongMode, Full, PathFull}
-use Rattle.tardis_base.specs.declared.replies.Reply.TheVariants.{Opened, Begun, Merging, Value as ValueIs, Deleted, Absent, Done, Committed, Ended, States, Keys, Raised, Tidied, Stat as Statistics, Shown, Batch as BatchIs, Applied, Known, Early, Closed, Refused, NoMemory}
+use Rattle.tardis_base.specs.declared.replies.Reply.TheVariants.{Opened, Begun, Merging, Value as ValueIs, Deleted, Absent, Done, Committed, Ended, States}
+use Rattle.tardis_base.specs.declared.replies.Reply.TheVariants.{Keys, Raised, Tidied, Stat as Statistics, Shown, Batch as BatchIs, Applied, Known, Early}
+use Rattle.tardis_base.specs.declared.replies.Reply.TheVariants.{Closed, Refused, NoMemory}
 use Rattle.tardis_base.specs.declared.replies.Reply.{Reply}
 use Rattle.tardis_base.specs.Ids.{root}
 use Rattle.tardis_base.specs.Keys.{KeyWrite, write_of}
@@ -33,7 +37,8 @@ use Rattle.plain_site.specs.Commits.{with_record, without_txn_of, growth_refusal
 use Rattle.plain_site.specs.Exchange.{judgements, take_record, consent_judgements, deliver, first_fit_record, settle_record, settle}
 use Rattle.plain_site.specs.Step.{step, step_over_bytes}
 use Rattle.plain_site.specs.Laws.{NeverWantsMemory, RefusesAsASite, is_of_programs}
-use Rattle.plain_site.proofs.RepliesFrame.{AllGood, Replies, RefusesWell, good-none, good-found, good-reply, unless-good, unless-both-good, given-good, by-session, by-txn, by-no-txn, good_replies}
+use Rattle.plain_site.proofs.RepliesFrame.{AllGood, Replies, RefusesWell, good-none, good-found, good-reply, unless-good, unless-both-good, given-good}
+use Rattle.plain_site.proofs.RepliesFrame.{by-session, by-txn, by-no-txn, good_replies}
 
 -- the reply isn't that memory is wanting, and no refusal of a program around the site
 pub record IsSure (reply : Reply) : Type 0 where
@@ -56,7 +61,12 @@ refuses-surely : (site : Site) (refusal : Refusal) → IsFalse (is_of_programs r
 refuses-surely site refusal e = record { reply = says-other (Refused refusal) e }
 
 refuse-surely : (site : Site) → RefusesWell site (Replies IsSure)
-refuse-surely site = record { not_open = refuses-surely site NotOpen refl; no_txn = refuses-surely site NoTxn refl; txn_open = refuses-surely site TxnOpen refl }
+refuse-surely site = record {
+  not_open = refuses-surely site NotOpen refl;
+  no_txn = refuses-surely site NoTxn refl;
+  txn_open =
+      refuses-surely site TxnOpen refl;
+}
 
 -- why a site doesn't grow is its own
 growth-is-own : (full : Bool) (kept : ℕ) (path : Option (StateId × ℕ)) (refusal : Refusal) →
@@ -69,7 +79,8 @@ growth-surely : (site : Site) (r : Record) → AllGood IsSure (growth_refusals s
 growth-surely site r =
     let kept = length (kept_states site.dag site.collected) in
     good-found (λ f. f) (growth_refusal true site.limits site.collected site.dag r) []
-    (λ f e. says-other (Refused f) (growth-is-own (kept == site.limits.max_kept) kept (long_path (r ∷ site.dag) site.collected site.limits.max_path) f e)) good-none
+    (λ f e. says-other (Refused f) (growth-is-own (kept == site.limits.max_kept) kept (long_path (r ∷ site.dag) site.collected site.limits.max_path) f e))
+    good-none
 
 -- ===== Each request
 
@@ -104,7 +115,8 @@ surely-conflicts : (site : Site) (t : Txn) (after : List ℕ) → Replies IsSure
 surely-conflicts site (Single t) after = refuses-surely site WrongMode refl
 surely-conflicts site (Merge t) after = search surely
 
-surely-commit-of : (site : Site) (n : ℕ) (ws : List KeyWrite) (reads : List (List ℕ)) (x : StateId) (flags : EndFlags) (k : ℕ) → Replies IsSure (commit_single site n (record { state = x; reads = reads; writes = ws }) flags k)
+surely-commit-of : (site : Site) (n : ℕ) (ws : List KeyWrite) (reads : List (List ℕ)) (x : StateId) (flags : EndFlags) (k : ℕ) →
+    Replies IsSure (commit_single site n (record { state = x; reads = reads; writes = ws }) flags k)
 surely-commit-of site n [] reads x flags k = good-reply (without_txn_of n site) (Ended x) (says-other (Ended x) refl)
 surely-commit-of site n (w ∷ ws) reads x flags k = search surely
 
@@ -124,7 +136,8 @@ surely-take site r =
 surely-deliver : (site : Site) (item : Item) → Replies IsSure (deliver site item)
 surely-deliver site (State r) = record { reply = (surely-take site r).reply }
 surely-deliver site (Promise c) =
-    unless-good site (consent_judgements site c) (taken site c, Applied) (search surely depth 12) (λ none. good-reply (taken site c) Applied (says-other Applied refl))
+    unless-good site (consent_judgements site c) (taken site c, Applied) (search surely depth 12)
+    (λ none. good-reply (taken site c) Applied (says-other Applied refl))
 
 surely-settle : (site : Site) → Replies IsSure (settle site)
 surely-settle site =
@@ -157,7 +170,8 @@ surely-step site n Close = by-session (refuse-surely site) n (λ s. close_sessio
 
 surely-bytes : (site : Site) (n : ℕ) (bytes : List ℕ) → Replies IsSure (step_over_bytes site (n, bytes))
 surely-bytes site n bytes =
-    given-good (Replies IsSure) (request_of bytes) (refused site Malformed) (step site n) (λ e. refuses-surely site Malformed refl) (λ q e. surely-step site n q)
+    given-good (Replies IsSure) (request_of bytes) (refused site Malformed) (step site n) (λ e. refuses-surely site Malformed refl)
+    (λ q e. surely-step site n q)
 
 -- ===== Spellings
 

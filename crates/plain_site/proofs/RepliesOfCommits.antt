@@ -1,5 +1,6 @@
 -- The replies to Commit fit.
-use Rattle.std.proofs.Common.{◌≡◌, ℕ, ◌+◌, ◌≤◌, ◌<◌, ◌^◌, true, ◌&&◌, ◌||◌, ◌==◌, not, List, [], ◌∷◌, length, Option, Some, None, nat_le, IsTrue, IsFalse, refl, sym, ◌∙◌, subst, inl, inr, arith, lt-ltb, le-leb, eq-eqb, ◌≢◌, cond}
+use Rattle.std.proofs.Common.{◌≡◌, ℕ, ◌+◌, ◌≤◌, ◌<◌, ◌^◌, true, ◌&&◌, ◌||◌, ◌==◌, not, List, [], ◌∷◌, length, Option, Some, None, nat_le, IsTrue, IsFalse}
+use Rattle.std.proofs.Common.{refl, sym, ◌∙◌, subst, inl, inr, arith, lt-ltb, le-leb, eq-eqb, ◌≢◌, cond}
 use Rattle.std.proofs.lemmas.Bool.{and_from, or_right, both_ways, cases_Bool, cond-true, cond-false}
 use Rattle.std.proofs.lemmas.Option.{none-some, same_Some}
 use Rattle.std.specs.List.{list_all}
@@ -57,7 +58,8 @@ next-is-id site ranged f =
     (and_from (nat_le 1 site.own) (nat_le 1 (own_count site + 1)) (le-leb 1 site.own ranged.own.0) (le-leb 1 (own_count site + 1) some)))
 
 pub commit-below-fits : (site : Site) (n : ℕ) (parents : List StateId) (writes : List KeyWrite) (refusals : List (Option Reply))
-    → IsRanged site → IsTrue (are_parents parents) → IsTrue (are_writes writes) → AllGood Fits refusals → Replies Fits (commit_below site n parents writes refusals)
+    → IsRanged site → IsTrue (are_parents parents) → IsTrue (are_writes writes) → AllGood Fits refusals →
+    Replies Fits (commit_below site n parents writes refusals)
 commit-below-fits site n parents writes refusals ranged p w fit =
     unless-both-good site refusals (refuse (own_count site == 4294967295) SeqEnd ∷ growth_refusals site r) (committed site n r) fit (λ none.
     unless-both-good site (refuse (own_count site == 4294967295) SeqEnd ∷ []) (growth_refusals site r) (committed site n r)
@@ -71,7 +73,8 @@ commit-below-fits site n parents writes refusals ranged p w fit =
     made id =
         unless-good site (growth_refusals site r) (committed site n r)
         (growth-fits site r ranged (and_from (is_id (next_id site)) (are_writes writes) id w))
-        (λ none. good-reply (committed site n r).0 (Committed r.id r.parents) (reply-fits (Committed r.id r.parents) refl (and_from (is_id r.id) (are_parents parents) id p)))
+        (λ none. good-reply (committed site n r).0 (Committed r.id r.parents)
+        (reply-fits (Committed r.id r.parents) refl (and_from (is_id r.id) (are_parents parents) id p)))
 
 -- ===== Single transactions
 
@@ -119,7 +122,8 @@ commit-single-fits site n x reads (v ∷ vs) flags k dag ranged known w =
 pub conflict-keys-are-keys : (rs : List Record) (xs : List StateId) → IsTrue (list_all is_stored rs) → IsTrue (list_all is_key (conflict_keys rs xs))
 conflict-keys-are-keys rs xs stored = all-filter is_key (is_conflict_key rs xs) (written_keys rs) (written-are-keys rs stored)
 
-pub open-conflict-is-key : (rs : List Record) (xs : List StateId) (ws : List KeyWrite) (k : List ℕ) → IsTrue (list_all is_stored rs) → open_conflict rs xs ws ≡ Some k → IsTrue (is_key k)
+pub open-conflict-is-key : (rs : List Record) (xs : List StateId) (ws : List KeyWrite) (k : List ℕ) → IsTrue (list_all is_stored rs) →
+    open_conflict rs xs ws ≡ Some k → IsTrue (is_key k)
 open-conflict-is-key rs xs ws k stored e = all-found is_key (λ k. not (has_key k ws)) (conflict_keys rs xs) k (conflict-keys-are-keys rs xs stored) e
 
 commit-merge-fits : (site : Site) (n : ℕ) (t : MergeTxn) (flags : EndFlags)
@@ -127,7 +131,8 @@ commit-merge-fits : (site : Site) (n : ℕ) (t : MergeTxn) (flags : EndFlags)
 commit-merge-fits site n t flags ranged p w =
     commit-below-fits site n t.states t.writes
     (refuse (not (flags.0 == 0)) WrongMode ∷ refuse_found OpenConflict (open_conflict site.dag t.states t.writes) ∷ []) ranged p w
-    (good-when (not (flags.0 == 0)) (Refused WrongMode) (refuse_found OpenConflict (open_conflict site.dag t.states t.writes) ∷ []) (refusal-fits WrongMode refl)
+    (good-when (not (flags.0 == 0)) (Refused WrongMode) (refuse_found OpenConflict (open_conflict site.dag t.states t.writes) ∷ [])
+    (refusal-fits WrongMode refl)
     (good-found OpenConflict (open_conflict site.dag t.states t.writes) []
     (λ k e. refusal-fits (OpenConflict k) (open-conflict-is-key site.dag t.states t.writes k ranged.stored e)) good-none))
 

@@ -1,5 +1,7 @@
 -- The replies to Pull and Deliver fit.
-use Rattle.std.proofs.Common.{◌≡◌, ◌≢◌, ℕ, ◌+◌, ◌-◌, ◌*◌, ◌≤◌, ◌<◌, ◌^◌, Bool, true, ◌&&◌, ◌||◌, ◌==◌, not, List, [], ◌∷◌, ◌++◌, length, filter, find, map, unwrap_or, Option, nat_le, nat_lt, IsTrue, IsFalse, refl, sym, ap, subst, inl, inr, arith, lt-ltb, ltb-true, le-leb, leb-true, eq-eqb, length-append}
+use Rattle.std.proofs.Common.{◌≡◌, ◌≢◌, ℕ, ◌+◌, ◌-◌, ◌*◌, ◌≤◌, ◌<◌, ◌^◌, Bool, true, ◌&&◌, ◌||◌, ◌==◌, not, List, [], ◌∷◌, ◌++◌, length, filter, find, map}
+use Rattle.std.proofs.Common.{unwrap_or, Option, nat_le, nat_lt, IsTrue, IsFalse, refl, sym, ap, subst, inl, inr, arith, lt-ltb, ltb-true, le-leb, leb-true}
+use Rattle.std.proofs.Common.{eq-eqb, length-append}
 use Rattle.std.proofs.lemmas.Bool.{and_parts, and_from, or_cases, or_right, cases_Bool, cond-true, cond-false, both_ways}
 use Rattle.std.specs.Prelude.{flat_map, slice_get}
 use Rattle.std.specs.List.{list_all}
@@ -25,7 +27,8 @@ use Rattle.plain_dag.proofs.Ids.{same_id-true}
 use Rattle.plain_site.specs.Site.{Site}
 use Rattle.plain_site.specs.Answers.{refuse, refuse_found, when}
 use Rattle.plain_site.specs.Commits.{with_record, growth_refusals}
-use Rattle.plain_site.specs.Exchange.{fitting, is_news_for, in_arrival_order, consents_from, batch_for, pull, is_early, judgements, take_record, deliver_record, consent_judgements, deliver, is_fit, first_fit_record, with_settled, settle_record, settle}
+use Rattle.plain_site.specs.Exchange.{fitting, is_news_for, in_arrival_order, consents_from, batch_for, pull, is_early, judgements, take_record}
+use Rattle.plain_site.specs.Exchange.{deliver_record, consent_judgements, deliver, is_fit, first_fit_record, with_settled, settle_record, settle}
 use Rattle.plain_site.specs.Sound.{may_wait, IsSound}
 use Rattle.plain_site.proofs.SoundRooms.{first-is-fit}
 use Rattle.plain_site.proofs.SoundDeliveries.{waiting-is-record}
@@ -107,7 +110,8 @@ news-is-record site counts r h news =
       | inr t ↦ t
     ]
 
-news-are-records : (site : Site) (counts : List ℕ) (rs : List Record) → IsTrue (list_all is_held rs) → IsTrue (list_all is_record (filter (is_news_for site counts) rs))
+news-are-records : (site : Site) (counts : List ℕ) (rs : List Record) → IsTrue (list_all is_held rs) →
+    IsTrue (list_all is_record (filter (is_news_for site counts) rs))
 news-are-records site counts [] h = refl
 news-are-records site counts (r ∷ rs) h =
     let rest = news-are-records site counts rs (second (is_held r) (list_all is_held rs) h) in
@@ -139,13 +143,16 @@ record AreConsents (n : ℕ) (fs : List Floor) : Type 0 where
   less : (m : ℕ) → m < n → IsTrue (is_less m (map (λ (c : Consent). c.site) (consents_from n fs)))
 
 consents-skip : (n : ℕ) (f : Floor) (fs : List Floor) → IsTrue (f.number == 0) → consents_from n (f ∷ fs) ≡ consents_from (n + 1) fs
-consents-skip n f fs t = cond-true (f.number == 0) (consents_from (n + 1) fs) (record { site = n; number = f.number; floor = f.state; count = f.stated } ∷ consents_from (n + 1) fs) t
+consents-skip n f fs t = cond-true (f.number == 0) (consents_from (n + 1) fs) (record { site = n; number = f.number; floor = f.state; count = f.stated }
+    ∷ consents_from (n + 1) fs) t
 
 consents-take : (n : ℕ) (f : Floor) (fs : List Floor) → IsFalse (f.number == 0) →
     consents_from n (f ∷ fs) ≡ record { site = n; number = f.number; floor = f.state; count = f.stated } ∷ consents_from (n + 1) fs
-consents-take n f fs t = cond-false (f.number == 0) (consents_from (n + 1) fs) (record { site = n; number = f.number; floor = f.state; count = f.stated } ∷ consents_from (n + 1) fs) t
+consents-take n f fs t = cond-false (f.number == 0) (consents_from (n + 1) fs) (record { site = n; number = f.number; floor = f.state; count = f.stated }
+    ∷ consents_from (n + 1) fs) t
 
-consent-is-valid : (n : ℕ) (f : Floor) → 1 ≤ n → n ≤ 16 → IsTrue (is_ranged_floor f) → IsFalse (f.number == 0) → IsTrue (is_consent (record { site = n; number = f.number; floor = f.state; count = f.stated }))
+consent-is-valid : (n : ℕ) (f : Floor) → 1 ≤ n → n ≤ 16 → IsTrue (is_ranged_floor f) → IsFalse (f.number == 0) →
+    IsTrue (is_consent (record { site = n; number = f.number; floor = f.state; count = f.stated }))
 consent-is-valid n f some few h g =
     let a = and_parts (is_id f.state && is_u32 f.stated) (is_u32 f.number) h in
     let b = and_parts (is_id f.state) (is_u32 f.stated) a.0 in
@@ -176,14 +183,16 @@ consents-of-floors n (f ∷ fs) some most h =
       few = let e = ap length (consents-skip n f fs t) in let l = rest.few in omega arith;
       each = subst (λ cs. IsTrue (list_all is_consent cs)) (sym (consents-skip n f fs t)) rest.each;
       ascend = subst (λ (cs : List Consent). IsTrue (are_ascending_numbers (map (λ (c : Consent). c.site) cs))) (sym (consents-skip n f fs t)) rest.ascend;
-      less = λ m l. subst (λ (cs : List Consent). IsTrue (is_less m (map (λ (c : Consent). c.site) cs))) (sym (consents-skip n f fs t)) (rest.less m (omega arith));
+      less = λ m l. subst (λ (cs : List Consent). IsTrue (is_less m (map (λ (c : Consent). c.site) cs))) (sym (consents-skip n f fs t))
+          (rest.less m (omega arith));
     }
 
     taken : AreConsents (n + 1) fs → n ≤ 16 → IsTrue (is_ranged_floor f) → IsFalse (f.number == 0) → AreConsents n (f ∷ fs)
     taken rest few h g = record {
       few = let e = ap length (consents-take n f fs g) in let l = rest.few in omega arith;
       each = subst (λ cs. IsTrue (list_all is_consent cs)) (sym (consents-take n f fs g))
-          (and_from (is_consent (record { site = n; number = f.number; floor = f.state; count = f.stated })) (list_all is_consent (consents_from (n + 1) fs)) (consent-is-valid n f some few h g) rest.each);
+          (and_from (is_consent (record { site = n; number = f.number; floor = f.state; count = f.stated }))
+          (list_all is_consent (consents_from (n + 1) fs)) (consent-is-valid n f some few h g) rest.each);
       ascend = subst (λ (cs : List Consent). IsTrue (are_ascending_numbers (map (λ (c : Consent). c.site) cs))) (sym (consents-take n f fs g))
           (numbers-from n (map (λ (c : Consent). c.site) (consents_from (n + 1) fs)) (rest.less n (omega arith)) rest.ascend);
       less = λ m l. subst (λ (cs : List Consent). IsTrue (is_less m (map (λ (c : Consent). c.site) cs))) (sym (consents-take n f fs g)) (lt-ltb m n l);
@@ -211,19 +220,22 @@ batch-fits site counts dag ranged one =
       short = omega (arith, consents-length cs, length-append (records_spelling rs) (consents_spelling cs));
     }
 
-pub pull-fits : (site : Site) (counts : List ℕ) → IsDag site.dag → IsRanged site → length site.floors ≡ site.limits.sites → IsTrue (are_counts counts) → Replies Fits (pull site counts)
+pub pull-fits : (site : Site) (counts : List ℕ) → IsDag site.dag → IsRanged site → length site.floors ≡ site.limits.sites → IsTrue (are_counts counts) →
+    Replies Fits (pull site counts)
 pull-fits site counts dag ranged one h =
     let within = first (is_within 1 16 (length counts)) (list_all is_u32 counts) h in
     let most = leb-true (length counts) 16 (second (nat_le 1 (length counts)) (nat_le (length counts) 16) within) in
     let few : length counts < 2 ^ 16 = omega arith in
     unless-good site (refuse (not (length counts == site.limits.sites)) (BadSite (length counts)) ∷ []) (site, BatchIs (batch_for site counts))
-    (good-when (not (length counts == site.limits.sites)) (Refused (BadSite (length counts))) [] (refusal-fits (BadSite (length counts)) (lt-ltb (length counts) (2 ^ 16) few)) good-none)
+    (good-when (not (length counts == site.limits.sites)) (Refused (BadSite (length counts))) []
+    (refusal-fits (BadSite (length counts)) (lt-ltb (length counts) (2 ^ 16) few)) good-none)
     (λ none. good-reply site (BatchIs (batch_for site counts)) (batch-fits site counts dag ranged one))
 
 -- ===== Deliver
 
 id-site-fits : (x : StateId) → IsTrue (is_id x) → IsTrue (is_u16 x.site)
-id-site-fits x h = first (is_u16 x.site) (is_u32 x.sequence) (first (is_u16 x.site && is_u32 x.sequence) (same_id x root || nat_le 1 x.site && nat_le 1 x.sequence) h)
+id-site-fits x h = first (is_u16 x.site) (is_u32 x.sequence)
+    (first (is_u16 x.site && is_u32 x.sequence) (same_id x root || nat_le 1 x.site && nat_le 1 x.sequence) h)
 
 -- a refusal of the parents or the writes
 faults-fit : (site : Site) (r : Record) → IsRanged site → IsShaped r →
@@ -234,9 +246,11 @@ faults-fit : (site : Site) (r : Record) → IsRanged site → IsShaped r →
     ∷ [])
 faults-fit site r ranged shape =
     let ids : IsTrue (list_all is_id r.parents) =
-    second (is_within 1 8 (length r.parents)) (list_all is_id r.parents) (first (is_within 1 8 (length r.parents) && list_all is_id r.parents) (are_ascending r.parents) shape.parents) in
+    second (is_within 1 8 (length r.parents)) (list_all is_id r.parents)
+    (first (is_within 1 8 (length r.parents) && list_all is_id r.parents) (are_ascending r.parents) shape.parents) in
     let conflicts : List (Option Reply) = refuse_found OpenConflict (open_conflict site.dag r.parents r.writes) ∷ [] in
-    good-found ClosedParent (find (is_closed site.dag site.floors) r.parents) (refuse_found (λ (p : StateId × StateId). Comparable p.0 p.1) (comparable_pair site.dag r.parents) ∷ conflicts)
+    good-found ClosedParent (find (is_closed site.dag site.floors) r.parents)
+    (refuse_found (λ (p : StateId × StateId). Comparable p.0 p.1) (comparable_pair site.dag r.parents) ∷ conflicts)
     (λ p e. refusal-fits (ClosedParent p) (all-found is_id (is_closed site.dag site.floors) r.parents p ids e))
     (comparable-fits site.dag r.parents conflicts ids
     (good-found OpenConflict (open_conflict site.dag r.parents r.writes) []
@@ -296,4 +310,5 @@ pub deliver-fits : (site : Site) (item : Item) → IsRanged site → IsTrue (is_
 deliver-fits site (State r) ranged h = deliver-record-fits site r ranged h
 deliver-fits site (Promise c) ranged h =
     let next : Site = record site { floors = with_floor site.floors c.site (record { state = c.floor; number = c.number; stated = c.count }) } in
-    unless-good site (consent_judgements site c) (next, Applied) (consent-judgements-fit site c ranged h) (λ none. good-reply next Applied (reply-fits Applied refl refl))
+    unless-good site (consent_judgements site c) (next, Applied) (consent-judgements-fit site c ranged h)
+    (λ none. good-reply next Applied (reply-fits Applied refl refl))

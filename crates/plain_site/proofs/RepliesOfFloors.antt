@@ -1,5 +1,6 @@
 -- The replies to Raise, RaiseAuto and Tidy fit.
-use Rattle.std.proofs.Common.{◌≡◌, ◌≢◌, ℕ, zero, suc, ◌+◌, ◌-◌, ◌≤◌, ◌<◌, ◌^◌, ◌&&◌, ◌==◌, not, List, [], ◌∷◌, length, find, Option, Some, None, IsTrue, refl, arith, lt-ltb, ltb-true, eq-eqb}
+use Rattle.std.proofs.Common.{◌≡◌, ◌≢◌, ℕ, zero, suc, ◌+◌, ◌-◌, ◌≤◌, ◌<◌, ◌^◌, ◌&&◌, ◌==◌, not, List, [], ◌∷◌, length, find, Option, Some, None, IsTrue, refl}
+use Rattle.std.proofs.Common.{arith, lt-ltb, ltb-true, eq-eqb}
 use Rattle.std.proofs.lemmas.Bool.{and_from, both_ways}
 use Rattle.tardis_base.specs.declared.ids.StateId.{StateId}
 use Rattle.tardis_base.specs.declared.records.Record.{Record}
@@ -23,7 +24,8 @@ use Rattle.plain_site.proofs.RepliesSound.{IsRanged, floor-ranged, session-open}
 
 -- ===== Floors
 
-raise-to-fits : (site : Site) (x : StateId) (refusals : List (Option Reply)) → IsRanged site → IsTrue (is_id x) → AllGood Fits refusals → Replies Fits (raise_to site x refusals)
+raise-to-fits : (site : Site) (x : StateId) (refusals : List (Option Reply)) → IsRanged site → IsTrue (is_id x) → AllGood Fits refusals →
+    Replies Fits (raise_to site x refusals)
 raise-to-fits site x refusals ranged h fit =
     let number : ℕ = (own_floor site).number in
     unless-both-good site refusals (refuse (number == 4294967295) SeqEnd ∷ []) (raised site x) fit (λ none.
@@ -34,7 +36,8 @@ raise-to-fits site x refusals ranged h fit =
     let most : number ≢ 4294967295 = λ e. both_ways (number == 4294967295) f (eq-eqb number 4294967295 e) in
     let few : number < 2 ^ 32 = ltb-true number (2 ^ 32) (floor-ranged site site.own ranged).number in
     let next : number + 1 < 2 ^ 32 = omega arith in
-    good-reply (raised site x).0 (Raised x (number + 1)) (reply-fits (Raised x (number + 1)) refl (and_from (is_id x) (is_u32 (number + 1)) h (lt-ltb (number + 1) (2 ^ 32) next)))))
+    good-reply (raised site x).0 (Raised x (number + 1)) (reply-fits (Raised x (number + 1)) refl
+    (and_from (is_id x) (is_u32 (number + 1)) h (lt-ltb (number + 1) (2 ^ 32) next)))))
 
 pub raise-fits : (site : Site) (x : StateId) → IsSound site → IsRanged site → IsTrue (is_id x) → Replies Fits (raise site x)
 raise-fits site x sound ranged h =
@@ -42,7 +45,8 @@ raise-fits site x sound ranged h =
     let held : List (Option Reply) = refuse_found (λ (s : ℕ × Session). Held s.0 s.1.ceiling) (holding_session site.dag site.sessions x) ∷ [] in
     raise-to-fits site x
     (refuse (not (is_known site.dag x)) (Unknown x) ∷ refuse (not (is_above site.dag floor x)) (FloorBack floor) ∷ held) ranged h
-    (good-when (not (is_known site.dag x)) (Refused (Unknown x)) (refuse (not (is_above site.dag floor x)) (FloorBack floor) ∷ held) (refusal-fits (Unknown x) h)
+    (good-when (not (is_known site.dag x)) (Refused (Unknown x)) (refuse (not (is_above site.dag floor x)) (FloorBack floor) ∷ held)
+    (refusal-fits (Unknown x) h)
     (good-when (not (is_above site.dag floor x)) (Refused (FloorBack floor)) held (refusal-fits (FloorBack floor) (floor-ranged site site.own ranged).state)
     (good-found (λ (s : ℕ × Session). Held s.0 s.1.ceiling) (holding_session site.dag site.sessions x) [] (λ s e. holds s e) good-none)))
   where
@@ -58,8 +62,10 @@ pub raise-auto-fits : (site : Site) → IsRanged site → Replies Fits (raise_au
 raise-auto-fits site ranged =
     let floor : StateId = (own_floor site).state in
     raise-to-fits site (automatic_floor site.dag floor site.sessions) [] ranged
-    (all-unwrapped is_id (find (λ x. is_above site.dag floor x && is_above_ceilings site.dag site.sessions x) (states site.dag)) floor (floor-ranged site site.own ranged).state
-    (λ y e. all-found is_id (λ x. is_above site.dag floor x && is_above_ceilings site.dag site.sessions x) (states site.dag) y (states-are-ids site.dag ranged.stored) e))
+    (all-unwrapped is_id (find (λ x. is_above site.dag floor x && is_above_ceilings site.dag site.sessions x) (states site.dag)) floor
+    (floor-ranged site site.own ranged).state
+    (λ y e. all-found is_id (λ x. is_above site.dag floor x && is_above_ceilings site.dag site.sessions x) (states site.dag) y
+    (states-are-ids site.dag ranged.stored) e))
     good-none
 
 -- ===== Collection
@@ -69,7 +75,8 @@ tidied-length : (n : ℕ) (rs : List Record) (floors : List Floor) (ks : List St
 tidied-length zero rs floors ks = omega arith
 tidied-length (suc n) rs floors ks = go (find (is_collectable rs floors ks) (states rs)) (λ x. omega (arith, tidied-length n rs floors (x ∷ ks)))
   where
-    go : (o : Option StateId) → ((x : StateId) → length (tidied n rs floors (x ∷ ks)) ≤ length ks + suc n) → length {A = StateId} (elim o [ None ↦ ks | Some x ↦ tidied n rs floors (x ∷ ks) ]) ≤ length ks + suc n
+    go : (o : Option StateId) → ((x : StateId) → length (tidied n rs floors (x ∷ ks)) ≤ length ks + suc n) →
+        length {A = StateId} (elim o [ None ↦ ks | Some x ↦ tidied n rs floors (x ∷ ks) ]) ≤ length ks + suc n
     go None more = omega arith
     go (Some x) more = more x
 

@@ -1,5 +1,7 @@
 -- The replies to BeginMerge, ForkPoints and Conflicts fit.
-use Rattle.std.proofs.Common.{◌≡◌, ℕ, zero, suc, ◌-◌, ◌≤◌, ◌<◌, ◌^◌, Bool, true, ◌&&◌, ◌==◌, not, List, [], ◌∷◌, ◌++◌, length, filter, find, take, min, unwrap_or, Option, Some, None, nat_le, nat_lt, IsTrue, IsFalse, refl, ap, subst, inl, inr, arith, lt-ltb, le-leb, leb-true, ltb-false, eq-eqb}
+use Rattle.std.proofs.Common.{◌≡◌, ℕ, zero, suc, ◌-◌, ◌≤◌, ◌<◌, ◌^◌, Bool, true, ◌&&◌, ◌==◌, not, List, [], ◌∷◌, ◌++◌, length, filter, find, take, min}
+use Rattle.std.proofs.Common.{unwrap_or, Option, Some, None, nat_le, nat_lt, IsTrue, IsFalse, refl, ap, subst, inl, inr, arith, lt-ltb, le-leb, leb-true}
+use Rattle.std.proofs.Common.{ltb-false, eq-eqb}
 use Rattle.std.proofs.lemmas.Bool.{and_parts, and_from, or_left, or_right, cases_Bool, cond-true, cond-false}
 use Rattle.std.proofs.lemmas.List.{length-take}
 use Rattle.std.proofs.lemmas.Option.{none-some, same_Some}
@@ -54,7 +56,8 @@ record AreStates (xs : List StateId) : Type 0 where
   some : 1 ≤ length xs
   few : length xs ≤ 16384
 
-pair-is-valid : (rs : List Record) (xs : List StateId) (p : StateId × StateId) → IsTrue (list_all is_id xs) → comparable_pair rs xs ≡ Some p → IsTrue (is_id p.0 && is_id p.1)
+pair-is-valid : (rs : List Record) (xs : List StateId) (p : StateId × StateId) → IsTrue (list_all is_id xs) → comparable_pair rs xs ≡ Some p →
+    IsTrue (is_id p.0 && is_id p.1)
 pair-is-valid rs [] p h e = absurd (none-some p e)
 pair-is-valid rs (x ∷ ys) p h e = go (find (are_comparable rs x) ys) refl (pair-is-valid rs ys p (second (is_id x) (list_all is_id ys) h)) e
   where
@@ -63,7 +66,8 @@ pair-is-valid rs (x ∷ ys) p h e = go (find (are_comparable rs x) ys) refl (pai
     go None is later e = later e
     go (Some y) is later e =
         subst (λ (q : StateId × StateId). IsTrue (is_id q.0 && is_id q.1)) (same_Some (x, y) p e)
-        (and_from (is_id x) (is_id y) (first (is_id x) (list_all is_id ys) h) (all-found is_id (are_comparable rs x) ys y (second (is_id x) (list_all is_id ys) h) is))
+        (and_from (is_id x) (is_id y) (first (is_id x) (list_all is_id ys) h)
+        (all-found is_id (are_comparable rs x) ys y (second (is_id x) (list_all is_id ys) h) is))
 
 -- a found pair, as a refusal
 pub comparable-fits : (rs : List Record) (xs : List StateId) (more : List (Option Reply)) → IsTrue (list_all is_id xs) → AllGood Fits more
@@ -72,7 +76,8 @@ comparable-fits rs xs more h m =
     good-found (λ (p : StateId × StateId). Comparable p.0 p.1) (comparable_pair rs xs) more
     (λ p e. refusal-fits (Comparable p.0 p.1) (pair-is-valid rs xs p h e)) m
 
-merge-at-fits : (site : Site) (n : ℕ) (ceiling : StateId) (xs : List StateId) → IsTrue (is_id ceiling) → AreStates xs → Replies Fits (merge_at site n ceiling xs)
+merge-at-fits : (site : Site) (n : ℕ) (ceiling : StateId) (xs : List StateId) → IsTrue (is_id ceiling) → AreStates xs →
+    Replies Fits (merge_at site n ceiling xs)
 merge-at-fits site n ceiling xs c h =
     unless-good site (refuse (nat_lt 8 (length xs)) (TooMany 3 (length xs)) ∷ unknown) (next, Merging (in_order xs))
     (good-when (nat_lt 8 (length xs)) (Refused (TooMany 3 (length xs))) unknown (refusal-fits (TooMany 3 (length xs)) (lt-ltb (length xs) (2 ^ 32) few))
@@ -110,7 +115,8 @@ merge-at-fits site n ceiling xs c h =
         good-reply next (Merging (in_order xs)) (reply-fits (Merging (in_order xs)) refl
         (and_from (is_within 1 8 (length (in_order xs)) && list_all is_id (in_order xs)) (are_ascending (in_order xs))
         (and_from (is_within 1 8 (length (in_order xs))) (list_all is_id (in_order xs))
-        (and_from (nat_le 1 (length (in_order xs))) (nat_le (length (in_order xs)) 8) (le-leb 1 (length (in_order xs)) some) (le-leb (length (in_order xs)) 8 most))
+        (and_from (nat_le 1 (length (in_order xs))) (nat_le (length (in_order xs)) 8) (le-leb 1 (length (in_order xs)) some)
+        (le-leb (length (in_order xs)) 8 most))
         (order-ids xs h.ids)) (order-ascends site.dag xs apart)))
 
 -- a history has a leaf
@@ -135,7 +141,8 @@ to-merge site (TheseStates xs) sound ranged h =
     let within = and_parts (nat_le 1 (length xs)) (nat_le (length xs) 255) parts.0 in
     record { ids = parts.1; some = leb-true 1 (length xs) within.0; few = omega (arith, leb-true (length xs) 255 within.1) }
 
-pub begin-merge-fits : (site : Site) (n : ℕ) (s : Session) (of : MergeOf) → IsSound site → IsRanged site → IsOpen site.dag s → IsTrue (is_merge_of of) → Replies Fits (begin_merge site n s of)
+pub begin-merge-fits : (site : Site) (n : ℕ) (s : Session) (of : MergeOf) → IsSound site → IsRanged site → IsOpen site.dag s → IsTrue (is_merge_of of) →
+    Replies Fits (begin_merge site n s of)
 begin-merge-fits site n s of sound ranged held h = merge-at-fits site n s.ceiling (states_to_merge site of) held.ceiling_id (to-merge site of sound ranged h)
 
 -- ===== ForkPoints
@@ -146,15 +153,19 @@ any-at p (x ∷ xs) zero l f = or_left (p x) (list_any p xs) (f x refl)
 any-at p (x ∷ xs) (suc i) l f = or_right (p x) (list_any p xs) (any-at p xs i (omega arith) f)
 
 -- the ceiling of an open session is under a floor: the site's own
-under-floor : (site : Site) (n : ℕ) (s : Session) → IsSound site → IsRanged site → entry_of n site.sessions ≡ Some s → IsUnderFloor site.dag site.floors s.ceiling
+under-floor : (site : Site) (n : ℕ) (s : Session) → IsSound site → IsRanged site → entry_of n site.sessions ≡ Some s →
+    IsUnderFloor site.dag site.floors s.ceiling
 under-floor site n s sound ranged e =
     any-at (λ f. is_above site.dag f.state s.ceiling) site.floors (site.own - 1) (omega (arith, sound.one_floor_each, ranged.own))
-    (λ f is. subst (λ (o : Option Floor). IsTrue (is_above site.dag (unwrap_or o opening_floor).state s.ceiling)) is (above-at site.sessions sound.under_floor e))
+    (λ f is. subst (λ (o : Option Floor). IsTrue (is_above site.dag (unwrap_or o opening_floor).state s.ceiling)) is
+    (above-at site.sessions sound.under_floor e))
   where
-    above-at : (ss : Sessions) → IsTrue (is_above_ceilings site.dag ss (own_floor site).state) → entry_of n ss ≡ Some s → IsTrue (is_above site.dag (own_floor site).state s.ceiling)
+    above-at : (ss : Sessions) → IsTrue (is_above_ceilings site.dag ss (own_floor site).state) → entry_of n ss ≡ Some s →
+        IsTrue (is_above site.dag (own_floor site).state s.ceiling)
     above-at ss h e = go (find (λ (e : ℕ × Session). n == e.0) ss) refl e
       where
-        go : (o : Option (ℕ × Session)) → find (λ (e : ℕ × Session). n == e.0) ss ≡ o → option_map (λ (e : ℕ × Session). e.1) o ≡ Some s → IsTrue (is_above site.dag (own_floor site).state s.ceiling)
+        go : (o : Option (ℕ × Session)) → find (λ (e : ℕ × Session). n == e.0) ss ≡ o → option_map (λ (e : ℕ × Session). e.1) o ≡ Some s →
+            IsTrue (is_above site.dag (own_floor site).state s.ceiling)
         go None is e = absurd (none-some s e)
         go (Some entry) is e =
             subst (λ (t : Session). IsTrue (is_above site.dag (own_floor site).state t.ceiling)) (same_Some entry.1 s e)
@@ -167,7 +178,8 @@ arrived-are-known (r ∷ rs) =
     (all-from-all (is_known rs) (is_known (r ∷ rs)) (arrived rs) (λ x h. known-stays rs r x h) (arrived-are-known rs))
     (and_from (is_known (r ∷ rs) r.id) true (newest-is-known rs r) refl)
 
-few-fork-points : (site : Site) (c : StateId) (ys : List StateId) → IsSound site → IsRanged site → IsTrue (is_known site.dag c) → IsUnderFloor site.dag site.floors c
+few-fork-points : (site : Site) (c : StateId) (ys : List StateId) → IsSound site → IsRanged site → IsTrue (is_known site.dag c) →
+    IsUnderFloor site.dag site.floors c
     → IsTrue (list_all (is_known site.dag) ys) → IsTrue (list_all (is_admitted site.dag c) ys) → 1 ≤ length ys → length (fork_points site.dag ys) < 2 ^ 32
 few-fork-points site c [] sound ranged ceiling under known admitted some = absurd (omega arith)
 few-fork-points site c (y ∷ ys) sound ranged ceiling under known admitted some =
@@ -177,7 +189,8 @@ few-fork-points site c (y ∷ ys) sound ranged ceiling under known admitted some
     (λ x here fork. second (is_known site.dag x) (not (is_among x site.collected)) (stays.fork_points_stay x y c ys ceiling under known admitted here fork)) in
     omega (arith, ranged.few_kept)
 
-pub fork-points-fit : (site : Site) (n : ℕ) (s : Session) (t : Txn) → IsSound site → IsRanged site → entry_of n site.sessions ≡ Some s → IsSoundTxn site.dag s.ceiling t → Replies Fits (fork_points_of site t)
+pub fork-points-fit : (site : Site) (n : ℕ) (s : Session) (t : Txn) → IsSound site → IsRanged site → entry_of n site.sessions ≡ Some s →
+    IsSoundTxn site.dag s.ceiling t → Replies Fits (fork_points_of site t)
 fork-points-fit site n s (Single t) sound ranged e txn = refuses site WrongMode refl
 fork-points-fit site n s (Merge t) sound ranged e txn =
     good-reply site (page_of_states (fork_points site.dag t.states))

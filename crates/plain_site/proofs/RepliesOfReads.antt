@@ -26,7 +26,8 @@ use Rattle.plain_site.proofs.RepliesFrame.{Replies, good-reply, given-good}
 -- ===== Transactions
 
 -- the session's transaction is sound under its ceiling
-pub txn-at : (site : Site) (n : ℕ) (s : Session) (t : Txn) → IsSound site → entry_of n site.sessions ≡ Some s → entry_of n site.txns ≡ Some t → IsSoundTxn site.dag s.ceiling t
+pub txn-at : (site : Site) (n : ℕ) (s : Session) (t : Txn) → IsSound site → entry_of n site.sessions ≡ Some s → entry_of n site.txns ≡ Some t →
+    IsSoundTxn site.dag s.ceiling t
 txn-at site n s t sound e d =
     let x = sound.each_txn n t d in
     subst (λ (q : Session). IsSoundTxn site.dag q.ceiling t) (same_Some x.0 s (sym x.1 ∙ e)) x.2
@@ -62,7 +63,8 @@ read-in-fits site n (Merge t) k stored h =
     let fits = found-fits (value_over site.dag t.states k) (value-is-reply site.dag t.states k stored) in
     search fitting_replies depth 10
 
-pub get-fits : (site : Site) (n : ℕ) (t : Txn) (k : List ℕ) → IsTrue (list_all is_stored site.dag) → IsTrue (is_txn t) → IsTrue (is_key k) → Replies Fits (get site n t k)
+pub get-fits : (site : Site) (n : ℕ) (t : Txn) (k : List ℕ) → IsTrue (list_all is_stored site.dag) → IsTrue (is_txn t) → IsTrue (is_key k) →
+    Replies Fits (get site n t k)
 get-fits site n t k stored txn h =
     given-good (Replies Fits) (write_of k (writes_of t)) (read_in site n t k) (λ w. (site, shown root w)) (λ e. read-in-fits site n t k stored h)
     (λ w e. good-reply site (shown root w) (reply-fits (shown root w) (shown-is-few root w)
@@ -71,7 +73,8 @@ get-fits site n t k stored txn h =
 pub set-fits : (site : Site) (n : ℕ) (t : Txn) (k : List ℕ) (w : Write) → Replies Fits (set_key site n t k w)
 set-fits site n t k w = search fitting_replies depth 10
 
-pub get-for-fits : (site : Site) (t : Txn) (k : List ℕ) (x : StateId) → IsTrue (list_all is_stored site.dag) → IsTrue (is_id x) → Replies Fits (get_for site t k x)
+pub get-for-fits : (site : Site) (t : Txn) (k : List ℕ) (x : StateId) → IsTrue (list_all is_stored site.dag) → IsTrue (is_id x) →
+    Replies Fits (get_for site t k x)
 get-for-fits site (Single t) k x stored h = refuses site WrongMode refl
 get-for-fits site (Merge t) k x stored h =
     let fits = found-fits (read site.dag k x) (read-is-reply site.dag k x stored) in

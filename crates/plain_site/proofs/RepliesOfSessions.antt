@@ -29,7 +29,8 @@ pub begin-at-fits : (site : Site) (n : ℕ) (ceiling x : StateId) → IsTrue (is
 begin-at-fits site n ceiling x c h = search fitting_replies depth 10
 
 -- a transaction begins at an id
-begin-is-id : (rs : List Record) (s : Session) (b : Begin) → IsTrue (Rattle.std.specs.List.list_all is_stored rs) → IsTrue (is_id s.last) → IsTrue (is_begin b) → IsTrue (is_id (begin_state rs s.last b))
+begin-is-id : (rs : List Record) (s : Session) (b : Begin) → IsTrue (Rattle.std.specs.List.list_all is_stored rs) → IsTrue (is_id s.last) →
+    IsTrue (is_begin b) → IsTrue (is_id (begin_state rs s.last b))
 begin-is-id [] s Any stored last h = refl
 begin-is-id (r ∷ rs) s Any stored last h = first (is_id r.id) (Rattle.std.specs.List.list_all is_id (states rs)) (states-are-ids (r ∷ rs) stored)
 begin-is-id rs s Ancestor stored last h =
@@ -39,7 +40,8 @@ begin-is-id rs s Parent stored last h = last
 begin-is-id rs s (At x) stored last h = h
 
 pub begin-fits : (site : Site) (n : ℕ) (s : Session) (b : Begin) → IsRanged site → IsOpen site.dag s → IsTrue (is_begin b) → Replies Fits (begin site n s b)
-begin-fits site n s b ranged held h = begin-at-fits site n s.ceiling (begin_state site.dag s.last b) held.ceiling_id (begin-is-id site.dag s b ranged.stored held.last_id h)
+begin-fits site n s b ranged held h = begin-at-fits site n s.ceiling (begin_state site.dag s.last b) held.ceiling_id
+    (begin-is-id site.dag s b ranged.stored held.last_id h)
 
 pub ceiling-fits : (site : Site) (n : ℕ) (s : Session) (x : StateId) → IsOpen site.dag s → IsTrue (is_id x) → Replies Fits (set_ceiling site n s x)
 ceiling-fits site n s x held h = let c = held.ceiling_id in search fitting_replies depth 10

@@ -1,5 +1,6 @@
 -- The replies to Stat, Show and Leaves fit.
-use Rattle.std.proofs.Common.{◌≡◌, ℕ, ◌+◌, ◌≤◌, ◌<◌, ◌^◌, ◌&&◌, true, not, List, [], ◌∷◌, length, take, min, IsTrue, refl, ◌∙◌, ap, inl, inr, arith, nat_le, lt-ltb, le-leb, eq-eqb, length-append}
+use Rattle.std.proofs.Common.{◌≡◌, ℕ, ◌+◌, ◌≤◌, ◌<◌, ◌^◌, ◌&&◌, true, not, List, [], ◌∷◌, length, take, min, IsTrue, refl, ◌∙◌, ap, inl, inr, arith, nat_le}
+use Rattle.std.proofs.Common.{lt-ltb, le-leb, eq-eqb, length-append}
 use Rattle.std.proofs.lemmas.Bool.{and_from, cases_Bool, cond-true, cond-false, false_from_ne_true, true_from_ne_false, not_from_false, both_ways}
 use Rattle.std.proofs.lemmas.List.{length-take}
 use Rattle.std.specs.List.{list_any, list_all}
@@ -57,7 +58,8 @@ module _ (rs : List Record) (floors : List Floor) (ks : List StateId) (collected
 
   -- leaves are kept
   pub few-leaves : IsTrue (list_all is_stored rs) → length (leaves rs) ≤ length (kept_states rs ks)
-  few-leaves stored = fewer-pass is_id (is_leaf rs) (λ x. not (is_among x ks)) (arrived rs) (arrived-are-ids rs stored) (λ x id leaf. leaf-is-uncollected x leaf)
+  few-leaves stored = fewer-pass is_id (is_leaf rs) (λ x. not (is_among x ks)) (arrived rs) (arrived-are-ids rs stored)
+      (λ x id leaf. leaf-is-uncollected x leaf)
 
 pub leaves-are-few : (site : Site) → IsSound site → IsRanged site → length (leaves site.dag) ≤ 16384
 leaves-are-few site sound ranged = omega (arith, few-leaves site.dag site.floors site.collected sound.collected ranged.stored, ranged.few_kept)
@@ -76,7 +78,8 @@ number-of-lines : (rs : List Record) (n : ℕ) (fs : List Floor) → length (sit
 number-of-lines rs n [] = refl
 number-of-lines rs n (f ∷ fs) = omega (arith, number-of-lines rs (n + 1) fs)
 
-lines-valid : (rs : List Record) (n : ℕ) (fs : List Floor) → ((m : ℕ) → count_of_site rs m < 2 ^ 32) → IsTrue (list_all is_ranged_floor fs) → IsTrue (list_all is_site_line (site_lines rs n fs))
+lines-valid : (rs : List Record) (n : ℕ) (fs : List Floor) → ((m : ℕ) → count_of_site rs m < 2 ^ 32) → IsTrue (list_all is_ranged_floor fs) →
+    IsTrue (list_all is_site_line (site_lines rs n fs))
 lines-valid rs n [] counts h = refl
 lines-valid rs n (f ∷ fs) counts h =
     let here = first (is_ranged_floor f) (list_all is_ranged_floor fs) h in
@@ -104,7 +107,8 @@ stat-fits site sound ranged =
     (and_from (is_u64 known && is_u32 kept && is_u32 ends && is_u16 sessions) (are_site_lines lines)
     (and_from (is_u64 known && is_u32 kept && is_u32 ends) (is_u16 sessions)
     (and_from (is_u64 known && is_u32 kept) (is_u32 ends)
-    (and_from (is_u64 known) (is_u32 kept) (lt-ltb known (2 ^ 64) ranged.history) (lt-ltb kept (2 ^ 32) few_kept)) (lt-ltb ends (2 ^ 32) few_ends)) (lt-ltb sessions (2 ^ 16) few_sessions))
+    (and_from (is_u64 known) (is_u32 kept) (lt-ltb known (2 ^ 64) ranged.history) (lt-ltb kept (2 ^ 32) few_kept)) (lt-ltb ends (2 ^ 32) few_ends))
+    (lt-ltb sessions (2 ^ 16) few_sessions))
     (and_from (is_within 1 16 (length lines)) (list_all is_site_line lines)
     (and_from (nat_le 1 (length lines)) (nat_le (length lines) 16) (le-leb 1 (length lines) some) (le-leb (length lines) 16 most))
     (lines-valid site.dag 1 site.floors ranged.counts ranged.floors))))
@@ -147,7 +151,9 @@ show-fits site x sound ranged h =
     (λ none.
     let a = none-when (not (is_known site.dag x)) (Refused (Unknown x)) (refuse (is_among x site.collected) (Collected x) ∷ []) none in
     let b = none-when (is_among x site.collected) (Refused (Collected x)) [] a.1 in
-    let known : IsTrue (is_known site.dag x) = true_from_ne_false (is_known site.dag x) (λ f. both_ways (not (is_known site.dag x)) a.0 (not_from_false (is_known site.dag x) f)) in
-    let kept : IsTrue (is_kept site.dag site.collected x) = and_from (is_known site.dag x) (not (is_among x site.collected)) known (not_from_false (is_among x site.collected) b.0) in
+    let known : IsTrue (is_known site.dag x) = true_from_ne_false (is_known site.dag x)
+    (λ f. both_ways (not (is_known site.dag x)) a.0 (not_from_false (is_known site.dag x) f)) in
+    let kept : IsTrue (is_kept site.dag site.collected x) = and_from (is_known site.dag x) (not (is_among x site.collected)) known
+    (not_from_false (is_among x site.collected) b.0) in
     let few : length (fork_path site.dag site.collected x) ≤ 4096 = omega (arith, sound.short_paths x kept, ranged.limits.path) in
     good-reply site (Shown (arrival site.dag x) (children site.dag x) (fork_path site.dag site.collected x)) (shown-fits site x ranged few))

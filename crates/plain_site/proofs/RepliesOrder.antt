@@ -1,6 +1,8 @@
 -- States in order: those that are apart are put in an ascending order.
-use Rattle.std.proofs.Common.{None, is_none, ◌≡◌, ◌≢◌, ◌+◌, ◌≤◌, ◌<◌, Bool, true, false, ◌&&◌, ◌==◌, not, List, [], ◌∷◌, length, nat_lt, IsTrue, IsFalse, refl, sym, ◌∙◌, ap, subst, inl, inr, arith, lt-ltb, eq-eqb, ltb-false}
-use Rattle.std.proofs.lemmas.Bool.{and_parts, and_from, or_parts, or_from, or_left, or_right, cases_Bool, cond-true, cond-false, false_from_ne_true, not-true, both_ways}
+use Rattle.std.proofs.Common.{None, is_none, ◌≡◌, ◌≢◌, ◌+◌, ◌≤◌, ◌<◌, Bool, true, false, ◌&&◌, ◌==◌, not, List, [], ◌∷◌, length, nat_lt, IsTrue, IsFalse}
+use Rattle.std.proofs.Common.{refl, sym, ◌∙◌, ap, subst, inl, inr, arith, lt-ltb, eq-eqb, ltb-false}
+use Rattle.std.proofs.lemmas.Bool.{and_parts, and_from, or_parts, or_from, or_left, or_right, cases_Bool, cond-true, cond-false, false_from_ne_true, not-true}
+use Rattle.std.proofs.lemmas.Bool.{both_ways}
 use Rattle.std.specs.List.{list_any, list_all}
 use Rattle.tardis_base.specs.declared.ids.StateId.{StateId}
 use Rattle.tardis_base.specs.declared.records.Record.{Record}
@@ -36,14 +38,18 @@ before-or-same x y f n =
       | inr g ↦ or_right (nat_lt x.site y.site) (x.site == y.site && nat_lt x.sequence y.sequence) (level a.0 a.1 g)
     ]
   where
-    level : IsFalse (nat_lt y.site x.site) → IsFalse (y.site == x.site && nat_lt y.sequence x.sequence) → IsFalse (nat_lt x.site y.site) → IsTrue (x.site == y.site && nat_lt x.sequence y.sequence)
+    level : IsFalse (nat_lt y.site x.site) → IsFalse (y.site == x.site && nat_lt y.sequence x.sequence) → IsFalse (nat_lt x.site y.site) →
+        IsTrue (x.site == y.site && nat_lt x.sequence y.sequence)
     level p q g =
         let l : x.site ≤ y.site = ltb-false y.site x.site p in
         let m : y.site ≤ x.site = ltb-false x.site y.site g in
         let e : x.site ≡ y.site = omega arith in
-        let up : IsFalse (nat_lt y.sequence x.sequence) = false_from_ne_true (nat_lt y.sequence x.sequence) (λ t. both_ways (y.site == x.site && nat_lt y.sequence x.sequence) q (and_from (y.site == x.site) (nat_lt y.sequence x.sequence) (eq-eqb y.site x.site (sym e)) t)) in
+        let up : IsFalse (nat_lt y.sequence x.sequence) = false_from_ne_true (nat_lt y.sequence x.sequence)
+        (λ t. both_ways (y.site == x.site && nat_lt y.sequence x.sequence) q
+        (and_from (y.site == x.site) (nat_lt y.sequence x.sequence) (eq-eqb y.site x.site (sym e)) t)) in
         let le : x.sequence ≤ y.sequence = ltb-false y.sequence x.sequence up in
-        let ne : x.sequence ≢ y.sequence = λ d. both_ways (same_id x y) n (and_from (x.site == y.site) (x.sequence == y.sequence) (eq-eqb x.site y.site e) (eq-eqb x.sequence y.sequence d)) in
+        let ne : x.sequence ≢ y.sequence = λ d. both_ways (same_id x y) n
+        (and_from (x.site == y.site) (x.sequence == y.sequence) (eq-eqb x.site y.site e) (eq-eqb x.sequence y.sequence d)) in
         let lt : x.sequence < y.sequence = omega arith in
         and_from (x.site == y.site) (nat_lt x.sequence y.sequence) (eq-eqb x.site y.site e) (lt-ltb x.sequence y.sequence lt)
 

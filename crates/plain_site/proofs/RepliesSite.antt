@@ -9,10 +9,13 @@ use Rattle.tardis_base.specs.declared.records.Write.TheVariants.{Put as Value, D
 use Rattle.tardis_base.specs.declared.records.Item.{Item}
 use Rattle.tardis_base.specs.declared.records.Item.TheVariants.{State, Promise}
 use Rattle.tardis_base.specs.declared.requests.Request.{Request}
-use Rattle.tardis_base.specs.declared.requests.Request.TheVariants.{Open, Begin, Get, Put, Delete, Commit, Abort, BeginMerge, ForkPoints, Conflicts, GetFor, Ceiling, Raise, RaiseAuto, Tidy, Stat, Show, Leaves, Pull, Deliver, Settle, Close}
+use Rattle.tardis_base.specs.declared.requests.Request.TheVariants.{Open, Begin, Get, Put, Delete, Commit, Abort, BeginMerge, ForkPoints, Conflicts, GetFor}
+use Rattle.tardis_base.specs.declared.requests.Request.TheVariants.{Ceiling, Raise, RaiseAuto, Tidy, Stat, Show, Leaves, Pull, Deliver, Settle, Close}
 use Rattle.tardis_base.specs.declared.requests.EndFlags.{EndFlags}
 use Rattle.tardis_base.specs.declared.replies.Refusal.TheVariants.{Malformed, NotOpen, NoTxn, TxnOpen, WrongMode}
-use Rattle.tardis_base.specs.declared.replies.Reply.TheVariants.{Opened, Begun, Merging, Value as ValueIs, Deleted, Absent, Done, Committed, Ended, States, Keys, Raised, Tidied, Stat as Statistics, Shown, Batch as BatchIs, Applied, Known, Early, Closed, Refused, NoMemory}
+use Rattle.tardis_base.specs.declared.replies.Reply.TheVariants.{Opened, Begun, Merging, Value as ValueIs, Deleted, Absent, Done, Committed, Ended, States}
+use Rattle.tardis_base.specs.declared.replies.Reply.TheVariants.{Keys, Raised, Tidied, Stat as Statistics, Shown, Batch as BatchIs, Applied, Known, Early}
+use Rattle.tardis_base.specs.declared.replies.Reply.TheVariants.{Closed, Refused, NoMemory}
 use Rattle.tardis_base.specs.declared.replies.Reply.{Reply}
 use Rattle.tardis_base.specs.Ids.{root}
 use Rattle.tardis_base.specs.Keys.{KeyWrite, write_of}
@@ -42,7 +45,8 @@ same_site site reply = record { where_said = λ said. refl }
 says_else : {of_record : Bool} (site next : Site) (reply : Reply) → says_unchanged of_record reply ≡ false → KeepsSite of_record site (next, reply)
 says_else site next reply e = record { where_said = λ said. absurd (cc) }
 
-keeps-unless : {of_record : Bool} (site : Site) (replies : List (Option Reply)) (answer : Answer) → KeepsSite of_record site answer → KeepsSite of_record site (unless site replies answer)
+keeps-unless : {of_record : Bool} (site : Site) (replies : List (Option Reply)) (answer : Answer) → KeepsSite of_record site answer →
+    KeepsSite of_record site (unless site replies answer)
 keeps-unless site [] answer h = h
 keeps-unless site (None ∷ more) answer h = keeps-unless site more answer h
 keeps-unless site (Some reply ∷ more) answer h = same_site site reply
@@ -63,7 +67,8 @@ keeps-read site n (Single t) k = search (keeps-unless, says_else, found-says-els
 keeps-read site n (Merge t) k = search (keeps-unless, same_site)
 
 keeps-get : (site : Site) (n : ℕ) (t : Txn) (k : List ℕ) → KeepsSite false site (get site n t k)
-keeps-get site n t k = given-good (KeepsSite false site) (write_of k (writes_of t)) (read_in site n t k) (λ w. (site, shown root w)) (λ e. keeps-read site n t k) (λ w e. same_site site (shown root w))
+keeps-get site n t k = given-good (KeepsSite false site) (write_of k (writes_of t)) (read_in site n t k) (λ w. (site, shown root w))
+    (λ e. keeps-read site n t k) (λ w e. same_site site (shown root w))
 
 keeps-get-for : (site : Site) (t : Txn) (k : List ℕ) (x : StateId) → KeepsSite false site (get_for site t k x)
 keeps-get-for site (Single t) k x = same_site site (Refused WrongMode)
@@ -77,7 +82,8 @@ keeps-conflicts : (site : Site) (t : Txn) (after : List ℕ) → KeepsSite false
 keeps-conflicts site (Single t) after = same_site site (Refused WrongMode)
 keeps-conflicts site (Merge t) after = search same_site
 
-keeps-commit-of : (site : Site) (n : ℕ) (ws : List KeyWrite) (reads : List (List ℕ)) (x : StateId) (flags : EndFlags) (k : ℕ) → KeepsSite false site (commit_single site n (record { state = x; reads = reads; writes = ws }) flags k)
+keeps-commit-of : (site : Site) (n : ℕ) (ws : List KeyWrite) (reads : List (List ℕ)) (x : StateId) (flags : EndFlags) (k : ℕ) →
+    KeepsSite false site (commit_single site n (record { state = x; reads = reads; writes = ws }) flags k)
 keeps-commit-of site n [] reads x flags k = says_else site (without_txn_of n site) (Ended x) refl
 keeps-commit-of site n (w ∷ ws) reads x flags k = search (keeps-unless, says_else)
 
@@ -87,10 +93,12 @@ keeps-commit site n (Merge t) flags k = search (keeps-unless, says_else)
 
 keeps-settle : (site : Site) → KeepsSite false site (settle site)
 keeps-settle site =
-    given-good (KeepsSite false site) (first_fit_record site) (site, Done) (settle_record site) (λ e. same_site site Done) (λ found e. search (keeps-unless, says_else))
+    given-good (KeepsSite false site) (first_fit_record site) (site, Done) (settle_record site) (λ e. same_site site Done)
+    (λ found e. search (keeps-unless, says_else))
 
 keeps-take : {of_record : Bool} (site : Site) (r : Record) → KeepsSite of_record site (take_record site r)
-keeps-take site r = keeps-unless site (judgements site r ++ growth_refusals site r) (with_record r site, Applied) (says_else site (with_record r site) Applied refl)
+keeps-take site r = keeps-unless site (judgements site r ++ growth_refusals site r) (with_record r site, Applied)
+    (says_else site (with_record r site) Applied refl)
 
 -- what says that a record changed nothing isn't Early
 not-early : (reply : Reply) → IsTrue (says_unchanged true reply) → IsTrue (says_early reply) → ⊥
@@ -160,7 +168,8 @@ keeps-bytes site n bytes =
 
     asked : (q : Request) → request_of bytes ≡ Some q → KeepsSite of_record site (step site n q)
     asked q e =
-        subst (λ (b : Bool). KeepsSite b site (step site n q)) (sym (ap (λ (o : Option Request). option_map_or delivers_record o false) e)) (keeps-step site n q)
+        subst (λ (b : Bool). KeepsSite b site (step site n q)) (sym (ap (λ (o : Option Request). option_map_or delivers_record o false) e))
+        (keeps-step site n q)
 
 -- a refusal, Known and a consent's Early leave the site as it was
 pub refusals-leave-site : RefusalsLeaveSite

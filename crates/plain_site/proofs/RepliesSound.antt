@@ -1,5 +1,6 @@
 -- What a sound site says of its ids and numbers.
-use Rattle.std.proofs.Common.{◌≡◌, ℕ, ◌+◌, ◌-◌, ◌≤◌, ◌<◌, ◌^◌, Bool, ◌&&◌, ◌==◌, List, [], ◌∷◌, length, find, Option, Some, None, nat_le, IsTrue, refl, subst, arith, leb-true, lt-ltb}
+use Rattle.std.proofs.Common.{◌≡◌, ℕ, ◌+◌, ◌-◌, ◌≤◌, ◌<◌, ◌^◌, Bool, ◌&&◌, ◌==◌, List, [], ◌∷◌, length, find, Option, Some, None, nat_le, IsTrue, refl, subst}
+use Rattle.std.proofs.Common.{arith, leb-true, lt-ltb}
 use Rattle.std.proofs.lemmas.Bool.{and_parts, and_from}
 use Rattle.std.proofs.lemmas.Option.{none-some, same_Some}
 use Rattle.std.specs.Prelude.{slice_get}
@@ -31,7 +32,8 @@ within-parts least most n h = let p = and_parts (nat_le least n) (nat_le n most)
 
 pub limits-within : (l : Limits) → IsTrue (are_limits l) → AreWithin l
 limits-within l h =
-    let a = and_parts (is_within 1 16 l.sites && is_within 1 16384 l.max_kept && is_within 1 4096 l.max_path && is_within 1 256 l.max_sessions) (nat_le l.max_trail 1073741824) h in
+    let a = and_parts (is_within 1 16 l.sites && is_within 1 16384 l.max_kept && is_within 1 4096 l.max_path && is_within 1 256 l.max_sessions)
+    (nat_le l.max_trail 1073741824) h in
     let b = and_parts (is_within 1 16 l.sites && is_within 1 16384 l.max_kept && is_within 1 4096 l.max_path) (is_within 1 256 l.max_sessions) a.0 in
     let c = and_parts (is_within 1 16 l.sites && is_within 1 16384 l.max_kept) (is_within 1 4096 l.max_path) b.0 in
     let d = and_parts (is_within 1 16 l.sites) (is_within 1 16384 l.max_kept) c.0 in
@@ -48,7 +50,8 @@ limits-within l h =
 abbrev pub is_ranged_floor : Floor → Bool
 is_ranged_floor f = is_id f.state && is_u32 f.stated && is_u32 f.number
 
-floors-ranged : (rs : List Record) (n : ℕ) (fs : List Floor) → IsTrue (list_all is_stored rs) → ((m : ℕ) → count_of_site rs m < 2 ^ 32) → IsTrue (are_sound_floors rs n fs) → IsTrue (list_all is_ranged_floor fs)
+floors-ranged : (rs : List Record) (n : ℕ) (fs : List Floor) → IsTrue (list_all is_stored rs) → ((m : ℕ) → count_of_site rs m < 2 ^ 32) →
+    IsTrue (are_sound_floors rs n fs) → IsTrue (list_all is_ranged_floor fs)
 floors-ranged rs n [] stored counts h = refl
 floors-ranged rs n (f ∷ fs) stored counts h =
     let a = and_parts (is_known rs f.state && nat_le f.stated (count_of_site rs n) && is_u32 f.number) (are_sound_floors rs (n + 1) fs) h in
@@ -75,7 +78,8 @@ session-open rs s stored h =
     let b = and_parts (is_u16 s.0) (is_known rs s.1.ceiling) a.0 in
     record { ceiling = b.1; last = a.1; ceiling_id = known-is-id rs s.1.ceiling stored b.1; last_id = known-is-id rs s.1.last stored a.1 }
 
-entry-open : (rs : List Record) (n : ℕ) (ss : Sessions) (s : Session) → IsTrue (list_all is_stored rs) → IsTrue (list_all (is_sound_session rs) ss) → entry_of n ss ≡ Some s → IsOpen rs s
+entry-open : (rs : List Record) (n : ℕ) (ss : Sessions) (s : Session) → IsTrue (list_all is_stored rs) → IsTrue (list_all (is_sound_session rs) ss) →
+    entry_of n ss ≡ Some s → IsOpen rs s
 entry-open rs n ss s stored h e = go (find (λ (e : ℕ × Session). n == e.0) ss) refl e
   where
     go : (o : Option (ℕ × Session)) → find (λ (e : ℕ × Session). n == e.0) ss ≡ o → option_map (λ (e : ℕ × Session). e.1) o ≡ Some s → IsOpen rs s

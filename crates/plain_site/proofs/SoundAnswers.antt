@@ -39,7 +39,8 @@ module _ (P : Site → Type 0) (site : Site) (old : P site) where
   unless-keeps (None ∷ more) answer new = unless-keeps more answer new
   unless-keeps (Some reply ∷ more) answer new = old
 
-  pub given-keeps : {A : Type 0} (o : Option A) (answer : Answer) (use_of : A → Answer) → (o ≡ None → P answer.0) → ((a : A) → o ≡ Some a → P (use_of a).0) → P (given o answer use_of).0
+  pub given-keeps : {A : Type 0} (o : Option A) (answer : Answer) (use_of : A → Answer) → (o ≡ None → P answer.0) → ((a : A) → o ≡ Some a → P (use_of a).0)
+      → P (given o answer use_of).0
   given-keeps None answer use_of none some = none refl
   given-keeps (Some a) answer use_of none some = some a refl
 

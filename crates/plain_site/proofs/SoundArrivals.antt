@@ -1,5 +1,6 @@
 -- A site to which a next record arrives stays sound, where no parent of it is closed and nothing speaks against growth.
-use Rattle.std.proofs.Common.{◌≡◌, ℕ, ◌+◌, ◌<◌, ◌≤◌, Bool, true, not, cond, List, [], ◌∷◌, length, find, Option, Some, None, IsTrue, IsFalse, ◌≢◌, inl, inr, refl, sym, ap, ap₂, ◌∙◌, arith, length-append}
+use Rattle.std.proofs.Common.{◌≡◌, ℕ, ◌+◌, ◌<◌, ◌≤◌, Bool, true, not, cond, List, [], ◌∷◌, length, find, Option, Some, None, IsTrue, IsFalse, ◌≢◌, inl, inr}
+use Rattle.std.proofs.Common.{refl, sym, ap, ap₂, ◌∙◌, arith, length-append}
 use Rattle.std.specs.Prelude.{◌==◌, ◌&&◌, ◌||◌, nat_le, nat_lt}
 use Rattle.std.specs.List.{list_all, list_any}
 use Rattle.std.specs.Option.{option_map}
@@ -77,7 +78,8 @@ module _ (rs : List Record) (r : Record) (dag : IsDag rs) (next : IsNext rs r) w
   admitted-stays : (ceiling x : StateId) → IsTrue (is_known rs ceiling) → is_admitted (r ∷ rs) ceiling x ≡ is_admitted rs ceiling x
   admitted-stays ceiling x h = ap not (proper-stays x ceiling h)
 
-  all-admitted-stay : (ceiling : StateId) → IsTrue (is_known rs ceiling) → (xs : List StateId) → IsTrue (list_all (is_admitted rs ceiling) xs) → IsTrue (list_all (is_admitted (r ∷ rs) ceiling) xs)
+  all-admitted-stay : (ceiling : StateId) → IsTrue (is_known rs ceiling) → (xs : List StateId) → IsTrue (list_all (is_admitted rs ceiling) xs) →
+      IsTrue (list_all (is_admitted (r ∷ rs) ceiling) xs)
   all-admitted-stay ceiling known = all-implies (is_admitted rs ceiling) (is_admitted (r ∷ rs) ceiling) (λ x t. admitted-stays ceiling x known ∙ t)
 
   apart-stay : (xs : List StateId) → IsTrue (list_all (is_known rs) xs) → are_apart (r ∷ rs) xs ≡ are_apart rs xs

@@ -14,7 +14,8 @@ use Rattle.plain_dag.specs.Entries.{entry_of, with_entry, changed, without_entry
 use Rattle.plain_dag.specs.Floors.{Session, Sessions, Floor, opening_floor, floor_of, is_above_ceilings}
 use Rattle.plain_site.specs.Site.{Site, Txn, own_floor}
 use Rattle.plain_site.specs.Sound.{IsSoundTxn, is_sound_session, are_sound_floors, IsSound}
-use Rattle.plain_site.proofs.SoundEntries.{entry-changed, entry-changed_other, entry-with_entry, entry-with_entry_other, entry-without_entry, entry-without_entry_other, entry-passes}
+use Rattle.plain_site.proofs.SoundEntries.{entry-changed, entry-changed_other, entry-with_entry, entry-with_entry_other, entry-without_entry}
+use Rattle.plain_site.proofs.SoundEntries.{entry-without_entry_other, entry-passes}
 
 -- ===== Transactions
 
@@ -160,7 +161,8 @@ pub record IsSoundFloor (rs : List Record) (n : ℕ) (f : Floor) : Type 0 where
   pub stated : f.stated ≤ count_of_site rs n
   pub number : IsTrue (is_u32 f.number)
 
-pub floor-parts : (rs : List Record) (n : ℕ) (f : Floor) (fs : List Floor) → IsTrue (are_sound_floors rs n (f ∷ fs)) → IsSoundFloor rs n f × IsTrue (are_sound_floors rs (n + 1) fs)
+pub floor-parts : (rs : List Record) (n : ℕ) (f : Floor) (fs : List Floor) → IsTrue (are_sound_floors rs n (f ∷ fs)) → IsSoundFloor rs n f
+    × IsTrue (are_sound_floors rs (n + 1) fs)
 floor-parts rs n f fs h =
     let known = is_known rs f.state in
     let stated = nat_le f.stated (count_of_site rs n) in
@@ -169,7 +171,8 @@ floor-parts rs n f fs h =
     let both = and_parts known stated first.0 in
     (record { known = both.0; stated = leb-true f.stated (count_of_site rs n) both.1; number = first.1 }, parts.1)
 
-floor-at : (rs : List Record) (n : ℕ) (fs : List Floor) → IsTrue (are_sound_floors rs n fs) → (i : ℕ) → i < length fs → (d : Floor) → IsSoundFloor rs (n + i) (get_or fs i d)
+floor-at : (rs : List Record) (n : ℕ) (fs : List Floor) → IsTrue (are_sound_floors rs n fs) → (i : ℕ) → i < length fs → (d : Floor) →
+    IsSoundFloor rs (n + i) (get_or fs i d)
 floor-at rs n [] h i l d = absurd (omega arith)
 floor-at rs n (f ∷ fs) h zero l d =
     let same : n + 0 ≡ n = omega arith in

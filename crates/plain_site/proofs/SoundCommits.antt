@@ -1,8 +1,10 @@
 -- A commit keeps a sound site sound.
-use Rattle.std.proofs.Common.{◌≡◌, ℕ, suc, ◌-◌, ◌<◌, ◌≢◌, Bool, true, not, List, [], ◌∷◌, ◌++◌, length, find, get_or, is_none, Option, Some, None, IsTrue, IsFalse, inl, inr, refl, sym, ap, subst, ◌∙◌, arith, bytes_eq}
+use Rattle.std.proofs.Common.{◌≡◌, ℕ, suc, ◌-◌, ◌<◌, ◌≢◌, Bool, true, not, List, [], ◌∷◌, ◌++◌, length, find, get_or, is_none, Option, Some, None, IsTrue}
+use Rattle.std.proofs.Common.{IsFalse, inl, inr, refl, sym, ap, subst, ◌∙◌, arith, bytes_eq}
 use Rattle.std.specs.Prelude.{◌==◌, ◌&&◌, ◌||◌, ◌^◌, nat_le}
 use Rattle.std.specs.List.{list_all, cons_option}
-use Rattle.std.proofs.lemmas.Bool.{and_parts, and_from, and_left, or_cases, or_right, cases_Bool, cond_both, cond-true, cond-false, both_ways, false_from_ne_true, not_from_false, not_from_true, not-true, eqb-false, ne_eqb, lt-ltb, le-leb}
+use Rattle.std.proofs.lemmas.Bool.{and_parts, and_from, and_left, or_cases, or_right, cases_Bool, cond_both, cond-true, cond-false, both_ways}
+use Rattle.std.proofs.lemmas.Bool.{false_from_ne_true, not_from_false, not_from_true, not-true, eqb-false, ne_eqb, lt-ltb, le-leb}
 use Rattle.std.proofs.lemmas.Option.{none-some, unwrap_or-slice_get}
 use Rattle.tardis_base.specs.declared.ids.StateId.{StateId}
 use Rattle.tardis_base.specs.declared.records.Record.{Record}
@@ -214,7 +216,8 @@ single-keeps site n s t flags k has txn sound = go t.writes
 -- ===== Merges
 
 -- a key that isn't missing is written
-unfound-key : (ws : List KeyWrite) (ks : List (List ℕ)) (k : List ℕ) → find (λ l. not (has_key l ws)) ks ≡ None → IsTrue (is_key_among k ks) → IsTrue (has_key k ws)
+unfound-key : (ws : List KeyWrite) (ks : List (List ℕ)) (k : List ℕ) → find (λ l. not (has_key l ws)) ks ≡ None → IsTrue (is_key_among k ks) →
+    IsTrue (has_key k ws)
 unfound-key ws [] k e m = not-both true refl (sym m)
 unfound-key ws (l ∷ ks) k e m = elim (cases_Bool (has_key l ws)) [
   | inl t ↦ elim (or_cases (bytes_eq k l) (is_key_among k ks) m) [
@@ -254,7 +257,8 @@ pub unrefused-joins : (site : Site) (n : ℕ) (s : Session) (t : MergeTxn) (flag
     IsSoundTxn site.dag s.ceiling (Merge t) → IsSound site → AreNone (merge_refusals site t flags) → MayJoin site t.states t.writes
 unrefused-joins site n s t flags has txn sound none =
     let missing = open_conflict site.dag t.states t.writes in
-    let second = none-parts (refuse_found OpenConflict missing) [] (none-parts (refuse (not (flags.0 == 0)) WrongMode) (refuse_found OpenConflict missing ∷ []) none).1 in
+    let second = none-parts (refuse_found OpenConflict missing) []
+    (none-parts (refuse (not (flags.0 == 0)) WrongMode) (refuse_found OpenConflict missing ∷ []) none).1 in
     merge-joins site n s t has txn sound (found-none OpenConflict missing second.0)
 
 merge-keeps : (site : Site) (n : ℕ) (s : Session) (t : MergeTxn) (flags : EndFlags) → entry_of n site.sessions ≡ Some s →

@@ -1,8 +1,10 @@
 -- What is delivered keeps a sound site sound.
-use Rattle.std.proofs.Common.{◌≡◌, ℕ, ◌+◌, ◌≤◌, Bool, true, false, not, List, [], ◌∷◌, ◌++◌, find, is_none, Option, Some, None, IsTrue, IsFalse, refl, sym, ap, subst}
+use Rattle.std.proofs.Common.{◌≡◌, ℕ, ◌+◌, ◌≤◌, Bool, true, false, not, List, [], ◌∷◌, ◌++◌, find, is_none, Option, Some, None, IsTrue, IsFalse, refl, sym}
+use Rattle.std.proofs.Common.{ap, subst}
 use Rattle.std.specs.Prelude.{◌==◌, ◌&&◌, ◌||◌, nat_le, nat_lt}
 use Rattle.std.specs.List.{list_all}
-use Rattle.std.proofs.lemmas.Bool.{and_parts, and_from, or_parts, both_ways, cond_both, not-false, not_from_false, ltb-false, leb-true, le-leb, eqb-true, eqb-false}
+use Rattle.std.proofs.lemmas.Bool.{and_parts, and_from, or_parts, both_ways, cond_both, not-false, not_from_false, ltb-false, leb-true, le-leb, eqb-true}
+use Rattle.std.proofs.lemmas.Bool.{eqb-false}
 use Rattle.tardis_base.specs.declared.ids.StateId.{StateId}
 use Rattle.tardis_base.specs.declared.records.Record.{Record}
 use Rattle.tardis_base.specs.declared.records.Consent.{Consent}
@@ -23,7 +25,8 @@ use Rattle.plain_site.specs.Site.{Site}
 use Rattle.plain_site.specs.Answers.{Answer, says_early, when, refuse, refuse_found, unless}
 use Rattle.plain_site.specs.Commits.{with_record, growth_refusals}
 use Rattle.plain_site.specs.WaitingRoom.{hold, without}
-use Rattle.plain_site.specs.Exchange.{is_early, judgements, take_record, with_held, deliver_record, consent_judgements, deliver_consent, deliver, is_fit, first_fit_record, with_settled, settle_record, settle}
+use Rattle.plain_site.specs.Exchange.{is_early, judgements, take_record, with_held, deliver_record, consent_judgements, deliver_consent, deliver, is_fit}
+use Rattle.plain_site.specs.Exchange.{first_fit_record, with_settled, settle_record, settle}
 use Rattle.plain_site.specs.Sound.{may_wait, IsSoundRoom, IsSound}
 use Rattle.plain_site.proofs.SoundAnswers.{AreNone, when-none, found-none, none-parts, none-appended, unless-keeps, given-keeps}
 use Rattle.plain_site.proofs.SoundHistories.{next-is_new, unfound-at}
@@ -155,7 +158,8 @@ record-keeps site r valid sound =
 
 pub waiting-is-record : (site : Site) (r : Record) → IsTrue (may_wait site.limits.sites site.own r) → IsTrue (is_record r)
 waiting-is-record site r may =
-    (and_parts (is_record r) (nat_le r.id.site site.limits.sites) (and_parts (is_record r && nat_le r.id.site site.limits.sites) (not (r.id.site == site.own)) may).0).0
+    (and_parts (is_record r) (nat_le r.id.site site.limits.sites)
+    (and_parts (is_record r && nat_le r.id.site site.limits.sites) (not (r.id.site == site.own)) may).0).0
 
 settled-keeps : (site : Site) (found : ℕ × Record) → IsSound site → first_fit_record site ≡ Some found →
     growth_refusal true site.limits site.collected site.dag found.1 ≡ None → IsSound (with_settled found site)

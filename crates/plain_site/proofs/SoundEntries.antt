@@ -1,9 +1,11 @@
 -- Entries by ascending numbers: what a change, one entry more and one entry less leave of them.
-use Rattle.std.proofs.Common.{◌≡◌, ℕ, suc, ◌<◌, ◌≤◌, Bool, true, not, cond, List, [], ◌∷◌, length, filter, find, Some, None, IsTrue, IsFalse, inl, inr, refl, sym, ap, subst, ◌∙◌, arith}
+use Rattle.std.proofs.Common.{◌≡◌, ℕ, suc, ◌<◌, ◌≤◌, Bool, true, not, cond, List, [], ◌∷◌, length, filter, find, Some, None, IsTrue, IsFalse, inl, inr, refl}
+use Rattle.std.proofs.Common.{sym, ap, subst, ◌∙◌, arith}
 use Rattle.std.specs.Prelude.{◌==◌, ◌&&◌, nat_lt}
 use Rattle.std.specs.List.{list_all}
 use Rattle.std.specs.Option.{option_map}
-use Rattle.std.proofs.lemmas.Bool.{and_parts, and_from, cases_Bool, cond-true, cond-false, cond_both, eqb-true, eq-eqb, ne_eqb, ltb-true, ltb-false, lt-ltb, not-true}
+use Rattle.std.proofs.lemmas.Bool.{and_parts, and_from, cases_Bool, cond-true, cond-false, cond_both, eqb-true, eq-eqb, ne_eqb, ltb-true, ltb-false, lt-ltb}
+use Rattle.std.proofs.lemmas.Bool.{not-true}
 use Rattle.std.proofs.lemmas.Option.{none-some, same_Some}
 use Rattle.plain_dag.specs.Entries.{entry_of, with_entry, changed, without_entry, have_ascending_numbers}
 
@@ -65,7 +67,8 @@ module _ {A : Type 0} where
   abbrev pub are_after : ℕ → List (ℕ × A) → Bool
   are_after k es = list_all (λ (e : ℕ × A). nat_lt k e.0) es
 
-  pub ascending-parts : (e : ℕ × A) (es : List (ℕ × A)) → IsTrue (have_ascending_numbers (e ∷ es)) → IsTrue (are_after e.0 es) × IsTrue (have_ascending_numbers es)
+  pub ascending-parts : (e : ℕ × A) (es : List (ℕ × A)) → IsTrue (have_ascending_numbers (e ∷ es)) → IsTrue (are_after e.0 es)
+      × IsTrue (have_ascending_numbers es)
   ascending-parts e [] h = (refl, refl)
   ascending-parts e (g ∷ es) h =
       let parts = and_parts (nat_lt e.0 g.0) (have_ascending_numbers (g ∷ es)) h in
@@ -76,7 +79,8 @@ module _ {A : Type 0} where
         parts.1,
       )
 
-  pub ascending-from : (e : ℕ × A) (es : List (ℕ × A)) → IsTrue (are_after e.0 es) → IsTrue (have_ascending_numbers es) → IsTrue (have_ascending_numbers (e ∷ es))
+  pub ascending-from : (e : ℕ × A) (es : List (ℕ × A)) → IsTrue (are_after e.0 es) → IsTrue (have_ascending_numbers es) →
+      IsTrue (have_ascending_numbers (e ∷ es))
   ascending-from e [] a h = refl
   ascending-from e (g ∷ es) a h =
       and_from (nat_lt e.0 g.0) (have_ascending_numbers (g ∷ es)) (and_parts (nat_lt e.0 g.0) (are_after e.0 es) a).0 h
@@ -155,7 +159,8 @@ module _ {A : Type 0} where
       (λ u. cond_both (nat_lt e.0 n) behind instead P (λ t. after (ltb-true e.0 n t))
       (λ v. here (omega (arith, ltb-false n e.0 u, ltb-false e.0 n v))))
 
-  pub with_entry-all : (p : ℕ × A → Bool) (n : ℕ) (a : A) (es : List (ℕ × A)) → IsTrue (list_all p es) → IsTrue (p (n, a)) → IsTrue (list_all p (with_entry n a es))
+  pub with_entry-all : (p : ℕ × A → Bool) (n : ℕ) (a : A) (es : List (ℕ × A)) → IsTrue (list_all p es) → IsTrue (p (n, a)) →
+      IsTrue (list_all p (with_entry n a es))
   with_entry-all p n a [] h t = and_from (p (n, a)) true t refl
   with_entry-all p n a (e ∷ es) h t =
       let parts = and_parts (p e) (list_all p es) h in

@@ -1,8 +1,10 @@
 -- A ceiling or a floor that goes down keeps a sound site sound.
-use Rattle.std.proofs.Common.{◌≡◌, ℕ, zero, suc, ◌+◌, ◌-◌, ◌<◌, ◌≤◌, ◌≢◌, Bool, not, List, [], ◌∷◌, ◌++◌, length, find, set, Option, Some, None, IsTrue, inl, inr, refl, sym, ap, subst, ◌∙◌, arith, unwrap_or}
+use Rattle.std.proofs.Common.{◌≡◌, ℕ, zero, suc, ◌+◌, ◌-◌, ◌<◌, ◌≤◌, ◌≢◌, Bool, not, List, [], ◌∷◌, ◌++◌, length, find, set, Option, Some, None, IsTrue, inl}
+use Rattle.std.proofs.Common.{inr, refl, sym, ap, subst, ◌∙◌, arith, unwrap_or}
 use Rattle.std.specs.Prelude.{◌==◌, ◌&&◌, ◌^◌, nat_le}
 use Rattle.std.specs.List.{list_all}
-use Rattle.std.proofs.lemmas.Bool.{and_parts, and_from, cases_Bool, cases_eq, cond-true, cond-false, not_from_true, not_from_false, not-false, eqb-false, ltb-true, lt-ltb, le-leb}
+use Rattle.std.proofs.lemmas.Bool.{and_parts, and_from, cases_Bool, cases_eq, cond-true, cond-false, not_from_true, not_from_false, not-false, eqb-false}
+use Rattle.std.proofs.lemmas.Bool.{ltb-true, lt-ltb, le-leb}
 use Rattle.std.proofs.lemmas.List.{length-set, get_or-set_same, get_or-set_other}
 use Rattle.std.proofs.lemmas.Option.{none-some, unwrap_or-slice_get}
 use Rattle.tardis_base.specs.declared.ids.StateId.{StateId}
@@ -25,7 +27,8 @@ use Rattle.plain_site.specs.FloorSteps.{raised, raise_to, raise, raise_auto}
 use Rattle.plain_site.specs.Sound.{is_sound_session, are_sound_floors, IsSound}
 use Rattle.plain_site.proofs.SoundEntries.{changed-all, changed-length, changed-ascends}
 use Rattle.plain_site.proofs.SoundAnswers.{AreNone, when-none, found-none, none-parts, none-appended, unless-keeps}
-use Rattle.plain_site.proofs.SoundBooks.{IsSoundFloor, floor-parts, sound-own_floor, own-is_site, session-parts, session-from, open-session, each-session_changed, book-keeps}
+use Rattle.plain_site.proofs.SoundBooks.{IsSoundFloor, floor-parts, sound-own_floor, own-is_site, session-parts, session-from, open-session}
+use Rattle.plain_site.proofs.SoundBooks.{each-session_changed, book-keeps}
 use Rattle.plain_site.proofs.SoundCommits.{all-at_index}
 
 -- what fails the test nowhere passes it everywhere
@@ -84,14 +87,16 @@ all-set p (x ∷ xs) (suc i) a h t =
     let parts = and_parts (p x) (list_all p xs) h in
     and_from (p x) (list_all p (set xs i a)) parts.0 (all-set p xs i a parts.1 t)
 
-floors-from : (rs : List Record) (n : ℕ) (f : Floor) (fs : List Floor) → IsSoundFloor rs n f → IsTrue (are_sound_floors rs (n + 1) fs) → IsTrue (are_sound_floors rs n (f ∷ fs))
+floors-from : (rs : List Record) (n : ℕ) (f : Floor) (fs : List Floor) → IsSoundFloor rs n f → IsTrue (are_sound_floors rs (n + 1) fs) →
+    IsTrue (are_sound_floors rs n (f ∷ fs))
 floors-from rs n f fs sound rest =
     let known = is_known rs f.state in
     let stated = nat_le f.stated (count_of_site rs n) in
     and_from (known && stated && is_u32 f.number) (are_sound_floors rs (n + 1) fs)
     (and_from (known && stated) (is_u32 f.number) (and_from known stated sound.known (le-leb f.stated (count_of_site rs n) sound.stated)) sound.number) rest
 
-floors-set : (rs : List Record) (n : ℕ) (fs : List Floor) (i : ℕ) (f : Floor) → IsTrue (are_sound_floors rs n fs) → IsSoundFloor rs (n + i) f → IsTrue (are_sound_floors rs n (set fs i f))
+floors-set : (rs : List Record) (n : ℕ) (fs : List Floor) (i : ℕ) (f : Floor) → IsTrue (are_sound_floors rs n fs) → IsSoundFloor rs (n + i) f →
+    IsTrue (are_sound_floors rs n (set fs i f))
 floors-set rs n [] i f h sound = refl
 floors-set rs n (g ∷ fs) zero f h sound =
     let same : n + 0 ≡ n = omega arith in

@@ -1,5 +1,6 @@
 -- Ids, counts and lists of a history, as far as a step needs them.
-use Rattle.std.proofs.Common.{◌≡◌, ℕ, suc, ◌+◌, ◌<◌, ◌≤◌, Bool, not, List, [], ◌∷◌, length, filter, find, is_none, None, IsTrue, IsFalse, inl, inr, refl, sym, ap, ◌∙◌, arith, length-append}
+use Rattle.std.proofs.Common.{◌≡◌, ℕ, suc, ◌+◌, ◌<◌, ◌≤◌, Bool, not, List, [], ◌∷◌, length, filter, find, is_none, None, IsTrue, IsFalse, inl, inr, refl, sym}
+use Rattle.std.proofs.Common.{ap, ◌∙◌, arith, length-append}
 use Rattle.std.specs.Prelude.{◌==◌, ◌&&◌, ◌||◌, ◌^◌, nat_le}
 use Rattle.std.specs.List.{list_any}
 use Rattle.std.proofs.lemmas.Bool.{and_parts, and_from, cases_Bool, cond_both, cond-true, false_from_ne_true, not-true, not_from_false, eqb-true, ltb-true}
@@ -89,7 +90,8 @@ unfound-at p xs x e h =
 -- ===== Closed states
 
 -- what is at or above a closed state is closed
-pub above-closed : (rs : List Record) → IsDag rs → (floors : List Floor) (x c : StateId) → IsTrue (is_above rs x c) → IsTrue (is_closed rs floors c) → IsTrue (is_closed rs floors x)
+pub above-closed : (rs : List Record) → IsDag rs → (floors : List Floor) (x c : StateId) → IsTrue (is_above rs x c) → IsTrue (is_closed rs floors c) →
+    IsTrue (is_closed rs floors x)
 above-closed rs dag [] x c h closed = refl
 above-closed rs dag (f ∷ fs) x c h closed =
     let parts = and_parts (is_proper_ancestor rs c f.state) (is_closed rs fs c) closed in

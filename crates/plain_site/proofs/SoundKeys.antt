@@ -1,5 +1,6 @@
 -- The keys and the writes of a transaction: what one more leaves of their order, their shape and their number.
-use Rattle.std.proofs.Common.{◌≡◌, ℕ, suc, ◌≤◌, Bool, true, not, cond, List, [], ◌∷◌, length, IsTrue, IsFalse, inl, inr, refl, sym, ap, subst, ◌∙◌, arith, bytes_eq}
+use Rattle.std.proofs.Common.{◌≡◌, ℕ, suc, ◌≤◌, Bool, true, not, cond, List, [], ◌∷◌, length, IsTrue, IsFalse, inl, inr, refl, sym, ap, subst, ◌∙◌, arith}
+use Rattle.std.proofs.Common.{bytes_eq}
 use Rattle.std.specs.Prelude.{◌==◌, ◌&&◌, ◌||◌, nat_le}
 use Rattle.std.specs.List.{list_all}
 use Rattle.std.specs.Ordering.{is_lt}
@@ -39,7 +40,8 @@ with_key-length k (l ∷ ls) =
     with_key-cases k l ls (λ ks. length ks ≤ suc (suc (length ls))) (λ b. omega arith) (λ b. omega arith) (λ e. omega arith)
 
 -- a key in front of the first of some ascending keys is none of them
-not-behind : {P : Type 0} (k l : List ℕ) (ls : List (List ℕ)) → IsTrue (are_ascending_keys (l ∷ ls)) → IsTrue (is_key_before k l) → IsTrue (is_key_among k (l ∷ ls)) → P
+not-behind : {P : Type 0} (k l : List ℕ) (ls : List (List ℕ)) → IsTrue (are_ascending_keys (l ∷ ls)) → IsTrue (is_key_before k l) →
+    IsTrue (is_key_among k (l ∷ ls)) → P
 not-behind k l [] up b m = elim (or_cases (bytes_eq k l) (is_key_among k []) m) [
   | inl e ↦ before-itself l (subst (λ j. IsTrue (is_key_before j l)) (same-key k l e) b)
   | inr none ↦ not-both true refl (sym none)
@@ -86,7 +88,8 @@ keys_of-with_write k w (v ∷ vs) = elim (cases_Bool (is_key_before k v.0)) [
   ]
 ]
 
-with_write-all : (p : KeyWrite → Bool) (k : List ℕ) (w : Write) (ws : List KeyWrite) → IsTrue (list_all p ws) → IsTrue (p (k, w)) → IsTrue (list_all p (with_write k w ws))
+with_write-all : (p : KeyWrite → Bool) (k : List ℕ) (w : Write) (ws : List KeyWrite) → IsTrue (list_all p ws) → IsTrue (p (k, w)) →
+    IsTrue (list_all p (with_write k w ws))
 with_write-all p k w [] h t = and_from (p (k, w)) true t refl
 with_write-all p k w (v ∷ vs) h t =
     let parts = and_parts (p v) (list_all p vs) h in

@@ -67,18 +67,21 @@ in_order-none p (x ∷ xs) h =
 
 -- ===== States that are apart
 
-apart-parts : (rs : List Record) (x : StateId) (ys : List StateId) → IsTrue (are_apart rs (x ∷ ys)) → IsFalse (list_any (are_comparable rs x) ys) × IsTrue (are_apart rs ys)
+apart-parts : (rs : List Record) (x : StateId) (ys : List StateId) → IsTrue (are_apart rs (x ∷ ys)) → IsFalse (list_any (are_comparable rs x) ys)
+    × IsTrue (are_apart rs ys)
 apart-parts rs x ys h =
     let any = list_any (are_comparable rs x) ys in
     let parts = and_parts (not any) (are_apart rs ys) (sym (apart-means-incomparable rs x ys) ∙ h) in
     (not-true any parts.0, parts.1)
 
-apart-from : (rs : List Record) (x : StateId) (ys : List StateId) → IsFalse (list_any (are_comparable rs x) ys) → IsTrue (are_apart rs ys) → IsTrue (are_apart rs (x ∷ ys))
+apart-from : (rs : List Record) (x : StateId) (ys : List StateId) → IsFalse (list_any (are_comparable rs x) ys) → IsTrue (are_apart rs ys) →
+    IsTrue (are_apart rs (x ∷ ys))
 apart-from rs x ys f h =
     let any = list_any (are_comparable rs x) ys in
     apart-means-incomparable rs x ys ∙ and_from (not any) (are_apart rs ys) (not_from_false any f) h
 
-with_state-apart : (rs : List Record) (x : StateId) (ys : List StateId) → IsFalse (list_any (are_comparable rs x) ys) → IsTrue (are_apart rs ys) → IsTrue (are_apart rs (with_state x ys))
+with_state-apart : (rs : List Record) (x : StateId) (ys : List StateId) → IsFalse (list_any (are_comparable rs x) ys) → IsTrue (are_apart rs ys) →
+    IsTrue (are_apart rs (with_state x ys))
 with_state-apart rs x [] f h = refl
 with_state-apart rs x (y ∷ ys) f h =
     let free = or_parts (are_comparable rs x y) (list_any (are_comparable rs x) ys) f in

@@ -8,7 +8,9 @@ use Rattle.tardis_base.specs.declared.requests.EndFlags.{EndFlags}
 use Rattle.tardis_base.specs.declared.requests.MergeOf.{MergeOf}
 use Rattle.tardis_base.specs.declared.records.Item.{Item}
 use Rattle.tardis_base.specs.declared.requests.Request.{Request}
-use Rattle.tardis_base.specs.declared.requests.Request.TheVariants.{Open, Begin as BeginAt, Get, Put, Delete, Commit, Abort, BeginMerge, ForkPoints, Conflicts, GetFor, Ceiling, Raise, RaiseAuto, Tidy, Stat, Show, Leaves, Pull, Deliver, Settle, Close}
+use Rattle.tardis_base.specs.declared.requests.Request.TheVariants.{Open, Begin as BeginAt, Get, Put, Delete, Commit, Abort, BeginMerge, ForkPoints}
+use Rattle.tardis_base.specs.declared.requests.Request.TheVariants.{Conflicts, GetFor, Ceiling, Raise, RaiseAuto, Tidy, Stat, Show, Leaves, Pull, Deliver}
+use Rattle.tardis_base.specs.declared.requests.Request.TheVariants.{Settle, Close}
 use Rattle.tardis_base.specs.declared.ids.StateId.{StateId}
 use Rattle.tardis_base.specs.Ids.{is_among}
 use Rattle.tardis_base.specs.Valid.{is_key, is_value}

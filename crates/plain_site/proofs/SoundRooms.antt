@@ -1,9 +1,11 @@
 -- Waiting rooms of sound sites: what holding a record and taking one make of them.
-use Rattle.std.proofs.Common.{◌≡◌, ℕ, zero, suc, ◌+◌, ◌≤◌, ◌<◌, Bool, true, false, not, List, [], ◌∷◌, ◌++◌, length, drop, Option, Some, None, IsTrue, IsFalse, inl, inr, refl, sym, subst, ◌∙◌, arith, length-append}
+use Rattle.std.proofs.Common.{◌≡◌, ℕ, zero, suc, ◌+◌, ◌≤◌, ◌<◌, Bool, true, false, not, List, [], ◌∷◌, ◌++◌, length, drop, Option, Some, None, IsTrue}
+use Rattle.std.proofs.Common.{IsFalse, inl, inr, refl, sym, subst, ◌∙◌, arith, length-append}
 use Rattle.std.specs.Prelude.{if◌then◌else◌}
 use Rattle.std.specs.List.{list_all}
 use Rattle.std.specs.Option.{option_map}
-use Rattle.std.proofs.lemmas.Bool.{and_parts, and_from, or_cases, or_left, or_right, cases_Bool, cond_both, cond-true, cond-false, false_from_ne_true, not-true, not_from_false, both_ways}
+use Rattle.std.proofs.lemmas.Bool.{and_parts, and_from, or_cases, or_left, or_right, cases_Bool, cond_both, cond-true, cond-false, false_from_ne_true}
+use Rattle.std.proofs.lemmas.Bool.{not-true, not_from_false, both_ways}
 use Rattle.std.proofs.lemmas.Option.{none-some, same_Some}
 use Rattle.tardis_base.specs.declared.ids.StateId.{StateId}
 use Rattle.tardis_base.specs.declared.records.Record.{Record}
@@ -64,7 +66,8 @@ room-without sites own place room sound =
 
 -- ===== A room with one more
 
-among-joined : (room : List Record) (r : Record) (x : StateId) → IsFalse (is_among x (states room)) → IsFalse (same_id x r.id) → IsFalse (is_among x (states (room ++ r ∷ [])))
+among-joined : (room : List Record) (r : Record) (x : StateId) → IsFalse (is_among x (states room)) → IsFalse (same_id x r.id) →
+    IsFalse (is_among x (states (room ++ r ∷ [])))
 among-joined room r x none differ =
     false_from_ne_true (is_among x (states (room ++ r ∷ []))) (λ m. go room none m)
   where
@@ -73,15 +76,18 @@ among-joined room r x none differ =
     go (q ∷ qs) absent m = elim (or_cases (same_id x q.id) (is_among x (states (qs ++ r ∷ []))) m) [
       | inl same ↦ both_ways (is_among x (states (q ∷ qs))) absent (or_left (same_id x q.id) (is_among x (states qs)) same)
       | inr later ↦
-          go qs (false_from_ne_true (is_among x (states qs)) (λ t. both_ways (is_among x (states (q ∷ qs))) absent (or_right (same_id x q.id) (is_among x (states qs)) t))) later
+          go qs (false_from_ne_true (is_among x (states qs))
+          (λ t. both_ways (is_among x (states (q ∷ qs))) absent (or_right (same_id x q.id) (is_among x (states qs)) t))) later
     ]
 
-distinct-joined : (room : List Record) (r : Record) → IsTrue (are_distinct (states room)) → IsFalse (is_among r.id (states room)) → IsTrue (are_distinct (states (room ++ r ∷ [])))
+distinct-joined : (room : List Record) (r : Record) → IsTrue (are_distinct (states room)) → IsFalse (is_among r.id (states room)) →
+    IsTrue (are_distinct (states (room ++ r ∷ [])))
 distinct-joined [] r h none = refl
 distinct-joined (q ∷ room) r h none =
     let parts = and_parts (not (is_among q.id (states room))) (are_distinct (states room)) h in
     let later : IsFalse (is_among r.id (states room)) =
-    false_from_ne_true (is_among r.id (states room)) (λ t. both_ways (is_among r.id (states (q ∷ room))) none (or_right (same_id r.id q.id) (is_among r.id (states room)) t)) in
+    false_from_ne_true (is_among r.id (states room)) (λ t. both_ways (is_among r.id (states (q ∷ room))) none
+    (or_right (same_id r.id q.id) (is_among r.id (states room)) t)) in
     let differ : IsFalse (same_id q.id r.id) =
     false_from_ne_true (same_id q.id r.id) (λ t. both_ways (is_among r.id (states (q ∷ room))) none
     (or_left (same_id r.id q.id) (is_among r.id (states room)) (same_id_symmetric q.id r.id t))) in
@@ -95,7 +101,8 @@ all-joined p (q ∷ room) r h t =
     let parts = and_parts (p q) (list_all p room) h in
     and_from (p q) (list_all p (room ++ r ∷ [])) parts.0 (all-joined p room r parts.1 t)
 
-joins : (sites own : ℕ) (room : List Record) (r : Record) → IsSoundRoom sites own room → length room < 256 → IsFalse (waits room r.id) → IsTrue (may_wait sites own r) → IsSoundRoom sites own (room ++ r ∷ [])
+joins : (sites own : ℕ) (room : List Record) (r : Record) → IsSoundRoom sites own room → length room < 256 → IsFalse (waits room r.id) →
+    IsTrue (may_wait sites own r) → IsSoundRoom sites own (room ++ r ∷ [])
 joins sites own room r sound space none may =
     let more : length (room ++ r ∷ []) ≡ length room + 1 = length-append room (r ∷ []) in
     record {
@@ -131,7 +138,8 @@ joins-end sites own room r sound none may =
     room-length f = grind (arith, f)
 
 -- the room with the record held is sound
-pub room-holds : (sites own : ℕ) (room : List Record) (r : Record) → IsSoundRoom sites own room → IsTrue (may_wait sites own r) → IsSoundRoom sites own (hold r room)
+pub room-holds : (sites own : ℕ) (room : List Record) (r : Record) → IsSoundRoom sites own room → IsTrue (may_wait sites own r) →
+    IsSoundRoom sites own (hold r room)
 room-holds sites own room r sound may =
     cond_both (waits room r.id) room ((if is_full room then drop 1 room else room) ++ r ∷ []) (λ (qs : List Record). IsSoundRoom sites own qs)
     (λ t. sound) (λ f. joins-end sites own room r sound f may)

@@ -27,11 +27,13 @@ use Rattle.plain_site.specs.Sessions.{open_session, close_session, begin_at, beg
 use Rattle.plain_site.specs.Reads.{having_read, having_written, read_at, read_in, get, set_key}
 use Rattle.plain_site.specs.Commits.{abort}
 use Rattle.plain_site.specs.Sound.{is_txn, IsSoundTxn, is_sound_session, IsSound}
-use Rattle.plain_site.proofs.SoundEntries.{all-filtered, filter-shortens, with_entry-all, with_entry-ascends, with_entry-length, without_entry-ascends, changed-ascends, entry-without_entry}
+use Rattle.plain_site.proofs.SoundEntries.{all-filtered, filter-shortens, with_entry-all, with_entry-ascends, with_entry-length, without_entry-ascends}
+use Rattle.plain_site.proofs.SoundEntries.{changed-ascends, entry-without_entry}
 use Rattle.plain_site.proofs.SoundKeys.{with_key-all, with_key-fits, with_write-fits}
 use Rattle.plain_dag.proofs.Keys.{with-key-ascends}
 use Rattle.plain_site.proofs.SoundAnswers.{when-none, none-parts, unless-keeps, given-keeps}
-use Rattle.plain_site.proofs.SoundBooks.{each-without_txn, each-with_txn, each-txn_changed, each-with_session, each-without_session, book-keeps, txns-keep, session-from, sound-own_floor}
+use Rattle.plain_site.proofs.SoundBooks.{each-without_txn, each-with_txn, each-txn_changed, each-with_session, each-without_session, book-keeps, txns-keep}
+use Rattle.plain_site.proofs.SoundBooks.{session-from, sound-own_floor}
 
 -- ===== Open and Close
 
@@ -39,7 +41,8 @@ no-entry : {A : Type 0} (o : Option A) → IsFalse (is_some o) → o ≡ None
 no-entry None h = refl
 no-entry (Some a) h = not-both true refl h
 
-pub opening-keeps : (site : Site) (n : ℕ) (follow : Bool) → IsTrue (is_u16 n) → IsTrue (is_known site.dag root) → IsSound site → IsSound (open_session site n follow).0
+pub opening-keeps : (site : Site) (n : ℕ) (follow : Bool) → IsTrue (is_u16 n) → IsTrue (is_known site.dag root) → IsSound site →
+    IsSound (open_session site n follow).0
 opening-keeps site n follow small rooted sound =
     let ceiling = (own_floor site).state in
     let number_open = length site.sessions in
@@ -49,7 +52,8 @@ opening-keeps site n follow small rooted sound =
     (refuse (is_some (entry_of n site.sessions)) AlreadyOpen ∷ refuse (number_open == site.limits.max_sessions) (SessionsFull number_open) ∷ [])
     (record site { sessions = with_entry n s site.sessions }, Opened ceiling)
     (λ none.
-    let first = none-parts (refuse (is_some (entry_of n site.sessions)) AlreadyOpen) (refuse (number_open == site.limits.max_sessions) (SessionsFull number_open) ∷ []) none in
+    let first = none-parts (refuse (is_some (entry_of n site.sessions)) AlreadyOpen)
+    (refuse (number_open == site.limits.max_sessions) (SessionsFull number_open) ∷ []) none in
     let second = none-parts (refuse (number_open == site.limits.max_sessions) (SessionsFull number_open)) [] first.1 in
     let closed = no-entry (entry_of n site.sessions) (when-none (is_some (entry_of n site.sessions)) _ first.0) in
     let room = eqb-false number_open site.limits.max_sessions (when-none (number_open == site.limits.max_sessions) _ second.0) in
@@ -144,7 +148,8 @@ single-from t s =
     and_from (few && keys && up) (are_writes t.writes)
     (and_from (few && keys) up (and_from few keys (le-leb (length t.reads) 256 s.few) s.keys) s.ascend) s.writes
 
-written-shape : (k : List ℕ) (w : Write) (t : Txn) → IsTrue (is_key k) → IsTrue (is_write w) → IsFalse (length (writes_of t) == 64 && not (has_key k (writes_of t))) →
+written-shape : (k : List ℕ) (w : Write) (t : Txn) → IsTrue (is_key k) → IsTrue (is_write w) →
+    IsFalse (length (writes_of t) == 64 && not (has_key k (writes_of t))) →
     IsTrue (is_txn t) → IsTrue (is_txn (having_written k w t))
 written-shape k w (Single t) key write room h =
     let s = single-parts t h in
@@ -209,7 +214,8 @@ read_in-keeps : (site : Site) (n : ℕ) (t : Txn) (k : List ℕ) → entry_of n 
     IsSound site → IsSound (read_in site n t k).0
 read_in-keeps site n (Single t) k has key sound = read_at-keeps site n t k has key sound
 read_in-keeps site n (Merge t) k has key sound =
-    unless-keeps IsSound site sound (refuse (is_conflict_key site.dag t.states k) (ConflictKey k) ∷ []) (site, found (value_over site.dag t.states k)) (λ none. sound)
+    unless-keeps IsSound site sound (refuse (is_conflict_key site.dag t.states k) (ConflictKey k) ∷ []) (site, found (value_over site.dag t.states k))
+    (λ none. sound)
 
 pub get-keeps : (site : Site) (n : ℕ) (t : Txn) (k : List ℕ) → entry_of n site.txns ≡ Some t → IsTrue (is_key k) →
     IsSound site → IsSound (get site n t k).0

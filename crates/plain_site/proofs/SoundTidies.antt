@@ -1,5 +1,6 @@
 -- Collection keeps a sound site sound.
-use Rattle.std.proofs.Common.{◌≡◌, ℕ, zero, suc, ◌+◌, ◌≤◌, Bool, not, List, [], ◌∷◌, ◌++◌, length, filter, find, Option, Some, None, IsTrue, inl, inr, refl, ap, ◌∙◌, arith, length-append}
+use Rattle.std.proofs.Common.{◌≡◌, ℕ, zero, suc, ◌+◌, ◌≤◌, Bool, not, List, [], ◌∷◌, ◌++◌, length, filter, find, Option, Some, None, IsTrue, inl, inr, refl}
+use Rattle.std.proofs.Common.{ap, ◌∙◌, arith, length-append}
 use Rattle.std.specs.Prelude.{◌&&◌, flat_map}
 use Rattle.std.proofs.lemmas.Bool.{and_parts, and_from, cases_Bool, cond-true, cond-false, or_parts, not-true, not_from_false}
 use Rattle.std.proofs.lemmas.List.Elements.{filter-append}
@@ -145,7 +146,13 @@ tidied-keeps (suc n) site sound =
   where
     go : ((next : Site) → IsSound next → IsSound (record next { collected = tidied n next.dag next.floors next.collected })) →
         (o : Option StateId) → find (is_collectable site.dag site.floors site.collected) (states site.dag) ≡ o →
-        IsSound (record site { collected = elim o as (λ u. List StateId) [ None ↦ site.collected | Some x ↦ tidied n site.dag site.floors (x ∷ site.collected) ] })
+        IsSound (record site {
+          collected = elim o as (λ u. List StateId) [
+            | None ↦ site.collected
+            | Some x ↦
+                tidied n site.dag site.floors (x ∷ site.collected)
+          ];
+        })
     go later None e = sound
     go later (Some x) e =
         let found = found-passes (is_collectable site.dag site.floors site.collected) (states site.dag) x e in

@@ -1,5 +1,6 @@
 -- Two histories in which one id names one record agree on what both know.
-use Rattle.std.proofs.Common.{◌≡◌, ℕ, ◌<◌, not, List, [], ◌∷◌, find, filter_map, is_none, Option, Some, None, IsTrue, inl, inr, refl, sym, ap, subst, ◌∙◌, arith}
+use Rattle.std.proofs.Common.{◌≡◌, ℕ, ◌<◌, not, List, [], ◌∷◌, find, filter_map, is_none, Option, Some, None, IsTrue, inl, inr, refl, sym, ap, subst, ◌∙◌}
+use Rattle.std.proofs.Common.{arith}
 use Rattle.std.specs.Prelude.{◌&&◌, ◌||◌}
 use Rattle.std.specs.List.{list_any, cons_option}
 use Rattle.std.specs.Option.{option_and_then, option_map}
@@ -30,15 +31,18 @@ use Rattle.plain_world.proofs.Histories.{same-some, known-is-found}
 writes-of-record : (rs : List Record) → Grows rs → (k : List ℕ) (x : StateId) (r : Record) → record_at rs x ≡ Some r → writes_key rs k x ≡ has_key k r.writes
 writes-of-record [] g k x r e = absurd (none-some r e)
 writes-of-record (q ∷ rs) g k x r e = elim (cases_Bool (same_id x q.id)) [
-  | inl t ↦ writes-newest rs q k x g.0 t ∙ ap (λ (s : Record). has_key k s.writes) (same-some q r (sym (cond-true (same_id x q.id) (Some q) (record_at rs x) t) ∙ e))
+  | inl t ↦ writes-newest rs q k x g.0 t ∙ ap (λ (s : Record). has_key k s.writes)
+      (same-some q r (sym (cond-true (same_id x q.id) (Some q) (record_at rs x) t) ∙ e))
   | inr f ↦ writes-before rs q k x f ∙ writes-of-record rs g.1 k x r (sym (cond-false (same_id x q.id) (Some q) (record_at rs x) f) ∙ e)
 ]
 
 parents-of-record : (rs : List Record) (x : StateId) (r : Record) → record_at rs x ≡ Some r → parents_of rs x ≡ r.parents
 parents-of-record [] x r e = absurd (none-some r e)
 parents-of-record (q ∷ rs) x r e = elim (cases_Bool (same_id x q.id)) [
-  | inl t ↦ cond-true (same_id x q.id) q.parents (parents_of rs x) t ∙ ap (λ (s : Record). s.parents) (same-some q r (sym (cond-true (same_id x q.id) (Some q) (record_at rs x) t) ∙ e))
-  | inr f ↦ cond-false (same_id x q.id) q.parents (parents_of rs x) f ∙ parents-of-record rs x r (sym (cond-false (same_id x q.id) (Some q) (record_at rs x) f) ∙ e)
+  | inl t ↦ cond-true (same_id x q.id) q.parents (parents_of rs x) t
+      ∙ ap (λ (s : Record). s.parents) (same-some q r (sym (cond-true (same_id x q.id) (Some q) (record_at rs x) t) ∙ e))
+  | inr f ↦ cond-false (same_id x q.id) q.parents (parents_of rs x) f
+      ∙ parents-of-record rs x r (sym (cond-false (same_id x q.id) (Some q) (record_at rs x) f) ∙ e)
 ]
 
 module _ (a b : List Record) (da : IsDag a) (db : IsDag b)
@@ -59,7 +63,8 @@ module _ (a b : List Record) (da : IsDag a) (db : IsDag b)
       ∙ (ap (λ t. same_id x y || t) (any-agrees (is_above a x) (is_above b x) (parents_of a y) (λ p m. of-parent p m (above-by n x p)))
       ∙ (ap (λ ps. same_id x y || list_any (is_above b x) ps) (same-parents y ka kb) ∙ sym (above-along-edges b db x y)))
     where
-      of-parent : (p : StateId) → IsTrue (is_among p (parents_of a y)) → (arrival a p < n → IsTrue (is_known a p) → IsTrue (is_known b p) → is_above a x p ≡ is_above b x p) →
+      of-parent : (p : StateId) → IsTrue (is_among p (parents_of a y)) →
+          (arrival a p < n → IsTrue (is_known a p) → IsTrue (is_known b p) → is_above a x p ≡ is_above b x p) →
           is_above a x p ≡ is_above b x p
       of-parent p m older =
           let pa = parents-are-known a (dag-grows a da) p y m in
@@ -90,7 +95,11 @@ module _ (a b : List Record) (da : IsDag a) (db : IsDag b)
       ap (λ t. t || is_above a y x) (same-above x y ky.0 ky.1) ∙ ap (λ t. is_above b x y || t) (same-above y x kx.0 kx.1)) in
       let later = same-comparable xs (λ y m. k y (among-later y x xs m)) in
       ap (λ (o : Option StateId). elim o as (λ u. Option (StateId × StateId)) [ Some y ↦ Some (x, y) | None ↦ comparable_pair a xs ]) here
-      ∙ ap (λ (p : Option (StateId × StateId)). elim (find (are_comparable b x) xs) as (λ u. Option (StateId × StateId)) [ Some y ↦ Some (x, y) | None ↦ p ]) later
+      ∙ ap (λ (p : Option (StateId × StateId)). elim (find (are_comparable b x) xs) as (λ u. Option (StateId × StateId)) [
+        | Some y ↦ Some (x, y)
+        | None ↦
+            p
+      ]) later
 
   -- ===== Writes
 
@@ -127,7 +136,8 @@ module _ (a b : List Record) (da : IsDag a) (db : IsDag b)
       let known = known-over w x ka kb up in
       and_from (writes_key a k w) (is_above a w x) (same-writes k w known.0 known.1 ∙ parts.0) up
 
-  known-writer : (k : List ℕ) (x w : StateId) → IsTrue (is_known a x) → IsTrue (is_known b x) → IsTrue (is_writer a k x w) → IsTrue (is_known a w) × IsTrue (is_known b w)
+  known-writer : (k : List ℕ) (x w : StateId) → IsTrue (is_known a x) → IsTrue (is_known b x) → IsTrue (is_writer a k x w) → IsTrue (is_known a w)
+      × IsTrue (is_known b w)
   known-writer k x w ka kb h = known-over w x ka kb (and_parts (writes_key a k w) (is_above a w x) h).1
 
   latest-too : (k : List ℕ) (x w : StateId) → IsTrue (is_known a x) → IsTrue (is_known b x) → IsLatestWriter a k x w → IsLatestWriter b k x w
@@ -162,7 +172,8 @@ module _ (a b : List Record) (da : IsDag a) (db : IsDag b)
     ]
   ]
 
-  known-latest : (k : List ℕ) (x w : StateId) → IsTrue (is_known a x) → IsTrue (is_known b x) → latest_writer a k x ≡ Some w → IsTrue (is_known a w) × IsTrue (is_known b w)
+  known-latest : (k : List ℕ) (x w : StateId) → IsTrue (is_known a x) → IsTrue (is_known b x) → latest_writer a k x ≡ Some w → IsTrue (is_known a w)
+      × IsTrue (is_known b w)
   known-latest k x w ka kb e = known-writer k x w ka kb (latest-is-latest a k x w e).writes
 
   pub same-read : (k : List ℕ) (x : StateId) → IsTrue (is_known a x) → IsTrue (is_known b x) → read a k x ≡ read b k x

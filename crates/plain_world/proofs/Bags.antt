@@ -1,5 +1,6 @@
 -- A batch that a site gives keeps an honest world honest.
-use Rattle.std.proofs.Common.{◌≡◌, ℕ, suc, ◌+◌, ◌-◌, ◌<◌, Bool, List, [], ◌∷◌, ◌++◌, length, map, filter, Option, Some, None, IsTrue, inl, inr, refl, sym, ap, subst, ◌∙◌, arith}
+use Rattle.std.proofs.Common.{◌≡◌, ℕ, suc, ◌+◌, ◌-◌, ◌<◌, Bool, List, [], ◌∷◌, ◌++◌, length, map, filter, Option, Some, None, IsTrue, inl, inr, refl, sym, ap}
+use Rattle.std.proofs.Common.{subst, ◌∙◌, arith}
 use Rattle.std.specs.Prelude.{nat_le, ◌&&◌, ◌==◌, get_or, slice_get}
 use Rattle.std.specs.List.{list_all}
 use Rattle.std.specs.Option.{option_and_then}
@@ -50,13 +51,15 @@ arrived-is-one (q ∷ rs) r m = elim (one-appended r (in_arrival_order rs) (q �
 
 -- ===== Its consents
 
-consent-is-known : (n : ℕ) (fs : List Floor) (c : Consent) → IsOneOf c (consents_from n fs) → (i : ℕ) × (c.site ≡ n + i) × (i < length fs) × (get_or fs i opening_floor ≡ said c)
+consent-is-known : (n : ℕ) (fs : List Floor) (c : Consent) → IsOneOf c (consents_from n fs) → (i : ℕ) × (c.site ≡ n + i) × (i < length fs)
+    × (get_or fs i opening_floor ≡ said c)
 consent-is-known n [] c = λ m. absurd (m)
 consent-is-known n (f ∷ fs) c =
     let older = consent-is-known (n + 1) fs c in
     let rest = consents_from (n + 1) fs in
     let here : Consent = record { site = n; number = f.number; floor = f.state; count = f.stated } in
-    cond_both (f.number == 0) rest (here ∷ rest) (λ (cs : List Consent). IsOneOf c cs → (i : ℕ) × (c.site ≡ n + i) × (i < length (f ∷ fs)) × (get_or (f ∷ fs) i opening_floor ≡ said c))
+    cond_both (f.number == 0) rest (here ∷ rest) (λ (cs : List Consent). IsOneOf c cs → (i : ℕ) × (c.site ≡ n + i) × (i < length (f ∷ fs))
+    × (get_or (f ∷ fs) i opening_floor ≡ said c))
     (λ t m. later (older m))
     (λ t m. elim m [
       | inl e ↦ (0, ap (λ (d : Consent). d.site) e ∙ omega arith, omega arith, sym (ap said e))
@@ -86,7 +89,8 @@ pub batch-parts : (b : Batch) → IsTrue (is_batch b) → IsSpelled b
 batch-parts b h =
     let parts = and_parts (are_records b.records) (are_consents b.consents) h in
     let records = and_parts (is_u16 (length b.records)) (list_all is_record b.records) parts.0 in
-    let consents = and_parts (nat_le (length b.consents) 16 && list_all is_consent b.consents) (are_ascending_numbers (map (λ (c : Consent). c.site) b.consents)) parts.1 in
+    let consents = and_parts (nat_le (length b.consents) 16 && list_all is_consent b.consents)
+    (are_ascending_numbers (map (λ (c : Consent). c.site) b.consents)) parts.1 in
     record { records = records.1; consents = (and_parts (nat_le (length b.consents) 16) (list_all is_consent b.consents) consents.0).1 }
 
 -- an item is a record of the batch or a consent of it
@@ -114,7 +118,8 @@ item-there bag batch item i e = go (slice_get bag batch) refl e
 
 pub item-is-spelled : (b : Batch) (i : Item) → IsTrue (is_batch b) → IsItemOf b i → IsTrue (is_item i)
 item-is-spelled b i valid (IsItemOf.of_record r e m) = subst (λ j. IsTrue (is_item j)) (sym e) (all-one is_record b.records r (batch-parts b valid).records m)
-item-is-spelled b i valid (IsItemOf.of_consent c e m) = subst (λ j. IsTrue (is_item j)) (sym e) (all-one is_consent b.consents c (batch-parts b valid).consents m)
+item-is-spelled b i valid (IsItemOf.of_consent c e m) = subst (λ j. IsTrue (is_item j)) (sym e)
+    (all-one is_consent b.consents c (batch-parts b valid).consents m)
 
 -- ===== The bag
 
@@ -161,8 +166,10 @@ module _ (world : World) (n : ℕ) (site : Site) (b : Batch) where
           let place = at.1 in
           let l = at.2 in
           let index : k - 1 ≡ at.0 = omega arith in
-          let floor : floor_of site.floors k ≡ f = unwrap_or-slice_get site.floors (k - 1) opening_floor ∙ (ap (λ i. get_or site.floors i opening_floor) index ∙ (at.3 ∙ is)) in
-          HasConsent.at_site n site here (and_from (nat_le 1 k) (nat_le k (length world.sites)) (le-leb 1 k (omega arith)) (le-leb k (length world.sites) (omega arith))) floor
+          let floor : floor_of site.floors k ≡ f = unwrap_or-slice_get site.floors (k - 1) opening_floor
+          ∙ (ap (λ i. get_or site.floors i opening_floor) index ∙ (at.3 ∙ is)) in
+          HasConsent.at_site n site here (and_from (nat_le 1 k) (nat_le k (length world.sites)) (le-leb 1 k (omega arith))
+          (le-leb k (length world.sites) (omega arith))) floor
       | inr (inr none) ↦ absurd (none)
     ]
 

@@ -8,7 +8,8 @@ use Rattle.tardis_base.specs.declared.records.Consent.{Consent}
 use Rattle.tardis_base.specs.declared.records.Item.{Item}
 use Rattle.tardis_base.specs.declared.records.Item.TheVariants.{State, Promise}
 use Rattle.tardis_base.specs.declared.requests.Request.{Request}
-use Rattle.tardis_base.specs.declared.requests.Request.TheVariants.{Open, Begin, Get, Put, Delete, Commit, Abort, BeginMerge, ForkPoints, Conflicts, GetFor, Ceiling, Raise, RaiseAuto, Tidy, Stat, Show, Leaves, Pull, Deliver, Settle, Close}
+use Rattle.tardis_base.specs.declared.requests.Request.TheVariants.{Open, Begin, Get, Put, Delete, Commit, Abort, BeginMerge, ForkPoints, Conflicts, GetFor}
+use Rattle.tardis_base.specs.declared.requests.Request.TheVariants.{Ceiling, Raise, RaiseAuto, Tidy, Stat, Show, Leaves, Pull, Deliver, Settle, Close}
 use Rattle.tardis_base.specs.declared.requests.EndFlags.{EndFlags}
 use Rattle.tardis_base.specs.declared.replies.Refusal.{Refusal}
 use Rattle.tardis_base.specs.declared.replies.Refusal.TheVariants.{NotOpen, NoTxn, TxnOpen, WrongMode}
@@ -26,7 +27,8 @@ use Rattle.plain_site.specs.Merges.{begin_merge, fork_points_of, conflicts_of}
 use Rattle.plain_site.specs.Commits.{with_record, without_txn_of, growth_refusals, abort, commit, commit_single}
 use Rattle.plain_site.specs.Exchange.{judgements, take_record, consent_judgements, deliver, first_fit_record, settle_record, settle}
 use Rattle.plain_site.specs.Step.{step}
-use Rattle.plain_site.proofs.RepliesFrame.{AllGood, Replies, RefusesWell, good-none, good-found, good-reply, unless-good, unless-both-good, given-good, by-session, by-txn, by-no-txn, good_replies}
+use Rattle.plain_site.proofs.RepliesFrame.{AllGood, Replies, RefusesWell, good-none, good-found, good-reply, unless-good, unless-both-good, given-good}
+use Rattle.plain_site.proofs.RepliesFrame.{by-session, by-txn, by-no-txn, good_replies}
 use Rattle.tardis_base.specs.declared.records.Batch.{Batch}
 use Rattle.tardis_base.specs.declared.replies.Refusal.TheVariants.{BadSite}
 use Rattle.std.specs.Prelude.{not}
@@ -99,7 +101,8 @@ none-conflicts : (site : Site) (t : Txn) (after : List ℕ) → Replies (Gives s
 none-conflicts site (Single t) after = refuses-none site WrongMode
 none-conflicts site (Merge t) after = search giving
 
-none-commit-of : (site : Site) (n : ℕ) (ws : List KeyWrite) (reads : List (List ℕ)) (x : StateId) (flags : EndFlags) (k : ℕ) → Replies (Gives site) (commit_single site n (record { state = x; reads = reads; writes = ws }) flags k)
+none-commit-of : (site : Site) (n : ℕ) (ws : List KeyWrite) (reads : List (List ℕ)) (x : StateId) (flags : EndFlags) (k : ℕ) →
+    Replies (Gives site) (commit_single site n (record { state = x; reads = reads; writes = ws }) flags k)
 none-commit-of site n [] reads x flags k = good-reply (without_txn_of n site) (Ended x) (says-other site (Ended x) refl)
 none-commit-of site n (w ∷ ws) reads x flags k = search giving
 
@@ -119,7 +122,8 @@ none-take site r =
 none-deliver : (site : Site) (item : Item) → Replies (Gives site) (deliver site item)
 none-deliver site (State r) = record { reply = (none-take site r).reply }
 none-deliver site (Promise c) =
-    unless-good site (consent_judgements site c) (taken site c, Applied) (search giving depth 12) (λ none. good-reply (taken site c) Applied (says-other site Applied refl))
+    unless-good site (consent_judgements site c) (taken site c, Applied) (search giving depth 12)
+    (λ none. good-reply (taken site c) Applied (says-other site Applied refl))
 
 none-settle : (site : Site) → Replies (Gives site) (settle site)
 none-settle site =
@@ -147,7 +151,8 @@ gives-own-batch site n (Show x) = search giving
 gives-own-batch site n Leaves = search giving
 gives-own-batch site n (Pull counts) =
     unless-good site (refuse (not (length counts == site.limits.sites)) (BadSite (length counts)) ∷ []) (site, BatchIs (batch_for site counts))
-    (good-when (not (length counts == site.limits.sites)) (Refused (BadSite (length counts))) [] (says-other site (Refused (BadSite (length counts))) refl) good-none)
+    (good-when (not (length counts == site.limits.sites)) (Refused (BadSite (length counts))) [] (says-other site (Refused (BadSite (length counts))) refl)
+    good-none)
     (λ none. record { reply = record { own = λ b e. (counts, sym (same-batch (batch_for site counts) b e)) } })
 gives-own-batch site n (Deliver item) = none-deliver site item
 gives-own-batch site n Settle = none-settle site

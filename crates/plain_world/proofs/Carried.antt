@@ -1,5 +1,6 @@
 -- What carries and Settle are answered, and which waiting records are fit.
-use Rattle.std.proofs.Common.{◌≡◌, ℕ, ◌+◌, Bool, true, false, not, [], ◌∷◌, length, find, is_none, Option, Some, None, IsTrue, IsFalse, refl, sym, ap, subst, ◌∙◌, arith}
+use Rattle.std.proofs.Common.{◌≡◌, ℕ, ◌+◌, Bool, true, false, not, [], ◌∷◌, length, find, is_none, Option, Some, None, IsTrue, IsFalse, refl, sym, ap, subst}
+use Rattle.std.proofs.Common.{◌∙◌, arith}
 use Rattle.std.specs.Prelude.{◌&&◌, ◌==◌, nat_le, nat_lt}
 use Rattle.std.specs.List.{list_all}
 use Rattle.std.specs.Option.{option_map_or}
@@ -38,7 +39,8 @@ use Rattle.plain_world.proofs.Judged.{record-reply, consent-reply, none-closed, 
 -- ===== One site's reply
 
 -- what holds of a reply that is no batch holds of the world's
-answered-reply : (T : Reply → Bool) (world : World) (n : ℕ) (next : Site) (reply : Reply) → ((b : Batch) → T (BatchIs b) ≡ false) → IsTrue (T reply) → IsTrue (T (answered world n next reply).1)
+answered-reply : (T : Reply → Bool) (world : World) (n : ℕ) (next : Site) (reply : Reply) → ((b : Batch) → T (BatchIs b) ≡ false) → IsTrue (T reply) →
+    IsTrue (T (answered world n next reply).1)
 answered-reply T world n next (BatchIs b) no_batch t = absurd (both_ways (T (BatchIs b)) (no_batch b) t)
 answered-reply T world n next reply no_batch t = t
 
@@ -77,14 +79,16 @@ pub carries-are-taken : CarriesAreTaken carry_to
 carries-are-taken world n batch item honest = go (site_at world.sites n) refl
   where
     at-item : (site : Site) → site_at world.sites n ≡ Some site → (o : Option Item) → item_at world.bag batch item ≡ o →
-        IsTrue (is_carry_reply (length world.sites) n (option_map_or (λ i. ask world n 0 (Deliver i) site) o (declined world (NoSuchItem (length world.bag)))).1)
+        IsTrue (is_carry_reply (length world.sites) n (option_map_or (λ i. ask world n 0 (Deliver i) site) o
+        (declined world (NoSuchItem (length world.bag)))).1)
     at-item site e None is = refl
     at-item site e (Some i) is =
         let there = item-there world.bag batch item i is in
         answered-reply (is_carry_reply (length world.sites) n) world n (deliver site i).0 (deliver site i).1 (λ b. refl)
         (item-reply world honest n site e there.0 there.1 i there.2)
 
-    go : (o : Option Site) → site_at world.sites n ≡ o → IsTrue (is_carry_reply (length world.sites) n (option_map_or (carry world n batch item) o (declined world (BadSite n))).1)
+    go : (o : Option Site) → site_at world.sites n ≡ o → IsTrue
+        (is_carry_reply (length world.sites) n (option_map_or (carry world n batch item) o (declined world (BadSite n))).1)
     go None e =
         and_from (n == n) (not (is_within 1 (length world.sites) n)) (eq-eqb n n refl)
         (not_from_false (is_within 1 (length world.sites) n) (false_from_ne_true (is_within 1 (length world.sites) n) (λ t.
@@ -136,13 +140,19 @@ next-ones-are-fit world honest m a r here waits next parents =
     let five = refuse_found ClosedParent (find (is_closed a.dag a.floors) r.parents) in
     let six = refuse_found (λ (pair : StateId × StateId). Comparable pair.0 pair.1) (comparable_pair a.dag r.parents) in
     let seven = refuse_found OpenConflict (open_conflict a.dag r.parents r.writes) in
-    let fresh : IsFalse (nat_le r.id.sequence count) = false_from_ne_true (nat_le r.id.sequence count) (λ t. let l = leb-true r.id.sequence count t in absurd (omega arith)) in
+    let fresh : IsFalse (nat_le r.id.sequence count) = false_from_ne_true (nat_le r.id.sequence count) (λ t. let l = leb-true r.id.sequence count t in
+    absurd (omega arith)) in
     let in_time : IsFalse (is_early a r) = not_from_true (r.id.sequence == count + 1 && list_all (is_known a.dag) r.parents)
     (and_from (r.id.sequence == count + 1) (list_all (is_known a.dag) r.parents) (eq-eqb r.id.sequence (count + 1) next) parents) in
-    and_from (is_none one) (list_all is_none (two ∷ three ∷ four ∷ five ∷ six ∷ seven ∷ [])) (none-when (nat_lt a.limits.sites r.id.site) (Refused (BadSite r.id.site)) (of-a-site world honest m a here r told other))
+    and_from (is_none one) (list_all is_none (two ∷ three ∷ four ∷ five ∷ six ∷ seven ∷ []))
+    (none-when (nat_lt a.limits.sites r.id.site) (Refused (BadSite r.id.site)) (of-a-site world honest m a here r told other))
     (and_from (is_none two) (list_all is_none (three ∷ four ∷ five ∷ six ∷ seven ∷ [])) (none-when (nat_le r.id.sequence count) Known fresh)
-    (and_from (is_none three) (list_all is_none (four ∷ five ∷ six ∷ seven ∷ [])) (none-when (r.id.site == a.own) (Refused (OwnItem r.id.site r.id.sequence)) (not-true (r.id.site == a.own) apart.1))
+    (and_from (is_none three) (list_all is_none (four ∷ five ∷ six ∷ seven ∷ []))
+    (none-when (r.id.site == a.own) (Refused (OwnItem r.id.site r.id.sequence)) (not-true (r.id.site == a.own) apart.1))
     (and_from (is_none four) (list_all is_none (five ∷ six ∷ seven ∷ [])) (none-when (is_early a r) (Early count) in_time)
-    (and_from (is_none five) (list_all is_none (six ∷ seven ∷ [])) (none-found ClosedParent (find (is_closed a.dag a.floors) r.parents) (none-closed world honest m a here r told other next parents))
-    (and_from (is_none six) (list_all is_none (seven ∷ [])) (none-found (λ (pair : StateId × StateId). Comparable pair.0 pair.1) (comparable_pair a.dag r.parents) (none-comparable world honest m a here r told other next parents))
-    (and_from (is_none seven) true (none-found OpenConflict (open_conflict a.dag r.parents r.writes) (none-open world honest m a here r told other next parents)) refl))))))
+    (and_from (is_none five) (list_all is_none (six ∷ seven ∷ []))
+    (none-found ClosedParent (find (is_closed a.dag a.floors) r.parents) (none-closed world honest m a here r told other next parents))
+    (and_from (is_none six) (list_all is_none (seven ∷ [])) (none-found (λ (pair : StateId × StateId). Comparable pair.0 pair.1)
+    (comparable_pair a.dag r.parents) (none-comparable world honest m a here r told other next parents))
+    (and_from (is_none seven) true (none-found OpenConflict (open_conflict a.dag r.parents r.writes)
+    (none-open world honest m a here r told other next parents)) refl))))))

@@ -56,7 +56,8 @@ pub one-is-found : (rs : List Record) → IsDag rs → (q : Record) → IsOneOf 
 one-is-found [] dag q m = absurd (m)
 one-is-found (r ∷ []) dag q (inl e) = cond-true (same_id q.id r.id) (Some r) None (same_id_from q.id r.id (ap (λ (s : Record). s.id) e)) ∙ ap Some (sym e)
 one-is-found (r ∷ []) dag q (inr none) = absurd (none)
-one-is-found (r ∷ s ∷ rs) dag q (inl e) = cond-true (same_id q.id r.id) (Some r) (record_at (s ∷ rs) q.id) (same_id_from q.id r.id (ap (λ (t : Record). t.id) e)) ∙ ap Some (sym e)
+one-is-found (r ∷ s ∷ rs) dag q (inl e) = cond-true (same_id q.id r.id) (Some r) (record_at (s ∷ rs) q.id)
+    (same_id_from q.id r.id (ap (λ (t : Record). t.id) e)) ∙ ap Some (sym e)
 one-is-found (r ∷ s ∷ rs) dag q (inr m) =
     let old = known-isnt-newest (s ∷ rs) r q.id (next-fits (s ∷ rs) r dag.0) (one-is-known (s ∷ rs) q m) in
     cond-false (same_id q.id r.id) (Some r) (record_at (s ∷ rs) q.id) old ∙ one-is-found (s ∷ rs) dag.1 q m

@@ -1,9 +1,11 @@
 -- How honest items are judged.
-use Rattle.std.proofs.Common.{◌≡◌, ℕ, ◌+◌, ◌≤◌, Bool, true, false, not, List, [], ◌∷◌, length, find, is_none, Option, Some, None, IsTrue, IsFalse, inl, inr, refl, sym, ap, subst, ◌∙◌, arith}
+use Rattle.std.proofs.Common.{◌≡◌, ℕ, ◌+◌, ◌≤◌, Bool, true, false, not, List, [], ◌∷◌, length, find, is_none, Option, Some, None, IsTrue, IsFalse, inl, inr}
+use Rattle.std.proofs.Common.{refl, sym, ap, subst, ◌∙◌, arith}
 use Rattle.std.specs.Prelude.{◌&&◌, ◌||◌, ◌==◌, nat_le, nat_lt, bytes_eq, if◌then◌else◌}
 use Rattle.std.specs.List.{list_all}
 use Rattle.std.specs.Option.{option_map}
-use Rattle.std.proofs.lemmas.Bool.{ltb-true, and_parts, and_from, or_parts, or_left, or_right, cases_Bool, cond-true, cond-false, both_ways, false_from_ne_true, not-true, not-false, le-leb, leb-false, eqb-true}
+use Rattle.std.proofs.lemmas.Bool.{ltb-true, and_parts, and_from, or_parts, or_left, or_right, cases_Bool, cond-true, cond-false, both_ways}
+use Rattle.std.proofs.lemmas.Bool.{false_from_ne_true, not-true, not-false, le-leb, leb-false, eqb-true}
 use Rattle.std.proofs.lemmas.Option.{none-some}
 use Rattle.tardis_base.specs.declared.ids.StateId.{StateId}
 use Rattle.tardis_base.specs.declared.records.Record.{Record}
@@ -161,7 +163,8 @@ module _ (world : World) (honest : IsHonest world) (m : ℕ) (a : Site) (here : 
       none-closed = none-of (is_closed a.dag a.floors) r.parents not-closed
 
       pub none-comparable : comparable_pair a.dag r.parents ≡ None
-      none-comparable = sym (same-comparable before.older a.dag before.dag dag-here agree r.parents parent-known) ∙ none-is (comparable_pair before.older r.parents) before.next.apart
+      none-comparable = sym (same-comparable before.older a.dag before.dag dag-here agree r.parents parent-known)
+          ∙ none-is (comparable_pair before.older r.parents) before.next.apart
         where
           none-is : (o : Option (StateId × StateId)) → IsTrue (is_none o) → o ≡ None
           none-is None t = refl
@@ -199,15 +202,19 @@ module _ (world : World) (honest : IsHonest world) (m : ℕ) (a : Site) (here : 
           let four : List (Option Reply) = when (is_early a r) (Early count) ∷ five in
           let three : List (Option Reply) = refuse (r.id.site == a.own) (OwnItem r.id.site r.id.sequence) ∷ four in
           let two : List (Option Reply) = when (nat_le r.id.sequence count) Known ∷ three in
-          when-reply Good a (nat_lt a.limits.sites r.id.site) (Refused (BadSite r.id.site)) two answer (λ t. not-both (nat_lt a.limits.sites r.id.site) t of-a-site) (λ f.
+          when-reply Good a (nat_lt a.limits.sites r.id.site) (Refused (BadSite r.id.site)) two answer
+          (λ t. not-both (nat_lt a.limits.sites r.id.site) t of-a-site) (λ f.
           when-reply Good a (nat_le r.id.sequence count) Known three answer (λ t. refl) (λ above.
           when-reply Good a (r.id.site == a.own) (Refused (OwnItem r.id.site r.id.sequence)) four answer
           (λ t. not-both (nat_le r.id.sequence count) (le-leb r.id.sequence count (own-is-known (eqb-true r.id.site a.own t))) above) (λ g.
           when-reply Good a (is_early a r) (Early count) five answer (λ t. refl) (λ late.
           let next = not-early late in
-          found-reply Good a ClosedParent (find (is_closed a.dag a.floors) r.parents) six answer (λ p e. absurd (none-some p (sym (none-closed next.0 next.1) ∙ e))) (λ c.
-          found-reply Good a (λ (pair : StateId × StateId). Comparable pair.0 pair.1) (comparable_pair a.dag r.parents) seven answer (λ p e. absurd (none-some p (sym (none-comparable next.0 next.1) ∙ e))) (λ d.
-          found-reply Good a OpenConflict (open_conflict a.dag r.parents r.writes) (growth_refusals a r) answer (λ k e. absurd (none-some k (sym (none-open next.0 next.1) ∙ e))) (λ o.
+          found-reply Good a ClosedParent (find (is_closed a.dag a.floors) r.parents) six answer
+          (λ p e. absurd (none-some p (sym (none-closed next.0 next.1) ∙ e))) (λ c.
+          found-reply Good a (λ (pair : StateId × StateId). Comparable pair.0 pair.1) (comparable_pair a.dag r.parents) seven answer
+          (λ p e. absurd (none-some p (sym (none-comparable next.0 next.1) ∙ e))) (λ d.
+          found-reply Good a OpenConflict (open_conflict a.dag r.parents r.writes) (growth_refusals a r) answer
+          (λ k e. absurd (none-some k (sym (none-open next.0 next.1) ∙ e))) (λ o.
           growth-reply Good (λ kept. refl) (λ x pairs. refl) a a r answer refl)))))))
 
   -- ===== A consent of its site
@@ -233,7 +240,8 @@ module _ (world : World) (honest : IsHonest world) (m : ℕ) (a : Site) (here : 
             let four : List (Option Reply) = when (nat_lt count c.count || not known) (Early count) ∷ five in
             let three : List (Option Reply) = refuse (c.site == a.own) (OwnItem c.site c.number) ∷ four in
             let two : List (Option Reply) = when (nat_le c.number f.number) Known ∷ three in
-            when-reply GoodToo a (nat_lt a.limits.sites c.site) (Refused (BadSite c.site)) two answer (λ t. let less = ltb-true a.limits.sites c.site t in absurd (omega arith)) (λ g.
+            when-reply GoodToo a (nat_lt a.limits.sites c.site) (Refused (BadSite c.site)) two answer (λ t. let less = ltb-true a.limits.sites c.site t in
+            absurd (omega arith)) (λ g.
             when-reply GoodToo a (nat_le c.number f.number) Known three answer (λ t. refl) (λ newer.
             let high = leb-false c.number f.number newer in
             when-reply GoodToo a (c.site == a.own) (Refused (OwnItem c.site c.number)) four answer (λ t.

@@ -159,7 +159,8 @@ module _ (given : Record → Type 0) (told : ℕ → Floor → Type 0) (world : 
     stands-here f old = record {
       known = extends.known f.state old.known;
       under = elim own-moves [
-        | inl same ↦ subst (λ (g : Floor). IsTrue (is_above next.dag f.state g.state)) (sym same) (extends.above f.state (own_floor site).state own-known ∙ old.under)
+        | inl same ↦ subst (λ (g : Floor). IsTrue (is_above next.dag f.state g.state)) (sym same) (extends.above f.state (own_floor site).state own-known
+            ∙ old.under)
         | inr (x, raises, is) ↦
             subst (λ (g : Floor). IsTrue (is_above next.dag f.state g.state)) (sym is)
             (extends.above f.state x raises.known ∙ above-transitive site.dag dag f.state (own_floor site).state x old.under raises.below)

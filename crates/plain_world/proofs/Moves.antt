@@ -12,12 +12,15 @@ use Rattle.tardis_base.specs.declared.records.Item.TheVariants.{Promise, State}
 use Rattle.tardis_base.specs.declared.records.Record.{Record}
 use Rattle.tardis_base.specs.declared.records.Write.{Write}
 use Rattle.tardis_base.specs.declared.records.Write.TheVariants.{Delete as Deletion, Put as Value}
-use Rattle.tardis_base.specs.declared.replies.Refusal.TheVariants.{AlreadyOpen, BadSite, Below, Branches, CeilingBack, Collected, Comparable, ConflictKey, FloorBack, Held, NotRead, SeqEnd, SessionsFull, TooMany, Unknown}
+use Rattle.tardis_base.specs.declared.replies.Refusal.TheVariants.{AlreadyOpen, BadSite, Below, Branches, CeilingBack, Collected, Comparable, ConflictKey}
+use Rattle.tardis_base.specs.declared.replies.Refusal.TheVariants.{FloorBack, Held, NotRead, SeqEnd, SessionsFull, TooMany, Unknown}
 use Rattle.tardis_base.specs.declared.replies.Reply.{Reply}
 use Rattle.tardis_base.specs.declared.replies.Reply.TheVariants.{Applied, Batch as BatchIs, Done, Ended, Opened, Shown}
 use Rattle.tardis_base.specs.declared.requests.EndFlags.{EndFlags}
 use Rattle.tardis_base.specs.declared.requests.Request.{Request}
-use Rattle.tardis_base.specs.declared.requests.Request.TheVariants.{Abort, Begin as BeginAt, BeginMerge, Ceiling, Close, Commit, Conflicts, Delete, Deliver, ForkPoints, Get, GetFor, Leaves, Open, Pull, Put, Raise, RaiseAuto, Settle, Show, Stat, Tidy}
+use Rattle.tardis_base.specs.declared.requests.Request.TheVariants.{Abort, Begin as BeginAt, BeginMerge, Ceiling, Close, Commit, Conflicts, Delete, Deliver}
+use Rattle.tardis_base.specs.declared.requests.Request.TheVariants.{ForkPoints, Get, GetFor, Leaves, Open, Pull, Put, Raise, RaiseAuto, Settle, Show, Stat}
+use Rattle.tardis_base.specs.declared.requests.Request.TheVariants.{Tidy}
 use Rattle.wire_item.specs.Valid.{is_item}
 use Rattle.plain_dag.specs.Above.{comparable_pair, is_above}
 use Rattle.plain_dag.specs.Begin.{begin_state, is_admitted}
@@ -33,7 +36,8 @@ use Rattle.plain_site.proofs.SoundCommits.{merge_refusals}
 use Rattle.plain_site.proofs.SoundRooms.{first-is-fit}
 use Rattle.plain_site.specs.Answers.{Answer, found, refuse, refuse_found, says_early, shown, when}
 use Rattle.plain_site.specs.Commits.{abort, commit, commit_below, commit_single, commit_writes, committed, growth_refusals, with_record, without_txn_of}
-use Rattle.plain_site.specs.Exchange.{batch_for, consent_judgements, deliver, deliver_consent, deliver_record, first_fit_record, is_fit, judgements, pull, settle, settle_record, take_record, with_held, with_settled}
+use Rattle.plain_site.specs.Exchange.{batch_for, consent_judgements, deliver, deliver_consent, deliver_record, first_fit_record, is_fit, judgements, pull}
+use Rattle.plain_site.specs.Exchange.{settle, settle_record, take_record, with_held, with_settled}
 use Rattle.plain_site.specs.FloorSteps.{raise, raise_to, raised, raise_auto}
 use Rattle.plain_site.specs.Merges.{begin_merge, conflicts_of, first_below, first_unknown, fork_points_of, in_order, merge_at, merging, states_to_merge}
 use Rattle.plain_site.specs.Reads.{get, get_for, having_read, having_written, read_in, set_key}
@@ -135,10 +139,12 @@ module _ (given : Record → Type 0) (told : ℕ → Floor → Type 0) (site : S
       unless-keeps Stays site old (refuse (length t.reads == 256 && not (is_key_among k t.reads)) (TooMany 2 257) ∷ [])
       (with_txn_changed n (having_read k) site, found (read site.dag k t.state)) (λ none. rests refl)
   read-stays (Merge t) k =
-      unless-keeps Stays site old (refuse (is_conflict_key site.dag t.states k) (ConflictKey k) ∷ []) (site, found (value_over site.dag t.states k)) (λ none. rests refl)
+      unless-keeps Stays site old (refuse (is_conflict_key site.dag t.states k) (ConflictKey k) ∷ []) (site, found (value_over site.dag t.states k))
+      (λ none. rests refl)
 
   get-stays : (t : Txn) (k : List ℕ) → Stays (get site n t k).0
-  get-stays t k = given-keeps Stays site old (write_of k (writes_of t)) (read_in site n t k) (λ w. (site, shown root w)) (λ none. read-stays t k) (λ w e. rests refl)
+  get-stays t k = given-keeps Stays site old (write_of k (writes_of t)) (read_in site n t k) (λ w. (site, shown root w)) (λ none. read-stays t k)
+      (λ w e. rests refl)
 
   write-stays : (t : Txn) (k : List ℕ) (w : Write) → Stays (set_key site n t k w).0
   write-stays t k w =
@@ -147,7 +153,8 @@ module _ (given : Record → Type 0) (told : ℕ → Floor → Type 0) (site : S
 
   get_for-stays : (t : Txn) (k : List ℕ) (y : StateId) → Stays (get_for site t k y).0
   get_for-stays (Single t) k y = rests refl
-  get_for-stays (Merge t) k y = unless-keeps Stays site old (refuse (not (is_among y t.states)) (NotRead y) ∷ []) (site, found (read site.dag k y)) (λ none. rests refl)
+  get_for-stays (Merge t) k y = unless-keeps Stays site old (refuse (not (is_among y t.states)) (NotRead y) ∷ []) (site, found (read site.dag k y))
+      (λ none. rests refl)
 
   forks-stay : (t : Txn) → Stays (fork_points_of site t).0
   forks-stay (Single t) = rests refl
@@ -163,7 +170,8 @@ module _ (given : Record → Type 0) (told : ℕ → Floor → Type 0) (site : S
       (site, Shown (arrival site.dag y) (children site.dag y) (fork_path site.dag site.collected y)) (λ none. rests refl)
 
   pull-stays : (counts : List ℕ) → Stays (pull site counts).0
-  pull-stays counts = unless-keeps Stays site old (refuse (not (length counts == site.limits.sites)) (BadSite (length counts)) ∷ []) (site, BatchIs (batch_for site counts)) (λ none. rests refl)
+  pull-stays counts = unless-keeps Stays site old (refuse (not (length counts == site.limits.sites)) (BadSite (length counts)) ∷ [])
+      (site, BatchIs (batch_for site counts)) (λ none. rests refl)
 
   merge-stays : (ceiling : StateId) (xs : List StateId) → Stays (merge_at site n ceiling xs).0
   merge-stays ceiling xs =
@@ -179,7 +187,8 @@ module _ (given : Record → Type 0) (told : ℕ → Floor → Type 0) (site : S
 
   module _ (sound : IsSound site) where
     -- what is at or above a state that a session may read is no proper ancestor of the own floor
-    admitted-is-free : (s : Session) (q p : StateId) → entry_of n site.sessions ≡ Some s → IsTrue (is_admitted site.dag s.ceiling q) → IsTrue (is_above site.dag q p) →
+    admitted-is-free : (s : Session) (q p : StateId) → entry_of n site.sessions ≡ Some s → IsTrue (is_admitted site.dag s.ceiling q) →
+        IsTrue (is_above site.dag q p) →
         IsFalse (is_proper_ancestor site.dag p (own_floor site).state)
     admitted-is-free s q p opened admitted above =
         false_from_ne_true (is_proper_ancestor site.dag p (own_floor site).state) (λ proper.
@@ -241,7 +250,8 @@ module _ (given : Record → Type 0) (told : ℕ → Floor → Type 0) (site : S
 
     -- ===== Floors
 
-    raise_to-moves : (x : StateId) (refusals : List (Option Reply)) → (AreNone refusals → IsTrue (is_known site.dag x) × IsTrue (is_above site.dag (own_floor site).state x)) →
+    raise_to-moves : (x : StateId) (refusals : List (Option Reply)) →
+        (AreNone refusals → IsTrue (is_known site.dag x) × IsTrue (is_above site.dag (own_floor site).state x)) →
         Stays (raise_to site x refusals).0
     raise_to-moves x refusals may =
         let f : Floor = record { state = x; number = (own_floor site).number + 1; stated = own_count site } in
@@ -290,7 +300,8 @@ module _ (given : Record → Type 0) (told : ℕ → Floor → Type 0) (site : S
         (λ none. go (find (λ x. is_above site.dag (own_floor site).state x && is_above_ceilings site.dag site.sessions x) (states site.dag)) refl)
       where
         go : (o : Option StateId) → find (λ x. is_above site.dag (own_floor site).state x && is_above_ceilings site.dag site.sessions x) (states site.dag) ≡ o →
-            IsTrue (is_known site.dag (unwrap_or o (own_floor site).state)) × IsTrue (is_above site.dag (own_floor site).state (unwrap_or o (own_floor site).state))
+            IsTrue (is_known site.dag (unwrap_or o (own_floor site).state))
+            × IsTrue (is_above site.dag (own_floor site).state (unwrap_or o (own_floor site).state))
         go None e = ((sound-own_floor site sound).known, above-reflexive site.dag (own_floor site).state)
         go (Some x) e =
             let own = (own_floor site).state in
@@ -305,11 +316,19 @@ module _ (given : Record → Type 0) (told : ℕ → Floor → Type 0) (site : S
         (λ found is. unless-keeps Stays site old (growth_refusals site found.1) (with_settled found site, Applied) (λ none.
         let fit = first-is-fit (is_fit site) site.waiting found is in
         let may = fit.as_all (may_wait site.limits.sites site.own) sound.waiting.each in
-        let other = not-true (found.1.id.site == site.own) (and_parts (is_record found.1 && nat_le found.1.id.site site.limits.sites) (not (found.1.id.site == site.own)) may).1 in
+        let other = not-true (found.1.id.site == site.own) (and_parts (is_record found.1 && nat_le found.1.id.site site.limits.sites)
+        (not (found.1.id.site == site.own)) may).1 in
         record {
           own = refl;
           limits = refl;
-          dag = inr (found.1, refl, inr (λ e. eqb-false found.1.id.site site.own other e, gives found.1 (first-fit-is-one (is_fit site) site.waiting found is)));
+          dag = inr (
+            found.1,
+            refl,
+            inr (
+              λ e. eqb-false found.1.id.site site.own other e,
+              gives found.1 (first-fit-is-one (is_fit site) site.waiting found is),
+            ),
+          );
           room = λ q m. inl (left-is-one found.0 site.waiting q m);
           floors = λ m w. inl refl;
         }))
@@ -360,7 +379,8 @@ module _ (given : Record → Type 0) (told : ℕ → Floor → Type 0) (site : S
         let one = refuse (nat_lt site.limits.sites c.site) (BadSite c.site) in
         let two = when (nat_le c.number f.number) Known in
         let three = refuse (c.site == site.own) (OwnItem c.site c.number) in
-        let rest = when (nat_lt count c.count || not (is_known site.dag c.floor)) (Early count) ∷ refuse (not (is_above site.dag f.state c.floor)) (FloorBack f.state) ∷ [] in
+        let rest = when (nat_lt count c.count || not (is_known site.dag c.floor)) (Early count)
+        ∷ refuse (not (is_above site.dag f.state c.floor)) (FloorBack f.state) ∷ [] in
         unless-keeps Stays site old (consent_judgements site c)
         (record site { floors = with_floor site.floors c.site (said c) }, Applied)
         (λ none.
@@ -383,7 +403,8 @@ module _ (given : Record → Type 0) (told : ℕ → Floor → Type 0) (site : S
               let high = leb-true m site.limits.sites within.1 in
               elim (cases_eq m c.site) [
                 | inl same ↦
-                    let here : floor_of (with_floor site.floors c.site (said c)) c.site ≡ said c = floor-set_same site.floors c.site (said c) least (omega arith) in
+                    let here : floor_of (with_floor site.floors c.site (said c)) c.site ≡ said c =
+                    floor-set_same site.floors c.site (said c) least (omega arith) in
                     inr (inr (
                       (λ e. other (sym same ∙ e)),
                       subst (λ k. told k (floor_of (with_floor site.floors c.site (said c)) k)) (sym same) (subst (λ g. told c.site g) (sym here) tells),
@@ -392,7 +413,8 @@ module _ (given : Record → Type 0) (told : ℕ → Floor → Type 0) (site : S
               ];
         })
 
-    pub deliver-moves : (item : Item) → IsTrue (is_item item) → ((r : Record) → item ≡ State r → given r) → ((c : Consent) → item ≡ Promise c → told c.site (said c)) →
+    pub deliver-moves : (item : Item) → IsTrue (is_item item) → ((r : Record) → item ≡ State r → given r) →
+        ((c : Consent) → item ≡ Promise c → told c.site (said c)) →
         Stays (deliver site item).0
     deliver-moves (State r) valid gives tells = record-moves r (gives r refl)
     deliver-moves (Promise c) valid gives tells = consent-moves c valid (tells c refl)
@@ -402,13 +424,15 @@ module _ (given : Record → Type 0) (told : ℕ → Floor → Type 0) (site : S
     module _ (gives : (r : Record) → IsOneOf r site.waiting → given r) where
       pub request-moves : (q : Request) → IsFalse (is_delivery q) → Stays (step site n q).0
       request-moves (Open follow) other = open-stays follow
-      request-moves (BeginAt b) other = no_txn-keeps Stays site old n (λ s. begin site n s b) (λ s e none. begin-stays s.ceiling (begin_state site.dag s.last b))
+      request-moves (BeginAt b) other = no_txn-keeps Stays site old n (λ s. begin site n s b)
+          (λ s e none. begin-stays s.ceiling (begin_state site.dag s.last b))
       request-moves (Get k) other = txn-keeps Stays site old n (λ s t. get site n t k) (λ s e t f. get-stays t k)
       request-moves (Put k v) other = txn-keeps Stays site old n (λ s t. set_key site n t k (Value v)) (λ s e t f. write-stays t k (Value v))
       request-moves (Delete k) other = txn-keeps Stays site old n (λ s t. set_key site n t k Deletion) (λ s e t f. write-stays t k Deletion)
       request-moves (Commit flags k) other = txn-keeps Stays site old n (λ s t. commit site n t flags k) (λ s e t f. commit-moves t flags k f)
       request-moves Abort other = txn-keeps Stays site old n (λ s t. abort site n) (λ s e t f. rests refl)
-      request-moves (BeginMerge of) other = no_txn-keeps Stays site old n (λ s. begin_merge site n s of) (λ s e none. merge-stays s.ceiling (states_to_merge site of))
+      request-moves (BeginMerge of) other = no_txn-keeps Stays site old n (λ s. begin_merge site n s of)
+          (λ s e none. merge-stays s.ceiling (states_to_merge site of))
       request-moves ForkPoints other = txn-keeps Stays site old n (λ s t. fork_points_of site t) (λ s e t f. forks-stay t)
       request-moves (Conflicts after) other = txn-keeps Stays site old n (λ s t. conflicts_of site t after) (λ s e t f. conflicts-stay t after)
       request-moves (GetFor k y) other = txn-keeps Stays site old n (λ s t. get_for site t k y) (λ s e t f. get_for-stays t k y)

@@ -1,5 +1,6 @@
 -- Where things stand in lists: floors, sites, and what waits.
-use Rattle.std.proofs.Common.{◌≡◌, ℕ, suc, ◌+◌, ◌-◌, ◌≤◌, ◌≢◌, Bool, List, [], ◌∷◌, ◌++◌, length, Option, Some, None, ◌⊎◌, inl, inr, refl, sym, ap, subst, ◌∙◌, arith}
+use Rattle.std.proofs.Common.{◌≡◌, ℕ, suc, ◌+◌, ◌-◌, ◌≤◌, ◌≢◌, Bool, List, [], ◌∷◌, ◌++◌, length, Option, Some, None, ◌⊎◌, inl, inr, refl, sym, ap, subst}
+use Rattle.std.proofs.Common.{◌∙◌, arith}
 use Rattle.std.specs.Prelude.{◌==◌, drop, slice_get, slice_set, get_or, if◌then◌else◌}
 use Rattle.std.specs.Option.{option_map}
 use Rattle.std.proofs.lemmas.Bool.{cases_Bool, cond_both, cond-true, cond-false, eqb-true, eqb-false}
@@ -75,7 +76,8 @@ held-cases r room q =
     cond_both (waits room r.id) room ((if is_full room then drop 1 room else room) ++ r ∷ []) (λ (qs : List Record). IsOneOf q qs → IsOneOf q room ⊎ (q ≡ r))
     (λ t m. inl m)
     (λ f m. elim (one-appended q (if is_full room then drop 1 room else room) (r ∷ []) m) [
-      | inl before ↦ inl (cond_both (is_full room) (drop 1 room) room (λ (qs : List Record). IsOneOf q qs → IsOneOf q room) (λ u h. dropped-is-one room q h) (λ u h. h) before)
+      | inl before ↦ inl (cond_both (is_full room) (drop 1 room) room (λ (qs : List Record). IsOneOf q qs → IsOneOf q room)
+          (λ u h. dropped-is-one room q h) (λ u h. h) before)
       | inr (inl e) ↦ inr e
       | inr (inr none) ↦ absurd (none)
     ])

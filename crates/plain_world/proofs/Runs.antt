@@ -1,5 +1,6 @@
 -- Whatever bodies are answered, an honest world stays honest.
-use Rattle.std.proofs.Common.{◌≡◌, ℕ, Bool, true, false, not, List, [], ◌∷◌, length, take, drop, get_or, Option, Some, None, IsTrue, IsFalse, inl, inr, refl, sym, ap, subst, ◌∙◌, arith, if◌then◌else◌}
+use Rattle.std.proofs.Common.{◌≡◌, ℕ, Bool, true, false, not, List, [], ◌∷◌, length, take, drop, get_or, Option, Some, None, IsTrue, IsFalse, inl, inr, refl}
+use Rattle.std.proofs.Common.{sym, ap, subst, ◌∙◌, arith, if◌then◌else◌}
 use Rattle.std.specs.Prelude.{◌&&◌, ◌==◌, ◌<◌, ◌^◌, nat_le, nat_lt, option_map, option_and_then}
 use Rattle.std.specs.Bool.{then_some}
 use Rattle.std.specs.Int.{w16, from_be_bytes}
@@ -35,7 +36,8 @@ record WholeMade {A B : Type 0} (f : A → B) (front : Front A) (bytes : List �
 whole-made : {A B : Type 0} (f : A → B) (front : Front A) (bytes : List ℕ) (b : B) → whole (made f front) bytes ≡ Some b → WholeMade f front bytes b
 whole-made {A} {B} f front bytes b e = go (front bytes) refl e
   where
-    go : (o : Option (A × List ℕ)) → front bytes ≡ o → option_and_then (λ (r : B × List ℕ). alone r.0 r.1) (option_map (λ (r : A × List ℕ). (f r.0, r.1)) o) ≡ Some b → WholeMade f front bytes b
+    go : (o : Option (A × List ℕ)) → front bytes ≡ o → option_and_then (λ (r : B × List ℕ). alone r.0 r.1)
+        (option_map (λ (r : A × List ℕ). (f r.0, r.1)) o) ≡ Some b → WholeMade f front bytes b
     go None is e = absurd (none-some b e)
     go (Some (a, [])) is e = record { from = a; reads = is; is = same-some (f a) b e }
     go (Some (a, byte ∷ more)) is e = absurd (none-some b e)
@@ -46,7 +48,8 @@ record BothRead {A B : Type 0} (first : Front A) (second : Front B) (bytes : Lis
   one : first bytes ≡ Some (p.0, between)
   two : second between ≡ Some (p.1, rest)
 
-both-read : {A B : Type 0} (first : Front A) (second : Front B) (bytes : List ℕ) (p : A × B) (rest : List ℕ) → both first second bytes ≡ Some (p, rest) → BothRead first second bytes p rest
+both-read : {A B : Type 0} (first : Front A) (second : Front B) (bytes : List ℕ) (p : A × B) (rest : List ℕ) → both first second bytes ≡ Some (p, rest) →
+    BothRead first second bytes p rest
 both-read {A} {B} first second bytes p rest e = go (first bytes) refl e
   where
     behind : (a : A) (between : List ℕ) → first bytes ≡ Some (a, between) → (o : Option (B × List ℕ)) → second between ≡ o →
@@ -61,7 +64,8 @@ both-read {A} {B} first second bytes p rest e = go (first bytes) refl e
         }
 
     go : (o : Option (A × List ℕ)) → first bytes ≡ o →
-        option_and_then (λ (r : A × List ℕ). option_map {U = (A × B) × List ℕ} (λ (s : B × List ℕ). ((r.0, s.0), s.1)) (second r.1)) o ≡ Some (p, rest) → BothRead first second bytes p rest
+        option_and_then (λ (r : A × List ℕ). option_map {U = (A × B) × List ℕ} (λ (s : B × List ℕ). ((r.0, s.0), s.1)) (second r.1)) o ≡ Some (p, rest) →
+        BothRead first second bytes p rest
     go None is e = absurd (none-some (p, rest) e)
     go (Some (a, between)) is e = behind a between is (second between) refl e
 
@@ -74,12 +78,14 @@ u16-fits : (bytes : List ℕ) (n : ℕ) (rest : List ℕ) → u16_front bytes �
 u16-fits bytes n rest e = go (nat_le 2 (length bytes) && are_bytes (take 2 bytes)) refl e
   where
     go : (t : Bool) → (nat_le 2 (length bytes) && are_bytes (take 2 bytes)) ≡ t →
-        option_map {U = ℕ × List ℕ} (λ (r : List ℕ × List ℕ). (from_be_bytes w16 r.0, r.1)) (then_some t (take 2 bytes, drop 2 bytes)) ≡ Some (n, rest) → IsTrue (is_u16 n)
+        option_map {U = ℕ × List ℕ} (λ (r : List ℕ × List ℕ). (from_be_bytes w16 r.0, r.1)) (then_some t (take 2 bytes, drop 2 bytes)) ≡ Some (n, rest) →
+        IsTrue (is_u16 n)
     go false is e = absurd (none-some (n, rest) e)
     go true is e =
         let below = byte_below (take 2 bytes) (and_parts (nat_le 2 (length bytes)) (are_bytes (take 2 bytes)) is).1 in
         let same = same-some (from_be_bytes w16 (take 2 bytes), drop 2 bytes) (n, rest) e in
-        subst (λ (k : ℕ). IsTrue (is_u16 k)) (ap (λ (q : ℕ × List ℕ). q.0) same) (lt-ltb (from_be_bytes w16 (take 2 bytes)) (2 ^ 16) (omega (arith, below 0, below 1)))
+        subst (λ (k : ℕ). IsTrue (is_u16 k)) (ap (λ (q : ℕ × List ℕ). q.0) same)
+        (lt-ltb (from_be_bytes w16 (take 2 bytes)) (2 ^ 16) (omega (arith, below 0, below 1)))
 
 -- a body's actor fits 16 bits, and its request is one
 abbrev is_body : Body → Bool
@@ -94,7 +100,8 @@ module _ (read : RequestsHaveOneSpelling) where
       let inner = both-read u16_front request_front outer.between w.from.1 [] outer.two in
       let asked : request_of inner.between ≡ Some w.from.1.1 = ap (option_and_then (λ (r : Request × List ℕ). alone r.0 r.1)) inner.two in
       subst (λ (c : Body). IsTrue (is_body c)) w.is
-      (and_from (is_u16 w.from.1.0) (is_request w.from.1.1) (u16-fits outer.between w.from.1.0 inner.between inner.one) ((read.some inner.between w.from.1.1).0 asked).0)
+      (and_from (is_u16 w.from.1.0) (is_request w.from.1.1) (u16-fits outer.between w.from.1.0 inner.between inner.one)
+      ((read.some inner.between w.from.1.1).0 asked).0)
 
   carry-is-body : (bytes : List ℕ) (b : Body) → whole carry_front bytes ≡ Some b → IsTrue (is_body b)
   carry-is-body bytes b e =
@@ -104,9 +111,11 @@ module _ (read : RequestsHaveOneSpelling) where
   reads-body : (bytes : List ℕ) (b : Body) → body_of bytes ≡ Some b → IsTrue (is_body b)
   reads-body [] b e = absurd (none-some b e)
   reads-body (code ∷ bytes) b e =
-      cond_both (1 == code) step_front (if 2 == code then carry_front else (λ more. None)) (λ (front : Front Body). whole front bytes ≡ Some b → IsTrue (is_body b))
+      cond_both (1 == code) step_front (if 2 == code then carry_front else (λ more. None)) (λ (front : Front Body). whole front bytes ≡ Some b →
+      IsTrue (is_body b))
       (λ t. step-is-body bytes b)
-      (λ f. cond_both (2 == code) carry_front (λ more. None) (λ (front : Front Body). whole front bytes ≡ Some b → IsTrue (is_body b)) (λ t. carry-is-body bytes b) (λ g e. absurd (none-some b e)))
+      (λ f. cond_both (2 == code) carry_front (λ more. None) (λ (front : Front Body). whole front bytes ≡ Some b → IsTrue (is_body b))
+      (λ t. carry-is-body bytes b) (λ g e. absurd (none-some b e)))
       e
 
   -- ===== Runs
@@ -120,7 +129,8 @@ module _ (read : RequestsHaveOneSpelling) where
           steps-keep-honest world n actor q parts.0 parts.1 other honest
       asked (CarryTo n batch item) valid other = carries-keep-honest world n batch item honest
 
-      go : (o : Option Body) → body_of event.1 ≡ o → IsFalse (option_map_or body_delivers o false) → IsHonest (option_map_or (world_step world) o (declined world Malformed)).0
+      go : (o : Option Body) → body_of event.1 ≡ o → IsFalse (option_map_or body_delivers o false) →
+          IsHonest (option_map_or (world_step world) o (declined world Malformed)).0
       go None is other = honest
       go (Some b) is other = asked b (reads-body event.1 b is) other
 

@@ -1,5 +1,6 @@
 -- Honest worlds stay honest.
-use Rattle.std.proofs.Common.{◌≡◌, ℕ, suc, ◌+◌, ◌-◌, ◌≤◌, Bool, true, false, [], ◌∷◌, ◌++◌, length, Option, Some, None, IsTrue, inl, inr, refl, sym, ap, subst, ◌∙◌, arith, replicate}
+use Rattle.std.proofs.Common.{◌≡◌, ℕ, suc, ◌+◌, ◌-◌, ◌≤◌, Bool, true, false, [], ◌∷◌, ◌++◌, length, Option, Some, None, IsTrue, inl, inr, refl, sym, ap}
+use Rattle.std.proofs.Common.{subst, ◌∙◌, arith, replicate}
 use Rattle.std.specs.Prelude.{◌==◌, nat_le, get_or, slice_get}
 use Rattle.std.specs.Option.{option_map_or}
 use Rattle.std.proofs.lemmas.Bool.{and_parts, and_from, cond_both, leb-true, le-leb}
@@ -42,14 +43,16 @@ use Rattle.plain_world.proofs.Keeps.{moves-keep-honest}
 -- ===== One site's answer
 
 -- what holds of the world as it is, of one with the next site, and of one with the batch too, holds of the world afterwards
-answered-keeps : (P : World → Type 0) (world : World) (n : ℕ) (next : Site) (reply : Reply) → P world → P (record world { sites = with_site world.sites n next }) →
+answered-keeps : (P : World → Type 0) (world : World) (n : ℕ) (next : Site) (reply : Reply) → P world →
+    P (record world { sites = with_site world.sites n next }) →
     ((b : Batch) → reply ≡ BatchIs b → P (record { sites = with_site world.sites n next; bag = world.bag ++ b ∷ [] })) → P (answered world n next reply).0
 answered-keeps P world n next (BatchIs b) old same more =
     cond_both (length world.bag == most_batches) (declined world (BagFull (length world.bag)))
     (record { sites = with_site world.sites n next; bag = world.bag ++ b ∷ [] }, BatchIs b) (λ (answer : WorldAnswer). P answer.0) (λ t. old) (λ f. more b refl)
 answered-keeps P world n next reply old same more = same
 
-module _ (given : Record → Type 0) (told : ℕ → Floor → Type 0) (world : World) (honest : IsHonest world) (n : ℕ) (site : Site) (here : site_at world.sites n ≡ Some site) where
+module _ (given : Record → Type 0) (told : ℕ → Floor → Type 0) (world : World) (honest : IsHonest world) (n : ℕ) (site : Site)
+    (here : site_at world.sites n ≡ Some site) where
   ask-keeps : (actor : ℕ) (q : Request) → IsTrue (is_u16 actor) → IsTrue (is_request q) → Moves given told site (step site actor q).0 →
       ((r : Record) → given r → HasRecord world r) → ((k : ℕ) (f : Floor) → told k f → HasConsent world k f) → IsHonest (ask world n actor q site).0
   ask-keeps actor q small valid moves gives tells =
@@ -159,7 +162,8 @@ module _ (limits : Limits) (valid : IsTrue (are_limits limits)) where
       let l = site-within first.sites n s e in
       let c = count in
       let within = and_from (nat_le 1 n) (nat_le n limits.sites) (le-leb 1 n l.0) (le-leb n limits.sites (omega arith)) in
-      subst (λ (t : Site). IsSite (length first.sites) n t) (sym (opens-at limits n s e)) (record { sound = opening-is-sound limits n valid within; own = refl; all = sym count })
+      subst (λ (t : Site). IsSite (length first.sites) n t) (sym (opens-at limits n s e))
+      (record { sound = opening-is-sound limits n valid within; own = refl; all = sym count })
 
   first-records : (r : Record) → HasRecord first r → IsOfItsSite first r
   first-records r (HasRecord.in_history m s e one other) = elim (subst (λ (t : Site). IsOneOf r t.dag) (opens-at limits m s e) one) [
@@ -171,8 +175,10 @@ module _ (limits : Limits) (valid : IsTrue (are_limits limits)) where
 
   first-consent : (n : ℕ) (f : Floor) → HasConsent first n f → (f ≡ opening_floor) × ((1 ≤ n) × (n ≤ length first.sites))
   first-consent n f (HasConsent.at_site m s e within is) =
-      let parts = and_parts (nat_le 1 n) (nat_le n (length first.sites)) within in
-      (sym is ∙ (ap (λ (t : Site). floor_of t.floors n) (opens-at limits m s e) ∙ first-floor limits m n), (leb-true 1 n parts.0, leb-true n (length first.sites) parts.1))
+      let parts = and_parts (nat_le 1 n) (nat_le n (length first.sites)) within in (
+        sym is ∙ (ap (λ (t : Site). floor_of t.floors n) (opens-at limits m s e) ∙ first-floor limits m n),
+        (leb-true 1 n parts.0, leb-true n (length first.sites) parts.1),
+      )
   first-consent n f (HasConsent.in_bag batch c b one e is) = absurd (b)
 
   stands-first : (n : ℕ) → StandsBy n (opening limits n) opening_floor
@@ -190,8 +196,12 @@ module _ (limits : Limits) (valid : IsTrue (are_limits limits)) where
   first-stands : (n : ℕ) (f : Floor) → HasConsent first n f → (home : Site) × (site_at first.sites n ≡ Some home) × StandsBy n home f
   first-stands n f has =
       let is = first-consent n f has in
-      let there = site-there first.sites n is.1.0 is.1.1 in
-      (there.0, there.1, subst (λ (t : Site). StandsBy n t f) (sym (opens-at limits n there.0 there.1)) (subst (StandsBy n (opening limits n)) (sym is.0) (stands-first n)))
+      let there = site-there first.sites n is.1.0 is.1.1 in (
+        there.0,
+        there.1,
+        subst (λ (t : Site). StandsBy n t f) (sym (opens-at limits n there.0 there.1))
+            (subst (StandsBy n (opening limits n)) (sym is.0) (stands-first n)),
+      )
 
   pub opening-honest : IsHonest (opening_world limits)
   opening-honest = record {

@@ -1,7 +1,8 @@
 -- What the sites of an honest world agree on.
 use Rattle.std.proofs.Common.{◌≡◌, ℕ, ◌+◌, ◌-◌, ◌≤◌, ◌≢◌, List, [], ◌∷◌, length, Some, None, IsTrue, IsFalse, ◌⊎◌, inl, inr, refl, sym, ap, subst, ◌∙◌, arith}
 use Rattle.std.specs.Prelude.{◌&&◌, ◌||◌, ◌==◌, nat_le}
-use Rattle.std.proofs.lemmas.Bool.{and_parts, and_from, or_cases, or_left, or_right, cases_Bool, cond-true, cond-false, false_from_ne_true, leb-true, le-leb, eqb-true, eq-eqb}
+use Rattle.std.proofs.lemmas.Bool.{and_parts, and_from, or_cases, or_left, or_right, cases_Bool, cond-true, cond-false, false_from_ne_true, leb-true, le-leb}
+use Rattle.std.proofs.lemmas.Bool.{eqb-true, eq-eqb}
 use Rattle.std.proofs.lemmas.Option.{unwrap_or-slice_get}
 use Rattle.tardis_base.specs.declared.ids.StateId.{StateId}
 use Rattle.tardis_base.specs.declared.records.Record.{Record}
@@ -32,7 +33,8 @@ use Rattle.plain_world.proofs.Agree.{same-above, same-read}
 counted-is-known : (rs : List Record) → IsDag rs → (x : StateId) → 1 ≤ x.site → 1 ≤ x.sequence → x.sequence ≤ count_of_site rs x.site → IsTrue (is_known rs x)
 counted-is-known [] dag x a b l = absurd (dag)
 counted-is-known (r ∷ []) dag x a b l =
-    let zero : count_of_site (r ∷ []) x.site ≡ 0 = ap (λ (q : Record). count_of_site (q ∷ []) x.site) dag ∙ cond-false (0 == x.site) (0 + 1) 0 (zero-differs x.site a) in
+    let zero : count_of_site (r ∷ []) x.site ≡ 0 = ap (λ (q : Record). count_of_site (q ∷ []) x.site) dag
+    ∙ cond-false (0 == x.site) (0 + 1) 0 (zero-differs x.site a) in
     absurd (omega arith)
   where
     zero-differs : (n : ℕ) → 1 ≤ n → IsFalse (0 == n)
@@ -46,7 +48,8 @@ counted-is-known (r ∷ s ∷ rs) dag x a b l =
             let count = cond-true (r.id.site == x.site) (count_of_site (s ∷ rs) x.site + 1) (count_of_site (s ∷ rs) x.site) t in
             let site = eqb-true r.id.site x.site t in
             let next : r.id.sequence ≡ count_of_site (s ∷ rs) x.site + 1 = subst (λ k. r.id.sequence ≡ count_of_site (s ∷ rs) k + 1) site dag.0.in_sequence in
-            let differ : x.sequence ≢ r.id.sequence = λ e. not-both (same_id x r.id) (and_from (x.site == r.id.site) (x.sequence == r.id.sequence) (eq-eqb x.site r.id.site (sym site)) (eq-eqb x.sequence r.id.sequence e)) f in
+            let differ : x.sequence ≢ r.id.sequence = λ e. not-both (same_id x r.id)
+            (and_from (x.site == r.id.site) (x.sequence == r.id.sequence) (eq-eqb x.site r.id.site (sym site)) (eq-eqb x.sequence r.id.sequence e)) f in
             older (omega arith)
         | inr n ↦
             let count = cond-false (r.id.site == x.site) (count_of_site (s ∷ rs) x.site + 1) (count_of_site (s ∷ rs) x.site) n in
@@ -79,7 +82,8 @@ module _ (world : World) (honest : IsHonest world) where
   dag-at n s e = (sound-at n s e).dag
 
   -- a record that a site knows is the root's, or its own site's
-  pub found-at-home : (n : ℕ) (s : Site) (x : StateId) (r : Record) → site_at world.sites n ≡ Some s → record_at s.dag x ≡ Some r → (x ≡ root) ⊎ (IsOfItsSite world r × (x ≡ r.id))
+  pub found-at-home : (n : ℕ) (s : Site) (x : StateId) (r : Record) → site_at world.sites n ≡ Some s → record_at s.dag x ≡ Some r → (x ≡ root)
+      ⊎ (IsOfItsSite world r × (x ≡ r.id))
   found-at-home n s x r e f = elim (cases_Bool (same_id x root)) [
     | inl t ↦ inl (same_id-true x root t)
     | inr no_root ↦
@@ -89,10 +93,12 @@ module _ (world : World) (honest : IsHonest world) where
 
   root-record : (rs : List Record) → IsDag rs → (r : Record) → record_at rs root ≡ Some r → r ≡ root_record
   root-record [] dag r e = absurd (dag)
-  root-record (q ∷ []) dag r e = sym (same-some q r (sym (cond-true (same_id root q.id) (Some q) None (same_id_from root q.id (ap (λ (s : Record). s.id) (sym dag)))) ∙ e)) ∙ dag
+  root-record (q ∷ []) dag r e =
+      sym (same-some q r (sym (cond-true (same_id root q.id) (Some q) None (same_id_from root q.id (ap (λ (s : Record). s.id) (sym dag)))) ∙ e)) ∙ dag
   root-record (q ∷ s ∷ rs) dag r e =
       let other = (record-parts q dag.0.shape).isnt_root in
-      let differ : IsFalse (same_id root q.id) = false_from_ne_true (same_id root q.id) (λ t. not-both (same_id q.id root) (same_id_from q.id root (sym (same_id-true root q.id t))) other) in
+      let differ : IsFalse (same_id root q.id) = false_from_ne_true (same_id root q.id)
+      (λ t. not-both (same_id q.id root) (same_id_from q.id root (sym (same_id-true root q.id t))) other) in
       root-record (s ∷ rs) dag.1 r (sym (cond-false (same_id root q.id) (Some q) (record_at (s ∷ rs) root) differ) ∙ e)
 
   pub ids-name-one-record : IdsNameOneRecord world
@@ -113,7 +119,8 @@ module _ (world : World) (honest : IsHonest world) where
 
   -- ===== Ancestry and reads
 
-  pub agree-above : (m n : ℕ) (a b : Site) → site_at world.sites m ≡ Some a → site_at world.sites n ≡ Some b → (x y : StateId) → IsTrue (is_known a.dag y) → IsTrue (is_known b.dag y) →
+  pub agree-above : (m n : ℕ) (a b : Site) → site_at world.sites m ≡ Some a → site_at world.sites n ≡ Some b → (x y : StateId) → IsTrue (is_known a.dag y)
+      → IsTrue (is_known b.dag y) →
       is_above a.dag x y ≡ is_above b.dag x y
   agree-above m n a b ea eb x y ka kb =
       same-above a.dag b.dag (dag-at m a ea) (dag-at n b eb) (λ z r s fa fb. ids-name-one-record m n a b z r s ea eb fa fb) x y ka kb
@@ -125,7 +132,8 @@ module _ (world : World) (honest : IsHonest world) where
   -- ===== Floors
 
   -- what one site knows of the floor of another
-  pub floor-at-home : (m n : ℕ) (a b : Site) → site_at world.sites m ≡ Some a → site_at world.sites n ≡ Some b → StandsBy n b (floor_of a.floors n) × IsTrue (is_known a.dag (floor_of a.floors n).state)
+  pub floor-at-home : (m n : ℕ) (a b : Site) → site_at world.sites m ≡ Some a → site_at world.sites n ≡ Some b → StandsBy n b (floor_of a.floors n)
+      × IsTrue (is_known a.dag (floor_of a.floors n).state)
   floor-at-home m n a b ea eb =
       let l = site-within world.sites n b eb in
       let was = honest.sites m a ea in
@@ -136,7 +144,8 @@ module _ (world : World) (honest : IsHonest world) where
         (sound-floor a was.sound n l.0 (omega arith)).known,
       )
 
-  pub closed-over-floor : (m n : ℕ) (a b : Site) (x : StateId) → site_at world.sites m ≡ Some a → site_at world.sites n ≡ Some b → IsTrue (is_closed a.dag a.floors x) →
+  pub closed-over-floor : (m n : ℕ) (a b : Site) (x : StateId) → site_at world.sites m ≡ Some a → site_at world.sites n ≡ Some b →
+      IsTrue (is_closed a.dag a.floors x) →
       IsTrue (is_proper_ancestor a.dag x (floor_of a.floors n).state)
   closed-over-floor m n a b x ea eb closed =
       let l = site-within world.sites n b eb in
@@ -168,7 +177,8 @@ module _ (world : World) (honest : IsHonest world) where
           | inr (home, same) ↦
               let l = site-within world.sites r.0.id.site home.0 home.1 in
               let at : x.site ≡ r.0.id.site = ap (λ (y : StateId). y.site) same in
-              let within = and_from (nat_le 1 x.site) (nat_le x.site (length world.sites)) (le-leb 1 x.site site) (le-leb x.site (length world.sites) (omega arith)) in
+              let within = and_from (nat_le 1 x.site) (nat_le x.site (length world.sites)) (le-leb 1 x.site site)
+              (le-leb x.site (length world.sites) (omega arith)) in
               let count = equal x.site within in
               let low = known-within-count a.dag (dag-at m a ea) x k in
               counted-is-known b.dag (dag-at n b eb) x site sequence (omega arith)

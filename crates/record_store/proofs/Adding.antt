@@ -1,5 +1,6 @@
 -- A store that has grown by one state.
-use Rattle.std.proofs.Common.{◌≡◌, ℕ, ◌<◌, Bool, true, false, ltb, ◌||◌, ◌&&◌, not, List, [], ◌∷◌, ◌++◌, map, filter, Option, Some, None, is_some, Ok, Err, IsTrue, IsFalse, refl, sym, ap, ap₂, subst, ◌∙◌}
+use Rattle.std.proofs.Common.{◌≡◌, ℕ, ◌<◌, Bool, true, false, ltb, ◌||◌, ◌&&◌, not, List, [], ◌∷◌, ◌++◌, map, filter, Option, Some, None, is_some, Ok, Err}
+use Rattle.std.proofs.Common.{IsTrue, IsFalse, refl, sym, ap, ap₂, subst, ◌∙◌}
 use Rattle.std.specs.List.{list_any, list_all}
 use Rattle.std.specs.Option.{option_map, option_and_then}
 use Rattle.std.proofs.lemmas.Bool.{and_parts, and_from, and_left, and_right, both_ways, cond-true, cond-false, lt-ltb, not-true, false_from_ne_true}
@@ -43,7 +44,8 @@ KeepsArrivals old new = (s : Slot) → IsTrue (is_kept_at old s) → IsTrue (is_
 
 module _ (old new : Table) (keeps : KeepsArrivals old new) where
   in_order-parts : (v : Version) (vs : List Version) → IsTrue (are_in_order (is_kept_at old) (arrival_at old) (v ∷ vs)) →
-      IsTrue (is_kept_at old v.slot) × IsTrue (list_all (λ w. ltb (arrival_at old v.slot) (arrival_at old w.slot)) vs) × IsTrue (are_in_order (is_kept_at old) (arrival_at old) vs)
+      IsTrue (is_kept_at old v.slot) × IsTrue (list_all (λ w. ltb (arrival_at old v.slot) (arrival_at old w.slot)) vs)
+      × IsTrue (are_in_order (is_kept_at old) (arrival_at old) vs)
   in_order-parts v vs h =
       let kept = is_kept_at old v.slot in
       let later = list_all (λ w. ltb (arrival_at old v.slot) (arrival_at old w.slot)) vs in
@@ -63,7 +65,8 @@ module _ (old new : Table) (keeps : KeepsArrivals old new) where
       (later-stay s vs kept parts.2 both.1)
 
   -- the versions of a key stay in order
-  pub order-stays : (vs : List Version) → IsTrue (are_in_order (is_kept_at old) (arrival_at old) vs) → IsTrue (are_in_order (is_kept_at new) (arrival_at new) vs)
+  pub order-stays : (vs : List Version) → IsTrue (are_in_order (is_kept_at old) (arrival_at old) vs) →
+      IsTrue (are_in_order (is_kept_at new) (arrival_at new) vs)
   order-stays [] order = refl
   order-stays (v ∷ vs) order =
       let parts = in_order-parts v vs order in
@@ -92,7 +95,8 @@ both-true a b c h e f g = rw (e, f, g) (go h)
     go true = refl
     go false = refl
 
-module _ (rs : List Record) (ks : List StateId) (r : Record) (dag : IsDag rs) (shared : StandInsAreShared rs ks) (next : IsNext rs r) (out : IsFalse (is_among r.id ks)) where
+module _ (rs : List Record) (ks : List StateId) (r : Record) (dag : IsDag rs) (shared : StandInsAreShared rs ks) (next : IsNext rs r)
+    (out : IsFalse (is_among r.id ks)) where
   fits : Fits rs r
   fits = next-fits rs r next
 
@@ -129,7 +133,8 @@ module _ (rs : List Record) (ks : List StateId) (r : Record) (dag : IsDag rs) (s
       (any-false-from test (states rs) (λ w m.
       and_right (writes_key (r ∷ rs) k w) (same_id (stand_in (r ∷ rs) ks w) r.id)
       (ap (λ z. same_id z r.id) (stand_in-stays w m)
-      ∙ known-isnt-newest rs r (stand_in rs ks w) fits (and_parts (is_known rs (stand_in rs ks w)) (not (is_among (stand_in rs ks w) ks)) ((stands-in-well rs ks dag shared).kept w m)).0)))
+      ∙ known-isnt-newest rs r (stand_in rs ks w) fits (and_parts (is_known rs (stand_in rs ks w)) (not (is_among (stand_in rs ks w) ks))
+      ((stands-in-well rs ks dag shared).kept w m)).0)))
 
   listed-is_known : (x : StateId) → IsTrue (is_among x (kept_states rs ks)) → IsTrue (is_known rs x)
   listed-is_known x m = (and_parts (is_known rs x) (not (is_among x ks)) (listed-is_kept rs ks x m)).0
@@ -149,11 +154,13 @@ module _ (rs : List Record) (ks : List StateId) (r : Record) (dag : IsDag rs) (s
   read-newest k w e =
       let has : has_key k r.writes ≡ true = has_key-write_of k r.writes ∙ ap is_some e in
       read-of_writer (r ∷ rs) dag_now k r.id (newest-is-known rs r) (writes-newest rs r k r.id fits (same_id_self r.id) ∙ has)
-      ∙ (ap (λ (o : Option Record). option_map (λ (v : Write). (r.id, v)) (option_and_then (λ (q : Record). write_of k q.writes) o)) (cond-true (same_id r.id r.id) (Some r) (record_at rs r.id) (same_id_self r.id))
+      ∙ (ap (λ (o : Option Record). option_map (λ (v : Write). (r.id, v)) (option_and_then (λ (q : Record). write_of k q.writes) o))
+      (cond-true (same_id r.id r.id) (Some r) (record_at rs r.id) (same_id_self r.id))
       ∙ ap (option_map (λ (v : Write). (r.id, v))) e)
 
   -- the old versions show what they showed
-  shown-stay : (old new : Table) → KeepsSlots old new → (k : List ℕ) (vs : List Version) (ys : List StateId) → ((y : StateId) → IsTrue (is_among y ys) → IsTrue (is_known rs y)) → map (shown_version old) vs ≡ map (read_with rs k) ys →
+  shown-stay : (old new : Table) → KeepsSlots old new → (k : List ℕ) (vs : List Version) (ys : List StateId) →
+      ((y : StateId) → IsTrue (is_among y ys) → IsTrue (is_known rs y)) → map (shown_version old) vs ≡ map (read_with rs k) ys →
       map (shown_version new) vs ≡ map (read_with (r ∷ rs) k) ys
   shown-stay old new keeps k [] [] known e = refl
   shown-stay old new keeps k [] (y ∷ ys) known e = cc
@@ -180,7 +187,8 @@ module _ (rs : List Record) (ks : List StateId) (r : Record) (dag : IsDag rs) (s
       ∙ sym (ap (map (read_with (r ∷ rs) k)) (cond-true (test r.id) (r.id ∷ []) [] (holds-newest k ∙ (has_key-write_of k r.writes ∙ ap is_some e))))
 
   -- the versions of the key are those of its holders
-  pub versions-grow : (old new : Table) (slot : Slot) → KeepsSlots old new → id_at new slot ≡ Some r.id → (k : List ℕ) (vs : List Version) → map (shown_version old) vs ≡ map (read_with rs k) (holders rs ks k) →
+  pub versions-grow : (old new : Table) (slot : Slot) → KeepsSlots old new → id_at new slot ≡ Some r.id → (k : List ℕ) (vs : List Version) →
+      map (shown_version old) vs ≡ map (read_with rs k) (holders rs ks k) →
       map (shown_version new) (vs ++ version_by slot r.id (write_of k r.writes)) ≡ map (read_with (r ∷ rs) k) (holders (r ∷ rs) ks k)
   versions-grow old new slot keeps named k vs e =
       let hs = holders rs ks k in
@@ -200,13 +208,16 @@ same-stands old new rs ks stands same = record {
   versions = λ k. ap₂ (λ (t : Table) (vs : List Version). map (shown_version t) vs) same.table (same.versions k) ∙ stands.versions k;
 }
 
-pub added-none : (old new : Store) (rs : List Record) (ks : List StateId) (r : Record) (f : AddFault) → StoreStands old rs ks → IsSameStore old new → AddedTo old.table new.table rs ks r (Err f) → AddedIn old new rs ks r (Err f)
+pub added-none : (old new : Store) (rs : List Record) (ks : List StateId) (r : Record) (f : AddFault) → StoreStands old rs ks → IsSameStore old new →
+    AddedTo old.table new.table rs ks r (Err f) → AddedIn old new rs ks r (Err f)
 added-none old new rs ks r (Full kept) stands same added = (added.0, same-stands old new rs ks stands same)
 added-none old new rs ks r (PathFull x n) stands same added = (added.0, same-stands old new rs ks stands same)
 added-none old new rs ks r NoMemory stands same added = same-stands old new rs ks stands same
 
-pub added-one : (old new : Store) (rs : List Record) (ks : List StateId) (r : Record) (id : StateId) (writes : List KeyWrite) (parents : List Slot) (slot : Slot) → StoreStands old rs ks → r.id ≡ id → r.writes ≡ writes →
-    MayBeAdded old.table rs ks r parents → AddedTo old.table new.table rs ks r (Ok slot) → IsNewSlot old.table new.table id slot → KeepsSlots old.table new.table →
+pub added-one : (old new : Store) (rs : List Record) (ks : List StateId) (r : Record) (id : StateId) (writes : List KeyWrite) (parents : List Slot)
+    (slot : Slot) → StoreStands old rs ks → r.id ≡ id → r.writes ≡ writes →
+    MayBeAdded old.table rs ks r parents → AddedTo old.table new.table rs ks r (Ok slot) → IsNewSlot old.table new.table id slot →
+    KeepsSlots old.table new.table →
     ((k : List ℕ) → versions_of new.versions k ≡ versions_of old.versions k ++ version_by slot id (write_of k writes)) → AddedIn old new rs ks r (Ok slot)
 added-one old new rs ks r id writes parents slot stands id_is writes_is may added slot_is keeps versions =
     let out = false_from_ne_true (is_among r.id ks) (λ m. both_ways (is_known rs r.id) may.next.new (stands.table.known_collected r.id m)) in (
@@ -214,7 +225,9 @@ added-one old new rs ks r id writes parents slot stands id_is writes_is may adde
       record {
         table = added.1;
         versions = λ k.
-            ap (map (shown_version new.table)) (versions k ∙ ap₂ (λ (x : StateId) (ws : List KeyWrite). versions_of old.versions k ++ version_by slot x (write_of k ws)) (sym id_is) (sym writes_is))
-            ∙ versions-grow rs ks r stands.table.dag stands.table.shared may.next out old.table new.table slot keeps (slot_is.1 ∙ ap (λ (x : StateId). Some x) (sym id_is)) k (versions_of old.versions k) (stands.versions k);
+            ap (map (shown_version new.table)) (versions k ∙ ap₂ (λ (x : StateId) (ws : List KeyWrite). versions_of old.versions k
+            ++ version_by slot x (write_of k ws)) (sym id_is) (sym writes_is))
+            ∙ versions-grow rs ks r stands.table.dag stands.table.shared may.next out old.table new.table slot keeps
+            (slot_is.1 ∙ ap (λ (x : StateId). Some x) (sym id_is)) k (versions_of old.versions k) (stands.versions k);
       },
     )

@@ -1,7 +1,9 @@
 -- A store that a state has left.
-use Rattle.std.proofs.Common.{◌≡◌, ℕ, ◌<◌, Bool, true, false, ltb, ◌||◌, ◌&&◌, not, List, [], ◌∷◌, map, filter, Option, Some, None, IsTrue, IsFalse, inl, inr, refl, sym, ap, ap₂, subst, ◌∙◌, if◌then◌else◌, arith}
+use Rattle.std.proofs.Common.{◌≡◌, ℕ, ◌<◌, Bool, true, false, ltb, ◌||◌, ◌&&◌, not, List, [], ◌∷◌, map, filter, Option, Some, None, IsTrue, IsFalse, inl, inr}
+use Rattle.std.proofs.Common.{refl, sym, ap, ap₂, subst, ◌∙◌, if◌then◌else◌, arith}
 use Rattle.std.specs.List.{list_all}
-use Rattle.std.proofs.lemmas.Bool.{or_parts, eq-eqb, and_parts, and_from, or_cases, or_left, or_right, both_ways, cases_Bool, cond-true, cond-false, false_from_ne_true, ltb-true, lt-ltb, not-true, eqb-true}
+use Rattle.std.proofs.lemmas.Bool.{or_parts, eq-eqb, and_parts, and_from, or_cases, or_left, or_right, both_ways, cases_Bool, cond-true, cond-false}
+use Rattle.std.proofs.lemmas.Bool.{false_from_ne_true, ltb-true, lt-ltb, not-true, eqb-true}
 use Rattle.std.proofs.lemmas.Option.{none-some, same_Some}
 use Rattle.tardis_base.specs.declared.ids.StateId.{StateId}
 use Rattle.tardis_base.specs.declared.ids.Slot.{Slot}
@@ -75,7 +77,8 @@ module _ (arrived : StateId → ℕ) (s : StateId) where
         let same = ap arrived (same_id-true z s t) in let less = later z m in absurd (omega (arith, same, less)))))
 
     -- one more passes the filter, in its place
-    pub one-more_passes : (ys : List StateId) → Rising arrived ys → IsTrue (is_among s ys) → filter (λ z. same_id z s || p z) ys ≡ placed arrived s (filter p ys)
+    pub one-more_passes : (ys : List StateId) → Rising arrived ys → IsTrue (is_among s ys) → filter (λ z. same_id z s || p z) ys
+        ≡ placed arrived s (filter p ys)
     one-more_passes [] up m = not-both true refl (sym m)
     one-more_passes (y ∷ ys) up m = elim (among-cases s y ys m) [
       | inl e ↦
@@ -86,8 +89,10 @@ module _ (arrived : StateId → ℕ) (s : StateId) where
           ∙ sym (placed-first (filter p ys) (λ z n. later z (filtered-passes p ys z n).0)))
       | inr n ↦
           let before = up.0 s n in
-          let other : same_id y s ≡ false = false_from_ne_true (same_id y s) (λ t. let same = ap arrived (same_id-true y s t) in absurd (omega (arith, same, before))) in
-          let behind : ltb (arrived s) (arrived y) ≡ false = false_from_ne_true (ltb (arrived s) (arrived y)) (λ t. let less = ltb-true (arrived s) (arrived y) t in absurd (omega (arith, less, before))) in
+          let other : same_id y s ≡ false = false_from_ne_true (same_id y s) (λ t. let same = ap arrived (same_id-true y s t) in
+          absurd (omega (arith, same, before))) in
+          let behind : ltb (arrived s) (arrived y) ≡ false =
+          false_from_ne_true (ltb (arrived s) (arrived y)) (λ t. let less = ltb-true (arrived s) (arrived y) t in absurd (omega (arith, less, before))) in
           let rest = one-more_passes ys up.1 n in
           elim (cases_Bool (p y)) [
             | inl t ↦ rw (other, t) (rw behind (ap (λ ws. y ∷ ws) rest))
@@ -97,7 +102,8 @@ module _ (arrived : StateId → ℕ) (s : StateId) where
 
 -- ===== Who holds a key then
 
-module _ (rs : List Record) (ks : List StateId) (dag : IsDag rs) (shared : StandInsAreShared rs ks) (x s : StateId) (kept : IsTrue (is_kept rs ks x)) (shares : shared_stand_in rs ks x ≡ Some s) where
+module _ (rs : List Record) (ks : List StateId) (dag : IsDag rs) (shared : StandInsAreShared rs ks) (x s : StateId) (kept : IsTrue (is_kept rs ks x))
+    (shares : shared_stand_in rs ks x ≡ Some s) where
   fresh : IsFalse (is_among x ks)
   fresh = not-true (is_among x ks) (and_parts (is_known rs x) (not (is_among x ks)) kept).1
 
@@ -126,7 +132,8 @@ module _ (rs : List Record) (ks : List StateId) (dag : IsDag rs) (shared : Stand
             | inl t ↦
                 let is = same_id-true (stand_in rs ks w.0) x t in
                 or_right (holds_key rs ks k z) (same_id z s && holds_key rs ks k x)
-                (and_from (same_id z s) (holds_key rs ks k x) (same_id_from z s (sym w.3 ∙ moved-here w.0 is)) (subst (λ y. IsTrue (holds_key rs ks k y)) is held))
+                (and_from (same_id z s) (holds_key rs ks k x) (same_id_from z s (sym w.3 ∙ moved-here w.0 is))
+                (subst (λ y. IsTrue (holds_key rs ks k y)) is held))
             | inr n ↦
                 or_left (holds_key rs ks k z) (same_id z s && holds_key rs ks k x)
                 (subst (λ y. IsTrue (holds_key rs ks k y)) (sym (moved-else w.0 n) ∙ w.3) held)
@@ -141,7 +148,8 @@ module _ (rs : List Record) (ks : List StateId) (dag : IsDag rs) (shared : Stand
         | inr got ↦
             let parts = and_parts (same_id z s) (holds_key rs ks k x) got in
             let w = holder-writes rs ks dag shared k x parts.1 in
-            subst (λ y. IsTrue (holds_key rs (x ∷ ks) k y)) (moved-here w.0 w.3 ∙ sym (same_id-true z s parts.0)) (writer-holds rs (x ∷ ks) dag shared_then k w.0 w.1 w.2)
+            subst (λ y. IsTrue (holds_key rs (x ∷ ks) k y)) (moved-here w.0 w.3 ∙ sym (same_id-true z s parts.0))
+            (writer-holds rs (x ∷ ks) dag shared_then k w.0 w.1 w.2)
       ]
 
   others-only : (z : StateId) → IsTrue (is_among z (kept_states rs (x ∷ ks))) → same_id z x ≡ false
@@ -178,7 +186,8 @@ module _ (rs : List Record) (ks : List StateId) (dag : IsDag rs) (shared : Stand
           left false = refl
 
   -- else the heir is one of them then, in its place
-  pub holders-one_more : (k : List ℕ) → holds_key rs ks k x ≡ true → holds_key rs ks k s ≡ false → IsTrue (is_kept rs (x ∷ ks) s) → holders rs (x ∷ ks) k ≡ placed (arrival rs) s (without x (holders rs ks k))
+  pub holders-one_more : (k : List ℕ) → holds_key rs ks k x ≡ true → holds_key rs ks k s ≡ false → IsTrue (is_kept rs (x ∷ ks) s) → holders rs (x ∷ ks) k
+      ≡ placed (arrival rs) s (without x (holders rs ks k))
   holders-one_more k has none kept_s =
       filter-agrees (holds_key rs (x ∷ ks) k) (λ z. same_id z s || holds_key rs ks k z) (kept_states rs (x ∷ ks))
       (λ z m. holds-then k z (others-only z m) ∙ (ap (λ b. holds_key rs ks k z || (same_id z s && b)) has ∙ turned (holds_key rs ks k z) (same_id z s)))
@@ -244,12 +253,14 @@ handed-none : (arrived : Slot → ℕ) (to : Slot) (ws : List Version) (o : Opti
 handed-none arrived to ws None own = refl
 handed-none arrived to ws (Some v) own = cond-true (has_version_at to ws) ws (in_its_place arrived (at_state to v) ws) own
 
-module _ (old new : Table) (rs : List Record) (ks : List StateId) (stands : Stands old rs ks) (x s : StateId) (from to : Slot) (named : id_at old from ≡ Some x) (named_to : id_at old to ≡ Some s) (names : (q : Slot) → (q ≡ from → ⊥) → id_at new q ≡ id_at old q) (k : List ℕ) where
+module _ (old new : Table) (rs : List Record) (ks : List StateId) (stands : Stands old rs ks) (x s : StateId) (from to : Slot)
+    (named : id_at old from ≡ Some x) (named_to : id_at old to ≡ Some s) (names : (q : Slot) → (q ≡ from → ⊥) → id_at new q ≡ id_at old q) (k : List ℕ) where
   abbrev pair : Option StateId → Option (StateId × Write) → Option StateId × Option (StateId × Write)
   pair a b = (a, b)
 
   -- the versions but for x's are shown as they were
-  left-shown : (vs : List Version) (ys : List StateId) → map (shown_version old) vs ≡ map (read_with rs k) ys → map (shown_version new) (without_version from vs) ≡ map (read_with rs k) (without x ys)
+  left-shown : (vs : List Version) (ys : List StateId) → map (shown_version old) vs ≡ map (read_with rs k) ys →
+      map (shown_version new) (without_version from vs) ≡ map (read_with rs k) (without x ys)
   left-shown [] [] e = refl
   left-shown [] (y ∷ ys) e = absurd (let bad : ⊥ = cc in bad)
   left-shown (v ∷ vs) [] e = absurd (let bad : ⊥ = cc in bad)
@@ -278,8 +289,12 @@ module _ (old new : Table) (rs : List Record) (ks : List StateId) (stands : Stan
       let at : id_at old v.slot ≡ Some y = ap (λ (p : Option StateId × Option (StateId × Write)). p.0) here in
       elim (cases_Bool (same_slot v.slot from)) [
         | inl t ↦
-            let is : y ≡ x = same_Some y x (sym at ∙ (ap (id_at old) (slots-from_same v.slot from t) ∙ named)) in
-            (v, cond-true (same_slot v.slot from) (Some v) (version_at from vs) t, ap (λ (p : Option StateId × Option (StateId × Write)). p.1) here ∙ ap (read rs k) is)
+            let is : y ≡ x = same_Some y x (sym at ∙ (ap (id_at old) (slots-from_same v.slot from t) ∙ named)) in (
+              v,
+              cond-true (same_slot v.slot from) (Some v) (version_at from vs) t,
+              ap (λ (p : Option StateId × Option (StateId × Write)). p.1) here
+                  ∙ ap (read rs k) is,
+            )
         | inr f ↦
             let w = found-shown vs ys rest (rw f at h) in
             (w.0, cond-false (same_slot v.slot from) (Some v) (version_at from vs) f ∙ w.1, w.2)
@@ -287,7 +302,8 @@ module _ (old new : Table) (rs : List Record) (ks : List StateId) (stands : Stan
 
   -- a version gets its place as its state does
   placed-shown : ((q : Slot) (z : StateId) → id_at new q ≡ Some z → arrival_at old q ≡ arrival rs z) → (u : Version) → shown_version new u ≡ read_with rs k s →
-      (ws : List Version) (zs : List StateId) → map (shown_version new) ws ≡ map (read_with rs k) zs → map (shown_version new) (in_its_place (arrival_at old) u ws) ≡ map (read_with rs k) (placed (arrival rs) s zs)
+      (ws : List Version) (zs : List StateId) → map (shown_version new) ws ≡ map (read_with rs k) zs →
+      map (shown_version new) (in_its_place (arrival_at old) u ws) ≡ map (read_with rs k) (placed (arrival rs) s zs)
   placed-shown arrives u own [] [] e = ap (λ p. p ∷ []) own
   placed-shown arrives u own [] (z ∷ zs) e = absurd (let bad : ⊥ = cc in bad)
   placed-shown arrives u own (w ∷ ws) [] e = absurd (let bad : ⊥ = cc in bad)
@@ -302,7 +318,8 @@ module _ (old new : Table) (rs : List Record) (ks : List StateId) (stands : Stan
         | inr f ↦ (let b = tests ∙ f in rw (b, f) (ap₂ (λ p ps. p ∷ ps) here (placed-shown arrives u own ws zs rest)))
       ]
 
-  module _ (gone : id_at new from ≡ None) (left_it : Stands new rs (x ∷ ks)) (earlier : arrival_at old from < arrival_at old to) (shares : shared_stand_in rs ks x ≡ Some s) where
+  module _ (gone : id_at new from ≡ None) (left_it : Stands new rs (x ∷ ks)) (earlier : arrival_at old from < arrival_at old to)
+      (shares : shared_stand_in rs ks x ≡ Some s) where
     to-named : id_at new to ≡ Some s
     to-named = names to (λ e. let same = ap (arrival_at old) e in absurd (omega (arith, same, earlier))) ∙ named_to
 
@@ -313,7 +330,8 @@ module _ (old new : Table) (rs : List Record) (ks : List StateId) (stands : Stan
     kept_from = slot-is_kept old rs ks stands from x named
 
     -- the versions that were handed on are those of the holders then
-    pub versions-handed : (vs : List Version) → map (shown_version old) vs ≡ map (read_with rs k) (holders rs ks k) → has_version_at from vs ≡ holds_key rs ks k x → has_version_at to vs ≡ holds_key rs ks k s →
+    pub versions-handed : (vs : List Version) → map (shown_version old) vs ≡ map (read_with rs k) (holders rs ks k) → has_version_at from vs
+        ≡ holds_key rs ks k x → has_version_at to vs ≡ holds_key rs ks k s →
         map (shown_version new) (promoted (arrival_at old) from to vs) ≡ map (read_with rs k) (holders rs (x ∷ ks) k)
     versions-handed vs e has_from has_to =
         let hs = holders rs ks k in
@@ -332,26 +350,33 @@ module _ (old new : Table) (rs : List Record) (ks : List StateId) (stands : Stan
                 let w = found-shown vs hs e (has_from ∙ t) in
                 let u = at_state to w.0 in
                 let own : shown_version new u ≡ read_with rs k s =
-                ap₂ pair to-named (w.2 ∙ reads-same rs ks stands.dag stands.shared x s kept_from shares k t none (slot-is_kept old rs ks stands to s named_to)) in
+                ap₂ pair to-named (w.2 ∙ reads-same rs ks stands.dag stands.shared x s kept_from shares k t none
+                (slot-is_kept old rs ks stands to s named_to)) in
                 ap (λ o. map (shown_version new) (handed_on (arrival_at old) to ws o)) w.1
-                ∙ (ap (map (shown_version new)) (cond-false (has_version_at to ws) ws (in_its_place (arrival_at old) u ws) (has-without from to vs differ ∙ (has_to ∙ none)))
+                ∙ (ap (map (shown_version new)) (cond-false (has_version_at to ws) ws (in_its_place (arrival_at old) u ws)
+                (has-without from to vs differ ∙ (has_to ∙ none)))
                 ∙ (placed-shown arrives-so u own ws (without x hs) left
-                ∙ sym (ap (map (read_with rs k)) (holders-one_more rs ks stands.dag stands.shared x s kept_from shares k t none (slot-is_kept new rs (x ∷ ks) left_it to s to-named)))))
+                ∙ sym (ap (map (read_with rs k)) (holders-one_more rs ks stands.dag stands.shared x s kept_from shares k t none
+                (slot-is_kept new rs (x ∷ ks) left_it to s to-named)))))
           ]
         ]
 
 -- ===== The store then
 
-pub collected-stands : (old : Store) (table : Table) (vs : Versions) (rs : List Record) (ks : List StateId) → StoreStands old rs ks → IsTrue (arrive_in_order old.table.entries) → (from to : Slot) (x : StateId) → id_at old.table from ≡ Some x →
-    IsTrue (is_kept_at old.table to) → arrival_at old.table from < arrival_at old.table to → ((q : Slot) → (q ≡ from → ⊥) → id_at table q ≡ id_at old.table q) → id_at table from ≡ None → id_at old.table to ≡ shared_stand_in rs ks x →
-    Stands table rs (x ∷ ks) → ((k : List ℕ) → versions_of vs k ≡ promoted (arrival_at old.table) from to (versions_of old.versions k)) → StoreStands (record { table = table; versions = vs }) rs (x ∷ ks)
+pub collected-stands : (old : Store) (table : Table) (vs : Versions) (rs : List Record) (ks : List StateId) → StoreStands old rs ks →
+    IsTrue (arrive_in_order old.table.entries) → (from to : Slot) (x : StateId) → id_at old.table from ≡ Some x →
+    IsTrue (is_kept_at old.table to) → arrival_at old.table from < arrival_at old.table to →
+    ((q : Slot) → (q ≡ from → ⊥) → id_at table q ≡ id_at old.table q) → id_at table from ≡ None → id_at old.table to ≡ shared_stand_in rs ks x →
+    Stands table rs (x ∷ ks) → ((k : List ℕ) → versions_of vs k ≡ promoted (arrival_at old.table) from to (versions_of old.versions k)) →
+    StoreStands (record { table = table; versions = vs }) rs (x ∷ ks)
 collected-stands old table vs rs ks stands in_order from to x named kept_to earlier names gone shares left_it handed =
     let s = slot-named old.table to (and_parts (is_slot old.table to) (arrive_in_order old.table.entries) kept_to).0 in
     record {
       table = left_it;
       versions = λ k.
           ap (map (shown_version table)) (handed k)
-          ∙ versions-handed old.table table rs ks stands.table x s.0 from to named s.1 names k gone left_it earlier (sym shares ∙ s.1) (versions_of old.versions k) (stands.versions k)
+          ∙ versions-handed old.table table rs ks stands.table x s.0 from to named s.1 names k gone left_it earlier (sym shares ∙ s.1)
+          (versions_of old.versions k) (stands.versions k)
           (version-is_held old rs ks stands in_order from x named k) (version-is_held old rs ks stands in_order to s.0 s.1 k);
     }
 
@@ -363,7 +388,8 @@ kept-is_other table slot gone s kept e =
     let named = slot-named table s (and_parts (is_slot table s) (arrive_in_order table.entries) kept).0 in
     none-some named.0 (sym gone ∙ (ap (id_at table) (sym e) ∙ named.1))
 
-module _ (old new : Table) (slot : Slot) (kept : (s : Slot) → (s ≡ slot → ⊥) → is_kept_at new s ≡ is_kept_at old s) (arrivals : (s : Slot) → (s ≡ slot → ⊥) → arrival_at new s ≡ arrival_at old s) where
+module _ (old new : Table) (slot : Slot) (kept : (s : Slot) → (s ≡ slot → ⊥) → is_kept_at new s ≡ is_kept_at old s)
+    (arrivals : (s : Slot) → (s ≡ slot → ⊥) → arrival_at new s ≡ arrival_at old s) where
   later-agrees : (s : Slot) → (s ≡ slot → ⊥) → (vs : List Version) → has_version_at slot vs ≡ false →
       list_all (λ w. ltb (arrival_at new s) (arrival_at new w.slot)) vs ≡ list_all (λ w. ltb (arrival_at old s) (arrival_at old w.slot)) vs
   later-agrees s other [] none = refl
@@ -372,7 +398,8 @@ module _ (old new : Table) (slot : Slot) (kept : (s : Slot) → (s ≡ slot → 
       ap₂ (λ a b. a && b) (ap₂ ltb (arrivals s other) (arrivals v.slot (apart-from v.slot slot parts.0))) (later-agrees s other vs parts.1)
 
   -- versions at other states stand in order as before
-  pub order-agrees : (vs : List Version) → has_version_at slot vs ≡ false → are_in_order (is_kept_at new) (arrival_at new) vs ≡ are_in_order (is_kept_at old) (arrival_at old) vs
+  pub order-agrees : (vs : List Version) → has_version_at slot vs ≡ false → are_in_order (is_kept_at new) (arrival_at new) vs
+      ≡ are_in_order (is_kept_at old) (arrival_at old) vs
   order-agrees [] none = refl
   order-agrees (v ∷ vs) none =
       let parts = or_parts (same_slot v.slot slot) (has_version_at slot vs) none in

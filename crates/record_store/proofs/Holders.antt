@@ -1,8 +1,10 @@
 -- The kept states that hold a key, and what is read by them.
-use Rattle.std.proofs.Common.{◌≡◌, ℕ, ◌<◌, ◌≤◌, true, false, ltb, ◌&&◌, ◌||◌, not, List, [], ◌∷◌, filter, Option, Some, None, IsTrue, IsFalse, IsSome, ◌⊎◌, inl, inr, refl, sym, ap, subst, ◌∙◌, if◌then◌else◌, arith}
+use Rattle.std.proofs.Common.{◌≡◌, ℕ, ◌<◌, ◌≤◌, true, false, ltb, ◌&&◌, ◌||◌, not, List, [], ◌∷◌, filter, Option, Some, None, IsTrue, IsFalse, IsSome, ◌⊎◌}
+use Rattle.std.proofs.Common.{inl, inr, refl, sym, ap, subst, ◌∙◌, if◌then◌else◌, arith}
 use Rattle.std.specs.List.{list_any}
 use Rattle.std.specs.Option.{option_map, option_map_or, option_and_then}
-use Rattle.std.proofs.lemmas.Bool.{and_parts, and_from, or_cases, or_left, or_right, not-true, not_from_false, cases_Bool, both_ways, false_from_ne_true, cond-true, cond-false, ltb-true, ltb-false}
+use Rattle.std.proofs.lemmas.Bool.{and_parts, and_from, or_cases, or_left, or_right, not-true, not_from_false, cases_Bool, both_ways, false_from_ne_true}
+use Rattle.std.proofs.lemmas.Bool.{cond-true, cond-false, ltb-true, ltb-false}
 use Rattle.std.proofs.lemmas.Option.{none-some, same_Some}
 use Rattle.tardis_base.specs.declared.ids.StateId.{StateId}
 use Rattle.tardis_base.specs.declared.records.Record.{Record}
@@ -43,7 +45,8 @@ module _ (arrived : StateId → ℕ) where
   last-none [] e = refl
   last-none (x ∷ xs) e = absurd (none-some (later_state arrived x (last_state arrived xs)) (sym e))
 
-  last-step : (x : StateId) (xs : List StateId) (y : StateId) (o : Option StateId) → last_state arrived xs ≡ o → ((w : StateId) → o ≡ Some w → IsLast xs w) → Some (later_state arrived x o) ≡ Some y → IsLast (x ∷ xs) y
+  last-step : (x : StateId) (xs : List StateId) (y : StateId) (o : Option StateId) → last_state arrived xs ≡ o → ((w : StateId) → o ≡ Some w → IsLast xs w)
+      → Some (later_state arrived x o) ≡ Some y → IsLast (x ∷ xs) y
   last-step x xs y None is rest same =
       let first : x ≡ y = same_Some x y same in
       record {
@@ -88,7 +91,8 @@ some-of None h = not-both true refl (sym h)
 some-of (Some y) h = (y, refl)
 
 -- a state that writes a key reads there what it wrote
-pub read-of_writer : (rs : List Record) → IsDag rs → (k : List ℕ) (x : StateId) → IsTrue (is_known rs x) → IsTrue (writes_key rs k x) → read rs k x ≡ version_at rs k x
+pub read-of_writer : (rs : List Record) → IsDag rs → (k : List ℕ) (x : StateId) → IsTrue (is_known rs x) → IsTrue (writes_key rs k x) →
+    read rs k x ≡ version_at rs k x
 read-of_writer rs dag k x known writes =
     let law = one-latest-writer rs dag k x known in
     let itself : IsLatestWriter rs k x x = record {
@@ -109,7 +113,8 @@ module _ (rs : List Record) (ks : List StateId) (dag : IsDag rs) (shared : Stand
   -- ===== Holders
 
   -- what holds a key stands in for a state that writes it
-  pub holder-writes : (k : List ℕ) (y : StateId) → IsTrue (holds_key rs ks k y) → (w : StateId) × IsTrue (is_known rs w) × IsTrue (writes_key rs k w) × (stand_in rs ks w ≡ y)
+  pub holder-writes : (k : List ℕ) (y : StateId) → IsTrue (holds_key rs ks k y) → (w : StateId) × IsTrue (is_known rs w) × IsTrue (writes_key rs k w)
+      × (stand_in rs ks w ≡ y)
   holder-writes k y h =
       let w = any-witness (λ w. writes_key rs k w && same_id (stand_in rs ks w) y) (states rs) h in
       let parts = and_parts (writes_key rs k w.0) (same_id (stand_in rs ks w.0) y) w.2 in
@@ -162,7 +167,8 @@ module _ (rs : List Record) (ks : List StateId) (dag : IsDag rs) (shared : Stand
         go None is = refl
         go (Some l) is =
             let latest = (one-latest-writer rs dag k x known).is_latest l is in
-            not-both true refl (sym (subst (λ zs. IsTrue (is_among (stand_in rs ks l) zs)) (last-none (arrival rs) at_or_above e) (writer-stands_above l latest.writes)))
+            not-both true refl (sym (subst (λ zs. IsTrue (is_among (stand_in rs ks l) zs)) (last-none (arrival rs) at_or_above e)
+            (writer-stands_above l latest.writes)))
 
     -- the latest writer at the state is the latest one at its stand-in too
     pub latest-at_stand_in : (l : StateId) → IsLatestWriter rs k x l → IsLatestWriter rs k (stand_in rs ks l) l
@@ -220,7 +226,8 @@ module _ (rs : List Record) (ks : List StateId) (dag : IsDag rs) (shared : Stand
         none e None is = refl
         none e (Some l) is =
             let latest = (one-latest-writer rs dag k x known).is_latest l is in
-            not-both true refl (sym (subst (λ zs. IsTrue (is_among (stand_in rs ks l) zs)) (last-none (arrival rs) at_or_above e) (writer-stands_above l latest.writes)))
+            not-both true refl (sym (subst (λ zs. IsTrue (is_among (stand_in rs ks l) zs)) (last-none (arrival rs) at_or_above e)
+            (writer-stands_above l latest.writes)))
 
         go : (o : Option StateId) → last_state (arrival rs) at_or_above ≡ o → o ≡ option_map (stand_in rs ks) (latest_writer rs k x)
         go None e = none e (latest_writer rs k x) refl
@@ -243,7 +250,8 @@ module _ (rs : List Record) (ks : List StateId) (dag : IsDag rs) (shared : Stand
   -- ===== News
 
   -- the key is news of one kept state to another exactly where the stand-in of its latest writer at the one isn't at or above the other
-  pub news-told : (k : List ℕ) (s c : StateId) → IsTrue (is_kept rs ks s) → IsTrue (is_kept rs ks c) → option_map_or (λ y. not (is_above rs y s)) (option_map (stand_in rs ks) (latest_writer rs k c)) false ≡ is_news rs s c k
+  pub news-told : (k : List ℕ) (s c : StateId) → IsTrue (is_kept rs ks s) → IsTrue (is_kept rs ks c) →
+      option_map_or (λ y. not (is_above rs y s)) (option_map (stand_in rs ks) (latest_writer rs k c)) false ≡ is_news rs s c k
   news-told k s c kept_s kept_c = go (latest_writer rs k c) refl
     where
       law : HasOneLatestWriter rs k c
@@ -258,7 +266,8 @@ module _ (rs : List Record) (ks : List StateId) (dag : IsDag rs) (shared : Stand
           (w.0, and_from (writes_key rs k w.0) (is_above rs w.0 c) parts.0 between.0, between.1)
 
       none : latest_writer rs k c ≡ None → is_news rs s c k ≡ false
-      none is = false_from_ne_true (is_news rs s c k) (λ h. let w = found h in let l = some-of (latest_writer rs k c) (law.found w.0 w.1) in none-some l.0 (sym is ∙ l.1))
+      none is = false_from_ne_true (is_news rs s c k) (λ h. let w = found h in let l = some-of (latest_writer rs k c) (law.found w.0 w.1) in
+          none-some l.0 (sym is ∙ l.1))
 
       go : (o : Option StateId) → latest_writer rs k c ≡ o → option_map_or (λ y. not (is_above rs y s)) (option_map (stand_in rs ks) o) false ≡ is_news rs s c k
       go None is = sym (none is)
@@ -280,7 +289,8 @@ module _ (rs : List Record) (ks : List StateId) (dag : IsDag rs) (shared : Stand
           ]
 
   -- of a kept state whose only parent is kept, the key is news to that parent exactly where the state holds it
-  pub child-news : (k : List ℕ) (s c : StateId) → IsTrue (is_kept rs ks s) → IsTrue (is_kept rs ks c) → parents_of rs c ≡ s ∷ [] → holds_key rs ks k c ≡ is_news rs s c k
+  pub child-news : (k : List ℕ) (s c : StateId) → IsTrue (is_kept rs ks s) → IsTrue (is_kept rs ks c) → parents_of rs c ≡ s ∷ [] → holds_key rs ks k c
+      ≡ is_news rs s c k
   child-news k s c kept_s kept_c lone = same_test (holds_key rs ks k c) (is_news rs s c k) told held
     where
       -- what is at or above the child is the child or at or above the parent
@@ -290,7 +300,8 @@ module _ (rs : List Record) (ks : List StateId) (dag : IsDag rs) (shared : Stand
       -- the child isn't at or above its parent
       apart : IsFalse (is_above rs c s)
       apart = false_from_ne_true (is_above rs c s) (λ h.
-          let down : IsTrue (is_above rs s c) = split s ∙ or_right (same_id s c) (is_above rs s s || false) (or_left (is_above rs s s) false (above-reflexive rs s)) in
+          let down : IsTrue (is_above rs s c) = split s ∙ or_right (same_id s c) (is_above rs s s || false)
+          (or_left (is_above rs s s) false (above-reflexive rs s)) in
           let one = above-antisymmetric rs dag c s h down in
           let later = child_arrives_later rs dag s c (children_know_parent rs dag s c ∙ (ap (λ ps. is_among s ps) lone ∙ among-first s [])) in
           absurd (let same : arrival rs c ≡ arrival rs s = ap (arrival rs) one in omega arith))
@@ -301,7 +312,8 @@ module _ (rs : List Record) (ks : List StateId) (dag : IsDag rs) (shared : Stand
           let here = well.tells w.0 c w.1 kept_c ∙ subst (λ y. IsTrue (is_above rs y c)) (sym w.3) (above-reflexive rs c) in
           let there = well.tells w.0 s w.1 kept_s ∙ subst (λ y. IsFalse (is_above rs y s)) (sym w.3) apart in
           any-from (λ w. writes_key rs k w && is_between rs s c w) (states rs) w.0 w.1
-          (and_from (writes_key rs k w.0) (is_between rs s c w.0) w.2 (and_from (is_above rs w.0 c) (not (is_above rs w.0 s)) here (not_from_false (is_above rs w.0 s) there)))
+          (and_from (writes_key rs k w.0) (is_between rs s c w.0) w.2
+          (and_from (is_above rs w.0 c) (not (is_above rs w.0 s)) here (not_from_false (is_above rs w.0 s) there)))
 
       held : IsTrue (is_news rs s c k) → IsTrue (holds_key rs ks k c)
       held h =

@@ -23,7 +23,8 @@ use Rattle.record_store.specs.Answers.{AddedIn}
 use Rattle.record_store.proofs.Adding.{same-stands, added-none, added-one}
 
 -- each slot is that of a kept state
-pub slot-is_kept_at : (a : Inside) (store : Store) (slot : Slot) → seen a ≡ store → IsHeld a → IsTrue (is_slot store.table slot) → IsTrue (is_kept_at a.dag slot)
+pub slot-is_kept_at : (a : Inside) (store : Store) (slot : Slot) → seen a ≡ store → IsHeld a → IsTrue (is_slot store.table slot) →
+    IsTrue (is_kept_at a.dag slot)
 slot-is_kept_at a store slot is held h =
     and_from (is_slot a.dag slot) (arrive_in_order a.dag.entries) (subst (λ (s : Store). IsTrue (is_slot s.table slot)) (sym is) h) held.in_order
 
@@ -32,31 +33,39 @@ module _ (a : Inside) (store : Store) (is : seen a ≡ store) where
   pub seen-stands : (rs : List Record) (ks : List StateId) → StoreStands store rs ks → StoreStands (seen a) rs ks
   seen-stands rs ks stands = subst (λ s. StoreStands s rs ks) (sym is) stands
 
-  seen-may : (rs : List Record) (ks : List StateId) (r : Record) (parents : List Slot) → MayBeAdded store.table rs ks r parents → MayBeAdded a.dag rs ks r parents
+  seen-may : (rs : List Record) (ks : List StateId) (r : Record) (parents : List Slot) → MayBeAdded store.table rs ks r parents →
+      MayBeAdded a.dag rs ks r parents
   seen-may rs ks r parents may = subst (λ (s : Store). MayBeAdded s.table rs ks r parents) (sym is) may
 
   -- what holds of the memory holds where nothing but room changed
-  pub still-held : (dag : Table) (vs : Versions) → IsHeld a → dag ≡ a.dag → ((k : List ℕ) → versions_of vs k ≡ versions_of a.versions k) → ((s : Slot) → is_noted vs s ≡ is_noted a.versions s) →
+  pub still-held : (dag : Table) (vs : Versions) → IsHeld a → dag ≡ a.dag → ((k : List ℕ) → versions_of vs k ≡ versions_of a.versions k) →
+      ((s : Slot) → is_noted vs s ≡ is_noted a.versions s) →
       IsHeld (record a { dag = dag; versions = vs })
   still-held dag vs held same versions notes = record {
     in_order = subst (λ (t : Table). IsTrue (arrive_in_order t.entries)) (sym same) held.in_order;
     versions = λ k.
         subst (λ (l : List Version). IsTrue (are_in_order (is_kept_at dag) (arrival_at dag) l)) (sym (versions k))
         (subst (λ (t : Table). IsTrue (are_in_order (is_kept_at t) (arrival_at t) (versions_of a.versions k))) (sym same) (held.versions k));
-    noted = λ s kept arrived. notes s ∙ held.noted s (subst (λ (t : Table). IsTrue (is_kept_at t s)) same kept) (subst (λ (t : Table). 1 ≤ arrival_at t s) same arrived);
+    noted = λ s kept arrived. notes s ∙ held.noted s (subst (λ (t : Table). IsTrue (is_kept_at t s)) same kept)
+        (subst (λ (t : Table). 1 ≤ arrival_at t s) same arrived);
   }
 
   -- there was no memory
-  pub short-of_memory : (vs : Versions) → ((k : List ℕ) → versions_of vs k ≡ versions_of a.versions k) → listed_keys vs ≡ listed_keys a.versions → (answer : Result Slot AddFault) → IsErrAnd answer (λ f. f ≡ NoMemory) →
+  pub short-of_memory : (vs : Versions) → ((k : List ℕ) → versions_of vs k ≡ versions_of a.versions k) → listed_keys vs ≡ listed_keys a.versions →
+      (answer : Result Slot AddFault) → IsErrAnd answer (λ f. f ≡ NoMemory) →
       (rs : List Record) (ks : List StateId) (r : Record) → StoreStands store rs ks → AddedIn store (record { table = a.dag; versions = vs }) rs ks r answer
   short-of_memory vs versions listed (Ok slot) none rs ks r stands = absurd (none)
   short-of_memory vs versions listed (Err f) none rs ks r stands =
       subst (λ g. AddedIn store (record { table = a.dag; versions = vs }) rs ks r (Err g)) (sym none)
-      (same-stands (seen a) (record { table = a.dag; versions = vs }) rs ks (seen-stands rs ks stands) (record { table = refl; versions = versions; listed = listed }))
+      (same-stands (seen a) (record { table = a.dag; versions = vs }) rs ks (seen-stands rs ks stands)
+      (record { table = refl; versions = versions; listed = listed }))
 
   -- the table refused it
-  pub refused-by_table : (dag : Table) (vs : Versions) (parents : List Slot) (f : AddFault) → dag ≡ a.dag → ((k : List ℕ) → versions_of vs k ≡ versions_of a.versions k) → listed_keys vs ≡ listed_keys a.versions → (answer : Result Slot AddFault) → IsErrAnd answer (λ g. g ≡ f) →
-      (rs : List Record) (ks : List StateId) (r : Record) → StoreStands store rs ks → MayBeAdded store.table rs ks r parents → (Stands a.dag rs ks → MayBeAdded a.dag rs ks r parents → AddedTo a.dag dag rs ks r (Err f)) →
+  pub refused-by_table : (dag : Table) (vs : Versions) (parents : List Slot) (f : AddFault) → dag ≡ a.dag →
+      ((k : List ℕ) → versions_of vs k ≡ versions_of a.versions k) → listed_keys vs ≡ listed_keys a.versions → (answer : Result Slot AddFault) →
+      IsErrAnd answer (λ g. g ≡ f) →
+      (rs : List Record) (ks : List StateId) (r : Record) → StoreStands store rs ks → MayBeAdded store.table rs ks r parents →
+      (Stands a.dag rs ks → MayBeAdded a.dag rs ks r parents → AddedTo a.dag dag rs ks r (Err f)) →
       AddedIn store (record { table = dag; versions = vs }) rs ks r answer
   refused-by_table dag vs parents f same versions listed (Ok slot) is_f rs ks r stands may added = absurd (is_f)
   refused-by_table dag vs parents f same versions listed (Err g) is_f rs ks r stands may added =
@@ -64,12 +73,15 @@ module _ (a : Inside) (store : Store) (is : seen a ≡ store) where
       let held = seen-stands rs ks stands in
       subst (λ h. AddedIn store new rs ks r (Err h)) (sym is_f)
       (subst (λ s. AddedIn s new rs ks r (Err f)) is
-      (added-none (seen a) new rs ks r f held (record { table = same; versions = versions; listed = listed }) (added held.table (seen-may rs ks r parents may))))
+      (added-none (seen a) new rs ks r f held (record { table = same; versions = versions; listed = listed })
+      (added held.table (seen-may rs ks r parents may))))
 
   -- it was added
-  pub added-to_both : (dag : Table) (vs : Versions) (id : StateId) (writes : List KeyWrite) (parents : List Slot) (slot : Slot) → IsNewSlot a.dag dag id slot → KeepsSlots a.dag dag →
+  pub added-to_both : (dag : Table) (vs : Versions) (id : StateId) (writes : List KeyWrite) (parents : List Slot) (slot : Slot) →
+      IsNewSlot a.dag dag id slot → KeepsSlots a.dag dag →
       ((k : List ℕ) → versions_of vs k ≡ versions_of a.versions k ++ version_by slot id (write_of k writes)) →
-      (rs : List Record) (ks : List StateId) (r : Record) → StoreStands store rs ks → r.id ≡ id → r.writes ≡ writes → MayBeAdded store.table rs ks r parents → (Stands a.dag rs ks → MayBeAdded a.dag rs ks r parents → AddedTo a.dag dag rs ks r (Ok slot)) →
+      (rs : List Record) (ks : List StateId) (r : Record) → StoreStands store rs ks → r.id ≡ id → r.writes ≡ writes →
+      MayBeAdded store.table rs ks r parents → (Stands a.dag rs ks → MayBeAdded a.dag rs ks r parents → AddedTo a.dag dag rs ks r (Ok slot)) →
       AddedIn store (record { table = dag; versions = vs }) rs ks r (Ok slot)
   added-to_both dag vs id writes parents slot slot_is keeps versions rs ks r stands id_is writes_is may added =
       let new : Store = record { table = dag; versions = vs } in

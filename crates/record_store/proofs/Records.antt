@@ -1,5 +1,6 @@
 -- The record of a state, put together from what a store holds.
-use Rattle.std.proofs.Common.{◌≡◌, ℕ, ◌+◌, ◌<◌, Bool, true, false, eqb, leb, ◌||◌, ◌&&◌, not, List, [], ◌∷◌, ◌++◌, length, map, find, set, take, get_or, Option, Some, None, is_some, IsTrue, IsFalse, inl, inr, refl, sym, ap, ap₂, subst, ◌∙◌, if◌then◌else◌, eqb-true, eq-eqb}
+use Rattle.std.proofs.Common.{◌≡◌, ℕ, ◌+◌, ◌<◌, Bool, true, false, eqb, leb, ◌||◌, ◌&&◌, not, List, [], ◌∷◌, ◌++◌, length, map, find, set, take, get_or}
+use Rattle.std.proofs.Common.{Option, Some, None, is_some, IsTrue, IsFalse, inl, inr, refl, sym, ap, ap₂, subst, ◌∙◌, if◌then◌else◌, eqb-true, eq-eqb}
 use Rattle.std.specs.Prelude.{bytes_eq}
 use Rattle.std.specs.List.{list_all}
 use Rattle.std.specs.Option.{option_map, option_and_then}
@@ -39,7 +40,8 @@ use Rattle.record_store.proofs.Reading.{read_with}
 -- ===== Slots of listed states
 
 -- one more slot
-pub slots-step : (name : Slot → Option StateId) (slots : List Slot) (xs : List StateId) (i : ℕ) (slot : Slot) (d : StateId) → i < length slots → i < length xs → name slot ≡ Some (get_or xs i d) →
+pub slots-step : (name : Slot → Option StateId) (slots : List Slot) (xs : List StateId) (i : ℕ) (slot : Slot) (d : StateId) → i < length slots →
+    i < length xs → name slot ≡ Some (get_or xs i d) →
     map name (take i slots) ≡ map (λ y. Some y) (take i xs) → map name (take (i + 1) (set slots i slot)) ≡ map (λ y. Some y) (take (i + 1) xs)
 slots-step name slots xs i slot d within among named e =
     let some : StateId → Option StateId = λ y. Some y in
@@ -64,7 +66,9 @@ named-is_listed table slot x h = go table.entries h
     go [] e = absurd (none-some x e)
     go (f ∷ es) e = elim (cases_Bool (eqb f.slot.0 slot.0)) [
       | inl t ↦
-          let same : f.id ≡ x = same_Some f.id x (sym (ap (option_map (λ (g : Entry). g.id)) (cond-true (eqb f.slot.0 slot.0) (Some f) (find (λ g. eqb g.slot.0 slot.0) es) t)) ∙ e) in
+          let same : f.id ≡ x =
+          same_Some f.id x
+          (sym (ap (option_map (λ (g : Entry). g.id)) (cond-true (eqb f.slot.0 slot.0) (Some f) (find (λ g. eqb g.slot.0 slot.0) es) t)) ∙ e) in
           or_left (same_id x f.id) (is_among x (map (λ g. g.id) es)) (same_id_from x f.id (sym same))
       | inr n ↦
           or_right (same_id x f.id) (is_among x (map (λ g. g.id) es))
@@ -72,7 +76,8 @@ named-is_listed table slot x h = go table.entries h
     ]
 
 -- so are slots that name states
-pub named-are_slots : (table : Table) (slots : List Slot) (xs : List StateId) → map (id_at table) slots ≡ map (λ x. Some x) xs → IsTrue (list_all (is_slot table) slots)
+pub named-are_slots : (table : Table) (slots : List Slot) (xs : List StateId) → map (id_at table) slots ≡ map (λ x. Some x) xs →
+    IsTrue (list_all (is_slot table) slots)
 named-are_slots table [] xs e = refl
 named-are_slots table (s ∷ slots) [] e = cc
 named-are_slots table (s ∷ slots) (x ∷ xs) e =
@@ -83,7 +88,8 @@ named-are_slots table (s ∷ slots) (x ∷ xs) e =
 -- ===== Writes, key by key
 
 -- the first key of writes in order stands before all the others
-absent-before : (k : List ℕ) (ws : List KeyWrite) (w : KeyWrite) → IsTrue (is_key_before k w.0) → IsTrue (are_ascending_keys (keys_of (w ∷ ws))) → write_of k (w ∷ ws) ≡ None
+absent-before : (k : List ℕ) (ws : List KeyWrite) (w : KeyWrite) → IsTrue (is_key_before k w.0) → IsTrue (are_ascending_keys (keys_of (w ∷ ws))) →
+    write_of k (w ∷ ws) ≡ None
 absent-before k [] w before up = write_of-there k w [] (bytes_eq-before k w.0 before)
 absent-before k (v ∷ ws) w before up =
     let parts = ascending-parts w.0 (keys_of (v ∷ ws)) up in
@@ -96,7 +102,8 @@ absent-later w (v ∷ ws) up =
     absent-before w.0 ws v parts.0 parts.1
 
 -- writes in order that write the same are the same
-pub same-writes : (vs ws : List KeyWrite) → IsTrue (are_ascending_keys (keys_of vs)) → IsTrue (are_ascending_keys (keys_of ws)) → ((k : List ℕ) → write_of k vs ≡ write_of k ws) → vs ≡ ws
+pub same-writes : (vs ws : List KeyWrite) → IsTrue (are_ascending_keys (keys_of vs)) → IsTrue (are_ascending_keys (keys_of ws)) →
+    ((k : List ℕ) → write_of k vs ≡ write_of k ws) → vs ≡ ws
 same-writes [] [] up up_too same = refl
 same-writes [] (w ∷ ws) up up_too same = absurd (none-some w.1 (same w.0 ∙ write_of-here w.0 w ws refl))
 same-writes (v ∷ vs) [] up up_too same = absurd (none-some v.1 (sym (same v.0) ∙ write_of-here v.0 v vs refl))
@@ -121,7 +128,8 @@ same-writes (v ∷ vs) (w ∷ ws) up up_too same = elim (cases_key v.0 w.0) [
           sym (write_of-there k v vs f) ∙ (same k ∙ write_of-there k w ws (subst (λ j. bytes_eq k j ≡ false) e f))
     ]
 
-module _ (reads : List ℕ → Option Write) (met more : List ℕ → Bool) (key : List ℕ) (ws : List KeyWrite) (has : HasReads reads met ws) (adds : (k : List ℕ) → more k ≡ (met k || bytes_eq k key)) where
+module _ (reads : List ℕ → Option Write) (met more : List ℕ → Bool) (key : List ℕ) (ws : List KeyWrite) (has : HasReads reads met ws)
+    (adds : (k : List ℕ) → more k ≡ (met k || bytes_eq k key)) where
   is-more : (k : List ℕ) → bytes_eq k key ≡ true → more k ≡ true
   is-more k t = adds k ∙ (ap (λ b. met k || b) t ∙ or_right (met k) true refl)
 
@@ -226,7 +234,8 @@ newest-ascends (s ∷ rs) q dag =
 pub record-says : (rs : List Record) → IsDag rs → (x : StateId) (r : Record) → record_at rs x ≡ Some r → IsRecordOf rs x r
 record-says [] dag x r e = absurd (dag)
 record-says (q ∷ []) dag x r e = elim (cases_Bool (same_id x q.id)) [
-  | inl t ↦ subst (λ p. IsRecordOf (q ∷ []) x p) (same_Some q r (sym (cond-true (same_id x q.id) (Some q) None t) ∙ e)) (newest-says [] q x (newest-ascends [] q dag) t)
+  | inl t ↦ subst (λ p. IsRecordOf (q ∷ []) x p) (same_Some q r (sym (cond-true (same_id x q.id) (Some q) None t) ∙ e))
+      (newest-says [] q x (newest-ascends [] q dag) t)
   | inr f ↦ absurd (none-some r (sym (cond-false (same_id x q.id) (Some q) None f) ∙ e))
 ]
 record-says (q ∷ s ∷ rs) dag x r e = elim (cases_Bool (same_id x q.id)) [
@@ -260,7 +269,8 @@ module _ (store : Store) (rs : List Record) (ks : List StateId) (stands : StoreS
           let together : arrival_at store.table s ≡ arrival_at store.table slot = one ∙ (ap (arrival rs) (sym (same_id-true x y t)) ∙ sym two) in
           eq-eqb s.0 slot.0 (ap (λ (z : Slot). z.0) (arrivals-differ store.table s slot (kept_at s y is) (kept_at slot x named) together))
 
-  pub versions-at : (k : List ℕ) (vs : List Version) (ys : List StateId) → map (shown_version store.table) vs ≡ map (read_with rs k) ys → has_version_at slot vs ≡ is_among x ys
+  pub versions-at : (k : List ℕ) (vs : List Version) (ys : List StateId) → map (shown_version store.table) vs ≡ map (read_with rs k) ys →
+      has_version_at slot vs ≡ is_among x ys
   versions-at k [] [] e = refl
   versions-at k [] (y ∷ ys) e = cc
   versions-at k (v ∷ vs) [] e = cc
@@ -302,24 +312,28 @@ module _ (store : Store) (rs : List Record) (ks : List StateId) (stands : StoreS
           ∙ (unpaired (write_at rs k x) ∙ ap (option_and_then (λ (q : Record). write_of k q.writes)) is))
       | inr f ↦
           cond-false (writes_key rs k x) (read_write rs x k) None f
-          ∙ sym (write_of-missing k r.writes (false_from_ne_true (has_key k r.writes) (λ h. both_ways (writes_key rs k x) f ((record-says rs stands.table.dag x r is).writes k h))))
+          ∙ sym (write_of-missing k r.writes (false_from_ne_true (has_key k r.writes)
+          (λ h. both_ways (writes_key rs k x) f ((record-says rs stands.table.dag x r is).writes k h))))
     ]
       where
         unpaired : (o : Option Write) → write_found (option_map (λ w. (x, w)) o) ≡ o
         unpaired None = refl
         unpaired (Some w) = refl
 
-    pub writes-are : (met : List ℕ → Bool) (ws : List KeyWrite) → ((k : List ℕ) → met k ≡ has_version_at slot (versions_of store.versions k)) → IsTrue (are_ascending_keys (keys_of ws)) → HasReads (read_write rs x) met ws →
+    pub writes-are : (met : List ℕ → Bool) (ws : List KeyWrite) → ((k : List ℕ) → met k ≡ has_version_at slot (versions_of store.versions k)) →
+        IsTrue (are_ascending_keys (keys_of ws)) → HasReads (read_write rs x) met ws →
         ws ≡ r.writes
     writes-are met ws listed up has =
         same-writes ws r.writes up (record-says rs stands.table.dag x r is).ascending (λ k.
         has k ∙ (ap (λ b. if b then read_write rs x k else None) (listed k ∙ version-tells k) ∙ reads-are_writes k))
 
 -- a record is put together from what is so of its state
-pub record-is : (rs : List Record) (ks : List StateId) → IsDag rs → (x : StateId) → IsTrue (is_kept rs ks x) → (id : StateId) (parents : List StateId) (writes : List KeyWrite) → id ≡ x → parents ≡ parents_of rs x →
+pub record-is : (rs : List Record) (ks : List StateId) → IsDag rs → (x : StateId) → IsTrue (is_kept rs ks x) →
+    (id : StateId) (parents : List StateId) (writes : List KeyWrite) → id ≡ x → parents ≡ parents_of rs x →
     ((r : Record) → record_at rs x ≡ Some r → writes ≡ r.writes) → record_at rs x ≡ Some (record { id = id; parents = parents; writes = writes })
 record-is rs ks dag x kept id parents writes id_is parents_are writes_are =
     let w = known-has_record rs x (and_parts (is_known rs x) (not (is_among x ks)) kept).0 in
     let says = record-says rs dag x w.0 w.1 in
     let with : StateId → List StateId → List KeyWrite → Record = λ i ps ws. record { id = i; parents = ps; writes = ws } in
-    w.1 ∙ ap (λ (r : Record). Some r) (sym (ap (λ i. with i parents writes) (id_is ∙ sym says.id) ∙ (ap (λ ps. with w.0.id ps writes) (parents_are ∙ says.parents) ∙ ap (with w.0.id w.0.parents) (writes_are w.0 w.1))))
+    w.1 ∙ ap (λ (r : Record). Some r) (sym (ap (λ i. with i parents writes) (id_is ∙ sym says.id)
+    ∙ (ap (λ ps. with w.0.id ps writes) (parents_are ∙ says.parents) ∙ ap (with w.0.id w.0.parents) (writes_are w.0 w.1))))

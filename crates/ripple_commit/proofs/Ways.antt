@@ -1,5 +1,6 @@
 -- The way to a landing.
-use Rattle.std.proofs.Common.{◌≡◌, ℕ, ◌+◌, ◌≤◌, ◌<◌, Bool, true, false, not, ◌||◌, List, [], ◌∷◌, length, map, take, get_or, find, Option, Some, None, IsTrue, IsFalse, refl, sym, ap, ap₂, subst, ◌∙◌, arith}
+use Rattle.std.proofs.Common.{◌≡◌, ℕ, ◌+◌, ◌≤◌, ◌<◌, Bool, true, false, not, ◌||◌, List, [], ◌∷◌, length, map, take, get_or, find, Option, Some, None, IsTrue}
+use Rattle.std.proofs.Common.{IsFalse, refl, sym, ap, ap₂, subst, ◌∙◌, arith}
 use Rattle.std.specs.List.{list_any, list_all}
 use Rattle.std.proofs.lemmas.List.{length-map}
 use Rattle.std.proofs.lemmas.Bool.{and_parts, and_from, or_parts, or_from, cond-true, cond-false, not_from_false}
@@ -30,7 +31,8 @@ use Rattle.ripple_commit.specs.Commits.{IsTrueAt}
 -- ===== Searches by places
 
 -- where none before passes, and this one does, it is found
-found-at : (p : StateId → Bool) (xs : List StateId) (i : ℕ) (d : StateId) → i < length xs → list_any p (take i xs) ≡ false → IsTrue (p (get_or xs i d)) → find p xs ≡ Some (get_or xs i d)
+found-at : (p : StateId → Bool) (xs : List StateId) (i : ℕ) (d : StateId) → i < length xs → list_any p (take i xs) ≡ false → IsTrue (p (get_or xs i d)) →
+    find p xs ≡ Some (get_or xs i d)
 found-at p [] i d lt none here = absurd (omega arith)
 found-at p (x ∷ xs) ℕ.zero d lt none here = cond-true (p x) (Some x) (find p xs) here
 found-at p (x ∷ xs) (ℕ.suc i) d lt none here =
@@ -51,18 +53,21 @@ any-of_keys p [] = refl
 any-of_keys p (w ∷ ws) = ap (λ b. p w.0 || b) (any-of_keys p ws)
 
 -- a child that isn't collected is kept
-child-is_kept : (rs : List Record) (ks : List StateId) (x c : StateId) → IsTrue (is_among c (children rs x)) → IsFalse (is_among c ks) → IsTrue (is_kept rs ks c)
+child-is_kept : (rs : List Record) (ks : List StateId) (x c : StateId) → IsTrue (is_among c (children rs x)) → IsFalse (is_among c ks) →
+    IsTrue (is_kept rs ks c)
 child-is_kept rs ks x c child out =
     and_from (is_known rs c) (not (is_among c ks)) (child_is_known rs x c child) (not_from_false (is_among c ks) out)
 
 -- ===== The slots of the children
 
 -- children that aren't collected stand in their own slots
-pub children-stand : (rs : List Record) (ks : List StateId) → IsDag rs → StandInsAreShared rs ks → (x : StateId) → ((c : StateId) → IsTrue (is_among c (children rs x)) → IsFalse (is_among c ks)) →
+pub children-stand : (rs : List Record) (ks : List StateId) → IsDag rs → StandInsAreShared rs ks → (x : StateId) →
+    ((c : StateId) → IsTrue (is_among c (children rs x)) → IsFalse (is_among c ks)) →
     map (λ c. Some (stand_in rs ks c)) (children rs x) ≡ map (λ c. Some c) (children rs x)
 children-stand rs ks dag shared x out = go (children rs x) (λ c m. m)
   where
-    go : (cs : List StateId) → ((c : StateId) → IsTrue (is_among c cs) → IsTrue (is_among c (children rs x))) → map (λ c. Some (stand_in rs ks c)) cs ≡ map (λ c. Some c) cs
+    go : (cs : List StateId) → ((c : StateId) → IsTrue (is_among c cs) → IsTrue (is_among c (children rs x))) → map (λ c. Some (stand_in rs ks c)) cs
+        ≡ map (λ c. Some c) cs
     go [] within = refl
     go (c ∷ cs) within =
         let child = within c (among-first c cs) in
@@ -73,7 +78,8 @@ children-stand rs ks dag shared x out = go (children rs x) (λ c m. m)
 pub same_length : (table : Table) (slots : List Slot) (cs : List StateId) → map (id_at table) slots ≡ map (λ c. Some c) cs → length slots ≡ length cs
 same_length table slots cs named = sym (length-map slots (id_at table)) ∙ ap length named ∙ length-map cs (λ c. Some c)
 
-pub slot-at : (table : Table) (slots : List Slot) (cs : List StateId) → map (id_at table) slots ≡ map (λ c. Some c) cs → (i : ℕ) (d : Slot) (e : StateId) → i < length slots → id_at table (get_or slots i d) ≡ Some (get_or cs i e)
+pub slot-at : (table : Table) (slots : List Slot) (cs : List StateId) → map (id_at table) slots ≡ map (λ c. Some c) cs → (i : ℕ) (d : Slot) (e : StateId) →
+    i < length slots → id_at table (get_or slots i d) ≡ Some (get_or cs i e)
 slot-at table [] cs named i d e lt = absurd (omega arith)
 slot-at table (s ∷ slots) [] named i d e lt = cc
 slot-at table (s ∷ slots) (c ∷ cs) named ℕ.zero d e lt = cc
@@ -84,10 +90,12 @@ slot-at table (s ∷ slots) (c ∷ cs) named (ℕ.suc i) d e lt =
 -- ===== The first child that passes
 
 module _ (rs : List Record) (ks : List StateId) (keys : List (List ℕ)) (x : StateId) (items : List StateId) (same : items ≡ children rs x) where
-  pub first-found : (i : ℕ) (d : StateId) → i < length items → list_any (passes rs keys x) (take i items) ≡ false → true ≡ passes rs keys x (get_or items i d) → first_passing rs keys x ≡ Some (get_or items i d)
+  pub first-found : (i : ℕ) (d : StateId) → i < length items → list_any (passes rs keys x) (take i items) ≡ false →
+      true ≡ passes rs keys x (get_or items i d) → first_passing rs keys x ≡ Some (get_or items i d)
   first-found i d lt none here = ap (find (passes rs keys x)) (sym same) ∙ found-at (passes rs keys x) items i d lt none (sym here)
 
-  pub one-more : (i : ℕ) (d : StateId) → i < length items → list_any (passes rs keys x) (take i items) ≡ false → false ≡ passes rs keys x (get_or items i d) → list_any (passes rs keys x) (take (i + 1) items) ≡ false
+  pub one-more : (i : ℕ) (d : StateId) → i < length items → list_any (passes rs keys x) (take i items) ≡ false →
+      false ≡ passes rs keys x (get_or items i d) → list_any (passes rs keys x) (take (i + 1) items) ≡ false
   one-more i d lt none here =
       list_any_more (passes rs keys x) items i d lt ∙ or_from (list_any (passes rs keys x) (take i items)) (passes rs keys x (get_or items i d)) none (sym here)
 
@@ -110,7 +118,8 @@ module _ (rs : List Record) (ks : List StateId) (keys : List (List ℕ)) (dag : 
   known-of : (y : StateId) → IsTrue (is_kept rs ks y) → IsTrue (is_known rs y)
   known-of y kept = (and_parts (is_known rs y) (not (is_among y ks)) kept).0
 
-  pub way-goes_on : (x y c : StateId) (n : ℕ) → IsTrue (is_kept rs ks y) → first_passing rs keys y ≡ Some c → IsOnWay rs keys x y n → IsOnWay rs keys x c (n + 1)
+  pub way-goes_on : (x y c : StateId) (n : ℕ) → IsTrue (is_kept rs ks y) → first_passing rs keys y ≡ Some c → IsOnWay rs keys x y n →
+      IsOnWay rs keys x c (n + 1)
   way-goes_on x y c n kept next way =
       let child = (found-passes (passes rs keys y) (children rs y) c next).0 in
       let later = child_arrives_later rs dag y c child in
@@ -121,7 +130,8 @@ module _ (rs : List Record) (ks : List StateId) (keys : List (List ℕ)) (dag : 
         reached = omega arith;
       }
 
-  pub way-ends : (x y : StateId) (n : ℕ) → IsTrue (is_kept rs ks y) → ◌≡◌ {A = Option StateId} (first_passing rs keys y) None → IsOnWay rs keys x y n → y ≡ landing rs keys x
+  pub way-ends : (x y : StateId) (n : ℕ) → IsTrue (is_kept rs ks y) → ◌≡◌ {A = Option StateId} (first_passing rs keys y) None → IsOnWay rs keys x y n →
+      y ≡ landing rs keys x
   way-ends x y n kept none way = sym (way.lands ∙ (lands-by-first-children rs keys y dag (known-of y kept)).stays none)
 
   -- the way has fewer steps than there are states
@@ -137,9 +147,11 @@ child-below rs dag x y c above child = above-transitive rs dag x y c above (pare
 
 -- ===== True commits
 
-pub true-at : (table : Table) (slot : Slot) (rs : List Record) (flags : EndFlags) (reads written : List (List ℕ)) (x y : StateId) → IsDag rs → IsTrue (is_known rs x) →
+pub true-at : (table : Table) (slot : Slot) (rs : List Record) (flags : EndFlags) (reads written : List (List ℕ)) (x y : StateId) → IsDag rs →
+    IsTrue (is_known rs x) →
     id_at table slot ≡ Some (landing rs (guarded flags reads written) x) → id_at table slot ≡ Some y → IsTrueAt rs flags reads written x y
 true-at table slot rs flags reads written x y dag known lands named =
     let holds = true-commit rs flags reads written x dag known in
     let there = landing rs (guarded flags reads written) x in
-    subst (λ z. IsTrueAt rs flags reads written x z) (same_Some there y (sym lands ∙ named)) (record { same_reads = holds.same_reads; no_writes = holds.no_writes })
+    subst (λ z. IsTrueAt rs flags reads written x z) (same_Some there y (sym lands ∙ named))
+    (record { same_reads = holds.same_reads; no_writes = holds.no_writes })

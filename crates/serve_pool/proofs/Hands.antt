@@ -1,5 +1,6 @@
 -- What a gate tells while links are handed out and put back.
-use Rattle.std.proofs.Common.{◌≡◌, ◌<◌, ◌≤◌, ◌+◌, ◌-◌, ℕ, List, [], ◌∷◌, ◌++◌, length, Option, Some, None, Ok, Err, sym, ap, ◌∙◌, inl, inr, subst, refl, arith, append_assoc}
+use Rattle.std.proofs.Common.{◌≡◌, ◌<◌, ◌≤◌, ◌+◌, ◌-◌, ℕ, List, [], ◌∷◌, ◌++◌, length, Option, Some, None, Ok, Err, sym, ap, ◌∙◌, inl, inr, subst, refl}
+use Rattle.std.proofs.Common.{arith, append_assoc}
 use Rattle.tardis_io.specs.Faults.{Rose}
 use Rattle.tardis_io.specs.declared.faults.Failed.{Failed}
 use Rattle.tardis_io.specs.Links.{ToldGate, HandsNext, IsOut, with_back}
@@ -40,7 +41,10 @@ module _ {L : Type 0} where
   -- the gate had none
   pub hands_end : (first : ℕ) (o n : Option (ToldGate L)) → HandsNext o n (Ok None) → HandsBack first [] o n × HasNone n
   hands_end first None None h = (tt, tt)
-  hands_end first (Some o) (Some n) h = (subst (λ t. HandsBack first [] (Some o) (Some t)) (sym h.1) (hands_none first (Some o)), subst (λ t. t.left ≡ []) (sym h.1) h.0)
+  hands_end first (Some o) (Some n) h = (
+    subst (λ t. HandsBack first [] (Some o) (Some t)) (sym h.1) (hands_none first (Some o)),
+    subst (λ t. t.left ≡ []) (sym h.1) h.0,
+  )
   hands_end first None (Some n) h = absurd h
   hands_end first (Some o) None h = absurd h
 
@@ -61,12 +65,14 @@ module _ {L : Type 0} where
   still_out first link ts (Some o) None a h b = absurd h
 
   -- the link that was still out is put back
-  pub hands_last : (first : ℕ) (t : Taken L) (ts : List (Taken L)) (o n a : Option (ToldGate L)) → HandsNext o n (Ok (Some t.handed)) → HandsBack (first + 1) ts n a
+  pub hands_last : (first : ℕ) (t : Taken L) (ts : List (Taken L)) (o n a : Option (ToldGate L)) → HandsNext o n (Ok (Some t.handed)) →
+      HandsBack (first + 1) ts n a
       → HandsBack first (t ∷ ts) o (with_back a first t.back)
   hands_last first t ts None None None h b = tt
   hands_last first t ts (Some o) (Some n) (Some a) h b = (
     h.0 ∙ ap (λ l. t.handed ∷ l) b.0,
-    ap (λ l. l ++ ((first, t.back) ∷ [])) b.1 ∙ (append_assoc n.back (backs_from (first + 1) ts) ((first, t.back) ∷ []) ∙ ap (λ l. l ++ (backs_from (first + 1) ts ++ ((first, t.back) ∷ []))) h.1),
+    ap (λ l. l ++ ((first, t.back) ∷ [])) b.1 ∙ (append_assoc n.back (backs_from (first + 1) ts) ((first, t.back) ∷ [])
+        ∙ ap (λ l. l ++ (backs_from (first + 1) ts ++ ((first, t.back) ∷ []))) h.1),
     omega (arith, h.2, b.2),
   )
   hands_last first t ts o None (Some a) h b = absurd b

@@ -1,5 +1,6 @@
 -- What was seen, and a longer list.
-use Rattle.std.proofs.Common.{◌≡◌, ◌≤◌, ◌+◌, ℕ, List, [], ◌∷◌, ◌++◌, length, Option, Some, sym, ap, ◌∙◌, inl, inr, subst, refl, arith, append_assoc, length-append}
+use Rattle.std.proofs.Common.{◌≡◌, ◌≤◌, ◌+◌, ℕ, List, [], ◌∷◌, ◌++◌, length, Option, Some, sym, ap, ◌∙◌, inl, inr, subst, refl, arith, append_assoc}
+use Rattle.std.proofs.Common.{length-append}
 use Rattle.std.specs.List.{AllByRecursion, slice_get}
 use Rattle.tardis_base.specs.Plain.{Event, PlainMachine}
 use Rattle.tardis_io.proofs.Told.{weaker}
@@ -43,7 +44,8 @@ entry_there [] ys i e h = absurd (cc)
 entry_there (x ∷ xs) ys ℕ.zero e h = h
 entry_there (x ∷ xs) ys (ℕ.suc i) e h = entry_there xs ys i e h
 
-pub asked_there : (actor : ℕ) (xs ys : List Event) (ps : List ℕ) → Begins xs ys → AllByRecursion (IsAskedBy actor xs) ps → AllByRecursion (IsAskedBy actor ys) ps
+pub asked_there : (actor : ℕ) (xs ys : List Event) (ps : List ℕ) → Begins xs ys → AllByRecursion (IsAskedBy actor xs) ps →
+    AllByRecursion (IsAskedBy actor ys) ps
 asked_there actor xs ys [] b h = tt
 asked_there actor xs ys (p ∷ ps) b h =
     ((h.0.0, subst (λ t. slice_get t p ≡ Some (actor, h.0.0)) (sym b.1) (entry_there xs b.0 p (actor, h.0.0) h.0.1)), asked_there actor xs ys ps b h.1)

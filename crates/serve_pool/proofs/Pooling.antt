@@ -38,8 +38,10 @@ module _ {P L : Type 0} (left given : L → Option (List ℕ)) (take_faults faul
         seen = begins_then p.seen c.seen q.seen r'.seen (first_begins c.seen one.seen q.seen longer);
         owned = owned ∙ (ap (λ l. merged l one.owned) r'.owned ∙ ap (λ l. merged (places_with p.owned r'.links) l) s'.goes.owned);
         each = (
-          served_longer left given take_faults faults m start most law (length p.seen) one.seen q.seen first t (second_begins c.seen one.seen q.seen longer) s'.served,
-          all_longer left given take_faults faults m start most law (length p.seen) c.seen q.seen (first + 1) r'.links (first_begins c.seen one.seen q.seen longer) r'.each,
+          served_longer left given take_faults faults m start most law (length p.seen) one.seen q.seen first t
+              (second_begins c.seen one.seen q.seen longer) s'.served,
+          all_longer left given take_faults faults m start most law (length p.seen) c.seen q.seen (first + 1) r'.links
+              (first_begins c.seen one.seen q.seen longer) r'.each,
         );
         told = r'.told;
       }
@@ -53,28 +55,31 @@ module _ {P L : Type 0} (left given : L → Option (List ℕ)) (take_faults faul
     pub no_more : (first links : ℕ) (p : Known) (old new : G) (s : Served) → s ≡ record { taken = 0; unserved = 0; end = Done }
         → HandsBack first [] (told old) (told new) → (0 ≡ links) ⊎ HasNone (told new) → gate_faults old ≤ gate_faults new
         → Pools left given take_faults faults m start most told gate_faults first links p p old new s
-    no_more first links p old new s is hands why le = subst (λ v. Pools left given take_faults faults m start most told gate_faults first links p p old new v) (sym is) (record {
-      serves = record { links = []; count = refl; wanting = refl; keeps = (refl, refl); seen = begins_same p.seen; owned = refl; each = tt; told = hands };
-      within = omega arith;
-      done = λ e. why;
-      fault = λ e. absurd (cc);
-      later = le;
-    })
+    no_more first links p old new s is hands why le = subst (λ v. Pools left given take_faults faults m start most told gate_faults first links p p old new
+        v) (sym is) (record {
+          serves = record { links = []; count = refl; wanting = refl; keeps = (refl, refl); seen = begins_same p.seen; owned = refl; each = tt; told = hands };
+          within = omega arith;
+          done = λ e. why;
+          fault = λ e. absurd (cc);
+          later = le;
+        })
 
     -- no link was taken, since the gate failed
     pub at_fault : (first links : ℕ) (p : Known) (old new : G) (s : Served) → s ≡ record { taken = 0; unserved = 0; end = GateFault }
         → HandsBack first [] (told old) (told new) → 0 < links → Rose (gate_faults old) (gate_faults new) → gate_faults old ≤ gate_faults new
         → Pools left given take_faults faults m start most told gate_faults first links p p old new s
-    at_fault first links p old new s is hands some rose le = subst (λ v. Pools left given take_faults faults m start most told gate_faults first links p p old new v) (sym is) (record {
-      serves = record { links = []; count = refl; wanting = refl; keeps = (refl, refl); seen = begins_same p.seen; owned = refl; each = tt; told = hands };
-      within = omega arith;
-      done = λ e. absurd (cc);
-      fault = λ e. (some, rose);
-      later = le;
-    })
+    at_fault first links p old new s is hands some rose le =
+        subst (λ v. Pools left given take_faults faults m start most told gate_faults first links p p old new v) (sym is) (record {
+          serves = record { links = []; count = refl; wanting = refl; keeps = (refl, refl); seen = begins_same p.seen; owned = refl; each = tt; told = hands };
+          within = omega arith;
+          done = λ e. absurd (cc);
+          fault = λ e. (some, rose);
+          later = le;
+        })
 
     -- what was served beside a link
-    pub pools_beside : LongerKeepsOutcomes m → (first links left_over : ℕ) (p a b c q one : Known) (handed back : L) (end : SessionEnd) (old new : G) (s both : Served)
+    pub pools_beside : LongerKeepsOutcomes m → (first links left_over : ℕ) (p a b c q one : Known) (handed back : L) (end : SessionEnd) (old new : G)
+        (s both : Served)
         → left_over + 1 ≡ links
         → a ≡ record { lock = p.lock; seen = p.seen; owned = p.owned; pieces = p.pieces - 1 }
         → b ≡ record { lock = p.lock; seen = p.seen; owned = []; pieces = 1 }
@@ -101,7 +106,8 @@ module _ {P L : Type 0} (left given : L → Option (List ℕ)) (take_faults faul
         → Pools left given take_faults faults m start most told gate_faults first links p q old new s
     whole first links p q handed back old next after new s hands le b ended same =
         let v = b.serves in
-        let hands' : HandsNext (told old) (told next) (Ok (Some v.one.handed)) = subst (λ l. HandsNext (told old) (told next) (Ok (Some l))) (sym v.link.0) hands in
+        let hands' : HandsNext (told old) (told next) (Ok (Some v.one.handed)) =
+        subst (λ l. HandsNext (told old) (told next) (Ok (Some l))) (sym v.link.0) hands in
         let ended' : told new ≡ with_back (told after) first v.one.back = subst (λ l. told new ≡ with_back (told after) first l) (sym v.link.1) ended in
         record {
           serves = record {
@@ -112,10 +118,12 @@ module _ {P L : Type 0} (left given : L → Option (List ℕ)) (take_faults faul
             seen = v.seen;
             owned = v.owned;
             each = v.each;
-            told = subst (λ n. HandsBack first (v.one ∷ v.others) (told old) n) (sym ended') (hands_last first v.one v.others (told old) (told next) (told after) hands' v.told);
+            told = subst (λ n. HandsBack first (v.one ∷ v.others) (told old) n) (sym ended')
+                (hands_last first v.one v.others (told old) (told next) (told after) hands' v.told);
           };
           within = b.within;
           done = λ e. elim (b.done e) [ inl h ↦ inl h | inr h ↦ inr (subst (λ n. HasNone n) (sym ended) (none_left first back (told after) h)) ];
-          fault = λ e. let h = b.fault e in (h.0, subst (λ n. Rose (gate_faults old) n) (sym same) (rose_later (gate_faults old) (gate_faults next) (gate_faults after) le h.1));
+          fault = λ e. let h = b.fault e in
+              (h.0, subst (λ n. Rose (gate_faults old) n) (sym same) (rose_later (gate_faults old) (gate_faults next) (gate_faults after) le h.1));
           later = omega (arith, le, b.later, same);
         }

@@ -47,7 +47,8 @@ module _ {M P L X D G : Type 0} (opening : M → P) (m : PlainMachine P) (left g
     (peer_left peer_given : X → Option (List ℕ)) (peer_take_faults peer_faults : X → ℕ) (dial_told : D → Option (ToldDial X)) (dial_faults : D → ℕ)
     (told : G → Option (ToldGate L)) (gate_faults : G → ℕ) where
   made_rounds : (machine : Kept M) (w : Workload) (lock : TableId) (links : ℕ) (trail : List Event) (done : Known) (d e : D) (made : Result Rounds NoMemory)
-      → Synced opening m peer_left peer_given peer_take_faults peer_faults dial_told dial_faults machine w.rounds w.peers w.tidy (rounds_pass lock) done d e made
+      → Synced opening m peer_left peer_given peer_take_faults peer_faults dial_told dial_faults machine w.rounds w.peers w.tidy
+      (rounds_pass lock) done d e made
       → Begins done.seen trail
       → MakesRounds opening m peer_left peer_given peer_take_faults peer_faults dial_told dial_faults machine w trail done.owned d e made
   made_rounds machine w lock links trail done d e made s begins = record {
@@ -62,20 +63,25 @@ module _ {M P L X D G : Type 0} (opening : M → P) (m : PlainMachine P) (left g
     cause = s.cause;
   }
 
-  pub both : LongerKeepsServed left given take_faults faults m → (machine : Kept M) (w : Workload) (lock : TableId) (p a b c q done : Known) (old new : G) (d e : D) (s : Pool) (made : Result Rounds NoMemory)
+  pub both : LongerKeepsServed left given take_faults faults m → (machine : Kept M) (w : Workload) (lock : TableId) (p a b c q done : Known) (old new : G)
+      (d e : D) (s : Pool) (made : Result Rounds NoMemory)
       → p ≡ whole_pass lock w.links
       → a ≡ record { lock = p.lock; seen = p.seen; owned = p.owned; pieces = p.pieces - 1 }
       → b ≡ record { lock = p.lock; seen = p.seen; owned = []; pieces = 1 }
       → Pooled m left given take_faults faults told gate_faults (opening machine.machine) machine.max_trail w.links a c old new s
       → Synced opening m peer_left peer_given peer_take_faults peer_faults dial_told dial_faults machine w.rounds w.peers w.tidy b done d e made
       → q.lock ≡ c.lock → IsLonger c.seen done.seen q.seen → q.owned ≡ merged c.owned done.owned → q.pieces ≡ c.pieces + done.pieces
-      → ServesBoth opening m left given take_faults faults peer_left peer_given peer_take_faults peer_faults dial_told dial_faults told gate_faults machine w p q old new d e s made
+      → ServesBoth opening m left given take_faults faults peer_left peer_given peer_take_faults peer_faults dial_told dial_faults told gate_faults machine
+      w p q old new d e s made
   both law machine w lock p a b c q done old new d e s made whole ea eb pooled synced locked longer owned pieces =
       let is_a : a ≡ links_pass lock w.links = ea ∙ ap (λ (k : Known). record { lock = k.lock; seen = k.seen; owned = k.owned; pieces = k.pieces - 1 }) whole in
       let is_b : b ≡ rounds_pass lock = eb ∙ ap (λ (k : Known). record { lock = k.lock; seen = k.seen; owned = []; pieces = 1 }) whole in
-      let r = subst (λ k. Pooled m left given take_faults faults told gate_faults (opening machine.machine) machine.max_trail w.links k c old new s) is_a pooled in
-      let t = subst (λ k. Synced opening m peer_left peer_given peer_take_faults peer_faults dial_told dial_faults machine w.rounds w.peers w.tidy k done d e made) is_b synced in
-      subst (λ k. ServesBoth opening m left given take_faults faults peer_left peer_given peer_take_faults peer_faults dial_told dial_faults told gate_faults machine w k q old new d e s made) (sym whole) (record {
+      let r = subst (λ k. Pooled m left given take_faults faults told gate_faults (opening machine.machine) machine.max_trail w.links k c old new s) is_a
+      pooled in
+      let t = subst (λ k. Synced opening m peer_left peer_given peer_take_faults peer_faults dial_told dial_faults machine w.rounds w.peers w.tidy k done d
+      e made) is_b synced in
+      subst (λ k. ServesBoth opening m left given take_faults faults peer_left peer_given peer_take_faults peer_faults dial_told dial_faults told
+      gate_faults machine w k q old new d e s made) (sym whole) (record {
         keeps = (locked ∙ r.serves.keeps.0, omega (arith, pieces, r.serves.keeps.1, t.goes_on.keeps.1));
         taken = r.serves.links;
         asked = done.owned;
@@ -107,10 +113,13 @@ same_serving s t e = ap (served_in s) e
 module _ {M P L X D : Type 0} (opening : M → P) (m : PlainMachine P) (left given : L → Option (List ℕ)) (take_faults faults : L → ℕ)
     (peer_left peer_given : X → Option (List ℕ)) (peer_take_faults peer_faults : X → ℕ) (dial_told : D → Option (ToldDial X)) (dial_faults : D → ℕ) where
   -- a gate that listens tells what it told, and may have counted faults
-  from_bound : (start : P) (most : ℕ) (w : Workload) (old new : Option (ToldGate L)) (gate_before gate_mid gate_after : ℕ) (d e : D) (before after : Option (List ℕ)) (write_before write_after : ℕ) (s : Serving)
+  from_bound : (start : P) (most : ℕ) (w : Workload) (old new : Option (ToldGate L)) (gate_before gate_mid gate_after : ℕ) (d e : D)
+      (before after : Option (List ℕ)) (write_before write_after : ℕ) (s : Serving)
       → gate_before ≤ gate_mid
-      → ServesLinks opening m left given take_faults faults peer_left peer_given peer_take_faults peer_faults dial_told dial_faults start most w old new gate_mid gate_after d e before after write_before write_after s
-      → ServesLinks opening m left given take_faults faults peer_left peer_given peer_take_faults peer_faults dial_told dial_faults start most w old new gate_before gate_after d e before after write_before write_after s
+      → ServesLinks opening m left given take_faults faults peer_left peer_given peer_take_faults peer_faults dial_told dial_faults start most w old new
+      gate_mid gate_after d e before after write_before write_after s
+      → ServesLinks opening m left given take_faults faults peer_left peer_given peer_take_faults peer_faults dial_told dial_faults start most w old new
+      gate_before gate_after d e before after write_before write_after s
   from_bound start most w old new gate_before gate_mid gate_after d e before after write_before write_after s le x = record {
     machine = x.machine;
     opens = x.opens;
@@ -135,20 +144,29 @@ module _ {M P L X D : Type 0} (opening : M → P) (m : PlainMachine P) (left giv
     pub serves : (start : P) (most : ℕ) (made : Kept M) (machine : M) (w : Workload) (old mid new : G) (d e : D) (before after : O) (s : Serving)
         → made ≡ record { machine = machine; trail = []; max_trail = most } → start ≡ opening machine
         → told mid ≡ told old → gate_faults old ≤ gate_faults mid → gate_faults mid ≤ gate_faults new → dial_faults d ≤ dial_faults e
-        → ServesLinks opening m left given take_faults faults peer_left peer_given peer_take_faults peer_faults dial_told dial_faults (opening made.machine) made.max_trail w
+        → ServesLinks opening m left given take_faults faults peer_left peer_given peer_take_faults peer_faults dial_told dial_faults
+        (opening made.machine) made.max_trail w
         (told mid) (told new) (gate_faults mid) (gate_faults new) d e (out_given before) (out_given after) (out_faults before) (out_faults after) s
-        → ServeOutcome opening m left given take_faults faults peer_left peer_given peer_take_faults peer_faults dial_told dial_faults start most told gate_faults out_given out_faults w old new d e before after (Served s)
+        → ServeOutcome opening m left given take_faults faults peer_left peer_given peer_take_faults peer_faults dial_told dial_faults start most told
+        gate_faults out_given out_faults w old new d e before after (Served s)
     serves start most made machine w old mid new d e before after s is opens same le gates dials x =
-        let over = subst (λ (k : Kept M). ServesLinks opening m left given take_faults faults peer_left peer_given peer_take_faults peer_faults dial_told dial_faults (opening k.machine) k.max_trail w
+        let over = subst (λ (k : Kept M). ServesLinks opening m left given take_faults faults peer_left peer_given peer_take_faults peer_faults dial_told
+        dial_faults (opening k.machine) k.max_trail w
         (told mid) (told new) (gate_faults mid) (gate_faults new) d e (out_given before) (out_given after) (out_faults before) (out_faults after) s) is x in
-        let from = subst (λ k. ServesLinks opening m left given take_faults faults peer_left peer_given peer_take_faults peer_faults dial_told dial_faults k most w
-        (told mid) (told new) (gate_faults mid) (gate_faults new) d e (out_given before) (out_given after) (out_faults before) (out_faults after) s) (sym opens) over in
-        let had = subst (λ k. ServesLinks opening m left given take_faults faults peer_left peer_given peer_take_faults peer_faults dial_told dial_faults start most w
+        let from = subst (λ k. ServesLinks opening m left given take_faults faults peer_left peer_given peer_take_faults peer_faults dial_told dial_faults
+        k most w
+        (told mid) (told new) (gate_faults mid) (gate_faults new) d e (out_given before) (out_given after) (out_faults before) (out_faults after) s)
+        (sym opens) over in
+        let had = subst (λ k. ServesLinks opening m left given take_faults faults peer_left peer_given peer_take_faults peer_faults dial_told dial_faults
+        start most w
         k (told new) (gate_faults mid) (gate_faults new) d e (out_given before) (out_given after) (out_faults before) (out_faults after) s) same from in
-        let all = from_bound start most w (told old) (told new) (gate_faults old) (gate_faults mid) (gate_faults new) d e (out_given before) (out_given after) (out_faults before) (out_faults after) s le had in
+        let all = from_bound start most w (told old) (told new) (gate_faults old) (gate_faults mid) (gate_faults new) d e (out_given before)
+        (out_given after) (out_faults before) (out_faults after) s le had in
         record {
-          served = λ t f. subst (λ k. ServesLinks opening m left given take_faults faults peer_left peer_given peer_take_faults peer_faults dial_told dial_faults start most w
-              (told old) (told new) (gate_faults old) (gate_faults new) d e (out_given before) (out_given after) (out_faults before) (out_faults after) k) (same_serving s t f) all;
+          served = λ t f. subst (λ k. ServesLinks opening m left given take_faults faults peer_left peer_given peer_take_faults peer_faults dial_told
+              dial_faults start most w
+              (told old) (told new) (gate_faults old) (gate_faults new) d e (out_given before) (out_given after) (out_faults before) (out_faults after) k)
+              (same_serving s t f) all;
           not_bound = λ f. absurd (cc);
           not_made = λ f. absurd (cc);
           gate_later = omega (arith, le, gates);

@@ -39,20 +39,24 @@ module _ (stands : Site → Type 0) (answer : Answer) (site : Site) where
   stopped what (Ok reply) is stops = absurd is
   stopped what (Err stop) is stops = subst (Stops stands answer site) (sym is) stops
 
-  pub stops-refused : (refusal : Refusal) (r : Result Reply Stop) → IsErrAnd r (λ stop. stop ≡ Refused refusal) → stands site → answer ≡ refused site refusal → GivesOrStops stands answer site r
+  pub stops-refused : (refusal : Refusal) (r : Result Reply Stop) → IsErrAnd r (λ stop. stop ≡ Refused refusal) → stands site →
+      answer ≡ refused site refusal → GivesOrStops stands answer site r
   stops-refused refusal r is there e = stopped (Refused refusal) r is (there, e)
 
   pub stops-short : (r : Result Reply Stop) → IsErrAnd r (λ stop. stop ≡ NoMemory) → stands site → GivesOrStops stands answer site r
   stops-short r is there = stopped NoMemory r is there
 
 -- one answer for another
-pub as-answer : (stands : Site → Type 0) (a b : Answer) (site : Site) (r : Result Reply Stop) → a ≡ b → GivesOrStops stands b site r → GivesOrStops stands a site r
+pub as-answer : (stands : Site → Type 0) (a b : Answer) (site : Site) (r : Result Reply Stop) → a ≡ b → GivesOrStops stands b site r →
+    GivesOrStops stands a site r
 as-answer stands a b site r e h = subst (λ z. GivesOrStops stands z site r) (sym e) h
 
 -- the same of what is done
-pub as-done : {A : Type 0} (reply : A → Reply) (stands : Site → Type 0) (a b : Answer) (site : Site) (r : Result A Stop) → a ≡ b → DoesOrStops reply stands b site r → DoesOrStops reply stands a site r
+pub as-done : {A : Type 0} (reply : A → Reply) (stands : Site → Type 0) (a b : Answer) (site : Site) (r : Result A Stop) → a ≡ b →
+    DoesOrStops reply stands b site r → DoesOrStops reply stands a site r
 as-done reply stands a b site r e h = subst (λ z. DoesOrStops reply stands z site r) (sym e) h
 
-pub does-stop : {A : Type 0} (reply : A → Reply) (stands : Site → Type 0) (answer : Answer) (site : Site) (what : Stop) (r : Result A Stop) → IsErrAnd r (λ stop. stop ≡ what) → Stops stands answer site what → DoesOrStops reply stands answer site r
+pub does-stop : {A : Type 0} (reply : A → Reply) (stands : Site → Type 0) (answer : Answer) (site : Site) (what : Stop) (r : Result A Stop) →
+    IsErrAnd r (λ stop. stop ≡ what) → Stops stands answer site what → DoesOrStops reply stands answer site r
 does-stop reply stands answer site what (Ok a) is stops = absurd is
 does-stop reply stands answer site what (Err stop) is stops = subst (Stops stands answer site) (sym is) stops

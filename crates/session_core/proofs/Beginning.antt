@@ -37,11 +37,14 @@ use Rattle.session_core.proofs.Standing.{none-kept, no-txn-answer, txn-begun}
 pub collected-above : (site : Site) (n : ℕ) (s : Session) → IsSound site → entry_of n site.sessions ≡ Some s →
     (x : StateId) → IsTrue (is_among x site.collected) → IsTrue (is_proper_ancestor site.dag x s.ceiling)
 collected-above site n s sound is x among =
-    proper-above site.dag sound.dag x (own_floor site).state s.ceiling (closed-above_own site x sound (sound.collected.closed x among)) (sound-session site n s sound is).1
+    proper-above site.dag sound.dag x (own_floor site).state s.ceiling (closed-above_own site x sound (sound.collected.closed x among))
+    (sound-session site n s sound is).1
 
 -- it begins
-pub begins-at : (core : Core) (site : Site) → CoreStands core site → (n : ℕ) (x y : StateId) (slot : Slot) (es : List (ℕ × Kept)) → id_at core.store.table slot ≡ Some x → id_at core.store.table slot ≡ Some y →
-    es ≡ with_entry n (KeptSingle (record { state = y; slot = slot; reads = []; writes = [] })) core.txns → IsGiven (CoreStands (record core { txns = es })) (begun site n x) (Begun y)
+pub begins-at : (core : Core) (site : Site) → CoreStands core site → (n : ℕ) (x y : StateId) (slot : Slot) (es : List (ℕ × Kept)) →
+    id_at core.store.table slot ≡ Some x → id_at core.store.table slot ≡ Some y →
+    es ≡ with_entry n (KeptSingle (record { state = y; slot = slot; reads = []; writes = [] })) core.txns →
+    IsGiven (CoreStands (record core { txns = es })) (begun site n x) (Begun y)
 begins-at core site stands n x y slot es named named_too e =
     let same : y ≡ x = same_Some y x (sym named_too ∙ named) in
     subst (λ z. IsGiven (CoreStands (record core { txns = es })) (begun site n z) (Begun y)) same
@@ -65,7 +68,8 @@ module _ (core : Core) (site : Site) (stands : CoreStands core site) (n : ℕ) (
         ∙ skip site (Refused (Below at s.ceiling)) [] (begun site n at)
         (not (is_admitted site.dag s.ceiling at)) (not_from_true (is_admitted site.dag s.ceiling at) admitted)
 
-    pub begin-stops : (fault : BeginFault) → ChosenAs core.store.table site.dag s.ceiling at (Err fault) → Stops (CoreStands core) (without_txn site n (λ r. begin site n r b)) site (begin_stop fault)
+    pub begin-stops : (fault : BeginFault) → ChosenAs core.store.table site.dag s.ceiling at (Err fault) →
+        Stops (CoreStands core) (without_txn site n (λ r. begin site n r b)) site (begin_stop fault)
     begin-stops (IsUnknown y) (same, unknown) = (
       stands,
       is-begin

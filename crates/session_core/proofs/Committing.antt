@@ -1,5 +1,6 @@
 -- A transaction commits.
-use Rattle.std.proofs.Common.{◌≡◌, ◌≢◌, ℕ, ◌+◌, ◌≤◌, true, false, ◌==◌, List, [], ◌∷◌, map, filter_map, length, Option, Some, None, Err, IsTrue, IsFalse, refl, sym, ap, ap₂, subst, ◌∙◌, arith}
+use Rattle.std.proofs.Common.{◌≡◌, ◌≢◌, ℕ, ◌+◌, ◌≤◌, true, false, ◌==◌, List, [], ◌∷◌, map, filter_map, length, Option, Some, None, Err, IsTrue, IsFalse}
+use Rattle.std.proofs.Common.{refl, sym, ap, ap₂, subst, ◌∙◌, arith}
 use Rattle.std.specs.Option.{option_map, option_map_or}
 use Rattle.std.specs.Prelude.{min}
 use Rattle.std.proofs.lemmas.Option.{none-some, same_Some}
@@ -60,7 +61,8 @@ use Rattle.session_core.proofs.Memory.{ended-held}
 -- ===== Another store
 
 -- the same table
-pub same-table-stands : (core : Core) (site : Site) (store : Store) → CoreStands core site → store.table ≡ core.store.table → StoreStands store site.dag site.collected → CoreStands (record core { store = store }) site
+pub same-table-stands : (core : Core) (site : Site) (store : Store) → CoreStands core site → store.table ≡ core.store.table →
+    StoreStands store site.dag site.collected → CoreStands (record core { store = store }) site
 same-table-stands core site store stands same store_stands =
     let back : core.store.table ≡ store.table = sym same in
     record {
@@ -76,7 +78,8 @@ same-table-stands core site store stands same store_stands =
       waiting = stands.waiting;
     }
 
-pub not-added-held : (a : Inside) (store : Store) (es : List (ℕ × Kept)) → IsHeld a → store.table ≡ a.store.table → es ≡ a.txns → IsHeld (record a { store = store; txns = es })
+pub not-added-held : (a : Inside) (store : Store) (es : List (ℕ × Kept)) → IsHeld a → store.table ≡ a.store.table → es ≡ a.txns →
+    IsHeld (record a { store = store; txns = es })
 not-added-held a store es held same e =
     let back : a.store.table ≡ store.table = sym same in
     subst (λ z. IsHeld (record a { store = store; txns = z })) (sym e)
@@ -88,7 +91,8 @@ not-added-held a store es held same e =
     })
 
 -- a table that has grown
-pub grown-held : (a : Inside) (store : Store) (book : Book) (n : ℕ) (es : List (ℕ × Kept)) → IsHeld a → KeepsSlots a.store.table store.table → store.table.limits ≡ a.store.table.limits →
+pub grown-held : (a : Inside) (store : Store) (book : Book) (n : ℕ) (es : List (ℕ × Kept)) → IsHeld a → KeepsSlots a.store.table store.table →
+    store.table.limits ≡ a.store.table.limits →
     KeepsRest a.book book → AreSlots book store.table → es ≡ without_entry n a.txns → IsHeld (record a { store = store; book = book; txns = es })
 grown-held a store book n es held keeps limits rest slots e =
     ended-held (record a { store = store; book = book })
@@ -99,9 +103,11 @@ grown-held a store book n es held keeps limits rest slots e =
       room = held.room;
     }) n es e
 
-pub grown-stands : (core : Core) (site : Site) (r : Record) (store : Store) (book : Book) (n : ℕ) (es : List (ℕ × Kept)) → CoreStands core site → StoreStands store (r ∷ site.dag) site.collected →
+pub grown-stands : (core : Core) (site : Site) (r : Record) (store : Store) (book : Book) (n : ℕ) (es : List (ℕ × Kept)) → CoreStands core site →
+    StoreStands store (r ∷ site.dag) site.collected →
     KeepsSlots core.store.table store.table → store.table.limits ≡ core.store.table.limits → KeepsRest core.book book →
-    sessions_of book ≡ changed n (after_commit (r ∷ site.dag) r.id) (sessions_of core.book) → ArePlaced book store.table (r ∷ site.dag) site.collected → es ≡ without_entry n core.txns →
+    sessions_of book ≡ changed n (after_commit (r ∷ site.dag) r.id) (sessions_of core.book) → ArePlaced book store.table (r ∷ site.dag) site.collected →
+    es ≡ without_entry n core.txns →
     CoreStands (record core { store = store; book = book; txns = es }) (committed site n r).0
 grown-stands core site r store book n es stands store_stands keeps limits rest sessions placed e =
     txn-ended (record core { store = store; book = book })
@@ -133,7 +139,8 @@ module _ (site : Site) (n : ℕ) (parents : List StateId) (writes : List KeyWrit
       skip site (Refused SeqEnd) (growth_refusals site r) (committed site n r) (own_count site == 4294967295) e
       ∙ skip-found site (λ (g : Refusal). g) growth [] (committed site n r) f
 
-  pub below-refuses : (refusal : Refusal) → (own_count site == 4294967295) ≡ false → growth ≡ Some refusal → commit_below site n parents writes [] ≡ refused site refusal
+  pub below-refuses : (refusal : Refusal) → (own_count site == 4294967295) ≡ false → growth ≡ Some refusal → commit_below site n parents writes []
+      ≡ refused site refusal
   below-refuses refusal e f =
       skip site (Refused SeqEnd) (growth_refusals site r) (committed site n r) (own_count site == 4294967295) e
       ∙ stop-found site (λ (g : Refusal). g) growth refusal [] (committed site n r) f
@@ -147,7 +154,8 @@ module _ (site : Site) (n : ℕ) (t : SingleTxn) (flags : EndFlags) (k : ℕ) wh
   passes-on x e = ap (λ o. commit_below site n (x ∷ []) t.writes (refuse_found (λ (c : ℕ). AreBranches c x (number x)) o ∷ [])) e
 
   -- they are
-  pub branches-refuse : (x : StateId) (c : ℕ) → ◌≡◌ {A = Option ℕ} (broken flags k (number x)) (Some c) → commit_at site n t flags k x ≡ refused site (AreBranches c x (number x))
+  pub branches-refuse : (x : StateId) (c : ℕ) → ◌≡◌ {A = Option ℕ} (broken flags k (number x)) (Some c) → commit_at site n t flags k x
+      ≡ refused site (AreBranches c x (number x))
   branches-refuse x c e = ap (λ o. commit_below site n (x ∷ []) t.writes (refuse_found (λ (d : ℕ). AreBranches d x (number x)) o ∷ [])) e
 
   pub branches-stop : (x : StateId) (b : Branches) → number x ≤ 4294967295 → CheckedAs x (broken flags k (number x)) (min (number x) 4294967295) (Err b) →
@@ -159,14 +167,19 @@ module _ (site : Site) (n : ℕ) (t : SingleTxn) (flags : EndFlags) (k : ℕ) wh
   pub reads-only : (length t.writes == 0) ≡ true → commit_single site n t flags k ≡ (without_txn_of n site, Ended t.state)
   reads-only e = go t.writes e
     where
-      go : (ws : List KeyWrite) → (length ws == 0) ≡ true → (elim ws as (λ v. Answer) [ [] ↦ (without_txn_of n site, Ended t.state) | w ∷ vs ↦ commit_writes site n t flags k ]) ≡ (without_txn_of n site, Ended t.state)
+      go : (ws : List KeyWrite) → (length ws == 0) ≡ true → (elim ws as (λ v. Answer) [
+        | [] ↦ (without_txn_of n site, Ended t.state)
+        | w ∷ vs ↦
+            commit_writes site n t flags k
+      ]) ≡ (without_txn_of n site, Ended t.state)
       go [] e = refl
       go (w ∷ ws) e = absurd (both_ways (length (w ∷ ws) == 0) (ne_eqb (length (w ∷ ws)) 0 (λ z. omega arith)) e)
 
   pub writes-too : (length t.writes == 0) ≡ false → commit_single site n t flags k ≡ commit_writes site n t flags k
   writes-too e = go t.writes e
     where
-      go : (ws : List KeyWrite) → (length ws == 0) ≡ false → (elim ws as (λ v. Answer) [ [] ↦ (without_txn_of n site, Ended t.state) | w ∷ vs ↦ commit_writes site n t flags k ]) ≡ commit_writes site n t flags k
+      go : (ws : List KeyWrite) → (length ws == 0) ≡ false →
+          (elim ws as (λ v. Answer) [ [] ↦ (without_txn_of n site, Ended t.state) | w ∷ vs ↦ commit_writes site n t flags k ]) ≡ commit_writes site n t flags k
       go [] e = absurd (both_ways true e refl)
       go (w ∷ ws) e = refl
 
@@ -174,7 +187,8 @@ module _ (site : Site) (n : ℕ) (t : SingleTxn) (flags : EndFlags) (k : ℕ) wh
 
 module _ (site : Site) (sound : IsSound site) where
   -- nothing below what isn't closed is collected
-  pub below-open : (x : StateId) → IsFalse (is_closed site.dag site.floors x) → (y : StateId) → IsTrue (is_above site.dag x y) → IsFalse (is_among y site.collected)
+  pub below-open : (x : StateId) → IsFalse (is_closed site.dag site.floors x) → (y : StateId) → IsTrue (is_above site.dag x y) →
+      IsFalse (is_among y site.collected)
   below-open x opened y above =
       false_from_ne_true (is_among y site.collected) (λ among.
       both_ways (is_closed site.dag site.floors x) opened (above-closed site.dag sound.dag site.floors x y above (sound.collected.closed y among)))
@@ -218,7 +232,8 @@ writes-kept (KeptSingle t) = refl
 writes-kept (KeptMerge t) = refl
 
 -- what is taken out of the session's transaction is what it has written
-pub writes-as : (core : Core) (site : Site) → CoreStands core site → (n : ℕ) (t : Txn) → entry_of n site.txns ≡ Some t → (ws : List KeyWrite) → ws ≡ option_map_or kept_writes (entry_of n core.txns) [] → ws ≡ writes_of t
+pub writes-as : (core : Core) (site : Site) → CoreStands core site → (n : ℕ) (t : Txn) → entry_of n site.txns ≡ Some t → (ws : List KeyWrite) →
+    ws ≡ option_map_or kept_writes (entry_of n core.txns) [] → ws ≡ writes_of t
 writes-as core site stands n t found ws taken = taken ∙ go (entry_of n core.txns) (stands.txns n ∙ found)
   where
     go : (o : Option Kept) → option_map txn_of o ≡ Some t → option_map_or kept_writes o [] ≡ writes_of t
@@ -226,19 +241,23 @@ writes-as core site stands n t found ws taken = taken ∙ go (entry_of n core.tx
     go (Some h) e = writes-kept h ∙ ap writes_of (same_Some (txn_of h) t e)
 
 -- the transactions as they were, once what was taken is put back
-pub put-back : (n : ℕ) (ws now : List KeyWrite) (es taken after : List (ℕ × Kept)) → changed n (with_writes ws) taken ≡ es → now ≡ ws → after ≡ changed n (with_writes now) taken → after ≡ es
+pub put-back : (n : ℕ) (ws now : List KeyWrite) (es taken after : List (ℕ × Kept)) → changed n (with_writes ws) taken ≡ es → now ≡ ws →
+    after ≡ changed n (with_writes now) taken → after ≡ es
 put-back n ws now es taken after back left put = put ∙ ap (λ (vs : List KeyWrite). changed n (with_writes vs) taken) left ∙ back
 
 -- the transaction ends after what it wrote was taken
-pub ended-taken : (n : ℕ) (f : Kept → Kept) (es taken after : List (ℕ × Kept)) → taken ≡ changed n f es → after ≡ without_entry n taken → after ≡ without_entry n es
+pub ended-taken : (n : ℕ) (f : Kept → Kept) (es taken after : List (ℕ × Kept)) → taken ≡ changed n f es → after ≡ without_entry n taken →
+    after ≡ without_entry n es
 ended-taken n f es taken after left ended = ended ∙ ap (without_entry n) left ∙ without-changed n f es
 
 -- ===== Commit, row by row
 
 -- the next state joins below these, and the session and its transaction follow
-pub commit-gives : (core : Core) (site : Site) → CoreStands core site → (n : ℕ) (xs : List StateId) (ws : List KeyWrite) (store : Store) (book : Book) (es : List (ℕ × Kept)) (id : StateId) (parents : List StateId) →
+pub commit-gives : (core : Core) (site : Site) → CoreStands core site → (n : ℕ) (xs : List StateId) (ws : List KeyWrite) (store : Store) (book : Book)
+    (es : List (ℕ × Kept)) (id : StateId) (parents : List StateId) →
     (own_count site == 4294967295) ≡ false → id ≡ next_id site → parents ≡ xs →
-    (◌≡◌ {A = Option Refusal} (growth_refusal true core.store.table.limits site.collected site.dag (next_record site xs ws)) None) × StoreStands store (next_record site xs ws ∷ site.dag) site.collected →
+    (◌≡◌ {A = Option Refusal} (growth_refusal true core.store.table.limits site.collected site.dag (next_record site xs ws)) None)
+    × StoreStands store (next_record site xs ws ∷ site.dag) site.collected →
     KeepsSlots core.store.table store.table → store.table.limits ≡ core.store.table.limits → KeepsRest core.book book →
     sessions_of book ≡ changed n (after_commit (next_record site xs ws ∷ site.dag) (next_id site)) (sessions_of core.book) →
     ArePlaced book store.table (next_record site xs ws ∷ site.dag) site.collected → es ≡ without_entry n core.txns →
@@ -250,15 +269,19 @@ commit-gives core site stands n xs ws store book es id parents more named below 
     (grown-stands core site r store book n es stands store_stands keeps limits rest sessions placed e, ap₂ Committed named below)
 
 -- it isn't added
-pub commit-stops : (core : Core) (site : Site) → CoreStands core site → (n : ℕ) (xs : List StateId) (ws : List KeyWrite) (store : Store) (fault : AddFault) → (own_count site == 4294967295) ≡ false →
+pub commit-stops : (core : Core) (site : Site) → CoreStands core site → (n : ℕ) (xs : List StateId) (ws : List KeyWrite) (store : Store) (fault : AddFault)
+    → (own_count site == 4294967295) ≡ false →
     AddedIn core.store store site.dag site.collected (next_record site xs ws) (Err fault) → store.table ≡ core.store.table →
     Stops (CoreStands (record core { store = store })) (commit_below site n xs ws []) site (add_stop fault)
 commit-stops core site stands n xs ws store fault more added same = go fault added
   where
-    refuses : (refusal : Refusal) → growth_refusal true core.store.table.limits site.collected site.dag (next_record site xs ws) ≡ Some refusal → commit_below site n xs ws [] ≡ refused site refusal
-    refuses refusal full = below-refuses site n xs ws refusal more (ap (λ l. growth_refusal true l site.collected site.dag (next_record site xs ws)) (sym stands.limits) ∙ full)
+    refuses : (refusal : Refusal) → growth_refusal true core.store.table.limits site.collected site.dag (next_record site xs ws) ≡ Some refusal →
+        commit_below site n xs ws [] ≡ refused site refusal
+    refuses refusal full = below-refuses site n xs ws refusal more
+        (ap (λ l. growth_refusal true l site.collected site.dag (next_record site xs ws)) (sym stands.limits) ∙ full)
 
-    go : (f : AddFault) → AddedIn core.store store site.dag site.collected (next_record site xs ws) (Err f) → Stops (CoreStands (record core { store = store })) (commit_below site n xs ws []) site (add_stop f)
+    go : (f : AddFault) → AddedIn core.store store site.dag site.collected (next_record site xs ws) (Err f) →
+        Stops (CoreStands (record core { store = store })) (commit_below site n xs ws []) site (add_stop f)
     go (Full kept) (full, there) = (same-table-stands core site store stands same there, refuses (IsFull kept) full)
     go (PathFull x m) (full, there) = (same-table-stands core site store stands same there, refuses (IsPathFull x m) full)
     go OutOfMemory there = same-table-stands core site store stands same there
@@ -306,6 +329,7 @@ all-there [] = refl
 all-there (x ∷ xs) = ap (λ ys. x ∷ ys) (all-there xs)
 
 -- the parents are the states of the slots
-pub told-parents : (table now : Table) → table ≡ now → (below : List Slot) (xs ps : List StateId) → map (id_at table) below ≡ map (λ p. Some p) ps → map (id_at now) below ≡ map (λ x. Some x) xs → ps ≡ xs
+pub told-parents : (table now : Table) → table ≡ now → (below : List Slot) (xs ps : List StateId) → map (id_at table) below ≡ map (λ p. Some p) ps →
+    map (id_at now) below ≡ map (λ x. Some x) xs → ps ≡ xs
 told-parents table now same below xs ps told named =
     sym (all-there ps) ∙ ap (filter_map (λ o. o)) (sym told ∙ ap (λ t. map (id_at t) below) same ∙ named) ∙ all-there xs

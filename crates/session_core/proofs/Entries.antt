@@ -10,7 +10,8 @@ use Rattle.std.proofs.lemmas.Bool.{cases_Bool, cond-true, cond-false}
 use Rattle.std.proofs.lemmas.Option.{none-some, same_Some}
 use Rattle.std.proofs.lemmas.Map.Keys.{IsDistinct-from_sorted}
 use Rattle.plain_dag.specs.Entries.{entry_of, with_entry, changed, without_entry}
-use Rattle.plain_site.proofs.SoundEntries.{entry-here, entry-later, changed-here, changed-later, entry-changed, entry-changed_other, entry-with_entry, entry-with_entry_other, entry-without_entry, entry-without_entry_other}
+use Rattle.plain_site.proofs.SoundEntries.{entry-here, entry-later, changed-here, changed-later, entry-changed, entry-changed_other, entry-with_entry}
+use Rattle.plain_site.proofs.SoundEntries.{entry-with_entry_other, entry-without_entry, entry-without_entry_other}
 use Rattle.plain_site.proofs.SoundBooks.{at-each}
 use Rattle.ceiling_book.proofs.Entries.{mapped, inserted, removed, written}
 
@@ -24,10 +25,12 @@ module _ {A : Type 0} where
   pub is-inserted : (n : ℕ) (a : A) (es : List (ℕ × A)) → insert_entry nat_cmp es n a ≡ with_entry n a es
   is-inserted n a es = sym (mapped-same (insert_entry nat_cmp es n a)) ∙ inserted (λ (b : A). b) n a es ∙ ap (with_entry n a) (mapped-same es)
 
-  pub is-removed : (n : ℕ) (es : List (ℕ × A)) → ◌≡◌ {A = Option A} (lookup (is_at (nat_cmp n)) (remove_entry (is_at (nat_cmp n)) es)) None → remove_entry (is_at (nat_cmp n)) es ≡ without_entry n es
+  pub is-removed : (n : ℕ) (es : List (ℕ × A)) → ◌≡◌ {A = Option A} (lookup (is_at (nat_cmp n)) (remove_entry (is_at (nat_cmp n)) es)) None →
+      remove_entry (is_at (nat_cmp n)) es ≡ without_entry n es
   is-removed n es none = sym (mapped-same (remove_entry (is_at (nat_cmp n)) es)) ∙ removed (λ (b : A). b) n es none ∙ ap (without_entry n) (mapped-same es)
 
-  pub is-written : (n : ℕ) (g : A → A) (es : List (ℕ × A)) (v : A) → IsStrictlySortedBy nat_cmp (keys_of es) → lookup (is_at (nat_cmp n)) es ≡ Some v → set_value (is_at (nat_cmp n)) es (g v) ≡ changed n g es
+  pub is-written : (n : ℕ) (g : A → A) (es : List (ℕ × A)) (v : A) → IsStrictlySortedBy nat_cmp (keys_of es) → lookup (is_at (nat_cmp n)) es ≡ Some v →
+      set_value (is_at (nat_cmp n)) es (g v) ≡ changed n g es
   is-written n g es v ordered found =
       sym (mapped-same (set_value (is_at (nat_cmp n)) es (g v)))
       ∙ written (λ (b : A). b) n g es v (g v) (IsDistinct-from_sorted nat_cmp (keys_of es) ordered) found refl
@@ -43,9 +46,11 @@ module _ {A : Type 0} where
       let later = changed-twice n f g es in
       elim (cases_Bool (n == e.0)) [
         | inl t ↦
-            ap (changed n f) (changed-here n g e es t) ∙ changed-here n f (e.0, g e.1) (changed n g es) t ∙ ap (λ (ds : List (ℕ × A)). (e.0, h e.1) ∷ ds) later ∙ sym (changed-here n h e es t)
+            ap (changed n f) (changed-here n g e es t) ∙ changed-here n f (e.0, g e.1) (changed n g es) t
+            ∙ ap (λ (ds : List (ℕ × A)). (e.0, h e.1) ∷ ds) later ∙ sym (changed-here n h e es t)
         | inr o ↦
-            ap (changed n f) (changed-later n g e es o) ∙ changed-later n f e (changed n g es) o ∙ ap (λ (ds : List (ℕ × A)). e ∷ ds) later ∙ sym (changed-later n h e es o)
+            ap (changed n f) (changed-later n g e es o) ∙ changed-later n f e (changed n g es) o ∙ ap (λ (ds : List (ℕ × A)). e ∷ ds) later
+            ∙ sym (changed-later n h e es o)
       ]
 
   -- where there is no such entry, all is as before

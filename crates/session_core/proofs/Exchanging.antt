@@ -1,9 +1,11 @@
 -- Sites give each other their news and take it, and early records wait.
-use Rattle.std.proofs.Common.{◌≡◌, ℕ, zero, suc, ◌+◌, ◌≤◌, Bool, true, false, not, ◌==◌, ◌&&◌, ◌||◌, List, [], ◌∷◌, ◌++◌, length, map, take, drop, Option, Some, None, is_none, Result, Ok, Err, IsTrue, IsFalse, inl, inr, refl, sym, ap, subst, ◌∙◌, arith}
+use Rattle.std.proofs.Common.{◌≡◌, ℕ, zero, suc, ◌+◌, ◌≤◌, Bool, true, false, not, ◌==◌, ◌&&◌, ◌||◌, List, [], ◌∷◌, ◌++◌, length, map, take, drop, Option}
+use Rattle.std.proofs.Common.{Some, None, is_none, Result, Ok, Err, IsTrue, IsFalse, inl, inr, refl, sym, ap, subst, ◌∙◌, arith}
 use Rattle.std.specs.Prelude.{if◌then◌else◌, nat_lt, nat_le, slice_get, IfOk}
 use Rattle.std.specs.List.{list_all}
 use Rattle.std.specs.Option.{option_map}
-use Rattle.std.proofs.lemmas.Bool.{and_parts, and_from, or_cases, cases_Bool, cond-true, cond-false, cond_both, both_ways, not-true, not_from_true, not_from_false, leb-true}
+use Rattle.std.proofs.lemmas.Bool.{and_parts, and_from, or_cases, cases_Bool, cond-true, cond-false, cond_both, both_ways, not-true, not_from_true}
+use Rattle.std.proofs.lemmas.Bool.{not_from_false, leb-true}
 use Rattle.std.proofs.lemmas.Option.{none-some, same_Some}
 use Rattle.tardis_base.specs.declared.faults.AddFault.{AddFault}
 use Rattle.tardis_base.specs.declared.faults.AddFault.TheVariants.{Full, PathFull, NoMemory as OutOfMemory}
@@ -43,7 +45,8 @@ use Rattle.plain_site.specs.Sound.{IsSound}
 use Rattle.plain_site.specs.Answers.{Answer, refused, says_early, when, refuse, refuse_found, unless, given}
 use Rattle.plain_site.specs.Commits.{with_record, growth_refusals}
 use Rattle.plain_site.specs.WaitingRoom.{waits, is_full, hold, first_fit, without}
-use Rattle.plain_site.specs.Exchange.{judgements, with_held, deliver_record, deliver_consent, is_fit, first_fit_record, with_settled, settle_record, settle, batch_for, pull}
+use Rattle.plain_site.specs.Exchange.{judgements, with_held, deliver_record, deliver_consent, is_fit, first_fit_record, with_settled, settle_record, settle}
+use Rattle.plain_site.specs.Exchange.{batch_for, pull}
 use Rattle.plain_site.proofs.SoundAnswers.{AreNone}
 use Rattle.plain_site.proofs.SoundDeliveries.{welcome}
 use Rattle.plain_site.proofs.SoundHistories.{unfound-at}
@@ -159,7 +162,8 @@ module _ (site : Site) (r : Record) where
       ∙ grown-answered (growth_refusal true site.limits site.collected site.dag r)
 
 -- an early record is held
-pub early-held : (core : Core) (site : Site) (r : Record) (room : List Record) → CoreStands core site → room ≡ hold r core.waiting → CoreStands (record core { waiting = room }) (with_held r site)
+pub early-held : (core : Core) (site : Site) (r : Record) (room : List Record) → CoreStands core site → room ≡ hold r core.waiting →
+    CoreStands (record core { waiting = room }) (with_held r site)
 early-held core site r room stands held = record {
   store = stands.store;
   limits = stands.limits;
@@ -176,7 +180,8 @@ early-held core site r room stands held = record {
 -- ===== A record that arrives
 
 -- a fit record may arrive
-pub fit-arrives : (site : Site) (r : Record) → IsSound site → IsTrue (is_record r) → ◌≡◌ {A = Option Reply} (first_reply (judgements site r)) None → MayArrive site.limits.sites site.dag site.collected r
+pub fit-arrives : (site : Site) (r : Record) → IsSound site → IsTrue (is_record r) → ◌≡◌ {A = Option Reply} (first_reply (judgements site r)) None →
+    MayArrive site.limits.sites site.dag site.collected r
 fit-arrives site r sound valid e =
     let is_welcome = welcome site r valid sound (none-first (judgements site r) e) in
     record {
@@ -186,7 +191,8 @@ fit-arrives site r sound valid e =
     }
 
 -- so it may be added below the slots of its parents
-pub fit-may-be-added : (core : Core) (site : Site) (r : Record) (below : List Slot) → CoreStands core site → MayArrive site.limits.sites site.dag site.collected r → map (id_at core.store.table) below ≡ map (λ p. Some p) r.parents →
+pub fit-may-be-added : (core : Core) (site : Site) (r : Record) (below : List Slot) → CoreStands core site →
+    MayArrive site.limits.sites site.dag site.collected r → map (id_at core.store.table) below ≡ map (λ p. Some p) r.parents →
     MayBeAdded core.store.table site.dag site.collected r below
 fit-may-be-added core site r below stands may named = record {
   next = may.next;
@@ -196,7 +202,8 @@ fit-may-be-added core site r below stands may named = record {
 }
 
 -- what stands for a site stands for it with the record
-pub grown-site : (core : Core) (site : Site) (r : Record) (store : Store) → CoreStands core site → StoreStands store (r ∷ site.dag) site.collected → KeepsSlots core.store.table store.table → store.table.limits ≡ core.store.table.limits →
+pub grown-site : (core : Core) (site : Site) (r : Record) (store : Store) → CoreStands core site → StoreStands store (r ∷ site.dag) site.collected →
+    KeepsSlots core.store.table store.table → store.table.limits ≡ core.store.table.limits →
     CoreStands (record core { store = store }) (with_record r site)
 grown-site core site r store stands store_stands keeps limits = record {
   store = store_stands;
@@ -212,7 +219,8 @@ grown-site core site r store stands store_stands keeps limits = record {
 }
 
 -- what is held stays held
-pub grown-parts : (a : Inside) (store : Store) → IsHeld a → KeepsSlots a.store.table store.table → store.table.limits ≡ a.store.table.limits → IsHeld (record a { store = store })
+pub grown-parts : (a : Inside) (store : Store) → IsHeld a → KeepsSlots a.store.table store.table → store.table.limits ≡ a.store.table.limits →
+    IsHeld (record a { store = store })
 grown-parts a store held keeps limits = record {
   places = slots-grow a.book a.store.table store.table keeps held.places;
   slots = λ m h f. txn-slots-stay a.store.table store.table keeps h (held.slots m h f);
@@ -225,17 +233,22 @@ module _ (core : Core) (site : Site) (r : Record) (store : Store) (stands : Core
   growth-same : growth_refusal true core.store.table.limits site.collected site.dag r ≡ growth_refusal true site.limits site.collected site.dag r
   growth-same = ap (λ l. growth_refusal true l site.collected site.dag r) stands.limits
 
-  pub growth-free : (answer : Answer) (slot : Slot) → AddedIn core.store store site.dag site.collected r (Ok slot) → unless site (growth_refusals site r) answer ≡ answer
-  growth-free answer slot (free, there) = skip-found site (λ (g : Refusal). g) (growth_refusal true site.limits site.collected site.dag r) [] answer (sym growth-same ∙ free)
+  pub growth-free : (answer : Answer) (slot : Slot) → AddedIn core.store store site.dag site.collected r (Ok slot) →
+      unless site (growth_refusals site r) answer ≡ answer
+  growth-free answer slot (free, there) = skip-found site (λ (g : Refusal). g) (growth_refusal true site.limits site.collected site.dag r) [] answer
+      (sym growth-same ∙ free)
 
   pub growth-stops : (answer : Answer) (fault : AddFault) → AddedIn core.store store site.dag site.collected r (Err fault) → store.table ≡ core.store.table →
       Stops (CoreStands (record core { store = store })) (unless site (growth_refusals site r) answer) site (add_stop fault)
   growth-stops answer fault added same = go fault added
     where
-      refuses : (refusal : Refusal) → growth_refusal true core.store.table.limits site.collected site.dag r ≡ Some refusal → unless site (growth_refusals site r) answer ≡ refused site refusal
-      refuses refusal full = stop-found site (λ (g : Refusal). g) (growth_refusal true site.limits site.collected site.dag r) refusal [] answer (sym growth-same ∙ full)
+      refuses : (refusal : Refusal) → growth_refusal true core.store.table.limits site.collected site.dag r ≡ Some refusal →
+          unless site (growth_refusals site r) answer ≡ refused site refusal
+      refuses refusal full = stop-found site (λ (g : Refusal). g) (growth_refusal true site.limits site.collected site.dag r) refusal [] answer
+          (sym growth-same ∙ full)
 
-      go : (f : AddFault) → AddedIn core.store store site.dag site.collected r (Err f) → Stops (CoreStands (record core { store = store })) (unless site (growth_refusals site r) answer) site (add_stop f)
+      go : (f : AddFault) → AddedIn core.store store site.dag site.collected r (Err f) →
+          Stops (CoreStands (record core { store = store })) (unless site (growth_refusals site r) answer) site (add_stop f)
       go (Full kept) (full, there) = (same-table-stands core site store stands same there, refuses (IsFull kept) full)
       go (PathFull x m) (full, there) = (same-table-stands core site store stands same there, refuses (IsPathFull x m) full)
       go OutOfMemory there = same-table-stands core site store stands same there
@@ -246,7 +259,8 @@ module _ (core : Core) (site : Site) (r : Record) (store : Store) (stands : Core
 pub held-valid : (r : Record) (room : List Record) → IsTrue (is_record r) → IsTrue (list_all is_record room) → IsTrue (list_all is_record (hold r room))
 held-valid r room valid all =
     cond_both (waits room r.id) room ((if is_full room then drop 1 room else room) ++ r ∷ []) (λ (qs : List Record). IsTrue (list_all is_record qs)) (λ t. all)
-    (λ f. cond_both (is_full room) (drop 1 room) room (λ (qs : List Record). IsTrue (list_all is_record (qs ++ r ∷ []))) (λ t. joins (drop 1 room) (dropped room all)) (λ g. joins room all))
+    (λ f. cond_both (is_full room) (drop 1 room) room (λ (qs : List Record). IsTrue (list_all is_record (qs ++ r ∷ [])))
+    (λ t. joins (drop 1 room) (dropped room all)) (λ g. joins room all))
   where
     joins : (qs : List Record) → IsTrue (list_all is_record qs) → IsTrue (list_all is_record (qs ++ r ∷ []))
     joins [] h = and_from (is_record r) true valid refl
@@ -279,7 +293,8 @@ pub record FitAt (fits : Record → Bool) (room : List Record) (place : ℕ) : T
 
 module _ (fits : Record → Bool) where
   -- where none before a place is fit and the one there is, it is the first
-  pub fit-there : (place : ℕ) (room : List Record) (r : Record) → ◌≡◌ {A = Option (ℕ × Record)} (first_fit fits (take place room)) None → slice_get room place ≡ Some r → IsTrue (fits r) → first_fit fits room ≡ Some (place, r)
+  pub fit-there : (place : ℕ) (room : List Record) (r : Record) → ◌≡◌ {A = Option (ℕ × Record)} (first_fit fits (take place room)) None →
+      slice_get room place ≡ Some r → IsTrue (fits r) → first_fit fits room ≡ Some (place, r)
   fit-there place [] r none e fit = absurd (none-some r e)
   fit-there zero (q ∷ qs) r none e fit =
       let same : q ≡ r = same_Some q r e in
@@ -287,8 +302,10 @@ module _ (fits : Record → Bool) where
   fit-there (suc place) (q ∷ qs) r none e fit = let next : place + 1 ≡ suc place = omega arith in elim (cases_Bool (fits q)) [
     | inl t ↦ absurd (none-some (0, q) (sym none ∙ cond-true (fits q) (Some (0, q)) (option_map up (first_fit fits (take place qs))) t))
     | inr f ↦
-        let before : first_fit fits (take place qs) ≡ None = unmapped (first_fit fits (take place qs)) (sym (cond-false (fits q) (Some (0, q)) (option_map up (first_fit fits (take place qs))) f) ∙ none) in
-        cond-false (fits q) (Some (0, q)) (option_map up (first_fit fits qs)) f ∙ ap (option_map up) (fit-there place qs r before e fit) ∙ ap (λ n. let found : Option (ℕ × Record) = Some (n, r) in found) next
+        let before : first_fit fits (take place qs) ≡ None =
+        unmapped (first_fit fits (take place qs)) (sym (cond-false (fits q) (Some (0, q)) (option_map up (first_fit fits (take place qs))) f) ∙ none) in
+        cond-false (fits q) (Some (0, q)) (option_map up (first_fit fits qs)) f ∙ ap (option_map up) (fit-there place qs r before e fit)
+        ∙ ap (λ n. let found : Option (ℕ × Record) = Some (n, r) in found) next
   ]
     where
       unmapped : (o : Option (ℕ × Record)) → ◌≡◌ {A = Option (ℕ × Record)} (option_map up o) None → o ≡ None
@@ -296,14 +313,16 @@ module _ (fits : Record → Bool) where
       unmapped (Some v) e = absurd (none-some (up v) (sym e))
 
   -- one more that isn't fit
-  pub none-further : (place : ℕ) (room : List Record) (r : Record) → ◌≡◌ {A = Option (ℕ × Record)} (first_fit fits (take place room)) None → slice_get room place ≡ Some r → IsFalse (fits r) →
+  pub none-further : (place : ℕ) (room : List Record) (r : Record) → ◌≡◌ {A = Option (ℕ × Record)} (first_fit fits (take place room)) None →
+      slice_get room place ≡ Some r → IsFalse (fits r) →
       ◌≡◌ {A = Option (ℕ × Record)} (first_fit fits (take (suc place) room)) None
   none-further place [] r none e unfit = absurd (none-some r e)
   none-further zero (q ∷ qs) r none e unfit = cond-false (fits q) (Some (0, q)) None (subst (λ z. IsFalse (fits z)) (sym (same_Some q r e)) unfit)
   none-further (suc place) (q ∷ qs) r none e unfit = elim (cases_Bool (fits q)) [
     | inl t ↦ absurd (none-some (0, q) (sym none ∙ cond-true (fits q) (Some (0, q)) (option_map up (first_fit fits (take place qs))) t))
     | inr f ↦
-        let before : first_fit fits (take place qs) ≡ None = unmapped (first_fit fits (take place qs)) (sym (cond-false (fits q) (Some (0, q)) (option_map up (first_fit fits (take place qs))) f) ∙ none) in
+        let before : first_fit fits (take place qs) ≡ None =
+        unmapped (first_fit fits (take place qs)) (sym (cond-false (fits q) (Some (0, q)) (option_map up (first_fit fits (take place qs))) f) ∙ none) in
         cond-false (fits q) (Some (0, q)) (option_map up (first_fit fits (take (suc place) qs))) f ∙ ap (option_map up) (none-further place qs r before e unfit)
   ]
     where
@@ -323,14 +342,22 @@ module _ (fits : Record → Bool) where
         go (fit-at qs) (first_fit fits qs) refl behind (sym (ap (option_map (λ (found : ℕ × Record). found.0)) behind) ∙ e)
   ]
     where
-      go : ((n : ℕ) → option_map (λ (found : ℕ × Record). found.0) (first_fit fits qs) ≡ Some n → FitAt fits qs n) → (o : Option (ℕ × Record)) → first_fit fits qs ≡ o →
-          first_fit fits (q ∷ qs) ≡ option_map up (first_fit fits qs) → option_map (λ (found : ℕ × Record). found.0) (option_map up (first_fit fits qs)) ≡ Some place → FitAt fits (q ∷ qs) place
+      go : ((n : ℕ) → option_map (λ (found : ℕ × Record). found.0) (first_fit fits qs) ≡ Some n → FitAt fits qs n) → (o : Option (ℕ × Record)) →
+          first_fit fits qs ≡ o →
+          first_fit fits (q ∷ qs) ≡ option_map up (first_fit fits qs) → option_map (λ (found : ℕ × Record). found.0) (option_map up (first_fit fits qs))
+          ≡ Some place → FitAt fits (q ∷ qs) place
       go rest None is behind some = absurd (none-some place (sym (ap (λ z. option_map (λ (found : ℕ × Record). found.0) (option_map up z)) is) ∙ some))
       go rest (Some v) is behind some =
           let next : suc v.0 ≡ v.0 + 1 = omega arith in
           let at = rest v.0 (ap (option_map (λ (found : ℕ × Record). found.0)) is) in
           let same : v.0 + 1 ≡ place = same_Some (v.0 + 1) place (sym (ap (λ z. option_map (λ (found : ℕ × Record). found.0) (option_map up z)) is) ∙ some) in
-          subst (FitAt fits (q ∷ qs)) same (record { value = at.value; first = behind ∙ ap (option_map up) at.first; there = subst (λ n. slice_get (q ∷ qs) n ≡ Some at.value) next at.there; fit = at.fit })
+          subst (FitAt fits (q ∷ qs)) same (record {
+            value = at.value;
+            first = behind ∙ ap (option_map up) at.first;
+            there =
+                subst (λ n. slice_get (q ∷ qs) n ≡ Some at.value) next at.there;
+            fit = at.fit;
+          })
 
 -- what is so of a result is so of what follows
 pub if-ok : {A E : Type 0} (P Q : A → Type 0) (r : Result A E) → ((a : A) → P a → Q a) → IfOk r P → IfOk r Q
@@ -349,7 +376,8 @@ pub is-unfit : (site : Site) (r : Record) (reply : Reply) → first_reply (judge
 is-unfit site r reply e = some-first (judgements site r) reply e
 
 -- so is one that is judged otherwise than Fit
-pub judged-unfit : (site : Site) (r : Record) (judged : Judged) → ¬ (judged ≡ IsFit) → reply_of judged ≡ first_reply (judgements site r) → IsFalse (is_fit site r)
+pub judged-unfit : (site : Site) (r : Record) (judged : Judged) → ¬ (judged ≡ IsFit) → reply_of judged ≡ first_reply (judgements site r) →
+    IsFalse (is_fit site r)
 judged-unfit site r IsFit other e = absurd (other refl)
 judged-unfit site r IsKnownOne other e = is-unfit site r Known (sym e)
 judged-unfit site r (IsEarlyOne have) other e = is-unfit site r (Early have) (sym e)
@@ -367,7 +395,8 @@ none-mapped None e = refl
 none-mapped (Some v) e = absurd (none-some v.0 (sym e))
 
 -- the record leaves the room
-pub left-room : (core : Core) (site : Site) (place : ℕ) (room : List Record) → CoreStands core site → room ≡ without place core.waiting → CoreStands (record core { waiting = room }) (record site { waiting = without place site.waiting })
+pub left-room : (core : Core) (site : Site) (place : ℕ) (room : List Record) → CoreStands core site → room ≡ without place core.waiting →
+    CoreStands (record core { waiting = room }) (record site { waiting = without place site.waiting })
 left-room core site place room stands left = record {
   store = stands.store;
   limits = stands.limits;
@@ -382,13 +411,17 @@ left-room core site place room stands left = record {
 }
 
 -- it leaves the room, and arrives
-pub settled-site : (core : Core) (site : Site) (r : Record) (place : ℕ) (store : Store) (room : List Record) → CoreStands core site → room ≡ without place core.waiting → StoreStands store (r ∷ site.dag) site.collected →
-    KeepsSlots core.store.table store.table → store.table.limits ≡ core.store.table.limits → CoreStands (record core { store = store; waiting = room }) (with_settled (place, r) site)
+pub settled-site : (core : Core) (site : Site) (r : Record) (place : ℕ) (store : Store) (room : List Record) → CoreStands core site →
+    room ≡ without place core.waiting → StoreStands store (r ∷ site.dag) site.collected →
+    KeepsSlots core.store.table store.table → store.table.limits ≡ core.store.table.limits →
+    CoreStands (record core { store = store; waiting = room }) (with_settled (place, r) site)
 settled-site core site r place store room stands left store_stands keeps limits =
-    grown-site (record core { waiting = room }) (record site { waiting = without place site.waiting }) r store (left-room core site place room stands left) store_stands keeps limits
+    grown-site (record core { waiting = room }) (record site { waiting = without place site.waiting }) r store (left-room core site place room stands left)
+    store_stands keeps limits
 
 -- the parts, once it has
-pub settled-parts : (a : Inside) (place : ℕ) (store : Store) (room : List Record) → IsHeld a → KeepsSlots a.store.table store.table → store.table.limits ≡ a.store.table.limits → room ≡ without place a.waiting →
+pub settled-parts : (a : Inside) (place : ℕ) (store : Store) (room : List Record) → IsHeld a → KeepsSlots a.store.table store.table → store.table.limits
+    ≡ a.store.table.limits → room ≡ without place a.waiting →
     IsHeld (record a { store = store; waiting = room })
 settled-parts a place store room held keeps limits left =
     room-held (record a { store = store }) room (grown-parts a store held keeps limits)
@@ -424,16 +457,21 @@ module _ (core : Core) (book : Book) (site : Site) (c : Consent) (stands : CoreS
   same end e = subst (λ b. CoreStands (record core { book = b }) site) (sym e) stands
 
   -- one judgement after another
-  either : (test : Bool) (reply : Reply) (more : List (Option Reply)) (first rest : ConsentEnd) → ((test ≡ true) → Ends (site, reply) first) → Ends (unless site more taken) rest →
+  either : (test : Bool) (reply : Reply) (more : List (Option Reply)) (first rest : ConsentEnd) → ((test ≡ true) → Ends (site, reply) first) →
+      Ends (unless site more taken) rest →
       Ends (unless site (when test reply ∷ more) taken) (if test then first else rest)
   either true reply more first rest here later = here refl
   either false reply more first rest here later = later
 
   applied : KeepsSessions core.book book → ArePlaced book core.store.table site.dag site.collected → Ends taken IsTaken
-  applied rest placed moved =
-      (with-floors core book site taken.0.floors stands rest placed (moved ∙ ap (λ (fs : List Floor). with_floor fs c.site (record { state = c.floor; number = c.number; stated = c.count })) stands.floors), refl)
+  applied rest placed moved = (
+    with-floors core book site taken.0.floors stands rest placed
+        (moved ∙ ap (λ (fs : List Floor). with_floor fs c.site (record { state = c.floor; number = c.number; stated = c.count })) stands.floors),
+    refl,
+  )
 
-  pub consent-gives : KeepsSessions core.book book → ArePlaced book core.store.table site.dag site.collected → TakenIn core.book book c (consent_end site.dag site.floors site.own c) →
+  pub consent-gives : KeepsSessions core.book book → ArePlaced book core.store.table site.dag site.collected →
+      TakenIn core.book book c (consent_end site.dag site.floors site.own c) →
       GivesOrStops (CoreStands (record core { book = book })) (deliver_consent site c) site (consent_reply (consent_end site.dag site.floors site.own c))
   consent-gives rest placed =
       subst (λ m. Ends (unless site (refuse (nat_lt m c.site) (BadSite c.site) ∷ known_one) taken) (consent_end site.dag site.floors site.own c)) sites
@@ -473,8 +511,10 @@ book-stands core site stands sound = record {
 
 pub pull-gives : (site : Site) (counts : List ℕ) → (length counts == site.limits.sites) ≡ true → pull site counts ≡ (site, BatchIs (batch_for site counts))
 pull-gives site counts e =
-    skip site (Refused (BadSite (length counts))) [] (site, BatchIs (batch_for site counts)) (not (length counts == site.limits.sites)) (not_from_true (length counts == site.limits.sites) e)
+    skip site (Refused (BadSite (length counts))) [] (site, BatchIs (batch_for site counts)) (not (length counts == site.limits.sites))
+    (not_from_true (length counts == site.limits.sites) e)
 
 pub pull-refuses : (site : Site) (counts : List ℕ) → (length counts == site.limits.sites) ≡ false → pull site counts ≡ refused site (BadSite (length counts))
 pull-refuses site counts e =
-    stop site (Refused (BadSite (length counts))) [] (site, BatchIs (batch_for site counts)) (not (length counts == site.limits.sites)) (not_from_false (length counts == site.limits.sites) e)
+    stop site (Refused (BadSite (length counts))) [] (site, BatchIs (batch_for site counts)) (not (length counts == site.limits.sites))
+    (not_from_false (length counts == site.limits.sites) e)

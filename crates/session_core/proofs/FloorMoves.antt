@@ -1,5 +1,6 @@
 -- Ceilings and floors move.
-use Rattle.std.proofs.Common.{◌≡◌, ℕ, ◌+◌, ◌==◌, not, List, [], ◌∷◌, Option, Some, None, Ok, Err, IsTrue, IsFalse, Bool, true, false, ◌&&◌, refl, sym, ap, ap₂, ◌∙◌}
+use Rattle.std.proofs.Common.{◌≡◌, ℕ, ◌+◌, ◌==◌, not, List, [], ◌∷◌, Option, Some, None, Ok, Err, IsTrue, IsFalse, Bool, true, false, ◌&&◌, refl, sym, ap}
+use Rattle.std.proofs.Common.{ap₂, ◌∙◌}
 use Rattle.std.specs.Option.{option_map}
 use Rattle.std.proofs.lemmas.Bool.{false_from_ne_true, not_from_true, not_from_false}
 use Rattle.std.proofs.lemmas.Option.{same_Some, none-some}
@@ -36,7 +37,8 @@ use Rattle.session_core.proofs.Answers.{skip, stop, as-given}
 use Rattle.session_core.proofs.OpenSessions.{same-floor, with-sessions, same-book}
 
 -- a known state without a slot is collected, so it isn't below what every collected state is above
-pub gone-above : (rs : List Record) → IsDag rs → (ks : List StateId) (x c : StateId) → IsTrue (is_known rs x) → is_kept rs ks x ≡ false → ((y : StateId) → IsTrue (is_among y ks) → IsTrue (is_proper_ancestor rs y c)) →
+pub gone-above : (rs : List Record) → IsDag rs → (ks : List StateId) (x c : StateId) → IsTrue (is_known rs x) → is_kept rs ks x ≡ false →
+    ((y : StateId) → IsTrue (is_among y ks) → IsTrue (is_proper_ancestor rs y c)) →
     IsFalse (is_above rs c x)
 gone-above rs dag ks x c known gone under =
     let collected : is_among x ks ≡ true = not-kept (is_known rs x) (is_among x ks) known gone in
@@ -48,7 +50,8 @@ gone-above rs dag ks x c known gone under =
     not-kept false b e f = (cc)
 
 -- after a change of the floors alone
-pub with-floors : (core : Core) (book : Book) (site : Site) (floors : List Floor) → CoreStands core site → KeepsSessions core.book book → ArePlaced book core.store.table site.dag site.collected → floors_of book ≡ floors →
+pub with-floors : (core : Core) (book : Book) (site : Site) (floors : List Floor) → CoreStands core site → KeepsSessions core.book book →
+    ArePlaced book core.store.table site.dag site.collected → floors_of book ≡ floors →
     CoreStands (record core { book = book }) (record site { floors = floors })
 with-floors core book site floors stands rest placed are = record {
   store = stands.store;
@@ -89,7 +92,8 @@ module _ (core : Core) (book : Book) (site : Site) (n : ℕ) (s : Session) (x : 
   ceiling-moves known (above, are) rest placed = (
     skip site (Refused (Unknown x)) back moved (not (is_known site.dag x)) (not_from_true (is_known site.dag x) known)
         ∙ skip site (Refused (CeilingBack s.ceiling)) [] moved (not (is_above site.dag s.ceiling x)) (not_from_true (is_above site.dag s.ceiling x) above),
-    with-sessions core book site (changed n (with_ceiling x) site.sessions) stands rest placed (are ∙ ap (λ (ss : Sessions). changed n (with_ceiling x) ss) stands.sessions),
+    with-sessions core book site (changed n (with_ceiling x) site.sessions) stands rest placed
+        (are ∙ ap (λ (ss : Sessions). changed n (with_ceiling x) ss) stands.sessions),
   )
 
 -- ===== The own floor
@@ -102,11 +106,13 @@ module _ (core : Core) (book : Book) (site : Site) (x : StateId) (stands : CoreS
   same-number = ap (λ f. f.number) (same-floor core site stands)
 
   -- past the refusals that go before
-  pub number-left : (number : ℕ) → FloorMoved site.dag core.book book x (Ok number) → KeepsSessions core.book book → ArePlaced book core.store.table site.dag site.collected →
+  pub number-left : (number : ℕ) → FloorMoved site.dag core.book book x (Ok number) → KeepsSessions core.book book →
+      ArePlaced book core.store.table site.dag site.collected →
       IsGiven (CoreStands (record core { book = book })) (unless site no-number (raised site x)) (Raised x number)
   number-left number (left, is, are) rest placed =
       let next : number ≡ (site_floor site).number + 1 = is ∙ ap (λ k. k + 1) same-number in
-      let floors = are ∙ ap₂ (λ own (fs : List Floor). with_floor fs own (record { state = x; number = number; stated = count_of_site site.dag own })) stands.own stands.floors
+      let floors = are ∙ ap₂ (λ own (fs : List Floor). with_floor fs own (record { state = x; number = number; stated = count_of_site site.dag own }))
+      stands.own stands.floors
       ∙ ap (λ k. with_floor site.floors site.own (record { state = x; number = k; stated = own_count site })) next in
       as-given (CoreStands (record core { book = book })) (unless site no-number (raised site x)) (raised site x) (Raised x number)
       (skip site (Refused SeqEnd) [] (raised site x) ((site_floor site).number == 4294967295) (ap (λ k. k == 4294967295) (sym same-number) ∙ left))
@@ -146,8 +152,10 @@ module _ (core : Core) (book : Book) (site : Site) (x : StateId) (stands : CoreS
   pub past-known : IsTrue (is_known site.dag x) → raise site x ≡ unless site when-known (raised site x)
   past-known known = skip site (Refused (Unknown x)) when-known (raised site x) (not (is_known site.dag x)) (not_from_true (is_known site.dag x) known)
 
-  pub raise-back : IsFalse (is_above site.dag (site_floor site).state x) → unless site when-known (raised site x) ≡ refused site (FloorBack (site_floor site).state)
-  raise-back apart = stop site (Refused (FloorBack (site_floor site).state)) when-above (raised site x) (not (is_above site.dag (site_floor site).state x)) (not_from_false (is_above site.dag (site_floor site).state x) apart)
+  pub raise-back : IsFalse (is_above site.dag (site_floor site).state x) → unless site when-known (raised site x)
+      ≡ refused site (FloorBack (site_floor site).state)
+  raise-back apart = stop site (Refused (FloorBack (site_floor site).state)) when-above (raised site x) (not (is_above site.dag (site_floor site).state x))
+      (not_from_false (is_above site.dag (site_floor site).state x) apart)
 
   past-above : IsTrue (is_above site.dag (own_floor core.book).state x) → unless site when-known (raised site x) ≡ unless site when-above (raised site x)
   past-above above =
@@ -155,7 +163,8 @@ module _ (core : Core) (book : Book) (site : Site) (x : StateId) (stands : CoreS
       (not_from_true (is_above site.dag (site_floor site).state x) (ap (λ y. is_above site.dag y x) (sym same-state) ∙ above))
 
   -- the floor moves
-  pub raise-gives : (number : ℕ) → IsTrue (is_known site.dag x) → RaisedIn site.dag core.book book x (Ok number) → KeepsSessions core.book book → ArePlaced book core.store.table site.dag site.collected →
+  pub raise-gives : (number : ℕ) → IsTrue (is_known site.dag x) → RaisedIn site.dag core.book book x (Ok number) → KeepsSessions core.book book →
+      ArePlaced book core.store.table site.dag site.collected →
       IsGiven (CoreStands (record core { book = book })) (raise site x) (Raised x number)
   raise-gives number known (above, free, moved_to) rest placed =
       as-given (CoreStands (record core { book = book })) (raise site x) (unless site no-number (raised site x)) (Raised x number)
@@ -163,7 +172,8 @@ module _ (core : Core) (book : Book) (site : Site) (x : StateId) (stands : CoreS
       (number-left number moved_to rest placed)
 
   -- why it doesn't
-  pub raise-stops : (fault : RaiseFault) → IsTrue (is_known site.dag x) → RaisedIn site.dag core.book book x (Err fault) → Stops (CoreStands (record core { book = book })) (raise site x) site (RefusedAs (refusal_of fault))
+  pub raise-stops : (fault : RaiseFault) → IsTrue (is_known site.dag x) → RaisedIn site.dag core.book book x (Err fault) →
+      Stops (CoreStands (record core { book = book })) (raise site x) site (RefusedAs (refusal_of fault))
   raise-stops (IsBack floor) known (apart, is, same) = (
     same-book core book site stands same,
     past-known known ∙ raise-back (ap (λ y. is_above site.dag y x) (sym same-state) ∙ apart) ∙ ap (λ f. refused site (FloorBack f)) (sym (is ∙ same-state)),
@@ -174,5 +184,6 @@ module _ (core : Core) (book : Book) (site : Site) (x : StateId) (stands : CoreS
   )
   raise-stops NoNumber known (above, free, gone, same) = (
     same-book core book site stands same,
-    past-known known ∙ past-above above ∙ no-holder (holding_session site.dag site.sessions x) no-number (raised site x) (sym same-holder ∙ free) ∙ number-gone gone,
+    past-known known ∙ past-above above ∙ no-holder (holding_session site.dag site.sessions x) no-number (raised site x) (sym same-holder ∙ free)
+        ∙ number-gone gone,
   )

@@ -33,27 +33,43 @@ module _ (old : Core) (n : ℕ) (q : Request) (valid : IsTrue (is_request q)) (b
     pub refusal-told : (stop : Stop) (refusal : Refusal) → stop ≡ Refused refusal → Wrote old new n q (Err stop) out → IsTold (RefusedWith refusal)
     refusal-told stop refusal e wrote =
         reply-told (RefusedWith refusal)
-        (λ site stands sound. ap (λ (a : Answer). a.1) (subst (λ s. WritesOrStops (CoreStands new) (step site n q) site (Err s) out) e (wrote site stands sound)).0.1)
+        (λ site stands sound. ap (λ (a : Answer). a.1) (subst (λ s. WritesOrStops (CoreStands new) (step site n q) site (Err s) out) e
+        (wrote site stands sound)).0.1)
 
     module _ (small : IsTrue (is_u16 n)) where
       pub wrote-stands : (r : Result (Unit {0}) Stop) → Wrote old new n q r out → StandsForSite new
       wrote-stands (Ok u) wrote =
-          record { site = (step before.site n q).0; stands = (wrote before.site before.stands before.sound).0; sound = stays-sound before.site n q small valid before.sound }
-      wrote-stands (Err (Refused refusal)) wrote = record { site = before.site; stands = (wrote before.site before.stands before.sound).0.0; sound = before.sound }
+          record {
+            site = (step before.site n q).0;
+            stands = (wrote before.site before.stands before.sound).0;
+            sound =
+                stays-sound before.site n q small valid before.sound;
+          }
+      wrote-stands (Err (Refused refusal)) wrote = record {
+        site = before.site;
+        stands = (wrote before.site before.stands before.sound).0.0;
+        sound =
+            before.sound;
+      }
       wrote-stands (Err NoMemory) wrote = record { site = before.site; stands = (wrote before.site before.stands before.sound).0; sound = before.sound }
 
     pub wrote-opening : (r : Result (Unit {0}) Stop) → Wrote old new n q r out → opened_with new ≡ opened_with old
-    wrote-opening (Ok u) wrote = opened-same old new before.site (step before.site n q).0 before.stands (wrote before.site before.stands before.sound).0 (step-same before.site n q)
-    wrote-opening (Err (Refused refusal)) wrote = opened-same old new before.site before.site before.stands (wrote before.site before.stands before.sound).0.0 (refl, refl)
+    wrote-opening (Ok u) wrote = opened-same old new before.site (step before.site n q).0 before.stands (wrote before.site before.stands before.sound).0
+        (step-same before.site n q)
+    wrote-opening (Err (Refused refusal)) wrote = opened-same old new before.site before.site before.stands
+        (wrote before.site before.stands before.sound).0.0 (refl, refl)
     wrote-opening (Err NoMemory) wrote = opened-same old new before.site before.site before.stands (wrote before.site before.stands before.sound).0 (refl, refl)
 
-module _ (old new : Core) (n : ℕ) (q : Request) (valid : IsTrue (is_request q)) (small : IsTrue (is_u16 n)) (site : Site) (at : SiteStands old site) (out : List ℕ) where
+module _ (old new : Core) (n : ℕ) (q : Request) (valid : IsTrue (is_request q)) (small : IsTrue (is_u16 n)) (site : Site) (at : SiteStands old site)
+    (out : List ℕ) where
   -- it was written
-  pub is-written : (u : Unit {0}) (after : List ℕ) → Wrote old new n q (Ok u) out → after ≡ out → SiteStands new (step site n q).0 × (after ≡ reply_spelling (step site n q).1)
+  pub is-written : (u : Unit {0}) (after : List ℕ) → Wrote old new n q (Ok u) out → after ≡ out → SiteStands new (step site n q).0
+      × (after ≡ reply_spelling (step site n q).1)
   is-written u after wrote e = let w = wrote site at.0 at.1 in ((w.0, stays-sound site n q small valid at.1), e ∙ w.1)
 
   -- it was refused, and then the refusal was written
-  pub is-refused : (stop : Stop) (refusal : Refusal) (after : List ℕ) → stop ≡ Refused refusal → Wrote old new n q (Err stop) out → after ≡ reply_spelling (RefusedWith refusal) →
+  pub is-refused : (stop : Stop) (refusal : Refusal) (after : List ℕ) → stop ≡ Refused refusal → Wrote old new n q (Err stop) out →
+      after ≡ reply_spelling (RefusedWith refusal) →
       SiteStands new (step site n q).0 × (after ≡ reply_spelling (step site n q).1)
   is-refused stop refusal after e wrote written =
       let w = subst (λ s. WritesOrStops (CoreStands new) (step site n q) site (Err s) out) e (wrote site at.0 at.1) in

@@ -1,5 +1,6 @@
 -- A merge in one step.
-use Rattle.std.proofs.Common.{◌≡◌, ℕ, true, not, ◌==◌, List, [], ◌∷◌, map, Option, Some, None, Result, Ok, Err, IsTrue, inl, inr, refl, sym, ap, ap₂, subst, ◌∙◌, arith}
+use Rattle.std.proofs.Common.{◌≡◌, ℕ, true, not, ◌==◌, List, [], ◌∷◌, map, Option, Some, None, Result, Ok, Err, IsTrue, inl, inr, refl, sym, ap, ap₂, subst}
+use Rattle.std.proofs.Common.{◌∙◌, arith}
 use Rattle.std.specs.Prelude.{◌&&◌}
 use Rattle.std.specs.List.{list_all}
 use Rattle.std.proofs.lemmas.Bool.{and_parts, cases_Bool, cond_both, cond-true, eqb-false, not_from_false}
@@ -127,7 +128,8 @@ below-keeps site n xs ws sound may =
     (arrival-keeps site r sound next (own-is_site site sound).1 may.free (found-none (λ f. f) grown third.0)))
 
 pub merge-keeps : (site : Site) (n : ℕ) (xs : List StateId) (ws : List KeyWrite) → IsSound site → MayBeMerged site xs ws → IsSound (merge_in_one site n xs ws).0
-merge-keeps site n xs ws sound may = no_txn-keeps IsSound site sound n (λ s. commit_below site n xs ws []) (λ s e f. below-keeps site n xs ws sound (joins site xs ws may))
+merge-keeps site n xs ws sound may = no_txn-keeps IsSound site sound n (λ s. commit_below site n xs ws [])
+    (λ s e f. below-keeps site n xs ws sound (joins site xs ws may))
 
 pub merge-same : (site : Site) (n : ℕ) (xs : List StateId) (ws : List KeyWrite) → HasSettingsOf site (merge_in_one site n xs ws).0
 merge-same site n xs ws =
@@ -139,39 +141,48 @@ merge-same site n xs ws =
 -- ===== What is told
 
 module _ (old new : Core) (n : ℕ) (xs : List StateId) (ws : List KeyWrite) (result : Result Reply Stop)
-    (gave : (site : Site) → CoreStands old site → IsSound site → MayBeMerged site xs ws → GivesOrStops (CoreStands new) (merge_in_one site n xs ws) site result) where
-  pub merge-told : (r : Result Reply Stop) → r ≡ result → (reply : Result Reply OutOfMemory) → ToldAs r reply → (site : Site) → SiteStands old site → MayBeMerged site xs ws →
+    (gave : (site : Site) → CoreStands old site → IsSound site → MayBeMerged site xs ws →
+    GivesOrStops (CoreStands new) (merge_in_one site n xs ws) site result) where
+  pub merge-told : (r : Result Reply Stop) → r ≡ result → (reply : Result Reply OutOfMemory) → ToldAs r reply → (site : Site) → SiteStands old site →
+      MayBeMerged site xs ws →
       Gives (SiteStands new) (merge_in_one site n xs ws) site reply
   merge-told (Ok reply) e told is site (stands, sound) may =
       let given = subst (GivesOrStops (CoreStands new) (merge_in_one site n xs ws) site) (sym e) (gave site stands sound may) in
       subst (Gives (SiteStands new) (merge_in_one site n xs ws) site) (sym is) ((given.0, merge-keeps site n xs ws sound may), given.1)
   merge-told (Err (Refused refusal)) e told is site (stands, sound) may =
       let given = subst (GivesOrStops (CoreStands new) (merge_in_one site n xs ws) site) (sym e) (gave site stands sound may) in
-      subst (Gives (SiteStands new) (merge_in_one site n xs ws) site) (sym is) (subst (λ (a : Answer). IsGiven (SiteStands new) a (RefusedWith refusal)) (sym given.1) ((given.0, sound), refl))
+      subst (Gives (SiteStands new) (merge_in_one site n xs ws) site) (sym is)
+      (subst (λ (a : Answer). IsGiven (SiteStands new) a (RefusedWith refusal)) (sym given.1) ((given.0, sound), refl))
   merge-told (Err NoMemory) e (Ok reply) is site stands may = absurd is
   merge-told (Err NoMemory) e (Err fault) is site (stands, sound) may =
       (subst (GivesOrStops (CoreStands new) (merge_in_one site n xs ws) site) (sym e) (gave site stands sound may), sound)
 
   pub merge-stands : (r : Result Reply Stop) → r ≡ result → (before : StandsForSite old) → MayBeMerged before.site xs ws → StandsForSite new
   merge-stands (Ok reply) e before may =
-      let given = subst (GivesOrStops (CoreStands new) (merge_in_one before.site n xs ws) before.site) (sym e) (gave before.site before.stands before.sound may) in
+      let given = subst (GivesOrStops (CoreStands new) (merge_in_one before.site n xs ws) before.site) (sym e)
+      (gave before.site before.stands before.sound may) in
       record { site = (merge_in_one before.site n xs ws).0; stands = given.0; sound = merge-keeps before.site n xs ws before.sound may }
   merge-stands (Err (Refused refusal)) e before may =
-      let given = subst (GivesOrStops (CoreStands new) (merge_in_one before.site n xs ws) before.site) (sym e) (gave before.site before.stands before.sound may) in
+      let given = subst (GivesOrStops (CoreStands new) (merge_in_one before.site n xs ws) before.site) (sym e)
+      (gave before.site before.stands before.sound may) in
       record { site = before.site; stands = given.0; sound = before.sound }
   merge-stands (Err NoMemory) e before may =
-      let given = subst (GivesOrStops (CoreStands new) (merge_in_one before.site n xs ws) before.site) (sym e) (gave before.site before.stands before.sound may) in
+      let given = subst (GivesOrStops (CoreStands new) (merge_in_one before.site n xs ws) before.site) (sym e)
+      (gave before.site before.stands before.sound may) in
       record { site = before.site; stands = given; sound = before.sound }
 
   pub merge-opening : (r : Result Reply Stop) → r ≡ result → (before : StandsForSite old) → MayBeMerged before.site xs ws → opened_with new ≡ opened_with old
   merge-opening (Ok reply) e before may =
-      let given = subst (GivesOrStops (CoreStands new) (merge_in_one before.site n xs ws) before.site) (sym e) (gave before.site before.stands before.sound may) in
+      let given = subst (GivesOrStops (CoreStands new) (merge_in_one before.site n xs ws) before.site) (sym e)
+      (gave before.site before.stands before.sound may) in
       opened-same old new before.site (merge_in_one before.site n xs ws).0 before.stands given.0 (merge-same before.site n xs ws)
   merge-opening (Err (Refused refusal)) e before may =
-      let given = subst (GivesOrStops (CoreStands new) (merge_in_one before.site n xs ws) before.site) (sym e) (gave before.site before.stands before.sound may) in
+      let given = subst (GivesOrStops (CoreStands new) (merge_in_one before.site n xs ws) before.site) (sym e)
+      (gave before.site before.stands before.sound may) in
       opened-same old new before.site before.site before.stands given.0 (refl, refl)
   merge-opening (Err NoMemory) e before may =
-      let given = subst (GivesOrStops (CoreStands new) (merge_in_one before.site n xs ws) before.site) (sym e) (gave before.site before.stands before.sound may) in
+      let given = subst (GivesOrStops (CoreStands new) (merge_in_one before.site n xs ws) before.site) (sym e)
+      (gave before.site before.stands before.sound may) in
       opened-same old new before.site before.site before.stands given (refl, refl)
 
 -- ===== Whether a session may begin
@@ -186,6 +197,11 @@ begins-as (Some s) (Some t) site refusal e = let r : RefusedWith TxnOpen ≡ Ref
 pub begin-refused : (site : Site) (n : ℕ) (refusal : Refusal) → RefusesBegins site n refusal → Some refusal ≡ begin_refusal site n
 begin-refused site n refusal refuses = begins-as (entry_of n site.sessions) (entry_of n site.txns) site refusal (refuses (λ s. (site, Done)))
 
-pub begin-allowed : (site : Site) (n : ℕ) (s : Session) → entry_of n site.sessions ≡ Some s → entry_of n site.txns ≡ None → ◌≡◌ {A = Option Refusal} None (begin_refusal site n)
+pub begin-allowed : (site : Site) (n : ℕ) (s : Session) → entry_of n site.sessions ≡ Some s → entry_of n site.txns ≡ None →
+    ◌≡◌ {A = Option Refusal} None (begin_refusal site n)
 begin-allowed site n s e f =
-    sym (ap₂ (λ (o : Option Session) (t : Option Txn). elim o as (λ v. Option Refusal) [ None ↦ Some NotOpen | Some u ↦ elim t as (λ v. Option Refusal) [ None ↦ None | Some v ↦ Some TxnOpen ] ]) e f)
+    sym (ap₂ (λ (o : Option Session) (t : Option Txn). elim o as (λ v. Option Refusal) [
+      | None ↦ Some NotOpen
+      | Some u ↦
+          elim t as (λ v. Option Refusal) [ None ↦ None | Some v ↦ Some TxnOpen ]
+    ]) e f)

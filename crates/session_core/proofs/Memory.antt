@@ -26,10 +26,12 @@ module _ (a : Inside) (held : IsHeld a) where
   -- a transaction ends
   pub ended-held : (n : ℕ) (es : List (ℕ × Txn)) → es ≡ without_entry n a.txns → IsHeld (record a { txns = es })
   ended-held n es e =
-      subst (λ z. IsHeld (record a { txns = z })) (sym e) (with-txns (without_entry n a.txns) (each-without (λ (h : Txn). IsTrue (has_slots a.store.table h)) n a.txns held.slots))
+      subst (λ z. IsHeld (record a { txns = z })) (sym e) (with-txns (without_entry n a.txns)
+      (each-without (λ (h : Txn). IsTrue (has_slots a.store.table h)) n a.txns held.slots))
 
   -- a transaction changes, but for its slots
-  pub changed-held : (n : ℕ) (g : Txn → Txn) (es : List (ℕ × Txn)) → ((h : Txn) → has_slots a.store.table (g h) ≡ has_slots a.store.table h) → es ≡ changed n g a.txns → IsHeld (record a { txns = es })
+  pub changed-held : (n : ℕ) (g : Txn → Txn) (es : List (ℕ × Txn)) → ((h : Txn) → has_slots a.store.table (g h) ≡ has_slots a.store.table h) →
+      es ≡ changed n g a.txns → IsHeld (record a { txns = es })
   changed-held n g es same e =
       subst (λ z. IsHeld (record a { txns = z })) (sym e)
       (with-txns (changed n g a.txns)
@@ -47,22 +49,33 @@ module _ (a : Inside) (held : IsHeld a) where
 
   -- the sessions change
   pub sessions-held : (book : Book) → KeepsRest a.book book → (AreSlots a.book a.store.table → AreSlots book a.store.table) → IsHeld (record a { book = book })
-  sessions-held book rest slots = record { places = slots held.places; slots = held.slots; floors = ap (λ fs. length (map known_floor fs)) rest.floors ∙ held.floors; room = held.room }
+  sessions-held book rest slots = record {
+    places = slots held.places;
+    slots = held.slots;
+    floors = ap (λ fs. length (map known_floor fs)) rest.floors
+        ∙ held.floors;
+    room = held.room;
+  }
 
-  as-held : (n : ℕ) (g : Txn → Txn) (full : Bool) (too_many : TxnFault) (es : List (ℕ × Txn)) (r : Result (Unit {0}) TxnFault) → ((h : Txn) → has_slots a.store.table (g h) ≡ has_slots a.store.table h) →
+  as-held : (n : ℕ) (g : Txn → Txn) (full : Bool) (too_many : TxnFault) (es : List (ℕ × Txn)) (r : Result (Unit {0}) TxnFault) →
+      ((h : Txn) → has_slots a.store.table (g h) ≡ has_slots a.store.table h) →
       ChangedAs a.txns es n g full too_many r → IsHeld (record a { txns = es })
   as-held n g full too_many es (Ok u) same (f, e) = changed-held n g es same e
   as-held n g full too_many es (Err fault) same (f, e) = same-held es e
 
   -- a write is taken, or not
-  pub put-held : (n : ℕ) (k : List ℕ) (w : Write) (es : List (ℕ × Txn)) (r : Option (Result (Unit {0}) TxnFault)) → PutAs a.txns es n k w r → IsHeld (record a { txns = es })
+  pub put-held : (n : ℕ) (k : List ℕ) (w : Write) (es : List (ℕ × Txn)) (r : Option (Result (Unit {0}) TxnFault)) → PutAs a.txns es n k w r →
+      IsHeld (record a { txns = es })
   put-held n k w es None (none, e) = same-held es e
-  put-held n k w es (Some r) (t, at, changes) = as-held n (putting k w) (has_no_place_to_write k (writes_of t)) too_many_writes es r (put-slots a.store.table k w) changes
+  put-held n k w es (Some r) (t, at, changes) = as-held n (putting k w) (has_no_place_to_write k (writes_of t)) too_many_writes es r
+      (put-slots a.store.table k w) changes
 
   -- a read is noted, or not
-  pub note-held : (n : ℕ) (k : List ℕ) (es : List (ℕ × Txn)) (r : Option (Result (Unit {0}) TxnFault)) → NotedAs a.txns es n k r → IsHeld (record a { txns = es })
+  pub note-held : (n : ℕ) (k : List ℕ) (es : List (ℕ × Txn)) (r : Option (Result (Unit {0}) TxnFault)) → NotedAs a.txns es n k r →
+      IsHeld (record a { txns = es })
   note-held n k es None (none, e) = same-held es e
-  note-held n k es (Some r) (t, at, changes) = as-held n (noting k) (has_no_place_to_read k (reads_of t)) too_many_reads es r (noted-slots a.store.table k) changes
+  note-held n k es (Some r) (t, at, changes) = as-held n (noting k) (has_no_place_to_read k (reads_of t)) too_many_reads es r (noted-slots a.store.table k)
+      changes
 
   -- a read by one look-up is noted, or not
   pub read-held : (store : Store) (n : ℕ) (k : List ℕ) (es : List (ℕ × Txn)) (r : NotedRead) → ReadsIn store a.txns es n k r → IsHeld (record a { txns = es })

@@ -25,7 +25,8 @@ use Rattle.session_core.proofs.Answers.{skip, stop, skip-found, stop-found}
 use Rattle.session_core.proofs.Committing.{joined-arrives}
 
 -- where no conflict key is open, what a merge writes may join below all the states that it reads
-module _ (site : Site) (sound : IsSound site) (n : ℕ) (t : MergeTxn) (found : entry_of n site.txns ≡ Some (Merge t)) (written : open_conflict site.dag t.states t.writes ≡ None) where
+module _ (site : Site) (sound : IsSound site) (n : ℕ) (t : MergeTxn) (found : entry_of n site.txns ≡ Some (Merge t))
+    (written : open_conflict site.dag t.states t.writes ≡ None) where
   merge-joins : MayJoin site t.states t.writes
   merge-joins =
       let was = sound.each_txn n (Merge t) found in
@@ -53,7 +54,8 @@ merges-below site n t flags e f =
     ∙ skip-found site OpenConflict open_key more (committed site n r) f
 
 -- why a merge doesn't
-pub merge-stops : (site : Site) (n : ℕ) (t : MergeTxn) (flags : EndFlags) (what : Stop) → MayMerge site t.states t.writes flags (Err what) → (stands : Site → Type 0) → stands site → Stops stands (commit_merge site n t flags) site what
+pub merge-stops : (site : Site) (n : ℕ) (t : MergeTxn) (flags : EndFlags) (what : Stop) → MayMerge site t.states t.writes flags (Err what) →
+    (stands : Site → Type 0) → stands site → Stops stands (commit_merge site n t flags) site what
 merge-stops site n t flags NoMemory may stands there = there
 merge-stops site n t flags (Refused refusal) may stands there = (there, go refusal may)
   where
@@ -61,8 +63,10 @@ merge-stops site n t flags (Refused refusal) may stands there = (there, go refus
     more = refuse (own_count site == 4294967295) SeqEnd ∷ growth_refusals site (next_record site t.states t.writes)
 
     go : (r : Refusal) → MayMerge site t.states t.writes flags (Err (Refused r)) → commit_merge site n t flags ≡ refused site r
-    go WrongMode e = stop site (RefusedWith WrongMode) (refuse_found OpenConflict (open_conflict site.dag t.states t.writes) ∷ more) (committed site n (next_record site t.states t.writes)) (not (flags.0 == 0)) e
+    go WrongMode e = stop site (RefusedWith WrongMode) (refuse_found OpenConflict (open_conflict site.dag t.states t.writes) ∷ more)
+        (committed site n (next_record site t.states t.writes)) (not (flags.0 == 0)) e
     go (OpenConflict k) (e, f) =
-        skip site (RefusedWith WrongMode) (refuse_found OpenConflict (open_conflict site.dag t.states t.writes) ∷ more) (committed site n (next_record site t.states t.writes)) (not (flags.0 == 0)) e
+        skip site (RefusedWith WrongMode) (refuse_found OpenConflict (open_conflict site.dag t.states t.writes) ∷ more)
+        (committed site n (next_record site t.states t.writes)) (not (flags.0 == 0)) e
         ∙ stop-found site OpenConflict (open_conflict site.dag t.states t.writes) k more (committed site n (next_record site t.states t.writes)) f
     go r e = absurd e

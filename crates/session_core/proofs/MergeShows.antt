@@ -14,7 +14,8 @@ use Rattle.session_core.proofs.Standing.{txn-answer}
 -- a single transaction is refused
 pub single-refused : (table : Table) (site : Site) (n : ℕ) (t : OneKept) → HasTxn table site n (KeptSingle t) → RefusesMerges site n WrongMode
 single-refused table site n t has go only =
-    txn-answer site n go has.session (txn_of (KeptSingle t)) has.opened has.found ∙ only has.session (record { state = t.state; reads = t.reads; writes = t.writes })
+    txn-answer site n go has.session (txn_of (KeptSingle t)) has.opened has.found
+    ∙ only has.session (record { state = t.state; reads = t.reads; writes = t.writes })
 
 -- what refuses all transactions refuses merges
 pub merges-too : (site : Site) (n : ℕ) (refusal : Refusal) → RefusesTxns site n refusal → RefusesMerges site n refusal

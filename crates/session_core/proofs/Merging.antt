@@ -1,5 +1,6 @@
 -- A merge begins.
-use Rattle.std.proofs.Common.{◌≡◌, ◌≤◌, ◌<◌, ℕ, false, nat_lt, List, [], ◌∷◌, length, map, Option, Some, None, Result, Ok, Err, IsTrue, refl, sym, ap, ap₂, subst, ◌∙◌, arith}
+use Rattle.std.proofs.Common.{◌≡◌, ◌≤◌, ◌<◌, ℕ, false, nat_lt, List, [], ◌∷◌, length, map, Option, Some, None, Result, Ok, Err, IsTrue, refl, sym, ap, ap₂}
+use Rattle.std.proofs.Common.{subst, ◌∙◌, arith}
 use Rattle.std.proofs.lemmas.Option.{same_Some}
 use Rattle.std.proofs.lemmas.Bool.{false_from_ne_true, ltb-true, lt-ltb}
 use Rattle.tardis_base.specs.declared.ids.StateId.{StateId}
@@ -16,7 +17,8 @@ use Rattle.state_dag.specs.Stands.{Stands}
 use Rattle.ceiling_book.specs.Book.{Book, sessions_of}
 use Rattle.ceiling_book.specs.Places.{ArePlaced}
 use Rattle.begin_rule.specs.declared.merges.MergeFault.{MergeFault}
-use Rattle.begin_rule.specs.declared.merges.MergeFault.TheVariants.{Unknown as OneUnknown, Below as OneBelow, Comparable as AreComparable, NoMemory as OutOfMemory}
+use Rattle.begin_rule.specs.declared.merges.MergeFault.TheVariants.{Unknown as OneUnknown, Below as OneBelow, Comparable as AreComparable}
+use Rattle.begin_rule.specs.declared.merges.MergeFault.TheVariants.{NoMemory as OutOfMemory}
 use Rattle.begin_rule.specs.Choices.{ChosenAllAs}
 use Rattle.merge_txn.specs.declared.Txn.TheVariants.{Merge as KeptMerge}
 use Rattle.plain_site.specs.Site.{Site}
@@ -45,8 +47,10 @@ states-told (x ∷ xs) (y ∷ ys) e =
     ap₂ (λ z zs. z ∷ zs) (same_Some x y parts.0) (states-told xs ys parts.1)
 
 -- a merge of these states is kept, and told
-pub merges-at : (core : Core) (site : Site) → CoreStands core site → (n : ℕ) (ys states told : List StateId) (slots : List Slot) (es : List (ℕ × Kept)) → states ≡ ys → told ≡ states →
-    map (id_at core.store.table) slots ≡ map (λ x. Some x) ys → es ≡ with_entry n (KeptMerge (record { states = states; slots = slots; writes = [] })) core.txns →
+pub merges-at : (core : Core) (site : Site) → CoreStands core site → (n : ℕ) (ys states told : List StateId) (slots : List Slot) (es : List (ℕ × Kept)) →
+    states ≡ ys → told ≡ states →
+    map (id_at core.store.table) slots ≡ map (λ x. Some x) ys →
+    es ≡ with_entry n (KeptMerge (record { states = states; slots = slots; writes = [] })) core.txns →
     IsGiven (CoreStands (record core { txns = es })) (merging site n ys) (Merging told)
 merges-at core site stands n ys states told slots es same copied named e = (
   txn-begun core site stands n (KeptMerge (record { states = ys; slots = slots; writes = [] })) es
@@ -60,24 +64,28 @@ merges-at core site stands n ys states told slots es same copied named e = (
 pub too-many : (site : Site) (n : ℕ) (c : StateId) (xs : List StateId) → 8 < length xs → merge_at site n c xs ≡ refused site (TooMany 3 (length xs))
 too-many site n c xs l =
     stop site (Refused (TooMany 3 (length xs)))
-    (refuse_found Unknown (first_unknown site.dag xs) ∷ refuse_found (λ x. Below x c) (first_below site.dag c xs) ∷ refuse_found (λ pair. Comparable pair.0 pair.1) (comparable_pair site.dag xs) ∷ [])
+    (refuse_found Unknown (first_unknown site.dag xs) ∷ refuse_found (λ x. Below x c) (first_below site.dag c xs)
+    ∷ refuse_found (λ pair. Comparable pair.0 pair.1) (comparable_pair site.dag xs) ∷ [])
     (merging site n (in_order xs)) (nat_lt 8 (length xs)) (lt-ltb 8 (length xs) l)
 
 module _ (site : Site) (n : ℕ) (c : StateId) (xs : List StateId) (few : length xs ≤ 8) where
   -- what comes after the count
   abbrev judged : Option StateId → Option StateId → Option (StateId × StateId) → Answer
-  judged u b p = unless site (refuse_found Unknown u ∷ refuse_found (λ x. Below x c) b ∷ refuse_found (λ pair. Comparable pair.0 pair.1) p ∷ []) (merging site n (in_order xs))
+  judged u b p = unless site (refuse_found Unknown u ∷ refuse_found (λ x. Below x c) b ∷ refuse_found (λ pair. Comparable pair.0 pair.1) p ∷ [])
+      (merging site n (in_order xs))
 
   is-judged : merge_at site n c xs ≡ judged (first_unknown site.dag xs) (first_below site.dag c xs) (comparable_pair site.dag xs)
   is-judged =
       skip site (Refused (TooMany 3 (length xs)))
-      (refuse_found Unknown (first_unknown site.dag xs) ∷ refuse_found (λ x. Below x c) (first_below site.dag c xs) ∷ refuse_found (λ pair. Comparable pair.0 pair.1) (comparable_pair site.dag xs) ∷ [])
+      (refuse_found Unknown (first_unknown site.dag xs) ∷ refuse_found (λ x. Below x c) (first_below site.dag c xs)
+      ∷ refuse_found (λ pair. Comparable pair.0 pair.1) (comparable_pair site.dag xs) ∷ [])
       (merging site n (in_order xs)) (nat_lt 8 (length xs)) (not-more (length xs) few)
     where
       not-more : (m : ℕ) → m ≤ 8 → nat_lt 8 m ≡ false
       not-more m l = false_from_ne_true (nat_lt 8 m) (λ t. absurd (omega (arith, ltb-true 8 m t, l)))
 
-  judged-as : (u b : Option StateId) (p : Option (StateId × StateId)) → first_unknown site.dag xs ≡ u → first_below site.dag c xs ≡ b → comparable_pair site.dag xs ≡ p → merge_at site n c xs ≡ judged u b p
+  judged-as : (u b : Option StateId) (p : Option (StateId × StateId)) → first_unknown site.dag xs ≡ u → first_below site.dag c xs ≡ b →
+      comparable_pair site.dag xs ≡ p → merge_at site n c xs ≡ judged u b p
   judged-as u b p e f g =
       is-judged
       ∙ ap (λ o. judged o (first_below site.dag c xs) (comparable_pair site.dag xs)) e
@@ -89,7 +97,8 @@ module _ (site : Site) (n : ℕ) (c : StateId) (xs : List StateId) (few : length
     all-chosen slots (known, admitted, apart, named) = judged-as None None None known admitted apart
 
     -- why they aren't
-    pub merge-stops : (fault : MergeFault) → ChosenAllAs table site.dag c xs (Err fault) → (stands : Site → Type 0) → stands site → Stops stands (merge_at site n c xs) site (merge_stop fault)
+    pub merge-stops : (fault : MergeFault) → ChosenAllAs table site.dag c xs (Err fault) → (stands : Site → Type 0) → stands site →
+        Stops stands (merge_at site n c xs) site (merge_stop fault)
     merge-stops (OneUnknown y) unknown stands there = (there, judged-as (Some y) (first_below site.dag c xs) (comparable_pair site.dag xs) unknown refl refl)
     merge-stops (OneBelow y d) (known, below, ceiling) stands there =
         (there, judged-as None (Some y) (comparable_pair site.dag xs) known below refl ∙ ap (λ z. refused site (Below y z)) (sym ceiling))
@@ -105,12 +114,16 @@ ChoosesAll table ceiling xs result = (rs : List Record) (ks : List StateId) → 
 
 -- the slot of the session's ceiling, over each table in which the book's places are right
 abbrev pub IsCeilingOf : Book → ℕ → Slot → Type 0
-IsCeilingOf book n slot = (table : Table) (rs : List Record) (ks : List StateId) → ArePlaced book table rs ks → (s : Session) → entry_of n (sessions_of book) ≡ Some s → id_at table slot ≡ Some s.ceiling
+IsCeilingOf book n slot = (table : Table) (rs : List Record) (ks : List StateId) → ArePlaced book table rs ks → (s : Session) →
+    entry_of n (sessions_of book) ≡ Some s → id_at table slot ≡ Some s.ceiling
 
 -- so they are chosen for the session
-pub chosen-under : (core : Core) (site : Site) → CoreStands core site → IsSound site → (n : ℕ) (s : Session) → entry_of n site.sessions ≡ Some s → (table : Table) → table ≡ core.store.table →
-    (ceiling : Slot) → IsCeilingOf core.book n ceiling → (xs : List StateId) (result : Result (List Slot) MergeFault) → ChoosesAll table ceiling xs result → ChosenAllAs table site.dag s.ceiling xs result
+pub chosen-under : (core : Core) (site : Site) → CoreStands core site → IsSound site → (n : ℕ) (s : Session) → entry_of n site.sessions ≡ Some s →
+    (table : Table) → table ≡ core.store.table →
+    (ceiling : Slot) → IsCeilingOf core.book n ceiling → (xs : List StateId) (result : Result (List Slot) MergeFault) → ChoosesAll table ceiling xs result
+    → ChosenAllAs table site.dag s.ceiling xs result
 chosen-under core site stands sound n s is table same ceiling limit xs result chooses =
     let here = subst (λ t. Stands t site.dag site.collected) (sym same) stands.store.table in
     let placed = subst (λ t. ArePlaced core.book t site.dag site.collected) (sym same) stands.placed in
-    chooses site.dag site.collected here s.ceiling (limit table site.dag site.collected placed s (ap (entry_of n) stands.sessions ∙ is)) (collected-above site n s sound is)
+    chooses site.dag site.collected here s.ceiling (limit table site.dag site.collected placed s (ap (entry_of n) stands.sessions ∙ is))
+    (collected-above site n s sound is)

@@ -70,17 +70,25 @@ module _ (core : Core) (book : Book) (site : Site) (n : ℕ) (follow : Bool) (st
       id_at core.store.table slot ≡ Some x → IsGiven (CoreStands (record core { book = book })) (open_session site n follow) (Opened x)
   open-gives slot x (closed, room, are) rest placed ceiling named =
       let floor = same-floor core site stands in
-      let here = same_Some x (own_floor core.book).state (sym named ∙ ceiling core.store.table site.dag site.collected stands.placed) ∙ ap (λ f. f.state) floor in
+      let here = same_Some x (own_floor core.book).state (sym named ∙ ceiling core.store.table site.dag site.collected stands.placed)
+      ∙ ap (λ f. f.state) floor in
       let sessions = are ∙ ap₂ (λ f (ss : Sessions). with_entry n (opening_session follow f.state) ss) floor stands.sessions in
       as-given (CoreStands (record core { book = book })) (open_session site n follow) opened (Opened x)
       (skip site (Refused AlreadyOpen) number-full opened (is_some (entry_of n site.sessions)) (sym is-open ∙ closed)
-      ∙ skip site (Refused (SessionsFull (length site.sessions))) [] opened (length site.sessions == site.limits.max_sessions) (sym is-full ∙ room))
-      (with-sessions core book site (with_entry n (opening_session follow (site_floor site).state) site.sessions) stands rest (placed core.store.table site.dag site.collected) sessions, ap Opened here)
+      ∙ skip site (Refused (SessionsFull (length site.sessions))) [] opened (length site.sessions == site.limits.max_sessions) (sym is-full ∙ room)) (
+        with-sessions core book site (with_entry n (opening_session follow (site_floor site).state) site.sessions) stands rest
+            (placed core.store.table site.dag site.collected) sessions,
+        ap Opened here,
+      )
 
   -- why it isn't opened
-  pub open-stops : (fault : OpenFault) → OpenedIn core.book book n follow (Err fault) → Stops (CoreStands (record core { book = book })) (open_session site n follow) site (open_stop fault)
-  open-stops IsOpen (opened_before, same) =
-      (same-book core book site stands same, stop site (Refused AlreadyOpen) number-full opened (is_some (entry_of n site.sessions)) (sym is-open ∙ opened_before))
+  pub open-stops : (fault : OpenFault) → OpenedIn core.book book n follow (Err fault) →
+      Stops (CoreStands (record core { book = book })) (open_session site n follow) site (open_stop fault)
+  open-stops IsOpen (opened_before, same) = (
+    same-book core book site stands same,
+    stop site (Refused AlreadyOpen) number-full opened (is_some (entry_of n site.sessions))
+        (sym is-open ∙ opened_before),
+  )
   open-stops (AreFull m) (closed, full, number, same) = (
     same-book core book site stands same,
     skip site (Refused AlreadyOpen) number-full opened (is_some (entry_of n site.sessions)) (sym is-open ∙ closed)
@@ -91,12 +99,14 @@ module _ (core : Core) (book : Book) (site : Site) (n : ℕ) (follow : Bool) (st
 
 -- the session closes, and its transaction is given up
 pub close-gives : (core : Core) (book : Book) (site : Site) (n : ℕ) (es : List (ℕ × Txn)) → CoreStands core site → KeepsRest core.book book →
-    (ArePlaced core.book core.store.table site.dag site.collected → ArePlaced book core.store.table site.dag site.collected) → sessions_of book ≡ without_entry n (sessions_of core.book) →
+    (ArePlaced core.book core.store.table site.dag site.collected → ArePlaced book core.store.table site.dag site.collected) → sessions_of book
+    ≡ without_entry n (sessions_of core.book) →
     es ≡ without_entry n core.txns → is_open core.book n ≡ true →
     IsGiven (CoreStands (record core { book = book; txns = es })) (with_session site n (λ s. close_session site n)) Closed
 close-gives core book site n es stands rest placed closed ended opened =
     let s = open-before core site stands n opened in
-    let without = with-sessions core book site (without_entry n site.sessions) stands rest placed (closed ∙ ap (λ (ss : Sessions). without_entry n ss) stands.sessions) in
+    let without = with-sessions core book site (without_entry n site.sessions) stands rest placed
+    (closed ∙ ap (λ (ss : Sessions). without_entry n ss) stands.sessions) in
     as-given (CoreStands (record core { book = book; txns = es })) (with_session site n (λ r. close_session site n)) (close_session site n) Closed
     (session-answer site n (λ r. close_session site n) s.value s.is)
     (txn-ended (record core { book = book }) (record site { sessions = without_entry n site.sessions }) without n es ended, refl)

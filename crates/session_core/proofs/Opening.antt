@@ -23,5 +23,6 @@ replicated ℕ.zero a = refl
 replicated (ℕ.suc n) a = ap ℕ.suc (replicated n a)
 
 -- a book that opens has a floor for each site
-pub floors-open : (book : Book) (limits table_limits : Limits) → floors_of book ≡ replicate limits.sites opening_floor → table_limits ≡ limits → length (floors_of book) ≡ table_limits.sites
+pub floors-open : (book : Book) (limits table_limits : Limits) → floors_of book ≡ replicate limits.sites opening_floor → table_limits ≡ limits →
+    length (floors_of book) ≡ table_limits.sites
 floors-open book limits table_limits floors same = ap length floors ∙ replicated limits.sites opening_floor ∙ sym (ap (λ (l : Limits). l.sites) same)

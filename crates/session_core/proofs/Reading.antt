@@ -75,11 +75,13 @@ module _ (table : Table) (site : Site) (n : ℕ) (k : List ℕ) where
 
       -- a read that is noted
       pub single-noted : has_no_place_to_read k t.reads ≡ false → reading site n k ≡ (with_txn_changed n (having_read k) site, found (read site.dag k t.state))
-      single-noted f = single-none ∙ skip site (Refused (TooMany 2 257)) [] (with_txn_changed n (having_read k) site, found (read site.dag k t.state)) (has_no_place_to_read k t.reads) f
+      single-noted f = single-none ∙ skip site (Refused (TooMany 2 257)) [] (with_txn_changed n (having_read k) site, found (read site.dag k t.state))
+          (has_no_place_to_read k t.reads) f
 
       -- there would be too many keys
       pub single-full : has_no_place_to_read k t.reads ≡ true → reading site n k ≡ refused site (TooMany 2 257)
-      single-full e = single-none ∙ stop site (Refused (TooMany 2 257)) [] (with_txn_changed n (having_read k) site, found (read site.dag k t.state)) (has_no_place_to_read k t.reads) e
+      single-full e = single-none ∙ stop site (Refused (TooMany 2 257)) [] (with_txn_changed n (having_read k) site, found (read site.dag k t.state))
+          (has_no_place_to_read k t.reads) e
 
   module _ (t : MergeKept) (has : HasTxn table site n (KeptMerge t)) where
     abbrev over : MergeTxn
@@ -103,29 +105,36 @@ module _ (table : Table) (site : Site) (n : ℕ) (k : List ℕ) where
       where
         go : (o : Option Write) → write_of k t.writes ≡ o → ReadsAs site.dag t.states k o Conflict → reading site n k ≡ refused site (ConflictKey k)
         go (Some w) e is = absurd is
-        go None e split = by-own None e ∙ stop site (Refused (ConflictKey k)) [] (site, found (value_over site.dag t.states k)) (is_conflict_key site.dag t.states k) split
+        go None e split = by-own None e ∙ stop site (Refused (ConflictKey k)) [] (site, found (value_over site.dag t.states k))
+            (is_conflict_key site.dag t.states k) split
 
 -- ===== What noting gives
 
-module _ (core : Core) (site : Site) (stands : CoreStands core site) (n : ℕ) (k : List ℕ) (t : OneKept) (at : entry_of n core.txns ≡ Some (KeptSingle t)) (has : HasTxn core.store.table site n (KeptSingle t)) (none : ◌≡◌ {A = Option Write} (write_of k t.writes) None) (es : List (ℕ × Kept)) where
+module _ (core : Core) (site : Site) (stands : CoreStands core site) (n : ℕ) (k : List ℕ) (t : OneKept) (at : entry_of n core.txns ≡ Some (KeptSingle t))
+    (has : HasTxn core.store.table site n (KeptSingle t)) (none : ◌≡◌ {A = Option Write} (write_of k t.writes) None) (es : List (ℕ × Kept)) where
   same-one : (u : Kept) → entry_of n core.txns ≡ Some u → u ≡ KeptSingle t
   same-one u e = same_Some u (KeptSingle t) (sym e ∙ at)
 
   -- the read is noted: what is answered, and what stands
-  pub note-done : (u : Unit {0}) → NotedAs core.txns es n k (Some (Ok u)) → (reading site n k ≡ (with_txn_changed n (having_read k) site, found (read site.dag k t.state))) × CoreStands (record core { txns = es }) (with_txn_changed n (having_read k) site)
+  pub note-done : (u : Unit {0}) → NotedAs core.txns es n k (Some (Ok u)) →
+      (reading site n k ≡ (with_txn_changed n (having_read k) site, found (read site.dag k t.state)))
+      × CoreStands (record core { txns = es }) (with_txn_changed n (having_read k) site)
   note-done u (v, e, (full, e_is)) = (
     single-noted core.store.table site n k t has none (sym (ap (λ z. has_no_place_to_read k (reads_of z)) (same-one v e)) ∙ full),
     txn-changed core site stands n (having_read k) (noting k) es e_is (noted-txn k) (noted-names core.store.table k),
   )
 
   -- it isn't
-  pub note-stops : (fault : TxnFault) → NotedAs core.txns es n k (Some (Err fault)) → Stops (CoreStands (record core { txns = es })) (reading site n k) site (txn_stop fault)
+  pub note-stops : (fault : TxnFault) → NotedAs core.txns es n k (Some (Err fault)) →
+      Stops (CoreStands (record core { txns = es })) (reading site n k) site (txn_stop fault)
   note-stops fault (v, e, (is, e_is)) =
       let there = same-txns core site stands n es e_is in
       let fault_is : fault ≡ read_fault k t.reads = is ∙ ap (λ z. read_fault k (reads_of z)) (same-one v e) in
-      subst (λ f. Stops (CoreStands (record core { txns = es })) (reading site n k) site (txn_stop f)) (sym fault_is) (go (has_no_place_to_read k t.reads) refl there)
+      subst (λ f. Stops (CoreStands (record core { txns = es })) (reading site n k) site (txn_stop f)) (sym fault_is)
+      (go (has_no_place_to_read k t.reads) refl there)
     where
-      go : (b : Bool) → has_no_place_to_read k t.reads ≡ b → CoreStands (record core { txns = es }) site → Stops (CoreStands (record core { txns = es })) (reading site n k) site (txn_stop (read_fault k t.reads))
+      go : (b : Bool) → has_no_place_to_read k t.reads ≡ b → CoreStands (record core { txns = es }) site →
+          Stops (CoreStands (record core { txns = es })) (reading site n k) site (txn_stop (read_fault k t.reads))
       go true f there = rw f (there, single-full core.store.table site n k t has none f)
       go false f there = rw f there
 
@@ -157,7 +166,8 @@ unnoted k one by none = absurd (none-some one.slot (sym by ∙ ap (λ o. slot_un
 module _ (core : Core) (site : Site) (stands : CoreStands core site) (sound : IsSound site) (n : ℕ) (k : List ℕ) (es : List (ℕ × Kept)) where
   -- what was found is the answer, and the read is noted
   pub read-found : (what : FoundAt) → ReadsIn core.store core.txns es n k (At what) →
-      (reading site n k ≡ (with_txn_changed n (having_read k) site, found (found_write what))) × CoreStands (record core { txns = es }) (with_txn_changed n (having_read k) site)
+      (reading site n k ≡ (with_txn_changed n (having_read k) site, found (found_write what)))
+      × CoreStands (record core { txns = es }) (with_txn_changed n (having_read k) site)
   read-found what (t, at, slot, by, finds, room, e) =
       let r = read-by k t slot by in
       let one = r.one in
@@ -168,7 +178,8 @@ module _ (core : Core) (site : Site) (stands : CoreStands core site) (sound : Is
       let is = finds site.dag site.collected stands.store one.state named in
       (noted.0 ∙ ap (λ v. (with_txn_changed n (having_read k) site, found v)) (sym is), noted.1)
 
-  pub read-fault : (fault : TxnFault) → ReadsIn core.store core.txns es n k (Fault fault) → Stops (CoreStands (record core { txns = es })) (reading site n k) site (txn_stop fault)
+  pub read-fault : (fault : TxnFault) → ReadsIn core.store core.txns es n k (Fault fault) →
+      Stops (CoreStands (record core { txns = es })) (reading site n k) site (txn_stop fault)
   read-fault fault (t, at, slot, by, is, e) =
       let r = read-by k t slot by in
       let here : entry_of n core.txns ≡ Some (KeptSingle r.one) = at ∙ ap (λ u. Some u) r.is in
@@ -177,8 +188,10 @@ module _ (core : Core) (site : Site) (stands : CoreStands core site) (sound : Is
 -- ===== What is answered after a note
 
 module _ (stands : Site → Type 0) (site : Site) (n : ℕ) (k : List ℕ) (x : StateId) where
-  pub note-given : (u : Unit {0}) (reply : Reply) → NotesOrStops stands site n k x (Ok u) → reply ≡ found (read site.dag k x) → IsGiven stands (reading site n k) reply
+  pub note-given : (u : Unit {0}) (reply : Reply) → NotesOrStops stands site n k x (Ok u) → reply ≡ found (read site.dag k x) →
+      IsGiven stands (reading site n k) reply
   note-given u reply (e, there) is = as-given stands (reading site n k) (with_txn_changed n (having_read k) site, found (read site.dag k x)) reply e (there, is)
 
-  pub note-stopped : (what : Stop) (r : Result Reply Stop) → NotesOrStops stands site n k x (Err what) → IsErrAnd r (λ stop. stop ≡ what) → GivesOrStops stands (reading site n k) site r
+  pub note-stopped : (what : Stop) (r : Result Reply Stop) → NotesOrStops stands site n k x (Err what) → IsErrAnd r (λ stop. stop ≡ what) →
+      GivesOrStops stands (reading site n k) site r
   note-stopped what r stops is = stopped stands (reading site n k) site what r is stops

@@ -10,12 +10,16 @@ use Rattle.tardis_base.specs.declared.records.Item.TheVariants.{State, Promise}
 use Rattle.std.proofs.lemmas.Bool.{cond_both}
 use Rattle.tardis_base.specs.declared.records.Write.{Write}
 use Rattle.tardis_base.specs.declared.records.Write.TheVariants.{Put as Value, Delete as Deletion}
-use Rattle.tardis_base.specs.declared.replies.Refusal.TheVariants.{AlreadyOpen, SessionsFull, TooMany, ConflictKey, Unknown, Below, Collected, SeqEnd, WrongMode, OpenConflict, Branches, NotRead, Comparable, CeilingBack, FloorBack, Held, BadSite}
+use Rattle.tardis_base.specs.declared.replies.Refusal.TheVariants.{AlreadyOpen, SessionsFull, TooMany, ConflictKey, Unknown, Below, Collected, SeqEnd}
+use Rattle.tardis_base.specs.declared.replies.Refusal.TheVariants.{WrongMode, OpenConflict, Branches, NotRead, Comparable, CeilingBack, FloorBack, Held}
+use Rattle.tardis_base.specs.declared.replies.Refusal.TheVariants.{BadSite}
 use Rattle.tardis_base.specs.declared.replies.Reply.{Reply}
 use Rattle.tardis_base.specs.declared.replies.Reply.TheVariants.{Opened, Begun, Merging, Done, Shown, Ended, Applied, Batch as BatchIs}
 use Rattle.tardis_base.specs.declared.requests.EndFlags.{EndFlags}
 use Rattle.tardis_base.specs.declared.requests.Request.{Request}
-use Rattle.tardis_base.specs.declared.requests.Request.TheVariants.{Open, Begin as BeginAt, Get, Put, Delete, Commit, Abort, BeginMerge, ForkPoints, Conflicts, GetFor, Ceiling, Raise, RaiseAuto, Tidy, Stat, Show, Leaves, Pull, Deliver, Settle, Close}
+use Rattle.tardis_base.specs.declared.requests.Request.TheVariants.{Open, Begin as BeginAt, Get, Put, Delete, Commit, Abort, BeginMerge, ForkPoints}
+use Rattle.tardis_base.specs.declared.requests.Request.TheVariants.{Conflicts, GetFor, Ceiling, Raise, RaiseAuto, Tidy, Stat, Show, Leaves, Pull, Deliver}
+use Rattle.tardis_base.specs.declared.requests.Request.TheVariants.{Settle, Close}
 use Rattle.plain_dag.specs.Above.{is_above, comparable_pair}
 use Rattle.plain_dag.specs.Begin.{is_admitted, begin_state}
 use Rattle.plain_dag.specs.Conflicts.{is_conflict_key, value_over, open_conflict}
@@ -27,7 +31,8 @@ use Rattle.plain_dag.specs.States.{is_known, arrival, children}
 use Rattle.plain_dag.specs.Writers.{read}
 use Rattle.plain_site.specs.Answers.{Answer, says_early, refuse, refuse_found, shown, found}
 use Rattle.plain_site.specs.Commits.{abort, commit, commit_below, commit_writes, commit_single, committed, with_record, growth_refusals, without_txn_of}
-use Rattle.plain_site.specs.Exchange.{judgements, take_record, with_held, consent_judgements, deliver, first_fit_record, with_settled, settle_record, settle, batch_for}
+use Rattle.plain_site.specs.Exchange.{judgements, take_record, with_held, consent_judgements, deliver, first_fit_record, with_settled, settle_record, settle}
+use Rattle.plain_site.specs.Exchange.{batch_for}
 use Rattle.plain_site.specs.Merges.{in_order, states_to_merge, merge_at, begin_merge, fork_points_of, conflicts_of}
 use Rattle.plain_site.specs.Reads.{get, get_for, set_key, read_in, having_read, having_written}
 use Rattle.plain_site.specs.Sessions.{open_session, close_session, begin, begin_at, set_ceiling}
@@ -53,8 +58,10 @@ module _ (site : Site) (n : ℕ) where
   open-same : (follow : Bool) → P (open_session site n follow).0
   open-same follow =
       unless-keeps P site old
-      (refuse (is_some (entry_of n site.sessions)) AlreadyOpen ∷ refuse (length site.sessions == site.limits.max_sessions) (SessionsFull (length site.sessions)) ∷ [])
-      (record site { sessions = with_entry n (opening_session follow (own_floor site).state) site.sessions }, Opened (own_floor site).state) (λ none. (refl, refl))
+      (refuse (is_some (entry_of n site.sessions)) AlreadyOpen
+      ∷ refuse (length site.sessions == site.limits.max_sessions) (SessionsFull (length site.sessions)) ∷ [])
+      (record site { sessions = with_entry n (opening_session follow (own_floor site).state) site.sessions }, Opened (own_floor site).state)
+      (λ none. (refl, refl))
 
   begin-same : (ceiling x : StateId) → P (begin_at site n ceiling x).0
   begin-same ceiling x =
@@ -66,7 +73,8 @@ module _ (site : Site) (n : ℕ) where
       unless-keeps P site old (refuse (length t.reads == 256 && not (is_key_among k t.reads)) (TooMany 2 257) ∷ [])
       (with_txn_changed n (having_read k) site, found (read site.dag k t.state)) (λ none. (refl, refl))
   read-same (Merge t) k =
-      unless-keeps P site old (refuse (is_conflict_key site.dag t.states k) (ConflictKey k) ∷ []) (site, found (value_over site.dag t.states k)) (λ none. (refl, refl))
+      unless-keeps P site old (refuse (is_conflict_key site.dag t.states k) (ConflictKey k) ∷ []) (site, found (value_over site.dag t.states k))
+      (λ none. (refl, refl))
 
   get-same : (t : Txn) (k : List ℕ) → P (get site n t k).0
   get-same t k = given-keeps P site old (write_of k (writes_of t)) (read_in site n t k) (λ w. (site, shown root w)) (λ none. read-same t k) (λ w e. old)
@@ -92,7 +100,8 @@ module _ (site : Site) (n : ℕ) where
 
   commit-same : (t : Txn) (flags : EndFlags) (k : ℕ) → P (commit site n t flags k).0
   commit-same (Single t) flags k = single-same t flags k
-  commit-same (Merge t) flags k = below-same t.states t.writes (refuse (not (flags.0 == 0)) WrongMode ∷ refuse_found OpenConflict (open_conflict site.dag t.states t.writes) ∷ [])
+  commit-same (Merge t) flags k = below-same t.states t.writes
+      (refuse (not (flags.0 == 0)) WrongMode ∷ refuse_found OpenConflict (open_conflict site.dag t.states t.writes) ∷ [])
 
   merge-same : (ceiling : StateId) (xs : List StateId) → P (merge_at site n ceiling xs).0
   merge-same ceiling xs =
@@ -117,7 +126,8 @@ module _ (site : Site) (n : ℕ) where
   get_for-same (Merge t) k x = unless-keeps P site old (refuse (not (is_among x t.states)) (NotRead x) ∷ []) (site, found (read site.dag k x)) (λ none. old)
 
   raised-same : (x : StateId) (refusals : List (Option Reply)) → P (raise_to site x refusals).0
-  raised-same x refusals = unless-keeps P site old (refusals ++ refuse ((own_floor site).number == 4294967295) SeqEnd ∷ []) (raised site x) (λ none. (refl, refl))
+  raised-same x refusals = unless-keeps P site old (refusals ++ refuse ((own_floor site).number == 4294967295) SeqEnd ∷ []) (raised site x)
+      (λ none. (refl, refl))
 
   deliver-same : (item : Item) → P (deliver site item).0
   deliver-same (State r) =
@@ -148,7 +158,9 @@ module _ (site : Site) (n : ℕ) where
   step-same (Conflicts after) = txn-keeps P site old n (λ s t. conflicts_of site t after) (λ s e t f. conflicts-same t after)
   step-same (GetFor k x) = txn-keeps P site old n (λ s t. get_for site t k x) (λ s e t f. get_for-same t k x)
   step-same (Ceiling x) =
-      no_txn-keeps P site old n (λ s. set_ceiling site n s x) (λ s e none. unless-keeps P site old (refuse (not (is_known site.dag x)) (Unknown x) ∷ refuse (not (is_above site.dag s.ceiling x)) (CeilingBack s.ceiling) ∷ [])
+      no_txn-keeps P site old n (λ s. set_ceiling site n s x)
+      (λ s e none. unless-keeps P site old (refuse (not (is_known site.dag x)) (Unknown x)
+      ∷ refuse (not (is_above site.dag s.ceiling x)) (CeilingBack s.ceiling) ∷ [])
       (record site { sessions = changed n (with_ceiling x) site.sessions }, Done) (λ none. (refl, refl)))
   step-same (Raise x) =
       raised-same x
@@ -164,7 +176,8 @@ module _ (site : Site) (n : ℕ) where
       (site, Shown (arrival site.dag x) (children site.dag x) (fork_path site.dag site.collected x)) (λ none. old)
   step-same Leaves = old
   step-same (Pull counts) =
-      unless-keeps P site old (refuse (not (length counts == site.limits.sites)) (BadSite (length counts)) ∷ []) (site, BatchIs (batch_for site counts)) (λ none. old)
+      unless-keeps P site old (refuse (not (length counts == site.limits.sites)) (BadSite (length counts)) ∷ []) (site, BatchIs (batch_for site counts))
+      (λ none. old)
   step-same (Deliver item) = deliver-same item
   step-same Settle = settle-same
   step-same Close = session-keeps P site old n (λ s. close_session site n) (λ s e. (refl, refl))

@@ -38,7 +38,8 @@ line-at rs n (f ∷ fs) (suc k) d l =
     let within : k < length fs = omega arith in
     line-at rs (n + 1) fs k d within ∙ ap (λ m. line_of rs m (get_or fs k opening_floor)) same
 
-line-is : (rs : List Record) (fs : List Floor) (k : ℕ) (d : SiteLine) → k < length fs → get_or (site_lines rs 1 fs) k d ≡ line_of rs (k + 1) (floor_of fs (k + 1))
+line-is : (rs : List Record) (fs : List Floor) (k : ℕ) (d : SiteLine) → k < length fs → get_or (site_lines rs 1 fs) k d
+    ≡ line_of rs (k + 1) (floor_of fs (k + 1))
 line-is rs fs k d l =
     let number : 1 + k ≡ k + 1 = omega arith in
     let place : k ≡ k + 1 - 1 = omega arith in
@@ -46,25 +47,31 @@ line-is rs fs k d l =
     line-at rs 1 fs k d l ∙ ap₂ (λ m (f : Floor). line_of rs m f) number floor
 
 -- one more line
-pub next-line : (rs : List Record) (fs : List Floor) (k : ℕ) (lines after : List SiteLine) (line : SiteLine) → k < length fs → lines ≡ take k (site_lines rs 1 fs) → line ≡ line_of rs (k + 1) (floor_of fs (k + 1)) →
+pub next-line : (rs : List Record) (fs : List Floor) (k : ℕ) (lines after : List SiteLine) (line : SiteLine) → k < length fs →
+    lines ≡ take k (site_lines rs 1 fs) → line ≡ line_of rs (k + 1) (floor_of fs (k + 1)) →
     after ≡ lines ++ line ∷ [] → after ≡ take (k + 1) (site_lines rs 1 fs)
 next-line rs fs k lines after line l so_far is pushed =
     let within : k < length (site_lines rs 1 fs) = omega (arith, number-of-lines rs 1 fs) in
-    pushed ∙ ap₂ (λ (xs : List SiteLine) (x : SiteLine). xs ++ x ∷ []) so_far (is ∙ sym (line-is rs fs k line l)) ∙ sym (take_more (site_lines rs 1 fs) k line within)
+    pushed ∙ ap₂ (λ (xs : List SiteLine) (x : SiteLine). xs ++ x ∷ []) so_far (is ∙ sym (line-is rs fs k line l))
+    ∙ sym (take_more (site_lines rs 1 fs) k line within)
 
 -- all lines
-pub all-lines : (rs : List Record) (fs : List Floor) (k : ℕ) (lines : List SiteLine) → length fs ≤ k → lines ≡ take k (site_lines rs 1 fs) → lines ≡ site_lines rs 1 fs
+pub all-lines : (rs : List Record) (fs : List Floor) (k : ℕ) (lines : List SiteLine) → length fs ≤ k → lines ≡ take k (site_lines rs 1 fs) →
+    lines ≡ site_lines rs 1 fs
 all-lines rs fs k lines l so_far = so_far ∙ take_all k (site_lines rs 1 fs) (omega (arith, number-of-lines rs 1 fs))
 
 -- ===== A state
 
-pub is-shown : (site : Site) (table : Table) (slot : Slot) (x : StateId) → Stands table site.dag site.collected → id_at table slot ≡ Some x → IsTrue (is_known site.dag x) →
+pub is-shown : (site : Site) (table : Table) (slot : Slot) (x : StateId) → Stands table site.dag site.collected → id_at table slot ≡ Some x →
+    IsTrue (is_known site.dag x) →
     show site x ≡ (site, Shown (arrival site.dag x) (children site.dag x) (fork_path site.dag site.collected x))
 is-shown site table slot x stands named known =
     let answer : Answer = (site, Shown (arrival site.dag x) (children site.dag x) (fork_path site.dag site.collected x)) in
     let kept = slot-is_kept table site.dag site.collected stands slot x named in
-    skip site (Refused (Unknown x)) (refuse (is_among x site.collected) (Collected x) ∷ []) answer (not (is_known site.dag x)) (not_from_true (is_known site.dag x) known)
-    ∙ skip site (Refused (Collected x)) [] answer (is_among x site.collected) (not-true (is_among x site.collected) (and_parts (is_known site.dag x) (not (is_among x site.collected)) kept).1)
+    skip site (Refused (Unknown x)) (refuse (is_among x site.collected) (Collected x) ∷ []) answer (not (is_known site.dag x))
+    (not_from_true (is_known site.dag x) known)
+    ∙ skip site (Refused (Collected x)) [] answer (is_among x site.collected)
+    (not-true (is_among x site.collected) (and_parts (is_known site.dag x) (not (is_among x site.collected)) kept).1)
 
 pub shown-as : {a b : ℕ} {cs ds : List StateId} {ps qs : List (StateId × ℕ)} → a ≡ b → cs ≡ ds → ps ≡ qs → Shown a cs ps ≡ Shown b ds qs
 shown-as p q r = (cc)

@@ -11,7 +11,8 @@ use Rattle.ceiling_book.specs.Book.{is_open}
 use Rattle.plain_site.specs.Site.{Site, Txn}
 use Rattle.plain_site.specs.Sound.{IsSound}
 use Rattle.plain_site.specs.Answers.{Answer, refused, given, with_session, with_txn, without_txn}
-use Rattle.plain_site.proofs.SoundEntries.{entry-changed, entry-changed_other, entry-with_entry, entry-with_entry_other, entry-without_entry, entry-without_entry_other}
+use Rattle.plain_site.proofs.SoundEntries.{entry-changed, entry-changed_other, entry-with_entry, entry-with_entry_other, entry-without_entry}
+use Rattle.plain_site.proofs.SoundEntries.{entry-without_entry_other}
 use Rattle.plain_site.proofs.SoundBooks.{at-each}
 use Rattle.session_core.specs.Core.{Core}
 use Rattle.session_core.specs.Guards.{HasTxn, RefusesAll, RefusesTxns, RefusesBegins}
@@ -43,17 +44,22 @@ module _ (site : Site) (n : ℕ) where
   pub session-missing : (go : Session → Answer) → entry_of n site.sessions ≡ None → with_session site n go ≡ refused site NotOpen
   session-missing go e = ap (λ o. given o (refused site NotOpen) go) e
 
-  pub txn-answer : (go : Session → Txn → Answer) (s : Session) (t : Txn) → entry_of n site.sessions ≡ Some s → entry_of n site.txns ≡ Some t → with_txn site n go ≡ go s t
+  pub txn-answer : (go : Session → Txn → Answer) (s : Session) (t : Txn) → entry_of n site.sessions ≡ Some s → entry_of n site.txns ≡ Some t →
+      with_txn site n go ≡ go s t
   txn-answer go s t e f = session-answer (λ r. given (entry_of n site.txns) (refused site NoTxn) (go r)) s e ∙ ap (λ o. given o (refused site NoTxn) (go s)) f
 
-  pub txn-missing : (go : Session → Txn → Answer) (s : Session) → entry_of n site.sessions ≡ Some s → entry_of n site.txns ≡ None → with_txn site n go ≡ refused site NoTxn
+  pub txn-missing : (go : Session → Txn → Answer) (s : Session) → entry_of n site.sessions ≡ Some s → entry_of n site.txns ≡ None → with_txn site n go
+      ≡ refused site NoTxn
   txn-missing go s e f = session-answer (λ r. given (entry_of n site.txns) (refused site NoTxn) (go r)) s e ∙ ap (λ o. given o (refused site NoTxn) (go s)) f
 
   pub no-txn-answer : (go : Session → Answer) (s : Session) → entry_of n site.sessions ≡ Some s → entry_of n site.txns ≡ None → without_txn site n go ≡ go s
-  no-txn-answer go s e f = session-answer (λ r. given (entry_of n site.txns) (go r) (λ t. refused site TxnOpen)) s e ∙ ap (λ o. given o (go s) (λ t. refused site TxnOpen)) f
+  no-txn-answer go s e f = session-answer (λ r. given (entry_of n site.txns) (go r) (λ t. refused site TxnOpen)) s e
+      ∙ ap (λ o. given o (go s) (λ t. refused site TxnOpen)) f
 
-  pub txn-in-the-way : (go : Session → Answer) (s : Session) (t : Txn) → entry_of n site.sessions ≡ Some s → entry_of n site.txns ≡ Some t → without_txn site n go ≡ refused site TxnOpen
-  txn-in-the-way go s t e f = session-answer (λ r. given (entry_of n site.txns) (go r) (λ u. refused site TxnOpen)) s e ∙ ap (λ o. given o (go s) (λ u. refused site TxnOpen)) f
+  pub txn-in-the-way : (go : Session → Answer) (s : Session) (t : Txn) → entry_of n site.sessions ≡ Some s → entry_of n site.txns ≡ Some t →
+      without_txn site n go ≡ refused site TxnOpen
+  txn-in-the-way go s t e f = session-answer (λ r. given (entry_of n site.txns) (go r) (λ u. refused site TxnOpen)) s e
+      ∙ ap (λ o. given o (go s) (λ u. refused site TxnOpen)) f
 
 -- ===== Sessions and transactions that stand
 
@@ -106,13 +112,15 @@ has-answer table site n t has go = txn-answer site n (λ s u. go u) has.session 
 
 -- ===== Changes of the transactions
 
-both-changed : (f : Txn → Txn) (g : Kept → Kept) (o : Option Kept) → ((h : Kept) → txn_of (g h) ≡ f (txn_of h)) → option_map txn_of (option_map g o) ≡ option_map f (option_map txn_of o)
+both-changed : (f : Txn → Txn) (g : Kept → Kept) (o : Option Kept) → ((h : Kept) → txn_of (g h) ≡ f (txn_of h)) → option_map txn_of (option_map g o)
+    ≡ option_map f (option_map txn_of o)
 both-changed f g None both = refl
 both-changed f g (Some h) both = ap (λ u. Some u) (both h)
 
 module _ (core : Core) (site : Site) (stands : CoreStands core site) (n : ℕ) where
   -- other transactions
-  with-txns : (es : List (ℕ × Kept)) (ts : List (ℕ × Txn)) → ((m : ℕ) → option_map txn_of (entry_of m es) ≡ entry_of m ts) → ((m : ℕ) (h : Kept) → entry_of m es ≡ Some h → IsNamed core.store.table h) →
+  with-txns : (es : List (ℕ × Kept)) (ts : List (ℕ × Txn)) → ((m : ℕ) → option_map txn_of (entry_of m es) ≡ entry_of m ts) →
+      ((m : ℕ) (h : Kept) → entry_of m es ≡ Some h → IsNamed core.store.table h) →
       CoreStands (record core { txns = es }) (record site { txns = ts })
   with-txns es ts txns slots = record {
     store = stands.store;
@@ -128,34 +136,40 @@ module _ (core : Core) (site : Site) (stands : CoreStands core site) (n : ℕ) w
   }
 
   -- a transaction ends
-  pub txn-ended : (es : List (ℕ × Kept)) → es ≡ without_entry n core.txns → CoreStands (record core { txns = es }) (record site { txns = without_entry n site.txns })
+  pub txn-ended : (es : List (ℕ × Kept)) → es ≡ without_entry n core.txns →
+      CoreStands (record core { txns = es }) (record site { txns = without_entry n site.txns })
   txn-ended es e =
       subst (λ z. CoreStands (record core { txns = z }) (record site { txns = without_entry n site.txns })) (sym e)
       (with-txns (without_entry n core.txns) (without_entry n site.txns)
       (at-each (λ m. option_map txn_of (entry_of m (without_entry n core.txns)) ≡ entry_of m (without_entry n site.txns)) n
       (ap (option_map txn_of) (entry-without_entry n core.txns) ∙ sym (entry-without_entry n site.txns))
-      (λ m differ. ap (option_map txn_of) (entry-without_entry_other n m core.txns differ) ∙ stands.txns m ∙ sym (entry-without_entry_other n m site.txns differ)))
+      (λ m differ. ap (option_map txn_of) (entry-without_entry_other n m core.txns differ) ∙ stands.txns m
+      ∙ sym (entry-without_entry_other n m site.txns differ)))
       (each-without (IsNamed core.store.table) n core.txns stands.slots))
 
   -- a transaction changes, and still reads the same states
   pub txn-changed : (f : Txn → Txn) (g : Kept → Kept) (es : List (ℕ × Kept)) → es ≡ changed n g core.txns → ((h : Kept) → txn_of (g h) ≡ f (txn_of h)) →
-      ((h : Kept) → IsNamed core.store.table h → IsNamed core.store.table (g h)) → CoreStands (record core { txns = es }) (record site { txns = changed n f site.txns })
+      ((h : Kept) → IsNamed core.store.table h → IsNamed core.store.table (g h)) →
+      CoreStands (record core { txns = es }) (record site { txns = changed n f site.txns })
   txn-changed f g es e both same =
       subst (λ z. CoreStands (record core { txns = z }) (record site { txns = changed n f site.txns })) (sym e)
       (with-txns (changed n g core.txns) (changed n f site.txns)
       (at-each (λ m. option_map txn_of (entry_of m (changed n g core.txns)) ≡ entry_of m (changed n f site.txns)) n
-      (ap (option_map txn_of) (entry-changed n g core.txns) ∙ both-changed f g (entry_of n core.txns) both ∙ ap (option_map f) (stands.txns n) ∙ sym (entry-changed n f site.txns))
+      (ap (option_map txn_of) (entry-changed n g core.txns) ∙ both-changed f g (entry_of n core.txns) both ∙ ap (option_map f) (stands.txns n)
+      ∙ sym (entry-changed n f site.txns))
       (λ m differ. ap (option_map txn_of) (entry-changed_other n m g core.txns differ) ∙ stands.txns m ∙ sym (entry-changed_other n m f site.txns differ)))
       (each-changed (IsNamed core.store.table) n g core.txns same stands.slots))
 
   -- a transaction begins
-  pub txn-begun : (h : Kept) (es : List (ℕ × Kept)) → es ≡ with_entry n h core.txns → IsNamed core.store.table h → CoreStands (record core { txns = es }) (record site { txns = with_entry n (txn_of h) site.txns })
+  pub txn-begun : (h : Kept) (es : List (ℕ × Kept)) → es ≡ with_entry n h core.txns → IsNamed core.store.table h →
+      CoreStands (record core { txns = es }) (record site { txns = with_entry n (txn_of h) site.txns })
   txn-begun h es e named =
       subst (λ z. CoreStands (record core { txns = z }) (record site { txns = with_entry n (txn_of h) site.txns })) (sym e)
       (with-txns (with_entry n h core.txns) (with_entry n (txn_of h) site.txns)
       (at-each (λ m. option_map txn_of (entry_of m (with_entry n h core.txns)) ≡ entry_of m (with_entry n (txn_of h) site.txns)) n
       (ap (option_map txn_of) (entry-with_entry n h core.txns) ∙ sym (entry-with_entry n (txn_of h) site.txns))
-      (λ m differ. ap (option_map txn_of) (entry-with_entry_other n m h core.txns differ) ∙ stands.txns m ∙ sym (entry-with_entry_other n m (txn_of h) site.txns differ)))
+      (λ m differ. ap (option_map txn_of) (entry-with_entry_other n m h core.txns differ) ∙ stands.txns m
+      ∙ sym (entry-with_entry_other n m (txn_of h) site.txns differ)))
       (each-with (IsNamed core.store.table) n h core.txns stands.slots named))
 
   -- the transactions are as before

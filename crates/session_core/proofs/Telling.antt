@@ -45,13 +45,15 @@ Gave old new n q result = (site : Site) → CoreStands old site → IsSound site
 
 module _ (old new : Core) (n : ℕ) (q : Request) (below : IsTrue (is_u16 n)) (valid : IsTrue (is_request q)) where
   -- what stood for a sound site stands for one
-  pub told-sound : (result : Result Reply Stop) (reply : Result Reply OutOfMemory) → ToldAs result reply → Gave old new n q result → (site : Site) → SiteStands old site → Gives (SiteStands new) (step site n q) site reply
+  pub told-sound : (result : Result Reply Stop) (reply : Result Reply OutOfMemory) → ToldAs result reply → Gave old new n q result → (site : Site) →
+      SiteStands old site → Gives (SiteStands new) (step site n q) site reply
   told-sound (Ok reply) told is gave site (stands, sound) =
       let given = gave site stands sound in
       subst (Gives (SiteStands new) (step site n q) site) (sym is) ((given.0, stays-sound site n q below valid sound), given.1)
   told-sound (Err (Refused refusal)) told is gave site (stands, sound) =
       let given = gave site stands sound in
-      subst (Gives (SiteStands new) (step site n q) site) (sym is) (subst (λ (a : Answer). IsGiven (SiteStands new) a (RefusedWith refusal)) (sym given.1) ((given.0, sound), refl))
+      subst (Gives (SiteStands new) (step site n q) site) (sym is)
+      (subst (λ (a : Answer). IsGiven (SiteStands new) a (RefusedWith refusal)) (sym given.1) ((given.0, sound), refl))
   told-sound (Err NoMemory) (Ok reply) is gave site stands = absurd is
   told-sound (Err NoMemory) (Err fault) is gave site (stands, sound) = (gave site stands sound, sound)
 
@@ -61,11 +63,18 @@ module _ (old new : Core) (n : ℕ) (q : Request) (below : IsTrue (is_u16 n)) (v
     stands = (gave before.site before.stands before.sound).0;
     sound = stays-sound before.site n q below valid before.sound;
   }
-  still-stands (Err (Refused refusal)) gave before = record { site = before.site; stands = (gave before.site before.stands before.sound).0; sound = before.sound }
+  still-stands (Err (Refused refusal)) gave before = record {
+    site = before.site;
+    stands = (gave before.site before.stands before.sound).0;
+    sound =
+        before.sound;
+  }
   still-stands (Err NoMemory) gave before = record { site = before.site; stands = gave before.site before.stands before.sound; sound = before.sound }
 
-  pub told-told : (result : Result Reply Stop) (reply : Result Reply OutOfMemory) → ToldAs result reply → Gave old new n q result → StandsForSite old → IfOk reply (λ r. IsTold r)
-  told-told (Ok reply) told is gave before = subst (λ z. IfOk z (λ r. IsTold r)) (sym is) (step-told before.site n q valid before.sound reply (gave before.site before.stands before.sound).1)
+  pub told-told : (result : Result Reply Stop) (reply : Result Reply OutOfMemory) → ToldAs result reply → Gave old new n q result → StandsForSite old →
+      IfOk reply (λ r. IsTold r)
+  told-told (Ok reply) told is gave before = subst (λ z. IfOk z (λ r. IsTold r)) (sym is)
+      (step-told before.site n q valid before.sound reply (gave before.site before.stands before.sound).1)
   told-told (Err (Refused refusal)) told is gave before =
       subst (λ z. IfOk z (λ r. IsTold r)) (sym is)
       (step-told before.site n q valid before.sound (RefusedWith refusal) (ap (λ (a : Answer). a.1) (sym (gave before.site before.stands before.sound).1)))
@@ -75,7 +84,8 @@ module _ (old new : Core) (n : ℕ) (q : Request) (below : IsTrue (is_u16 n)) (v
   pub gave-opening : (result : Result Reply Stop) → Gave old new n q result → StandsForSite old → opened_with new ≡ opened_with old
   gave-opening (Ok reply) gave before =
       opened-same old new before.site (step before.site n q).0 before.stands (gave before.site before.stands before.sound).0 (step-same before.site n q)
-  gave-opening (Err (Refused refusal)) gave before = opened-same old new before.site before.site before.stands (gave before.site before.stands before.sound).0 (refl, refl)
+  gave-opening (Err (Refused refusal)) gave before = opened-same old new before.site before.site before.stands
+      (gave before.site before.stands before.sound).0 (refl, refl)
   gave-opening (Err NoMemory) gave before = opened-same old new before.site before.site before.stands (gave before.site before.stands before.sound) (refl, refl)
 
 -- no memory is wanting

@@ -1,5 +1,6 @@
 -- Closed states are collected: what stands for the site then.
-use Rattle.std.proofs.Common.{◌≡◌, ℕ, zero, suc, ◌-◌, ◌<◌, Bool, List, [], ◌∷◌, map, length, slice_get, unwrap_or, Option, Some, IsTrue, IsFalse, refl, sym, ap, ap₂, subst, ◌∙◌, arith}
+use Rattle.std.proofs.Common.{◌≡◌, ℕ, zero, suc, ◌-◌, ◌<◌, Bool, List, [], ◌∷◌, map, length, slice_get, unwrap_or, Option, Some, IsTrue, IsFalse, refl, sym}
+use Rattle.std.proofs.Common.{ap, ap₂, subst, ◌∙◌, arith}
 use Rattle.std.specs.Prelude.{nat_le}
 use Rattle.std.specs.List.{list_any, list_all}
 use Rattle.std.proofs.lemmas.Bool.{and_parts, and_from, or_left, or_right, both_ways, false_from_ne_true, leb-true}
@@ -74,14 +75,17 @@ core-together core site stands sound = record {
 -- ===== The transactions
 
 -- what an open transaction reads isn't collected
-reads-uncollected : (site : Site) (xs : List StateId) (n : ℕ) (s : Session) → IsSound site → entry_of n site.sessions ≡ Some s → IsTrue (list_all (is_admitted site.dag s.ceiling) xs) →
+reads-uncollected : (site : Site) (xs : List StateId) (n : ℕ) (s : Session) → IsSound site → entry_of n site.sessions ≡ Some s →
+    IsTrue (list_all (is_admitted site.dag s.ceiling) xs) →
     (x : StateId) → IsTrue (is_among x xs) → IsFalse (is_among x site.collected)
 reads-uncollected site xs n s sound opened admitted x among =
     false_from_ne_true (is_among x site.collected) (λ gone.
-    both_ways (is_admitted site.dag s.ceiling x) (collected-are-never-admitted site n s x sound opened gone) (all-at (is_admitted site.dag s.ceiling) xs x admitted among))
+    both_ways (is_admitted site.dag s.ceiling x) (collected-are-never-admitted site n s x sound opened gone)
+    (all-at (is_admitted site.dag s.ceiling) xs x admitted among))
 
 module _ (old new : Table) (ks : List StateId) (stays : KeepsUncollected old new ks) where
-  names-stay : (ss : List Slot) (xs : List StateId) → ((x : StateId) → IsTrue (is_among x xs) → IsFalse (is_among x ks)) → map (id_at old) ss ≡ map (λ x. Some x) xs → map (id_at new) ss ≡ map (λ x. Some x) xs
+  names-stay : (ss : List Slot) (xs : List StateId) → ((x : StateId) → IsTrue (is_among x xs) → IsFalse (is_among x ks)) → map (id_at old) ss
+      ≡ map (λ x. Some x) xs → map (id_at new) ss ≡ map (λ x. Some x) xs
   names-stay [] [] out e = refl
   names-stay [] (x ∷ xs) out e = absurd (let bad : ⊥ = cc in bad)
   names-stay (s ∷ ss) [] out e = absurd (let bad : ⊥ = cc in bad)
@@ -117,7 +121,8 @@ module _ (core : Core) (store : Store) (book : Book) (site : Site) (n : ℕ) (st
       let found = kept-for core site stands m t is in
       let still = tidy-keeps site n sound in
       let was = still.each_txn m (txn_of t) found in
-      named-stays core.store.table store.table (tidied n site.dag site.floors site.collected) (subst (KeepsUncollected core.store.table store.table) same-collected keeps) t
+      named-stays core.store.table store.table (tidied n site.dag site.floors site.collected)
+      (subst (KeepsUncollected core.store.table store.table) same-collected keeps) t
       (reads-uncollected after (read_states (txn_of t)) m was.0 still was.1 was.2.admitted) (stands.slots m t is)
 
   pub tidy-gives : (count : ℕ) → KeepsNumbers core.store.table store.table → KeepsPromises core.book book →
@@ -143,7 +148,8 @@ module _ (core : Core) (store : Store) (book : Book) (site : Site) (n : ℕ) (st
 
 -- and what always holds of the memory holds
 pub tidy-held : (a : Inside) (store : Store) (book : Book) (site : Site) (n : ℕ) → CoreStands (seen a) site → IsSound site →
-    KeepsUncollected a.store.table store.table (tidied n site.dag (floors_of a.book) site.collected) → IsHeld a → KeepsNumbers a.store.table store.table → KeepsPromises a.book book → AreSlots book store.table →
+    KeepsUncollected a.store.table store.table (tidied n site.dag (floors_of a.book) site.collected) → IsHeld a → KeepsNumbers a.store.table store.table →
+    KeepsPromises a.book book → AreSlots book store.table →
     IsHeld (record a { store = store; book = book })
 tidy-held a store book site n stands sound keeps held numbers promises slots = record {
   places = slots;

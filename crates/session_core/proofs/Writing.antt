@@ -51,17 +51,23 @@ module _ (core : Core) (site : Site) (stands : CoreStands core site) (sound : Is
   pub put-done : (u : Unit {0}) → PutAs core.txns es n k w (Some (Ok u)) → IsGiven (CoreStands (record core { txns = es })) setting Done
   put-done u (t, e, (full, e_is)) =
       as-given (CoreStands (record core { txns = es })) setting (with_txn_changed n (having_written k w) site, Done) Done
-      (is-set t e ∙ skip site (Refused (TooMany 1 65)) [] (with_txn_changed n (having_written k w) site, Done) (has_no_place_to_write k (plain_writes (txn_of t))) (room t false full))
+      (is-set t e ∙ skip site (Refused (TooMany 1 65)) [] (with_txn_changed n (having_written k w) site, Done)
+      (has_no_place_to_write k (plain_writes (txn_of t))) (room t false full))
       (txn-changed core site stands n (having_written k w) (putting k w) es e_is (put-txn k w) (put-names core.store.table k w), refl)
 
   -- it isn't
-  pub put-stops : (fault : TxnFault) → PutAs core.txns es n k w (Some (Err fault)) → Stops (CoreStands (record core { txns = es })) setting site (txn_stop fault)
+  pub put-stops : (fault : TxnFault) → PutAs core.txns es n k w (Some (Err fault)) →
+      Stops (CoreStands (record core { txns = es })) setting site (txn_stop fault)
   put-stops fault (t, e, (is, e_is)) =
       let there = same-txns core site stands n es e_is in
       subst (λ f. Stops (CoreStands (record core { txns = es })) setting site (txn_stop f)) (sym is) (go (has_no_place_to_write k (writes_of t)) refl there)
     where
-      go : (b : Bool) → has_no_place_to_write k (writes_of t) ≡ b → CoreStands (record core { txns = es }) site → Stops (CoreStands (record core { txns = es })) setting site (txn_stop (put_fault k (writes_of t)))
+      go : (b : Bool) → has_no_place_to_write k (writes_of t) ≡ b → CoreStands (record core { txns = es }) site →
+          Stops (CoreStands (record core { txns = es })) setting site (txn_stop (put_fault k (writes_of t)))
       go true f there =
-          rw f
-          (there, is-set t e ∙ stop site (Refused (TooMany 1 65)) [] (with_txn_changed n (having_written k w) site, Done) (has_no_place_to_write k (plain_writes (txn_of t))) (room t true f))
+          rw f (
+            there,
+            is-set t e ∙ stop site (Refused (TooMany 1 65)) [] (with_txn_changed n (having_written k w) site, Done)
+                (has_no_place_to_write k (plain_writes (txn_of t))) (room t true f),
+          )
       go false f there = rw f there

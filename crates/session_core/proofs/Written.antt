@@ -1,5 +1,6 @@
 -- A transaction is written over.
-use Rattle.std.proofs.Common.{◌≡◌, ◌↔◌, ℕ, Bool, true, false, ◌==◌, if◌then◌else◌, List, [], ◌∷◌, Option, Some, None, Result, Ok, Err, IsTrue, refl, sym, ap, subst, ◌∙◌}
+use Rattle.std.proofs.Common.{◌≡◌, ◌↔◌, ℕ, Bool, true, false, ◌==◌, if◌then◌else◌, List, [], ◌∷◌, Option, Some, None, Result, Ok, Err, IsTrue, refl, sym, ap}
+use Rattle.std.proofs.Common.{subst, ◌∙◌}
 use Rattle.std.specs.Result.{OnOk, OnErr, IfErr}
 use Rattle.std.specs.Ordering.{nat_cmp}
 use Rattle.std.specs.Map.{lookup, set_value, keys_of}
@@ -23,7 +24,8 @@ use Rattle.session_core.specs.Txns.{ChangedAs, noting, slot_read}
 use Rattle.session_core.proofs.Entries.{is-written, changed-twice, changed-none}
 
 -- nothing is there
-pub nothing-there : (n : ℕ) (es now : List (ℕ × Txn)) → es ≡ now → ◌≡◌ {A = Option Txn} (lookup (is_at (nat_cmp n)) es) None → ◌≡◌ {A = Option Txn} (entry_of n now) None
+pub nothing-there : (n : ℕ) (es now : List (ℕ × Txn)) → es ≡ now → ◌≡◌ {A = Option Txn} (lookup (is_at (nat_cmp n)) es) None →
+    ◌≡◌ {A = Option Txn} (entry_of n now) None
 nothing-there n es now is none = ap (entry_of n) (sym is) ∙ sym (looked-up n es) ∙ none
 
 -- it is there
@@ -50,17 +52,21 @@ rewritten (Single t) = refl
 rewritten (Merge t) = refl
 
 -- where there is no transaction, nothing is taken and nothing put back
-pub none-changed : (n : ℕ) (f : Txn → Txn) (es now after : List (ℕ × Txn)) → es ≡ now → ◌≡◌ {A = Option Txn} (lookup (is_at (nat_cmp n)) es) None → after ≡ es → after ≡ changed n f now
+pub none-changed : (n : ℕ) (f : Txn → Txn) (es now after : List (ℕ × Txn)) → es ≡ now → ◌≡◌ {A = Option Txn} (lookup (is_at (nat_cmp n)) es) None →
+    after ≡ es → after ≡ changed n f now
 none-changed n f es now after is none same = same ∙ is ∙ sym (changed-none n f now (nothing-there n es now is none))
 
-pub none-back : (n : ℕ) (f : Txn → Txn) (es now after : List (ℕ × Txn)) → es ≡ now → ◌≡◌ {A = Option Txn} (lookup (is_at (nat_cmp n)) es) None → after ≡ es → changed n f after ≡ now
+pub none-back : (n : ℕ) (f : Txn → Txn) (es now after : List (ℕ × Txn)) → es ≡ now → ◌≡◌ {A = Option Txn} (lookup (is_at (nat_cmp n)) es) None → after ≡ es
+    → changed n f after ≡ now
 none-back n f es now after is none same = ap (changed n f) (same ∙ is) ∙ changed-none n f now (nothing-there n es now is none)
 
 -- where there is no transaction, no read is noted
-pub none-read : (store : Store) (n : ℕ) (k key : List ℕ) (es now after : List (ℕ × Txn)) → es ≡ now → ◌≡◌ {A = Option Txn} (lookup (is_at (nat_cmp n)) es) None → after ≡ es → key ≡ k → ReadsIn store now after n k (Other key)
+pub none-read : (store : Store) (n : ℕ) (k key : List ℕ) (es now after : List (ℕ × Txn)) → es ≡ now →
+    ◌≡◌ {A = Option Txn} (lookup (is_at (nat_cmp n)) es) None → after ≡ es → key ≡ k → ReadsIn store now after n k (Other key)
 none-read store n k key es now after is none same key_is = ((λ t e. absurd (none-some t (sym (nothing-there n es now is none) ∙ e))), key_is, same ∙ is)
 
-module _ (n : ℕ) (es now after : List (ℕ × Txn)) (v w : Txn) (is : es ≡ now) (put : after ≡ set_value (is_at (nat_cmp n)) es w) (ordered : IsStrictlySortedBy nat_cmp (keys_of es)) (found : lookup (is_at (nat_cmp n)) es ≡ Some v) where
+module _ (n : ℕ) (es now after : List (ℕ × Txn)) (v w : Txn) (is : es ≡ now) (put : after ≡ set_value (is_at (nat_cmp n)) es w)
+    (ordered : IsStrictlySortedBy nat_cmp (keys_of es)) (found : lookup (is_at (nat_cmp n)) es ≡ Some v) where
   -- the transaction that was there
   pub was-there : entry_of n now ≡ Some v
   was-there = ap (entry_of n) (sym is) ∙ sym (looked-up n es) ∙ found
@@ -85,7 +91,8 @@ module _ (n : ℕ) (es now after : List (ℕ × Txn)) (v w : Txn) (is : es ≡ n
       ∙ unchanged n es
       ∙ is
 
-  pub is-changed : (f : Txn → Txn) (full : Bool) (too_many : TxnFault) (r : Result (Unit {0}) TxnFault) → OnOk r (w ≡ f v) → OnErr r (w ≡ v) → ((r ≡ Err too_many) ↔ IsTrue full) →
+  pub is-changed : (f : Txn → Txn) (full : Bool) (too_many : TxnFault) (r : Result (Unit {0}) TxnFault) → OnOk r (w ≡ f v) → OnErr r (w ≡ v) →
+      ((r ≡ Err too_many) ↔ IsTrue full) →
       IfErr r (λ fault. fault ≡ (if full then too_many else NoMemory)) → ChangedAs now after n f full too_many r
   is-changed f full too_many (Ok u) taken same both fault = (not-full u too_many full both, after-changed f taken)
   is-changed f full too_many (Err e) taken same both fault = (fault, after-same same)
@@ -94,4 +101,8 @@ module _ (n : ℕ) (es now after : List (ℕ × Txn)) (v w : Txn) (is : es ≡ n
   pub is-read : (store : Store) (k : List ℕ) (r : NotedRead) → TxnReads store v w k r → ReadsIn store now after n k r
   is-read store k (Found what) (slot, at, finds, room, changes) = (v, was-there, slot, at, finds, room, after-changed (noting k) changes)
   is-read store k (Fault fault) (slot, at, fault_is, same) = (v, was-there, slot, at, fault_is, after-same same)
-  is-read store k (Other key) (none, key_is, same) = ((λ t e. subst (λ u. slot_read k u ≡ None) (same_Some v t (sym was-there ∙ e)) none), key_is, after-same same)
+  is-read store k (Other key) (none, key_is, same) = (
+    (λ t e. subst (λ u. slot_read k u ≡ None) (same_Some v t (sym was-there ∙ e)) none),
+    key_is,
+    after-same same,
+  )

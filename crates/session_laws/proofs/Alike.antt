@@ -1,5 +1,6 @@
 -- Histories that are alike in what is kept.
-use Rattle.std.proofs.Common.{◌≡◌, ℕ, Bool, false, cond, leb, List, [], ◌∷◌, ◌++◌, length, map, filter, find, Option, Some, None, IsTrue, refl, sym, ap, ap₂, subst, ◌∙◌}
+use Rattle.std.proofs.Common.{◌≡◌, ℕ, Bool, false, cond, leb, List, [], ◌∷◌, ◌++◌, length, map, filter, find, Option, Some, None, IsTrue, refl, sym, ap, ap₂}
+use Rattle.std.proofs.Common.{subst, ◌∙◌}
 use Rattle.std.specs.Prelude.{slice_get, nat_lt, flat_map}
 use Rattle.std.specs.List.{range_with_len}
 use Rattle.std.specs.Option.{option_map, option_map_or}
@@ -38,7 +39,8 @@ pub record AreAlike (ra : List Record) (ka : List StateId) (rb : List Record) (k
 abbrev pub counted : StateId → ℕ → StateId × ℕ
 counted x n = (x, n)
 
-module _ (ra : List Record) (ka : List StateId) (rb : List Record) (kb : List StateId) (ha : IsHistory ra ka) (hb : IsHistory rb kb) (alike : AreAlike ra ka rb kb) where
+module _ (ra : List Record) (ka : List StateId) (rb : List Record) (kb : List StateId) (ha : IsHistory ra ka) (hb : IsHistory rb kb)
+    (alike : AreAlike ra ka rb kb) where
   -- what is kept in the one is kept in the other
   pub kept-there : (x : StateId) → IsTrue (is_kept ra ka x) → IsTrue (is_kept rb kb x)
   kept-there x kept = listed-is_kept rb kb x (subst (λ xs. IsTrue (is_among x xs)) alike.same_kept (kept-is_listed ra ka x kept))
@@ -50,16 +52,19 @@ module _ (ra : List Record) (ka : List StateId) (rb : List Record) (kb : List St
   well_b = stands-in-well rb kb hb.dag hb.shared
 
   -- known states with the same stand-in are at or above the same kept states
-  pub above-alike : (z w x : StateId) → IsTrue (is_known ra z) → IsTrue (is_known rb w) → stand_in ra ka z ≡ stand_in rb kb w → IsTrue (is_kept ra ka x) → is_above ra z x ≡ is_above rb w x
+  pub above-alike : (z w x : StateId) → IsTrue (is_known ra z) → IsTrue (is_known rb w) → stand_in ra ka z ≡ stand_in rb kb w → IsTrue (is_kept ra ka x) →
+      is_above ra z x ≡ is_above rb w x
   above-alike z w x known_a known_b same kept =
       well_a.tells z x known_a kept
       ∙ (alike.same_above (stand_in ra ka z) x (well_a.kept z known_a) kept
       ∙ (ap (λ v. is_above rb v x) same ∙ sym (well_b.tells w x known_b (kept-there x kept))))
 
   -- so it is with the children of a kept state
-  pub child-above : (p c x : StateId) → IsTrue (is_kept ra ka p) → IsTrue (is_among c (children ra p)) → IsTrue (is_kept ra ka x) → is_above ra c x ≡ is_above rb c x
+  pub child-above : (p c x : StateId) → IsTrue (is_kept ra ka p) → IsTrue (is_among c (children ra p)) → IsTrue (is_kept ra ka x) → is_above ra c x
+      ≡ is_above rb c x
   child-above p c x kept_p m kept =
-      above-alike c c x (child_is_known ra p c m) (child_is_known rb p c (subst (λ cs. IsTrue (is_among c cs)) (alike.same_children p kept_p) m)) (alike.same_stand_ins p c kept_p m) kept
+      above-alike c c x (child_is_known ra p c m) (child_is_known rb p c (subst (λ cs. IsTrue (is_among c cs)) (alike.same_children p kept_p) m))
+      (alike.same_stand_ins p c kept_p m) kept
 
   -- ===== Fork paths
 
@@ -68,16 +73,19 @@ module _ (ra : List Record) (ka : List StateId) (rb : List Record) (kb : List St
   leads-alike x p n kept kept_p =
       go (slice_get (children ra p) n) refl ∙ ap (λ cs. option_map_or (λ c. is_above rb c x) (slice_get cs n) false) (alike.same_children p kept_p)
     where
-      go : (o : Option StateId) → slice_get (children ra p) n ≡ o → leads_to ra x (p, n) ≡ option_map_or (λ c. is_above rb c x) (slice_get (children ra p) n) false
+      go : (o : Option StateId) → slice_get (children ra p) n ≡ o → leads_to ra x (p, n)
+          ≡ option_map_or (λ c. is_above rb c x) (slice_get (children ra p) n) false
       go None e = ap (λ o. option_map_or (λ c. is_above ra c x) o false) e ∙ sym (ap (λ o. option_map_or (λ c. is_above rb c x) o false) e)
       go (Some c) e =
           ap (λ o. option_map_or (λ d. is_above ra d x) o false) e
           ∙ (child-above p c x kept_p (got-is_among (children ra p) n c e) kept ∙ sym (ap (λ o. option_map_or (λ d. is_above rb d x) o false) e))
 
-  one-path : (x p : StateId) → IsTrue (is_kept ra ka x) → IsTrue (is_kept ra ka p) → (ns : List ℕ) → filter (leads_to ra x) (map (λ n. counted p n) ns) ≡ filter (leads_to rb x) (map (λ n. counted p n) ns)
+  one-path : (x p : StateId) → IsTrue (is_kept ra ka x) → IsTrue (is_kept ra ka p) → (ns : List ℕ) → filter (leads_to ra x) (map (λ n. counted p n) ns)
+      ≡ filter (leads_to rb x) (map (λ n. counted p n) ns)
   one-path x p kept kept_p [] = refl
   one-path x p kept kept_p (n ∷ ns) =
-      ap (λ b. cond b (counted p n ∷ filter (leads_to ra x) (map (λ m. counted p m) ns)) (filter (leads_to ra x) (map (λ m. counted p m) ns))) (leads-alike x p n kept kept_p)
+      ap (λ b. cond b (counted p n ∷ filter (leads_to ra x) (map (λ m. counted p m) ns)) (filter (leads_to ra x) (map (λ m. counted p m) ns)))
+      (leads-alike x p n kept kept_p)
       ∙ ap (λ ps. cond (leads_to rb x (p, n)) (counted p n ∷ ps) ps) (one-path x p kept kept_p ns)
 
   paths-alike : (x : StateId) → IsTrue (is_kept ra ka x) → (ps : List StateId) → ((p : StateId) → IsTrue (is_among p ps) → IsTrue (is_kept ra ka p)) →
@@ -109,14 +117,16 @@ module _ (ra : List Record) (ka : List StateId) (rb : List Record) (kb : List St
   long-path-alike most =
       go (find long (kept_states ra ka)) refl
       ∙ ap (option_map (λ x. counted x (length (fork_path rb kb x))))
-      (find-agrees long (λ x. nat_lt most (length (fork_path rb kb x))) (kept_states ra ka) (λ x m. ap (λ ps. nat_lt most (length ps)) (fork-path-alike x (listed-is_kept ra ka x m)))
+      (find-agrees long (λ x. nat_lt most (length (fork_path rb kb x))) (kept_states ra ka)
+      (λ x m. ap (λ ps. nat_lt most (length ps)) (fork-path-alike x (listed-is_kept ra ka x m)))
       ∙ ap (find (λ x. nat_lt most (length (fork_path rb kb x)))) alike.same_kept)
     where
       long : StateId → Bool
       long x = nat_lt most (length (fork_path ra ka x))
 
       go : (o : Option StateId) → find long (kept_states ra ka) ≡ o →
-          option_map (λ x. counted x (length (fork_path ra ka x))) (find long (kept_states ra ka)) ≡ option_map (λ x. counted x (length (fork_path rb kb x))) (find long (kept_states ra ka))
+          option_map (λ x. counted x (length (fork_path ra ka x))) (find long (kept_states ra ka))
+          ≡ option_map (λ x. counted x (length (fork_path rb kb x))) (find long (kept_states ra ka))
       go None e = ap (option_map (λ x. counted x (length (fork_path ra ka x)))) e ∙ sym (ap (option_map (λ x. counted x (length (fork_path rb kb x)))) e)
       go (Some x) e =
           ap (option_map (λ y. counted y (length (fork_path ra ka y)))) e

@@ -53,8 +53,10 @@ module _ (core : Core) (a b : Site) (on_a : SiteStands core a) (on_b : SiteStand
       ap made (next-id-alike core a b on_a on_b)
 
   -- the same states below which the record may arrive
-  below-here : (xs : List StateId) (ws : List KeyWrite) (ps : List (Option Reply)) → (AreNone ps → own_count a ≢ 4294967295 → Arrives a.dag a.collected (next_record a xs ws)) →
-      (AreNone ps → own_count b ≢ 4294967295 → Arrives b.dag b.collected (next_record b xs ws)) → ReplyAlike (commit_below a n xs ws ps) (commit_below b n xs ws ps)
+  below-here : (xs : List StateId) (ws : List KeyWrite) (ps : List (Option Reply)) →
+      (AreNone ps → own_count a ≢ 4294967295 → Arrives a.dag a.collected (next_record a xs ws)) →
+      (AreNone ps → own_count b ≢ 4294967295 → Arrives b.dag b.collected (next_record b xs ws)) →
+      ReplyAlike (commit_below a n xs ws ps) (commit_below b n xs ws ps)
   below-here xs ws ps at_a at_b =
       let ra = next_record a xs ws in
       let rb = next_record b xs ws in
@@ -71,7 +73,8 @@ module _ (core : Core) (a b : Site) (on_a : SiteStands core a) (on_b : SiteStand
       let grows : growth_refusals a ra ≡ growth_refusals b rb = growth-alike ra (at_a none below) here ∙ ap (growth_refusals b) same in
       last-alike ra rb (growth_refusals a ra) (growth_refusals b rb) same grows))
     where
-      last-alike : (ra rb : Record) (ps qs : List (Option Reply)) → ra ≡ rb → ps ≡ qs → ReplyAlike (unless a ps (committed a n ra)) (unless b qs (committed b n rb))
+      last-alike : (ra rb : Record) (ps qs : List (Option Reply)) → ra ≡ rb → ps ≡ qs →
+          ReplyAlike (unless a ps (committed a n ra)) (unless b qs (committed b n rb))
       last-alike ra rb ps qs same grows =
           subst (λ zs. ReplyAlike (unless a ps (committed a n ra)) (unless b zs (committed b n rb))) grows (go ps)
         where
@@ -81,8 +84,10 @@ module _ (core : Core) (a b : Site) (on_a : SiteStands core a) (on_b : SiteStand
           go (Some reply ∷ zs) = refl
 
   -- so it is below states, and after refusals, that are the same
-  below-alike : (xs ys : List StateId) (ws : List KeyWrite) (ps qs : List (Option Reply)) → xs ≡ ys → ps ≡ qs → (AreNone ps → own_count a ≢ 4294967295 → Arrives a.dag a.collected (next_record a xs ws)) →
-      (AreNone qs → own_count b ≢ 4294967295 → Arrives b.dag b.collected (next_record b ys ws)) → ReplyAlike (commit_below a n xs ws ps) (commit_below b n ys ws qs)
+  below-alike : (xs ys : List StateId) (ws : List KeyWrite) (ps qs : List (Option Reply)) → xs ≡ ys → ps ≡ qs →
+      (AreNone ps → own_count a ≢ 4294967295 → Arrives a.dag a.collected (next_record a xs ws)) →
+      (AreNone qs → own_count b ≢ 4294967295 → Arrives b.dag b.collected (next_record b ys ws)) →
+      ReplyAlike (commit_below a n xs ws ps) (commit_below b n ys ws qs)
   below-alike xs ys ws ps qs same alike at_a at_b =
       subst (λ zs. ReplyAlike (commit_below a n xs ws ps) (commit_below b n zs ws qs)) same
       (subst (λ os. ReplyAlike (commit_below a n xs ws ps) (commit_below b n xs ws os)) alike
@@ -103,21 +108,26 @@ module _ (core : Core) (a b : Site) (on_a : SiteStands core a) (on_b : SiteStand
       let lands = lands-below a.dag keys t.state on_a.1.dag known in
       and_from (is_known a.dag x) (not (is_among x a.collected)) lands.0 (not_from_false (is_among x a.collected) (below-is-kept a on_a.1 n t d x lands.1))
 
-  writes-alike : (t : SingleTxn) → entry_of n a.txns ≡ Some (Single t) → (flags : EndFlags) (k : ℕ) → ReplyAlike (commit_writes a n t flags k) (commit_writes b n t flags k)
+  writes-alike : (t : SingleTxn) → entry_of n a.txns ≡ Some (Single t) → (flags : EndFlags) (k : ℕ) →
+      ReplyAlike (commit_writes a n t flags k) (commit_writes b n t flags k)
   writes-alike t d flags k =
       let keys = guarded flags t.reads (keys_of t.writes) in
       let x = landing a.dag keys t.state in
       let y = landing b.dag keys t.state in
       let same : x ≡ y =
-      landing-alike core.store a.dag a.collected b.dag b.collected on_a.0.store on_b.0.store keys t.state (one-kept core a b on_a on_b n t d) (below-is-kept a on_a.1 n t d) in
+      landing-alike core.store a.dag a.collected b.dag b.collected on_a.0.store on_b.0.store keys t.state (one-kept core a b on_a on_b n t d)
+      (below-is-kept a on_a.1 n t d) in
       let kept : IsTrue (is_kept a.dag a.collected x) = lands-kept t d keys in
       let broken_at : StateId → ℕ → List (Option Reply) = λ z m. refuse_found (λ c. Branches c z m) (broken flags k m) ∷ [] in
-      let count : length (children a.dag x) ≡ length (children b.dag y) = ap length ((sites-alike core a b on_a on_b).same_children x kept ∙ ap (children b.dag) same) in
-      below-alike (x ∷ []) (y ∷ []) t.writes (broken_at x (length (children a.dag x))) (broken_at y (length (children b.dag y))) (ap (λ z. z ∷ []) same) (ap₂ broken_at same count)
+      let count : length (children a.dag x) ≡ length (children b.dag y) =
+      ap length ((sites-alike core a b on_a on_b).same_children x kept ∙ ap (children b.dag) same) in
+      below-alike (x ∷ []) (y ∷ []) t.writes (broken_at x (length (children a.dag x))) (broken_at y (length (children b.dag y))) (ap (λ z. z ∷ []) same)
+      (ap₂ broken_at same count)
       (λ none more. arrives a.limits.sites a.dag a.collected (next_record a (x ∷ []) t.writes) (may-arrive a on_a.1 n t d flags more))
       (λ none more. arrives b.limits.sites b.dag b.collected (next_record b (y ∷ []) t.writes) (may-arrive b on_b.1 n t (there_b (Single t) d) flags more))
 
-  single-alike : (t : SingleTxn) → entry_of n a.txns ≡ Some (Single t) → (flags : EndFlags) (k : ℕ) → ReplyAlike (commit_single a n t flags k) (commit_single b n t flags k)
+  single-alike : (t : SingleTxn) → entry_of n a.txns ≡ Some (Single t) → (flags : EndFlags) (k : ℕ) →
+      ReplyAlike (commit_single a n t flags k) (commit_single b n t flags k)
   single-alike t d flags k = go t.writes
     where
       go : (ws : List KeyWrite) →
@@ -142,10 +152,12 @@ module _ (core : Core) (a b : Site) (on_a : SiteStands core a) (on_b : SiteStand
       let conflict_b = open_conflict b.dag t.states t.writes in
       below-alike t.states t.states t.writes (open_at conflict_a) (open_at conflict_b) refl (ap open_at (open-alike t d))
       (λ none more.
-      let written = found-none OpenConflict conflict_a (none-parts (refuse_found OpenConflict conflict_a) [] (none-parts mode (refuse_found OpenConflict conflict_a ∷ []) none).1).0 in
+      let written = found-none OpenConflict conflict_a (none-parts (refuse_found OpenConflict conflict_a) []
+      (none-parts mode (refuse_found OpenConflict conflict_a ∷ []) none).1).0 in
       arrives a.limits.sites a.dag a.collected (next_record a t.states t.writes) (merge-arrives a on_a.1 n t d written more))
       (λ none more.
-      let written = found-none OpenConflict conflict_b (none-parts (refuse_found OpenConflict conflict_b) [] (none-parts mode (refuse_found OpenConflict conflict_b ∷ []) none).1).0 in
+      let written = found-none OpenConflict conflict_b (none-parts (refuse_found OpenConflict conflict_b) []
+      (none-parts mode (refuse_found OpenConflict conflict_b ∷ []) none).1).0 in
       arrives b.limits.sites b.dag b.collected (next_record b t.states t.writes) (merge-arrives b on_b.1 n t (there_b (Merge t) d) written more))
 
   pub commit-alike : (t : Txn) → entry_of n a.txns ≡ Some t → (flags : EndFlags) (k : ℕ) → ReplyAlike (commit a n t flags k) (commit b n t flags k)

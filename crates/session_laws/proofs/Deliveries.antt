@@ -1,5 +1,6 @@
 -- What is delivered, and what waited, is answered alike.
-use Rattle.std.proofs.Common.{◌≡◌, ℕ, ◌+◌, ◌-◌, ◌≤◌, ◌<◌, Bool, true, false, not, ◌&&◌, ◌||◌, ◌==◌, List, [], ◌∷◌, length, Option, Some, None, IsTrue, refl, sym, ap, ap₂, subst, ◌∙◌, arith, cond}
+use Rattle.std.proofs.Common.{◌≡◌, ℕ, ◌+◌, ◌-◌, ◌≤◌, ◌<◌, Bool, true, false, not, ◌&&◌, ◌||◌, ◌==◌, List, [], ◌∷◌, length, Option, Some, None, IsTrue, refl}
+use Rattle.std.proofs.Common.{sym, ap, ap₂, subst, ◌∙◌, arith, cond}
 use Rattle.std.specs.Prelude.{nat_lt, nat_le}
 use Rattle.std.specs.List.{list_all}
 use Rattle.std.specs.Option.{option_map}
@@ -41,7 +42,8 @@ use Rattle.session_laws.proofs.Judged.{unsaid, count-same, judgements-alike}
 use Rattle.session_laws.proofs.Sites.{floors-alike, limits-alike, own-alike, known-same}
 
 -- a closed state is a proper ancestor of the floor of each site
-closed-above : (site : Site) (x : StateId) (n : ℕ) → IsSound site → 1 ≤ n → n ≤ site.limits.sites → IsTrue (is_closed site.dag site.floors x) → IsTrue (is_proper_ancestor site.dag x (floor_of site.floors n).state)
+closed-above : (site : Site) (x : StateId) (n : ℕ) → IsSound site → 1 ≤ n → n ≤ site.limits.sites → IsTrue (is_closed site.dag site.floors x) →
+    IsTrue (is_proper_ancestor site.dag x (floor_of site.floors n).state)
 closed-above site x n sound some within closed =
     let all = sound.one_floor_each in
     let l : n - 1 < length site.floors = omega arith in
@@ -89,20 +91,24 @@ module _ (core : Core) (a b : Site) (on_a : SiteStands core a) (on_b : SiteStand
   -- ===== Consents
 
   -- where the site's floor is at or above a known state in both or in neither
-  floor-alike : (n : ℕ) (x : StateId) → 1 ≤ n → n ≤ a.limits.sites → IsTrue (is_known a.dag x) → is_above a.dag (floor_of a.floors n).state x ≡ is_above b.dag (floor_of b.floors n).state x
+  floor-alike : (n : ℕ) (x : StateId) → 1 ≤ n → n ≤ a.limits.sites → IsTrue (is_known a.dag x) → is_above a.dag (floor_of a.floors n).state x
+      ≡ is_above b.dag (floor_of b.floors n).state x
   floor-alike n x some within known =
       let f = (floor_of a.floors n).state in
       let same : floor_of a.floors n ≡ floor_of b.floors n = ap (λ fs. floor_of fs n) (floors-alike core a b on_a on_b) in
       let within_b : n ≤ b.limits.sites = subst (λ l. n ≤ l.sites) (limits-alike core a b on_a on_b) within in
-      let under : (y : StateId) → IsTrue (is_among y a.collected) → IsTrue (is_proper_ancestor a.dag y f) = λ y m. closed-above a y n on_a.1 some within (on_a.1.collected.closed y m) in
+      let under : (y : StateId) → IsTrue (is_among y a.collected) → IsTrue (is_proper_ancestor a.dag y f) =
+      λ y m. closed-above a y n on_a.1 some within (on_a.1.collected.closed y m) in
       let under_b : (y : StateId) → IsTrue (is_among y b.collected) → IsTrue (is_proper_ancestor b.dag y f) =
-      λ y m. subst (λ (g : Floor). IsTrue (is_proper_ancestor b.dag y g.state)) (sym same) (closed-above b y n on_b.1 some within_b (on_b.1.collected.closed y m)) in
+      λ y m. subst (λ (g : Floor). IsTrue (is_proper_ancestor b.dag y g.state)) (sym same)
+      (closed-above b y n on_b.1 some within_b (on_b.1.collected.closed y m)) in
       let kept = kept-beneath a.dag on_a.1.dag a.collected f f under (sound-floor a on_a.1 n some within).known (above-reflexive a.dag f) in
       above-same core a b on_a on_b f x kept known under under_b ∙ ap (λ (g : Floor). is_above b.dag g.state x) same
 
   consent-alike : (c : Consent) → IsTrue (is_consent c) → ReplyAlike (deliver_consent a c) (deliver_consent b c)
   consent-alike c valid =
-      let taken : Site → Answer = λ site. (record site { floors = with_floor site.floors c.site (record { state = c.floor; number = c.number; stated = c.count }) }, Applied) in
+      let taken : Site → Answer =
+      λ site. (record site { floors = with_floor site.floors c.site (record { state = c.floor; number = c.number; stated = c.count }) }, Applied) in
       let f : Site → Floor = λ site. floor_of site.floors c.site in
       let count : Site → ℕ = λ site. count_of_site site.dag c.site in
       let bad_of : ℕ → Option Reply = λ sites. refuse (nat_lt sites c.site) (BadSite c.site) in
@@ -116,7 +122,8 @@ module _ (core : Core) (a b : Site) (on_a : SiteStands core a) (on_b : SiteStand
       let back : Site → Option Reply = λ site. back_of (is_above site.dag (f site).state c.floor) (f site) in
       let same : f a ≡ f b = ap (λ fs. floor_of fs c.site) (floors-alike core a b on_a on_b) in
       let some = consent-site c valid in
-      first-alike a b (bad_of a.limits.sites) (bad_of b.limits.sites) (known a ∷ own a ∷ early a ∷ back a ∷ []) (known b ∷ own b ∷ early b ∷ back b ∷ []) (taken a) (taken b)
+      first-alike a b (bad_of a.limits.sites) (bad_of b.limits.sites) (known a ∷ own a ∷ early a ∷ back a ∷ []) (known b ∷ own b ∷ early b ∷ back b ∷ [])
+      (taken a) (taken b)
       (ap (λ l. bad_of l.sites) (limits-alike core a b on_a on_b))
       (λ none.
       let within : c.site ≤ a.limits.sites = ltb-false a.limits.sites c.site (unrefused (nat_lt a.limits.sites c.site) (BadSite c.site) none) in
@@ -125,7 +132,8 @@ module _ (core : Core) (a b : Site) (on_a : SiteStands core a) (on_b : SiteStand
       (λ other. first-alike a b (early a) (early b) (back a ∷ []) (back b ∷ []) (taken a) (taken b)
       (ap₂ early_of (count-same core a b on_a on_b c.site some within) (known-same core a b on_a on_b c.floor))
       (λ timely.
-      let there = floor-known (nat_lt (count a) c.count) (is_known a.dag c.floor) (unsaid (nat_lt (count a) c.count || not (is_known a.dag c.floor)) (Early (count a)) timely) in
+      let there = floor-known (nat_lt (count a) c.count) (is_known a.dag c.floor)
+      (unsaid (nat_lt (count a) c.count || not (is_known a.dag c.floor)) (Early (count a)) timely) in
       first-alike a b (back a) (back b) [] [] (taken a) (taken b) (ap₂ back_of (floor-alike c.site c.floor some within there) same) (λ below. refl)))))
     where
       floor-known : (fewer known : Bool) → (fewer || not known) ≡ false → IsTrue known

@@ -1,5 +1,6 @@
 -- Ceilings and floors move alike.
-use Rattle.std.proofs.Common.{◌≡◌, ℕ, ◌+◌, Bool, not, ◌&&◌, ◌==◌, cond, List, [], ◌∷◌, Option, Some, None, is_none, IsTrue, IsFalse, unwrap_or, refl, sym, ap, ap₂, subst, ◌∙◌}
+use Rattle.std.proofs.Common.{◌≡◌, ℕ, ◌+◌, Bool, not, ◌&&◌, ◌==◌, cond, List, [], ◌∷◌, Option, Some, None, is_none, IsTrue, IsFalse, unwrap_or, refl, sym, ap}
+use Rattle.std.proofs.Common.{ap₂, subst, ◌∙◌}
 use Rattle.std.specs.List.{list_all}
 use Rattle.std.specs.Option.{option_map}
 use Rattle.std.proofs.lemmas.Bool.{and_parts, and_from, not_from_false, false_from_ne_true}
@@ -35,18 +36,22 @@ use Rattle.session_laws.proofs.Tables.{back}
 use Rattle.session_laws.proofs.Sites.{sessions-alike, floors-alike, own-alike, ceiling-is_kept, sites-alike, known-same}
 
 -- beneath a state that all collected ones are above there is no collected one
-none-beneath : (rs : List Record) → IsDag rs → (ks : List StateId) (c x : StateId) → ((y : StateId) → IsTrue (is_among y ks) → IsTrue (is_proper_ancestor rs y c)) → IsTrue (is_above rs c x) → IsFalse (is_among x ks)
+none-beneath : (rs : List Record) → IsDag rs → (ks : List StateId) (c x : StateId) →
+    ((y : StateId) → IsTrue (is_among y ks) → IsTrue (is_proper_ancestor rs y c)) → IsTrue (is_above rs c x) → IsFalse (is_among x ks)
 none-beneath rs dag ks c x under above = false_from_ne_true (is_among x ks) (λ gone. proper-of-itself rs x (proper-above rs dag x c x (under x gone) above))
 
 -- so a known state there is kept
-pub kept-beneath : (rs : List Record) → IsDag rs → (ks : List StateId) (c x : StateId) → ((y : StateId) → IsTrue (is_among y ks) → IsTrue (is_proper_ancestor rs y c)) → IsTrue (is_known rs x) → IsTrue (is_above rs c x) →
+pub kept-beneath : (rs : List Record) → IsDag rs → (ks : List StateId) (c x : StateId) →
+    ((y : StateId) → IsTrue (is_among y ks) → IsTrue (is_proper_ancestor rs y c)) → IsTrue (is_known rs x) → IsTrue (is_above rs c x) →
     IsTrue (is_kept rs ks x)
-kept-beneath rs dag ks c x under known above = and_from (is_known rs x) (not (is_among x ks)) known (not_from_false (is_among x ks) (none-beneath rs dag ks c x under above))
+kept-beneath rs dag ks c x under known above = and_from (is_known rs x) (not (is_among x ks)) known
+    (not_from_false (is_among x ks) (none-beneath rs dag ks c x under above))
 
 -- tests that agree pass the same last
 pub last-agrees : (p q : StateId → Bool) (xs : List StateId) → ((x : StateId) → IsTrue (is_among x xs) → p x ≡ q x) → last_passing p xs ≡ last_passing q xs
 last-agrees p q [] same = refl
-last-agrees p q (x ∷ xs) same = ap₂ or_else (last-agrees p q xs (λ z m. same z (among-later z x xs m))) (ap (λ t. cond t (Some x) None) (same x (among-first x xs)))
+last-agrees p q (x ∷ xs) same = ap₂ or_else (last-agrees p q xs (λ z m. same z (among-later z x xs m)))
+    (ap (λ t. cond t (Some x) None) (same x (among-first x xs)))
 
 -- the collected states are proper ancestors of the own floor
 under-own : (site : Site) → IsSound site → (y : StateId) → IsTrue (is_among y site.collected) → IsTrue (is_proper_ancestor site.dag y (own_floor site).state)
@@ -60,13 +65,15 @@ own-is_kept site sound =
 
 module _ (core : Core) (a b : Site) (on_a : SiteStands core a) (on_b : SiteStands core b) where
   -- a state that all collected ones are above is at or above a known one in both or in neither
-  pub above-same : (c x : StateId) → IsTrue (is_kept a.dag a.collected c) → IsTrue (is_known a.dag x) → ((y : StateId) → IsTrue (is_among y a.collected) → IsTrue (is_proper_ancestor a.dag y c)) →
+  pub above-same : (c x : StateId) → IsTrue (is_kept a.dag a.collected c) → IsTrue (is_known a.dag x) →
+      ((y : StateId) → IsTrue (is_among y a.collected) → IsTrue (is_proper_ancestor a.dag y c)) →
       ((y : StateId) → IsTrue (is_among y b.collected) → IsTrue (is_proper_ancestor b.dag y c)) → is_above a.dag c x ≡ is_above b.dag c x
   above-same c x kept known under_a under_b = same_test (is_above a.dag c x) (is_above b.dag c x)
       (λ above. sym ((sites-alike core a b on_a on_b).same_above c x kept (kept-beneath a.dag on_a.1.dag a.collected c x under_a known above)) ∙ above)
       (λ above.
       let kept_b = kept-beneath b.dag on_b.1.dag b.collected c x under_b (sym (known-same core a b on_a on_b x) ∙ known) above in
-      (sites-alike core a b on_a on_b).same_above c x kept (back core.store.table a.dag a.collected b.dag b.collected on_a.0.store.table on_b.0.store.table x kept_b) ∙ above)
+      (sites-alike core a b on_a on_b).same_above c x kept (back core.store.table a.dag a.collected b.dag b.collected on_a.0.store.table on_b.0.store.table
+      x kept_b) ∙ above)
 
   -- ===== A session's ceiling
 
@@ -76,10 +83,12 @@ module _ (core : Core) (a b : Site) (on_a : SiteStands core a) (on_b : SiteStand
       let moved : Site → Answer = λ site. (record site { sessions = changed n (with_ceiling x) site.sessions }, Done) in
       let unknown : Site → Option Reply = λ site. refuse (not (is_known site.dag x)) (Unknown x) in
       let back : Site → Option Reply = λ site. refuse (not (is_above site.dag s.ceiling x)) (CeilingBack s.ceiling) in
-      first-alike a b (unknown a) (unknown b) (back a ∷ []) (back b ∷ []) (moved a) (moved b) (ap (λ t. refuse (not t) (Unknown x)) (known-same core a b on_a on_b x))
+      first-alike a b (unknown a) (unknown b) (back a ∷ []) (back b ∷ []) (moved a) (moved b)
+      (ap (λ t. refuse (not t) (Unknown x)) (known-same core a b on_a on_b x))
       (λ none. first-alike a b (back a) (back b) [] [] (moved a) (moved b)
       (ap (λ t. refuse (not t) (CeilingBack s.ceiling))
-      (above-same s.ceiling x (ceiling-is_kept core a on_a.0 n s e) (passed (is_known a.dag x) (Unknown x) none) (collected-above a n s on_a.1 e) (collected-above b n s on_b.1 there)))
+      (above-same s.ceiling x (ceiling-is_kept core a on_a.0 n s e) (passed (is_known a.dag x) (Unknown x) none) (collected-above a n s on_a.1 e)
+      (collected-above b n s on_b.1 there)))
       (λ more. refl))
 
   -- ===== The own floor
@@ -91,11 +100,13 @@ module _ (core : Core) (a b : Site) (on_a : SiteStands core a) (on_b : SiteStand
   floor-above-same : (x : StateId) → IsTrue (is_known a.dag x) → is_above a.dag (own_floor a).state x ≡ is_above b.dag (own_floor b).state x
   floor-above-same x known =
       above-same (own_floor a).state x (own-is_kept a on_a.1) known (under-own a on_a.1)
-      (subst (λ (f : Floor). (y : StateId) → IsTrue (is_among y b.collected) → IsTrue (is_proper_ancestor b.dag y f.state)) (sym own-floor-alike) (under-own b on_b.1))
+      (subst (λ (f : Floor). (y : StateId) → IsTrue (is_among y b.collected) → IsTrue (is_proper_ancestor b.dag y f.state)) (sym own-floor-alike)
+      (under-own b on_b.1))
       ∙ ap (λ (f : Floor). is_above b.dag f.state x) own-floor-alike
 
   -- of sessions whose ceilings are at or below the own floor the same holds a kept state
-  holding-same : (x : StateId) → IsTrue (is_kept a.dag a.collected x) → (ss : Sessions) → IsTrue (list_all (is_sound_session a.dag) ss) → IsTrue (is_above_ceilings a.dag ss (own_floor a).state) →
+  holding-same : (x : StateId) → IsTrue (is_kept a.dag a.collected x) → (ss : Sessions) → IsTrue (list_all (is_sound_session a.dag) ss) →
+      IsTrue (is_above_ceilings a.dag ss (own_floor a).state) →
       holding_session a.dag ss x ≡ holding_session b.dag ss x
   holding-same x kept [] sound under = refl
   holding-same x kept (s ∷ ss) sound under =
@@ -116,7 +127,8 @@ module _ (core : Core) (a b : Site) (on_a : SiteStands core a) (on_b : SiteStand
   moves-alike x y same =
       let full : Floor → Option Reply = λ f. refuse (f.number == 4294967295) SeqEnd in
       let reply : StateId → Floor → Reply = λ z f. Raised z (f.number + 1) in
-      first-alike a b (full (own_floor a)) (full (own_floor b)) [] [] (raised a x) (raised b y) (ap full own-floor-alike) (λ left. ap₂ reply same own-floor-alike)
+      first-alike a b (full (own_floor a)) (full (own_floor b)) [] [] (raised a x) (raised b y) (ap full own-floor-alike)
+      (λ left. ap₂ reply same own-floor-alike)
 
   pub raise-alike : (x : StateId) → ReplyAlike (raise a x) (raise b x)
   raise-alike x =
@@ -126,14 +138,17 @@ module _ (core : Core) (a b : Site) (on_a : SiteStands core a) (on_b : SiteStand
       let back : Site → Option Reply = λ site. back_of (is_above site.dag (own_floor site).state x) (own_floor site) in
       let held_by : Option (ℕ × Session) → Option Reply = refuse_found (λ s. Held s.0 s.1.ceiling) in
       let held : Site → Option Reply = λ site. held_by (holding_session site.dag site.sessions x) in
-      first-alike a b (unknown a) (unknown b) (back a ∷ held a ∷ full a ∷ []) (back b ∷ held b ∷ full b ∷ []) (raised a x) (raised b x) (ap (λ t. refuse (not t) (Unknown x)) (known-same core a b on_a on_b x))
+      first-alike a b (unknown a) (unknown b) (back a ∷ held a ∷ full a ∷ []) (back b ∷ held b ∷ full b ∷ []) (raised a x) (raised b x)
+      (ap (λ t. refuse (not t) (Unknown x)) (known-same core a b on_a on_b x))
       (λ none.
       let known = passed (is_known a.dag x) (Unknown x) none in
-      first-alike a b (back a) (back b) (held a ∷ full a ∷ []) (held b ∷ full b ∷ []) (raised a x) (raised b x) (ap₂ back_of (floor-above-same x known) own-floor-alike)
+      first-alike a b (back a) (back b) (held a ∷ full a ∷ []) (held b ∷ full b ∷ []) (raised a x) (raised b x)
+      (ap₂ back_of (floor-above-same x known) own-floor-alike)
       (λ below.
       let above = passed (is_above a.dag (own_floor a).state x) (FloorBack (own_floor a).state) below in
       let kept = kept-beneath a.dag on_a.1.dag a.collected (own_floor a).state x (under-own a on_a.1) known above in
-      first-alike a b (held a) (held b) (full a ∷ []) (full b ∷ []) (raised a x) (raised b x) (ap held_by (holding-alike x kept)) (λ free. moves-alike x x refl)))
+      first-alike a b (held a) (held b) (full a ∷ []) (full b ∷ []) (raised a x) (raised b x) (ap held_by (holding-alike x kept))
+      (λ free. moves-alike x x refl)))
 
   -- ===== The automatic floor
 

@@ -1,5 +1,6 @@
 -- Alike histories stay alike when the same record arrives.
-use Rattle.std.proofs.Common.{◌≡◌, ℕ, Bool, true, not, cond, eqb, List, [], ◌∷◌, ◌++◌, length, Option, Some, None, IsTrue, IsFalse, ◌⊎◌, inl, inr, refl, sym, ap, ap₂, subst, ◌∙◌}
+use Rattle.std.proofs.Common.{◌≡◌, ℕ, Bool, true, not, cond, eqb, List, [], ◌∷◌, ◌++◌, length, Option, Some, None, IsTrue, IsFalse, ◌⊎◌, inl, inr, refl, sym}
+use Rattle.std.proofs.Common.{ap, ap₂, subst, ◌∙◌}
 use Rattle.std.proofs.lemmas.Bool.{and_parts, and_from, both_ways, not_from_false, false_from_ne_true}
 use Rattle.tardis_base.specs.declared.ids.StateId.{StateId}
 use Rattle.tardis_base.specs.declared.records.Record.{Record}
@@ -62,21 +63,25 @@ module _ (rs : List Record) (ks : List StateId) (r : Record) (history : IsHistor
   pub new-stands-for-itself : stand_in (r ∷ rs) ks r.id ≡ r.id
   new-stands-for-itself = kept-stands-for-itself ks (r ∷ rs) r.id new-isnt_collected
 
-module _ (ra : List Record) (ka : List StateId) (rb : List Record) (kb : List StateId) (r : Record) (ha : IsHistory ra ka) (hb : IsHistory rb kb) (alike : AreAlike ra ka rb kb)
+module _ (ra : List Record) (ka : List StateId) (rb : List Record) (kb : List StateId) (r : Record) (ha : IsHistory ra ka) (hb : IsHistory rb kb)
+    (alike : AreAlike ra ka rb kb)
     (on_a : Arrives ra ka r) (on_b : Arrives rb kb r) where
   there : (x : StateId) → IsTrue (is_kept ra ka x) → IsTrue (is_kept rb kb x)
   there x kept = kept-there ra ka rb kb ha hb alike x kept
 
   grown-children : (x : StateId) → (x ≡ r.id) ⊎ IsTrue (is_kept ra ka x) → children (r ∷ ra) x ≡ children (r ∷ rb) x
   grown-children x (inl e) =
-      subst (λ y. children (r ∷ ra) y ≡ children (r ∷ rb) y) (sym e) (newest-is_childless ra r ha.dag on_a.next ∙ sym (newest-is_childless rb r hb.dag on_b.next))
+      subst (λ y. children (r ∷ ra) y ≡ children (r ∷ rb) y) (sym e)
+      (newest-is_childless ra r ha.dag on_a.next ∙ sym (newest-is_childless rb r hb.dag on_b.next))
   grown-children x (inr old) =
       children-next ra r ha.dag on_a.next x
       ∙ (ap (λ cs. cs ++ only_if (is_among x r.parents) r.id) (alike.same_children x old) ∙ sym (children-next rb r hb.dag on_b.next x))
 
-  grown-stand-ins : (x c : StateId) → (x ≡ r.id) ⊎ IsTrue (is_kept ra ka x) → IsTrue (is_among c (children (r ∷ ra) x)) → stand_in (r ∷ ra) ka c ≡ stand_in (r ∷ rb) kb c
+  grown-stand-ins : (x c : StateId) → (x ≡ r.id) ⊎ IsTrue (is_kept ra ka x) → IsTrue (is_among c (children (r ∷ ra) x)) → stand_in (r ∷ ra) ka c
+      ≡ stand_in (r ∷ rb) kb c
   grown-stand-ins x c (inl e) m =
-      let none : IsTrue (is_among c []) = subst (λ cs. IsTrue (is_among c cs)) (newest-is_childless ra r ha.dag on_a.next) (subst (λ y. IsTrue (is_among c (children (r ∷ ra) y))) e m) in
+      let none : IsTrue (is_among c []) = subst (λ cs. IsTrue (is_among c cs)) (newest-is_childless ra r ha.dag on_a.next)
+      (subst (λ y. IsTrue (is_among c (children (r ∷ ra) y))) e m) in
       not-both true refl (sym none)
   grown-stand-ins x c (inr old) m = elim (child-cases ra r x c m) [
     | inl new ↦
@@ -105,7 +110,8 @@ module _ (ra : List Record) (ka : List StateId) (rb : List Record) (kb : List St
       ∙ (any-agrees (is_above ra x) (is_above rb x) r.parents (λ p m. alike.same_above x p old (parent-is_kept ra ka r ha on_a p m))
       ∙ sym ((new-state-is-below-parents rb r hb.dag on_b.next x (known_b x old)).0)))
   grown-above x y (inr old) (inr older) =
-      old-states-stay ra r ha.dag on_a.next x y (known_a y older) ∙ (alike.same_above x y old older ∙ sym (old-states-stay rb r hb.dag on_b.next x y (known_b y older)))
+      old-states-stay ra r ha.dag on_a.next x y (known_a y older)
+      ∙ (alike.same_above x y old older ∙ sym (old-states-stay rb r hb.dag on_b.next x y (known_b y older)))
 
   -- the histories with it are alike too
   pub grown-alike : AreAlike (r ∷ ra) ka (r ∷ rb) kb

@@ -1,5 +1,6 @@
 -- Records of other sites are judged alike.
-use Rattle.std.proofs.Common.{◌≡◌, ℕ, ◌+◌, ◌≤◌, Bool, true, false, not, ◌&&◌, ◌==◌, List, [], ◌∷◌, find, map, Option, Some, None, IsTrue, IsFalse, inl, inr, refl, sym, ap, ap₂, subst, ◌∙◌, arith}
+use Rattle.std.proofs.Common.{◌≡◌, ℕ, ◌+◌, ◌≤◌, Bool, true, false, not, ◌&&◌, ◌==◌, List, [], ◌∷◌, find, map, Option, Some, None, IsTrue, IsFalse, inl, inr}
+use Rattle.std.proofs.Common.{refl, sym, ap, ap₂, subst, ◌∙◌, arith}
 use Rattle.std.specs.Prelude.{nat_lt, nat_le}
 use Rattle.std.specs.List.{All, list_all}
 use Rattle.std.proofs.lemmas.Bool.{and_parts, and_from, cases_Bool, both_ways, not-false, not_from_false, false_from_ne_true, ltb-false}
@@ -44,7 +45,8 @@ unsaid true reply e = cc
 unsaid false reply e = refl
 
 -- the same is first, or it is as behind it
-pub firsts : (o p : Option Reply) (more others : List (Option Reply)) → o ≡ p → (◌≡◌ {A = Option Reply} o None → first_reply more ≡ first_reply others) → first_reply (o ∷ more) ≡ first_reply (p ∷ others)
+pub firsts : (o p : Option Reply) (more others : List (Option Reply)) → o ≡ p → (◌≡◌ {A = Option Reply} o None → first_reply more ≡ first_reply others) →
+    first_reply (o ∷ more) ≡ first_reply (p ∷ others)
 firsts o p more others same rest = subst (λ q. first_reply (o ∷ more) ≡ first_reply (q ∷ others)) same (go o rest)
   where
     go : (q : Option Reply) → (◌≡◌ {A = Option Reply} q None → first_reply more ≡ first_reply others) → first_reply (q ∷ more) ≡ first_reply (q ∷ others)
@@ -52,7 +54,8 @@ firsts o p more others same rest = subst (λ q. first_reply (o ∷ more) ≡ fir
     go (Some reply) behind = refl
 
 -- floors that have slots are kept
-floors-kept : (table : Table) (rs : List Record) (ks : List StateId) → Stands table rs ks → (items : List KnownFloor) → All (λ f. IsAt table f.place) items → IsTrue (list_all (λ (f : Floor). is_kept rs ks f.state) (map known_floor items))
+floors-kept : (table : Table) (rs : List Record) (ks : List StateId) → Stands table rs ks → (items : List KnownFloor) → All (λ f. IsAt table f.place) items
+    → IsTrue (list_all (λ (f : Floor). is_kept rs ks f.state) (map known_floor items))
 floors-kept table rs ks stands [] at = refl
 floors-kept table rs ks stands (f ∷ items) at =
     and_from (is_kept rs ks f.place.state) (list_all (λ (g : Floor). is_kept rs ks g.state) (map known_floor items))
@@ -68,14 +71,16 @@ module _ (core : Core) (a b : Site) (on_a : SiteStands core a) (on_b : SiteStand
       (floors-kept core.store.table a.dag a.collected on_a.0.store.table core.book.floors on_a.0.placed.of_floors)
 
   -- a kept state is a proper ancestor of each floor in both or in neither
-  proper-alike : (x : StateId) → IsTrue (is_kept a.dag a.collected x) → (fs : List Floor) → IsTrue (list_all (λ (f : Floor). is_kept a.dag a.collected f.state) fs) → is_closed a.dag fs x ≡ is_closed b.dag fs x
+  proper-alike : (x : StateId) → IsTrue (is_kept a.dag a.collected x) → (fs : List Floor) →
+      IsTrue (list_all (λ (f : Floor). is_kept a.dag a.collected f.state) fs) → is_closed a.dag fs x ≡ is_closed b.dag fs x
   proper-alike x kept [] all = refl
   proper-alike x kept (f ∷ fs) all =
       let parts = and_parts (is_kept a.dag a.collected f.state) (list_all (λ (g : Floor). is_kept a.dag a.collected g.state) fs) all in
       ap₂ ◌&&◌ (ap (λ t. t && not (same_id x f.state)) ((sites-alike core a b on_a on_b).same_above x f.state kept parts.0)) (proper-alike x kept fs parts.1)
 
   -- and at or above each floor
-  above-floors-in : (x : StateId) → IsTrue (is_kept a.dag a.collected x) → (fs : List Floor) → IsTrue (list_all (λ (f : Floor). is_kept a.dag a.collected f.state) fs) → is_above_floors a.dag fs x ≡ is_above_floors b.dag fs x
+  above-floors-in : (x : StateId) → IsTrue (is_kept a.dag a.collected x) → (fs : List Floor) →
+      IsTrue (list_all (λ (f : Floor). is_kept a.dag a.collected f.state) fs) → is_above_floors a.dag fs x ≡ is_above_floors b.dag fs x
   above-floors-in x kept [] all = refl
   above-floors-in x kept (f ∷ fs) all =
       let parts = and_parts (is_kept a.dag a.collected f.state) (list_all (λ (g : Floor). is_kept a.dag a.collected g.state) fs) all in
@@ -98,13 +103,15 @@ module _ (core : Core) (a b : Site) (on_a : SiteStands core a) (on_b : SiteStand
   pub open-is_kept : (x : StateId) → IsTrue (is_known a.dag x) → IsFalse (is_closed a.dag a.floors x) → IsTrue (is_kept a.dag a.collected x)
   open-is_kept x known opened =
       and_from (is_known a.dag x) (not (is_among x a.collected)) known
-      (not_from_false (is_among x a.collected) (false_from_ne_true (is_among x a.collected) (λ gone. both_ways (is_closed a.dag a.floors x) opened (on_a.1.collected.closed x gone))))
+      (not_from_false (is_among x a.collected) (false_from_ne_true (is_among x a.collected)
+      (λ gone. both_ways (is_closed a.dag a.floors x) opened (on_a.1.collected.closed x gone))))
 
   -- ===== Judgements
 
   pub count-same : (n : ℕ) → 1 ≤ n → n ≤ a.limits.sites → count_of_site a.dag n ≡ count_of_site b.dag n
   count-same n some within =
-      count-alike core.store.table a.dag a.collected b.dag b.collected on_a.0.store.table on_b.0.store.table n some (subst (λ l. n ≤ l.sites) (sym on_a.0.limits) within)
+      count-alike core.store.table a.dag a.collected b.dag b.collected on_a.0.store.table on_b.0.store.table n some
+      (subst (λ l. n ≤ l.sites) (sym on_a.0.limits) within)
 
   -- the judgements on parents that are known, and on writes
   parents-judged : (r : Record) → IsTrue (list_all (is_known a.dag) r.parents) →
@@ -127,14 +134,16 @@ module _ (core : Core) (a b : Site) (on_a : SiteStands core a) (on_b : SiteStand
       let open_of : Option (List ℕ) → Option Reply = refuse_found OpenConflict in
       let open_at : Site → Option Reply = λ site. open_of (open_conflict site.dag ps r.writes) in
       firsts (closed a) (closed b) (pair a ∷ open_at a ∷ []) (pair b ∷ open_at b ∷ [])
-      (ap (refuse_found ClosedParent) (find-agrees (is_closed a.dag a.floors) (is_closed b.dag b.floors) ps (λ x m. closed-alike x (all-at (is_known a.dag) ps x known m))))
+      (ap (refuse_found ClosedParent) (find-agrees (is_closed a.dag a.floors) (is_closed b.dag b.floors) ps
+      (λ x m. closed-alike x (all-at (is_known a.dag) ps x known m))))
       (λ none.
       let free = unfound ClosedParent (find (is_closed a.dag a.floors) ps) none in
       let kept : (x : StateId) → IsTrue (is_among x ps) → IsTrue (is_kept a.dag a.collected x) =
       λ x m. open-is_kept x (all-at (is_known a.dag) ps x known m) (unfound-at (is_closed a.dag a.floors) ps x free m) in
       firsts (pair a) (pair b) (open_at a ∷ []) (open_at b ∷ []) (ap pair_of (pair-alike core a b on_a on_b 0 ps kept))
       (λ apart. firsts (open_at a) (open_at b) [] []
-      (ap (λ ks. open_of (find (λ k. not (has_key k r.writes)) ks)) (conflict-keys-alike core.store a.dag a.collected b.dag b.collected on_a.0.store on_b.0.store ps kept))
+      (ap (λ ks. open_of (find (λ k. not (has_key k r.writes)) ks))
+      (conflict-keys-alike core.store a.dag a.collected b.dag b.collected on_a.0.store on_b.0.store ps kept))
       (λ written. refl)))
 
   pub judgements-alike : (r : Record) → IsTrue (is_record r) → first_reply (judgements a r) ≡ first_reply (judgements b r)
@@ -160,7 +169,8 @@ module _ (core : Core) (a b : Site) (on_a : SiteStands core a) (on_b : SiteStand
       let counts : count a ≡ count b = count-same r.id.site (record-shape r valid).0 within in
       firsts (known a) (known b) (own a ∷ early a ∷ rest a) (own b ∷ early b ∷ rest b) (ap known_of counts)
       (λ new. firsts (own a) (own b) (early a ∷ rest a) (early b ∷ rest b) (ap own_of (own-alike core a b on_a on_b))
-      (λ other. firsts (early a) (early b) (rest a) (rest b) (ap₂ early_of counts (all-agrees (is_known a.dag) (is_known b.dag) r.parents (λ x m. known-same core a b on_a on_b x)))
+      (λ other. firsts (early a) (early b) (rest a) (rest b)
+      (ap₂ early_of counts (all-agrees (is_known a.dag) (is_known b.dag) r.parents (λ x m. known-same core a b on_a on_b x)))
       (λ timely.
       let in_time = not-false (r.id.sequence == count a + 1 && all a) (unsaid (is_early a r) (Early (count a)) timely) in
       parents-judged r (and_parts (r.id.sequence == count a + 1) (all a) in_time).1))))

@@ -34,12 +34,14 @@ module _ (site : Site) (n : ℕ) (sound : IsSound site) where
       (open-session site n s sound is).1
 
   -- the fork points of a merge's states are kept
-  pub fork-points-kept : (t : MergeTxn) → entry_of n site.txns ≡ Some (Merge t) → (x : StateId) → IsTrue (is_known site.dag x) → IsTrue (is_fork_point site.dag t.states x) → IsTrue (is_kept site.dag site.collected x)
+  pub fork-points-kept : (t : MergeTxn) → entry_of n site.txns ≡ Some (Merge t) → (x : StateId) → IsTrue (is_known site.dag x) →
+      IsTrue (is_fork_point site.dag t.states x) → IsTrue (is_kept site.dag site.collected x)
   fork-points-kept t found x here fork =
       let was = sound.each_txn n (Merge t) found in
       go t.states was.2.known was.2.admitted (parents-some t.states (merge-states t was.2.shape)) fork
     where
-      go : (ys : List StateId) → IsTrue (list_all (is_known site.dag) ys) → IsTrue (list_all (is_admitted site.dag (sound.each_txn n (Merge t) found).0.ceiling) ys) → 1 ≤ length ys →
+      go : (ys : List StateId) → IsTrue (list_all (is_known site.dag) ys) →
+          IsTrue (list_all (is_admitted site.dag (sound.each_txn n (Merge t) found).0.ceiling) ys) → 1 ≤ length ys →
           IsTrue (is_fork_point site.dag ys x) → IsTrue (is_kept site.dag site.collected x)
       go [] known admitted some fork = absurd (omega arith)
       go (y ∷ ys) known admitted some fork =

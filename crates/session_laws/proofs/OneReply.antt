@@ -1,7 +1,8 @@
 -- All plain sites of one running site give one reply.
 use Rattle.std.proofs.Common.{◌≡◌, ℕ, Some, IsTrue, refl, ap}
 use Rattle.tardis_base.specs.declared.requests.Request.{Request}
-use Rattle.tardis_base.specs.declared.requests.Request.TheVariants.{Open, Begin, Get, Put, Delete, Commit, Abort, BeginMerge, ForkPoints, Conflicts, GetFor, Ceiling, Raise, RaiseAuto, Tidy, Stat, Show, Leaves, Pull, Deliver, Settle, Close}
+use Rattle.tardis_base.specs.declared.requests.Request.TheVariants.{Open, Begin, Get, Put, Delete, Commit, Abort, BeginMerge, ForkPoints, Conflicts, GetFor}
+use Rattle.tardis_base.specs.declared.requests.Request.TheVariants.{Ceiling, Raise, RaiseAuto, Tidy, Stat, Show, Leaves, Pull, Deliver, Settle, Close}
 use Rattle.tardis_base.specs.declared.records.Write.TheVariants.{Put as Value, Delete as Deletion}
 use Rattle.plain_dag.specs.Entries.{entry_of}
 use Rattle.plain_dag.specs.Floors.{Session}
@@ -29,13 +30,16 @@ module _ (core : Core) (a b : Site) (on_a : SiteStands core a) (on_b : SiteStand
   sessions : entry_of n a.sessions ≡ entry_of n b.sessions
   sessions = ap (entry_of n) (sessions-alike core a b on_a on_b)
 
-  for-session : (f g : Session → Answer) → ((s : Session) → entry_of n a.sessions ≡ Some s → ReplyAlike (f s) (g s)) → ReplyAlike (with_session a n f) (with_session b n g)
+  for-session : (f g : Session → Answer) → ((s : Session) → entry_of n a.sessions ≡ Some s → ReplyAlike (f s) (g s)) →
+      ReplyAlike (with_session a n f) (with_session b n g)
   for-session f g each = session-alike a b n sessions f g each
 
-  for-txn : (f g : Session → Txn → Answer) → ((s : Session) (t : Txn) → entry_of n a.sessions ≡ Some s → entry_of n a.txns ≡ Some t → ReplyAlike (f s t) (g s t)) → ReplyAlike (with_txn a n f) (with_txn b n g)
+  for-txn : (f g : Session → Txn → Answer) → ((s : Session) (t : Txn) → entry_of n a.sessions ≡ Some s → entry_of n a.txns ≡ Some t →
+      ReplyAlike (f s t) (g s t)) → ReplyAlike (with_txn a n f) (with_txn b n g)
   for-txn f g each = txn-alike a b n sessions f g (txns-alike core a b on_a on_b n) each
 
-  for-none : (f g : Session → Answer) → ((s : Session) → entry_of n a.sessions ≡ Some s → ReplyAlike (f s) (g s)) → ReplyAlike (without_txn a n f) (without_txn b n g)
+  for-none : (f g : Session → Answer) → ((s : Session) → entry_of n a.sessions ≡ Some s → ReplyAlike (f s) (g s)) →
+      ReplyAlike (without_txn a n f) (without_txn b n g)
   for-none f g each = no-txn-alike a b n sessions f g (txns-alike core a b on_a on_b n) each
 
   one-reply : (q : Request) → IsTrue (can_be_asked q) → (step a n q).1 ≡ (step b n q).1

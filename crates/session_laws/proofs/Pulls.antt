@@ -44,7 +44,8 @@ abbrev wrote : StateId → Write → StateId × Write
 wrote x w = (x, w)
 
 -- a state reads what it writes itself
-own-is_read : (rs : List Record) → IsDag rs → (k : List ℕ) (x : StateId) (w : Write) → IsTrue (is_known rs x) → write_at rs k x ≡ Some w → read rs k x ≡ Some (wrote x w)
+own-is_read : (rs : List Record) → IsDag rs → (k : List ℕ) (x : StateId) (w : Write) → IsTrue (is_known rs x) → write_at rs k x ≡ Some w →
+    read rs k x ≡ Some (wrote x w)
 own-is_read rs dag k x w known e =
     let r = known-has_record rs x known in
     let written : write_of k r.0.writes ≡ Some w = sym (ap (option_and_then (λ (q : Record). write_of k q.writes)) r.1) ∙ e in
@@ -76,7 +77,8 @@ module _ (core : Core) (a b : Site) (on_a : SiteStands core a) (on_b : SiteStand
 
   known-there : (x : StateId) → IsTrue (is_kept a.dag a.collected x) → IsTrue (is_known b.dag x)
   known-there x kept =
-      (and_parts (is_known b.dag x) (not (is_among x b.collected)) (there core.store.table a.dag a.collected b.dag b.collected on_a.0.store.table on_b.0.store.table x kept)).0
+      (and_parts (is_known b.dag x) (not (is_among x b.collected))
+      (there core.store.table a.dag a.collected b.dag b.collected on_a.0.store.table on_b.0.store.table x kept)).0
 
   -- a kept state writes the same to each key
   write-alike : (k : List ℕ) (x : StateId) → IsTrue (is_kept a.dag a.collected x) → write_at a.dag k x ≡ write_at b.dag k x
@@ -101,12 +103,15 @@ module _ (core : Core) (a b : Site) (on_a : SiteStands core a) (on_b : SiteStand
       let parents : ra.0.parents ≡ rb.0.parents =
       sym says_a.parents ∙ (parents-alike core.store.table a.dag a.collected b.dag b.collected on_a.0.store.table on_b.0.store.table x kept ∙ says_b.parents) in
       let writes : ra.0.writes ≡ rb.0.writes = same-writes ra.0.writes rb.0.writes says_a.ascending says_b.ascending (λ k.
-      sym (ap (option_and_then (λ (q : Record). write_of k q.writes)) ra.1) ∙ (write-alike k x kept ∙ ap (option_and_then (λ (q : Record). write_of k q.writes)) rb.1)) in
+      sym (ap (option_and_then (λ (q : Record). write_of k q.writes)) ra.1)
+      ∙ (write-alike k x kept ∙ ap (option_and_then (λ (q : Record). write_of k q.writes)) rb.1)) in
       let same : ra.0 ≡ rb.0 =
-      ap (λ i. made i ra.0.parents ra.0.writes) (says_a.id ∙ sym says_b.id) ∙ (ap (λ ps. made rb.0.id ps ra.0.writes) parents ∙ ap (made rb.0.id rb.0.parents) writes) in
+      ap (λ i. made i ra.0.parents ra.0.writes) (says_a.id ∙ sym says_b.id)
+      ∙ (ap (λ ps. made rb.0.id ps ra.0.writes) parents ∙ ap (made rb.0.id rb.0.parents) writes) in
       ra.1 ∙ (ap (λ r. Some r) same ∙ sym rb.1)
 
-  records-alike : (xs : List StateId) → ((x : StateId) → IsTrue (is_among x xs) → IsTrue (is_kept a.dag a.collected x)) → records_of a.dag xs ≡ records_of b.dag xs
+  records-alike : (xs : List StateId) → ((x : StateId) → IsTrue (is_among x xs) → IsTrue (is_kept a.dag a.collected x)) → records_of a.dag xs
+      ≡ records_of b.dag xs
   records-alike [] kept = refl
   records-alike (x ∷ xs) kept = ap₂ cons_option (record-alike x (kept x (among-first x xs))) (records-alike xs (λ y m. kept y (among-later y x xs m)))
 
@@ -125,7 +130,8 @@ module _ (core : Core) (a b : Site) (on_a : SiteStands core a) (on_b : SiteStand
     all-news-alike : filter (is_news_for a counts) (in_arrival_order a.dag) ≡ filter (is_news_for b counts) (in_arrival_order b.dag)
     all-news-alike =
         news-kept core.store.table core.book a on_a.0.store.table (book-stands core a on_a.0 on_a.1) counts
-        ∙ (records-alike (filter (is_news a counts) (kept_states a.dag a.collected)) (λ x m. listed-is_kept a.dag a.collected x (filtered-passes (is_news a counts) (kept_states a.dag a.collected) x m).0)
+        ∙ (records-alike (filter (is_news a counts) (kept_states a.dag a.collected))
+        (λ x m. listed-is_kept a.dag a.collected x (filtered-passes (is_news a counts) (kept_states a.dag a.collected) x m).0)
         ∙ (ap (records_of b.dag) chosen-alike ∙ sym (news-kept core.store.table core.book b on_b.0.store.table (book-stands core b on_b.0 on_b.1) counts)))
 
     batch-alike : batch_for a counts ≡ batch_for b counts

@@ -35,10 +35,12 @@ use Rattle.session_core.specs.Machine.{SiteStands}
 use Rattle.session_laws.proofs.Tables.{leaves-alike, last-alike, last-below-alike}
 use Rattle.session_laws.proofs.Stores.{conflict-alike, value-alike}
 use Rattle.session_laws.proofs.Answers.{ReplyAlike, passed, unfound, first-alike}
-use Rattle.session_laws.proofs.Sites.{sessions-alike, floors-alike, limits-alike, own-alike, last-held, sites-alike, known-same, admitted-same, admitted-is_kept, one-kept, all-kept, read-same}
+use Rattle.session_laws.proofs.Sites.{sessions-alike, floors-alike, limits-alike, own-alike, last-held, sites-alike, known-same, admitted-same}
+use Rattle.session_laws.proofs.Sites.{admitted-is_kept, one-kept, all-kept, read-same}
 
 -- tests that agree fail first at the same state
-find-also : (p q : StateId → Bool) (xs : List StateId) → ((x : StateId) → IsTrue (is_among x xs) → p x ≡ q x) → find (λ x. not (p x)) xs ≡ find (λ x. not (q x)) xs
+find-also : (p q : StateId → Bool) (xs : List StateId) → ((x : StateId) → IsTrue (is_among x xs) → p x ≡ q x) → find (λ x. not (p x)) xs
+    ≡ find (λ x. not (q x)) xs
 find-also p q xs same = find-agrees (λ x. not (p x)) (λ x. not (q x)) xs (λ x m. ap not (same x m))
 
 module _ (core : Core) (a b : Site) (on_a : SiteStands core a) (on_b : SiteStands core b) (n : ℕ) where
@@ -52,7 +54,8 @@ module _ (core : Core) (a b : Site) (on_a : SiteStands core a) (on_b : SiteStand
       let again : Site → Option Reply = λ site. refuse (is_some (entry_of n site.sessions)) AlreadyOpen in
       let full : ℕ → ℕ → Option Reply = λ m most. refuse (m == most) (SessionsFull m) in
       let reply : List Floor → ℕ → Reply = λ fs own. Opened (floor_of fs own).state in
-      first-alike a b (again a) (again b) (full (length a.sessions) a.limits.max_sessions ∷ []) (full (length b.sessions) b.limits.max_sessions ∷ []) answer_a answer_b
+      first-alike a b (again a) (again b) (full (length a.sessions) a.limits.max_sessions ∷ []) (full (length b.sessions) b.limits.max_sessions ∷ [])
+      answer_a answer_b
       (ap (λ ss. refuse (is_some (entry_of n ss)) AlreadyOpen) all)
       (λ none. first-alike a b (full (length a.sessions) a.limits.max_sessions) (full (length b.sessions) b.limits.max_sessions) [] [] answer_a answer_b
       (ap₂ full (ap length all) (ap (λ l. l.max_sessions) (limits-alike core a b on_a on_b)))
@@ -64,7 +67,8 @@ module _ (core : Core) (a b : Site) (on_a : SiteStands core a) (on_b : SiteStand
       let begun : Site → Answer = λ site. (record site { txns = with_entry n (Single (record { state = x; reads = []; writes = [] })) site.txns }, Begun x) in
       let unknown : Site → Option Reply = λ site. refuse (not (is_known site.dag x)) (Unknown x) in
       let below : Site → Option Reply = λ site. refuse (not (is_admitted site.dag s.ceiling x)) (Below x s.ceiling) in
-      first-alike a b (unknown a) (unknown b) (below a ∷ []) (below b ∷ []) (begun a) (begun b) (ap (λ t. refuse (not t) (Unknown x)) (known-same core a b on_a on_b x))
+      first-alike a b (unknown a) (unknown b) (below a ∷ []) (below b ∷ []) (begun a) (begun b)
+      (ap (λ t. refuse (not t) (Unknown x)) (known-same core a b on_a on_b x))
       (λ none. first-alike a b (below a) (below b) [] [] (begun a) (begun b)
       (ap (λ t. refuse (not t) (Below x s.ceiling)) (admitted-same core a b on_a on_b n s e x (passed (is_known a.dag x) (Unknown x) none)))
       (λ more. refl))
@@ -73,7 +77,8 @@ module _ (core : Core) (a b : Site) (on_a : SiteStands core a) (on_b : SiteStand
   begin-state-alike : (s : Session) → entry_of n a.sessions ≡ Some s → (at : Begin) → begin_state a.dag s.last at ≡ begin_state b.dag s.last at
   begin-state-alike s e Any = last-alike core.store.table a.dag a.collected b.dag b.collected on_a.0.store.table on_b.0.store.table
   begin-state-alike s e Ancestor =
-      last-below-alike core.store.table a.dag a.collected b.dag b.collected on_a.0.store.table on_b.0.store.table s.last (open-session a n s on_a.1 e).0.last (last-held core a b on_a on_b n s e)
+      last-below-alike core.store.table a.dag a.collected b.dag b.collected on_a.0.store.table on_b.0.store.table s.last
+      (open-session a n s on_a.1 e).0.last (last-held core a b on_a on_b n s e)
   begin-state-alike s e Parent = refl
   begin-state-alike s e (At x) = refl
 
@@ -87,12 +92,14 @@ module _ (core : Core) (a b : Site) (on_a : SiteStands core a) (on_b : SiteStand
   read-in-alike : (t : Txn) → entry_of n a.txns ≡ Some t → (k : List ℕ) → ReplyAlike (read_in a n t k) (read_in b n t k)
   read-in-alike (Single t) d k =
       let full = refuse (length t.reads == 256 && not (is_key_among k t.reads)) (TooMany 2 257) in
-      first-alike a b full full [] [] (with_txn_changed n (having_read k) a, found (read a.dag k t.state)) (with_txn_changed n (having_read k) b, found (read b.dag k t.state)) refl
+      first-alike a b full full [] [] (with_txn_changed n (having_read k) a, found (read a.dag k t.state))
+      (with_txn_changed n (having_read k) b, found (read b.dag k t.state)) refl
       (λ none. ap found (read-same core a b on_a on_b k t.state (one-kept core a b on_a on_b n t d)))
   read-in-alike (Merge t) d k =
       let conflict : Site → Option Reply = λ site. refuse (is_conflict_key site.dag t.states k) (ConflictKey k) in
       first-alike a b (conflict a) (conflict b) [] [] (a, found (value_over a.dag t.states k)) (b, found (value_over b.dag t.states k))
-      (ap (λ c. refuse c (ConflictKey k)) (conflict-alike core.store a.dag a.collected b.dag b.collected on_a.0.store on_b.0.store t.states (all-kept core a b on_a on_b n t d) k))
+      (ap (λ c. refuse c (ConflictKey k)) (conflict-alike core.store a.dag a.collected b.dag b.collected on_a.0.store on_b.0.store t.states
+      (all-kept core a b on_a on_b n t d) k))
       (λ none. ap found (value-alike core.store a.dag a.collected b.dag b.collected on_a.0.store on_b.0.store t.states (all-kept core a b on_a on_b n t d) k))
 
   pub get-alike : (t : Txn) → entry_of n a.txns ≡ Some t → (k : List ℕ) → ReplyAlike (get a n t k) (get b n t k)
@@ -117,7 +124,8 @@ module _ (core : Core) (a b : Site) (on_a : SiteStands core a) (on_b : SiteStand
   -- ===== Merges
 
   -- the first comparable pair of kept states is the same
-  pub pair-alike : (xs : List StateId) → ((x : StateId) → IsTrue (is_among x xs) → IsTrue (is_kept a.dag a.collected x)) → comparable_pair a.dag xs ≡ comparable_pair b.dag xs
+  pub pair-alike : (xs : List StateId) → ((x : StateId) → IsTrue (is_among x xs) → IsTrue (is_kept a.dag a.collected x)) → comparable_pair a.dag xs
+      ≡ comparable_pair b.dag xs
   pair-alike [] kept = refl
   pair-alike (x ∷ ys) kept =
       let Pair : Type 0 = StateId × StateId in
@@ -132,7 +140,10 @@ module _ (core : Core) (a b : Site) (on_a : SiteStands core a) (on_b : SiteStand
   -- a merge begins at the same states, or is refused alike
   merge-at-alike : (s : Session) → entry_of n a.sessions ≡ Some s → (xs : List StateId) → ReplyAlike (merge_at a n s.ceiling xs) (merge_at b n s.ceiling xs)
   merge-at-alike s e xs =
-      let merging : Site → Answer = λ site. (record site { txns = with_entry n (Merge (record { states = in_order xs; writes = [] })) site.txns }, Merging (in_order xs)) in
+      let merging : Site → Answer = λ site. (
+        record site { txns = with_entry n (Merge (record { states = in_order xs; writes = [] })) site.txns },
+        Merging (in_order xs),
+      ) in
       let many = refuse (nat_lt 8 (length xs)) (TooMany 3 (length xs)) in
       let unknown : Site → Option Reply = λ site. refuse_found Unknown (find (λ x. not (is_known site.dag x)) xs) in
       let below : Site → Option Reply = λ site. refuse_found (λ x. Below x s.ceiling) (find (λ x. not (is_admitted site.dag s.ceiling x)) xs) in
@@ -143,15 +154,20 @@ module _ (core : Core) (a b : Site) (on_a : SiteStands core a) (on_b : SiteStand
       (λ known.
       let all_known = unfound-all (is_known a.dag) xs (unfound Unknown (find (λ x. not (is_known a.dag x)) xs) known) in
       first-alike a b (below a) (below b) (comparable a ∷ []) (comparable b ∷ []) (merging a) (merging b)
-      (ap (refuse_found (λ x. Below x s.ceiling)) (find-also (is_admitted a.dag s.ceiling) (is_admitted b.dag s.ceiling) xs (λ x m. admitted-same core a b on_a on_b n s e x (all-at (is_known a.dag) xs x all_known m))))
+      (ap (refuse_found (λ x. Below x s.ceiling)) (find-also (is_admitted a.dag s.ceiling) (is_admitted b.dag s.ceiling) xs
+      (λ x m. admitted-same core a b on_a on_b n s e x (all-at (is_known a.dag) xs x all_known m))))
       (λ admitted.
-      let all_admitted = unfound-all (is_admitted a.dag s.ceiling) xs (unfound (λ x. Below x s.ceiling) (find (λ x. not (is_admitted a.dag s.ceiling x)) xs) admitted) in
+      let all_admitted = unfound-all (is_admitted a.dag s.ceiling) xs
+      (unfound (λ x. Below x s.ceiling) (find (λ x. not (is_admitted a.dag s.ceiling x)) xs) admitted) in
       first-alike a b (comparable a) (comparable b) [] [] (merging a) (merging b)
-      (ap (refuse_found (λ pair. Comparable pair.0 pair.1)) (pair-alike xs (λ x m. admitted-is_kept core a b on_a on_b n s e x (all-at (is_known a.dag) xs x all_known m) (all-at (is_admitted a.dag s.ceiling) xs x all_admitted m))))
+      (ap (refuse_found (λ pair. Comparable pair.0 pair.1)) (pair-alike xs
+      (λ x m. admitted-is_kept core a b on_a on_b n s e x (all-at (is_known a.dag) xs x all_known m)
+      (all-at (is_admitted a.dag s.ceiling) xs x all_admitted m))))
       (λ apart. refl))))
 
   pub begin-merge-alike : (s : Session) → entry_of n a.sessions ≡ Some s → (of : MergeOf) → ReplyAlike (begin_merge a n s of) (begin_merge b n s of)
   begin-merge-alike s e Leaves =
-      subst (λ xs. ReplyAlike (merge_at a n s.ceiling (leaves a.dag)) (merge_at b n s.ceiling xs)) (leaves-alike core.store.table a.dag a.collected b.dag b.collected on_a.0.store.table on_b.0.store.table)
+      subst (λ xs. ReplyAlike (merge_at a n s.ceiling (leaves a.dag)) (merge_at b n s.ceiling xs))
+      (leaves-alike core.store.table a.dag a.collected b.dag b.collected on_a.0.store.table on_b.0.store.table)
       (merge-at-alike s e (leaves a.dag))
   begin-merge-alike s e (TheseStates xs) = merge-at-alike s e xs

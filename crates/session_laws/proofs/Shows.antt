@@ -42,7 +42,8 @@ module _ (core : Core) (a b : Site) (on_a : SiteStands core a) (on_b : SiteStand
   -- ===== Merges
 
   -- a kept state is a fork point in both or in neither
-  point-alike : (t : MergeTxn) → entry_of n a.txns ≡ Some (Merge t) → (x : StateId) → IsTrue (is_kept a.dag a.collected x) → is_fork_point a.dag t.states x ≡ is_fork_point b.dag t.states x
+  point-alike : (t : MergeTxn) → entry_of n a.txns ≡ Some (Merge t) → (x : StateId) → IsTrue (is_kept a.dag a.collected x) → is_fork_point a.dag t.states x
+      ≡ is_fork_point b.dag t.states x
   point-alike t d x kept =
       let same = sites-alike core a b on_a on_b in
       let each = all-kept core a b on_a on_b n t d in
@@ -52,7 +53,8 @@ module _ (core : Core) (a b : Site) (on_a : SiteStands core a) (on_b : SiteStand
       ap₂ point
       (all-agrees (is_above a.dag x) (is_above b.dag x) t.states (λ y m. same.same_above x y kept (each y m)))
       (any-agrees (λ c. is_above_all a.dag c t.states) (λ c. is_above_all b.dag c t.states) (children a.dag x)
-      (λ c m. all-agrees (is_above a.dag c) (is_above b.dag c) t.states (λ y k. child-above a.dag a.collected b.dag b.collected ha hb same x c y kept m (each y k)))
+      (λ c m. all-agrees (is_above a.dag c) (is_above b.dag c) t.states
+      (λ y k. child-above a.dag a.collected b.dag b.collected ha hb same x c y kept m (each y k)))
       ∙ ap (list_any (λ c. is_above_all b.dag c t.states)) (same.same_children x kept))
 
   -- the fork points are the same
@@ -61,9 +63,11 @@ module _ (core : Core) (a b : Site) (on_a : SiteStands core a) (on_b : SiteStand
       let table = core.store.table in
       let there : entry_of n b.txns ≡ Some (Merge t) = sym (txns-alike core a b on_a on_b n) ∙ d in
       sym (among-kept table a.dag a.collected on_a.0.store.table (is_fork_point a.dag t.states) (λ x known fork. fork-points-kept a n on_a.1 t d x known fork))
-      ∙ (filter-agrees (is_fork_point a.dag t.states) (is_fork_point b.dag t.states) (kept_states a.dag a.collected) (λ x m. point-alike t d x (listed-is_kept a.dag a.collected x m))
+      ∙ (filter-agrees (is_fork_point a.dag t.states) (is_fork_point b.dag t.states) (kept_states a.dag a.collected)
+      (λ x m. point-alike t d x (listed-is_kept a.dag a.collected x m))
       ∙ (ap (filter (is_fork_point b.dag t.states)) (sites-alike core a b on_a on_b).same_kept
-      ∙ among-kept table b.dag b.collected on_b.0.store.table (is_fork_point b.dag t.states) (λ x known fork. fork-points-kept b n on_b.1 t there x known fork)))
+      ∙ among-kept table b.dag b.collected on_b.0.store.table (is_fork_point b.dag t.states)
+      (λ x known fork. fork-points-kept b n on_b.1 t there x known fork)))
 
   pub fork-points-alike : (t : Txn) → entry_of n a.txns ≡ Some t → ReplyAlike (fork_points_of a t) (fork_points_of b t)
   fork-points-alike (Single t) d = refl
@@ -72,7 +76,8 @@ module _ (core : Core) (a b : Site) (on_a : SiteStands core a) (on_b : SiteStand
   pub conflicts-alike : (t : Txn) → entry_of n a.txns ≡ Some t → (after : List ℕ) → ReplyAlike (conflicts_of a t after) (conflicts_of b t after)
   conflicts-alike (Single t) d after = refl
   conflicts-alike (Merge t) d after =
-      ap (λ ks. page_of_keys (filter (is_key_before after) ks)) (conflict-keys-alike core.store a.dag a.collected b.dag b.collected on_a.0.store on_b.0.store t.states (all-kept core a b on_a on_b n t d))
+      ap (λ ks. page_of_keys (filter (is_key_before after) ks))
+      (conflict-keys-alike core.store a.dag a.collected b.dag b.collected on_a.0.store on_b.0.store t.states (all-kept core a b on_a on_b n t d))
 
   -- ===== Sites
 
@@ -81,7 +86,8 @@ module _ (core : Core) (a b : Site) (on_a : SiteStands core a) (on_b : SiteStand
   lines-alike i [] some within = refl
   lines-alike i (f ∷ fs) some within =
       let line : ℕ → List SiteLine → List SiteLine = λ count lines. record { count = count; floor = f.state; number = f.number } ∷ lines in
-      ap₂ line (count-alike core.store.table a.dag a.collected b.dag b.collected on_a.0.store.table on_b.0.store.table i some (omega arith)) (lines-alike (i + 1) fs (omega arith) (omega arith))
+      ap₂ line (count-alike core.store.table a.dag a.collected b.dag b.collected on_a.0.store.table on_b.0.store.table i some (omega arith))
+      (lines-alike (i + 1) fs (omega arith) (omega arith))
 
   pub stat-alike : ReplyAlike (stat a) (stat b)
   stat-alike =
@@ -90,8 +96,10 @@ module _ (core : Core) (a b : Site) (on_a : SiteStands core a) (on_b : SiteStand
       let sb = on_b.0.store.table in
       let each = on_a.1.one_floor_each in
       let sites = ap (λ l. l.sites) on_a.0.limits in
-      told-as (size-alike table a.dag a.collected b.dag b.collected sa sb) (ap length (sites-alike core a b on_a on_b).same_kept) (ap length (leaves-alike table a.dag a.collected b.dag b.collected sa sb))
-      (ap length (sessions-alike core a b on_a on_b)) (lines-alike 1 a.floors (omega arith) (omega arith) ∙ ap (site_lines b.dag 1) (floors-alike core a b on_a on_b))
+      told-as (size-alike table a.dag a.collected b.dag b.collected sa sb) (ap length (sites-alike core a b on_a on_b).same_kept)
+      (ap length (leaves-alike table a.dag a.collected b.dag b.collected sa sb))
+      (ap length (sessions-alike core a b on_a on_b)) (lines-alike 1 a.floors (omega arith) (omega arith)
+      ∙ ap (site_lines b.dag 1) (floors-alike core a b on_a on_b))
 
   pub leaves-shown-alike : ReplyAlike (show_leaves a) (show_leaves b)
   leaves-shown-alike = ap page_of_states (leaves-alike core.store.table a.dag a.collected b.dag b.collected on_a.0.store.table on_b.0.store.table)
@@ -105,11 +113,14 @@ module _ (core : Core) (a b : Site) (on_a : SiteStands core a) (on_b : SiteStand
       let shown : Site → Answer = λ site. (site, Shown (arrival site.dag x) (children site.dag x) (fork_path site.dag site.collected x)) in
       let unknown : Site → Option Reply = λ site. refuse (not (is_known site.dag x)) (Unknown x) in
       let collected : Site → Option Reply = λ site. refuse (is_among x site.collected) (Collected x) in
-      first-alike a b (unknown a) (unknown b) (collected a ∷ []) (collected b ∷ []) (shown a) (shown b) (ap (λ t. refuse (not t) (Unknown x)) (known-same core a b on_a on_b x))
+      first-alike a b (unknown a) (unknown b) (collected a ∷ []) (collected b ∷ []) (shown a) (shown b)
+      (ap (λ t. refuse (not t) (Unknown x)) (known-same core a b on_a on_b x))
       (λ none.
       let known = passed (is_known a.dag x) (Unknown x) none in
-      first-alike a b (collected a) (collected b) [] [] (shown a) (shown b) (ap (λ t. refuse t (Collected x)) (collected-alike table a.dag a.collected b.dag b.collected sa sb x known))
+      first-alike a b (collected a) (collected b) [] [] (shown a) (shown b)
+      (ap (λ t. refuse t (Collected x)) (collected-alike table a.dag a.collected b.dag b.collected sa sb x known))
       (λ more.
-      let kept = and_from (is_known a.dag x) (not (is_among x a.collected)) known (not_from_false (is_among x a.collected) (unrefused (is_among x a.collected) (Collected x) more)) in
+      let kept = and_from (is_known a.dag x) (not (is_among x a.collected)) known
+      (not_from_false (is_among x a.collected) (unrefused (is_among x a.collected) (Collected x) more)) in
       shown-as (arrival-alike table a.dag a.collected b.dag b.collected sa sb x kept) (same.same_children x kept)
       (fork-path-alike a.dag a.collected b.dag b.collected (history table a.dag a.collected sa) (history table b.dag b.collected sb) same x kept)))

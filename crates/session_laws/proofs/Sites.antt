@@ -36,11 +36,13 @@ use Rattle.session_laws.proofs.Stores.{read-alike}
 -- ===== Transactions
 
 -- the states that an open transaction reads are kept
-read-is_kept : (core : Core) (site : Site) → CoreStands core site → (n : ℕ) (t : Txn) → entry_of n site.txns ≡ Some t → (x : StateId) → IsTrue (is_among x (read_states t)) → IsTrue (is_kept site.dag site.collected x)
+read-is_kept : (core : Core) (site : Site) → CoreStands core site → (n : ℕ) (t : Txn) → entry_of n site.txns ≡ Some t → (x : StateId) →
+    IsTrue (is_among x (read_states t)) → IsTrue (is_kept site.dag site.collected x)
 read-is_kept core site stands n t found x m = go (entry_of n core.txns) refl
   where
     of-kept : (h : Kept) → IsNamed core.store.table h → IsTrue (is_among x (read_states (txn_of h))) → IsTrue (is_kept site.dag site.collected x)
-    of-kept (KeptSingle h) named among = named-are_kept core.store.table site.dag site.collected stands.store.table (h.slot ∷ []) (h.state ∷ []) (ap (λ o. o ∷ []) named) x among
+    of-kept (KeptSingle h) named among = named-are_kept core.store.table site.dag site.collected stands.store.table (h.slot ∷ []) (h.state ∷ [])
+        (ap (λ o. o ∷ []) named) x among
     of-kept (KeptMerge h) named among = named-are_kept core.store.table site.dag site.collected stands.store.table h.slots h.states named x among
 
     go : (o : Option Kept) → entry_of n core.txns ≡ o → IsTrue (is_kept site.dag site.collected x)
@@ -62,15 +64,23 @@ open-for book n s e = go (entry_of n book.sessions) refl
   where
     go : (o : Option OpenSession) → entry_of n book.sessions ≡ o → IsOpenFor book n s
     go None f = absurd (none-some s (sym (entry-mapped session_of n book.sessions ∙ ap (option_map session_of) f) ∙ e))
-    go (Some k) f = record { kept = k; found = f; same = same_Some (session_of k) s (sym (entry-mapped session_of n book.sessions ∙ ap (option_map session_of) f) ∙ e) }
+    go (Some k) f = record {
+      kept = k;
+      found = f;
+      same = same_Some (session_of k) s
+          (sym (entry-mapped session_of n book.sessions ∙ ap (option_map session_of) f) ∙ e);
+    }
 
 -- a session's ceiling is kept
-pub ceiling-is_kept : (core : Core) (site : Site) → CoreStands core site → (n : ℕ) (s : Session) → entry_of n site.sessions ≡ Some s → IsTrue (is_kept site.dag site.collected s.ceiling)
+pub ceiling-is_kept : (core : Core) (site : Site) → CoreStands core site → (n : ℕ) (s : Session) → entry_of n site.sessions ≡ Some s →
+    IsTrue (is_kept site.dag site.collected s.ceiling)
 ceiling-is_kept core site stands n s e =
     let table = core.store.table in
     let o = open-for core.book n s (ap (entry_of n) stands.sessions ∙ e) in
-    let at = found-ceiling (IsAt table) (HasStandIn table site.dag site.collected) core.book n o.kept stands.placed (looked-up n core.book.sessions ∙ o.found) in
-    subst (λ (t : Session). IsTrue (is_kept site.dag site.collected t.ceiling)) o.same (slot-is_kept table site.dag site.collected stands.store.table o.kept.ceiling.slot o.kept.ceiling.state at)
+    let at = found-ceiling (IsAt table) (HasStandIn table site.dag site.collected) core.book n o.kept stands.placed
+    (looked-up n core.book.sessions ∙ o.found) in
+    subst (λ (t : Session). IsTrue (is_kept site.dag site.collected t.ceiling)) o.same
+    (slot-is_kept table site.dag site.collected stands.store.table o.kept.ceiling.slot o.kept.ceiling.state at)
 
 module _ (core : Core) (a b : Site) (on_a : SiteStands core a) (on_b : SiteStands core b) where
   -- sessions, floors, limits, the own number and the transactions are the same
@@ -106,7 +116,8 @@ module _ (core : Core) (a b : Site) (on_a : SiteStands core a) (on_b : SiteStand
   pub own-count-alike : own_count a ≡ own_count b
   own-count-alike =
       let within = own-is_site a on_a.1 in
-      count-alike core.store.table a.dag a.collected b.dag b.collected on_a.0.store.table on_b.0.store.table a.own within.0 (subst (λ l. a.own ≤ l.sites) (sym on_a.0.limits) within.1)
+      count-alike core.store.table a.dag a.collected b.dag b.collected on_a.0.store.table on_b.0.store.table a.own within.0
+      (subst (λ l. a.own ≤ l.sites) (sym on_a.0.limits) within.1)
       ∙ ap (count_of_site b.dag) own-alike
 
   pub next-id-alike : next_id a ≡ next_id b
@@ -130,14 +141,17 @@ module _ (core : Core) (a b : Site) (on_a : SiteStands core a) (on_b : SiteStand
 
   module _ (n : ℕ) where
     -- a known state is admitted under a session's ceiling in both or in neither
-    pub admitted-same : (s : Session) → entry_of n a.sessions ≡ Some s → (x : StateId) → IsTrue (is_known a.dag x) → is_admitted a.dag s.ceiling x ≡ is_admitted b.dag s.ceiling x
+    pub admitted-same : (s : Session) → entry_of n a.sessions ≡ Some s → (x : StateId) → IsTrue (is_known a.dag x) → is_admitted a.dag s.ceiling x
+        ≡ is_admitted b.dag s.ceiling x
     admitted-same s e x known =
         let there : entry_of n b.sessions ≡ Some s = ap (entry_of n) (sym sessions-alike) ∙ e in
-        admitted-alike core.store.table a.dag a.collected b.dag b.collected on_a.0.store.table on_b.0.store.table s.ceiling x (ceiling-is_kept core a on_a.0 n s e) known
+        admitted-alike core.store.table a.dag a.collected b.dag b.collected on_a.0.store.table on_b.0.store.table s.ceiling x
+        (ceiling-is_kept core a on_a.0 n s e) known
         (collected-above a n s on_a.1 e) (collected-above b n s on_b.1 there)
 
     -- what is admitted under a session's ceiling is kept
-    pub admitted-is_kept : (s : Session) → entry_of n a.sessions ≡ Some s → (x : StateId) → IsTrue (is_known a.dag x) → IsTrue (is_admitted a.dag s.ceiling x) → IsTrue (is_kept a.dag a.collected x)
+    pub admitted-is_kept : (s : Session) → entry_of n a.sessions ≡ Some s → (x : StateId) → IsTrue (is_known a.dag x) →
+        IsTrue (is_admitted a.dag s.ceiling x) → IsTrue (is_kept a.dag a.collected x)
     admitted-is_kept s e x known admitted =
         and_from (is_known a.dag x) (not (is_among x a.collected)) known
         (not_from_false (is_among x a.collected) (false_from_ne_true (is_among x a.collected) (λ gone.

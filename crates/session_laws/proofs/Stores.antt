@@ -1,5 +1,6 @@
 -- What two histories with one store read alike.
-use Rattle.std.proofs.Common.{◌≡◌, ℕ, ◌+◌, ◌≤◌, zero, suc, Bool, false, not, ◌||◌, List, [], ◌∷◌, length, find, filter_map, Option, Some, None, is_some, is_none, IsTrue, IsFalse, IsSome, refl, sym, ap, ap₂, ◌∙◌, arith}
+use Rattle.std.proofs.Common.{◌≡◌, ℕ, ◌+◌, ◌≤◌, zero, suc, Bool, false, not, ◌||◌, List, [], ◌∷◌, length, find, filter_map, Option, Some, None, is_some}
+use Rattle.std.proofs.Common.{is_none, IsTrue, IsFalse, IsSome, refl, sym, ap, ap₂, ◌∙◌, arith}
 use Rattle.std.specs.List.{list_any, cons_option}
 use Rattle.std.specs.Option.{option_map, option_map_or, option_and_then}
 use Rattle.std.proofs.lemmas.Bool.{and_parts, and_from, both_ways, not_from_false}
@@ -41,14 +42,16 @@ abbrev written : StateId → Write → StateId × Write
 written w v = (w, v)
 
 -- the one who wrote what is read is the latest writer
-reader-of : (rs : List Record) (k : List ℕ) (w : StateId) (o : Option Write) → write_at rs k w ≡ o → IsSome (version_at rs k w) → option_map (λ (v : StateId × Write). v.0) (version_at rs k w) ≡ Some w
+reader-of : (rs : List Record) (k : List ℕ) (w : StateId) (o : Option Write) → write_at rs k w ≡ o → IsSome (version_at rs k w) →
+    option_map (λ (v : StateId × Write). v.0) (version_at rs k w) ≡ Some w
 reader-of rs k w None e some =
     let none : is_some (version_at rs k w) ≡ false = ap (λ o. is_some (option_map (λ (v : Write). written w v) o)) e in
     absurd (both_ways (is_some (version_at rs k w)) none some)
 reader-of rs k w (Some v) e some = ap (λ o. option_map (λ (u : StateId × Write). u.0) (option_map (λ (u : Write). written w u) o)) e
 
 -- so the latest writer is read off the read
-latest-is_reader : (rs : List Record) → IsDag rs → (k : List ℕ) (x : StateId) → IsTrue (is_known rs x) → latest_writer rs k x ≡ option_map (λ (v : StateId × Write). v.0) (read rs k x)
+latest-is_reader : (rs : List Record) → IsDag rs → (k : List ℕ) (x : StateId) → IsTrue (is_known rs x) → latest_writer rs k x
+    ≡ option_map (λ (v : StateId × Write). v.0) (read rs k x)
 latest-is_reader rs dag k x known = go (latest_writer rs k x) refl
   where
     one : HasOneLatestWriter rs k x
@@ -83,7 +86,8 @@ IsFree rs ks x = (y : StateId) → IsTrue (is_above rs x y) → IsFalse (is_amon
 free-below : (rs : List Record) (ks : List StateId) → IsDag rs → (x y : StateId) → IsFree rs ks x → IsTrue (is_above rs x y) → IsFree rs ks y
 free-below rs ks dag x y free above z below = free z (above-transitive rs dag x y z above below)
 
-module _ (store : Store) (ra : List Record) (ka : List StateId) (rb : List Record) (kb : List StateId) (sa : StoreStands store ra ka) (sb : StoreStands store rb kb) where
+module _ (store : Store) (ra : List Record) (ka : List StateId) (rb : List Record) (kb : List StateId) (sa : StoreStands store ra ka)
+    (sb : StoreStands store rb kb) where
   alike : AreAlike ra ka rb kb
   alike = tables-alike store.table ra ka rb kb sa.table sb.table
 
@@ -106,7 +110,8 @@ module _ (store : Store) (ra : List Record) (ka : List StateId) (rb : List Recor
       ∙ sym (latest-is_reader rb sb.table.dag k x (and_parts (is_known rb x) (not (is_among x kb)) (in_b x kept)).0))
 
   -- the same state stands in for a latest writer
-  holders-alike : (k : List ℕ) (x : StateId) → IsTrue (is_kept ra ka x) → option_map (stand_in ra ka) (latest_writer ra k x) ≡ option_map (stand_in rb kb) (latest_writer rb k x)
+  holders-alike : (k : List ℕ) (x : StateId) → IsTrue (is_kept ra ka x) → option_map (stand_in ra ka) (latest_writer ra k x)
+      ≡ option_map (stand_in rb kb) (latest_writer rb k x)
   holders-alike k x kept =
       let s = kept-has_slot store.table ra ka sa.table x kept in
       sym (holder-is_stand_in store ra ka sa s.0 x s.1 k) ∙ holder-is_stand_in store rb kb sb s.0 x s.1 k
@@ -125,7 +130,8 @@ module _ (store : Store) (ra : List Record) (ka : List StateId) (rb : List Recor
       ∙ news-told rb kb sb.table.dag sb.table.shared k x c (in_b x kept_x) (in_b c kept_c)
     where
       held : (o : Option StateId) → latest_writer ra k c ≡ o →
-          option_map_or (λ y. not (is_above ra y x)) (option_map (stand_in ra ka) o) false ≡ option_map_or (λ y. not (is_above rb y x)) (option_map (stand_in ra ka) o) false
+          option_map_or (λ y. not (is_above ra y x)) (option_map (stand_in ra ka) o) false
+          ≡ option_map_or (λ y. not (is_above rb y x)) (option_map (stand_in ra ka) o) false
       held None e = refl
       held (Some w) e =
           let known = read-is_known ra ka sa.table.dag sa.table.shared k w (c, kept_c, e) in
@@ -152,7 +158,8 @@ module _ (store : Store) (ra : List Record) (ka : List StateId) (rb : List Recor
       holder-is_kept w m = (stands-in-well ra ka sa.table.dag sa.table.shared).kept w (read-is_known ra ka sa.table.dag sa.table.shared k w (read_a w m))
 
       -- of two of them the one is at or above the other in both or in neither
-      order-alike : (u w : StateId) → IsTrue (is_among u (latest_writers ra k xs)) → IsTrue (is_among w (latest_writers ra k xs)) → is_above ra u w ≡ is_above rb u w
+      order-alike : (u w : StateId) → IsTrue (is_among u (latest_writers ra k xs)) → IsTrue (is_among w (latest_writers ra k xs)) → is_above ra u w
+          ≡ is_above rb u w
       order-alike u w m n =
           sym (above-told ra ka sa.table.dag sa.table.shared k u w (read_a u m) (read_a w n))
           ∙ (alike.same_above (stand_in ra ka u) (stand_in ra ka w) (holder-is_kept u m) (holder-is_kept w n)
@@ -193,7 +200,8 @@ module _ (store : Store) (ra : List Record) (ka : List StateId) (rb : List Recor
   module _ (keys : List (List ℕ)) where
     child-is_kept : (x c : StateId) → IsFree ra ka x → IsTrue (is_among c (children ra x)) → IsTrue (is_kept ra ka c)
     child-is_kept x c free m =
-        and_from (is_known ra c) (not (is_among c ka)) (child_is_known ra x c m) (not_from_false (is_among c ka) (free c (parent_is_above ra sa.table.dag x c m)))
+        and_from (is_known ra c) (not (is_among c ka)) (child_is_known ra x c m)
+        (not_from_false (is_among c ka) (free c (parent_is_above ra sa.table.dag x c m)))
 
     -- the same children pass
     passes-alike : (x c : StateId) → IsTrue (is_kept ra ka x) → IsTrue (is_kept ra ka c) → passes ra keys x c ≡ passes rb keys x c

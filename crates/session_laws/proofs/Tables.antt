@@ -1,5 +1,6 @@
 -- What two histories with one table have in common.
-use Rattle.std.proofs.Common.{◌≡◌, ℕ, ◌<◌, ◌≤◌, Bool, true, false, not, ◌&&◌, eqb, leb, List, [], ◌∷◌, ◌++◌, length, map, filter, find, Option, Some, IsTrue, IsFalse, inl, inr, refl, sym, ap, subst, ◌∙◌, unwrap_or, arith}
+use Rattle.std.proofs.Common.{◌≡◌, ℕ, ◌<◌, ◌≤◌, Bool, true, false, not, ◌&&◌, eqb, leb, List, [], ◌∷◌, ◌++◌, length, map, filter, find, Option, Some, IsTrue}
+use Rattle.std.proofs.Common.{IsFalse, inl, inr, refl, sym, ap, subst, ◌∙◌, unwrap_or, arith}
 use Rattle.std.proofs.lemmas.Bool.{and_parts, and_from, both_ways, cases_Bool, cases_lt, cond-true, cond-false, not-true, not_from_false, false_from_ne_true}
 use Rattle.std.proofs.lemmas.Option.{none-some, same_Some}
 use Rattle.tardis_base.specs.declared.ids.StateId.{StateId}
@@ -49,7 +50,8 @@ same-end (z ∷ xs) [] x y e = (let rest : [] ≡ xs ++ x ∷ [] = cc in absurd 
 same-end (z ∷ xs) (w ∷ ys) x y e = (let rest : xs ++ x ∷ [] ≡ ys ++ y ∷ [] = cc in same-end xs ys x y rest)
 
 -- what is found arrived last of those that pass
-found-arrived-last : (rs : List Record) → Grows rs → (p : StateId → Bool) (y n : StateId) → find p (states rs) ≡ Some y → IsTrue (is_known rs n) → IsTrue (p n) → arrival rs n ≤ arrival rs y
+found-arrived-last : (rs : List Record) → Grows rs → (p : StateId → Bool) (y n : StateId) → find p (states rs) ≡ Some y → IsTrue (is_known rs n) →
+    IsTrue (p n) → arrival rs n ≤ arrival rs y
 found-arrived-last [] g p y n e known passes = absurd (none-some y e)
 found-arrived-last (r ∷ rs) g p y n e known passes = elim (cases_Bool (p r.id)) [
   | inl t ↦
@@ -60,7 +62,8 @@ found-arrived-last (r ∷ rs) g p y n e known passes = elim (cases_Bool (p r.id)
       omega arith
   | inr f ↦
       let rest = sym (cond-false (p r.id) (Some r.id) (find p (states rs)) f) ∙ e in
-      let other : IsFalse (same_id n r.id) = false_from_ne_true (same_id n r.id) (λ t. both_ways (p r.id) f (subst (λ z. IsTrue (p z)) (same_id-true n r.id t) passes)) in
+      let other : IsFalse (same_id n r.id) = false_from_ne_true (same_id n r.id)
+      (λ t. both_ways (p r.id) f (subst (λ z. IsTrue (p z)) (same_id-true n r.id t) passes)) in
       let old_y = arrival-before rs r y (known-isnt-newest rs r y g.0 (found-passes p (states rs) y rest).0) in
       let old_n = arrival-before rs r n other in
       let le = found-arrived-last rs g.1 p y n rest (known-before rs r n known other) passes in
@@ -77,7 +80,8 @@ record IsLastBelow (rs : List Record) (ks : List StateId) (last : StateId) : Typ
   below : IsTrue (is_above rs last (last_below rs last))
   latest : (z : StateId) → IsTrue (is_kept rs ks z) → arrival rs (last_below rs last) < arrival rs z → IsFalse (is_above rs last z)
 
-last-below-is : (table : Table) (rs : List Record) (ks : List StateId) → Stands table rs ks → (last : StateId) → IsTrue (is_known rs last) → IsLastBelow rs ks last
+last-below-is : (table : Table) (rs : List Record) (ks : List StateId) → Stands table rs ks → (last : StateId) → IsTrue (is_known rs last) →
+    IsLastBelow rs ks last
 last-below-is table rs ks stands last known =
     let w = finds-passing (is_above rs last) (states rs) last known (above-reflexive rs last) in
     let same : last_below rs last ≡ w.0 = ap (λ o. unwrap_or o last) w.1 in
@@ -152,7 +156,8 @@ module _ (table : Table) (ra : List Record) (ka : List StateId) (rb : List Recor
     | inl some ↦
         let other : x.site ≡ 0 → ⊥ = λ e. omega arith in
         elim (cases_lt table.limits.sites x.site) [
-          | inl beyond ↦ sym (knows-none ra table.limits.sites sa.dag sa.sites x other (inl beyond)) ∙ knows-none rb table.limits.sites sb.dag sb.sites x other (inl beyond)
+          | inl beyond ↦ sym (knows-none ra table.limits.sites sa.dag sa.sites x other (inl beyond))
+              ∙ knows-none rb table.limits.sites sb.dag sb.sites x other (inl beyond)
           | inr within ↦ elim (cases_lt 0 x.sequence) [
             | inr none ↦
                 let zero : x.sequence ≡ 0 = omega arith in
@@ -169,8 +174,12 @@ module _ (table : Table) (ra : List Record) (ka : List StateId) (rb : List Recor
   collected-alike x known_a =
       let known_b : IsTrue (is_known rb x) = sym (known-alike x) ∙ known_a in
       same_test (is_among x ka) (is_among x kb)
-      (λ gone. not_false (is_among x kb) (λ out. both_ways (is_among x ka) (not-true (is_among x ka) (and_parts (is_known ra x) (not (is_among x ka)) (back x (and_from (is_known rb x) (not (is_among x kb)) known_b (not_from_false (is_among x kb) out)))).1) gone))
-      (λ gone. not_false (is_among x ka) (λ out. both_ways (is_among x kb) (not-true (is_among x kb) (and_parts (is_known rb x) (not (is_among x kb)) (there x (and_from (is_known ra x) (not (is_among x ka)) known_a (not_from_false (is_among x ka) out)))).1) gone))
+      (λ gone. not_false (is_among x kb) (λ out. both_ways (is_among x ka)
+      (not-true (is_among x ka) (and_parts (is_known ra x) (not (is_among x ka))
+      (back x (and_from (is_known rb x) (not (is_among x kb)) known_b (not_from_false (is_among x kb) out)))).1) gone))
+      (λ gone. not_false (is_among x ka) (λ out. both_ways (is_among x kb)
+      (not-true (is_among x kb) (and_parts (is_known rb x) (not (is_among x kb))
+      (there x (and_from (is_known ra x) (not (is_among x ka)) known_a (not_from_false (is_among x ka) out)))).1) gone))
     where
       not_false : (b : Bool) → (IsFalse b → ⊥) → IsTrue b
       not_false true f = refl
@@ -207,8 +216,10 @@ module _ (table : Table) (ra : List Record) (ka : List StateId) (rb : List Recor
       let known_b : IsTrue (is_known rb last) = sym (known-alike last) ∙ known_a in
       let n = last_below ra last in
       let is = last-below-is table ra ka sa last known_a in
-      let above : (z : StateId) → IsTrue (is_kept ra ka z) → is_above ra last z ≡ is_above rb last z = λ z kept. above-alike ra ka rb kb ha hb tables-alike last last z known_a known_b same kept in
-      newest-found table rb kb sb last known_b n (there n is.kept) (sym (below-stand-in table rb kb sb last known_b n (there n is.kept)) ∙ (sym (above n is.kept) ∙ is.below))
+      let above : (z : StateId) → IsTrue (is_kept ra ka z) → is_above ra last z ≡ is_above rb last z =
+      λ z kept. above-alike ra ka rb kb ha hb tables-alike last last z known_a known_b same kept in
+      newest-found table rb kb sb last known_b n (there n is.kept) (sym (below-stand-in table rb kb sb last known_b n (there n is.kept))
+      ∙ (sym (above n is.kept) ∙ is.below))
       (λ z leaf later.
       let leaf_b = filtered-passes (is_leaf rb) (arrived rb) z leaf in
       let kept_a = back z (leaf-is_kept table rb kb sb z (arrived-is_known rb z leaf_b.0) leaf_b.1) in
@@ -217,7 +228,8 @@ module _ (table : Table) (ra : List Record) (ka : List StateId) (rb : List Recor
       sym (above z kept_a) ∙ is.latest z kept_a (omega arith))
 
   -- a known state is admitted in both or in neither, where all collected states are above the ceiling
-  pub admitted-alike : (c x : StateId) → IsTrue (is_kept ra ka c) → IsTrue (is_known ra x) → ((y : StateId) → IsTrue (is_among y ka) → IsTrue (is_proper_ancestor ra y c)) →
+  pub admitted-alike : (c x : StateId) → IsTrue (is_kept ra ka c) → IsTrue (is_known ra x) →
+      ((y : StateId) → IsTrue (is_among y ka) → IsTrue (is_proper_ancestor ra y c)) →
       ((y : StateId) → IsTrue (is_among y kb) → IsTrue (is_proper_ancestor rb y c)) → is_admitted ra c x ≡ is_admitted rb c x
   admitted-alike c x kept known above_a above_b = elim (cases_Bool (is_among x ka)) [
     | inl gone ↦ ap not (above_a x gone ∙ sym (above_b x (sym (collected-alike x known) ∙ gone)))

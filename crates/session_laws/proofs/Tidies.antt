@@ -1,5 +1,6 @@
 -- States are collected alike.
-use Rattle.std.proofs.Common.{◌≡◌, ℕ, zero, suc, ◌+◌, ◌-◌, Bool, not, ◌&&◌, ◌||◌, List, [], ◌∷◌, map, filter, find, length, Option, Some, None, is_some, if◌then◌else◌, IsTrue, IsFalse, inl, inr, refl, sym, ap, ap₂, ◌∙◌, arith}
+use Rattle.std.proofs.Common.{◌≡◌, ℕ, zero, suc, ◌+◌, ◌-◌, Bool, not, ◌&&◌, ◌||◌, List, [], ◌∷◌, map, filter, find, length, Option, Some, None, is_some}
+use Rattle.std.proofs.Common.{if◌then◌else◌, IsTrue, IsFalse, inl, inr, refl, sym, ap, ap₂, ◌∙◌, arith}
 use Rattle.std.specs.List.{All, list_all}
 use Rattle.std.proofs.lemmas.Bool.{and_parts, and_from, not-true, not_from_false, false_from_ne_true, or_parts}
 use Rattle.std.proofs.lemmas.List.Elements.{All-head, All-tail}
@@ -39,7 +40,8 @@ maps-agree f g [] same = refl
 maps-agree f g (c ∷ cs) same = ap₂ (λ d ds. d ∷ ds) (same c (among-first c cs)) (maps-agree f g cs (λ d m. same d (among-later d c cs m)))
 
 -- what a collectable state is
-collectable-parts : (rs : List Record) (floors : List Floor) (ks : List StateId) (x : StateId) → IsTrue (is_collectable rs floors ks x) → IsFalse (is_among x ks) × IsTrue (is_closed rs floors x) × IsTrue (is_absorbed rs ks x)
+collectable-parts : (rs : List Record) (floors : List Floor) (ks : List StateId) (x : StateId) → IsTrue (is_collectable rs floors ks x) →
+    IsFalse (is_among x ks) × IsTrue (is_closed rs floors x) × IsTrue (is_absorbed rs ks x)
 collectable-parts rs floors ks x collectable =
     let fits = and_parts (not (is_among x ks) && is_closed rs floors x) (is_absorbed rs ks x) collectable in
     let first = and_parts (not (is_among x ks)) (is_closed rs floors x) fits.0 in
@@ -51,7 +53,8 @@ are_kept rs ks fs = list_all (λ (f : Floor). is_kept rs ks f.state) fs
 
 -- ===== One state
 
-module _ (ra : List Record) (ka : List StateId) (rb : List Record) (kb : List StateId) (ha : IsHistory ra ka) (hb : IsHistory rb kb) (alike : AreAlike ra ka rb kb) where
+module _ (ra : List Record) (ka : List StateId) (rb : List Record) (kb : List StateId) (ha : IsHistory ra ka) (hb : IsHistory rb kb)
+    (alike : AreAlike ra ka rb kb) where
   closed-alike : (x : StateId) → IsTrue (is_kept ra ka x) → (fs : List Floor) → IsTrue (are_kept ra ka fs) → is_closed ra fs x ≡ is_closed rb fs x
   closed-alike x kept [] all = refl
   closed-alike x kept (f ∷ fs) all =
@@ -84,7 +87,8 @@ module _ (ra : List Record) (ka : List StateId) (rb : List Record) (kb : List St
 was-kept : (rs : List Record) (ks : List StateId) (x y : StateId) → IsTrue (is_kept rs (x ∷ ks) y) → IsTrue (is_kept rs ks y)
 was-kept rs ks x y kept =
     let parts = and_parts (is_known rs y) (not (is_among y (x ∷ ks))) kept in
-    and_from (is_known rs y) (not (is_among y ks)) parts.0 (not_from_false (is_among y ks) (or_parts (same_id y x) (is_among y ks) (not-true (is_among y (x ∷ ks)) parts.1)).1)
+    and_from (is_known rs y) (not (is_among y ks)) parts.0 (not_from_false (is_among y ks)
+    (or_parts (same_id y x) (is_among y ks) (not-true (is_among y (x ∷ ks)) parts.1)).1)
 
 -- a history still
 history-joined : (rs : List Record) (ks : List StateId) (x s : StateId) → IsHistory rs ks → IsTrue (is_known rs x) → HandsOver rs ks x s → IsHistory rs (x ∷ ks)
@@ -98,7 +102,8 @@ history-joined rs ks x s h known over = record {
 }
 
 -- a closed state is no floor, so floors stay kept
-floors-stay : (rs : List Record) (ks : List StateId) (x : StateId) (fs : List Floor) → IsTrue (is_closed rs fs x) → IsTrue (are_kept rs ks fs) → IsTrue (are_kept rs (x ∷ ks) fs)
+floors-stay : (rs : List Record) (ks : List StateId) (x : StateId) (fs : List Floor) → IsTrue (is_closed rs fs x) → IsTrue (are_kept rs ks fs) →
+    IsTrue (are_kept rs (x ∷ ks) fs)
 floors-stay rs ks x [] closed all = refl
 floors-stay rs ks x (f ∷ fs) closed all =
     let closes = and_parts (is_proper_ancestor rs x f.state) (is_closed rs fs x) closed in
@@ -110,7 +115,8 @@ floors-stay rs ks x (f ∷ fs) closed all =
     (and_from (is_known rs f.state) (not (is_among f.state (x ∷ ks))) here.0 (not_from_false (is_among f.state (x ∷ ks)) out))
     (floors-stay rs ks x fs closes.1 parts.1)
 
-alike-joined : (ra : List Record) (ka : List StateId) (rb : List Record) (kb : List StateId) (x s : StateId) → AreAlike ra ka rb kb → HandsOver ra ka x s → HandsOver rb kb x s → AreAlike ra (x ∷ ka) rb (x ∷ kb)
+alike-joined : (ra : List Record) (ka : List StateId) (rb : List Record) (kb : List StateId) (x s : StateId) → AreAlike ra ka rb kb → HandsOver ra ka x s →
+    HandsOver rb kb x s → AreAlike ra (x ∷ ka) rb (x ∷ kb)
 alike-joined ra ka rb kb x s alike over_a over_b = record {
   same_kept = over_a.kept ∙ (ap (filter (λ z. not (same_id z x))) alike.same_kept ∙ sym over_b.kept);
   same_children = λ y kept. alike.same_children y (was-kept ra ka x y kept);
@@ -135,7 +141,8 @@ module _ (ra rb : List Record) (floors : List Floor) where
   tidied-alike zero ka kb ha hb alike all = omega arith
   tidied-alike (suc n) ka kb ha hb alike all = go (tidied-alike n) (find (is_collectable ra floors ka) (states ra)) refl
     where
-      go : AsMany n → (o : Option StateId) → find (is_collectable ra floors ka) (states ra) ≡ o → length (tidied (suc n) ra floors ka) + length kb ≡ length (tidied (suc n) rb floors kb) + length ka
+      go : AsMany n → (o : Option StateId) → find (is_collectable ra floors ka) (states ra) ≡ o → length (tidied (suc n) ra floors ka) + length kb
+          ≡ length (tidied (suc n) rb floors kb) + length ka
       go later None e =
           let a : tidied (suc n) ra floors ka ≡ ka = ap (joined n floors ra ka) e in
           let b : tidied (suc n) rb floors kb ≡ kb = ap (joined n floors rb kb) (sym (found-alike ra ka rb kb ha hb alike floors all) ∙ e) in
@@ -151,17 +158,21 @@ module _ (ra rb : List Record) (floors : List Floor) where
           let over_a = hands-over ra ka ha.dag x shares.0 parts.0 shares.1 in
           let over_b = hands-over rb kb hb.dag x shares.0 (not-true (is_among x kb) there.1) (sym (shared-alike ra ka rb kb ha hb alike x kept) ∙ shares.1) in
           let a : tidied (suc n) ra floors ka ≡ tidied n ra floors (x ∷ ka) = ap (joined n floors ra ka) e in
-          let b : tidied (suc n) rb floors kb ≡ tidied n rb floors (x ∷ kb) = ap (joined n floors rb kb) (sym (found-alike ra ka rb kb ha hb alike floors all) ∙ e) in
+          let b : tidied (suc n) rb floors kb ≡ tidied n rb floors (x ∷ kb) =
+          ap (joined n floors rb kb) (sym (found-alike ra ka rb kb ha hb alike floors all) ∙ e) in
           let many_a = ap length a in
           let many_b = ap length b in
-          let rest = later (x ∷ ka) (x ∷ kb) (history-joined ra ka x shares.0 ha found.0 over_a) (history-joined rb kb x shares.0 hb there.0 over_b) (alike-joined ra ka rb kb x shares.0 alike over_a over_b) (floors-stay ra ka x floors parts.1 all) in
+          let rest = later (x ∷ ka) (x ∷ kb) (history-joined ra ka x shares.0 ha found.0 over_a) (history-joined rb kb x shares.0 hb there.0 over_b)
+          (alike-joined ra ka rb kb x shares.0 alike over_a over_b) (floors-stay ra ka x floors parts.1 all) in
           omega arith
 
 -- floors are kept where the places of the book are right
-floors-kept : (table : Table) (rs : List Record) (ks : List StateId) → Stands table rs ks → (fs : List KnownFloor) → All (λ (f : KnownFloor). IsAt table f.place) fs → IsTrue (are_kept rs ks (map known_floor fs))
+floors-kept : (table : Table) (rs : List Record) (ks : List StateId) → Stands table rs ks → (fs : List KnownFloor) →
+    All (λ (f : KnownFloor). IsAt table f.place) fs → IsTrue (are_kept rs ks (map known_floor fs))
 floors-kept table rs ks stands [] at = refl
 floors-kept table rs ks stands (f ∷ fs) at =
-    and_from (is_kept rs ks f.place.state) (are_kept rs ks (map known_floor fs)) (slot-is_kept table rs ks stands f.place.slot f.place.state (All-head (λ (g : KnownFloor). IsAt table g.place) f fs at))
+    and_from (is_kept rs ks f.place.state) (are_kept rs ks (map known_floor fs))
+    (slot-is_kept table rs ks stands f.place.slot f.place.state (All-head (λ (g : KnownFloor). IsAt table g.place) f fs at))
     (floors-kept table rs ks stands fs (All-tail (λ (g : KnownFloor). IsAt table g.place) f fs at))
 
 history-of : (table : Table) (rs : List Record) (ks : List StateId) → Stands table rs ks → IsHistory rs ks
@@ -173,6 +184,8 @@ tidy-alike core a b on_a on_b n =
     let sa = on_a.0.store.table in
     let sb = on_b.0.store.table in
     let kept = ap (are_kept a.dag a.collected) (sym on_a.0.floors) ∙ floors-kept table a.dag a.collected sa core.book.floors on_a.0.placed.of_floors in
-    let same = tidied-alike a.dag b.dag a.floors n a.collected b.collected (history-of table a.dag a.collected sa) (history-of table b.dag b.collected sb) (sites-alike core a b on_a on_b) kept in
-    let many : length (tidied n a.dag a.floors a.collected) - length a.collected ≡ length (tidied n b.dag a.floors b.collected) - length b.collected = omega arith in
+    let same = tidied-alike a.dag b.dag a.floors n a.collected b.collected (history-of table a.dag a.collected sa) (history-of table b.dag b.collected sb)
+    (sites-alike core a b on_a on_b) kept in
+    let many : length (tidied n a.dag a.floors a.collected) - length a.collected ≡ length (tidied n b.dag a.floors b.collected) - length b.collected =
+    omega arith in
     ap Tidied (many ∙ ap (λ fs. length (tidied n b.dag fs b.collected) - length b.collected) (floors-alike core a b on_a on_b))

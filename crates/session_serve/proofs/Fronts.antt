@@ -26,7 +26,8 @@ at_front xs ys i e h =
     slice_get-get_or (xs ++ ys) i e (omega (arith, within, length-append xs ys)) ∙ ap Some (get_or-append xs ys e i within ∙ get_or_from_slice_get xs i e e h)
 
 -- a reply at a place of a front
-pub reply_front : {P : Type 0} (m : PlainMachine P) (s : P) (xs ys : List Event) (i : ℕ) (reply : List ℕ) → reply_at m s xs i ≡ Some reply → reply_at m s (xs ++ ys) i ≡ Some reply
+pub reply_front : {P : Type 0} (m : PlainMachine P) (s : P) (xs ys : List Event) (i : ℕ) (reply : List ℕ) → reply_at m s xs i ≡ Some reply →
+    reply_at m s (xs ++ ys) i ≡ Some reply
 reply_front m s [] ys i reply h = absurd (cc)
 reply_front m s (x ∷ xs) ys ℕ.zero reply h = h
 reply_front m s (x ∷ xs) ys (ℕ.suc i) reply h = reply_front m (m.step s x) xs ys i reply h

@@ -41,22 +41,28 @@ module _ {M P : Type 0} (opening : M → P) (m : PlainMachine P) where
         replies = replies;
         talk = session_open m (opening a.start.machine) a.start.max_trail a.session a.pass an.state.pass bodies an.answers chain.talked;
         given = weaker g h (λ y z. Whole (y ++ []) (z ++ []) (concat an.answers)) (λ y z. Whole y z (frames replies)) an.given
-            (λ y z n. subst (λ x. Whole x z (frames replies)) (append-nil y) (subst (λ x. Whole (y ++ []) x (frames replies)) (append-nil z) (subst (λ x. Whole (y ++ []) (z ++ []) x) chain.talked.framed n)));
+            (λ y z n. subst (λ x. Whole x z (frames replies)) (append-nil y)
+            (subst (λ x. Whole (y ++ []) x (frames replies)) (append-nil z) (subst (λ x. Whole (y ++ []) (z ++ []) x) chain.talked.framed n)));
       }
 
   pub at_once : (a : Asking M) (left given : Option (List ℕ)) (old new : Option (List Moment))
-      → EachTake old new (λ moment. WhileTold left moment.left (UpToDate (λ (s : Asking M). a ≡ s) (λ s bodies. AnsweredBy (Asked (AsksOnce opening m)) Whole (λ _. Unit {0}) given moment.given [] [] s bodies)))
+      → EachTake old new (λ moment. WhileTold left moment.left
+      (UpToDate (λ (s : Asking M). a ≡ s) (λ s bodies. AnsweredBy (Asked (AsksOnce opening m)) Whole (λ _. Unit {0}) given moment.given [] [] s bodies)))
       → RepliesAtOnce m (opening a.start.machine) a.start.max_trail a.session (length a.pass.seen) left given old new
   at_once a left given old new e =
       each_take old new
-      (λ moment. WhileTold left moment.left (UpToDate (λ (s : Asking M). a ≡ s) (λ s bodies. AnsweredBy (Asked (AsksOnce opening m)) Whole (λ _. Unit {0}) given moment.given [] [] s bodies)))
-      (λ moment. WhileTold left moment.left (UpToDate (λ n. n ≡ length a.pass.seen) (λ n bodies. SoFar m (opening a.start.machine) a.start.max_trail a.session n given moment.given bodies)))
-      (λ moment w. weaker left moment.left (UpToDate (λ (s : Asking M). a ≡ s) (λ s bodies. AnsweredBy (Asked (AsksOnce opening m)) Whole (λ _. Unit {0}) given moment.given [] [] s bodies))
+      (λ moment. WhileTold left moment.left (UpToDate (λ (s : Asking M). a ≡ s)
+      (λ s bodies. AnsweredBy (Asked (AsksOnce opening m)) Whole (λ _. Unit {0}) given moment.given [] [] s bodies)))
+      (λ moment. WhileTold left moment.left (UpToDate (λ n. n ≡ length a.pass.seen)
+      (λ n bodies. SoFar m (opening a.start.machine) a.start.max_trail a.session n given moment.given bodies)))
+      (λ moment w. weaker left moment.left (UpToDate (λ (s : Asking M). a ≡ s)
+      (λ s bodies. AnsweredBy (Asked (AsksOnce opening m)) Whole (λ _. Unit {0}) given moment.given [] [] s bodies))
       (UpToDate (λ n. n ≡ length a.pass.seen) (λ n bodies. SoFar m (opening a.start.machine) a.start.max_trail a.session n given moment.given bodies)) w
       (λ x y u. record {
         bodies = u.bodies;
         held = u.held;
         read = u.read;
         partial = u.partial;
-        answered = λ n is. subst (λ k. SoFar m (opening a.start.machine) a.start.max_trail a.session k given moment.given u.bodies) (sym is) (so_far a given moment.given u.bodies (u.answered a refl));
+        answered = λ n is. subst (λ k. SoFar m (opening a.start.machine) a.start.max_trail a.session k given moment.given u.bodies) (sym is)
+            (so_far a given moment.given u.bodies (u.answered a refl));
       })) e

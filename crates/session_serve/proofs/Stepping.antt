@@ -26,13 +26,15 @@ pub record Stepped {P : Type 0} (m : PlainMachine P) (start : P) (most : ℕ) (p
   pub seen : Begins p.seen q.seen
 
 module _ {M P : Type 0} (opening : M → P) (m : PlainMachine P) (z : Kept M) where
-  pub stepped : (p q : Known) (e : Event) (out : List ℕ) (r : Acted) → Ended opening m z p e out q r → Stepped m (opening z.machine) z.max_trail p q e (reply_without r out) r
+  pub stepped : (p q : Known) (e : Event) (out : List ℕ) (r : Acted) → Ended opening m z p e out q r →
+      Stepped m (opening z.machine) z.max_trail p q e (reply_without r out) r
   stepped p q e out Done (before, begins, seen, owned, reply, room) = record {
     found = length before;
     later = begins_length p.seen before begins;
     is_turn = record {
       within = omega (arith, ap length seen, length-append before (e ∷ []));
-      room = subst (λ front. IsFullAt Done (bytes_of front) (length e.1 + 6) z.max_trail) (sym (ap (take (length before)) seen ∙ take-append_seam before (e ∷ []))) room;
+      room = subst (λ front. IsFullAt Done (bytes_of front) (length e.1 + 6) z.max_trail)
+          (sym (ap (take (length before)) seen ∙ take-append_seam before (e ∷ []))) room;
       entry = λ _. ap (λ l. slice_get l (length before)) seen ∙ at_end before e [];
     };
     replied = reply;

@@ -41,7 +41,9 @@ module _ {P : Type 0} (m : PlainMachine P) (start : P) (most session : ℕ) wher
   }
 
   -- a step, and then more
-  talked_more : (p u q : Known) (body reply : List ℕ) (r : Acted) (answer : List ℕ) (bodies answers : List (List ℕ)) → Stepped m start most p u (session, request_in body) reply r → answer ≡ frame reply → Talked m start most session u q bodies answers → Talked m start most session p q (body ∷ bodies) (answer ∷ answers)
+  talked_more : (p u q : Known) (body reply : List ℕ) (r : Acted) (answer : List ℕ) (bodies answers : List (List ℕ)) →
+      Stepped m start most p u (session, request_in body) reply r → answer ≡ frame reply → Talked m start most session u q bodies answers →
+      Talked m start most session p q (body ∷ bodies) (answer ∷ answers)
   talked_more p u q body reply r answer bodies answers s framed t =
       let left : left_by (turn s.found r) ≤ length u.seen = left_within most u.seen (session, request_in body) (turn s.found r) s.is_turn in
       record {
@@ -69,18 +71,24 @@ module _ {M P : Type 0} (opening : M → P) (m : PlainMachine P) where
   chained_none s = record { same = refl; talked = talked_none m (opening s.start.machine) s.start.max_trail s.session s.pass }
 
   -- the talk behind a step is of the same lock and session
-  talked_same : (s u t : Asking M) (bodies answers : List (List ℕ)) → at_first u ≡ at_first s → Talked m (opening u.start.machine) u.start.max_trail u.session u.pass t.pass bodies answers → Talked m (opening s.start.machine) s.start.max_trail s.session u.pass t.pass bodies answers
-  talked_same s u t bodies answers same h = subst (λ (a : Asking M). Talked m (opening a.start.machine) a.start.max_trail a.session u.pass t.pass bodies answers) same h
+  talked_same : (s u t : Asking M) (bodies answers : List (List ℕ)) → at_first u ≡ at_first s →
+      Talked m (opening u.start.machine) u.start.max_trail u.session u.pass t.pass bodies answers →
+      Talked m (opening s.start.machine) s.start.max_trail s.session u.pass t.pass bodies answers
+  talked_same s u t bodies answers same h = subst (λ (a : Asking M). Talked m (opening a.start.machine) a.start.max_trail a.session u.pass t.pass bodies
+      answers) same h
 
-  chained_more : (s u t : Asking M) (body answer : List ℕ) (bodies answers : List (List ℕ)) → Asked (AsksOnce opening m) s body answer u → Chained opening m u t bodies answers → Chained opening m s t (body ∷ bodies) (answer ∷ answers)
+  chained_more : (s u t : Asking M) (body answer : List ℕ) (bodies answers : List (List ℕ)) → Asked (AsksOnce opening m) s body answer u →
+      Chained opening m u t bodies answers → Chained opening m s t (body ∷ bodies) (answer ∷ answers)
   chained_more s u t body answer bodies answers (acted, reply, one, framed) c = record {
     same = c.same ∙ one.same;
-    talked = talked_more m (opening s.start.machine) s.start.max_trail s.session s.pass u.pass t.pass body (reply_without acted reply) acted answer bodies answers
+    talked = talked_more m (opening s.start.machine) s.start.max_trail s.session s.pass u.pass t.pass body (reply_without acted reply) acted answer bodies
+        answers
         (stepped opening m s.start s.pass u.pass (s.session, request_in body) reply acted one.ended) framed
         (talked_same s u t bodies answers one.same c.talked);
   }
 
-  pub chained : (s t : Asking M) (bodies answers : List (List ℕ)) → InTurn (Asked (AsksOnce opening m)) s bodies answers t → Chained opening m s t bodies answers
+  pub chained : (s t : Asking M) (bodies answers : List (List ℕ)) → InTurn (Asked (AsksOnce opening m)) s bodies answers t →
+      Chained opening m s t bodies answers
   chained s t [] [] e = subst (λ u. Chained opening m s u [] []) (sym e) (chained_none s)
   chained s t (body ∷ bodies) (answer ∷ answers) h = chained_more s h.0 t body answer bodies answers h.1.0 (chained h.0 t bodies answers h.1.1)
   chained s t [] (answer ∷ answers) h = absurd h
@@ -88,7 +96,8 @@ module _ {M P : Type 0} (opening : M → P) (m : PlainMachine P) where
 
 -- a session that asked nothing behind the bodies
 module _ {P : Type 0} (m : PlainMachine P) (start : P) (most session : ℕ) where
-  pub session_open : (p q : Known) (bodies answers : List (List ℕ)) (t : Talked m start most session p q bodies answers) → Session m start most session [] (length p.seen) q.seen (new_places p q) bodies t.replies
+  pub session_open : (p q : Known) (bodies answers : List (List ℕ)) (t : Talked m start most session p q bodies answers) →
+      Session m start most session [] (length p.seen) q.seen (new_places p q) bodies t.replies
   session_open p q bodies answers t = record {
     turns = t.turns;
     each = subst (λ es. HadTurns most q.seen (length p.seen) es t.turns) (sym (append-nil (asked_by session bodies))) t.each;
@@ -98,14 +107,18 @@ module _ {P : Type 0} (m : PlainMachine P) (start : P) (most session : ℕ) wher
   }
 
   -- and one that asked one thing more
-  pub session_then : (p u q : Known) (bodies answers : List (List ℕ)) (e : Event) (reply : List ℕ) (r : Acted) (t : Talked m start most session p u bodies answers) → Stepped m start most u q e reply r → Session m start most session (e ∷ []) (length p.seen) q.seen (new_places p q) bodies t.replies
+  pub session_then : (p u q : Known) (bodies answers : List (List ℕ)) (e : Event) (reply : List ℕ) (r : Acted)
+      (t : Talked m start most session p u bodies answers) → Stepped m start most u q e reply r →
+      Session m start most session (e ∷ []) (length p.seen) q.seen (new_places p q) bodies t.replies
   session_then p u q bodies answers e reply r t s =
       let last = turn s.found r in
       let owned : q.owned ≡ p.owned ++ places_of (t.turns ++ last ∷ []) =
-      s.owned ∙ (ap (λ z. z ++ place_with s.found r) t.owned ∙ (append_assoc p.owned (places_of t.turns) (place_with s.found r) ∙ ap (λ z. p.owned ++ z) (sym (places_then t.turns last)))) in
+      s.owned ∙ (ap (λ z. z ++ place_with s.found r) t.owned
+      ∙ (append_assoc p.owned (places_of t.turns) (place_with s.found r) ∙ ap (λ z. p.owned ++ z) (sym (places_then t.turns last)))) in
       record {
         turns = t.turns ++ last ∷ [];
-        each = turns_then most u.seen q.seen (length p.seen) (asked_by session bodies) t.turns e last s.seen (begins_length p.seen u.seen t.seen) t.each s.later s.is_turn;
+        each = turns_then most u.seen q.seen (length p.seen) (asked_by session bodies) t.turns e last s.seen (begins_length p.seen u.seen t.seen) t.each
+            s.later s.is_turn;
         replied = replies_first m start q.seen t.turns (last ∷ []) t.replies (replies_on m start u.seen q.seen t.turns t.replies s.seen t.replied);
         one_each = t.one_each;
         places_are = places_behind p q (places_of (t.turns ++ last ∷ [])) owned;

@@ -12,7 +12,8 @@ nothing_given : (old : Option (List ℕ)) → WhileTold old old (λ y z. Whole (
 nothing_given None = tt
 nothing_given (Some y) = sym (append-nil (y ++ []))
 
-pub no_shell : {S : Type 0} (m : PlainMachine S) (from : S → Type 0) (old : Option (List ℕ)) (first : List ℕ) → ShellOutcome m NoMemory from from old old first first
+pub no_shell : {S : Type 0} (m : PlainMachine S) (from : S → Type 0) (old : Option (List ℕ)) (first : List ℕ) →
+    ShellOutcome m NoMemory from from old old first first
 no_shell m from old first = record {
   cut = [];
   last = [];
@@ -25,7 +26,8 @@ no_shell m from old first = record {
   whole = λ all rest cut. tt;
 }
 
-pub no_audit : {S : Type 0} (m : PlainMachine S) (from : S → Type 0) (old : Option (List ℕ)) (first : List ℕ) → AuditOutcome m NoMemory from from old old first first
+pub no_audit : {S : Type 0} (m : PlainMachine S) (from : S → Type 0) (old : Option (List ℕ)) (first : List ℕ) →
+    AuditOutcome m NoMemory from from old old first first
 no_audit m from old first = record {
   bodies = [];
   held = [];

@@ -53,14 +53,17 @@ none-at front mid new left e h = ap (option_and_then front) (sym e) ∙ h.0
 
 -- ---- behind a thing that was taken first
 
-after-put : {A B : Type 0} (first : Front A) (second : A → Front B) (text : A × B → List ℕ) (left line : List ℕ) (a : A) (rest : List ℕ) → first left ≡ Some (a, rest)
+after-put : {A B : Type 0} (first : Front A) (second : A → Front B) (text : A × B → List ℕ) (left line : List ℕ) (a : A) (rest : List ℕ) →
+    first left ≡ Some (a, rest)
     → puts (second a) (λ b. text (a, b)) (Some (rest, line)) ≡ puts (after first second) text (Some (left, line))
 after-put {A} {B} first second text left line a rest e =
     puts-made (λ b. (a, b)) (second a) text (Some (rest, line))
-    ∙ sym (ap (λ o. option_and_then (λ read. with_text (text read.0) read.1 line) (option_and_then {U = (A × B) × List ℕ} (λ read. made (λ b. (read.0, b)) (second read.0) read.1) o)) e)
+    ∙ sym (ap (λ o. option_and_then (λ read. with_text (text read.0) read.1 line)
+    (option_and_then {U = (A × B) × List ℕ} (λ read. made (λ b. (read.0, b)) (second read.0) read.1) o)) e)
 
 -- the second thing is put
-pub next-then : {A B : Type 0} (first : Front A) (second : A → Front B) (text : A × B → List ℕ) (old : Option (List ℕ)) (a : A) (new : Option (List ℕ)) (line : List ℕ)
+pub next-then : {A B : Type 0} (first : Front A) (second : A → Front B) (text : A × B → List ℕ) (old : Option (List ℕ)) (a : A) (new : Option (List ℕ))
+    (line : List ℕ)
     → TakesNext first old (Some a) new → puts (second a) (λ b. text (a, b)) (putting new line) ≡ puts (after first second) text (putting old line)
 next-then first second text old a new line h =
     let n = next-some first old a new h in
@@ -73,8 +76,10 @@ pub next-then-lost : {A B : Type 0} (first : Front A) (second : A → Front B) (
 next-then-lost first second text old new line h = next-none first (after first second) text (λ left e. after-none first second left e) old new line h
 
 -- the second thing is put, where the first passes the test
-pub tested-then : {A B : Type 0} (first : Front A) (test : A → Bool) (second : Front B) (text : A × B → List ℕ) (old : Option (List ℕ)) (a : A) (new : Option (List ℕ)) (line : List ℕ)
-    → TakesNext first old (Some a) new → test a ≡ true → puts second (λ b. text (a, b)) (putting new line) ≡ puts (both (only_if test first) second) text (putting old line)
+pub tested-then : {A B : Type 0} (first : Front A) (test : A → Bool) (second : Front B) (text : A × B → List ℕ) (old : Option (List ℕ)) (a : A)
+    (new : Option (List ℕ)) (line : List ℕ)
+    → TakesNext first old (Some a) new → test a ≡ true → puts second (λ b. text (a, b)) (putting new line)
+    ≡ puts (both (only_if test first) second) text (putting old line)
 tested-then first test second text old a new line h passes =
     let n = next-some first old a new h in
     ap (λ o. puts second (λ b. text (a, b)) (putting o line)) n.to
@@ -87,7 +92,8 @@ tested-then-lost first test second text old new line h =
     next-none first (both (only_if test first) second) text
     (λ left e. after-none (only_if test first) (λ _. second) left (only_if-none test first left e)) old new line h
 
-pub tested-then-refused : {A B : Type 0} (first : Front A) (test : A → Bool) (second : Front B) (text : A × B → List ℕ) (old : Option (List ℕ)) (a : A) (new : Option (List ℕ)) (line : List ℕ)
+pub tested-then-refused : {A B : Type 0} (first : Front A) (test : A → Bool) (second : Front B) (text : A × B → List ℕ) (old : Option (List ℕ)) (a : A)
+    (new : Option (List ℕ)) (line : List ℕ)
     → TakesNext first old (Some a) new → test a ≡ false → None ≡ puts (both (only_if test first) second) text (putting old line)
 tested-then-refused first test second text old a new line h fails =
     let n = next-some first old a new h in
@@ -97,8 +103,10 @@ tested-then-refused first test second text old a new line h fails =
 
 -- ---- two things that were taken, and are written together
 
-pub two-said : {A B : Type 0} (fa : Front A) (fb : Front B) (test : A × B → Bool) (text : A × B → List ℕ) (old : Option (List ℕ)) (a : A) (mid : Option (List ℕ)) (b : B) (new : Option (List ℕ)) (line : List ℕ)
-    → TakesNext fa old (Some a) mid → TakesNext fb mid (Some b) new → test (a, b) ≡ true → says (text (a, b)) (putting new line) ≡ puts (only_if test (both fa fb)) text (putting old line)
+pub two-said : {A B : Type 0} (fa : Front A) (fb : Front B) (test : A × B → Bool) (text : A × B → List ℕ) (old : Option (List ℕ)) (a : A)
+    (mid : Option (List ℕ)) (b : B) (new : Option (List ℕ)) (line : List ℕ)
+    → TakesNext fa old (Some a) mid → TakesNext fb mid (Some b) new → test (a, b) ≡ true → says (text (a, b)) (putting new line)
+    ≡ puts (only_if test (both fa fb)) text (putting old line)
 two-said fa fb test text old a mid b new line h k passes =
     let x = next-some fa old a mid h in
     let y = next-some fb mid b new k in
@@ -108,7 +116,8 @@ two-said fa fb test text old a mid b new line h k passes =
     ∙ sym (ap (option_and_then (λ read. with_text (text read.0) read.1 line)) (only_if-read test (both fa fb) x.left (a, b) y.rest then passes))
     ∙ ap (λ o. puts (only_if test (both fa fb)) text (putting o line)) (sym x.from)
 
-pub two-refused : {A B : Type 0} (fa : Front A) (fb : Front B) (test : A × B → Bool) (text : A × B → List ℕ) (old : Option (List ℕ)) (a : A) (mid : Option (List ℕ)) (b : B) (new : Option (List ℕ)) (line : List ℕ)
+pub two-refused : {A B : Type 0} (fa : Front A) (fb : Front B) (test : A × B → Bool) (text : A × B → List ℕ) (old : Option (List ℕ)) (a : A)
+    (mid : Option (List ℕ)) (b : B) (new : Option (List ℕ)) (line : List ℕ)
     → TakesNext fa old (Some a) mid → TakesNext fb mid (Some b) new → test (a, b) ≡ false → None ≡ puts (only_if test (both fa fb)) text (putting old line)
 two-refused fa fb test text old a mid b new line h k fails =
     let x = next-some fa old a mid h in
@@ -118,14 +127,16 @@ two-refused fa fb test text old a mid b new line h k fails =
     sym (ap (λ o. puts (only_if test (both fa fb)) text (putting o line)) x.from
     ∙ ap (option_and_then (λ read. with_text (text read.0) read.1 line)) (only_if-fails test (both fa fb) x.left (a, b) y.rest then fails))
 
-pub two-lost : {A B : Type 0} (fa : Front A) (fb : Front B) (test : A × B → Bool) (text : A × B → List ℕ) (old : Option (List ℕ)) (a : A) (mid new : Option (List ℕ)) (line : List ℕ)
+pub two-lost : {A B : Type 0} (fa : Front A) (fb : Front B) (test : A × B → Bool) (text : A × B → List ℕ) (old : Option (List ℕ)) (a : A)
+    (mid new : Option (List ℕ)) (line : List ℕ)
     → TakesNext fa old (Some a) mid → TakesNext fb mid None new → putting new line ≡ puts (only_if test (both fa fb)) text (putting old line)
 two-lost fa fb test text old a mid new line h k =
     let x = next-some fa old a mid h in
     let none = none-at fb mid new x.rest x.to k in
     ap (λ o. putting o line) (next-gone fb mid new k)
     ∙ sym (ap (λ o. puts (only_if test (both fa fb)) text (putting o line)) x.from
-    ∙ ap (option_and_then (λ read. with_text (text read.0) read.1 line)) (only_if-none test (both fa fb) x.left (after-then_none fa (λ _. fb) x.left a x.rest x.reads none)))
+    ∙ ap (option_and_then (λ read. with_text (text read.0) read.1 line))
+    (only_if-none test (both fa fb) x.left (after-then_none fa (λ _. fb) x.left a x.rest x.reads none)))
 
 pub one-lost : {A B : Type 0} (fa : Front A) (fb : Front B) (test : A × B → Bool) (text : A × B → List ℕ) (old new : Option (List ℕ)) (line : List ℕ)
     → TakesNext fa old None new → putting new line ≡ puts (only_if test (both fa fb)) text (putting old line)
@@ -134,41 +145,52 @@ one-lost fa fb test text old new line h =
 
 -- ---- bytes with their number in front
 
-pub bytes-said : (test : List ℕ → Bool) (text : List ℕ → List ℕ) (old : Option (List ℕ)) (n : ℕ) (mid : Option (List ℕ)) (bytes : List ℕ) (new : Option (List ℕ)) (line : List ℕ)
-    → TakesNext u8_front old (Some n) mid → TakesNext (bytes_front n) mid (Some bytes) new → ((left rest : List ℕ) → bytes_front n left ≡ Some (bytes, rest) → test bytes ≡ true)
+pub bytes-said : (test : List ℕ → Bool) (text : List ℕ → List ℕ) (old : Option (List ℕ)) (n : ℕ) (mid : Option (List ℕ)) (bytes : List ℕ)
+    (new : Option (List ℕ)) (line : List ℕ)
+    → TakesNext u8_front old (Some n) mid → TakesNext (bytes_front n) mid (Some bytes) new →
+    ((left rest : List ℕ) → bytes_front n left ≡ Some (bytes, rest) → test bytes ≡ true)
     → says (text bytes) (putting new line) ≡ puts (only_if test (counted u8_front bytes_front)) text (putting old line)
 bytes-said test text old n mid bytes new line h k passes =
     let x = next-some u8_front old n mid h in
     let y = next-some (bytes_front n) mid bytes new k in
     let same : x.rest ≡ y.left = some-same x.rest y.left (sym x.to ∙ y.from) in
-    let then = made-read (λ read. read.1) (after u8_front bytes_front) x.left (n, bytes) y.rest (after-then u8_front bytes_front x.left n x.rest bytes y.rest x.reads (ap (bytes_front n) same ∙ y.reads)) in
+    let then = made-read (λ read. read.1) (after u8_front bytes_front) x.left (n, bytes) y.rest
+    (after-then u8_front bytes_front x.left n x.rest bytes y.rest x.reads (ap (bytes_front n) same ∙ y.reads)) in
     ap (λ o. says (text bytes) (putting o line)) y.to
-    ∙ sym (ap (option_and_then (λ read. with_text (text read.0) read.1 line)) (only_if-read test (counted u8_front bytes_front) x.left bytes y.rest then (passes y.left y.rest y.reads)))
+    ∙ sym (ap (option_and_then (λ read. with_text (text read.0) read.1 line))
+    (only_if-read test (counted u8_front bytes_front) x.left bytes y.rest then (passes y.left y.rest y.reads)))
     ∙ ap (λ o. puts (only_if test (counted u8_front bytes_front)) text (putting o line)) (sym x.from)
 
-pub bytes-refused : (test : List ℕ → Bool) (text : List ℕ → List ℕ) (old : Option (List ℕ)) (n : ℕ) (mid : Option (List ℕ)) (bytes : List ℕ) (new : Option (List ℕ)) (line : List ℕ)
-    → TakesNext u8_front old (Some n) mid → TakesNext (bytes_front n) mid (Some bytes) new → ((left rest : List ℕ) → bytes_front n left ≡ Some (bytes, rest) → test bytes ≡ false)
+pub bytes-refused : (test : List ℕ → Bool) (text : List ℕ → List ℕ) (old : Option (List ℕ)) (n : ℕ) (mid : Option (List ℕ)) (bytes : List ℕ)
+    (new : Option (List ℕ)) (line : List ℕ)
+    → TakesNext u8_front old (Some n) mid → TakesNext (bytes_front n) mid (Some bytes) new →
+    ((left rest : List ℕ) → bytes_front n left ≡ Some (bytes, rest) → test bytes ≡ false)
     → None ≡ puts (only_if test (counted u8_front bytes_front)) text (putting old line)
 bytes-refused test text old n mid bytes new line h k fails =
     let x = next-some u8_front old n mid h in
     let y = next-some (bytes_front n) mid bytes new k in
     let same : x.rest ≡ y.left = some-same x.rest y.left (sym x.to ∙ y.from) in
-    let then = made-read (λ read. read.1) (after u8_front bytes_front) x.left (n, bytes) y.rest (after-then u8_front bytes_front x.left n x.rest bytes y.rest x.reads (ap (bytes_front n) same ∙ y.reads)) in
+    let then = made-read (λ read. read.1) (after u8_front bytes_front) x.left (n, bytes) y.rest
+    (after-then u8_front bytes_front x.left n x.rest bytes y.rest x.reads (ap (bytes_front n) same ∙ y.reads)) in
     sym (ap (λ o. puts (only_if test (counted u8_front bytes_front)) text (putting o line)) x.from
-    ∙ ap (option_and_then (λ read. with_text (text read.0) read.1 line)) (only_if-fails test (counted u8_front bytes_front) x.left bytes y.rest then (fails y.left y.rest y.reads)))
+    ∙ ap (option_and_then (λ read. with_text (text read.0) read.1 line))
+    (only_if-fails test (counted u8_front bytes_front) x.left bytes y.rest then (fails y.left y.rest y.reads)))
 
 pub bytes-lost : (test : List ℕ → Bool) (text : List ℕ → List ℕ) (old : Option (List ℕ)) (n : ℕ) (mid new : Option (List ℕ)) (line : List ℕ)
-    → TakesNext u8_front old (Some n) mid → TakesNext (bytes_front n) mid None new → putting new line ≡ puts (only_if test (counted u8_front bytes_front)) text (putting old line)
+    → TakesNext u8_front old (Some n) mid → TakesNext (bytes_front n) mid None new → putting new line
+    ≡ puts (only_if test (counted u8_front bytes_front)) text (putting old line)
 bytes-lost test text old n mid new line h k =
     let x = next-some u8_front old n mid h in
     let none = none-at (bytes_front n) mid new x.rest x.to k in
     ap (λ o. putting o line) (next-gone (bytes_front n) mid new k)
     ∙ sym (ap (λ o. puts (only_if test (counted u8_front bytes_front)) text (putting o line)) x.from
     ∙ ap (option_and_then (λ read. with_text (text read.0) read.1 line))
-    (only_if-none test (counted u8_front bytes_front) x.left (made-none (λ read. read.1) (after u8_front bytes_front) x.left (after-then_none u8_front bytes_front x.left n x.rest x.reads none))))
+    (only_if-none test (counted u8_front bytes_front) x.left
+    (made-none (λ read. read.1) (after u8_front bytes_front) x.left (after-then_none u8_front bytes_front x.left n x.rest x.reads none))))
 
 pub count-lost : (test : List ℕ → Bool) (text : List ℕ → List ℕ) (old new : Option (List ℕ)) (line : List ℕ)
     → TakesNext u8_front old None new → putting new line ≡ puts (only_if test (counted u8_front bytes_front)) text (putting old line)
 count-lost test text old new line h =
     next-none u8_front (only_if test (counted u8_front bytes_front)) text
-    (λ left e. only_if-none test (counted u8_front bytes_front) left (made-none (λ read. read.1) (after u8_front bytes_front) left (after-none u8_front bytes_front left e))) old new line h
+    (λ left e. only_if-none test (counted u8_front bytes_front) left
+    (made-none (λ read. read.1) (after u8_front bytes_front) left (after-none u8_front bytes_front left e))) old new line h

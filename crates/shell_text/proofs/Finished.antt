@@ -1,5 +1,6 @@
 -- What the buffer holds once a spelling was read.
-use Rattle.std.proofs.Common.{◌≡◌, ℕ, ◌≤◌, ◌+◌, Bool, true, false, ◌==◌, List, [], ◌∷◌, ◌++◌, length, nat_le, Option, Some, None, ap, ap₂, sym, ◌∙◌, refl, arith, le-leb, ne_eqb}
+use Rattle.std.proofs.Common.{◌≡◌, ℕ, ◌≤◌, ◌+◌, Bool, true, false, ◌==◌, List, [], ◌∷◌, ◌++◌, length, nat_le, Option, Some, None, ap, ap₂, sym, ◌∙◌, refl}
+use Rattle.std.proofs.Common.{arith, le-leb, ne_eqb}
 use Rattle.std.specs.Prelude.{option_and_then}
 use Rattle.std.specs.Bool.{then_some}
 use Rattle.wire_item.specs.Fronts.{Front, alone, whole}
@@ -41,7 +42,8 @@ finished {A} front text left lead view out e fits = record {
   unread = λ h. unreading (front left) refl h;
 }
   where
-    put : (o : Option (A × List ℕ)) → front left ≡ o → putting view out ≡ option_and_then {T = A × List ℕ} {U = List ℕ × List ℕ} (λ read. with_text (text read.0) read.1 lead) o
+    put : (o : Option (A × List ℕ)) → front left ≡ o → putting view out ≡ option_and_then {T = A × List ℕ} {U = List ℕ × List ℕ}
+        (λ read. with_text (text read.0) read.1 lead) o
     put o is = e ∙ ap (option_and_then {T = A × List ℕ} {U = List ℕ × List ℕ} (λ read. with_text (text read.0) read.1 lead)) is
 
     reading : (o : Option (A × List ℕ)) → front left ≡ o → is_read view ≡ true → (a : A) × (whole front left ≡ Some a) × (out ≡ lead ++ text a)
@@ -54,7 +56,8 @@ finished {A} front text left lead view out e fits = record {
     ended a [] is h =
         let room = fits a (ap (option_and_then (λ read. alone read.0 read.1)) is) in
         absurd (true-false (is_read view)
-        (view-some view out (lead ++ text a) (put (Some (a, [])) is ∙ ap (λ t. then_some t ([], lead ++ text a)) (le-leb (length lead + length (text a)) longest_line room))) h)
+        (view-some view out (lead ++ text a) (put (Some (a, [])) is
+        ∙ ap (λ t. then_some t ([], lead ++ text a)) (le-leb (length lead + length (text a)) longest_line room))) h)
     ended a (x ∷ rest) is h = ap (option_and_then (λ read. alone read.0 read.1)) is
 
     unreading : (o : Option (A × List ℕ)) → front left ≡ o → is_read view ≡ false → whole front left ≡ None
@@ -67,7 +70,8 @@ view-line : (view : Option (List ℕ)) (out left line : List ℕ) → putting vi
 view-line None out left line e = absurd (cc)
 view-line (Some x) out left line e = (some-parts x left out line e).1
 
-pub said : (view : Option (List ℕ)) (out text lead : List ℕ) → putting view out ≡ says text (Some ([], lead)) → length lead + length text ≤ longest_line → out ≡ lead ++ text
+pub said : (view : Option (List ℕ)) (out text lead : List ℕ) → putting view out ≡ says text (Some ([], lead)) → length lead + length text ≤ longest_line →
+    out ≡ lead ++ text
 said view out text lead e fits =
     view-line view out [] (lead ++ text) (e ∙ ap (λ t. then_some t ([], lead ++ text)) (le-leb (length lead + length text) longest_line fits))
 
@@ -75,6 +79,7 @@ pub none-left : (rest : List ℕ) → (length rest == 0) ≡ true → rest ≡ [
 none-left [] e = refl
 none-left (x ∷ rest) e = absurd (omega (arith, Rattle.std.proofs.Common.eqb-true (length (x ∷ rest)) 0 e))
 
-pub some-over : {A : Type 0} (front : Front A) (left : List ℕ) (a : A) (rest : List ℕ) → front left ≡ Some (a, rest) → (length rest == 0) ≡ false → whole front left ≡ None
+pub some-over : {A : Type 0} (front : Front A) (left : List ℕ) (a : A) (rest : List ℕ) → front left ≡ Some (a, rest) → (length rest == 0) ≡ false →
+    whole front left ≡ None
 some-over front left a [] e h = absurd (cc)
 some-over front left a (x ∷ rest) e h = ap (option_and_then (λ read. alone read.0 read.1)) e

@@ -1,5 +1,6 @@
 -- How long lines are: at most four bytes for each byte of the spelling, and 64 more.
-use Rattle.std.proofs.Common.{◌≡◌, ℕ, zero, suc, ◌+◌, ◌*◌, ◌<◌, ◌≤◌, ◌^◌, Bool, true, false, ◌&&◌, IsTrue, List, [], ◌∷◌, ◌++◌, length, nat_le, nat_lt, ap, sym, ◌∙◌, subst, refl, arith, ltb-true, leb-true, length-append, codes, if◌then◌else◌}
+use Rattle.std.proofs.Common.{◌≡◌, ℕ, zero, suc, ◌+◌, ◌*◌, ◌<◌, ◌≤◌, ◌^◌, Bool, true, false, ◌&&◌, IsTrue, List, [], ◌∷◌, ◌++◌, length, nat_le, nat_lt, ap}
+use Rattle.std.proofs.Common.{sym, ◌∙◌, subst, refl, arith, ltb-true, leb-true, length-append, codes, if◌then◌else◌}
 use Rattle.std.proofs.lemmas.Bool.{and_parts}
 use Rattle.std.proofs.lemmas.Fmt.{length-decimal-le}
 use Rattle.std.specs.Prelude.{map, flat_map}
@@ -11,11 +12,17 @@ use Rattle.tardis_base.specs.declared.replies.SiteLine.{SiteLine}
 use Rattle.tardis_base.specs.declared.requests.Begin.TheVariants.{Any, Ancestor, Parent, At}
 use Rattle.tardis_base.specs.declared.requests.MergeOf.TheVariants.{Leaves as AllLeaves, States as TheseStates}
 use Rattle.tardis_base.specs.declared.requests.Request.{Request}
-use Rattle.tardis_base.specs.declared.requests.Request.TheVariants.{Open, Begin as BeginAt, Get, Put, Delete, Commit, Abort, BeginMerge, ForkPoints, Conflicts, GetFor, Ceiling, Raise, RaiseAuto, Tidy, Stat, Show, Leaves, Pull, Deliver, Close, Settle}
+use Rattle.tardis_base.specs.declared.requests.Request.TheVariants.{Open, Begin as BeginAt, Get, Put, Delete, Commit, Abort, BeginMerge, ForkPoints}
+use Rattle.tardis_base.specs.declared.requests.Request.TheVariants.{Conflicts, GetFor, Ceiling, Raise, RaiseAuto, Tidy, Stat, Show, Leaves, Pull, Deliver}
+use Rattle.tardis_base.specs.declared.requests.Request.TheVariants.{Close, Settle}
 use Rattle.tardis_base.specs.declared.replies.Refusal.{Refusal}
-use Rattle.tardis_base.specs.declared.replies.Refusal.TheVariants.{Malformed, NotOpen, AlreadyOpen, SessionsFull, TxnOpen, NoTxn, WrongMode, TooMany, Unknown, Below, Comparable, NotRead, ConflictKey, OpenConflict, Branches, CeilingBack, FloorBack, Held, Collected, Full, PathFull, SeqEnd, BadSite, ClosedParent, OwnItem, TrailFull, Unsupported, NoSuchItem, BagFull}
+use Rattle.tardis_base.specs.declared.replies.Refusal.TheVariants.{Malformed, NotOpen, AlreadyOpen, SessionsFull, TxnOpen, NoTxn, WrongMode, TooMany, Unknown}
+use Rattle.tardis_base.specs.declared.replies.Refusal.TheVariants.{Below, Comparable, NotRead, ConflictKey, OpenConflict, Branches, CeilingBack, FloorBack}
+use Rattle.tardis_base.specs.declared.replies.Refusal.TheVariants.{Held, Collected, Full, PathFull, SeqEnd, BadSite, ClosedParent, OwnItem, TrailFull}
+use Rattle.tardis_base.specs.declared.replies.Refusal.TheVariants.{Unsupported, NoSuchItem, BagFull}
 use Rattle.tardis_base.specs.declared.replies.Reply.{Reply}
-use Rattle.tardis_base.specs.declared.replies.Reply.TheVariants.{Opened, Begun, Merging, Value, Deleted, Absent, Done, Committed, Ended, States, Keys, Raised, Tidied, Stat as Statistics, Shown, Batch, Applied, Known, Early, Closed, Refused, NoMemory}
+use Rattle.tardis_base.specs.declared.replies.Reply.TheVariants.{Opened, Begun, Merging, Value, Deleted, Absent, Done, Committed, Ended, States, Keys, Raised}
+use Rattle.tardis_base.specs.declared.replies.Reply.TheVariants.{Tidied, Stat as Statistics, Shown, Batch, Applied, Known, Early, Closed, Refused, NoMemory}
 use Rattle.tardis_base.specs.Flags.{is_ser, is_si, is_nb, is_kb}
 use Rattle.tardis_base.specs.Ids.{are_ascending}
 use Rattle.tardis_base.specs.Keys.{are_ascending_keys}
@@ -24,7 +31,8 @@ use Rattle.tardis_base.proofs.TestParts.{first, second}
 use Rattle.wire_item.specs.Spellings.{u16_spelling, u32_spelling, id_spelling, key_spelling, value_spelling, item_spelling, batch_spelling}
 use Rattle.wire_item.specs.Valid.{is_u8}
 use Rattle.wire_talk.specs.Spellings.{request_spelling, refusal_spelling, reply_spelling, site_line_spelling, pair_spelling}
-use Rattle.wire_talk.specs.Valid.{is_request, is_what, is_constraint, is_first_of, is_site_line, are_site_lines, are_children, is_pair, is_path, is_refusal, is_reply}
+use Rattle.wire_talk.specs.Valid.{is_request, is_what, is_constraint, is_first_of, is_site_line, are_site_lines, are_children, is_pair, is_path, is_refusal}
+use Rattle.wire_talk.specs.Valid.{is_reply}
 use Rattle.text_words.specs.Words.{Word, number_word, id_word, hex_word, is_plain, byte_word}
 use Rattle.text_words.specs.Texts.{ended}
 use Rattle.text_words.proofs.Bytes.{within-parts}
@@ -55,7 +63,12 @@ u64-length n h = let b = ltb-true n (2 ^ 64) h in length-decimal-le 20 n (omega 
 id-length : (x : StateId) → IsTrue (is_id x) → length (id_word x) ≤ 16
 id-length x h =
     let both = first (is_u16 x.site && is_u32 x.sequence) _ h in
-    omega (arith, length-append (number_word x.site) (46 ∷ number_word x.sequence), u16-length x.site (first (is_u16 x.site) (is_u32 x.sequence) both), u32-length x.sequence (second (is_u16 x.site) (is_u32 x.sequence) both))
+    omega (
+      arith,
+      length-append (number_word x.site) (46 ∷ number_word x.sequence),
+      u16-length x.site (first (is_u16 x.site) (is_u32 x.sequence) both),
+      u32-length x.sequence (second (is_u16 x.site) (is_u32 x.sequence) both),
+    )
 
 hex-length : (bs : List ℕ) → length (hex_word bs) ≡ 2 * length bs
 hex-length bs = length-encode_with lower_digits bs
@@ -90,14 +103,22 @@ short-value v h = omega (arith, word-length (byte_word v), byte-length v)
 
 -- ---- lists
 
-short-many : {A : Type 0} (valid : A → Bool) (word : A → Word) (spelling : A → List ℕ) → ((a : A) → IsTrue (valid a) → length (word a ++ 32 ∷ []) ≤ 4 * length (spelling a))
+short-many : {A : Type 0} (valid : A → Bool) (word : A → Word) (spelling : A → List ℕ) →
+    ((a : A) → IsTrue (valid a) → length (word a ++ 32 ∷ []) ≤ 4 * length (spelling a))
     → (xs : List A) → IsTrue (list_all valid xs) → length (flat_map (λ x. word x ++ 32 ∷ []) xs) ≤ 4 * length (flat_map spelling xs)
 short-many valid word spelling short [] h = omega arith
 short-many valid word spelling short (x ∷ xs) h =
     let p = and_parts (valid x) (list_all valid xs) h in
-    omega (arith, length-append (word x ++ 32 ∷ []) (flat_map (λ x. word x ++ 32 ∷ []) xs), length-append (spelling x) (flat_map spelling xs), short x p.0, short-many valid word spelling short xs p.1)
+    omega (
+      arith,
+      length-append (word x ++ 32 ∷ []) (flat_map (λ x. word x ++ 32 ∷ []) xs),
+      length-append (spelling x) (flat_map spelling xs),
+      short x p.0,
+      short-many valid word spelling short xs p.1,
+    )
 
-short-words : {A : Type 0} (valid : A → Bool) (word : A → Word) (spelling : A → List ℕ) → ((a : A) → IsTrue (valid a) → length (word a ++ 32 ∷ []) ≤ 4 * length (spelling a))
+short-words : {A : Type 0} (valid : A → Bool) (word : A → Word) (spelling : A → List ℕ) →
+    ((a : A) → IsTrue (valid a) → length (word a ++ 32 ∷ []) ≤ 4 * length (spelling a))
     → (xs : List A) → IsTrue (list_all valid xs) → length (ended (map word xs)) ≤ 4 * length (flat_map spelling xs)
 short-words valid word spelling short xs h = omega (arith, ap length (ended-map word xs), short-many valid word spelling short xs h)
 
@@ -133,8 +154,10 @@ short-pair p h =
     omega (arith, word-length (pair_word p), length-append (id_word p.0) (58 ∷ number_word p.1), id-length p.0 q.0, u32-length p.1 q.1)
 
 -- a number of things and the things, where the number has so many bytes
-counted-length : {A : Type 0} (name : Word) (word : A → Word) (xs : List A) → length (ended (counted_words name word xs)) ≡ length name + 1 + (length (number_word (length xs)) + 1 + length (ended (map word xs)))
-counted-length name word xs = cons-length name (number_word (length xs) ∷ map word xs) ∙ ap (λ n. length name + 1 + n) (cons-length (number_word (length xs)) (map word xs))
+counted-length : {A : Type 0} (name : Word) (word : A → Word) (xs : List A) → length (ended (counted_words name word xs))
+    ≡ length name + 1 + (length (number_word (length xs)) + 1 + length (ended (map word xs)))
+counted-length name word xs = cons-length name (number_word (length xs) ∷ map word xs)
+    ∙ ap (λ n. length name + 1 + n) (cons-length (number_word (length xs)) (map word xs))
 
 -- ---- refusals
 
@@ -175,18 +198,36 @@ short-refusal (CeilingBack a) h = omega (arith, short-id a h)
 short-refusal (FloorBack a) h = omega (arith, short-id a h)
 short-refusal (Held a b) h =
     let p = and_parts (is_u16 a) (is_id b) h in
-    omega (arith, length-append (number_word a ++ 32 ∷ []) (id_word b ++ 32 ∷ []), length-append (u16_spelling a) (id_spelling b), short-u16 a p.0, short-id b p.1)
+    omega (
+      arith,
+      length-append (number_word a ++ 32 ∷ []) (id_word b ++ 32 ∷ []),
+      length-append (u16_spelling a) (id_spelling b),
+      short-u16 a p.0,
+      short-id b p.1,
+    )
 short-refusal (Collected a) h = omega (arith, short-id a h)
 short-refusal (Full a) h = omega (arith, short-u32 a h)
 short-refusal (PathFull a b) h =
     let p = and_parts (is_id a) (is_u32 b) h in
-    omega (arith, length-append (id_word a ++ 32 ∷ []) (number_word b ++ 32 ∷ []), length-append (id_spelling a) (u32_spelling b), short-id a p.0, short-u32 b p.1)
+    omega (
+      arith,
+      length-append (id_word a ++ 32 ∷ []) (number_word b ++ 32 ∷ []),
+      length-append (id_spelling a) (u32_spelling b),
+      short-id a p.0,
+      short-u32 b p.1,
+    )
 short-refusal SeqEnd h = omega arith
 short-refusal (BadSite a) h = omega (arith, short-u16 a h)
 short-refusal (ClosedParent a) h = omega (arith, short-id a h)
 short-refusal (OwnItem a b) h =
     let p = and_parts (is_u16 a) (is_u32 b) h in
-    omega (arith, length-append (number_word a ++ 32 ∷ []) (number_word b ++ 32 ∷ []), length-append (u16_spelling a) (u32_spelling b), short-u16 a p.0, short-u32 b p.1)
+    omega (
+      arith,
+      length-append (number_word a ++ 32 ∷ []) (number_word b ++ 32 ∷ []),
+      length-append (u16_spelling a) (u32_spelling b),
+      short-u16 a p.0,
+      short-u32 b p.1,
+    )
 short-refusal (TrailFull a) h = omega (arith, short-u64 a h)
 short-refusal (Unsupported a) h = omega (arith, short-u8 a h)
 short-refusal (NoSuchItem a) h = omega (arith, short-u32 a h)
@@ -217,14 +258,26 @@ short-reply (Opened a) h = omega (arith, short-id a h)
 short-reply (Begun a) h = omega (arith, short-id a h)
 short-reply (Value a b) h =
     let p = and_parts (is_id a) (is_value b) h in
-    omega (arith, length-append (id_word a ++ 32 ∷ []) (byte_word b ++ 32 ∷ []), length-append (id_spelling a) (value_spelling b), short-id a p.0, short-value b p.1)
+    omega (
+      arith,
+      length-append (id_word a ++ 32 ∷ []) (byte_word b ++ 32 ∷ []),
+      length-append (id_spelling a) (value_spelling b),
+      short-id a p.0,
+      short-value b p.1,
+    )
 short-reply (Deleted a) h = omega (arith, short-id a h)
 short-reply Absent h = omega arith
 short-reply Done h = omega arith
 short-reply (Ended a) h = omega (arith, short-id a h)
 short-reply (Raised a b) h =
     let p = and_parts (is_id a) (is_u32 b) h in
-    omega (arith, length-append (id_word a ++ 32 ∷ []) (number_word b ++ 32 ∷ []), length-append (id_spelling a) (u32_spelling b), short-id a p.0, short-u32 b p.1)
+    omega (
+      arith,
+      length-append (id_word a ++ 32 ∷ []) (number_word b ++ 32 ∷ []),
+      length-append (id_spelling a) (u32_spelling b),
+      short-id a p.0,
+      short-u32 b p.1,
+    )
 short-reply (Tidied a) h = omega (arith, short-u32 a h)
 short-reply Applied h = omega arith
 short-reply Known h = omega arith
@@ -234,13 +287,20 @@ short-reply NoMemory h = omega arith
 short-reply (Merging xs) h = omega (arith, cons-length (codes "merging") (map id_word xs), short-ids xs (parents-ids xs h))
 short-reply (Committed id xs) h =
     let p = and_parts (is_id id) (are_parents xs) h in
-    omega (arith, length-append (id_word id ++ 32 ∷ []) (ended (codes "from" ∷ map id_word xs)), cons-length (codes "from") (map id_word xs), short-id id p.0, short-ids xs (parents-ids xs p.1))
+    omega (
+      arith,
+      length-append (id_word id ++ 32 ∷ []) (ended (codes "from" ∷ map id_word xs)),
+      cons-length (codes "from") (map id_word xs),
+      short-id id p.0,
+      short-ids xs (parents-ids xs p.1),
+    )
 short-reply (States total xs) h =
     let p = and_parts (is_u32 total) (list_all is_id xs) (first (is_u32 total && list_all is_id xs) (is_first_of total (length xs)) h) in
     omega (arith, cons-length (number_word total) (map id_word xs), u32-length total p.0, short-ids xs p.1)
 short-reply (Keys total ks) h =
     let each : Bool = is_u32 total && list_all is_key ks in
-    let p = and_parts (is_u32 total) (list_all is_key ks) (first each (is_first_of total (length ks)) (first (each && is_first_of total (length ks)) (are_ascending_keys ks) h)) in
+    let p = and_parts (is_u32 total) (list_all is_key ks) (first each (is_first_of total (length ks))
+    (first (each && is_first_of total (length ks)) (are_ascending_keys ks) h)) in
     omega (arith, cons-length (number_word total) (map (λ k. byte_word k) ks), u32-length total p.0, short-keys ks p.1)
 short-reply (Statistics known kept leaves sessions sites) h =
     let a = and_parts (is_u64 known && is_u32 kept && is_u32 leaves && is_u16 sessions) (are_site_lines sites) h in
@@ -252,8 +312,10 @@ short-reply (Statistics known kept leaves sessions sites) h =
     let digits = length-decimal-le 2 (length sites) (omega arith) (omega arith) (omega arith) in
     omega (
       arith,
-      length-append (number_word known ++ 32 ∷ []) (ended (codes "kept" ∷ number_word kept ∷ codes "leaves" ∷ number_word leaves ∷ codes "sessions" ∷ number_word sessions ∷ counted_words (codes "sites") site_line_word sites)),
-      length-append (number_word kept ++ 32 ∷ []) (ended (codes "leaves" ∷ number_word leaves ∷ codes "sessions" ∷ number_word sessions ∷ counted_words (codes "sites") site_line_word sites)),
+      length-append (number_word known ++ 32 ∷ []) (ended (codes "kept" ∷ number_word kept ∷ codes "leaves" ∷ number_word leaves ∷ codes "sessions"
+          ∷ number_word sessions ∷ counted_words (codes "sites") site_line_word sites)),
+      length-append (number_word kept ++ 32 ∷ []) (ended (codes "leaves" ∷ number_word leaves ∷ codes "sessions" ∷ number_word sessions
+          ∷ counted_words (codes "sites") site_line_word sites)),
       length-append (number_word leaves ++ 32 ∷ []) (ended (codes "sessions" ∷ number_word sessions ∷ counted_words (codes "sites") site_line_word sites)),
       length-append (number_word sessions ++ 32 ∷ []) (ended (counted_words (codes "sites") site_line_word sites)),
       counted-length (codes "sites") site_line_word sites,
@@ -324,7 +386,13 @@ short-request (BeginAt (At a)) h = omega (arith, short-id a h)
 short-request (Get a) h = omega (arith, short-key a h)
 short-request (Put a b) h =
     let p = and_parts (is_key a) (is_value b) h in
-    omega (arith, length-append (byte_word a ++ 32 ∷ []) (byte_word b ++ 32 ∷ []), length-append (key_spelling a) (value_spelling b), short-key a p.0, short-value b p.1)
+    omega (
+      arith,
+      length-append (byte_word a ++ 32 ∷ []) (byte_word b ++ 32 ∷ []),
+      length-append (key_spelling a) (value_spelling b),
+      short-key a p.0,
+      short-value b p.1,
+    )
 short-request (Delete a) h = omega (arith, short-key a h)
 short-request (Commit flags k) h =
     let p = second (nat_lt flags.0 16) (is_u16 k) (first (nat_lt flags.0 16 && is_u16 k) _ h) in
@@ -337,7 +405,13 @@ short-request ForkPoints h = omega arith
 short-request (Conflicts after) h = omega (arith, cons-length (codes "conflicts") (after_words after), after-length after)
 short-request (GetFor a b) h =
     let p = and_parts (is_key a) (is_id b) h in
-    omega (arith, length-append (byte_word a ++ 32 ∷ []) (id_word b ++ 32 ∷ []), length-append (key_spelling a) (id_spelling b), short-key a p.0, short-id b p.1)
+    omega (
+      arith,
+      length-append (byte_word a ++ 32 ∷ []) (id_word b ++ 32 ∷ []),
+      length-append (key_spelling a) (id_spelling b),
+      short-key a p.0,
+      short-id b p.1,
+    )
 short-request (Ceiling a) h = omega (arith, short-id a h)
 short-request (Raise a) h = omega (arith, short-id a h)
 short-request RaiseAuto h = omega arith
@@ -345,7 +419,11 @@ short-request (Tidy a) h = omega (arith, short-u16 a h)
 short-request Stat h = omega arith
 short-request (Show a) h = omega (arith, short-id a h)
 short-request Leaves h = omega arith
-short-request (Pull ns) h = omega (arith, cons-length (codes "pull") (map (λ n. number_word n) ns), short-counts ns (second (is_within 1 16 (length ns)) (list_all is_u32 ns) h))
+short-request (Pull ns) h = omega (
+  arith,
+  cons-length (codes "pull") (map (λ n. number_word n) ns),
+  short-counts ns (second (is_within 1 16 (length ns)) (list_all is_u32 ns) h),
+)
 short-request (Deliver item) h = omega (arith, word-length (hex_word (item_spelling item)), hex-length (item_spelling item))
 short-request Close h = omega arith
 short-request Settle h = omega arith
@@ -353,4 +431,12 @@ short-request Settle h = omega arith
 pub request-lines-fit : RequestLinesFit
 request-lines-fit p h few =
     let v = and_parts (is_u16 p.0) (is_request p.1) h in
-    omega (arith, ap length (asked-text p.0 p.1), length-append (request_line p) (32 ∷ []), length-append (number_word p.0 ++ 32 ∷ []) (ended (request_words p.1)), word-length (number_word p.0), u16-length p.0 v.0, short-request p.1 v.1)
+    omega (
+      arith,
+      ap length (asked-text p.0 p.1),
+      length-append (request_line p) (32 ∷ []),
+      length-append (number_word p.0 ++ 32 ∷ []) (ended (request_words p.1)),
+      word-length (number_word p.0),
+      u16-length p.0 v.0,
+      short-request p.1 v.1,
+    )

@@ -1,5 +1,6 @@
 -- What is read of the words of a request.
-use Rattle.std.proofs.Common.{◌≡◌, ◌↔◌, ℕ, ◌^◌, ◌*◌, ◌/◌, ◌+◌, ◌<◌, ◌≤◌, Bool, true, false, ◌==◌, IsTrue, List, [], ◌∷◌, length, take, length-take, nat_le, unwrap_or, ◌++◌, Option, Some, None, Result, Ok, Err, ap, sym, ◌∙◌, subst, refl, arith, eqb-true}
+use Rattle.std.proofs.Common.{◌≡◌, ◌↔◌, ℕ, ◌^◌, ◌*◌, ◌/◌, ◌+◌, ◌<◌, ◌≤◌, Bool, true, false, ◌==◌, IsTrue, List, [], ◌∷◌, length, take, length-take, nat_le}
+use Rattle.std.proofs.Common.{unwrap_or, ◌++◌, Option, Some, None, Result, Ok, Err, ap, sym, ◌∙◌, subst, refl, arith, eqb-true}
 use Rattle.std.specs.Prelude.{option_map, option_and_then}
 use Rattle.std.specs.List.{list_all}
 use Rattle.std.proofs.lemmas.Bool.{and_from}
@@ -33,7 +34,8 @@ use Rattle.wire_talk.specs.Memory.{takes_no_memory}
 
 -- ---- byte words
 
-bytes-found : (text word left bs : List ℕ) → ◌≡◌ {A = Option (List ℕ × List ℕ)} (Some (word, left)) (until 32 text) → word_bytes word ≡ Some bs → bytes_until 32 text ≡ Some (bs, left)
+bytes-found : (text word left bs : List ℕ) → ◌≡◌ {A = Option (List ℕ × List ℕ)} (Some (word, left)) (until 32 text) → word_bytes word ≡ Some bs →
+    bytes_until 32 text ≡ Some (bs, left)
 bytes-found text word left bs e w =
     ap (option_and_then (λ (read : List ℕ × List ℕ). option_map (λ a. (a, read.1)) (word_bytes read.0))) (sym e) ∙ ap (option_map (λ a. (a, left))) w
 
@@ -57,7 +59,8 @@ abbrev pub Tested : {A : Type 0} → Front A → (List A → Bool) → (ℕ → 
 Tested {A} front test fits = (n : ℕ) (text : List ℕ) (xs : List A) (rest : List ℕ) → times front n text ≡ Some (xs, rest) → test xs ≡ fits n
 
 pub list-read : {A : Type 0} (front : Front A) (test : List A → Bool) (fits : ℕ → Bool) → Tested front test fits → (text : List ℕ) (n : ℕ)
-    (o : Option (Result (List A) NoMemory × List ℕ)) → n ≡ spaces text → fits n ≡ true → AreRead (times front n) text o → AreRead (only_if test (rest_of front)) text o
+    (o : Option (Result (List A) NoMemory × List ℕ)) → n ≡ spaces text → fits n ≡ true → AreRead (times front n) text o →
+    AreRead (only_if test (rest_of front)) text o
 list-read front test fits tested text n None same fit h = only_if-none test (rest_of front) text (ap (λ k. times front k text) (sym same) ∙ h)
 list-read front test fits tested text n (Some read) same fit h =
     (h.0, only_if-read test (rest_of front) text h.0 read.1 (ap (λ k. times front k text) (sym same) ∙ h.1) (tested n text h.0 read.1 h.1 ∙ fit), h.2)
@@ -103,19 +106,25 @@ no-digits word room fits more = go (hex_bytes word) refl
 
 -- ---- items
 
-pub delivered : (text word left : List ℕ) (result : Result Request ReadFault) → ◌≡◌ {A = Option (List ℕ × List ℕ)} (Some (word, left)) (until 32 text) → (length left == 0) ≡ true
+pub delivered : (text word left : List ℕ) (result : Result Request ReadFault) → ◌≡◌ {A = Option (List ℕ × List ℕ)} (Some (word, left)) (until 32 text) →
+    (length left == 0) ≡ true
     → IsAnswer (option_map Deliver (item_from word)) result → IsAnswer (whole (made Deliver (parsed item_from 32)) text) result
 delivered text word left result e over h = subst (λ o. IsAnswer o result) (sym (found ∙ go (item_from word))) h
   where
-    found : whole (made Deliver (parsed item_from 32)) text ≡ option_and_then {T = Request × List ℕ} (λ read. alone read.0 read.1) (option_map {T = Item × List ℕ} (λ read. (Deliver read.0, read.1)) (option_map (λ a. (a, left)) (item_from word)))
+    found : whole (made Deliver (parsed item_from 32)) text ≡ option_and_then {T = Request × List ℕ} (λ read. alone read.0 read.1)
+        (option_map {T = Item × List ℕ} (λ read. (Deliver read.0, read.1)) (option_map (λ a. (a, left)) (item_from word)))
     found =
-        ap (λ (o : Option (List ℕ × List ℕ)). option_and_then {T = Request × List ℕ} (λ read. alone read.0 read.1) (option_map {T = Item × List ℕ} (λ read. (Deliver read.0, read.1)) (option_and_then (λ (read : List ℕ × List ℕ). option_map (λ a. (a, read.1)) (item_from read.0)) o))) (sym e)
+        ap (λ (o : Option (List ℕ × List ℕ)). option_and_then {T = Request × List ℕ} (λ read. alone read.0 read.1)
+        (option_map {T = Item × List ℕ} (λ read. (Deliver read.0, read.1))
+        (option_and_then (λ (read : List ℕ × List ℕ). option_map (λ a. (a, read.1)) (item_from read.0)) o))) (sym e)
 
-    go : (o : Option Item) → option_and_then {T = Request × List ℕ} (λ read. alone read.0 read.1) (option_map {T = Item × List ℕ} (λ read. (Deliver read.0, read.1)) (option_map (λ a. (a, left)) o)) ≡ option_map Deliver o
+    go : (o : Option Item) → option_and_then {T = Request × List ℕ} (λ read. alone read.0 read.1)
+        (option_map {T = Item × List ℕ} (λ read. (Deliver read.0, read.1)) (option_map (λ a. (a, left)) o)) ≡ option_map Deliver o
     go None = refl
     go (Some item) = over-alone (Deliver item) left over
 
-pub not-delivered : (word bs : List ℕ) (fault : ReadFault) → hex_bytes word ≡ Some bs → (◌≡◌ {A = Result Item ReadFault} (Err fault) (Err Malformed)) ↔ (item_of bs ≡ None)
+pub not-delivered : (word bs : List ℕ) (fault : ReadFault) → hex_bytes word ≡ Some bs →
+    (◌≡◌ {A = Result Item ReadFault} (Err fault) (Err Malformed)) ↔ (item_of bs ≡ None)
     → IsAnswer (option_map Deliver (item_from word)) (Err fault)
 not-delivered word bs Malformed e h = ap (option_map Deliver) (ap (option_and_then item_of) e ∙ h.0 refl)
 not-delivered word bs OutOfMemory e h = go (item_of bs) refl
@@ -152,24 +161,30 @@ pub answer-made : {A B : Type 0} (free : B → Bool) (f : A → B) (front : Fron
 answer-made {A} {B} free f front text a left result e h =
     subst (λ o. IsAnswerWhere free o result) (sym (ap (option_and_then (λ (read : B × List ℕ). alone read.0 read.1)) (made-read f front text a left e))) h
 
-pub states-read : (text : List ℕ) (xs : List StateId) (left : List ℕ) → only_if (λ states. is_merge_of (TheseStates states)) (rest_of (id_until 32)) text ≡ Some (xs, left)
+pub states-read : (text : List ℕ) (xs : List StateId) (left : List ℕ) → only_if (λ states. is_merge_of (TheseStates states)) (rest_of (id_until 32)) text
+    ≡ Some (xs, left)
     → merge_text text ≡ Some (TheseStates xs, left)
 states-read text xs left e =
-    ap (λ o. or_else o (by_prefix leaves_rows text)) (made-read TheseStates (only_if (λ states. is_merge_of (TheseStates states)) (rest_of (id_until 32))) text xs left e)
+    ap (λ o. or_else o (by_prefix leaves_rows text)) (made-read TheseStates (only_if (λ states. is_merge_of (TheseStates states)) (rest_of (id_until 32)))
+    text xs left e)
 
 -- a request behind an actor's number
-pub asked-read : (line words : List ℕ) (actor : ℕ) (left : List ℕ) → words ≡ line ++ 32 ∷ [] → ◌≡◌ {A = Option (ℕ × List ℕ)} (Some (actor, left)) (number_until (2 ^ 16) 32 words)
+pub asked-read : (line words : List ℕ) (actor : ℕ) (left : List ℕ) → words ≡ line ++ 32 ∷ [] →
+    ◌≡◌ {A = Option (ℕ × List ℕ)} (Some (actor, left)) (number_until (2 ^ 16) 32 words)
     → asked_of line ≡ option_map (λ request. (actor, request)) (whole request_text left)
 asked-read line words actor left same e =
-    ap (λ (o : Option (ℕ × List ℕ)). option_and_then {T = (ℕ × Request) × List ℕ} (λ read. alone read.0 read.1) (option_and_then (λ (read : ℕ × List ℕ). made (λ request. (read.0, request)) request_text read.1) o))
+    ap (λ (o : Option (ℕ × List ℕ)). option_and_then {T = (ℕ × Request) × List ℕ} (λ read. alone read.0 read.1)
+    (option_and_then (λ (read : ℕ × List ℕ). made (λ request. (read.0, request)) request_text read.1) o))
     (ap (number_until (2 ^ 16) 32) (sym same) ∙ sym e)
     ∙ go (request_text left)
   where
-    end : (request : Request) (rest : List ℕ) → alone {A = ℕ × Request} (actor, request) rest ≡ option_map {T = Request} {U = ℕ × Request} (λ request. (actor, request)) (alone request rest)
+    end : (request : Request) (rest : List ℕ) → alone {A = ℕ × Request} (actor, request) rest
+        ≡ option_map {T = Request} {U = ℕ × Request} (λ request. (actor, request)) (alone request rest)
     end request [] = refl
     end request (x ∷ rest) = refl
 
-    go : (o : Option (Request × List ℕ)) → option_and_then {T = (ℕ × Request) × List ℕ} (λ read. alone read.0 read.1) (option_map {T = Request × List ℕ} {U = (ℕ × Request) × List ℕ} (λ read. ((actor, read.0), read.1)) o)
+    go : (o : Option (Request × List ℕ)) → option_and_then {T = (ℕ × Request) × List ℕ} (λ read. alone read.0 read.1)
+        (option_map {T = Request × List ℕ} {U = (ℕ × Request) × List ℕ} (λ read. ((actor, read.0), read.1)) o)
         ≡ option_map {T = Request} {U = ℕ × Request} (λ request. (actor, request)) (option_and_then {T = Request × List ℕ} (λ read. alone read.0 read.1) o)
     go None = refl
     go (Some read) = end read.0 read.1
@@ -189,16 +204,19 @@ other-memory e = absurd (cc)
 sure-other : (t : Bool) → t ≡ true → t ≡ false → ⊥
 sure-other t p q = absurd (cc)
 
-pub asked-found : (o : Option (ℕ × Request)) (asked : ℕ × Request) → o ≡ Some asked → (◌≡◌ {A = Result (ℕ × Request) ReadFault} (Ok asked) (Err Malformed)) ↔ (o ≡ None)
+pub asked-found : (o : Option (ℕ × Request)) (asked : ℕ × Request) → o ≡ Some asked →
+    (◌≡◌ {A = Result (ℕ × Request) ReadFault} (Ok asked) (Err Malformed)) ↔ (o ≡ None)
 asked-found o asked e = ((λ same. absurd (ok-other asked same)), (λ none. absurd (some-other o asked e none)))
 
-pub asked-fault : (o : Option (ℕ × Request)) (actor : ℕ) (read : Option Request) (fault : ReadFault) → o ≡ option_map (λ request. (actor, request)) read → IsAnswer read (Err fault)
+pub asked-fault : (o : Option (ℕ × Request)) (actor : ℕ) (read : Option Request) (fault : ReadFault) → o ≡ option_map (λ request. (actor, request)) read →
+    IsAnswer read (Err fault)
     → (◌≡◌ {A = Result (ℕ × Request) ReadFault} (Err fault) (Err Malformed)) ↔ (o ≡ None)
 asked-fault o actor read Malformed e h = ((λ same. e ∙ ap (option_map (λ request. (actor, request))) h), (λ none. refl))
 asked-fault o actor read OutOfMemory e h =
     ((λ same. absurd (memory-other same)), (λ none. absurd (some-other o (actor, h.0) (e ∙ ap (option_map (λ request. (actor, request))) h.1) none)))
 
-pub asked-sure : (o : Option (ℕ × Request)) (actor : ℕ) (read : Option Request) (fault : ReadFault) → o ≡ option_map (λ request. (actor, request)) read → IsAnswer read (Err fault)
+pub asked-sure : (o : Option (ℕ × Request)) (actor : ℕ) (read : Option Request) (fault : ReadFault) → o ≡ option_map (λ request. (actor, request)) read →
+    IsAnswer read (Err fault)
     → (asked : ℕ × Request) → o ≡ Some asked → IsTrue (takes_no_memory asked.1) → ◌≡◌ {A = Result (ℕ × Request) ReadFault} (Err fault) (Err OutOfMemory) → ⊥
 asked-sure o actor read Malformed e h asked is sure same = other-memory same
 asked-sure o actor read OutOfMemory e h asked is sure same =

@@ -2,7 +2,10 @@
 use Rattle.std.proofs.Common.{◌≡◌, ℕ, List, [], ◌∷◌, ◌++◌, length, Option, Some, None, Bool, ap, sym, ◌∙◌, refl, append_assoc, append-nil, codes}
 use Rattle.std.specs.Prelude.{map, flat_map}
 use Rattle.tardis_base.specs.declared.replies.Refusal.{Refusal}
-use Rattle.tardis_base.specs.declared.replies.Refusal.TheVariants.{Malformed, NotOpen, AlreadyOpen, SessionsFull, TxnOpen, NoTxn, WrongMode, TooMany, Unknown, Below, Comparable, NotRead, ConflictKey, OpenConflict, Branches, CeilingBack, FloorBack, Held, Collected, Full, PathFull, SeqEnd, BadSite, ClosedParent, OwnItem, TrailFull, Unsupported, NoSuchItem, BagFull}
+use Rattle.tardis_base.specs.declared.replies.Refusal.TheVariants.{Malformed, NotOpen, AlreadyOpen, SessionsFull, TxnOpen, NoTxn, WrongMode, TooMany, Unknown}
+use Rattle.tardis_base.specs.declared.replies.Refusal.TheVariants.{Below, Comparable, NotRead, ConflictKey, OpenConflict, Branches, CeilingBack, FloorBack}
+use Rattle.tardis_base.specs.declared.replies.Refusal.TheVariants.{Held, Collected, Full, PathFull, SeqEnd, BadSite, ClosedParent, OwnItem, TrailFull}
+use Rattle.tardis_base.specs.declared.replies.Refusal.TheVariants.{Unsupported, NoSuchItem, BagFull}
 use Rattle.wire_item.specs.Fronts.{Front, both, after, only_if, times}
 use Rattle.wire_item.proofs.Fronts.{made-source, after-source, some-parts}
 use Rattle.wire_item.proofs.Takings.{after-none, only_if-none}
@@ -63,10 +66,12 @@ times-length front (ℕ.suc n) left xs rest e =
 
 -- a name, the number of things, and these
 pub numbered : {A : Type 0} (front : Front A) (text : A → List ℕ) (name : List ℕ) (n : ℕ) (s : Putting)
-    → puts (times front n) (texts [] text) (says (name ++ spaced (number_word n)) s) ≡ puts (times front n) (λ xs. texts (name ++ spaced (number_word (length xs))) text xs) s
+    → puts (times front n) (texts [] text) (says (name ++ spaced (number_word n)) s)
+    ≡ puts (times front n) (λ xs. texts (name ++ spaced (number_word (length xs))) text xs) s
 numbered front text name n s =
     says-puts (times front n) (texts [] text) (name ++ spaced (number_word n)) s
-    ∙ puts-read-same (times front n) (λ xs. (name ++ spaced (number_word n)) ++ flat_map text xs) (λ xs. (name ++ spaced (number_word (length xs))) ++ flat_map text xs)
+    ∙ puts-read-same (times front n) (λ xs. (name ++ spaced (number_word n)) ++ flat_map text xs)
+    (λ xs. (name ++ spaced (number_word (length xs))) ++ flat_map text xs)
     (λ left xs rest e. ap (λ k. (name ++ spaced (number_word k)) ++ flat_map text xs) (sym (times-length front n left xs rest e))) s
 
 -- ---- a second thing that is tested beside the first
@@ -78,14 +83,18 @@ tested-late {A} {B} test first second left = go (first left) refl
     then : (a : A) (mid : List ℕ) → first left ≡ Some (a, mid) → (o : Option (B × List ℕ)) → only_if (test a) second mid ≡ o
         → after first (λ a. only_if (test a) second) left ≡ only_if (λ p. test p.0 p.1) (both first second) left
     then a mid e None is =
-        Rattle.wire_item.proofs.Takings.after-then_none first (λ a. only_if (test a) second) left a mid e is ∙ sym (second-none test first second left a mid e is)
+        Rattle.wire_item.proofs.Takings.after-then_none first (λ a. only_if (test a) second) left a mid e is
+        ∙ sym (second-none test first second left a mid e is)
     then a mid e (Some read) is =
-        Rattle.wire_item.proofs.Takings.after-then first (λ a. only_if (test a) second) left a mid read.0 read.1 e is ∙ sym (second-read test first second left a mid read.0 read.1 e is)
+        Rattle.wire_item.proofs.Takings.after-then first (λ a. only_if (test a) second) left a mid read.0 read.1 e is
+        ∙ sym (second-read test first second left a mid read.0 read.1 e is)
 
     go : (o : Option (A × List ℕ)) → first left ≡ o → after first (λ a. only_if (test a) second) left ≡ only_if (λ p. test p.0 p.1) (both first second) left
-    go None e = after-none first (λ a. only_if (test a) second) left e ∙ sym (only_if-none (λ p. test p.0 p.1) (both first second) left (after-none first (λ _. second) left e))
+    go None e = after-none first (λ a. only_if (test a) second) left e
+        ∙ sym (only_if-none (λ p. test p.0 p.1) (both first second) left (after-none first (λ _. second) left e))
     go (Some read) e = then read.0 read.1 e (only_if (test read.0) second read.1) refl
 
 pub five : (p a b c d e : List ℕ) → ((((p ++ a) ++ b) ++ c) ++ d) ++ e ≡ p ++ (a ++ (b ++ (c ++ (d ++ e))))
 five p a b c d e =
-    append_assoc (((p ++ a) ++ b) ++ c) d e ∙ append_assoc ((p ++ a) ++ b) c (d ++ e) ∙ append_assoc (p ++ a) b (c ++ (d ++ e)) ∙ append_assoc p a (b ++ (c ++ (d ++ e)))
+    append_assoc (((p ++ a) ++ b) ++ c) d e ∙ append_assoc ((p ++ a) ++ b) c (d ++ e) ∙ append_assoc (p ++ a) b (c ++ (d ++ e))
+    ∙ append_assoc p a (b ++ (c ++ (d ++ e)))

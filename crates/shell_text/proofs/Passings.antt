@@ -25,7 +25,8 @@ passed-at whole front f old mid new true e m =
     makes whole old new lacking (f read.0) (e ∙ made-read f front mid read.0 new read.1) tt
 passed-at whole front f old mid new false e m = makes-none whole old new None refl (e ∙ made-none f front mid (unmade front mid new m))
 
-pub batch-passed : (old mid new : List ℕ) (rs : List Record) (t : Bool) → records_front old ≡ Some (rs, mid) → Makes consents_front mid (read_if t) new → Makes batch_front old (read_if t) new
+pub batch-passed : (old mid new : List ℕ) (rs : List Record) (t : Bool) → records_front old ≡ Some (rs, mid) → Makes consents_front mid (read_if t) new →
+    Makes batch_front old (read_if t) new
 batch-passed old mid new rs true e m =
     let read = making consents_front mid new lacking m in
     let cs = read.1 in

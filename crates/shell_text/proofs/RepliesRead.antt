@@ -1,14 +1,19 @@
 -- Lines of replies are read as they are written.
-use Rattle.std.proofs.Common.{◌≡◌, ℕ, zero, suc, ◌<◌, ◌≤◌, ◌^◌, Bool, true, false, ◌==◌, ◌&&◌, IsTrue, ◌⊎◌, inl, inr, List, [], ◌∷◌, ◌++◌, length, Some, ap, ap₂, sym, ◌∙◌, subst, refl, arith, eqb-true, ltb-true, lt-ltb, append_assoc, codes}
+use Rattle.std.proofs.Common.{◌≡◌, ℕ, zero, suc, ◌<◌, ◌≤◌, ◌^◌, Bool, true, false, ◌==◌, ◌&&◌, IsTrue, ◌⊎◌, inl, inr, List, [], ◌∷◌, ◌++◌, length, Some, ap}
+use Rattle.std.proofs.Common.{ap₂, sym, ◌∙◌, subst, refl, arith, eqb-true, ltb-true, lt-ltb, append_assoc, codes}
 use Rattle.std.proofs.lemmas.Bool.{and_parts, and_from, or_cases}
 use Rattle.std.specs.Prelude.{map, flat_map}
 use Rattle.std.specs.List.{list_all}
 use Rattle.tardis_base.specs.declared.ids.StateId.{StateId}
 use Rattle.tardis_base.specs.declared.replies.SiteLine.{SiteLine}
 use Rattle.tardis_base.specs.declared.replies.Refusal.{Refusal}
-use Rattle.tardis_base.specs.declared.replies.Refusal.TheVariants.{Malformed, NotOpen, AlreadyOpen, SessionsFull, TxnOpen, NoTxn, WrongMode, TooMany, Unknown, Below, Comparable, NotRead, ConflictKey, OpenConflict, Branches, CeilingBack, FloorBack, Held, Collected, Full, PathFull, SeqEnd, BadSite, ClosedParent, OwnItem, TrailFull, Unsupported, NoSuchItem, BagFull}
+use Rattle.tardis_base.specs.declared.replies.Refusal.TheVariants.{Malformed, NotOpen, AlreadyOpen, SessionsFull, TxnOpen, NoTxn, WrongMode, TooMany, Unknown}
+use Rattle.tardis_base.specs.declared.replies.Refusal.TheVariants.{Below, Comparable, NotRead, ConflictKey, OpenConflict, Branches, CeilingBack, FloorBack}
+use Rattle.tardis_base.specs.declared.replies.Refusal.TheVariants.{Held, Collected, Full, PathFull, SeqEnd, BadSite, ClosedParent, OwnItem, TrailFull}
+use Rattle.tardis_base.specs.declared.replies.Refusal.TheVariants.{Unsupported, NoSuchItem, BagFull}
 use Rattle.tardis_base.specs.declared.replies.Reply.{Reply}
-use Rattle.tardis_base.specs.declared.replies.Reply.TheVariants.{Opened, Begun, Merging, Value, Deleted, Absent, Done, Committed, Ended, States, Keys, Raised, Tidied, Stat as Statistics, Shown, Batch, Applied, Known, Early, Closed, Refused, NoMemory}
+use Rattle.tardis_base.specs.declared.replies.Reply.TheVariants.{Opened, Begun, Merging, Value, Deleted, Absent, Done, Committed, Ended, States, Keys, Raised}
+use Rattle.tardis_base.specs.declared.replies.Reply.TheVariants.{Tidied, Stat as Statistics, Shown, Batch, Applied, Known, Early, Closed, Refused, NoMemory}
 use Rattle.tardis_base.specs.Ids.{are_ascending}
 use Rattle.tardis_base.specs.Keys.{are_ascending_keys}
 use Rattle.tardis_base.specs.Valid.{is_u16, is_u32, is_u64, is_within, are_bytes, is_id, is_key, are_parents}
@@ -18,16 +23,20 @@ use Rattle.wire_item.specs.Spellings.{batch_spelling}
 use Rattle.wire_item.specs.Valid.{is_u8, is_batch}
 use Rattle.wire_item.proofs.Ways.{Reads, reads-both, reads-made, reads-counted, many-times}
 use Rattle.wire_item.proofs.Things.{reads-batch}
-use Rattle.wire_talk.specs.Valid.{is_refusal, is_constraint, is_first_of, are_first_ids, are_first_keys, is_site_line, are_site_lines, are_children, is_pair, is_path, is_reply}
+use Rattle.wire_talk.specs.Valid.{is_refusal, is_constraint, is_first_of, are_first_ids, are_first_keys, is_site_line, are_site_lines, are_children, is_pair}
+use Rattle.wire_talk.specs.Valid.{is_path, is_reply}
 use Rattle.text_words.specs.Words.{number_word, id_word, hex_word, byte_word}
 use Rattle.text_words.specs.Texts.{parsed, number_until, id_until, rest_of, by_prefix, ended}
 use Rattle.text_words.proofs.Bytes.{lacks-below, lacks-above, within-parts}
 use Rattle.text_words.proofs.IdsPrinted.{id-printed}
 use Rattle.text_words.proofs.WordsRead.{reads-number, reads-u16-word, reads-u32-word, reads-u64-word, reads-id-until, reads-id-word, byte-words, reads-spelled}
-use Rattle.text_words.proofs.TextReads.{ReadsAll, all-reads, all-both, all-only_if, all-rest, all-text, one-space, RowsReadAll, row-all-nothing_but, row-all-made, by_prefix-row, all-made-back, ended-map, ended-cons, ended-append, line-ended, one_line, reads-text, reads-behind, all-behind}
+use Rattle.text_words.proofs.TextReads.{ReadsAll, all-reads, all-both, all-only_if, all-rest, all-text, one-space, RowsReadAll, row-all-nothing_but}
+use Rattle.text_words.proofs.TextReads.{row-all-made, by_prefix-row, all-made-back, ended-map, ended-cons, ended-append, line-ended, one_line, reads-text}
+use Rattle.text_words.proofs.TextReads.{reads-behind, all-behind}
 use Rattle.shell_text.specs.ReplyLines.{refusal_words, site_line_word, pair_word, counted_words, reply_words, reply_line}
 use Rattle.shell_text.specs.RequestTexts.{key_text}
-use Rattle.shell_text.specs.ReplyTexts.{u8_text, id_text, refusal_text_rows, refusal_text, parents_text, from_rows, first_ids_text, first_keys_text, site_line_text, site_lines_text, statistics_text, pair_text, shown_text, batch_from, reply_text_rows, reply_text}
+use Rattle.shell_text.specs.ReplyTexts.{u8_text, id_text, refusal_text_rows, refusal_text, parents_text, from_rows, first_ids_text, first_keys_text}
+use Rattle.shell_text.specs.ReplyTexts.{site_line_text, site_lines_text, statistics_text, pair_text, shown_text, batch_from, reply_text_rows, reply_text}
 use Rattle.shell_text.specs.Laws.{RepliesHaveOneLine}
 use Rattle.shell_text.proofs.RequestsRead.{reads-key-text, reads-value-text}
 
@@ -50,9 +59,11 @@ reads-keys = all-text (λ ks. ended (map (λ k. byte_word k) ks)) (ended-map (λ
 
 reads-parents-text : ReadsAll are_parents (λ xs. ended (map id_word xs)) parents_text
 reads-parents-text = all-only_if are_parents are_parents
-    (λ xs h. (second (is_within 1 8 (length xs)) (list_all is_id xs) (first (is_within 1 8 (length xs) && list_all is_id xs) (are_ascending xs) h), h)) (λ xs v t. t) reads-ids
+    (λ xs h. (second (is_within 1 8 (length xs)) (list_all is_id xs) (first (is_within 1 8 (length xs) && list_all is_id xs) (are_ascending xs) h), h))
+    (λ xs v t. t) reads-ids
 
-reads-committed : ReadsAll (λ p. is_id p.0 && are_parents p.1) (λ p. (id_word p.0 ++ 32 ∷ []) ++ (codes "from " ++ ended (map id_word p.1))) (both id_text (by_prefix from_rows))
+reads-committed : ReadsAll (λ p. is_id p.0 && are_parents p.1) (λ p. (id_word p.0 ++ 32 ∷ []) ++ (codes "from " ++ ended (map id_word p.1)))
+    (both id_text (by_prefix from_rows))
 reads-committed = all-both reads-id-word (all-behind (codes "from ") reads-parents-text)
 
 reads-first-ids : ReadsAll (λ p. are_first_ids p.0 p.1) (λ p. (number_word p.0 ++ 32 ∷ []) ++ ended (map id_word p.1)) first_ids_text
@@ -61,10 +72,15 @@ reads-first-ids = all-only_if (λ p. are_first_ids p.0 p.1) (λ p. are_first_ids
 
 reads-first-keys : ReadsAll (λ p. are_first_keys p.0 p.1) (λ p. (number_word p.0 ++ 32 ∷ []) ++ ended (map (λ k. byte_word k) p.1)) first_keys_text
 reads-first-keys = all-only_if (λ p. are_first_keys p.0 p.1) (λ p. are_first_keys p.0 p.1)
-    (λ p h. (first (is_u32 p.0 && list_all is_key p.1) (is_first_of p.0 (length p.1)) (first (is_u32 p.0 && list_all is_key p.1 && is_first_of p.0 (length p.1)) (are_ascending_keys p.1) h), h))
+    (λ p h. (
+      first (is_u32 p.0 && list_all is_key p.1) (is_first_of p.0 (length p.1))
+          (first (is_u32 p.0 && list_all is_key p.1 && is_first_of p.0 (length p.1)) (are_ascending_keys p.1) h),
+      h,
+    ))
     (λ p v t. t) (all-both reads-u32-word reads-keys)
 
-committed-text : (id : StateId) (xs : List StateId) → codes "committed " ++ ((id_word id ++ 32 ∷ []) ++ (codes "from " ++ ended (map id_word xs))) ≡ ended (reply_words (Committed id xs))
+committed-text : (id : StateId) (xs : List StateId) → codes "committed " ++ ((id_word id ++ 32 ∷ []) ++ (codes "from " ++ ended (map id_word xs)))
+    ≡ ended (reply_words (Committed id xs))
 committed-text id xs = ap (λ z. codes "committed " ++ ((id_word id ++ 32 ∷ []) ++ z)) (ended-cons (codes "from") (map id_word xs))
 
 -- ---- what is counted
@@ -72,7 +88,8 @@ committed-text id xs = ap (λ z. codes "committed " ++ ((id_word id ++ 32 ∷ []
 small-32 : (n : ℕ) → IsTrue (is_u32 n) → n < 2 ^ 64
 small-32 n h = let b = ltb-true n (2 ^ 32) h in omega arith
 
-counted-text : {A : Type 0} (word : A → List ℕ) (xs : List A) → ended (number_word (length xs) ∷ map word xs) ≡ (number_word (length xs) ++ 32 ∷ []) ++ flat_map (λ x. word x ++ 32 ∷ []) xs
+counted-text : {A : Type 0} (word : A → List ℕ) (xs : List A) → ended (number_word (length xs) ∷ map word xs) ≡ (number_word (length xs) ++ 32 ∷ [])
+    ++ flat_map (λ x. word x ++ 32 ∷ []) xs
 counted-text word xs = sym (ap (λ z. (number_word (length xs) ++ 32 ∷ []) ++ z) (sym (ended-map word xs)) ∙ ended-cons (number_word (length xs)) (map word xs))
 
 site-line-spelled : (a b c : List ℕ) → (a ++ 58 ∷ (b ++ 58 ∷ c)) ++ 32 ∷ [] ≡ ((a ++ 58 ∷ []) ++ (b ++ 58 ∷ [])) ++ (c ++ 32 ∷ [])
@@ -81,9 +98,11 @@ site-line-spelled a b c =
     ∙ sym (append_assoc a (58 ∷ []) ((b ++ 58 ∷ []) ++ (c ++ 32 ∷ []))) ∙ sym (append_assoc (a ++ 58 ∷ []) (b ++ 58 ∷ []) (c ++ 32 ∷ []))
 
 pub reads-site-line : Reads is_site_line (λ l. site_line_word l ++ 32 ∷ []) site_line_text
-reads-site-line = reads-made (λ p. record { count = p.0.0; floor = p.0.1; number = p.1 }) (λ l. ((l.count, l.floor), l.number)) is_site_line (λ l. site_line_word l ++ 32 ∷ [])
+reads-site-line = reads-made (λ p. record { count = p.0.0; floor = p.0.1; number = p.1 }) (λ l. ((l.count, l.floor), l.number)) is_site_line
+    (λ l. site_line_word l ++ 32 ∷ [])
     (λ l h. refl) (λ p. refl) (λ p. site-line-spelled (number_word p.0.0) (id_word p.0.1) (number_word p.1))
-    (reads-both (reads-both (reads-number (2 ^ 32) 58 small-32 (lacks-above 48 57 58 (omega arith)) refl) (reads-id-until 58 (lacks-above 48 57 58 (omega arith)) refl)) reads-u32-word)
+    (reads-both (reads-both (reads-number (2 ^ 32) 58 small-32 (lacks-above 48 57 58 (omega arith)) refl)
+    (reads-id-until 58 (lacks-above 48 57 58 (omega arith)) refl)) reads-u32-word)
 
 sites-fit : (ls : List SiteLine) → IsTrue (are_site_lines ls) → IsTrue (is_u32 (length ls) && list_all is_site_line ls)
 sites-fit ls h =
@@ -93,7 +112,8 @@ sites-fit ls h =
 
 reads-site-lines : ReadsAll are_site_lines (λ ls. ended (number_word (length ls) ∷ map site_line_word ls)) site_lines_text
 reads-site-lines = all-only_if are_site_lines are_site_lines (λ ls h. (sites-fit ls h, h)) (λ ls v t. t)
-    (all-text (λ ls. ended (number_word (length ls) ∷ map site_line_word ls)) (counted-text site_line_word) (all-reads (reads-counted reads-u32-word (many-times reads-site-line))))
+    (all-text (λ ls. ended (number_word (length ls) ∷ map site_line_word ls)) (counted-text site_line_word)
+    (all-reads (reads-counted reads-u32-word (many-times reads-site-line))))
 
 abbrev statistics_parts : ℕ × (ℕ × (ℕ × (ℕ × List SiteLine))) → Bool
 statistics_parts p = is_u64 p.0 && (is_u32 p.1.0 && (is_u32 p.1.1.0 && (is_u16 p.1.1.1.0 && are_site_lines p.1.1.1.1)))
@@ -101,10 +121,12 @@ statistics_parts p = is_u64 p.0 && (is_u32 p.1.0 && (is_u32 p.1.1.0 && (is_u16 p
 abbrev statistics_ended : ℕ × (ℕ × (ℕ × (ℕ × List SiteLine))) → List ℕ
 statistics_ended p =
     (number_word p.0 ++ 32 ∷ []) ++ ((codes "kept " ++ (number_word p.1.0 ++ 32 ∷ [])) ++ ((codes "leaves " ++ (number_word p.1.1.0 ++ 32 ∷ []))
-    ++ ((codes "sessions " ++ (number_word p.1.1.1.0 ++ 32 ∷ [])) ++ (codes "sites " ++ ended (number_word (length p.1.1.1.1) ∷ map site_line_word p.1.1.1.1)))))
+    ++ ((codes "sessions " ++ (number_word p.1.1.1.0 ++ 32 ∷ []))
+    ++ (codes "sites " ++ ended (number_word (length p.1.1.1.1) ∷ map site_line_word p.1.1.1.1)))))
 
 reads-statistics : ReadsAll statistics_parts statistics_ended statistics_text
-reads-statistics = all-both reads-u64-word (all-both (reads-behind (codes "kept ") refl reads-u32-word) (all-both (reads-behind (codes "leaves ") refl reads-u32-word)
+reads-statistics = all-both reads-u64-word (all-both (reads-behind (codes "kept ") refl reads-u32-word)
+    (all-both (reads-behind (codes "leaves ") refl reads-u32-word)
     (all-both (reads-behind (codes "sessions ") refl reads-u16-word) (all-behind (codes "sites ") reads-site-lines))))
 
 five-right : (a b c d e : Bool) → IsTrue (a && b && c && d && e) → IsTrue (a && (b && (c && (d && e))))
@@ -131,10 +153,12 @@ three-left : (a b c : Bool) → IsTrue (a && (b && c)) → IsTrue (a && b && c)
 three-left true b c h = h
 three-left false b c h = h
 
-statistics-valid : (p : ℕ × (ℕ × (ℕ × (ℕ × List SiteLine)))) → IsTrue (statistics_parts p) → IsTrue (is_reply (Statistics p.0 p.1.0 p.1.1.0 p.1.1.1.0 p.1.1.1.1))
+statistics-valid : (p : ℕ × (ℕ × (ℕ × (ℕ × List SiteLine)))) → IsTrue (statistics_parts p) →
+    IsTrue (is_reply (Statistics p.0 p.1.0 p.1.1.0 p.1.1.1.0 p.1.1.1.1))
 statistics-valid p h = five-left (is_u64 p.0) (is_u32 p.1.0) (is_u32 p.1.1.0) (is_u16 p.1.1.1.0) (are_site_lines p.1.1.1.1) h
 
-statistics-parts : (known kept leaves sessions : ℕ) (sites : List SiteLine) → IsTrue (is_reply (Statistics known kept leaves sessions sites)) → IsTrue (statistics_parts (known, (kept, (leaves, (sessions, sites)))))
+statistics-parts : (known kept leaves sessions : ℕ) (sites : List SiteLine) → IsTrue (is_reply (Statistics known kept leaves sessions sites)) →
+    IsTrue (statistics_parts (known, (kept, (leaves, (sessions, sites)))))
 statistics-parts known kept leaves sessions sites h = five-right (is_u64 known) (is_u32 kept) (is_u32 leaves) (is_u16 sessions) (are_site_lines sites) h
 
 reads-pair : Reads is_pair (λ p. pair_word p ++ 32 ∷ []) pair_text
@@ -157,10 +181,12 @@ reads-shown = all-both reads-u64-word (all-both (reads-behind (codes "children "
 shown-valid : (p : ℕ × (List StateId × List (StateId × ℕ))) → IsTrue (shown_parts p) → IsTrue (is_reply (Shown p.0 p.1.0 p.1.1))
 shown-valid p h = three-left (is_u64 p.0) (are_children p.1.0) (is_path p.1.1) h
 
-shown-parts : (arrival : ℕ) (children : List StateId) (path : List (StateId × ℕ)) → IsTrue (is_reply (Shown arrival children path)) → IsTrue (shown_parts (arrival, (children, path)))
+shown-parts : (arrival : ℕ) (children : List StateId) (path : List (StateId × ℕ)) → IsTrue (is_reply (Shown arrival children path)) →
+    IsTrue (shown_parts (arrival, (children, path)))
 shown-parts arrival children path h = three-right (is_u64 arrival) (are_children children) (is_path path) h
 
-shown-text : (arrival : ℕ) (children : List StateId) (path : List (StateId × ℕ)) → codes "shown " ++ shown_ended (arrival, (children, path)) ≡ ended (reply_words (Shown arrival children path))
+shown-text : (arrival : ℕ) (children : List StateId) (path : List (StateId × ℕ)) → codes "shown " ++ shown_ended (arrival, (children, path))
+    ≡ ended (reply_words (Shown arrival children path))
 shown-text arrival children path =
     ap (λ z. codes "shown " ++ ((number_word arrival ++ 32 ∷ []) ++ z))
     (ap₂ (λ c p. (codes "children " ++ c) ++ (codes "path " ++ p)) (sym (counted-text id_word children)) (sym (counted-text pair_word path))
@@ -208,47 +234,64 @@ reads-refusal = record { back = back; only = by_prefix-row is_refusal refusal_en
                         (
                           row-all-made is_refusal refusal_ended (codes "unknown ") Unknown (all-reads reads-id-word) (λ a h. h) (λ a. refl),
                           (
-                            row-all-made is_refusal refusal_ended (codes "below ") (λ p. Below p.0 p.1) (all-both reads-id-word (all-reads reads-id-word)) (λ a h. h) (λ a. refl),
+                            row-all-made is_refusal refusal_ended (codes "below ") (λ p. Below p.0 p.1) (all-both reads-id-word (all-reads reads-id-word))
+                                (λ a h. h) (λ a. refl),
                             (
-                              row-all-made is_refusal refusal_ended (codes "comparable ") (λ p. Comparable p.0 p.1) (all-both reads-id-word (all-reads reads-id-word)) (λ a h. h) (λ a. refl),
+                              row-all-made is_refusal refusal_ended (codes "comparable ") (λ p. Comparable p.0 p.1)
+                                  (all-both reads-id-word (all-reads reads-id-word)) (λ a h. h) (λ a. refl),
                               (
                                 row-all-made is_refusal refusal_ended (codes "notread ") NotRead (all-reads reads-id-word) (λ a h. h) (λ a. refl),
                                 (
                                   row-all-made is_refusal refusal_ended (codes "conflictkey ") ConflictKey (all-reads reads-key-text) (λ a h. h) (λ a. refl),
                                   (
-                                    row-all-made is_refusal refusal_ended (codes "openconflict ") OpenConflict (all-reads reads-key-text) (λ a h. h) (λ a. refl),
+                                    row-all-made is_refusal refusal_ended (codes "openconflict ") OpenConflict (all-reads reads-key-text) (λ a h. h)
+                                        (λ a. refl),
                                     (
-                                      row-all-made is_refusal refusal_ended (codes "branches nb ") (λ p. Branches 4 p.0 p.1) (all-both reads-id-word (all-reads reads-u32-word)) (λ a h. h) (λ a. refl),
+                                      row-all-made is_refusal refusal_ended (codes "branches nb ") (λ p. Branches 4 p.0 p.1)
+                                          (all-both reads-id-word (all-reads reads-u32-word)) (λ a h. h) (λ a. refl),
                                       (
-                                        row-all-made is_refusal refusal_ended (codes "branches kb ") (λ p. Branches 8 p.0 p.1) (all-both reads-id-word (all-reads reads-u32-word)) (λ a h. h) (λ a. refl),
+                                        row-all-made is_refusal refusal_ended (codes "branches kb ") (λ p. Branches 8 p.0 p.1)
+                                            (all-both reads-id-word (all-reads reads-u32-word)) (λ a h. h) (λ a. refl),
                                         (
-                                          row-all-made is_refusal refusal_ended (codes "ceilingback ") CeilingBack (all-reads reads-id-word) (λ a h. h) (λ a. refl),
+                                          row-all-made is_refusal refusal_ended (codes "ceilingback ") CeilingBack (all-reads reads-id-word) (λ a h. h)
+                                              (λ a. refl),
                                           (
-                                            row-all-made is_refusal refusal_ended (codes "floorback ") FloorBack (all-reads reads-id-word) (λ a h. h) (λ a. refl),
+                                            row-all-made is_refusal refusal_ended (codes "floorback ") FloorBack (all-reads reads-id-word) (λ a h. h)
+                                                (λ a. refl),
                                             (
-                                              row-all-made is_refusal refusal_ended (codes "held ") (λ p. Held p.0 p.1) (all-both reads-u16-word (all-reads reads-id-word)) (λ a h. h) (λ a. refl),
+                                              row-all-made is_refusal refusal_ended (codes "held ") (λ p. Held p.0 p.1)
+                                                  (all-both reads-u16-word (all-reads reads-id-word)) (λ a h. h) (λ a. refl),
                                               (
-                                                row-all-made is_refusal refusal_ended (codes "collected ") Collected (all-reads reads-id-word) (λ a h. h) (λ a. refl),
+                                                row-all-made is_refusal refusal_ended (codes "collected ") Collected (all-reads reads-id-word) (λ a h. h)
+                                                    (λ a. refl),
                                                 (
                                                   row-all-made is_refusal refusal_ended (codes "full ") Full (all-reads reads-u32-word) (λ a h. h) (λ a. refl),
                                                   (
-                                                    row-all-made is_refusal refusal_ended (codes "pathfull ") (λ p. PathFull p.0 p.1) (all-both reads-id-word (all-reads reads-u32-word)) (λ a h. h) (λ a. refl),
+                                                    row-all-made is_refusal refusal_ended (codes "pathfull ") (λ p. PathFull p.0 p.1)
+                                                        (all-both reads-id-word (all-reads reads-u32-word)) (λ a h. h) (λ a. refl),
                                                     (
                                                       row-all-nothing_but is_refusal refusal_ended (codes "seqend ") SeqEnd refl refl,
                                                       (
-                                                        row-all-made is_refusal refusal_ended (codes "badsite ") BadSite (all-reads reads-u16-word) (λ a h. h) (λ a. refl),
+                                                        row-all-made is_refusal refusal_ended (codes "badsite ") BadSite (all-reads reads-u16-word)
+                                                            (λ a h. h) (λ a. refl),
                                                         (
-                                                          row-all-made is_refusal refusal_ended (codes "closedparent ") ClosedParent (all-reads reads-id-word) (λ a h. h) (λ a. refl),
+                                                          row-all-made is_refusal refusal_ended (codes "closedparent ") ClosedParent
+                                                              (all-reads reads-id-word) (λ a h. h) (λ a. refl),
                                                           (
-                                                            row-all-made is_refusal refusal_ended (codes "ownitem ") (λ p. OwnItem p.0 p.1) (all-both reads-u16-word (all-reads reads-u32-word)) (λ a h. h) (λ a. refl),
+                                                            row-all-made is_refusal refusal_ended (codes "ownitem ") (λ p. OwnItem p.0 p.1)
+                                                                (all-both reads-u16-word (all-reads reads-u32-word)) (λ a h. h) (λ a. refl),
                                                             (
-                                                              row-all-made is_refusal refusal_ended (codes "trailfull ") TrailFull (all-reads reads-u64-word) (λ a h. h) (λ a. refl),
+                                                              row-all-made is_refusal refusal_ended (codes "trailfull ") TrailFull
+                                                                  (all-reads reads-u64-word) (λ a h. h) (λ a. refl),
                                                               (
-                                                                row-all-made is_refusal refusal_ended (codes "unsupported ") Unsupported (all-reads reads-u8-word) (λ a h. h) (λ a. refl),
+                                                                row-all-made is_refusal refusal_ended (codes "unsupported ") Unsupported
+                                                                    (all-reads reads-u8-word) (λ a h. h) (λ a. refl),
                                                                 (
-                                                                  row-all-made is_refusal refusal_ended (codes "nosuchitem ") NoSuchItem (all-reads reads-u32-word) (λ a h. h) (λ a. refl),
+                                                                  row-all-made is_refusal refusal_ended (codes "nosuchitem ") NoSuchItem
+                                                                      (all-reads reads-u32-word) (λ a h. h) (λ a. refl),
                                                                   (
-                                                                    row-all-made is_refusal refusal_ended (codes "bagfull ") BagFull (all-reads reads-u32-word) (λ a h. h) (λ a. refl),
+                                                                    row-all-made is_refusal refusal_ended (codes "bagfull ") BagFull
+                                                                        (all-reads reads-u32-word) (λ a h. h) (λ a. refl),
                                                                     tt,
                                                                   ),
                                                                 ),
@@ -344,7 +387,8 @@ reads-reply-text = record { back = back; only = by_prefix-row is_reply reply_end
         (
           row-all-made is_reply reply_ended (codes "merging ") Merging reads-parents-text (λ a h. h) (λ xs. ended-cons (codes "merging") (map id_word xs)),
           (
-            row-all-made is_reply reply_ended (codes "value ") (λ p. Value p.0 p.1) (all-both reads-id-word (all-reads reads-value-text)) (λ a h. h) (λ a. refl),
+            row-all-made is_reply reply_ended (codes "value ") (λ p. Value p.0 p.1) (all-both reads-id-word (all-reads reads-value-text)) (λ a h. h)
+                (λ a. refl),
             (
               row-all-made is_reply reply_ended (codes "deleted ") Deleted (all-reads reads-id-word) (λ a h. h) (λ a. refl),
               (
@@ -356,17 +400,22 @@ reads-reply-text = record { back = back; only = by_prefix-row is_reply reply_end
                     (
                       row-all-made is_reply reply_ended (codes "ended ") Ended (all-reads reads-id-word) (λ a h. h) (λ a. refl),
                       (
-                        row-all-made is_reply reply_ended (codes "states ") (λ p. States p.0 p.1) reads-first-ids (λ a h. h) (λ p. ap (λ z. codes "states " ++ z) (ended-cons (number_word p.0) (map id_word p.1))),
+                        row-all-made is_reply reply_ended (codes "states ") (λ p. States p.0 p.1) reads-first-ids (λ a h. h)
+                            (λ p. ap (λ z. codes "states " ++ z) (ended-cons (number_word p.0) (map id_word p.1))),
                         (
-                          row-all-made is_reply reply_ended (codes "keys ") (λ p. Keys p.0 p.1) reads-first-keys (λ a h. h) (λ p. ap (λ z. codes "keys " ++ z) (ended-cons (number_word p.0) (map (λ k. byte_word k) p.1))),
+                          row-all-made is_reply reply_ended (codes "keys ") (λ p. Keys p.0 p.1) reads-first-keys (λ a h. h)
+                              (λ p. ap (λ z. codes "keys " ++ z) (ended-cons (number_word p.0) (map (λ k. byte_word k) p.1))),
                           (
-                            row-all-made is_reply reply_ended (codes "raised ") (λ p. Raised p.0 p.1) (all-both reads-id-word (all-reads reads-u32-word)) (λ a h. h) (λ a. refl),
+                            row-all-made is_reply reply_ended (codes "raised ") (λ p. Raised p.0 p.1) (all-both reads-id-word (all-reads reads-u32-word))
+                                (λ a h. h) (λ a. refl),
                             (
                               row-all-made is_reply reply_ended (codes "tidied ") Tidied (all-reads reads-u32-word) (λ a h. h) (λ a. refl),
                               (
-                                row-all-made is_reply reply_ended (codes "stat known ") (λ p. Statistics p.0 p.1.0 p.1.1.0 p.1.1.1.0 p.1.1.1.1) reads-statistics statistics-valid (λ p. refl),
+                                row-all-made is_reply reply_ended (codes "stat known ") (λ p. Statistics p.0 p.1.0 p.1.1.0 p.1.1.1.0 p.1.1.1.1)
+                                    reads-statistics statistics-valid (λ p. refl),
                                 (
-                                  row-all-made is_reply reply_ended (codes "shown ") (λ p. Shown p.0 p.1.0 p.1.1) reads-shown shown-valid (λ p. shown-text p.0 p.1.0 p.1.1),
+                                  row-all-made is_reply reply_ended (codes "shown ") (λ p. Shown p.0 p.1.0 p.1.1) reads-shown shown-valid
+                                      (λ p. shown-text p.0 p.1.0 p.1.1),
                                   (
                                     row-all-made is_reply reply_ended (codes "batch ") Batch (all-reads reads-batch-word) (λ a h. h) (λ a. refl),
                                     (
@@ -378,7 +427,8 @@ reads-reply-text = record { back = back; only = by_prefix-row is_reply reply_end
                                           (
                                             row-all-nothing_but is_reply reply_ended (codes "closed ") Closed refl refl,
                                             (
-                                              row-all-made is_reply reply_ended (codes "refused ") Refused reads-refusal (λ a h. h) (λ r. ended-cons (codes "refused") (refusal_words r)),
+                                              row-all-made is_reply reply_ended (codes "refused ") Refused reads-refusal (λ a h. h)
+                                                  (λ r. ended-cons (codes "refused") (refusal_words r)),
                                               (
                                                 row-all-nothing_but is_reply reply_ended (codes "nomemory ") NoMemory refl refl,
                                                 tt,
@@ -422,12 +472,16 @@ reads-reply-text = record { back = back; only = by_prefix-row is_reply reply_end
     back NoMemory h = refl
     back (Merging xs) h = ap reply_text (sym (ended-cons (codes "merging") (map id_word xs))) ∙ all-made-back reads-parents-text Merging xs h
     back (Committed id xs) h = ap reply_text (sym (committed-text id xs)) ∙ all-made-back reads-committed (λ p. Committed p.0 p.1) (id, xs) h
-    back (States total xs) h = ap reply_text (sym (ap (λ z. codes "states " ++ z) (ended-cons (number_word total) (map id_word xs)))) ∙ all-made-back reads-first-ids (λ p. States p.0 p.1) (total, xs) h
-    back (Keys total ks) h = ap reply_text (sym (ap (λ z. codes "keys " ++ z) (ended-cons (number_word total) (map (λ k. byte_word k) ks)))) ∙ all-made-back reads-first-keys (λ p. Keys p.0 p.1) (total, ks) h
+    back (States total xs) h = ap reply_text (sym (ap (λ z. codes "states " ++ z) (ended-cons (number_word total) (map id_word xs))))
+        ∙ all-made-back reads-first-ids (λ p. States p.0 p.1) (total, xs) h
+    back (Keys total ks) h = ap reply_text (sym (ap (λ z. codes "keys " ++ z) (ended-cons (number_word total) (map (λ k. byte_word k) ks))))
+        ∙ all-made-back reads-first-keys (λ p. Keys p.0 p.1) (total, ks) h
     back (Statistics known kept leaves sessions sites) h =
-        all-made-back reads-statistics (λ p. Statistics p.0 p.1.0 p.1.1.0 p.1.1.1.0 p.1.1.1.1) (known, (kept, (leaves, (sessions, sites)))) (statistics-parts known kept leaves sessions sites h)
+        all-made-back reads-statistics (λ p. Statistics p.0 p.1.0 p.1.1.0 p.1.1.1.0 p.1.1.1.1) (known, (kept, (leaves, (sessions, sites))))
+        (statistics-parts known kept leaves sessions sites h)
     back (Shown arrival children path) h =
-        ap reply_text (sym (shown-text arrival children path)) ∙ all-made-back reads-shown (λ p. Shown p.0 p.1.0 p.1.1) (arrival, (children, path)) (shown-parts arrival children path h)
+        ap reply_text (sym (shown-text arrival children path)) ∙ all-made-back reads-shown (λ p. Shown p.0 p.1.0 p.1.1) (arrival, (children, path))
+        (shown-parts arrival children path h)
     back (Batch batch) h = all-made-back (all-reads reads-batch-word) Batch batch h
     back (Refused r) h = ap reply_text (sym (ended-cons (codes "refused") (refusal_words r))) ∙ all-made-back reads-refusal Refused r h
 

@@ -14,9 +14,11 @@ use Rattle.text_words.specs.Puts.{longest_line, spaced}
 use Rattle.text_words.specs.Words.{line, number_word}
 use Rattle.shell_text.specs.RequestLines.{request_line, request_words}
 use Rattle.shell_text.proofs.Lengths.{request-lines-fit}
-use Rattle.tardis_base.specs.declared.requests.Request.TheVariants.{Open, Begin as BeginAt, Get, Put, Delete, Commit, Abort, BeginMerge, ForkPoints, Conflicts, GetFor, Ceiling, Raise, RaiseAuto, Tidy, Stat, Show, Leaves, Pull, Close, Settle}
+use Rattle.tardis_base.specs.declared.requests.Request.TheVariants.{Open, Begin as BeginAt, Get, Put, Delete, Commit, Abort, BeginMerge, ForkPoints}
+use Rattle.tardis_base.specs.declared.requests.Request.TheVariants.{Conflicts, GetFor, Ceiling, Raise, RaiseAuto, Tidy, Stat, Show, Leaves, Pull, Close, Settle}
 
-pub request-fits : (actor : ℕ) (bytes : List ℕ) (r : Request) → actor < 2 ^ 16 → request_of bytes ≡ Some r → length bytes ≤ longest_frame → length (request_line (actor, r)) ≤ longest_line
+pub request-fits : (actor : ℕ) (bytes : List ℕ) (r : Request) → actor < 2 ^ 16 → request_of bytes ≡ Some r → length bytes ≤ longest_frame →
+    length (request_line (actor, r)) ≤ longest_line
 request-fits actor bytes r small e h =
     let x = reads-request.only bytes r [] (whole-source request_front bytes r e) in
     let same : bytes ≡ request_spelling r = x.1 ∙ append-nil (request_spelling r) in

@@ -1,5 +1,6 @@
 -- Lines of requests are read as they are written.
-use Rattle.std.proofs.Common.{◌≡◌, ℕ, zero, suc, ◌<◌, ◌≤◌, ◌^◌, Bool, true, false, ◌==◌, ◌&&◌, IsTrue, List, [], ◌∷◌, ◌++◌, length, nat_le, nat_lt, Some, ap, sym, ◌∙◌, refl, arith, eqb-true, ltb-true, le-leb, codes}
+use Rattle.std.proofs.Common.{◌≡◌, ℕ, zero, suc, ◌<◌, ◌≤◌, ◌^◌, Bool, true, false, ◌==◌, ◌&&◌, IsTrue, List, [], ◌∷◌, ◌++◌, length, nat_le, nat_lt, Some, ap}
+use Rattle.std.proofs.Common.{sym, ◌∙◌, refl, arith, eqb-true, ltb-true, le-leb, codes}
 use Rattle.std.proofs.lemmas.Bool.{and_parts, and_from}
 use Rattle.std.specs.Prelude.{map}
 use Rattle.std.specs.List.{list_all}
@@ -8,7 +9,9 @@ use Rattle.tardis_base.specs.declared.requests.Begin.TheVariants.{Any, Ancestor,
 use Rattle.tardis_base.specs.declared.requests.MergeOf.{MergeOf}
 use Rattle.tardis_base.specs.declared.requests.MergeOf.TheVariants.{Leaves as AllLeaves, States as TheseStates}
 use Rattle.tardis_base.specs.declared.requests.Request.{Request}
-use Rattle.tardis_base.specs.declared.requests.Request.TheVariants.{Open, Begin as BeginAt, Get, Put, Delete, Commit, Abort, BeginMerge, ForkPoints, Conflicts, GetFor, Ceiling, Raise, RaiseAuto, Tidy, Stat, Show, Leaves, Pull, Deliver, Close, Settle}
+use Rattle.tardis_base.specs.declared.requests.Request.TheVariants.{Open, Begin as BeginAt, Get, Put, Delete, Commit, Abort, BeginMerge, ForkPoints}
+use Rattle.tardis_base.specs.declared.requests.Request.TheVariants.{Conflicts, GetFor, Ceiling, Raise, RaiseAuto, Tidy, Stat, Show, Leaves, Pull, Deliver}
+use Rattle.tardis_base.specs.declared.requests.Request.TheVariants.{Close, Settle}
 use Rattle.tardis_base.specs.Valid.{is_u16, is_u32, is_within, are_bytes, is_id, is_key, is_value}
 use Rattle.tardis_base.proofs.TestParts.{first, second}
 use Rattle.wire_item.specs.Fronts.{both, made, only_if}
@@ -22,9 +25,12 @@ use Rattle.text_words.specs.Words.{Word, line, number_word, id_word, hex_word, b
 use Rattle.text_words.specs.Texts.{parsed, number_until, id_until, bytes_until, rest_of, by_prefix, ends, ended}
 use Rattle.text_words.proofs.WordsRead.{reads-u16-word, reads-u32-word, reads-id-word, byte-words, reads-word, reads-spelled}
 use Rattle.text_words.proofs.IdsPrinted.{id-printed, number-printed}
-use Rattle.text_words.proofs.TextReads.{ReadsAll, all-reads, all-both, all-only_if, all-rest, all-text, one-space, RowReadsAll, RowsReadAll, row-all-nothing_but, row-all-made, by_prefix-row, all-made-back, either-row, either-first, ends-row, ended-map, line-ended, one_line}
+use Rattle.text_words.proofs.TextReads.{ReadsAll, all-reads, all-both, all-only_if, all-rest, all-text, one-space, RowReadsAll, RowsReadAll}
+use Rattle.text_words.proofs.TextReads.{row-all-nothing_but, row-all-made, by_prefix-row, all-made-back, either-row, either-first, ends-row, ended-map}
+use Rattle.text_words.proofs.TextReads.{line-ended, one_line}
 use Rattle.shell_text.specs.RequestLines.{begin_words, name_if, flags_word, merge_words, after_words, request_words, request_line}
-use Rattle.shell_text.specs.RequestTexts.{key_text, value_text, follow_rows, follow_text, begin_rows, begin_text, flag_rows, flags_text, leaves_rows, merge_text, is_some_after, after_text, auto_rows, raise_text, item_from, request_text_rows, request_text, asked_text}
+use Rattle.shell_text.specs.RequestTexts.{key_text, value_text, follow_rows, follow_text, begin_rows, begin_text, flag_rows, flags_text, leaves_rows}
+use Rattle.shell_text.specs.RequestTexts.{merge_text, is_some_after, after_text, auto_rows, raise_text, item_from, request_text_rows, request_text, asked_text}
 use Rattle.shell_text.specs.Spelled.{is_asked}
 use Rattle.shell_text.specs.Laws.{RequestsHaveOneLine}
 
@@ -112,7 +118,8 @@ abbrev is_some_u16 : ℕ → Bool
 is_some_u16 k = is_u16 k && nat_le 1 k
 
 reads-some : ReadsAll is_some_u16 (λ k. number_word k ++ 32 ∷ []) (only_if (λ k. nat_le 1 k) (number_until (2 ^ 16) 32))
-reads-some = all-reads (reads-only_if (λ k. nat_le 1 k) is_some_u16 (λ k h. and_parts (is_u16 k) (nat_le 1 k) h) (λ k h t. and_from (is_u16 k) (nat_le 1 k) h t) reads-u16-word)
+reads-some = all-reads (reads-only_if (λ k. nat_le 1 k) is_some_u16 (λ k h. and_parts (is_u16 k) (nat_le 1 k) h)
+    (λ k h t. and_from (is_u16 k) (nat_le 1 k) h t) reads-u16-word)
 
 -- a commit without the last flag has the number 0
 number-none : (flags k : ℕ) → IsTrue (nat_lt flags 16 && is_u16 k && (k == 0)) → k ≡ 0
@@ -128,10 +135,14 @@ flags-back zero k h = let none = number-none 0 k h in ap (λ n. flags_text (comm
 flags-back (suc zero) k h = let none = number-none 1 k h in ap (λ n. flags_text (commit_text (1, n))) none ∙ ap (λ n. Some ((1, n), [])) (sym none)
 flags-back (suc (suc zero)) k h = let none = number-none 2 k h in ap (λ n. flags_text (commit_text (2, n))) none ∙ ap (λ n. Some ((2, n), [])) (sym none)
 flags-back (suc (suc (suc zero))) k h = let none = number-none 3 k h in ap (λ n. flags_text (commit_text (3, n))) none ∙ ap (λ n. Some ((3, n), [])) (sym none)
-flags-back (suc (suc (suc (suc zero)))) k h = let none = number-none 4 k h in ap (λ n. flags_text (commit_text (4, n))) none ∙ ap (λ n. Some ((4, n), [])) (sym none)
-flags-back (suc (suc (suc (suc (suc zero))))) k h = let none = number-none 5 k h in ap (λ n. flags_text (commit_text (5, n))) none ∙ ap (λ n. Some ((5, n), [])) (sym none)
-flags-back (suc (suc (suc (suc (suc (suc zero)))))) k h = let none = number-none 6 k h in ap (λ n. flags_text (commit_text (6, n))) none ∙ ap (λ n. Some ((6, n), [])) (sym none)
-flags-back (suc (suc (suc (suc (suc (suc (suc zero))))))) k h = let none = number-none 7 k h in ap (λ n. flags_text (commit_text (7, n))) none ∙ ap (λ n. Some ((7, n), [])) (sym none)
+flags-back (suc (suc (suc (suc zero)))) k h = let none = number-none 4 k h in
+    ap (λ n. flags_text (commit_text (4, n))) none ∙ ap (λ n. Some ((4, n), [])) (sym none)
+flags-back (suc (suc (suc (suc (suc zero))))) k h = let none = number-none 5 k h in
+    ap (λ n. flags_text (commit_text (5, n))) none ∙ ap (λ n. Some ((5, n), [])) (sym none)
+flags-back (suc (suc (suc (suc (suc (suc zero)))))) k h = let none = number-none 6 k h in
+    ap (λ n. flags_text (commit_text (6, n))) none ∙ ap (λ n. Some ((6, n), [])) (sym none)
+flags-back (suc (suc (suc (suc (suc (suc (suc zero))))))) k h = let none = number-none 7 k h in
+    ap (λ n. flags_text (commit_text (7, n))) none ∙ ap (λ n. Some ((7, n), [])) (sym none)
 flags-back (suc (suc (suc (suc (suc (suc (suc (suc zero)))))))) k h = all-made-back reads-some (λ k. (8, k)) k h
 flags-back (suc (suc (suc (suc (suc (suc (suc (suc (suc zero))))))))) k h = all-made-back reads-some (λ k. (9, k)) k h
 flags-back (suc (suc (suc (suc (suc (suc (suc (suc (suc (suc zero)))))))))) k h = all-made-back reads-some (λ k. (10, k)) k h
@@ -140,7 +151,8 @@ flags-back (suc (suc (suc (suc (suc (suc (suc (suc (suc (suc (suc (suc zero)))))
 flags-back (suc (suc (suc (suc (suc (suc (suc (suc (suc (suc (suc (suc (suc zero))))))))))))) k h = all-made-back reads-some (λ k. (13, k)) k h
 flags-back (suc (suc (suc (suc (suc (suc (suc (suc (suc (suc (suc (suc (suc (suc zero)))))))))))))) k h = all-made-back reads-some (λ k. (14, k)) k h
 flags-back (suc (suc (suc (suc (suc (suc (suc (suc (suc (suc (suc (suc (suc (suc (suc zero))))))))))))))) k h = all-made-back reads-some (λ k. (15, k)) k h
-flags-back (suc (suc (suc (suc (suc (suc (suc (suc (suc (suc (suc (suc (suc (suc (suc (suc n)))))))))))))))) k h = absurd (too-many (suc (suc (suc (suc (suc (suc (suc (suc (suc (suc (suc (suc (suc (suc (suc (suc n)))))))))))))))) k (omega arith) h)
+flags-back (suc (suc (suc (suc (suc (suc (suc (suc (suc (suc (suc (suc (suc (suc (suc (suc n)))))))))))))))) k h =
+    absurd (too-many (suc (suc (suc (suc (suc (suc (suc (suc (suc (suc (suc (suc (suc (suc (suc (suc n)))))))))))))))) k (omega arith) h)
 
 reads-flags : ReadsAll is_pair_of_commit commit_text flags_text
 reads-flags = record {
@@ -198,7 +210,8 @@ reads-flags = record {
 
 -- ---- merge, pull
 
-reads-states : ReadsAll (λ xs. is_merge_of (TheseStates xs)) (λ xs. ended (map id_word xs)) (only_if (λ xs. is_merge_of (TheseStates xs)) (rest_of (id_until 32)))
+reads-states : ReadsAll (λ xs. is_merge_of (TheseStates xs)) (λ xs. ended (map id_word xs))
+    (only_if (λ xs. is_merge_of (TheseStates xs)) (rest_of (id_until 32)))
 reads-states = all-only_if (λ xs. is_merge_of (TheseStates xs)) (λ xs. is_merge_of (TheseStates xs))
     (λ xs h. (second (is_within 1 255 (length xs)) (list_all is_id xs) h, h)) (λ xs v t. t)
     (all-text (λ xs. ended (map id_word xs)) (ended-map id_word) (all-rest reads-id-word (λ x h. one-space (id_word x) (id-printed x h))))
@@ -209,15 +222,18 @@ merge_ended of = ended (merge_words of)
 reads-merge : ReadsAll is_merge_of (λ of. ended (merge_words of)) merge_text
 reads-merge = record {
   back = back;
-  only = either-row is_merge_of (λ of. ended (merge_words of)) [] (made TheseStates (only_if (λ xs. is_merge_of (TheseStates xs)) (rest_of (id_until 32)))) (by_prefix leaves_rows)
+  only = either-row is_merge_of (λ of. ended (merge_words of)) [] (made TheseStates (only_if (λ xs. is_merge_of (TheseStates xs)) (rest_of (id_until 32))))
+      (by_prefix leaves_rows)
       (row-all-made is_merge_of (λ of. ended (merge_words of)) [] TheseStates reads-states (λ xs h. h) (λ xs. refl))
-      (by_prefix-row is_merge_of (λ of. ended (merge_words of)) [] leaves_rows (row-all-nothing_but is_merge_of (λ of. ended (merge_words of)) (codes "leaves ") AllLeaves refl refl, tt));
+      (by_prefix-row is_merge_of (λ of. ended (merge_words of)) [] leaves_rows
+      (row-all-nothing_but is_merge_of (λ of. ended (merge_words of)) (codes "leaves ") AllLeaves refl refl, tt));
 }
   where
     back : (of : MergeOf) → IsTrue (is_merge_of of) → merge_text (ended (merge_words of)) ≡ Some (of, [])
     back AllLeaves h = refl
     back (TheseStates xs) h =
-        either-first (made TheseStates (only_if (λ xs. is_merge_of (TheseStates xs)) (rest_of (id_until 32)))) (by_prefix leaves_rows) (ended (map id_word xs)) (TheseStates xs)
+        either-first (made TheseStates (only_if (λ xs. is_merge_of (TheseStates xs)) (rest_of (id_until 32)))) (by_prefix leaves_rows)
+        (ended (map id_word xs)) (TheseStates xs)
         (all-made-back reads-states TheseStates xs h)
 
 -- a name before some words
@@ -232,7 +248,8 @@ merge-text (TheseStates (x ∷ xs)) = refl
 reads-counts : ReadsAll are_counts (λ ns. ended (map (λ n. number_word n) ns)) (only_if are_counts (rest_of (number_until (2 ^ 32) 32)))
 reads-counts = all-only_if are_counts are_counts
     (λ ns h. (second (is_within 1 16 (length ns)) (list_all is_u32 ns) h, h)) (λ ns v t. t)
-    (all-text (λ ns. ended (map (λ n. number_word n) ns)) (ended-map (λ n. number_word n)) (all-rest reads-u32-word (λ n h. one-space (number_word n) (number-printed n (small n h)))))
+    (all-text (λ ns. ended (map (λ n. number_word n) ns)) (ended-map (λ n. number_word n))
+    (all-rest reads-u32-word (λ n h. one-space (number_word n) (number-printed n (small n h)))))
   where
     small : (n : ℕ) → IsTrue (is_u32 n) → n < 2 ^ 64
     small n h = let b = ltb-true n (2 ^ 32) h in omega arith
@@ -274,7 +291,8 @@ conflicts-text (b ∷ bs) = refl
 raise-row : RowReadsAll is_request request_ended (codes "raise ") raise_text
 raise-row = either-row is_request request_ended (codes "raise ") (made Raise (id_until 32)) (by_prefix auto_rows)
     (row-all-made is_request request_ended (codes "raise ") Raise (all-reads reads-id-word) (λ a h. h) (λ a. refl))
-    (by_prefix-row is_request request_ended (codes "raise ") auto_rows (row-all-nothing_but is_request request_ended (codes "raise auto ") RaiseAuto refl refl, tt))
+    (by_prefix-row is_request request_ended (codes "raise ") auto_rows
+    (row-all-nothing_but is_request request_ended (codes "raise auto ") RaiseAuto refl refl, tt))
 
 -- ---- requests
 
@@ -360,7 +378,8 @@ reads-request-text = record { back = back; only = by_prefix-row is_request reque
     back (Conflicts after) h = ap request_text (sym (conflicts-text after)) ∙ all-made-back reads-after Conflicts after h
     back (GetFor key state) h = all-made-back reads-get-for (λ p. GetFor p.0 p.1) (key, state) h
     back (Ceiling state) h = all-made-back (all-reads reads-id-word) Ceiling state h
-    back (Raise state) h = either-first (made Raise (id_until 32)) (by_prefix auto_rows) (id_word state ++ 32 ∷ []) (Raise state) (all-made-back (all-reads reads-id-word) Raise state h)
+    back (Raise state) h = either-first (made Raise (id_until 32)) (by_prefix auto_rows) (id_word state ++ 32 ∷ []) (Raise state)
+        (all-made-back (all-reads reads-id-word) Raise state h)
     back RaiseAuto h = refl
     back (Tidy n) h = all-made-back (all-reads reads-u16-word) Tidy n h
     back Stat h = refl

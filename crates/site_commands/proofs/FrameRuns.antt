@@ -19,9 +19,17 @@ use Rattle.site_commands.specs.Runs.{RunFrom}
 -- replies that answer from a site, told of less of what is reached
 answered : (To : Site → Type 0) (status : Status) (old new : Option (List ℕ)) (bodies : List (List ℕ)) (s : Site) → ((t : Site) → To t → IsSound t) →
     Answered site_machine (shape_of status) To old new s (map event_of bodies) → Answered site_machine (shape_of status) IsSound old new s (map event_of bodies)
-answered To status old new bodies s sound a = record { replies = a.replies; state = a.state; answers = a.answers; stands = sound a.state a.stands; given = a.given }
+answered To status old new bodies s sound a = record {
+  replies = a.replies;
+  state = a.state;
+  answers = a.answers;
+  stands = sound a.state a.stands;
+  given =
+      a.given;
+}
 
-pub run_from : (site : Site) (From To : Site → Type 0) (status : Status) (old new : Option (List ℕ)) (first left : List ℕ) → From site → ((t : Site) → To t → IsSound t) →
+pub run_from : (site : Site) (From To : Site → Type 0) (status : Status) (old new : Option (List ℕ)) (first left : List ℕ) → From site →
+    ((t : Site) → To t → IsSound t) →
     Outcome status From (λ s bodies. Answered site_machine (shape_of status) To old new s (map event_of bodies)) first left →
     RunFrom site status old new first left
 run_from site From To status old new first left here sound o =
@@ -29,7 +37,8 @@ run_from site From To status old new first left here sound o =
       bodies = o.bodies;
       held = o.held;
       read = o.read;
-      answered = λ s e. subst (λ z. Answered site_machine (shape_of status) IsSound old new z (map event_of o.bodies)) (sym e) (answered To status old new o.bodies site sound (o.answered site here));
+      answered = λ s e. subst (λ z. Answered site_machine (shape_of status) IsSound old new z (map event_of o.bodies)) (sym e)
+          (answered To status old new o.bodies site sound (o.answered site here));
       ends = o.ends;
       spent = o.spent;
       front = o.front;

@@ -4,7 +4,9 @@ use Rattle.std.proofs.lemmas.List.{append-nil}
 use Rattle.std.specs.Option.{option_map_or}
 use Rattle.tardis_base.specs.Plain.{Event, Answers}
 use Rattle.tardis_base.specs.declared.requests.Request.{Request}
-use Rattle.tardis_base.specs.declared.requests.Request.TheVariants.{Open, Begin as BeginAt, Get, Put, Delete, Commit, Abort, BeginMerge, ForkPoints, Conflicts, GetFor, Ceiling, Raise, RaiseAuto, Tidy, Stat, Show, Leaves, Pull, Deliver, Close, Settle}
+use Rattle.tardis_base.specs.declared.requests.Request.TheVariants.{Open, Begin as BeginAt, Get, Put, Delete, Commit, Abort, BeginMerge, ForkPoints}
+use Rattle.tardis_base.specs.declared.requests.Request.TheVariants.{Conflicts, GetFor, Ceiling, Raise, RaiseAuto, Tidy, Stat, Show, Leaves, Pull, Deliver}
+use Rattle.tardis_base.specs.declared.requests.Request.TheVariants.{Close, Settle}
 use Rattle.tardis_io.specs.Told.{WhileTold}
 use Rattle.tardis_io.specs.declared.statuses.Status.{Status}
 use Rattle.tardis_io.specs.declared.statuses.Status.TheVariants.{NoMemory}
@@ -60,21 +62,39 @@ asked_may s (Some event) reply t may = elim may as (λ _. AskedMay site_machine 
 shell_may : (s : Site) (line answer : List ℕ) (t : Site) → ShellMay (over_lines site_machine) s line answer t → ShellMay site_machine s line answer t
 shell_may s line answer t may = (may.0, (may.1.0, asked_may s (event_of_line line) may.0 t may.1.1))
 
-in_turn : (s : Site) (lines answers : List (List ℕ)) (t : Site) → InTurn (ShellMay (over_lines site_machine)) s lines answers t → InTurn (ShellMay site_machine) s lines answers t
+in_turn : (s : Site) (lines answers : List (List ℕ)) (t : Site) → InTurn (ShellMay (over_lines site_machine)) s lines answers t →
+    InTurn (ShellMay site_machine) s lines answers t
 in_turn s [] [] t p = p
 in_turn s (line ∷ lines) (answer ∷ answers) t p = (p.0, (shell_may s line answer p.0 p.1.0, in_turn p.0 lines answers t p.1.1))
 in_turn s [] (answer ∷ answers) t p = absurd p
 in_turn s (line ∷ lines) [] t p = absurd p
 
-shell_answered : (shape : List ℕ → List ℕ → List ℕ → Type 0) (To : Site → Type 0) (old new : Option (List ℕ)) (s : Site) (lines : List (List ℕ)) → ((t : Site) → To t → IsSound t)
+shell_answered : (shape : List ℕ → List ℕ → List ℕ → Type 0) (To : Site → Type 0) (old new : Option (List ℕ)) (s : Site) (lines : List (List ℕ)) →
+    ((t : Site) → To t → IsSound t)
     → AnsweredBy (ShellMay (over_lines site_machine)) shape To old new [] [] s lines → AnsweredBy (ShellMay site_machine) shape IsSound old new [] [] s lines
-shell_answered shape To old new s lines sound a = record { answers = a.answers; state = a.state; each = in_turn s lines a.answers a.state a.each; stands = sound a.state a.stands; given = a.given }
+shell_answered shape To old new s lines sound a = record {
+  answers = a.answers;
+  state = a.state;
+  each = in_turn s lines a.answers a.state a.each;
+  stands =
+      sound a.state a.stands;
+  given = a.given;
+}
 
-audit_answered : (shape : List ℕ → List ℕ → List ℕ → Type 0) (To : Site → Type 0) (old new : Option (List ℕ)) (s : Site) (bodies : List (List ℕ)) → ((t : Site) → To t → IsSound t)
+audit_answered : (shape : List ℕ → List ℕ → List ℕ → Type 0) (To : Site → Type 0) (old new : Option (List ℕ)) (s : Site) (bodies : List (List ℕ)) →
+    ((t : Site) → To t → IsSound t)
     → AnsweredBy (AuditMay site_machine) shape To old new [] [] s bodies → AnsweredBy (AuditMay site_machine) shape IsSound old new [] [] s bodies
-audit_answered shape To old new s bodies sound a = record { answers = a.answers; state = a.state; each = a.each; stands = sound a.state a.stands; given = a.given }
+audit_answered shape To old new s bodies sound a = record {
+  answers = a.answers;
+  state = a.state;
+  each = a.each;
+  stands = sound a.state a.stands;
+  given =
+      a.given;
+}
 
-pub shell_from : (site : Site) (From To : Site → Type 0) (status : Status) (old new : Option (List ℕ)) (first left : List ℕ) → From site → ((t : Site) → To t → IsSound t)
+pub shell_from : (site : Site) (From To : Site → Type 0) (status : Status) (old new : Option (List ℕ)) (first left : List ℕ) → From site →
+    ((t : Site) → To t → IsSound t)
     → ShellOutcome (over_lines site_machine) status From To old new first left → ShellFrom site status old new first left
 shell_from site From To status old new first left here sound o = record {
   cut = o.cut;
@@ -88,7 +108,8 @@ shell_from site From To status old new first left here sound o = record {
   whole = o.whole;
 }
 
-pub audit_from : (site : Site) (From To : Site → Type 0) (status : Status) (old new : Option (List ℕ)) (first left : List ℕ) → From site → ((t : Site) → To t → IsSound t)
+pub audit_from : (site : Site) (From To : Site → Type 0) (status : Status) (old new : Option (List ℕ)) (first left : List ℕ) → From site →
+    ((t : Site) → To t → IsSound t)
     → AuditOutcome site_machine status From To old new first left → AuditFrom site status old new first left
 audit_from site From To status old new first left here sound o = record {
   bodies = o.bodies;

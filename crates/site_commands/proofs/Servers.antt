@@ -1,5 +1,6 @@
 -- What the end of a server says of its status.
-use Rattle.std.proofs.Common.{◌≡◌, ℕ, ◌<◌, ◌⊎◌, Bool, true, false, ◌||◌, cond, List, Option, Result, Ok, Err, OnErr, IfOk, nat_lt, refl, sym, ap, subst, inl, inr, arith}
+use Rattle.std.proofs.Common.{◌≡◌, ℕ, ◌<◌, ◌⊎◌, Bool, true, false, ◌||◌, cond, List, Option, Result, Ok, Err, OnErr, IfOk, nat_lt, refl, sym, ap, subst, inl}
+use Rattle.std.proofs.Common.{inr, arith}
 use Rattle.tardis_base.specs.Plain.{PlainMachine}
 use Rattle.tardis_base.specs.declared.records.Limits.{Limits}
 use Rattle.tardis_io.specs.declared.faults.WriteFault.{WriteFault as NotWritten}
@@ -26,11 +27,13 @@ use Rattle.site_commands.specs.Ends.{rounds_lack_memory, has_dial_fault, status_
 opens_as : (core : Core) (limits : Limits) (own : ℕ) → CoreStands core (opening limits own) → opened_with core ≡ opening limits own
 opens_as core limits own s = subst (λ l. opening l core.book.own ≡ opening limits own) (sym s.limits) (ap (opening limits) s.own)
 
-opened_stands : (core : Core) (limits : Limits) (own : ℕ) → CoreStands core (opening limits own) → IsSound (opening limits own) → SiteStands core (opened_with core)
+opened_stands : (core : Core) (limits : Limits) (own : ℕ) → CoreStands core (opening limits own) → IsSound (opening limits own) →
+    SiteStands core (opened_with core)
 opened_stands core limits own stands sound = subst (SiteStands core) (sym (opens_as core limits own stands)) (stands, sound)
 
 -- and where there is a site, it stands for the one with which it opened
-pub may_stand : {E : Type 0} (r : Result Core E) (limits : Limits) (own : ℕ) → IfOk r (λ core. CoreStands core (opening limits own)) → IfOk r (λ core. IsSound (opening limits own))
+pub may_stand : {E : Type 0} (r : Result Core E) (limits : Limits) (own : ℕ) → IfOk r (λ core. CoreStands core (opening limits own)) →
+    IfOk r (λ core. IsSound (opening limits own))
     → IfOk r (λ core. SiteStands core (opened_with core))
 may_stand (Ok core) limits own stands sound = opened_stands core limits own stands sound
 may_stand (Err e) limits own stands sound = tt
@@ -47,28 +50,32 @@ pub record Fails (R S T : Type 0) (end : ServeEnd) : Type 0 where
   pub write : (s : Serving) → end ≡ Served s → OnErr s.written S
   pub call : (s : Serving) → end ≡ Served s → has_dial_fault s.rounds ≡ true → T
 
-next_failed : (wanting : Bool) (g : PoolEnd) (w : Result (Unit {0}) NotWritten) (d : Bool) → cond wanting NoMemory (status_served g w d) ≡ GateFault → g ≡ NextFailed
+next_failed : (wanting : Bool) (g : PoolEnd) (w : Result (Unit {0}) NotWritten) (d : Bool) → cond wanting NoMemory (status_served g w d) ≡ GateFault →
+    g ≡ NextFailed
 next_failed true g w d e = absurd (omega (arith, ap status_number e))
 next_failed false NextFailed w d e = refl
 next_failed false AllServed (Err x) d e = absurd (omega (arith, ap status_number e))
 next_failed false AllServed (Ok u) true e = absurd (omega (arith, ap status_number e))
 next_failed false AllServed (Ok u) false e = absurd (omega (arith, ap status_number e))
 
-write_failed : (S : Type 0) (wanting : Bool) (g : PoolEnd) (w : Result (Unit {0}) NotWritten) (d : Bool) → OnErr w S → cond wanting NoMemory (status_served g w d) ≡ WriteFault → S
+write_failed : (S : Type 0) (wanting : Bool) (g : PoolEnd) (w : Result (Unit {0}) NotWritten) (d : Bool) → OnErr w S →
+    cond wanting NoMemory (status_served g w d) ≡ WriteFault → S
 write_failed S true g w d o e = absurd (omega (arith, ap status_number e))
 write_failed S false NextFailed w d o e = absurd (omega (arith, ap status_number e))
 write_failed S false AllServed (Err x) d o e = o
 write_failed S false AllServed (Ok u) true o e = absurd (omega (arith, ap status_number e))
 write_failed S false AllServed (Ok u) false o e = absurd (omega (arith, ap status_number e))
 
-call_failed : (T : Type 0) (wanting : Bool) (g : PoolEnd) (w : Result (Unit {0}) NotWritten) (d : Bool) → (d ≡ true → T) → cond wanting NoMemory (status_served g w d) ≡ DialFault → T
+call_failed : (T : Type 0) (wanting : Bool) (g : PoolEnd) (w : Result (Unit {0}) NotWritten) (d : Bool) → (d ≡ true → T) →
+    cond wanting NoMemory (status_served g w d) ≡ DialFault → T
 call_failed T true g w d f e = absurd (omega (arith, ap status_number e))
 call_failed T false NextFailed w d f e = absurd (omega (arith, ap status_number e))
 call_failed T false AllServed (Err x) d f e = absurd (omega (arith, ap status_number e))
 call_failed T false AllServed (Ok u) true f e = f refl
 call_failed T false AllServed (Ok u) false f e = absurd (omega (arith, ap status_number e))
 
-well_or_none : (R S T : Type 0) (wanting : Bool) (g : PoolEnd) (w : Result (Unit {0}) NotWritten) (d : Bool) → (g ≡ NextFailed → R) → OnErr w S → (d ≡ true → T) → (R → ⊥) → (T → ⊥) → (S → ⊥)
+well_or_none : (R S T : Type 0) (wanting : Bool) (g : PoolEnd) (w : Result (Unit {0}) NotWritten) (d : Bool) → (g ≡ NextFailed → R) → OnErr w S →
+    (d ≡ true → T) → (R → ⊥) → (T → ⊥) → (S → ⊥)
     → (cond wanting NoMemory (status_served g w d) ≡ Well) ⊎ (cond wanting NoMemory (status_served g w d) ≡ NoMemory)
 well_or_none R S T true g w d f o h r t s = inr refl
 well_or_none R S T false NextFailed w d f o h r t s = absurd (r (f refl))
@@ -94,10 +101,12 @@ dial_failed R S T NotBound f e = absurd (omega (arith, ap status_number e))
 dial_failed R S T NotMade f e = absurd (omega (arith, ap status_number e))
 dial_failed R S T (Served s) f e = call_failed T (lacks_memory s) s.gate s.written (has_dial_fault s.rounds) (f.call s refl) e
 
-pub well_without_faults : (R S T : Type 0) (end : ServeEnd) → Fails R S T end → (R → ⊥) → (T → ⊥) → (S → ⊥) → (status_after end ≡ Well) ⊎ (status_after end ≡ NoMemory)
+pub well_without_faults : (R S T : Type 0) (end : ServeEnd) → Fails R S T end → (R → ⊥) → (T → ⊥) → (S → ⊥) → (status_after end ≡ Well)
+    ⊎ (status_after end ≡ NoMemory)
 well_without_faults R S T NotBound f r t s = absurd (r (f.bound refl))
 well_without_faults R S T NotMade f r t s = inr refl
-well_without_faults R S T (Served z) f r t s = well_or_none R S T (lacks_memory z) z.gate z.written (has_dial_fault z.rounds) (f.next z refl) (f.write z refl) (f.call z refl) r t s
+well_without_faults R S T (Served z) f r t s = well_or_none R S T (lacks_memory z) z.gate z.written (has_dial_fault z.rounds) (f.next z refl)
+    (f.write z refl) (f.call z refl) r t s
 
 some_of : (n : ℕ) → nat_lt 0 n ≡ true → 0 < n
 some_of ℕ.zero e = absurd (cc)
@@ -107,12 +116,14 @@ called_in_vain : (T : Type 0) (made : Result Rounds OutOfMemory) → IfOk made (
 called_in_vain T (Ok n) f e = f (some_of n.dial e)
 called_in_vain T (Err fault) f e = absurd (cc)
 
-module _ {M P L X G D O : Type 0} (opening : M → P) (link_left link_given : L → Option (List ℕ)) (link_takes link_gives : L → ℕ) (peer_left peer_given : X → Option (List ℕ)) (peer_takes peer_gives : X → ℕ)
+module _ {M P L X G D O : Type 0} (opening : M → P) (link_left link_given : L → Option (List ℕ)) (link_takes link_gives : L → ℕ)
+    (peer_left peer_given : X → Option (List ℕ)) (peer_takes peer_gives : X → ℕ)
     (dial_told : D → Option (ToldDial X)) (dials : D → ℕ) (m : PlainMachine P) (start : P) (most : ℕ)
     (told : G → Option (ToldGate L)) (gates : G → ℕ) (given : O → Option (List ℕ)) (writes : O → ℕ) where
   -- what failed, by a server's outcome
   pub fails_of : (work : Workload) (old new : G) (d e : D) (before after : O) (end : ServeEnd)
-      → ServeOutcome opening m link_left link_given link_takes link_gives peer_left peer_given peer_takes peer_gives dial_told dials start most told gates given writes work old new d e before after end
+      → ServeOutcome opening m link_left link_given link_takes link_gives peer_left peer_given peer_takes peer_gives dial_told dials start most told gates
+      given writes work old new d e before after end
       → Fails (Rose (gates old) (gates new)) (Rose (writes before) (writes after)) (Rose (dials d) (dials e)) end
   fails_of work old new d e before after end o = record {
     bound = λ is. (o.not_bound is).0;

@@ -1,5 +1,6 @@
 -- The consents that a batch gives, floor by floor.
-use Rattle.std.proofs.Common.{◌≡◌, ℕ, ◌+◌, ◌-◌, ◌<◌, Bool, ◌==◌, List, [], ◌∷◌, ◌++◌, length, drop, get_or, IsTrue, IsFalse, refl, sym, ap, ◌∙◌, append_assoc, arith}
+use Rattle.std.proofs.Common.{◌≡◌, ℕ, ◌+◌, ◌-◌, ◌<◌, Bool, ◌==◌, List, [], ◌∷◌, ◌++◌, length, drop, get_or, IsTrue, IsFalse, refl, sym, ap, ◌∙◌, append_assoc}
+use Rattle.std.proofs.Common.{arith}
 use Rattle.std.specs.Prelude.{slice_get}
 use Rattle.std.specs.Option.{unwrap_or}
 use Rattle.std.proofs.lemmas.Bool.{cond-true, cond-false}
@@ -35,7 +36,8 @@ module _ (all cs : List Consent) (n : ℕ) (f : Floor) (fs : List Floor) (so_far
 
 -- a consent that says of a floor what is known of it
 pub consent-same : (n : ℕ) (f : Floor) (number : ℕ) (x : StateId) (count : ℕ) → number ≡ f.number → x ≡ f.state → count ≡ f.stated →
-    ◌≡◌ {A = Consent} (record { site = n; number = number; floor = x; count = count }) (record { site = n; number = f.number; floor = f.state; count = f.stated })
+    ◌≡◌ {A = Consent} (record { site = n; number = number; floor = x; count = count })
+    (record { site = n; number = f.number; floor = f.state; count = f.stated })
 consent-same n f number x count a b d =
     let one : ℕ → StateId → ℕ → Consent = λ m y k. record { site = n; number = m; floor = y; count = k } in
     ap (λ m. one m x count) a ∙ (ap (λ y. one f.number y count) b ∙ ap (λ k. one f.number f.state k) d)

@@ -1,5 +1,6 @@
 -- How a record is judged: the tests in their order.
-use Rattle.std.proofs.Common.{◌≡◌, ℕ, ◌+◌, ◌<◌, ◌≤◌, Bool, true, false, not, ◌&&◌, ◌==◌, nat_lt, nat_le, List, [], ◌∷◌, length, get_or, find, Option, Some, None, IsTrue, IsFalse, inl, inr, refl, sym, ap, subst, ◌∙◌, arith}
+use Rattle.std.proofs.Common.{◌≡◌, ℕ, ◌+◌, ◌<◌, ◌≤◌, Bool, true, false, not, ◌&&◌, ◌==◌, nat_lt, nat_le, List, [], ◌∷◌, length, get_or, find, Option, Some}
+use Rattle.std.proofs.Common.{None, IsTrue, IsFalse, inl, inr, refl, sym, ap, subst, ◌∙◌, arith}
 use Rattle.std.specs.List.{list_all}
 use Rattle.std.proofs.lemmas.Bool.{and_parts, not_from_false}
 use Rattle.tardis_base.specs.declared.ids.StateId.{StateId}
@@ -108,7 +109,8 @@ module _ (site : Site) (xs : List StateId) where
   pub parents-open : closed_first ≡ None → first_reply (parent_judgements site xs) ≡ first_reply by_pair
   parents-open e = ap (λ o. first_reply (refuse_found ClosedParent o ∷ by_pair)) e
 
-  pub parents-comparable : (x y : StateId) → closed_first ≡ None → comparable_pair site.dag xs ≡ Some (x, y) → first_reply (parent_judgements site xs) ≡ Some (IsRefused (Comparable x y))
+  pub parents-comparable : (x y : StateId) → closed_first ≡ None → comparable_pair site.dag xs ≡ Some (x, y) → first_reply (parent_judgements site xs)
+      ≡ Some (IsRefused (Comparable x y))
   parents-comparable x y e p = parents-open e ∙ ap (λ o. first_reply (refuse_found (λ pair. Comparable pair.0 pair.1) o ∷ [])) p
 
   pub parents-apart : closed_first ≡ None → comparable_pair site.dag xs ≡ None → first_reply (parent_judgements site xs) ≡ None

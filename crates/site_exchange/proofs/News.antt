@@ -1,9 +1,12 @@
 -- The news of a site, among the states that it keeps.
-use Rattle.std.proofs.Common.{◌≡◌, ℕ, ◌+◌, ◌-◌, ◌<◌, ◌≤◌, Bool, true, false, not, ◌&&◌, ◌||◌, nat_lt, nat_le, List, [], ◌∷◌, ◌++◌, length, map, filter, find, drop, Option, Some, None, IsTrue, IsFalse, inl, inr, refl, sym, ap, ap₂, subst, ◌∙◌, if◌then◌else◌, append-nil, append_assoc, arith}
+use Rattle.std.proofs.Common.{◌≡◌, ℕ, ◌+◌, ◌-◌, ◌<◌, ◌≤◌, Bool, true, false, not, ◌&&◌, ◌||◌, nat_lt, nat_le, List, [], ◌∷◌, ◌++◌, length, map, filter, find}
+use Rattle.std.proofs.Common.{drop, Option, Some, None, IsTrue, IsFalse, inl, inr, refl, sym, ap, ap₂, subst, ◌∙◌, if◌then◌else◌, append-nil, append_assoc}
+use Rattle.std.proofs.Common.{arith}
 use Rattle.std.specs.Prelude.{slice_get}
 use Rattle.std.specs.List.{All, list_all, filter_map, cons_option}
 use Rattle.std.specs.Option.{unwrap_or}
-use Rattle.std.proofs.lemmas.Bool.{and_parts, and_from, or_cases, or_left, cases_Bool, both_ways, not-true, not_from_false, false_from_ne_true, cond-true, cond-false}
+use Rattle.std.proofs.lemmas.Bool.{and_parts, and_from, or_cases, or_left, cases_Bool, both_ways, not-true, not_from_false, false_from_ne_true, cond-true}
+use Rattle.std.proofs.lemmas.Bool.{cond-false}
 use Rattle.std.proofs.lemmas.List.Elements.{filter_map-append}
 use Rattle.std.proofs.lemmas.Option.{none-some, same_Some}
 use Rattle.tardis_base.specs.declared.ids.StateId.{StateId}
@@ -50,7 +53,8 @@ arrived-is_known (r ∷ rs) x m = elim (or_cases (is_among x (arrived rs)) (is_a
 ]
 
 -- a new record changes none of old states
-older-records : (rs : List Record) (r : Record) → (xs : List StateId) → ((x : StateId) → IsTrue (is_among x xs) → IsFalse (same_id x r.id)) → records_of (r ∷ rs) xs ≡ records_of rs xs
+older-records : (rs : List Record) (r : Record) → (xs : List StateId) → ((x : StateId) → IsTrue (is_among x xs) → IsFalse (same_id x r.id)) →
+    records_of (r ∷ rs) xs ≡ records_of rs xs
 older-records rs r [] old = refl
 older-records rs r (x ∷ xs) old =
     ap₂ cons_option (cond-false (same_id x r.id) (Some r) (record_at rs x) (old x (among-first x xs)))
@@ -78,26 +82,31 @@ record-named (s ∷ rs) x r e = elim (cases_Bool (same_id x s.id)) [
 ]
 
 -- a test of ids chooses the record of the first state where that passes it, before the others
-chosen-next : (rs : List Record) (q : StateId → Bool) (x : StateId) (xs : List StateId) → filter (λ (r : Record). q r.id) (records_of rs xs) ≡ records_of rs (filter q xs) →
+chosen-next : (rs : List Record) (q : StateId → Bool) (x : StateId) (xs : List StateId) → filter (λ (r : Record). q r.id) (records_of rs xs)
+    ≡ records_of rs (filter q xs) →
     filter (λ (r : Record). q r.id) (records_of rs (x ∷ xs)) ≡ records_of rs (filter q (x ∷ xs))
 chosen-next rs q x xs rest = go (record_at rs x) refl
   where
     chosen : List StateId
     chosen = filter q xs
 
-    behind : (b : Bool) → q x ≡ b → (o : Option Record) → record_at rs x ≡ o → records_of rs (filter q (x ∷ xs)) ≡ (if b then cons_option o (records_of rs chosen) else records_of rs chosen)
+    behind : (b : Bool) → q x ≡ b → (o : Option Record) → record_at rs x ≡ o → records_of rs (filter q (x ∷ xs))
+        ≡ (if b then cons_option o (records_of rs chosen) else records_of rs chosen)
     behind true t o e = ap (records_of rs) (cond-true (q x) (x ∷ chosen) chosen t) ∙ ap (λ z. cons_option z (records_of rs chosen)) e
     behind false f o e = ap (records_of rs) (cond-false (q x) (x ∷ chosen) chosen f)
 
-    here : (b : Bool) (r : Record) → q r.id ≡ b → filter (λ (r : Record). q r.id) (r ∷ records_of rs xs) ≡ (if b then r ∷ records_of rs chosen else records_of rs chosen)
-    here true r t = cond-true (q r.id) (r ∷ filter (λ (r : Record). q r.id) (records_of rs xs)) (filter (λ (r : Record). q r.id) (records_of rs xs)) t ∙ ap (λ z. r ∷ z) rest
+    here : (b : Bool) (r : Record) → q r.id ≡ b → filter (λ (r : Record). q r.id) (r ∷ records_of rs xs)
+        ≡ (if b then r ∷ records_of rs chosen else records_of rs chosen)
+    here true r t = cond-true (q r.id) (r ∷ filter (λ (r : Record). q r.id) (records_of rs xs)) (filter (λ (r : Record). q r.id) (records_of rs xs)) t
+        ∙ ap (λ z. r ∷ z) rest
     here false r f = cond-false (q r.id) (r ∷ filter (λ (r : Record). q r.id) (records_of rs xs)) (filter (λ (r : Record). q r.id) (records_of rs xs)) f ∙ rest
 
     none : (b : Bool) → q x ≡ b → record_at rs x ≡ None → records_of rs chosen ≡ records_of rs (filter q (x ∷ xs))
     none true t e = sym (behind true t None e)
     none false f e = sym (behind false f None e)
 
-    go : (o : Option Record) → record_at rs x ≡ o → filter (λ (r : Record). q r.id) (cons_option (record_at rs x) (records_of rs xs)) ≡ records_of rs (filter q (x ∷ xs))
+    go : (o : Option Record) → record_at rs x ≡ o → filter (λ (r : Record). q r.id) (cons_option (record_at rs x) (records_of rs xs))
+        ≡ records_of rs (filter q (x ∷ xs))
     go None e = ap (λ z. filter (λ (r : Record). q r.id) (cons_option z (records_of rs xs))) e ∙ (rest ∙ none (q x) refl e)
     go (Some r) e =
         let same : q r.id ≡ q x = ap q (record-named rs x r e) in
@@ -109,7 +118,8 @@ chosen-records rs q [] = refl
 chosen-records rs q (x ∷ xs) = chosen-next rs q x xs (chosen-records rs q xs)
 
 -- what a test that none of these passes chooses, it chooses without them
-chosen-kept : (q : StateId → Bool) (ks : List StateId) → ((x : StateId) → IsTrue (q x) → IsFalse (is_among x ks)) → (xs : List StateId) → filter q xs ≡ filter q (filter (λ x. not (is_among x ks)) xs)
+chosen-kept : (q : StateId → Bool) (ks : List StateId) → ((x : StateId) → IsTrue (q x) → IsFalse (is_among x ks)) → (xs : List StateId) →
+    filter q xs ≡ filter q (filter (λ x. not (is_among x ks)) xs)
 chosen-kept q ks apart [] = refl
 chosen-kept q ks apart (x ∷ xs) =
     let k : StateId → Bool = λ x. not (is_among x ks) in
@@ -123,7 +133,8 @@ chosen-kept q ks apart (x ∷ xs) =
       | inr f ↦
           cond-false (q x) (x ∷ filter q xs) (filter q xs) f
           ∙ (rest ∙ sym (elim (cases_Bool (k x)) [
-            | inl u ↦ ap (filter q) (cond-true (k x) (x ∷ filter k xs) (filter k xs) u) ∙ cond-false (q x) (x ∷ filter q (filter k xs)) (filter q (filter k xs)) f
+            | inl u ↦ ap (filter q) (cond-true (k x) (x ∷ filter k xs) (filter k xs) u)
+                ∙ cond-false (q x) (x ∷ filter q (filter k xs)) (filter q (filter k xs)) f
             | inr n ↦ ap (filter q) (cond-false (k x) (x ∷ filter k xs) (filter k xs) n)
           ]))
     ]
@@ -140,7 +151,8 @@ closed-is_above rs x (f ∷ fs) closed =
     (closed-is_above rs x fs parts.1)
 
 -- so is what stands in for it, where the floors are kept
-stand-in-is_above : (rs : List Record) (ks : List StateId) → StandsInWell rs ks → (w : StateId) → IsTrue (is_known rs w) → (fs : List Floor) → IsTrue (list_all (λ f. is_kept rs ks f.state) fs) →
+stand-in-is_above : (rs : List Record) (ks : List StateId) → StandsInWell rs ks → (w : StateId) → IsTrue (is_known rs w) → (fs : List Floor) →
+    IsTrue (list_all (λ f. is_kept rs ks f.state) fs) →
     IsTrue (is_above_floors rs fs w) → IsTrue (is_above_floors rs fs (stand_in rs ks w))
 stand-in-is_above rs ks well w known [] kept above = refl
 stand-in-is_above rs ks well w known (f ∷ fs) kept above =
@@ -151,14 +163,16 @@ stand-in-is_above rs ks well w known (f ∷ fs) kept above =
     (stand-in-is_above rs ks well w known fs here.1 parts.1)
 
 -- floors that have slots are kept
-floors-kept : (table : Table) (rs : List Record) (ks : List StateId) → Stands table rs ks → (items : List KnownFloor) → All (λ f. IsAt table f.place) items → IsTrue (list_all (λ (f : Floor). is_kept rs ks f.state) (map known_floor items))
+floors-kept : (table : Table) (rs : List Record) (ks : List StateId) → Stands table rs ks → (items : List KnownFloor) → All (λ f. IsAt table f.place) items
+    → IsTrue (list_all (λ (f : Floor). is_kept rs ks f.state) (map known_floor items))
 floors-kept table rs ks stands [] at = refl
 floors-kept table rs ks stands (f ∷ items) at =
     and_from (is_kept rs ks f.place.state) (list_all (λ (g : Floor). is_kept rs ks g.state) (map known_floor items))
     (slot-is_kept table rs ks stands f.place.slot f.place.state (at 0 f (omega arith)))
     (floors-kept table rs ks stands items (λ k d within. at (ℕ.suc k) d (omega arith)))
 
-module _ (table : Table) (book : Book) (site : Site) (table-stands : Stands table site.dag site.collected) (stands : BookStands table book site) (counts : List ℕ) where
+module _ (table : Table) (book : Book) (site : Site) (table-stands : Stands table site.dag site.collected) (stands : BookStands table book site)
+    (counts : List ℕ) where
   abbrev q : StateId → Bool
   q = is_news site counts
 
@@ -179,13 +193,15 @@ module _ (table : Table) (book : Book) (site : Site) (table-stands : Stands tabl
   news-alone x news w known there =
       let well = stands-in-well site.dag site.collected table-stands.dag table-stands.shared in
       let kept : IsTrue (list_all (λ (f : Floor). is_kept site.dag site.collected f.state) site.floors) =
-      subst (λ fs. IsTrue (list_all (λ (f : Floor). is_kept site.dag site.collected f.state) fs)) stands.floors (floors-kept table site.dag site.collected table-stands book.floors stands.placed.of_floors) in
+      subst (λ fs. IsTrue (list_all (λ (f : Floor). is_kept site.dag site.collected f.state) fs)) stands.floors
+      (floors-kept table site.dag site.collected table-stands book.floors stands.placed.of_floors) in
       elim (cases_Bool (is_among w site.collected)) [
         | inl among ↦
             absurd (both_ways (is_above_floors site.dag site.floors x) (news-not_above x news)
             (subst (λ y. IsTrue (is_above_floors site.dag site.floors y)) there
             (stand-in-is_above site.dag site.collected well w known site.floors kept (closed-is_above site.dag w site.floors (stands.closed w among)))))
-        | inr out ↦ sym (well.stays w (and_from (is_known site.dag w) (not (is_among w site.collected)) known (not_from_false (is_among w site.collected) out))) ∙ there
+        | inr out ↦ sym (well.stays w (and_from (is_known site.dag w) (not (is_among w site.collected)) known
+            (not_from_false (is_among w site.collected) out))) ∙ there
       ]
 
   -- the news are the records of the kept states that are news
@@ -230,7 +246,8 @@ left-parts room size left e = elim (cases_Bool (nat_le size room)) [
 left-none : (room size : ℕ) → left_of room size ≡ None → IsFalse (nat_le size room)
 left-none room size e = false_from_ne_true (nat_le size room) (λ t. none-some (room - size) (sym e ∙ cond-true (nat_le size room) (Some (room - size)) None t))
 
-module _ (all : List Record) (rs : List Record) (q : StateId → Bool) (x : StateId) (rest : List StateId) (room : ℕ) (old new : List Record) (so_far : all ≡ old ++ fitting room (records_of rs (filter q (x ∷ rest)))) where
+module _ (all : List Record) (rs : List Record) (q : StateId → Bool) (x : StateId) (rest : List StateId) (room : ℕ) (old new : List Record)
+    (so_far : all ≡ old ++ fitting room (records_of rs (filter q (x ∷ rest)))) where
   abbrev behind : List Record
   behind = records_of rs (filter q rest)
 

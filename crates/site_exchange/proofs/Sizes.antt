@@ -9,7 +9,8 @@ use Rattle.wire_item.proofs.Lengths.{record-length}
 use Rattle.site_exchange.specs.News.{left_of}
 
 pub left-over : (room size : ℕ) → room < size → left_of room size ≡ None
-left-over room size lt = cond-false (nat_le size room) (Some (room - size)) None (false_from_ne_true (nat_le size room) (λ t. let most = leb-true size room t in omega arith))
+left-over room size lt = cond-false (nat_le size room) (Some (room - size)) None
+    (false_from_ne_true (nat_le size room) (λ t. let most = leb-true size room t in omega arith))
 
 pub left-within : (room size : ℕ) → size ≤ room → left_of room size ≡ Some (room - size)
 left-within room size le = cond-true (nat_le size room) (Some (room - size)) None (le-leb size room le)

@@ -1,5 +1,6 @@
 -- What a crash leaves in each of the two steps of an append, and while the end of a journal is mended.
-use Rattle.std.proofs.Common.{◌≡◌, ◌≢◌, ◌⊎◌, inl, inr, ℕ, ◌+◌, ◌-◌, ◌<◌, ◌≤◌, List, [], ◌∷◌, ◌++◌, length, take, drop, get_or, refl, sym, ap, ◌∙◌, subst, arith, append_assoc, append-nil, length-append, length-drop, take-append-drop}
+use Rattle.std.proofs.Common.{◌≡◌, ◌≢◌, ◌⊎◌, inl, inr, ℕ, ◌+◌, ◌-◌, ◌<◌, ◌≤◌, List, [], ◌∷◌, ◌++◌, length, take, drop, get_or, refl, sym, ap, ◌∙◌, subst}
+use Rattle.std.proofs.Common.{arith, append_assoc, append-nil, length-append, length-drop, take-append-drop}
 use Rattle.std.specs.Prelude.{min, max}
 use Rattle.std.specs.List.{AllByRecursion}
 use Rattle.std.proofs.lemmas.Bool.{cases_eq}
@@ -46,7 +47,8 @@ module _ (entries : List (List ℕ)) (all : AllByRecursion IsEntry entries) (pla
   back_staged tail = ap (drop (place + 1)) (sym (append_assoc (marked entries) (0 ∷ []) tail)) ∙ drop_at (journal_text entries) tail (place + 1) length_text
 
   -- with the gate open the new entries are there, all of them, and else none
-  by_gate : (more : List (List ℕ)) (tail : List ℕ) (gate : ℕ) → AllByRecursion IsEntry more → journal_text more ≡ 1 ∷ tail → HasAllOrNone entries more (marked entries ++ gate ∷ tail)
+  by_gate : (more : List (List ℕ)) (tail : List ℕ) (gate : ℕ) → AllByRecursion IsEntry more → journal_text more ≡ 1 ∷ tail →
+      HasAllOrNone entries more (marked entries ++ gate ∷ tail)
   by_gate more tail gate fits text = elim (cases_eq gate 1) [
     | inl open_gate ↦
         let whole : marked entries ++ gate ∷ tail ≡ journal_text (entries ++ more) =
@@ -55,38 +57,46 @@ module _ (entries : List (List ℕ)) (all : AllByRecursion IsEntry entries) (pla
     | inr shut ↦ inl (gate ∷ tail, closed entries gate tail all shut)
   ]
 
-  pub torn_gate : (more : List (List ℕ)) (tail image : List ℕ) → AllByRecursion IsEntry more → journal_text more ≡ 1 ∷ tail → Torn place 1 (staged entries tail) image → HasAllOrNone entries more image
+  pub torn_gate : (more : List (List ℕ)) (tail image : List ℕ) → AllByRecursion IsEntry more → journal_text more ≡ 1 ∷ tail →
+      Torn place 1 (staged entries tail) image → HasAllOrNone entries more image
   torn_gate more tail image fits text torn =
       let long = length_staged tail in
       let k : min place (length (staged entries tail)) ≡ place = omega (arith, long) in
       let gate : ℕ = get_or image place 0 in
       let front : take place image ≡ marked entries = subst (λ n. take n image ≡ take place (staged entries tail)) k torn.before ∙ front_staged tail in
-      let back : drop place image ≡ gate ∷ tail = drop_more image place 0 (omega (arith, long, torn.no_shorter)) ∙ ap (λ z. gate ∷ z) (torn.after ∙ back_staged tail) in
-      let whole : image ≡ marked entries ++ gate ∷ tail = sym (take-append-drop place image) ∙ (ap (λ z. z ++ drop place image) front ∙ ap (λ z. marked entries ++ z) back) in
+      let back : drop place image ≡ gate ∷ tail = drop_more image place 0 (omega (arith, long, torn.no_shorter))
+      ∙ ap (λ z. gate ∷ z) (torn.after ∙ back_staged tail) in
+      let whole : image ≡ marked entries ++ gate ∷ tail = sym (take-append-drop place image)
+      ∙ (ap (λ z. z ++ drop place image) front ∙ ap (λ z. marked entries ++ z) back) in
       subst (HasAllOrNone entries more) (sym whole) (by_gate more tail gate fits text)
 
-  pub written_gate : (more : List (List ℕ)) (tail : List ℕ) → journal_text more ≡ 1 ∷ tail → with_bytes (staged entries tail) place (1 ∷ []) ≡ journal_text (entries ++ more)
+  pub written_gate : (more : List (List ℕ)) (tail : List ℕ) → journal_text more ≡ 1 ∷ tail → with_bytes (staged entries tail) place (1 ∷ [])
+      ≡ journal_text (entries ++ more)
   written_gate more tail text =
       ap (λ z. z ++ (1 ∷ []) ++ drop (place + 1) (staged entries tail)) (front_staged tail)
       ∙ (ap (λ z. marked entries ++ (1 ∷ []) ++ z) (back_staged tail)
       ∙ (append_assoc (marked entries) (1 ∷ []) tail ∙ (ap (λ z. marked entries ++ z) (sym text) ∙ text_more entries more)))
 
   -- each image of the first write has the entries, and each of the second
-  pub behind_images : (tail : List ℕ) (old new : List ℕ → Type 0) → Only (journal_text entries) old → Follows (Torn (place + 1) (length tail)) old new → (image : List ℕ) → new image → HasEntries entries image
+  pub behind_images : (tail : List ℕ) (old new : List ℕ → Type 0) → Only (journal_text entries) old → Follows (Torn (place + 1) (length tail)) old new →
+      (image : List ℕ) → new image → HasEntries entries image
   behind_images tail old new only follows image left =
       let from = follows image left in
       torn_behind (length tail) image (subst (λ z. Torn (place + 1) (length tail) z image) (only from.0 from.1) from.2)
 
-  pub gate_images : (more : List (List ℕ)) (tail : List ℕ) (old new : List ℕ → Type 0) → AllByRecursion IsEntry more → journal_text more ≡ 1 ∷ tail → Only (staged entries tail) old → Follows (Torn place 1) old new
+  pub gate_images : (more : List (List ℕ)) (tail : List ℕ) (old new : List ℕ → Type 0) → AllByRecursion IsEntry more → journal_text more ≡ 1 ∷ tail →
+      Only (staged entries tail) old → Follows (Torn place 1) old new
       → (image : List ℕ) → new image → HasAllOrNone entries more image
   gate_images more tail old new fits text only follows image left =
       let from = follows image left in
       torn_gate more tail image fits text (subst (λ z. Torn place 1 z image) (only from.0 from.1) from.2)
 
 -- a front of a rest in which no entry is next
-front_ends : (n : ℕ) (rest : List ℕ) → ((entry more : List ℕ) → rest ≡ 1 ∷ (frame entry ++ more) → IsEntry entry → more ≡ []) → (entry more : List ℕ) → take n rest ≡ 1 ∷ (frame entry ++ more) → IsEntry entry → more ≡ []
+front_ends : (n : ℕ) (rest : List ℕ) → ((entry more : List ℕ) → rest ≡ 1 ∷ (frame entry ++ more) → IsEntry entry → more ≡ []) → (entry more : List ℕ) →
+    take n rest ≡ 1 ∷ (frame entry ++ more) → IsEntry entry → more ≡ []
 front_ends n rest ends entry more is fits =
-    let whole : rest ≡ 1 ∷ (frame entry ++ (more ++ drop n rest)) = sym (take-append-drop n rest) ∙ (ap (λ z. z ++ drop n rest) is ∙ ap (λ z. 1 ∷ z) (append_assoc (frame entry) more (drop n rest))) in
+    let whole : rest ≡ 1 ∷ (frame entry ++ (more ++ drop n rest)) = sym (take-append-drop n rest)
+    ∙ (ap (λ z. z ++ drop n rest) is ∙ ap (λ z. 1 ∷ z) (append_assoc (frame entry) more (drop n rest))) in
     nil_left more (drop n rest) (ends entry (more ++ drop n rest) whole fits)
   where
     nil_left : (xs ys : List ℕ) → xs ++ ys ≡ [] → xs ≡ []
@@ -109,8 +119,11 @@ module _ (bytes : List ℕ) (entries : List (List ℕ)) (rest : List ℕ) (e : E
       let reach : place + 1 ≤ length image = omega (arith, cut.no_shorter, size, long) in
       let whole : image ≡ marked entries ++ take n rest =
       cut.front ∙ (ap (take (length image)) e.whole ∙ take_past (marked entries) rest (length image) n (omega (arith, reach, at))) in
-      let some : 0 < length (take n rest) = omega (arith, ap length whole, length-append (marked entries) (take n rest), at, reach) in
-      (take n rest, subst (λ z. EndsAt z entries (take n rest)) (sym whole) (record { whole = refl; each = e.each; behind = inr some; ends = front_ends n rest e.ends }))
+      let some : 0 < length (take n rest) = omega (arith, ap length whole, length-append (marked entries) (take n rest), at, reach) in (
+        take n rest,
+        subst (λ z. EndsAt z entries (take n rest)) (sym whole)
+            (record { whole = refl; each = e.each; behind = inr some; ends = front_ends n rest e.ends }),
+      )
 
   pub cut_done : take (place + 1) bytes ≡ marked entries ++ take 1 rest
   cut_done = ap (take (place + 1)) e.whole ∙ take_past (marked entries) rest (place + 1) 1 (omega (arith, at))
@@ -126,12 +139,17 @@ module _ (bytes : List ℕ) (entries : List (List ℕ)) (rest : List ℕ) (e : E
   pub torn_last : length rest ≤ 1 → (image : List ℕ) → Torn place 1 bytes image → HasEntries entries image
   torn_last few image torn =
       let k : min place (length bytes) ≡ place = omega (arith, size) in
-      let front : take place image ≡ marked entries = subst (λ n. take n image ≡ take place bytes) k torn.before ∙ (ap (take place) e.whole ∙ take_at (marked entries) rest place (sym at)) in
+      let front : take place image ≡ marked entries = subst (λ n. take n image ≡ take place bytes) k torn.before
+      ∙ (ap (take place) e.whole ∙ take_at (marked entries) rest place (sym at)) in
       let last : List ℕ = drop place image in
       let whole : image ≡ marked entries ++ last = sym (take-append-drop place image) ∙ ap (λ z. z ++ last) front in
       let long : length last ≡ length image - place = length-drop place image in
       let few' : length last ≤ 1 = omega (arith, long, size, torn.no_longer, few) in
-      let behind : (entries ≡ []) ⊎ (0 < length last) = elim e.behind [ inl none ↦ inl none | inr some ↦ inr (omega (arith, long, size, torn.no_shorter, some)) ] in
+      let behind : (entries ≡ []) ⊎ (0 < length last) = elim e.behind [
+        | inl none ↦ inl none
+        | inr some ↦
+            inr (omega (arith, long, size, torn.no_shorter, some))
+      ] in
       (last, subst (λ z. EndsAt z entries last) (sym whole) (short entries last e.each behind few'))
 
   pub written_last : length rest ≤ 1 → with_bytes bytes place (0 ∷ []) ≡ journal_text entries

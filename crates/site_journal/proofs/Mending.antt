@@ -1,5 +1,6 @@
 -- What a crash leaves while the end of a journal is mended.
-use Rattle.std.proofs.Common.{◌≡◌, ◌⊎◌, inl, inr, ℕ, ◌+◌, ◌-◌, ◌<◌, ◌≤◌, List, [], ◌∷◌, ◌++◌, length, take, drop, get_or, refl, sym, ap, ◌∙◌, subst, arith, length-append, length-take, length-drop}
+use Rattle.std.proofs.Common.{◌≡◌, ◌⊎◌, inl, inr, ℕ, ◌+◌, ◌-◌, ◌<◌, ◌≤◌, List, [], ◌∷◌, ◌++◌, length, take, drop, get_or, refl, sym, ap, ◌∙◌, subst, arith}
+use Rattle.std.proofs.Common.{length-append, length-take, length-drop}
 use Rattle.std.specs.Prelude.{min}
 use Rattle.std.proofs.Common.{Result, Ok, Err, OnOk}
 use Rattle.std.proofs.lemmas.List.{drop_at, drop_all, drop_more}
@@ -15,7 +16,8 @@ pub on_ok : {T E : Type 0} (r : Result T E) (P Q : Type 0) → OnOk r P → (P �
 on_ok (Ok x) P Q p f = f p
 on_ok (Err e) P Q p f = p
 
-module _ {D : Type 0} (reads : D → List ℕ) (may_leave : D → List ℕ → Type 0) (moment : D → ℕ) (left_since : D → ℕ → List ℕ → Type 0) (entries : List (List ℕ)) (place count : ℕ) (old : D) (t : IsTorn reads may_leave old entries place count) where
+module _ {D : Type 0} (reads : D → List ℕ) (may_leave : D → List ℕ → Type 0) (moment : D → ℕ) (left_since : D → ℕ → List ℕ → Type 0)
+    (entries : List (List ℕ)) (place count : ℕ) (old : D) (t : IsTorn reads may_leave old entries place count) where
   abbrev P : List ℕ → Type 0
   P = HasEntries entries
 
@@ -35,7 +37,8 @@ module _ {D : Type 0} (reads : D → List ℕ) (may_leave : D → List ℕ → T
     long = t.long ∙ ap length (sym read.same);
   }
 
-  pub read_on : (new : D) → ((image : List ℕ) → left_since old (moment old) image → may_leave old image) → WasRead reads may_leave moment left_since old new → LeavesOnly moment left_since old new P
+  pub read_on : (new : D) → ((image : List ℕ) → left_since old (moment old) image → may_leave old image) →
+      WasRead reads may_leave moment left_since old new → LeavesOnly moment left_since old new P
   read_on new only read = record {
     later = read.later;
     each = λ image left. torn_images image (only image (read.since (moment old) image (omega arith) left));
@@ -53,16 +56,21 @@ module _ {D : Type 0} (reads : D → List ℕ) (may_leave : D → List ℕ → T
       let from = follows image left in
       cut_keeps (reads old) entries t.rest t.ends place t.at (long_rest far) image (subst (λ z. Shortened (place + 1) z image) (t.durable from.0 from.1) from.2)
 
-  pub cut_step : place + 1 < count → (d : D) → ((image : List ℕ) → left_since old (moment old) image → may_leave old image) → Follows (Shortened (place + 1)) (may_leave old) (may_leave d)
+  pub cut_step : place + 1 < count → (d : D) → ((image : List ℕ) → left_since old (moment old) image → may_leave old image) →
+      Follows (Shortened (place + 1)) (may_leave old) (may_leave d)
       → Elapses (moment old) (moment d) (left_since old) (left_since d) (may_leave d) → LeavesOnly moment left_since old d P
   cut_step far d only follows time = goes_on reads may_leave moment left_since old old d P (start only) time (cut_images far d follows)
 
-  pub cut_synced : place + 1 < count → (d e : D) → ((image : List ℕ) → left_since old (moment old) image → may_leave old image) → Follows (Shortened (place + 1)) (may_leave old) (may_leave d)
-      → Elapses (moment old) (moment d) (left_since old) (left_since d) (may_leave d) → NoMore (may_leave d) (may_leave e) → Elapses (moment d) (moment e) (left_since d) (left_since e) (may_leave e) → LeavesOnly moment left_since old e P
+  pub cut_synced : place + 1 < count → (d e : D) → ((image : List ℕ) → left_since old (moment old) image → may_leave old image) →
+      Follows (Shortened (place + 1)) (may_leave old) (may_leave d)
+      → Elapses (moment old) (moment d) (left_since old) (left_since d) (may_leave d) → NoMore (may_leave d) (may_leave e) →
+      Elapses (moment d) (moment e) (left_since d) (left_since e) (may_leave e) → LeavesOnly moment left_since old e P
   cut_synced far d e only follows time crash time' =
-      goes_on reads may_leave moment left_since old d e P (cut_step far d only follows time) time' (λ image left. cut_images far d follows image (crash image left))
+      goes_on reads may_leave moment left_since old d e P (cut_step far d only follows time) time'
+      (λ image left. cut_images far d follows image (crash image left))
 
-  pub cut_torn : place + 1 < count → (d e : D) → reads d ≡ take (place + 1) (reads old) → reads e ≡ reads d → Only (reads d) (may_leave e) → IsTorn reads may_leave e entries place (min count (place + 1))
+  pub cut_torn : place + 1 < count → (d e : D) → reads d ≡ take (place + 1) (reads old) → reads e ≡ reads d → Only (reads d) (may_leave e) →
+      IsTorn reads may_leave e entries place (min count (place + 1))
   cut_torn far d e cut same only =
       let is : reads e ≡ marked entries ++ take 1 t.rest = same ∙ (cut ∙ cut_done (reads old) entries t.rest t.ends place t.at) in record {
         rest = take 1 t.rest;
@@ -77,35 +85,44 @@ module _ {D : Type 0} (reads : D → List ℕ) (may_leave : D → List ℕ → T
       let from = follows image left in
       torn_last (reads old) entries t.rest t.ends place t.at (few_rest few) image (subst (λ z. Torn place 1 z image) (t.durable from.0 from.1) from.2)
 
-  pub last_step : count ≤ place + 1 → (d : D) → ((image : List ℕ) → left_since old (moment old) image → may_leave old image) → Follows (Torn place 1) (may_leave old) (may_leave d)
+  pub last_step : count ≤ place + 1 → (d : D) → ((image : List ℕ) → left_since old (moment old) image → may_leave old image) →
+      Follows (Torn place 1) (may_leave old) (may_leave d)
       → Elapses (moment old) (moment d) (left_since old) (left_since d) (may_leave d) → LeavesOnly moment left_since old d P
   last_step few d only follows time = goes_on reads may_leave moment left_since old old d P (start only) time (last_images few d follows)
 
-  pub last_synced : count ≤ place + 1 → (d e : D) → ((image : List ℕ) → left_since old (moment old) image → may_leave old image) → Follows (Torn place 1) (may_leave old) (may_leave d)
-      → Elapses (moment old) (moment d) (left_since old) (left_since d) (may_leave d) → NoMore (may_leave d) (may_leave e) → Elapses (moment d) (moment e) (left_since d) (left_since e) (may_leave e) → LeavesOnly moment left_since old e P
+  pub last_synced : count ≤ place + 1 → (d e : D) → ((image : List ℕ) → left_since old (moment old) image → may_leave old image) →
+      Follows (Torn place 1) (may_leave old) (may_leave d)
+      → Elapses (moment old) (moment d) (left_since old) (left_since d) (may_leave d) → NoMore (may_leave d) (may_leave e) →
+      Elapses (moment d) (moment e) (left_since d) (left_since e) (may_leave e) → LeavesOnly moment left_since old e P
   last_synced few d e only follows time crash time' =
-      goes_on reads may_leave moment left_since old d e P (last_step few d only follows time) time' (λ image left. last_images few d follows image (crash image left))
+      goes_on reads may_leave moment left_since old d e P (last_step few d only follows time) time'
+      (λ image left. last_images few d follows image (crash image left))
 
-  pub last_rest : count ≤ place + 1 → (d e : D) → reads d ≡ with_bytes (reads old) place (0 ∷ []) → reads e ≡ reads d → Only (reads d) (may_leave e) → IsAtRest reads may_leave e entries
+  pub last_rest : count ≤ place + 1 → (d e : D) → reads d ≡ with_bytes (reads old) place (0 ∷ []) → reads e ≡ reads d → Only (reads d) (may_leave e) →
+      IsAtRest reads may_leave e entries
   last_rest few d e wrote same only = record {
     text = same ∙ (wrote ∙ written_last (reads old) entries t.rest t.ends place t.at (few_rest few));
     durable = subst (λ z. Only z (may_leave e)) (sym same) only;
   }
 
   -- the byte that was read is the end
-  pub end_read : place < count → count ≤ place + 1 → (last : List ℕ) → last ≡ take 1 (drop place (reads old)) → get_or last 0 0 ≡ 0 → (new : D) → WasRead reads may_leave moment left_since old new → IsAtRest reads may_leave new entries
+  pub end_read : place < count → count ≤ place + 1 → (last : List ℕ) → last ≡ take 1 (drop place (reads old)) → get_or last 0 0 ≡ 0 → (new : D) →
+      WasRead reads may_leave moment left_since old new → IsAtRest reads may_leave new entries
   end_read some few last is zero new read =
       let first = drop_more (reads old) place 0 (omega (arith, t.long, some)) in
       let says : get_or last 0 0 ≡ get_or (reads old) place 0 = ap (λ z. get_or z 0 0) (is ∙ ap (take 1) first) in
       let none : drop (place + 1) (reads old) ≡ [] = drop_all (place + 1) (reads old) (omega (arith, t.long, few)) in
-      let rest : t.rest ≡ 0 ∷ [] = sym (ap (drop place) t.ends.whole ∙ drop_at (marked entries) t.rest place (sym t.at)) ∙ (first ∙ (λ i. (sym says ∙ zero) i ∷ none i)) in record {
+      let rest : t.rest ≡ 0 ∷ [] = sym (ap (drop place) t.ends.whole ∙ drop_at (marked entries) t.rest place (sym t.at))
+      ∙ (first ∙ (λ i. (sym says ∙ zero) i ∷ none i)) in record {
         text = read.same ∙ (t.ends.whole ∙ ap (λ z. marked entries ++ z) rest);
         durable = λ image left. t.durable image (read.crash image left) ∙ sym read.same;
       }
 
 -- what was found on a disk with nothing pending
-pub torn_of : {D : Type 0} (reads : D → List ℕ) (may_leave : D → List ℕ → Type 0) (disk : D) (entries others : List (List ℕ)) (rest left : List ℕ) (place count : ℕ) → Only (reads disk) (may_leave disk)
-    → EndsAt (reads disk) others left → EndsAt (reads disk) entries rest → place ≡ length (marked others) → count ≡ length (reads disk) → IsTorn reads may_leave disk entries place count
+pub torn_of : {D : Type 0} (reads : D → List ℕ) (may_leave : D → List ℕ → Type 0) (disk : D) (entries others : List (List ℕ)) (rest left : List ℕ)
+    (place count : ℕ) → Only (reads disk) (may_leave disk)
+    → EndsAt (reads disk) others left → EndsAt (reads disk) entries rest → place ≡ length (marked others) → count ≡ length (reads disk) →
+    IsTorn reads may_leave disk entries place count
 torn_of reads may_leave disk entries others rest left place count only found ends at long = record {
   rest = rest;
   ends = ends;
@@ -115,7 +132,8 @@ torn_of reads may_leave disk entries others rest left place count only found end
 }
 
 -- one run of calls, and then another
-pub leaves_then : {D : Type 0} (moment : D → ℕ) (left_since : D → ℕ → List ℕ → Type 0) (a b c : D) (P : List ℕ → Type 0) → LeavesOnly moment left_since a b P → LeavesOnly moment left_since b c P → LeavesOnly moment left_since a c P
+pub leaves_then : {D : Type 0} (moment : D → ℕ) (left_since : D → ℕ → List ℕ → Type 0) (a b c : D) (P : List ℕ → Type 0) →
+    LeavesOnly moment left_since a b P → LeavesOnly moment left_since b c P → LeavesOnly moment left_since a c P
 leaves_then moment left_since a b c P p q = record {
   later = omega (arith, p.later, q.later);
   each = λ image left. elim (q.before (moment a) image p.later left) [ inl was ↦ p.each image was | inr now ↦ now ];

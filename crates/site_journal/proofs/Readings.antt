@@ -1,5 +1,6 @@
 -- Bytes have one list of entries.
-use Rattle.std.proofs.Common.{◌≡◌, ◌⊎◌, inl, inr, ⊎_elim, ℕ, ◌+◌, ◌<◌, ◌≤◌, List, [], ◌∷◌, ◌++◌, length, take, drop, get_or, refl, sym, ap, ◌∙◌, subst, arith, append_assoc, length-append, length-take-le}
+use Rattle.std.proofs.Common.{◌≡◌, ◌⊎◌, inl, inr, ⊎_elim, ℕ, ◌+◌, ◌<◌, ◌≤◌, List, [], ◌∷◌, ◌++◌, length, take, drop, get_or, refl, sym, ap, ◌∙◌, subst, arith}
+use Rattle.std.proofs.Common.{append_assoc, length-append, length-take-le}
 use Rattle.std.specs.List.{AllByRecursion}
 use Rattle.std.proofs.lemmas.Bool.{cases_eq, cases_lt}
 use Rattle.frame_cut.specs.Frames.{frame, word}
@@ -16,7 +17,8 @@ tail_of entry entries bytes rest e = record {
   ends = e.ends;
 }
 
-first_of : (entry : List ℕ) (entries : List (List ℕ)) (bytes rest : List ℕ) → EndsAt bytes (entry ∷ entries) rest → bytes ≡ 1 ∷ (frame entry ++ (marked entries ++ rest))
+first_of : (entry : List ℕ) (entries : List (List ℕ)) (bytes rest : List ℕ) → EndsAt bytes (entry ∷ entries) rest → bytes ≡ 1
+    ∷ (frame entry ++ (marked entries ++ rest))
 first_of entry entries bytes rest e = e.whole ∙ ap (λ z. 1 ∷ z) (append_assoc (frame entry) (marked entries) rest)
 
 some_rest : (entry : List ℕ) (entries : List (List ℕ)) (bytes rest : List ℕ) → EndsAt bytes (entry ∷ entries) rest → 0 < length rest
@@ -29,12 +31,14 @@ not_end entry entries bytes rest left none e =
     let empty = none.ends entry (marked entries ++ rest) is e.each.0 in
     omega (arith, ap length empty, length-append (marked entries) rest, some_rest entry entries bytes rest e)
 
-pub one : (bytes : List ℕ) (entries others : List (List ℕ)) (rest left : List ℕ) → EndsAt bytes entries rest → EndsAt bytes others left → (entries ≡ others) × (rest ≡ left)
+pub one : (bytes : List ℕ) (entries others : List (List ℕ)) (rest left : List ℕ) → EndsAt bytes entries rest → EndsAt bytes others left →
+    (entries ≡ others) × (rest ≡ left)
 one bytes [] [] rest left p q = (refl, sym p.whole ∙ q.whole)
 one bytes [] (other ∷ others) rest left p q = absurd (not_end other others bytes left rest p q)
 one bytes (entry ∷ entries) [] rest left p q = absurd (not_end entry entries bytes rest left q p)
 one bytes (entry ∷ entries) (other ∷ others) rest left p q =
-    let whole : 1 ∷ (frame entry ++ (marked entries ++ rest)) ≡ 1 ∷ (frame other ++ (marked others ++ left)) = sym (first_of entry entries bytes rest p) ∙ first_of other others bytes left q in
+    let whole : 1 ∷ (frame entry ++ (marked entries ++ rest)) ≡ 1 ∷ (frame other ++ (marked others ++ left)) = sym (first_of entry entries bytes rest p)
+    ∙ first_of other others bytes left q in
     let same : frame entry ++ (marked entries ++ rest) ≡ frame other ++ (marked others ++ left) = ap (drop 1) whole in
     let first = same_frame entry other (marked entries ++ rest) (marked others ++ left) p.each.0.1 q.each.0.1 same in
     let moved = subst (λ z. EndsAt z others left) (sym first.1) (tail_of other others bytes left q) in
@@ -42,7 +46,8 @@ one bytes (entry ∷ entries) (other ∷ others) rest left p q =
     (λ i. first.0 i ∷ more.0 i, more.1)
 
 -- an entry in front
-front : (bytes entry after : List ℕ) (entries : List (List ℕ)) (rest : List ℕ) → bytes ≡ 1 ∷ (frame entry ++ after) → IsEntry entry → 0 < length after → EndsAt after entries rest → EndsAt bytes (entry ∷ entries) rest
+front : (bytes entry after : List ℕ) (entries : List (List ℕ)) (rest : List ℕ) → bytes ≡ 1 ∷ (frame entry ++ after) → IsEntry entry → 0 < length after →
+    EndsAt after entries rest → EndsAt bytes (entry ∷ entries) rest
 front bytes entry after entries rest is fits some e = record {
   whole = is ∙ ap (λ z. 1 ∷ z) (ap (λ z. frame entry ++ z) e.whole ∙ sym (append_assoc (frame entry) (marked entries) rest));
   each = (fits, e.each);
@@ -55,7 +60,8 @@ none : (bytes : List ℕ) → ((entry more : List ℕ) → bytes ≡ 1 ∷ (fram
 none bytes ends = record { whole = refl; each = tt; behind = inl refl; ends = ends }
 
 -- where an entry stands first, its length and the length word say so
-pub entry_says : (gate : ℕ) (tail entry more : List ℕ) → IsEntry entry → gate ∷ tail ≡ 1 ∷ (frame entry ++ more) → (word tail ≡ length entry) × (length tail ≡ 4 + length entry + length more)
+pub entry_says : (gate : ℕ) (tail entry more : List ℕ) → IsEntry entry → gate ∷ tail ≡ 1 ∷ (frame entry ++ more) → (word tail ≡ length entry)
+    × (length tail ≡ 4 + length entry + length more)
 entry_says gate tail entry more fits is =
     let behind : tail ≡ frame entry ++ more = ap (drop 1) is in
     (ap word behind ∙ word-frame entry more fits.1, ap length behind ∙ omega (arith, length-append (frame entry) more, length-frame entry))
@@ -81,7 +87,8 @@ none_by_word gate tail why entry more is fits =
 pub none_by_count : (bytes : List ℕ) → length bytes < 8 → (entry more : List ℕ) → bytes ≡ 1 ∷ (frame entry ++ more) → IsEntry entry → more ≡ []
 none_by_count bytes few entry more is fits = empty_of more (omega (arith, ap length is, length-append (frame entry) more, length-frame entry, fits.0, few))
 
-every_within : (fuel : ℕ) (bytes : List ℕ) → length bytes ≤ fuel → ((place : ℕ) → get_or bytes place 0 < 256) → (entries : List (List ℕ)) × ((rest : List ℕ) × EndsAt bytes entries rest)
+every_within : (fuel : ℕ) (bytes : List ℕ) → length bytes ≤ fuel → ((place : ℕ) → get_or bytes place 0 < 256) → (entries : List (List ℕ))
+    × ((rest : List ℕ) × EndsAt bytes entries rest)
 every_within fuel [] within small = ([], ([], none [] (none_by_count [] (omega arith))))
 every_within ℕ.zero (gate ∷ tail) within small = absurd (omega arith)
 every_within (ℕ.suc fuel) (gate ∷ tail) within small = elim (cases_eq gate 1) [
@@ -104,7 +111,8 @@ every_within (ℕ.suc fuel) (gate ∷ tail) within small = elim (cases_eq gate 1
               take n (drop 4 tail) ∷ more.0,
               (
                 more.1.0,
-                front (gate ∷ tail) (take n (drop 4 tail)) (drop (4 + n) tail) more.0 more.1.0 first (omega (arith, count, two), omega (arith, count, fits)) (omega (arith, later, enough)) more.1.1,
+                front (gate ∷ tail) (take n (drop 4 tail)) (drop (4 + n) tail) more.0 more.1.0 first
+                    (omega (arith, count, two), omega (arith, count, fits)) (omega (arith, later, enough)) more.1.1,
               ),
             )
       ]

@@ -1,5 +1,6 @@
 -- Entries that are staged, and that are committed.
-use Rattle.std.proofs.Common.{◌≡◌, ◌⊎◌, inl, inr, ⊎_elim, ℕ, ◌+◌, ◌-◌, ◌*◌, ◌<◌, ◌≤◌, List, [], ◌∷◌, ◌++◌, length, map, refl, sym, ap, ◌∙◌, subst, arith, append-nil, append_assoc, length-append}
+use Rattle.std.proofs.Common.{◌≡◌, ◌⊎◌, inl, inr, ⊎_elim, ℕ, ◌+◌, ◌-◌, ◌*◌, ◌<◌, ◌≤◌, List, [], ◌∷◌, ◌++◌, length, map, refl, sym, ap, ◌∙◌, subst, arith}
+use Rattle.std.proofs.Common.{append-nil, append_assoc, length-append}
 use Rattle.std.specs.Int.{w16, to_be_bytes}
 use Rattle.std.specs.List.{AllByRecursion}
 use Rattle.std.proofs.lemmas.Nat.{from_be_bytes-to_be_bytes_2}
@@ -35,29 +36,43 @@ pub some_staged : (staged : List (List ℕ)) → 0 < length (marked staged) → 
 some_staged [] some = absurd (omega arith)
 some_staged (entry ∷ staged) some = omega arith
 
-pub length_all : (entries staged : List (List ℕ)) (place : ℕ) (text : List ℕ) → place ≡ length (marked entries) → text ≡ marked staged → place + length text ≡ length (marked (entries ++ staged))
-length_all entries staged place text at is = omega (arith, at, ap length is, ap length (marked-append entries staged), length-append (marked entries) (marked staged))
+pub length_all : (entries staged : List (List ℕ)) (place : ℕ) (text : List ℕ) → place ≡ length (marked entries) → text ≡ marked staged →
+    place + length text ≡ length (marked (entries ++ staged))
+length_all entries staged place text at is = omega (
+  arith,
+  at,
+  ap length is,
+  ap length (marked-append entries staged),
+  length-append (marked entries) (marked staged),
+)
 
-module _ {M S K : Type 0} (plain : PlainMachine S) (stands : M → S → Type 0) (opening : M → S) (honest : K → Type 0) (reads : K → List ℕ) (may_leave : K → List ℕ → Type 0) where
+module _ {M S K : Type 0} (plain : PlainMachine S) (stands : M → S → Type 0) (opening : M → S) (honest : K → Type 0) (reads : K → List ℕ)
+    (may_leave : K → List ℕ → Type 0) where
   -- one more is staged
-  pub staged_more : (old new : Journaled M K) (entries staged : List (List ℕ)) (e : Event) → IsOpen plain stands opening honest reads may_leave old entries staged → e.0 < 65536 → length e.1 ≤ 1048574
+  pub staged_more : (old new : Journaled M K) (entries staged : List (List ℕ)) (e : Event) →
+      IsOpen plain stands opening honest reads may_leave old entries staged → e.0 < 65536 → length e.1 ≤ 1048574
       → ((s : S) → stands old.machine s → stands new.machine (plain.step s e)) → opening new.machine ≡ opening old.machine
       → new.disk ≡ old.disk → new.place ≡ old.place → new.max_trail ≡ old.max_trail → new.staged ≡ old.staged ++ 1 ∷ frame (entry_of e)
-      → old.place + length old.staged + (length e.1 + 7) ≤ old.max_trail → length old.staged + 1048582 ≤ 2097152 → IsOpen plain stands opening honest reads may_leave new entries (staged ++ entry_of e ∷ [])
+      → old.place + length old.staged + (length e.1 + 7) ≤ old.max_trail → length old.staged + 1048582 ≤ 2097152 →
+      IsOpen plain stands opening honest reads may_leave new entries (staged ++ entry_of e ∷ [])
   staged_more old new entries staged e o small fits step same disk place limit text room free =
       let entry = entry_of e in
       let long = length_entry e in
       let all : (entries ++ staged) ++ entry ∷ [] ≡ entries ++ (staged ++ entry ∷ []) = append_assoc entries staged (entry ∷ []) in
-      let from : stands new.machine (plain.step (state_after plain (opening old.machine) (map event_of (entries ++ staged))) e) = step (state_after plain (opening old.machine) (map event_of (entries ++ staged))) o.stood in
-      let is : state_after plain (opening new.machine) (map event_of (entries ++ (staged ++ entry ∷ []))) ≡ plain.step (state_after plain (opening old.machine) (map event_of (entries ++ staged))) e =
+      let from : stands new.machine (plain.step (state_after plain (opening old.machine) (map event_of (entries ++ staged))) e) =
+      step (state_after plain (opening old.machine) (map event_of (entries ++ staged))) o.stood in
+      let is : state_after plain (opening new.machine) (map event_of (entries ++ (staged ++ entry ∷ [])))
+      ≡ plain.step (state_after plain (opening old.machine) (map event_of (entries ++ staged))) e =
       ap (λ s. state_after plain s (map event_of (entries ++ (staged ++ entry ∷ [])))) same
       ∙ (ap (λ es. state_after plain (opening old.machine) (map event_of es)) (sym all)
-      ∙ (state_entry plain (opening old.machine) (entries ++ staged) entry ∙ ap (plain.step (state_after plain (opening old.machine) (map event_of (entries ++ staged)))) (event_back e small))) in
+      ∙ (state_entry plain (opening old.machine) (entries ++ staged) entry
+      ∙ ap (plain.step (state_after plain (opening old.machine) (map event_of (entries ++ staged)))) (event_back e small))) in
       record {
         stood = subst (stands new.machine) (sym is) from;
         each = o.each;
         each_staged = all_more staged (entry ∷ []) o.each_staged ((omega (arith, long), omega (arith, long, fits)), tt);
-        text = text ∙ (ap (λ z. z ++ 1 ∷ frame entry) o.text ∙ (ap (λ z. marked staged ++ 1 ∷ z) (sym (append-nil (frame entry))) ∙ sym (marked-append staged (entry ∷ []))));
+        text = text ∙ (ap (λ z. z ++ 1 ∷ frame entry) o.text
+            ∙ (ap (λ z. marked staged ++ 1 ∷ z) (sym (append-nil (frame entry))) ∙ sym (marked-append staged (entry ∷ []))));
         at = place ∙ o.at;
         limit = inr (omega (arith, place, limit, room, length_one_more staged entry, long, ap length o.text));
         within = omega (arith, place, o.within);
@@ -67,8 +82,10 @@ module _ {M S K : Type 0} (plain : PlainMachine S) (stands : M → S → Type 0)
       }
 
   -- all that were staged are committed
-  pub committed : (old new : Journaled M K) (entries staged : List (List ℕ)) → IsOpen plain stands opening honest reads may_leave old entries staged → new.machine ≡ old.machine
-      → new.staged ≡ [] → new.place ≡ old.place + length old.staged → new.max_trail ≡ old.max_trail → (honest new.disk → IsAtRest reads may_leave new.disk (entries ++ staged))
+  pub committed : (old new : Journaled M K) (entries staged : List (List ℕ)) → IsOpen plain stands opening honest reads may_leave old entries staged →
+      new.machine ≡ old.machine
+      → new.staged ≡ [] → new.place ≡ old.place + length old.staged → new.max_trail ≡ old.max_trail →
+      (honest new.disk → IsAtRest reads may_leave new.disk (entries ++ staged))
       → IsOpen plain stands opening honest reads may_leave new (entries ++ staged) []
   committed old new entries staged o machine text place limit rest =
       let all = length_all entries staged old.place old.staged o.at o.text in record {
@@ -79,34 +96,43 @@ module _ {M S K : Type 0} (plain : PlainMachine S) (stands : M → S → Type 0)
         text = text;
         at = place ∙ all;
         limit = inl refl;
-        within = ⊎_elim (λ none. omega (arith, place, o.within, ap length o.text, ap (λ z. length (marked z)) none)) (λ few. omega (arith, place, few, o.most, ap length o.text)) o.limit;
+        within = ⊎_elim (λ none. omega (arith, place, o.within, ap length o.text, ap (λ z. length (marked z)) none))
+            (λ few. omega (arith, place, few, o.most, ap length o.text)) o.limit;
         room = omega (arith, ap length text);
         most = omega (arith, limit, o.most);
         rest = rest;
       }
 
   -- with nothing staged nothing is to be done
-  pub committed_none : (j : Journaled M K) (entries staged : List (List ℕ)) → IsOpen plain stands opening honest reads may_leave j entries staged → length j.staged ≡ 0 → IsOpen plain stands opening honest reads may_leave j (entries ++ staged) []
+  pub committed_none : (j : Journaled M K) (entries staged : List (List ℕ)) → IsOpen plain stands opening honest reads may_leave j entries staged →
+      length j.staged ≡ 0 → IsOpen plain stands opening honest reads may_leave j (entries ++ staged) []
   committed_none j entries staged o none =
       let empty = none_staged staged (ap length (sym o.text) ∙ none) in
       let all : entries ++ staged ≡ entries = ap (λ z. entries ++ z) empty ∙ append-nil entries in
-      committed j j entries staged o refl (o.text ∙ ap marked empty) (omega (arith, none)) refl (λ h. subst (IsAtRest reads may_leave j.disk) (sym all) (o.rest h))
+      committed j j entries staged o refl (o.text ∙ ap marked empty) (omega (arith, none)) refl
+      (λ h. subst (IsAtRest reads may_leave j.disk) (sym all) (o.rest h))
 
-  pub rests : (moment : K → ℕ) (left_since : K → ℕ → List ℕ → Type 0) (j : Journaled M K) (entries staged more : List (List ℕ)) → IsOpen plain stands opening honest reads may_leave j entries staged → honest j.disk
-      → ((image : List ℕ) → left_since j.disk (moment j.disk) image → may_leave j.disk image) → LeavesOnly moment left_since j.disk j.disk (HasAllOrNone entries more)
+  pub rests : (moment : K → ℕ) (left_since : K → ℕ → List ℕ → Type 0) (j : Journaled M K) (entries staged more : List (List ℕ)) →
+      IsOpen plain stands opening honest reads may_leave j entries staged → honest j.disk
+      → ((image : List ℕ) → left_since j.disk (moment j.disk) image → may_leave j.disk image) →
+      LeavesOnly moment left_since j.disk j.disk (HasAllOrNone entries more)
   rests moment left_since j entries staged more o h only =
       let rest = o.rest h in
       started reads may_leave moment left_since j.disk (HasAllOrNone entries more) only
       (λ image left. inl (0 ∷ [], subst (λ z. EndsAt z entries (0 ∷ [])) (sym (rest.durable image left ∙ rest.text)) (text_is_read entries o.each)))
 
-  pub is_behind : (j : Journaled M K) (entries staged : List (List ℕ)) → IsOpen plain stands opening honest reads may_leave j entries staged → honest j.disk → IsBehind reads may_leave j.disk j.place entries
+  pub is_behind : (j : Journaled M K) (entries staged : List (List ℕ)) → IsOpen plain stands opening honest reads may_leave j entries staged →
+      honest j.disk → IsBehind reads may_leave j.disk j.place entries
   is_behind j entries staged o h = record { rest = o.rest h; each = o.each; at = o.at }
 
   -- a machine that is as before
-  pub staged_same : (old new : Journaled M K) (entries staged : List (List ℕ)) → IsOpen plain stands opening honest reads may_leave old entries staged → ((s : S) → stands old.machine s → stands new.machine s) → opening new.machine ≡ opening old.machine
-      → new.disk ≡ old.disk → new.place ≡ old.place → new.max_trail ≡ old.max_trail → new.staged ≡ old.staged → IsOpen plain stands opening honest reads may_leave new entries staged
+  pub staged_same : (old new : Journaled M K) (entries staged : List (List ℕ)) → IsOpen plain stands opening honest reads may_leave old entries staged →
+      ((s : S) → stands old.machine s → stands new.machine s) → opening new.machine ≡ opening old.machine
+      → new.disk ≡ old.disk → new.place ≡ old.place → new.max_trail ≡ old.max_trail → new.staged ≡ old.staged →
+      IsOpen plain stands opening honest reads may_leave new entries staged
   staged_same old new entries staged o same opens disk place limit text = record {
-    stood = subst (λ s. stands new.machine (state_after plain s (map event_of (entries ++ staged)))) (sym opens) (same (state_after plain (opening old.machine) (map event_of (entries ++ staged))) o.stood);
+    stood = subst (λ s. stands new.machine (state_after plain s (map event_of (entries ++ staged)))) (sym opens)
+        (same (state_after plain (opening old.machine) (map event_of (entries ++ staged))) o.stood);
     each = o.each;
     each_staged = o.each_staged;
     text = text ∙ o.text;

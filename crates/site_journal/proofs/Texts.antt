@@ -1,5 +1,6 @@
 -- Journal texts and what stands in them.
-use Rattle.std.proofs.Common.{◌≡◌, ◌≢◌, ◌⊎◌, inl, inr, ℕ, ◌+◌, ◌<◌, ◌≤◌, List, [], ◌∷◌, ◌++◌, length, refl, sym, ap, ◌∙◌, subst, arith, append_assoc, length-append}
+use Rattle.std.proofs.Common.{◌≡◌, ◌≢◌, ◌⊎◌, inl, inr, ℕ, ◌+◌, ◌<◌, ◌≤◌, List, [], ◌∷◌, ◌++◌, length, refl, sym, ap, ◌∙◌, subst, arith, append_assoc}
+use Rattle.std.proofs.Common.{length-append}
 use Rattle.std.specs.List.{AllByRecursion}
 use Rattle.frame_cut.specs.Frames.{frame}
 use Rattle.frame_cut.proofs.Words.{length-frame}
@@ -7,7 +8,8 @@ use Rattle.site_journal.specs.Texts.{IsEntry, marked, journal_text, EndsAt, HasE
 
 pub marked-append : (entries others : List (List ℕ)) → marked (entries ++ others) ≡ marked entries ++ marked others
 marked-append [] others = refl
-marked-append (entry ∷ entries) others = ap (λ z. 1 ∷ z) (ap (λ z. frame entry ++ z) (marked-append entries others) ∙ sym (append_assoc (frame entry) (marked entries) (marked others)))
+marked-append (entry ∷ entries) others = ap (λ z. 1 ∷ z) (ap (λ z. frame entry ++ z) (marked-append entries others)
+    ∙ sym (append_assoc (frame entry) (marked entries) (marked others)))
 
 -- the text of more entries is behind the entries
 pub text_more : (entries others : List (List ℕ)) → marked entries ++ journal_text others ≡ journal_text (entries ++ others)
@@ -29,7 +31,8 @@ length_one_more entries entry =
 pub not_one : (gate : ℕ) (tail entry more : List ℕ) → gate ≢ 1 → gate ∷ tail ≡ 1 ∷ (frame entry ++ more) → more ≡ []
 not_one gate tail entry more shut is = let one : gate ≡ 1 = cc in absurd (shut one)
 
-pub closed : (entries : List (List ℕ)) (gate : ℕ) (tail : List ℕ) → AllByRecursion IsEntry entries → gate ≢ 1 → EndsAt (marked entries ++ gate ∷ tail) entries (gate ∷ tail)
+pub closed : (entries : List (List ℕ)) (gate : ℕ) (tail : List ℕ) → AllByRecursion IsEntry entries → gate ≢ 1 →
+    EndsAt (marked entries ++ gate ∷ tail) entries (gate ∷ tail)
 closed entries gate tail all shut = record {
   whole = refl;
   each = all;
@@ -38,7 +41,8 @@ closed entries gate tail all shut = record {
 }
 
 -- nor is a rest of one byte
-pub short : (entries : List (List ℕ)) (rest : List ℕ) → AllByRecursion IsEntry entries → (entries ≡ []) ⊎ (0 < length rest) → length rest ≤ 1 → EndsAt (marked entries ++ rest) entries rest
+pub short : (entries : List (List ℕ)) (rest : List ℕ) → AllByRecursion IsEntry entries → (entries ≡ []) ⊎ (0 < length rest) → length rest ≤ 1 →
+    EndsAt (marked entries ++ rest) entries rest
 short entries rest all behind few = record {
   whole = refl;
   each = all;

@@ -2,7 +2,8 @@
 use Rattle.std.proofs.Common.{◌≡◌, ℕ, ◌+◌, ◌<◌, List, [], ◌++◌, Option, length, refl, sym, ap, ◌∙◌, subst, inl, inr, arith}
 use Rattle.std.proofs.lemmas.List.{append-nil}
 use Rattle.tardis_io.specs.declared.statuses.Status.{Status}
-use Rattle.tardis_io.specs.declared.statuses.Status.TheVariants.{Ok, Usage, ReadFault, WriteFault, Cut, LongFrame, NoMemory, GateFault, DialFault, Spent, DiskFault, BadExport, NoState}
+use Rattle.tardis_io.specs.declared.statuses.Status.TheVariants.{Ok, Usage, ReadFault, WriteFault, Cut, LongFrame, NoMemory, GateFault, DialFault, Spent}
+use Rattle.tardis_io.specs.declared.statuses.Status.TheVariants.{DiskFault, BadExport, NoState}
 use Rattle.frame_cut.specs.Frames.{IsPartial, IsLong, IsEnd, Cuts, IsCut}
 use Rattle.frame_cut.proofs.OneCut.{one, front_of}
 use Rattle.frame_cut.proofs.Words.{long_more}
@@ -10,7 +11,8 @@ use Rattle.site_run.specs.Responses.{AnsweredBy, Serves}
 use Rattle.site_run.specs.Endings.{Ends, EndsSpent, AnswersAll, EndsAs, Outcome, shape_within, most_taken}
 
 -- where as many bytes were taken as may be
-ends_spent : (status : Status) (first : List ℕ) (bodies : List (List ℕ)) (held left : List ℕ) → Ends status first bodies held left → length first ≡ most_taken + length left → EndsSpent status
+ends_spent : (status : Status) (first : List ℕ) (bodies : List (List ℕ)) (held left : List ℕ) → Ends status first bodies held left →
+    length first ≡ most_taken + length left → EndsSpent status
 ends_spent Ok first bodies held left e n = let none : length left ≡ 0 = ap length e.1 in absurd (omega (arith, e.2, n, none))
 ends_spent Usage first bodies held left e n = e
 ends_spent GateFault first bodies held left e n = e
@@ -30,11 +32,13 @@ no_bytes : IsEnd []
 no_bytes = inl (inl (omega arith))
 
 -- the one cut, where what stands behind the bodies is no whole frame
-all_of : (first : List ℕ) (bodies all : List (List ℕ)) (behind rest : List ℕ) → Cuts first bodies behind → IsEnd behind → IsCut first all rest → (bodies ≡ all) × (behind ≡ rest)
+all_of : (first : List ℕ) (bodies all : List (List ℕ)) (behind rest : List ℕ) → Cuts first bodies behind → IsEnd behind → IsCut first all rest →
+    (bodies ≡ all) × (behind ≡ rest)
 all_of first bodies all behind rest c e d = one first bodies all behind rest c.whole c.each e d.cuts.whole d.cuts.each d.ends
 
 -- the bodies that were answered are all of the one cut
-answers_all : (status : Status) (first : List ℕ) (bodies : List (List ℕ)) (held left : List ℕ) → Cuts first bodies (held ++ left) → Ends status first bodies held left → (all : List (List ℕ)) (rest : List ℕ) → IsCut first all rest → AnswersAll status bodies all rest
+answers_all : (status : Status) (first : List ℕ) (bodies : List (List ℕ)) (held left : List ℕ) → Cuts first bodies (held ++ left) →
+    Ends status first bodies held left → (all : List (List ℕ)) (rest : List ℕ) → IsCut first all rest → AnswersAll status bodies all rest
 answers_all Ok first bodies held left c e all rest d =
     let nothing : held ++ left ≡ [] = ap (λ z. z ++ left) e.0 ∙ e.1 in
     let both = all_of first bodies all (held ++ left) rest c (subst IsEnd (sym nothing) no_bytes) d in
@@ -60,7 +64,8 @@ answers_all NoMemory first bodies held left c e all rest d = tt
 answers_all Spent first bodies held left c e all rest d = tt
 
 -- an outcome, from what was answered and how the run ended
-pub outcome : {S : Type 0} (status : Status) (may : S → List ℕ → List ℕ → S → Type 0) (most : ℕ) (from to : S → Type 0) (g h : Option (List ℕ)) (first held left : List ℕ)
+pub outcome : {S : Type 0} (status : Status) (may : S → List ℕ → List ℕ → S → Type 0) (most : ℕ) (from to : S → Type 0) (g h : Option (List ℕ))
+    (first held left : List ℕ)
     → (a : Serves may (shape_within most status) from to g h [] [] first (held ++ left)) → Ends status first a.bodies held left
     → Outcome status from (λ s bodies. AnsweredBy may (shape_within most status) to g h [] [] s bodies) first left
 outcome status may most from to g h first held left a ends = record {
@@ -75,7 +80,8 @@ outcome status may most from to g h first held left a ends = record {
 }
 
 -- how a run ends without a fault
-pub ends_as : {S : Type 0} (status : Status) (from : S → Type 0) (P : S → List (List ℕ) → Type 0) (first left : List ℕ) → Outcome status from P first left → (status ≡ ReadFault → ⊥) → (status ≡ WriteFault → ⊥)
+pub ends_as : {S : Type 0} (status : Status) (from : S → Type 0) (P : S → List (List ℕ) → Type 0) (first left : List ℕ) → Outcome status from P first left
+    → (status ≡ ReadFault → ⊥) → (status ≡ WriteFault → ⊥)
     → (all : List (List ℕ)) (rest : List ℕ) → IsCut first all rest → length first < most_taken → EndsAs rest status
 ends_as Ok from P first left o r w all rest d few = (o.whole all rest d).1
 ends_as Cut from P first left o r w all rest d few = let e = o.whole all rest d in (e.1, e.2)

@@ -13,7 +13,8 @@ use Rattle.site_run.proofs.Turns.{answered_then, answered_none}
 use Rattle.site_run.proofs.Serving.{written, lost, fed_all}
 
 -- nothing was cut yet
-abbrev pub line_serves_none : {S : Type 0} (may : S → List ℕ → List ℕ → S → Type 0) (from : S → Type 0) (g : Option (List ℕ)) (p bytes : List ℕ) → ServesLines may Whole from from g g p p bytes bytes
+abbrev pub line_serves_none : {S : Type 0} (may : S → List ℕ → List ℕ → S → Type 0) (from : S → Type 0) (g : Option (List ℕ)) (p bytes : List ℕ) →
+    ServesLines may Whole from from g g p p bytes bytes
 line_serves_none may from g p bytes = record {
   lines = [];
   read = record { whole = refl; each = tt };
@@ -28,9 +29,11 @@ one_line bytes line rest fits is = record {
 }
 
 -- lines, and then more lines
-pub line_serves_then : {S : Type 0} (may : S → List ℕ → List ℕ → S → Type 0) (shape : List ℕ → List ℕ → List ℕ → Type 0) → ((x y z u v : List ℕ) → Whole x y u → shape y z v → shape x z (u ++ v))
+pub line_serves_then : {S : Type 0} (may : S → List ℕ → List ℕ → S → Type 0) (shape : List ℕ → List ℕ → List ℕ → Type 0) →
+    ((x y z u v : List ℕ) → Whole x y u → shape y z v → shape x z (u ++ v))
     → (from mid to : S → Type 0) (g h k : Option (List ℕ)) (p q r bytes between rest : List ℕ)
-    → ServesLines may Whole from mid g h p q bytes between → ServesLines may shape mid to h k q r between rest → ServesLines may shape from to g k p r bytes rest
+    → ServesLines may Whole from mid g h p q bytes between → ServesLines may shape mid to h k q r between rest →
+    ServesLines may shape from to g k p r bytes rest
 line_serves_then may shape join from mid to g h k p q r bytes between rest a b = record {
   lines = a.lines ++ b.lines;
   read = more_lines bytes a.lines b.lines between rest a.read b.read;
@@ -38,9 +41,11 @@ line_serves_then may shape join from mid to g h k p q r bytes between rest a b =
 }
 
 -- lines, and then one line
-pub line_serves_line : {S : Type 0} (may : S → List ℕ → List ℕ → S → Type 0) (shape : List ℕ → List ℕ → List ℕ → Type 0) → ((x y z u v : List ℕ) → Whole x y u → shape y z v → shape x z (u ++ v))
+pub line_serves_line : {S : Type 0} (may : S → List ℕ → List ℕ → S → Type 0) (shape : List ℕ → List ℕ → List ℕ → Type 0) →
+    ((x y z u v : List ℕ) → Whole x y u → shape y z v → shape x z (u ++ v))
     → (from mid to : S → Type 0) (g h k : Option (List ℕ)) (p q r bytes between rest line : List ℕ)
-    → ServesLines may Whole from mid g h p q bytes between → IsLine line → between ≡ ended line ++ rest → ((s : S) → mid s → AnsweredBy may shape to h k q r s (line ∷ [])) → ServesLines may shape from to g k p r bytes rest
+    → ServesLines may Whole from mid g h p q bytes between → IsLine line → between ≡ ended line ++ rest →
+    ((s : S) → mid s → AnsweredBy may shape to h k q r s (line ∷ [])) → ServesLines may shape from to g k p r bytes rest
 line_serves_line may shape join from mid to g h k p q r bytes between rest line a fits is one =
     line_serves_then may shape join from mid to g h k p q r bytes between rest a (record {
       lines = line ∷ [];
@@ -49,7 +54,8 @@ line_serves_line may shape join from mid to g h k p q r bytes between rest line 
     })
 
 -- more bytes come behind the rest
-pub line_serves_fed : {S : Type 0} (may : S → List ℕ → List ℕ → S → Type 0) (shape : List ℕ → List ℕ → List ℕ → Type 0) (from to : S → Type 0) (g h : Option (List ℕ)) (p q bytes rest more : List ℕ)
+pub line_serves_fed : {S : Type 0} (may : S → List ℕ → List ℕ → S → Type 0) (shape : List ℕ → List ℕ → List ℕ → Type 0) (from to : S → Type 0)
+    (g h : Option (List ℕ)) (p q bytes rest more : List ℕ)
     → ServesLines may shape from to g h p q bytes rest → ServesLines may shape from to g h p q (bytes ++ more) (rest ++ more)
 line_serves_fed may shape from to g h p q bytes rest more a = record {
   lines = a.lines;
@@ -57,14 +63,18 @@ line_serves_fed may shape from to g h p q bytes rest more a = record {
   answered = a.answered;
 }
 
-pub line_serves_written : {S : Type 0} (may : S → List ℕ → List ℕ → S → Type 0) (from to : S → Type 0) (g h k : Option (List ℕ)) (p q r bytes rest : List ℕ) → ServesLines may Whole from to g h p q bytes rest → WhileTold h k (λ y z. z ≡ y ++ q) → r ≡ [] → ServesLines may Whole from to g k p r bytes rest
+pub line_serves_written : {S : Type 0} (may : S → List ℕ → List ℕ → S → Type 0) (from to : S → Type 0) (g h k : Option (List ℕ))
+    (p q r bytes rest : List ℕ) → ServesLines may Whole from to g h p q bytes rest → WhileTold h k (λ y z. z ≡ y ++ q) → r ≡ [] →
+    ServesLines may Whole from to g k p r bytes rest
 line_serves_written may from to g h k p q r bytes rest a w empty = record {
   lines = a.lines;
   read = a.read;
   answered = λ s f. written may to g h k p q r s a.lines (a.answered s f) w empty;
 }
 
-pub line_serves_lost : {S : Type 0} (may : S → List ℕ → List ℕ → S → Type 0) (from to : S → Type 0) (g h k : Option (List ℕ)) (p q bytes rest : List ℕ) (most : ℕ) → length q ≤ most → ServesLines may Whole from to g h p q bytes rest → WhileTold h k (λ y z. (lost : List ℕ) × ((z ++ lost ≡ y ++ q) × (length lost ≤ length q))) → ServesLines may (Front most) from to g k p [] bytes rest
+pub line_serves_lost : {S : Type 0} (may : S → List ℕ → List ℕ → S → Type 0) (from to : S → Type 0) (g h k : Option (List ℕ)) (p q bytes rest : List ℕ)
+    (most : ℕ) → length q ≤ most → ServesLines may Whole from to g h p q bytes rest →
+    WhileTold h k (λ y z. (lost : List ℕ) × ((z ++ lost ≡ y ++ q) × (length lost ≤ length q))) → ServesLines may (Front most) from to g k p [] bytes rest
 line_serves_lost may from to g h k p q bytes rest most few a w = record {
   lines = a.lines;
   read = a.read;
@@ -72,18 +82,23 @@ line_serves_lost may from to g h k p q bytes rest most few a w = record {
 }
 
 -- what was given has this shape too
-pub answered_weaker : {S : Type 0} (may : S → List ℕ → List ℕ → S → Type 0) (strong weak : List ℕ → List ℕ → List ℕ → Type 0) → ((x y u : List ℕ) → strong x y u → weak x y u)
-    → (to : S → Type 0) (g h : Option (List ℕ)) (p q : List ℕ) (s : S) (lines : List (List ℕ)) → AnsweredBy may strong to g h p q s lines → AnsweredBy may weak to g h p q s lines
+pub answered_weaker : {S : Type 0} (may : S → List ℕ → List ℕ → S → Type 0) (strong weak : List ℕ → List ℕ → List ℕ → Type 0) →
+    ((x y u : List ℕ) → strong x y u → weak x y u)
+    → (to : S → Type 0) (g h : Option (List ℕ)) (p q : List ℕ) (s : S) (lines : List (List ℕ)) → AnsweredBy may strong to g h p q s lines →
+    AnsweredBy may weak to g h p q s lines
 answered_weaker may strong weak f to g h p q s lines b = record {
   answers = b.answers;
   state = b.state;
   each = b.each;
   stands = b.stands;
-  given = weaker g h (λ y z. strong (y ++ p) (z ++ q) (concat b.answers)) (λ y z. weak (y ++ p) (z ++ q) (concat b.answers)) b.given (λ y z n. f (y ++ p) (z ++ q) (concat b.answers) n);
+  given = weaker g h (λ y z. strong (y ++ p) (z ++ q) (concat b.answers)) (λ y z. weak (y ++ p) (z ++ q) (concat b.answers)) b.given
+      (λ y z n. f (y ++ p) (z ++ q) (concat b.answers) n);
 }
 
-pub line_serves_weaker : {S : Type 0} (may : S → List ℕ → List ℕ → S → Type 0) (strong weak : List ℕ → List ℕ → List ℕ → Type 0) → ((x y u : List ℕ) → strong x y u → weak x y u)
-    → (from to : S → Type 0) (g h : Option (List ℕ)) (p q bytes rest : List ℕ) → ServesLines may strong from to g h p q bytes rest → ServesLines may weak from to g h p q bytes rest
+pub line_serves_weaker : {S : Type 0} (may : S → List ℕ → List ℕ → S → Type 0) (strong weak : List ℕ → List ℕ → List ℕ → Type 0) →
+    ((x y u : List ℕ) → strong x y u → weak x y u)
+    → (from to : S → Type 0) (g h : Option (List ℕ)) (p q bytes rest : List ℕ) → ServesLines may strong from to g h p q bytes rest →
+    ServesLines may weak from to g h p q bytes rest
 line_serves_weaker may strong weak f from to g h p q bytes rest a = record {
   lines = a.lines;
   read = a.read;
@@ -98,7 +113,10 @@ fewer_lines old new line left whole =
     omega (arith, long, less)
 
 -- what a piece completes was answered, and of the answers that are written a front was
-pub line_piece_lost : {S : Type 0} (may : S → List ℕ → List ℕ → S → Type 0) (from to : S → Type 0) (g h k : Option (List ℕ)) (p q held piece fed rest : List ℕ) (n most : ℕ) → length q ≤ most → p ≡ [] → fed ≡ held ++ take n piece → n ≡ length piece → ServesLines may Whole from to g h p q fed rest → WhileTold h k (λ y z. (lost : List ℕ) × ((z ++ lost ≡ y ++ q) × (length lost ≤ length q))) → (x : List ℕ) × ServesLines may (Front most) from to g k [] [] (held ++ piece) x
+pub line_piece_lost : {S : Type 0} (may : S → List ℕ → List ℕ → S → Type 0) (from to : S → Type 0) (g h k : Option (List ℕ))
+    (p q held piece fed rest : List ℕ) (n most : ℕ) → length q ≤ most → p ≡ [] → fed ≡ held ++ take n piece → n ≡ length piece →
+    ServesLines may Whole from to g h p q fed rest → WhileTold h k (λ y z. (lost : List ℕ) × ((z ++ lost ≡ y ++ q) × (length lost ≤ length q))) →
+    (x : List ℕ) × ServesLines may (Front most) from to g k [] [] (held ++ piece) x
 line_piece_lost may from to g h k p q held piece fed rest n most few none is all a w = (
   rest,
   subst (λ b. ServesLines may (Front most) from to g k [] [] b rest) (fed_all held piece fed n is all)
@@ -106,7 +124,9 @@ line_piece_lost may from to g h k p q held piece fed rest n most few none is all
 )
 
 -- and all of them were
-pub line_piece_written : {S : Type 0} (may : S → List ℕ → List ℕ → S → Type 0) (from to : S → Type 0) (g h k : Option (List ℕ)) (p q r held piece fed rest : List ℕ) (n : ℕ) → p ≡ [] → fed ≡ held ++ take n piece → n ≡ length piece → ServesLines may Whole from to g h p q fed rest → WhileTold h k (λ y z. z ≡ y ++ q) → r ≡ [] → ServesLines may Whole from to g k [] [] (held ++ piece) rest
+pub line_piece_written : {S : Type 0} (may : S → List ℕ → List ℕ → S → Type 0) (from to : S → Type 0) (g h k : Option (List ℕ))
+    (p q r held piece fed rest : List ℕ) (n : ℕ) → p ≡ [] → fed ≡ held ++ take n piece → n ≡ length piece → ServesLines may Whole from to g h p q fed rest
+    → WhileTold h k (λ y z. z ≡ y ++ q) → r ≡ [] → ServesLines may Whole from to g k [] [] (held ++ piece) rest
 line_piece_written may from to g h k p q r held piece fed rest n none is all a w empty =
     subst (λ b. ServesLines may Whole from to g k [] [] b rest) (fed_all held piece fed n is all)
     (subst (λ e. ServesLines may Whole from to g k e [] fed rest) none

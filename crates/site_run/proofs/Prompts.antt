@@ -29,7 +29,8 @@ each_none None P = tt
 each_none (Some old) P = ([], (sym (append-nil old), tt))
 
 -- one more take was made
-pub each_more : (old mid new : Option (List Moment)) (left given : Option (List ℕ)) (P : Moment → Type 0) → EachTake old mid P → new ≡ with_take mid left given → P (record { left = left; given = given }) → EachTake old new P
+pub each_more : (old mid new : Option (List Moment)) (left given : Option (List ℕ)) (P : Moment → Type 0) → EachTake old mid P →
+    new ≡ with_take mid left given → P (record { left = left; given = given }) → EachTake old new P
 each_more None None new left given P e is p = subst (λ n. EachTake None n P) (sym is) tt
 each_more (Some old) (Some mid) new left given P e is p =
     let one : List Moment = record { left = left; given = given } ∷ [] in
@@ -58,11 +59,20 @@ module _ {S : Type 0} (may : S → List ℕ → List ℕ → S → Type 0) (from
 
 -- answers in turn are replies to events
 pub machine_prompt : {S : Type 0} (m : PlainMachine S) (from : S → Type 0) (g : Option (List ℕ)) (old : Option (List ℕ)) (p q : Option (List Moment))
-    → EachTake p q (λ moment. WhileTold old moment.left (UpToDate from (λ s bodies. AnsweredBy (MachineMay m) Whole (λ _. Unit {0}) g moment.given [] [] s bodies)))
+    → EachTake p q
+    (λ moment. WhileTold old moment.left (UpToDate from (λ s bodies. AnsweredBy (MachineMay m) Whole (λ _. Unit {0}) g moment.given [] [] s bodies)))
     → EachTake p q (λ moment. WhileTold old moment.left (UpToDate from (λ s bodies. Answered m Whole (λ _. Unit {0}) g moment.given s (map event_of bodies))))
 machine_prompt m from g old p q e =
     each_weaker p q
     (λ moment. WhileTold old moment.left (UpToDate from (λ s bodies. AnsweredBy (MachineMay m) Whole (λ _. Unit {0}) g moment.given [] [] s bodies)))
     (λ moment. WhileTold old moment.left (UpToDate from (λ s bodies. Answered m Whole (λ _. Unit {0}) g moment.given s (map event_of bodies))))
-    (λ moment w. weaker old moment.left (UpToDate from (λ s bodies. AnsweredBy (MachineMay m) Whole (λ _. Unit {0}) g moment.given [] [] s bodies)) (UpToDate from (λ s bodies. Answered m Whole (λ _. Unit {0}) g moment.given s (map event_of bodies))) w
-    (λ x y u. record { bodies = u.bodies; held = u.held; read = u.read; partial = u.partial; answered = λ s f. answered_events m Whole (λ _. Unit {0}) g moment.given s u.bodies (u.answered s f) })) e
+    (λ moment w. weaker old moment.left (UpToDate from (λ s bodies. AnsweredBy (MachineMay m) Whole (λ _. Unit {0}) g moment.given [] [] s bodies))
+    (UpToDate from (λ s bodies. Answered m Whole (λ _. Unit {0}) g moment.given s (map event_of bodies))) w
+    (λ x y u. record {
+      bodies = u.bodies;
+      held = u.held;
+      read = u.read;
+      partial = u.partial;
+      answered =
+          λ s f. answered_events m Whole (λ _. Unit {0}) g moment.given s u.bodies (u.answered s f);
+    })) e

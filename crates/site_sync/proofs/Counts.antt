@@ -37,5 +37,6 @@ pull_body lines =
 pub two_bytes : (a b d : List ℕ) (x y : ℕ) → a ≡ [] → b ≡ a ++ x ∷ [] → d ≡ b ++ y ∷ [] → d ≡ x ∷ y ∷ []
 two_bytes a b d x y none one two = two ∙ ap (λ z. z ++ y ∷ []) (one ∙ ap (λ z. z ++ x ∷ []) none)
 
-pub pull_written : (lines : List SiteLine) (body head out : List ℕ) → body ≡ (19 ∷ length lines ∷ []) ++ flat_map count_spelling lines → head ++ body ≡ frame body → out ≡ head ++ body → out ≡ pull_frame lines
+pub pull_written : (lines : List SiteLine) (body head out : List ℕ) → body ≡ (19 ∷ length lines ∷ []) ++ flat_map count_spelling lines → head
+    ++ body ≡ frame body → out ≡ head ++ body → out ≡ pull_frame lines
 pull_written lines body head out is framed all = all ∙ (framed ∙ ap frame (is ∙ pull_body lines))

@@ -1,5 +1,6 @@
 -- Items that were delivered so far.
-use Rattle.std.proofs.Common.{◌≡◌, ◌≢◌, ℕ, ◌+◌, ◌<◌, ◌≤◌, List, [], ◌∷◌, ◌++◌, length, map, take, Some, slice_get, refl, ap, sym, ◌∙◌, subst, arith, length-append}
+use Rattle.std.proofs.Common.{◌≡◌, ◌≢◌, ℕ, ◌+◌, ◌<◌, ◌≤◌, List, [], ◌∷◌, ◌++◌, length, map, take, Some, slice_get, refl, ap, sym, ◌∙◌, subst, arith}
+use Rattle.std.proofs.Common.{length-append}
 use Rattle.std.proofs.lemmas.List.{take_all}
 use Rattle.tardis_base.specs.declared.records.Item.{Item}
 use Rattle.tardis_base.specs.Plain.{PlainMachine}
@@ -51,7 +52,8 @@ module _ {M P : Type 0} (opening : M → P) (m : PlainMachine P) (z : Kept M) (i
   }
 
   pub delivered_more : (p : Known) (place : ℕ) (q t : Known) (tally new : Tally) (reply : List ℕ) → place < length items
-      → Delivered p place q tally → ((item : Item) → slice_get items place ≡ Some item → StepsOnce opening m z q (delivery item) reply t Done) → new ≡ tally_with tally reply
+      → Delivered p place q tally → ((item : Item) → slice_get items place ≡ Some item → StepsOnce opening m z q (delivery item) reply t Done) →
+      new ≡ tally_with tally reply
       → Delivered p (place + 1) t new
   delivered_more p place q t tally new reply there d step e =
       let at = place_of items place there in
@@ -59,7 +61,8 @@ module _ {M P : Type 0} (opening : M → P) (m : PlainMachine P) (z : Kept M) (i
       record {
         goes_on = goes_then opening m z p q t (delivery at.item) reply Done d.goes_on s;
         replies = d.replies ++ reply ∷ [];
-        asked = subst (λ es. Asks opening m z p es (d.replies ++ reply ∷ []) t) (sym (ap (map delivery) at.more ∙ map_append delivery (take place items) (at.item ∷ [])))
+        asked = subst (λ es. Asks opening m z p es (d.replies ++ reply ∷ []) t)
+            (sym (ap (map delivery) at.more ∙ map_append delivery (take place items) (at.item ∷ [])))
             (asks_then opening m z p q t (map delivery (take place items)) d.replies (delivery at.item) reply d.asked s);
         one_each = omega (arith, length-append d.replies (reply ∷ []), d.one_each);
         counted = e ∙ (ap (λ k. tally_with k reply) d.counted ∙ tally_then d.replies reply);
@@ -84,7 +87,8 @@ module _ {M P : Type 0} (opening : M → P) (m : PlainMachine P) (z : Kept M) (i
         },
       )
 
-  pub delivers_all : (p : Known) (place : ℕ) (q : Known) (tally : Tally) → length items ≤ place → Delivered p place q tally → DeliversAll opening m z items p q tally
+  pub delivers_all : (p : Known) (place : ℕ) (q : Known) (tally : Tally) → length items ≤ place → Delivered p place q tally →
+      DeliversAll opening m z items p q tally
   delivers_all p place q tally all d = record {
     replies = d.replies;
     asked = subst (λ xs. Asks opening m z p (map delivery xs) d.replies q) (take_all place items all) d.asked;

@@ -26,7 +26,8 @@ stops_well OutOfMemory end e = subst EndsWell (sym e) tt
 
 module _ (body rest : List ℕ) (batch : Batch) (is : IsBody body) (spelled : SpellsReply body (BatchIs batch)) where
   -- why there is no batch is want of memory, or a fault
-  why_well : (why : SyncEnd) (first left : List ℕ) → first ≡ frame body ++ rest → (why ≡ ReadFault → ⊥) → (why ≡ WriteFault → ⊥) → Fetched (Err why) first left → EndsWell why
+  why_well : (why : SyncEnd) (first left : List ℕ) → first ≡ frame body ++ rest → (why ≡ ReadFault → ⊥) → (why ≡ WriteFault → ⊥) →
+      Fetched (Err why) first left → EndsWell why
   why_well (Done applied known early refused) first left e no_read no_write f = tt
   why_well (TrailFull bytes) first left e no_read no_write f = tt
   why_well NoMemory first left e no_read no_write f = tt
@@ -39,7 +40,8 @@ module _ (body rest : List ℕ) (batch : Batch) (is : IsBody body) (spelled : Sp
       let same = same_frame f.0 body (f.1.behind ++ left) rest f.1.is_body is (sym f.1.whole ∙ e) in
       absurd (f.2 batch (subst (λ b. SpellsReply b (BatchIs batch)) (sym same.0) spelled))
 
-  delivers_well : {M P : Type 0} (opening : M → P) (m : PlainMachine P) (z : Kept M) (batch' : Batch) (p q : Known) (end : SyncEnd) → Delivers opening m z (items batch') p q end → EndsWell end
+  delivers_well : {M P : Type 0} (opening : M → P) (m : PlainMachine P) (z : Kept M) (batch' : Batch) (p q : Known) (end : SyncEnd) →
+      Delivers opening m z (items batch') p q end → EndsWell end
   delivers_well opening m z batch' p q (Done applied known early refused) d = tt
   delivers_well opening m z batch' p q (TrailFull bytes) d = tt
   delivers_well opening m z batch' p q NoMemory d = tt
@@ -50,7 +52,8 @@ module _ (body rest : List ℕ) (batch : Batch) (is : IsBody body) (spelled : Sp
   delivers_well opening m z batch' p q (LongFrame len) d = absurd d
   delivers_well opening m z batch' p q BadReply d = absurd d
 
-  pub uses_well : {M P : Type 0} (opening : M → P) (m : PlainMachine P) (z : Kept M) (answer : Result Batch SyncEnd) (p q : Known) (end : SyncEnd) (first left : List ℕ) → first ≡ frame body ++ rest
+  pub uses_well : {M P : Type 0} (opening : M → P) (m : PlainMachine P) (z : Kept M) (answer : Result Batch SyncEnd) (p q : Known) (end : SyncEnd)
+      (first left : List ℕ) → first ≡ frame body ++ rest
       → (end ≡ ReadFault → ⊥) → (end ≡ WriteFault → ⊥) → Fetched answer first left → Uses opening m z answer p q end → EndsWell end
   uses_well opening m z (Ok got) p q end first left e no_read no_write f u = delivers_well opening m z got p q end u
   uses_well opening m z (Err why) p q end first left e no_read no_write f u =

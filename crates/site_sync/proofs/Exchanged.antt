@@ -32,13 +32,15 @@ all_front (x ∷ xs) ys all = (all.0, all_front xs ys all.1)
 
 module _ {M P : Type 0} (opening : M → P) (m : PlainMachine P) (z : Kept M) where
   -- the machine told its counts
-  pub told_counts : (p q : Known) (out : List ℕ) → TellsCounts m (opening z.machine) → StepsOnce opening m z p stat out q Done → AllByRecursion IsEntry q.seen → (lines : List SiteLine) × AreStatistics out lines
+  pub told_counts : (p q : Known) (out : List ℕ) → TellsCounts m (opening z.machine) → StepsOnce opening m z p stat out q Done →
+      AllByRecursion IsEntry q.seen → (lines : List SiteLine) × AreStatistics out lines
   told_counts p q out tells s each =
       let before = s.ended.0 in
       let told = tells before (all_front before (stat ∷ []) (subst (λ l. AllByRecursion IsEntry l) s.ended.2 each)) in
       let at : reply_at m (opening z.machine) q.seen (length before) ≡ Some (m.reply (state_after m (opening z.machine) before) stat) =
       ap (λ l. reply_at m (opening z.machine) l (length before)) s.ended.2 ∙ reply_behind m (opening z.machine) before stat [] in
-      let same : m.reply (state_after m (opening z.machine) before) stat ≡ out = same_some (m.reply (state_after m (opening z.machine) before) stat) out (reply_at m (opening z.machine) q.seen (length before)) at s.ended.4 in
+      let same : m.reply (state_after m (opening z.machine) before) stat ≡ out = same_some (m.reply (state_after m (opening z.machine) before) stat) out
+      (reply_at m (opening z.machine) q.seen (length before)) at s.ended.4 in
       (told.0, subst (λ y. AreStatistics y told.0) same told.1)
 
   read_answer : (answer : Result Batch SyncEnd) (p q : Known) (end : SyncEnd) → Uses opening m z answer p q end → end ≡ ReadFault → answer ≡ Err ReadFault
@@ -78,7 +80,8 @@ module _ {M P : Type 0} (opening : M → P) (m : PlainMachine P) (z : Kept M) wh
 
   module _ {L : Type 0} (left given : L → Option (List ℕ)) (take_faults faults : L → ℕ) where
     -- Stat wasn't answered
-    pub exchange_unasked : (p q : Known) (link : L) (end : SyncEnd) (acted : Acted) (out : List ℕ) → acted ≢ Done → IsEndOf acted end → StepsOnce opening m z p stat out q acted
+    pub exchange_unasked : (p q : Known) (link : L) (end : SyncEnd) (acted : Acted) (out : List ℕ) → acted ≢ Done → IsEndOf acted end →
+        StepsOnce opening m z p stat out q acted
         → Exchange opening m z left given take_faults faults p q link link end
     exchange_unasked p q link end acted out other e s =
         let none = end_no_fault acted end e in
@@ -89,32 +92,54 @@ module _ {M P : Type 0} (opening : M → P) (m : PlainMachine P) (z : Kept M) wh
           read_fault = λ f. absurd (none.0 f);
           write_fault = λ f. absurd (none.1 f);
           no_dial_fault = none.2;
-          exact = same_told (left link) (BatchIsTaken (Rose (take_faults link) (take_faults link)) (Rose (faults link) (faults link)) end) (λ x. λ body rest batch is first spelled no_read no_write. stops_well acted end e);
+          exact = same_told (left link) (BatchIsTaken (Rose (take_faults link) (take_faults link)) (Rose (faults link) (faults link)) end)
+              (λ x. λ body rest batch is first spelled no_read no_write. stops_well acted end e);
         }
 
     pub exchange_asked : (p mid q : Known) (handed back : L) (end : SyncEnd) (statistics : List ℕ) (lines : List SiteLine) (answer : Result Batch SyncEnd)
         → AreStatistics statistics lines → StepsOnce opening m z p stat statistics mid Done
-        → WhileTold (given handed) (given back) (λ before after. Gave answer before after (pull_frame lines)) → WhileTold (left handed) (left back) (Fetched answer)
+        → WhileTold (given handed) (given back) (λ before after. Gave answer before after (pull_frame lines)) →
+        WhileTold (left handed) (left back) (Fetched answer)
         → Uses opening m z answer mid q end → take_faults handed ≤ take_faults back → faults handed ≤ faults back
         → (answer ≡ Err ReadFault → Rose (take_faults handed) (take_faults back)) → (answer ≡ Err WriteFault → Rose (faults handed) (faults back))
         → (answer ≡ Err DialFault → ⊥)
         → Exchange opening m z left given take_faults faults p q handed back end
     exchange_asked p mid q handed back end statistics lines answer are told gave read used later later' broke broke' none = record {
-      way = inr (record { statistics = statistics; lines = lines; are_statistics = are; mid = mid; told = told; answer = answer; gave = gave; read = read; used = used });
+      way = inr (record {
+        statistics = statistics;
+        lines = lines;
+        are_statistics = are;
+        mid = mid;
+        told = told;
+        answer = answer;
+        gave = gave;
+        read =
+            read;
+        used = used;
+      });
       read_later = later;
       write_later = later';
       read_fault = λ f. broke (read_answer answer mid q end used f);
       write_fault = λ f. broke' (write_answer answer mid q end used f);
       no_dial_fault = λ f. none (dial_answer answer mid q end used f);
-      exact = weaker (left handed) (left back) (Fetched answer) (BatchIsTaken (Rose (take_faults handed) (take_faults back)) (Rose (faults handed) (faults back)) end) read
+      exact = weaker (left handed) (left back) (Fetched answer)
+          (BatchIsTaken (Rose (take_faults handed) (take_faults back)) (Rose (faults handed) (faults back)) end) read
           (λ x y f. λ body rest batch is first spelled no_read no_write.
-          uses_well body rest batch is spelled opening m z answer mid q end x y first (λ w. no_read (broke (read_answer answer mid q end used w))) (λ w. no_write (broke' (write_answer answer mid q end used w))) f used);
+          uses_well body rest batch is spelled opening m z answer mid q end x y first (λ w. no_read (broke (read_answer answer mid q end used w)))
+          (λ w. no_write (broke' (write_answer answer mid q end used w))) f used);
     }
 
     finished_way : (p q : Known) (handed link back : L) (end : SyncEnd) → left back ≡ left link → given back ≡ given link
         → Unasked opening m z left given take_faults faults p q handed link end ⊎ Asked opening m z left given take_faults faults p q handed link end
         → Unasked opening m z left given take_faults faults p q handed back end ⊎ Asked opening m z left given take_faults faults p q handed back end
-    finished_way p q handed link back end l g (inl u) = inl (record { acted = u.acted; stopped = u.stopped; end_is = u.end_is; left_is = l ∙ u.left_is; given_is = g ∙ u.given_is })
+    finished_way p q handed link back end l g (inl u) = inl (record {
+      acted = u.acted;
+      stopped = u.stopped;
+      end_is = u.end_is;
+      left_is = l
+          ∙ u.left_is;
+      given_is = g ∙ u.given_is;
+    })
     finished_way p q handed link back end l g (inr a) = inr (record {
       statistics = a.statistics;
       lines = a.lines;
@@ -128,7 +153,8 @@ module _ {M P : Type 0} (opening : M → P) (m : PlainMachine P) (z : Kept M) wh
     })
 
     -- the link was finished
-    pub exchange_finished : (p q : Known) (handed link back : L) (end : SyncEnd) → left back ≡ left link → given back ≡ given link → take_faults back ≡ take_faults link → faults link ≤ faults back
+    pub exchange_finished : (p q : Known) (handed link back : L) (end : SyncEnd) → left back ≡ left link → given back ≡ given link → take_faults back
+        ≡ take_faults link → faults link ≤ faults back
         → Exchange opening m z left given take_faults faults p q handed link end → Exchange opening m z left given take_faults faults p q handed back end
     exchange_finished p q handed link back end l g t f x = record {
       way = finished_way p q handed link back end l g x.way;
@@ -137,7 +163,8 @@ module _ {M P : Type 0} (opening : M → P) (m : PlainMachine P) (z : Kept M) wh
       read_fault = λ e. subst (λ n. Rose (take_faults handed) n) (sym t) (x.read_fault e);
       write_fault = λ e. rose_on (faults handed) (faults link) (faults back) (x.write_fault e) x.write_later f;
       no_dial_fault = x.no_dial_fault;
-      exact = subst (λ o. WhileTold (left handed) o (BatchIsTaken (Rose (take_faults handed) (take_faults back)) (Rose (faults handed) (faults back)) end)) (sym l)
+      exact = subst (λ o. WhileTold (left handed) o (BatchIsTaken (Rose (take_faults handed) (take_faults back)) (Rose (faults handed) (faults back)) end))
+          (sym l)
           (weaker (left handed) (left link) (BatchIsTaken (Rose (take_faults handed) (take_faults link)) (Rose (faults handed) (faults link)) end)
           (BatchIsTaken (Rose (take_faults handed) (take_faults back)) (Rose (faults handed) (faults back)) end) x.exact
           (λ a b h. λ body rest batch is first spelled no_read no_write. h body rest batch is first spelled
@@ -148,9 +175,16 @@ module _ {M P : Type 0} (opening : M → P) (m : PlainMachine P) (z : Kept M) wh
     module _ {D : Type 0} (told : D → Option (ToldDial L)) (dial_faults : D → ℕ) where
       -- there was no memory for the buffers
       pub syncs_none : (p : Known) (d : D) → Syncs opening m z left given take_faults faults told dial_faults p p d d NoMemory
-      syncs_none p d = record { goes_on = goes_nowhere p; link = inl (record { pass = refl; dial = inr (refl, refl) }); later = omega arith; cause = λ f. absurd (cc) }
+      syncs_none p d = record {
+        goes_on = goes_nowhere p;
+        link = inl (record { pass = refl; dial = inr (refl, refl) });
+        later = omega arith;
+        cause =
+            λ f. absurd (cc);
+      }
 
-      pub syncs_fault : (p : Known) (d e : D) (failed : Failed) → HandsCalled (told d) (told e) (Err failed) → Rose (dial_faults d) (dial_faults e) → dial_faults d ≤ dial_faults e
+      pub syncs_fault : (p : Known) (d e : D) (failed : Failed) → HandsCalled (told d) (told e) (Err failed) → Rose (dial_faults d) (dial_faults e) →
+          dial_faults d ≤ dial_faults e
           → Syncs opening m z left given take_faults faults told dial_faults p p d e DialFault
       syncs_fault p d e failed h rose later = record {
         goes_on = goes_nowhere p;
@@ -159,7 +193,8 @@ module _ {M P : Type 0} (opening : M → P) (m : PlainMachine P) (z : Kept M) wh
         cause = λ f. rose;
       }
 
-      pub syncs_link : (p q : Known) (d c e : D) (handed link back : L) (end : SyncEnd) → GoesOn p q → Exchange opening m z left given take_faults faults p q handed link end
+      pub syncs_link : (p q : Known) (d c e : D) (handed link back : L) (end : SyncEnd) → GoesOn p q →
+          Exchange opening m z left given take_faults faults p q handed link end
           → left back ≡ left link → given back ≡ given link → take_faults back ≡ take_faults link → faults link ≤ faults back
           → HandsCalled (told d) (told c) (Ok handed) → told e ≡ with_hung (told c) back → dial_faults d ≤ dial_faults c → dial_faults e ≡ dial_faults c
           → Syncs opening m z left given take_faults faults told dial_faults p q d e end

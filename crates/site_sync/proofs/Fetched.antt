@@ -16,7 +16,8 @@ frame_first body held rest first left is whole all = record {
   whole = all ∙ (ap (λ z. z ++ left) whole ∙ append_assoc (frame body) rest left);
 }
 
-pub fetched_frame : (body held rest first left : List ℕ) (r : Result Batch SyncEnd) → IsBody body → held ≡ frame body ++ rest → IsAnswer body r → first ≡ held ++ left → Fetched r first left
+pub fetched_frame : (body held rest first left : List ℕ) (r : Result Batch SyncEnd) → IsBody body → held ≡ frame body ++ rest → IsAnswer body r →
+    first ≡ held ++ left → Fetched r first left
 fetched_frame body held rest first left (Ok batch) is whole a all = (body, frame_first body held rest first left is whole all, a)
 fetched_frame body held rest first left (Err BadReply) is whole a all = (body, frame_first body held rest first left is whole all, a)
 fetched_frame body held rest first left (Err NoMemory) is whole a all = (body, frame_first body held rest first left is whole all)
@@ -44,7 +45,8 @@ answer_end body (Err (TrailFull bytes)) a = absurd a
 pub fetched_long : (held first left : List ℕ) (len : ℕ) → IsLong held len → first ≡ held ++ left → Fetched (Err (LongFrame len)) first left
 fetched_long held first left len long all = subst (λ z. IsLong z len) (sym all) (long_more held left len long)
 
-pub fetched_cut : (held first before after : List ℕ) → IsPartial held → first ≡ held ++ before → before ≡ [] → before ≡ [] ++ after → Fetched (Err Cut) first after
+pub fetched_cut : (held first before after : List ℕ) → IsPartial held → first ≡ held ++ before → before ≡ [] → before ≡ [] ++ after →
+    Fetched (Err Cut) first after
 fetched_cut held first before after partial all none moved =
     (subst (λ z. IsPartial z) (sym (all ∙ (ap (λ z. held ++ z) none ∙ append-nil held))) partial, sym moved ∙ none)
 
@@ -52,7 +54,8 @@ pub fetched_fault : (held first before after : List ℕ) → IsPartial held → 
 fetched_fault held first before after partial all same = (held, partial, all ∙ ap (λ z. held ++ z) (sym same))
 
 -- a piece more is held
-pub fed : (held first before after new piece taken : List ℕ) (n : ℕ) → first ≡ held ++ before → before ≡ taken ++ after → piece ≡ taken → new ≡ held ++ take n piece → n ≡ length piece → first ≡ new ++ after
+pub fed : (held first before after new piece taken : List ℕ) (n : ℕ) → first ≡ held ++ before → before ≡ taken ++ after → piece ≡ taken → new ≡ held
+    ++ take n piece → n ≡ length piece → first ≡ new ++ after
 fed held first before after new piece taken n all moved is grown whole =
     let new' : new ≡ held ++ taken = grown ∙ ap (λ z. held ++ z) (ap (λ k. take k piece) whole ∙ (take_all (length piece) piece (omega arith) ∙ is)) in
     all ∙ (ap (λ z. held ++ z) moved ∙ (sym (append_assoc held taken after) ∙ ap (λ z. z ++ after) (sym new')))

@@ -23,7 +23,8 @@ goes_both p q r g h = record {
 }
 
 -- the reply at the place behind these entries
-pub reply_behind : {P : Type 0} (m : PlainMachine P) (s : P) (xs : List Event) (e : Event) (ys : List Event) → reply_at m s (xs ++ e ∷ ys) (length xs) ≡ Some (m.reply (state_after m s xs) e)
+pub reply_behind : {P : Type 0} (m : PlainMachine P) (s : P) (xs : List Event) (e : Event) (ys : List Event) → reply_at m s (xs ++ e ∷ ys) (length xs)
+    ≡ Some (m.reply (state_after m s xs) e)
 reply_behind m s [] e ys = refl
 reply_behind m s (x ∷ xs) e ys = reply_behind m (m.step s x) xs e ys
 
@@ -54,7 +55,8 @@ module _ {M P : Type 0} (opening : M → P) (m : PlainMachine P) (z : Kept M) wh
   unanswered p q e out r other s = record { keeps = s.keeps; ended = emptied p q e out r other s.ended }
 
   -- one step more that was answered
-  pub asks_then : (p q t : Known) (es : List Event) (ys : List (List ℕ)) (e : Event) (y : List ℕ) → Asks opening m z p es ys q → StepsOnce opening m z q e y t Done → Asks opening m z p (es ++ e ∷ []) (ys ++ y ∷ []) t
+  pub asks_then : (p q t : Known) (es : List Event) (ys : List (List ℕ)) (e : Event) (y : List ℕ) → Asks opening m z p es ys q →
+      StepsOnce opening m z q e y t Done → Asks opening m z p (es ++ e ∷ []) (ys ++ y ∷ []) t
   asks_then p q t [] [] e y a s = (t, subst (λ k. StepsOnce opening m z k e y t Done) a s, refl)
   asks_then p q t (x ∷ xs) (w ∷ ws) e y a s = (a.0, a.1, asks_then a.0 q t xs ws e y a.2 s)
   asks_then p q t [] (w ∷ ws) e y a s = absurd a

@@ -1,5 +1,6 @@
 -- The items of a batch by their places.
-use Rattle.std.proofs.Common.{◌≡◌, ℕ, ◌+◌, ◌-◌, ◌<◌, ◌≤◌, Bool, IsTrue, List, [], ◌∷◌, ◌++◌, length, map, take, slice_get, Option, Some, None, refl, ap, sym, ◌∙◌, subst, arith, length-append}
+use Rattle.std.proofs.Common.{◌≡◌, ℕ, ◌+◌, ◌-◌, ◌<◌, ◌≤◌, Bool, IsTrue, List, [], ◌∷◌, ◌++◌, length, map, take, slice_get, Option, Some, None, refl, ap, sym}
+use Rattle.std.proofs.Common.{◌∙◌, subst, arith, length-append}
 use Rattle.std.proofs.lemmas.Bool.{and_parts, ltb-true, leb-true}
 use Rattle.std.proofs.lemmas.Option.{slice_get-map}
 use Rattle.std.specs.Prelude.{option_map, nat_le, ◌&&◌}
@@ -38,7 +39,14 @@ place_of (x ∷ xs) ℕ.zero h = record { item = x; there = refl; more = refl; b
 place_of (x ∷ xs) (ℕ.suc i) h =
     let p = place_of xs i (omega (arith, h)) in
     let next : ℕ.suc i + 1 ≡ ℕ.suc (i + 1) = omega arith in
-    record { item = p.item; there = p.there; more = ap (λ k. take k (x ∷ xs)) next ∙ ap (λ z. x ∷ z) p.more; behind = p.behind; around = ap (λ z. x ∷ z) p.around }
+    record {
+      item = p.item;
+      there = p.there;
+      more = ap (λ k. take k (x ∷ xs)) next ∙ ap (λ z. x ∷ z) p.more;
+      behind = p.behind;
+      around =
+          ap (λ z. x ∷ z) p.around;
+    }
 
 abbrev or_else : {X : Type 0} → X → Option X → X
 or_else y None = y
@@ -65,11 +73,13 @@ get_front (z ∷ xs) ys ℕ.zero x e = e
 get_front (z ∷ xs) ys (ℕ.suc i) x e = get_front xs ys i x e
 
 -- first come the records
-pub record_at : (rs : List Record) (cs : List Consent) (i : ℕ) (r : Record) → slice_get rs i ≡ Some r → slice_get (map State rs ++ map Promise cs) i ≡ Some (State r)
+pub record_at : (rs : List Record) (cs : List Consent) (i : ℕ) (r : Record) → slice_get rs i ≡ Some r → slice_get (map State rs ++ map Promise cs) i
+    ≡ Some (State r)
 record_at rs cs i r e = get_front (map State rs) (map Promise cs) i (State r) (slice_get-map State rs i ∙ ap (option_map State) e)
 
 -- behind the records come the consents
-pub promise_at : (rs : List Record) (cs : List Consent) (i : ℕ) (c : Consent) → length rs ≤ i → slice_get cs (i - length rs) ≡ Some c → slice_get (map State rs ++ map Promise cs) i ≡ Some (Promise c)
+pub promise_at : (rs : List Record) (cs : List Consent) (i : ℕ) (c : Consent) → length rs ≤ i → slice_get cs (i - length rs) ≡ Some c →
+    slice_get (map State rs ++ map Promise cs) i ≡ Some (Promise c)
 promise_at rs cs i c h e =
     get_behind (map State rs) (map Promise cs) i (subst (λ n. n ≤ i) (sym (length_map State rs)) h)
     ∙ ap (λ n. slice_get (map Promise cs) (i - n)) (length_map State rs)
@@ -92,6 +102,7 @@ consents_valid b valid = (consents_parts b.consents (parts_of b valid).1).1
 
 pub items_few : (b : Batch) → IsTrue (is_batch b) → length (items b) < 65552
 items_few b valid =
-    let records : length b.records < 65536 = ltb-true (length b.records) 65536 (and_parts (is_u16 (length b.records)) (list_all is_record b.records) (parts_of b valid).0).0 in
+    let records : length b.records < 65536 = ltb-true (length b.records) 65536
+    (and_parts (is_u16 (length b.records)) (list_all is_record b.records) (parts_of b valid).0).0 in
     let consents : length b.consents ≤ 16 = leb-true (length b.consents) 16 (consents_parts b.consents (parts_of b valid).1).0 in
     omega (arith, length_items b, records, consents)

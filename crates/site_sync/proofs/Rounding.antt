@@ -42,11 +42,19 @@ with_ends_then : (ends : List SyncEnd) (end : SyncEnd) (n : Rounds) → with_end
 with_ends_then [] end n = refl
 with_ends_then (x ∷ xs) end n = with_ends_then xs end (with_end x n)
 
-module _ {M P L D : Type 0} (opening : M → P) (m : PlainMachine P) (z : Kept M) (left given : L → Option (List ℕ)) (take_faults faults : L → ℕ) (told : D → Option (ToldDial L)) (dial_faults : D → ℕ) where
-  exchanges_then : (p : Known) (d : D) (ends : List SyncEnd) (q : Known) (e : D) (end : SyncEnd) (t : Known) (f : D) → AreExchanges opening m z left given take_faults faults told dial_faults p d ends q e
-      → Syncs opening m z left given take_faults faults told dial_faults q t e f end → AreExchanges opening m z left given take_faults faults told dial_faults p d (ends ++ end ∷ []) t f
-  exchanges_then p d [] q e end t f a s =
-      (t, f, subst (λ x. Syncs opening m z left given take_faults faults told dial_faults p t x f end) a.1 (subst (λ k. Syncs opening m z left given take_faults faults told dial_faults k t e f end) a.0 s), (refl, refl))
+module _ {M P L D : Type 0} (opening : M → P) (m : PlainMachine P) (z : Kept M) (left given : L → Option (List ℕ)) (take_faults faults : L → ℕ)
+    (told : D → Option (ToldDial L)) (dial_faults : D → ℕ) where
+  exchanges_then : (p : Known) (d : D) (ends : List SyncEnd) (q : Known) (e : D) (end : SyncEnd) (t : Known) (f : D) →
+      AreExchanges opening m z left given take_faults faults told dial_faults p d ends q e
+      → Syncs opening m z left given take_faults faults told dial_faults q t e f end →
+      AreExchanges opening m z left given take_faults faults told dial_faults p d (ends ++ end ∷ []) t f
+  exchanges_then p d [] q e end t f a s = (
+    t,
+    f,
+    subst (λ x. Syncs opening m z left given take_faults faults told dial_faults p t x f end) a.1
+        (subst (λ k. Syncs opening m z left given take_faults faults told dial_faults k t e f end) a.0 s),
+    (refl, refl),
+  )
   exchanges_then p d (x ∷ xs) q e end t f a s = (a.0, a.1, a.2, exchanges_then a.0 a.1 xs q e end t f a.3 s)
 
   -- so many peers were called
@@ -57,10 +65,17 @@ module _ {M P L D : Type 0} (opening : M → P) (m : PlainMachine P) (z : Kept M
     pub memory : now.memory ≤ before.memory + count
 
   pub calling_none : (p : Known) (d : D) (n : Rounds) → Calling 0 p d n p d n
-  calling_none p d n = record { goes_on = goes_nowhere p; calls = record { ends = []; exchanges = (refl, refl); one_each = refl; numbers = refl }; dial = omega arith; memory = omega arith }
+  calling_none p d n = record {
+    goes_on = goes_nowhere p;
+    calls = record { ends = []; exchanges = (refl, refl); one_each = refl; numbers = refl };
+    dial =
+        omega arith;
+    memory = omega arith;
+  }
 
   pub calling_more : (count : ℕ) (p : Known) (d : D) (before : Rounds) (q : Known) (e : D) (now : Rounds) (end : SyncEnd) (t : Known) (f : D) (new : Rounds)
-      → Calling count p d before q e now → Syncs opening m z left given take_faults faults told dial_faults q t e f end → new ≡ with_end end now → Calling (count + 1) p d before t f new
+      → Calling count p d before q e now → Syncs opening m z left given take_faults faults told dial_faults q t e f end → new ≡ with_end end now →
+      Calling (count + 1) p d before t f new
   calling_more count p d before q e now end t f new c s is =
       let most = end_most end now in
       record {
@@ -86,7 +101,8 @@ module _ {M P L D : Type 0} (opening : M → P) (m : PlainMachine P) (z : Kept M
   rounding_none peers tidy p d = record { goes_on = goes_nowhere p; made = (refl, refl, refl); dial = omega arith; memory = omega arith }
 
   pub rounding_more : (rounds peers : ℕ) (tidy : Bool) (p : Known) (d : D) (n : Rounds) (q : Known) (e : D) (t : Known) (f : D) (new : Rounds)
-      → Rounding rounds peers tidy p d n q e → GoesOn q t → IsRound opening m z left given take_faults faults told dial_faults peers tidy q e n t f new → new.dial ≤ n.dial + 15 → new.memory ≤ n.memory + 17
+      → Rounding rounds peers tidy p d n q e → GoesOn q t → IsRound opening m z left given take_faults faults told dial_faults peers tidy q e n t f new →
+      new.dial ≤ n.dial + 15 → new.memory ≤ n.memory + 17
       → Rounding (rounds + 1) peers tidy p d new t f
   rounding_more rounds peers tidy p d n q e t f new r goes one dial memory =
       let next : ℕ.suc rounds ≡ rounds + 1 = omega arith in

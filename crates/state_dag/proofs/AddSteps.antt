@@ -27,12 +27,14 @@ use Rattle.state_dag.proofs.SameEntries.{same-count, same-at}
 use Rattle.state_dag.proofs.Became.{Became, became, follow-in}
 use Rattle.state_dag.proofs.GrownTables.{fault-told}
 
-short-found : (table : Table) (most : ℕ) (es : List Entry) → AreFound table es → list_all (λ e. leb (length e.path) most) es ≡ true → list_all (λ s. leb (length (path_at table s)) most) (slots_of es) ≡ true
+short-found : (table : Table) (most : ℕ) (es : List Entry) → AreFound table es → list_all (λ e. leb (length e.path) most) es ≡ true →
+    list_all (λ s. leb (length (path_at table s)) most) (slots_of es) ≡ true
 short-found table most [] found all = refl
 short-found table most (e ∷ es) found all =
     let parts = and_parts (leb (length e.path) most) (list_all (λ (f : Entry). leb (length f.path) most) es) all in
     let here : path_at table e.slot ≡ e.path = ap (λ o. option_map_or (λ (f : Entry). f.path) o []) (found 0 e (omega arith)) in
-    and_from (leb (length (path_at table e.slot)) most) (list_all (λ s. leb (length (path_at table s)) most) (slots_of es)) (ap (λ (ps : List (ℕ × ℕ)). leb (length ps) most) here ∙ parts.0)
+    and_from (leb (length (path_at table e.slot)) most) (list_all (λ s. leb (length (path_at table s)) most) (slots_of es))
+    (ap (λ (ps : List (ℕ × ℕ)). leb (length ps) most) here ∙ parts.0)
     (short-found table most es (found-rest table e es found) parts.1)
 
 module _ (a : Inside) (held : IsHeld a) (table : Table) (view : seen a ≡ table) (parents : List Slot) (slots : list_all (is_slot table) parents ≡ true) where
@@ -51,7 +53,8 @@ module _ (a : Inside) (held : IsHeld a) (table : Table) (view : seen a ≡ table
   closed : (s : Slot) (e : Entry) → is_slot (seen a) s ≡ true → entry_at (seen a) s ≡ Some e → list_all (is_slot (seen a)) e.stand_ins ≡ true
   closed s e there is = all-found (λ (f : Entry). list_all (is_slot (seen a)) f.stand_ins) (seen a).entries s.0 e is held.stand_ins
 
-  pub short-kept : (ns : List Node) (ss : List Slot) → ns ≡ a.nodes.items → ss ≡ kept_of a → list_all (λ s. leb (length (path_at (table_of ns) s)) a.limits.max_path) ss ≡ true
+  pub short-kept : (ns : List Node) (ss : List Slot) → ns ≡ a.nodes.items → ss ≡ kept_of a →
+      list_all (λ s. leb (length (path_at (table_of ns) s)) a.limits.max_path) ss ≡ true
   short-kept ns ss nodes kept =
       subst (λ ms. list_all (λ s. leb (length (path_at (table_of ms) s)) a.limits.max_path) ss ≡ true) (sym nodes)
       (subst (λ qs. list_all (λ s. leb (length (path_at (table_of a.nodes.items) s)) a.limits.max_path) qs ≡ true) (kept-slots a held ∙ sym kept)
@@ -65,11 +68,13 @@ module _ (a : Inside) (held : IsHeld a) (table : Table) (view : seen a ≡ table
         is ∙ ap (λ ms. all_gains (table_of ms) parents ss) nodes ∙ ap (all_gains (table_of a.nodes.items) parents) kept
         ∙ gains-alike (table_of a.nodes.items) (seen a) (is_slot (seen a)) agree closed parents parents-in (kept_of a) kept-in
 
-    pub none-seen : find (is_long (table_of ns) a.limits.max_path parents) ss ≡ None → find (is_long (seen a) a.limits.max_path parents) (slots_of (seen a).entries) ≡ None
+    pub none-seen : find (is_long (table_of ns) a.limits.max_path parents) ss ≡ None →
+        find (is_long (seen a) a.limits.max_path parents) (slots_of (seen a).entries) ≡ None
     none-seen none =
         subst (λ qs. find (is_long (seen a) a.limits.max_path parents) qs ≡ None) (sym (kept-slots a held))
         (sym (long-alike (table_of a.nodes.items) (seen a) (is_slot (seen a)) agree closed parents parents-in a.limits.max_path (kept_of a) kept-in)
-        ∙ subst (λ qs. find (is_long (table_of a.nodes.items) a.limits.max_path parents) qs ≡ None) kept (subst (λ ms. find (is_long (table_of ms) a.limits.max_path parents) ss ≡ None) nodes none))
+        ∙ subst (λ qs. find (is_long (table_of a.nodes.items) a.limits.max_path parents) qs ≡ None) kept
+        (subst (λ ms. find (is_long (table_of ms) a.limits.max_path parents) ss ≡ None) nodes none))
 
     pub long-seen : (fault : AddFault) → TellsLong (table_of ns) parents (find (is_long (table_of ns) a.limits.max_path parents) ss) fault →
         TellsLong (seen a) parents (find (is_long (seen a) a.limits.max_path parents) (slots_of (seen a).entries)) fault
@@ -79,23 +84,27 @@ module _ (a : Inside) (held : IsHeld a) (table : Table) (view : seen a ≡ table
         (subst (λ qs. TellsLong (table_of a.nodes.items) parents (find (is_long (table_of a.nodes.items) a.limits.max_path parents) qs) fault) kept
         (subst (λ ms. TellsLong (table_of ms) parents (find (is_long (table_of ms) a.limits.max_path parents) ss) fault) nodes told)))
 
-  pub entry-seen : (ns : List Node) (x : StateId) (slot : Slot) (e : Entry) → ns ≡ a.nodes.items → IsNewEntry (table_after a.known ns) parents x slot e → IsNewEntry table parents x slot e
+  pub entry-seen : (ns : List Node) (x : StateId) (slot : Slot) (e : Entry) → ns ≡ a.nodes.items → IsNewEntry (table_after a.known ns) parents x slot e →
+      IsNewEntry table parents x slot e
   entry-seen ns x slot e nodes new =
       subst (λ t. IsNewEntry t parents x slot e) view
-      (entry-moves (table_after a.known a.nodes.items) (seen a) (is_slot (seen a)) agree closed parents parents-in x slot e refl (subst (λ ms. IsNewEntry (table_after a.known ms) parents x slot e) nodes new))
+      (entry-moves (table_after a.known a.nodes.items) (seen a) (is_slot (seen a)) agree closed parents parents-in x slot e refl
+      (subst (λ ms. IsNewEntry (table_after a.known ms) parents x slot e) nodes new))
 
   -- ===== What has grown
 
   module _ (gains : List Gain) (is : gains ≡ all_gains (seen a) parents (kept_of a)) where
     pub gains-at_places : (ms : List Node) → length ms ≡ length a.nodes.items → have_places ms gains ≡ true
     gains-at_places ms count =
-        gains-placed (seen a) parents (kept_of a) gains is ms (subst (λ (m : ℕ). list_all (λ (s : Slot). ltb s.0 m) (kept_of a) ≡ true) (sym count) (kept-placed a held))
+        gains-placed (seen a) parents (kept_of a) gains is ms
+        (subst (λ (m : ℕ). list_all (λ (s : Slot). ltb s.0 m) (kept_of a) ≡ true) (sym count) (kept-placed a held))
 
     pub few-gains : (k : ℕ) → gains_of k gains ≤ length parents
     few-gains k = gains-few (seen a) parents (kept_of a) gains is (kept-distinct a held) k
 
     pub all-grown : (ms ns : List Node) (n : Node) (x : StateId) (slot : Slot) → entries_from 0 ms ≡ entries_from 0 a.nodes.items → length ns ≡ length ms →
-        ((k : ℕ) (d : Node) → k < length ms → HasGrown gains parents x slot k (get_or ms k d) (get_or ns k d)) → Follow (Became (seen a) parents x slot) (seen a).entries (entries_in ns (kept_of a))
+        ((k : ℕ) (d : Node) → k < length ms → HasGrown gains parents x slot k (get_or ms k d) (get_or ns k d)) →
+        Follow (Became (seen a) parents x slot) (seen a).entries (entries_in ns (kept_of a))
     all-grown ms ns n x slot same count each =
         let counted = same-count ms a.nodes.items same in
         follow-in (Became (seen a) parents x slot) a.nodes.items ns n (kept_of a) (omega arith) (kept-placed a held) (λ k lt there.
@@ -105,7 +114,8 @@ module _ (a : Inside) (held : IsHeld a) (table : Table) (view : seen a ≡ table
 
   -- ===== Leaves in order, by nodes with the same entries
 
-  pub leaves-in_order : (ms : List Node) (ns : List Node) (ss : List Slot) → ns ≡ ms → entries_from 0 ms ≡ entries_from 0 a.nodes.items → ss ≡ a.leaves.items → Rise (arrival_at (table_of ns)) ss
+  pub leaves-in_order : (ms : List Node) (ns : List Node) (ss : List Slot) → ns ≡ ms → entries_from 0 ms ≡ entries_from 0 a.nodes.items →
+      ss ≡ a.leaves.items → Rise (arrival_at (table_of ns)) ss
   leaves-in_order ms ns ss nodes same leaves =
       subst (λ qs. Rise (arrival_at (table_of qs)) ss) (sym nodes)
       (subst (λ qs. Rise (arrival_at (table_of ms)) qs) (sym (leaves ∙ held.childless))
@@ -113,7 +123,8 @@ module _ (a : Inside) (held : IsHeld a) (table : Table) (view : seen a ≡ table
       (leaves-rise (table_of a.nodes.items) (seen a).entries (found-nodes a held) held.in_order)))
 
 -- the answer to a fault of a new state's path or that of a kept one
-pub fault-answered : (a : Inside) (held : IsHeld a) (old : Table) (parents : List Slot) (n : Node) (x : StateId) → seen a ≡ old → IsNewEntry old parents x (record { 0 = 0 }) (entry_of 0 n) →
+pub fault-answered : (a : Inside) (held : IsHeld a) (old : Table) (parents : List Slot) (n : Node) (x : StateId) → seen a ≡ old →
+    IsNewEntry old parents x (record { 0 = 0 }) (entry_of 0 n) →
     (a.kept ≡ a.limits.max_kept → ⊥) → (fault : AddFault) → TellsRefusal (path_refusal (seen a) n.id parents (length n.path.pairs)) (Err fault) →
     (rs : List Record) (ks : List StateId) (r : Record) → Stands old rs ks → r.id ≡ x → MayBeAdded old rs ks r parents → AddedTo old old rs ks r (Err fault)
 fault-answered a held old parents n x view entry unfilled fault told rs ks r stands is may =

@@ -1,5 +1,6 @@
 -- What `add` answers, from how the table grew or why it didn't.
-use Rattle.std.proofs.Common.{◌≡◌, ℕ, ◌<◌, Bool, true, false, cond, eqb, ltb, List, [], ◌∷◌, ◌++◌, length, find, Option, Some, None, is_some, Ok, Err, IsTrue, inl, inr, refl, sym, ap, subst, ◌∙◌, eq-eqb, arith}
+use Rattle.std.proofs.Common.{◌≡◌, ℕ, ◌<◌, Bool, true, false, cond, eqb, ltb, List, [], ◌∷◌, ◌++◌, length, find, Option, Some, None, is_some, Ok, Err, IsTrue}
+use Rattle.std.proofs.Common.{inl, inr, refl, sym, ap, subst, ◌∙◌, eq-eqb, arith}
 use Rattle.std.specs.List.{list_all}
 use Rattle.std.specs.Option.{option_map, option_map_or}
 use Rattle.std.proofs.lemmas.Bool.{and_parts, and_from, cases_Bool, both_ways, cond-true, ltb-true, lt-ltb}
@@ -39,7 +40,8 @@ found-arrived known k (f ∷ es) e all is =
 
 module _ (old : Table) (parents : List Slot) (x : StateId) (slot : Slot) (newest : Entry) (last : newest.arrival ≡ old.known) where
   -- entries in order, and a last one that arrived after them
-  order-stays : (os ns : List Entry) → AreGrownEntries old parents x slot os ns → arrive_in_order os ≡ true → have_arrived old.known os ≡ true → arrive_in_order (ns ++ newest ∷ []) ≡ true
+  order-stays : (os ns : List Entry) → AreGrownEntries old parents x slot os ns → arrive_in_order os ≡ true → have_arrived old.known os ≡ true →
+      arrive_in_order (ns ++ newest ∷ []) ≡ true
   order-stays [] [] each up all = refl
   order-stays [] (n ∷ ns) each up all = absurd (each)
   order-stays (o ∷ os) [] each up all = absurd (each)
@@ -55,7 +57,8 @@ module _ (old : Table) (parents : List Slot) (x : StateId) (slot : Slot) (newest
       let lt = ltb-true o.arrival p.arrival parts.0 in
       let same = each.0.arrival_stays in
       let next = each.1.0.arrival_stays in
-      and_from (ltb n.arrival m.arrival) (arrive_in_order (m ∷ ns ++ newest ∷ [])) (lt-ltb n.arrival m.arrival (omega arith)) (order-stays (p ∷ os) (m ∷ ns) each.1 parts.1 rest.1)
+      and_from (ltb n.arrival m.arrival) (arrive_in_order (m ∷ ns ++ newest ∷ [])) (lt-ltb n.arrival m.arrival (omega arith))
+      (order-stays (p ∷ os) (m ∷ ns) each.1 parts.1 rest.1)
 
 -- ===== Slots
 
@@ -72,18 +75,21 @@ module _ (old new : Table) (x : StateId) (parents : List Slot) (slot : Slot) (g 
 
   -- a slot stays one, with its arrival
   pub slot-stays : (s : Slot) → IsTrue (is_slot old s) → IsTrue (is_slot new s) × (arrival_at new s ≡ arrival_at old s)
-  slot-stays s h = subst (λ (o : Option Entry). IsTrue (is_some o) × (option_map_or (λ (e : Entry). e.arrival) o 0 ≡ arrival_at old s)) (sym (looked old new x parents slot g s))
+  slot-stays s h = subst (λ (o : Option Entry). IsTrue (is_some o) × (option_map_or (λ (e : Entry). e.arrival) o 0 ≡ arrival_at old s))
+      (sym (looked old new x parents slot g s))
       (go (entry_at old s) (find (λ e. eqb e.slot.0 s.0) g.grown) (both old new x parents slot g s) h)
     where
       other : Option Entry
       other = cond (eqb g.newest.slot.0 s.0) (Some g.newest) None
 
-      go : (o n : Option Entry) → FoundBoth old parents x slot o n → IsTrue (is_some o) → IsTrue (is_some (or_else n other)) × (option_map_or (λ e. e.arrival) (or_else n other) 0 ≡ option_map_or (λ e. e.arrival) o 0)
+      go : (o n : Option Entry) → FoundBoth old parents x slot o n → IsTrue (is_some o) → IsTrue (is_some (or_else n other))
+          × (option_map_or (λ e. e.arrival) (or_else n other) 0 ≡ option_map_or (λ e. e.arrival) o 0)
       go None n b e = absurd (both_ways false refl e)
       go (Some o) None b e = absurd (b)
       go (Some o) (Some n) b e = (refl, b.arrival_stays)
 
-  pub kept-at-stays : (s : Slot) → have_arrived old.known old.entries ≡ true → IsTrue (is_kept_at old s) → IsTrue (is_kept_at new s) × (arrival_at new s ≡ arrival_at old s)
+  pub kept-at-stays : (s : Slot) → have_arrived old.known old.entries ≡ true → IsTrue (is_kept_at old s) → IsTrue (is_kept_at new s)
+      × (arrival_at new s ≡ arrival_at old s)
   kept-at-stays s all h =
       let parts = and_parts (is_slot old s) (arrive_in_order old.entries) h in
       let stays = slot-stays s parts.0 in
@@ -91,11 +97,14 @@ module _ (old new : Table) (x : StateId) (parents : List Slot) (slot : Slot) (g 
 
   -- the new state arrived last
   pub newest-arrival : arrival_at new slot ≡ old.known
-  newest-arrival = ap (λ o. option_map_or (λ (e : Entry). e.arrival) o 0) (looked old new x parents slot g slot) ∙ go (entry_at old slot) (find (λ e. eqb e.slot.0 slot.0) g.grown) (both old new x parents slot g slot) g.fresh
+  newest-arrival = ap (λ o. option_map_or (λ (e : Entry). e.arrival) o 0) (looked old new x parents slot g slot)
+      ∙ go (entry_at old slot) (find (λ e. eqb e.slot.0 slot.0) g.grown) (both old new x parents slot g slot) g.fresh
     where
-      go : (o n : Option Entry) → FoundBoth old parents x slot o n → ◌≡◌ {A = Option Entry} o None → option_map_or (λ e. e.arrival) (or_else n (cond (eqb g.newest.slot.0 slot.0) (Some g.newest) None)) 0 ≡ old.known
+      go : (o n : Option Entry) → FoundBoth old parents x slot o n → ◌≡◌ {A = Option Entry} o None →
+          option_map_or (λ e. e.arrival) (or_else n (cond (eqb g.newest.slot.0 slot.0) (Some g.newest) None)) 0 ≡ old.known
       go None None b e =
-          ap (λ o. option_map_or (λ (f : Entry). f.arrival) o 0) (cond-true (eqb g.newest.slot.0 slot.0) (Some g.newest) None (eq-eqb g.newest.slot.0 slot.0 (ap (λ (s : Slot). s.0) g.is_new.slot_is)))
+          ap (λ o. option_map_or (λ (f : Entry). f.arrival) o 0)
+          (cond-true (eqb g.newest.slot.0 slot.0) (Some g.newest) None (eq-eqb g.newest.slot.0 slot.0 (ap (λ (s : Slot). s.0) g.is_new.slot_is)))
           ∙ g.is_new.arrival_is
       go None (Some n) b e = absurd (b)
       go (Some o) n b e = absurd (none-some o (sym e))
@@ -114,7 +123,8 @@ module _ (old new : Table) (x : StateId) (parents : List Slot) (slot : Slot) (g 
     where
       go : (o : Option Entry) → entry_at old s ≡ o → IsTrue (is_some o) → arrival_at old s < old.known
       go None is t = absurd (both_ways false refl t)
-      go (Some e) is t = subst (λ (n : ℕ). n < old.known) (sym (ap (λ o. option_map_or (λ (f : Entry). f.arrival) o 0) is)) (found-arrived old.known s.0 old.entries e all is)
+      go (Some e) is t = subst (λ (n : ℕ). n < old.known) (sym (ap (λ o. option_map_or (λ (f : Entry). f.arrival) o 0) is))
+          (found-arrived old.known s.0 old.entries e all is)
 
 -- ===== The answers
 
@@ -124,17 +134,20 @@ module _ (old new : Table) (rs : List Record) (ks : List StateId) (r : Record) (
   full kept all most same =
       let listed : length (kept_states rs ks) ≡ kept = sym (entries-kept old rs ks stands) ∙ sym all in
       let rest : Option Refusal = option_map (λ (p : StateId × ℕ). IsPathFull p.0 p.1) (long_path (r ∷ rs) ks old.limits.max_path) in (
-        ap (λ n. cond (eqb n old.limits.max_kept) (Some (IsFull n)) rest) listed ∙ cond-true (eqb kept old.limits.max_kept) (Some (IsFull kept)) rest (eq-eqb kept old.limits.max_kept most),
+        ap (λ n. cond (eqb n old.limits.max_kept) (Some (IsFull n)) rest) listed ∙ cond-true (eqb kept old.limits.max_kept) (Some (IsFull kept)) rest
+            (eq-eqb kept old.limits.max_kept most),
         same,
       )
 
   module _ (may : MayBeAdded old rs ks r parents) where
     -- a path would be too long
-    pub path-full : (path : List (ℕ × ℕ)) (x : StateId) (n : ℕ) → IsNewPath old parents path → refusal_of old r.id parents (length path) ≡ Some (IsPathFull x n) → new ≡ old → AddedTo old new rs ks r (Err (PathFull x n))
+    pub path-full : (path : List (ℕ × ℕ)) (x : StateId) (n : ℕ) → IsNewPath old parents path → refusal_of old r.id parents (length path)
+        ≡ Some (IsPathFull x n) → new ≡ old → AddedTo old new rs ks r (Err (PathFull x n))
     path-full path x n is refusal same = (refusal-is old rs ks r parents path stands may is ∙ refusal, same)
 
     -- the table has grown, and nothing refused
-    pub added : (slot : Slot) (g : IsGrown old new r.id parents slot) → refusal_of old r.id parents (length g.newest.path) ≡ None → AddedTo old new rs ks r (Ok slot)
+    pub added : (slot : Slot) (g : IsGrown old new r.id parents slot) → refusal_of old r.id parents (length g.newest.path) ≡ None →
+        AddedTo old new rs ks r (Ok slot)
     added slot g nothing =
         let none = refusal-is old rs ks r parents g.newest.path stands may g.is_new.path ∙ nothing in
         (none, grows old new rs ks r parents slot stands may none g)

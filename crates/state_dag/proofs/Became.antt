@@ -1,5 +1,6 @@
 -- What became of the entries of a table that grew, one for one.
-use Rattle.std.proofs.Common.{◌≡◌, ℕ, ◌<◌, ◌≤◌, Bool, true, false, not, ◌&&◌, ◌||◌, cond, eqb, ltb, List, [], ◌∷◌, ◌++◌, length, find, get_or, Option, Some, None, IsTrue, inl, inr, refl, sym, ap, ap₂, subst, ◌∙◌, arith}
+use Rattle.std.proofs.Common.{◌≡◌, ℕ, ◌<◌, ◌≤◌, Bool, true, false, not, ◌&&◌, ◌||◌, cond, eqb, ltb, List, [], ◌∷◌, ◌++◌, length, find, get_or, Option, Some}
+use Rattle.std.proofs.Common.{None, IsTrue, inl, inr, refl, sym, ap, ap₂, subst, ◌∙◌, arith}
 use Rattle.std.specs.List.{list_all}
 use Rattle.std.proofs.lemmas.Bool.{cases_Bool, and_parts, and_from, and_right, eq-eqb, ne_eqb, ltb-true, lt-ltb}
 use Rattle.tardis_base.specs.declared.ids.StateId.{StateId}
@@ -18,7 +19,8 @@ use Rattle.state_dag.proofs.KeptEntries.{placed, entries-first}
 
 module _ (R : Entry → Entry → Type 0) where
   -- where what is related passes the tests, all pass
-  pub follow-all : (p q : Entry → Bool) → ((o n : Entry) → R o n → p o ≡ true → q n ≡ true) → (os ns : List Entry) → Follow R os ns → list_all p os ≡ true → list_all q ns ≡ true
+  pub follow-all : (p q : Entry → Bool) → ((o n : Entry) → R o n → p o ≡ true → q n ≡ true) → (os ns : List Entry) → Follow R os ns → list_all p os ≡ true
+      → list_all q ns ≡ true
   follow-all p q keeps [] [] f all = refl
   follow-all p q keeps [] (n ∷ ns) f all = absurd (f)
   follow-all p q keeps (o ∷ os) [] f all = absurd (f)
@@ -27,7 +29,8 @@ module _ (R : Entry → Entry → Type 0) where
       and_from (q n) (list_all q ns) (keeps o n f.0 parts.0) (follow-all p q keeps os ns f.1 parts.1)
 
   -- what is related is related otherwise too, where the old ones pass a test
-  pub follow-with : (S : Entry → Entry → Type 0) (p : Entry → Bool) → ((o n : Entry) → R o n → p o ≡ true → S o n) → (os ns : List Entry) → Follow R os ns → list_all p os ≡ true → Follow S os ns
+  pub follow-with : (S : Entry → Entry → Type 0) (p : Entry → Bool) → ((o n : Entry) → R o n → p o ≡ true → S o n) → (os ns : List Entry) → Follow R os ns
+      → list_all p os ≡ true → Follow S os ns
   follow-with S p turns [] [] f all = tt
   follow-with S p turns [] (n ∷ ns) f all = absurd (f)
   follow-with S p turns (o ∷ os) [] f all = absurd (f)
@@ -62,14 +65,17 @@ module _ (R : Entry → Entry → Type 0) where
 
   -- the nodes in some slots
   pub follow-in : (ms ns : List Node) (d : Node) (slots : List Slot) → length ns ≡ length ms → placed ms slots ≡ true →
-      ((k : ℕ) → k < length ms → is_slot_among (record { 0 = k }) slots ≡ true → R (entry_of k (get_or ms k d)) (entry_of k (get_or ns k d))) → Follow R (entries_in ms slots) (entries_in ns slots)
+      ((k : ℕ) → k < length ms → is_slot_among (record { 0 = k }) slots ≡ true → R (entry_of k (get_or ms k d)) (entry_of k (get_or ns k d))) →
+      Follow R (entries_in ms slots) (entries_in ns slots)
   follow-in ms ns d [] same all each = tt
   follow-in ms ns d (s ∷ slots) same all each =
       let parts = and_parts (ltb s.0 (length ms)) (placed ms slots) all in
       let lt = ltb-true s.0 (length ms) parts.0 in
       subst (λ es. Follow R es (entries_in ns (s ∷ slots))) (sym (entries-first ms d s slots lt))
-      (subst (λ es. Follow R (entry_of s.0 (get_or ms s.0 d) ∷ entries_in ms slots) es) (sym (entries-first ns d s slots (omega arith)))
-      (each s.0 lt (here s.0 (is_slot_among (record { 0 = s.0 }) slots)), follow-in ms ns d slots same parts.1 (λ k less there. each k less (later (eqb s.0 k) there))))
+      (subst (λ es. Follow R (entry_of s.0 (get_or ms s.0 d) ∷ entries_in ms slots) es) (sym (entries-first ns d s slots (omega arith))) (
+        each s.0 lt (here s.0 (is_slot_among (record { 0 = s.0 }) slots)),
+        follow-in ms ns d slots same parts.1 (λ k less there. each k less (later (eqb s.0 k) there)),
+      ))
     where
       here : (k : ℕ) (b : Bool) → (eqb k k || b) ≡ true
       here k b = rw (eq-eqb k k refl) refl
@@ -88,7 +94,8 @@ pub record Became (table : Table) (parents : List Slot) (x : StateId) (slot : Sl
   pub ascending : IsTrue (are_ascending_pairs old.path) → IsTrue (are_ascending_pairs new.path)
   pub pairs : (pair : ℕ × ℕ) → has_pair pair new.path ≡ (has_pair pair old.path || is_first_branch table parents old.slot pair)
   pub longer : length new.path ≤ grown_length table parents old
-  pub child : AreDistinct parents → (new.children ≡ old.children ++ only_if (is_slot_among old.slot parents) x) × (new.stand_ins ≡ old.stand_ins ++ only_if (is_slot_among old.slot parents) slot)
+  pub child : AreDistinct parents → (new.children ≡ old.children ++ only_if (is_slot_among old.slot parents) x)
+      × (new.stand_ins ≡ old.stand_ins ++ only_if (is_slot_among old.slot parents) slot)
   pub parent : IsTrue (is_slot_among old.slot parents) → 1 ≤ length new.children
   pub other : is_slot_among old.slot parents ≡ false → new.children ≡ old.children
   pub slots : (test : Slot → Bool) → IsTrue (list_all test old.stand_ins) → IsTrue (test slot) → IsTrue (list_all test new.stand_ins)
@@ -120,11 +127,13 @@ module _ (table : Table) (parents : List Slot) (x : StateId) (slot : Slot) where
       | inl t ↦
           let some = h.parent t in
           ne_eqb (length n.children) 0 (λ e. omega arith) ∙ sym (and_right (eqb (length o.children) 0) (not (is_slot_among o.slot parents)) (ap not t))
-      | inr f ↦ ap (λ (xs : List StateId). eqb (length xs) 0) (h.other f) ∙ sym (ap (λ b. eqb (length o.children) 0 && not b) f ∙ and-true (eqb (length o.children) 0))
+      | inr f ↦ ap (λ (xs : List StateId). eqb (length xs) 0) (h.other f)
+          ∙ sym (ap (λ b. eqb (length o.children) 0 && not b) f ∙ and-true (eqb (length o.children) 0))
     ];
   }
 
-  pub grown-entry : AreDistinct parents → (o n : Entry) → Became table parents x slot o n → are_ascending_pairs o.path ≡ true → IsGrownEntry table parents x slot o n
+  pub grown-entry : AreDistinct parents → (o n : Entry) → Became table parents x slot o n → are_ascending_pairs o.path ≡ true →
+      IsGrownEntry table parents x slot o n
   grown-entry distinct o n h up =
       let child = h.child distinct in
       record {
@@ -158,7 +167,8 @@ module _ (table : Table) (parents : List Slot) (x : StateId) (slot : Slot) where
       (ap₂ (λ (i : StateId) (s : Slot). cond (same_id y i) (Some s) None) f.0.id_stays f.0.slot_stays)
 
   -- entries in order stay so, with one more that arrived last
-  pub order-last : (known : ℕ) (os ns : List Entry) (e : Entry) → Follows os ns → e.arrival ≡ known → list_all (λ m. ltb m.arrival known) os ≡ true → arrive_in_order os ≡ true → arrive_in_order (ns ++ e ∷ []) ≡ true
+  pub order-last : (known : ℕ) (os ns : List Entry) (e : Entry) → Follows os ns → e.arrival ≡ known → list_all (λ m. ltb m.arrival known) os ≡ true →
+      arrive_in_order os ≡ true → arrive_in_order (ns ++ e ∷ []) ≡ true
   order-last known [] [] e f last all up = refl
   order-last known [] (n ∷ ns) e f last all up = absurd (f)
   order-last known (o ∷ os) [] e f last all up = absurd (f)
@@ -174,7 +184,8 @@ module _ (table : Table) (parents : List Slot) (x : StateId) (slot : Slot) where
       let lt = ltb-true o.arrival p.arrival parts.0 in
       let here = f.0.arrival_stays in
       let next = f.1.0.arrival_stays in
-      and_from (ltb n.arrival m.arrival) (arrive_in_order (m ∷ ns ++ e ∷ [])) (lt-ltb n.arrival m.arrival (omega arith)) (order-last known (p ∷ os) (m ∷ ns) e f.1 last rest.1 parts.1)
+      and_from (ltb n.arrival m.arrival) (arrive_in_order (m ∷ ns ++ e ∷ [])) (lt-ltb n.arrival m.arrival (omega arith))
+      (order-last known (p ∷ os) (m ∷ ns) e f.1 last rest.1 parts.1)
 
 -- the id of one more entry is in its slot
 pub slot-of_id-last : (es : List Entry) (e : Entry) (y : StateId) → slot_of_id (es ++ e ∷ []) y ≡ cond (same_id y e.id) (Some e.slot) (slot_of_id es y)

@@ -1,5 +1,6 @@
 -- Which pairs a fork path has, each once.
-use Rattle.std.proofs.Common.{◌≡◌, ℕ, zero, suc, ◌+◌, ◌<◌, ◌≤◌, Bool, true, false, ◌&&◌, eqb, ltb, List, [], ◌∷◌, length, filter, flat_map, slice_get, Option, Some, None, IsTrue, inl, inr, refl, sym, ap, ap₂, subst, ◌∙◌, eqb-true, eq-eqb, arith}
+use Rattle.std.proofs.Common.{◌≡◌, ℕ, zero, suc, ◌+◌, ◌<◌, ◌≤◌, Bool, true, false, ◌&&◌, eqb, ltb, List, [], ◌∷◌, length, filter, flat_map, slice_get, Option}
+use Rattle.std.proofs.Common.{Some, None, IsTrue, inl, inr, refl, sym, ap, ap₂, subst, ◌∙◌, eqb-true, eq-eqb, arith}
 use Rattle.std.specs.List.{list_any, range_with_len}
 use Rattle.std.specs.Option.{option_map_or}
 use Rattle.std.proofs.lemmas.Bool.{and_parts, and_from, or_cases, or_left, or_right, cases_Bool, both_ways, false_from_ne_true, lt-ltb, ltb-true}
@@ -85,10 +86,11 @@ module _ (rs : List Record) where
   -- a branch of these is one of one of them
   branch-among : (xs : List StateId) (b : StateId × ℕ) → IsTrue (has_branch b (flat_map (branches_of rs) xs)) → IsTrue (is_among b.0 xs)
   branch-among [] b h = h
-  branch-among (x ∷ xs) b h = elim (or_cases (has_branch b (branches_of rs x)) (has_branch b (flat_map (branches_of rs) xs)) (sym (list_any-append (is_same_branch b) (branches_of rs x) (flat_map (branches_of rs) xs)) ∙ h)) [
-    | inl here ↦ or_left (same_id b.0 x) (is_among b.0 xs) (same_id_from b.0 x (branch-of x b here))
-    | inr later ↦ or_right (same_id b.0 x) (is_among b.0 xs) (branch-among xs b later)
-  ]
+  branch-among (x ∷ xs) b h = elim (or_cases (has_branch b (branches_of rs x)) (has_branch b (flat_map (branches_of rs) xs))
+      (sym (list_any-append (is_same_branch b) (branches_of rs x) (flat_map (branches_of rs) xs)) ∙ h)) [
+        | inl here ↦ or_left (same_id b.0 x) (is_among b.0 xs) (same_id_from b.0 x (branch-of x b here))
+        | inr later ↦ or_right (same_id b.0 x) (is_among b.0 xs) (branch-among xs b later)
+      ]
 
   branches-of_differ : (x : StateId) → Differ is_same_branch (branches_of rs x)
   branches-of_differ x =
@@ -107,7 +109,8 @@ module _ (rs : List Record) where
   branch-here : (x : StateId) (n : ℕ) → n < length (children rs x) → IsTrue (has_branch (x, n) (branches_of rs x))
   branch-here x n lt =
       let number : ℕ → StateId × ℕ = λ m. (x, m) in
-      any-map (is_same_branch (x, n)) number (range_with_len 0 (length (children rs x))) ∙ go (range_with_len 0 (length (children rs x))) (number-there 0 n (length (children rs x)) (omega arith) (omega arith))
+      any-map (is_same_branch (x, n)) number (range_with_len 0 (length (children rs x)))
+      ∙ go (range_with_len 0 (length (children rs x))) (number-there 0 n (length (children rs x)) (omega arith) (omega arith))
     where
       go : (ns : List ℕ) → IsTrue (list_any (eqb n) ns) → IsTrue (list_any (λ m. is_same_branch (x, n) (x, m)) ns)
       go [] h = h
@@ -116,7 +119,8 @@ module _ (rs : List Record) where
         | inr l ↦ or_right (is_same_branch (x, n) (x, m)) (list_any (λ k. is_same_branch (x, n) (x, k)) ms) (go ms l)
       ]
 
-  branch-there : (xs : List StateId) (x : StateId) (n : ℕ) → IsTrue (is_among x xs) → n < length (children rs x) → IsTrue (has_branch (x, n) (flat_map (branches_of rs) xs))
+  branch-there : (xs : List StateId) (x : StateId) (n : ℕ) → IsTrue (is_among x xs) → n < length (children rs x) →
+      IsTrue (has_branch (x, n) (flat_map (branches_of rs) xs))
   branch-there [] x n m lt = m
   branch-there (y ∷ xs) x n m lt =
       list_any-append (is_same_branch (x, n)) (branches_of rs y) (flat_map (branches_of rs) xs)
@@ -146,20 +150,24 @@ module _ (rs : List Record) (ks : List StateId) (dag : IsDag rs) (x : StateId) w
   pub path-differs : Differ is_same_branch (fork_path rs ks x)
   path-differs =
       differ-filter is_same_branch (leads_to rs x) (branches rs ks)
-      (branches-differ rs (filter (is_fork rs) (kept_states rs ks)) (differ-filter same_id (is_fork rs) (kept_states rs ks) (states-differ (kept_states rs ks) (kept-differ rs ks dag))))
+      (branches-differ rs (filter (is_fork rs) (kept_states rs ks))
+      (differ-filter same_id (is_fork rs) (kept_states rs ks) (states-differ (kept_states rs ks) (kept-differ rs ks dag))))
 
   path-is : (b : StateId × ℕ) → has_branch b (fork_path rs ks x) ≡ (leads_to rs x b && has_branch b (branches rs ks))
   path-is b = any-filter_same (is_same_branch b) (leads_to rs x) (leads_to rs x b) (λ c t. ap (leads_to rs x) (sym (same_branch-true b c t))) (branches rs ks)
 
   -- it has each branch of a kept fork that leads there
-  pub path-has : (p : StateId) (n : ℕ) → IsTrue (is_kept rs ks p) → IsTrue (is_fork rs p) → IsTrue (leads_to rs x (p, n)) → IsTrue (has_branch (p, n) (fork_path rs ks x))
+  pub path-has : (p : StateId) (n : ℕ) → IsTrue (is_kept rs ks p) → IsTrue (is_fork rs p) → IsTrue (leads_to rs x (p, n)) →
+      IsTrue (has_branch (p, n) (fork_path rs ks x))
   path-has p n kept fork leads =
       path-is (p, n)
       ∙ and_from (leads_to rs x (p, n)) (has_branch (p, n) (branches rs ks)) leads
-      (branch-there rs (filter (is_fork rs) (kept_states rs ks)) p n (among-filter (is_fork rs) (kept_states rs ks) p (kept-is_listed rs ks p kept) fork) (leads-within rs x p n leads))
+      (branch-there rs (filter (is_fork rs) (kept_states rs ks)) p n (among-filter (is_fork rs) (kept_states rs ks) p (kept-is_listed rs ks p kept) fork)
+      (leads-within rs x p n leads))
 
   -- and no other
-  pub path-parts : (b : StateId × ℕ) → IsTrue (has_branch b (fork_path rs ks x)) → IsTrue (is_kept rs ks b.0) × IsTrue (is_fork rs b.0) × IsTrue (leads_to rs x b)
+  pub path-parts : (b : StateId × ℕ) → IsTrue (has_branch b (fork_path rs ks x)) → IsTrue (is_kept rs ks b.0) × IsTrue (is_fork rs b.0)
+      × IsTrue (leads_to rs x b)
   path-parts b h =
       let parts = and_parts (leads_to rs x b) (has_branch b (branches rs ks)) (sym (path-is b) ∙ h) in
       let among = filtered-passes (is_fork rs) (kept_states rs ks) b.0 (branch-among rs (filter (is_fork rs) (kept_states rs ks)) b parts.1) in

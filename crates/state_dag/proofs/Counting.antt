@@ -1,5 +1,6 @@
 -- Lists in which nothing stands twice, and how many items two of them have that stand for each other.
-use Rattle.std.proofs.Common.{◌≡◌, ◌+◌, ◌≤◌, Bool, true, false, cond, ◌||◌, ◌&&◌, List, [], ◌∷◌, ◌++◌, length, map, filter, IsTrue, IsFalse, inl, inr, refl, ap, ap₂, ◌∙◌, arith}
+use Rattle.std.proofs.Common.{◌≡◌, ◌+◌, ◌≤◌, Bool, true, false, cond, ◌||◌, ◌&&◌, List, [], ◌∷◌, ◌++◌, length, map, filter, IsTrue, IsFalse, inl, inr, refl}
+use Rattle.std.proofs.Common.{ap, ap₂, ◌∙◌, arith}
 use Rattle.std.specs.List.{list_any, list_all}
 use Rattle.std.proofs.lemmas.Bool.{and_parts, and_from, or_cases, or_parts, or_from, or_left, or_right, cases_Bool, both_ways, false_from_ne_true}
 use Rattle.std.proofs.lemmas.List.Folds.{list_any-append}
@@ -83,7 +84,8 @@ module _ {A : Type 0} (same : A → A → Bool) where
         (all-of p xs (λ z m. f z (or_right (same z x) (list_any (same z) xs) m)))
 
     -- lists without a common item
-    pub differ-append : (xs ys : List A) → Differ same xs → Differ same ys → ((x : A) → IsTrue (list_any (same x) xs) → IsFalse (list_any (same x) ys)) → Differ same (xs ++ ys)
+    pub differ-append : (xs ys : List A) → Differ same xs → Differ same ys → ((x : A) → IsTrue (list_any (same x) xs) → IsFalse (list_any (same x) ys)) →
+        Differ same (xs ++ ys)
     differ-append [] ys d e apart = e
     differ-append (x ∷ xs) ys d e apart = (
       list_any-append (same x) xs ys
@@ -91,7 +93,8 @@ module _ {A : Type 0} (same : A → A → Bool) where
       differ-append xs ys d.1 e (λ z m. apart z (or_right (same z x) (list_any (same z) xs) m)),
     )
 
-module _ {A B : Type 0} (same_a : A → A → Bool) (same_b : B → B → Bool) (f : A → B) (tells : (x z : A) → IsTrue (same_b (f x) (f z)) → IsTrue (same_a x z)) where
+module _ {A B : Type 0} (same_a : A → A → Bool) (same_b : B → B → Bool) (f : A → B)
+    (tells : (x z : A) → IsTrue (same_b (f x) (f z)) → IsTrue (same_a x z)) where
   pub differ-map : (xs : List A) → Differ same_a xs → Differ same_b (map f xs)
   differ-map [] d = tt
   differ-map (x ∷ xs) d = (none xs d.0, differ-map xs d.1)
@@ -117,7 +120,8 @@ length-without_first p (x ∷ xs) h = elim (cases_Bool (p x)) [
   | inr f ↦ (let e = length-without_first p xs (rw f at h) in rw f (omega arith))
 ]
 
-any-without_first : {A : Type 0} (p q : A → Bool) (xs : List A) → ((x : A) → IsTrue (p x) → IsTrue (q x) → ⊥) → list_any q xs ≡ true → list_any q (without_first p xs) ≡ true
+any-without_first : {A : Type 0} (p q : A → Bool) (xs : List A) → ((x : A) → IsTrue (p x) → IsTrue (q x) → ⊥) → list_any q xs ≡ true →
+    list_any q (without_first p xs) ≡ true
 any-without_first p q [] other h = h
 any-without_first p q (x ∷ xs) other h = elim (cases_Bool (p x)) [
   | inl t ↦ elim (or_cases (q x) (list_any q xs) h) [
@@ -130,7 +134,8 @@ any-without_first p q (x ∷ xs) other h = elim (cases_Bool (p x)) [
   ]
 ]
 
-module _ {A B : Type 0} (stands : A → B → Bool) (same : A → A → Bool) (one : (x z : A) (y : B) → IsTrue (stands x y) → IsTrue (stands z y) → IsTrue (same x z)) where
+module _ {A B : Type 0} (stands : A → B → Bool) (same : A → A → Bool) (one : (x z : A) (y : B) → IsTrue (stands x y) → IsTrue (stands z y) →
+    IsTrue (same x z)) where
   others : (x : A) (xs : List A) (ys : List B) → list_any (same x) xs ≡ false → list_all (λ z. list_any (stands z) ys) xs ≡ true →
       list_all (λ z. list_any (stands z) (without_first (stands x) ys)) xs ≡ true
   others x [] ys out all = refl

@@ -1,5 +1,6 @@
 -- Entries that follow others, one for one.
-use Rattle.std.proofs.Common.{◌≡◌, ℕ, suc, ◌+◌, ◌<◌, true, false, not, ◌&&◌, eqb, List, [], ◌∷◌, ◌++◌, length, map, filter, get_or, inl, inr, refl, ap, ap₂, subst, ◌∙◌, arith}
+use Rattle.std.proofs.Common.{◌≡◌, ℕ, suc, ◌+◌, ◌<◌, true, false, not, ◌&&◌, eqb, List, [], ◌∷◌, ◌++◌, length, map, filter, get_or, inl, inr, refl, ap, ap₂}
+use Rattle.std.proofs.Common.{subst, ◌∙◌, arith}
 use Rattle.std.proofs.lemmas.Bool.{cases_Bool}
 use Rattle.tardis_base.specs.declared.ids.Slot.{Slot}
 use Rattle.state_dag.specs.declared.nodes.Node.{Node}
@@ -15,7 +16,8 @@ Follow R [] (n ∷ ns) = ⊥
 Follow R (o ∷ os) [] = ⊥
 
 pub follow-places : (R : Entry → Entry → Type 0) (p : ℕ) (os ns : List Node) → length ns ≡ length os →
-    ((k : ℕ) (d : Node) → k < length os → R (entry_of (p + k) (get_or os k d)) (entry_of (p + k) (get_or ns k d))) → Follow R (entries_from p os) (entries_from p ns)
+    ((k : ℕ) (d : Node) → k < length os → R (entry_of (p + k) (get_or os k d)) (entry_of (p + k) (get_or ns k d))) →
+    Follow R (entries_from p os) (entries_from p ns)
 follow-places R p [] [] same each = tt
 follow-places R p [] (n ∷ ns) same each = absurd (omega arith)
 follow-places R p (o ∷ os) [] same each = absurd (omega arith)
@@ -36,7 +38,8 @@ pub record LosesLeaf (parents : List Slot) (old new : Entry) : Type 0 where
 abbrev pub childless_slots : List Entry → List Slot
 childless_slots es = map (λ e. e.slot) (filter is_childless es)
 
-pub leaves-follow : (parents : List Slot) (os ns : List Entry) → Follow (LosesLeaf parents) os ns → childless_slots ns ≡ filter (λ s. not (is_slot_among s parents)) (childless_slots os)
+pub leaves-follow : (parents : List Slot) (os ns : List Entry) → Follow (LosesLeaf parents) os ns → childless_slots ns
+    ≡ filter (λ s. not (is_slot_among s parents)) (childless_slots os)
 leaves-follow parents [] [] f = refl
 leaves-follow parents [] (n ∷ ns) f = absurd (f)
 leaves-follow parents (o ∷ os) [] f = absurd (f)

@@ -1,5 +1,6 @@
 -- A table that has grown by one state stands for the history with that state; and why it doesn't grow.
-use Rattle.std.proofs.Common.{◌≡◌, ℕ, ◌+◌, ◌-◌, ◌≤◌, Bool, true, eqb, ltb, List, [], ◌∷◌, length, map, find, slice_get, slice_set, Option, Some, None, is_none, IsTrue, IsFalse, inl, inr, refl, sym, ap, subst, ◌∙◌, eq-eqb, arith, length-append}
+use Rattle.std.proofs.Common.{◌≡◌, ℕ, ◌+◌, ◌-◌, ◌≤◌, Bool, true, eqb, ltb, List, [], ◌∷◌, length, map, find, slice_get, slice_set, Option, Some, None}
+use Rattle.std.proofs.Common.{is_none, IsTrue, IsFalse, inl, inr, refl, sym, ap, subst, ◌∙◌, eq-eqb, arith, length-append}
 use Rattle.std.specs.Prelude.{nat_le, unwrap_or}
 use Rattle.std.specs.List.{list_any, list_all, range_with_len}
 use Rattle.std.specs.Option.{option_map}
@@ -44,7 +45,8 @@ has-room table ks rs r none = elim (cases_Bool (eqb (length (kept_states rs ks))
   }
 ]
   where
-    not-found : (o : Option StateId) → ◌≡◌ {A = Option Refusal} (option_map (λ (p : StateId × ℕ). IsPathFull p.0 p.1) (option_map {U = StateId × ℕ} (λ x. (x, length (fork_path (r ∷ rs) ks x))) o)) None → o ≡ None
+    not-found : (o : Option StateId) → ◌≡◌ {A = Option Refusal}
+        (option_map (λ (p : StateId × ℕ). IsPathFull p.0 p.1) (option_map {U = StateId × ℕ} (λ x. (x, length (fork_path (r ∷ rs) ks x))) o)) None → o ≡ None
     not-found None e = refl
     not-found (Some x) e = absurd (none-some (IsPathFull x (length (fork_path (r ∷ rs) ks x))) (sym e))
 
@@ -70,10 +72,12 @@ grows old new rs ks r parents slot stands may none g = record {
   shared = shared-next rs r stands.dag may.next ks stands.shared stands.known_collected (λ p m. may.kept p p m (above-reflexive rs p));
   valid = subst (λ l. IsTrue (are_limits l)) (sym g.limits) stands.valid;
   sites = subst (λ l. IsTrue (list_all (λ q. nat_le q.id.site l.sites) (r ∷ rs))) (sym g.limits)
-      (and_from (nat_le r.id.site old.limits.sites) (list_all (λ q. nat_le q.id.site old.limits.sites) rs) (le-leb r.id.site old.limits.sites may.site) stands.sites);
+      (and_from (nat_le r.id.site old.limits.sites) (list_all (λ q. nat_le q.id.site old.limits.sites) rs) (le-leb r.id.site old.limits.sites may.site)
+      stands.sites);
   within = subst (λ l. length (kept_states (r ∷ rs) ks) ≤ l.max_kept) (sym g.limits) within;
   short = λ x kept. subst (λ l. length (fork_path (r ∷ rs) ks x) ≤ l.max_path) (sym g.limits) (short x kept);
-  counts = g.counts ∙ subst (λ l. slice_set old.counts (r.id.site - 1) (unwrap_or (slice_get old.counts (r.id.site - 1)) 0 + 1) ≡ map (count_of_site (r ∷ rs)) (range_with_len 1 l.sites)) (sym g.limits)
+  counts = g.counts ∙ subst (λ l. slice_set old.counts (r.id.site - 1) (unwrap_or (slice_get old.counts (r.id.site - 1)) 0 + 1)
+      ≡ map (count_of_site (r ∷ rs)) (range_with_len 1 l.sites)) (sym g.limits)
       (counts-next rs r old.limits.sites old.counts (new-site r parts.id parts.isnt_root) may.site stands.counts);
   known = g.known ∙ ap (λ n. n + 1) stands.known ∙ length-one rs;
   ids = ids-next old new rs ks r parents slot stands may g;
@@ -98,7 +102,8 @@ grows old new rs ks r parents slot stands may none g = record {
     short : (x : StateId) → IsTrue (is_kept (r ∷ rs) ks x) → length (fork_path (r ∷ rs) ks x) ≤ old.limits.max_path
     short x kept =
         let long : StateId → Bool = λ y. ltb old.limits.max_path (length (fork_path (r ∷ rs) ks y)) in
-        let out = any-false-at long (kept_states (r ∷ rs) ks) x (none-passes long (kept_states (r ∷ rs) ks) (has-room old ks rs r none).short) (kept-is_listed (r ∷ rs) ks x kept) in
+        let out = any-false-at long (kept_states (r ∷ rs) ks) x (none-passes long (kept_states (r ∷ rs) ks) (has-room old ks rs r none).short)
+        (kept-is_listed (r ∷ rs) ks x kept) in
         elim (cases_lt old.limits.max_path (length (fork_path (r ∷ rs) ks x))) [
           | inl lt ↦ absurd (both_ways (long x) out (lt-ltb old.limits.max_path (length (fork_path (r ∷ rs) ks x)) lt))
           | inr le ↦ le

@@ -1,5 +1,6 @@
 -- The numbers of a table that has grown.
-use Rattle.std.proofs.Common.{◌≡◌, ℕ, zero, suc, ◌+◌, ◌-◌, ◌<◌, ◌≤◌, true, ◌||◌, ◌&&◌, eqb, List, [], ◌∷◌, length, map, slice_get, slice_set, IsTrue, IsFalse, inl, inr, refl, sym, ap, ap₂, subst, ◌∙◌, eqb-true, eq-eqb, arith, length-append}
+use Rattle.std.proofs.Common.{◌≡◌, ℕ, zero, suc, ◌+◌, ◌-◌, ◌<◌, ◌≤◌, true, ◌||◌, ◌&&◌, eqb, List, [], ◌∷◌, length, map, slice_get, slice_set, IsTrue, IsFalse}
+use Rattle.std.proofs.Common.{inl, inr, refl, sym, ap, ap₂, subst, ◌∙◌, eqb-true, eq-eqb, arith, length-append}
 use Rattle.std.specs.Prelude.{unwrap_or, nat_le}
 use Rattle.std.specs.List.{list_any, range_with_len}
 use Rattle.std.proofs.lemmas.Bool.{and_parts, or_cases, cases_Bool, false_from_ne_true, not_from_false, leb-true}
@@ -44,7 +45,8 @@ module _ (f g : ℕ → ℕ) where
       (set-one (a + 1) n k (omega arith) (subst (λ m. g m ≡ f m + 1) place more) (λ m other. same m (λ e. other (e ∙ place))))
 
 -- the count of the new state's site is one more
-pub counts-next : (rs : List Record) (r : Record) (sites : ℕ) (counts : List ℕ) → 1 ≤ r.id.site → r.id.site ≤ sites → counts ≡ map (count_of_site rs) (range_with_len 1 sites) →
+pub counts-next : (rs : List Record) (r : Record) (sites : ℕ) (counts : List ℕ) → 1 ≤ r.id.site → r.id.site ≤ sites →
+    counts ≡ map (count_of_site rs) (range_with_len 1 sites) →
     slice_set counts (r.id.site - 1) (unwrap_or (slice_get counts (r.id.site - 1)) 0 + 1) ≡ map (count_of_site (r ∷ rs)) (range_with_len 1 sites)
 counts-next rs r sites counts some within is =
     let place : 1 + (r.id.site - 1) ≡ r.id.site = omega arith in
@@ -60,7 +62,8 @@ has-child : (rs : List Record) (x : StateId) → IsTrue (list_any (λ r. is_amon
 has-child [] x m = not-both true refl (sym m)
 has-child (r ∷ rs) x m = elim (cases_Bool (is_among x r.parents)) [
   | inl t ↦
-      let more : length (children (r ∷ rs) x) ≡ length (children rs x) + 1 = ap length (children-of-parent rs r x t) ∙ length-append (children rs x) (r.id ∷ []) in
+      let more : length (children (r ∷ rs) x) ≡ length (children rs x) + 1 = ap length (children-of-parent rs r x t)
+      ∙ length-append (children rs x) (r.id ∷ []) in
       omega arith
   | inr f ↦ elim (or_cases (is_among x r.parents) (list_any (λ q. is_among x q.parents) rs) m) [
     | inl t ↦ not-both (is_among x r.parents) t f

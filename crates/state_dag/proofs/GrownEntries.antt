@@ -1,5 +1,6 @@
 -- What the entries of a table that has grown say.
-use Rattle.std.proofs.Common.{◌≡◌, ℕ, Bool, true, false, cond, not, ◌||◌, ◌&&◌, eqb, leb, List, [], ◌∷◌, ◌++◌, length, map, find, Option, Some, None, IsTrue, inl, inr, refl, sym, ap, ap₂, subst, ◌∙◌}
+use Rattle.std.proofs.Common.{◌≡◌, ℕ, Bool, true, false, cond, not, ◌||◌, ◌&&◌, eqb, leb, List, [], ◌∷◌, ◌++◌, length, map, find, Option, Some, None, IsTrue}
+use Rattle.std.proofs.Common.{inl, inr, refl, sym, ap, ap₂, subst, ◌∙◌}
 use Rattle.std.specs.Option.{option_map, option_map_or}
 use Rattle.std.proofs.lemmas.Bool.{and_parts, cases_Bool}
 use Rattle.std.proofs.lemmas.Option.{none-some, same_Some}
@@ -26,7 +27,8 @@ use Rattle.state_dag.proofs.ParentSlots.{slot_from, among-slots}
 use Rattle.state_dag.proofs.Taken.{taken-old, taken-new}
 use Rattle.state_dag.proofs.Refusals.{new-isnt_collected, kept-next}
 
-module _ (old new : Table) (rs : List Record) (ks : List StateId) (r : Record) (parents : List Slot) (slot : Slot) (stands : Stands old rs ks) (may : MayBeAdded old rs ks r parents) (g : IsGrown old new r.id parents slot) where
+module _ (old new : Table) (rs : List Record) (ks : List StateId) (r : Record) (parents : List Slot) (slot : Slot) (stands : Stands old rs ks)
+    (may : MayBeAdded old rs ks r parents) (g : IsGrown old new r.id parents slot) where
   -- ===== Slots
 
   stays : (s : Slot) (y : StateId) → id_at old s ≡ Some y → id_at new s ≡ Some y
@@ -36,12 +38,14 @@ module _ (old new : Table) (rs : List Record) (ks : List StateId) (r : Record) (
   ids-next =
       ap (map (λ e. e.id)) g.entries
       ∙ (map-append (λ e. e.id) g.grown (g.newest ∷ [])
-      ∙ (ap₂ (λ is (i : StateId). is ++ i ∷ []) (ids-stay old parents r.id slot old.entries g.grown g.each) g.is_new.id_is ∙ sym (kept-next old rs ks r stands may.next.new)))
+      ∙ (ap₂ (λ is (i : StateId). is ++ i ∷ []) (ids-stay old parents r.id slot old.entries g.grown g.each) g.is_new.id_is
+      ∙ sym (kept-next old rs ks r stands may.next.new)))
 
   pub slots-next : map (λ e. id_at new e.slot) new.entries ≡ map (λ e. Some e.id) new.entries
   slots-next = subst (λ es. map (λ (e : Entry). id_at new e.slot) es ≡ map (λ (e : Entry). Some e.id) es) (sym g.entries)
       (map-append (λ e. id_at new e.slot) g.grown (g.newest ∷ [])
-      ∙ (ap₂ (λ (is : List (Option StateId)) (i : Option StateId). is ++ i ∷ []) (slots-stay old parents r.id slot (id_at new) stays old.entries g.grown g.each stands.slots)
+      ∙ (ap₂ (λ (is : List (Option StateId)) (i : Option StateId). is ++ i ∷ [])
+      (slots-stay old parents r.id slot (id_at new) stays old.entries g.grown g.each stands.slots)
       (ap (id_at new) g.is_new.slot_is ∙ (new-named old new r.id parents slot g ∙ ap (λ z. Some z) (sym g.is_new.id_is)))
       ∙ sym (map-append (λ e. Some e.id) g.grown (g.newest ∷ []))))
 
@@ -65,7 +69,8 @@ module _ (old new : Table) (rs : List Record) (ks : List StateId) (r : Record) (
   -- ===== Old states
 
   -- slots name the stand-ins that they named
-  stand_ins-stay : (ss : List Slot) (cs : List StateId) → ((c : StateId) → IsTrue (is_among c cs) → IsTrue (is_known rs c)) → map (id_at old) ss ≡ map (λ c. Some (stand_in rs ks c)) cs →
+  stand_ins-stay : (ss : List Slot) (cs : List StateId) → ((c : StateId) → IsTrue (is_among c cs) → IsTrue (is_known rs c)) → map (id_at old) ss
+      ≡ map (λ c. Some (stand_in rs ks c)) cs →
       map (id_at new) ss ≡ map (λ c. Some (stand_in (r ∷ rs) ks c)) cs
   stand_ins-stay [] [] known same = refl
   stand_ins-stay [] (c ∷ cs) known same = absurd (let bad : ⊥ = cc in bad)
@@ -101,7 +106,8 @@ module _ (old new : Table) (rs : List Record) (ks : List StateId) (r : Record) (
         has_stand_ins =
             ap (map (id_at new)) (grown.stand_ins ∙ ap (λ b. o.stand_ins ++ only_if b slot) among)
             ∙ (map-append (id_at new) o.stand_ins (only_if (is_among o.id r.parents) slot)
-            ∙ (ap₂ (λ is js. is ++ js) (stand_ins-stay o.stand_ins (children rs o.id) (λ c m. child_is_known rs o.id c m) shows.has_stand_ins) (last-stand_in (is_among o.id r.parents))
+            ∙ (ap₂ (λ is js. is ++ js) (stand_ins-stay o.stand_ins (children rs o.id) (λ c m. child_is_known rs o.id c m) shows.has_stand_ins)
+            (last-stand_in (is_among o.id r.parents))
             ∙ (sym (map-append (λ c. Some (stand_in (r ∷ rs) ks c)) (children rs o.id) (only_if (is_among o.id r.parents) r.id))
             ∙ ap (map (λ c. Some (stand_in (r ∷ rs) ks c))) (sym child))));
         ascending = grown.ascending;
@@ -136,9 +142,11 @@ module _ (old new : Table) (rs : List Record) (ks : List StateId) (r : Record) (
       }
 
   pub shows-next : (s : Slot) (e : Entry) → entry_at new s ≡ Some e → Shows new (r ∷ rs) ks e e.id
-  shows-next s e is = go (entry_at old s) (find (λ f. eqb f.slot.0 s.0) g.grown) refl (both old new r.id parents slot g s) (sym (looked old new r.id parents slot g s) ∙ is)
+  shows-next s e is = go (entry_at old s) (find (λ f. eqb f.slot.0 s.0) g.grown) refl (both old new r.id parents slot g s)
+      (sym (looked old new r.id parents slot g s) ∙ is)
     where
-      go : (o n : Option Entry) → entry_at old s ≡ o → FoundBoth old parents r.id slot o n → or_else n (cond (eqb g.newest.slot.0 s.0) (Some g.newest) None) ≡ Some e → Shows new (r ∷ rs) ks e e.id
+      go : (o n : Option Entry) → entry_at old s ≡ o → FoundBoth old parents r.id slot o n →
+          or_else n (cond (eqb g.newest.slot.0 s.0) (Some g.newest) None) ≡ Some e → Shows new (r ∷ rs) ks e e.id
       go None None was b h = elim (cases_Bool (eqb g.newest.slot.0 s.0)) [
         | inl t ↦
             let same : g.newest ≡ e = same_Some g.newest e (rw t at h) in

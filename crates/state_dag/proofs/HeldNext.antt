@@ -1,8 +1,10 @@
 -- The memory of a table stays well-formed.
-use Rattle.std.proofs.Common.{◌≡◌, ℕ, ◌+◌, ◌-◌, ◌<◌, ◌≤◌, Bool, true, false, not, ◌&&◌, cond, eqb, leb, ltb, List, [], ◌∷◌, ◌++◌, length, map, filter, find, sum, take, get_or, set, Some, None, is_some, IsTrue, inl, inr, refl, sym, ap, ap₂, subst, ◌∙◌, arith}
+use Rattle.std.proofs.Common.{◌≡◌, ℕ, ◌+◌, ◌-◌, ◌<◌, ◌≤◌, Bool, true, false, not, ◌&&◌, cond, eqb, leb, ltb, List, [], ◌∷◌, ◌++◌, length, map, filter, find}
+use Rattle.std.proofs.Common.{sum, take, get_or, set, Some, None, is_some, IsTrue, inl, inr, refl, sym, ap, ap₂, subst, ◌∙◌, arith}
 use Rattle.std.specs.List.{list_all}
 use Rattle.std.specs.Option.{option_map_or}
-use Rattle.std.proofs.lemmas.Bool.{cases_eq, or_from, false_from_ne_true, and_parts, and_from, cases_Bool, cond-true, cond-false, ltb-true, ltb-false, leb-true, le-leb, lt-ltb}
+use Rattle.std.proofs.lemmas.Bool.{cases_eq, or_from, false_from_ne_true, and_parts, and_from, cases_Bool, cond-true, cond-false, ltb-true, ltb-false}
+use Rattle.std.proofs.lemmas.Bool.{leb-true, le-leb, lt-ltb}
 use Rattle.std.proofs.lemmas.List.{length-set, get_or-set_same, get_or-set_other}
 use Rattle.std.proofs.lemmas.Option.{none-some}
 use Rattle.tardis_base.specs.declared.ids.StateId.{StateId}
@@ -32,7 +34,8 @@ use Rattle.plain_dag.proofs.Ids.{same_id-true}
 
 -- ===== The same entries
 
-pub entries-same : (ns ms : List Node) → entries_from 0 ns ≡ entries_from 0 ms → (slots : List Slot) → placed ms slots ≡ true → entries_in ns slots ≡ entries_in ms slots
+pub entries-same : (ns ms : List Node) → entries_from 0 ns ≡ entries_from 0 ms → (slots : List Slot) → placed ms slots ≡ true → entries_in ns slots
+    ≡ entries_in ms slots
 entries-same ns ms same [] all = refl
 entries-same ns ms same (s ∷ slots) all =
     let parts = and_parts (ltb s.0 (length ms)) (placed ms slots) all in
@@ -40,13 +43,16 @@ entries-same ns ms same (s ∷ slots) all =
     let count = same-count ns ms same in
     let w = first-read ms s slots lt in
     entries-first ns w.0 s slots (omega arith)
-    ∙ ap₂ (λ (e : Entry) (es : List Entry). e ∷ es) (same-at ns ms same s.0 w.0 (omega arith) ∙ ap (entry_of s.0) (w.2 w.0)) (entries-same ns ms same slots parts.1)
+    ∙ ap₂ (λ (e : Entry) (es : List Entry). e ∷ es) (same-at ns ms same s.0 w.0 (omega arith) ∙ ap (entry_of s.0) (w.2 w.0))
+    (entries-same ns ms same slots parts.1)
     ∙ sym w.1
 
-module _ (a b : Inside) (held : IsHeld a) (limits : b.limits ≡ a.limits) (counts : b.counts ≡ a.counts) (known : b.known ≡ a.known) (leaves : b.leaves.items ≡ a.leaves.items) (order : b.order.items ≡ a.order.items) (kept : b.kept ≡ a.kept)
+module _ (a b : Inside) (held : IsHeld a) (limits : b.limits ≡ a.limits) (counts : b.counts ≡ a.counts) (known : b.known ≡ a.known)
+    (leaves : b.leaves.items ≡ a.leaves.items) (order : b.order.items ≡ a.order.items) (kept : b.kept ≡ a.kept)
     (same : entries_from 0 b.nodes.items ≡ entries_from 0 a.nodes.items) (slots : (x : StateId) → slot_of_state b.slots x ≡ slot_of_state a.slots x) where
   pub seen-same : (seen b).entries ≡ (seen a).entries
-  seen-same = ap (entries_in b.nodes.items) (ap₂ (λ (k : ℕ) (ss : List Slot). take k ss) kept order) ∙ entries-same b.nodes.items a.nodes.items same (kept_of a) (kept-placed a held)
+  seen-same = ap (entries_in b.nodes.items) (ap₂ (λ (k : ℕ) (ss : List Slot). take k ss) kept order)
+      ∙ entries-same b.nodes.items a.nodes.items same (kept_of a) (kept-placed a held)
 
   pub view-same : (table : Table) → seen a ≡ table → seen b ≡ table
   view-same table view =
@@ -70,17 +76,23 @@ module _ (a b : Inside) (held : IsHeld a) (limits : b.limits ≡ a.limits) (coun
             (subst (λ (m : ℕ). list_all (λ (s : Slot). ltb s.0 m) a.order.items ≡ true) (sym count) held.placed);
         distinct = subst AreDistinct (sym order) held.distinct;
         in_order = subst (λ es. arrive_in_order es ≡ true) (sym seen-same) held.in_order;
-        arrived = subst (λ m. list_all (λ (e : Entry). ltb e.arrival m) (seen b).entries ≡ true) (sym known) (subst (λ es. list_all (λ (e : Entry). ltb e.arrival a.known) es ≡ true) (sym seen-same) held.arrived);
+        arrived = subst (λ m. list_all (λ (e : Entry). ltb e.arrival m) (seen b).entries ≡ true) (sym known)
+            (subst (λ es. list_all (λ (e : Entry). ltb e.arrival a.known) es ≡ true) (sym seen-same) held.arrived);
         ascending = subst (λ es. list_all (λ (e : Entry). are_ascending_pairs e.path) es ≡ true) (sym seen-same) held.ascending;
         short = subst (λ (l : Limits). list_all (λ (e : Entry). leb (length e.path) l.max_path) (seen b).entries ≡ true) (sym limits)
             (subst (λ es. list_all (λ (e : Entry). leb (length e.path) a.limits.max_path) es ≡ true) (sym seen-same) held.short);
-        stand_ins = subst (λ (es : List Entry). list_all (λ (e : Entry). list_all (λ (s : Slot). is_some (find (λ (f : Entry). eqb f.slot.0 s.0) es)) e.stand_ins) es ≡ true) (sym seen-same) held.stand_ins;
-        later = subst (λ (es : List Entry). list_all (λ (e : Entry). list_all (λ (s : Slot). ltb e.arrival (option_map_or (λ (f : Entry). f.arrival) (find (λ (f : Entry). eqb f.slot.0 s.0) es) 0)) e.stand_ins) es ≡ true) (sym seen-same) held.later;
+        stand_ins = subst (λ (es : List Entry). list_all (λ (e : Entry). list_all (λ (s : Slot). is_some (find (λ (f : Entry). eqb f.slot.0 s.0) es))
+            e.stand_ins) es ≡ true) (sym seen-same) held.stand_ins;
+        later = subst
+            (λ (es : List Entry). list_all (λ (e : Entry). list_all
+            (λ (s : Slot). ltb e.arrival (option_map_or (λ (f : Entry). f.arrival) (find (λ (f : Entry). eqb f.slot.0 s.0) es) 0)) e.stand_ins) es
+            ≡ true) (sym seen-same) held.later;
         childless = leaves ∙ held.childless ∙ ap childless_slots (sym seen-same);
         sites = ap (λ v. length v.items) counts ∙ held.sites ∙ sym (ap (λ (l : Limits). l.sites) limits);
         fit = subst (λ v. list_all (λ n. ltb n 4294967296) v.items ≡ true) (sym counts) held.fit;
         counted = known ∙ held.counted ∙ sym (ap (λ v. sum v.items + 1) counts);
-        among_counted = subst (λ v. list_all (λ (e : Entry). is_counted v.items e.id) (seen b).entries ≡ true) (sym counts) (subst (λ es. list_all (λ (e : Entry). is_counted a.counts.items e.id) es ≡ true) (sym seen-same) held.among_counted);
+        among_counted = subst (λ v. list_all (λ (e : Entry). is_counted v.items e.id) (seen b).entries ≡ true) (sym counts)
+            (subst (λ es. list_all (λ (e : Entry). is_counted a.counts.items e.id) es ≡ true) (sym seen-same) held.among_counted);
         once = subst (λ (es : List Entry). AllDiffer (map (λ (e : Entry). e.id) es)) (sym seen-same) held.once;
         indexed = λ x. slots x ∙ held.indexed x ∙ sym (ap (λ es. slot_of_id es x) seen-same);
       }
@@ -100,9 +112,11 @@ short-all most long (e ∷ es) none = elim (cases_Bool (ltb most (long e))) [
 
 all-implied : (p q : Slot → Bool) → ((s : Slot) → p s ≡ true → q s ≡ true) → (ss : List Slot) → list_all p ss ≡ true → list_all q ss ≡ true
 all-implied p q turns [] all = refl
-all-implied p q turns (s ∷ ss) all = (let parts = and_parts (p s) (list_all p ss) all in and_from (q s) (list_all q ss) (turns s parts.0) (all-implied p q turns ss parts.1))
+all-implied p q turns (s ∷ ss) all = (let parts = and_parts (p s) (list_all p ss) all in
+    and_from (q s) (list_all q ss) (turns s parts.0) (all-implied p q turns ss parts.1))
 
-all-two : (p q r : Slot → Bool) → ((s : Slot) → p s ≡ true → q s ≡ true → r s ≡ true) → (ss : List Slot) → list_all p ss ≡ true → list_all q ss ≡ true → list_all r ss ≡ true
+all-two : (p q r : Slot → Bool) → ((s : Slot) → p s ≡ true → q s ≡ true → r s ≡ true) → (ss : List Slot) → list_all p ss ≡ true → list_all q ss ≡ true →
+    list_all r ss ≡ true
 all-two p q r turns [] all also = refl
 all-two p q r turns (s ∷ ss) all also =
     let parts = and_parts (p s) (list_all p ss) all in
@@ -119,7 +133,8 @@ all-both p q (e ∷ es) all also =
 -- ===== Ids that are counted
 
 -- the next of a site is none of those counted
-fresh-id : (cs : List ℕ) (x : StateId) → x.sequence ≡ get_or cs (x.site - 1) 0 + 1 → (es : List Entry) → list_all (λ e. is_counted cs e.id) es ≡ true → is_among x (map (λ e. e.id) es) ≡ false
+fresh-id : (cs : List ℕ) (x : StateId) → x.sequence ≡ get_or cs (x.site - 1) 0 + 1 → (es : List Entry) → list_all (λ e. is_counted cs e.id) es ≡ true →
+    is_among x (map (λ e. e.id) es) ≡ false
 fresh-id cs x next [] all = refl
 fresh-id cs x next (e ∷ es) all =
     let parts = and_parts (is_counted cs e.id) (list_all (λ (f : Entry). is_counted cs f.id) es) all in
@@ -143,31 +158,37 @@ counted-more cs i c x inside more t =
           le-leb x.sequence (get_or (set cs i c) (x.site - 1) 0) (omega arith)
     ]
 
-ids-became : (table : Table) (parents : List Slot) (id : StateId) (slot : Slot) (os ns : List Entry) → Follow (Became table parents id slot) os ns → map (λ e. e.id) ns ≡ map (λ e. e.id) os
+ids-became : (table : Table) (parents : List Slot) (id : StateId) (slot : Slot) (os ns : List Entry) → Follow (Became table parents id slot) os ns →
+    map (λ e. e.id) ns ≡ map (λ e. e.id) os
 ids-became table parents id slot [] [] f = refl
 ids-became table parents id slot [] (n ∷ ns) f = absurd (f)
 ids-became table parents id slot (o ∷ os) [] f = absurd (f)
-ids-became table parents id slot (o ∷ os) (n ∷ ns) f = ap₂ (λ (i : StateId) (is : List StateId). i ∷ is) f.0.id_stays (ids-became table parents id slot os ns f.1)
+ids-became table parents id slot (o ∷ os) (n ∷ ns) f = ap₂ (λ (i : StateId) (is : List StateId). i ∷ is) f.0.id_stays
+    (ids-became table parents id slot os ns f.1)
 
 ids-last : (es : List Entry) (e : Entry) → map (λ f. f.id) (es ++ e ∷ []) ≡ map (λ f. f.id) es ++ e.id ∷ []
 ids-last [] e = refl
 ids-last (f ∷ es) e = ap (λ is. f.id ∷ is) (ids-last es e)
 
-module _ (a b : Inside) (held : IsHeld a) (ns : List Node) (n : Node) (id : StateId) (slot : Slot) (parents : List Slot) (next : IsNext a slot ns n) (count : length ns ≡ length a.nodes.items)
+module _ (a b : Inside) (held : IsHeld a) (ns : List Node) (n : Node) (id : StateId) (slot : Slot) (parents : List Slot) (next : IsNext a slot ns n)
+    (count : length ns ≡ length a.nodes.items)
     (nodes : b.nodes.items ≡ with_node ns slot.0 n) (order : b.order.items ≡ with_slot a.order.items a.kept slot) (kept : b.kept ≡ a.kept + 1) where
   pub entries-after : (seen b).entries ≡ entries_in ns (kept_of a) ++ entry_of slot.0 n ∷ []
   entries-after =
       ap₂ (λ (ms : List Node) (ss : List Slot). entries_in ms ss) nodes (ap₂ (λ (k : ℕ) (ss : List Slot). take k ss) kept order ∙ next.taken)
-      ∙ entries-next ns n (kept_of a) slot (subst (λ (m : ℕ). list_all (λ (s : Slot). ltb s.0 m) (kept_of a) ≡ true) (sym count) (kept-placed a held)) next.out (let within = next.within in omega arith)
+      ∙ entries-next ns n (kept_of a) slot (subst (λ (m : ℕ). list_all (λ (s : Slot). ltb s.0 m) (kept_of a) ≡ true) (sym count) (kept-placed a held))
+      next.out (let within = next.within in omega arith)
 
   pub slot-fresh : entry_at (seen a) slot ≡ None
   slot-fresh = found-none a.nodes.items (kept_of a) slot.0 (kept-placed a held) next.out
 
   module _ (f : Follow (Became (seen a) parents id slot) (seen a).entries (entries_in ns (kept_of a))) where
-    pub held-next : (i c : ℕ) → b.limits ≡ a.limits → b.known ≡ a.known + 1 → b.counts.items ≡ set a.counts.items i c → ((x : StateId) → slot_of_state b.slots x ≡ cond (same_id x id) (Some slot) (slot_of_state a.slots x)) →
+    pub held-next : (i c : ℕ) → b.limits ≡ a.limits → b.known ≡ a.known + 1 → b.counts.items ≡ set a.counts.items i c →
+        ((x : StateId) → slot_of_state b.slots x ≡ cond (same_id x id) (Some slot) (slot_of_state a.slots x)) →
         b.leaves.items ≡ filter (λ s. not (is_slot_among s parents)) a.leaves.items ++ slot ∷ [] → a.kept < a.limits.max_kept →
         n.id ≡ id → n.arrival ≡ a.known → n.children.items ≡ [] → n.stand_ins.items ≡ [] → are_ascending_pairs n.path.pairs ≡ true →
-        too_long (seen a) parents ≡ None → length n.path.pairs ≤ a.limits.max_path → i < length a.counts.items → c ≡ get_or a.counts.items i 0 + 1 → c < 4294967296 → i ≡ id.site - 1 → c ≡ id.sequence → IsHeld b
+        too_long (seen a) parents ≡ None → length n.path.pairs ≤ a.limits.max_path → i < length a.counts.items → c ≡ get_or a.counts.items i 0 + 1 →
+        c < 4294967296 → i ≡ id.site - 1 → c ≡ id.sequence → IsHeld b
     held-next i c limits known counts slots leaves room is arrival leaf stands ups short shorts inside fresh fits at_site is_last =
         let es = (seen a).entries in
         let gs = entries_in ns (kept_of a) in
@@ -188,7 +209,8 @@ module _ (a b : Inside) (held : IsHeld a) (ns : List Node) (n : Node) (id : Stat
           placed = subst (λ ss. list_all (λ (s : Slot). ltb s.0 (length b.nodes.items)) ss ≡ true) (sym order)
               (subst (λ (ms : List Node). list_all (λ (s : Slot). ltb s.0 (length ms)) (with_slot a.order.items a.kept slot) ≡ true) (sym nodes) next.set_in);
           distinct = subst AreDistinct (sym order) next.distinct;
-          in_order = subst (λ ls. arrive_in_order ls ≡ true) (sym entries-after) (order-last (seen a) parents id slot a.known es gs e f arrival held.arrived held.in_order);
+          in_order = subst (λ ls. arrive_in_order ls ≡ true) (sym entries-after)
+              (order-last (seen a) parents id slot a.known es gs e f arrival held.arrived held.in_order);
           arrived = subst (λ m. list_all (λ (z : Entry). ltb z.arrival m) (seen b).entries ≡ true) (sym known)
               (subst (λ ls. list_all (λ (z : Entry). ltb z.arrival (a.known + 1)) ls ≡ true) (sym entries-after)
               (all-last (λ (z : Entry). ltb z.arrival (a.known + 1)) gs e
@@ -197,41 +219,54 @@ module _ (a b : Inside) (held : IsHeld a) (ns : List Node) (n : Node) (id : Stat
               (lt-ltb n.arrival (a.known + 1) (omega arith))));
           ascending = subst (λ ls. list_all (λ (z : Entry). are_ascending_pairs z.path) ls ≡ true) (sym entries-after)
               (all-last (λ (z : Entry). are_ascending_pairs z.path) gs e
-              (follow-all R (λ (z : Entry). are_ascending_pairs z.path) (λ (z : Entry). are_ascending_pairs z.path) (λ o m h t. h.ascending t) es gs f held.ascending) ups);
+              (follow-all R (λ (z : Entry). are_ascending_pairs z.path) (λ (z : Entry). are_ascending_pairs z.path) (λ o m h t. h.ascending t) es gs f
+              held.ascending) ups);
           short = subst (λ (l : Limits). list_all (λ (z : Entry). leb (length z.path) l.max_path) (seen b).entries ≡ true) (sym limits)
               (subst (λ ls. list_all (λ (z : Entry). leb (length z.path) a.limits.max_path) ls ≡ true) (sym entries-after)
               (all-last (λ (z : Entry). leb (length z.path) a.limits.max_path) gs e
-              (follow-all R (λ (z : Entry). leb (grown_length (seen a) parents z) a.limits.max_path) (λ (z : Entry). leb (length z.path) a.limits.max_path) (λ o m h t.
-              (let le = leb-true (grown_length (seen a) parents o) a.limits.max_path t in let longer = h.longer in le-leb (length m.path) a.limits.max_path (omega arith))) es gs f
-              (short-all a.limits.max_path (grown_length (seen a) parents) es (none-from_map (λ (z : Entry). (z.id, grown_length (seen a) parents z)) (find (λ (z : Entry). ltb a.limits.max_path (grown_length (seen a) parents z)) es) short)))
+              (follow-all R (λ (z : Entry). leb (grown_length (seen a) parents z) a.limits.max_path) (λ (z : Entry). leb (length z.path) a.limits.max_path)
+              (λ o m h t.
+              (let le = leb-true (grown_length (seen a) parents o) a.limits.max_path t in let longer = h.longer in
+              le-leb (length m.path) a.limits.max_path (omega arith))) es gs f
+              (short-all a.limits.max_path (grown_length (seen a) parents) es
+              (none-from_map (λ (z : Entry). (z.id, grown_length (seen a) parents z))
+              (find (λ (z : Entry). ltb a.limits.max_path (grown_length (seen a) parents z)) es) short)))
               (le-leb (length n.path.pairs) a.limits.max_path shorts)));
           stand_ins = subst (λ ls. list_all (λ (z : Entry). list_all (is_slot (seen b)) z.stand_ins) ls ≡ true) (sym entries-after)
               (all-last (λ (z : Entry). list_all (is_slot (seen b)) z.stand_ins) gs e
               (follow-all R (λ (z : Entry). list_all (is_slot (seen a)) z.stand_ins) (λ (z : Entry). list_all (is_slot (seen b)) z.stand_ins) (λ o m h t.
               h.slots (is_slot (seen b)) (all-implied (is_slot (seen a)) (is_slot (seen b)) stays o.stand_ins t) (ap is_some own)) es gs f held.stand_ins)
               (ap (list_all (is_slot (seen b))) stands));
-          later = subst (λ ls. list_all (λ (z : Entry). list_all (λ (s : Slot). ltb z.arrival (arrival_at (seen b) s)) z.stand_ins) ls ≡ true) (sym entries-after)
+          later = subst (λ ls. list_all (λ (z : Entry). list_all (λ (s : Slot). ltb z.arrival (arrival_at (seen b) s)) z.stand_ins) ls ≡ true)
+              (sym entries-after)
               (all-last (λ (z : Entry). list_all (λ (s : Slot). ltb z.arrival (arrival_at (seen b) s)) z.stand_ins) gs e
-              (follow-all R (λ (z : Entry). list_all (is_slot (seen a)) z.stand_ins && (list_all (λ (s : Slot). ltb z.arrival (arrival_at (seen a) s)) z.stand_ins && ltb z.arrival a.known))
+              (follow-all R (λ (z : Entry). list_all (is_slot (seen a)) z.stand_ins &&
+              (list_all (λ (s : Slot). ltb z.arrival (arrival_at (seen a) s)) z.stand_ins && ltb z.arrival a.known))
               (λ (z : Entry). list_all (λ (s : Slot). ltb z.arrival (arrival_at (seen b) s)) z.stand_ins) (λ o m h t.
-              let lists = and_parts (list_all (is_slot (seen a)) o.stand_ins) (list_all (λ (s : Slot). ltb o.arrival (arrival_at (seen a) s)) o.stand_ins && ltb o.arrival a.known) t in
+              let lists = and_parts (list_all (is_slot (seen a)) o.stand_ins)
+              (list_all (λ (s : Slot). ltb o.arrival (arrival_at (seen a) s)) o.stand_ins && ltb o.arrival a.known) t in
               let more = and_parts (list_all (λ (s : Slot). ltb o.arrival (arrival_at (seen a) s)) o.stand_ins) (ltb o.arrival a.known) lists.1 in
               let last : arrival_at (seen b) slot ≡ n.arrival = ap (λ p. option_map_or (λ (g : Entry). g.arrival) p 0) own in
               let before = ltb-true o.arrival a.known more.1 in
               let stay = h.arrival_stays in
               h.slots (λ s. ltb m.arrival (arrival_at (seen b) s))
               (all-two (is_slot (seen a)) (λ s. ltb o.arrival (arrival_at (seen a) s)) (λ s. ltb m.arrival (arrival_at (seen b) s))
-              (λ s there less. ap₂ (λ x y. ltb x y) stay (slot-arrives (seen a) (seen b) (seen a) parents id slot gs e f entries-after refl slot-fresh s there) ∙ less)
+              (λ s there less. ap₂ (λ x y. ltb x y) stay (slot-arrives (seen a) (seen b) (seen a) parents id slot gs e f entries-after refl slot-fresh s
+              there) ∙ less)
               o.stand_ins lists.0 more.0)
               (lt-ltb m.arrival (arrival_at (seen b) slot) (omega arith))) es gs f
-              (all-both (λ (z : Entry). list_all (is_slot (seen a)) z.stand_ins) (λ (z : Entry). list_all (λ (s : Slot). ltb z.arrival (arrival_at (seen a) s)) z.stand_ins && ltb z.arrival a.known) es held.stand_ins
-              (all-both (λ (z : Entry). list_all (λ (s : Slot). ltb z.arrival (arrival_at (seen a) s)) z.stand_ins) (λ (z : Entry). ltb z.arrival a.known) es held.later held.arrived)))
+              (all-both (λ (z : Entry). list_all (is_slot (seen a)) z.stand_ins)
+              (λ (z : Entry). list_all (λ (s : Slot). ltb z.arrival (arrival_at (seen a) s)) z.stand_ins && ltb z.arrival a.known) es held.stand_ins
+              (all-both (λ (z : Entry). list_all (λ (s : Slot). ltb z.arrival (arrival_at (seen a) s)) z.stand_ins) (λ (z : Entry). ltb z.arrival a.known)
+              es held.later held.arrived)))
               (ap (list_all (λ (s : Slot). ltb n.arrival (arrival_at (seen b) s))) stands));
           childless = leaves ∙ ap (λ (ss : List Slot). filter (λ s. not (is_slot_among s parents)) ss ++ slot ∷ []) held.childless
-              ∙ ap (λ (ss : List Slot). ss ++ slot ∷ []) (sym (leaves-follow parents es gs (follow-as R (LosesLeaf parents) (loses-leaf (seen a) parents id slot) es gs f)))
+              ∙ ap (λ (ss : List Slot). ss ++ slot ∷ []) (sym
+              (leaves-follow parents es gs (follow-as R (LosesLeaf parents) (loses-leaf (seen a) parents id slot) es gs f)))
               ∙ sym (ap childless_slots entries-after ∙ leaves-last gs e leaf);
           sites = ap length counts ∙ length-set a.counts.items i c ∙ held.sites ∙ sym (ap (λ (l : Limits). l.sites) limits);
-          fit = subst (λ cs. list_all (λ m. ltb m 4294967296) cs ≡ true) (sym counts) (all-set (λ m. ltb m 4294967296) a.counts.items i c held.fit (lt-ltb c 4294967296 fits));
+          fit = subst (λ cs. list_all (λ m. ltb m 4294967296) cs ≡ true) (sym counts)
+              (all-set (λ m. ltb m 4294967296) a.counts.items i c held.fit (lt-ltb c 4294967296 fits));
           counted = (
               let whole = sum-set a.counts.items i c 0 inside in
               let was = held.counted in
@@ -242,7 +277,8 @@ module _ (a b : Inside) (held : IsHeld a) (ns : List Node) (n : Node) (id : Stat
               (subst (λ cs. list_all (λ (z : Entry). is_counted cs z.id) (gs ++ e ∷ []) ≡ true) (sym counts)
               (all-last (λ (z : Entry). is_counted (set a.counts.items i c) z.id) gs e
               (follow-all R (λ (z : Entry). is_counted a.counts.items z.id) (λ (z : Entry). is_counted (set a.counts.items i c) z.id) (λ o m h t.
-              subst (λ z. is_counted (set a.counts.items i c) z ≡ true) (sym h.id_stays) (counted-more a.counts.items i c o.id inside fresh t)) es gs f held.among_counted)
+              subst (λ z. is_counted (set a.counts.items i c) z ≡ true) (sym h.id_stays) (counted-more a.counts.items i c o.id inside fresh t)) es gs f
+              held.among_counted)
               (subst (λ z. is_counted (set a.counts.items i c) z ≡ true) (sym is)
               (let now = ap (λ (m : ℕ). get_or (set a.counts.items i c) m 0) (sym at_site) ∙ get_or-set_same a.counts.items i c 0 inside in
               le-leb id.sequence (get_or (set a.counts.items i c) (id.site - 1) 0) (omega arith)))));
@@ -255,5 +291,6 @@ module _ (a b : Inside) (held : IsHeld a) (ns : List Node) (n : Node) (id : Stat
           indexed = λ x.
               slots x
               ∙ ap (λ o. cond (same_id x id) (Some slot) o) (held.indexed x ∙ sym (slots-of_id (seen a) parents id slot es gs f x))
-              ∙ sym (ap (λ ls. slot_of_id ls x) entries-after ∙ slot-of_id-last gs e x ∙ ap (λ (z : StateId). cond (same_id x z) (Some slot) (slot_of_id gs x)) is);
+              ∙ sym (ap (λ ls. slot_of_id ls x) entries-after ∙ slot-of_id-last gs e x
+              ∙ ap (λ (z : StateId). cond (same_id x z) (Some slot) (slot_of_id gs x)) is);
         }

@@ -1,8 +1,10 @@
 -- Entries of nodes in any slots: what stands where, whatever the slots' numbers.
-use Rattle.std.proofs.Common.{◌≡◌, ℕ, suc, ◌+◌, ◌<◌, ◌≤◌, Bool, true, false, ◌||◌, eqb, ltb, List, [], ◌∷◌, ◌++◌, length, map, find, get_or, set, slice_get, Some, None, is_some, inl, inr, refl, sym, ap, ap₂, subst, ◌∙◌, length-append, eqb-true, eq-eqb, arith}
+use Rattle.std.proofs.Common.{◌≡◌, ℕ, suc, ◌+◌, ◌<◌, ◌≤◌, Bool, true, false, ◌||◌, eqb, ltb, List, [], ◌∷◌, ◌++◌, length, map, find, get_or, set, slice_get}
+use Rattle.std.proofs.Common.{Some, None, is_some, inl, inr, refl, sym, ap, ap₂, subst, ◌∙◌, length-append, eqb-true, eq-eqb, arith}
 use Rattle.std.specs.List.{list_all, cons_option}
 use Rattle.std.specs.Option.{option_map}
-use Rattle.std.proofs.lemmas.Bool.{and_parts, and_from, or_parts, cases_Bool, cases_lt, both_ways, false_from_ne_true, cond-true, cond-false, ltb-true, lt-ltb, le-ltb, ne_eqb}
+use Rattle.std.proofs.lemmas.Bool.{and_parts, and_from, or_parts, cases_Bool, cases_lt, both_ways, false_from_ne_true, cond-true, cond-false, ltb-true}
+use Rattle.std.proofs.lemmas.Bool.{lt-ltb, le-ltb, ne_eqb}
 use Rattle.std.proofs.lemmas.List.{get_or-set_same, get_or-set_other, get_or_append_left, get_or_at, length-set}
 use Rattle.std.proofs.lemmas.Option.{none-some, same_Some}
 use Rattle.tardis_base.specs.declared.ids.Slot.{Slot}
@@ -23,7 +25,8 @@ abbrev pub slots_of : List Entry → List Slot
 slots_of es = map (λ e. e.slot) es
 
 -- a slot that is found is that of an entry at some place
-pub place-of : (es : List Entry) (k : ℕ) → is_some (find (λ e. eqb e.slot.0 k) es) ≡ true → (i : ℕ) × (i < length es) × ((d : Entry) → (get_or es i d).slot.0 ≡ k)
+pub place-of : (es : List Entry) (k : ℕ) → is_some (find (λ e. eqb e.slot.0 k) es) ≡ true → (i : ℕ) × (i < length es)
+    × ((d : Entry) → (get_or es i d).slot.0 ≡ k)
 place-of [] k there = absurd (both_ways false refl there)
 place-of (e ∷ es) k there = elim (cases_Bool (eqb e.slot.0 k)) [
   | inl t ↦ (0, omega arith, λ d. eqb-true e.slot.0 k t)
@@ -49,25 +52,29 @@ among-at (e ∷ es) (ℕ.suc i) d lt = go (eqb e.slot.0 (get_or es i d).slot.0) 
     go true t = refl
     go false t = t
 
-other-slot : (e : Entry) (es : List Entry) (i : ℕ) (d : Entry) → is_slot_among e.slot (slots_of es) ≡ false → i < length es → eqb e.slot.0 (get_or es i d).slot.0 ≡ false
+other-slot : (e : Entry) (es : List Entry) (i : ℕ) (d : Entry) → is_slot_among e.slot (slots_of es) ≡ false → i < length es →
+    eqb e.slot.0 (get_or es i d).slot.0 ≡ false
 other-slot e es i d out lt = ne_eqb e.slot.0 (get_or es i d).slot.0 (λ same.
     let named : ℕ → Slot = λ n. record { 0 = n } in
     both_ways (is_slot_among e.slot (slots_of es)) out (subst (λ s. is_slot_among s (slots_of es) ≡ true) (ap named (sym same)) (among-at es i d lt)))
 
 -- where slots differ each entry is found at its slot
-pub found-at : (es : List Entry) → AreDistinct (slots_of es) → (i : ℕ) (d : Entry) → i < length es → find (λ e. eqb e.slot.0 (get_or es i d).slot.0) es ≡ Some (get_or es i d)
+pub found-at : (es : List Entry) → AreDistinct (slots_of es) → (i : ℕ) (d : Entry) → i < length es → find (λ e. eqb e.slot.0 (get_or es i d).slot.0) es
+    ≡ Some (get_or es i d)
 found-at [] distinct i d lt = absurd (omega arith)
 found-at (e ∷ es) distinct ℕ.zero d lt = rw (eq-eqb e.slot.0 e.slot.0 refl) refl
 found-at (e ∷ es) distinct (ℕ.suc i) d lt = rw (other-slot e es i d distinct.0 (omega arith)) (found-at es distinct.1 i d (omega arith))
 
 -- and the slot behind one is that of the next
-pub slot-behind : (es : List Entry) → AreDistinct (slots_of es) → (i j : ℕ) (d : Entry) → j ≡ i + 1 → i < length es → slot_after es (Some (get_or es i d).slot) ≡ option_map (λ e. e.slot) (slice_get es j)
+pub slot-behind : (es : List Entry) → AreDistinct (slots_of es) → (i j : ℕ) (d : Entry) → j ≡ i + 1 → i < length es →
+    slot_after es (Some (get_or es i d).slot) ≡ option_map (λ e. e.slot) (slice_get es j)
 slot-behind [] distinct i j d next lt = absurd (omega arith)
 slot-behind (e ∷ es) distinct i ℕ.zero d next lt = absurd (omega arith)
 slot-behind (e ∷ es) distinct ℕ.zero (ℕ.suc j) d next lt =
     let first : 0 ≡ j = omega arith in
     rw (eq-eqb e.slot.0 e.slot.0 refl) (ap (λ (m : ℕ). option_map (λ (f : Entry). f.slot) (slice_get es m)) first)
-slot-behind (e ∷ es) distinct (ℕ.suc i) (ℕ.suc j) d next lt = rw (other-slot e es i d distinct.0 (omega arith)) (slot-behind es distinct.1 i j d (omega arith) (omega arith))
+slot-behind (e ∷ es) distinct (ℕ.suc i) (ℕ.suc j) d next lt =
+    rw (other-slot e es i d distinct.0 (omega arith)) (slot-behind es distinct.1 i j d (omega arith) (omega arith))
 
 named-among : (es : List Entry) (i : ℕ) (d : Entry) → i < length es → is_among (get_or es i d).id (map (λ e. e.id) es) ≡ true
 named-among [] i d lt = absurd (omega arith)
@@ -79,7 +86,8 @@ named-among (e ∷ es) (ℕ.suc i) d lt = go (same_id (get_or es i d).id e.id) (
     go false t = t
 
 -- where ids differ, the id behind one is that of the next entry
-pub id-behind : (es : List Entry) → AllDiffer (map (λ e. e.id) es) → (i j : ℕ) (d : Entry) → j ≡ i + 1 → i < length es → next_of (map (λ e. e.id) es) (Some (get_or es i d).id) ≡ option_map (λ e. e.id) (slice_get es j)
+pub id-behind : (es : List Entry) → AllDiffer (map (λ e. e.id) es) → (i j : ℕ) (d : Entry) → j ≡ i + 1 → i < length es →
+    next_of (map (λ e. e.id) es) (Some (get_or es i d).id) ≡ option_map (λ e. e.id) (slice_get es j)
 id-behind [] differ i j d next lt = absurd (omega arith)
 id-behind (e ∷ es) differ i ℕ.zero d next lt = absurd (omega arith)
 id-behind (e ∷ es) differ ℕ.zero (ℕ.suc j) d next lt =
@@ -92,16 +100,20 @@ id-behind (e ∷ es) differ ℕ.zero (ℕ.suc j) d next lt =
 id-behind (e ∷ es) differ (ℕ.suc i) (ℕ.suc j) d next lt =
     let y = (get_or es i d).id in
     let apart : same_id e.id y ≡ false = false_from_ne_true (same_id e.id y) (λ t.
-    both_ways (is_among e.id (map (λ (f : Entry). f.id) es)) differ.0 (subst (λ z. is_among z (map (λ (f : Entry). f.id) es) ≡ true) (sym (same_id-true e.id y t)) (named-among es i d (omega arith)))) in
-    let turned : same_id y e.id ≡ false = false_from_ne_true (same_id y e.id) (λ t. both_ways (same_id e.id y) apart (same_id_from e.id y (sym (same_id-true y e.id t)))) in
+    both_ways (is_among e.id (map (λ (f : Entry). f.id) es)) differ.0
+    (subst (λ z. is_among z (map (λ (f : Entry). f.id) es) ≡ true) (sym (same_id-true e.id y t)) (named-among es i d (omega arith)))) in
+    let turned : same_id y e.id ≡ false = false_from_ne_true (same_id y e.id)
+    (λ t. both_ways (same_id e.id y) apart (same_id_from e.id y (sym (same_id-true y e.id t)))) in
     rw turned (id-behind es differ.1 i j d (omega arith) (omega arith))
 
 -- of entries in order an earlier one arrived before a later one
-pub arrives-before : (es : List Entry) (i j : ℕ) (d : Entry) → arrive_in_order es ≡ true → i < j → j < length es → (get_or es i d).arrival < (get_or es j d).arrival
+pub arrives-before : (es : List Entry) (i j : ℕ) (d : Entry) → arrive_in_order es ≡ true → i < j → j < length es → (get_or es i d).arrival
+    < (get_or es j d).arrival
 arrives-before [] i j d up less lt = absurd (omega arith)
 arrives-before (e ∷ es) i ℕ.zero d up less lt = absurd (omega arith)
 arrives-before (e ∷ []) i (ℕ.suc j) d up less lt = absurd (omega arith)
-arrives-before (e ∷ f ∷ es) ℕ.zero (ℕ.suc ℕ.zero) d up less lt = ltb-true e.arrival f.arrival (and_parts (ltb e.arrival f.arrival) (arrive_in_order (f ∷ es)) up).0
+arrives-before (e ∷ f ∷ es) ℕ.zero (ℕ.suc ℕ.zero) d up less lt =
+    ltb-true e.arrival f.arrival (and_parts (ltb e.arrival f.arrival) (arrive_in_order (f ∷ es)) up).0
 arrives-before (e ∷ f ∷ es) ℕ.zero (ℕ.suc (ℕ.suc j)) d up less lt =
     let parts = and_parts (ltb e.arrival f.arrival) (arrive_in_order (f ∷ es)) up in
     let first = ltb-true e.arrival f.arrival parts.0 in
@@ -127,7 +139,8 @@ place-read (n ∷ ns) ℕ.zero lt = (n, refl, λ d. refl)
 place-read (n ∷ ns) (ℕ.suc k) lt = place-read ns k (omega arith)
 
 -- the first entry is that of the first slot's node
-pub first-read : (ns : List Node) (s : Slot) (slots : List Slot) → s.0 < length ns → (n : Node) × (entries_in ns (s ∷ slots) ≡ entry_of s.0 n ∷ entries_in ns slots) × ((d : Node) → get_or ns s.0 d ≡ n)
+pub first-read : (ns : List Node) (s : Slot) (slots : List Slot) → s.0 < length ns → (n : Node)
+    × (entries_in ns (s ∷ slots) ≡ entry_of s.0 n ∷ entries_in ns slots) × ((d : Node) → get_or ns s.0 d ≡ n)
 first-read ns s slots lt =
     let w = place-read ns s.0 lt in
     (w.0, ap (λ o. cons_option (option_map (entry_of s.0) o) (entries_in ns slots)) w.1, w.2)
@@ -141,7 +154,8 @@ slots-in ns (s ∷ slots) all =
     ap slots_of w.1 ∙ ap (λ ss. s ∷ ss) (slots-in ns slots parts.1)
 
 -- a slot that is none of these has none
-pub found-none : (ns : List Node) (slots : List Slot) (k : ℕ) → placed ns slots ≡ true → is_slot_among (record { 0 = k }) slots ≡ false → find (λ e. eqb e.slot.0 k) (entries_in ns slots) ≡ None
+pub found-none : (ns : List Node) (slots : List Slot) (k : ℕ) → placed ns slots ≡ true → is_slot_among (record { 0 = k }) slots ≡ false →
+    find (λ e. eqb e.slot.0 k) (entries_in ns slots) ≡ None
 found-none ns [] k all out = refl
 found-none ns (s ∷ slots) k all out =
     let parts = and_parts (ltb s.0 (length ns)) (placed ns slots) all in
@@ -150,7 +164,8 @@ found-none ns (s ∷ slots) k all out =
     ap (find (λ e. eqb e.slot.0 k)) w.1 ∙ rw others.0 (found-none ns slots k parts.1 others.1)
 
 -- each of these is found
-pub found-some : (ns : List Node) (slots : List Slot) (k : ℕ) → placed ns slots ≡ true → is_slot_among (record { 0 = k }) slots ≡ true → is_some (find (λ e. eqb e.slot.0 k) (entries_in ns slots)) ≡ true
+pub found-some : (ns : List Node) (slots : List Slot) (k : ℕ) → placed ns slots ≡ true → is_slot_among (record { 0 = k }) slots ≡ true →
+    is_some (find (λ e. eqb e.slot.0 k) (entries_in ns slots)) ≡ true
 found-some ns [] k all there = absurd (both_ways false refl there)
 found-some ns (s ∷ slots) k all there =
     let parts = and_parts (ltb s.0 (length ns)) (placed ns slots) all in
@@ -181,7 +196,8 @@ found-places ns (s ∷ slots) all k d lt =
     subst (λ (es : List Entry). k < length es → entry_at (table_of ns) (get_or es k d).slot ≡ Some (get_or es k d)) (sym w.1)
     (go w.0 (entry-found ns s.0 w.0 here ∙ ap (λ (m : Node). Some (entry_of s.0 m)) (w.2 w.0)) (found-places ns slots parts.1) k) lt
   where
-    go : (n : Node) → entry_at (table_of ns) s ≡ Some (entry_of s.0 n) → AreFound (table_of ns) (entries_in ns slots) → (i : ℕ) → i < length (entry_of s.0 n ∷ entries_in ns slots) →
+    go : (n : Node) → entry_at (table_of ns) s ≡ Some (entry_of s.0 n) → AreFound (table_of ns) (entries_in ns slots) → (i : ℕ) →
+        i < length (entry_of s.0 n ∷ entries_in ns slots) →
         entry_at (table_of ns) (get_or (entry_of s.0 n ∷ entries_in ns slots) i d).slot ≡ Some (get_or (entry_of s.0 n ∷ entries_in ns slots) i d)
     go n is rest ℕ.zero less = is
     go n is rest (ℕ.suc i) less = rest i d (omega arith)
@@ -191,7 +207,8 @@ module _ (ns : List Node) (d : Node) where
   entries-first s slots lt = ap (λ o. cons_option (option_map (entry_of s.0) o) (entries_in ns slots)) (read-at ns s.0 d lt)
 
   -- one of these slots has its node's entry
-  pub found-in : (slots : List Slot) (k : ℕ) → placed ns slots ≡ true → is_slot_among (record { 0 = k }) slots ≡ true → find (λ e. eqb e.slot.0 k) (entries_in ns slots) ≡ Some (entry_of k (get_or ns k d))
+  pub found-in : (slots : List Slot) (k : ℕ) → placed ns slots ≡ true → is_slot_among (record { 0 = k }) slots ≡ true →
+      find (λ e. eqb e.slot.0 k) (entries_in ns slots) ≡ Some (entry_of k (get_or ns k d))
   found-in [] k all there = absurd (both_ways false refl there)
   found-in (s ∷ slots) k all there =
       let parts = and_parts (ltb s.0 (length ns)) (placed ns slots) all in
@@ -202,7 +219,8 @@ module _ (ns : List Node) (d : Node) where
       ]
 
   -- one more slot has one more entry, the last
-  pub entries-put : (slots : List Slot) (s : Slot) → placed ns slots ≡ true → s.0 < length ns → entries_in ns (slots ++ s ∷ []) ≡ entries_in ns slots ++ entry_of s.0 (get_or ns s.0 d) ∷ []
+  pub entries-put : (slots : List Slot) (s : Slot) → placed ns slots ≡ true → s.0 < length ns → entries_in ns (slots ++ s ∷ []) ≡ entries_in ns slots
+      ++ entry_of s.0 (get_or ns s.0 d) ∷ []
   entries-put [] s all lt = entries-first s [] lt
   entries-put (t ∷ slots) s all lt =
       let parts = and_parts (ltb t.0 (length ns)) (placed ns slots) all in
@@ -211,7 +229,8 @@ module _ (ns : List Node) (d : Node) where
       ∙ ap (λ es. es ++ entry_of s.0 (get_or ns s.0 d) ∷ []) (sym (entries-first t slots in_place))
 
 -- a node put in a slot that is none of these leaves their entries
-pub entries-stay : (ns : List Node) (d n : Node) (slots : List Slot) (k : ℕ) → placed ns slots ≡ true → is_slot_among (record { 0 = k }) slots ≡ false → entries_in (set ns k n) slots ≡ entries_in ns slots
+pub entries-stay : (ns : List Node) (d n : Node) (slots : List Slot) (k : ℕ) → placed ns slots ≡ true → is_slot_among (record { 0 = k }) slots ≡ false →
+    entries_in (set ns k n) slots ≡ entries_in ns slots
 entries-stay ns d n [] k all out = refl
 entries-stay ns d n (s ∷ slots) k all out =
     let parts = and_parts (ltb s.0 (length ns)) (placed ns slots) all in
@@ -243,7 +262,8 @@ placed-wider m n (s ∷ slots) le all =
     let lt = ltb-true s.0 m parts.0 in
     and_from (ltb s.0 n) (list_all (λ (t : Slot). ltb t.0 n) slots) (lt-ltb s.0 n (omega arith)) (placed-wider m n slots le parts.1)
 
-module _ (ns : List Node) (n : Node) (slots : List Slot) (s : Slot) (all : placed ns slots ≡ true) (out : is_slot_among s slots ≡ false) (le : s.0 ≤ length ns) where
+module _ (ns : List Node) (n : Node) (slots : List Slot) (s : Slot) (all : placed ns slots ≡ true) (out : is_slot_among s slots ≡ false)
+    (le : s.0 ≤ length ns) where
   pub entries-next : entries_in (with_node ns s.0 n) (slots ++ s ∷ []) ≡ entries_in ns slots ++ entry_of s.0 n ∷ []
   entries-next = elim (cases_lt s.0 (length ns)) [
     | inl lt ↦

@@ -1,5 +1,6 @@
 -- What two tables tell alike where they have the same entries at some slots.
-use Rattle.std.proofs.Common.{◌≡◌, ℕ, ◌+◌, Bool, true, false, ◌||◌, ◌&&◌, eqb, leb, ltb, List, [], ◌∷◌, ◌++◌, length, map, filter, find, slice_get, Option, Some, None, inl, inr, refl, sym, ap, ap₂, subst, ◌∙◌}
+use Rattle.std.proofs.Common.{◌≡◌, ℕ, ◌+◌, Bool, true, false, ◌||◌, ◌&&◌, eqb, leb, ltb, List, [], ◌∷◌, ◌++◌, length, map, filter, find, slice_get, Option}
+use Rattle.std.proofs.Common.{Some, None, inl, inr, refl, sym, ap, ap₂, subst, ◌∙◌}
 use Rattle.std.specs.List.{list_any, list_all}
 use Rattle.std.specs.Option.{option_map, option_map_or, option_and_then}
 use Rattle.std.proofs.lemmas.Bool.{and_parts, cases_Bool, cond-true, cond-false}
@@ -71,15 +72,18 @@ module _ (t u : Table) (keeps : Slot → Bool) (agree : (s : Slot) → keeps s �
 
   pub leads-alike : (s p : Slot) → keeps s ≡ true → keeps p ≡ true → leads_first t s p ≡ leads_first u s p
   leads-alike s p ks kp =
-      ap₂ (λ n o. eqb n 1 && option_map_or (λ c. is_slot_above t c s) (option_and_then (λ (e : Entry). slice_get e.stand_ins 0) o) false) (children-alike p kp) (agree p kp)
+      ap₂ (λ n o. eqb n 1 && option_map_or (λ c. is_slot_above t c s) (option_and_then (λ (e : Entry). slice_get e.stand_ins 0) o) false)
+      (children-alike p kp) (agree p kp)
       ∙ ap (λ b. eqb (number_of_children u p) 1 && b) (go (entry_at u p) refl)
     where
-      at : (ss : List Slot) → list_all keeps ss ≡ true → option_map_or (λ c. is_slot_above t c s) (slice_get ss 0) false ≡ option_map_or (λ c. is_slot_above u c s) (slice_get ss 0) false
+      at : (ss : List Slot) → list_all keeps ss ≡ true → option_map_or (λ c. is_slot_above t c s) (slice_get ss 0) false
+          ≡ option_map_or (λ c. is_slot_above u c s) (slice_get ss 0) false
       at [] all = refl
       at (c ∷ ss) all = above-alike c s (and_parts (keeps c) (list_all keeps ss) all).0 ks
 
       go : (o : Option Entry) → entry_at u p ≡ o →
-          option_map_or (λ c. is_slot_above t c s) (option_and_then (λ (e : Entry). slice_get e.stand_ins 0) o) false ≡ option_map_or (λ c. is_slot_above u c s) (option_and_then (λ (e : Entry). slice_get e.stand_ins 0) o) false
+          option_map_or (λ c. is_slot_above t c s) (option_and_then (λ (e : Entry). slice_get e.stand_ins 0) o) false
+          ≡ option_map_or (λ c. is_slot_above u c s) (option_and_then (λ (e : Entry). slice_get e.stand_ins 0) o) false
       go None is = refl
       go (Some e) is = at e.stand_ins (closed p e kp is)
 
@@ -92,12 +96,14 @@ module _ (t u : Table) (keeps : Slot → Bool) (agree : (s : Slot) → keeps s �
         (λ p kp. ap (λ b. is_same_pair pair (p.0, 0) && b) (leads-alike s p ks kp)) all
 
     last-alike : (pair : ℕ × ℕ) → is_last_branch t parents pair ≡ is_last_branch u parents pair
-    last-alike pair = any-on keeps (λ p. is_same_pair pair (p.0, number_of_children t p) && leb 1 (number_of_children t p)) (λ p. is_same_pair pair (p.0, number_of_children u p) && leb 1 (number_of_children u p)) parents
+    last-alike pair = any-on keeps (λ p. is_same_pair pair (p.0, number_of_children t p) && leb 1 (number_of_children t p))
+        (λ p. is_same_pair pair (p.0, number_of_children u p) && leb 1 (number_of_children u p)) parents
         (λ p kp. ap (λ n. is_same_pair pair (p.0, n) && leb 1 n) (children-alike p kp)) all
 
     new-alike : (pair : ℕ × ℕ) → is_new_pair t parents pair ≡ is_new_pair u parents pair
     new-alike pair = ap₂ (λ a b. a || b)
-        (any-on keeps (λ p. has_pair pair (path_at t p) || is_first_branch t parents p pair) (λ p. has_pair pair (path_at u p) || is_first_branch u parents p pair) parents
+        (any-on keeps (λ p. has_pair pair (path_at t p) || is_first_branch t parents p pair)
+        (λ p. has_pair pair (path_at u p) || is_first_branch u parents p pair) parents
         (λ p kp. ap₂ (λ ps b. has_pair pair ps || b) (path-alike p kp) (first-alike p pair kp)) all) (last-alike pair)
 
     pub path-moves : (path : List (ℕ × ℕ)) → IsNewPath t parents path → IsNewPath u parents path
@@ -105,7 +111,8 @@ module _ (t u : Table) (keeps : Slot → Bool) (agree : (s : Slot) → keeps s �
 
     ids-alike : (ps : List Slot) → list_all keeps ps ≡ true → map (id_at t) ps ≡ map (id_at u) ps
     ids-alike [] k = refl
-    ids-alike (p ∷ ps) k = (let parts = and_parts (keeps p) (list_all keeps ps) k in ap₂ (λ (i : Option StateId) (is : List (Option StateId)). i ∷ is) (id-alike p parts.0) (ids-alike ps parts.1))
+    ids-alike (p ∷ ps) k = (let parts = and_parts (keeps p) (list_all keeps ps) k in
+        ap₂ (λ (i : Option StateId) (is : List (Option StateId)). i ∷ is) (id-alike p parts.0) (ids-alike ps parts.1))
 
     pub entry-moves : (x : StateId) (slot : Slot) (e : Entry) → t.known ≡ u.known → IsNewEntry t parents x slot e → IsNewEntry u parents x slot e
     entry-moves x slot e known h = record {
@@ -130,7 +137,8 @@ module _ (t u : Table) (keeps : Slot → Bool) (agree : (s : Slot) → keeps s �
     pub long-alike : (most : ℕ) (slots : List Slot) → list_all keeps slots ≡ true → find (is_long t most parents) slots ≡ find (is_long u most parents) slots
     long-alike most slots k = find-on keeps (is_long t most parents) (is_long u most parents) slots (λ s ks. ap (ltb most) (length-alike s ks)) k
 
-    pub told-alike : (most : ℕ) (slots : List Slot) (fault : AddFault) → list_all keeps slots ≡ true → TellsLong t parents (find (is_long t most parents) slots) fault → TellsLong u parents (find (is_long u most parents) slots) fault
+    pub told-alike : (most : ℕ) (slots : List Slot) (fault : AddFault) → list_all keeps slots ≡ true →
+        TellsLong t parents (find (is_long t most parents) slots) fault → TellsLong u parents (find (is_long u most parents) slots) fault
     told-alike most slots (Full kept) k told = told
     told-alike most slots (PathFull x n) k told =
         let ks = find-keeps keeps (is_long t most parents) slots told.0 k told.1 in

@@ -1,8 +1,10 @@
 -- Which states are known, by the counts of their sites, and which are kept.
-use Rattle.std.proofs.Common.{◌≡◌, ℕ, ◌+◌, ◌<◌, ◌≤◌, Bool, true, false, not, eqb, leb, List, [], ◌∷◌, ◌++◌, filter, IsTrue, IsFalse, ◌⊎◌, inl, inr, refl, sym, ap, ap₂, subst, ◌∙◌, arith}
+use Rattle.std.proofs.Common.{◌≡◌, ℕ, ◌+◌, ◌<◌, ◌≤◌, Bool, true, false, not, eqb, leb, List, [], ◌∷◌, ◌++◌, filter, IsTrue, IsFalse, ◌⊎◌, inl, inr, refl, sym}
+use Rattle.std.proofs.Common.{ap, ap₂, subst, ◌∙◌, arith}
 use Rattle.std.specs.Prelude.{◌==◌, ◌&&◌, ◌||◌, nat_le}
 use Rattle.std.specs.List.{list_all}
-use Rattle.std.proofs.lemmas.Bool.{and_parts, and_from, or_cases, or_left, or_right, cases_Bool, both_ways, cond_both, cond-true, cond-false, false_from_ne_true, not-true, not_from_false, eqb-true, eq-eqb, leb-true, le-leb, cases_lt}
+use Rattle.std.proofs.lemmas.Bool.{and_parts, and_from, or_cases, or_left, or_right, cases_Bool, both_ways, cond_both, cond-true, cond-false}
+use Rattle.std.proofs.lemmas.Bool.{false_from_ne_true, not-true, not_from_false, eqb-true, eq-eqb, leb-true, le-leb, cases_lt}
 use Rattle.tardis_base.specs.declared.ids.StateId.{StateId}
 use Rattle.tardis_base.specs.declared.records.Record.{Record}
 use Rattle.tardis_base.specs.declared.records.Limits.{Limits}
@@ -143,7 +145,8 @@ knows-root rs dag x zero = same_test (eqb x.sequence 0) (is_known rs x) there ba
       | inr p ↦ let q = p.0 in absurd (omega arith)
     ]
 
-pub knows-none : (rs : List Record) (n : ℕ) → IsDag rs → IsTrue (list_all (λ r. nat_le r.id.site n) rs) → (x : StateId) → (x.site ≡ 0 → ⊥) → (n < x.site) ⊎ (x.sequence ≡ 0) → false ≡ is_known rs x
+pub knows-none : (rs : List Record) (n : ℕ) → IsDag rs → IsTrue (list_all (λ r. nat_le r.id.site n) rs) → (x : StateId) → (x.site ≡ 0 → ⊥) → (n < x.site)
+    ⊎ (x.sequence ≡ 0) → false ≡ is_known rs x
 knows-none rs n dag sites x other out = sym (false_from_ne_true (is_known rs x) (λ h. refused h out))
   where
     refused : IsTrue (is_known rs x) → (n < x.site) ⊎ (x.sequence ≡ 0) → ⊥
@@ -199,8 +202,10 @@ kept-newest rs ks r out =
 pub differ-last : (xs : List StateId) (y : StateId) → AllDiffer xs → is_among y xs ≡ false → AllDiffer (xs ++ y ∷ [])
 differ-last [] y d out = (refl, tt)
 differ-last (x ∷ xs) y d out =
-    let turned : same_id x y ≡ false = same_id_turns x y ∙ false_from_ne_true (same_id y x) (λ t. both_ways (is_among y (x ∷ xs)) out (or_left (same_id y x) (is_among y xs) t)) in
-    let later : is_among y xs ≡ false = false_from_ne_true (is_among y xs) (λ t. both_ways (is_among y (x ∷ xs)) out (or_right (same_id y x) (is_among y xs) t)) in
+    let turned : same_id x y ≡ false = same_id_turns x y ∙ false_from_ne_true (same_id y x)
+    (λ t. both_ways (is_among y (x ∷ xs)) out (or_left (same_id y x) (is_among y xs) t)) in
+    let later : is_among y xs ≡ false = false_from_ne_true (is_among y xs)
+    (λ t. both_ways (is_among y (x ∷ xs)) out (or_right (same_id y x) (is_among y xs) t)) in
     (among-append x xs (y ∷ []) ∙ rw (d.0, turned) refl, differ-last xs y d.1 later)
 
 pub differ-filter : (p : StateId → Bool) (xs : List StateId) → AllDiffer xs → AllDiffer (filter p xs)
@@ -229,7 +234,8 @@ newest-is_kept rs ks r dag shared = false_from_ne_true (is_among r.id ks) (λ go
     omega arith)
 
 -- the last of the kept states is the one that arrived last
-pub last-kept : (rs : List Record) (ks : List StateId) → IsDag rs → StandInsAreShared rs ks → (zs : List StateId) × (kept_states rs ks ≡ zs ++ last_arrived rs ∷ [])
+pub last-kept : (rs : List Record) (ks : List StateId) → IsDag rs → StandInsAreShared rs ks → (zs : List StateId)
+    × (kept_states rs ks ≡ zs ++ last_arrived rs ∷ [])
 last-kept [] ks dag shared = absurd (dag)
 last-kept (r ∷ rs) ks dag shared = (kept_states rs ks, kept-newest rs ks r (newest-is_kept rs ks r dag shared))
 
@@ -253,4 +259,10 @@ limits-parts l h =
     let fourth = and_parts a b third.0 in
     let sites = and_parts (nat_le 1 l.sites) (nat_le l.sites 16) fourth.0 in
     let kept = and_parts (nat_le 1 l.max_kept) (nat_le l.max_kept 16384) fourth.1 in
-    record { some_sites = leb-true 1 l.sites sites.0; sites = leb-true l.sites 16 sites.1; some_kept = leb-true 1 l.max_kept kept.0; kept = leb-true l.max_kept 16384 kept.1 }
+    record {
+      some_sites = leb-true 1 l.sites sites.0;
+      sites = leb-true l.sites 16 sites.1;
+      some_kept = leb-true 1 l.max_kept kept.0;
+      kept =
+          leb-true l.max_kept 16384 kept.1;
+    }

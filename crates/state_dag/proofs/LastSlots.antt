@@ -1,5 +1,6 @@
 -- What slots name when entries have grown and one more came last.
-use Rattle.std.proofs.Common.{◌≡◌, ℕ, ◌<◌, true, false, cond, refl, ltb, eqb, List, [], ◌∷◌, ◌++◌, find, Option, Some, None, is_some, IsTrue, sym, ap, subst, ◌∙◌, arith}
+use Rattle.std.proofs.Common.{◌≡◌, ℕ, ◌<◌, true, false, cond, refl, ltb, eqb, List, [], ◌∷◌, ◌++◌, find, Option, Some, None, is_some, IsTrue, sym, ap, subst}
+use Rattle.std.proofs.Common.{◌∙◌, arith}
 use Rattle.std.specs.List.{list_all}
 use Rattle.std.specs.Option.{option_map, option_map_or}
 use Rattle.std.proofs.lemmas.Bool.{and_parts, and_from, both_ways, false_from_ne_true, cond-true, cond-false, eq-eqb, eqb-true, ltb-true}
@@ -17,7 +18,8 @@ some-entry : (o : Option Entry) → is_some o ≡ true → (e : Entry) × (o ≡
 some-entry None t = absurd (both_ways false refl t)
 some-entry (Some e) t = (e, refl)
 
-module _ (old new table : Table) (parents : List Slot) (x : StateId) (slot : Slot) (gs : List Entry) (e : Entry) (f : Follow (Became table parents x slot) old.entries gs)
+module _ (old new table : Table) (parents : List Slot) (x : StateId) (slot : Slot) (gs : List Entry) (e : Entry)
+    (f : Follow (Became table parents x slot) old.entries gs)
     (after : new.entries ≡ gs ++ e ∷ []) (own : e.slot ≡ slot) (fresh : entry_at old slot ≡ None) where
   looked : (s : Slot) → entry_at new s ≡ or_else (find (λ g. eqb g.slot.0 s.0) gs) (cond (eqb e.slot.0 s.0) (Some e) None)
   looked s = ap (find (λ g. eqb g.slot.0 s.0)) after ∙ find-after s.0 gs e
@@ -28,7 +30,8 @@ module _ (old new table : Table) (parents : List Slot) (x : StateId) (slot : Slo
   stays-found : (s : Slot) (o : Entry) → entry_at old s ≡ Some o → (n : Entry) × (entry_at new s ≡ Some n) × Became table parents x slot o n
   stays-found s o is = go (entry_at old s) (find (λ g. eqb g.slot.0 s.0) gs) (both s) is (looked s)
     where
-      go : (p q : Option Entry) → FoundBoth (Became table parents x slot) p q → p ≡ Some o → entry_at new s ≡ or_else q (cond (eqb e.slot.0 s.0) (Some e) None) →
+      go : (p q : Option Entry) → FoundBoth (Became table parents x slot) p q → p ≡ Some o → entry_at new s
+          ≡ or_else q (cond (eqb e.slot.0 s.0) (Some e) None) →
           (n : Entry) × (entry_at new s ≡ Some n) × Became table parents x slot o n
       go None q b h l = absurd (none-some o h)
       go (Some p) None b h l = absurd (b)
@@ -37,7 +40,8 @@ module _ (old new table : Table) (parents : List Slot) (x : StateId) (slot : Slo
   pub last-found : entry_at new slot ≡ Some e
   last-found = looked slot ∙ go (entry_at old slot) (find (λ g. eqb g.slot.0 slot.0) gs) (both slot) fresh
     where
-      go : (p q : Option Entry) → FoundBoth (Became table parents x slot) p q → ◌≡◌ {A = Option Entry} p None → or_else q (cond (eqb e.slot.0 slot.0) (Some e) None) ≡ Some e
+      go : (p q : Option Entry) → FoundBoth (Became table parents x slot) p q → ◌≡◌ {A = Option Entry} p None →
+          or_else q (cond (eqb e.slot.0 slot.0) (Some e) None) ≡ Some e
       go None None b h = cond-true (eqb e.slot.0 slot.0) (Some e) None (eq-eqb e.slot.0 slot.0 (ap (λ (s : Slot). s.0) own))
       go None (Some q) b h = absurd (b)
       go (Some p) q b h = absurd (none-some p (sym h))
@@ -50,9 +54,11 @@ module _ (old new table : Table) (parents : List Slot) (x : StateId) (slot : Slo
   slot-was s differ there = go (entry_at old s) (find (λ g. eqb g.slot.0 s.0) gs) (both s) (looked s)
     where
       other : eqb e.slot.0 s.0 ≡ false
-      other = false_from_ne_true (eqb e.slot.0 s.0) (λ t. differ (sym (ap (λ n. let z : Slot = record { 0 = n } in z) (sym (ap (λ (z : Slot). z.0) own) ∙ eqb-true e.slot.0 s.0 t))))
+      other = false_from_ne_true (eqb e.slot.0 s.0) (λ t. differ
+          (sym (ap (λ n. let z : Slot = record { 0 = n } in z) (sym (ap (λ (z : Slot). z.0) own) ∙ eqb-true e.slot.0 s.0 t))))
 
-      go : (p q : Option Entry) → FoundBoth (Became table parents x slot) p q → entry_at new s ≡ or_else q (cond (eqb e.slot.0 s.0) (Some e) None) → is_some p ≡ true
+      go : (p q : Option Entry) → FoundBoth (Became table parents x slot) p q → entry_at new s ≡ or_else q (cond (eqb e.slot.0 s.0) (Some e) None) →
+          is_some p ≡ true
       go (Some p) q b l = refl
       go None (Some q) b l = absurd (b)
       go None None b l = absurd (both_ways true (sym there ∙ ap is_some (l ∙ cond-false (eqb e.slot.0 s.0) (Some e) None other)) refl)
@@ -77,7 +83,8 @@ module _ (old new table : Table) (parents : List Slot) (x : StateId) (slot : Slo
       let o = some-entry (entry_at old s) there in
       arrives-as s o.0 o.1 ∙ sym (ap (λ p. option_map_or (λ (g : Entry). g.arrival) p 0) o.1)
 
-  pub kept-stays : arrive_in_order new.entries ≡ true → (s : Slot) → IsTrue (is_kept_at old s) → IsTrue (is_kept_at new s) × (arrival_at new s ≡ arrival_at old s)
+  pub kept-stays : arrive_in_order new.entries ≡ true → (s : Slot) → IsTrue (is_kept_at old s) → IsTrue (is_kept_at new s)
+      × (arrival_at new s ≡ arrival_at old s)
   kept-stays up s h =
       let there = (and_parts (is_slot old s) (arrive_in_order old.entries) h).0 in
       let o = some-entry (entry_at old s) there in (
@@ -91,7 +98,8 @@ module _ (old new table : Table) (parents : List Slot) (x : StateId) (slot : Slo
     ap (λ p. option_map_or (λ (g : Entry). g.arrival) p 0) last-found,
   )
 
-  pub arrives-last : (known : ℕ) → e.arrival ≡ known → list_all (λ m. ltb m.arrival known) old.entries ≡ true → (s : Slot) → IsTrue (is_kept_at old s) → arrival_at new s < arrival_at new slot
+  pub arrives-last : (known : ℕ) → e.arrival ≡ known → list_all (λ m. ltb m.arrival known) old.entries ≡ true → (s : Slot) → IsTrue (is_kept_at old s) →
+      arrival_at new s < arrival_at new slot
   arrives-last known is all s h =
       let there = (and_parts (is_slot old s) (arrive_in_order old.entries) h).0 in
       let o = some-entry (entry_at old s) there in

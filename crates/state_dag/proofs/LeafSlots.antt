@@ -1,5 +1,6 @@
 -- The slots of the kept states, and of the leaves among them.
-use Rattle.std.proofs.Common.{◌≡◌, ℕ, suc, ◌<◌, ◌≤◌, Bool, true, not, eqb, ltb, List, [], ◌∷◌, length, map, filter, get_or, Some, is_some, inl, inr, refl, sym, ap, ap₂, subst, ◌∙◌, arith}
+use Rattle.std.proofs.Common.{◌≡◌, ℕ, suc, ◌<◌, ◌≤◌, Bool, true, not, eqb, ltb, List, [], ◌∷◌, length, map, filter, get_or, Some, is_some, inl, inr, refl}
+use Rattle.std.proofs.Common.{sym, ap, ap₂, subst, ◌∙◌, arith}
 use Rattle.std.specs.List.{list_all, list_any}
 use Rattle.std.specs.Option.{option_map, option_map_or}
 use Rattle.std.proofs.lemmas.Bool.{and_parts, ltb-true, lt-ltb, and_from, cases_Bool, both_ways, not_from_false, false_from_ne_true}
@@ -58,7 +59,8 @@ module _ (table : Table) where
   pub slots-are : (es : List Entry) → AreFound table es → list_all (is_slot table) (map (λ e. e.slot) es) ≡ true
   slots-are [] found = refl
   slots-are (e ∷ es) found =
-      and_from (is_slot table e.slot) (list_all (is_slot table) (map (λ (f : Entry). f.slot) es)) (ap is_some (found 0 e (omega arith))) (slots-are es (found-rest e es found))
+      and_from (is_slot table e.slot) (list_all (is_slot table) (map (λ (f : Entry). f.slot) es)) (ap is_some (found 0 e (omega arith)))
+      (slots-are es (found-rest e es found))
 
   -- so are those of entries without children
   pub leaf-slots-are : (es : List Entry) → AreFound table es → list_all (is_slot table) (childless_slots es) ≡ true
@@ -83,11 +85,14 @@ module _ (table : Table) where
         | inr f ↦ rw (f, sym leaf ∙ f) rest
       ]
 
-  pub leaf-slots-name-leaves : (rs : List Record) (ks : List StateId) → Stands table rs ks → AreFound table table.entries → map (id_at table) (childless_slots table.entries) ≡ map (λ x. Some x) (leaves rs)
+  pub leaf-slots-name-leaves : (rs : List Record) (ks : List StateId) → Stands table rs ks → AreFound table table.entries →
+      map (id_at table) (childless_slots table.entries) ≡ map (λ x. Some x) (leaves rs)
   leaf-slots-name-leaves rs ks stands found =
-      leaf-slots-named rs ks stands table.entries found ∙ ap (λ xs. map (λ x. Some x) (filter (is_leaf rs) xs)) stands.ids ∙ ap (map (λ x. Some x)) (leaves-are-kept rs ks stands.shared)
+      leaf-slots-named rs ks stands table.entries found ∙ ap (λ xs. map (λ x. Some x) (filter (is_leaf rs) xs)) stands.ids
+      ∙ ap (map (λ x. Some x)) (leaves-are-kept rs ks stands.shared)
 
-  pub kept-slots-name : (rs : List Record) (ks : List StateId) → Stands table rs ks → AreFound table table.entries → map (id_at table) (map (λ e. e.slot) table.entries) ≡ map (λ x. Some x) (kept_states rs ks)
+  pub kept-slots-name : (rs : List Record) (ks : List StateId) → Stands table rs ks → AreFound table table.entries →
+      map (id_at table) (map (λ e. e.slot) table.entries) ≡ map (λ x. Some x) (kept_states rs ks)
   kept-slots-name rs ks stands found = slots-named table.entries found ∙ ap (map (λ x. Some x)) stands.ids
 
 pub few-leaves : (es : List Entry) → length (childless_slots es) ≤ length es
@@ -102,7 +107,8 @@ few-leaves (e ∷ es) =
 -- ===== Their order
 
 -- what comes behind an entry arrived later
-leaves-later : (table : Table) (p : Entry) (es : List Entry) → AreFound table es → arrive_in_order (p ∷ es) ≡ true → list_all (λ s. ltb p.arrival (arrival_at table s)) (childless_slots es) ≡ true
+leaves-later : (table : Table) (p : Entry) (es : List Entry) → AreFound table es → arrive_in_order (p ∷ es) ≡ true →
+    list_all (λ s. ltb p.arrival (arrival_at table s)) (childless_slots es) ≡ true
 leaves-later table p [] found up = refl
 leaves-later table p (e ∷ es) found up =
     let parts = and_parts (ltb p.arrival e.arrival) (arrive_in_order (e ∷ es)) up in
@@ -110,7 +116,8 @@ leaves-later table p (e ∷ es) found up =
     let rest = leaves-later table p es (found-rest table e es found) (skips es parts.0 parts.1) in
     elim (cases_Bool (is_childless e)) [
       | inl t ↦
-          rw t (and_from (ltb p.arrival (arrival_at table e.slot)) (list_all (λ s. ltb p.arrival (arrival_at table s)) (childless_slots es)) (ap (ltb p.arrival) here ∙ parts.0) rest)
+          rw t (and_from (ltb p.arrival (arrival_at table e.slot)) (list_all (λ s. ltb p.arrival (arrival_at table s)) (childless_slots es))
+          (ap (ltb p.arrival) here ∙ parts.0) rest)
       | inr f ↦ rw f rest
     ]
   where
@@ -129,7 +136,11 @@ leaves-rise table (e ∷ es) found up =
     let here : arrival_at table e.slot ≡ e.arrival = ap (λ o. option_map_or (λ (f : Entry). f.arrival) o 0) (found 0 e (omega arith)) in
     let rest = leaves-rise table es (found-rest table e es found) (in-order es up) in
     elim (cases_Bool (is_childless e)) [
-      | inl t ↦ rw t (subst (λ m. list_all (λ s. ltb m (arrival_at table s)) (childless_slots es) ≡ true) (sym here) (leaves-later table e es (found-rest table e es found) up), rest)
+      | inl t ↦ rw t (
+        subst (λ m. list_all (λ s. ltb m (arrival_at table s)) (childless_slots es) ≡ true) (sym here)
+            (leaves-later table e es (found-rest table e es found) up),
+        rest,
+      )
       | inr f ↦ rw f rest
     ]
   where
@@ -138,12 +149,14 @@ leaves-rise table (e ∷ es) found up =
     in-order (f ∷ fs) u = (and_parts (ltb e.arrival f.arrival) (arrive_in_order (f ∷ fs)) u).1
 
 -- so do those of all entries
-slots-later : (table : Table) (p : Entry) (es : List Entry) → AreFound table es → arrive_in_order (p ∷ es) ≡ true → list_all (λ s. ltb p.arrival (arrival_at table s)) (map (λ e. e.slot) es) ≡ true
+slots-later : (table : Table) (p : Entry) (es : List Entry) → AreFound table es → arrive_in_order (p ∷ es) ≡ true →
+    list_all (λ s. ltb p.arrival (arrival_at table s)) (map (λ e. e.slot) es) ≡ true
 slots-later table p [] found up = refl
 slots-later table p (e ∷ es) found up =
     let parts = and_parts (ltb p.arrival e.arrival) (arrive_in_order (e ∷ es)) up in
     let here : arrival_at table e.slot ≡ e.arrival = ap (λ o. option_map_or (λ (f : Entry). f.arrival) o 0) (found 0 e (omega arith)) in
-    and_from (ltb p.arrival (arrival_at table e.slot)) (list_all (λ s. ltb p.arrival (arrival_at table s)) (map (λ (f : Entry). f.slot) es)) (ap (ltb p.arrival) here ∙ parts.0)
+    and_from (ltb p.arrival (arrival_at table e.slot)) (list_all (λ s. ltb p.arrival (arrival_at table s)) (map (λ (f : Entry). f.slot) es))
+    (ap (ltb p.arrival) here ∙ parts.0)
     (slots-later table p es (found-rest table e es found) (skips es parts.0 parts.1))
   where
     skips : (fs : List Entry) → ltb p.arrival e.arrival ≡ true → arrive_in_order (e ∷ fs) ≡ true → arrive_in_order (p ∷ fs) ≡ true
@@ -158,7 +171,8 @@ pub slots-rise : (table : Table) (es : List Entry) → AreFound table es → arr
 slots-rise table [] found up = tt
 slots-rise table (e ∷ es) found up =
     let here : arrival_at table e.slot ≡ e.arrival = ap (λ o. option_map_or (λ (f : Entry). f.arrival) o 0) (found 0 e (omega arith)) in (
-      subst (λ m. list_all (λ s. ltb m (arrival_at table s)) (map (λ (f : Entry). f.slot) es) ≡ true) (sym here) (slots-later table e es (found-rest table e es found) up),
+      subst (λ m. list_all (λ s. ltb m (arrival_at table s)) (map (λ (f : Entry). f.slot) es) ≡ true) (sym here)
+          (slots-later table e es (found-rest table e es found) up),
       slots-rise table es (found-rest table e es found) (in-order es up),
     )
   where

@@ -1,5 +1,6 @@
 -- Entries of which one has gone, and what the others became.
-use Rattle.std.proofs.Common.{◌≡◌, ℕ, ◌<◌, ◌≤◌, Bool, true, false, not, ◌||◌, cond, eqb, ltb, List, [], ◌∷◌, ◌++◌, length, map, filter, find, Option, Some, None, IsTrue, ◌⊎◌, inl, inr, refl, sym, ap, ap₂, subst, ◌∙◌, eqb-true, eq-eqb, arith}
+use Rattle.std.proofs.Common.{◌≡◌, ℕ, ◌<◌, ◌≤◌, Bool, true, false, not, ◌||◌, cond, eqb, ltb, List, [], ◌∷◌, ◌++◌, length, map, filter, find, Option, Some}
+use Rattle.std.proofs.Common.{None, IsTrue, ◌⊎◌, inl, inr, refl, sym, ap, ap₂, subst, ◌∙◌, eqb-true, eq-eqb, arith}
 use Rattle.std.specs.List.{list_all}
 use Rattle.std.proofs.lemmas.Bool.{cases_Bool, and_parts, and_from, or_parts, both_ways, ltb-true, lt-ltb, ne_eqb, false_from_ne_true}
 use Rattle.tardis_base.specs.declared.ids.StateId.{StateId}
@@ -27,7 +28,8 @@ pub record Left (gone heir : Slot) (fork : Bool) (g old new : Entry) : Type 0 wh
   pub stand_ins : new.stand_ins ≡ map (passed_on gone heir) old.stand_ins
   pub ascending : IsTrue (are_ascending_pairs old.path) → IsTrue (are_ascending_pairs new.path)
   pub shorter : length new.path ≤ length old.path
-  pub path : ((new.path ≡ old.path) × (old.arrival < g.arrival)) ⊎ ((new.path ≡ cond fork (without_pairs_of gone.0 old.path) old.path) × (g.arrival < old.arrival))
+  pub path : ((new.path ≡ old.path) × (old.arrival < g.arrival))
+      ⊎ ((new.path ≡ cond fork (without_pairs_of gone.0 old.path) old.path) × (g.arrival < old.arrival))
 
 -- ===== One entry among others
 
@@ -43,15 +45,19 @@ among-mid [] g behind = rw (eq-eqb g.slot.0 g.slot.0 refl) refl
 among-mid (b ∷ before) g behind = either (eqb b.slot.0 g.slot.0) (among-mid before g behind)
 
 -- an earlier one has another slot
-apart-mid : (b : Entry) (before : List Entry) (g : Entry) (behind : List Entry) → AreDistinct (slots_of (b ∷ before ++ g ∷ behind)) → eqb b.slot.0 g.slot.0 ≡ false
+apart-mid : (b : Entry) (before : List Entry) (g : Entry) (behind : List Entry) → AreDistinct (slots_of (b ∷ before ++ g ∷ behind)) → eqb b.slot.0 g.slot.0
+    ≡ false
 apart-mid b before g behind d = false_from_ne_true (eqb b.slot.0 g.slot.0) (λ t.
-    both_ways (is_slot_among b.slot (slots_of (before ++ g ∷ behind))) d.0 (subst (λ s. is_slot_among s (slots_of (before ++ g ∷ behind)) ≡ true) (sym (slot-same b.slot g.slot t)) (among-mid before g behind)))
+    both_ways (is_slot_among b.slot (slots_of (before ++ g ∷ behind))) d.0
+    (subst (λ s. is_slot_among s (slots_of (before ++ g ∷ behind)) ≡ true) (sym (slot-same b.slot g.slot t)) (among-mid before g behind)))
 
-pub found-mid : (before : List Entry) (g : Entry) (behind : List Entry) → AreDistinct (slots_of (before ++ g ∷ behind)) → find (λ e. eqb e.slot.0 g.slot.0) (before ++ g ∷ behind) ≡ Some g
+pub found-mid : (before : List Entry) (g : Entry) (behind : List Entry) → AreDistinct (slots_of (before ++ g ∷ behind)) →
+    find (λ e. eqb e.slot.0 g.slot.0) (before ++ g ∷ behind) ≡ Some g
 found-mid [] g behind d = rw (eq-eqb g.slot.0 g.slot.0 refl) refl
 found-mid (b ∷ before) g behind d = rw (apart-mid b before g behind d) (found-mid before g behind d.1)
 
-pub found-other : (before : List Entry) (g : Entry) (behind : List Entry) (k : ℕ) → eqb g.slot.0 k ≡ false → find (λ e. eqb e.slot.0 k) (before ++ g ∷ behind) ≡ find (λ e. eqb e.slot.0 k) (before ++ behind)
+pub found-other : (before : List Entry) (g : Entry) (behind : List Entry) (k : ℕ) → eqb g.slot.0 k ≡ false →
+    find (λ e. eqb e.slot.0 k) (before ++ g ∷ behind) ≡ find (λ e. eqb e.slot.0 k) (before ++ behind)
 found-other [] g behind k other = rw other refl
 found-other (b ∷ before) g behind k other = elim (cases_Bool (eqb b.slot.0 k)) [
   | inl t ↦ rw t refl
@@ -64,11 +70,13 @@ found-nowhere (e ∷ es) s out =
     let parts = or_parts (eqb e.slot.0 s.0) (is_slot_among s (slots_of es)) out in
     rw parts.0 (found-nowhere es s parts.1)
 
-pub found-out : (before : List Entry) (g : Entry) (behind : List Entry) → AreDistinct (slots_of (before ++ g ∷ behind)) → find (λ e. eqb e.slot.0 g.slot.0) (before ++ behind) ≡ None
+pub found-out : (before : List Entry) (g : Entry) (behind : List Entry) → AreDistinct (slots_of (before ++ g ∷ behind)) →
+    find (λ e. eqb e.slot.0 g.slot.0) (before ++ behind) ≡ None
 found-out [] g behind d = found-nowhere behind g.slot d.0
 found-out (b ∷ before) g behind d = rw (apart-mid b before g behind d) (found-out before g behind d.1)
 
-pub all-mid : (p : Entry → Bool) (before : List Entry) (g : Entry) (behind : List Entry) → list_all p (before ++ g ∷ behind) ≡ true → (list_all p (before ++ behind) ≡ true) × (p g ≡ true)
+pub all-mid : (p : Entry → Bool) (before : List Entry) (g : Entry) (behind : List Entry) → list_all p (before ++ g ∷ behind) ≡ true →
+    (list_all p (before ++ behind) ≡ true) × (p g ≡ true)
 all-mid p [] g behind all = (let parts = and_parts (p g) (list_all p behind) all in (parts.1, parts.0))
 all-mid p (b ∷ before) g behind all =
     let parts = and_parts (p b) (list_all p (before ++ g ∷ behind)) all in
@@ -98,20 +106,26 @@ rest-in_order a (e ∷ es) up = (and_parts (ltb a.arrival e.arrival) (arrive_in_
 
 in_order-first : (a : Entry) (es : List Entry) → list_all (λ e. ltb a.arrival e.arrival) es ≡ true → arrive_in_order es ≡ true → arrive_in_order (a ∷ es) ≡ true
 in_order-first a [] later up = refl
-in_order-first a (e ∷ es) later up = and_from (ltb a.arrival e.arrival) (arrive_in_order (e ∷ es)) (and_parts (ltb a.arrival e.arrival) (list_all (λ f. ltb a.arrival f.arrival) es) later).0 up
+in_order-first a (e ∷ es) later up = and_from (ltb a.arrival e.arrival) (arrive_in_order (e ∷ es))
+    (and_parts (ltb a.arrival e.arrival) (list_all (λ f. ltb a.arrival f.arrival) es) later).0 up
 
-pub order-mid : (before : List Entry) (g : Entry) (behind : List Entry) → arrive_in_order (before ++ g ∷ behind) ≡ true → arrive_in_order (before ++ behind) ≡ true
+pub order-mid : (before : List Entry) (g : Entry) (behind : List Entry) → arrive_in_order (before ++ g ∷ behind) ≡ true →
+    arrive_in_order (before ++ behind) ≡ true
 order-mid [] g behind up = rest-in_order g behind up
 order-mid (b ∷ before) g behind up =
-    in_order-first b (before ++ behind) (all-mid (λ e. ltb b.arrival e.arrival) before g behind (all-later b (before ++ g ∷ behind) up)).0 (order-mid before g behind (rest-in_order b (before ++ g ∷ behind) up))
+    in_order-first b (before ++ behind) (all-mid (λ e. ltb b.arrival e.arrival) before g behind (all-later b (before ++ g ∷ behind) up)).0
+    (order-mid before g behind (rest-in_order b (before ++ g ∷ behind) up))
 
-pub before-mid : (before : List Entry) (g : Entry) (behind : List Entry) → arrive_in_order (before ++ g ∷ behind) ≡ true → list_all (λ e. ltb e.arrival g.arrival) before ≡ true
+pub before-mid : (before : List Entry) (g : Entry) (behind : List Entry) → arrive_in_order (before ++ g ∷ behind) ≡ true →
+    list_all (λ e. ltb e.arrival g.arrival) before ≡ true
 before-mid [] g behind up = refl
 before-mid (b ∷ before) g behind up =
-    and_from (ltb b.arrival g.arrival) (list_all (λ e. ltb e.arrival g.arrival) before) (all-mid (λ e. ltb b.arrival e.arrival) before g behind (all-later b (before ++ g ∷ behind) up)).1
+    and_from (ltb b.arrival g.arrival) (list_all (λ e. ltb e.arrival g.arrival) before)
+    (all-mid (λ e. ltb b.arrival e.arrival) before g behind (all-later b (before ++ g ∷ behind) up)).1
     (before-mid before g behind (rest-in_order b (before ++ g ∷ behind) up))
 
-pub behind-mid : (before : List Entry) (g : Entry) (behind : List Entry) → arrive_in_order (before ++ g ∷ behind) ≡ true → list_all (λ e. ltb g.arrival e.arrival) behind ≡ true
+pub behind-mid : (before : List Entry) (g : Entry) (behind : List Entry) → arrive_in_order (before ++ g ∷ behind) ≡ true →
+    list_all (λ e. ltb g.arrival e.arrival) behind ≡ true
 behind-mid [] g behind up = all-later g behind up
 behind-mid (b ∷ before) g behind up = behind-mid before g behind (rest-in_order b (before ++ g ∷ behind) up)
 
@@ -127,11 +141,14 @@ named-mid : (before : List Entry) (g : Entry) (behind : List Entry) → is_among
 named-mid [] g behind = rw (same_id_self g.id) refl
 named-mid (b ∷ before) g behind = either (same_id g.id b.id) (named-mid before g behind)
 
-differs-mid : (b : Entry) (before : List Entry) (g : Entry) (behind : List Entry) → AllDiffer (map (λ e. e.id) (b ∷ before ++ g ∷ behind)) → same_id b.id g.id ≡ false
+differs-mid : (b : Entry) (before : List Entry) (g : Entry) (behind : List Entry) → AllDiffer (map (λ e. e.id) (b ∷ before ++ g ∷ behind)) →
+    same_id b.id g.id ≡ false
 differs-mid b before g behind d = false_from_ne_true (same_id b.id g.id) (λ t.
-    both_ways (is_among b.id (map (λ (e : Entry). e.id) (before ++ g ∷ behind))) d.0 (subst (λ z. is_among z (map (λ (e : Entry). e.id) (before ++ g ∷ behind)) ≡ true) (sym (same_id-true b.id g.id t)) (named-mid before g behind)))
+    both_ways (is_among b.id (map (λ (e : Entry). e.id) (before ++ g ∷ behind))) d.0
+    (subst (λ z. is_among z (map (λ (e : Entry). e.id) (before ++ g ∷ behind)) ≡ true) (sym (same_id-true b.id g.id t)) (named-mid before g behind)))
 
-pub ids-mid : (before : List Entry) (g : Entry) (behind : List Entry) → AllDiffer (map (λ e. e.id) (before ++ g ∷ behind)) → filter (λ z. not (same_id z g.id)) (map (λ e. e.id) (before ++ g ∷ behind)) ≡ map (λ e. e.id) (before ++ behind)
+pub ids-mid : (before : List Entry) (g : Entry) (behind : List Entry) → AllDiffer (map (λ e. e.id) (before ++ g ∷ behind)) →
+    filter (λ z. not (same_id z g.id)) (map (λ e. e.id) (before ++ g ∷ behind)) ≡ map (λ e. e.id) (before ++ behind)
 ids-mid [] g behind d = rw (same_id_self g.id) (all-kept g.id (map (λ e. e.id) behind) d.0)
 ids-mid (b ∷ before) g behind d = rw (differs-mid b before g behind d) (ap (λ zs. b.id ∷ zs) (ids-mid before g behind d.1))
 
@@ -144,7 +161,8 @@ without-none s (t ∷ ss) out =
 turned : (a b : ℕ) → eqb a b ≡ false → eqb b a ≡ false
 turned a b f = ne_eqb b a (λ e. both_ways (eqb a b) f (eq-eqb a b (sym e)))
 
-pub slots-mid : (before : List Entry) (g : Entry) (behind : List Entry) → AreDistinct (slots_of (before ++ g ∷ behind)) → without_slot g.slot (slots_of (before ++ g ∷ behind)) ≡ slots_of (before ++ behind)
+pub slots-mid : (before : List Entry) (g : Entry) (behind : List Entry) → AreDistinct (slots_of (before ++ g ∷ behind)) →
+    without_slot g.slot (slots_of (before ++ g ∷ behind)) ≡ slots_of (before ++ behind)
 slots-mid [] g behind d = rw (eq-eqb g.slot.0 g.slot.0 refl) (without-none g.slot (slots_of behind) d.0)
 slots-mid (b ∷ before) g behind d = rw (turned b.slot.0 g.slot.0 (apart-mid b before g behind d)) (ap (λ ss. b.slot ∷ ss) (slots-mid before g behind d.1))
 
@@ -175,7 +193,8 @@ childless-out (e ∷ es) s out =
       | inr f ↦ rw f (childless-out es s parts.1)
     ]
 
-pub childless-mid : (before : List Entry) (g : Entry) (behind : List Entry) → AreDistinct (slots_of (before ++ g ∷ behind)) → without_slot g.slot (childless_slots (before ++ g ∷ behind)) ≡ childless_slots (before ++ behind)
+pub childless-mid : (before : List Entry) (g : Entry) (behind : List Entry) → AreDistinct (slots_of (before ++ g ∷ behind)) →
+    without_slot g.slot (childless_slots (before ++ g ∷ behind)) ≡ childless_slots (before ++ behind)
 childless-mid [] g behind d =
     let rest = without-none g.slot (childless_slots behind) (childless-out behind g.slot d.0) in
     elim (cases_Bool (is_childless g)) [
@@ -244,7 +263,8 @@ module _ (gone heir : Slot) (fork : Bool) (g : Entry) where
   order-left (o ∷ p ∷ os) (n ∷ []) f up = absurd (f.1)
   order-left (o ∷ p ∷ os) (n ∷ m ∷ ns) f up =
       let parts = and_parts (ltb o.arrival p.arrival) (arrive_in_order (p ∷ os)) up in
-      and_from (ltb n.arrival m.arrival) (arrive_in_order (m ∷ ns)) (ap₂ (λ a b. ltb a b) f.0.arrival_stays f.1.0.arrival_stays ∙ parts.0) (order-left (p ∷ os) (m ∷ ns) f.1 parts.1)
+      and_from (ltb n.arrival m.arrival) (arrive_in_order (m ∷ ns)) (ap₂ (λ a b. ltb a b) f.0.arrival_stays f.1.0.arrival_stays ∙ parts.0)
+      (order-left (p ∷ os) (m ∷ ns) f.1 parts.1)
 
   pub childless-left : (os ns : List Entry) → Follow (Left gone heir fork g) os ns → childless_slots ns ≡ childless_slots os
   childless-left [] [] f = refl

@@ -1,5 +1,6 @@
 -- The memory of a table that a state has left.
-use Rattle.std.proofs.Common.{◌≡◌, ℕ, ◌+◌, ◌-◌, ◌<◌, ◌≤◌, Bool, true, false, not, ◌||◌, cond, eqb, leb, ltb, List, [], ◌∷◌, ◌++◌, length, map, sum, take, drop, get_or, Some, None, is_some, IsTrue, inl, inr, refl, sym, ap, ap₂, subst, ◌∙◌, eqb-true, eq-eqb, length-append, arith}
+use Rattle.std.proofs.Common.{◌≡◌, ℕ, ◌+◌, ◌-◌, ◌<◌, ◌≤◌, Bool, true, false, not, ◌||◌, cond, eqb, leb, ltb, List, [], ◌∷◌, ◌++◌, length, map, sum, take}
+use Rattle.std.proofs.Common.{drop, get_or, Some, None, is_some, IsTrue, inl, inr, refl, sym, ap, ap₂, subst, ◌∙◌, eqb-true, eq-eqb, length-append, arith}
 use Rattle.std.specs.List.{list_all}
 use Rattle.std.specs.Option.{option_map_or, option_and_then}
 use Rattle.std.proofs.lemmas.Bool.{cases_Bool, and_parts, and_from, both_ways, ltb-true, lt-ltb, leb-true, le-leb, ne_eqb}
@@ -31,7 +32,8 @@ use Rattle.state_dag.proofs.LeftSlots.{Parted, used-after, all-moved, all-less, 
 -- ===== One entry
 
 module _ (gone heir : Slot) (fork : Bool) (g : Entry) where
-  left-before : (o n : Entry) → n ≡ passing_on gone heir o → (IsTrue (are_ascending_pairs o.path) → IsTrue (are_ascending_pairs n.path)) → o.arrival < g.arrival → Left gone heir fork g o n
+  left-before : (o n : Entry) → n ≡ passing_on gone heir o → (IsTrue (are_ascending_pairs o.path) → IsTrue (are_ascending_pairs n.path)) →
+      o.arrival < g.arrival → Left gone heir fork g o n
   left-before o n is up less = record {
     slot_stays = ap (λ (e : Entry). e.slot) is;
     id_stays = ap (λ (e : Entry). e.id) is;
@@ -48,7 +50,8 @@ module _ (gone heir : Slot) (fork : Bool) (g : Entry) where
   fewer n [] = omega arith
   fewer n (p ∷ ps) = (let rest = fewer n ps in elim (cases_Bool (eqb p.0 n)) [ inl t ↦ rw t (omega arith) | inr f ↦ rw f (omega arith) ])
 
-  left-behind : (o n : Entry) → n ≡ forgetting gone fork o → o.stand_ins ≡ map (passed_on gone heir) o.stand_ins → (IsTrue (are_ascending_pairs o.path) → IsTrue (are_ascending_pairs n.path)) → g.arrival < o.arrival → Left gone heir fork g o n
+  left-behind : (o n : Entry) → n ≡ forgetting gone fork o → o.stand_ins ≡ map (passed_on gone heir) o.stand_ins →
+      (IsTrue (are_ascending_pairs o.path) → IsTrue (are_ascending_pairs n.path)) → g.arrival < o.arrival → Left gone heir fork g o n
   left-behind o n is none up more = record {
     slot_stays = ap (λ (e : Entry). e.slot) is;
     id_stays = ap (λ (e : Entry). e.id) is;
@@ -66,7 +69,8 @@ module _ (gone heir : Slot) (fork : Bool) (g : Entry) where
       either false = omega arith
 
 -- slots whose states arrived later are none that is passed on
-none-passed : (table : Table) (gone heir : Slot) (m : ℕ) → arrival_at table gone < m → (ss : List Slot) → list_all (λ s. ltb m (arrival_at table s)) ss ≡ true → ss ≡ map (passed_on gone heir) ss
+none-passed : (table : Table) (gone heir : Slot) (m : ℕ) → arrival_at table gone < m → (ss : List Slot) → list_all (λ s. ltb m (arrival_at table s)) ss
+    ≡ true → ss ≡ map (passed_on gone heir) ss
 none-passed table gone heir m less [] all = refl
 none-passed table gone heir m less (s ∷ ss) all =
     let parts = and_parts (ltb m (arrival_at table s)) (list_all (λ (t : Slot). ltb m (arrival_at table t)) ss) all in
@@ -77,7 +81,8 @@ none-passed table gone heir m less (s ∷ ss) all =
     omega arith) in
     rw other (ap (λ ts. s ∷ ts) (none-passed table gone heir m less ss parts.1))
 
-all-passed : (p q : Slot → Bool) (f : Slot → Slot) → ((s : Slot) → p s ≡ true → q (f s) ≡ true) → (ss : List Slot) → list_all p ss ≡ true → list_all q (map f ss) ≡ true
+all-passed : (p q : Slot → Bool) (f : Slot → Slot) → ((s : Slot) → p s ≡ true → q (f s) ≡ true) → (ss : List Slot) → list_all p ss ≡ true →
+    list_all q (map f ss) ≡ true
 all-passed p q f turns [] all = refl
 all-passed p q f turns (s ∷ ss) all =
     let parts = and_parts (p s) (list_all p ss) all in
@@ -87,8 +92,11 @@ all-passed p q f turns (s ∷ ss) all =
 
 module _ (a b : Inside) (held : IsHeld a) (slot heir : Slot) (fork : Bool) (p : ℕ) (d : Node) (w : Parted a.order.items p a.kept slot)
     (count : length b.nodes.items ≡ length a.nodes.items)
-    (each : (k : ℕ) (e : Node) → k < length a.nodes.items → entry_of k (get_or b.nodes.items k e) ≡ changed_at (forgetting slot fork) (drop (p + 1) (kept_of a)) (changed_at (passing_on slot heir) (take p (kept_of a)) (entry_of k (get_or a.nodes.items k e))))
-    (rising : (k : ℕ) (e : Node) → k < length a.nodes.items → IsTrue (are_ascending_pairs (get_or a.nodes.items k e).path.pairs) → IsTrue (are_ascending_pairs (get_or b.nodes.items k e).path.pairs))
+    (each : (k : ℕ) (e : Node) → k < length a.nodes.items → entry_of k (get_or b.nodes.items k e)
+    ≡ changed_at (forgetting slot fork) (drop (p + 1) (kept_of a))
+    (changed_at (passing_on slot heir) (take p (kept_of a)) (entry_of k (get_or a.nodes.items k e))))
+    (rising : (k : ℕ) (e : Node) → k < length a.nodes.items → IsTrue (are_ascending_pairs (get_or a.nodes.items k e).path.pairs) →
+    IsTrue (are_ascending_pairs (get_or b.nodes.items k e).path.pairs))
     (order : b.order.items ≡ take p a.order.items ++ (drop (p + 1) a.order.items ++ slot ∷ [])) (kept : b.kept ≡ a.kept - 1) where
   all-placed : placed a.nodes.items (w.xs ++ slot ∷ w.zs) ≡ true
   all-placed = subst (λ ss. placed a.nodes.items ss ≡ true) w.used (kept-placed a held)
@@ -127,7 +135,8 @@ module _ (a b : Inside) (held : IsHeld a) (slot heir : Slot) (fork : Bool) (p : 
 
   -- the entries as they were
   pub was : (seen a).entries ≡ entries_in a.nodes.items w.xs ++ entry_of slot.0 (get_or a.nodes.items slot.0 d) ∷ entries_in a.nodes.items w.zs
-  was = ap (entries_in a.nodes.items) w.used ∙ entries-append a.nodes.items w.xs (slot ∷ w.zs) ∙ ap (λ es. entries_in a.nodes.items w.xs ++ es) (entries-first a.nodes.items d slot w.zs slot-placed)
+  was = ap (entries_in a.nodes.items) w.used ∙ entries-append a.nodes.items w.xs (slot ∷ w.zs)
+      ∙ ap (λ es. entries_in a.nodes.items w.xs ++ es) (entries-first a.nodes.items d slot w.zs slot-placed)
 
   -- the slots in use now
   pub used-now : kept_of b ≡ w.xs ++ w.zs
@@ -141,7 +150,8 @@ module _ (a b : Inside) (held : IsHeld a) (slot heir : Slot) (fork : Bool) (p : 
     R = Left slot heir fork (entry_of slot.0 (get_or a.nodes.items slot.0 d))
 
     -- what became of each
-    pub followed : Follow (Left slot heir fork (entry_of slot.0 (get_or a.nodes.items slot.0 d))) (entries_in a.nodes.items w.xs ++ entries_in a.nodes.items w.zs) (seen b).entries
+    pub followed : Follow (Left slot heir fork (entry_of slot.0 (get_or a.nodes.items slot.0 d)))
+        (entries_in a.nodes.items w.xs ++ entries_in a.nodes.items w.zs) (seen b).entries
     followed =
         subst (λ es. Follow R es (seen b).entries) (entries-append a.nodes.items w.xs w.zs)
         (subst (λ ss. Follow R (entries_in a.nodes.items (w.xs ++ w.zs)) (entries_in b.nodes.items ss)) (sym used-now)
@@ -151,7 +161,8 @@ module _ (a b : Inside) (held : IsHeld a) (slot heir : Slot) (fork : Bool) (p : 
         up = subst (λ es. arrive_in_order es ≡ true) was held.in_order
 
         here : arrival_at (seen a) slot ≡ (entry_of slot.0 (get_or a.nodes.items slot.0 d)).arrival
-        here = ap (λ o. option_map_or (λ (e : Entry). e.arrival) o 0) (found-in a.nodes.items d (kept_of a) slot.0 (kept-placed a held) (subst (λ ss. is_slot_among slot ss ≡ true) (sym w.used) (mid w.xs)))
+        here = ap (λ o. option_map_or (λ (e : Entry). e.arrival) o 0)
+            (found-in a.nodes.items d (kept_of a) slot.0 (kept-placed a held) (subst (λ ss. is_slot_among slot ss ≡ true) (sym w.used) (mid w.xs)))
           where
             mid : (xs : List Slot) → is_slot_among slot (xs ++ slot ∷ w.zs) ≡ true
             mid [] = rw (eq-eqb slot.0 slot.0 refl) refl
@@ -161,79 +172,111 @@ module _ (a b : Inside) (held : IsHeld a) (slot heir : Slot) (fork : Bool) (p : 
                 either true h = refl
                 either false h = h
 
-        became : (k : ℕ) → k < length a.nodes.items → is_slot_among (record { 0 = k }) (w.xs ++ w.zs) ≡ true → R (entry_of k (get_or a.nodes.items k d)) (entry_of k (get_or b.nodes.items k d))
+        became : (k : ℕ) → k < length a.nodes.items → is_slot_among (record { 0 = k }) (w.xs ++ w.zs) ≡ true →
+            R (entry_of k (get_or a.nodes.items k d)) (entry_of k (get_or b.nodes.items k d))
         became k lt there = elim (cases_Bool (is_slot_among (record { 0 = k }) w.xs)) [
           | inl t ↦
               let out = distinct-sides k w.xs slot w.zs all-distinct t in
               let less = ltb-true (get_or a.nodes.items k d).arrival (get_or a.nodes.items slot.0 d).arrival
-              (all-found (λ (e : Entry). ltb e.arrival (get_or a.nodes.items slot.0 d).arrival) (entries_in a.nodes.items w.xs) k (entry_of k (get_or a.nodes.items k d)) (found-in a.nodes.items d w.xs k before-placed t)
+              (all-found (λ (e : Entry). ltb e.arrival (get_or a.nodes.items slot.0 d).arrival) (entries_in a.nodes.items w.xs) k
+              (entry_of k (get_or a.nodes.items k d)) (found-in a.nodes.items d w.xs k before-placed t)
               (before-mid (entries_in a.nodes.items w.xs) (entry_of slot.0 (get_or a.nodes.items slot.0 d)) (entries_in a.nodes.items w.zs) up)) in
-              left-before slot heir fork (entry_of slot.0 (get_or a.nodes.items slot.0 d)) (entry_of k (get_or a.nodes.items k d)) (entry_of k (get_or b.nodes.items k d))
-              (changed ∙ ap (λ x. cond x (forgetting slot fork (changed_at (passing_on slot heir) w.xs (entry_of k (get_or a.nodes.items k d)))) (changed_at (passing_on slot heir) w.xs (entry_of k (get_or a.nodes.items k d)))) (unmoved w.xs w.zs out)
+              left-before slot heir fork (entry_of slot.0 (get_or a.nodes.items slot.0 d)) (entry_of k (get_or a.nodes.items k d))
+              (entry_of k (get_or b.nodes.items k d))
+              (changed ∙ ap (λ x. cond x (forgetting slot fork (changed_at (passing_on slot heir) w.xs (entry_of k (get_or a.nodes.items k d))))
+              (changed_at (passing_on slot heir) w.xs (entry_of k (get_or a.nodes.items k d)))) (unmoved w.xs w.zs out)
               ∙ ap (λ x. cond x (passing_on slot heir (entry_of k (get_or a.nodes.items k d))) (entry_of k (get_or a.nodes.items k d))) t)
               (rising k d lt) less
           | inr f ↦
               let in_behind = among-either k w.xs w.zs there f in
               let more = ltb-true (get_or a.nodes.items slot.0 d).arrival (get_or a.nodes.items k d).arrival
-              (all-found (λ (e : Entry). ltb (get_or a.nodes.items slot.0 d).arrival e.arrival) (entries_in a.nodes.items w.zs) k (entry_of k (get_or a.nodes.items k d)) (found-in a.nodes.items d w.zs k (and_parts (ltb slot.0 (length a.nodes.items)) (placed a.nodes.items w.zs) behind-placed).1 in_behind)
+              (all-found (λ (e : Entry). ltb (get_or a.nodes.items slot.0 d).arrival e.arrival) (entries_in a.nodes.items w.zs) k
+              (entry_of k (get_or a.nodes.items k d)) (found-in a.nodes.items d w.zs k
+              (and_parts (ltb slot.0 (length a.nodes.items)) (placed a.nodes.items w.zs) behind-placed).1 in_behind)
               (behind-mid (entries_in a.nodes.items w.xs) (entry_of slot.0 (get_or a.nodes.items slot.0 d)) (entries_in a.nodes.items w.zs) up)) in
-              let later = all-found (λ (e : Entry). list_all (λ (s : Slot). ltb e.arrival (arrival_at (seen a) s)) e.stand_ins) (entries_in a.nodes.items w.zs) k (entry_of k (get_or a.nodes.items k d)) (found-in a.nodes.items d w.zs k (and_parts (ltb slot.0 (length a.nodes.items)) (placed a.nodes.items w.zs) behind-placed).1 in_behind)
-              (tail (entries_in a.nodes.items w.xs) (subst (λ es. list_all (λ (e : Entry). list_all (λ (s : Slot). ltb e.arrival (arrival_at (seen a) s)) e.stand_ins) es ≡ true) was held.later)) in
-              left-behind slot heir fork (entry_of slot.0 (get_or a.nodes.items slot.0 d)) (entry_of k (get_or a.nodes.items k d)) (entry_of k (get_or b.nodes.items k d))
-              (changed ∙ ap (λ x. cond x (forgetting slot fork (changed_at (passing_on slot heir) w.xs (entry_of k (get_or a.nodes.items k d)))) (changed_at (passing_on slot heir) w.xs (entry_of k (get_or a.nodes.items k d)))) (unmoved w.xs w.zs in_behind)
-              ∙ ap (λ x. forgetting slot fork (cond x (passing_on slot heir (entry_of k (get_or a.nodes.items k d))) (entry_of k (get_or a.nodes.items k d)))) f)
+              let later = all-found (λ (e : Entry). list_all (λ (s : Slot). ltb e.arrival (arrival_at (seen a) s)) e.stand_ins)
+              (entries_in a.nodes.items w.zs) k (entry_of k (get_or a.nodes.items k d))
+              (found-in a.nodes.items d w.zs k (and_parts (ltb slot.0 (length a.nodes.items)) (placed a.nodes.items w.zs) behind-placed).1 in_behind)
+              (tail (entries_in a.nodes.items w.xs)
+              (subst (λ es. list_all (λ (e : Entry). list_all (λ (s : Slot). ltb e.arrival (arrival_at (seen a) s)) e.stand_ins) es ≡ true) was
+              held.later)) in
+              left-behind slot heir fork (entry_of slot.0 (get_or a.nodes.items slot.0 d)) (entry_of k (get_or a.nodes.items k d))
+              (entry_of k (get_or b.nodes.items k d))
+              (changed ∙ ap (λ x. cond x (forgetting slot fork (changed_at (passing_on slot heir) w.xs (entry_of k (get_or a.nodes.items k d))))
+              (changed_at (passing_on slot heir) w.xs (entry_of k (get_or a.nodes.items k d)))) (unmoved w.xs w.zs in_behind)
+              ∙ ap (λ x. forgetting slot fork (cond x (passing_on slot heir (entry_of k (get_or a.nodes.items k d)))
+              (entry_of k (get_or a.nodes.items k d)))) f)
               (none-passed (seen a) slot heir (get_or a.nodes.items k d).arrival (omega (arith, here, more)) (get_or a.nodes.items k d).stand_ins.items later)
               (rising k d lt) more
         ]
           where
-            changed : entry_of k (get_or b.nodes.items k d) ≡ changed_at (forgetting slot fork) w.zs (changed_at (passing_on slot heir) w.xs (entry_of k (get_or a.nodes.items k d)))
-            changed = each k d lt ∙ ap₂ (λ (ss ts : List Slot). changed_at (forgetting slot fork) ss (changed_at (passing_on slot heir) ts (entry_of k (get_or a.nodes.items k d)))) w.behind w.before
+            changed : entry_of k (get_or b.nodes.items k d) ≡ changed_at (forgetting slot fork) w.zs
+                (changed_at (passing_on slot heir) w.xs (entry_of k (get_or a.nodes.items k d)))
+            changed = each k d lt ∙ ap₂ (λ (ss ts : List Slot). changed_at (forgetting slot fork) ss
+                (changed_at (passing_on slot heir) ts (entry_of k (get_or a.nodes.items k d)))) w.behind w.before
 
             -- an entry that is changed keeps its slot
-            unmoved : (xs zs : List Slot) {c : Bool} → is_slot_among (record { 0 = k }) zs ≡ c → is_slot_among (changed_at (passing_on slot heir) xs (entry_of k (get_or a.nodes.items k d))).slot zs ≡ c
+            unmoved : (xs zs : List Slot) {c : Bool} → is_slot_among (record { 0 = k }) zs ≡ c →
+                is_slot_among (changed_at (passing_on slot heir) xs (entry_of k (get_or a.nodes.items k d))).slot zs ≡ c
             unmoved xs zs is = go (is_slot_among (record { 0 = k }) xs) ∙ is
               where
-                go : (x : Bool) → is_slot_among (cond x (passing_on slot heir (entry_of k (get_or a.nodes.items k d))) (entry_of k (get_or a.nodes.items k d))).slot zs ≡ is_slot_among (record { 0 = k }) zs
+                go : (x : Bool) → is_slot_among (cond x (passing_on slot heir (entry_of k (get_or a.nodes.items k d)))
+                    (entry_of k (get_or a.nodes.items k d))).slot zs ≡ is_slot_among (record { 0 = k }) zs
                 go true = refl
                 go false = refl
 
-            tail : (es : List Entry) → list_all (λ (e : Entry). list_all (λ (s : Slot). ltb e.arrival (arrival_at (seen a) s)) e.stand_ins) (es ++ entry_of slot.0 (get_or a.nodes.items slot.0 d) ∷ entries_in a.nodes.items w.zs) ≡ true →
+            tail : (es : List Entry) → list_all (λ (e : Entry). list_all (λ (s : Slot). ltb e.arrival (arrival_at (seen a) s)) e.stand_ins)
+                (es ++ entry_of slot.0 (get_or a.nodes.items slot.0 d) ∷ entries_in a.nodes.items w.zs) ≡ true →
                 list_all (λ (e : Entry). list_all (λ (s : Slot). ltb e.arrival (arrival_at (seen a) s)) e.stand_ins) (entries_in a.nodes.items w.zs) ≡ true
-            tail [] all = (and_parts (list_all (λ (s : Slot). ltb (get_or a.nodes.items slot.0 d).arrival (arrival_at (seen a) s)) (get_or a.nodes.items slot.0 d).stand_ins.items) (list_all (λ (e : Entry). list_all (λ (s : Slot). ltb e.arrival (arrival_at (seen a) s)) e.stand_ins) (entries_in a.nodes.items w.zs)) all).1
-            tail (e ∷ es) all = tail es (and_parts (list_all (λ (s : Slot). ltb e.arrival (arrival_at (seen a) s)) e.stand_ins) (list_all (λ (f : Entry). list_all (λ (s : Slot). ltb f.arrival (arrival_at (seen a) s)) f.stand_ins) (es ++ entry_of slot.0 (get_or a.nodes.items slot.0 d) ∷ entries_in a.nodes.items w.zs)) all).1
+            tail [] all =
+                (and_parts (list_all (λ (s : Slot). ltb (get_or a.nodes.items slot.0 d).arrival (arrival_at (seen a) s))
+                (get_or a.nodes.items slot.0 d).stand_ins.items)
+                (list_all (λ (e : Entry). list_all (λ (s : Slot). ltb e.arrival (arrival_at (seen a) s)) e.stand_ins)
+                (entries_in a.nodes.items w.zs)) all).1
+            tail (e ∷ es) all = tail es (and_parts (list_all (λ (s : Slot). ltb e.arrival (arrival_at (seen a) s)) e.stand_ins)
+                (list_all (λ (f : Entry). list_all (λ (s : Slot). ltb f.arrival (arrival_at (seen a) s)) f.stand_ins)
+                (es ++ entry_of slot.0 (get_or a.nodes.items slot.0 d) ∷ entries_in a.nodes.items w.zs)) all).1
 
     -- ===== The memory is still well-formed
 
     module _ (at : (entry_of slot.0 (get_or a.nodes.items slot.0 d)).slot ≡ slot) where
       apart : eqb heir.0 slot.0 ≡ false
-      apart = heir-other (seen a) (seen b) slot heir (entries_in a.nodes.items w.xs) (entries_in a.nodes.items w.zs) (entry_of slot.0 (get_or a.nodes.items slot.0 d)) fork was at (entries-apart a held) followed held.in_order shares held.later
+      apart = heir-other (seen a) (seen b) slot heir (entries_in a.nodes.items w.xs) (entries_in a.nodes.items w.zs)
+          (entry_of slot.0 (get_or a.nodes.items slot.0 d)) fork was at (entries-apart a held) followed held.in_order shares held.later
 
       heir-more : (entry_of slot.0 (get_or a.nodes.items slot.0 d)).arrival < arrival_at (seen a) heir
-      heir-more = heir-later (seen a) (seen b) slot heir (entries_in a.nodes.items w.xs) (entries_in a.nodes.items w.zs) (entry_of slot.0 (get_or a.nodes.items slot.0 d)) fork was at (entries-apart a held) followed held.in_order shares held.later
+      heir-more = heir-later (seen a) (seen b) slot heir (entries_in a.nodes.items w.xs) (entries_in a.nodes.items w.zs)
+          (entry_of slot.0 (get_or a.nodes.items slot.0 d)) fork was at (entries-apart a held) followed held.in_order shares held.later
 
       slot-arrival : arrival_at (seen a) slot ≡ (entry_of slot.0 (get_or a.nodes.items slot.0 d)).arrival
-      slot-arrival = gone-arrives (seen a) (seen b) slot heir (entries_in a.nodes.items w.xs) (entries_in a.nodes.items w.zs) (entry_of slot.0 (get_or a.nodes.items slot.0 d)) fork was at (entries-apart a held) followed
+      slot-arrival = gone-arrives (seen a) (seen b) slot heir (entries_in a.nodes.items w.xs) (entries_in a.nodes.items w.zs)
+          (entry_of slot.0 (get_or a.nodes.items slot.0 d)) fork was at (entries-apart a held) followed
 
       stays-slot : (s : Slot) → eqb s.0 slot.0 ≡ false → is_slot (seen b) s ≡ is_slot (seen a) s
-      stays-slot = slot-other (seen a) (seen b) slot heir (entries_in a.nodes.items w.xs) (entries_in a.nodes.items w.zs) (entry_of slot.0 (get_or a.nodes.items slot.0 d)) fork was at (entries-apart a held) followed
+      stays-slot = slot-other (seen a) (seen b) slot heir (entries_in a.nodes.items w.xs) (entries_in a.nodes.items w.zs)
+          (entry_of slot.0 (get_or a.nodes.items slot.0 d)) fork was at (entries-apart a held) followed
 
       stays-arrival : (s : Slot) → eqb s.0 slot.0 ≡ false → arrival_at (seen b) s ≡ arrival_at (seen a) s
-      stays-arrival = arrives-other (seen a) (seen b) slot heir (entries_in a.nodes.items w.xs) (entries_in a.nodes.items w.zs) (entry_of slot.0 (get_or a.nodes.items slot.0 d)) fork was at (entries-apart a held) followed
+      stays-arrival = arrives-other (seen a) (seen b) slot heir (entries_in a.nodes.items w.xs) (entries_in a.nodes.items w.zs)
+          (entry_of slot.0 (get_or a.nodes.items slot.0 d)) fork was at (entries-apart a held) followed
 
       found-there : entry_at (seen a) slot ≡ Some (entry_of slot.0 (get_or a.nodes.items slot.0 d))
-      found-there = found-gone (seen a) (seen b) slot heir (entries_in a.nodes.items w.xs) (entries_in a.nodes.items w.zs) (entry_of slot.0 (get_or a.nodes.items slot.0 d)) fork was at (entries-apart a held) followed
+      found-there = found-gone (seen a) (seen b) slot heir (entries_in a.nodes.items w.xs) (entries_in a.nodes.items w.zs)
+          (entry_of slot.0 (get_or a.nodes.items slot.0 d)) fork was at (entries-apart a held) followed
 
       heir-slot : is_slot (seen a) heir ≡ true
       heir-slot =
           common-passes (is_slot (seen a)) (get_or a.nodes.items slot.0 d).stand_ins.items heir
           (sym (ap (option_and_then (λ (e : Entry). common (λ (x y : Slot). eqb x.0 y.0) e.stand_ins)) found-there) ∙ shares)
-          (all-found (λ (e : Entry). list_all (is_slot (seen a)) e.stand_ins) (seen a).entries slot.0 (entry_of slot.0 (get_or a.nodes.items slot.0 d)) found-there held.stand_ins)
+          (all-found (λ (e : Entry). list_all (is_slot (seen a)) e.stand_ins) (seen a).entries slot.0 (entry_of slot.0 (get_or a.nodes.items slot.0 d))
+          found-there held.stand_ins)
 
       pub heir-kept : is_slot (seen b) heir ≡ true
       heir-kept = stays-slot heir apart ∙ heir-slot
 
       now-placed : placed b.nodes.items (kept_of b) ≡ true
-      now-placed = subst (λ ss. placed b.nodes.items ss ≡ true) (sym used-now) (subst (λ (m : ℕ). list_all (λ (s : Slot). ltb s.0 m) (w.xs ++ w.zs) ≡ true) (sym count) others-placed)
+      now-placed = subst (λ ss. placed b.nodes.items ss ≡ true) (sym used-now)
+          (subst (λ (m : ℕ). list_all (λ (s : Slot). ltb s.0 m) (w.xs ++ w.zs) ≡ true) (sym count) others-placed)
 
       still-some : 0 < b.kept
       still-some = elim (cases_Bool (is_slot_among heir (kept_of b))) [
@@ -256,11 +299,15 @@ module _ (a b : Inside) (held : IsHeld a) (slot heir : Slot) (fork : Bool) (p : 
           omega arith
 
       -- what passes of all entries passes of the others
-      others-pass : (test : Entry → Bool) → list_all test (seen a).entries ≡ true → list_all test (entries_in a.nodes.items w.xs ++ entries_in a.nodes.items w.zs) ≡ true
-      others-pass test all = (all-mid test (entries_in a.nodes.items w.xs) (entry_of slot.0 (get_or a.nodes.items slot.0 d)) (entries_in a.nodes.items w.zs) (subst (λ es. list_all test es ≡ true) was all)).0
+      others-pass : (test : Entry → Bool) → list_all test (seen a).entries ≡ true →
+          list_all test (entries_in a.nodes.items w.xs ++ entries_in a.nodes.items w.zs) ≡ true
+      others-pass test all = (all-mid test (entries_in a.nodes.items w.xs) (entry_of slot.0 (get_or a.nodes.items slot.0 d))
+          (entries_in a.nodes.items w.zs) (subst (λ es. list_all test es ≡ true) was all)).0
 
-      now-pass : (old new : Entry → Bool) → ((o n : Entry) → R o n → old o ≡ true → new n ≡ true) → list_all old (seen a).entries ≡ true → list_all new (seen b).entries ≡ true
-      now-pass old new turns all = follow-all R old new turns (entries_in a.nodes.items w.xs ++ entries_in a.nodes.items w.zs) (seen b).entries followed (others-pass old all)
+      now-pass : (old new : Entry → Bool) → ((o n : Entry) → R o n → old o ≡ true → new n ≡ true) → list_all old (seen a).entries ≡ true →
+          list_all new (seen b).entries ≡ true
+      now-pass old new turns all = follow-all R old new turns (entries_in a.nodes.items w.xs ++ entries_in a.nodes.items w.zs) (seen b).entries followed
+          (others-pass old all)
 
       passes-slot : (s : Slot) → is_slot (seen a) s ≡ true → is_slot (seen b) (passed_on slot heir s) ≡ true
       passes-slot s there = elim (cases_Bool (eqb s.0 slot.0)) [
@@ -290,7 +337,8 @@ module _ (a b : Inside) (held : IsHeld a) (slot heir : Slot) (fork : Bool) (p : 
           let es = entries_in a.nodes.items w.xs in
           let fs = entries_in a.nodes.items w.zs in
           let g = entry_of slot.0 (get_or a.nodes.items slot.0 d) in
-          let once : AllDiffer (map (λ (e : Entry). e.id) (es ++ g ∷ fs)) = subst (λ (ls : List Entry). AllDiffer (map (λ (e : Entry). e.id) ls)) was held.once in
+          let once : AllDiffer (map (λ (e : Entry). e.id) (es ++ g ∷ fs)) =
+          subst (λ (ls : List Entry). AllDiffer (map (λ (e : Entry). e.id) ls)) was held.once in
           record {
             valid = subst (λ l. IsTrue (are_limits l)) (sym limits) held.valid;
             some = still-some;
@@ -300,7 +348,8 @@ module _ (a b : Inside) (held : IsHeld a) (slot heir : Slot) (fork : Bool) (p : 
             few = (let few = held.few in omega arith);
             placed = subst (λ ss. list_all (λ (s : Slot). ltb s.0 (length b.nodes.items)) ss ≡ true) (sym listed)
                 (subst (λ (m : ℕ). list_all (λ (s : Slot). ltb s.0 m) (w.xs ++ ((w.zs ++ w.rest) ++ slot ∷ [])) ≡ true) (sym count)
-                (all-moved (λ s. ltb s.0 (length a.nodes.items)) w.xs slot (w.zs ++ w.rest) (subst (λ ss. list_all (λ (s : Slot). ltb s.0 (length a.nodes.items)) ss ≡ true) w.whole held.placed)));
+                (all-moved (λ s. ltb s.0 (length a.nodes.items)) w.xs slot (w.zs ++ w.rest)
+                (subst (λ ss. list_all (λ (s : Slot). ltb s.0 (length a.nodes.items)) ss ≡ true) w.whole held.placed)));
             distinct = subst AreDistinct (sym listed) (distinct-moved w.xs slot (w.zs ++ w.rest) (subst AreDistinct w.whole held.distinct));
             in_order = order-new (seen a) (seen b) slot heir es fs g fork was at (entries-apart a held) followed held.in_order;
             arrived = subst (λ m. list_all (λ (e : Entry). ltb e.arrival m) (seen b).entries ≡ true) (sym known)
@@ -308,19 +357,26 @@ module _ (a b : Inside) (held : IsHeld a) (slot heir : Slot) (fork : Bool) (p : 
             ascending = now-pass (λ e. are_ascending_pairs e.path) (λ e. are_ascending_pairs e.path) (λ o n h t. h.ascending t) held.ascending;
             short = subst (λ (l : Limits). list_all (λ (e : Entry). leb (length e.path) l.max_path) (seen b).entries ≡ true) (sym limits)
                 (now-pass (λ e. leb (length e.path) a.limits.max_path) (λ e. leb (length e.path) a.limits.max_path)
-                (λ o n h t. (let le = leb-true (length o.path) a.limits.max_path t in let less = h.shorter in le-leb (length n.path) a.limits.max_path (omega arith))) held.short);
+                (λ o n h t. (let le = leb-true (length o.path) a.limits.max_path t in let less = h.shorter in
+                le-leb (length n.path) a.limits.max_path (omega arith))) held.short);
             stand_ins = now-pass (λ e. list_all (is_slot (seen a)) e.stand_ins) (λ e. list_all (is_slot (seen b)) e.stand_ins)
-                (λ o n h t. ap (list_all (is_slot (seen b))) h.stand_ins ∙ all-passed (is_slot (seen a)) (is_slot (seen b)) (passed_on slot heir) passes-slot o.stand_ins t) held.stand_ins;
-            later = now-pass (λ e. list_all (λ s. ltb e.arrival (arrival_at (seen a) s)) e.stand_ins) (λ e. list_all (λ s. ltb e.arrival (arrival_at (seen b) s)) e.stand_ins)
+                (λ o n h t. ap (list_all (is_slot (seen b))) h.stand_ins
+                ∙ all-passed (is_slot (seen a)) (is_slot (seen b)) (passed_on slot heir) passes-slot o.stand_ins t) held.stand_ins;
+            later = now-pass (λ e. list_all (λ s. ltb e.arrival (arrival_at (seen a) s)) e.stand_ins)
+                (λ e. list_all (λ s. ltb e.arrival (arrival_at (seen b) s)) e.stand_ins)
                 (λ o n h t.
                 ap₂ (λ (m : ℕ) (ss : List Slot). list_all (λ s. ltb m (arrival_at (seen b) s)) ss) h.arrival_stays h.stand_ins
-                ∙ all-passed (λ s. ltb o.arrival (arrival_at (seen a) s)) (λ s. ltb o.arrival (arrival_at (seen b) s)) (passed_on slot heir) (passes-later o.arrival) o.stand_ins t) held.later;
-            childless = leaves ∙ ap (without_slot slot) (held.childless ∙ ap childless_slots was) ∙ childless-mid es g fs (subst (λ ls. AreDistinct (slots_of ls)) was (entries-apart a held)) ∙ sym (childless-left slot heir fork g (es ++ fs) (seen b).entries followed);
+                ∙ all-passed (λ s. ltb o.arrival (arrival_at (seen a) s)) (λ s. ltb o.arrival (arrival_at (seen b) s)) (passed_on slot heir)
+                (passes-later o.arrival) o.stand_ins t) held.later;
+            childless = leaves ∙ ap (without_slot slot) (held.childless ∙ ap childless_slots was)
+                ∙ childless-mid es g fs (subst (λ ls. AreDistinct (slots_of ls)) was (entries-apart a held))
+                ∙ sym (childless-left slot heir fork g (es ++ fs) (seen b).entries followed);
             sites = ap (λ v. length v.items) counts ∙ held.sites ∙ sym (ap (λ (l : Limits). l.sites) limits);
             fit = subst (λ v. list_all (λ n. ltb n 4294967296) v.items ≡ true) (sym counts) held.fit;
             counted = known ∙ held.counted ∙ sym (ap (λ v. sum v.items + 1) counts);
             among_counted = subst (λ v. list_all (λ (e : Entry). is_counted v.items e.id) (seen b).entries ≡ true) (sym counts)
-                (now-pass (λ e. is_counted a.counts.items e.id) (λ e. is_counted a.counts.items e.id) (λ o n h t. ap (is_counted a.counts.items) h.id_stays ∙ t) held.among_counted);
+                (now-pass (λ e. is_counted a.counts.items e.id) (λ e. is_counted a.counts.items e.id) (λ o n h t. ap (is_counted a.counts.items) h.id_stays
+                ∙ t) held.among_counted);
             once = subst AllDiffer (sym (ids-left slot heir fork g (es ++ fs) (seen b).entries followed ∙ sym (ids-mid es g fs once)))
                 (differ-filter (λ z. not (same_id z g.id)) (map (λ (e : Entry). e.id) (es ++ g ∷ fs)) once);
             indexed = λ x.

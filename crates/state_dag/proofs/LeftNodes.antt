@@ -1,5 +1,6 @@
 -- What the nodes become as a state leaves the table.
-use Rattle.std.proofs.Common.{◌≡◌, ℕ, ◌+◌, ◌<◌, Bool, true, false, not, ◌||◌, cond, eqb, List, [], ◌∷◌, length, map, take, drop, get_or, inl, inr, refl, sym, ap, ap₂, ◌∙◌, eq-eqb}
+use Rattle.std.proofs.Common.{◌≡◌, ℕ, ◌+◌, ◌<◌, Bool, true, false, not, ◌||◌, cond, eqb, List, [], ◌∷◌, length, map, take, drop, get_or, inl, inr, refl, sym}
+use Rattle.std.proofs.Common.{ap, ap₂, ◌∙◌, eq-eqb}
 use Rattle.std.specs.List.{list_all}
 use Rattle.std.proofs.lemmas.Bool.{cases_Bool, and_parts, ne_eqb}
 use Rattle.std.proofs.lemmas.List.Folds.{list_any_more}
@@ -40,23 +41,28 @@ forgetting-twice gone e = ap (λ (ps : List (ℕ × ℕ)). record e { path = ps 
 
 -- ===== One change more
 
-module _ (change : Entry → Entry) (twice : (e : Entry) → change (change e) ≡ change e) (stays : (e : Entry) → (change e).slot ≡ e.slot) (slots : List Slot) (i : ℕ) (d : Slot) (lt : i < length slots) where
+module _ (change : Entry → Entry) (twice : (e : Entry) → change (change e) ≡ change e) (stays : (e : Entry) → (change e).slot ≡ e.slot) (slots : List Slot)
+    (i : ℕ) (d : Slot) (lt : i < length slots) where
   more : (s : Slot) → is_slot_among s (take (i + 1) slots) ≡ (is_slot_among s (take i slots) || eqb (get_or slots i d).0 s.0)
   more s = list_any_more (λ (t : Slot). eqb t.0 s.0) slots i d lt
 
-  pub changed-own : (old mid new : Entry) → (get_or slots i d).0 ≡ old.slot.0 → mid ≡ changed_at change (take i slots) old → new ≡ change mid → new ≡ changed_at change (take (i + 1) slots) old
+  pub changed-own : (old mid new : Entry) → (get_or slots i d).0 ≡ old.slot.0 → mid ≡ changed_at change (take i slots) old → new ≡ change mid →
+      new ≡ changed_at change (take (i + 1) slots) old
   changed-own old mid new here before is =
       is ∙ ap change before
       ∙ go (is_slot_among old.slot (take i slots))
-      ∙ sym (ap (λ b. cond b (change old) old) (more old.slot ∙ ap (λ b. is_slot_among old.slot (take i slots) || b) (eq-eqb (get_or slots i d).0 old.slot.0 here)))
+      ∙ sym (ap (λ b. cond b (change old) old) (more old.slot
+      ∙ ap (λ b. is_slot_among old.slot (take i slots) || b) (eq-eqb (get_or slots i d).0 old.slot.0 here)))
     where
       go : (b : Bool) → change (cond b (change old) old) ≡ cond (b || true) (change old) old
       go true = twice old
       go false = refl
 
-  pub changed-other : (old mid : Entry) → ((get_or slots i d).0 ≡ old.slot.0 → ⊥) → mid ≡ changed_at change (take i slots) old → mid ≡ changed_at change (take (i + 1) slots) old
+  pub changed-other : (old mid : Entry) → ((get_or slots i d).0 ≡ old.slot.0 → ⊥) → mid ≡ changed_at change (take i slots) old →
+      mid ≡ changed_at change (take (i + 1) slots) old
   changed-other old mid other before =
-      before ∙ sym (ap (λ b. cond b (change old) old) (more old.slot ∙ ap (λ b. is_slot_among old.slot (take i slots) || b) (ne_eqb (get_or slots i d).0 old.slot.0 other)
+      before ∙ sym (ap (λ b. cond b (change old) old) (more old.slot
+      ∙ ap (λ b. is_slot_among old.slot (take i slots) || b) (ne_eqb (get_or slots i d).0 old.slot.0 other)
       ∙ go (is_slot_among old.slot (take i slots))))
     where
       go : (b : Bool) → (b || false) ≡ b

@@ -1,5 +1,6 @@
 -- The slots as one of those in use goes behind all others.
-use Rattle.std.proofs.Common.{◌≡◌, ℕ, suc, ◌+◌, ◌<◌, ◌≤◌, Bool, true, false, eqb, List, [], ◌∷◌, ◌++◌, length, take, drop, get_or, Option, Some, None, inl, inr, refl, sym, ap, ap₂, subst, ◌∙◌, length-append, eqb-true, eq-eqb, arith}
+use Rattle.std.proofs.Common.{◌≡◌, ℕ, suc, ◌+◌, ◌<◌, ◌≤◌, Bool, true, false, eqb, List, [], ◌∷◌, ◌++◌, length, take, drop, get_or, Option, Some, None, inl}
+use Rattle.std.proofs.Common.{inr, refl, sym, ap, ap₂, subst, ◌∙◌, length-append, eqb-true, eq-eqb, arith}
 use Rattle.std.specs.List.{list_all, cons_option}
 use Rattle.std.specs.Option.{option_map}
 use Rattle.std.specs.Prelude.{slice_get}
@@ -82,7 +83,8 @@ take-length (x ∷ xs) ys (ℕ.suc n) is = ap (λ zs. x ∷ zs) (take-length xs 
 pub used-after : (xs zs rest : List Slot) (s : Slot) (n : ℕ) → n ≡ length xs + length zs → take n (xs ++ ((zs ++ rest) ++ s ∷ [])) ≡ xs ++ zs
 used-after xs zs rest s n is =
     let long = length-append xs zs in
-    ap (λ ss. take n (xs ++ ss)) (append_assoc zs rest (s ∷ [])) ∙ ap (take n) (sym (append_assoc xs zs (rest ++ s ∷ []))) ∙ take-length (xs ++ zs) (rest ++ s ∷ []) n (omega arith)
+    ap (λ ss. take n (xs ++ ss)) (append_assoc zs rest (s ∷ [])) ∙ ap (take n) (sym (append_assoc xs zs (rest ++ s ∷ [])))
+    ∙ take-length (xs ++ zs) (rest ++ s ∷ []) n (omega arith)
 
 -- ===== What holds of all slots still does
 
@@ -121,8 +123,10 @@ out-moved t (x ∷ xs) s ys out =
 distinct-behind : (ys : List Slot) (s : Slot) → AreDistinct ys → is_slot_among s ys ≡ false → AreDistinct (ys ++ s ∷ [])
 distinct-behind [] s d out = (refl, tt)
 distinct-behind (y ∷ ys) s d out =
-    let parts = or_parts (eqb y.0 s.0) (is_slot_among s ys) out in
-    (out-append y ys (s ∷ []) d.0 (or_from (eqb s.0 y.0) false (ne_eqb s.0 y.0 (λ e. both_ways (eqb y.0 s.0) parts.0 (eq-eqb y.0 s.0 (sym e)))) refl), distinct-behind ys s d.1 parts.1)
+    let parts = or_parts (eqb y.0 s.0) (is_slot_among s ys) out in (
+      out-append y ys (s ∷ []) d.0 (or_from (eqb s.0 y.0) false (ne_eqb s.0 y.0 (λ e. both_ways (eqb y.0 s.0) parts.0 (eq-eqb y.0 s.0 (sym e)))) refl),
+      distinct-behind ys s d.1 parts.1,
+    )
 
 pub distinct-moved : (xs : List Slot) (s : Slot) (ys : List Slot) → AreDistinct (xs ++ s ∷ ys) → AreDistinct (xs ++ (ys ++ s ∷ []))
 distinct-moved [] s ys d = distinct-behind ys s d.1 d.0
@@ -133,7 +137,8 @@ out-parts s [] ys out = out
 out-parts s (x ∷ xs) ys out = out-parts s xs ys (or_parts (eqb x.0 s.0) (is_slot_among s (xs ++ ys)) out).1
 
 -- of distinct slots one that is before isn't behind
-pub distinct-sides : (k : ℕ) (xs : List Slot) (s : Slot) (ys : List Slot) → AreDistinct (xs ++ s ∷ ys) → is_slot_among (record { 0 = k }) xs ≡ true → is_slot_among (record { 0 = k }) ys ≡ false
+pub distinct-sides : (k : ℕ) (xs : List Slot) (s : Slot) (ys : List Slot) → AreDistinct (xs ++ s ∷ ys) → is_slot_among (record { 0 = k }) xs ≡ true →
+    is_slot_among (record { 0 = k }) ys ≡ false
 distinct-sides k [] s ys d there = absurd (both_ways false refl there)
 distinct-sides k (x ∷ xs) s ys d there = elim (cases_Bool (eqb x.0 k)) [
   | inl t ↦
@@ -143,7 +148,8 @@ distinct-sides k (x ∷ xs) s ys d there = elim (cases_Bool (eqb x.0 k)) [
   | inr f ↦ distinct-sides k xs s ys d.1 (rw f at there)
 ]
 
-pub among-either : (k : ℕ) (xs ys : List Slot) → is_slot_among (record { 0 = k }) (xs ++ ys) ≡ true → is_slot_among (record { 0 = k }) xs ≡ false → is_slot_among (record { 0 = k }) ys ≡ true
+pub among-either : (k : ℕ) (xs ys : List Slot) → is_slot_among (record { 0 = k }) (xs ++ ys) ≡ true → is_slot_among (record { 0 = k }) xs ≡ false →
+    is_slot_among (record { 0 = k }) ys ≡ true
 among-either k [] ys there out = there
 among-either k (x ∷ xs) ys there out =
     let parts = or_parts (eqb x.0 k) (is_slot_among (record { 0 = k }) xs) out in
@@ -157,7 +163,8 @@ among-some s (x ∷ xs) there = omega arith
 
 pub entries-append : (ns : List Node) (xs ys : List Slot) → entries_in ns (xs ++ ys) ≡ entries_in ns xs ++ entries_in ns ys
 entries-append ns [] ys = refl
-entries-append ns (x ∷ xs) ys = ap (cons_option (option_map (entry_of x.0) (slice_get ns x.0))) (entries-append ns xs ys) ∙ go (option_map (entry_of x.0) (slice_get ns x.0))
+entries-append ns (x ∷ xs) ys = ap (cons_option (option_map (entry_of x.0) (slice_get ns x.0))) (entries-append ns xs ys)
+    ∙ go (option_map (entry_of x.0) (slice_get ns x.0))
   where
     go : (o : Option Entry) → cons_option o (entries_in ns xs ++ entries_in ns ys) ≡ cons_option o (entries_in ns xs) ++ entries_in ns ys
     go None = refl

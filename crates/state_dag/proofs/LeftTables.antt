@@ -1,5 +1,7 @@
 -- What a table stands for once a state has left it.
-use Rattle.std.proofs.Common.{◌≡◌, ℕ, suc, ◌<◌, ◌≤◌, Bool, true, false, not, ◌&&◌, ◌||◌, cond, eqb, leb, ltb, List, [], ◌∷◌, ◌++◌, length, map, filter, find, slice_get, get_or, Option, Some, None, is_some, IsTrue, IsFalse, ◌⊎◌, inl, inr, refl, sym, ap, ap₂, subst, ◌∙◌, eqb-true, eq-eqb, arith}
+use Rattle.std.proofs.Common.{◌≡◌, ℕ, suc, ◌<◌, ◌≤◌, Bool, true, false, not, ◌&&◌, ◌||◌, cond, eqb, leb, ltb, List, [], ◌∷◌, ◌++◌, length, map, filter, find}
+use Rattle.std.proofs.Common.{slice_get, get_or, Option, Some, None, is_some, IsTrue, IsFalse, ◌⊎◌, inl, inr, refl, sym, ap, ap₂, subst, ◌∙◌, eqb-true}
+use Rattle.std.proofs.Common.{eq-eqb, arith}
 use Rattle.std.specs.List.{list_all, range_with_len}
 use Rattle.std.specs.Option.{option_map, option_map_or, option_and_then}
 use Rattle.std.proofs.lemmas.Bool.{cases_Bool, and_parts, and_from, or_parts, both_ways, ltb-true, ne_eqb, not-true, cond-true, cond-false, false_from_ne_true}
@@ -34,7 +36,8 @@ use Rattle.state_dag.proofs.SharedSlots.{common-named}
 use Rattle.state_dag.proofs.Standing.{shown, slot-is_kept, slots-tell}
 use Rattle.state_dag.proofs.Calls.{named-of_slot}
 use Rattle.state_dag.proofs.ParentSlots.{same-slot}
-use Rattle.state_dag.proofs.LeftEntries.{Left, found-mid, found-other, found-out, order-mid, ids-mid, slots-mid, distinct-without, ids-left, slots-left, order-left}
+use Rattle.state_dag.proofs.LeftEntries.{Left, found-mid, found-other, found-out, order-mid, ids-mid, slots-mid, distinct-without, ids-left, slots-left}
+use Rattle.state_dag.proofs.LeftEntries.{order-left}
 
 -- ===== What all of several slots are
 
@@ -95,7 +98,8 @@ module _ (rs : List Record) (ks : List StateId) where
 
 -- ===== A table that a state has left
 
-module _ (old new : Table) (gone heir : Slot) (before behind : List Entry) (g : Entry) (fork : Bool) (was : old.entries ≡ before ++ g ∷ behind) (at : g.slot ≡ gone) (distinct : AreDistinct (slots_of old.entries))
+module _ (old new : Table) (gone heir : Slot) (before behind : List Entry) (g : Entry) (fork : Bool) (was : old.entries ≡ before ++ g ∷ behind)
+    (at : g.slot ≡ gone) (distinct : AreDistinct (slots_of old.entries))
     (f : Follow (Left gone heir fork g) (before ++ behind) new.entries) where
   apart : AreDistinct (slots_of (before ++ g ∷ behind))
   apart = subst (λ es. AreDistinct (slots_of es)) was distinct
@@ -104,7 +108,8 @@ module _ (old new : Table) (gone heir : Slot) (before behind : List Entry) (g : 
   number = ap (λ (s : Slot). s.0) at
 
   pub found-gone : entry_at old gone ≡ Some g
-  found-gone = ap (find (λ e. eqb e.slot.0 gone.0)) was ∙ subst (λ k. find (λ (e : Entry). eqb e.slot.0 k) (before ++ g ∷ behind) ≡ Some g) number (found-mid before g behind apart)
+  found-gone = ap (find (λ e. eqb e.slot.0 gone.0)) was ∙ subst (λ k. find (λ (e : Entry). eqb e.slot.0 k) (before ++ g ∷ behind) ≡ Some g) number
+      (found-mid before g behind apart)
 
   looked : (s : Slot) → FoundBoth (Left gone heir fork g) (find (λ e. eqb e.slot.0 s.0) (before ++ behind)) (entry_at new s)
   looked s = follow-found (Left gone heir fork g) (λ o n h. h.slot_stays) s.0 (before ++ behind) new.entries f
@@ -121,7 +126,8 @@ module _ (old new : Table) (gone heir : Slot) (before behind : List Entry) (g : 
   pub both-found : (s : Slot) → eqb s.0 gone.0 ≡ false → FoundBoth (Left gone heir fork g) (entry_at old s) (entry_at new s)
   both-found s other =
       subst (λ o. FoundBoth (Left gone heir fork g) o (entry_at new s))
-      (sym (ap (find (λ e. eqb e.slot.0 s.0)) was ∙ found-other before g behind s.0 (ne_eqb g.slot.0 s.0 (λ e. both_ways (eqb s.0 gone.0) other (eq-eqb s.0 gone.0 (sym e ∙ number)))))) (looked s)
+      (sym (ap (find (λ e. eqb e.slot.0 s.0)) was ∙ found-other before g behind s.0
+      (ne_eqb g.slot.0 s.0 (λ e. both_ways (eqb s.0 gone.0) other (eq-eqb s.0 gone.0 (sym e ∙ number)))))) (looked s)
 
   pub names-other : (s : Slot) → eqb s.0 gone.0 ≡ false → id_at new s ≡ id_at old s
   names-other s other = go (entry_at old s) (entry_at new s) (both-found s other)
@@ -159,26 +165,31 @@ module _ (old new : Table) (gone heir : Slot) (before behind : List Entry) (g : 
   pub slots-new : slots_of new.entries ≡ without_slot gone (slots_of old.entries)
   slots-new =
       slots-left gone heir fork g (before ++ behind) new.entries f
-      ∙ sym (ap (λ es. without_slot gone (slots_of es)) was ∙ subst (λ (s : Slot). without_slot s (slots_of (before ++ g ∷ behind)) ≡ slots_of (before ++ behind)) at (slots-mid before g behind apart))
+      ∙ sym (ap (λ es. without_slot gone (slots_of es)) was ∙ subst
+      (λ (s : Slot). without_slot s (slots_of (before ++ g ∷ behind)) ≡ slots_of (before ++ behind)) at (slots-mid before g behind apart))
 
   pub found-new : AreFound new new.entries
   found-new = λ i d lt. found-at new.entries (subst AreDistinct (sym slots-new) (distinct-without gone (slots_of old.entries) distinct)) i d lt
 
   -- an entry that is found was one before
-  pub found-before : (s : Slot) (n : Entry) → entry_at new s ≡ Some n → (o : Entry) × (entry_at old s ≡ Some o) × (eqb s.0 gone.0 ≡ false) × Left gone heir fork g o n
+  pub found-before : (s : Slot) (n : Entry) → entry_at new s ≡ Some n → (o : Entry) × (entry_at old s ≡ Some o) × (eqb s.0 gone.0 ≡ false)
+      × Left gone heir fork g o n
   found-before s n is = elim (cases_Bool (eqb s.0 gone.0)) [
     | inl t ↦
-        absurd (none-some n (sym gone-nowhere ∙ subst (λ z. entry_at new z ≡ Some n) (let named : ℕ → Slot = λ k. record { 0 = k } in ap named (eqb-true s.0 gone.0 t)) is))
+        absurd (none-some n (sym gone-nowhere ∙ subst (λ z. entry_at new z ≡ Some n) (let named : ℕ → Slot = λ k. record { 0 = k } in
+        ap named (eqb-true s.0 gone.0 t)) is))
     | inr other ↦ go (entry_at old s) (entry_at new s) refl (both-found s other) is other
   ]
     where
-      go : (p q : Option Entry) → entry_at old s ≡ p → FoundBoth (Left gone heir fork g) p q → q ≡ Some n → eqb s.0 gone.0 ≡ false → (o : Entry) × (entry_at old s ≡ Some o) × (eqb s.0 gone.0 ≡ false) × Left gone heir fork g o n
+      go : (p q : Option Entry) → entry_at old s ≡ p → FoundBoth (Left gone heir fork g) p q → q ≡ Some n → eqb s.0 gone.0 ≡ false → (o : Entry)
+          × (entry_at old s ≡ Some o) × (eqb s.0 gone.0 ≡ false) × Left gone heir fork g o n
       go None None is b e other = absurd (none-some n e)
       go None (Some q) is b e other = absurd (b)
       go (Some p) None is b e other = absurd (b)
       go (Some p) (Some q) is b e other = (p, is, other, subst (Left gone heir fork g p) (same_Some q n e) b)
 
-  module _ (up : arrive_in_order old.entries ≡ true) (shares : shared_slot old gone ≡ Some heir) (later : list_all (λ e. list_all (λ s. ltb e.arrival (arrival_at old s)) e.stand_ins) old.entries ≡ true) where
+  module _ (up : arrive_in_order old.entries ≡ true) (shares : shared_slot old gone ≡ Some heir)
+      (later : list_all (λ e. list_all (λ s. ltb e.arrival (arrival_at old s)) e.stand_ins) old.entries ≡ true) where
     heir-common : common (λ a b. eqb a.0 b.0) g.stand_ins ≡ Some heir
     heir-common = sym (ap (option_and_then (λ e. common (λ (a b : Slot). eqb a.0 b.0) e.stand_ins)) found-gone) ∙ shares
 
@@ -236,14 +247,16 @@ module _ (old new : Table) (gone heir : Slot) (before behind : List Entry) (g : 
               | inr n ↦ rw (n, sym same ∙ n) (names-other s n ∙ is)
             ]
 
-        all-passed : (ss : List Slot) (cs : List StateId) → map (id_at old) ss ≡ map (λ c. Some (stand_in rs ks c)) cs → map (id_at new) (map (passed_on gone heir) ss) ≡ map (λ c. Some (stand_in rs (x ∷ ks) c)) cs
+        all-passed : (ss : List Slot) (cs : List StateId) → map (id_at old) ss ≡ map (λ c. Some (stand_in rs ks c)) cs →
+            map (id_at new) (map (passed_on gone heir) ss) ≡ map (λ c. Some (stand_in rs (x ∷ ks) c)) cs
         all-passed [] [] e = refl
         all-passed [] (c ∷ cs) e = absurd (let bad : ⊥ = cc in bad)
         all-passed (s ∷ ss) [] e = absurd (let bad : ⊥ = cc in bad)
         all-passed (s ∷ ss) (c ∷ cs) e =
             let here : id_at old s ≡ Some (stand_in rs ks c) = cc in
             let rest : map (id_at old) ss ≡ map (λ d. Some (stand_in rs ks d)) cs = cc in
-            ap₂ (λ (i : Option StateId) (is : List (Option StateId)). i ∷ is) (passed-names s (stand_in rs ks c) here ∙ ap (λ z. Some z) (sym (hands.stand_ins c))) (all-passed ss cs rest)
+            ap₂ (λ (i : Option StateId) (is : List (Option StateId)). i ∷ is)
+            (passed-names s (stand_in rs ks c) here ∙ ap (λ z. Some z) (sym (hands.stand_ins c))) (all-passed ss cs rest)
 
         -- ===== Fork paths
 
@@ -269,20 +282,23 @@ module _ (old new : Table) (gone heir : Slot) (before behind : List Entry) (g : 
           taken-nowhere : (z : StateId) (pair : ℕ × ℕ) → eqb pair.0 gone.0 ≡ true → is_taken new rs z pair ≡ false
           taken-nowhere z pair t =
               let slot : ℕ → Slot = λ k. record { 0 = k } in
-              let is : ◌≡◌ {A = Option StateId} (id_at new (record { 0 = pair.0 })) None = ap (id_at new) (ap slot (eqb-true pair.0 gone.0 t)) ∙ ap (option_map (λ (e : Entry). e.id)) gone-nowhere in
+              let is : ◌≡◌ {A = Option StateId} (id_at new (record { 0 = pair.0 })) None = ap (id_at new) (ap slot (eqb-true pair.0 gone.0 t))
+              ∙ ap (option_map (λ (e : Entry). e.id)) gone-nowhere in
               ap (λ o. option_map_or (λ p. is_fork rs p && leads_to rs z (p, pair.1)) o false) is
 
           taken-other : (z : StateId) (pair : ℕ × ℕ) → eqb pair.0 gone.0 ≡ false → is_taken new rs z pair ≡ is_taken old rs z pair
           taken-other z pair n = ap (λ o. option_map_or (λ p. is_fork rs p && leads_to rs z (p, pair.1)) o false) (names-other (record { 0 = pair.0 }) n)
 
-          path-left : (o n : Entry) (z : StateId) → Shows old rs ks o z → Left gone heir fork g o n → (pair : ℕ × ℕ) → has_pair pair n.path ≡ is_taken new rs z pair
+          path-left : (o n : Entry) (z : StateId) → Shows old rs ks o z → Left gone heir fork g o n → (pair : ℕ × ℕ) → has_pair pair n.path
+              ≡ is_taken new rs z pair
           path-left o n z shows_o left pair = elim (cases_Bool (eqb pair.0 gone.0)) [
             | inl t ↦ here t left.path ∙ sym (taken-nowhere z pair t)
             | inr other ↦ there other left.path ∙ shows_o.has_path pair ∙ sym (taken-other z pair other)
           ]
             where
               -- before it nothing leads by it; behind it the pairs have gone, or there were none
-              here : eqb pair.0 gone.0 ≡ true → ((n.path ≡ o.path) × (o.arrival < g.arrival)) ⊎ ((n.path ≡ cond fork (without_pairs_of gone.0 o.path) o.path) × (g.arrival < o.arrival)) → has_pair pair n.path ≡ false
+              here : eqb pair.0 gone.0 ≡ true → ((n.path ≡ o.path) × (o.arrival < g.arrival))
+                  ⊎ ((n.path ≡ cond fork (without_pairs_of gone.0 o.path) o.path) × (g.arrival < o.arrival)) → has_pair pair n.path ≡ false
               here t (inl (same, less)) =
                   ap (has_pair pair) same ∙ shows_o.has_path pair ∙ taken-here z pair t
                   ∙ false_from_ne_true (is_fork rs x && leads_to rs z (x, pair.1)) (λ led.
@@ -299,7 +315,8 @@ module _ (old new : Table) (gone heir : Slot) (before behind : List Entry) (g : 
                         ∙ ap (λ b. b && leads_to rs z (x, pair.1)) (forks-alike ∙ u)
                   ]
 
-              there : eqb pair.0 gone.0 ≡ false → ((n.path ≡ o.path) × (o.arrival < g.arrival)) ⊎ ((n.path ≡ cond fork (without_pairs_of gone.0 o.path) o.path) × (g.arrival < o.arrival)) → has_pair pair n.path ≡ has_pair pair o.path
+              there : eqb pair.0 gone.0 ≡ false → ((n.path ≡ o.path) × (o.arrival < g.arrival))
+                  ⊎ ((n.path ≡ cond fork (without_pairs_of gone.0 o.path) o.path) × (g.arrival < o.arrival)) → has_pair pair n.path ≡ has_pair pair o.path
               there other (inl (same, less)) = ap (has_pair pair) same
               there other (inr (same, more)) = ap (has_pair pair) same ∙ either fork
                 where
@@ -332,12 +349,14 @@ module _ (old new : Table) (gone heir : Slot) (before behind : List Entry) (g : 
           names-each : (es : List Entry) → AreFound new es → map (λ e. id_at new e.slot) es ≡ map (λ e. Some e.id) es
           names-each [] found = refl
           names-each (e ∷ es) found =
-              ap₂ (λ (i : Option StateId) (is : List (Option StateId)). i ∷ is) (ap (option_map (λ (z : Entry). z.id)) (found 0 e (omega arith))) (names-each es (found-rest new e es found))
+              ap₂ (λ (i : Option StateId) (is : List (Option StateId)). i ∷ is) (ap (option_map (λ (z : Entry). z.id)) (found 0 e (omega arith)))
+              (names-each es (found-rest new e es found))
 
           kept-still : (z : StateId) → IsTrue (is_kept rs (x ∷ ks) z) → IsTrue (is_kept rs ks z)
           kept-still z h =
               let parts = and_parts (is_known rs z) (not (is_among z (x ∷ ks))) h in
-              and_from (is_known rs z) (not (is_among z ks)) parts.0 (ap not (or_parts (same_id z x) (is_among z ks) (not-true (is_among z (x ∷ ks)) parts.1)).1)
+              and_from (is_known rs z) (not (is_among z ks)) parts.0
+              (ap not (or_parts (same_id z x) (is_among z ks) (not-true (is_among z (x ∷ ks)) parts.1)).1)
 
           ids-new : map (λ e. e.id) new.entries ≡ kept_states rs (x ∷ ks)
           ids-new =
@@ -353,7 +372,8 @@ module _ (old new : Table) (gone heir : Slot) (before behind : List Entry) (g : 
           stands-left limits counts known = record {
             dag = stands.dag;
             known_collected = λ z h. elim (among-cases z x ks h) [
-              | inl e ↦ subst (λ w. IsTrue (is_known rs w)) (sym e) (and_parts (is_known rs x) (not (is_among x ks)) (slot-is_kept old rs ks stands gone x named)).0
+              | inl e ↦ subst (λ w. IsTrue (is_known rs w)) (sym e)
+                  (and_parts (is_known rs x) (not (is_among x ks)) (slot-is_kept old rs ks stands gone x named)).0
               | inr m ↦ stands.known_collected z m
             ];
             shared = hands.shared stands.shared;
@@ -407,19 +427,23 @@ slots-differ s t other = ne_eqb s.0 t.0 (λ e. let named : ℕ → Slot = λ n. 
 
 module _ (old new : Table) (gone heir : Slot) (h : HasLeft old new gone heir) where
   pub left-detached : (rs : List Record) (ks : List StateId) → Stands old rs ks → (x : StateId) → id_at old gone ≡ Some x → Stands new rs (x ∷ ks)
-  left-detached rs ks stands x named = stands-gone old new gone heir h.before h.behind h.g h.fork h.was h.at h.distinct h.follows h.up h.shares h.later rs ks stands x named h.is_fork h.limits h.counts h.known
+  left-detached rs ks stands x named = stands-gone old new gone heir h.before h.behind h.g h.fork h.was h.at h.distinct h.follows h.up h.shares h.later rs
+      ks stands x named h.is_fork h.limits h.counts h.known
 
   -- between the others all is as before
-  pub left-above : (rs : List Record) (ks : List StateId) → Stands old rs ks → (x : StateId) → id_at old gone ≡ Some x → (s t : Slot) → (s ≡ gone → ⊥) → (t ≡ gone → ⊥) → IsTrue (is_slot old s) → IsTrue (is_slot old t) →
+  pub left-above : (rs : List Record) (ks : List StateId) → Stands old rs ks → (x : StateId) → id_at old gone ≡ Some x → (s t : Slot) → (s ≡ gone → ⊥) →
+      (t ≡ gone → ⊥) → IsTrue (is_slot old s) → IsTrue (is_slot old t) →
       is_slot_above new s t ≡ is_slot_above old s t
   left-above rs ks stands x named s t other_s other_t there_s there_t =
       let one = named-of_slot old s there_s in
       let two = named-of_slot old t there_t in
       let now = names-other old new gone heir h.before h.behind h.g h.fork h.was h.at h.distinct h.follows in
-      slots-tell new rs (x ∷ ks) (left-detached rs ks stands x named) s t one.0 two.0 (now s (slots-differ s gone other_s) ∙ one.1) (now t (slots-differ t gone other_t) ∙ two.1)
+      slots-tell new rs (x ∷ ks) (left-detached rs ks stands x named) s t one.0 two.0 (now s (slots-differ s gone other_s) ∙ one.1)
+      (now t (slots-differ t gone other_t) ∙ two.1)
       ∙ sym (slots-tell old rs ks stands s t one.0 two.0 one.1 two.1)
 
-  pub left-shared : (rs : List Record) (ks : List StateId) → Stands old rs ks → (x : StateId) → id_at old gone ≡ Some x → id_at old heir ≡ shared_stand_in rs ks x
+  pub left-shared : (rs : List Record) (ks : List StateId) → Stands old rs ks → (x : StateId) → id_at old gone ≡ Some x → id_at old heir
+      ≡ shared_stand_in rs ks x
   left-shared rs ks stands x named =
       let w = heir-named old new gone heir h.before h.behind h.g h.fork h.was h.at h.distinct h.follows h.up h.shares h.later rs ks stands x named in
       w.2 ∙ sym w.1
@@ -434,23 +458,27 @@ module _ (old new : Table) (gone heir : Slot) (h : HasLeft old new gone heir) wh
   left-others s other = slot-other old new gone heir h.before h.behind h.g h.fork h.was h.at h.distinct h.follows s (slots-differ s gone other)
 
   pub left-kept : (s : Slot) → (s ≡ gone → ⊥) → is_kept_at new s ≡ is_kept_at old s
-  left-kept s other = kept-other old new gone heir h.before h.behind h.g h.fork h.was h.at h.distinct h.follows h.up h.shares h.later s (slots-differ s gone other)
+  left-kept s other = kept-other old new gone heir h.before h.behind h.g h.fork h.was h.at h.distinct h.follows h.up h.shares h.later s
+      (slots-differ s gone other)
 
   pub left-arrives : (s : Slot) → (s ≡ gone → ⊥) → arrival_at new s ≡ arrival_at old s
   left-arrives s other = arrives-other old new gone heir h.before h.behind h.g h.fork h.was h.at h.distinct h.follows s (slots-differ s gone other)
 
   pub left-stays : IsTrue (is_kept_at new heir)
-  left-stays = and_from (is_slot new heir) (arrive_in_order new.entries) h.heir_there (order-new old new gone heir h.before h.behind h.g h.fork h.was h.at h.distinct h.follows h.up)
+  left-stays = and_from (is_slot new heir) (arrive_in_order new.entries) h.heir_there
+      (order-new old new gone heir h.before h.behind h.g h.fork h.was h.at h.distinct h.follows h.up)
 
   pub left-slots : slots_of new.entries ≡ without_slot gone (slots_of old.entries)
   left-slots = slots-new old new gone heir h.before h.behind h.g h.fork h.was h.at h.distinct h.follows
 
 -- the first of several slots that are all one
-pub heir-first : (ss : List Slot) (s : Slot) → s ≡ get_or ss 0 s → is_some (common (λ (a b : Slot). eqb a.0 b.0) ss) ≡ true → common (λ (a b : Slot). eqb a.0 b.0) ss ≡ Some s
+pub heir-first : (ss : List Slot) (s : Slot) → s ≡ get_or ss 0 s → is_some (common (λ (a b : Slot). eqb a.0 b.0) ss) ≡ true →
+    common (λ (a b : Slot). eqb a.0 b.0) ss ≡ Some s
 heir-first [] s is some = absurd (both_ways false refl some)
 heir-first (t ∷ ss) s is some = elim (cases_Bool (list_all (λ (a : Slot). eqb a.0 t.0) ss)) [
   | inl h ↦ cond-true (list_all (λ (a : Slot). eqb a.0 t.0) ss) (Some t) None h ∙ ap (λ z. Some z) (sym is)
-  | inr n ↦ absurd (both_ways (is_some (common (λ (a b : Slot). eqb a.0 b.0) (t ∷ ss))) (ap is_some (cond-false (list_all (λ (a : Slot). eqb a.0 t.0) ss) (Some t) None n)) some)
+  | inr n ↦ absurd (both_ways (is_some (common (λ (a b : Slot). eqb a.0 b.0) (t ∷ ss)))
+      (ap is_some (cond-false (list_all (λ (a : Slot). eqb a.0 t.0) ss) (Some t) None n)) some)
 ]
 
 -- the slot of the entry at a place

@@ -1,5 +1,6 @@
 -- How long fork paths are with one more state.
-use Rattle.std.proofs.Common.{◌≡◌, ℕ, Bool, true, false, not, ◌||◌, ◌&&◌, eqb, List, [], ◌∷◌, ◌++◌, length, map, filter, Option, Some, None, IsTrue, IsFalse, inl, inr, refl, sym, ap, ap₂, subst, ◌∙◌, eqb-true, eq-eqb, arith, length-append}
+use Rattle.std.proofs.Common.{◌≡◌, ℕ, Bool, true, false, not, ◌||◌, ◌&&◌, eqb, List, [], ◌∷◌, ◌++◌, length, map, filter, Option, Some, None, IsTrue, IsFalse}
+use Rattle.std.proofs.Common.{inl, inr, refl, sym, ap, ap₂, subst, ◌∙◌, eqb-true, eq-eqb, arith, length-append}
 use Rattle.std.specs.List.{list_any}
 use Rattle.std.specs.Option.{option_map, option_map_or}
 use Rattle.std.proofs.lemmas.Bool.{and_parts, and_from, false_from_ne_true, leb-true}
@@ -68,19 +69,23 @@ module _ (table : Table) (rs : List Record) (ks : List StateId) (stands : Stands
       let w = branch-parts table a c k in
       and_from (same_id b.0 c.0) (eqb b.1 c.1) (same_id_from b.0 c.0 (same_Some b.0 c.0 (sym v.0 ∙ w.0))) (eq-eqb b.1 c.1 (sym v.1 ∙ w.1))
 
-module _ (table : Table) (rs : List Record) (ks : List StateId) (r : Record) (parents : List Slot) (stands : Stands table rs ks) (may : MayBeAdded table rs ks r parents) where
+module _ (table : Table) (rs : List Record) (ks : List StateId) (r : Record) (parents : List Slot) (stands : Stands table rs ks)
+    (may : MayBeAdded table rs ks r parents) where
   next-parts : (y : StateId) (q : ℕ × ℕ) → IsTrue (is_taken table (r ∷ rs) y q) →
       (p : StateId) × (id_at table (record { 0 = q.0 }) ≡ Some p) × IsTrue (is_fork (r ∷ rs) p) × IsTrue (leads_to (r ∷ rs) y (p, q.1))
   next-parts y q h = go (id_at table (record { 0 = q.0 })) refl h
     where
-      go : (o : Option StateId) → id_at table (record { 0 = q.0 }) ≡ o → IsTrue (option_map_or (λ p. is_fork (r ∷ rs) p && leads_to (r ∷ rs) y (p, q.1)) o false) →
+      go : (o : Option StateId) → id_at table (record { 0 = q.0 }) ≡ o →
+          IsTrue (option_map_or (λ p. is_fork (r ∷ rs) p && leads_to (r ∷ rs) y (p, q.1)) o false) →
           (p : StateId) × (id_at table (record { 0 = q.0 }) ≡ Some p) × IsTrue (is_fork (r ∷ rs) p) × IsTrue (leads_to (r ∷ rs) y (p, q.1))
       go None is t = not-both true refl (sym t)
       go (Some p) is t = let parts = and_parts (is_fork (r ∷ rs) p) (leads_to (r ∷ rs) y (p, q.1)) t in (p, is, parts.0, parts.1)
 
-  next-taken : (y p : StateId) (slot : Slot) (n : ℕ) → id_at table slot ≡ Some p → IsTrue (is_fork (r ∷ rs) p) → IsTrue (leads_to (r ∷ rs) y (p, n)) → IsTrue (is_taken table (r ∷ rs) y (slot.0, n))
+  next-taken : (y p : StateId) (slot : Slot) (n : ℕ) → id_at table slot ≡ Some p → IsTrue (is_fork (r ∷ rs) p) → IsTrue (leads_to (r ∷ rs) y (p, n)) →
+      IsTrue (is_taken table (r ∷ rs) y (slot.0, n))
   next-taken y p slot n named fork leads =
-      ap (λ o. option_map_or (λ q. is_fork (r ∷ rs) q && leads_to (r ∷ rs) y (q, n)) o false) named ∙ and_from (is_fork (r ∷ rs) p) (leads_to (r ∷ rs) y (p, n)) fork leads
+      ap (λ o. option_map_or (λ q. is_fork (r ∷ rs) q && leads_to (r ∷ rs) y (q, n)) o false) named
+      ∙ and_from (is_fork (r ∷ rs) p) (leads_to (r ∷ rs) y (p, n)) fork leads
 
   -- forks were known before
   fork-was_kept : (p : StateId) → IsTrue (is_kept (r ∷ rs) ks p) → IsTrue (is_fork (r ∷ rs) p) → IsTrue (is_kept rs ks p)
@@ -100,7 +105,8 @@ module _ (table : Table) (rs : List Record) (ks : List StateId) (r : Record) (pa
       and_from (is_known (r ∷ rs) p) (not (is_among p ks)) (known-stays rs r p parts.0) parts.1
 
   -- a list that has each branch to a state once is as long as the state's fork path
-  pub path-length : (y : StateId) (ps : List (ℕ × ℕ)) → Differ is_same_pair ps → ((pair : ℕ × ℕ) → has_pair pair ps ≡ is_taken table (r ∷ rs) y pair) → length ps ≡ length (fork_path (r ∷ rs) ks y)
+  pub path-length : (y : StateId) (ps : List (ℕ × ℕ)) → Differ is_same_pair ps → ((pair : ℕ × ℕ) → has_pair pair ps ≡ is_taken table (r ∷ rs) y pair) →
+      length ps ≡ length (fork_path (r ∷ rs) ks y)
   path-length y ps differ has =
       let dag = next-is-dag rs r stands.dag may.next in
       let path = fork_path (r ∷ rs) ks y in
@@ -139,7 +145,8 @@ module _ (table : Table) (rs : List Record) (ks : List StateId) (r : Record) (pa
       let made : Slot → ℕ × ℕ = λ s. (s.0, 0) in
       any-map (is_same_pair pair) made (filter (leads_first table t) parents)
       ∙ (any-filter (λ s. is_same_pair pair (s.0, 0)) (leads_first table t) parents
-      ∙ any-alike (λ s. leads_first table t s && is_same_pair pair (s.0, 0)) (λ s. is_same_pair pair (s.0, 0) && leads_first table t s) (λ s. turned (leads_first table t s) (is_same_pair pair (s.0, 0))) parents)
+      ∙ any-alike (λ s. leads_first table t s && is_same_pair pair (s.0, 0)) (λ s. is_same_pair pair (s.0, 0) && leads_first table t s)
+      (λ s. turned (leads_first table t s) (is_same_pair pair (s.0, 0))) parents)
     where
       turned : (a b : Bool) → (a && b) ≡ (b && a)
       turned true true = refl
@@ -150,15 +157,18 @@ module _ (table : Table) (rs : List Record) (ks : List StateId) (r : Record) (pa
   firsts-differ : (t : Slot) → Differ is_same_pair (firsts t)
   firsts-differ t =
       let made : Slot → ℕ × ℕ = λ s. (s.0, 0) in
-      differ-map (λ a b. eqb b.0 a.0) is_same_pair made (λ a b m. eq-eqb b.0 a.0 (sym (eqb-true a.0 b.0 (and_parts (eqb a.0 b.0) true m).0))) (filter (leads_first table t) parents)
+      differ-map (λ a b. eqb b.0 a.0) is_same_pair made (λ a b m. eq-eqb b.0 a.0 (sym (eqb-true a.0 b.0 (and_parts (eqb a.0 b.0) true m).0)))
+      (filter (leads_first table t) parents)
       (differ-filter (λ a b. eqb b.0 a.0) (leads_first table t) parents
       (slots-differ table rs ks stands parents r.parents may.slots (apart-differ rs r.parents may.next.apart)))
 
   -- a fork's branch is no first branch: that fork had one child
-  first-is_new : (t : Slot) (y : StateId) (pair : ℕ × ℕ) → id_at table t ≡ Some y → IsTrue (is_taken table rs y pair) → IsFalse (is_first_branch table parents t pair)
+  first-is_new : (t : Slot) (y : StateId) (pair : ℕ × ℕ) → id_at table t ≡ Some y → IsTrue (is_taken table rs y pair) →
+      IsFalse (is_first_branch table parents t pair)
   first-is_new t y pair named taken = go (id_at table (record { 0 = pair.0 })) refl taken
     where
-      go : (o : Option StateId) → id_at table (record { 0 = pair.0 }) ≡ o → IsTrue (option_map_or (λ p. is_fork rs p && leads_to rs y (p, pair.1)) o false) → IsFalse (is_first_branch table parents t pair)
+      go : (o : Option StateId) → id_at table (record { 0 = pair.0 }) ≡ o → IsTrue (option_map_or (λ p. is_fork rs p && leads_to rs y (p, pair.1)) o false)
+          → IsFalse (is_first_branch table parents t pair)
       go None is h = not-both true refl (sym h)
       go (Some p) is h = false_from_ne_true (is_first_branch table parents t pair) (λ m.
           let fork = leb-true 2 (length (children rs p)) (and_parts (is_fork rs p) (leads_to rs y (p, pair.1)) h).0 in

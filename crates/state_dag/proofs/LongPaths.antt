@@ -1,5 +1,6 @@
 -- Whether a path gets too long, by the slots.
-use Rattle.std.proofs.Common.{◌≡◌, ℕ, ◌+◌, ◌≤◌, Bool, ltb, List, [], ◌∷◌, length, map, filter, find, Option, Some, None, Err, inl, inr, refl, sym, ap, ap₂, ◌∙◌, arith}
+use Rattle.std.proofs.Common.{◌≡◌, ℕ, ◌+◌, ◌≤◌, Bool, ltb, List, [], ◌∷◌, length, map, filter, find, Option, Some, None, Err, inl, inr, refl, sym, ap, ap₂}
+use Rattle.std.proofs.Common.{◌∙◌, arith}
 use Rattle.std.specs.Option.{option_map, option_map_or}
 use Rattle.std.proofs.lemmas.Bool.{cases_Bool, le-ltb, lt-ltb, cond-true, cond-false}
 use Rattle.std.proofs.lemmas.Option.{none-some, same_Some}
@@ -47,7 +48,8 @@ module _ (table : Table) (parents : List Slot) (most : ℕ) where
   none-matched None (Some q) m e = absurd (m)
   none-matched (Some s) p m e = absurd (none-some s (sym e))
 
-  some-matched : (s : Slot) (o : Option Slot) (p : Option Entry) → Matches o p → o ≡ Some s → (x : StateId) (n : ℕ) → id_at table s ≡ Some x → length_after table parents s ≡ n →
+  some-matched : (s : Slot) (o : Option Slot) (p : Option Entry) → Matches o p → o ≡ Some s → (x : StateId) (n : ℕ) → id_at table s ≡ Some x →
+      length_after table parents s ≡ n →
       option_map {U = StateId × ℕ} (λ e. (e.id, grown_length table parents e)) p ≡ Some (x, n)
   some-matched s None None m e x n named is = absurd (none-some s e)
   some-matched s None (Some q) m e x n named is = absurd (m)
@@ -64,25 +66,30 @@ module _ (table : Table) (parents : List Slot) (x : StateId) (pairs : ℕ) (foun
   abbrev pub slots : List Slot
   slots = map (λ (e : Entry). e.slot) table.entries
 
-  matches : Matches table parents table.limits.max_path (find (is_long table table.limits.max_path parents) slots) (find (long-entry table parents table.limits.max_path) table.entries)
+  matches : Matches table parents table.limits.max_path (find (is_long table table.limits.max_path parents) slots)
+      (find (long-entry table parents table.limits.max_path) table.entries)
   matches = matched table parents table.limits.max_path table.entries found
 
   -- no path of a kept state is too long
   pub short-told : find (is_long table table.limits.max_path parents) slots ≡ None → too_long table parents ≡ None
   short-told none =
       ap (option_map {U = StateId × ℕ} (λ e. (e.id, grown_length table parents e)))
-      (none-matched table parents table.limits.max_path (find (is_long table table.limits.max_path parents) slots) (find (long-entry table parents table.limits.max_path) table.entries) matches none)
+      (none-matched table parents table.limits.max_path (find (is_long table table.limits.max_path parents) slots)
+      (find (long-entry table parents table.limits.max_path) table.entries) matches none)
 
   -- a fault that tells a kept state
-  pub long-told : (fault : AddFault) → TellsLong table parents (find (is_long table table.limits.max_path parents) slots) fault → TellsRefusal (path_refusal table x parents pairs) (Err fault)
+  pub long-told : (fault : AddFault) → TellsLong table parents (find (is_long table table.limits.max_path parents) slots) fault →
+      TellsRefusal (path_refusal table x parents pairs) (Err fault)
   long-told (Full kept) told = absurd (told)
   long-told (PathFull y n) told =
       ap (first_refusal x table.limits.max_path pairs)
-      (some-matched table parents table.limits.max_path told.0 (find (is_long table table.limits.max_path parents) slots) (find (long-entry table parents table.limits.max_path) table.entries) matches told.1 y n told.2 told.3)
+      (some-matched table parents table.limits.max_path told.0 (find (is_long table table.limits.max_path parents) slots)
+      (find (long-entry table parents table.limits.max_path) table.entries) matches told.1 y n told.2 told.3)
   long-told NoMemory told = tt
 
   -- or the new state
-  pub own-told : (fault : AddFault) → find (is_long table table.limits.max_path parents) slots ≡ None → TellsOwn x pairs table.limits.max_path (Err fault) → TellsRefusal (path_refusal table x parents pairs) (Err fault)
+  pub own-told : (fault : AddFault) → find (is_long table table.limits.max_path parents) slots ≡ None → TellsOwn x pairs table.limits.max_path (Err fault)
+      → TellsRefusal (path_refusal table x parents pairs) (Err fault)
   own-told (Full kept) none told = absurd (told)
   own-told (PathFull y n) none told =
       let refusal : StateId → ℕ → Option Refusal = λ z m. Some (IsPathFull z m) in
@@ -93,4 +100,5 @@ module _ (table : Table) (parents : List Slot) (x : StateId) (pairs : ℕ) (foun
   -- or nothing is
   pub nothing-told : find (is_long table table.limits.max_path parents) slots ≡ None → pairs ≤ table.limits.max_path → path_refusal table x parents pairs ≡ None
   nothing-told none le =
-      ap (first_refusal x table.limits.max_path pairs) (short-told none) ∙ cond-false (ltb table.limits.max_path pairs) (Some (IsPathFull x pairs)) None (le-ltb table.limits.max_path pairs le)
+      ap (first_refusal x table.limits.max_path pairs) (short-told none) ∙ cond-false (ltb table.limits.max_path pairs) (Some (IsPathFull x pairs)) None
+      (le-ltb table.limits.max_path pairs le)

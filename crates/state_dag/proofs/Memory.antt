@@ -1,5 +1,6 @@
 -- What the memory keeps in the slots of kept states.
-use Rattle.std.proofs.Common.{◌≡◌, ℕ, ◌<◌, Bool, true, false, eqb, ltb, List, [], ◌∷◌, length, take, get_or, Some, is_some, inl, inr, refl, sym, ap, subst, ◌∙◌, arith}
+use Rattle.std.proofs.Common.{◌≡◌, ℕ, ◌<◌, Bool, true, false, eqb, ltb, List, [], ◌∷◌, length, take, get_or, Some, is_some, inl, inr, refl, sym, ap, subst}
+use Rattle.std.proofs.Common.{◌∙◌, arith}
 use Rattle.std.specs.List.{list_all}
 use Rattle.std.proofs.lemmas.Bool.{and_parts, and_from, or_parts, or_from, cases_Bool, lt-ltb, both_ways}
 use Rattle.std.proofs.lemmas.List.{length-map, length-take}
@@ -103,4 +104,5 @@ module _ (a : Inside) (held : IsHeld a) where
   slots-placed [] all = refl
   slots-placed (s ∷ slots) all =
       let parts = and_parts (is_slot (seen a) s) (list_all (is_slot (seen a)) slots) all in
-      and_from (ltb s.0 (length a.nodes.items)) (placed a.nodes.items slots) (lt-ltb s.0 (length a.nodes.items) (slot-place s parts.0)) (slots-placed slots parts.1)
+      and_from (ltb s.0 (length a.nodes.items)) (placed a.nodes.items slots) (lt-ltb s.0 (length a.nodes.items) (slot-place s parts.0))
+      (slots-placed slots parts.1)

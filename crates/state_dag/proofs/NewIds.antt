@@ -8,7 +8,8 @@ use Rattle.state_dag.specs.Table.{Entry}
 use Rattle.state_dag.specs.Views.{slot_of_id, is_counted}
 
 -- a state beyond those that are counted has no slot
-pub uncounted-none : (counts : List ℕ) (x : StateId) (es : List Entry) → list_all (λ e. is_counted counts e.id) es ≡ true → get_or counts (x.site - 1) 0 < x.sequence → slot_of_id es x ≡ None
+pub uncounted-none : (counts : List ℕ) (x : StateId) (es : List Entry) → list_all (λ e. is_counted counts e.id) es ≡ true → get_or counts (x.site - 1) 0
+    < x.sequence → slot_of_id es x ≡ None
 uncounted-none counts x [] all beyond = refl
 uncounted-none counts x (e ∷ es) all beyond =
     let parts = and_parts (is_counted counts e.id) (list_all (λ (f : Entry). is_counted counts f.id) es) all in

@@ -1,5 +1,6 @@
 -- The slot that one more state gets.
-use Rattle.std.proofs.Common.{◌≡◌, ℕ, suc, ◌+◌, ◌<◌, ◌≤◌, true, false, eqb, ltb, List, [], ◌∷◌, ◌++◌, length, get_or, set, slice_get, take, unwrap_or, Some, inl, inr, refl, sym, ap, subst, ◌∙◌, length-append, arith}
+use Rattle.std.proofs.Common.{◌≡◌, ℕ, suc, ◌+◌, ◌<◌, ◌≤◌, true, false, eqb, ltb, List, [], ◌∷◌, ◌++◌, length, get_or, set, slice_get, take, unwrap_or, Some}
+use Rattle.std.proofs.Common.{inl, inr, refl, sym, ap, subst, ◌∙◌, length-append, arith}
 use Rattle.std.specs.List.{list_all}
 use Rattle.std.proofs.lemmas.Bool.{and_parts, and_from, or_parts, or_from, cases_lt, cond-true, cond-false, lt-ltb, le-ltb, ltb-true, ne_eqb, eq-eqb, both_ways}
 use Rattle.std.proofs.lemmas.List.{length-set}
@@ -23,7 +24,8 @@ distinct-before : (xs : List Slot) (k : ℕ) (d : Slot) → AreDistinct xs → k
 distinct-before xs ℕ.zero d distinct lt = refl
 distinct-before [] (ℕ.suc k) d distinct lt = refl
 distinct-before (x ∷ xs) (ℕ.suc k) d distinct lt =
-    or_from (eqb x.0 (get_or xs k d).0) (is_slot_among (get_or xs k d) (take k xs)) (ne_eqb x.0 (get_or xs k d).0 (λ e. none xs k (omega arith) e distinct.0)) (distinct-before xs k d distinct.1 (omega arith))
+    or_from (eqb x.0 (get_or xs k d).0) (is_slot_among (get_or xs k d) (take k xs))
+    (ne_eqb x.0 (get_or xs k d).0 (λ e. none xs k (omega arith) e distinct.0)) (distinct-before xs k d distinct.1 (omega arith))
   where
     none : (ys : List Slot) (j : ℕ) → j < length ys → x.0 ≡ (get_or ys j d).0 → is_slot_among x ys ≡ false → ⊥
     none [] j less e out = omega arith
@@ -66,7 +68,8 @@ distinct-put (x ∷ xs) s d out =
 
     put : (ys : List Slot) → is_slot_among x ys ≡ false → is_slot_among x (ys ++ s ∷ []) ≡ false
     put [] o = or_from (eqb s.0 x.0) false other refl
-    put (y ∷ ys) o = (let parts = or_parts (eqb y.0 x.0) (is_slot_among x ys) o in or_from (eqb y.0 x.0) (is_slot_among x (ys ++ s ∷ [])) parts.0 (put ys parts.1))
+    put (y ∷ ys) o = (let parts = or_parts (eqb y.0 x.0) (is_slot_among x ys) o in
+        or_from (eqb y.0 x.0) (is_slot_among x (ys ++ s ∷ [])) parts.0 (put ys parts.1))
 
 placed-put : (n : ℕ) (xs : List Slot) (s : Slot) → s.0 < n → list_all (λ t. ltb t.0 n) xs ≡ true → list_all (λ t. ltb t.0 n) (xs ++ s ∷ []) ≡ true
 placed-put n [] s lt all = and_from (ltb s.0 n) true (lt-ltb s.0 n lt) refl
@@ -85,16 +88,19 @@ pub record IsNext (a : Inside) (slot : Slot) (ns : List Node) (n : Node) : Type 
   pub set_in : list_all (λ s. ltb s.0 (length (with_node ns slot.0 n))) (with_slot a.order.items a.kept slot) ≡ true
   pub distinct : AreDistinct (with_slot a.order.items a.kept slot)
 
-pub next-slot : (a : Inside) → IsHeld a → (slot : Slot) → slot ≡ slot_after_all a.order.items a.kept → (ns : List Node) (n : Node) → length ns ≡ length a.nodes.items → a.kept < a.limits.max_kept → IsNext a slot ns n
+pub next-slot : (a : Inside) → IsHeld a → (slot : Slot) → slot ≡ slot_after_all a.order.items a.kept → (ns : List Node) (n : Node) →
+    length ns ≡ length a.nodes.items → a.kept < a.limits.max_kept → IsNext a slot ns n
 next-slot a held slot is ns n count room = elim (cases_lt a.kept (length a.order.items)) [
   | inl lt ↦
       let order = a.order.items in
       let here : slot ≡ get_or order a.kept slot = is ∙ ap (λ o. unwrap_or o (record { 0 = a.kept })) (read-at order a.kept slot lt) in
       let same : with_slot order a.kept slot ≡ order = cond-true (ltb a.kept (length order)) order (order ++ slot ∷ []) (lt-ltb a.kept (length order) lt) in
       let all = held.all in
-      let place = ltb-true (get_or order a.kept slot).0 (length a.nodes.items) (all-at (λ (s : Slot). ltb s.0 (length a.nodes.items)) order a.kept slot held.placed lt) in
+      let place = ltb-true (get_or order a.kept slot).0 (length a.nodes.items)
+      (all-at (λ (s : Slot). ltb s.0 (length a.nodes.items)) order a.kept slot held.placed lt) in
       let number = ap (λ (s : Slot). s.0) here in
-      let put : with_node ns slot.0 n ≡ set ns slot.0 n = cond-true (ltb slot.0 (length ns)) (set ns slot.0 n) (ns ++ n ∷ []) (lt-ltb slot.0 (length ns) (omega arith)) in
+      let put : with_node ns slot.0 n ≡ set ns slot.0 n = cond-true (ltb slot.0 (length ns)) (set ns slot.0 n) (ns ++ n ∷ [])
+      (lt-ltb slot.0 (length ns) (omega arith)) in
       let long = ap length put ∙ length-set ns slot.0 n in
       let listed = ap length same in
       record {
@@ -104,7 +110,8 @@ next-slot a held slot is ns n count room = elim (cases_lt a.kept (length a.order
         inside = omega arith;
         all = omega arith;
         few = (let few = held.few in omega arith);
-        set_in = subst (λ ss. list_all (λ (s : Slot). ltb s.0 (length (with_node ns slot.0 n))) ss ≡ true) (sym same) (placed-wider (length a.nodes.items) (length (with_node ns slot.0 n)) order (omega arith) held.placed);
+        set_in = subst (λ ss. list_all (λ (s : Slot). ltb s.0 (length (with_node ns slot.0 n))) ss ≡ true) (sym same)
+            (placed-wider (length a.nodes.items) (length (with_node ns slot.0 n)) order (omega arith) held.placed);
         distinct = subst AreDistinct (sym same) held.distinct;
       }
   | inr ge ↦
@@ -113,10 +120,12 @@ next-slot a held slot is ns n count room = elim (cases_lt a.kept (length a.order
       let full : length order ≡ a.kept = omega arith in
       let here : slot ≡ record { 0 = a.kept } = is ∙ ap (λ o. unwrap_or o (record { 0 = a.kept })) (slice_get_past order a.kept ge) in
       let number = ap (λ (s : Slot). s.0) here in
-      let same : with_slot order a.kept slot ≡ order ++ slot ∷ [] = cond-false (ltb a.kept (length order)) order (order ++ slot ∷ []) (le-ltb a.kept (length order) ge) in
+      let same : with_slot order a.kept slot ≡ order ++ slot ∷ [] =
+      cond-false (ltb a.kept (length order)) order (order ++ slot ∷ []) (le-ltb a.kept (length order) ge) in
       let all = held.all in
       let out = placed-out (length a.nodes.items) order slot (omega arith) held.placed in
-      let put : with_node ns slot.0 n ≡ ns ++ n ∷ [] = cond-false (ltb slot.0 (length ns)) (set ns slot.0 n) (ns ++ n ∷ []) (le-ltb slot.0 (length ns) (omega arith)) in
+      let put : with_node ns slot.0 n ≡ ns ++ n ∷ [] = cond-false (ltb slot.0 (length ns)) (set ns slot.0 n) (ns ++ n ∷ [])
+      (le-ltb slot.0 (length ns) (omega arith)) in
       let long = ap length put ∙ length-append ns (n ∷ []) in
       let more = length-append order (slot ∷ []) in
       let listed = ap length same in
@@ -129,7 +138,8 @@ next-slot a held slot is ns n count room = elim (cases_lt a.kept (length a.order
         all = omega arith;
         few = omega arith;
         set_in = subst (λ ss. list_all (λ (s : Slot). ltb s.0 (length (with_node ns slot.0 n))) ss ≡ true) (sym same)
-            (placed-put (length (with_node ns slot.0 n)) order slot (omega arith) (placed-wider (length a.nodes.items) (length (with_node ns slot.0 n)) order (omega arith) held.placed));
+            (placed-put (length (with_node ns slot.0 n)) order slot (omega arith)
+            (placed-wider (length a.nodes.items) (length (with_node ns slot.0 n)) order (omega arith) held.placed));
         distinct = subst AreDistinct (sym same) (distinct-put order slot held.distinct out);
       }
 ]

@@ -1,5 +1,6 @@
 -- What one more state changes: children, forks, branches and stand-ins.
-use Rattle.std.proofs.Common.{◌≡◌, ℕ, zero, suc, Bool, true, false, cond, ◌||◌, ◌&&◌, not, eqb, List, [], ◌∷◌, ◌++◌, length, slice_get, Option, Some, None, IsTrue, IsFalse, inl, inr, refl, sym, ap, subst, ◌∙◌, eqb-true, eq-eqb, arith, append-nil}
+use Rattle.std.proofs.Common.{◌≡◌, ℕ, zero, suc, Bool, true, false, cond, ◌||◌, ◌&&◌, not, eqb, List, [], ◌∷◌, ◌++◌, length, slice_get, Option, Some, None}
+use Rattle.std.proofs.Common.{IsTrue, IsFalse, inl, inr, refl, sym, ap, subst, ◌∙◌, eqb-true, eq-eqb, arith, append-nil}
 use Rattle.std.specs.List.{list_any}
 use Rattle.std.specs.Option.{option_map_or}
 use Rattle.std.proofs.lemmas.Bool.{and_parts, and_left, or_right, cases_Bool, both_ways, not-true, false_from_ne_true, cond-false}
@@ -35,14 +36,16 @@ numbered-last [] z (suc n) =
     let other : eqb (suc n) 0 ≡ false = false_from_ne_true (eqb (suc n) 0) (λ t. let e = eqb-true (suc n) 0 t in omega arith) in
     rw other refl
 numbered-last (c ∷ cs) z zero =
-    let other : eqb zero (length (c ∷ cs)) ≡ false = false_from_ne_true (eqb zero (length (c ∷ cs))) (λ t. let e = eqb-true zero (length (c ∷ cs)) t in omega arith) in
+    let other : eqb zero (length (c ∷ cs)) ≡ false = false_from_ne_true (eqb zero (length (c ∷ cs))) (λ t. let e = eqb-true zero (length (c ∷ cs)) t in
+    omega arith) in
     rw other refl
 numbered-last (c ∷ cs) z (suc n) = elim (cases_Bool (eqb n (length cs))) [
   | inl t ↦
       let here : eqb (suc n) (length (c ∷ cs)) ≡ true = eq-eqb (suc n) (length (c ∷ cs)) (let e = eqb-true n (length cs) t in omega arith) in
       rw here (subst (λ b. slice_get (cs ++ z ∷ []) n ≡ cond b (Some z) (slice_get cs n)) t (numbered-last cs z n))
   | inr f ↦
-      let other : eqb (suc n) (length (c ∷ cs)) ≡ false = false_from_ne_true (eqb (suc n) (length (c ∷ cs))) (λ u. both_ways (eqb n (length cs)) f (eq-eqb n (length cs) (let e = eqb-true (suc n) (length (c ∷ cs)) u in omega arith))) in
+      let other : eqb (suc n) (length (c ∷ cs)) ≡ false = false_from_ne_true (eqb (suc n) (length (c ∷ cs)))
+      (λ u. both_ways (eqb n (length cs)) f (eq-eqb n (length cs) (let e = eqb-true (suc n) (length (c ∷ cs)) u in omega arith))) in
       rw other (subst (λ b. slice_get (cs ++ z ∷ []) n ≡ cond b (Some z) (slice_get cs n)) f (numbered-last cs z n))
 ]
 
@@ -91,10 +94,12 @@ module _ (rs : List Record) (r : Record) (dag : IsDag rs) (next : IsNext rs r) w
       at None = refl
       at (Some c) = old-states-stay rs r dag next c y known
 
-      last : option_map_or (λ c. is_above (r ∷ rs) c y) (cond (eqb n (length (children rs p))) (Some r.id) (slice_get (children rs p) n)) false ≡ leads_to rs y (p, n)
+      last : option_map_or (λ c. is_above (r ∷ rs) c y) (cond (eqb n (length (children rs p))) (Some r.id) (slice_get (children rs p) n)) false
+          ≡ leads_to rs y (p, n)
       last = elim (cases_Bool (eqb n (length (children rs p)))) [
         | inl t ↦
-            let beyond : ◌≡◌ {A = Option StateId} (slice_get (children rs p) n) None = ap (slice_get (children rs p)) (eqb-true n (length (children rs p)) t) ∙ none-at_end (children rs p) in
+            let beyond : ◌≡◌ {A = Option StateId} (slice_get (children rs p) n) None =
+            ap (slice_get (children rs p)) (eqb-true n (length (children rs p)) t) ∙ none-at_end (children rs p) in
             ap (λ b. option_map_or (λ c. is_above (r ∷ rs) c y) (cond b (Some r.id) (slice_get (children rs p) n)) false) t
             ∙ ((new-state-is-below-parents rs r dag next y known).1 ∙ sym (ap (λ o. option_map_or (λ c. is_above rs c y) o false) beyond))
         | inr f ↦
@@ -108,7 +113,8 @@ module _ (rs : List Record) (r : Record) (dag : IsDag rs) (next : IsNext rs r) w
   leads-new p n = elim (cases_Bool (is_among p r.parents)) [
     | inl t ↦
         ap (λ cs. option_map_or (λ c. is_above (r ∷ rs) c r.id) (slice_get cs n) false) (children-of-parent rs r p t)
-        ∙ (ap (λ o. option_map_or (λ c. is_above (r ∷ rs) c r.id) o false) (numbered-last (children rs p) r.id n) ∙ (last ∙ sym (ap (λ b. older || (b && eqb n (length (children rs p)))) t)))
+        ∙ (ap (λ o. option_map_or (λ c. is_above (r ∷ rs) c r.id) o false) (numbered-last (children rs p) r.id n)
+        ∙ (last ∙ sym (ap (λ b. older || (b && eqb n (length (children rs p)))) t)))
     | inr f ↦
         ap (λ cs. option_map_or (λ c. is_above (r ∷ rs) c r.id) (slice_get cs n) false) (children-before rs r p f)
         ∙ (at (slice_get (children rs p) n) refl ∙ sym (ap (λ b. older || (b && eqb n (length (children rs p)))) f ∙ or-false older))
@@ -117,13 +123,15 @@ module _ (rs : List Record) (r : Record) (dag : IsDag rs) (next : IsNext rs r) w
       older : Bool
       older = list_any (λ q. leads_to rs q (p, n)) r.parents
 
-      at : (o : Option StateId) → slice_get (children rs p) n ≡ o → option_map_or (λ c. is_above (r ∷ rs) c r.id) o false ≡ list_any (λ q. leads_to rs q (p, n)) r.parents
+      at : (o : Option StateId) → slice_get (children rs p) n ≡ o → option_map_or (λ c. is_above (r ∷ rs) c r.id) o false
+          ≡ list_any (λ q. leads_to rs q (p, n)) r.parents
       at None e = sym (ap (λ o. list_any (λ q. option_map_or (λ c. is_above rs c q) o false) r.parents) e ∙ any-never r.parents)
       at (Some c) e =
           (new-state-is-below-parents rs r dag next c (child_is_known rs p c (numbered-is_among (children rs p) n c e))).0
           ∙ sym (ap (λ o. list_any (λ q. option_map_or (λ d. is_above rs d q) o false) r.parents) e)
 
-      last : option_map_or (λ c. is_above (r ∷ rs) c r.id) (cond (eqb n (length (children rs p))) (Some r.id) (slice_get (children rs p) n)) false ≡ (older || eqb n (length (children rs p)))
+      last : option_map_or (λ c. is_above (r ∷ rs) c r.id) (cond (eqb n (length (children rs p))) (Some r.id) (slice_get (children rs p) n)) false
+          ≡ (older || eqb n (length (children rs p)))
       last = elim (cases_Bool (eqb n (length (children rs p)))) [
         | inl t ↦
             ap (λ b. option_map_or (λ c. is_above (r ∷ rs) c r.id) (cond b (Some r.id) (slice_get (children rs p) n)) false) t
@@ -145,7 +153,8 @@ module _ (rs : List Record) (r : Record) (dag : IsDag rs) (next : IsNext rs r) w
         cond-false (is_among here ks && is_among here r.parents) r.id here (and_left (is_among here ks) (is_among here r.parents) out)
 
     -- where no parent is collected they are shared as before
-    pub shared-next : ((x : StateId) → IsTrue (is_among x ks) → IsTrue (is_known rs x)) → ((p : StateId) → IsTrue (is_among p r.parents) → IsFalse (is_among p ks)) →
+    pub shared-next : ((x : StateId) → IsTrue (is_among x ks) → IsTrue (is_known rs x)) →
+        ((p : StateId) → IsTrue (is_among p r.parents) → IsFalse (is_among p ks)) →
         StandInsAreShared (r ∷ rs) ks
     shared-next collected kept x gone =
         let no_parent : IsFalse (is_among x r.parents) = false_from_ne_true (is_among x r.parents) (λ m. both_ways (is_among x ks) (kept x m) gone) in

@@ -13,14 +13,16 @@ use Rattle.state_dag.proofs.Places.{entry-found}
 use Rattle.state_dag.proofs.Passing.{all-at}
 
 -- a node in place of another
-pub at-set : (R : Node → Type 0) (ns : List Node) (p : ℕ) (n : Node) (k : ℕ) (d : Node) → p < length ns → (k ≡ p → R n) → ((k ≡ p → ⊥) → R (get_or ns k d)) → R (get_or (set ns p n) k d)
+pub at-set : (R : Node → Type 0) (ns : List Node) (p : ℕ) (n : Node) (k : ℕ) (d : Node) → p < length ns → (k ≡ p → R n) → ((k ≡ p → ⊥) → R (get_or ns k d))
+    → R (get_or (set ns p n) k d)
 at-set R ns p n k d lt here other = elim (cases_eq k p) [
   | inl e ↦ subst R (sym (ap (λ z. get_or (set ns p n) z d) e ∙ get_or-set_same ns p n d lt)) (here e)
   | inr ne ↦ subst R (sym (get_or-set_other ns p k n d ne)) (other ne)
 ]
 
 -- with the same entry it leaves the entries
-pub entries-set : (ns : List Node) (b p : ℕ) (n d : Node) → ((k : ℕ) → entry_of k n ≡ entry_of k (get_or ns p d)) → entries_from b (set ns p n) ≡ entries_from b ns
+pub entries-set : (ns : List Node) (b p : ℕ) (n d : Node) → ((k : ℕ) → entry_of k n ≡ entry_of k (get_or ns p d)) → entries_from b (set ns p n)
+    ≡ entries_from b ns
 entries-set [] b p n d same = refl
 entries-set (m ∷ ns) b ℕ.zero n d same = ap (λ e. e ∷ entries_from (b + 1) ns) (same b)
 entries-set (m ∷ ns) b (ℕ.suc p) n d same = ap (λ es. entry_of b m ∷ es) (entries-set ns (b + 1) p n d same)
@@ -40,7 +42,8 @@ entry-in ns k d e lt = let same : 0 + k ≡ k = omega arith in entries-at ns 0 k
 pub path-found : (ns : List Node) (k : ℕ) (d : Node) → k < length ns → path_at (table_of ns) (record { 0 = k }) ≡ (get_or ns k d).path.pairs
 path-found ns k d lt = ap (λ o. option_map_or (λ e. e.path) o []) (entry-found ns k d lt)
 
-pub children-found : (ns : List Node) (k : ℕ) (d : Node) → k < length ns → number_of_children (table_of ns) (record { 0 = k }) ≡ length (get_or ns k d).children.items
+pub children-found : (ns : List Node) (k : ℕ) (d : Node) → k < length ns → number_of_children (table_of ns) (record { 0 = k })
+    ≡ length (get_or ns k d).children.items
 children-found ns k d lt = ap (λ o. option_map_or (λ e. length e.children) o 0) (entry-found ns k d lt)
 
 pub id-found : (ns : List Node) (k : ℕ) (d : Node) → k < length ns → id_at (table_of ns) (record { 0 = k }) ≡ Some (get_or ns k d).id

@@ -1,5 +1,6 @@
 -- Slots by rising numbers.
-use Rattle.std.proofs.Common.{◌≡◌, ◌≢◌, ℕ, zero, suc, ◌<◌, ◌≤◌, Bool, true, false, ltb, eqb, cond, List, [], ◌∷◌, ◌++◌, length, get_or, Option, Some, None, ◌⊎◌, inl, inr, set, ◌&&◌, refl, sym, ap, ◌∙◌, le_refl, not-suc-le-zero, arith}
+use Rattle.std.proofs.Common.{◌≡◌, ◌≢◌, ℕ, zero, suc, ◌<◌, ◌≤◌, Bool, true, false, ltb, eqb, cond, List, [], ◌∷◌, ◌++◌, length, get_or, Option, Some, None}
+use Rattle.std.proofs.Common.{◌⊎◌, inl, inr, set, ◌&&◌, refl, sym, ap, ◌∙◌, le_refl, not-suc-le-zero, arith}
 use Rattle.std.specs.List.{list_all, remove}
 use Rattle.std.specs.List.Sorted.{IsNonDecreasingBy}
 use Rattle.std.specs.Option.{option_and_then}
@@ -103,7 +104,8 @@ number-added (e ∷ es) f m none = elim (cases_Bool (eqb e.sequence f.sequence))
   | inl t ↦ absurd (none-some e.slot (sym (rw t at none)))
   | inr u ↦ elim (cases_Bool (eqb e.sequence m)) [
     | inl t ↦
-        let other : eqb m f.sequence ≡ false = ne_eqb m f.sequence (λ q. both_ways (eqb e.sequence f.sequence) u (eq-eqb e.sequence f.sequence (eqb-true e.sequence m t ∙ q))) in
+        let other : eqb m f.sequence ≡ false = ne_eqb m f.sequence
+        (λ q. both_ways (eqb e.sequence f.sequence) u (eq-eqb e.sequence f.sequence (eqb-true e.sequence m t ∙ q))) in
         rw other (rw t refl)
     | inr v ↦ rw v (number-added es f m (rw u at none))
   ]
@@ -117,12 +119,14 @@ added-above n (e ∷ es) f up less =
     and_from (ltb n e.sequence) (above n (es ++ f ∷ [])) parts.0 (added-above n es f parts.1 less)
 
 -- they still rise with a higher one behind them
-pub added-rise : (es : List NumberedSlot) (f : NumberedSlot) → NumbersRise es → ((n : ℕ) → f.sequence ≤ n → slot_of_number es n ≡ None) → NumbersRise (es ++ f ∷ [])
+pub added-rise : (es : List NumberedSlot) (f : NumberedSlot) → NumbersRise es → ((n : ℕ) → f.sequence ≤ n → slot_of_number es n ≡ None) →
+    NumbersRise (es ++ f ∷ [])
 added-rise [] f rise none = (refl, tt)
 added-rise (e ∷ es) f rise none =
     let less : e.sequence < f.sequence = below (cases_Bool (ltb e.sequence f.sequence)) in (
       added-above e.sequence es f rise.0 less,
-      added-rise es f rise.1 (λ n le. let other : eqb e.sequence n ≡ false = ne_eqb e.sequence n (λ q. omega arith) in let told = none n le in rw other at told),
+      added-rise es f rise.1 (λ n le. let other : eqb e.sequence n ≡ false = ne_eqb e.sequence n (λ q. omega arith) in let told = none n le in
+          rw other at told),
     )
   where
     here : slot_of_number (e ∷ es) e.sequence ≡ Some e.slot
@@ -153,7 +157,8 @@ site-more (es ∷ sites) zero m = refl
 site-more (es ∷ sites) (suc n) m = site-more sites n m
 
 -- one site's slots have changed
-site-set_same : (sites : List (List NumberedSlot)) (i : ℕ) (es : List NumberedSlot) (m : ℕ) → i < length sites → numbered (set sites i es) i m ≡ slot_of_number es m
+site-set_same : (sites : List (List NumberedSlot)) (i : ℕ) (es : List NumberedSlot) (m : ℕ) → i < length sites → numbered (set sites i es) i m
+    ≡ slot_of_number es m
 site-set_same [] i es m lt = absurd (not-suc-le-zero lt)
 site-set_same (fs ∷ sites) zero es m lt = refl
 site-set_same (fs ∷ sites) (suc i) es m lt = site-set_same sites i es m (omega arith)

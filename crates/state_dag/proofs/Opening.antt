@@ -1,5 +1,6 @@
 -- The table of the root alone.
-use Rattle.std.proofs.Common.{◌≡◌, ℕ, ◌+◌, ◌≤◌, Bool, true, false, cond, eqb, leb, List, [], ◌∷◌, map, replicate, Some, None, IsTrue, inl, inr, refl, sym, ap, subst, ◌∙◌, eqb-true, arith}
+use Rattle.std.proofs.Common.{◌≡◌, ℕ, ◌+◌, ◌≤◌, Bool, true, false, cond, eqb, leb, List, [], ◌∷◌, map, replicate, Some, None, IsTrue, inl, inr, refl, sym, ap}
+use Rattle.std.proofs.Common.{subst, ◌∙◌, eqb-true, arith}
 use Rattle.std.specs.List.{range_with_len}
 use Rattle.std.proofs.lemmas.Bool.{cases_Bool, and_from, le-leb, false_from_ne_true, both_ways}
 use Rattle.std.proofs.lemmas.Option.{none-some, same_Some}
@@ -22,7 +23,8 @@ root_entry = record { slot = record { 0 = 0 }; id = root; arrival = 0; parents =
 abbrev pub opening : Limits → List ℕ → Entry → Table
 opening limits counts e = record { limits = limits; counts = counts; known = 1; entries = e ∷ [] }
 
-pub root-entry : (n : Node) → n.id ≡ root → n.arrival ≡ 0 → n.parents.items ≡ [] → n.children.items ≡ [] → n.stand_ins.items ≡ [] → n.path.pairs ≡ [] → entry_of 0 n ≡ root_entry
+pub root-entry : (n : Node) → n.id ≡ root → n.arrival ≡ 0 → n.parents.items ≡ [] → n.children.items ≡ [] → n.stand_ins.items ≡ [] → n.path.pairs ≡ [] →
+    entry_of 0 n ≡ root_entry
 root-entry n a b c d e f = rw (a, b, c, d, e, f) refl
 
 no-site : (site : ℕ) → 1 ≤ site → count_of_site (root_record ∷ []) site ≡ 0
@@ -37,7 +39,8 @@ no-counts n = go n 1 (omega arith)
     go (ℕ.suc m) p some = rw (no-site p some) (ap (λ zs. 0 ∷ zs) (go m (p + 1) (omega arith)))
 
 module _ (limits : Limits) (valid : IsTrue (are_limits limits)) (counts : List ℕ) where
-  shows-root : (slot : Slot) (e : Entry) → entry_at (opening limits counts root_entry) slot ≡ Some e → Shows (opening limits counts root_entry) (root_record ∷ []) [] e e.id
+  shows-root : (slot : Slot) (e : Entry) → entry_at (opening limits counts root_entry) slot ≡ Some e →
+      Shows (opening limits counts root_entry) (root_record ∷ []) [] e e.id
   shows-root slot e is = go (eqb 0 slot.0) is
     where
       go : (b : Bool) → cond b (Some root_entry) None ≡ Some e → Shows (opening limits counts root_entry) (root_record ∷ []) [] e e.id
@@ -76,5 +79,7 @@ module _ (limits : Limits) (valid : IsTrue (are_limits limits)) (counts : List �
     shows = shows-root;
   }
 
-pub stands-opening : (limits : Limits) (counts : List ℕ) (e : Entry) → IsTrue (are_limits limits) → counts ≡ replicate limits.sites 0 → e ≡ root_entry → Stands (opening limits counts e) (root_record ∷ []) []
-stands-opening limits counts e valid zeros is = subst (λ f. Stands (opening limits counts f) (root_record ∷ []) []) (sym is) (stands-at_root limits valid counts zeros)
+pub stands-opening : (limits : Limits) (counts : List ℕ) (e : Entry) → IsTrue (are_limits limits) → counts ≡ replicate limits.sites 0 → e ≡ root_entry →
+    Stands (opening limits counts e) (root_record ∷ []) []
+stands-opening limits counts e valid zeros is = subst (λ f. Stands (opening limits counts f) (root_record ∷ []) []) (sym is)
+    (stands-at_root limits valid counts zeros)

@@ -1,5 +1,6 @@
 -- Which slots name which states, and what a table says of those of a new state's parents.
-use Rattle.std.proofs.Common.{◌≡◌, ℕ, Bool, false, not, ◌||◌, ◌&&◌, eqb, List, [], ◌∷◌, length, map, find, slice_get, Some, IsTrue, IsFalse, inl, inr, refl, sym, ap, ap₂, subst, ◌∙◌, eqb-true, eq-eqb}
+use Rattle.std.proofs.Common.{◌≡◌, ℕ, Bool, false, not, ◌||◌, ◌&&◌, eqb, List, [], ◌∷◌, length, map, find, slice_get, Some, IsTrue, IsFalse, inl, inr, refl}
+use Rattle.std.proofs.Common.{sym, ap, ap₂, subst, ◌∙◌, eqb-true, eq-eqb}
 use Rattle.std.specs.List.{list_any}
 use Rattle.std.specs.Option.{option_map_or, option_and_then}
 use Rattle.std.proofs.lemmas.Bool.{and_parts, or_left, cases_Bool, not-true, false_from_ne_true}
@@ -29,7 +30,8 @@ pub slot_from : (a b : Slot) → a.0 ≡ b.0 → a ≡ b
 slot_from a b e = let named : ℕ → Slot = λ n. record { 0 = n } in ap named e
 
 -- where ids differ, entries with one id are at one slot
-one-place : (es : List Entry) (j k : ℕ) (e f : Entry) → AllDiffer (map (λ g. g.id) es) → find (λ g. eqb g.slot.0 j) es ≡ Some e → find (λ g. eqb g.slot.0 k) es ≡ Some f → e.id ≡ f.id → j ≡ k
+one-place : (es : List Entry) (j k : ℕ) (e f : Entry) → AllDiffer (map (λ g. g.id) es) → find (λ g. eqb g.slot.0 j) es ≡ Some e →
+    find (λ g. eqb g.slot.0 k) es ≡ Some f → e.id ≡ f.id → j ≡ k
 one-place [] j k e f differ is_e is_f same = absurd (none-some e is_e)
 one-place (g ∷ es) j k e f differ is_e is_f same = elim (cases_Bool (eqb g.slot.0 j)) [
   | inl t ↦ elim (cases_Bool (eqb g.slot.0 k)) [
@@ -37,13 +39,15 @@ one-place (g ∷ es) j k e f differ is_e is_f same = elim (cases_Bool (eqb g.slo
     | inr n ↦
         let first : g ≡ e = same_Some g e (rw t at is_e) in
         let later = found-is_named es k f (rw n at is_f) in
-        not-both (is_among g.id (map (λ h. h.id) es)) (subst (λ z. IsTrue (is_among z (map (λ (h : Entry). h.id) es))) (sym (ap (λ (h : Entry). h.id) first ∙ same)) later) differ.0
+        not-both (is_among g.id (map (λ h. h.id) es)) (subst (λ z. IsTrue (is_among z (map (λ (h : Entry). h.id) es)))
+        (sym (ap (λ (h : Entry). h.id) first ∙ same)) later) differ.0
   ]
   | inr m ↦ elim (cases_Bool (eqb g.slot.0 k)) [
     | inl u ↦
         let first : g ≡ f = same_Some g f (rw u at is_f) in
         let later = found-is_named es j e (rw m at is_e) in
-        not-both (is_among g.id (map (λ h. h.id) es)) (subst (λ z. IsTrue (is_among z (map (λ (h : Entry). h.id) es))) (same ∙ sym (ap (λ (h : Entry). h.id) first)) later) differ.0
+        not-both (is_among g.id (map (λ h. h.id) es)) (subst (λ z. IsTrue (is_among z (map (λ (h : Entry). h.id) es)))
+        (same ∙ sym (ap (λ (h : Entry). h.id) first)) later) differ.0
     | inr n ↦ one-place es j k e f differ.1 (rw m at is_e) (rw n at is_f) same
   ]
 ]
@@ -75,7 +79,8 @@ module _ (table : Table) (rs : List Record) (ks : List StateId) (stands : Stands
       ap (λ o. has_pair pair (option_map_or (λ (e : Entry). e.path) o [])) w.1 ∙ (shown table rs ks stands slot w.0 x w.1 named).has_path pair
 
   -- where a state's children are kept, its first stand-in is its first child's slot
-  first-above : (t : Slot) (y : StateId) → id_at table t ≡ Some y → (ss : List Slot) (cs : List StateId) → map (id_at table) ss ≡ map (λ c. Some (stand_in rs ks c)) cs →
+  first-above : (t : Slot) (y : StateId) → id_at table t ≡ Some y → (ss : List Slot) (cs : List StateId) → map (id_at table) ss
+      ≡ map (λ c. Some (stand_in rs ks c)) cs →
       ((c : StateId) → IsTrue (is_among c cs) → IsFalse (is_among c ks)) →
       option_map_or (λ s. is_slot_above table s t) (slice_get ss 0) false ≡ option_map_or (λ c. is_above rs c y) (slice_get cs 0) false
   first-above t y named [] [] same kept = refl
@@ -87,14 +92,17 @@ module _ (table : Table) (rs : List Record) (ks : List StateId) (stands : Stands
       slots-tell table rs ks stands s t c y (here ∙ ap (λ z. Some z) itself) named
 
   -- whether the only child of a state with kept children leads somewhere
-  pub leads-first-is : (s t : Slot) (p y : StateId) → id_at table s ≡ Some p → id_at table t ≡ Some y → ((x : StateId) → IsTrue (is_above rs p x) → IsFalse (is_among x ks)) →
+  pub leads-first-is : (s t : Slot) (p y : StateId) → id_at table s ≡ Some p → id_at table t ≡ Some y →
+      ((x : StateId) → IsTrue (is_above rs p x) → IsFalse (is_among x ks)) →
       leads_first table t s ≡ (eqb (length (children rs p)) 1 && leads_to rs y (p, 0))
   leads-first-is s t p y named_s named_t kept =
       let w = entry-of_id table s p named_s in
       let shows = shown table rs ks stands s w.0 p w.1 named_s in
       ap (λ n. eqb n 1 && option_map_or (λ c. is_slot_above table c t) (first_child table s) false) (children-at s p named_s)
-      ∙ (ap (λ o. eqb (length (children rs p)) 1 && option_map_or (λ c. is_slot_above table c t) (option_and_then (λ (e : Entry). slice_get e.stand_ins 0) o) false) w.1
-      ∙ ap (λ b. eqb (length (children rs p)) 1 && b) (first-above t y named_t w.0.stand_ins (children rs p) shows.has_stand_ins (λ c m. kept c (parent_is_above rs stands.dag p c m))))
+      ∙ (ap (λ o. eqb (length (children rs p)) 1 && option_map_or (λ c. is_slot_above table c t)
+      (option_and_then (λ (e : Entry). slice_get e.stand_ins 0) o) false) w.1
+      ∙ ap (λ b. eqb (length (children rs p)) 1 && b) (first-above t y named_t w.0.stand_ins (children rs p) shows.has_stand_ins
+      (λ c m. kept c (parent_is_above rs stands.dag p c m))))
 
   -- ===== Lists of slots
 
@@ -110,11 +118,13 @@ module _ (table : Table) (rs : List Record) (ks : List StateId) (stands : Stands
       ap₂ (λ a b. a || b) (f s p here (among-first p ps)) (any-named P Q ss ps rest (λ t q named m. f t q named (among-later q p ps m)))
 
   -- the slot is one of these exactly where its state is one of those
-  pub among-slots : (ss : List Slot) (ps : List StateId) → map (id_at table) ss ≡ map (λ p. Some p) ps → (slot : Slot) (x : StateId) → id_at table slot ≡ Some x → is_slot_among slot ss ≡ is_among x ps
+  pub among-slots : (ss : List Slot) (ps : List StateId) → map (id_at table) ss ≡ map (λ p. Some p) ps → (slot : Slot) (x : StateId) → id_at table slot
+      ≡ Some x → is_slot_among slot ss ≡ is_among x ps
   among-slots ss ps same slot x named = any-named (λ s. eqb s.0 slot.0) (same_id x) ss ps same (λ s p here m. turned s p here)
     where
       turned : (s : Slot) (p : StateId) → id_at table s ≡ Some p → eqb s.0 slot.0 ≡ same_id x p
-      turned s p here = same-slot s slot p x here named ∙ same_test (same_id p x) (same_id x p) (λ t. same_id_from x p (sym (same_id-true p x t))) (λ t. same_id_from p x (sym (same_id-true x p t)))
+      turned s p here = same-slot s slot p x here named ∙ same_test (same_id p x) (same_id x p) (λ t. same_id_from x p (sym (same_id-true p x t)))
+          (λ t. same_id_from p x (sym (same_id-true x p t)))
 
   -- slots of states that differ differ
   pub slots-differ : (ss : List Slot) (ps : List StateId) → map (id_at table) ss ≡ map (λ p. Some p) ps → Differ same_id ps → Differ (λ a b. eqb b.0 a.0) ss
@@ -132,7 +142,8 @@ apart-differ rs [] apart = tt
 apart-differ rs (p ∷ ps) apart =
     let parts = and_parts (not (list_any (are_comparable rs p) ps)) (are_apart rs ps) (sym (apart-means-incomparable rs p ps) ∙ apart) in (
       false_from_ne_true (is_among p ps) (λ m.
-          not-both (list_any (are_comparable rs p) ps) (any-from (are_comparable rs p) ps p m (or_left (is_above rs p p) (is_above rs p p) (above-reflexive rs p)))
+          not-both (list_any (are_comparable rs p) ps) (any-from (are_comparable rs p) ps p m
+          (or_left (is_above rs p p) (is_above rs p p) (above-reflexive rs p)))
           (not-true (list_any (are_comparable rs p) ps) parts.0)),
       apart-differ rs ps parts.1,
     )

@@ -1,5 +1,6 @@
 -- Why a table doesn't grow is why its history doesn't.
-use Rattle.std.proofs.Common.{◌≡◌, ℕ, Bool, true, false, cond, ltb, eqb, List, [], ◌∷◌, ◌++◌, length, map, find, Option, Some, None, IsTrue, IsFalse, inl, inr, refl, sym, ap, ap₂, subst, ◌∙◌, eq-eqb}
+use Rattle.std.proofs.Common.{◌≡◌, ℕ, Bool, true, false, cond, ltb, eqb, List, [], ◌∷◌, ◌++◌, length, map, find, Option, Some, None, IsTrue, IsFalse, inl}
+use Rattle.std.proofs.Common.{inr, refl, sym, ap, ap₂, subst, ◌∙◌, eq-eqb}
 use Rattle.std.specs.Option.{option_map}
 use Rattle.std.proofs.lemmas.Bool.{cases_Bool, false_from_ne_true, both_ways}
 use Rattle.std.proofs.lemmas.Option.{same_Some}
@@ -38,7 +39,8 @@ finds-itself [] fs e differ named = rw (eq-eqb e.slot.0 e.slot.0 refl) refl
 finds-itself (f ∷ es) fs e differ named = elim (cases_Bool (eqb f.slot.0 e.slot.0)) [
   | inl t ↦
       let same : f.id ≡ e.id = same_Some f.id e.id (rw t at named) in
-      not-both (is_among f.id (map (λ g. g.id) (es ++ e ∷ fs))) (subst (λ z. IsTrue (is_among z (map (λ (g : Entry). g.id) (es ++ e ∷ fs)))) (sym same) (within es)) differ.0
+      not-both (is_among f.id (map (λ g. g.id) (es ++ e ∷ fs)))
+      (subst (λ z. IsTrue (is_among z (map (λ (g : Entry). g.id) (es ++ e ∷ fs)))) (sym same) (within es)) differ.0
   | inr n ↦ rw n (finds-itself es fs e differ.1 (rw n at named))
 ]
   where
@@ -52,7 +54,8 @@ each-found : (all es fs : List Entry) → es ++ fs ≡ all → AllDiffer (map (�
 each-found all es [] is differ named = tt
 each-found all es (e ∷ fs) is differ named =
     let here : option_map (λ (f : Entry). f.id) (find (λ (f : Entry). eqb f.slot.0 e.slot.0) all) ≡ Some e.id = cc in
-    let rest : map (λ (g : Entry). option_map (λ (f : Entry). f.id) (find (λ (f : Entry). eqb f.slot.0 g.slot.0) all)) fs ≡ map (λ (g : Entry). Some g.id) fs = cc in (
+    let rest : map (λ (g : Entry). option_map (λ (f : Entry). f.id) (find (λ (f : Entry). eqb f.slot.0 g.slot.0) all)) fs
+    ≡ map (λ (g : Entry). Some g.id) fs = cc in (
       subst (λ gs. find (λ (f : Entry). eqb f.slot.0 e.slot.0) gs ≡ Some e) is
           (finds-itself es fs e (subst (λ gs. AllDiffer (map (λ (g : Entry). g.id) gs)) (sym is) differ)
           (subst (λ gs. option_map (λ (f : Entry). f.id) (find (λ (f : Entry). eqb f.slot.0 e.slot.0) gs) ≡ Some e.id) (sym is) here)),
@@ -73,7 +76,8 @@ counted x n = (x, n)
 module _ (most : ℕ) (long : Entry → ℕ) (path : StateId → ℕ) where
   -- what is found of entries is found of their states
   find-alike : (P : Entry → Type 0) → ((e : Entry) → P e → long e ≡ path e.id) → (es : List Entry) → Each P es →
-      option_map (λ e. counted e.id (long e)) (find (λ e. ltb most (long e)) es) ≡ option_map (λ x. counted x (path x)) (find (λ x. ltb most (path x)) (map (λ e. e.id) es))
+      option_map (λ e. counted e.id (long e)) (find (λ e. ltb most (long e)) es)
+      ≡ option_map (λ x. counted x (path x)) (find (λ x. ltb most (path x)) (map (λ e. e.id) es))
   find-alike P same [] each = refl
   find-alike P same (e ∷ es) each = elim (cases_Bool (ltb most (long e))) [
     | inl t ↦
@@ -87,10 +91,13 @@ module _ (most : ℕ) (long : Entry → ℕ) (path : StateId → ℕ) where
   -- and with one more state it is found last
   find-last : (xs : List StateId) (z : StateId) (n : ℕ) → n ≡ path z →
       option_map (λ p. IsPathFull p.0 p.1) (option_map (λ x. counted x (path x)) (find (λ x. ltb most (path x)) (xs ++ z ∷ [])))
-      ≡ elim (option_map (λ x. counted x (path x)) (find (λ x. ltb most (path x)) xs)) as (λ _. Option Refusal) [ Some p ↦ Some (IsPathFull p.0 p.1) | None ↦ cond (ltb most n) (Some (IsPathFull z n)) None ]
-  find-last [] z n is = subst (λ m. option_map (λ p. IsPathFull p.0 p.1) (option_map (λ x. counted x (path x)) (cond (ltb most (path z)) (Some z) None)) ≡ cond (ltb most m) (Some (IsPathFull z m)) None) (sym is) (go (ltb most (path z)))
+      ≡ elim (option_map (λ x. counted x (path x)) (find (λ x. ltb most (path x)) xs)) as (λ _. Option Refusal)
+      [ Some p ↦ Some (IsPathFull p.0 p.1) | None ↦ cond (ltb most n) (Some (IsPathFull z n)) None ]
+  find-last [] z n is = subst (λ m. option_map (λ p. IsPathFull p.0 p.1) (option_map (λ x. counted x (path x)) (cond (ltb most (path z)) (Some z) None))
+      ≡ cond (ltb most m) (Some (IsPathFull z m)) None) (sym is) (go (ltb most (path z)))
     where
-      go : (b : Bool) → option_map (λ p. IsPathFull p.0 p.1) (option_map (λ x. counted x (path x)) (cond b (Some z) None)) ≡ cond b (Some (IsPathFull z (path z))) None
+      go : (b : Bool) → option_map (λ p. IsPathFull p.0 p.1) (option_map (λ x. counted x (path x)) (cond b (Some z) None))
+          ≡ cond b (Some (IsPathFull z (path z))) None
       go true = refl
       go false = refl
   find-last (x ∷ xs) z n is = elim (cases_Bool (ltb most (path x))) [
@@ -100,10 +107,13 @@ module _ (most : ℕ) (long : Entry → ℕ) (path : StateId → ℕ) where
 
 -- ===== The refusal
 
-pub new-isnt_collected : (table : Table) (rs : List Record) (ks : List StateId) (r : Record) → Stands table rs ks → IsFalse (is_known rs r.id) → IsFalse (is_among r.id ks)
-new-isnt_collected table rs ks r stands new = false_from_ne_true (is_among r.id ks) (λ gone. both_ways (is_known rs r.id) new (stands.known_collected r.id gone))
+pub new-isnt_collected : (table : Table) (rs : List Record) (ks : List StateId) (r : Record) → Stands table rs ks → IsFalse (is_known rs r.id) →
+    IsFalse (is_among r.id ks)
+new-isnt_collected table rs ks r stands new = false_from_ne_true (is_among r.id ks)
+    (λ gone. both_ways (is_known rs r.id) new (stands.known_collected r.id gone))
 
-pub kept-next : (table : Table) (rs : List Record) (ks : List StateId) (r : Record) → Stands table rs ks → IsFalse (is_known rs r.id) → kept_states (r ∷ rs) ks ≡ map (λ e. e.id) table.entries ++ r.id ∷ []
+pub kept-next : (table : Table) (rs : List Record) (ks : List StateId) (r : Record) → Stands table rs ks → IsFalse (is_known rs r.id) →
+    kept_states (r ∷ rs) ks ≡ map (λ e. e.id) table.entries ++ r.id ∷ []
 kept-next table rs ks r stands new =
     kept-newest rs ks r (new-isnt_collected table rs ks r stands new) ∙ ap (λ xs. xs ++ r.id ∷ []) (sym stands.ids)
 
@@ -117,8 +127,14 @@ refused table rs ks r parents path stands may is =
     let pairs : StateId × ℕ → Refusal = λ p. IsPathFull p.0 p.1 in
     let full : ℕ → Option Refusal → Option Refusal = λ n other. cond (eqb n table.limits.max_kept) (Some (IsFull n)) other in
     let found : too_long table parents ≡ option_map (λ x. counted x (paths x)) (find (λ x. ltb most (paths x)) (map (λ e. e.id) table.entries)) =
-    find-alike most long paths (λ e. entry_at table e.slot ≡ Some e) (λ e at. grown-length-is table rs ks r parents stands may e at) table.entries (entries-found table rs ks stands) in
+    find-alike most long paths (λ e. entry_at table e.slot ≡ Some e) (λ e at. grown-length-is table rs ks r parents stands may e at) table.entries
+    (entries-found table rs ks stands) in
     let last = find-last most long paths (map (λ e. e.id) table.entries) r.id (length path) (new-length-is table rs ks r parents stands may path is) in
-    let rest : Option (StateId × ℕ) → Option Refusal = λ o. elim o as (λ _. Option Refusal) [ Some p ↦ Some (IsPathFull p.0 p.1) | None ↦ cond (ltb most (length path)) (Some (IsPathFull r.id (length path))) None ] in
-    let whole = ap (λ xs. option_map pairs (option_map (λ x. counted x (paths x)) (find (λ x. ltb most (paths x)) xs))) (kept-next table rs ks r stands may.next.new) in
+    let rest : Option (StateId × ℕ) → Option Refusal = λ o. elim o as (λ _. Option Refusal) [
+      | Some p ↦ Some (IsPathFull p.0 p.1)
+      | None ↦
+          cond (ltb most (length path)) (Some (IsPathFull r.id (length path))) None
+    ] in
+    let whole = ap (λ xs. option_map pairs (option_map (λ x. counted x (paths x)) (find (λ x. ltb most (paths x)) xs)))
+    (kept-next table rs ks r stands may.next.new) in
     ap₂ full (sym (entries-kept table rs ks stands)) (whole ∙ (last ∙ ap rest (sym found)))

@@ -1,5 +1,6 @@
 -- Slots with rising numbers.
-use Rattle.std.proofs.Common.{◌≡◌, ℕ, ◌<◌, ◌≤◌, Bool, true, false, not, ◌&&◌, eqb, ltb, List, [], ◌∷◌, length, filter, get_or, remove, inl, inr, refl, sym, ap, ap₂, ◌∙◌, eq-eqb, eqb-true, arith}
+use Rattle.std.proofs.Common.{◌≡◌, ℕ, ◌<◌, ◌≤◌, Bool, true, false, not, ◌&&◌, eqb, ltb, List, [], ◌∷◌, length, filter, get_or, remove, inl, inr, refl, sym}
+use Rattle.std.proofs.Common.{ap, ap₂, ◌∙◌, eq-eqb, eqb-true, arith}
 use Rattle.std.specs.List.{list_all}
 use Rattle.std.specs.List.Sorted.{IsNonDecreasingBy}
 use Rattle.std.proofs.lemmas.Bool.{and_parts, and_from, cases_Bool, cases_lt, both_ways, ltb-true, ne_eqb}
@@ -13,7 +14,8 @@ module _ (number : Slot → ℕ) where
   pub rising-at : (xs : List Slot) (i j : ℕ) (d : Slot) → Rise number xs → i < j → j < length xs → number (get_or xs i d) < number (get_or xs j d)
   rising-at [] i j d up less lt = absurd (omega arith)
   rising-at (x ∷ xs) i ℕ.zero d up less lt = absurd (omega arith)
-  rising-at (x ∷ xs) ℕ.zero (ℕ.suc j) d up less lt = ltb-true (number x) (number (get_or xs j d)) (all-at (λ s. ltb (number x) (number s)) xs j d up.0 (omega arith))
+  rising-at (x ∷ xs) ℕ.zero (ℕ.suc j) d up less lt = ltb-true (number x) (number (get_or xs j d))
+      (all-at (λ s. ltb (number x) (number s)) xs j d up.0 (omega arith))
   rising-at (x ∷ xs) (ℕ.suc i) (ℕ.suc j) d up less lt = rising-at xs i j d up.1 (omega arith) (omega arith)
 
   pub rising-falls_not : (xs : List Slot) → Rise number xs → IsNonDecreasingBy number xs
@@ -68,7 +70,8 @@ module _ (number : Slot → ℕ) where
       rw other (ap (λ ys. x ∷ ys) (removed-one xs k g up.1 (omega arith) is))
 
   -- one that isn't where its number would stand isn't there
-  pub removed-none : (xs : List Slot) (k : ℕ) (g : Slot) → Rise number xs → ((j : ℕ) (d : Slot) → j < k → number (get_or xs j d) < number g) → ((j : ℕ) (d : Slot) → k ≤ j → j < length xs → number g ≤ number (get_or xs j d)) →
+  pub removed-none : (xs : List Slot) (k : ℕ) (g : Slot) → Rise number xs → ((j : ℕ) (d : Slot) → j < k → number (get_or xs j d) < number g) →
+      ((j : ℕ) (d : Slot) → k ≤ j → j < length xs → number g ≤ number (get_or xs j d)) →
       (k < length xs → (get_or xs k g).0 ≡ g.0 → ⊥) → filter (λ s. not (eqb g.0 s.0)) xs ≡ xs
   removed-none xs k g up before from other = without g xs (λ j d lt e.
       let slot : ℕ → Slot = λ n. record { 0 = n } in
@@ -102,7 +105,8 @@ among-index (x ∷ xs) g there = elim (cases_Bool (eqb x.0 g.0)) [
 ]
 
 -- it is the first whose number is no lower
-pub rising-place : (number : Slot → ℕ) (xs : List Slot) (g : Slot) (p : ℕ) → Rise number xs → is_slot_among g xs ≡ true → ((j : ℕ) (d : Slot) → j < p → number (get_or xs j d) < number g) →
+pub rising-place : (number : Slot → ℕ) (xs : List Slot) (g : Slot) (p : ℕ) → Rise number xs → is_slot_among g xs ≡ true →
+    ((j : ℕ) (d : Slot) → j < p → number (get_or xs j d) < number g) →
     ((j : ℕ) (d : Slot) → p ≤ j → j < length xs → number g ≤ number (get_or xs j d)) → (p < length xs) × ((d : Slot) → get_or xs p d ≡ g)
 rising-place number xs g p up there before from =
     let w = among-index xs g there in

@@ -1,5 +1,6 @@
 -- The slot that all children's slots are.
-use Rattle.std.proofs.Common.{◌≡◌, Bool, true, ◌&&◌, ◌==◌, cond, List, [], ◌∷◌, map, slice_get, Option, Some, None, IsTrue, IfSome, inl, inr, refl, sym, ap, ap₂, subst, ◌∙◌}
+use Rattle.std.proofs.Common.{◌≡◌, Bool, true, ◌&&◌, ◌==◌, cond, List, [], ◌∷◌, map, slice_get, Option, Some, None, IsTrue, IfSome, inl, inr, refl, sym, ap}
+use Rattle.std.proofs.Common.{ap₂, subst, ◌∙◌}
 use Rattle.std.specs.List.{list_all}
 use Rattle.std.specs.Option.{option_map}
 use Rattle.std.proofs.lemmas.Bool.{and_from, cases_Bool}
@@ -26,7 +27,8 @@ common-by_first same self (z ∷ zs) x first =
 
 module _ (table : Table) (rs : List Record) (ks : List StateId) (stands : Stands table rs ks) where
   -- slots are all one where the states that they name are
-  all-named : (s : Slot) (x : StateId) → id_at table s ≡ Some x → (ss : List Slot) (cs : List StateId) → map (id_at table) ss ≡ map (λ c. Some (stand_in rs ks c)) cs →
+  all-named : (s : Slot) (x : StateId) → id_at table s ≡ Some x → (ss : List Slot) (cs : List StateId) → map (id_at table) ss
+      ≡ map (λ c. Some (stand_in rs ks c)) cs →
       list_all (λ t. t.0 == s.0) ss ≡ list_all (λ y. same_id y x) (map (stand_in rs ks) cs)
   all-named s x named [] [] e = refl
   all-named s x named [] (c ∷ cs) e = absurd (let bad : ⊥ = cc in bad)
@@ -52,7 +54,8 @@ module _ (table : Table) (rs : List Record) (ks : List StateId) (stands : Stands
       ]
 
 -- a slot that names a state is kept where entries stand in arrival order
-pub named-is_kept : (table : Table) (o : Option Slot) (x : Option StateId) → option_map (id_at table) o ≡ option_map (λ c. Some c) x → IsTrue (arrive_in_order table.entries) →
+pub named-is_kept : (table : Table) (o : Option Slot) (x : Option StateId) → option_map (id_at table) o ≡ option_map (λ c. Some c) x →
+    IsTrue (arrive_in_order table.entries) →
     IfSome o (λ s. IsTrue (is_kept_at table s))
 named-is_kept table None x e up = tt
 named-is_kept table (Some s) None e up = absurd (let bad : ⊥ = cc in bad)

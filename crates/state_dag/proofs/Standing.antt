@@ -1,5 +1,6 @@
 -- What a table says of the history that it stands for.
-use Rattle.std.proofs.Common.{◌≡◌, ℕ, true, false, ◌&&◌, eqb, leb, List, [], ◌∷◌, map, find, Option, Some, None, is_some, IsTrue, inl, inr, refl, sym, ap, ap₂, subst, ◌∙◌, eqb-true, eq-eqb, arith}
+use Rattle.std.proofs.Common.{◌≡◌, ℕ, true, false, ◌&&◌, eqb, leb, List, [], ◌∷◌, map, find, Option, Some, None, is_some, IsTrue, inl, inr, refl, sym, ap}
+use Rattle.std.proofs.Common.{ap₂, subst, ◌∙◌, eqb-true, eq-eqb, arith}
 use Rattle.std.specs.Option.{option_map, option_map_or}
 use Rattle.std.proofs.lemmas.Bool.{and_parts, and_from, or_cases, or_left, or_right, cases_Bool, cond-true, cond-false, leb-true, le-leb}
 use Rattle.std.proofs.lemmas.Option.{none-some, same_Some}
@@ -64,10 +65,12 @@ found-is_named (f ∷ es) k e h = elim (cases_Bool (eqb f.slot.0 k)) [
   | inl t ↦
       let same : f ≡ e = same_Some f e (sym (cond-true (eqb f.slot.0 k) (Some f) (find (λ g. eqb g.slot.0 k) es) t) ∙ h) in
       subst (λ z. IsTrue (is_among z (map (λ (g : Entry). g.id) (f ∷ es)))) (ap (λ (g : Entry). g.id) same) (among-first f.id (map (λ g. g.id) es))
-  | inr n ↦ among-later e.id f.id (map (λ g. g.id) es) (found-is_named es k e (sym (cond-false (eqb f.slot.0 k) (Some f) (find (λ g. eqb g.slot.0 k) es) n) ∙ h))
+  | inr n ↦ among-later e.id f.id (map (λ g. g.id) es) (found-is_named es k e (sym (cond-false (eqb f.slot.0 k) (Some f) (find (λ g. eqb g.slot.0 k) es) n)
+      ∙ h))
 ]
 
-slot-in : (name : Slot → Option StateId) (es : List Entry) (x : StateId) → map (λ e. name e.slot) es ≡ map (λ e. Some e.id) es → IsTrue (is_among x (map (λ e. e.id) es)) →
+slot-in : (name : Slot → Option StateId) (es : List Entry) (x : StateId) → map (λ e. name e.slot) es ≡ map (λ e. Some e.id) es →
+    IsTrue (is_among x (map (λ e. e.id) es)) →
     (slot : Slot) × (name slot ≡ Some x)
 slot-in name [] x same h = not-both true refl (sym h)
 slot-in name (e ∷ es) x same h = elim (among-cases x e.id (map (λ f. f.id) es) h) [
@@ -76,7 +79,8 @@ slot-in name (e ∷ es) x same h = elim (among-cases x e.id (map (λ f. f.id) es
 ]
 
 -- whether one slot is above another is read off their entries
-pub slots-above : (table : Table) (a b : Slot) (e f : Entry) → entry_at table a ≡ Some e → entry_at table b ≡ Some f → is_slot_above table a b ≡ is_entry_above e f
+pub slots-above : (table : Table) (a b : Slot) (e f : Entry) → entry_at table a ≡ Some e → entry_at table b ≡ Some f → is_slot_above table a b
+    ≡ is_entry_above e f
 slots-above table a b e f is_a is_b =
     ap (λ o. option_map_or (λ (g : Entry). option_map_or (λ (h : Entry). is_entry_above g h) (entry_at table b) false) o false) is_a
     ∙ ap (λ o. option_map_or (λ (h : Entry). is_entry_above e h) o false) is_b
@@ -138,7 +142,8 @@ module _ (table : Table) (rs : List Record) (ks : List StateId) (stands : Stands
           let parts = and_parts (is_fork rs p) (leads_to rs x (p, q.1)) t in
           (p, is, parts.0, parts.1)
 
-  entries-tell : (a b : Entry) (x y : StateId) → Shows table rs ks a x → Shows table rs ks b y → IsTrue (is_kept rs ks x) → IsTrue (is_kept rs ks y) → is_entry_above a b ≡ is_above rs x y
+  entries-tell : (a b : Entry) (x y : StateId) → Shows table rs ks a x → Shows table rs ks b y → IsTrue (is_kept rs ks x) → IsTrue (is_kept rs ks y) →
+      is_entry_above a b ≡ is_above rs x y
   entries-tell a b x y shows_a shows_b kept_x kept_y = same_test (is_entry_above a b) (is_above rs x y) forth back
     where
       forth : IsTrue (is_entry_above a b) → IsTrue (is_above rs x y)

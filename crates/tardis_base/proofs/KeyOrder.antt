@@ -81,7 +81,8 @@ ascending-from k [] first rest = refl
 ascending-from k (l ∷ ls) first rest = and_from (is_key_before k l) (are_ascending_keys (l ∷ ls)) first rest
 
 -- the first of ascending keys is before each later one
-pub before-later : (k : List ℕ) (ks : List (List ℕ)) (i : ℕ) (d : List ℕ) → are_ascending_keys (k ∷ ks) ≡ true → i < length ks → is_key_before k (get_or ks i d) ≡ true
+pub before-later : (k : List ℕ) (ks : List (List ℕ)) (i : ℕ) (d : List ℕ) → are_ascending_keys (k ∷ ks) ≡ true → i < length ks →
+    is_key_before k (get_or ks i d) ≡ true
 before-later k [] i d up lt = absurd (omega arith)
 before-later k (l ∷ ls) ℕ.zero d up lt = (ascending-parts k (l ∷ ls) up).0
 before-later k (l ∷ ls) (ℕ.suc i) d up lt =
@@ -89,7 +90,8 @@ before-later k (l ∷ ls) (ℕ.suc i) d up lt =
     before-trans k l (get_or ls i d) parts.0 (before-later l ls i d parts.1 (omega arith))
 
 -- ascending keys followed by a later one ascend
-pub ascending-push : (ks : List (List ℕ)) (l k : List ℕ) → are_ascending_keys (ks ++ l ∷ []) ≡ true → is_key_before l k ≡ true → are_ascending_keys ((ks ++ l ∷ []) ++ k ∷ []) ≡ true
+pub ascending-push : (ks : List (List ℕ)) (l k : List ℕ) → are_ascending_keys (ks ++ l ∷ []) ≡ true → is_key_before l k ≡ true →
+    are_ascending_keys ((ks ++ l ∷ []) ++ k ∷ []) ≡ true
 ascending-push [] l k up e = and_from (is_key_before l k) true e refl
 ascending-push (j ∷ []) l k up e =
     let parts = ascending-parts j (l ∷ []) up in

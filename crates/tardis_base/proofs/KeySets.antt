@@ -6,7 +6,8 @@ use Rattle.std.specs.Cmp.Lexicographic.{slice_cmp}
 use Rattle.std.specs.List.{AllWithin, insert, list_all}
 use Rattle.std.proofs.lemmas.Bool.{and_parts, and_from}
 use Rattle.tardis_base.specs.Keys.{is_key_before, are_ascending_keys, with_key}
-use Rattle.tardis_base.proofs.KeyOrder.{is_first, cases_key, before-back, before-itself, before-trans, before-later, ascending-parts, ascending-from, before-from_Less, before-from_Greater}
+use Rattle.tardis_base.proofs.KeyOrder.{is_first, cases_key, before-back, before-itself, before-trans, before-later, ascending-parts, ascending-from}
+use Rattle.tardis_base.proofs.KeyOrder.{before-from_Less, before-from_Greater}
 
 pub with_key-before : (k l : List ℕ) (ls : List (List ℕ)) → is_key_before k l ≡ true → with_key k (l ∷ ls) ≡ k ∷ l ∷ ls
 with_key-before k l ls e = rw e refl
@@ -18,7 +19,8 @@ pub with_key-here : (k : List ℕ) (ls : List (List ℕ)) → with_key k (k ∷ 
 with_key-here k ls = rw (before-itself k) refl
 
 -- where a key goes into keys that are not none
-pub with_key_cases : (k l : List ℕ) (ls : List (List ℕ)) (P : List (List ℕ) → Type 0) → (is_key_before k l ≡ true → P (k ∷ l ∷ ls)) → (is_key_before l k ≡ true → P (l ∷ with_key k ls)) → (k ≡ l → P (k ∷ ls)) → P (with_key k (l ∷ ls))
+pub with_key_cases : (k l : List ℕ) (ls : List (List ℕ)) (P : List (List ℕ) → Type 0) → (is_key_before k l ≡ true → P (k ∷ l ∷ ls)) →
+    (is_key_before l k ≡ true → P (l ∷ with_key k ls)) → (k ≡ l → P (k ∷ ls)) → P (with_key k (l ∷ ls))
 with_key_cases k l ls P before after here =
     elim (cases_key k l) as (λ _. P (with_key k (l ∷ ls))) [
       | inl e ↦ subst P (sym (with_key-before k l ls e)) (before e)
@@ -64,7 +66,8 @@ with_key-last (l ∷ ls) k up =
     with_key-after k l ls (before-last l ls k up) ∙ ap (λ zs. l ∷ zs) (with_key-last ls k (ascending-parts l (ls ++ k ∷ []) up).1)
 
 -- a key goes to the place that a search found, with smaller keys before it and larger ones from it on
-pub with_key-insert : (k : List ℕ) (ks : List (List ℕ)) (i : ℕ) → i ≤ length ks → AllWithin (λ y. slice_cmp nat_cmp y k ≡ Less) ks 0 i → AllWithin (λ y. slice_cmp nat_cmp y k ≡ Greater) ks i (length ks) → with_key k ks ≡ insert ks i k
+pub with_key-insert : (k : List ℕ) (ks : List (List ℕ)) (i : ℕ) → i ≤ length ks → AllWithin (λ y. slice_cmp nat_cmp y k ≡ Less) ks 0 i →
+    AllWithin (λ y. slice_cmp nat_cmp y k ≡ Greater) ks i (length ks) → with_key k ks ≡ insert ks i k
 with_key-insert k [] ℕ.zero le below above = refl
 with_key-insert k [] (ℕ.suc i) le below above = absurd (omega arith)
 with_key-insert k (l ∷ ls) ℕ.zero le below above =
@@ -72,7 +75,8 @@ with_key-insert k (l ∷ ls) ℕ.zero le below above =
 with_key-insert k (l ∷ ls) (ℕ.suc i) le below above =
     with_key-after k l ls (before-from_Less l k (below 0 l (omega arith) (omega arith)))
     ∙ ap (λ zs. l ∷ zs)
-    (with_key-insert k ls i (omega arith) (λ j d lo hi. below (ℕ.suc j) d (omega arith) (omega arith)) (λ j d lo hi. above (ℕ.suc j) d (omega arith) (omega arith)))
+    (with_key-insert k ls i (omega arith) (λ j d lo hi. below (ℕ.suc j) d (omega arith) (omega arith))
+    (λ j d lo hi. above (ℕ.suc j) d (omega arith) (omega arith)))
 
 -- a key that is there changes nothing
 pub with_key-found : (k : List ℕ) (ks : List (List ℕ)) (i : ℕ) → are_ascending_keys ks ≡ true → i < length ks → get_or ks i k ≡ k → with_key k ks ≡ ks

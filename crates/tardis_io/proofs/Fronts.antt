@@ -4,7 +4,8 @@ use Rattle.std.proofs.lemmas.List.{take_rest, take_at, take-append-drop, drop-dr
 use Rattle.std.proofs.Math.Seq.{take-add}
 
 -- a front moved into a buffer, and what is left behind it
-pub moved : (left buf after : List ℕ) (n most : ℕ) → n ≡ min most (min (length buf) (length left)) → after ≡ take n left ++ drop n buf → 0 < most → 0 < length buf → (left ≡ take n after ++ drop n left) × (n ≡ 0 → left ≡ [])
+pub moved : (left buf after : List ℕ) (n most : ℕ) → n ≡ min most (min (length buf) (length left)) → after ≡ take n left ++ drop n buf → 0 < most →
+    0 < length buf → (left ≡ take n after ++ drop n left) × (n ≡ 0 → left ≡ [])
 moved left buf after n most count front some room =
     let within : n ≤ length left = omega arith in
     let full : length (take n left) ≡ n = length-take-le n left within in
@@ -15,7 +16,9 @@ moved left buf after n most count front some room =
     )
 
 -- the same over the bytes that a source keeps, of which `at` were taken
-pub moved_at : (bytes : List ℕ) (at : ℕ) (buf after : List ℕ) (n most : ℕ) → n ≡ min most (min (length buf) (length (take (length bytes - at) (drop at bytes)))) → after ≡ take n (take (length bytes - at) (drop at bytes)) ++ drop n buf → 0 < most → 0 < length buf → (drop at bytes ≡ take n after ++ drop (at + n) bytes) × (n ≡ 0 → drop at bytes ≡ [])
+pub moved_at : (bytes : List ℕ) (at : ℕ) (buf after : List ℕ) (n most : ℕ) →
+    n ≡ min most (min (length buf) (length (take (length bytes - at) (drop at bytes)))) → after ≡ take n (take (length bytes - at) (drop at bytes))
+    ++ drop n buf → 0 < most → 0 < length buf → (drop at bytes ≡ take n after ++ drop (at + n) bytes) × (n ≡ 0 → drop at bytes ≡ [])
 moved_at bytes at buf after n most count front some room =
     let rest : take (length bytes - at) (drop at bytes) ≡ drop at bytes = take_rest bytes at in
     let count' : n ≡ min most (min (length buf) (length (drop at bytes))) = subst (λ l. n ≡ min most (min (length buf) (length l))) rest count in
@@ -24,30 +27,37 @@ moved_at bytes at buf after n most count front some room =
     (subst (λ d. drop at bytes ≡ take n after ++ d) (drop-drop n at bytes) both.0, both.1)
 
 -- giving a front of what is left to give
-pub given_more : (before after new bytes : List ℕ) (done n : ℕ) → after ≡ before ++ take done bytes → new ≡ after ++ take n (take (length bytes - done) (drop done bytes)) → new ≡ before ++ take (done + n) bytes
+pub given_more : (before after new bytes : List ℕ) (done n : ℕ) → after ≡ before ++ take done bytes → new ≡ after
+    ++ take n (take (length bytes - done) (drop done bytes)) → new ≡ before ++ take (done + n) bytes
 given_more before after new bytes done n was now =
     let rest : take (length bytes - done) (drop done bytes) ≡ drop done bytes = take_rest bytes done in
-    let now' : new ≡ (before ++ take done bytes) ++ take n (drop done bytes) = subst (λ a. new ≡ a ++ take n (drop done bytes)) was (subst (λ l. new ≡ after ++ take n l) rest now) in
+    let now' : new ≡ (before ++ take done bytes) ++ take n (drop done bytes) =
+    subst (λ a. new ≡ a ++ take n (drop done bytes)) was (subst (λ l. new ≡ after ++ take n l) rest now) in
     let joined : take (done + n) bytes ≡ take done bytes ++ take n (drop done bytes) = take-add done n bytes in
     now' ∙ (append_assoc before (take done bytes) (take n (drop done bytes)) ∙ ap (λ t. before ++ t) (sym joined))
 
 -- what was given before a fault
-pub given_front : (before after bytes : List ℕ) (done : ℕ) → after ≡ before ++ take done bytes → (lost : List ℕ) × ((after ++ lost ≡ before ++ bytes) × (length lost ≤ length bytes))
+pub given_front : (before after bytes : List ℕ) (done : ℕ) → after ≡ before ++ take done bytes → (lost : List ℕ)
+    × ((after ++ lost ≡ before ++ bytes) × (length lost ≤ length bytes))
 given_front before after bytes done was = (
   drop done bytes,
   (
-    subst (λ a. a ++ drop done bytes ≡ before ++ bytes) (sym was) (append_assoc before (take done bytes) (drop done bytes) ∙ ap (λ t. before ++ t) (take-append-drop done bytes)),
+    subst (λ a. a ++ drop done bytes ≡ before ++ bytes) (sym was) (append_assoc before (take done bytes) (drop done bytes)
+        ∙ ap (λ t. before ++ t) (take-append-drop done bytes)),
     omega (arith, length-drop done bytes),
   ),
 )
 
 -- the same through what a read of the bytes lends
-pub moved_under : (bytes lent : List ℕ) (at : ℕ) (buf after : List ℕ) (n most : ℕ) → lent ≡ bytes → n ≡ min most (min (length buf) (length (take (length lent - at) (drop at lent)))) → after ≡ take n (take (length lent - at) (drop at lent)) ++ drop n buf → 0 < most → 0 < length buf → (drop at bytes ≡ take n after ++ drop (at + n) bytes) × (n ≡ 0 → drop at bytes ≡ [])
+pub moved_under : (bytes lent : List ℕ) (at : ℕ) (buf after : List ℕ) (n most : ℕ) → lent ≡ bytes →
+    n ≡ min most (min (length buf) (length (take (length lent - at) (drop at lent)))) → after ≡ take n (take (length lent - at) (drop at lent))
+    ++ drop n buf → 0 < most → 0 < length buf → (drop at bytes ≡ take n after ++ drop (at + n) bytes) × (n ≡ 0 → drop at bytes ≡ [])
 moved_under bytes lent at buf after n most is count front some room =
     subst (λ b. (drop at b ≡ take n after ++ drop (at + n) b) × (n ≡ 0 → drop at b ≡ [])) is (moved_at lent at buf after n most count front some room)
 
 -- what was given when a give fails
-pub given_lost : (before after new bytes : List ℕ) (done : ℕ) → after ≡ before ++ take done bytes → new ≡ after → (lost : List ℕ) × ((new ++ lost ≡ before ++ bytes) × (length lost ≤ length bytes))
+pub given_lost : (before after new bytes : List ℕ) (done : ℕ) → after ≡ before ++ take done bytes → new ≡ after → (lost : List ℕ)
+    × ((new ++ lost ≡ before ++ bytes) × (length lost ≤ length bytes))
 given_lost before after new bytes done was now = given_front before new bytes done (now ∙ was)
 
 -- a front of the rest ends within the whole

@@ -12,7 +12,8 @@ pub same : (a : Option (List ℕ)) (P : List ℕ → List ℕ → Type 0) → ((
 same None P f = tt
 same (Some x) P f = f x
 
-pub then : (a b c : Option (List ℕ)) (P Q R : List ℕ → List ℕ → Type 0) → WhileTold a b P → WhileTold b c Q → ((x y z : List ℕ) → P x y → Q y z → R x z) → WhileTold a c R
+pub then : (a b c : Option (List ℕ)) (P Q R : List ℕ → List ℕ → Type 0) → WhileTold a b P → WhileTold b c Q → ((x y z : List ℕ) → P x y → Q y z → R x z) →
+    WhileTold a c R
 then None None None P Q R p q f = tt
 then (Some x) (Some y) (Some z) P Q R p q f = f x y z p q
 then None None (Some z) P Q R p q f = q

@@ -12,8 +12,10 @@ use Rattle.branch_export.specs.Imported.{Imported, ImportsAs}
 use Rattle.export_run.specs.Exporting.{ExportOutcome, ExportEndsAs}
 use Rattle.tardis_main.specs.Program.{ExportEnds, ImportEnds}
 
-module _ {I O : Type 0} (left : I → Option (List ℕ)) (reads : I → ℕ) (given : O → Option (List ℕ)) (writes : O → ℕ) (input : I) (output : O) (words : List (List ℕ)) where
-  unexported : (site : Site) (state : StateId) (first : List ℕ) → IsSound site → ExportOutcome NoMemory state (λ s. s ≡ site) IsSound (given output) (given output) first first
+module _ {I O : Type 0} (left : I → Option (List ℕ)) (reads : I → ℕ) (given : O → Option (List ℕ)) (writes : O → ℕ) (input : I) (output : O)
+    (words : List (List ℕ)) where
+  unexported : (site : Site) (state : StateId) (first : List ℕ) → IsSound site → ExportOutcome NoMemory state (λ s. s ≡ site) IsSound (given output)
+      (given output) first first
   unexported site state first sound = record {
     bodies = [];
     held = [];
@@ -28,7 +30,8 @@ module _ {I O : Type 0} (left : I → Option (List ℕ)) (reads : I → ℕ) (gi
   no_export site state sound = record {
     outcome = same (left input) (ExportOutcome NoMemory state (λ s. s ≡ site) IsSound (given output) (given output)) (λ x. unexported site state x sound);
     exact = same (left input)
-        (λ first now. (all : List (List ℕ)) (rest : List ℕ) → IsCut first all rest → length first < most_taken → UnlessFaulty left reads writes input input output output (ExportEndsAs state rest NoMemory))
+        (λ first now. (all : List (List ℕ)) (rest : List ℕ) → IsCut first all rest → length first < most_taken →
+        UnlessFaulty left reads writes input input output output (ExportEndsAs state rest NoMemory))
         (λ x all rest cut short r w. tt);
     end = tt;
     nothing = λ e. refl;
@@ -37,7 +40,8 @@ module _ {I O : Type 0} (left : I → Option (List ℕ)) (reads : I → ℕ) (gi
   pub no_import : ImportEnds left reads given writes input input output output words NoMemory
   no_import = record {
     outcome = same (left input) (Imported NoMemory (given output) (given output)) (λ x. record { taken = []; read = refl; ends = refl });
-    exact = same (left input) (λ first now. length first < most_taken → UnlessFaulty left reads writes input input output output (ImportsAs first NoMemory)) (λ x short r w. tt);
+    exact = same (left input) (λ first now. length first < most_taken →
+        UnlessFaulty left reads writes input input output output (ImportsAs first NoMemory)) (λ x short r w. tt);
     end = tt;
     nothing = λ e. refl;
   }

@@ -34,7 +34,8 @@ module _ {L G X D O : Type 0} (link_left link_given : L → Option (List ℕ)) (
     (peer_left peer_given : X → Option (List ℕ)) (peer_takes peer_gives : X → ℕ) (dial_told : D → Option (ToldDial X)) (dials : D → ℕ)
     (given : O → Option (List ℕ)) (writes : O → ℕ) (gate : G) (dial : D) (output : O) where
   pub no_server : (site : Site) (max_trail : ℕ) (work : Workload)
-      → ServerEnds link_left link_given link_takes link_gives told gates peer_left peer_given peer_takes peer_gives dial_told dials given writes gate gate dial dial output output site max_trail work NoMemory
+      → ServerEnds link_left link_given link_takes link_gives told gates peer_left peer_given peer_takes peer_gives dial_told dials given writes gate gate
+      dial dial output output site max_trail work NoMemory
   no_server site max_trail work = record {
     end = NotMade;
     outcome = record {

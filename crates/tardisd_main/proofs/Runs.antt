@@ -18,7 +18,17 @@ use Rattle.tardisd_main.specs.Sites.{upkeep_rule, ServesPlace}
 weaker : {S : Type 0} (m : PlainMachine S) (rule : Option UpkeepRule) (to told : S → Type 0) (s : S) (end : End) (before after : Option (List Seen))
     → ((t : S) → to t → told t) → IsRun m rule to s end before after → IsRun m rule told s end before after
 weaker m rule to told s end before after tells run =
-    record { turns = run.turns; state = run.state; ran = run.ran; stands = tells run.state run.stands; served = run.served; seen = run.seen; timely = run.timely; ended = run.ended }
+    record {
+      turns = run.turns;
+      state = run.state;
+      ran = run.ran;
+      stands = tells run.state run.stands;
+      served = run.served;
+      seen = run.seen;
+      timely =
+          run.timely;
+      ended = run.ended;
+    }
 
 -- a run of what stands for the site of a place that opens
 pub serves_place : {E : Type 0} (place : Place) (tidy : Bool) (core : Core) (result : Result End E) (before after : Option (List Seen))

@@ -1,5 +1,7 @@
 -- Lower-case hexadecimal digits, and the bytes that they stand for.
-use Rattle.std.proofs.Common.{◌≡◌, ℕ, zero, suc, ◌+◌, ◌-◌, ◌*◌, ◌/◌, ◌%◌, ◌<◌, ◌≤◌, Bool, true, false, not, ◌==◌, ◌&&◌, IsTrue, inl, inr, List, [], ◌∷◌, ◌++◌, length, take, drop, slice_index, nat_le, nat_lt, Option, Some, None, Result, Ok, Err, ap, ap₂, sym, ◌∙◌, subst, refl, arith, if◌then◌else◌, unwrap_or, eqb-true, ltb-true, lt-ltb, leb-true, le-leb}
+use Rattle.std.proofs.Common.{◌≡◌, ℕ, zero, suc, ◌+◌, ◌-◌, ◌*◌, ◌/◌, ◌%◌, ◌<◌, ◌≤◌, Bool, true, false, not, ◌==◌, ◌&&◌, IsTrue, inl, inr, List, [], ◌∷◌, ◌++◌}
+use Rattle.std.proofs.Common.{length, take, drop, slice_index, nat_le, nat_lt, Option, Some, None, Result, Ok, Err, ap, ap₂, sym, ◌∙◌, subst, refl, arith}
+use Rattle.std.proofs.Common.{if◌then◌else◌, unwrap_or, eqb-true, ltb-true, lt-ltb, leb-true, le-leb}
 use Rattle.std.proofs.Math.Seq.{take-append_seam}
 use Rattle.std.proofs.lemmas.Bool.{and_parts, and_from, cases_lt, not-true}
 use Rattle.std.proofs.lemmas.Slice.Eq.{bytes_eq-Decides}
@@ -34,7 +36,8 @@ lower-at (suc n) k h lt =
       | inl below ↦ lower-at n k parts.1 below
       | inr top ↦
           let e : n ≡ k = omega (arith, lt, top) in
-          subst (λ z. slice_index lower_digits z ≡ (if nat_lt z 10 then z + 48 else z + 87)) e (eqb-true (slice_index lower_digits n) (if nat_lt n 10 then n + 48 else n + 87) parts.0)
+          subst (λ z. slice_index lower_digits z ≡ (if nat_lt z 10 then z + 48 else z + 87)) e
+          (eqb-true (slice_index lower_digits n) (if nat_lt n 10 then n + 48 else n + 87) parts.0)
     ]
 
 lower : (d : ℕ) → d < 16 → slice_index lower_digits d ≡ (if nat_lt d 10 then d + 48 else d + 87)
@@ -93,17 +96,22 @@ digit-back c v upper e = first (nat_le 65 c && nat_le c 70) refl e
         (omega (arith, least, most, same), lower-low v (omega (arith, least, most, same)) ∙ omega (arith, least, most, same))
     third false is e = none e
 
-    second : (t : Bool) → (nat_le 97 c && nat_le c 102) ≡ t → (if t then Some (c - 87) else if nat_le 48 c && nat_le c 57 then Some (c - 48) else None) ≡ Some v → (v < 16) × (slice_index lower_digits v ≡ c)
+    second : (t : Bool) → (nat_le 97 c && nat_le c 102) ≡ t → (if t then Some (c - 87) else if nat_le 48 c && nat_le c 57 then Some (c - 48) else None)
+        ≡ Some v → (v < 16) × (slice_index lower_digits v ≡ c)
     second true is e =
         let parts = and_parts (nat_le 97 c) (nat_le c 102) is in
         let least = leb-true 97 c parts.0 in
         let most = leb-true c 102 parts.1 in
-        let same = small (c - 87) e in
-        (omega (arith, least, most, same), lower-high v (omega (arith, least, most, same)) (omega (arith, least, most, same)) ∙ omega (arith, least, most, same))
+        let same = small (c - 87) e in (
+          omega (arith, least, most, same),
+          lower-high v (omega (arith, least, most, same)) (omega (arith, least, most, same))
+              ∙ omega (arith, least, most, same),
+        )
     second false is e = third (nat_le 48 c && nat_le c 57) refl e
 
     first : (t : Bool) → (nat_le 65 c && nat_le c 70) ≡ t
-        → (if t then Some (c - 55) else if nat_le 97 c && nat_le c 102 then Some (c - 87) else if nat_le 48 c && nat_le c 57 then Some (c - 48) else None) ≡ Some v
+        → (if t then Some (c - 55) else if nat_le 97 c && nat_le c 102 then Some (c - 87) else if nat_le 48 c && nat_le c 57 then Some (c - 48) else None)
+        ≡ Some v
         → (v < 16) × (slice_index lower_digits v ≡ c)
     first true is e = absurd (clash (is_within 65 70 c) is upper)
       where
@@ -139,7 +147,8 @@ pairs-back i (a ∷ b ∷ s) bs u e =
     let q = and_parts (no_upper b) (list_all (λ b. not (is_within 65 70 b)) s) p.1 in
     go p.0 q.0 (pair_value a b i) refl (decode_pairs (i + 2) s) refl (λ rest h. pairs-back (i + 2) s rest q.1 h) e
   where
-    go : IsTrue (no_upper a) → IsTrue (no_upper b) → (x : Result ℕ FromHexError) → pair_value a b i ≡ x → (y : Result (List ℕ) FromHexError) → decode_pairs (i + 2) s ≡ y
+    go : IsTrue (no_upper a) → IsTrue (no_upper b) → (x : Result ℕ FromHexError) → pair_value a b i ≡ x → (y : Result (List ℕ) FromHexError) →
+        decode_pairs (i + 2) s ≡ y
         → ((rest : List ℕ) → y ≡ Ok rest → encode_with lower_digits rest ≡ s)
         → (x >>= (λ byte. y >>= (λ bytes. Ok (byte ∷ bytes)))) ≡ Ok bs → encode_with lower_digits bs ≡ a ∷ b ∷ s
     go ua ub (Err f) xs y ys again e = absurd (cc)

@@ -1,5 +1,7 @@
 -- What is read from the text that is left of a line.
-use Rattle.std.proofs.Common.{◌≡◌, ℕ, zero, suc, ◌+◌, ◌-◌, ◌*◌, ◌^◌, ◌<◌, ◌≤◌, Bool, true, false, not, ◌==◌, ◌&&◌, IsTrue, List, [], ◌∷◌, ◌++◌, length, take, drop, get_or, slice_index, nat_le, nat_lt, Option, Some, None, ap, ap₂, sym, ◌∙◌, subst, refl, arith, if◌then◌else◌, unwrap_or, eqb-true, ltb-true, lt-ltb, take-append-drop}
+use Rattle.std.proofs.Common.{◌≡◌, ℕ, zero, suc, ◌+◌, ◌-◌, ◌*◌, ◌^◌, ◌<◌, ◌≤◌, Bool, true, false, not, ◌==◌, ◌&&◌, IsTrue, List, [], ◌∷◌, ◌++◌, length, take}
+use Rattle.std.proofs.Common.{drop, get_or, slice_index, nat_le, nat_lt, Option, Some, None, ap, ap₂, sym, ◌∙◌, subst, refl, arith, if◌then◌else◌, unwrap_or}
+use Rattle.std.proofs.Common.{eqb-true, ltb-true, lt-ltb, take-append-drop}
 use Rattle.std.proofs.Math.Seq.{take-suc}
 use Rattle.std.proofs.lemmas.Bool.{and_parts}
 use Rattle.std.proofs.lemmas.Bool.Decides.{nat_tests}
@@ -28,7 +30,8 @@ read-at c zero (x ∷ xs) ys inside none hit = ap (λ t. if t then Some ([], xs 
 read-at c (suc k) (x ∷ xs) ys inside none hit =
     let other : (x == c) ≡ false = differs (x == c) (none 0 (omega arith) (omega arith)) in
     ap (λ t. if t then Some ([], xs ++ ys) else option_map (λ read. (x ∷ read.0, read.1)) (until c (xs ++ ys))) other
-    ∙ ap (option_map (λ read. (x ∷ read.0, read.1))) (read-at c k xs ys (omega (arith, inside)) (λ j low high. none (suc j) (omega arith) (omega (arith, high))) hit)
+    ∙ ap (option_map (λ read. (x ∷ read.0, read.1))) (read-at c k xs ys (omega (arith, inside))
+    (λ j low high. none (suc j) (omega arith) (omega (arith, high))) hit)
 
 pub until-at : (c k : ℕ) (xs : List ℕ) → k < length xs → ((j : ℕ) → 0 ≤ j → j < k → (slice_index xs j == c) ≡ true → ⊥) → (slice_index xs k == c) ≡ true
     → Some (take k xs, take (length xs - (k + 1)) (drop (k + 1) xs) ++ 32 ∷ []) ≡ until c (xs ++ 32 ∷ [])
@@ -49,7 +52,8 @@ until-none c (x ∷ xs) none =
     ∙ ap (option_map (λ read. (x ∷ read.0, read.1))) (until-none c xs (λ j low high. none (suc j) (omega arith) (omega (arith, high))))
     ∙ longer (32 == c)
   where
-    longer : (t : Bool) → option_map {T = List ℕ × List ℕ} {U = List ℕ × List ℕ} (λ read. (x ∷ read.0, read.1)) (if t then Some (xs, []) else None) ≡ (if t then Some (x ∷ xs, []) else None)
+    longer : (t : Bool) → option_map {T = List ℕ × List ℕ} {U = List ℕ × List ℕ} (λ read. (x ∷ read.0, read.1)) (if t then Some (xs, []) else None)
+        ≡ (if t then Some (x ∷ xs, []) else None)
     longer true = refl
     longer false = refl
 
@@ -70,7 +74,8 @@ behind-less [] ys text e = absurd (cc)
 behind-less (x ∷ xs) ys [] e = refl
 behind-less (x ∷ xs) ys (c ∷ text) e = go (x == c) refl (λ h. behind-less xs ys text h) e
   where
-    go : (t : Bool) → (x == c) ≡ t → (behind xs text ≡ None → behind (xs ++ ys) text ≡ None) → (if t then behind xs text else None) ≡ None → behind (x ∷ (xs ++ ys)) (c ∷ text) ≡ None
+    go : (t : Bool) → (x == c) ≡ t → (behind xs text ≡ None → behind (xs ++ ys) text ≡ None) → (if t then behind xs text else None) ≡ None →
+        behind (x ∷ (xs ++ ys)) (c ∷ text) ≡ None
     go true is again e = ap (λ t. if t then behind (xs ++ ys) text else None) is ∙ again e
     go false is again e = ap (λ t. if t then behind (xs ++ ys) text else None) is
 
@@ -92,7 +97,8 @@ behind-ends prefix text now o i h e next none =
 
 -- ---- spaces
 
-pub spaces-more : (xs : List ℕ) (i : ℕ) → i < length xs → spaces (take (i + 1) xs) ≡ (if get_or xs i 0 == 32 then suc (spaces (take i xs)) else spaces (take i xs))
+pub spaces-more : (xs : List ℕ) (i : ℕ) → i < length xs → spaces (take (i + 1) xs)
+    ≡ (if get_or xs i 0 == 32 then suc (spaces (take i xs)) else spaces (take i xs))
 spaces-more xs i h =
     ap (λ z. spaces z) (one-more xs i h) ∙ spaces-append (take i xs) (get_or xs i 0 ∷ []) ∙ go (get_or xs i 0 == 32)
   where
@@ -135,7 +141,8 @@ no-number limit i word few inside other = go (number_of limit word) refl
         let below = ltb-true n limit x.0 in
         let small : n < 2 ^ 64 = omega (arith, below, few) in
         let value = ap (digits_value 10) x.1 ∙ (decimal_is_IsNumeral n small).1 in
-        let each : IsTrue (list_all (λ x. is_within 48 57 x) word) = subst (λ z. IsTrue (list_all (λ x. is_within 48 57 x) z)) (sym x.1) (number-within n small) in
+        let each : IsTrue (list_all (λ x. is_within 48 57 x) word) = subst (λ z. IsTrue (list_all (λ x. is_within 48 57 x) z)) (sym x.1)
+        (number-within n small) in
         let front = value-take word i in
         absurd (other (all-at (λ x. is_within 48 57 x) word i inside each) (omega (arith, value, below, front)))
 

@@ -1,5 +1,6 @@
 -- Texts that are written one after another.
-use Rattle.std.proofs.Common.{◌≡◌, ℕ, ◌+◌, Bool, true, false, not, Bor, List, ◌++◌, length, nat_le, ◌<◌, Option, Some, None, ap, ap₂, sym, ◌∙◌, refl, arith, append_assoc, length-append, if◌then◌else◌}
+use Rattle.std.proofs.Common.{◌≡◌, ℕ, ◌+◌, Bool, true, false, not, Bor, List, ◌++◌, length, nat_le, ◌<◌, Option, Some, None, ap, ap₂, sym, ◌∙◌, refl, arith}
+use Rattle.std.proofs.Common.{append_assoc, length-append, if◌then◌else◌}
 use Rattle.std.proofs.lemmas.Bool.{lt-leb, leb-false}
 use Rattle.std.specs.Prelude.{option_map, option_and_then, is_some}
 use Rattle.std.specs.Option.{option_copied}
@@ -35,25 +36,30 @@ pub puts-lost : {A : Type 0} (front : Front A) (text : A → List ℕ) (left lin
 puts-lost front text left line e = sym (ap (option_and_then (λ read. with_text (text read.0) read.1 line)) e)
 
 -- a text behind what was put
-pub puts-says : {A : Type 0} (front : Front A) (text : A → List ℕ) (more : List ℕ) (s : Putting) → says more (puts front text s) ≡ puts front (λ a. text a ++ more) s
+pub puts-says : {A : Type 0} (front : Front A) (text : A → List ℕ) (more : List ℕ) (s : Putting) → says more (puts front text s)
+    ≡ puts front (λ a. text a ++ more) s
 puts-says front text more None = refl
 puts-says {A} front text more (Some s) = go (front s.0)
   where
-    go : (o : Option (A × List ℕ)) → says more (option_and_then (λ read. with_text (text read.0) read.1 s.1) o) ≡ option_and_then (λ read. with_text (text read.0 ++ more) read.1 s.1) o
+    go : (o : Option (A × List ℕ)) → says more (option_and_then (λ read. with_text (text read.0) read.1 s.1) o)
+        ≡ option_and_then (λ read. with_text (text read.0 ++ more) read.1 s.1) o
     go None = refl
     go (Some read) = with_text-twice (text read.0) more read.1 s.1
 
 -- the same where it is known whether there is room for the first
-with_text-then : (x y left line : List ℕ) (t : Bool) → nat_le (length line + length x) longest_line ≡ t → says y (then_some t (left, line ++ x)) ≡ with_text (x ++ y) left line
+with_text-then : (x y left line : List ℕ) (t : Bool) → nat_le (length line + length x) longest_line ≡ t → says y (then_some t (left, line ++ x))
+    ≡ with_text (x ++ y) left line
 with_text-then x y left line t h = ap (λ t. says y (then_some t (left, line ++ x))) (sym h) ∙ with_text-twice x y left line
 
 -- a text before what is put
-pub says-puts : {A : Type 0} (front : Front A) (text : A → List ℕ) (lead : List ℕ) (s : Putting) → puts front text (says lead s) ≡ puts front (λ a. lead ++ text a) s
+pub says-puts : {A : Type 0} (front : Front A) (text : A → List ℕ) (lead : List ℕ) (s : Putting) → puts front text (says lead s)
+    ≡ puts front (λ a. lead ++ text a) s
 says-puts front text lead None = refl
 says-puts {A} front text lead (Some s) = go (nat_le (length s.1 + length lead) longest_line) refl
   where
     each : (o : Option (A × List ℕ)) → nat_le (length s.1 + length lead) longest_line ≡ true
-        → option_and_then {U = List ℕ × List ℕ} (λ read. with_text (text read.0) read.1 (s.1 ++ lead)) o ≡ option_and_then (λ read. with_text (lead ++ text read.0) read.1 s.1) o
+        → option_and_then {U = List ℕ × List ℕ} (λ read. with_text (text read.0) read.1 (s.1 ++ lead)) o
+        ≡ option_and_then (λ read. with_text (lead ++ text read.0) read.1 s.1) o
     each None h = refl
     each (Some read) h = with_text-then lead (text read.0) read.1 s.1 true h
 
@@ -82,7 +88,8 @@ pub puts-same : {A : Type 0} (front : Front A) (t u : A → List ℕ) → ((a : 
 puts-same front t u same None = refl
 puts-same {A} front t u same (Some s) = go (front s.0)
   where
-    go : (o : Option (A × List ℕ)) → option_and_then {U = List ℕ × List ℕ} (λ read. with_text (t read.0) read.1 s.1) o ≡ option_and_then (λ read. with_text (u read.0) read.1 s.1) o
+    go : (o : Option (A × List ℕ)) → option_and_then {U = List ℕ × List ℕ} (λ read. with_text (t read.0) read.1 s.1) o
+        ≡ option_and_then (λ read. with_text (u read.0) read.1 s.1) o
     go None = refl
     go (Some read) = ap (λ z. with_text z read.1 s.1) (same read.0)
 
@@ -91,7 +98,8 @@ pub puts-after : {A B : Type 0} (first : Front A) (second : A → Front B) (ta :
     → first s.0 ≡ Some (a, rest) → puts (second a) tb (says (ta a) (Some (rest, s.1))) ≡ puts (after first second) (λ p. ta p.0 ++ tb p.1) (Some s)
 puts-after {A} {B} first second ta tb s a rest e =
     says-puts (second a) tb (ta a) (Some (rest, s.1)) ∙ go (second a rest)
-    ∙ sym (ap (λ o. option_and_then (λ r. with_text (ta r.0.0 ++ tb r.0.1) r.1 s.1) (option_and_then {U = (A × B) × List ℕ} (λ read. made (λ b. (read.0, b)) (second read.0) read.1) o)) e)
+    ∙ sym (ap (λ o. option_and_then (λ r. with_text (ta r.0.0 ++ tb r.0.1) r.1 s.1)
+    (option_and_then {U = (A × B) × List ℕ} (λ read. made (λ b. (read.0, b)) (second read.0) read.1) o)) e)
   where
     go : (o : Option (B × List ℕ)) → option_and_then {U = List ℕ × List ℕ} (λ r. with_text (ta a ++ tb r.0) r.1 s.1) o
         ≡ option_and_then (λ r. with_text (ta r.0.0 ++ tb r.0.1) r.1 s.1) (option_map {U = (A × B) × List ℕ} (λ r. ((a, r.0), r.1)) o)
@@ -106,7 +114,8 @@ puts-both {A} {B} fa fb ta tb (Some s) = go (fa s.0) refl
     go : (o : Option (A × List ℕ)) → fa s.0 ≡ o → puts fb tb (puts fa ta (Some s)) ≡ puts (both fa fb) (λ p. ta p.0 ++ tb p.1) (Some s)
     go None e =
         ap (λ o. puts fb tb (option_and_then (λ read. with_text (ta read.0) read.1 s.1) o)) e
-        ∙ sym (ap (λ o. option_and_then (λ r. with_text (ta r.0.0 ++ tb r.0.1) r.1 s.1) (option_and_then {U = (A × B) × List ℕ} (λ read. made (λ b. (read.0, b)) fb read.1) o)) e)
+        ∙ sym (ap (λ o. option_and_then (λ r. with_text (ta r.0.0 ++ tb r.0.1) r.1 s.1)
+        (option_and_then {U = (A × B) × List ℕ} (λ read. made (λ b. (read.0, b)) fb read.1) o)) e)
     go (Some read) e =
         ap (λ o. puts fb tb (option_and_then (λ read. with_text (ta read.0) read.1 s.1) o)) e
         ∙ puts-after fa (λ _. fb) ta tb s read.0 read.1 e

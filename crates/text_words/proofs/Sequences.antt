@@ -1,5 +1,6 @@
 -- What is put one after another: what was taken first, lists, and lists of a number that was taken.
-use Rattle.std.proofs.Common.{◌≡◌, ℕ, suc, ◌+◌, ◌-◌, ◌≤◌, Bool, true, false, List, [], ◌∷◌, ◌++◌, Option, Some, None, ap, sym, ◌∙◌, refl, arith, append_assoc, append-nil}
+use Rattle.std.proofs.Common.{◌≡◌, ℕ, suc, ◌+◌, ◌-◌, ◌≤◌, Bool, true, false, List, [], ◌∷◌, ◌++◌, Option, Some, None, ap, sym, ◌∙◌, refl, arith, append_assoc}
+use Rattle.std.proofs.Common.{append-nil}
 use Rattle.std.specs.Prelude.{option_and_then, flat_map, is_none}
 use Rattle.std.specs.Bool.{then_some}
 use Rattle.wire_item.specs.Fronts.{Front, nothing_but, only_if, both, after, times, counted, by_code, front_of_code}
@@ -67,7 +68,8 @@ none-longer : {A : Type 0} (front : Front A) (n : ℕ) (start : List ℕ) → ti
 none-longer {A} front ℕ.zero start e = absurd (some-other (times front 0 start) ([], start) refl e)
 none-longer {A} front (ℕ.suc n) start e = go (λ start e. none-longer front n start e) (front start) refl
   where
-    go : ((start : List ℕ) → times front n start ≡ None → times front (suc n) start ≡ None) → (o : Option (A × List ℕ)) → front start ≡ o → times front (suc (suc n)) start ≡ None
+    go : ((start : List ℕ) → times front n start ≡ None → times front (suc n) start ≡ None) → (o : Option (A × List ℕ)) → front start ≡ o →
+        times front (suc (suc n)) start ≡ None
     go again None is = made-none (λ read. read.0 ∷ read.1) (both front (times front (suc n))) start (after-none front (λ _. times front (suc n)) start is)
     go again (Some read) is =
         times-first front (suc n) start read.0 read.1 is
@@ -95,10 +97,12 @@ times-put front lead text n None = refl
 times-put {A} front lead text n (Some s) = go (times front n s.0) refl
   where
     end : (xs : List A) (now : List ℕ) (o : Option (A × List ℕ)) → times front n s.0 ≡ Some (xs, now) → front now ≡ o
-        → option_and_then {U = List ℕ × List ℕ} (λ read. with_text (texts lead text xs ++ text read.0) read.1 s.1) (front now) ≡ option_and_then {U = List ℕ × List ℕ} (λ read. with_text (texts lead text read.0) read.1 s.1) (times front (suc n) s.0)
+        → option_and_then {U = List ℕ × List ℕ} (λ read. with_text (texts lead text xs ++ text read.0) read.1 s.1) (front now)
+        ≡ option_and_then {U = List ℕ × List ℕ} (λ read. with_text (texts lead text read.0) read.1 s.1) (times front (suc n) s.0)
     end xs now None is e =
         ap (option_and_then (λ read. with_text (texts lead text xs ++ text read.0) read.1 s.1)) e
-        ∙ sym (ap (λ o. option_and_then {U = List ℕ × List ℕ} (λ read. with_text (texts lead text read.0) read.1 s.1) o) (times-none front n (suc n) s.0 xs now is e (omega arith)))
+        ∙ sym (ap (λ o. option_and_then {U = List ℕ × List ℕ} (λ read. with_text (texts lead text read.0) read.1 s.1) o)
+        (times-none front n (suc n) s.0 xs now is e (omega arith)))
     end xs now (Some read) is e =
         let one : n + 1 ≡ suc n = omega arith in
         ap (option_and_then (λ read. with_text (texts lead text xs ++ text read.0) read.1 s.1)) e
@@ -106,7 +110,9 @@ times-put {A} front lead text n (Some s) = go (times front n s.0) refl
         ∙ sym (ap (λ o. option_and_then {U = List ℕ × List ℕ} (λ read. with_text (texts lead text read.0) read.1 s.1) o)
         (ap (λ k. times front k s.0) (sym one) ∙ times-more front n s.0 xs now read.0 read.1 is e))
 
-    go : (o : Option (List A × List ℕ)) → times front n s.0 ≡ o → puts front text (option_and_then {U = List ℕ × List ℕ} (λ read. with_text (texts lead text read.0) read.1 s.1) (times front n s.0)) ≡ option_and_then {U = List ℕ × List ℕ} (λ read. with_text (texts lead text read.0) read.1 s.1) (times front (suc n) s.0)
+    go : (o : Option (List A × List ℕ)) → times front n s.0 ≡ o →
+        puts front text (option_and_then {U = List ℕ × List ℕ} (λ read. with_text (texts lead text read.0) read.1 s.1) (times front n s.0))
+        ≡ option_and_then {U = List ℕ × List ℕ} (λ read. with_text (texts lead text read.0) read.1 s.1) (times front (suc n) s.0)
     go None is =
         ap (λ o. puts front text (option_and_then (λ read. with_text (texts lead text read.0) read.1 s.1) o)) is
         ∙ sym (ap (option_and_then (λ read. with_text (texts lead text read.0) read.1 s.1)) (none-longer front n s.0 is))
@@ -141,7 +147,8 @@ counted-read {A} number front left n mid e = go (times front n mid) refl
     go (Some read) is =
         made-read (λ read. read.1) (after number (times front)) left (n, read.0) read.1 (after-then number (times front) left n mid read.0 read.1 e is) ∙ sym is
 
-pub counted-put : {A : Type 0} (number : Front ℕ) (front : Front A) (text : List A → List ℕ) (old : Option (List ℕ)) (n : ℕ) (new : Option (List ℕ)) (line : List ℕ)
+pub counted-put : {A : Type 0} (number : Front ℕ) (front : Front A) (text : List A → List ℕ) (old : Option (List ℕ)) (n : ℕ) (new : Option (List ℕ))
+    (line : List ℕ)
     → TakesNext number old (Some n) new → puts (times front n) text (putting new line) ≡ puts (counted number (times front)) text (putting old line)
 counted-put number front text old n new line h =
     let x = next-some number old n new h in
@@ -153,11 +160,13 @@ pub counted-lost : {A : Type 0} (number : Front ℕ) (front : Front A) (test : L
     → TakesNext number old None new → putting new line ≡ puts (only_if test (counted number (times front))) text (putting old line)
 counted-lost number front test text old new line h =
     next-none number (only_if test (counted number (times front))) text
-    (λ left e. only_if-none test (counted number (times front)) left (made-none (λ read. read.1) (after number (times front)) left (after-none number (times front) left e)))
+    (λ left e. only_if-none test (counted number (times front)) left
+    (made-none (λ read. read.1) (after number (times front)) left (after-none number (times front) left e)))
     old new line h
 
 -- the same where the things are tested, which their number decides
-pub counted-tested : {A : Type 0} (number : Front ℕ) (front : Front A) (test : List A → Bool) (text : List A → List ℕ) (old : Option (List ℕ)) (n : ℕ) (new : Option (List ℕ)) (line : List ℕ)
+pub counted-tested : {A : Type 0} (number : Front ℕ) (front : Front A) (test : List A → Bool) (text : List A → List ℕ) (old : Option (List ℕ)) (n : ℕ)
+    (new : Option (List ℕ)) (line : List ℕ)
     → TakesNext number old (Some n) new → ((mid : List ℕ) (xs : List A) (rest : List ℕ) → times front n mid ≡ Some (xs, rest) → test xs ≡ true)
     → puts (times front n) text (putting new line) ≡ puts (only_if test (counted number (times front))) text (putting old line)
 counted-tested {A} number front test text old n new line h passes =
@@ -166,12 +175,15 @@ counted-tested {A} number front test text old n new line h passes =
     ∙ sym (ap (option_and_then (λ read. with_text (text read.0) read.1 line)) (go x.left x.rest x.reads (times front n x.rest) refl))
     ∙ ap (λ o. puts (only_if test (counted number (times front))) text (putting o line)) (sym x.from)
   where
-    go : (left rest : List ℕ) → number left ≡ Some (n, rest) → (o : Option (List A × List ℕ)) → times front n rest ≡ o → only_if test (counted number (times front)) left ≡ times front n rest
+    go : (left rest : List ℕ) → number left ≡ Some (n, rest) → (o : Option (List A × List ℕ)) → times front n rest ≡ o →
+        only_if test (counted number (times front)) left ≡ times front n rest
     go left rest e None is = only_if-none test (counted number (times front)) left (counted-read number front left n rest e ∙ is) ∙ sym is
     go left rest e (Some read) is =
-        only_if-read test (counted number (times front)) left read.0 read.1 (counted-read number front left n rest e ∙ is) (passes rest read.0 read.1 is) ∙ sym is
+        only_if-read test (counted number (times front)) left read.0 read.1 (counted-read number front left n rest e ∙ is) (passes rest read.0 read.1 is)
+        ∙ sym is
 
-pub counted-refused : {A : Type 0} (number : Front ℕ) (front : Front A) (test : List A → Bool) (text : List A → List ℕ) (old : Option (List ℕ)) (n : ℕ) (new : Option (List ℕ)) (line : List ℕ)
+pub counted-refused : {A : Type 0} (number : Front ℕ) (front : Front A) (test : List A → Bool) (text : List A → List ℕ) (old : Option (List ℕ)) (n : ℕ)
+    (new : Option (List ℕ)) (line : List ℕ)
     → TakesNext number old (Some n) new → ((mid : List ℕ) (xs : List A) (rest : List ℕ) → times front n mid ≡ Some (xs, rest) → test xs ≡ false)
     → None ≡ puts (only_if test (counted number (times front))) text (putting old line)
 counted-refused {A} number front test text old n new line h fails =
@@ -179,13 +191,15 @@ counted-refused {A} number front test text old n new line h fails =
     sym (ap (λ o. puts (only_if test (counted number (times front))) text (putting o line)) x.from
     ∙ ap (option_and_then (λ read. with_text (text read.0) read.1 line)) (go x.left x.rest x.reads (times front n x.rest) refl))
   where
-    go : (left rest : List ℕ) → number left ≡ Some (n, rest) → (o : Option (List A × List ℕ)) → times front n rest ≡ o → only_if test (counted number (times front)) left ≡ None
+    go : (left rest : List ℕ) → number left ≡ Some (n, rest) → (o : Option (List A × List ℕ)) → times front n rest ≡ o →
+        only_if test (counted number (times front)) left ≡ None
     go left rest e None is = only_if-none test (counted number (times front)) left (counted-read number front left n rest e ∙ is)
     go left rest e (Some read) is =
         only_if-fails test (counted number (times front)) left read.0 read.1 (counted-read number front left n rest e ∙ is) (fails rest read.0 read.1 is)
 
 -- where the number passes, the things are tested by their order alone
-pub counted-ordered : {A : Type 0} (number : Front ℕ) (front : Front A) (test ascends : List A → Bool) (text : List A → List ℕ) (old : Option (List ℕ)) (n : ℕ) (new : Option (List ℕ)) (line : List ℕ)
+pub counted-ordered : {A : Type 0} (number : Front ℕ) (front : Front A) (test ascends : List A → Bool) (text : List A → List ℕ) (old : Option (List ℕ))
+    (n : ℕ) (new : Option (List ℕ)) (line : List ℕ)
     → TakesNext number old (Some n) new → ((mid : List ℕ) (xs : List A) (rest : List ℕ) → times front n mid ≡ Some (xs, rest) → test xs ≡ ascends xs)
     → puts (only_if ascends (times front n)) text (putting new line) ≡ puts (only_if test (counted number (times front))) text (putting old line)
 counted-ordered {A} number front test ascends text old n new line h same =
@@ -211,7 +225,8 @@ puts-read-same front t u same None = refl
 puts-read-same {A} front t u same (Some s) = go (front s.0) refl
   where
     go : (o : Option (A × List ℕ)) → front s.0 ≡ o
-        → option_and_then {U = List ℕ × List ℕ} (λ read. with_text (t read.0) read.1 s.1) (front s.0) ≡ option_and_then (λ read. with_text (u read.0) read.1 s.1) (front s.0)
+        → option_and_then {U = List ℕ × List ℕ} (λ read. with_text (t read.0) read.1 s.1) (front s.0)
+        ≡ option_and_then (λ read. with_text (u read.0) read.1 s.1) (front s.0)
     go None e =
         ap (option_and_then (λ read. with_text (t read.0) read.1 s.1)) e ∙ sym (ap (option_and_then (λ read. with_text (u read.0) read.1 s.1)) e)
     go (Some read) e =

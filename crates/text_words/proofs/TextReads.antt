@@ -1,5 +1,6 @@
 -- Fronts that read all of a text.
-use Rattle.std.proofs.Common.{◌≡◌, ℕ, suc, ◌+◌, Bool, true, false, not, ◌==◌, ◌&&◌, IsTrue, List, [], ◌∷◌, ◌++◌, length, Option, Some, None, ap, sym, ◌∙◌, subst, refl, arith, eqb-true, eq-eqb, append_assoc, append-nil, if◌then◌else◌}
+use Rattle.std.proofs.Common.{◌≡◌, ℕ, suc, ◌+◌, Bool, true, false, not, ◌==◌, ◌&&◌, IsTrue, List, [], ◌∷◌, ◌++◌, length, Option, Some, None, ap, sym, ◌∙◌}
+use Rattle.std.proofs.Common.{subst, refl, arith, eqb-true, eq-eqb, append_assoc, append-nil, if◌then◌else◌}
 use Rattle.std.proofs.lemmas.Bool.{and_parts, and_from, not-true}
 use Rattle.std.specs.Prelude.{flat_map, map}
 use Rattle.std.specs.List.{list_all}
@@ -107,7 +108,8 @@ behind-source [] text rest e = ap (λ o. Rattle.std.proofs.Common.unwrap_or o te
 behind-source (p ∷ prefix) [] rest e = absurd (cc)
 behind-source (p ∷ prefix) (c ∷ text) rest e = go (p == c) refl (λ h. behind-source prefix text rest h) e
   where
-    go : (t : Bool) → (p == c) ≡ t → (behind prefix text ≡ Some rest → text ≡ prefix ++ rest) → (if t then behind prefix text else None) ≡ Some rest → c ∷ text ≡ p ∷ (prefix ++ rest)
+    go : (t : Bool) → (p == c) ≡ t → (behind prefix text ≡ Some rest → text ≡ prefix ++ rest) → (if t then behind prefix text else None) ≡ Some rest → c
+        ∷ text ≡ p ∷ (prefix ++ rest)
     go true same ih e = ap (λ z. z ∷ text) (sym (eqb-true p c same)) ∙ ap (λ z. p ∷ z) (ih e)
     go false same ih e = absurd (cc)
 
@@ -120,13 +122,15 @@ abbrev pub RowsReadAll : {A : Type 0} → (A → Bool) → (A → List ℕ) → 
 RowsReadAll valid text lead [] = Unit {0}
 RowsReadAll valid text lead (row ∷ rows) = RowReadsAll valid text (lead ++ row.0) row.1 × RowsReadAll valid text lead rows
 
-pub row-all-nothing_but : {A : Type 0} (valid : A → Bool) (text : A → List ℕ) (prefix : List ℕ) (a : A) → IsTrue (valid a) → prefix ++ [] ≡ text a → RowReadsAll valid text prefix (nothing_but a)
+pub row-all-nothing_but : {A : Type 0} (valid : A → Bool) (text : A → List ℕ) (prefix : List ℕ) (a : A) → IsTrue (valid a) → prefix ++ [] ≡ text a →
+    RowReadsAll valid text prefix (nothing_but a)
 row-all-nothing_but valid text prefix a v s t x e =
     let parts = some-parts a x t [] e in
     subst (λ z. IsTrue (valid z) × (prefix ++ t ≡ text z)) parts.0 (v, ap (λ z. prefix ++ z) parts.1 ∙ s)
 
 pub row-all-made : {A B : Type 0} {v : A → Bool} {s : A → List ℕ} {front : Front A} (valid : B → Bool) (text : B → List ℕ) (prefix : List ℕ) (to : A → B)
-    → ReadsAll v s front → ((a : A) → IsTrue (v a) → IsTrue (valid (to a))) → ((a : A) → prefix ++ s a ≡ text (to a)) → RowReadsAll valid text prefix (made to front)
+    → ReadsAll v s front → ((a : A) → IsTrue (v a) → IsTrue (valid (to a))) → ((a : A) → prefix ++ s a ≡ text (to a)) →
+    RowReadsAll valid text prefix (made to front)
 row-all-made {A} {B} {v} {s} {front} valid text prefix to reads valid-to text-to t b e =
     let m = made-source to front t b [] e in
     let x = reads.only t m.source m.reads in
@@ -161,7 +165,8 @@ either-row {A} valid text lead first second f g t a e = go (first t) refl e
 pub either-first : {A : Type 0} (first second : Front A) (t : List ℕ) (a : A) → first t ≡ Some (a, []) → either first second t ≡ Some (a, [])
 either-first first second t a e = ap (λ o. or_else o (second t)) e
 
-pub ends-row : {A : Type 0} (valid : A → Bool) (text : A → List ℕ) (lead : List ℕ) (a : A) → IsTrue (valid a) → lead ++ [] ≡ text a → RowReadsAll valid text lead (ends a)
+pub ends-row : {A : Type 0} (valid : A → Bool) (text : A → List ℕ) (lead : List ℕ) (a : A) → IsTrue (valid a) → lead ++ [] ≡ text a →
+    RowReadsAll valid text lead (ends a)
 ends-row valid text lead a v s [] b e = let parts = some-parts a b [] [] e in subst (λ z. IsTrue (valid z) × (lead ++ [] ≡ text z)) parts.0 (v, s)
 ends-row valid text lead a v s (c ∷ t) b e = absurd (cc)
 
@@ -199,7 +204,8 @@ push-same : (xs ys : List ℕ) (c : ℕ) → xs ++ c ∷ [] ≡ ys ++ c ∷ [] �
 push-same xs ys c e = sym (without-last-push xs c) ∙ ap without-last e ∙ without-last-push ys c
 
 -- lines that are read with a space behind them
-pub one_line : {A : Type 0} {valid : A → Bool} (written text : A → List ℕ) {front : Front A} → ReadsAll valid text front → ((a : A) → written a ++ 32 ∷ [] ≡ text a)
+pub one_line : {A : Type 0} {valid : A → Bool} (written text : A → List ℕ) {front : Front A} → ReadsAll valid text front →
+    ((a : A) → written a ++ 32 ∷ [] ≡ text a)
     → HasOneLine valid written (λ bytes. whole front (bytes ++ 32 ∷ []))
 one_line {A} {valid} written text {front} reads same = record {
   read_back = λ a h. back (written a) a (h, refl);
@@ -221,7 +227,8 @@ one_line {A} {valid} written text {front} reads same = record {
     differ : (a : A) → ◌≡◌ {A = Option A} None (Some a) → ⊥
     differ a e = absurd (cc)
 
-    unread : (bytes : List ℕ) (o : Option A) → whole front (bytes ++ 32 ∷ []) ≡ o → ((a : A) → Spells valid written bytes a → ⊥) → whole front (bytes ++ 32 ∷ []) ≡ None
+    unread : (bytes : List ℕ) (o : Option A) → whole front (bytes ++ 32 ∷ []) ≡ o → ((a : A) → Spells valid written bytes a → ⊥) →
+        whole front (bytes ++ 32 ∷ []) ≡ None
     unread bytes None e h = e
     unread bytes (Some a) e h = absurd (h a (forth bytes a e))
 
@@ -257,7 +264,8 @@ reads-behind {A} {v} {s} {front} prefix fine reads = record {
   bytes = λ a h. are_bytes-append prefix (s a) fine (reads.bytes a h);
 }
   where
-    go : (t : List ℕ) (o : Option (List ℕ)) → behind prefix t ≡ o → (a : A) (rest : List ℕ) → read_behind front o None ≡ Some (a, rest) → IsTrue (v a) × (t ≡ (prefix ++ s a) ++ rest)
+    go : (t : List ℕ) (o : Option (List ℕ)) → behind prefix t ≡ o → (a : A) (rest : List ℕ) → read_behind front o None ≡ Some (a, rest) → IsTrue (v a)
+        × (t ≡ (prefix ++ s a) ++ rest)
     go t None is a rest e = absurd (cc)
     go t (Some more) is a rest e =
         let x = reads.only more a rest e in

@@ -1,5 +1,6 @@
 -- The bytes before a byte that ends them.
-use Rattle.std.proofs.Common.{◌≡◌, ℕ, Bool, true, false, not, ◌==◌, IsTrue, List, [], ◌∷◌, ◌++◌, Option, Some, None, ap, sym, ◌∙◌, subst, refl, eqb-true, eq-eqb, append_assoc, if◌then◌else◌}
+use Rattle.std.proofs.Common.{◌≡◌, ℕ, Bool, true, false, not, ◌==◌, IsTrue, List, [], ◌∷◌, ◌++◌, Option, Some, None, ap, sym, ◌∙◌, subst, refl, eqb-true}
+use Rattle.std.proofs.Common.{eq-eqb, append_assoc, if◌then◌else◌}
 use Rattle.std.proofs.lemmas.Bool.{and_parts, and_from, not-true}
 use Rattle.std.specs.Prelude.{option_map, option_and_then}
 use Rattle.tardis_base.specs.Valid.{are_bytes}
@@ -53,10 +54,12 @@ pub record Parsed {A : Type 0} (parse : Word → Option A) (c : ℕ) (text : Lis
   pub ended : Ended c text word rest
   pub parses : parse word ≡ Some a
 
-pub parsed-source : {A : Type 0} (parse : Word → Option A) (c : ℕ) (text : List ℕ) (a : A) (rest : List ℕ) → parsed parse c text ≡ Some (a, rest) → Parsed parse c text a rest
+pub parsed-source : {A : Type 0} (parse : Word → Option A) (c : ℕ) (text : List ℕ) (a : A) (rest : List ℕ) → parsed parse c text ≡ Some (a, rest) →
+    Parsed parse c text a rest
 parsed-source {A} parse c text a rest e = go (until c text) refl e
   where
-    found : (read : List ℕ × List ℕ) (o : Option A) → until c text ≡ Some read → parse read.0 ≡ o → option_map {U = A × List ℕ} (λ a. (a, read.1)) o ≡ Some (a, rest) → Parsed parse c text a rest
+    found : (read : List ℕ × List ℕ) (o : Option A) → until c text ≡ Some read → parse read.0 ≡ o → option_map {U = A × List ℕ} (λ a. (a, read.1)) o
+        ≡ Some (a, rest) → Parsed parse c text a rest
     found read None is from e = absurd (cc)
     found read (Some b) is from e =
         let parts = some-parts b a read.1 rest e in
@@ -66,7 +69,8 @@ parsed-source {A} parse c text a rest e = go (until c text) refl e
           parses = from ∙ ap Some parts.0;
         }
 
-    go : (o : Option (List ℕ × List ℕ)) → until c text ≡ o → option_and_then {U = A × List ℕ} (λ read. option_map {U = A × List ℕ} (λ a. (a, read.1)) (parse read.0)) o ≡ Some (a, rest) → Parsed parse c text a rest
+    go : (o : Option (List ℕ × List ℕ)) → until c text ≡ o →
+        option_and_then {U = A × List ℕ} (λ read. option_map {U = A × List ℕ} (λ a. (a, read.1)) (parse read.0)) o ≡ Some (a, rest) → Parsed parse c text a rest
     go None is e = absurd (cc)
     go (Some read) is e = found read (parse read.0) is refl e
 

@@ -1,5 +1,7 @@
 -- Numbers, ids and byte lists are read as they are written.
-use Rattle.std.proofs.Common.{◌≡◌, ℕ, zero, suc, ◌/◌, ◌%◌, ◌^◌, ◌<◌, Bool, true, false, not, ◌==◌, ◌&&◌, IsTrue, inl, inr, List, [], ◌∷◌, ◌++◌, slice_index, nat_lt, Option, Some, None, Result, Ok, Err, ap, sym, ◌∙◌, subst, refl, arith, eqb-true, ltb-true, append_assoc, if◌then◌else◌, unwrap_or}
+use Rattle.std.proofs.Common.{◌≡◌, ℕ, zero, suc, ◌/◌, ◌%◌, ◌^◌, ◌<◌, Bool, true, false, not, ◌==◌, ◌&&◌, IsTrue, inl, inr, List, [], ◌∷◌, ◌++◌, slice_index}
+use Rattle.std.proofs.Common.{nat_lt, Option, Some, None, Result, Ok, Err, ap, sym, ◌∙◌, subst, refl, arith, eqb-true, ltb-true, append_assoc, if◌then◌else◌}
+use Rattle.std.proofs.Common.{unwrap_or}
 use Rattle.std.proofs.lemmas.Bool.{and_parts, and_from, not-true, cases_lt}
 use Rattle.std.proofs.lemmas.Fmt.{decimal_is_IsNumeral}
 use Rattle.std.proofs.lemmas.Slice.Eq.{bytes_eq-Decides}
@@ -41,7 +43,8 @@ pub number-back : (limit n : ℕ) → n < 2 ^ 64 → IsTrue (nat_lt n limit) →
 number-back limit n small h =
     let e : digits_value 10 (number_word n) ≡ n = (decimal_is_IsNumeral n small).1 in
     ap (λ m. then_some (nat_lt m limit && bytes_eq (number_word m) (number_word n)) m) e
-    ∙ ap (λ t. then_some t n) (and_from (nat_lt n limit) (bytes_eq (number_word n) (number_word n)) h ((bytes_eq-Decides (number_word n) (number_word n)).1 refl))
+    ∙ ap (λ t. then_some t n) (and_from (nat_lt n limit) (bytes_eq (number_word n) (number_word n)) h
+    ((bytes_eq-Decides (number_word n) (number_word n)).1 refl))
 
 pub number-only : (limit : ℕ) (w : Word) (n : ℕ) → number_of limit w ≡ Some n → IsTrue (nat_lt n limit) × (w ≡ number_word n)
 number-only limit w n e =
@@ -133,7 +136,8 @@ hex-within (b ∷ bs) h =
     let parts = and_parts (nat_lt b 256) (are_bytes bs) h in
     let small = ltb-true b 256 parts.0 in
     let rest : Bool = list_all (λ x. is_within 48 102 x) (encode_with lower_digits bs) in
-    and_from (is_within 48 102 (slice_index lower_digits (b / 16))) (is_within 48 102 (slice_index lower_digits (b % 16)) && rest) (glyph (b / 16) (omega arith))
+    and_from (is_within 48 102 (slice_index lower_digits (b / 16))) (is_within 48 102 (slice_index lower_digits (b % 16)) && rest)
+    (glyph (b / 16) (omega arith))
     (and_from (is_within 48 102 (slice_index lower_digits (b % 16))) rest (glyph (b % 16) (omega arith)) (hex-within bs parts.1))
 
 pub hex-back : (bs : List ℕ) → IsTrue (are_bytes bs) → hex_bytes (hex_word bs) ≡ Some bs
@@ -188,7 +192,8 @@ pub byte-only : (w : Word) (bs : List ℕ) → word_bytes w ≡ Some bs → IsTr
 byte-only [] bs e = absurd (cc)
 byte-only (c ∷ w) bs e = go (c == 35) refl e
   where
-    go : (t : Bool) → (c == 35) ≡ t → (if t then unless_plain (hex_bytes w) else then_some (are_printed (c ∷ w)) (c ∷ w)) ≡ Some bs → IsTrue (are_bytes bs) × (c ∷ w ≡ byte_word bs)
+    go : (t : Bool) → (c == 35) ≡ t → (if t then unless_plain (hex_bytes w) else then_some (are_printed (c ∷ w)) (c ∷ w)) ≡ Some bs → IsTrue (are_bytes bs)
+        × (c ∷ w ≡ byte_word bs)
     go true is e =
         let x = unless_plain-source (hex_bytes w) bs e in
         let y = hex-only w bs x.0 in
@@ -232,7 +237,8 @@ reads-spelled {A} {valid} {spelling} {front} r = reads-parsed (record {
   end = refl;
 })
   where
-    go : (w : Word) (o : Option (List ℕ)) → hex_bytes w ≡ o → (a : A) → option_and_then (whole front) o ≡ Some a → IsTrue (valid a) × (w ≡ hex_word (spelling a))
+    go : (w : Word) (o : Option (List ℕ)) → hex_bytes w ≡ o → (a : A) → option_and_then (whole front) o ≡ Some a → IsTrue (valid a)
+        × (w ≡ hex_word (spelling a))
     go w None is a e = absurd (cc)
     go w (Some bs) is a e =
         let x = whole-spelled r bs a e in

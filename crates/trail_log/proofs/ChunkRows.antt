@@ -1,5 +1,6 @@
 -- Bytes in chunks.
-use Rattle.std.proofs.Common.{◌≡◌, ℕ, ◌+◌, ◌-◌, ◌<◌, List, [], ◌∷◌, ◌++◌, length, get_or, set, take, drop, refl, sym, ap, ◌∙◌, subst, arith, append_assoc, append-nil, add-one}
+use Rattle.std.proofs.Common.{◌≡◌, ℕ, ◌+◌, ◌-◌, ◌<◌, List, [], ◌∷◌, ◌++◌, length, get_or, set, take, drop, refl, sym, ap, ◌∙◌, subst, arith, append_assoc}
+use Rattle.std.proofs.Common.{append-nil, add-one}
 use Rattle.std.specs.List.{concat}
 use Rattle.trail_log.specs.Frames.{room_behind}
 
@@ -26,12 +27,14 @@ room_last (c ∷ b ∷ cs) ℕ.zero x long is = absurd (omega arith)
 room_last (c ∷ b ∷ cs) (ℕ.suc k) x long is = room_last (b ∷ cs) k x (omega arith) is
 
 -- more bytes in the last chunk are behind all others
-pub concat_last : (chunks : List (List ℕ)) (k : ℕ) (x more : List ℕ) → length chunks ≡ ℕ.suc k → x ≡ get_or chunks k x → concat (set chunks k (x ++ more)) ≡ concat chunks ++ more
+pub concat_last : (chunks : List (List ℕ)) (k : ℕ) (x more : List ℕ) → length chunks ≡ ℕ.suc k → x ≡ get_or chunks k x → concat (set chunks k (x ++ more))
+    ≡ concat chunks ++ more
 concat_last [] k x more long is = absurd (omega arith)
 concat_last (c ∷ []) ℕ.zero x more long is = append-nil (x ++ more) ∙ ap (λ t. t ++ more) (is ∙ sym (append-nil c))
 concat_last (c ∷ []) (ℕ.suc k) x more long is = absurd (omega arith)
 concat_last (c ∷ b ∷ cs) ℕ.zero x more long is = absurd (omega arith)
-concat_last (c ∷ b ∷ cs) (ℕ.suc k) x more long is = ap (λ t. c ++ t) (concat_last (b ∷ cs) k x more (omega arith) is) ∙ sym (append_assoc c (concat (b ∷ cs)) more)
+concat_last (c ∷ b ∷ cs) (ℕ.suc k) x more long is = ap (λ t. c ++ t) (concat_last (b ∷ cs) k x more (omega arith) is)
+    ∙ sym (append_assoc c (concat (b ∷ cs)) more)
 
 pub room_set : (chunks : List (List ℕ)) (k : ℕ) (x : List ℕ) → length chunks ≡ ℕ.suc k → room_behind (set chunks k x) ≡ 1048580 - length x
 room_set [] k x long = absurd (omega arith)
@@ -44,12 +47,15 @@ room_set (c ∷ b ∷ a ∷ cs) (ℕ.suc ℕ.zero) x long = absurd (omega arith)
 room_set (c ∷ b ∷ a ∷ cs) (ℕ.suc (ℕ.suc k)) x long = room_set (b ∷ a ∷ cs) (ℕ.suc k) x (omega arith)
 
 -- the chunks before one, that one, and those behind it
-pub concat_at : (chunks : List (List ℕ)) (i : ℕ) (x : List ℕ) → i < length chunks → x ≡ get_or chunks i x → concat (take i chunks) ++ (x ++ concat (drop (ℕ.suc i) chunks)) ≡ concat chunks
+pub concat_at : (chunks : List (List ℕ)) (i : ℕ) (x : List ℕ) → i < length chunks → x ≡ get_or chunks i x → concat (take i chunks)
+    ++ (x ++ concat (drop (ℕ.suc i) chunks)) ≡ concat chunks
 concat_at [] i x within is = absurd (omega arith)
 concat_at (c ∷ cs) ℕ.zero x within is = ap (λ t. t ++ concat cs) is
-concat_at (c ∷ cs) (ℕ.suc i) x within is = append_assoc c (concat (take i cs)) (x ++ concat (drop (ℕ.suc i) cs)) ∙ ap (λ t. c ++ t) (concat_at cs i x (omega arith) is)
+concat_at (c ∷ cs) (ℕ.suc i) x within is = append_assoc c (concat (take i cs)) (x ++ concat (drop (ℕ.suc i) cs))
+    ∙ ap (λ t. c ++ t) (concat_at cs i x (omega arith) is)
 
-pub concat_next : (chunks : List (List ℕ)) (i : ℕ) (x : List ℕ) → i < length chunks → x ≡ get_or chunks i x → concat (take (ℕ.suc i) chunks) ≡ concat (take i chunks) ++ x
+pub concat_next : (chunks : List (List ℕ)) (i : ℕ) (x : List ℕ) → i < length chunks → x ≡ get_or chunks i x → concat (take (ℕ.suc i) chunks)
+    ≡ concat (take i chunks) ++ x
 concat_next [] i x within is = absurd (omega arith)
 concat_next (c ∷ cs) ℕ.zero x within is = append-nil c ∙ sym is
 concat_next (c ∷ cs) (ℕ.suc i) x within is = ap (λ t. c ++ t) (concat_next cs i x (omega arith) is) ∙ sym (append_assoc c (concat (take i cs)) x)
@@ -62,7 +68,8 @@ given_next before now after chunks i x within is was more =
     (more ∙ (ap (λ t. t ++ x) was ∙ (append_assoc before (concat (take i chunks)) x ∙ ap (λ t. before ++ t) (sym (concat_next chunks i x within is)))))
 
 -- what was given where a chunk was given in part
-pub given_part : (before now after bytes : List ℕ) (chunks : List (List ℕ)) (i : ℕ) (x : List ℕ) → i < length chunks → x ≡ get_or chunks i x → concat chunks ≡ bytes
+pub given_part : (before now after bytes : List ℕ) (chunks : List (List ℕ)) (i : ℕ) (x : List ℕ) → i < length chunks → x ≡ get_or chunks i x →
+    concat chunks ≡ bytes
     → now ≡ before ++ concat (take i chunks) → (lost : List ℕ) × (after ++ lost ≡ now ++ x) → (lost : List ℕ) × (after ++ lost ≡ before ++ bytes)
 given_part before now after bytes chunks i x within is all was (lost, part) =
     let rest = concat (drop (ℕ.suc i) chunks) in (

@@ -32,8 +32,10 @@ entry_first n e rest is =
     let body = body_of e in
     let says : word (frame body ++ rest) ≡ length body = word-frame body rest (body_fits e is) in
     let behind : drop 4 (frame body ++ rest) ≡ body ++ rest = refl in
-    let first : take (word (frame body ++ rest)) (drop 4 (frame body ++ rest)) ≡ body = ap (λ k. take k (body ++ rest)) says ∙ take_at body rest (length body) refl in
-    let others : drop (4 + word (frame body ++ rest)) (frame body ++ rest) ≡ rest = ap (λ k. drop (4 + k) (frame body ++ rest)) says ∙ drop_at (frame body) rest (4 + length body) (length-frame body) in
+    let first : take (word (frame body ++ rest)) (drop 4 (frame body ++ rest)) ≡ body = ap (λ k. take k (body ++ rest)) says
+    ∙ take_at body rest (length body) refl in
+    let others : drop (4 + word (frame body ++ rest)) (frame body ++ rest) ≡ rest = ap (λ k. drop (4 + k) (frame body ++ rest)) says
+    ∙ drop_at (frame body) rest (4 + length body) (length-frame body) in
     let head : event_of (take (word (frame body ++ rest)) (drop 4 (frame body ++ rest))) ≡ e = ap event_of first ∙ event_of_body e is.0 in
     λ i. head i ∷ entries_within n (others i)
 
@@ -59,7 +61,8 @@ all_more (x ∷ xs) e all is = (all.0, all_more xs e all.1 is)
 
 frames_more : (es : List Event) (e : Event) → trail_frames (es ++ e ∷ []) ≡ trail_frames es ++ frame (body_of e)
 frames_more es e =
-    ap frames (map-append body_of es (e ∷ [])) ∙ (flat_map-append frame (map body_of es) (body_of e ∷ []) ∙ ap (λ t. trail_frames es ++ t) (append-nil (frame (body_of e))))
+    ap frames (map-append body_of es (e ∷ [])) ∙ (flat_map-append frame (map body_of es) (body_of e ∷ [])
+    ∙ ap (λ t. trail_frames es ++ t) (append-nil (frame (body_of e))))
 
 -- one more entry
 pub entry_more : (bytes : List ℕ) (e : Event) → IsTrail bytes → IsEntry e → entries_of (bytes ++ frame (body_of e)) ≡ entries_of bytes ++ e ∷ []

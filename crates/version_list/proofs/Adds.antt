@@ -1,5 +1,6 @@
 -- Lists added for the last of ascending writes, and so for all of them in turn.
-use Rattle.std.proofs.Common.{◌≡◌, ◌<◌, ℕ, map, Bool, true, false, not, nat_lt, List, [], ◌∷◌, ◌++◌, Option, Some, None, length, refl, sym, ◌∙◌, ap, subst, inl, inr, arith}
+use Rattle.std.proofs.Common.{◌≡◌, ◌<◌, ℕ, map, Bool, true, false, not, nat_lt, List, [], ◌∷◌, ◌++◌, Option, Some, None, length, refl, sym, ◌∙◌, ap, subst}
+use Rattle.std.proofs.Common.{inl, inr, arith}
 use Rattle.std.specs.List.{list_all}
 use Rattle.std.specs.Map.{lookup}
 use Rattle.std.specs.Option.{option_map_or}
@@ -86,7 +87,8 @@ module _ (old new : Lists) (w : KeyWrite) (others : (k : List ℕ) → bytes_eq 
       → versions_in new k ++ version_by slot writer (write_of k ws) ≡ all
   added-step slot writer ws k all other added all_is =
       elim (cases_Bool (bytes_eq w.0 k)) [
-        | inl t ↦ subst (λ j. versions_in old j ++ version_by slot writer (write_of j (ws ++ w ∷ [])) ≡ all → versions_in new j ++ version_by slot writer (write_of j ws) ≡ all)
+        | inl t ↦ subst (λ j. versions_in old j ++ version_by slot writer (write_of j (ws ++ w ∷ [])) ≡ all → versions_in new j
+            ++ version_by slot writer (write_of j ws) ≡ all)
             ((bytes_eq-Decides w.0 k).0 t)
             (λ here.
             ap (λ o. versions_in new w.0 ++ version_by slot writer o) (write_of-none w.0 ws other)
@@ -112,7 +114,8 @@ module _ (old new : Lists) (w : KeyWrite) (others : (k : List ℕ) → bytes_eq 
 
 -- versions in order stay so when a later state's is added, or none
 pub in_order-version_by : (kept : Slot → Bool) (arrival : Slot → ℕ) (vs : List Version) (slot : Slot) (writer : StateId) (o : Option Write)
-    → are_in_order kept arrival vs ≡ true → have_come_before arrival slot vs ≡ true → kept slot ≡ true → are_in_order kept arrival (vs ++ version_by slot writer o) ≡ true
+    → are_in_order kept arrival vs ≡ true → have_come_before arrival slot vs ≡ true → kept slot ≡ true →
+    are_in_order kept arrival (vs ++ version_by slot writer o) ≡ true
 in_order-version_by kept arrival vs slot writer None ordered before here = subst (λ xs. are_in_order kept arrival xs ≡ true) (sym (append-nil vs)) ordered
 in_order-version_by kept arrival vs slot writer (Some w) ordered before here =
     in_order-push kept arrival vs (record { slot = slot; writer = writer; write = w }) ordered before here
@@ -121,7 +124,8 @@ in_order-version_by kept arrival vs slot writer (Some w) ordered before here =
 pub before-added : (arrival : Slot → ℕ) (vs : List Version) (slot next : Slot) (writer : StateId) (o : Option Write)
     → have_come_before arrival slot vs ≡ true → arrival slot < arrival next → have_come_before arrival next (vs ++ version_by slot writer o) ≡ true
 before-added arrival [] slot next writer None before later = refl
-before-added arrival [] slot next writer (Some w) before later = and_from (nat_lt (arrival slot) (arrival next)) true (lt-ltb (arrival slot) (arrival next) later) refl
+before-added arrival [] slot next writer (Some w) before later =
+    and_from (nat_lt (arrival slot) (arrival next)) true (lt-ltb (arrival slot) (arrival next) later) refl
 before-added arrival (v ∷ vs) slot next writer o before later =
     let parts = and_parts (nat_lt (arrival v.slot) (arrival slot)) (have_come_before arrival slot vs) before in
     let earlier : arrival v.slot < arrival slot = ltb-true (arrival v.slot) (arrival slot) parts.0 in
@@ -133,7 +137,8 @@ before-added arrival (v ∷ vs) slot next writer o before later =
 pub listed-none : (vs : Lists) (k : List ℕ) → is_key_among k (keys_in vs) ≡ false → versions_in vs k ≡ []
 listed-none vs k e = go vs.lists e
   where
-    go : (ls : List (List ℕ × Listed)) → is_key_among k (map (λ l. l.0) ls) ≡ false → option_map_or (λ (l : Listed). l.versions) (lookup (bytes_eq k) ls) [] ≡ []
+    go : (ls : List (List ℕ × Listed)) → is_key_among k (map (λ l. l.0) ls) ≡ false →
+        option_map_or (λ (l : Listed). l.versions) (lookup (bytes_eq k) ls) [] ≡ []
     go [] e = refl
     go (l ∷ ls) e =
         let parts = or_parts (bytes_eq k l.0) (is_key_among k (map (λ l. l.0) ls)) e in

@@ -1,5 +1,6 @@
 -- Chunks of keys by slot.
-use Rattle.std.proofs.Common.{◌≡◌, ℕ, ◌+◌, ◌≤◌, ◌<◌, ◌==◌, Bool, true, false, cond, ◌||◌, not, List, [], ◌∷◌, ◌++◌, length, take, drop, Option, Some, is_some, refl, sym, ap, subst, inl, inr, arith}
+use Rattle.std.proofs.Common.{◌≡◌, ℕ, ◌+◌, ◌≤◌, ◌<◌, ◌==◌, Bool, true, false, cond, ◌||◌, not, List, [], ◌∷◌, ◌++◌, length, take, drop, Option, Some, is_some}
+use Rattle.std.proofs.Common.{refl, sym, ap, subst, inl, inr, arith}
 use Rattle.std.specs.List.{list_any}
 use Rattle.std.specs.Map.{lookup, set_value}
 use Rattle.std.proofs.lemmas.Bool.{cases_Bool, false_from_ne_true, both_ways, eqb-true, eq-eqb, or_parts}
@@ -18,7 +19,8 @@ pub apart : (a b : Slot) → (a ≡ b → ⊥) → same_slot a b ≡ false
 apart a b differ = false_from_ne_true (same_slot a b) (λ t. differ (same-from a b t))
 
 module _ (slot : Slot) (w : Chunks) where
-  pub found-set : (es : List (Slot × Chunks)) (old : Chunks) → lookup (same_slot slot) es ≡ Some old → lookup (same_slot slot) (set_value (same_slot slot) es w) ≡ Some w
+  pub found-set : (es : List (Slot × Chunks)) (old : Chunks) → lookup (same_slot slot) es ≡ Some old →
+      lookup (same_slot slot) (set_value (same_slot slot) es w) ≡ Some w
   found-set [] old e = absurd (let bad : ⊥ = cc in bad)
   found-set (f ∷ es) old e = elim (cases_Bool (same_slot slot f.0)) [
     | inl t ↦ rw t (rw t refl)
@@ -49,7 +51,8 @@ module _ (slot : Slot) (w : Chunks) where
       rest true o p e = refl
       rest false o p e = e
 
-  pub count-set : (es : List (Slot × Chunks)) (old : Chunks) → lookup (same_slot slot) es ≡ Some old → chunks_in (set_value (same_slot slot) es w) + length old ≡ chunks_in es + length w
+  pub count-set : (es : List (Slot × Chunks)) (old : Chunks) → lookup (same_slot slot) es ≡ Some old →
+      chunks_in (set_value (same_slot slot) es w) + length old ≡ chunks_in es + length w
   count-set [] old e = absurd (let bad : ⊥ = cc in bad)
   count-set (f ∷ es) old e = elim (cases_Bool (same_slot slot f.0)) [
     | inl t ↦
@@ -62,7 +65,8 @@ module _ (slot : Slot) (w : Chunks) where
   ]
 
 -- a new entry, or one that takes the place of another, adds no more than its own
-pub count-inserted : (eq : Slot → Slot → Bool) (es : List (Slot × Chunks)) (slot : Slot) (w : Chunks) → chunks_in (insert_entry eq es slot w) ≤ chunks_in es + length w
+pub count-inserted : (eq : Slot → Slot → Bool) (es : List (Slot × Chunks)) (slot : Slot) (w : Chunks) → chunks_in (insert_entry eq es slot w)
+    ≤ chunks_in es + length w
 count-inserted eq [] slot w = omega arith
 count-inserted eq (f ∷ es) slot w = elim (cases_Bool (eq slot f.0)) [
   | inl t ↦ rw t (omega arith)

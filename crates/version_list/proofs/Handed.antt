@@ -1,5 +1,6 @@
 -- At which states a key has versions once one was handed on.
-use Rattle.std.proofs.Common.{◌≡◌, ℕ, Bool, true, false, ◌||◌, nat_lt, if◌then◌else◌, List, [], ◌∷◌, Option, Some, None, is_some, refl, sym, ◌∙◌, ap, ap₂, inl, inr}
+use Rattle.std.proofs.Common.{◌≡◌, ℕ, Bool, true, false, ◌||◌, nat_lt, if◌then◌else◌, List, [], ◌∷◌, Option, Some, None, is_some, refl, sym, ◌∙◌, ap, ap₂}
+use Rattle.std.proofs.Common.{inl, inr}
 use Rattle.std.proofs.lemmas.Bool.{cases_Bool, eq-eqb}
 use Rattle.tardis_base.specs.declared.ids.Slot.{Slot}
 use Rattle.version_list.specs.declared.histories.Version.{Version}
@@ -22,7 +23,8 @@ gone-at from (v ∷ vs) = elim (cases_Bool (same_slot v.slot from)) [
   | inr f ↦ rw (f, f) (gone-at from vs)
 ]
 
-has-placed : (arrival : Slot → ℕ) (q : Slot) (v : Version) (ws : List Version) → has_version_at q (in_its_place arrival v ws) ≡ (same_slot v.slot q || has_version_at q ws)
+has-placed : (arrival : Slot → ℕ) (q : Slot) (v : Version) (ws : List Version) → has_version_at q (in_its_place arrival v ws)
+    ≡ (same_slot v.slot q || has_version_at q ws)
 has-placed arrival q v [] = refl
 has-placed arrival q v (w ∷ ws) = go (nat_lt (arrival v.slot) (arrival w.slot)) (has-placed arrival q v ws)
   where
@@ -31,12 +33,14 @@ has-placed arrival q v (w ∷ ws) = go (nat_lt (arrival v.slot) (arrival w.slot)
     swapped true false c = refl
     swapped false b c = refl
 
-    go : (b : Bool) → has_version_at q (in_its_place arrival v ws) ≡ (same_slot v.slot q || has_version_at q ws) → has_version_at q (if b then v ∷ w ∷ ws else w ∷ in_its_place arrival v ws) ≡ (same_slot v.slot q || has_version_at q (w ∷ ws))
+    go : (b : Bool) → has_version_at q (in_its_place arrival v ws) ≡ (same_slot v.slot q || has_version_at q ws) →
+        has_version_at q (if b then v ∷ w ∷ ws else w ∷ in_its_place arrival v ws) ≡ (same_slot v.slot q || has_version_at q (w ∷ ws))
     go true rest = refl
     go false rest = ap (λ b. same_slot w.slot q || b) rest ∙ swapped (same_slot w.slot q) (same_slot v.slot q) (has_version_at q ws)
 
 module _ (arrival : Slot → ℕ) (from to : Slot) (vs : List Version) (apart : same_slot from to ≡ false) (turned : same_slot to from ≡ false) where
-  placed : (o : Option Version) (q : Slot) → same_slot to q ≡ false → has_version_at q (handed_on arrival to (without_version from vs) o) ≡ has_version_at q (without_version from vs)
+  placed : (o : Option Version) (q : Slot) → same_slot to q ≡ false → has_version_at q (handed_on arrival to (without_version from vs) o)
+      ≡ has_version_at q (without_version from vs)
   placed None q other = refl
   placed (Some v) q other = elim (cases_Bool (has_version_at to (without_version from vs))) [
     | inl t ↦ rw t refl
@@ -51,13 +55,16 @@ module _ (arrival : Slot → ℕ) (from to : Slot) (vs : List Version) (apart : 
   pub others-have : (q : Slot) → same_slot from q ≡ false → same_slot to q ≡ false → has_version_at q (promoted arrival from to vs) ≡ has_version_at q vs
   others-have q from_other to_other = placed (version_at from vs) q to_other ∙ has-without from q vs from_other
 
-  to-placed : (o : Option Version) → has_version_at to (handed_on arrival to (without_version from vs) o) ≡ (has_version_at to (without_version from vs) || is_some o)
+  to-placed : (o : Option Version) → has_version_at to (handed_on arrival to (without_version from vs) o)
+      ≡ (has_version_at to (without_version from vs) || is_some o)
   to-placed None = sym (or-false (has_version_at to (without_version from vs)))
   to-placed (Some v) = go (has_version_at to (without_version from vs)) refl
     where
-      go : (b : Bool) → has_version_at to (without_version from vs) ≡ b → has_version_at to (if b then without_version from vs else in_its_place arrival (at_state to v) (without_version from vs)) ≡ (b || true)
+      go : (b : Bool) → has_version_at to (without_version from vs) ≡ b →
+          has_version_at to (if b then without_version from vs else in_its_place arrival (at_state to v) (without_version from vs)) ≡ (b || true)
       go true e = e
-      go false e = has-placed arrival to (at_state to v) (without_version from vs) ∙ ap (λ b. b || has_version_at to (without_version from vs)) (eq-eqb to.0 to.0 refl)
+      go false e = has-placed arrival to (at_state to v) (without_version from vs)
+          ∙ ap (λ b. b || has_version_at to (without_version from vs)) (eq-eqb to.0 to.0 refl)
 
   -- the other has one where one of the two had
   pub other-has : has_version_at to (promoted arrival from to vs) ≡ (has_version_at to vs || has_version_at from vs)

@@ -1,5 +1,6 @@
 -- Which keys are listed, before and after room was made and taken back.
-use Rattle.std.proofs.Common.{◌≡◌, ℕ, ◌+◌, ◌<◌, Bool, true, false, not, ◌||◌, nat_lt, map, filter, if◌then◌else◌, List, [], ◌∷◌, ◌++◌, Option, Some, None, Result, Ok, Err, OnOk, length, get_or, take, drop, bytes_eq, refl, sym, ◌∙◌, ap, subst, inl, inr}
+use Rattle.std.proofs.Common.{◌≡◌, ℕ, ◌+◌, ◌<◌, Bool, true, false, not, ◌||◌, nat_lt, map, filter, if◌then◌else◌, List, [], ◌∷◌, ◌++◌, Option, Some, None}
+use Rattle.std.proofs.Common.{Result, Ok, Err, OnOk, length, get_or, take, drop, bytes_eq, refl, sym, ◌∙◌, ap, subst, inl, inr}
 use Rattle.std.specs.Map.{lookup}
 use Rattle.std.specs.Option.{option_map_or}
 use Rattle.std.proofs.lemmas.Bool.{and_parts, cases_Bool, both_ways}
@@ -81,7 +82,8 @@ differs-none p k (w ∷ ws) d =
     turned false e = refl
 
 -- one more key is listed, if it wasn't
-pub listed-more : (ks now : List (List ℕ)) (ws : List KeyWrite) (i : ℕ) (w : KeyWrite) → are_ascending_keys (keys_of ws) ≡ true → i < length ws → w ≡ get_or ws i w → now ≡ ks ++ new_keys ks (take i ws) →
+pub listed-more : (ks now : List (List ℕ)) (ws : List KeyWrite) (i : ℕ) (w : KeyWrite) → are_ascending_keys (keys_of ws) ≡ true → i < length ws →
+    w ≡ get_or ws i w → now ≡ ks ++ new_keys ks (take i ws) →
     with_listed w.0 now ≡ ks ++ new_keys ks (take (i + 1) ws)
 listed-more ks now ws i w up lt here is =
     let p : List ℕ → Bool = λ k. not (is_key_among k ks) in
@@ -91,7 +93,8 @@ listed-more ks now ws i w up lt here is =
     let none = differs-none p w.0 xs (last-differs xs w up₂) in
     let pushed : new_keys ks (take (i + 1) ws) ≡ new_keys ks xs ++ new_keys ks (w ∷ []) =
     ap (new_keys ks) more ∙ ap (filter p) (map-append (λ (v : KeyWrite). v.0) xs (w ∷ [])) ∙ filter-push p (keys_of xs) (w.0 ∷ []) in
-    let among : is_key_among w.0 now ≡ (is_key_among w.0 ks || false) = ap (is_key_among w.0) is ∙ any-push (bytes_eq w.0) ks (new_keys ks xs) ∙ ap (λ b. is_key_among w.0 ks || b) none in
+    let among : is_key_among w.0 now ≡ (is_key_among w.0 ks || false) = ap (is_key_among w.0) is ∙ any-push (bytes_eq w.0) ks (new_keys ks xs)
+    ∙ ap (λ b. is_key_among w.0 ks || b) none in
     elim (cases_Bool (is_key_among w.0 ks)) [
       | inl t ↦
           let there : is_key_among w.0 now ≡ true = among ∙ ap (λ b. b || false) t in
@@ -119,7 +122,8 @@ listed-more ks now ws i w up lt here is =
 -- ===== Keys taken off the list
 
 -- the keys behind the old ones were none of them
-new-not_old : (ks : List (List ℕ)) (k : List ℕ) (js : List (List ℕ)) → is_key_among k (filter (λ j. not (is_key_among j ks)) js) ≡ true → (j : List ℕ) × ((bytes_eq k j ≡ true) × (is_key_among j ks ≡ false))
+new-not_old : (ks : List (List ℕ)) (k : List ℕ) (js : List (List ℕ)) → is_key_among k (filter (λ j. not (is_key_among j ks)) js) ≡ true → (j : List ℕ)
+    × ((bytes_eq k j ≡ true) × (is_key_among j ks ≡ false))
 new-not_old ks k [] h = absurd (both_ways false refl h)
 new-not_old ks k (j ∷ js) h = elim (cases_Bool (is_key_among j ks)) [
   | inl t ↦ new-not_old ks k js (rw t at h)
@@ -129,14 +133,17 @@ new-not_old ks k (j ∷ js) h = elim (cases_Bool (is_key_among j ks)) [
   ]
 ]
 
-module _ (old now : Lists) (ws : List KeyWrite) (n : ℕ) (same_key : (k j : List ℕ) → bytes_eq k j ≡ true → k ≡ j) (listed : keys_in now ≡ keys_in old ++ new_keys (keys_in old) ws) (count : n ≡ length (keys_in old)) where
+module _ (old now : Lists) (ws : List KeyWrite) (n : ℕ) (same_key : (k j : List ℕ) → bytes_eq k j ≡ true → k ≡ j)
+    (listed : keys_in now ≡ keys_in old ++ new_keys (keys_in old) ws) (count : n ≡ length (keys_in old)) where
   pub taken_back : take n (keys_in now) ≡ keys_in old
-  taken_back = ap (take n) listed ∙ ap (λ m. take m (keys_in old ++ new_keys (keys_in old) ws)) count ∙ take-append_seam (keys_in old) (new_keys (keys_in old) ws)
+  taken_back = ap (take n) listed ∙ ap (λ m. take m (keys_in old ++ new_keys (keys_in old) ws)) count
+      ∙ take-append_seam (keys_in old) (new_keys (keys_in old) ws)
 
   -- they have no versions
   pub new-unused : ((k : List ℕ) → versions_in now k ≡ versions_in old k) → (k : List ℕ) → is_key_among k (drop n (keys_in now)) ≡ true → versions_in now k ≡ []
   new-unused same k h =
-      let fresh = ap (drop n) listed ∙ ap (λ m. drop m (keys_in old ++ new_keys (keys_in old) ws)) count ∙ drop-append_seam (keys_in old) (new_keys (keys_in old) ws) in
+      let fresh = ap (drop n) listed ∙ ap (λ m. drop m (keys_in old ++ new_keys (keys_in old) ws)) count
+      ∙ drop-append_seam (keys_in old) (new_keys (keys_in old) ws) in
       let w = new-not_old (keys_in old) k (keys_of ws) (subst (λ ks. is_key_among k ks ≡ true) fresh h) in
       same k ∙ listed-none old k (subst (λ j. is_key_among j (keys_in old) ≡ false) (sym (same_key k w.0 w.1.0)) w.1.1)
 
@@ -155,7 +162,8 @@ keys-taken ℕ.zero es = refl
 keys-taken (ℕ.suc n) [] = refl
 keys-taken (ℕ.suc n) (e ∷ es) = ap (λ ks. e.0 ∷ ks) (keys-taken n es)
 
-found-taken : (k : List ℕ) (n : ℕ) (es : List (List ℕ × Listed)) → is_key_among k (take n (listed_of es)) ≡ true → lookup (bytes_eq k) (take n es) ≡ lookup (bytes_eq k) es
+found-taken : (k : List ℕ) (n : ℕ) (es : List (List ℕ × Listed)) → is_key_among k (take n (listed_of es)) ≡ true → lookup (bytes_eq k) (take n es)
+    ≡ lookup (bytes_eq k) es
 found-taken k ℕ.zero es h = absurd (both_ways false refl h)
 found-taken k (ℕ.suc n) [] h = absurd (both_ways false refl h)
 found-taken k (ℕ.suc n) (e ∷ es) h = elim (cases_Bool (bytes_eq k e.0)) [

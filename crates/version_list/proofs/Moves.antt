@@ -1,5 +1,6 @@
 -- Keys whose versions are handed on, one after another.
-use Rattle.std.proofs.Common.{◌≡◌, ℕ, ◌<◌, ◌+◌, ◌-◌, Bool, true, false, ◌||◌, ◌&&◌, not, List, [], ◌∷◌, ◌++◌, length, get_or, take, drop, slice_index_or, refl, sym, ◌∙◌, ap, ap₂, subst, inl, inr, arith}
+use Rattle.std.proofs.Common.{◌≡◌, ℕ, ◌<◌, ◌+◌, ◌-◌, Bool, true, false, ◌||◌, ◌&&◌, not, List, [], ◌∷◌, ◌++◌, length, get_or, take, drop, slice_index_or}
+use Rattle.std.proofs.Common.{refl, sym, ◌∙◌, ap, ap₂, subst, inl, inr, arith}
 use Rattle.std.specs.List.{list_any, swap_remove}
 use Rattle.std.specs.Str.{bytes_eq}
 use Rattle.std.specs.Option.{option_map_or}
@@ -38,7 +39,8 @@ module _ (arrival : Slot → ℕ) (from to : Slot) (earlier : arrival from < arr
   still vs = ap (λ b. b && not (has_version_at to (promoted arrival from to vs))) (left-at vs)
 
   -- promoted among the first, and then among the rest
-  pub promoted-step : (a b : Bool) (vs ws : List Version) → ws ≡ promoted_if a arrival from to vs → promoted_if b arrival from to ws ≡ promoted_if (a || b) arrival from to vs
+  pub promoted-step : (a b : Bool) (vs ws : List Version) → ws ≡ promoted_if a arrival from to vs → promoted_if b arrival from to ws
+      ≡ promoted_if (a || b) arrival from to vs
   promoted-step true true vs ws is = ap (promoted arrival from to) is ∙ again vs
   promoted-step true false vs ws is = is
   promoted-step false true vs ws is = ap (promoted arrival from to) is
@@ -61,7 +63,8 @@ module _ (arrival : Slot → ℕ) (from to : Slot) (earlier : arrival from < arr
   kept-step false false b vs ws is = ap (λ n. b && n) (ap (moves from to) is)
 
   -- one key's versions are promoted, and no others
-  pub one-promoted : (old new : Lists) (key : List ℕ) → versions_in new key ≡ promoted arrival from to (versions_in old key) → ((k : List ℕ) → bytes_eq key k ≡ false → listed_in new k ≡ listed_in old k) →
+  pub one-promoted : (old new : Lists) (key : List ℕ) → versions_in new key ≡ promoted arrival from to (versions_in old key) →
+      ((k : List ℕ) → bytes_eq key k ≡ false → listed_in new k ≡ listed_in old k) →
       (k : List ℕ) → versions_in new k ≡ promoted_if (bytes_eq k key) arrival from to (versions_in old k)
   one-promoted old new key own others k = elim (cases_Bool (bytes_eq k key)) [
     | inl t ↦ rw t (subst (λ j. versions_in new j ≡ promoted arrival from to (versions_in old j)) (sym ((bytes_eq-Decides k key).0 t)) own)
@@ -69,7 +72,8 @@ module _ (arrival : Slot → ℕ) (from to : Slot) (earlier : arrival from < arr
   ]
 
 -- the key is this one, whose version moves, or doesn't
-pub moving : (from to : Slot) (vs : List ℕ → List Version) (k key : List ℕ) (b : Bool) → moves from to (vs key) ≡ b → (bytes_eq k key && moves from to (vs k)) ≡ (bytes_eq k key && b)
+pub moving : (from to : Slot) (vs : List ℕ → List Version) (k key : List ℕ) (b : Bool) → moves from to (vs key) ≡ b →
+    (bytes_eq k key && moves from to (vs k)) ≡ (bytes_eq k key && b)
 moving from to vs k key b is = elim (cases_Bool (bytes_eq k key)) [
   | inl t ↦ rw t (ap (λ j. moves from to (vs j)) ((bytes_eq-Decides k key).0 t) ∙ is)
   | inr f ↦ rw f refl
@@ -83,9 +87,11 @@ at-place [] i x lt is = absurd (omega arith)
 at-place (y ∷ ys) ℕ.zero x lt is = ap (λ z. z ∷ ys) is
 at-place (y ∷ ys) (ℕ.suc i) x lt is = at-place ys i x (omega arith) is
 
-last-first : (p : List ℕ → Bool) (y : List ℕ) (xs : List (List ℕ)) (d : List ℕ) → list_any p (slice_index_or (y ∷ xs) (length xs) d ∷ take (length xs) (y ∷ xs)) ≡ list_any p (y ∷ xs)
+last-first : (p : List ℕ → Bool) (y : List ℕ) (xs : List (List ℕ)) (d : List ℕ) →
+    list_any p (slice_index_or (y ∷ xs) (length xs) d ∷ take (length xs) (y ∷ xs)) ≡ list_any p (y ∷ xs)
 last-first p y [] d = refl
-last-first p y (x ∷ xs) d = swapped (p (slice_index_or (x ∷ xs) (length xs) d)) (p y) (list_any p (take (length xs) (x ∷ xs))) ∙ ap (λ b. p y || b) (last-first p x xs d)
+last-first p y (x ∷ xs) d = swapped (p (slice_index_or (x ∷ xs) (length xs) d)) (p y) (list_any p (take (length xs) (x ∷ xs)))
+    ∙ ap (λ b. p y || b) (last-first p x xs d)
   where
     swapped : (a b c : Bool) → (a || (b || c)) ≡ (b || (a || c))
     swapped true true c = refl
@@ -114,7 +120,8 @@ front-swapped (x ∷ []) (ℕ.suc i) d lt = absurd (omega arith)
 front-swapped (x ∷ y ∷ xs) (ℕ.suc i) d lt = ap (take (ℕ.suc i)) (swap-later x y xs i d) ∙ ap (λ ys. x ∷ ys) (front-swapped (y ∷ xs) i d (omega arith))
 
 -- and those behind it are the same
-pub back-swapped : (p : List ℕ → Bool) (xs : List (List ℕ)) (i : ℕ) (d : List ℕ) → i < length xs → list_any p (drop i (swap_remove xs i d)) ≡ list_any p (drop (ℕ.suc i) xs)
+pub back-swapped : (p : List ℕ → Bool) (xs : List (List ℕ)) (i : ℕ) (d : List ℕ) → i < length xs → list_any p (drop i (swap_remove xs i d))
+    ≡ list_any p (drop (ℕ.suc i) xs)
 back-swapped p [] i d lt = absurd (omega arith)
 back-swapped p (x ∷ []) ℕ.zero d lt = refl
 back-swapped p (x ∷ y ∷ xs) ℕ.zero d lt = ap (list_any p) (swap-first x y xs d) ∙ last-first p y xs d
@@ -128,7 +135,10 @@ among-one k xs x = any-push (bytes_eq k) xs (x ∷ []) ∙ ap (λ b. is_key_amon
     either true = refl
     either false = refl
 
-module _ (arrival : Slot → ℕ) (from to : Slot) (earlier : arrival from < arrival to) (old new : Lists) (x : List ℕ) (own : versions_in new x ≡ promoted arrival from to (versions_in old x)) (others : (k : List ℕ) → bytes_eq x k ≡ false → listed_in new k ≡ listed_in old k) (xs : List (List ℕ)) (i : ℕ) (lt : i < length xs) (here : get_or xs i x ≡ x) where
+module _ (arrival : Slot → ℕ) (from to : Slot) (earlier : arrival from < arrival to) (old new : Lists) (x : List ℕ)
+    (own : versions_in new x ≡ promoted arrival from to (versions_in old x))
+    (others : (k : List ℕ) → bytes_eq x k ≡ false → listed_in new k ≡ listed_in old k) (xs : List (List ℕ)) (i : ℕ) (lt : i < length xs)
+    (here : get_or xs i x ≡ x) where
   after : (k : List ℕ) → versions_in new k ≡ promoted_if (bytes_eq k x) arrival from to (versions_in old k)
   after = one-promoted arrival from to earlier old new x own others
 
@@ -139,32 +149,40 @@ module _ (arrival : Slot → ℕ) (from to : Slot) (earlier : arrival from < arr
   next = omega arith
 
   -- one key fewer is left to be promoted
-  pub step-promoted : (k : List ℕ) → promoted_if (is_key_among k (drop (ℕ.suc i) xs)) arrival from to (versions_in new k) ≡ promoted_if (is_key_among k (drop i xs)) arrival from to (versions_in old k)
+  pub step-promoted : (k : List ℕ) → promoted_if (is_key_among k (drop (ℕ.suc i) xs)) arrival from to (versions_in new k)
+      ≡ promoted_if (is_key_among k (drop i xs)) arrival from to (versions_in old k)
   step-promoted k =
       promoted-step arrival from to earlier (bytes_eq k x) (is_key_among k (drop (ℕ.suc i) xs)) (versions_in old k) (versions_in new k) (after k)
       ∙ ap (λ b. promoted_if b arrival from to (versions_in old k)) (sym (split k))
 
-  pub step-next : (k : List ℕ) → promoted_if (is_key_among k (drop (i + 1) xs)) arrival from to (versions_in new k) ≡ promoted_if (is_key_among k (drop i xs)) arrival from to (versions_in old k)
+  pub step-next : (k : List ℕ) → promoted_if (is_key_among k (drop (i + 1) xs)) arrival from to (versions_in new k)
+      ≡ promoted_if (is_key_among k (drop i xs)) arrival from to (versions_in old k)
   step-next k = ap (λ n. promoted_if (is_key_among k (drop n xs)) arrival from to (versions_in new k)) next ∙ step-promoted k
 
   step-kept : (b : Bool) → moves from to (versions_in old x) ≡ b → (k : List ℕ) →
-      ((is_key_among k (take i xs) || (bytes_eq k x && b)) || (is_key_among k (drop (ℕ.suc i) xs) && moves from to (versions_in new k))) ≡ (is_key_among k (take i xs) || (is_key_among k (drop i xs) && moves from to (versions_in old k)))
+      ((is_key_among k (take i xs) || (bytes_eq k x && b)) || (is_key_among k (drop (ℕ.suc i) xs) && moves from to (versions_in new k)))
+      ≡ (is_key_among k (take i xs) || (is_key_among k (drop i xs) && moves from to (versions_in old k)))
   step-kept b is k =
-      ap (λ c. (is_key_among k (take i xs) || c) || (is_key_among k (drop (ℕ.suc i) xs) && moves from to (versions_in new k))) (sym (moving from to (versions_in old) k x b is))
-      ∙ kept-step arrival from to earlier (is_key_among k (take i xs)) (bytes_eq k x) (is_key_among k (drop (ℕ.suc i) xs)) (versions_in old k) (versions_in new k) (after k)
+      ap (λ c. (is_key_among k (take i xs) || c) || (is_key_among k (drop (ℕ.suc i) xs) && moves from to (versions_in new k)))
+      (sym (moving from to (versions_in old) k x b is))
+      ∙ kept-step arrival from to earlier (is_key_among k (take i xs)) (bytes_eq k x) (is_key_among k (drop (ℕ.suc i) xs)) (versions_in old k)
+      (versions_in new k) (after k)
       ∙ ap (λ c. is_key_among k (take i xs) || (c && moves from to (versions_in old k))) (sym (split k))
 
   -- one whose version moved is kept
   pub step-moved : moves from to (versions_in old x) ≡ true → (k : List ℕ) →
-      (is_key_among k (take (i + 1) xs) || (is_key_among k (drop (i + 1) xs) && moves from to (versions_in new k))) ≡ (is_key_among k (take i xs) || (is_key_among k (drop i xs) && moves from to (versions_in old k)))
+      (is_key_among k (take (i + 1) xs) || (is_key_among k (drop (i + 1) xs) && moves from to (versions_in new k)))
+      ≡ (is_key_among k (take i xs) || (is_key_among k (drop i xs) && moves from to (versions_in old k)))
   step-moved is k =
       ap (λ n. is_key_among k (take (i + 1) xs) || (is_key_among k (drop n xs) && moves from to (versions_in new k))) next
-      ∙ ap (λ c. c || (is_key_among k (drop (ℕ.suc i) xs) && moves from to (versions_in new k))) (ap (is_key_among k) (take_more xs i x lt ∙ ap (λ y. take i xs ++ y ∷ []) here) ∙ among-one k (take i xs) x)
+      ∙ ap (λ c. c || (is_key_among k (drop (ℕ.suc i) xs) && moves from to (versions_in new k)))
+      (ap (is_key_among k) (take_more xs i x lt ∙ ap (λ y. take i xs ++ y ∷ []) here) ∙ among-one k (take i xs) x)
       ∙ step-kept true is k
 
   -- and one whose version didn't is not
   pub step-stayed : moves from to (versions_in old x) ≡ false → (d : List ℕ) (k : List ℕ) →
-      (is_key_among k (take i (swap_remove xs i d)) || (is_key_among k (drop i (swap_remove xs i d)) && moves from to (versions_in new k))) ≡ (is_key_among k (take i xs) || (is_key_among k (drop i xs) && moves from to (versions_in old k)))
+      (is_key_among k (take i (swap_remove xs i d)) || (is_key_among k (drop i (swap_remove xs i d)) && moves from to (versions_in new k)))
+      ≡ (is_key_among k (take i xs) || (is_key_among k (drop i xs) && moves from to (versions_in old k)))
   step-stayed is d k =
       ap (λ ys. is_key_among k ys || (is_key_among k (drop i (swap_remove xs i d)) && moves from to (versions_in new k))) (front-swapped xs i d lt)
       ∙ ap (λ c. is_key_among k (take i xs) || (c && moves from to (versions_in new k))) (back-swapped (bytes_eq k) xs i d lt)
@@ -188,7 +206,8 @@ module _ (arrival : Slot → ℕ) (from to : Slot) (earlier : arrival from < arr
   pub noted-promoted : (old new : Lists) (es fs : List (Slot × Chunks)) (moved : Chunks) →
       AreNoted old es → ((k : List ℕ) → versions_in new k ≡ promoted arrival from to (versions_in old k)) →
       ((k : List ℕ) → is_key_in k moved ≡ (has_version_at from (versions_in old k) && moves from to (versions_in old k))) →
-      chunks_for from fs ≡ [] → chunks_for to fs ≡ chunks_for to es ++ moved → ((q : Slot) → (q ≡ from → ⊥) → (q ≡ to → ⊥) → chunks_for q fs ≡ chunks_for q es) →
+      chunks_for from fs ≡ [] → chunks_for to fs ≡ chunks_for to es ++ moved →
+      ((q : Slot) → (q ≡ from → ⊥) → (q ≡ to → ⊥) → chunks_for q fs ≡ chunks_for q es) →
       AreNoted new fs
   noted-promoted old new es fs moved noted all kept left given others = λ q k.
       let vs = versions_in old k in

@@ -1,5 +1,6 @@
 -- The keys that are noted for each state.
-use Rattle.std.proofs.Common.{◌≡◌, ◌<◌, ℕ, Bool, true, false, ◌||◌, cond, nat_lt, List, [], ◌∷◌, ◌++◌, Option, Some, None, is_some, bytes_eq, refl, sym, ◌∙◌, ap, subst, inl, inr, arith}
+use Rattle.std.proofs.Common.{◌≡◌, ◌<◌, ℕ, Bool, true, false, ◌||◌, cond, nat_lt, List, [], ◌∷◌, ◌++◌, Option, Some, None, is_some, bytes_eq, refl, sym, ◌∙◌}
+use Rattle.std.proofs.Common.{ap, subst, inl, inr, arith}
 use Rattle.std.specs.List.{list_any}
 use Rattle.std.specs.Map.{lookup}
 use Rattle.std.specs.Option.{option_map_or}
@@ -26,7 +27,8 @@ or-false true = refl
 or-false false = refl
 
 -- one more key is noted, and one fewer left
-pub noted-step : (keys : List (List ℕ)) (ws : List KeyWrite) (w : KeyWrite) (k : List ℕ) → (is_key_among k (keys ++ w.0 ∷ []) || has_key k ws) ≡ (is_key_among k keys || has_key k (ws ++ w ∷ []))
+pub noted-step : (keys : List (List ℕ)) (ws : List KeyWrite) (w : KeyWrite) (k : List ℕ) → (is_key_among k (keys ++ w.0 ∷ []) || has_key k ws)
+    ≡ (is_key_among k keys || has_key k (ws ++ w ∷ []))
 noted-step keys ws w k =
     let before = any-push (bytes_eq k) keys (w.0 ∷ []) in
     let after = any-push (λ (v : KeyWrite). bytes_eq k v.0) ws (w ∷ []) in
@@ -64,7 +66,8 @@ at-other slot q writer (Some w) e = rw e refl
 pub noted-same : (old new : Lists) (es : List (Slot × Chunks)) → ((k : List ℕ) → versions_in new k ≡ versions_in old k) → AreNoted old es → AreNoted new es
 noted-same old new es same noted = λ slot k. noted slot k ∙ ap (λ vs. has_version_at slot vs) (sym (same k))
 
-module _ (arrival : Slot → ℕ) (old new : Lists) (es fs : List (Slot × Chunks)) (slot : Slot) (writer : StateId) (ws : List KeyWrite) (keys : List (List ℕ)) where
+module _ (arrival : Slot → ℕ) (old new : Lists) (es fs : List (Slot × Chunks)) (slot : Slot) (writer : StateId) (ws : List KeyWrite)
+    (keys : List (List ℕ)) where
   -- the keys that a new state wrote are noted for it
   pub noted-added : AreNoted old es
       → ((k : List ℕ) → versions_in new k ≡ versions_in old k ++ version_by slot writer (write_of k ws))
@@ -78,8 +81,10 @@ module _ (arrival : Slot → ℕ) (old new : Lists) (es fs : List (Slot × Chunk
       elim (cases_Bool (same_slot slot q)) [
         | inl t ↦
             let fresh = ap (λ o. option_map_or (λ (cs : Chunks). cs) o []) (inserted q ∙ ap (λ b. cond b (Some (keys ∷ [])) (lookup (same_slot q) es)) t) in
-            let none = subst (λ s. has_version_at s (versions_in old k) ≡ false) (slots-from_same slot q t) (none-at_new arrival slot (versions_in old k) (before k)) in
-            let own = subst (λ s. has_version_at s (version_by slot writer (write_of k ws)) ≡ is_some (write_of k ws)) (slots-from_same slot q t) (at-own slot writer (write_of k ws)) in
+            let none = subst (λ s. has_version_at s (versions_in old k) ≡ false) (slots-from_same slot q t)
+            (none-at_new arrival slot (versions_in old k) (before k)) in
+            let own = subst (λ s. has_version_at s (version_by slot writer (write_of k ws)) ≡ is_some (write_of k ws)) (slots-from_same slot q t)
+            (at-own slot writer (write_of k ws)) in
             ap (is_key_in k) fresh ∙ or-false (is_key_among k keys) ∙ written k ∙ has_key-write_of k ws ∙ sym own
             ∙ ap (λ b. b || has_version_at q (version_by slot writer (write_of k ws))) (sym none) ∙ sym now
         | inr f ↦

@@ -1,7 +1,9 @@
 -- What becomes of a key's versions when a state hands them on.
-use Rattle.std.proofs.Common.{◌≡◌, ℕ, ◌<◌, ◌≤◌, Bool, true, false, ◌||◌, ◌&&◌, nat_lt, nat_le, List, [], ◌∷◌, Option, Some, None, length, get_or, take, drop, if◌then◌else◌, refl, ◌∙◌, ap, inl, inr, arith}
+use Rattle.std.proofs.Common.{◌≡◌, ℕ, ◌<◌, ◌≤◌, Bool, true, false, ◌||◌, ◌&&◌, nat_lt, nat_le, List, [], ◌∷◌, Option, Some, None, length, get_or, take, drop}
+use Rattle.std.proofs.Common.{if◌then◌else◌, refl, ◌∙◌, ap, inl, inr, arith}
 use Rattle.std.specs.List.{list_all, list_any, remove, insert}
-use Rattle.std.proofs.lemmas.Bool.{and_parts, and_from, or_parts, cases_Bool, false_from_ne_true, lt-ltb, ltb-true, ltb-false, leb-true, leb-false, le-leb, both_ways, eq-eqb}
+use Rattle.std.proofs.lemmas.Bool.{and_parts, and_from, or_parts, cases_Bool, false_from_ne_true, lt-ltb, ltb-true, ltb-false, leb-true, leb-false, le-leb}
+use Rattle.std.proofs.lemmas.Bool.{both_ways, eq-eqb}
 use Rattle.tardis_base.specs.declared.ids.Slot.{Slot}
 use Rattle.tardis_base.specs.declared.records.Write.TheVariants.{Delete}
 use Rattle.tardis_base.specs.Ids.{root}
@@ -82,7 +84,8 @@ module _ (kept : Slot → Bool) (arrival : Slot → ℕ) where
   apart : (a b : Slot) → (arrival a ≡ arrival b → ⊥) → same_slot a b ≡ false
   apart a b differ = false_from_ne_true (same_slot a b) (λ t. differ (ap arrival (slots-from_same a b t)))
 
-  none-behind : (by : ℕ) (slot : Slot) (vs : List Version) → arrival slot ≤ by → list_all (λ w. nat_lt by (arrival w.slot)) vs ≡ true → has_version_at slot vs ≡ false
+  none-behind : (by : ℕ) (slot : Slot) (vs : List Version) → arrival slot ≤ by → list_all (λ w. nat_lt by (arrival w.slot)) vs ≡ true →
+      has_version_at slot vs ≡ false
   none-behind by slot [] le all = refl
   none-behind by slot (v ∷ vs) le all =
       let parts = and_parts (nat_lt by (arrival v.slot)) (list_all (λ w. nat_lt by (arrival w.slot)) vs) all in
@@ -110,7 +113,8 @@ module _ (kept : Slot → Bool) (arrival : Slot → ℕ) where
       (rw own (without-none from vs none), rw own refl)
   leaves from (v ∷ vs) (ℕ.suc i) d ordered lt here =
       let parts = order-parts kept arrival v vs ordered in
-      let first : nat_lt (arrival v.slot) (arrival (get_or vs i d).slot) ≡ true = all-at (λ (w : Version). nat_lt (arrival v.slot) (arrival w.slot)) vs i d parts.1 (omega arith) in
+      let first : nat_lt (arrival v.slot) (arrival (get_or vs i d).slot) ≡ true =
+      all-at (λ (w : Version). nat_lt (arrival v.slot) (arrival w.slot)) vs i d parts.1 (omega arith) in
       let before = ltb-true (arrival v.slot) (arrival (get_or vs i d).slot) first in
       let same = ap arrival here in
       let other = apart v.slot from (λ e. omega (arith, e, before, same)) in
@@ -124,13 +128,16 @@ module _ (kept : Slot → Bool) (arrival : Slot → ℕ) where
   placed-at v [] (ℕ.suc n) le early late = absurd (omega arith)
   placed-at v (w ∷ ws) ℕ.zero le early late =
       let parts = or_parts (nat_le (arrival w.slot) (arrival v.slot)) (list_any (λ (x : Version). nat_le (arrival x.slot) (arrival v.slot)) ws) late in
-      let first : nat_lt (arrival v.slot) (arrival w.slot) ≡ true = lt-ltb (arrival v.slot) (arrival w.slot) (leb-false (arrival w.slot) (arrival v.slot) parts.0) in
+      let first : nat_lt (arrival v.slot) (arrival w.slot) ≡ true =
+      lt-ltb (arrival v.slot) (arrival w.slot) (leb-false (arrival w.slot) (arrival v.slot) parts.0) in
       rw first refl
   placed-at v (w ∷ ws) (ℕ.suc n) le early late =
-      let parts = and_parts (nat_le (arrival w.slot) (arrival v.slot)) (list_all (λ (x : Version). nat_le (arrival x.slot) (arrival v.slot)) (take n ws)) early in
+      let parts = and_parts (nat_le (arrival w.slot) (arrival v.slot)) (list_all (λ (x : Version). nat_le (arrival x.slot) (arrival v.slot)) (take n ws))
+      early in
       let before = leb-true (arrival w.slot) (arrival v.slot) parts.0 in
       let behind : nat_lt (arrival v.slot) (arrival w.slot) ≡ false =
-      false_from_ne_true (nat_lt (arrival v.slot) (arrival w.slot)) (λ t. let after = ltb-true (arrival v.slot) (arrival w.slot) t in omega (arith, after, before)) in
+      false_from_ne_true (nat_lt (arrival v.slot) (arrival w.slot)) (λ t. let after = ltb-true (arrival v.slot) (arrival w.slot) t in
+      omega (arith, after, before)) in
       rw behind (ap (λ xs. w ∷ xs) (placed-at v ws n (omega arith) parts.1 late))
 
   pub own-found : (to : Slot) (vs : List Version) (i : ℕ) (d : Version) → i < length vs → (get_or vs i d).slot ≡ to → has_version_at to vs ≡ true
@@ -148,7 +155,8 @@ module _ (kept : Slot → Bool) (arrival : Slot → ℕ) where
   own-none to (v ∷ []) (ℕ.suc (ℕ.suc e)) d ordered le early late last = absurd (omega arith)
   own-none to (v ∷ w ∷ vs) (ℕ.suc (ℕ.suc e)) d ordered le early late last =
       let parts = order-parts kept arrival v (w ∷ vs) ordered in
-      let rest = and_parts (nat_le (arrival v.slot) (arrival to)) (list_all (λ (x : Version). nat_le (arrival x.slot) (arrival to)) (take (ℕ.suc e) (w ∷ vs))) early in
+      let rest = and_parts (nat_le (arrival v.slot) (arrival to))
+      (list_all (λ (x : Version). nat_le (arrival x.slot) (arrival to)) (take (ℕ.suc e) (w ∷ vs))) early in
       let next = and_parts (nat_le (arrival w.slot) (arrival to)) (list_all (λ (x : Version). nat_le (arrival x.slot) (arrival to)) (take e vs)) rest.1 in
       let first = and_parts (nat_lt (arrival v.slot) (arrival w.slot)) (list_all (λ (x : Version). nat_lt (arrival v.slot) (arrival x.slot)) vs) parts.1 in
       let before = ltb-true (arrival v.slot) (arrival w.slot) first.0 in
@@ -157,16 +165,19 @@ module _ (kept : Slot → Bool) (arrival : Slot → ℕ) where
       rw other (own-none to (w ∷ vs) (ℕ.suc e) d parts.2 (omega arith) rest.1 late (λ j is here. last (ℕ.suc j) (ap (λ n. ℕ.suc n) is) here))
 
   -- a version that arrived before stands before the end of those that had arrived by then
-  pub before-end : (from to : Slot) (vs : List Version) (i e : ℕ) (d : Version) → list_any (λ v. nat_le (arrival v.slot) (arrival to)) (drop e vs) ≡ false → i < length vs → (get_or vs i d).slot ≡ from → arrival from < arrival to → i < e
+  pub before-end : (from to : Slot) (vs : List Version) (i e : ℕ) (d : Version) → list_any (λ v. nat_le (arrival v.slot) (arrival to)) (drop e vs) ≡ false
+      → i < length vs → (get_or vs i d).slot ≡ from → arrival from < arrival to → i < e
   before-end from to vs i e d late lt here earlier = elim (cases_Bool (nat_le e i)) [
     | inl t ↦
         let none = none-from (λ (v : Version). nat_le (arrival v.slot) (arrival to)) vs e i d late (leb-true e i t) lt in
         let same = ap arrival here in
-        absurd (both_ways (nat_le (arrival (get_or vs i d).slot) (arrival to)) none (le-leb (arrival (get_or vs i d).slot) (arrival to) (omega (arith, same, earlier))))
+        absurd (both_ways (nat_le (arrival (get_or vs i d).slot) (arrival to)) none
+        (le-leb (arrival (get_or vs i d).slot) (arrival to) (omega (arith, same, earlier))))
     | inr f ↦ leb-false e i f
   ]
 
-  module _ (from to : Slot) (vs : List Version) (i e : ℕ) (d : Version) (ordered : are_in_order kept arrival vs ≡ true) (lt : i < length vs) (here : (get_or vs i d).slot ≡ from) (earlier : arrival from < arrival to) where
+  module _ (from to : Slot) (vs : List Version) (i e : ℕ) (d : Version) (ordered : are_in_order kept arrival vs ≡ true) (lt : i < length vs)
+      (here : (get_or vs i d).slot ≡ from) (earlier : arrival from < arrival to) where
     differs : same_slot from to ≡ false
     differs = apart from to (λ same. omega (arith, same, earlier))
 
@@ -182,7 +193,8 @@ module _ (kept : Slot → Bool) (arrival : Slot → ℕ) where
 
     -- where it hasn't, the version goes there
     pub promoted-moved : i ≤ e → e < length vs → list_all (λ v. nat_le (arrival v.slot) (arrival to)) (take (ℕ.suc e) vs) ≡ true →
-        list_any (λ v. nat_le (arrival v.slot) (arrival to)) (drop (ℕ.suc e) vs) ≡ false → has_version_at to vs ≡ false → promoted arrival from to vs ≡ insert (remove vs i) e (at_state to (get_or vs i d))
+        list_any (λ v. nat_le (arrival v.slot) (arrival to)) (drop (ℕ.suc e) vs) ≡ false → has_version_at to vs ≡ false → promoted arrival from to vs
+        ≡ insert (remove vs i) e (at_state to (get_or vs i d))
     promoted-moved le within early late none =
         let left = leaves from vs i d ordered lt here in
         let has : has_version_at to (without_version from vs) ≡ false = has-without from to vs differs ∙ none in
@@ -216,7 +228,8 @@ module _ (kept : Slot → Bool) (arrival : Slot → ℕ) where
         | inr f ↦ rw f (and_from (p w) (list_all p (in_its_place arrival v ws)) parts.0 (all-placed p v ws here parts.1))
       ]
 
-  order-from : (v : Version) (vs : List Version) → kept v.slot ≡ true → list_all (λ w. nat_lt (arrival v.slot) (arrival w.slot)) vs ≡ true → are_in_order kept arrival vs ≡ true → are_in_order kept arrival (v ∷ vs) ≡ true
+  order-from : (v : Version) (vs : List Version) → kept v.slot ≡ true → list_all (λ w. nat_lt (arrival v.slot) (arrival w.slot)) vs ≡ true →
+      are_in_order kept arrival vs ≡ true → are_in_order kept arrival (v ∷ vs) ≡ true
   order-from v vs here behind rest =
       let all = list_all (λ (w : Version). nat_lt (arrival v.slot) (arrival w.slot)) vs in
       and_from (kept v.slot && all) (are_in_order kept arrival vs) (and_from (kept v.slot) all here behind) rest
@@ -229,17 +242,20 @@ module _ (kept : Slot → Bool) (arrival : Slot → ℕ) where
       let rest = in_order-without from vs parts.2 in
       elim (cases_Bool (same_slot v.slot from)) [
         | inl t ↦ rw t rest
-        | inr f ↦ rw f (order-from v (without_version from vs) parts.0 (all-without (λ (w : Version). nat_lt (arrival v.slot) (arrival w.slot)) from vs parts.1) rest)
+        | inr f ↦ rw f (order-from v (without_version from vs) parts.0
+            (all-without (λ (w : Version). nat_lt (arrival v.slot) (arrival w.slot)) from vs parts.1) rest)
       ]
 
-  later-all : (a b : ℕ) (vs : List Version) → a < b → list_all (λ (w : Version). nat_lt b (arrival w.slot)) vs ≡ true → list_all (λ (w : Version). nat_lt a (arrival w.slot)) vs ≡ true
+  later-all : (a b : ℕ) (vs : List Version) → a < b → list_all (λ (w : Version). nat_lt b (arrival w.slot)) vs ≡ true →
+      list_all (λ (w : Version). nat_lt a (arrival w.slot)) vs ≡ true
   later-all a b vs lt all =
       all-weaken (λ (w : Version). nat_lt b (arrival w.slot)) (λ (w : Version). nat_lt a (arrival w.slot)) vs
       (λ w t. let more = ltb-true b (arrival w.slot) t in lt-ltb a (arrival w.slot) (omega (arith, more, lt))) all
 
   module _ (differ : (a b : Slot) → kept a ≡ true → kept b ≡ true → arrival a ≡ arrival b → a ≡ b) where
     -- so does what gets another state's version in its place
-    in_order-placed : (v : Version) (ws : List Version) → kept v.slot ≡ true → has_version_at v.slot ws ≡ false → are_in_order kept arrival ws ≡ true → are_in_order kept arrival (in_its_place arrival v ws) ≡ true
+    in_order-placed : (v : Version) (ws : List Version) → kept v.slot ≡ true → has_version_at v.slot ws ≡ false → are_in_order kept arrival ws ≡ true →
+        are_in_order kept arrival (in_its_place arrival v ws) ≡ true
     in_order-placed v [] here none ordered = order-from v [] here refl refl
     in_order-placed v (w ∷ ws) here none ordered =
         let parts = order-parts kept arrival w ws ordered in
@@ -247,7 +263,8 @@ module _ (kept : Slot → Bool) (arrival : Slot → ℕ) where
         let behind = list_all (λ (x : Version). nat_lt (arrival v.slot) (arrival x.slot)) ws in
         elim (cases_Bool (nat_lt (arrival v.slot) (arrival w.slot))) [
           | inl t ↦ rw t (order-from v (w ∷ ws) here
-              (and_from (nat_lt (arrival v.slot) (arrival w.slot)) behind t (later-all (arrival v.slot) (arrival w.slot) ws (ltb-true (arrival v.slot) (arrival w.slot) t) parts.1)) ordered)
+              (and_from (nat_lt (arrival v.slot) (arrival w.slot)) behind t
+              (later-all (arrival v.slot) (arrival w.slot) ws (ltb-true (arrival v.slot) (arrival w.slot) t) parts.1)) ordered)
           | inr f ↦
               let apart_from : arrival w.slot ≡ arrival v.slot → ⊥ =
               λ e. both_ways (same_slot w.slot v.slot) others.0 (eq-eqb w.slot.0 v.slot.0 (ap (λ (s : Slot). s.0) (differ w.slot v.slot parts.0 here e))) in
@@ -267,7 +284,8 @@ module _ (kept : Slot → Bool) (arrival : Slot → ℕ) where
             between p q = omega (arith, p, q)
 
     -- versions in order are in order once one was handed on
-    pub in_order-promoted : (from to : Slot) (vs : List Version) → kept to ≡ true → are_in_order kept arrival vs ≡ true → are_in_order kept arrival (promoted arrival from to vs) ≡ true
+    pub in_order-promoted : (from to : Slot) (vs : List Version) → kept to ≡ true → are_in_order kept arrival vs ≡ true →
+        are_in_order kept arrival (promoted arrival from to vs) ≡ true
     in_order-promoted from to vs here ordered = go (version_at from vs)
       where
         rest : are_in_order kept arrival (without_version from vs) ≡ true

@@ -1,5 +1,6 @@
 -- A code that is read, and what stands behind it.
-use Rattle.std.proofs.Common.{◌≡◌, ℕ, Bool, true, false, ◌==◌, IsTrue, List, [], ◌∷◌, nat_lt, Option, Some, None, if◌then◌else◌, ap, sym, ◌∙◌, refl, arith, ne_eqb, ltb-true, ltb-false}
+use Rattle.std.proofs.Common.{◌≡◌, ℕ, Bool, true, false, ◌==◌, IsTrue, List, [], ◌∷◌, nat_lt, Option, Some, None, if◌then◌else◌, ap, sym, ◌∙◌, refl, arith}
+use Rattle.std.proofs.Common.{ne_eqb, ltb-true, ltb-false}
 use Rattle.std.proofs.lemmas.Bool.{and_parts}
 use Rattle.std.specs.List.{list_all}
 use Rattle.wire_item.specs.Fronts.{Front, front_of_code, by_code}
@@ -10,10 +11,12 @@ use Rattle.wire_item.proofs.Numbers.{reads-u8}
 abbrev pub are_codes : {A : Type 0} → List (ℕ × Front A) → Bool
 are_codes rows = list_all (λ row. nat_lt row.0 256) rows
 
-pub code-read : {A : Type 0} (rows : List (ℕ × Front A)) (old : List ℕ) (code : ℕ) (mid : List ℕ) → u8_front old ≡ Some (code, mid) → by_code rows old ≡ front_of_code code rows mid
+pub code-read : {A : Type 0} (rows : List (ℕ × Front A)) (old : List ℕ) (code : ℕ) (mid : List ℕ) → u8_front old ≡ Some (code, mid) → by_code rows old
+    ≡ front_of_code code rows mid
 code-read rows old code mid e = ap (by_code rows) (reads-u8.only old code mid e).1
 
-far : {A : Type 0} (rows : List (ℕ × Front A)) (code : ℕ) (bytes : List ℕ) → IsTrue (are_codes rows) → nat_lt code 256 ≡ false → front_of_code code rows bytes ≡ None
+far : {A : Type 0} (rows : List (ℕ × Front A)) (code : ℕ) (bytes : List ℕ) → IsTrue (are_codes rows) → nat_lt code 256 ≡ false →
+    front_of_code code rows bytes ≡ None
 far [] code bytes h e = refl
 far (row ∷ rows) code bytes h e =
     let parts = and_parts (nat_lt row.0 256) (are_codes rows) h in

@@ -38,7 +38,8 @@ whole-spelled {A} {valid} {spelling} {front} reads bytes a e =
     let x = reads.only bytes a [] (whole-source front bytes a e) in
     (x.0, x.1 ∙ append-nil (spelling a))
 
-pub one_spelling : {A : Type 0} {valid : A → Bool} {spelling : A → List ℕ} {front : Front A} → Reads valid spelling front → HasOneSpelling valid spelling (whole front)
+pub one_spelling : {A : Type 0} {valid : A → Bool} {spelling : A → List ℕ} {front : Front A} → Reads valid spelling front →
+    HasOneSpelling valid spelling (whole front)
 one_spelling {A} {valid} {spelling} {front} reads = record {
   read_back = λ a h. spelled-whole reads (spelling a) a (h, refl);
   one_thing = λ bytes a b p q. (some-parts a b [] [] (sym (spelled-front reads bytes a p []) ∙ spelled-front reads bytes b q [])).0;

@@ -1,5 +1,6 @@
 -- How many bytes spellings have.
-use Rattle.std.proofs.Common.{◌≡◌, ℕ, ◌+◌, ◌*◌, ◌≤◌, Bool, not, ◌&&◌, IsTrue, List, [], ◌∷◌, ◌++◌, length, nat_le, ap, sym, ◌∙◌, refl, arith, leb-true, length-append}
+use Rattle.std.proofs.Common.{◌≡◌, ℕ, ◌+◌, ◌*◌, ◌≤◌, Bool, not, ◌&&◌, IsTrue, List, [], ◌∷◌, ◌++◌, length, nat_le, ap, sym, ◌∙◌, refl, arith, leb-true}
+use Rattle.std.proofs.Common.{length-append}
 use Rattle.std.proofs.lemmas.Bool.{and_parts}
 use Rattle.std.proofs.lemmas.List.Sums.{sum_by-cons}
 use Rattle.std.specs.Prelude.{flat_map, sum_by}
@@ -59,7 +60,8 @@ pub record-bound : RecordsAreBounded
 record-bound r h =
     let shape = and_parts (is_id r.id && not (same_id r.id root) && are_parents r.parents) (are_writes r.writes) h in
     let parents = second (is_id r.id && not (same_id r.id root)) (are_parents r.parents) shape.0 in
-    let some_parents = first (is_within 1 8 (length r.parents)) (list_all is_id r.parents) (first (is_within 1 8 (length r.parents) && list_all is_id r.parents) (are_ascending r.parents) parents) in
+    let some_parents = first (is_within 1 8 (length r.parents)) (list_all is_id r.parents)
+    (first (is_within 1 8 (length r.parents) && list_all is_id r.parents) (are_ascending r.parents) parents) in
     let few_parents = leb-true (length r.parents) 8 (second (nat_le 1 (length r.parents)) (nat_le (length r.parents) 8) some_parents) in
     let each : Bool = list_all (λ w. is_key w.0 && is_write w.1) r.writes in
     let writes = and_parts (nat_le (length r.writes) 64) each (first (nat_le (length r.writes) 64 && each) (are_ascending_keys (keys_of r.writes)) shape.1) in

@@ -1,5 +1,6 @@
 -- Numbers are read as they are spelled.
-use Rattle.std.proofs.Common.{◌≡◌, ℕ, zero, suc, ◌+◌, ◌*◌, ◌<◌, ◌≤◌, ◌^◌, Bool, true, IsTrue, List, [], ◌∷◌, ◌++◌, length, get_or, nat_lt, Option, Some, ap, sym, ◌∙◌, subst, refl, arith, ltb-true, lt-ltb}
+use Rattle.std.proofs.Common.{◌≡◌, ℕ, zero, suc, ◌+◌, ◌*◌, ◌<◌, ◌≤◌, ◌^◌, Bool, true, IsTrue, List, [], ◌∷◌, ◌++◌, length, get_or, nat_lt, Option, Some, ap}
+use Rattle.std.proofs.Common.{sym, ◌∙◌, subst, refl, arith, ltb-true, lt-ltb}
 use Rattle.std.proofs.lemmas.Bool.{and_parts, and_from}
 use Rattle.std.proofs.lemmas.Nat.{be_bytes_2, be_bytes_4, be_bytes_8, from_be_bytes-to_be_bytes_2, from_be_bytes-to_be_bytes_4, from_be_bytes-to_be_bytes_8}
 use Rattle.std.specs.Int.{Width, w8, w16, w32, w64, byte_len, byte_at, bytes_high_first, from_be_bytes}
@@ -30,7 +31,8 @@ record Exact (w : Width) (fits : ℕ → Bool) (spelling : ℕ → List ℕ) : T
   size : (n : ℕ) → length (spelling n) ≡ byte_len w
   each : (n : ℕ) → IsTrue (fits n) → IsTrue (are_bytes (spelling n))
   back : (n : ℕ) → IsTrue (fits n) → from_be_bytes w (spelling n) ≡ n
-  only : (bytes : List ℕ) → length bytes ≡ byte_len w → IsTrue (are_bytes bytes) → IsTrue (fits (from_be_bytes w bytes)) × (spelling (from_be_bytes w bytes) ≡ bytes)
+  only : (bytes : List ℕ) → length bytes ≡ byte_len w → IsTrue (are_bytes bytes) → IsTrue (fits (from_be_bytes w bytes))
+      × (spelling (from_be_bytes w bytes) ≡ bytes)
 
 reads-number : (w : Width) (fits : ℕ → Bool) (spelling : ℕ → List ℕ) → Exact w fits spelling → Reads fits spelling (number_front w)
 reads-number w fits spelling exact = record {
@@ -47,7 +49,8 @@ reads-number w fits spelling exact = record {
   bytes = λ n h. exact.each n h;
 }
 
-one_byte : (bytes : List ℕ) → length bytes ≡ 1 → IsTrue (are_bytes bytes) → IsTrue (is_u8 (from_be_bytes w8 bytes)) × (u8_spelling (from_be_bytes w8 bytes) ≡ bytes)
+one_byte : (bytes : List ℕ) → length bytes ≡ 1 → IsTrue (are_bytes bytes) → IsTrue (is_u8 (from_be_bytes w8 bytes))
+    × (u8_spelling (from_be_bytes w8 bytes) ≡ bytes)
 one_byte [] e h = absurd (omega arith)
 one_byte (b ∷ []) e h = ((and_parts (nat_lt b 256) true h).0, refl)
 one_byte (b ∷ c ∷ bytes) e h = absurd (omega arith)
@@ -82,6 +85,8 @@ reads-u64 = reads-number w64 is_u64 u64_spelling (record {
   each = λ n h. bytes_high_first-below 8 n;
   back = λ n h. from_be_bytes-to_be_bytes_8 n (ltb-true n (2 ^ 64) h);
   only = λ bytes e h.
-      let below = byte_below bytes h in
-      (lt-ltb (from_be_bytes w64 bytes) (2 ^ 64) (omega (arith, below 0, below 1, below 2, below 3, below 4, below 5, below 6, below 7)), be_bytes_8 bytes (from_be_bytes w64 bytes) e below refl);
+      let below = byte_below bytes h in (
+        lt-ltb (from_be_bytes w64 bytes) (2 ^ 64) (omega (arith, below 0, below 1, below 2, below 3, below 4, below 5, below 6, below 7)),
+        be_bytes_8 bytes (from_be_bytes w64 bytes) e below refl,
+      );
 })

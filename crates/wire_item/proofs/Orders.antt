@@ -26,7 +26,8 @@ middle : (a b c : Bool) → IsTrue b → (a && b && c) ≡ (a && c)
 middle true b c h = ap (λ t. t && c) h
 middle false b c h = refl
 
-pub parents-tested : (n : ℕ) (mid : List ℕ) (xs : List StateId) (rest : List ℕ) → times id_front n mid ≡ Some (xs, rest) → are_parents xs ≡ (is_within 1 8 n && are_ascending xs)
+pub parents-tested : (n : ℕ) (mid : List ℕ) (xs : List StateId) (rest : List ℕ) → times id_front n mid ≡ Some (xs, rest) → are_parents xs
+    ≡ (is_within 1 8 n && are_ascending xs)
 parents-tested n mid xs rest e =
     let h = (many-times reads-id).only n mid xs rest e in
     middle (is_within 1 8 (length xs)) (list_all is_id xs) (are_ascending xs) h.1 ∙ ap (λ k. is_within 1 8 k && are_ascending xs) h.0

@@ -38,7 +38,8 @@ order-push key before ascends o (y ∷ z ∷ xs) x h f =
     let parts = and_parts (before (key y) (key z)) (ascends (z ∷ xs)) (sym (o.two y z xs) ∙ h) in
     o.two y z (xs ++ x ∷ []) ∙ and_from (before (key y) (key z)) (ascends (z ∷ xs ++ x ∷ [])) parts.0 (order-push key before ascends o (z ∷ xs) x parts.1 f)
 
-pub order-breaks : {A K : Type 0} (key : A → K) (before : K → K → Bool) (ascends : List A → Bool) → IsOrder key before ascends → (xs : List A) (x : A) (zs : List A)
+pub order-breaks : {A K : Type 0} (key : A → K) (before : K → K → Bool) (ascends : List A → Bool) → IsOrder key before ascends →
+    (xs : List A) (x : A) (zs : List A)
     → may_follow before (option_map key (last_of xs)) (key x) ≡ false → ascends (xs ++ x ∷ zs) ≡ false
 order-breaks key before ascends o [] x zs f = absurd (cc)
 order-breaks key before ascends o (y ∷ []) x zs f = o.two y x zs ∙ and_left (before (key y) (key x)) (ascends (x ∷ zs)) f
@@ -46,25 +47,29 @@ order-breaks key before ascends o (y ∷ z ∷ xs) x zs f =
     o.two y z (xs ++ x ∷ zs) ∙ and_right (before (key y) (key z)) (ascends (z ∷ xs ++ x ∷ zs)) (order-breaks key before ascends o (z ∷ xs) x zs f)
 
 -- so many things were read in ascending order, and the list has them where there was memory
-pub record Progress {A K : Type 0} (key : A → K) (ascends : List A → Bool) (front : Front A) (start : List ℕ) (place : ℕ) (now : List ℕ) (last : Option K) (list : Result (List A) NoMemory) : Type 0 where
+pub record Progress {A K : Type 0} (key : A → K) (ascends : List A → Bool) (front : Front A) (start : List ℕ) (place : ℕ) (now : List ℕ) (last : Option K)
+    (list : Result (List A) NoMemory) : Type 0 where
   pub xs : List A
   pub reads : times front place start ≡ Some (xs, now)
   pub ordered : ascends xs ≡ true
   pub last_is : last ≡ option_map key (last_of xs)
   pub made : IfOk list (λ l. l ≡ xs)
 
-pub progress-start : {A K : Type 0} (key : A → K) (before : K → K → Bool) (ascends : List A → Bool) → IsOrder key before ascends → (front : Front A) (start : List ℕ) (list : List A)
+pub progress-start : {A K : Type 0} (key : A → K) (before : K → K → Bool) (ascends : List A → Bool) → IsOrder key before ascends →
+    (front : Front A) (start : List ℕ) (list : List A)
     → list ≡ [] → Progress key ascends front start 0 start None (Ok list)
 progress-start key before ascends o front start list e = record { xs = []; reads = refl; ordered = o.none; last_is = refl; made = e }
 
-pub progress-none : {A K : Type 0} (key : A → K) (ascends : List A → Bool) (front : Front A) (start : List ℕ) (place n : ℕ) (now : List ℕ) (last : Option K) (list : Result (List A) NoMemory)
+pub progress-none : {A K : Type 0} (key : A → K) (ascends : List A → Bool) (front : Front A) (start : List ℕ) (place n : ℕ) (now : List ℕ)
+    (last : Option K) (list : Result (List A) NoMemory)
     → Progress key ascends front start place now last list → front now ≡ None → place < n → only_if ascends (times front n) start ≡ None
 progress-none key ascends front start place n now last list p e h =
     only_if-none ascends (times front n) start (times-none front place n start p.xs now p.reads e h)
 
 pub progress-breaks : {A K : Type 0} (key : A → K) (before : K → K → Bool) (ascends : List A → Bool) → IsOrder key before ascends
     → (front : Front A) (start : List ℕ) (place n : ℕ) (now : List ℕ) (last : Option K) (list : Result (List A) NoMemory) (x : A) (next : List ℕ)
-    → Progress key ascends front start place now last list → front now ≡ Some (x, next) → may_follow before last (key x) ≡ false → place < n → only_if ascends (times front n) start ≡ None
+    → Progress key ascends front start place now last list → front now ≡ Some (x, next) → may_follow before last (key x) ≡ false → place < n →
+    only_if ascends (times front n) start ≡ None
 progress-breaks {A} {K} key before ascends o front start place n now last list x next p e f h = go (times front n start) refl
   where
     go : (r : Option (List A × List ℕ)) → times front n start ≡ r → only_if ascends (times front n) start ≡ None
@@ -90,7 +95,8 @@ progress-more key before ascends o front start place now last list longer x next
       made = add ordered;
     }
 
-pub progress-whole : {A K : Type 0} (key : A → K) (ascends : List A → Bool) (front : Front A) (start : List ℕ) (place n : ℕ) (now : List ℕ) (last : Option K) (list : Result (List A) NoMemory)
+pub progress-whole : {A K : Type 0} (key : A → K) (ascends : List A → Bool) (front : Front A) (start : List ℕ) (place n : ℕ) (now : List ℕ)
+    (last : Option K) (list : Result (List A) NoMemory)
     → Progress key ascends front start place now last list → place ≡ n → Makes (only_if ascends (times front n)) start (Some list) now
 progress-whole key ascends front start place n now last list p e =
     makes (only_if ascends (times front n)) start now list p.xs

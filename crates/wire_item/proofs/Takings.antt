@@ -1,5 +1,6 @@
 -- What a taking gives, when things are taken one after another.
-use Rattle.std.proofs.Common.{ap₂, ◌≡◌, ℕ, Bool, true, false, ◌&&◌, IsTrue, List, length, take, drop, nat_le, nat_lt, ◌<◌, ◌≤◌, Option, Some, None, ap, sym, ◌∙◌, subst, refl, le-leb, take-append-drop}
+use Rattle.std.proofs.Common.{ap₂, ◌≡◌, ℕ, Bool, true, false, ◌&&◌, IsTrue, List, length, take, drop, nat_le, nat_lt, ◌<◌, ◌≤◌, Option, Some, None, ap, sym}
+use Rattle.std.proofs.Common.{◌∙◌, subst, refl, le-leb, take-append-drop}
 use Rattle.std.proofs.lemmas.Bool.{and_left, and_right, and_from, and_parts, lt-leb}
 use Rattle.std.proofs.lemmas.List.Folds.{list_all-append}
 use Rattle.std.specs.Prelude.{option_map, option_and_then, Result, IfOk}
@@ -36,14 +37,16 @@ made-none f front bytes e = ap (option_map (λ read. (f read.0, read.1))) e
 pub only_if-none : {A : Type 0} (test : A → Bool) (front : Front A) (bytes : List ℕ) → front bytes ≡ None → only_if test front bytes ≡ None
 only_if-none test front bytes e = ap (option_and_then (λ read. then_some (test read.0) read)) e
 
-pub only_if-fails : {A : Type 0} (test : A → Bool) (front : Front A) (bytes : List ℕ) (a : A) (rest : List ℕ) → front bytes ≡ Some (a, rest) → test a ≡ false → only_if test front bytes ≡ None
+pub only_if-fails : {A : Type 0} (test : A → Bool) (front : Front A) (bytes : List ℕ) (a : A) (rest : List ℕ) → front bytes ≡ Some (a, rest) →
+    test a ≡ false → only_if test front bytes ≡ None
 only_if-fails test front bytes a rest e fails =
     ap (option_and_then (λ read. then_some (test read.0) read)) e ∙ ap (λ t. then_some t (a, rest)) fails
 
 pub after-none : {A B : Type 0} (first : Front A) (second : A → Front B) (bytes : List ℕ) → first bytes ≡ None → after first second bytes ≡ None
 after-none first second bytes e = ap (option_and_then (λ read. made (λ b. (read.0, b)) (second read.0) read.1)) e
 
-pub after-then_none : {A B : Type 0} (first : Front A) (second : A → Front B) (bytes : List ℕ) (a : A) (rest : List ℕ) → first bytes ≡ Some (a, rest) → second a rest ≡ None → after first second bytes ≡ None
+pub after-then_none : {A B : Type 0} (first : Front A) (second : A → Front B) (bytes : List ℕ) (a : A) (rest : List ℕ) → first bytes ≡ Some (a, rest) →
+    second a rest ≡ None → after first second bytes ≡ None
 after-then_none first second bytes a rest e n =
     ap (option_and_then (λ read. made (λ b. (read.0, b)) (second read.0) read.1)) e ∙ made-none (λ b. (a, b)) (second a) rest n
 
@@ -53,7 +56,8 @@ after-then first second bytes a between b rest e f = after-read first second byt
 
 pub bytes-short : (n : ℕ) (bytes : List ℕ) → length bytes < n → bytes_front n bytes ≡ None
 bytes-short n bytes h =
-    let short : (nat_le n (length bytes) && are_bytes (take n bytes)) ≡ false = and_left (nat_le n (length bytes)) (are_bytes (take n bytes)) (lt-leb n (length bytes) h) in
+    let short : (nat_le n (length bytes) && are_bytes (take n bytes)) ≡ false =
+    and_left (nat_le n (length bytes)) (are_bytes (take n bytes)) (lt-leb n (length bytes) h) in
     ap (λ t. then_some {T = List ℕ × List ℕ} t (take n bytes, drop n bytes)) short
 
 bytes_take : (n : ℕ) (bytes : List ℕ) → IsTrue (are_bytes bytes) → IsTrue (are_bytes (take n bytes))
@@ -63,10 +67,12 @@ bytes_take n bytes h =
 
 pub bytes-taken : (n : ℕ) (bytes : List ℕ) → n ≤ length bytes → IsTrue (are_bytes bytes) → bytes_front n bytes ≡ Some (take n bytes, drop n bytes)
 bytes-taken n bytes h each =
-    ap (λ t. then_some {T = List ℕ × List ℕ} t (take n bytes, drop n bytes)) (and_from (nat_le n (length bytes)) (are_bytes (take n bytes)) (le-leb n (length bytes) h) (bytes_take n bytes each))
+    ap (λ t. then_some {T = List ℕ × List ℕ} t (take n bytes, drop n bytes))
+    (and_from (nat_le n (length bytes)) (are_bytes (take n bytes)) (le-leb n (length bytes) h) (bytes_take n bytes each))
 
 -- bytes that were split
-pub bytes-split : (n : ℕ) (old bytes front back : List ℕ) → bytes ≡ old → n ≤ length bytes → IsTrue (are_bytes bytes) → front ≡ take n bytes → back ≡ drop n bytes → bytes_front n old ≡ Some (front, back)
+pub bytes-split : (n : ℕ) (old bytes front back : List ℕ) → bytes ≡ old → n ≤ length bytes → IsTrue (are_bytes bytes) → front ≡ take n bytes →
+    back ≡ drop n bytes → bytes_front n old ≡ Some (front, back)
 bytes-split n old bytes front back same enough each f b =
     ap (bytes_front n) (sym same) ∙ bytes-taken n bytes enough each ∙ ap₂ (λ x y. found x y) (sym f) (sym b)
   where
@@ -78,15 +84,18 @@ pub unmade : {A : Type 0} (front : Front A) (old new : List ℕ) → Makes front
 unfolding Makes
 unmade front old new h = h
 
-pub making : {A : Type 0} (front : Front A) (old new : List ℕ) (result : Result A NoMemory) → Makes front old (Some result) new → (a : A) × (front old ≡ Some (a, new)) × IfOk result (λ b. b ≡ a)
+pub making : {A : Type 0} (front : Front A) (old new : List ℕ) (result : Result A NoMemory) → Makes front old (Some result) new → (a : A)
+    × (front old ≡ Some (a, new)) × IfOk result (λ b. b ≡ a)
 unfolding Makes
 making front old new result h = h
 
-pub makes : {A : Type 0} (front : Front A) (old new : List ℕ) (result : Result A NoMemory) (a : A) → front old ≡ Some (a, new) → IfOk result (λ b. b ≡ a) → Makes front old (Some result) new
+pub makes : {A : Type 0} (front : Front A) (old new : List ℕ) (result : Result A NoMemory) (a : A) → front old ≡ Some (a, new) → IfOk result (λ b. b ≡ a) →
+    Makes front old (Some result) new
 unfolding Makes
 makes front old new result a e ok = (a, e, ok)
 
-pub makes-none : {A : Type 0} (front : Front A) (old new : List ℕ) (result : Option (Result A NoMemory)) → result ≡ None → front old ≡ None → Makes front old result new
+pub makes-none : {A : Type 0} (front : Front A) (old new : List ℕ) (result : Option (Result A NoMemory)) → result ≡ None → front old ≡ None →
+    Makes front old result new
 unfolding Makes
 makes-none front old new result e h = subst (λ r. Makes front old r new) (sym e) h
 
@@ -129,7 +138,8 @@ pub if_ok-same : {A : Type 0} (result : Result A NoMemory) (a b : A) → IfOk re
 if_ok-same result a b h e = subst (λ z. IfOk result (λ x. x ≡ z)) e h
 
 -- a list with its number in front, whatever is in it
-pub makes-after : {A : Type 0} (number : Front ℕ) (front : Front A) (old : List ℕ) (n : ℕ) (mid : List ℕ) (result : Option (Result (List A) NoMemory)) (new : List ℕ)
+pub makes-after : {A : Type 0} (number : Front ℕ) (front : Front A) (old : List ℕ) (n : ℕ) (mid : List ℕ) (result : Option (Result (List A) NoMemory))
+    (new : List ℕ)
     → number old ≡ Some (n, mid) → Makes (times front n) mid result new → Makes (counted number (times front)) old result new
 unfolding Makes
 makes-after number front old n mid None new e m =

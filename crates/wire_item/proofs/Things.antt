@@ -13,10 +13,13 @@ use Rattle.tardis_base.specs.Ids.{root, same_id, are_ascending}
 use Rattle.tardis_base.specs.Keys.{KeyWrite, keys_of, are_ascending_keys}
 use Rattle.tardis_base.specs.Valid.{is_u16, is_u32, are_bytes, is_within, is_id, is_key, is_value, is_write, are_parents, are_writes, is_record}
 use Rattle.tardis_base.proofs.TestParts.{first, second}
-use Rattle.wire_item.specs.Spellings.{id_spelling, key_spelling, value_spelling, write_spelling, parents_spelling, writes_spelling, record_spelling, consent_spelling, item_spelling, records_spelling, consents_spelling, batch_spelling}
+use Rattle.wire_item.specs.Spellings.{id_spelling, key_spelling, value_spelling, write_spelling, parents_spelling, writes_spelling, record_spelling}
+use Rattle.wire_item.specs.Spellings.{consent_spelling, item_spelling, records_spelling, consents_spelling, batch_spelling}
 use Rattle.wire_item.specs.Valid.{is_u8, is_consent, is_item, are_records, are_consents, is_batch}
-use Rattle.wire_item.specs.Readings.{id_front, key_front, value_front, write_rows, write_front, parents_front, writes_front, record_front, consent_front, item_rows, item_front, records_front, consents_front, batch_front}
-use Rattle.wire_item.proofs.Ways.{Reads, reads-both, reads-made, reads-only_if, reads-counted, many-times, many-bytes, row-nothing_but, row-made, by_code-only, made-back}
+use Rattle.wire_item.specs.Readings.{id_front, key_front, value_front, write_rows, write_front, parents_front, writes_front, record_front, consent_front}
+use Rattle.wire_item.specs.Readings.{item_rows, item_front, records_front, consents_front, batch_front}
+use Rattle.wire_item.proofs.Ways.{Reads, reads-both, reads-made, reads-only_if, reads-counted, many-times, many-bytes, row-nothing_but, row-made}
+use Rattle.wire_item.proofs.Ways.{by_code-only, made-back}
 use Rattle.wire_item.proofs.Numbers.{reads-u8, reads-u16, reads-u32}
 
 -- at most so many are fewer than more
@@ -63,7 +66,8 @@ reads-write = record {
 parents_counted : (xs : List StateId) → IsTrue (are_parents xs) → IsTrue (is_u8 (length xs) && list_all is_id xs)
 parents_counted xs h =
     let parts = and_parts (is_within 1 8 (length xs)) (list_all is_id xs) (first (is_within 1 8 (length xs) && list_all is_id xs) (are_ascending xs) h) in
-    and_from (is_u8 (length xs)) (list_all is_id xs) (fits (length xs) 8 256 (second (nat_le 1 (length xs)) (nat_le (length xs) 8) parts.0) (omega arith)) parts.1
+    and_from (is_u8 (length xs)) (list_all is_id xs) (fits (length xs) 8 256 (second (nat_le 1 (length xs)) (nat_le (length xs) 8) parts.0) (omega arith))
+    parts.1
 
 pub reads-parents : Reads are_parents parents_spelling parents_front
 reads-parents = reads-only_if are_parents are_parents (λ xs h. (parents_counted xs h, h)) (λ xs v t. t) (reads-counted reads-u8 (many-times reads-id))
@@ -116,8 +120,10 @@ reads-consent = reads-only_if (λ c. nat_le 1 c.site && nat_le 1 c.number) is_co
 pub reads-item : Reads is_item item_spelling item_front
 reads-item = record {
   back = back;
-  only = by_code-only is_item item_spelling item_rows
-      (row-made is_item item_spelling 1 State reads-record (λ r h. h) (λ r. refl), (row-made is_item item_spelling 2 Promise reads-consent (λ c h. h) (λ c. refl), tt));
+  only = by_code-only is_item item_spelling item_rows (
+    row-made is_item item_spelling 1 State reads-record (λ r h. h) (λ r. refl),
+    (row-made is_item item_spelling 2 Promise reads-consent (λ c h. h) (λ c. refl), tt),
+  );
   bytes = bytes;
 }
   where

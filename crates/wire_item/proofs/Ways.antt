@@ -1,12 +1,14 @@
 -- A front reads a spelling: it reads back each thing that is spelled, and nothing else. Each way of reading keeps this.
-use Rattle.std.proofs.Common.{◌≡◌, ℕ, suc, Bool, true, false, ◌&&◌, IsTrue, List, [], ◌∷◌, ◌++◌, length, Some, ap, sym, ◌∙◌, subst, refl, append_assoc, ◌==◌, if◌then◌else◌}
+use Rattle.std.proofs.Common.{◌≡◌, ℕ, suc, Bool, true, false, ◌&&◌, IsTrue, List, [], ◌∷◌, ◌++◌, length, Some, ap, sym, ◌∙◌, subst, refl, append_assoc, ◌==◌}
+use Rattle.std.proofs.Common.{if◌then◌else◌}
 use Rattle.std.proofs.lemmas.Bool.{and_parts, and_from, eqb-true}
 use Rattle.std.proofs.lemmas.List.Folds.{list_all-append}
 use Rattle.std.specs.Prelude.{flat_map, nat_lt}
 use Rattle.std.specs.List.{list_all}
 use Rattle.tardis_base.specs.Valid.{are_bytes}
 use Rattle.wire_item.specs.Fronts.{Front, nothing_but, bytes_front, made, only_if, after, both, times, counted, front_of_code, by_code}
-use Rattle.wire_item.proofs.Fronts.{some-parts, made-read, made-source, only_if-read, only_if-source, after-read, after-source, bytes_front-read, bytes_front-source}
+use Rattle.wire_item.proofs.Fronts.{some-parts, made-read, made-source, only_if-read, only_if-source, after-read, after-source, bytes_front-read}
+use Rattle.wire_item.proofs.Fronts.{bytes_front-source}
 
 -- the front reads this spelling of the things that are valid
 pub record Reads {A : Type 0} (valid : A → Bool) (spelling : A → List ℕ) (front : Front A) : Type 0 where
@@ -17,7 +19,8 @@ pub record Reads {A : Type 0} (valid : A → Bool) (spelling : A → List ℕ) (
 -- the same of lists whose number is known
 pub record ReadsMany {A : Type 0} (valid : List A → Bool) (spelling : List A → List ℕ) (front : ℕ → Front (List A)) : Type 0 where
   pub back : (xs : List A) (rest : List ℕ) → IsTrue (valid xs) → front (length xs) (spelling xs ++ rest) ≡ Some (xs, rest)
-  pub only : (n : ℕ) (bytes : List ℕ) (xs : List A) (rest : List ℕ) → front n bytes ≡ Some (xs, rest) → (length xs ≡ n) × IsTrue (valid xs) × (bytes ≡ spelling xs ++ rest)
+  pub only : (n : ℕ) (bytes : List ℕ) (xs : List A) (rest : List ℕ) → front n bytes ≡ Some (xs, rest) → (length xs ≡ n) × IsTrue (valid xs)
+      × (bytes ≡ spelling xs ++ rest)
   pub bytes : (xs : List A) → IsTrue (valid xs) → IsTrue (are_bytes (spelling xs))
 
 pub are_bytes-append : (xs ys : List ℕ) → IsTrue (are_bytes xs) → IsTrue (are_bytes ys) → IsTrue (are_bytes (xs ++ ys))
@@ -92,7 +95,8 @@ many-times {A} {v} {s} {front} reads = record { back = back; only = only; bytes 
         ap (times front (length (x ∷ xs))) (append_assoc (s x) (flat_map s xs) rest)
         ∙ made-read (λ read. read.0 ∷ read.1) (both front (times front (length xs))) bytes (x, xs) rest pair
 
-    only : (n : ℕ) (bytes : List ℕ) (xs : List A) (rest : List ℕ) → times front n bytes ≡ Some (xs, rest) → (length xs ≡ n) × IsTrue (list_all v xs) × (bytes ≡ flat_map s xs ++ rest)
+    only : (n : ℕ) (bytes : List ℕ) (xs : List A) (rest : List ℕ) → times front n bytes ≡ Some (xs, rest) → (length xs ≡ n) × IsTrue (list_all v xs)
+        × (bytes ≡ flat_map s xs ++ rest)
     only ℕ.zero bytes xs rest e =
         let parts = some-parts [] xs bytes rest e in
         subst (λ z. (length z ≡ 0) × IsTrue (list_all v z) × (bytes ≡ flat_map s z ++ rest)) parts.0 (refl, refl, parts.1)
@@ -138,7 +142,8 @@ reads-counted {A} {vn} {sn} {number} {v} {s} {things} count many = record {
       let y = many.only m.source.0 h.between m.source.1 rest h.then in
       subst (λ z. IsTrue (vn (length z) && v z) × (bytes ≡ (sn (length z) ++ s z) ++ rest)) m.is (
         and_from (vn (length m.source.1)) (v m.source.1) (ap vn y.0 ∙ x.0) y.1,
-        x.1 ∙ ap (λ z. sn m.source.0 ++ z) y.2 ∙ ap (λ k. sn k ++ (s m.source.1 ++ rest)) (sym y.0) ∙ sym (append_assoc (sn (length m.source.1)) (s m.source.1) rest),
+        x.1 ∙ ap (λ z. sn m.source.0 ++ z) y.2 ∙ ap (λ k. sn k ++ (s m.source.1 ++ rest)) (sym y.0)
+            ∙ sym (append_assoc (sn (length m.source.1)) (s m.source.1) rest),
       );
   bytes = λ xs h.
       let parts = and_parts (vn (length xs)) (v xs) h in
@@ -156,14 +161,16 @@ RowsRead valid spelling [] = Unit {0}
 RowsRead valid spelling (row ∷ rows) = RowReads valid spelling row.0 row.1 × RowsRead valid spelling rows
 
 -- a thing of no bytes but its code
-pub row-nothing_but : {A : Type 0} (valid : A → Bool) (spelling : A → List ℕ) (code : ℕ) (a : A) → IsTrue (valid a) → spelling a ≡ code ∷ [] → RowReads valid spelling code (nothing_but a)
+pub row-nothing_but : {A : Type 0} (valid : A → Bool) (spelling : A → List ℕ) (code : ℕ) (a : A) → IsTrue (valid a) → spelling a ≡ code ∷ [] →
+    RowReads valid spelling code (nothing_but a)
 row-nothing_but valid spelling code a v s bytes x rest e =
     let parts = some-parts a x bytes rest e in
     subst (λ z. IsTrue (valid z) × (code ∷ bytes ≡ spelling z ++ rest)) parts.0 (v, ap (λ z. code ∷ z) parts.1 ∙ ap (λ z. z ++ rest) (sym s))
 
 -- a thing made of what stands behind its code
 pub row-made : {A B : Type 0} {v : A → Bool} {s : A → List ℕ} {front : Front A} (valid : B → Bool) (spelling : B → List ℕ) (code : ℕ) (to : A → B)
-    → Reads v s front → ((a : A) → IsTrue (v a) → IsTrue (valid (to a))) → ((a : A) → spelling (to a) ≡ code ∷ s a) → RowReads valid spelling code (made to front)
+    → Reads v s front → ((a : A) → IsTrue (v a) → IsTrue (valid (to a))) → ((a : A) → spelling (to a) ≡ code ∷ s a) →
+    RowReads valid spelling code (made to front)
 row-made {A} {B} {v} {s} {front} valid spelling code to reads valid-to spelling-to bytes b rest e =
     let m = made-source to front bytes b rest e in
     let x = reads.only bytes m.source rest m.reads in

@@ -1,5 +1,6 @@
 -- What is answered where bytes are to spell one thing and nothing else.
-use Rattle.std.proofs.Common.{◌≡◌, ◌↔◌, ℕ, Bool, true, false, ◌==◌, List, [], ◌∷◌, length, Option, Some, None, Result, Ok, Err, ap, sym, ◌∙◌, subst, refl, arith, eqb-true}
+use Rattle.std.proofs.Common.{◌≡◌, ◌↔◌, ℕ, Bool, true, false, ◌==◌, List, [], ◌∷◌, length, Option, Some, None, Result, Ok, Err, ap, sym, ◌∙◌, subst, refl}
+use Rattle.std.proofs.Common.{arith, eqb-true}
 use Rattle.std.specs.Prelude.{IfOk, option_and_then}
 use Rattle.tardis_base.specs.declared.faults.NoMemory.{NoMemory}
 use Rattle.tardis_base.specs.declared.faults.ReadFault.{ReadFault}
@@ -20,7 +21,8 @@ no_list : (rest : List ℕ) → (length rest == 0) ≡ true → rest ≡ []
 no_list [] e = refl
 no_list (x ∷ rest) e = absurd (omega (arith, eqb-true (length (x ∷ rest)) 0 e))
 
-left_over : {A : Type 0} (front : Front A) (bytes : List ℕ) (a : A) (rest : List ℕ) → front bytes ≡ Some (a, rest) → (length rest == 0) ≡ false → whole front bytes ≡ None
+left_over : {A : Type 0} (front : Front A) (bytes : List ℕ) (a : A) (rest : List ℕ) → front bytes ≡ Some (a, rest) → (length rest == 0) ≡ false →
+    whole front bytes ≡ None
 left_over {A} front bytes a rest e f = ap (option_and_then (λ read. alone read.0 read.1)) e ∙ go rest f
   where
     go : (rest : List ℕ) → (length rest == 0) ≡ false → alone a rest ≡ None
@@ -51,7 +53,8 @@ answers {A} {valid} {spelling} {front} reads bytes taken rest done m d result e 
     read_whole : (a : A) → front bytes ≡ Some (a, rest) → true ≡ (length rest == 0) → whole front bytes ≡ Some a
     read_whole a e d = whole-read front bytes a (e ∙ ap (λ r. Some (a, r)) (no_list rest (sym d)))
 
-    go : (taken : Option (Result A NoMemory)) (done : Bool) → Makes front bytes taken rest → done ≡ (length rest == 0) → Answers valid spelling front bytes (whole_of taken done)
+    go : (taken : Option (Result A NoMemory)) (done : Bool) → Makes front bytes taken rest → done ≡ (length rest == 0) →
+        Answers valid spelling front bytes (whole_of taken done)
     go None done m d = malformed (ap (option_and_then (λ read. alone read.0 read.1)) (unmade front bytes rest m))
     go (Some result) false m d =
         let made = making front bytes rest result m in

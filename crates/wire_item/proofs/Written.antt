@@ -1,5 +1,6 @@
 -- Bytes that are written one behind the other.
-use Rattle.std.proofs.Common.{◌≡◌, ℕ, Bool, IsTrue, ◌+◌, ◌<◌, ◌≤◌, List, [], ◌∷◌, ◌++◌, length, take, get_or, ap, sym, ◌∙◌, arith, append_assoc, append-nil, length-append}
+use Rattle.std.proofs.Common.{◌≡◌, ℕ, Bool, IsTrue, ◌+◌, ◌<◌, ◌≤◌, List, [], ◌∷◌, ◌++◌, length, take, get_or, ap, sym, ◌∙◌, arith, append_assoc, append-nil}
+use Rattle.std.proofs.Common.{length-append}
 use Rattle.std.proofs.lemmas.List.Folds.{length-flat_map-take}
 use Rattle.std.proofs.lemmas.List.{take_all, take_more, flat_map_more}
 use Rattle.std.proofs.lemmas.Bool.{and_parts}
@@ -25,7 +26,8 @@ each-first f xs out = sym (append-nil out)
 
 -- where a list has room, its next thing has
 pub each-room : {A : Type 0} (f : A → List ℕ) (xs : List A) (i : ℕ) (d x : A) (out now : List ℕ)
-    → i < length xs → now ≡ out ++ flat_map f (take i xs) → x ≡ get_or xs i d → length out + length (flat_map f xs) ≤ longest_frame → length now + length (f x) ≤ longest_frame
+    → i < length xs → now ≡ out ++ flat_map f (take i xs) → x ≡ get_or xs i d → length out + length (flat_map f xs) ≤ longest_frame →
+    length now + length (f x) ≤ longest_frame
 each-room f xs i d x out now h e is room =
     omega (arith, length-flat_map-take f xs i d h, ap (λ z. length (f z)) is, ap length e, length-append out (flat_map f (take i xs)))
 
@@ -37,7 +39,8 @@ each-next f xs i d x out now new h e is n =
     ∙ ap (λ z. out ++ flat_map f z) (ap (λ y. take i xs ++ y ∷ []) is ∙ sym (take_more xs i d h))
 
 -- the whole list is written
-pub each-last : {A : Type 0} (f : A → List ℕ) (xs : List A) (n : ℕ) (out new : List ℕ) → length xs ≤ n → new ≡ out ++ flat_map f (take n xs) → new ≡ out ++ flat_map f xs
+pub each-last : {A : Type 0} (f : A → List ℕ) (xs : List A) (n : ℕ) (out new : List ℕ) → length xs ≤ n → new ≡ out ++ flat_map f (take n xs) → new ≡ out
+    ++ flat_map f xs
 each-last f xs n out new h e = e ∙ ap (λ z. out ++ flat_map f z) (take_all n xs h)
 
 valid-at : {A : Type 0} (p : A → Bool) (xs : List A) (i : ℕ) (d : A) → i < length xs → IsTrue (list_all p xs) → IsTrue (p (get_or xs i d))

@@ -1,5 +1,6 @@
 -- What an arm of a code gives, where its fields are read.
-use Rattle.std.proofs.Common.{◌≡◌, ℕ, Bool, true, false, ◌==◌, ◌≤◌, IsTrue, List, [], ◌∷◌, nat_lt, Option, Some, None, if◌then◌else◌, ap, sym, ◌∙◌, refl, arith, ne_eqb, ltb-true}
+use Rattle.std.proofs.Common.{◌≡◌, ℕ, Bool, true, false, ◌==◌, ◌≤◌, IsTrue, List, [], ◌∷◌, nat_lt, Option, Some, None, if◌then◌else◌, ap, sym, ◌∙◌, refl}
+use Rattle.std.proofs.Common.{arith, ne_eqb, ltb-true}
 use Rattle.std.proofs.lemmas.Bool.{and_parts}
 use Rattle.std.specs.List.{list_all}
 use Rattle.std.specs.Prelude.{Result, Ok, IfOk}
@@ -39,7 +40,8 @@ arm-none rows k code f front old new r e row none t =
     makes-none (front_of_code code rows) old new r none (ap (λ j. front_of_code j rows old) e ∙ ap (λ g. g old) row ∙ made-none f front old t)
 
 -- the arm of a code whose fields take memory
-pub arm-makes : {A B : Type 0} (rows : List (ℕ × Front B)) (k code : ℕ) (f : A → B) (front : Front A) (old new : List ℕ) (x : Result A NoMemory) (r : Result B NoMemory)
+pub arm-makes : {A B : Type 0} (rows : List (ℕ × Front B)) (k code : ℕ) (f : A → B) (front : Front A) (old new : List ℕ) (x : Result A NoMemory)
+    (r : Result B NoMemory)
     → code ≡ k → front_of_code k rows ≡ made f front → Makes front old (Some x) new → ((a : A) → IfOk x (λ y. y ≡ a) → IfOk r (λ y. y ≡ f a))
     → Makes (front_of_code code rows) old (Some r) new
 arm-makes rows k code f front old new x r e row m made-of =
@@ -56,7 +58,8 @@ arm-takes rows k code f front old a new e row t =
 
 -- the arm of a code whose fields always take memory
 pub arm-sure : {A B : Type 0} (rows : List (ℕ × Front B)) (k code : ℕ) (f : A → B) (front : Front A) (sure : B → Bool) → ((a : A) → sure (f a) ≡ false)
-    → (old : List ℕ) (b : B) (rest : List ℕ) → code ≡ k → front_of_code k rows ≡ made f front → front_of_code code rows old ≡ Some (b, rest) → IsTrue (sure b) → ⊥
+    → (old : List ℕ) (b : B) (rest : List ℕ) → code ≡ k → front_of_code k rows ≡ made f front → front_of_code code rows old ≡ Some (b, rest) →
+    IsTrue (sure b) → ⊥
 arm-sure rows k code f front sure takes old b rest e row read is =
     let m = made-source f front old b rest (sym (ap (λ j. front_of_code j rows old) e ∙ ap (λ g. g old) row) ∙ read) in
     true-not-false (sure b) is (sym (ap sure m.is) ∙ takes m.source)

@@ -1,6 +1,7 @@
 -- The laws of the spellings of requests and replies.
 use Rattle.std.proofs.Common.{refl}
-use Rattle.tardis_base.specs.declared.requests.Request.TheVariants.{Open, Begin, Get, Put, Delete, Commit, Abort, BeginMerge, ForkPoints, Conflicts, GetFor, Ceiling, Raise, RaiseAuto, Tidy, Stat, Show, Leaves, Pull, Deliver, Close, Settle}
+use Rattle.tardis_base.specs.declared.requests.Request.TheVariants.{Open, Begin, Get, Put, Delete, Commit, Abort, BeginMerge, ForkPoints, Conflicts, GetFor}
+use Rattle.tardis_base.specs.declared.requests.Request.TheVariants.{Ceiling, Raise, RaiseAuto, Tidy, Stat, Show, Leaves, Pull, Deliver, Close, Settle}
 use Rattle.wire_item.proofs.Laws.{one_spelling}
 use Rattle.wire_talk.specs.Laws.{RequestsHaveOneSpelling, RepliesHaveOneSpelling, RequestsBeginWithTheirCode}
 use Rattle.wire_talk.proofs.Requests.{reads-request}

@@ -1,11 +1,14 @@
 -- Requests that are lent from their bytes.
-use Rattle.std.proofs.Common.{◌≡◌, ℕ, ◌≤◌, nat_le, Bool, true, false, ◌==◌, IsTrue, List, [], ◌∷◌, length, Option, Some, None, ap, sym, ◌∙◌, refl, arith, eqb-true}
+use Rattle.std.proofs.Common.{◌≡◌, ℕ, ◌≤◌, nat_le, Bool, true, false, ◌==◌, IsTrue, List, [], ◌∷◌, length, Option, Some, None, ap, sym, ◌∙◌, refl, arith}
+use Rattle.std.proofs.Common.{eqb-true}
 use Rattle.std.specs.Prelude.{option_and_then}
 use Rattle.std.specs.Bool.{then_some}
 use Rattle.std.proofs.lemmas.Bool.{and_from, and_parts, le-leb, leb-true}
 use Rattle.tardis_base.specs.Valid.{is_within}
 use Rattle.tardis_base.specs.declared.requests.Request.{Request}
-use Rattle.tardis_base.specs.declared.requests.Request.TheVariants.{Open, Begin as BeginAt, Get, Put, Delete, Commit, Abort, BeginMerge, ForkPoints, Conflicts, GetFor, Ceiling, Raise, RaiseAuto, Tidy, Stat, Show, Leaves, Pull, Deliver, Close, Settle}
+use Rattle.tardis_base.specs.declared.requests.Request.TheVariants.{Open, Begin as BeginAt, Get, Put, Delete, Commit, Abort, BeginMerge, ForkPoints}
+use Rattle.tardis_base.specs.declared.requests.Request.TheVariants.{Conflicts, GetFor, Ceiling, Raise, RaiseAuto, Tidy, Stat, Show, Leaves, Pull, Deliver}
+use Rattle.tardis_base.specs.declared.requests.Request.TheVariants.{Close, Settle}
 use Rattle.wire_item.specs.Fronts.{Front, made, only_if, front_of_code}
 use Rattle.wire_item.specs.Readings.{u8_front}
 use Rattle.wire_item.specs.Takings.{Takes}
@@ -46,7 +49,8 @@ lendable-code Close = refl
 lendable-code Settle = refl
 
 -- a request that stands behind such a code is lent, and no other
-lendable-behind : (code : ℕ) (old : List ℕ) (q : Request) (new : List ℕ) → front_of_code code request_rows old ≡ Some (q, new) → is_lendable q ≡ is_within 2 6 code
+lendable-behind : (code : ℕ) (old : List ℕ) (q : Request) (new : List ℕ) → front_of_code code request_rows old ≡ Some (q, new) →
+    is_lendable q ≡ is_within 2 6 code
 lendable-behind code old q new e = lendable-code q ∙ ap (is_within 2 6) (code-at q code old new e)
 
 -- the arm of a code whose request is lent
@@ -68,7 +72,8 @@ out_of code other true e =
 out_of code other false e = e
 
 -- the arm of the other codes
-pub arm-other : (code : ℕ) (old new : List ℕ) → ((m : ℕ) → 2 ≤ m → m ≤ 6 → m ≡ code → ⊥) → Takes (only_if is_lendable (front_of_code code request_rows)) old None new
+pub arm-other : (code : ℕ) (old new : List ℕ) → ((m : ℕ) → 2 ≤ m → m ≤ 6 → m ≡ code → ⊥) →
+    Takes (only_if is_lendable (front_of_code code request_rows)) old None new
 unfolding Takes
 arm-other code old new other = go (front_of_code code request_rows old) refl
   where
@@ -115,7 +120,8 @@ no-code bytes new q code spelled lendable =
     unread bytes q spelled lendable (only_if-none is_lendable request_front bytes (code-none request_rows bytes refl (untaken u8_front bytes new code)))
 
 -- what is lent stands behind the code
-behind : (bytes mid : List ℕ) (code : ℕ) → Takes u8_front bytes (Some code) mid → only_if is_lendable request_front bytes ≡ only_if is_lendable (front_of_code code request_rows) mid
+behind : (bytes mid : List ℕ) (code : ℕ) → Takes u8_front bytes (Some code) mid → only_if is_lendable request_front bytes
+    ≡ only_if is_lendable (front_of_code code request_rows) mid
 behind bytes mid code t =
     ap (option_and_then (λ read. then_some (is_lendable read.0) read)) (code-read request_rows bytes code mid (taken u8_front bytes mid code t))
 
@@ -139,7 +145,8 @@ all-read bytes mid new code q t f done =
 
 -- bytes that are left over spell none
 pub left-over : (bytes mid new : List ℕ) (code : ℕ) (q r : Request) → Takes u8_front bytes (Some code) mid
-    → Takes (only_if is_lendable (front_of_code code request_rows)) mid (Some r) new → (length new == 0) ≡ false → SpellsRequest bytes q → IsTrue (is_lendable q) → ⊥
+    → Takes (only_if is_lendable (front_of_code code request_rows)) mid (Some r) new → (length new == 0) ≡ false → SpellsRequest bytes q →
+    IsTrue (is_lendable q) → ⊥
 left-over bytes mid new code q r t f more spelled lendable =
     let read = lendable-read bytes q spelled lendable in
     let same = some-parts r q new [] (sym (behind bytes mid code t ∙ taken (only_if is_lendable (front_of_code code request_rows)) mid new r f) ∙ read) in

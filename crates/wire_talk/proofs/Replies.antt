@@ -5,22 +5,30 @@ use Rattle.std.specs.List.{list_all}
 use Rattle.tardis_base.specs.declared.ids.StateId.{StateId}
 use Rattle.tardis_base.specs.declared.replies.SiteLine.{SiteLine}
 use Rattle.tardis_base.specs.declared.replies.Refusal.{Refusal}
-use Rattle.tardis_base.specs.declared.replies.Refusal.TheVariants.{Malformed, NotOpen, AlreadyOpen, SessionsFull, TxnOpen, NoTxn, WrongMode, TooMany, Unknown, Below, Comparable, NotRead, ConflictKey, OpenConflict, Branches, CeilingBack, FloorBack, Held, Collected, Full, PathFull, SeqEnd, BadSite, ClosedParent, OwnItem, TrailFull, Unsupported, NoSuchItem, BagFull}
+use Rattle.tardis_base.specs.declared.replies.Refusal.TheVariants.{Malformed, NotOpen, AlreadyOpen, SessionsFull, TxnOpen, NoTxn, WrongMode, TooMany, Unknown}
+use Rattle.tardis_base.specs.declared.replies.Refusal.TheVariants.{Below, Comparable, NotRead, ConflictKey, OpenConflict, Branches, CeilingBack, FloorBack}
+use Rattle.tardis_base.specs.declared.replies.Refusal.TheVariants.{Held, Collected, Full, PathFull, SeqEnd, BadSite, ClosedParent, OwnItem, TrailFull}
+use Rattle.tardis_base.specs.declared.replies.Refusal.TheVariants.{Unsupported, NoSuchItem, BagFull}
 use Rattle.tardis_base.specs.declared.replies.Reply.{Reply}
-use Rattle.tardis_base.specs.declared.replies.Reply.TheVariants.{Opened, Begun, Merging, Value, Deleted, Absent, Done, Committed, Ended, States, Keys, Raised, Tidied, Stat as Statistics, Shown, Batch, Applied, Known, Early, Closed, Refused, NoMemory}
+use Rattle.tardis_base.specs.declared.replies.Reply.TheVariants.{Opened, Begun, Merging, Value, Deleted, Absent, Done, Committed, Ended, States, Keys, Raised}
+use Rattle.tardis_base.specs.declared.replies.Reply.TheVariants.{Tidied, Stat as Statistics, Shown, Batch, Applied, Known, Early, Closed, Refused, NoMemory}
 use Rattle.tardis_base.specs.Keys.{are_ascending_keys}
 use Rattle.tardis_base.specs.Valid.{is_u16, is_u32, is_within, are_bytes, is_id, is_key}
 use Rattle.wire_item.specs.Spellings.{u8_spelling}
 use Rattle.wire_item.specs.Valid.{is_u8}
 use Rattle.wire_item.specs.Fronts.{only_if}
 use Rattle.wire_item.specs.Readings.{u8_front}
-use Rattle.wire_item.proofs.Ways.{Reads, reads-both, reads-made, reads-only_if, reads-counted, many-times, RowsRead, row-nothing_but, row-made, by_code-only, made-back}
+use Rattle.wire_item.proofs.Ways.{Reads, reads-both, reads-made, reads-only_if, reads-counted, many-times, RowsRead, row-nothing_but, row-made, by_code-only}
+use Rattle.wire_item.proofs.Ways.{made-back}
 use Rattle.wire_item.proofs.Numbers.{reads-u8, reads-u16, reads-u32, reads-u64}
 use Rattle.tardis_base.proofs.TestParts.{first, second}
 use Rattle.wire_item.proofs.Things.{fits, reads-id, reads-key, reads-value, reads-parents, reads-batch}
-use Rattle.wire_talk.specs.Spellings.{refusal_spelling, first_ids_spelling, first_keys_spelling, site_line_spelling, site_lines_spelling, children_spelling, path_spelling, reply_spelling}
-use Rattle.wire_talk.specs.Valid.{is_what, is_constraint, is_refusal, is_first_of, are_first_ids, are_first_keys, is_site_line, are_site_lines, are_children, is_path, is_reply}
-use Rattle.wire_talk.specs.ReplyReadings.{refusal_rows, refusal_front, first_ids_front, first_keys_front, site_line_front, site_lines_front, children_front, path_front, reply_rows, reply_front}
+use Rattle.wire_talk.specs.Spellings.{refusal_spelling, first_ids_spelling, first_keys_spelling, site_line_spelling, site_lines_spelling, children_spelling}
+use Rattle.wire_talk.specs.Spellings.{path_spelling, reply_spelling}
+use Rattle.wire_talk.specs.Valid.{is_what, is_constraint, is_refusal, is_first_of, are_first_ids, are_first_keys, is_site_line, are_site_lines, are_children}
+use Rattle.wire_talk.specs.Valid.{is_path, is_reply}
+use Rattle.wire_talk.specs.ReplyReadings.{refusal_rows, refusal_front, first_ids_front, first_keys_front, site_line_front, site_lines_front, children_front}
+use Rattle.wire_talk.specs.ReplyReadings.{path_front, reply_rows, reply_front}
 
 what_fits : (what : ℕ) → IsTrue (is_what what) → IsTrue (is_u8 what)
 what_fits what h = fits what 3 256 (second (nat_le 1 what) (nat_le what 3) h) (omega arith)
@@ -71,7 +79,8 @@ reads-refusal = record { back = back; only = by_code-only is_refusal refusal_spe
                               (
                                 row-made is_refusal refusal_spelling 14 OpenConflict reads-key (λ a h. h) (λ a. refl),
                                 (
-                                  row-made is_refusal refusal_spelling 15 (λ p. Branches p.0.0 p.0.1 p.1) (reads-both (reads-both reads-constraint reads-id) reads-u32) (λ a h. h) (λ a. refl),
+                                  row-made is_refusal refusal_spelling 15 (λ p. Branches p.0.0 p.0.1 p.1)
+                                      (reads-both (reads-both reads-constraint reads-id) reads-u32) (λ a h. h) (λ a. refl),
                                   (
                                     row-made is_refusal refusal_spelling 16 CeilingBack reads-id (λ a h. h) (λ a. refl),
                                     (
@@ -83,7 +92,8 @@ reads-refusal = record { back = back; only = by_code-only is_refusal refusal_spe
                                           (
                                             row-made is_refusal refusal_spelling 20 Full reads-u32 (λ a h. h) (λ a. refl),
                                             (
-                                              row-made is_refusal refusal_spelling 21 (λ p. PathFull p.0 p.1) (reads-both reads-id reads-u32) (λ a h. h) (λ a. refl),
+                                              row-made is_refusal refusal_spelling 21 (λ p. PathFull p.0 p.1) (reads-both reads-id reads-u32) (λ a h. h)
+                                                  (λ a. refl),
                                               (
                                                 row-nothing_but is_refusal refusal_spelling 22 SeqEnd refl refl,
                                                 (
@@ -91,7 +101,8 @@ reads-refusal = record { back = back; only = by_code-only is_refusal refusal_spe
                                                   (
                                                     row-made is_refusal refusal_spelling 24 ClosedParent reads-id (λ a h. h) (λ a. refl),
                                                     (
-                                                      row-made is_refusal refusal_spelling 25 (λ p. OwnItem p.0 p.1) (reads-both reads-u16 reads-u32) (λ a h. h) (λ a. refl),
+                                                      row-made is_refusal refusal_spelling 25 (λ p. OwnItem p.0 p.1) (reads-both reads-u16 reads-u32)
+                                                          (λ a h. h) (λ a. refl),
                                                       (
                                                         row-made is_refusal refusal_spelling 26 TrailFull reads-u64 (λ a h. h) (λ a. refl),
                                                         (
@@ -143,7 +154,8 @@ reads-refusal = record { back = back; only = by_code-only is_refusal refusal_spe
     back (NotRead state) rest h = made-back reads-id NotRead state rest h
     back (ConflictKey key) rest h = made-back reads-key ConflictKey key rest h
     back (OpenConflict key) rest h = made-back reads-key OpenConflict key rest h
-    back (Branches constraint state children) rest h = made-back (reads-both (reads-both reads-constraint reads-id) reads-u32) (λ p. Branches p.0.0 p.0.1 p.1) ((constraint, state), children) rest h
+    back (Branches constraint state children) rest h = made-back (reads-both (reads-both reads-constraint reads-id) reads-u32)
+        (λ p. Branches p.0.0 p.0.1 p.1) ((constraint, state), children) rest h
     back (CeilingBack ceiling) rest h = made-back reads-id CeilingBack ceiling rest h
     back (FloorBack floor) rest h = made-back reads-id FloorBack floor rest h
     back (Held session ceiling) rest h = made-back (reads-both reads-u16 reads-id) (λ p. Held p.0 p.1) (session, ceiling) rest h
@@ -198,7 +210,8 @@ first_ids_fit : (p : ℕ × List StateId) → IsTrue (are_first_ids p.0 p.1) →
 first_ids_fit p h =
     let number = and_parts (is_u32 p.0 && list_all is_id p.1) (is_first_of p.0 (length p.1)) h in
     let parts = and_parts (is_u32 p.0) (list_all is_id p.1) number.0 in
-    and_from (is_u32 p.0) (is_u16 (length p.1) && list_all is_id p.1) parts.0 (and_from (is_u16 (length p.1)) (list_all is_id p.1) (few p.0 (length p.1) number.1) parts.1)
+    and_from (is_u32 p.0) (is_u16 (length p.1) && list_all is_id p.1) parts.0
+    (and_from (is_u16 (length p.1)) (list_all is_id p.1) (few p.0 (length p.1) number.1) parts.1)
 
 pub reads-first_ids : Reads {A = ℕ × List StateId} (λ p. are_first_ids p.0 p.1) (λ p. first_ids_spelling p.0 p.1) first_ids_front
 reads-first_ids = reads-only_if (λ p. are_first_ids p.0 p.1) (λ p. are_first_ids p.0 p.1) (λ p h. (first_ids_fit p h, h)) (λ p v t. t)
@@ -209,23 +222,27 @@ first_keys_fit p h =
     let ordered = and_parts (is_u32 p.0 && list_all is_key p.1 && is_first_of p.0 (length p.1)) (are_ascending_keys p.1) h in
     let number = and_parts (is_u32 p.0 && list_all is_key p.1) (is_first_of p.0 (length p.1)) ordered.0 in
     let parts = and_parts (is_u32 p.0) (list_all is_key p.1) number.0 in
-    and_from (is_u32 p.0) (is_u16 (length p.1) && list_all is_key p.1) parts.0 (and_from (is_u16 (length p.1)) (list_all is_key p.1) (few p.0 (length p.1) number.1) parts.1)
+    and_from (is_u32 p.0) (is_u16 (length p.1) && list_all is_key p.1) parts.0
+    (and_from (is_u16 (length p.1)) (list_all is_key p.1) (few p.0 (length p.1) number.1) parts.1)
 
 pub reads-first_keys : Reads {A = ℕ × List (List ℕ)} (λ p. are_first_keys p.0 p.1) (λ p. first_keys_spelling p.0 p.1) first_keys_front
 reads-first_keys = reads-only_if (λ p. are_first_keys p.0 p.1) (λ p. are_first_keys p.0 p.1) (λ p h. (first_keys_fit p h, h)) (λ p v t. t)
     (reads-both reads-u32 (reads-counted reads-u16 (many-times reads-key)))
 
 pub reads-site_line : Reads is_site_line site_line_spelling site_line_front
-reads-site_line = reads-made (λ p. record { count = p.0.0; floor = p.0.1; number = p.1 }) (λ line. ((line.count, line.floor), line.number)) is_site_line site_line_spelling
+reads-site_line = reads-made (λ p. record { count = p.0.0; floor = p.0.1; number = p.1 }) (λ line. ((line.count, line.floor), line.number)) is_site_line
+    site_line_spelling
     (λ line h. refl) (λ p. refl) (λ p. refl) (reads-both (reads-both reads-u32 reads-id) reads-u32)
 
 site_lines_counted : (lines : List SiteLine) → IsTrue (are_site_lines lines) → IsTrue (is_u8 (length lines) && list_all is_site_line lines)
 site_lines_counted lines h =
     let parts = and_parts (is_within 1 16 (length lines)) (list_all is_site_line lines) h in
-    and_from (is_u8 (length lines)) (list_all is_site_line lines) (fits (length lines) 16 256 (second (nat_le 1 (length lines)) (nat_le (length lines) 16) parts.0) (omega arith)) parts.1
+    and_from (is_u8 (length lines)) (list_all is_site_line lines)
+    (fits (length lines) 16 256 (second (nat_le 1 (length lines)) (nat_le (length lines) 16) parts.0) (omega arith)) parts.1
 
 pub reads-site_lines : Reads are_site_lines site_lines_spelling site_lines_front
-reads-site_lines = reads-only_if are_site_lines are_site_lines (λ lines h. (site_lines_counted lines h, h)) (λ lines v t. t) (reads-counted reads-u8 (many-times reads-site_line))
+reads-site_lines = reads-only_if are_site_lines are_site_lines (λ lines h. (site_lines_counted lines h, h)) (λ lines v t. t)
+    (reads-counted reads-u8 (many-times reads-site_line))
 
 pub reads-children : Reads are_children children_spelling children_front
 reads-children = reads-counted reads-u32 (many-times reads-id)
@@ -264,9 +281,12 @@ reads-reply = record { back = back; only = by_code-only is_reply reply_spelling 
                             (
                               row-made is_reply reply_spelling 13 Tidied reads-u32 (λ a h. h) (λ a. refl),
                               (
-                                row-made is_reply reply_spelling 14 (λ p. Statistics p.0.0.0.0 p.0.0.0.1 p.0.0.1 p.0.1 p.1) (reads-both (reads-both (reads-both (reads-both reads-u64 reads-u32) reads-u32) reads-u16) reads-site_lines) (λ a h. h) (λ a. refl),
+                                row-made is_reply reply_spelling 14 (λ p. Statistics p.0.0.0.0 p.0.0.0.1 p.0.0.1 p.0.1 p.1)
+                                    (reads-both (reads-both (reads-both (reads-both reads-u64 reads-u32) reads-u32) reads-u16) reads-site_lines) (λ a h. h)
+                                    (λ a. refl),
                                 (
-                                  row-made is_reply reply_spelling 15 (λ p. Shown p.0.0 p.0.1 p.1) (reads-both (reads-both reads-u64 reads-children) reads-path) (λ a h. h) (λ a. refl),
+                                  row-made is_reply reply_spelling 15 (λ p. Shown p.0.0 p.0.1 p.1)
+                                      (reads-both (reads-both reads-u64 reads-children) reads-path) (λ a h. h) (λ a. refl),
                                   (
                                     row-made is_reply reply_spelling 16 Batch reads-batch (λ a h. h) (λ a. refl),
                                     (
@@ -316,8 +336,11 @@ reads-reply = record { back = back; only = by_code-only is_reply reply_spelling 
     back (Keys total first) rest h = made-back reads-first_keys (λ p. Keys p.0 p.1) (total, first) rest h
     back (Raised floor number) rest h = made-back (reads-both reads-id reads-u32) (λ p. Raised p.0 p.1) (floor, number) rest h
     back (Tidied collected) rest h = made-back reads-u32 Tidied collected rest h
-    back (Statistics known kept leaves sessions sites) rest h = made-back (reads-both (reads-both (reads-both (reads-both reads-u64 reads-u32) reads-u32) reads-u16) reads-site_lines) (λ p. Statistics p.0.0.0.0 p.0.0.0.1 p.0.0.1 p.0.1 p.1) ((((known, kept), leaves), sessions), sites) rest h
-    back (Shown arrival children path) rest h = made-back (reads-both (reads-both reads-u64 reads-children) reads-path) (λ p. Shown p.0.0 p.0.1 p.1) ((arrival, children), path) rest h
+    back (Statistics known kept leaves sessions sites) rest h =
+        made-back (reads-both (reads-both (reads-both (reads-both reads-u64 reads-u32) reads-u32) reads-u16) reads-site_lines)
+        (λ p. Statistics p.0.0.0.0 p.0.0.0.1 p.0.0.1 p.0.1 p.1) ((((known, kept), leaves), sessions), sites) rest h
+    back (Shown arrival children path) rest h = made-back (reads-both (reads-both reads-u64 reads-children) reads-path) (λ p. Shown p.0.0 p.0.1 p.1)
+        ((arrival, children), path) rest h
     back (Batch batch) rest h = made-back reads-batch Batch batch rest h
     back Applied rest h = refl
     back Known rest h = refl
@@ -340,7 +363,8 @@ reads-reply = record { back = back; only = by_code-only is_reply reply_spelling 
     bytes (Keys total first) h = reads-first_keys.bytes (total, first) h
     bytes (Raised floor number) h = (reads-both reads-id reads-u32).bytes (floor, number) h
     bytes (Tidied collected) h = reads-u32.bytes collected h
-    bytes (Statistics known kept leaves sessions sites) h = (reads-both (reads-both (reads-both (reads-both reads-u64 reads-u32) reads-u32) reads-u16) reads-site_lines).bytes ((((known, kept), leaves), sessions), sites) h
+    bytes (Statistics known kept leaves sessions sites) h = (reads-both (reads-both (reads-both (reads-both reads-u64 reads-u32) reads-u32) reads-u16)
+        reads-site_lines).bytes ((((known, kept), leaves), sessions), sites) h
     bytes (Shown arrival children path) h = (reads-both (reads-both reads-u64 reads-children) reads-path).bytes ((arrival, children), path) h
     bytes (Batch batch) h = reads-batch.bytes batch h
     bytes Applied h = refl

@@ -29,14 +29,16 @@ first_ids-tested total fits n mid xs rest e =
     let h = (many-times reads-id).only n mid xs rest e in
     ap (λ t. t && is_first_of total (length xs)) (and_from (is_u32 total) (list_all is_id xs) fits h.1) ∙ ap (is_first_of total) h.0
 
-pub first_keys-tested : (total : ℕ) → is_u32 total ≡ true → (n : ℕ) (mid : List ℕ) (ks : List (List ℕ)) (rest : List ℕ) → times key_front n mid ≡ Some (ks, rest)
+pub first_keys-tested : (total : ℕ) → is_u32 total ≡ true → (n : ℕ) (mid : List ℕ) (ks : List (List ℕ)) (rest : List ℕ) → times key_front n mid
+    ≡ Some (ks, rest)
     → are_first_keys total ks ≡ (is_first_of total n && are_ascending_keys ks)
 first_keys-tested total fits n mid ks rest e =
     let h = (many-times reads-key).only n mid ks rest e in
     ap (λ t. t && is_first_of total (length ks) && are_ascending_keys ks) (and_from (is_u32 total) (list_all is_key ks) fits h.1)
     ∙ ap (λ k. is_first_of total k && are_ascending_keys ks) h.0
 
-pub site_lines-tested : (n : ℕ) (mid : List ℕ) (lines : List SiteLine) (rest : List ℕ) → times site_line_front n mid ≡ Some (lines, rest) → are_site_lines lines ≡ is_within 1 16 n
+pub site_lines-tested : (n : ℕ) (mid : List ℕ) (lines : List SiteLine) (rest : List ℕ) → times site_line_front n mid ≡ Some (lines, rest) →
+    are_site_lines lines ≡ is_within 1 16 n
 site_lines-tested n mid lines rest e =
     let h = (many-times reads-site_line).only n mid lines rest e in
     and-true (is_within 1 16 (length lines)) (list_all is_site_line lines) h.1 ∙ ap (is_within 1 16) h.0

@@ -2,7 +2,9 @@
 use Rattle.std.proofs.Common.{◌≡◌, ℕ, ◌==◌, Bool, not, IsTrue, List, [], ◌∷◌, ◌++◌, Some, sym, ap, refl, ◌∙◌}
 use Rattle.std.specs.List.{list_any}
 use Rattle.tardis_base.specs.declared.requests.Request.{Request}
-use Rattle.tardis_base.specs.declared.requests.Request.TheVariants.{Open, Begin as BeginAt, Get, Put, Delete, Commit, Abort, BeginMerge, ForkPoints, Conflicts, GetFor, Ceiling, Raise, RaiseAuto, Tidy, Stat, Show, Leaves, Pull, Deliver, Close, Settle}
+use Rattle.tardis_base.specs.declared.requests.Request.TheVariants.{Open, Begin as BeginAt, Get, Put, Delete, Commit, Abort, BeginMerge, ForkPoints}
+use Rattle.tardis_base.specs.declared.requests.Request.TheVariants.{Conflicts, GetFor, Ceiling, Raise, RaiseAuto, Tidy, Stat, Show, Leaves, Pull, Deliver}
+use Rattle.tardis_base.specs.declared.requests.Request.TheVariants.{Close, Settle}
 use Rattle.wire_item.specs.Fronts.{front_of_code}
 use Rattle.wire_item.specs.Readings.{u8_front}
 use Rattle.wire_item.proofs.Laws.{whole-spelled}
@@ -55,5 +57,6 @@ takes-code Close = refl
 takes-code Settle = refl
 
 -- what stands behind a code is read without memory where another request of that code is
-pub takes-same : (q r : Request) (code : ℕ) (mid left : List ℕ) → code_of q ≡ code → front_of_code code request_rows mid ≡ Some (r, left) → IsTrue (takes_no_memory q) → IsTrue (takes_no_memory r)
+pub takes-same : (q r : Request) (code : ℕ) (mid left : List ℕ) → code_of q ≡ code → front_of_code code request_rows mid ≡ Some (r, left) →
+    IsTrue (takes_no_memory q) → IsTrue (takes_no_memory r)
 takes-same q r code mid left is read free = takes-code r ∙ ap takes_none (code-at r code mid left read ∙ sym is) ∙ sym (takes-code q) ∙ free

@@ -1,5 +1,6 @@
 -- Requests are read as they are spelled.
-use Rattle.std.proofs.Common.{◌≡◌, ℕ, suc, ◌<◌, ◌≤◌, Bool, true, false, ◌==◌, ◌&&◌, IsTrue, List, [], ◌∷◌, ◌++◌, length, nat_le, nat_lt, bit_and, if◌then◌else◌, Option, Some, ap, sym, ◌∙◌, refl, arith}
+use Rattle.std.proofs.Common.{◌≡◌, ℕ, suc, ◌<◌, ◌≤◌, Bool, true, false, ◌==◌, ◌&&◌, IsTrue, List, [], ◌∷◌, ◌++◌, length, nat_le, nat_lt, bit_and}
+use Rattle.std.proofs.Common.{if◌then◌else◌, Option, Some, ap, sym, ◌∙◌, refl, arith}
 use Rattle.std.proofs.lemmas.Bool.{and_parts, and_from}
 use Rattle.std.proofs.lemmas.Bool.Decides.{nat_tests}
 use Rattle.std.specs.List.{list_all}
@@ -9,17 +10,21 @@ use Rattle.tardis_base.specs.declared.requests.Begin.TheVariants.{Any, Ancestor,
 use Rattle.tardis_base.specs.declared.requests.MergeOf.{MergeOf}
 use Rattle.tardis_base.specs.declared.requests.MergeOf.TheVariants.{Leaves as AllLeaves, States as TheseStates}
 use Rattle.tardis_base.specs.declared.requests.Request.{Request}
-use Rattle.tardis_base.specs.declared.requests.Request.TheVariants.{Open, Begin as BeginAt, Get, Put, Delete, Commit, Abort, BeginMerge, ForkPoints, Conflicts, GetFor, Ceiling, Raise, RaiseAuto, Tidy, Stat, Show, Leaves, Pull, Deliver, Close, Settle}
+use Rattle.tardis_base.specs.declared.requests.Request.TheVariants.{Open, Begin as BeginAt, Get, Put, Delete, Commit, Abort, BeginMerge, ForkPoints}
+use Rattle.tardis_base.specs.declared.requests.Request.TheVariants.{Conflicts, GetFor, Ceiling, Raise, RaiseAuto, Tidy, Stat, Show, Leaves, Pull, Deliver}
+use Rattle.tardis_base.specs.declared.requests.Request.TheVariants.{Close, Settle}
 use Rattle.tardis_base.specs.Valid.{is_u16, is_u32, is_within, are_bytes, is_id}
 use Rattle.wire_item.specs.Spellings.{u8_spelling, u16_spelling}
 use Rattle.wire_item.specs.Valid.{is_u8}
-use Rattle.wire_item.proofs.Ways.{Reads, reads-both, reads-made, reads-only_if, reads-counted, many-times, many-bytes, RowsRead, row-nothing_but, row-made, by_code-only, made-back}
+use Rattle.wire_item.proofs.Ways.{Reads, reads-both, reads-made, reads-only_if, reads-counted, many-times, many-bytes, RowsRead, row-nothing_but, row-made}
+use Rattle.wire_item.proofs.Ways.{by_code-only, made-back}
 use Rattle.wire_item.proofs.Numbers.{reads-u8, reads-u16, reads-u32}
 use Rattle.tardis_base.proofs.TestParts.{first, second}
 use Rattle.wire_item.proofs.Things.{fits, reads-id, reads-key, reads-value, reads-item}
 use Rattle.wire_talk.specs.Spellings.{flag_spelling, begin_spelling, merge_of_spelling, after_spelling, counts_spelling, request_spelling}
 use Rattle.wire_talk.specs.Valid.{is_begin, is_commit, is_merge_of, is_after, are_counts, is_request}
-use Rattle.wire_talk.specs.RequestReadings.{flag_rows, flag_front, begin_rows, begin_front, merge_of, merge_of_front, after_front, counts_front, commit_front, request_rows, request_front}
+use Rattle.wire_talk.specs.RequestReadings.{flag_rows, flag_front, begin_rows, begin_front, merge_of, merge_of_front, after_front, counts_front, commit_front}
+use Rattle.wire_talk.specs.RequestReadings.{request_rows, request_front}
 
 pub reads-flag : Reads (λ flag. true) flag_spelling flag_front
 reads-flag = record { back = back; only = by_code-only (λ flag. true) flag_spelling flag_rows rows; bytes = bytes }
@@ -69,7 +74,8 @@ merge_of-valid : (xs : List StateId) → is_merge_of (merge_of xs) ≡ (is_u8 (l
 merge_of-valid [] = refl
 merge_of-valid (x ∷ xs) = ap (λ t. t && list_all is_id (x ∷ xs)) (some_fit (length xs))
 
-merge_of-spelling : (xs : List StateId) → merge_of_spelling (merge_of xs) ≡ u8_spelling (length xs) ++ Rattle.std.specs.Prelude.flat_map Rattle.wire_item.specs.Spellings.id_spelling xs
+merge_of-spelling : (xs : List StateId) → merge_of_spelling (merge_of xs) ≡ u8_spelling (length xs)
+    ++ Rattle.std.specs.Prelude.flat_map Rattle.wire_item.specs.Spellings.id_spelling xs
 merge_of-spelling [] = refl
 merge_of-spelling (x ∷ xs) = refl
 
@@ -84,7 +90,8 @@ states_of-again (TheseStates []) h = absurd (cc)
 states_of-again (TheseStates (x ∷ xs)) h = refl
 
 pub reads-merge_of : Reads is_merge_of merge_of_spelling merge_of_front
-reads-merge_of = reads-made merge_of states_of is_merge_of merge_of_spelling states_of-again merge_of-valid merge_of-spelling (reads-counted reads-u8 (many-times reads-id))
+reads-merge_of = reads-made merge_of states_of is_merge_of merge_of_spelling states_of-again merge_of-valid merge_of-spelling
+    (reads-counted reads-u8 (many-times reads-id))
 
 after_counted : (bytes : List ℕ) → IsTrue (is_after bytes) → IsTrue (is_u8 (length bytes) && are_bytes bytes)
 after_counted bytes h =
@@ -97,7 +104,8 @@ reads-after = reads-only_if is_after is_after (λ bytes h. (after_counted bytes 
 counts_counted : (counts : List ℕ) → IsTrue (are_counts counts) → IsTrue (is_u8 (length counts) && list_all is_u32 counts)
 counts_counted counts h =
     let parts = and_parts (is_within 1 16 (length counts)) (list_all is_u32 counts) h in
-    and_from (is_u8 (length counts)) (list_all is_u32 counts) (fits (length counts) 16 256 (second (nat_le 1 (length counts)) (nat_le (length counts) 16) parts.0) (omega arith)) parts.1
+    and_from (is_u8 (length counts)) (list_all is_u32 counts)
+    (fits (length counts) 16 256 (second (nat_le 1 (length counts)) (nat_le (length counts) 16) parts.0) (omega arith)) parts.1
 
 pub reads-counts : Reads are_counts counts_spelling counts_front
 reads-counts = reads-only_if are_counts are_counts (λ counts h. (counts_counted counts h, h)) (λ counts v t. t) (reads-counted reads-u8 (many-times reads-u32))
@@ -158,7 +166,10 @@ reads-request = record { back = back; only = by_code-only is_request request_spe
                                           row-made is_request request_spelling 19 Pull reads-counts (λ a h. h) (λ a. refl),
                                           (
                                             row-made is_request request_spelling 20 Deliver reads-item (λ a h. h) (λ a. refl),
-                                            (row-nothing_but is_request request_spelling 21 Close refl refl, (row-nothing_but is_request request_spelling 22 Settle refl refl, tt)),
+                                            (
+                                              row-nothing_but is_request request_spelling 21 Close refl refl,
+                                              (row-nothing_but is_request request_spelling 22 Settle refl refl, tt),
+                                            ),
                                           ),
                                         ),
                                       ),

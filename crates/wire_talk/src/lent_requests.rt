@@ -17,9 +17,9 @@ ghost use Rattle.wire_talk.specs.RequestReadings.{begin_front, commit_front, req
 ghost use Rattle.wire_talk.specs.Spelled.{SpellsRequest};
 ghost use Rattle.wire_talk.specs.Valid.{is_commit};
 
-use crate::refusal_readers::new_key;
+use crate::refusal_readers::{new_key, new_value};
 use std::alloc::Global;
-use tardis_base::{Begin, EndFlags, NoMemory, Request, Value};
+use tardis_base::{Begin, EndFlags, NoMemory, Request};
 use wire_item::Reader;
 
 /// A request to begin, to read, to write or to commit.
@@ -135,7 +135,7 @@ pub fn owned(alloc: Global, lent: LentRequest<'_>) -> Result<Request, NoMemory>
         },
         LentRequest::Put { key, value } => {
             let key = new_key(alloc, key)?;
-            let value = value_of(alloc, value)?;
+            let value = new_value(alloc, value)?;
             Ok(Request::Put { key, value })
         },
         LentRequest::Delete { key } => {
@@ -143,14 +143,5 @@ pub fn owned(alloc: Global, lent: LentRequest<'_>) -> Result<Request, NoMemory>
             Ok(Request::Delete { key })
         },
         LentRequest::Commit { flags, k } => Ok(Request::Commit { flags, k }),
-    }
-}
-
-fn value_of(alloc: Global, value: &[u8]) -> Result<Value, NoMemory>
-    ensures { IfOk result (λ v. v ≡ value.now) }
-{
-    match Value::new(alloc, value) {
-        Ok(value) => Ok(value),
-        Err(_) => Err(NoMemory),
     }
 }

@@ -11,7 +11,7 @@ ghost use Rattle.wire_talk.specs.ReplyReadings.{refusal_front, refusal_rows};
 ghost use Rattle.wire_talk.specs.Valid.{is_constraint, is_what};
 
 use std::alloc::Global;
-use tardis_base::{Key, NoMemory, Refusal, StateId};
+use tardis_base::{Key, NoMemory, Refusal, StateId, Value};
 use wire_item::Reader;
 
 /// A refusal. The reader goes on behind it where memory is wanting for it.
@@ -257,6 +257,15 @@ pub(crate) fn new_key(alloc: Global, bytes: &[u8]) -> Result<Key, NoMemory>
 {
     match Key::new(alloc, bytes) {
         Ok(key) => Ok(key),
+        Err(_) => Err(NoMemory),
+    }
+}
+
+pub(crate) fn new_value(alloc: Global, bytes: &[u8]) -> Result<Value, NoMemory>
+    ensures { IfOk result (λ value. value ≡ bytes.now) }
+{
+    match Value::new(alloc, bytes) {
+        Ok(value) => Ok(value),
         Err(_) => Err(NoMemory),
     }
 }

@@ -17,11 +17,10 @@ ghost use Rattle.wire_talk.specs.ReplyReadings.{children_front, first_ids_front,
 ghost use Rattle.wire_talk.specs.Valid.{are_first_ids, are_first_keys, is_first_of};
 
 use crate::list_readers::{ids, is_count_of_sites, keys, pairs, site_lines};
-use crate::refusal_readers::refusal;
+use crate::refusal_readers::{new_value, refusal};
 use std::alloc::Global;
 use tardis_base::{
     Batch, KeyList, MAX_NAMED, NoMemory, PathList, Refusal, Reply, SiteLines, StateId, StateList,
-    Value,
 };
 use wire_item::Reader;
 
@@ -173,10 +172,8 @@ fn merging(states: Result<StateList, NoMemory>) -> Result<Reply, NoMemory>
 fn value_of(alloc: Global, writer: StateId, value: &[u8]) -> Result<Reply, NoMemory>
     ensures { IfOk result (λ r. r ≡ Reply.Value writer value.now) }
 {
-    match Value::new(alloc, value) {
-        Ok(value) => Ok(Reply::Value { writer, value }),
-        Err(_) => Err(NoMemory),
-    }
+    let value = new_value(alloc, value)?;
+    Ok(Reply::Value { writer, value })
 }
 
 fn committed(id: StateId, parents: Result<StateList, NoMemory>) -> Result<Reply, NoMemory>

@@ -9,7 +9,8 @@ use Rattle.tardis_base.specs.declared.records.Consent.{Consent}
 use Rattle.tardis_base.specs.declared.records.Item.{Item}
 use Rattle.tardis_base.specs.declared.records.Item.TheVariants.{State, Promise}
 use Rattle.tardis_base.specs.declared.requests.Request.{Request}
-use Rattle.tardis_base.specs.declared.requests.Request.TheVariants.{Open, Begin, Get, Put, Delete, Commit, Abort, BeginMerge, ForkPoints, Conflicts, GetFor, Ceiling, Raise, RaiseAuto, Tidy, Stat, Show, Leaves, Pull, Deliver, Settle, Close}
+use Rattle.tardis_base.specs.declared.requests.Request.TheVariants.{Open, Begin, Get, Put, Delete, Commit, Abort, BeginMerge, ForkPoints, Conflicts, GetFor}
+use Rattle.tardis_base.specs.declared.requests.Request.TheVariants.{Ceiling, Raise, RaiseAuto, Tidy, Stat, Show, Leaves, Pull, Deliver, Settle, Close}
 use Rattle.tardis_base.specs.declared.requests.EndFlags.{EndFlags}
 use Rattle.tardis_base.specs.declared.replies.Refusal.{Refusal}
 use Rattle.tardis_base.specs.declared.replies.Refusal.TheVariants.{Malformed, NotOpen, NoTxn, TxnOpen, WrongMode, BadSite}
@@ -28,7 +29,8 @@ use Rattle.plain_site.specs.Commits.{with_record, without_txn_of, growth_refusal
 use Rattle.plain_site.specs.Exchange.{judgements, take_record, consent_judgements, deliver, first_fit_record, settle_record, settle, pull, batch_for}
 use Rattle.plain_site.specs.Step.{step, step_over_bytes, is_sure}
 use Rattle.world_core.specs.Gives.{is_batch_reply}
-use Rattle.plain_site.proofs.RepliesFrame.{Replies, RefusesWell, good-reply, unless-good, unless-both-good, given-good, by-session, by-txn, by-no-txn, good_replies}
+use Rattle.plain_site.proofs.RepliesFrame.{Replies, RefusesWell, good-reply, unless-good, unless-both-good, given-good, by-session, by-txn, by-no-txn}
+use Rattle.plain_site.proofs.RepliesFrame.{good_replies}
 
 -- the reply is none
 pub record IsOther (reply : Reply) : Type 0 where
@@ -79,7 +81,8 @@ other-conflicts : (site : Site) (t : Txn) (after : List ℕ) → Replies IsOther
 other-conflicts site (Single t) after = refuses-other site WrongMode
 other-conflicts site (Merge t) after = search others
 
-other-commit-of : (site : Site) (n : ℕ) (ws : List KeyWrite) (reads : List (List ℕ)) (x : StateId) (flags : EndFlags) (k : ℕ) → Replies IsOther (commit_single site n (record { state = x; reads = reads; writes = ws }) flags k)
+other-commit-of : (site : Site) (n : ℕ) (ws : List KeyWrite) (reads : List (List ℕ)) (x : StateId) (flags : EndFlags) (k : ℕ) →
+    Replies IsOther (commit_single site n (record { state = x; reads = reads; writes = ws }) flags k)
 other-commit-of site n [] reads x flags k = good-reply (without_txn_of n site) (Ended x) (says-other (Ended x) refl)
 other-commit-of site n (w ∷ ws) reads x flags k = search others
 
@@ -99,7 +102,8 @@ other-take site r =
 other-deliver : (site : Site) (item : Item) → Replies IsOther (deliver site item)
 other-deliver site (State r) = record { reply = (other-take site r).reply }
 other-deliver site (Promise c) =
-    unless-good site (consent_judgements site c) (taken site c, Applied) (search others depth 12) (λ none. good-reply (taken site c) Applied (says-other Applied refl))
+    unless-good site (consent_judgements site c) (taken site c, Applied) (search others depth 12)
+    (λ none. good-reply (taken site c) Applied (says-other Applied refl))
 
 other-settle : (site : Site) → Replies IsOther (settle site)
 other-settle site =
@@ -128,17 +132,27 @@ pull-is site counts = by-test (not (length counts == site.limits.sites))
 
 judged-step : (site : Site) (n : ℕ) (q : Request) → IsJudged site (is_sure q) (step site n q)
 judged-step site n (Open follow) = other site (is_sure (Open follow)) (step site n (Open follow)) (search others)
-judged-step site n (Begin b) = other site (is_sure (Begin b)) (step site n (Begin b)) (by-no-txn (refuse-other site) n (λ s. begin site n s b) (λ s e. search others))
-judged-step site n (Get k) = other site (is_sure (Get k)) (step site n (Get k)) (by-txn (refuse-other site) n (λ s t. get site n t k) (λ s t e d. other-get site n t k))
-judged-step site n (Put k v) = other site (is_sure (Put k v)) (step site n (Put k v)) (by-txn (refuse-other site) n (λ s t. set_key site n t k (Value v)) (λ s t e d. search others))
-judged-step site n (Delete k) = other site (is_sure (Delete k)) (step site n (Delete k)) (by-txn (refuse-other site) n (λ s t. set_key site n t k Deletion) (λ s t e d. search others))
-judged-step site n (Commit flags k) = other site (is_sure (Commit flags k)) (step site n (Commit flags k)) (by-txn (refuse-other site) n (λ s t. commit site n t flags k) (λ s t e d. other-commit site n t flags k))
+judged-step site n (Begin b) = other site (is_sure (Begin b)) (step site n (Begin b))
+    (by-no-txn (refuse-other site) n (λ s. begin site n s b) (λ s e. search others))
+judged-step site n (Get k) = other site (is_sure (Get k)) (step site n (Get k))
+    (by-txn (refuse-other site) n (λ s t. get site n t k) (λ s t e d. other-get site n t k))
+judged-step site n (Put k v) = other site (is_sure (Put k v)) (step site n (Put k v))
+    (by-txn (refuse-other site) n (λ s t. set_key site n t k (Value v)) (λ s t e d. search others))
+judged-step site n (Delete k) = other site (is_sure (Delete k)) (step site n (Delete k))
+    (by-txn (refuse-other site) n (λ s t. set_key site n t k Deletion) (λ s t e d. search others))
+judged-step site n (Commit flags k) = other site (is_sure (Commit flags k)) (step site n (Commit flags k))
+    (by-txn (refuse-other site) n (λ s t. commit site n t flags k) (λ s t e d. other-commit site n t flags k))
 judged-step site n Abort = other site (is_sure Abort) (step site n Abort) (by-txn (refuse-other site) n (λ s t. abort site n) (λ s t e d. search others))
-judged-step site n (BeginMerge of) = other site (is_sure (BeginMerge of)) (step site n (BeginMerge of)) (by-no-txn (refuse-other site) n (λ s. begin_merge site n s of) (λ s e. search others depth 10))
-judged-step site n ForkPoints = other site (is_sure ForkPoints) (step site n ForkPoints) (by-txn (refuse-other site) n (λ s t. fork_points_of site t) (λ s t e d. other-fork-points site t))
-judged-step site n (Conflicts after) = other site (is_sure (Conflicts after)) (step site n (Conflicts after)) (by-txn (refuse-other site) n (λ s t. conflicts_of site t after) (λ s t e d. other-conflicts site t after))
-judged-step site n (GetFor k x) = other site (is_sure (GetFor k x)) (step site n (GetFor k x)) (by-txn (refuse-other site) n (λ s t. get_for site t k x) (λ s t e d. other-get-for site t k x))
-judged-step site n (Ceiling x) = other site (is_sure (Ceiling x)) (step site n (Ceiling x)) (by-no-txn (refuse-other site) n (λ s. set_ceiling site n s x) (λ s e. search others))
+judged-step site n (BeginMerge of) = other site (is_sure (BeginMerge of)) (step site n (BeginMerge of))
+    (by-no-txn (refuse-other site) n (λ s. begin_merge site n s of) (λ s e. search others depth 10))
+judged-step site n ForkPoints = other site (is_sure ForkPoints) (step site n ForkPoints)
+    (by-txn (refuse-other site) n (λ s t. fork_points_of site t) (λ s t e d. other-fork-points site t))
+judged-step site n (Conflicts after) = other site (is_sure (Conflicts after)) (step site n (Conflicts after))
+    (by-txn (refuse-other site) n (λ s t. conflicts_of site t after) (λ s t e d. other-conflicts site t after))
+judged-step site n (GetFor k x) = other site (is_sure (GetFor k x)) (step site n (GetFor k x))
+    (by-txn (refuse-other site) n (λ s t. get_for site t k x) (λ s t e d. other-get-for site t k x))
+judged-step site n (Ceiling x) = other site (is_sure (Ceiling x)) (step site n (Ceiling x))
+    (by-no-txn (refuse-other site) n (λ s. set_ceiling site n s x) (λ s e. search others))
 judged-step site n (Raise x) = other site (is_sure (Raise x)) (step site n (Raise x)) (search others depth 10)
 judged-step site n RaiseAuto = other site (is_sure RaiseAuto) (step site n RaiseAuto) (search others)
 judged-step site n (Tidy count) = other site (is_sure (Tidy count)) (step site n (Tidy count)) (search others)

@@ -1,5 +1,6 @@
 -- What bodies are read as.
-use Rattle.std.proofs.Common.{◌≡◌, ℕ, ◌≤◌, Bool, true, false, ◌&&◌, List, [], ◌∷◌, length, take, drop, nat_le, Option, Some, None, refl, ap, sym, ◌∙◌, arith, leb-true, length-drop, ◌==◌}
+use Rattle.std.proofs.Common.{◌≡◌, ℕ, ◌≤◌, Bool, true, false, ◌&&◌, List, [], ◌∷◌, length, take, drop, nat_le, Option, Some, None, refl, ap, sym, ◌∙◌, arith}
+use Rattle.std.proofs.Common.{leb-true, length-drop, ◌==◌}
 use Rattle.std.proofs.lemmas.Bool.{and_parts, eqb-true}
 use Rattle.std.specs.Prelude.{option_map, option_and_then}
 use Rattle.std.specs.Bool.{then_some}
@@ -28,21 +29,29 @@ record Dropped (n : ℕ) (bytes rest : List ℕ) : Type 0 where
 dropped : (n : ℕ) (f : List ℕ → ℕ) (bytes : List ℕ) (x : ℕ) (rest : List ℕ) → made f (bytes_front n) bytes ≡ Some (x, rest) → Dropped n bytes rest
 dropped n f bytes x rest e = by-test (nat_le n (length bytes) && are_bytes (take n bytes)) refl e
   where
-    by-test : (t : Bool) → (nat_le n (length bytes) && are_bytes (take n bytes)) ≡ t → option_map {T = List ℕ × List ℕ} {U = ℕ × List ℕ} (λ read. (f read.0, read.1)) (then_some t (take n bytes, drop n bytes)) ≡ Some (x, rest) → Dropped n bytes rest
-    by-test true is h = record { is = sym (ap rest_of h); enough = leb-true n (length bytes) (and_parts (nat_le n (length bytes)) (are_bytes (take n bytes)) is).0 }
+    by-test : (t : Bool) → (nat_le n (length bytes) && are_bytes (take n bytes)) ≡ t →
+        option_map {T = List ℕ × List ℕ} {U = ℕ × List ℕ} (λ read. (f read.0, read.1)) (then_some t (take n bytes, drop n bytes)) ≡ Some (x, rest) →
+        Dropped n bytes rest
+    by-test true is h = record {
+      is = sym (ap rest_of h);
+      enough =
+          leb-true n (length bytes) (and_parts (nat_le n (length bytes)) (are_bytes (take n bytes)) is).0;
+    }
     by-test false is h = absurd (cc)
 
 -- ===== Steps
 
 pub no_site : (bytes : List ℕ) → u16_front bytes ≡ None → whole step_front bytes ≡ None
-no_site bytes e = whole-none step_front bytes (made-none (λ p. StepAt p.0 p.1.0 p.1.1) (both u16_front (both u16_front request_front)) bytes (after-none u16_front (λ a. both u16_front request_front) bytes e))
+no_site bytes e = whole-none step_front bytes (made-none (λ p. StepAt p.0 p.1.0 p.1.1) (both u16_front (both u16_front request_front)) bytes
+    (after-none u16_front (λ a. both u16_front request_front) bytes e))
 
 pub no_actor : (bytes mid : List ℕ) (site : ℕ) → u16_front bytes ≡ Some (site, mid) → u16_front mid ≡ None → whole step_front bytes ≡ None
 no_actor bytes mid site e d =
     whole-none step_front bytes (made-none (λ p. StepAt p.0 p.1.0 p.1.1) (both u16_front (both u16_front request_front)) bytes
     (after-then_none u16_front (λ a. both u16_front request_front) bytes site mid e (after-none u16_front (λ a. request_front) mid d)))
 
-pub step_read : (bytes mid rest : List ℕ) (site actor : ℕ) → u16_front bytes ≡ Some (site, mid) → u16_front mid ≡ Some (actor, rest) → whole step_front bytes ≡ option_map (StepAt site actor) (request_of rest)
+pub step_read : (bytes mid rest : List ℕ) (site actor : ℕ) → u16_front bytes ≡ Some (site, mid) → u16_front mid ≡ Some (actor, rest) →
+    whole step_front bytes ≡ option_map (StepAt site actor) (request_of rest)
 step_read bytes mid rest site actor e d = go (request_front rest) refl
   where
     behind : (q : Request) (more : List ℕ) → alone (StepAt site actor q) more ≡ option_map (StepAt site actor) (alone q more)
@@ -55,8 +64,10 @@ step_read bytes mid rest site actor e d = go (request_front rest) refl
         (after-then_none u16_front (λ a. both u16_front request_front) bytes site mid e (after-then_none u16_front (λ a. request_front) mid actor rest d f)))
         ∙ sym (ap (option_map (StepAt site actor)) (whole-none request_front rest f))
     go (Some read) f =
-        ap (option_and_then (λ r. alone r.0 r.1)) (made-read (λ p. StepAt p.0 p.1.0 p.1.1) (both u16_front (both u16_front request_front)) bytes (site, (actor, read.0)) read.1
-        (after-then u16_front (λ a. both u16_front request_front) bytes site mid (actor, read.0) read.1 e (after-then u16_front (λ a. request_front) mid actor rest read.0 read.1 d f)))
+        ap (option_and_then (λ r. alone r.0 r.1)) (made-read (λ p. StepAt p.0 p.1.0 p.1.1) (both u16_front (both u16_front request_front)) bytes
+        (site, (actor, read.0)) read.1
+        (after-then u16_front (λ a. both u16_front request_front) bytes site mid (actor, read.0) read.1 e
+        (after-then u16_front (λ a. request_front) mid actor rest read.0 read.1 d f)))
         ∙ behind read.0 read.1 ∙ sym (ap (λ o. option_map (StepAt site actor) (option_and_then (λ r. alone r.0 r.1) o)) f)
 
 drop_twice : (xs : List ℕ) → drop 2 (drop 2 xs) ≡ drop 4 xs
@@ -81,23 +92,28 @@ behind_four bytes mid rest site actor e d =
 -- ===== Carries
 
 pub no_target : (bytes : List ℕ) → u16_front bytes ≡ None → whole carry_front bytes ≡ None
-no_target bytes e = whole-none carry_front bytes (made-none (λ p. CarryTo p.0 p.1.0 p.1.1) (both u16_front (both u32_front u32_front)) bytes (after-none u16_front (λ a. both u32_front u32_front) bytes e))
+no_target bytes e = whole-none carry_front bytes (made-none (λ p. CarryTo p.0 p.1.0 p.1.1) (both u16_front (both u32_front u32_front)) bytes
+    (after-none u16_front (λ a. both u32_front u32_front) bytes e))
 
 pub no_batch : (bytes mid : List ℕ) (to : ℕ) → u16_front bytes ≡ Some (to, mid) → u32_front mid ≡ None → whole carry_front bytes ≡ None
 no_batch bytes mid to e d =
     whole-none carry_front bytes (made-none (λ p. CarryTo p.0 p.1.0 p.1.1) (both u16_front (both u32_front u32_front)) bytes
     (after-then_none u16_front (λ a. both u32_front u32_front) bytes to mid e (after-none u32_front (λ a. u32_front) mid d)))
 
-pub no_item : (bytes mid next : List ℕ) (to batch : ℕ) → u16_front bytes ≡ Some (to, mid) → u32_front mid ≡ Some (batch, next) → u32_front next ≡ None → whole carry_front bytes ≡ None
+pub no_item : (bytes mid next : List ℕ) (to batch : ℕ) → u16_front bytes ≡ Some (to, mid) → u32_front mid ≡ Some (batch, next) → u32_front next ≡ None →
+    whole carry_front bytes ≡ None
 no_item bytes mid next to batch e d f =
     whole-none carry_front bytes (made-none (λ p. CarryTo p.0 p.1.0 p.1.1) (both u16_front (both u32_front u32_front)) bytes
     (after-then_none u16_front (λ a. both u32_front u32_front) bytes to mid e (after-then_none u32_front (λ a. u32_front) mid batch next d f)))
 
-pub carry_read : (bytes mid next rest : List ℕ) (to batch item : ℕ) → u16_front bytes ≡ Some (to, mid) → u32_front mid ≡ Some (batch, next) → u32_front next ≡ Some (item, rest)
+pub carry_read : (bytes mid next rest : List ℕ) (to batch item : ℕ) → u16_front bytes ≡ Some (to, mid) → u32_front mid ≡ Some (batch, next) →
+    u32_front next ≡ Some (item, rest)
     → whole carry_front bytes ≡ alone (CarryTo to batch item) rest
 carry_read bytes mid next rest to batch item e d f =
-    ap (option_and_then (λ r. alone r.0 r.1)) (made-read (λ p. CarryTo p.0 p.1.0 p.1.1) (both u16_front (both u32_front u32_front)) bytes (to, (batch, item)) rest
-    (after-then u16_front (λ a. both u32_front u32_front) bytes to mid (batch, item) rest e (after-then u32_front (λ a. u32_front) mid batch next item rest d f)))
+    ap (option_and_then (λ r. alone r.0 r.1)) (made-read (λ p. CarryTo p.0 p.1.0 p.1.1) (both u16_front (both u32_front u32_front)) bytes
+    (to, (batch, item)) rest
+    (after-then u16_front (λ a. both u32_front u32_front) bytes to mid (batch, item) rest e
+    (after-then u32_front (λ a. u32_front) mid batch next item rest d f)))
 
 pub alone_done : (b : Body) (rest : List ℕ) → (length rest == 0) ≡ true → alone b rest ≡ Some b
 alone_done b [] h = refl

@@ -1,5 +1,6 @@
 -- Sites that stand for plain ones, one by one.
-use Rattle.std.proofs.Common.{◌≡◌, ℕ, ◌+◌, ◌-◌, ◌<◌, ◌⊎◌, inl, inr, List, [], ◌∷◌, ◌++◌, length, slice_get, slice_set, Option, Some, None, refl, ap, sym, subst, arith}
+use Rattle.std.proofs.Common.{◌≡◌, ℕ, ◌+◌, ◌-◌, ◌<◌, ◌⊎◌, inl, inr, List, [], ◌∷◌, ◌++◌, length, slice_get, slice_set, Option, Some, None, refl, ap, sym}
+use Rattle.std.proofs.Common.{subst, arith}
 use Rattle.std.proofs.lemmas.Option.{slice_get_past}
 use Rattle.tardis_base.specs.declared.records.Limits.{Limits}
 use Rattle.plain_site.specs.Site.{Site, opening}
@@ -28,7 +29,8 @@ stands_at (c ∷ cs) [] i core all e = absurd (all)
 stands_at (c ∷ cs) (s ∷ ss) ℕ.zero core all e = record { site = s; there = refl; stands = subst (λ z. SiteStands z s) (ap (core_of c) e) all.0 }
 stands_at (c ∷ cs) (s ∷ ss) (ℕ.suc i) core all e = let r = stands_at cs ss i core all.1 e in record { site = r.site; there = r.there; stands = r.stands }
 
-pub all_set : (cores : List Core) (sites : List Site) (i : ℕ) (core : Core) (site : Site) → AllStand cores sites → SiteStands core site → AllStand (slice_set cores i core) (slice_set sites i site)
+pub all_set : (cores : List Core) (sites : List Site) (i : ℕ) (core : Core) (site : Site) → AllStand cores sites → SiteStands core site →
+    AllStand (slice_set cores i core) (slice_set sites i site)
 all_set [] [] i core site all one = tt
 all_set [] (s ∷ ss) i core site all one = absurd (all)
 all_set (c ∷ cs) [] i core site all one = absurd (all)
@@ -74,10 +76,13 @@ pub set_there : (sites : List Site) (i : ℕ) (site : Site) → with_site sites 
 set_there sites i site = let e : i + 1 - 1 ≡ i = omega arith in ap (λ k. slice_set sites k site) e
 
 -- one more site opened
-pub one_more : (cores : List Core) (limits : Limits) (n count : ℕ) (core : Core) → AllStand cores (opening_sites limits n count) → SiteStands core (opening limits (n + count)) → AllStand (cores ++ core ∷ []) (opening_sites limits n (count + 1))
-one_more cores limits n count core all one = let e : count + 1 ≡ ℕ.suc count = omega arith in subst (λ k. AllStand (cores ++ core ∷ []) (opening_sites limits n k)) (sym e) (go cores n count all one)
+pub one_more : (cores : List Core) (limits : Limits) (n count : ℕ) (core : Core) → AllStand cores (opening_sites limits n count) →
+    SiteStands core (opening limits (n + count)) → AllStand (cores ++ core ∷ []) (opening_sites limits n (count + 1))
+one_more cores limits n count core all one = let e : count + 1 ≡ ℕ.suc count = omega arith in
+    subst (λ k. AllStand (cores ++ core ∷ []) (opening_sites limits n k)) (sym e) (go cores n count all one)
   where
-    go : (cs : List Core) (n count : ℕ) → AllStand cs (opening_sites limits n count) → SiteStands core (opening limits (n + count)) → AllStand (cs ++ core ∷ []) (opening_sites limits n (ℕ.suc count))
+    go : (cs : List Core) (n count : ℕ) → AllStand cs (opening_sites limits n count) → SiteStands core (opening limits (n + count)) →
+        AllStand (cs ++ core ∷ []) (opening_sites limits n (ℕ.suc count))
     go [] n ℕ.zero all one = let e : n + 0 ≡ n = omega arith in (subst (λ k. SiteStands core (opening limits k)) e one, tt)
     go [] n (ℕ.suc count) all one = absurd (all)
     go (c ∷ cs) n ℕ.zero all one = absurd (all)

@@ -7,4 +7,5 @@ returns-in-Any-clause-chosen c = λ rs ks stands d at known last_at under.
 
 pub returns-in-Ancestor-clause-chosen : goal.returns-in-Ancestor-clause-chosen
 returns-in-Ancestor-clause-chosen c = λ rs ks stands d at known last_at under.
-    ancestor-chosen c.args.dag.now rs ks stands c.args.begin.now c.args.last d c.args.ceiling c.newest_below.result c.in-Ancestor.is at known (c.newest_below.ensures.newest rs ks stands c.args.last known last_at)
+    ancestor-chosen c.args.dag.now rs ks stands c.args.begin.now c.args.last d c.args.ceiling c.newest_below.result c.in-Ancestor.is at known
+    (c.newest_below.ensures.newest rs ks stands c.args.last known last_at)

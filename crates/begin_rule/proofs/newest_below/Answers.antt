@@ -24,7 +24,8 @@ loop-place-preserved c = λ rs ks stands last known at z m.
     let table = c.args.dag.now in
     let i = c.loop-place.place - 1 in
     let more = c.loop-place-test.true in
-    let n = named-next (id_at table) c.leaf_slots-leaves.result.now (leaves rs) i (record { 0 = 0 }) (c.leaf_slots-leaves.ensures.leaves rs ks stands) (let le = c.loop-place.auto.place in omega arith) in
+    let n = named-next (id_at table) c.leaf_slots-leaves.result.now (leaves rs) i (record { 0 = 0 }) (c.leaf_slots-leaves.ensures.leaves rs ks stands)
+    (let le = c.loop-place.auto.place in omega arith) in
     let place : i + 1 ≡ c.loop-place.place = omega arith in
     let kept = slot-is_kept table rs ks stands _ n.state n.named in
     let apart = sym (c.is_ancestor.ensures.above rs ks stands (stand_in rs ks last) n.state at n.named) ∙ c.if-is_ancestor.false in
@@ -38,7 +39,8 @@ returns-then-is_ancestor-clause-newest c = λ rs ks stands last known at.
     let table = c.args.dag.now in
     let i = c.loop-place.place - 1 in
     let more = c.loop-place-test.true in
-    let n = named-next (id_at table) c.leaf_slots-leaves.result.now (leaves rs) i (record { 0 = 0 }) (c.leaf_slots-leaves.ensures.leaves rs ks stands) (let le = c.loop-place.auto.place in omega arith) in
+    let n = named-next (id_at table) c.leaf_slots-leaves.result.now (leaves rs) i (record { 0 = 0 }) (c.leaf_slots-leaves.ensures.leaves rs ks stands)
+    (let le = c.loop-place.auto.place in omega arith) in
     let place : i + 1 ≡ c.loop-place.place = omega arith in
     let kept = slot-is_kept table rs ks stands _ n.state n.named in
     let above = sym (c.is_ancestor.ensures.above rs ks stands (stand_in rs ks last) n.state at n.named) ∙ c.if-is_ancestor.true in
@@ -50,4 +52,5 @@ pub returns-clause-newest : goal.returns-clause-newest
 returns-clause-newest c = λ rs ks stands last known at.
     let end = c.loop-place-test.false in
     let first : c.loop-place.place ≡ 0 = omega arith in
-    absurd (some-leaf c.args.dag.now rs ks stands last known (λ z m. c.loop-place.invariant rs ks stands last known at z (subst (λ k. IsTrue (is_among z (drop k (leaves rs)))) (sym first) m)))
+    absurd (some-leaf c.args.dag.now rs ks stands last known
+    (λ z m. c.loop-place.invariant rs ks stands last known at z (subst (λ k. IsTrue (is_among z (drop k (leaves rs)))) (sym first) m)))

@@ -11,5 +11,6 @@ use Rattle.state_dag.specs.Stands.{Stands}
 use Rattle.begin_rule.proofs.newest_below.Given as goal
 
 abbrev pub invariant-loop-place : goal.invariant-loop-place
-invariant-loop-place l = (rs : List Record) (ks : List StateId) → Stands l.dag rs ks → (last : StateId) → IsTrue (is_known rs last) → id_at l.dag l.slot ≡ Some (stand_in rs ks last) →
+invariant-loop-place l = (rs : List Record) (ks : List StateId) → Stands l.dag rs ks → (last : StateId) → IsTrue (is_known rs last) → id_at l.dag l.slot
+    ≡ Some (stand_in rs ks last) →
     (z : StateId) → IsTrue (is_among z (drop l.place (leaves rs))) → IsFalse (is_above rs last z)

@@ -1,7 +1,8 @@
 use Rattle.client_laws.proofs.Ends.{deliveries-are-kept, settled-are-kept}
 use Rattle.client_laws.proofs.Held.{history-is-told}
 use Rattle.client_laws.proofs.Kept.{commits-are-kept, commits-are-shown, commits-join-what-they-read, other-keys-are-joined}
-use Rattle.client_laws.proofs.Wrong.{forgotten-records-break-history, forgotten-deliveries-break, forgotten-waiting-breaks, forgotten-settled-break, forgotten-records-break, open-conflicts-break, dropped-sides-break, open-conflicts-break-joins}
+use Rattle.client_laws.proofs.Wrong.{forgotten-records-break-history, forgotten-deliveries-break, forgotten-waiting-breaks, forgotten-settled-break}
+use Rattle.client_laws.proofs.Wrong.{forgotten-records-break, open-conflicts-break, dropped-sides-break, open-conflicts-break-joins}
 use Rattle.client_laws.proofs.nothing_committed_is_lost.Goals as goal
 
 pub returns-clause-kept : goal.returns-clause-kept

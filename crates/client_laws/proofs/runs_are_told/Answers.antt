@@ -1,5 +1,6 @@
 use Rattle.std.proofs.Common.{refl}
-use Rattle.client_laws.proofs.Rows.{followers-stay-below, readers-fork, writers-fork, reads-are-old, wanting-is-sent-again, weaker-is-sent-after, commits-are-found, sides-are-joined}
+use Rattle.client_laws.proofs.Rows.{followers-stay-below, readers-fork, writers-fork, reads-are-old, wanting-is-sent-again, weaker-is-sent-after}
+use Rattle.client_laws.proofs.Rows.{commits-are-found, sides-are-joined}
 use Rattle.client_laws.proofs.runs_are_told.Goals as goal
 
 pub returns-clause-readers : goal.returns-clause-readers

@@ -1,6 +1,7 @@
 use Rattle.export_laws.proofs.Laws.{carried-out, contents-come-back, exports-come-back, state-is-kept, few-states-are-kept, states-are-numbered}
 use Rattle.export_laws.proofs.Short.{short-is-scripted}
-use Rattle.export_laws.proofs.Wrong.{one-write-breaks, forgotten-breaks, forgotten-breaks-exports, all-collected-breaks, nothing-breaks, nothing-collected-breaks}
+use Rattle.export_laws.proofs.Wrong.{one-write-breaks, forgotten-breaks, forgotten-breaks-exports, all-collected-breaks, nothing-breaks}
+use Rattle.export_laws.proofs.Wrong.{nothing-collected-breaks}
 use Rattle.export_laws.proofs.exports_come_back.Goals as goal
 
 pub returns-clause-carried_out : goal.returns-clause-carried_out

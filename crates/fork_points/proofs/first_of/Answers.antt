@@ -19,7 +19,8 @@ loop-slot-preserved c =
       front = λ xs are.
           let n = named-next (id_at c.args.dag.now) c.args.slots.now xs i (record { 0 = 0 }) are c.loop-slot-test.true in
           let same : c.id_of.result ≡ n.state = same_Some c.id_of.result n.state (sym c.id_of.ensures.is ∙ n.named) in
-          c.in_ok-push.ensures.added ∙ (ap (λ ys. ys ++ c.id_of.result ∷ []) (c.loop-slot.invariant.front xs are) ∙ (ap (λ x. take i xs ++ x ∷ []) same ∙ sym n.next));
+          c.in_ok-push.ensures.added ∙ (ap (λ ys. ys ++ c.id_of.result ∷ []) (c.loop-slot.invariant.front xs are)
+          ∙ (ap (λ x. take i xs ++ x ∷ []) same ∙ sym n.next));
     }
 
 pub returns-then-len-eq-SHOWN : goal.returns-then-len-eq-SHOWN

@@ -9,4 +9,5 @@ returns-then-contains-clause-noted c =
 pub returns-clause-few : goal.returns-clause-few
 returns-clause-few c = λ le.
     subst (λ ks. length ks ≤ 256) (sym c.in_ok-insert.ensures.added)
-    (few-with_key 256 c.args.key c.args.reads.now c.len-count.ensures.ascending (λ full. absurd (c.if-count-eq-MAX_READS.false (c.len-count.ensures.count ∙ full))) le)
+    (few-with_key 256 c.args.key c.args.reads.now c.len-count.ensures.ascending
+    (λ full. absurd (c.if-count-eq-MAX_READS.false (c.len-count.ensures.count ∙ full))) le)

@@ -2,7 +2,8 @@ use Rattle.std.proofs.Common.{◌≡◌, ◌≤◌, true, length, sym, ◌∙◌
 use Rattle.tardis_base.specs.Keys.{has_key}
 use Rattle.merge_txn.proofs.KnownKeys.{few-with_write}
 use Rattle.merge_txn.proofs.put_write.Goals as goal
-use Rattle.merge_txn.proofs.put_write.Goals.{else-len-eq-MAX_WRITES-via-then-len-eq-MAX_WRITES+else-not-contains, else-len-eq-MAX_WRITES-via-else-len-eq-MAX_WRITES}
+use Rattle.merge_txn.proofs.put_write.Goals.{else-len-eq-MAX_WRITES-via-then-len-eq-MAX_WRITES+else-not-contains}
+use Rattle.merge_txn.proofs.put_write.Goals.{else-len-eq-MAX_WRITES-via-else-len-eq-MAX_WRITES}
 
 pub returns-clause-few : goal.returns-clause-few
 returns-clause-few c = λ le.

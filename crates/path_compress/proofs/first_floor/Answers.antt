@@ -34,6 +34,7 @@ loop-site-preserved c = elim c.if-place-first.branch [
       let within = c.loop-site.invariant.within in
       record {
         within = omega arith;
-        open-from = λ rs ks stands placed. subst (NoneCollectable rs (floors_of c.args.book.now) ks) (sym is) (c.loop-site.invariant.open-from rs ks stands placed);
+        open-from = λ rs ks stands placed. subst (NoneCollectable rs (floors_of c.args.book.now) ks) (sym is)
+            (c.loop-site.invariant.open-from rs ks stands placed);
       }
 ]

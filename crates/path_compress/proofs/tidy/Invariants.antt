@@ -8,7 +8,8 @@ use Rattle.path_compress.proofs.tidy.Given as goal
 
 abbrev pub invariant-loop-place : goal.invariant-loop-place
 invariant-loop-place l = record {
-  walk : (rs : List Record) (ks : List StateId) → StandTogether l.fn.store l.fn.book rs ks → Walk l.fn.store l.store l.book rs ks (floors_of l.fn.book) l.n l.count l.place;
+  walk : (rs : List Record) (ks : List StateId) → StandTogether l.fn.store l.fn.book rs ks →
+      Walk l.fn.store l.store l.book rs ks (floors_of l.fn.book) l.n l.count l.place;
   numbers : KeepsNumbers l.fn.store.table l.store.table;
   promises : KeepsPromises l.fn.book l.book;
   few : l.count ≤ l.n;

@@ -18,7 +18,8 @@ returns-then-not-has_news-clause-first c = λ rs ks stands x at out.
     let i = c.loop-child.child-index in
     let named : map (id_at table) slots ≡ map (λ z. Some z) (children rs x) =
     subst (λ t. map (id_at t) slots ≡ map (λ z. Some z) (children rs x)) c.dag.ensures
-    (c.child_slots-child-items.ensures.stand_ins rs ks (subst (λ t. Stands t rs ks) (sym c.dag.ensures) stands.table) x (subst (λ t. id_at t c.args.from ≡ Some x) (sym c.dag.ensures) at)
+    (c.child_slots-child-items.ensures.stand_ins rs ks (subst (λ t. Stands t rs ks) (sym c.dag.ensures) stands.table) x
+    (subst (λ t. id_at t c.args.from ≡ Some x) (sym c.dag.ensures) at)
     ∙ children-stand rs ks stands.table.dag stands.table.shared x out) in
     let long = same_length table slots (children rs x) named in
     let lt : i < length (children rs x) = omega (arith, long, c.loop-child-test.true) in
@@ -36,7 +37,8 @@ loop-child-preserved c = λ rs ks stands x at out.
     let i = c.loop-child.child-index in
     let named : map (id_at table) slots ≡ map (λ z. Some z) (children rs x) =
     subst (λ t. map (id_at t) slots ≡ map (λ z. Some z) (children rs x)) c.dag.ensures
-    (c.child_slots-child-items.ensures.stand_ins rs ks (subst (λ t. Stands t rs ks) (sym c.dag.ensures) stands.table) x (subst (λ t. id_at t c.args.from ≡ Some x) (sym c.dag.ensures) at)
+    (c.child_slots-child-items.ensures.stand_ins rs ks (subst (λ t. Stands t rs ks) (sym c.dag.ensures) stands.table) x
+    (subst (λ t. id_at t c.args.from ≡ Some x) (sym c.dag.ensures) at)
     ∙ children-stand rs ks stands.table.dag stands.table.shared x out) in
     let long = same_length table slots (children rs x) named in
     let lt : i < length (children rs x) = omega (arith, long, c.loop-child-test.true) in
@@ -52,7 +54,8 @@ returns-clause-first c = λ rs ks stands x at out.
     let keys = guarded c.args.flags c.args.reads.now (keys_of c.args.writes.now) in
     let named : map (id_at table) slots ≡ map (λ z. Some z) (children rs x) =
     subst (λ t. map (id_at t) slots ≡ map (λ z. Some z) (children rs x)) c.dag.ensures
-    (c.child_slots-child-items.ensures.stand_ins rs ks (subst (λ t. Stands t rs ks) (sym c.dag.ensures) stands.table) x (subst (λ t. id_at t c.args.from ≡ Some x) (sym c.dag.ensures) at)
+    (c.child_slots-child-items.ensures.stand_ins rs ks (subst (λ t. Stands t rs ks) (sym c.dag.ensures) stands.table) x
+    (subst (λ t. id_at t c.args.from ≡ Some x) (sym c.dag.ensures) at)
     ∙ children-stand rs ks stands.table.dag stands.table.shared x out) in
     let long = same_length table slots (children rs x) named in
     let all : length (children rs x) ≤ c.loop-child.child-index = omega (arith, long, c.loop-child-test.false) in

@@ -11,5 +11,6 @@ use Rattle.record_store.specs.Stands.{StoreStands}
 use Rattle.ripple_commit.proofs.first_passing.Given as goal
 
 abbrev pub invariant-loop-child : goal.invariant-loop-child
-invariant-loop-child l = (rs : List Record) (ks : List StateId) → StoreStands l.store rs ks → (x : StateId) → id_at l.store.table l.from ≡ Some x → ((c : StateId) → IsTrue (is_among c (children rs x)) → IsFalse (is_among c ks)) →
+invariant-loop-child l = (rs : List Record) (ks : List StateId) → StoreStands l.store rs ks → (x : StateId) → id_at l.store.table l.from ≡ Some x →
+    ((c : StateId) → IsTrue (is_among c (children rs x)) → IsFalse (is_among c ks)) →
     list_any (passes rs (guarded l.flags l.reads (keys_of l.writes)) x) (take l.child-index (children rs x)) ≡ false

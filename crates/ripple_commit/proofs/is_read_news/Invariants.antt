@@ -8,5 +8,6 @@ use Rattle.record_store.specs.Stands.{StoreStands}
 use Rattle.ripple_commit.proofs.is_read_news.Given as goal
 
 abbrev pub invariant-loop-key : goal.invariant-loop-key
-invariant-loop-key l = (rs : List Record) (ks : List StateId) → StoreStands l.store rs ks → (x c : StateId) → id_at l.store.table l.from ≡ Some x → id_at l.store.table l.child ≡ Some c →
+invariant-loop-key l = (rs : List Record) (ks : List StateId) → StoreStands l.store rs ks → (x c : StateId) → id_at l.store.table l.from ≡ Some x →
+    id_at l.store.table l.child ≡ Some c →
     list_any (is_news rs x c) (take l.key-index l.keys) ≡ false

@@ -18,7 +18,8 @@ loop-reached-init c = record {
   way = λ rs ks stands x at out y named.
       let table = c.args.store.now.table in
       let keys = guarded c.args.flags c.args.reads.now (keys_of c.args.writes.now) in
-      let there = c.arrival-reached.ensures.arrival rs ks (subst (λ t. Stands t rs ks) (sym c.dag.ensures) stands.table) x (subst (λ t. id_at t c.args.read ≡ Some x) (sym c.dag.ensures) at) in
+      let there = c.arrival-reached.ensures.arrival rs ks (subst (λ t. Stands t rs ks) (sym c.dag.ensures) stands.table) x
+      (subst (λ t. id_at t c.args.read ≡ Some x) (sym c.dag.ensures) at) in
       way-begins rs ks keys stands.table.dag x y c.arrival-reached.result (same_Some x y (sym at ∙ named)) there;
 }
 
@@ -49,7 +50,8 @@ pub returns-in-None-clause-commit : goal.returns-in-None-clause-commit
 returns-in-None-clause-commit c = λ rs ks stands x at out y named.
     let table = c.args.store.now.table in
     let known = (and_parts (is_known rs x) (not (is_among x ks)) (slot-is_kept table rs ks stands.table c.args.read x at)).0 in
-    true-at table c.loop-reached.at rs c.args.flags c.args.reads.now (keys_of c.args.writes.now) x y stands.table.dag known (returns-in-None-clause-landing c rs ks stands x at out) named
+    true-at table c.loop-reached.at rs c.args.flags c.args.reads.now (keys_of c.args.writes.now) x y stands.table.dag known
+    (returns-in-None-clause-landing c rs ks stands x at out) named
 
 pub returns-clause-landing : goal.returns-clause-landing
 returns-clause-landing c = λ rs ks stands x at out.
@@ -66,4 +68,5 @@ pub returns-clause-commit : goal.returns-clause-commit
 returns-clause-commit c = λ rs ks stands x at out y named.
     let table = c.args.store.now.table in
     let known = (and_parts (is_known rs x) (not (is_among x ks)) (slot-is_kept table rs ks stands.table c.args.read x at)).0 in
-    true-at table c.loop-reached.at rs c.args.flags c.args.reads.now (keys_of c.args.writes.now) x y stands.table.dag known (returns-clause-landing c rs ks stands x at out) named
+    true-at table c.loop-reached.at rs c.args.flags c.args.reads.now (keys_of c.args.writes.now) x y stands.table.dag known
+    (returns-clause-landing c rs ks stands x at out) named

@@ -13,6 +13,7 @@ use Rattle.ripple_commit.proofs.landing.Given as goal
 abbrev pub invariant-loop-reached : goal.invariant-loop-reached
 invariant-loop-reached l = record {
   slot : IsTrue (is_slot l.store.table l.at);
-  way : (rs : List Record) (ks : List StateId) → StoreStands l.store rs ks → (x : StateId) → id_at l.store.table l.fn.read ≡ Some x → ((y : StateId) → IsTrue (is_above rs x y) → IsFalse (is_among y ks)) →
+  way : (rs : List Record) (ks : List StateId) → StoreStands l.store rs ks → (x : StateId) → id_at l.store.table l.fn.read ≡ Some x →
+      ((y : StateId) → IsTrue (is_above rs x y) → IsFalse (is_among y ks)) →
       (y : StateId) → id_at l.store.table l.at ≡ Some y → IsOnWay rs (guarded l.flags l.reads (keys_of l.writes)) x y l._reached;
 }

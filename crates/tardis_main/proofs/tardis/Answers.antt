@@ -31,19 +31,22 @@ pub returns-in-Ok-Run-clause-usage : goal.returns-in-Ok-Run-clause-usage
 returns-in-Ok-Run-clause-usage g c = λ is. absurd (subst IsRunEnd is c.run.ensures.ends.end)
 
 pub returns-in-Ok-Run-clause-unknown : goal.returns-in-Ok-Run-clause-unknown
-returns-in-Ok-Run-clause-unknown g c = λ unknown. absurd (unknown (AsRun c.in-Ok-Run.place) (c.in-Ok-Run.ensures.form ∙ ap (λ command. Some (form_of command)) c.in-Ok-Run.field-0-is))
+returns-in-Ok-Run-clause-unknown g c = λ unknown. absurd (unknown (AsRun c.in-Ok-Run.place)
+    (c.in-Ok-Run.ensures.form ∙ ap (λ command. Some (form_of command)) c.in-Ok-Run.field-0-is))
 
 pub returns-in-Ok-Shell-clause-usage : goal.returns-in-Ok-Shell-clause-usage
 returns-in-Ok-Shell-clause-usage g c = λ is. absurd (subst IsLineEnd is c.shell.ensures.ends.end)
 
 pub returns-in-Ok-Shell-clause-unknown : goal.returns-in-Ok-Shell-clause-unknown
-returns-in-Ok-Shell-clause-unknown g c = λ unknown. absurd (unknown (AsShell c.in-Ok-Shell.place) (c.in-Ok-Shell.ensures.form ∙ ap (λ command. Some (form_of command)) c.in-Ok-Shell.field-0-is))
+returns-in-Ok-Shell-clause-unknown g c = λ unknown. absurd (unknown (AsShell c.in-Ok-Shell.place)
+    (c.in-Ok-Shell.ensures.form ∙ ap (λ command. Some (form_of command)) c.in-Ok-Shell.field-0-is))
 
 pub returns-in-Ok-Audit-clause-usage : goal.returns-in-Ok-Audit-clause-usage
 returns-in-Ok-Audit-clause-usage g c = λ is. absurd (subst IsRunEnd is c.audit_frames.ensures.ends.end)
 
 pub returns-in-Ok-Audit-clause-unknown : goal.returns-in-Ok-Audit-clause-unknown
-returns-in-Ok-Audit-clause-unknown g c = λ unknown. absurd (unknown (AsAudit c.in-Ok-Audit.place) (c.in-Ok-Audit.ensures.form ∙ ap (λ command. Some (form_of command)) c.in-Ok-Audit.field-0-is))
+returns-in-Ok-Audit-clause-unknown g c = λ unknown. absurd (unknown (AsAudit c.in-Ok-Audit.place)
+    (c.in-Ok-Audit.ensures.form ∙ ap (λ command. Some (form_of command)) c.in-Ok-Audit.field-0-is))
 
 pub returns-in-Ok-Auto-clause-usage : goal.returns-in-Ok-Auto-clause-usage
 returns-in-Ok-Auto-clause-usage g c = λ is. absurd (subst IsLineEnd is c.auto.ensures.ends.end)
@@ -58,12 +61,15 @@ export_same p q x y e = cc
 pub returns-in-Ok-Export-clause-export : goal.returns-in-Ok-Export-clause-export
 returns-in-Ok-Export-clause-export g c = λ place state are.
     let read = c.in-Ok-Export.ensures.form ∙ ap (λ command. Some (form_of command)) c.in-Ok-Export.field-0-is in
-    let same : ◌≡◌ {A = Place × StateId} (c.in-Ok-Export.place, c.in-Ok-Export.state) (place, state) = export_same c.in-Ok-Export.place place c.in-Ok-Export.state state (sym read ∙ are) in
-    subst (λ (p : Place × StateId). ExportEnds g.I.Source.left g.I.Source.faults g.O.Sink.given g.O.Sink.faults c.args.input.now c.export.new.input c.args.output.now c.export.new.output
+    let same : ◌≡◌ {A = Place × StateId} (c.in-Ok-Export.place, c.in-Ok-Export.state) (place, state) =
+    export_same c.in-Ok-Export.place place c.in-Ok-Export.state state (sym read ∙ are) in
+    subst (λ (p : Place × StateId). ExportEnds g.I.Source.left g.I.Source.faults g.O.Sink.given g.O.Sink.faults c.args.input.now c.export.new.input
+    c.args.output.now c.export.new.output
     (map (λ w. string_bytes w) c.args.words.now) c.export.result (site_at p.0) p.1) same
     (record {
       outcome = subst (λ (l : Limits). WhileTold (g.I.Source.left c.args.input.now) (g.I.Source.left c.export.new.input)
-          (ExportOutcome c.export.result c.in-Ok-Export.state (λ s. s ≡ opening l c.in-Ok-Export.place.site) IsSound (g.O.Sink.given c.args.output.now) (g.O.Sink.given c.export.new.output)))
+          (ExportOutcome c.export.result c.in-Ok-Export.state (λ s. s ≡ opening l c.in-Ok-Export.place.site) IsSound (g.O.Sink.given c.args.output.now)
+          (g.O.Sink.given c.export.new.output)))
           c.limits-in-Ok-Export.ensures.limits c.export.ensures.outcome;
       exact = c.export.ensures.exact;
       end = c.export.ensures.status;
@@ -72,7 +78,13 @@ returns-in-Ok-Export-clause-export g c = λ place state are.
 
 pub returns-in-Ok-Import-clause-import : goal.returns-in-Ok-Import-clause-import
 returns-in-Ok-Import-clause-import g c = λ are.
-    record { outcome = c.run_import.ensures.outcome; exact = c.run_import.ensures.exact; end = c.run_import.ensures.status; nothing = c.run_import.ensures.nothing }
+    record {
+      outcome = c.run_import.ensures.outcome;
+      exact = c.run_import.ensures.exact;
+      end = c.run_import.ensures.status;
+      nothing =
+          c.run_import.ensures.nothing;
+    }
 
 pub returns-in-Ok-Export-clause-usage : goal.returns-in-Ok-Export-clause-usage
 returns-in-Ok-Export-clause-usage g c = λ is. absurd (subst (IsExportEnd c.in-Ok-Export.state) is c.export.ensures.status)
@@ -85,7 +97,8 @@ pub returns-in-Ok-Import-clause-usage : goal.returns-in-Ok-Import-clause-usage
 returns-in-Ok-Import-clause-usage g c = λ is. absurd (subst IsImportEnd is c.run_import.ensures.status)
 
 pub returns-in-Ok-Import-clause-unknown : goal.returns-in-Ok-Import-clause-unknown
-returns-in-Ok-Import-clause-unknown g c = λ unknown. absurd (unknown AsImport (c.in-Ok-Import.ensures.form ∙ ap (λ command. Some (form_of command)) c.in-Ok-Import.field-0-is))
+returns-in-Ok-Import-clause-unknown g c = λ unknown. absurd (unknown AsImport
+    (c.in-Ok-Import.ensures.form ∙ ap (λ command. Some (form_of command)) c.in-Ok-Import.field-0-is))
 
 pub returns-in-Ok-Durable-clause-unknown : goal.returns-in-Ok-Durable-clause-unknown
 returns-in-Ok-Durable-clause-unknown g c = λ unknown. absurd (unknown (AsDurable c.in-Ok-Durable.place (string_bytes c.in-Ok-Durable.path))
@@ -99,7 +112,8 @@ pub returns-in-Ok-World-clause-usage : goal.returns-in-Ok-World-clause-usage
 returns-in-Ok-World-clause-usage g c = λ is. absurd (subst IsRunEnd is c.run_world.ensures.status)
 
 pub returns-in-Ok-World-clause-unknown : goal.returns-in-Ok-World-clause-unknown
-returns-in-Ok-World-clause-unknown g c = λ unknown. absurd (unknown (AsWorld c.in-Ok-World.sites) (c.in-Ok-World.ensures.form ∙ ap (λ command. Some (form_of command)) c.in-Ok-World.field-0-is))
+returns-in-Ok-World-clause-unknown g c = λ unknown. absurd (unknown (AsWorld c.in-Ok-World.sites)
+    (c.in-Ok-World.ensures.form ∙ ap (λ command. Some (form_of command)) c.in-Ok-World.field-0-is))
 
 pub returns-in-Ok-Load-clause-usage : goal.returns-in-Ok-Load-clause-usage
 returns-in-Ok-Load-clause-usage g c = λ is. absurd (subst IsLoadEnd is c.run_load.ensures.status)
@@ -112,13 +126,15 @@ pub serve_plan-requires-clause-peers : goal.serve_plan-requires-clause-peers
 serve_plan-requires-clause-peers g c =
     let words = map (λ w. string_bytes w) c.args.words.now in
     let plan = c.in-Ok-Serve.plan in
-    let is = c.commands_are_at_a_site.ensures.serve words (serving_of plan) (c.in-Ok-Serve.ensures.form ∙ ap (λ command. Some (form_of command)) c.in-Ok-Serve.field-0-is) in
+    let is = c.commands_are_at_a_site.ensures.serve words (serving_of plan)
+    (c.in-Ok-Serve.ensures.form ∙ ap (λ command. Some (form_of command)) c.in-Ok-Serve.field-0-is) in
     omega (arith, is.peers, length-map plan.peers.items (λ w. string_bytes w))
 
 pub serve_plan-requires-clause-rounds : goal.serve_plan-requires-clause-rounds
 serve_plan-requires-clause-rounds g c = λ κs within.
     let words = map (λ w. string_bytes w) c.args.words.now in
-    let is = c.commands_are_at_a_site.ensures.serve words (serving_of c.in-Ok-Serve.plan) (c.in-Ok-Serve.ensures.form ∙ ap (λ command. Some (form_of command)) c.in-Ok-Serve.field-0-is) in
+    let is = c.commands_are_at_a_site.ensures.serve words (serving_of c.in-Ok-Serve.plan)
+    (c.in-Ok-Serve.ensures.form ∙ ap (λ command. Some (form_of command)) c.in-Ok-Serve.field-0-is) in
     is.rounds
 
 pub returns-in-Ok-Serve-clause-usage : goal.returns-in-Ok-Serve-clause-usage
@@ -147,7 +163,8 @@ returns-in-Ok-Serve-clause-serve g c = λ plan are.
 pub returns-in-Err-NoMemory-clause-serve : goal.returns-in-Err-NoMemory-clause-serve
 returns-in-Err-NoMemory-clause-serve g c = λ plan are.
     no_server g.G.Link.Duplex.left g.G.Link.Sink.given g.G.Link.Duplex.take_faults g.G.Link.Sink.faults g.G.Gate.told g.G.Gate.faults
-    g.D.Link.Duplex.left g.D.Link.Sink.given g.D.Link.Duplex.take_faults g.D.Link.Sink.faults g.D.Dial.told g.D.Dial.faults g.O.Sink.given g.O.Sink.faults c.args.gate.now c.args.dial.now c.args.output.now
+    g.D.Link.Duplex.left g.D.Link.Sink.given g.D.Link.Duplex.take_faults g.D.Link.Sink.faults g.D.Dial.told g.D.Dial.faults g.O.Sink.given g.O.Sink.faults
+    c.args.gate.now c.args.dial.now c.args.output.now
     (site_at plan.place) (program_limits plan.place.sites).max_trail (work_of plan)
 
 pub returns-in-Err-NoMemory-clause-auto : goal.returns-in-Err-NoMemory-clause-auto

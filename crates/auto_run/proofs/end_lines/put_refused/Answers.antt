@@ -8,5 +8,6 @@ use Rattle.auto_run.proofs.end_lines.put_refused.Goals as goal
 
 pub returns : goal.returns
 returns c =
-    c.put_reply_line.ensures ∙ ap reply_line_of (c.bytes.ensures.same ∙ c.write_reply.ensures ∙ ap (λ z. z ++ reply_spelling (Refused c.args.refusal)) c.clear.ensures)
+    c.put_reply_line.ensures ∙ ap reply_line_of (c.bytes.ensures.same ∙ c.write_reply.ensures
+    ∙ ap (λ z. z ++ reply_spelling (Refused c.args.refusal)) c.clear.ensures)
     ∙ ap (λ o. option_map_or reply_line o []) (c.talk_has_one_spelling.ensures.reply.read_back (Refused c.args.refusal) c.requires)

@@ -13,8 +13,10 @@ put-requires-clause-told c =
 pub returns-in-Ok-clause-answer : goal.returns-in-Ok-clause-answer
 returns-in-Ok-clause-answer c = λ site f.
     let ended = c.in-Ok.ensures.plain site f in
-    stepped c.args.actor c.args.rules.now (SiteStands c.auto_step.new.core) site c.args.out.now.bytes c.put.new.out.bytes c.in-Ok.end ended.0 ended.1 c.put.ensures.bytes
+    stepped c.args.actor c.args.rules.now (SiteStands c.auto_step.new.core) site c.args.out.now.bytes c.put.new.out.bytes c.in-Ok.end ended.0 ended.1
+    c.put.ensures.bytes
 
 pub returns-in-Err-clause-answer : goal.returns-in-Err-clause-answer
 returns-in-Err-clause-answer c = λ site f.
-    wanting c.args.actor c.args.rules.now (SiteStands c.auto_step.new.core) site c.args.out.now.bytes c.put-in-Err.new.self.bytes (c.in-Err.ensures.plain site f) c.put-in-Err.ensures.bytes
+    wanting c.args.actor c.args.rules.now (SiteStands c.auto_step.new.core) site c.args.out.now.bytes c.put-in-Err.new.self.bytes
+    (c.in-Err.ensures.plain site f) c.put-in-Err.ensures.bytes

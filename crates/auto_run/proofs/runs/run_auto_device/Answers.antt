@@ -20,7 +20,8 @@ returns-in-Ok-clause-outcome g c =
     let old = g.D.Sink.given c.args.device.now in
     let new = g.D.Sink.given c.answer_lines.new.device in
     weaker (g.D.Duplex.left c.args.device.now) (g.D.Duplex.left c.answer_lines.new.device)
-    (LineOutcome status (RuledStands before.core before.rules) (λ s lines. AnsweredBy RuledMay (shape_within 5242945 status) (RuledStands after.core after.rules) old new [] [] s lines))
+    (LineOutcome status (RuledStands before.core before.rules)
+    (λ s lines. AnsweredBy RuledMay (shape_within 5242945 status) (RuledStands after.core after.rules) old new [] [] s lines))
     (AutoOutcome (over_lines site_machine) before.rules status (SiteStands before.core) (SiteStands after.core) old new)
     c.answer_lines.ensures.outcome
     (λ x y o. of_site before.core after.core before.rules after.rules status old new x y o)
@@ -29,5 +30,6 @@ pub returns-in-Err-clause-outcome : goal.returns-in-Err-clause-outcome
 returns-in-Err-clause-outcome g c =
     let site = c.args.site.now in
     let given = g.D.Sink.given c.args.device.now in
-    same (g.D.Duplex.left c.args.device.now) (AutoOutcome (over_lines site_machine) site.rules NoMemory (SiteStands site.core) (SiteStands site.core) given given)
+    same (g.D.Duplex.left c.args.device.now) (AutoOutcome (over_lines site_machine) site.rules NoMemory (SiteStands site.core) (SiteStands site.core) given
+    given)
     (λ x. no_run (over_lines site_machine) site.rules (SiteStands site.core) (SiteStands site.core) given x (λ s f. f))

@@ -13,6 +13,7 @@ use Rattle.begin_rule.proofs.merges.admit_all.Given as goal
 abbrev pub invariant-loop-state : goal.invariant-loop-state
 invariant-loop-state l = record {
   kept : IsTrue (list_all (is_listed l.dag) (take l.state-index l.states));
-  admitted : (rs : List Record) (ks : List StateId) → Stands l.dag rs ks → (c : StateId) → id_at l.dag l.ceiling ≡ Some c → ((x : StateId) → IsTrue (is_among x ks) → IsTrue (is_proper_ancestor rs x c)) → first_unknown rs l.states ≡ None →
+  admitted : (rs : List Record) (ks : List StateId) → Stands l.dag rs ks → (c : StateId) → id_at l.dag l.ceiling ≡ Some c →
+      ((x : StateId) → IsTrue (is_among x ks) → IsTrue (is_proper_ancestor rs x c)) → first_unknown rs l.states ≡ None →
       first_below rs c l.states ≡ first_below rs c (drop l.state-index l.states);
 }

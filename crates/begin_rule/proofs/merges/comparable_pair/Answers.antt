@@ -22,10 +22,12 @@ returns-in-Some c = λ rs ks stands xs are.
     let i = c.loop-place.place in
     let n = named-next name ss xs i (record { 0 = 0 }) are c.loop-place-test.true in
     let behind = ap (map name) (take_rest ss (i + 1)) ∙ n.behind in
-    let found = sym (c.first_comparable.ensures.first rs ks stands n.state (drop (i + 1) xs) n.named behind) ∙ (ap (option_and_then name) c.in-Some.is ∙ c.id_of-in-Some.ensures.is) in
+    let found = sym (c.first_comparable.ensures.first rs ks stands n.state (drop (i + 1) xs) n.named behind)
+    ∙ (ap (option_and_then name) c.in-Some.is ∙ c.id_of-in-Some.ensures.is) in
     let same = same_Some c.id_of.result n.state (sym c.id_of.ensures.is ∙ n.named) in
     ap (λ x. Some (x, c.id_of-in-Some.result)) same
-    ∙ sym (c.loop-place.invariant.pair rs ks stands xs are ∙ (ap (comparable_pair rs) n.next ∙ pair-here rs n.state (drop (i + 1) xs) c.id_of-in-Some.result found))
+    ∙ sym (c.loop-place.invariant.pair rs ks stands xs are ∙ (ap (comparable_pair rs) n.next
+    ∙ pair-here rs n.state (drop (i + 1) xs) c.id_of-in-Some.result found))
 
 pub loop-place-preserved : goal.loop-place-preserved
 loop-place-preserved c =

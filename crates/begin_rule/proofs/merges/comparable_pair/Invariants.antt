@@ -10,5 +10,6 @@ use Rattle.begin_rule.proofs.merges.comparable_pair.Given as goal
 abbrev pub invariant-loop-place : goal.invariant-loop-place
 invariant-loop-place l = record {
   slots : IsTrue (list_all (is_slot l.dag) (drop l.place l.slots));
-  pair : (rs : List Record) (ks : List StateId) → Stands l.dag rs ks → (xs : List StateId) → map (id_at l.dag) l.slots ≡ map (λ x. Some x) xs → comparable_pair rs xs ≡ comparable_pair rs (drop l.place xs);
+  pair : (rs : List Record) (ks : List StateId) → Stands l.dag rs ks → (xs : List StateId) → map (id_at l.dag) l.slots ≡ map (λ x. Some x) xs →
+      comparable_pair rs xs ≡ comparable_pair rs (drop l.place xs);
 }

@@ -7,5 +7,6 @@ use Rattle.state_dag.specs.Stands.{Stands}
 use Rattle.begin_rule.proofs.merges.first_comparable.Given as goal
 
 abbrev pub invariant-loop-other : goal.invariant-loop-other
-invariant-loop-other l = (rs : List Record) (ks : List StateId) → Stands l.dag rs ks → (x : StateId) (ys : List StateId) → id_at l.dag l.slot ≡ Some x → map (id_at l.dag) l.others ≡ map (λ y. Some y) ys →
+invariant-loop-other l = (rs : List Record) (ks : List StateId) → Stands l.dag rs ks → (x : StateId) (ys : List StateId) → id_at l.dag l.slot ≡ Some x →
+    map (id_at l.dag) l.others ≡ map (λ y. Some y) ys →
     find (are_comparable rs x) ys ≡ find (are_comparable rs x) (drop l.other-index ys)

@@ -11,8 +11,10 @@ pub loop-place-preserved : goal.loop-place-preserved
 loop-place-preserved c = λ rs ks stands x named.
     let ls = listed_keys c.args.store.now.versions in
     let key = c.key_at-key.result in
-    let at : slice_get ls c.loop-place.place ≡ Some key.now = subst (λ v. slice_get (listed_keys v) c.loop-place.place ≡ Some key.now) c.versions-versions.ensures.is c.key_at-key.ensures in
-    let live : is_live rs x key.now ≡ c.is_value.result = live-of rs x key.now (found c.read_at.result) (c.read_at.ensures rs ks stands x named) ∙ sym c.is_value.ensures in
+    let at : slice_get ls c.loop-place.place ≡ Some key.now =
+    subst (λ v. slice_get (listed_keys v) c.loop-place.place ≡ Some key.now) c.versions-versions.ensures.is c.key_at-key.ensures in
+    let live : is_live rs x key.now ≡ c.is_value.result = live-of rs x key.now (found c.read_at.result) (c.read_at.ensures rs ks stands x named)
+    ∙ sym c.is_value.ensures in
     let before = c.loop-place.invariant rs ks stands x named in
     elim c.if-is_value.branch [
       | then-is_value+in_ok-push w ↦

@@ -15,7 +15,8 @@ pub loop-left-init : goal.loop-left-init
 loop-left-init g c = record {
   scripting = λ es is.
       scripting-first (g.O.Sink.given c.args.output.now) c.args.export.now c.u64.new.self c.push.new.self c.in-Some.count es is
-      (subst (λ b. u64_front b ≡ Some (c.in-Some.count, c.u64.new.self)) c.new-reader.ensures (taken u64_front c.new-reader.result c.u64.new.self c.in-Some.count c.in-Some.ensures))
+      (subst (λ b. u64_front b ≡ Some (c.in-Some.count, c.u64.new.self)) c.new-reader.ensures
+      (taken u64_front c.new-reader.result c.u64.new.self c.in-Some.count c.in-Some.ensures))
       (c.push.ensures ∙ ap (λ z. z ++ (0 ∷ 0 ∷ 0 ∷ 4 ∷ 0 ∷ 1 ∷ 1 ∷ 1 ∷ [])) c.requires.none);
   later = omega arith;
 }
@@ -34,18 +35,23 @@ loop-left-preserved g c =
     record {
       scripting = λ es is.
           let s = c.loop-left.invariant.scripting es is in
-          scripting-next (g.O.Sink.given c.args.output.now) (g.O.Sink.given c.loop-left.output) (g.O.Sink.given c.make_room.new.output) c.loop-left.reader c.write_group.new.reader
-          c.loop-left.gathered c.make_room.new.gathered c.write_group.new.out c.loop-left.left m (c.loop-left.left - m) es s c.in-Ok.ensures.moved c.loop-left-test.true c.min-size.ensures refl
-          (c.write_group.ensures (take m s.more) (flat_map entry_spelling (drop m s.more)) (begins-split c.loop-left.reader c.loop-left.left m s.more s.begins few));
+          scripting-next (g.O.Sink.given c.args.output.now) (g.O.Sink.given c.loop-left.output) (g.O.Sink.given c.make_room.new.output) c.loop-left.reader
+          c.write_group.new.reader
+          c.loop-left.gathered c.make_room.new.gathered c.write_group.new.out c.loop-left.left m (c.loop-left.left - m) es s c.in-Ok.ensures.moved
+          c.loop-left-test.true c.min-size.ensures refl
+          (c.write_group.ensures (take m s.more) (flat_map entry_spelling (drop m s.more))
+          (begins-split c.loop-left.reader c.loop-left.left m s.more s.begins few));
       later = omega (arith, c.loop-left.invariant.later, c.make_room.ensures.cause.later);
     }
 
 pub returns-in-Err-clause-script : goal.returns-in-Err-clause-script
 returns-in-Err-clause-script g c = λ es is.
-    scripting-lost (g.O.Sink.given c.args.output.now) (g.O.Sink.given c.loop-left.output) (g.O.Sink.given c.make_room.new.output) c.loop-left.reader c.loop-left.gathered c.loop-left.left es
+    scripting-lost (g.O.Sink.given c.args.output.now) (g.O.Sink.given c.loop-left.output) (g.O.Sink.given c.make_room.new.output) c.loop-left.reader
+    c.loop-left.gathered c.loop-left.left es
     (c.loop-left.invariant.scripting es is) c.in-Err.ensures.moved
 
 pub returns-clause-script : goal.returns-clause-script
 returns-clause-script g c = λ es is.
-    scripting-last (g.O.Sink.given c.args.output.now) (g.O.Sink.given c.loop-left.output) (g.O.Sink.given c.flush.new.output) c.loop-left.reader c.loop-left.gathered c.loop-left.left es c.flush.result
+    scripting-last (g.O.Sink.given c.args.output.now) (g.O.Sink.given c.loop-left.output) (g.O.Sink.given c.flush.new.output) c.loop-left.reader
+    c.loop-left.gathered c.loop-left.left es c.flush.result
     (c.loop-left.invariant.scripting es is) (omega (arith, c.loop-left-test.false)) c.flush.ensures.given

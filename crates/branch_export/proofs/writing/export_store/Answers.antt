@@ -7,13 +7,15 @@ use Rattle.branch_export.proofs.writing.export_store.Goals as goal
 pub returns-in_err-keys-clause-exported : goal.returns-in_err-keys-clause-exported
 returns-in_err-keys-clause-exported g c = λ rs ks stands.
     wanting rs ks c.args.state (g.O.Sink.given c.args.output.now) c.from_residual.result
-    (named-kept c.args.store.now.table rs ks stands.table c.in-Some.slot c.args.state (subst (λ t. id_at t c.in-Some.slot ≡ Some c.args.state) c.dag.ensures c.in-Some.ensures.found))
+    (named-kept c.args.store.now.table rs ks stands.table c.in-Some.slot c.args.state
+    (subst (λ t. id_at t c.in-Some.slot ≡ Some c.args.state) c.dag.ensures c.in-Some.ensures.found))
     c.from_residual.ensures
 
 pub returns-in_err-gathered-clause-exported : goal.returns-in_err-gathered-clause-exported
 returns-in_err-gathered-clause-exported g c = λ rs ks stands.
     wanting rs ks c.args.state (g.O.Sink.given c.args.output.now) c.from_residual-in_err-gathered.result
-    (named-kept c.args.store.now.table rs ks stands.table c.in-Some.slot c.args.state (subst (λ t. id_at t c.in-Some.slot ≡ Some c.args.state) c.dag.ensures c.in-Some.ensures.found))
+    (named-kept c.args.store.now.table rs ks stands.table c.in-Some.slot c.args.state
+    (subst (λ t. id_at t c.in-Some.slot ≡ Some c.args.state) c.dag.ensures c.in-Some.ensures.found))
     c.from_residual-in_err-gathered.ensures
 
 pub returns-in-Ok-clause-exported : goal.returns-in-Ok-clause-exported

@@ -10,6 +10,7 @@ use Rattle.branch_export.proofs.writing.write_entries.Given as goal
 abbrev pub invariant-loop-key : goal.invariant-loop-key
 invariant-loop-key g l = record {
   told : (rs : List Record) (ks : List StateId) → StoreStands l.fn.store rs ks → (x : StateId) → id_at l.fn.store.table l.fn.slot ≡ Some x
-      → WhileTold (g.O.Sink.given l.fn.output) (g.O.Sink.given l.output) (λ before after. after ++ l.gathered ≡ before ++ begun rs x (map (λ k. k.now) l.fn.keys) l.key-index);
+      → WhileTold (g.O.Sink.given l.fn.output) (g.O.Sink.given l.output)
+      (λ before after. after ++ l.gathered ≡ before ++ begun rs x (map (λ k. k.now) l.fn.keys) l.key-index);
   later : g.O.Sink.faults l.fn.output ≤ g.O.Sink.faults l.output;
 }

@@ -12,22 +12,27 @@ use Rattle.branch_region.proofs.Orders.{until-is, until-front}
 use Rattle.branch_region.proofs.Named.{named-next, named-length, passing-more, passing-same, all-got, all-more}
 use Rattle.branch_region.proofs.Told.{part-told, part-isnt_last}
 use Rattle.branch_region.proofs.older.older.Goals as goal
-use Rattle.branch_region.proofs.older.older.Goals.{then-is_above_part+in_ok-push, else-is_above_part+then-is_last_shared+in_ok-push-2, else-is_above_part+else-is_last_shared}
+use Rattle.branch_region.proofs.older.older.Goals.{then-is_above_part+in_ok-push, else-is_above_part+then-is_last_shared+in_ok-push-2}
+use Rattle.branch_region.proofs.older.older.Goals.{else-is_above_part+else-is_last_shared}
 
 pub returns-then-bound-arrival-clause-apart : goal.returns-then-bound-arrival-clause-apart
 returns-then-bound-arrival-clause-apart c = λ rs ks stands xs are.
     let i = c.loop-slot.slot-index in
-    let n = named-next (id_at c.args.dag.now) c.kept_slots-slot-items.result.now (kept_states rs ks) i (record { 0 = 0 }) (c.kept_slots-slot-items.ensures.kept rs ks stands) c.loop-slot-test.true in
+    let n = named-next (id_at c.args.dag.now) c.kept_slots-slot-items.result.now (kept_states rs ks) i (record { 0 = 0 })
+    (c.kept_slots-slot-items.ensures.kept rs ks stands) c.loop-slot-test.true in
     let at = c.arrival.ensures.arrival rs ks stands n.state n.named in
-    let front = until-front (arrival rs) (λ x. is_above_part rs x xs) c.args.bound (kept_states rs ks) i n.state (kept-rise rs ks stands.dag) n.got (let le = c.if-bound-arrival.true in omega arith) in
+    let front = until-front (arrival rs) (λ x. is_above_part rs x xs) c.args.bound (kept_states rs ks) i n.state (kept-rise rs ks stands.dag) n.got
+    (let le = c.if-bound-arrival.true in omega arith) in
     (c.loop-slot.invariant.both rs ks stands xs are).0 ∙ ap (map (λ x. Some x)) (sym front)
 
 pub returns-then-bound-arrival-clause-shared : goal.returns-then-bound-arrival-clause-shared
 returns-then-bound-arrival-clause-shared c = λ rs ks stands xs are.
     let i = c.loop-slot.slot-index in
-    let n = named-next (id_at c.args.dag.now) c.kept_slots-slot-items.result.now (kept_states rs ks) i (record { 0 = 0 }) (c.kept_slots-slot-items.ensures.kept rs ks stands) c.loop-slot-test.true in
+    let n = named-next (id_at c.args.dag.now) c.kept_slots-slot-items.result.now (kept_states rs ks) i (record { 0 = 0 })
+    (c.kept_slots-slot-items.ensures.kept rs ks stands) c.loop-slot-test.true in
     let at = c.arrival.ensures.arrival rs ks stands n.state n.named in
-    let front = until-front (arrival rs) (is_last_shared rs xs) c.args.bound (kept_states rs ks) i n.state (kept-rise rs ks stands.dag) n.got (let le = c.if-bound-arrival.true in omega arith) in
+    let front = until-front (arrival rs) (is_last_shared rs xs) c.args.bound (kept_states rs ks) i n.state (kept-rise rs ks stands.dag) n.got
+    (let le = c.if-bound-arrival.true in omega arith) in
     (c.loop-slot.invariant.both rs ks stands xs are).1 ∙ ap (map (λ x. Some x)) (sym front)
 
 pub loop-slot-preserved : goal.loop-slot-preserved
@@ -40,36 +45,52 @@ loop-slot-preserved c =
     let is_one = all-got (is_slot table) items i d c.kept_slots-slot-items.ensures.slots c.loop-slot-test.true in
     elim c.if-is_above_part.branch [
       | then-is_above_part+in_ok-push w ↦ record {
-        apart_slots = subst (λ (v : Vec Slot Global). IsTrue (list_all (is_slot table) v.items)) (sym w.apart-is) (subst (λ ss. IsTrue (list_all (is_slot table) ss)) (sym w.in_ok-push.ensures.items) (all-more (is_slot table) c.loop-slot.apart.items (get_or items i d) before.apart_slots is_one));
+        apart_slots = subst (λ (v : Vec Slot Global). IsTrue (list_all (is_slot table) v.items)) (sym w.apart-is)
+            (subst (λ ss. IsTrue (list_all (is_slot table) ss)) (sym w.in_ok-push.ensures.items)
+            (all-more (is_slot table) c.loop-slot.apart.items (get_or items i d) before.apart_slots is_one));
         shared_slots = subst (λ (v : Vec Slot Global). IsTrue (list_all (is_slot table) v.items)) (sym w.shared-is) before.shared_slots;
         both = λ rs ks stands xs are.
             let n = named-next (id_at table) items (kept_states rs ks) i d (c.kept_slots-slot-items.ensures.kept rs ks stands) c.loop-slot-test.true in
             let at = c.arrival.ensures.arrival rs ks stands n.state n.named in
             let lt : arrival rs n.state < c.args.bound = (let l = c.if-bound-arrival.false in omega arith) in
             let was = before.both rs ks stands xs are in
-            let part = sym (part-told table rs ks stands (get_or items i d) n.state n.named c.args.states.now xs are) ∙ (sym c.is_above_part.ensures ∙ w.if-is_above_part.true) in
+            let part = sym (part-told table rs ks stands (get_or items i d) n.state n.named c.args.states.now xs are)
+            ∙ (sym c.is_above_part.ensures ∙ w.if-is_above_part.true) in
             let p : StateId → Bool = λ x. is_above_part rs x xs in (
-              subst (λ (v : Vec Slot Global). map (id_at table) v.items ≡ map (λ x. Some x) (filter (is_until rs c.args.bound p) (take (i + 1) (kept_states rs ks)))) (sym w.apart-is)
-                  (ap (map (id_at table)) w.in_ok-push.ensures.items ∙ passing-more (id_at table) (is_until rs c.args.bound p) (kept_states rs ks) i n.state c.loop-slot.apart.items (get_or items i d) n.next n.named (until-is (arrival rs) p c.args.bound n.state lt ∙ part) was.0),
-              subst (λ (v : Vec Slot Global). map (id_at table) v.items ≡ map (λ x. Some x) (filter (is_until rs c.args.bound (is_last_shared rs xs)) (take (i + 1) (kept_states rs ks)))) (sym w.shared-is)
-                  (passing-same (id_at table) (is_until rs c.args.bound (is_last_shared rs xs)) (kept_states rs ks) i n.state c.loop-slot.shared.items n.next (until-is (arrival rs) (is_last_shared rs xs) c.args.bound n.state lt ∙ part-isnt_last rs xs n.state part) was.1),
+              subst (λ (v : Vec Slot Global). map (id_at table) v.items
+                  ≡ map (λ x. Some x) (filter (is_until rs c.args.bound p) (take (i + 1) (kept_states rs ks)))) (sym w.apart-is)
+                  (ap (map (id_at table)) w.in_ok-push.ensures.items
+                  ∙ passing-more (id_at table) (is_until rs c.args.bound p) (kept_states rs ks) i n.state c.loop-slot.apart.items
+                  (get_or items i d) n.next n.named (until-is (arrival rs) p c.args.bound n.state lt ∙ part) was.0),
+              subst (λ (v : Vec Slot Global). map (id_at table) v.items
+                  ≡ map (λ x. Some x) (filter (is_until rs c.args.bound (is_last_shared rs xs)) (take (i + 1) (kept_states rs ks)))) (sym w.shared-is)
+                  (passing-same (id_at table) (is_until rs c.args.bound (is_last_shared rs xs)) (kept_states rs ks) i n.state c.loop-slot.shared.items
+                  n.next (until-is (arrival rs) (is_last_shared rs xs) c.args.bound n.state lt ∙ part-isnt_last rs xs n.state part) was.1),
             );
       }
       | else-is_above_part+then-is_last_shared+in_ok-push-2 w ↦ record {
         apart_slots = subst (λ (v : Vec Slot Global). IsTrue (list_all (is_slot table) v.items)) (sym w.apart-is) before.apart_slots;
-        shared_slots = subst (λ (v : Vec Slot Global). IsTrue (list_all (is_slot table) v.items)) (sym w.shared-is) (subst (λ ss. IsTrue (list_all (is_slot table) ss)) (sym w.in_ok-push-2.ensures.items) (all-more (is_slot table) c.loop-slot.shared.items (get_or items i d) before.shared_slots is_one));
+        shared_slots = subst (λ (v : Vec Slot Global). IsTrue (list_all (is_slot table) v.items)) (sym w.shared-is)
+            (subst (λ ss. IsTrue (list_all (is_slot table) ss)) (sym w.in_ok-push-2.ensures.items)
+            (all-more (is_slot table) c.loop-slot.shared.items (get_or items i d) before.shared_slots is_one));
         both = λ rs ks stands xs are.
             let n = named-next (id_at table) items (kept_states rs ks) i d (c.kept_slots-slot-items.ensures.kept rs ks stands) c.loop-slot-test.true in
             let at = c.arrival.ensures.arrival rs ks stands n.state n.named in
             let lt : arrival rs n.state < c.args.bound = (let l = c.if-bound-arrival.false in omega arith) in
             let was = before.both rs ks stands xs are in
-            let part = sym (part-told table rs ks stands (get_or items i d) n.state n.named c.args.states.now xs are) ∙ (sym c.is_above_part.ensures ∙ w.if-is_above_part.false) in
+            let part = sym (part-told table rs ks stands (get_or items i d) n.state n.named c.args.states.now xs are)
+            ∙ (sym c.is_above_part.ensures ∙ w.if-is_above_part.false) in
             let last = sym (w.is_last_shared.ensures rs ks stands n.state n.named xs are) ∙ w.if-is_last_shared.true in
             let p : StateId → Bool = λ x. is_above_part rs x xs in (
-              subst (λ (v : Vec Slot Global). map (id_at table) v.items ≡ map (λ x. Some x) (filter (is_until rs c.args.bound p) (take (i + 1) (kept_states rs ks)))) (sym w.apart-is)
-                  (passing-same (id_at table) (is_until rs c.args.bound p) (kept_states rs ks) i n.state c.loop-slot.apart.items n.next (until-is (arrival rs) p c.args.bound n.state lt ∙ part) was.0),
-              subst (λ (v : Vec Slot Global). map (id_at table) v.items ≡ map (λ x. Some x) (filter (is_until rs c.args.bound (is_last_shared rs xs)) (take (i + 1) (kept_states rs ks)))) (sym w.shared-is)
-                  (ap (map (id_at table)) w.in_ok-push-2.ensures.items ∙ passing-more (id_at table) (is_until rs c.args.bound (is_last_shared rs xs)) (kept_states rs ks) i n.state c.loop-slot.shared.items (get_or items i d) n.next n.named (until-is (arrival rs) (is_last_shared rs xs) c.args.bound n.state lt ∙ last) was.1),
+              subst (λ (v : Vec Slot Global). map (id_at table) v.items
+                  ≡ map (λ x. Some x) (filter (is_until rs c.args.bound p) (take (i + 1) (kept_states rs ks)))) (sym w.apart-is)
+                  (passing-same (id_at table) (is_until rs c.args.bound p) (kept_states rs ks) i n.state c.loop-slot.apart.items n.next
+                  (until-is (arrival rs) p c.args.bound n.state lt ∙ part) was.0),
+              subst (λ (v : Vec Slot Global). map (id_at table) v.items
+                  ≡ map (λ x. Some x) (filter (is_until rs c.args.bound (is_last_shared rs xs)) (take (i + 1) (kept_states rs ks)))) (sym w.shared-is)
+                  (ap (map (id_at table)) w.in_ok-push-2.ensures.items ∙ passing-more (id_at table) (is_until rs c.args.bound (is_last_shared rs xs))
+                  (kept_states rs ks) i n.state c.loop-slot.shared.items (get_or items i d) n.next n.named
+                  (until-is (arrival rs) (is_last_shared rs xs) c.args.bound n.state lt ∙ last) was.1),
             );
       }
       | else-is_above_part+else-is_last_shared w ↦ record {
@@ -80,13 +101,18 @@ loop-slot-preserved c =
             let at = c.arrival.ensures.arrival rs ks stands n.state n.named in
             let lt : arrival rs n.state < c.args.bound = (let l = c.if-bound-arrival.false in omega arith) in
             let was = before.both rs ks stands xs are in
-            let part = sym (part-told table rs ks stands (get_or items i d) n.state n.named c.args.states.now xs are) ∙ (sym c.is_above_part.ensures ∙ w.if-is_above_part.false) in
+            let part = sym (part-told table rs ks stands (get_or items i d) n.state n.named c.args.states.now xs are)
+            ∙ (sym c.is_above_part.ensures ∙ w.if-is_above_part.false) in
             let last = sym (w.is_last_shared.ensures rs ks stands n.state n.named xs are) ∙ w.if-is_last_shared.false in
             let p : StateId → Bool = λ x. is_above_part rs x xs in (
-              subst (λ (v : Vec Slot Global). map (id_at table) v.items ≡ map (λ x. Some x) (filter (is_until rs c.args.bound p) (take (i + 1) (kept_states rs ks)))) (sym w.apart-is)
-                  (passing-same (id_at table) (is_until rs c.args.bound p) (kept_states rs ks) i n.state c.loop-slot.apart.items n.next (until-is (arrival rs) p c.args.bound n.state lt ∙ part) was.0),
-              subst (λ (v : Vec Slot Global). map (id_at table) v.items ≡ map (λ x. Some x) (filter (is_until rs c.args.bound (is_last_shared rs xs)) (take (i + 1) (kept_states rs ks)))) (sym w.shared-is)
-                  (passing-same (id_at table) (is_until rs c.args.bound (is_last_shared rs xs)) (kept_states rs ks) i n.state c.loop-slot.shared.items n.next (until-is (arrival rs) (is_last_shared rs xs) c.args.bound n.state lt ∙ last) was.1),
+              subst (λ (v : Vec Slot Global). map (id_at table) v.items
+                  ≡ map (λ x. Some x) (filter (is_until rs c.args.bound p) (take (i + 1) (kept_states rs ks)))) (sym w.apart-is)
+                  (passing-same (id_at table) (is_until rs c.args.bound p) (kept_states rs ks) i n.state c.loop-slot.apart.items n.next
+                  (until-is (arrival rs) p c.args.bound n.state lt ∙ part) was.0),
+              subst (λ (v : Vec Slot Global). map (id_at table) v.items
+                  ≡ map (λ x. Some x) (filter (is_until rs c.args.bound (is_last_shared rs xs)) (take (i + 1) (kept_states rs ks)))) (sym w.shared-is)
+                  (passing-same (id_at table) (is_until rs c.args.bound (is_last_shared rs xs)) (kept_states rs ks) i n.state c.loop-slot.shared.items
+                  n.next (until-is (arrival rs) (is_last_shared rs xs) c.args.bound n.state lt ∙ last) was.1),
             );
       }
     ]
@@ -95,10 +121,12 @@ pub returns-clause-apart : goal.returns-clause-apart
 returns-clause-apart c = λ rs ks stands xs are.
     let kept = kept_states rs ks in
     let len = named-length (id_at c.args.dag.now) c.kept_slots-slot-items.result.now kept (c.kept_slots-slot-items.ensures.kept rs ks stands) in
-    (c.loop-slot.invariant.both rs ks stands xs are).0 ∙ ap (λ ys. map (λ x. Some x) (filter (is_until rs c.args.bound (λ x. is_above_part rs x xs)) ys)) (take_all c.loop-slot.slot-index kept (let end = c.loop-slot-test.false in omega arith))
+    (c.loop-slot.invariant.both rs ks stands xs are).0 ∙ ap (λ ys. map (λ x. Some x) (filter (is_until rs c.args.bound (λ x. is_above_part rs x xs)) ys))
+    (take_all c.loop-slot.slot-index kept (let end = c.loop-slot-test.false in omega arith))
 
 pub returns-clause-shared : goal.returns-clause-shared
 returns-clause-shared c = λ rs ks stands xs are.
     let kept = kept_states rs ks in
     let len = named-length (id_at c.args.dag.now) c.kept_slots-slot-items.result.now kept (c.kept_slots-slot-items.ensures.kept rs ks stands) in
-    (c.loop-slot.invariant.both rs ks stands xs are).1 ∙ ap (λ ys. map (λ x. Some x) (filter (is_until rs c.args.bound (is_last_shared rs xs)) ys)) (take_all c.loop-slot.slot-index kept (let end = c.loop-slot-test.false in omega arith))
+    (c.loop-slot.invariant.both rs ks stands xs are).1 ∙ ap (λ ys. map (λ x. Some x) (filter (is_until rs c.args.bound (is_last_shared rs xs)) ys))
+    (take_all c.loop-slot.slot-index kept (let end = c.loop-slot-test.false in omega arith))

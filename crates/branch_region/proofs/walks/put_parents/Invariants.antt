@@ -8,5 +8,6 @@ use Rattle.branch_region.proofs.walks.put_parents.Given as goal
 abbrev pub invariant-loop-parent : goal.invariant-loop-parent
 invariant-loop-parent l = record {
   slots : AreSlots l.dag (waits_at l.waiting);
-  have : (rs : List Record) (ks : List StateId) → Stands l.dag rs ks → HasThese l.dag rs ks (take l.parent-index l.parent-items) (waits_at l.initial.waiting) (waits_at l.waiting);
+  have : (rs : List Record) (ks : List StateId) → Stands l.dag rs ks →
+      HasThese l.dag rs ks (take l.parent-index l.parent-items) (waits_at l.initial.waiting) (waits_at l.waiting);
 }

@@ -16,4 +16,5 @@ returns-then-not-is_ancestor c = λ rs ks stands placed x named.
 pub returns : goal.returns
 returns c = λ rs ks stands placed x named.
     let end = c.loop-floor-test.false in
-    all-pass (is_above rs x) c.deref-floor-items.result.now c.args.self.now.floors c.loop-floor.invariant.items c.loop-floor.floor-index (omega arith) (c.loop-floor.invariant.above rs ks stands placed x named)
+    all-pass (is_above rs x) c.deref-floor-items.result.now c.args.self.now.floors c.loop-floor.invariant.items c.loop-floor.floor-index (omega arith)
+    (c.loop-floor.invariant.above rs ks stands placed x named)

@@ -19,7 +19,8 @@ loop-place-init c = λ rs ks stands placed under.
     let kept = kept_states rs ks in
     newest-is_last p rs ks (fitting-is_kept rs stands.dag ks floor (sessions_of now) under)
     ∙ last-before p kept c.first_late-place.result (λ k d le lt.
-    and_right (is_above rs floor (get_or kept k d)) (is_above_ceilings rs (sessions_of now) (get_or kept k d)) (c.first_late-place.ensures.late rs ks stands placed k d le lt))
+    and_right (is_above rs floor (get_or kept k d)) (is_above_ceilings rs (sessions_of now) (get_or kept k d))
+    (c.first_late-place.ensures.late rs ks stands placed k d le lt))
 
 pub loop-place-preserved : goal.loop-place-preserved
 loop-place-preserved c = λ rs ks stands placed under.
@@ -31,10 +32,12 @@ loop-place-preserved c = λ rs ks stands placed under.
     let more = c.loop-place-test.true in
     let many = ap length c.kept_slots-kept.ensures.is in
     let same = length-map table.entries (λ (e : Entry). e.slot) in
-    let n = placed-at (id_at table) c.kept_slots-kept.result.now kept i (record { 0 = 0 }) (c.kept_slots-kept.ensures.kept rs ks stands) (let le = c.loop-place.auto.place in let within = c.first_late-place.ensures.within in omega arith) in
+    let n = placed-at (id_at table) c.kept_slots-kept.result.now kept i (record { 0 = 0 }) (c.kept_slots-kept.ensures.kept rs ks stands)
+    (let le = c.loop-place.auto.place in let within = c.first_late-place.ensures.within in omega arith) in
     let place : c.loop-place.place ≡ i + 1 = omega arith in
     let told = c.fits.ensures rs ks stands placed (c.own_place-floor.ensures.floor table rs ks placed) n.state n.named in
-    let fails = ap (λ y. is_above rs y n.state && is_above_ceilings rs (sessions_of now) n.state) (sym c.own_place-floor.ensures.state) ∙ sym told ∙ c.if-fits.false in
+    let fails = ap (λ y. is_above rs y n.state && is_above_ceilings rs (sessions_of now) n.state) (sym c.own_place-floor.ensures.state) ∙ sym told
+    ∙ c.if-fits.false in
     c.loop-place.invariant rs ks stands placed under
     ∙ ap (λ k. last_passing p (take k kept)) place
     ∙ ap (last_passing p) n.front
@@ -51,10 +54,12 @@ returns-then-fits-clause-floor c = λ rs ks stands placed under.
     let more = c.loop-place-test.true in
     let many = ap length c.kept_slots-kept.ensures.is in
     let same = length-map table.entries (λ (e : Entry). e.slot) in
-    let n = placed-at (id_at table) c.kept_slots-kept.result.now kept i (record { 0 = 0 }) (c.kept_slots-kept.ensures.kept rs ks stands) (let le = c.loop-place.auto.place in let within = c.first_late-place.ensures.within in omega arith) in
+    let n = placed-at (id_at table) c.kept_slots-kept.result.now kept i (record { 0 = 0 }) (c.kept_slots-kept.ensures.kept rs ks stands)
+    (let le = c.loop-place.auto.place in let within = c.first_late-place.ensures.within in omega arith) in
     let place : c.loop-place.place ≡ i + 1 = omega arith in
     let told = c.fits.ensures rs ks stands placed (c.own_place-floor.ensures.floor table rs ks placed) n.state n.named in
-    let passes = ap (λ y. is_above rs y n.state && is_above_ceilings rs (sessions_of now) n.state) (sym c.own_place-floor.ensures.state) ∙ sym told ∙ c.if-fits.true in
+    let passes = ap (λ y. is_above rs y n.state && is_above_ceilings rs (sessions_of now) n.state) (sym c.own_place-floor.ensures.state) ∙ sym told
+    ∙ c.if-fits.true in
     let found = c.loop-place.invariant rs ks stands placed under
     ∙ ap (λ k. last_passing p (take k kept)) place
     ∙ ap (last_passing p) n.front

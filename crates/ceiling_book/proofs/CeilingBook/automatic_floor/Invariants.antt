@@ -12,5 +12,7 @@ use Rattle.ceiling_book.proofs.Newest.{fits, last_passing}
 use Rattle.ceiling_book.proofs.CeilingBook.automatic_floor.Given as goal
 
 abbrev pub invariant-loop-place : goal.invariant-loop-place
-invariant-loop-place l = (rs : List Record) (ks : List StateId) → Stands l.dag rs ks → ArePlaced l.self l.dag rs ks → ((x : StateId) → IsTrue (is_among x ks) → IsTrue (is_proper_ancestor rs x (own_floor l.self).state)) →
-    find (fits rs (own_floor l.self).state (sessions_of l.self)) (states rs) ≡ last_passing (fits rs (own_floor l.self).state (sessions_of l.self)) (take l.place (kept_states rs ks))
+invariant-loop-place l = (rs : List Record) (ks : List StateId) → Stands l.dag rs ks → ArePlaced l.self l.dag rs ks →
+    ((x : StateId) → IsTrue (is_among x ks) → IsTrue (is_proper_ancestor rs x (own_floor l.self).state)) →
+    find (fits rs (own_floor l.self).state (sessions_of l.self)) (states rs) ≡ last_passing (fits rs (own_floor l.self).state (sessions_of l.self))
+    (take l.place (kept_states rs ks))

@@ -10,9 +10,11 @@ returns-clause-state c = λ s is. ap (λ t. t.last) (session-found c.args.self.n
 
 pub returns-clause-slot : goal.returns-clause-slot
 returns-clause-slot c = λ table slots.
-    found-last (IsSlotOf table) (IsSlotOf table) c.args.self.now c.args.session c.session.result.now slots (looked-up c.args.session c.args.self.now.sessions ∙ c.session.ensures)
+    found-last (IsSlotOf table) (IsSlotOf table) c.args.self.now c.args.session c.session.result.now slots
+    (looked-up c.args.session c.args.self.now.sessions ∙ c.session.ensures)
 
 pub returns-clause-stand_in : goal.returns-clause-stand_in
 returns-clause-stand_in c = λ table rs ks placed s is.
-    found-last (IsAt table) (HasStandIn table rs ks) c.args.self.now c.args.session c.session.result.now placed (looked-up c.args.session c.args.self.now.sessions ∙ c.session.ensures)
+    found-last (IsAt table) (HasStandIn table rs ks) c.args.self.now c.args.session c.session.result.now placed
+    (looked-up c.args.session c.args.self.now.sessions ∙ c.session.ensures)
     ∙ ap (λ t. Some (stand_in rs ks t.last)) (session-found c.args.self.now c.args.session c.session.result.now s c.session.ensures is)

@@ -5,4 +5,5 @@ use Rattle.command_words.proofs.Givens.{number_twice}
 use Rattle.command_words.proofs.forms.read_number_or.Goals as goal
 
 pub returns-in-Twice-clause-number : goal.returns-in-Twice-clause-number
-returns-in-Twice-clause-number c = number_twice c.args.default c.args.least c.args.most (values c.args.name.now (settings (map (λ w. string_bytes w) c.args.words.now))) c.in-Twice.ensures
+returns-in-Twice-clause-number c = number_twice c.args.default c.args.least c.args.most
+    (values c.args.name.now (settings (map (λ w. string_bytes w) c.args.words.now))) c.in-Twice.ensures

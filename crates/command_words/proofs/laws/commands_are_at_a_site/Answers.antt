@@ -1,4 +1,5 @@
-use Rattle.command_words.proofs.Runs.{runs_at_a_site, shells_at_a_site, audits_at_a_site, serves_at_a_site, autos_at_a_site, durables_at_a_site, exports_at_a_site}
+use Rattle.command_words.proofs.Runs.{runs_at_a_site, shells_at_a_site, audits_at_a_site, serves_at_a_site, autos_at_a_site, durables_at_a_site}
+use Rattle.command_words.proofs.Runs.{exports_at_a_site}
 use Rattle.command_words.proofs.laws.commands_are_at_a_site.Goals as goal
 
 pub returns-clause-run : goal.returns-clause-run

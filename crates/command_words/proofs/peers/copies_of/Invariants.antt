@@ -6,7 +6,8 @@ use Rattle.command_words.proofs.peers.copies_of.Given as goal
 
 abbrev pub invariant-loop-first : goal.invariant-loop-first
 invariant-loop-first l =
-    map (λ w. string_bytes w) l.copies.items ++ filter_map (λ v. v) (values l.name (settings (map (λ w. string_bytes w) l.left))) ≡ filter_map (λ v. v) (values l.name (settings (map (λ w. string_bytes w) l.words)))
+    map (λ w. string_bytes w) l.copies.items ++ filter_map (λ v. v) (values l.name (settings (map (λ w. string_bytes w) l.left)))
+    ≡ filter_map (λ v. v) (values l.name (settings (map (λ w. string_bytes w) l.words)))
 
 abbrev pub decreases-loop-first : goal.decreases-loop-first
 decreases-loop-first l = length l.left

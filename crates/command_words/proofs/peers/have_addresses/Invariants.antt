@@ -7,7 +7,8 @@ use Rattle.command_words.proofs.peers.have_addresses.Given as goal
 
 abbrev pub invariant-loop-first : goal.invariant-loop-first
 invariant-loop-first l =
-    list_all is_some_address (values l.name (settings (map (λ w. string_bytes w) l.left))) ≡ list_all is_some_address (values l.name (settings (map (λ w. string_bytes w) l.words)))
+    list_all is_some_address (values l.name (settings (map (λ w. string_bytes w) l.left)))
+    ≡ list_all is_some_address (values l.name (settings (map (λ w. string_bytes w) l.words)))
 
 abbrev pub decreases-loop-first : goal.decreases-loop-first
 decreases-loop-first l = length l.left

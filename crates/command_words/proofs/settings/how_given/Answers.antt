@@ -15,6 +15,9 @@ loop-first-preserved c =
     let n = c.in-Some.first.name.now in
     let v = option_map (λ t. t.now) c.in-Some.first.value in
     elim c.if-eq.branch [
-      | then-eq w ↦ subst (λ g. Told name all rest g) (sym w.found-is) (hit name n v all left rest c.loop-first.found w.with_value-found.result c.in-Some.ensures.0 (sym c.eq.ensures ∙ w.if-eq.true) w.with_value-found.ensures c.loop-first.invariant)
-      | else-eq w ↦ subst (λ g. Told name all rest g) (sym w.found-is) (miss name n v all left rest c.loop-first.found c.in-Some.ensures.0 (sym c.eq.ensures ∙ w.if-eq.false) c.loop-first.invariant)
+      | then-eq w ↦ subst (λ g. Told name all rest g) (sym w.found-is)
+          (hit name n v all left rest c.loop-first.found w.with_value-found.result c.in-Some.ensures.0 (sym c.eq.ensures ∙ w.if-eq.true)
+          w.with_value-found.ensures c.loop-first.invariant)
+      | else-eq w ↦ subst (λ g. Told name all rest g) (sym w.found-is)
+          (miss name n v all left rest c.loop-first.found c.in-Some.ensures.0 (sym c.eq.ensures ∙ w.if-eq.false) c.loop-first.invariant)
     ]

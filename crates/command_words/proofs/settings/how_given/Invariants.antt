@@ -7,7 +7,8 @@ use Rattle.command_words.proofs.settings.how_given.Given as goal
 
 abbrev pub invariant-loop-first : goal.invariant-loop-first
 invariant-loop-first l =
-    (done : List (Option (List ℕ))) × (IsGiven done l.found × (values l.name (settings (map (λ w. string_bytes w) l.words)) ≡ done ++ values l.name (settings (map (λ w. string_bytes w) l.left))))
+    (done : List (Option (List ℕ))) × (IsGiven done l.found × (values l.name (settings (map (λ w. string_bytes w) l.words)) ≡ done
+    ++ values l.name (settings (map (λ w. string_bytes w) l.left))))
 
 abbrev pub decreases-loop-first : goal.decreases-loop-first
 decreases-loop-first l = length l.left

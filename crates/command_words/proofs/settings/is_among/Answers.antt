@@ -8,5 +8,6 @@ use Rattle.command_words.proofs.settings.is_among.Goals as goal
 
 pub returns : goal.returns
 returns c =
-    any_from_yields_List (λ (name : Bor (List ℕ)). bytes_eq c.args.word.now name.now) _ _ _ c.any.ensures.ran (YieldsList-from_slice c.args.names.now cc) (λ x b q k. search (rules, tests))
+    any_from_yields_List (λ (name : Bor (List ℕ)). bytes_eq c.args.word.now name.now) _ _ _ c.any.ensures.ran (YieldsList-from_slice c.args.names.now cc)
+    (λ x b q k. search (rules, tests))
     ∙ sym (list_any-map (bytes_eq c.args.word.now) (λ (n : Bor (List ℕ)). n.now) c.args.names.now)

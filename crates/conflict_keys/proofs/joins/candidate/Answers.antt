@@ -11,10 +11,12 @@ pub loop-state-init : goal.loop-state-init
 loop-state-init c = record { slot = tt; chosen = λ rs ks stands xs are. record { writer = None; held = refl; choice = refl } }
 
 pub lower-lowest-requires-clause-first : goal.lower-lowest-requires-clause-first
-lower-lowest-requires-clause-first c = subst (λ (t : Table). IfSome c.loop-state.lowest (λ s. IsTrue (is_slot t s))) (sym c.dag.ensures) c.loop-state.invariant.slot
+lower-lowest-requires-clause-first c = subst (λ (t : Table). IfSome c.loop-state.lowest (λ s. IsTrue (is_slot t s)))
+    (sym c.dag.ensures) c.loop-state.invariant.slot
 
 pub lower-lowest-requires-clause-second : goal.lower-lowest-requires-clause-second
-lower-lowest-requires-clause-second c = subst (λ (t : Table). IfSome c.holder_at.result (λ s. IsTrue (is_slot t s))) (sym c.dag.ensures) c.holder_at.ensures.slot
+lower-lowest-requires-clause-second c = subst (λ (t : Table). IfSome c.holder_at.result (λ s. IsTrue (is_slot t s)))
+    (sym c.dag.ensures) c.holder_at.ensures.slot
 
 pub loop-state-preserved : goal.loop-state-preserved
 loop-state-preserved c =
@@ -34,7 +36,8 @@ loop-state-preserved c =
           let read = are-read rs ks stands.table.dag stands.table.shared k (take i xs) (λ x m. kept x (among-front xs i x m)) in
           subst (λ us. IsChosen table rs ks us result) (sym more)
           (subst (λ o. IsChosen table rs ks (latest_writers rs k (take i xs) ++ listed (latest_writer rs k n.state)) o) (sym is)
-          (chosen-next table rs ks stands.table k (latest_writers rs k (take i xs)) read lowest holder n.state c.loop-state.invariant.slot c.holder_at.ensures.slot (kept n.state n.one)
+          (chosen-next table rs ks stands.table k (latest_writers rs k (take i xs)) read lowest holder n.state c.loop-state.invariant.slot
+          c.holder_at.ensures.slot (kept n.state n.one)
           (c.loop-state.invariant.chosen rs ks stands xs are) (c.holder_at.ensures.holder rs ks stands n.state n.named)));
     }
 
@@ -42,4 +45,5 @@ pub returns-clause-chosen : goal.returns-clause-chosen
 returns-clause-chosen c = λ rs ks stands xs are.
     let i = c.loop-state.state-index in
     let len = named-length (id_at c.args.store.now.table) c.args.states.now xs are in
-    subst (λ ys. IsChosen c.args.store.now.table rs ks (latest_writers rs c.args.key.now ys) c.loop-state.lowest) (take_all i xs (omega arith)) (c.loop-state.invariant.chosen rs ks stands xs are)
+    subst (λ ys. IsChosen c.args.store.now.table rs ks (latest_writers rs c.args.key.now ys) c.loop-state.lowest) (take_all i xs (omega arith))
+    (c.loop-state.invariant.chosen rs ks stands xs are)

@@ -10,5 +10,6 @@ use Rattle.record_store.specs.Stands.{StoreStands}
 use Rattle.conflict_keys.proofs.joins.is_below_all.Given as goal
 
 abbrev pub invariant-loop-state : goal.invariant-loop-state
-invariant-loop-state l = (rs : List Record) (ks : List StateId) → StoreStands l.store rs ks → (xs : List StateId) → map (id_at l.store.table) l.states ≡ map (λ x. Some x) xs → (w : StateId) → IsTrue (is_among w (latest_writers rs l.key xs)) → id_at l.store.table l.lowest ≡ Some (stand_in rs ks w) →
+invariant-loop-state l = (rs : List Record) (ks : List StateId) → StoreStands l.store rs ks → (xs : List StateId) → map (id_at l.store.table) l.states
+    ≡ map (λ x. Some x) xs → (w : StateId) → IsTrue (is_among w (latest_writers rs l.key xs)) → id_at l.store.table l.lowest ≡ Some (stand_in rs ks w) →
     are_above rs (latest_writers rs l.key (take l.state-index xs)) w ≡ true

@@ -12,6 +12,7 @@ abbrev pub invariant-loop-chunk : goal.invariant-loop-chunk
 invariant-loop-chunk l = record {
   done : Chunks;
   all : done ++ l.chunk-iterator ≡ l.chunks;
-  so_far : (rs : List Record) (ks : List StateId) → StoreStands l.store rs ks → (xs : List StateId) → map (id_at l.store.table) l.states ≡ map (λ x. Some x) xs → (met : List ℕ → Bool) → IsLeast (is_open_conflict rs xs l.writes) met (option_copied l.found) →
+  so_far : (rs : List Record) (ks : List StateId) → StoreStands l.store rs ks → (xs : List StateId) → map (id_at l.store.table) l.states
+      ≡ map (λ x. Some x) xs → (met : List ℕ → Bool) → IsLeast (is_open_conflict rs xs l.writes) met (option_copied l.found) →
       IsLeast (is_open_conflict rs xs l.writes) (λ k. met k || is_key_in k done) (option_copied l.least);
 }

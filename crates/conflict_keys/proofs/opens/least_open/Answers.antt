@@ -5,7 +5,8 @@ use Rattle.tardis_base.specs.Keys.{is_key_among}
 use Rattle.conflict_keys.specs.Opens.{IsLeast, is_open_conflict, is_less}
 use Rattle.conflict_keys.proofs.Least.{met-next, least-taken, least-passed}
 use Rattle.conflict_keys.proofs.opens.least_open.Goals as goal
-use Rattle.conflict_keys.proofs.opens.least_open.Goals.{then-is_less+then-is_open, else-is_less, else-is_less-via-then-is_less+else-is_open, else-is_less-via-else-is_less}
+use Rattle.conflict_keys.proofs.opens.least_open.Goals.{then-is_less+then-is_open, else-is_less, else-is_less-via-then-is_less+else-is_open}
+use Rattle.conflict_keys.proofs.opens.least_open.Goals.{else-is_less-via-else-is_less}
 
 pub loop-key-preserved : goal.loop-key-preserved
 loop-key-preserved c = λ rs ks stands xs are met least.
@@ -26,12 +27,14 @@ loop-key-preserved c = λ rs ks stands xs are met least.
           subst (λ z. IsLeast p more (option_copied z)) (sym w.least-is)
           (least-passed p was more key (λ k m. met-next met items i key k c.loop-key-test.true c.key-item.is m) o
           (elim w.else-is_less.branch [
-            | else-is_less-via-then-is_less+else-is_open v ↦ and_right (is_less key o) (p key) (sym (v.is_open.ensures rs ks stands xs are) ∙ v.if-is_open.false)
+            | else-is_less-via-then-is_less+else-is_open v ↦
+                and_right (is_less key o) (p key) (sym (v.is_open.ensures rs ks stands xs are) ∙ v.if-is_open.false)
             | else-is_less-via-else-is_less v ↦ and_left (is_less key o) (p key) (sym c.is_less.ensures ∙ v.if-is_less.false)
           ]) before)
     ]
 
 pub returns : goal.returns
 returns c = λ rs ks stands xs are met least.
-    subst (λ keys. IsLeast (is_open_conflict rs xs c.args.writes.now) (λ k. met k || is_key_among k keys) (option_copied c.loop-key.least)) (take_all c.loop-key.key-index c.args.keys.now c.loop-key-test.false)
+    subst (λ keys. IsLeast (is_open_conflict rs xs c.args.writes.now) (λ k. met k || is_key_among k keys) (option_copied c.loop-key.least))
+    (take_all c.loop-key.key-index c.args.keys.now c.loop-key-test.false)
     (c.loop-key.invariant rs ks stands xs are met least)

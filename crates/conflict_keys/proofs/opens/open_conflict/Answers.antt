@@ -44,6 +44,7 @@ returns c = λ rs ks stands xs are.
     let len = named-length (id_at table) slots zs named in
     let kept = named-are_kept table rs ks stands.table c.args.states.now xs are in
     let law = lists-conflict-keys rs xs in
-    let least = subst (λ ys. IsLeast (is_open_conflict rs xs c.args.writes.now) (is_met rs ks xs ys) (option_copied c.loop-slot.least)) (take_all i zs (let end = c.loop-slot-test.false in omega arith)) (c.loop-slot.invariant rs ks stands xs are) in
+    let least = subst (λ ys. IsLeast (is_open_conflict rs xs c.args.writes.now) (is_met rs ks xs ys) (option_copied c.loop-slot.least))
+    (take_all i zs (let end = c.loop-slot-test.false in omega arith)) (c.loop-slot.invariant rs ks stands xs are) in
     least-found (is_conflict_key rs xs) (λ k. not (has_key k c.args.writes.now)) (is_met rs ks xs zs) (conflict_keys rs xs) law.ascends law.complete
     (λ k h. apart-is_met rs ks xs k (conflict-is_met rs ks table stands.table xs kept k h)) (option_copied c.loop-slot.least) least

@@ -10,5 +10,6 @@ use Rattle.conflict_keys.specs.Opens.{IsLeast, is_open_conflict}
 use Rattle.conflict_keys.proofs.opens.open_conflict.Given as goal
 
 abbrev pub invariant-loop-slot : goal.invariant-loop-slot
-invariant-loop-slot l = (rs : List Record) (ks : List StateId) → StoreStands l.store rs ks → (xs : List StateId) → map (id_at l.store.table) l.states ≡ map (λ x. Some x) xs →
+invariant-loop-slot l = (rs : List Record) (ks : List StateId) → StoreStands l.store rs ks → (xs : List StateId) → map (id_at l.store.table) l.states
+    ≡ map (λ x. Some x) xs →
     IsLeast (is_open_conflict rs xs l.writes) (is_met rs ks xs (take l.slot-index (apart_states rs ks xs))) (option_copied l.least)

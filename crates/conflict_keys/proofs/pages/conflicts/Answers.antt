@@ -10,7 +10,8 @@ use Rattle.conflict_keys.proofs.Noted.{none-noted, noted-of_fewer, noted-are_all
 use Rattle.conflict_keys.proofs.pages.conflicts.Goals as goal
 
 pub loop-slot-init : goal.loop-slot-init
-loop-slot-init c = λ rs ks stands xs are. subst (λ zs. AreNoted (is_conflict_behind rs xs c.args.after.now) (is_met rs ks xs []) zs) (sym c.new-noted.ensures.empty) (none-noted (is_conflict_behind rs xs c.args.after.now))
+loop-slot-init c = λ rs ks stands xs are. subst (λ zs. AreNoted (is_conflict_behind rs xs c.args.after.now) (is_met rs ks xs []) zs)
+    (sym c.new-noted.ensures.empty) (none-noted (is_conflict_behind rs xs c.args.after.now))
 
 pub loop-slot-preserved : goal.loop-slot-preserved
 loop-slot-preserved c = λ rs ks stands xs are.
@@ -38,6 +39,8 @@ returns c = λ rs ks stands xs are.
     let named : map (id_at table) slots ≡ map (λ x. Some x) zs = ap (map (id_at table)) c.as_slice-slot-items.ensures.value ∙ apart rs ks stands.table xs are in
     let len = named-length (id_at table) slots zs named in
     let kept = named-are_kept table rs ks stands.table c.args.states.now xs are in
-    let noted = subst (λ ys. AreNoted (is_conflict_behind rs xs c.args.after.now) (is_met rs ks xs ys) c.loop-slot.noted.keys) (take_all i zs (let end = c.loop-slot-test.false in omega arith)) (c.loop-slot.invariant rs ks stands xs are) in
+    let noted = subst (λ ys. AreNoted (is_conflict_behind rs xs c.args.after.now) (is_met rs ks xs ys) c.loop-slot.noted.keys)
+    (take_all i zs (let end = c.loop-slot-test.false in omega arith)) (c.loop-slot.invariant rs ks stands xs are) in
     subst (λ keys. IfOk c.page_of.result (IsPageOf keys))
-    (sym (noted-are_all rs xs c.args.after.now (is_met rs ks xs zs) c.loop-slot.noted.keys (λ k h. apart-is_met rs ks xs k (conflict-is_met rs ks table stands.table xs kept k h)) noted)) c.page_of.ensures
+    (sym (noted-are_all rs xs c.args.after.now (is_met rs ks xs zs) c.loop-slot.noted.keys
+    (λ k h. apart-is_met rs ks xs k (conflict-is_met rs ks table stands.table xs kept k h)) noted)) c.page_of.ensures

@@ -9,5 +9,6 @@ use Rattle.conflict_keys.specs.Pages.{AreNoted, is_conflict_behind}
 use Rattle.conflict_keys.proofs.pages.conflicts.Given as goal
 
 abbrev pub invariant-loop-slot : goal.invariant-loop-slot
-invariant-loop-slot l = (rs : List Record) (ks : List StateId) → StoreStands l.store rs ks → (xs : List StateId) → map (id_at l.store.table) l.states ≡ map (λ x. Some x) xs →
+invariant-loop-slot l = (rs : List Record) (ks : List StateId) → StoreStands l.store rs ks → (xs : List StateId) → map (id_at l.store.table) l.states
+    ≡ map (λ x. Some x) xs →
     AreNoted (is_conflict_behind rs xs l.after) (is_met rs ks xs (take l.slot-index (apart_states rs ks xs))) l.noted.keys

@@ -4,9 +4,11 @@ use Rattle.std.proofs.Common.{◌∙◌, ◌++◌, sym, ap}
 use Rattle.conflict_keys.proofs.pages.first_of.Goals as goal
 
 pub returns-then-len-eq-SHOWN : goal.returns-then-len-eq-SHOWN
-returns-then-len-eq-SHOWN c = full-front c.loop-key.first c.loop-key.key-iterator c.args.keys.now.keys c.loop-key.invariant.all (sym c.len.ensures ∙ c.if-len-eq-SHOWN.true)
+returns-then-len-eq-SHOWN c = full-front c.loop-key.first c.loop-key.key-iterator c.args.keys.now.keys c.loop-key.invariant.all
+    (sym c.len.ensures ∙ c.if-len-eq-SHOWN.true)
 
 pub returns : goal.returns
 returns c =
     whole-front c.loop-key.first c.args.keys.now.keys
-    (sym (append-nil c.loop-key.first) ∙ (ap (λ zs. c.loop-key.first ++ zs) (sym c.in-None.ensures.steps.0) ∙ c.loop-key.invariant.all)) c.loop-key.invariant.few
+    (sym (append-nil c.loop-key.first) ∙ (ap (λ zs. c.loop-key.first ++ zs) (sym c.in-None.ensures.steps.0) ∙ c.loop-key.invariant.all))
+    c.loop-key.invariant.few

@@ -10,4 +10,5 @@ returns-then-is_after c = λ rs ks stands xs are.
 
 pub returns-else-is_after : goal.returns-else-is_after
 returns-else-is_after c = λ rs ks stands xs are.
-    c.if-is_after.false ∙ sym (and_left (is_key_before c.args.after.now c.args.key.now) (is_conflict_key rs xs c.args.key.now) (sym c.is_after.ensures ∙ c.if-is_after.false))
+    c.if-is_after.false ∙ sym (and_left (is_key_before c.args.after.now c.args.key.now) (is_conflict_key rs xs c.args.key.now)
+    (sym c.is_after.ensures ∙ c.if-is_after.false))

@@ -17,12 +17,15 @@ loop-chunk-preserved c =
       all = append_assoc done (chunk ∷ []) c.next.new.self ∙ ap (λ (cs : Chunks). done ++ cs) (sym c.in-Some.ensures.steps) ∙ before.all;
       so_far = λ rs ks stands xs are met noted.
           let was : List ℕ → Bool = λ k. met k || is_key_in k done in
-          noted-of_fewer (is_conflict_behind rs xs c.args.after.now) (λ k. was k || is_key_among k c.as_slice.result.now) (λ k. met k || is_key_in k (done ++ chunk ∷ [])) c.note_conflicts.new.noted.keys
-          (chunk-met met done chunk c.as_slice.result.now c.as_slice.ensures) (c.in_ok-note_conflicts.ensures rs ks stands xs are was (before.so_far rs ks stands xs are met noted));
+          noted-of_fewer (is_conflict_behind rs xs c.args.after.now) (λ k. was k || is_key_among k c.as_slice.result.now)
+          (λ k. met k || is_key_in k (done ++ chunk ∷ [])) c.note_conflicts.new.noted.keys
+          (chunk-met met done chunk c.as_slice.result.now c.as_slice.ensures)
+          (c.in_ok-note_conflicts.ensures rs ks stands xs are was (before.so_far rs ks stands xs are met noted));
     }
 
 pub returns : goal.returns
 returns c = λ rs ks stands xs are met noted.
     let before = c.loop-chunk.invariant in
     let whole = sym (append-nil before.done) ∙ ap (λ (cs : Chunks). before.done ++ cs) (sym c.in-None.ensures.steps.0) ∙ before.all in
-    subst (λ (cs : Chunks). AreNoted (is_conflict_behind rs xs c.args.after.now) (λ k. met k || is_key_in k cs) c.loop-chunk.noted.keys) whole (before.so_far rs ks stands xs are met noted)
+    subst (λ (cs : Chunks). AreNoted (is_conflict_behind rs xs c.args.after.now) (λ k. met k || is_key_in k cs) c.loop-chunk.noted.keys) whole
+    (before.so_far rs ks stands xs are met noted)

@@ -11,6 +11,7 @@ abbrev pub invariant-loop-chunk : goal.invariant-loop-chunk
 invariant-loop-chunk l = record {
   done : Chunks;
   all : done ++ l.chunk-iterator ≡ l.chunks;
-  so_far : (rs : List Record) (ks : List StateId) → StoreStands l.store rs ks → (xs : List StateId) → map (id_at l.store.table) l.states ≡ map (λ x. Some x) xs → (met : List ℕ → Bool) → AreNoted (is_conflict_behind rs xs l.after) met l.fn.noted.keys →
+  so_far : (rs : List Record) (ks : List StateId) → StoreStands l.store rs ks → (xs : List StateId) → map (id_at l.store.table) l.states
+      ≡ map (λ x. Some x) xs → (met : List ℕ → Bool) → AreNoted (is_conflict_behind rs xs l.after) met l.fn.noted.keys →
       AreNoted (is_conflict_behind rs xs l.after) (λ k. met k || is_key_in k done) l.noted.keys;
 }

@@ -15,7 +15,9 @@ returns-in-At c = λ rs ks stands xs are.
     let k = c.args.key.now in
     let ws = latest_writers rs k xs in
     let w = subst (λ j. JoinedAs table rs ks xs k j) c.in-At.is (c.join.ensures.joined rs ks stands xs are) in
-    let read = are-read rs ks stands.table.dag stands.table.shared k xs (named-are_kept table rs ks stands.table c.args.states.now xs are) w.0 (lowest-is-one rs ws w.0 w.1) in (
+    let read = are-read rs ks stands.table.dag stands.table.shared k xs (named-are_kept table rs ks stands.table c.args.states.now xs are) w.0
+    (lowest-is-one rs ws w.0 w.1) in (
       lowest-is-unsplit rs ws w.0 w.1,
-      c.read_at.ensures rs ks stands (stand_in rs ks w.0) w.2 ∙ (read-told rs ks stands.table.dag stands.table.shared k w.0 read ∙ sym (ap (option_and_then (version_at rs k)) w.1)),
+      c.read_at.ensures rs ks stands (stand_in rs ks w.0) w.2
+          ∙ (read-told rs ks stands.table.dag stands.table.shared k w.0 read ∙ sym (ap (option_and_then (version_at rs k)) w.1)),
     )

@@ -11,7 +11,8 @@ compare_exchange-found-requires g c =
     let key = c.args.words.now.key in (
       c.loop.invariant.1 ∙ c.requires.lock.0,
       omega (arith, c.requires.lock.1),
-      draws (IsOfLock g.M.Machine.opening g.M.Machine.plain key.machine.value) key.pieces c.args.words.now.table_id.slots c.loop.seat.id c.loop.seat.me c.peek-next.result c.if-next-lt18446744073709551615.true
+      draws (IsOfLock g.M.Machine.opening g.M.Machine.plain key.machine.value) key.pieces c.args.words.now.table_id.slots c.loop.seat.id c.loop.seat.me
+          c.peek-next.result c.if-next-lt18446744073709551615.true
           (ap (λ (x : Me (Kept g.row.M.Denot) View). x.0.stage) c.loop.invariant.0 ∙ c.requires.rests.1)
           (subst (λ (x : Me (Kept g.row.M.Denot) View). 0 < x.0.pieces) (sym c.loop.invariant.0) c.requires.rests.2),
     )

@@ -19,7 +19,8 @@ fetch_add-requires g c =
     let turn = c.requires.turn in (
       c.requires.lock.0,
       omega (arith, c.requires.lock.1),
-      passes_added (IsOfLock g.M.Machine.opening g.M.Machine.plain key.machine.value) key.pieces c.args.words.now.table_id.slots c.args.seat.now.id c.args.seat.now.me turn.0 turn.2.0 turn.4.0 turn.2.1 turn.1 turn.3
+      passes_added (IsOfLock g.M.Machine.opening g.M.Machine.plain key.machine.value) key.pieces c.args.words.now.table_id.slots c.args.seat.now.id
+          c.args.seat.now.me turn.0 turn.2.0 turn.4.0 turn.2.1 turn.1 turn.3
           (subst (λ r. turn.0.trail ≡ trail_with r c.args.seat.now.me.0.seen turn.4.0) c.in-Done.is turn.4.1),
     )
 
@@ -29,6 +30,7 @@ fetch_add-requires-in_default g c =
     let turn = c.requires.turn in (
       c.requires.lock.0,
       omega (arith, c.requires.lock.1),
-      passes_kept (IsOfLock g.M.Machine.opening g.M.Machine.plain key.machine.value) key.pieces c.args.words.now.table_id.slots c.args.seat.now.id c.args.seat.now.me turn.0 turn.2.0 turn.2.1 turn.1 turn.3
+      passes_kept (IsOfLock g.M.Machine.opening g.M.Machine.plain key.machine.value) key.pieces c.args.words.now.table_id.slots c.args.seat.now.id
+          c.args.seat.now.me turn.0 turn.2.0 turn.2.1 turn.1 turn.3
           (turn.4.1 ∙ no_more c.args.acted c.args.seat.now.me.0.seen turn.4.0 c.in_default.not-Done),
     )

@@ -8,12 +8,14 @@ use Rattle.disk_forms.proofs.crashes.tear_one.Goals as goal
 
 pub returns-in-Wrote : goal.returns-in-Wrote
 returns-in-Wrote c =
-    subst (λ k. OnOk c.write_part.result (IsStep (k, c.args.bytes.now) c.args.image.now.items c.write_part.new.image.items)) (sym c.in-Wrote.is) c.write_part.ensures
+    subst (λ k. OnOk c.write_part.result (IsStep (k, c.args.bytes.now) c.args.image.now.items c.write_part.new.image.items))
+    (sym c.in-Wrote.is) c.write_part.ensures
 
 pub returns-in-Tore : goal.returns-in-Tore
 returns-in-Tore c =
     subst (λ k. OnOk c.spoil.result (IsStep (k, c.args.bytes.now) c.args.image.now.items c.spoil.new.image.items)) (sym c.in-Tore.is)
-    (on_ok c.spoil.result (Torn c.in-Tore.place c.up_to-junk.result c.args.image.now.items c.spoil.new.image.items) (Torn c.in-Tore.place c.in-Tore.count c.args.image.now.items c.spoil.new.image.items)
+    (on_ok c.spoil.result (Torn c.in-Tore.place c.up_to-junk.result c.args.image.now.items c.spoil.new.image.items)
+    (Torn c.in-Tore.place c.in-Tore.count c.args.image.now.items c.spoil.new.image.items)
     (λ t. torn_wider c.in-Tore.place c.up_to-junk.result c.in-Tore.count c.args.image.now.items c.spoil.new.image.items c.up_to-junk.ensures t)
     c.spoil.ensures)
 
@@ -25,7 +27,8 @@ returns-in-CutTo c =
     let least : c.min-least.result ≡ min c.len.result c.in-CutTo.len = search rules in
     subst (λ k. IsStep (k, c.args.bytes.now) old c.truncate.new.self.items) (sym c.in-CutTo.is)
     (subst (Shortened c.in-CutTo.len old) (sym c.truncate.ensures.items)
-    (shortened_to c.in-CutTo.len (c.min-least.result + c.up_to-more.result) old (omega (arith, least, all)) (omega (arith, least, all, all_again, c.up_to-more.ensures))))
+    (shortened_to c.in-CutTo.len (c.min-least.result + c.up_to-more.result) old (omega (arith, least, all))
+    (omega (arith, least, all, all_again, c.up_to-more.ensures))))
 
 pub returns-in-MayCut : goal.returns-in-MayCut
 returns-in-MayCut c =
@@ -36,4 +39,5 @@ returns-in-MayCut c =
     let least : c.min-least-in-MayCut.result ≡ min c.len-in-MayCut.result c.in-MayCut.len = search rules in
     subst (λ k. IsStep (k, c.args.bytes.now) old c.truncate-in-MayCut.new.self.items) (sym c.in-MayCut.is)
     (subst (Shortened c.in-MayCut.len old) (sym c.truncate-in-MayCut.ensures.items)
-    (shortened_to c.in-MayCut.len (c.len-in-MayCut-3.result - c.up_to-less.result) old (omega (arith, least, all, all_again, all_still, c.up_to-less.ensures)) (omega (arith, all_still))))
+    (shortened_to c.in-MayCut.len (c.len-in-MayCut-3.result - c.up_to-less.result) old
+    (omega (arith, least, all, all_again, all_still, c.up_to-less.ensures)) (omega (arith, all_still))))

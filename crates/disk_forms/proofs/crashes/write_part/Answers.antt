@@ -12,5 +12,6 @@ returns c =
     on_ok c.put.result
     (Torn c.in-Some.start (length (take (part.to - part.from) (drop part.from bytes))) c.spoil.new.image.items c.put.new.image.items)
     (Torn c.args.place (length bytes) c.args.image.now.items c.put.new.image.items)
-    (λ put. torn_part c.args.place (length bytes) part.junk part.from part.to c.in-Some.start c.args.image.now.items c.spoil.new.image.items c.put.new.image.items bytes refl c.part-part.ensures.has_room c.part-part.ensures.in_order c.part-part.ensures.within at c.in_ok-spoil.ensures put)
+    (λ put. torn_part c.args.place (length bytes) part.junk part.from part.to c.in-Some.start c.args.image.now.items c.spoil.new.image.items
+    c.put.new.image.items bytes refl c.part-part.ensures.has_room c.part-part.ensures.in_order c.part-part.ensures.within at c.in_ok-spoil.ensures put)
     c.put.ensures

@@ -7,7 +7,8 @@ use Rattle.durable_run.proofs.pieces.answer_held.Goals as goal
 
 pub loop-body-smaller : goal.loop-body-smaller
 loop-body-smaller g c =
-    let left : c.next.follows.lender-at-none ≡ drop (4 + length c.in-Frame.body.now) c.loop-body.cutter = subst (λ r. Leaves c.loop-body.cutter r c.next.follows.lender-at-none) c.in-Frame.is c.next.follows.holds-at-none in
+    let left : c.next.follows.lender-at-none ≡ drop (4 + length c.in-Frame.body.now) c.loop-body.cutter =
+    subst (λ r. Leaves c.loop-body.cutter r c.next.follows.lender-at-none) c.in-Frame.is c.next.follows.holds-at-none in
     fewer c.loop-body.cutter c.next.follows.lender-at-none c.in-Frame.body.now left c.in-Frame.ensures.cut.1
 
 pub answer_frame-requires-clause-group : goal.answer_frame-requires-clause-group
@@ -20,13 +21,17 @@ pub loop-body-preserved : goal.loop-body-preserved
 loop-body-preserved g c =
     let M = g.M.Machine in
     let K = g.K.Disk in
-    let left : c.next.follows.lender-at-none ≡ drop (4 + length c.in-Frame.body.now) c.loop-body.cutter = subst (λ r. Leaves c.loop-body.cutter r c.next.follows.lender-at-none) c.in-Frame.is c.next.follows.holds-at-none in
+    let left : c.next.follows.lender-at-none ≡ drop (4 + length c.in-Frame.body.now) c.loop-body.cutter =
+    subst (λ r. Leaves c.loop-body.cutter r c.next.follows.lender-at-none) c.in-Frame.is c.next.follows.holds-at-none in
     record {
       grouped = λ at bodies group.
-          more_body (Grouping M.plain M.stands M.opening K.honest K.reads K.may_leave K.moment K.left_since at c.loop-body.journal (g.O.Sink.given c.loop-body.output) c.loop-body.gathered.bytes)
-          (Grouping M.plain M.stands M.opening K.honest K.reads K.may_leave K.moment K.left_since at c.in-Ok.answered (g.O.Sink.given c.answer_frame.new.output) c.answer_frame.new.gathered.bytes)
+          more_body (Grouping M.plain M.stands M.opening K.honest K.reads K.may_leave K.moment K.left_since at c.loop-body.journal
+          (g.O.Sink.given c.loop-body.output) c.loop-body.gathered.bytes)
+          (Grouping M.plain M.stands M.opening K.honest K.reads K.may_leave K.moment K.left_since at c.in-Ok.answered
+          (g.O.Sink.given c.answer_frame.new.output) c.answer_frame.new.gathered.bytes)
           c.args.cutter.now c.loop-body.cutter c.next.follows.lender-at-none c.in-Frame.body.now bodies c.in-Frame.ensures.cut.0
-          (subst (λ r. c.loop-body.cutter ≡ frame c.in-Frame.body.now ++ r) (sym left) c.in-Frame.ensures.cut.1) (c.loop-body.invariant.grouped at bodies group) (c.in-Ok.ensures.grouped at);
+          (subst (λ r. c.loop-body.cutter ≡ frame c.in-Frame.body.now ++ r) (sym left) c.in-Frame.ensures.cut.1)
+          (c.loop-body.invariant.grouped at bodies group) (c.in-Ok.ensures.grouped at);
       room = c.in-Ok.ensures.room ∙ c.loop-body.invariant.room;
       went = went_then K.honest K.faults c.args.journal.disk c.loop-body.journal.disk c.in-Ok.answered.disk c.loop-body.invariant.went c.in-Ok.ensures.went;
       write_later = omega (arith, c.in-Ok.ensures.write_later, c.loop-body.invariant.write_later);
@@ -40,16 +45,19 @@ returns-in-Err-clause-stopped g c = λ at bodies group.
 pub returns-in-Err-clause-fault : goal.returns-in-Err-clause-fault
 returns-in-Err-clause-fault g c =
     let K = g.K.Disk in
-    stopped_later K.honest K.faults g.O.Sink.faults c.args.journal.disk c.loop-body.journal.disk c.args.output.now c.loop-body.output c.answer_frame.new.output c.in-Err.stop c.loop-body.invariant.went c.loop-body.invariant.write_later c.in-Err.ensures.fault
+    stopped_later K.honest K.faults g.O.Sink.faults c.args.journal.disk c.loop-body.journal.disk c.args.output.now c.loop-body.output
+    c.answer_frame.new.output c.in-Err.stop c.loop-body.invariant.went c.loop-body.invariant.write_later c.in-Err.ensures.fault
 
 pub returns-in-NeedMore-clause-grouped : goal.returns-in-NeedMore-clause-grouped
 returns-in-NeedMore-clause-grouped g c = λ at bodies group.
-    let same : c.next.follows.lender-at-none ≡ c.loop-body.cutter = subst (λ r. Leaves c.loop-body.cutter r c.next.follows.lender-at-none) c.in-NeedMore.is c.next.follows.holds-at-none in
+    let same : c.next.follows.lender-at-none ≡ c.loop-body.cutter =
+    subst (λ r. Leaves c.loop-body.cutter r c.next.follows.lender-at-none) c.in-NeedMore.is c.next.follows.holds-at-none in
     let on = c.loop-body.invariant.grouped at bodies group in
     (on.0, (subst (λ z. Cuts c.args.cutter.now on.0 z) (sym same) on.1.0, on.1.1))
 
 pub returns-in-Long-clause-grouped : goal.returns-in-Long-clause-grouped
 returns-in-Long-clause-grouped g c = λ at bodies group.
-    let same : c.next.follows.lender-at-none ≡ c.loop-body.cutter = subst (λ r. Leaves c.loop-body.cutter r c.next.follows.lender-at-none) c.in-Long.is c.next.follows.holds-at-none in
+    let same : c.next.follows.lender-at-none ≡ c.loop-body.cutter =
+    subst (λ r. Leaves c.loop-body.cutter r c.next.follows.lender-at-none) c.in-Long.is c.next.follows.holds-at-none in
     let on = c.loop-body.invariant.grouped at bodies group in
     (on.0, (subst (λ z. Cuts c.args.cutter.now on.0 z) (sym same) on.1.0, on.1.1))

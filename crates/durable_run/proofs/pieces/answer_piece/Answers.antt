@@ -8,27 +8,39 @@ pub answer_held-requires-clause-group : goal.answer_held-requires-clause-group
 answer_held-requires-clause-group g c =
     let M = g.M.Machine in
     let K = g.K.Disk in
-    let group = c.requires.group in
-    (group.0, (group.1.0, subst (λ b. Grouping M.plain M.stands M.opening K.honest K.reads K.may_leave K.moment K.left_since group.0 c.args.journal (g.O.Sink.given c.args.output.now) b group.1.0) (sym c.requires.none) group.1.1))
+    let group = c.requires.group in (
+      group.0,
+      (
+        group.1.0,
+        subst (λ b. Grouping M.plain M.stands M.opening K.honest K.reads K.may_leave K.moment K.left_since group.0 c.args.journal
+            (g.O.Sink.given c.args.output.now) b group.1.0) (sym c.requires.none) group.1.1,
+      ),
+    )
 
 pub settle-requires-clause-group : goal.settle-requires-clause-group
 settle-requires-clause-group g c =
     let M = g.M.Machine in
     let K = g.K.Disk in
     let group = c.requires.group in
-    let on = c.in-Ok.ensures.grouped group.0 group.1.0 (subst (λ b. Grouping M.plain M.stands M.opening K.honest K.reads K.may_leave K.moment K.left_since group.0 c.args.journal (g.O.Sink.given c.args.output.now) b group.1.0) (sym c.requires.none) group.1.1) in
+    let on = c.in-Ok.ensures.grouped group.0 group.1.0 (subst
+    (λ b. Grouping M.plain M.stands M.opening K.honest K.reads K.may_leave K.moment K.left_since group.0 c.args.journal
+    (g.O.Sink.given c.args.output.now) b group.1.0) (sym c.requires.none) group.1.1) in
     (group.0, (group.1.0 ++ on.0, on.1.1))
 
 pub returns-in-Ok-settle-clause-grouped : goal.returns-in-Ok-settle-clause-grouped
 returns-in-Ok-settle-clause-grouped g c = λ at bodies group.
     let M = g.M.Machine in
     let K = g.K.Disk in
-    let fed = fed_all c.args.cutter.now c.args.piece.now c.feed.new.self c.feed.result c.feed.ensures.held (c.feed.ensures.whole c.requires.partial c.requires.size) in
-    let on = c.in-Ok.ensures.grouped at bodies (subst (λ b. Grouping M.plain M.stands M.opening K.honest K.reads K.may_leave K.moment K.left_since at c.args.journal (g.O.Sink.given c.args.output.now) b bodies) (sym c.requires.none) group) in (
+    let fed = fed_all c.args.cutter.now c.args.piece.now c.feed.new.self c.feed.result c.feed.ensures.held
+    (c.feed.ensures.whole c.requires.partial c.requires.size) in
+    let on = c.in-Ok.ensures.grouped at bodies
+    (subst (λ b. Grouping M.plain M.stands M.opening K.honest K.reads K.may_leave K.moment K.left_since at c.args.journal
+    (g.O.Sink.given c.args.output.now) b bodies) (sym c.requires.none) group) in (
       on.0,
       (
         subst (λ b. Cuts b on.0 c.answer_held.new.cutter) fed on.1.0,
-        subst (λ b. Grouping M.plain M.stands M.opening K.honest K.reads K.may_leave K.moment K.left_since at c.in-Ok-settle.settled (g.O.Sink.given c.settle.new.output) b (bodies ++ on.0)) c.in-Ok-settle.ensures.none (c.in-Ok-settle.ensures.grouped at (bodies ++ on.0) on.1.1),
+        subst (λ b. Grouping M.plain M.stands M.opening K.honest K.reads K.may_leave K.moment K.left_since at c.in-Ok-settle.settled
+            (g.O.Sink.given c.settle.new.output) b (bodies ++ on.0)) c.in-Ok-settle.ensures.none (c.in-Ok-settle.ensures.grouped at (bodies ++ on.0) on.1.1),
       ),
     )
 
@@ -36,16 +48,30 @@ pub returns-in-Err-settle-clause-stopped : goal.returns-in-Err-settle-clause-sto
 returns-in-Err-settle-clause-stopped g c = λ at bodies group.
     let M = g.M.Machine in
     let K = g.K.Disk in
-    let fed = fed_all c.args.cutter.now c.args.piece.now c.feed.new.self c.feed.result c.feed.ensures.held (c.feed.ensures.whole c.requires.partial c.requires.size) in
-    let on = c.in-Ok.ensures.grouped at bodies (subst (λ b. Grouping M.plain M.stands M.opening K.honest K.reads K.may_leave K.moment K.left_since at c.args.journal (g.O.Sink.given c.args.output.now) b bodies) (sym c.requires.none) group) in
-    (on.0, (c.answer_held.new.cutter, (subst (λ b. Cuts b on.0 c.answer_held.new.cutter) fed on.1.0, c.in-Err-settle.ensures.stopped at (bodies ++ on.0) on.1.1)))
+    let fed = fed_all c.args.cutter.now c.args.piece.now c.feed.new.self c.feed.result c.feed.ensures.held
+    (c.feed.ensures.whole c.requires.partial c.requires.size) in
+    let on = c.in-Ok.ensures.grouped at bodies
+    (subst (λ b. Grouping M.plain M.stands M.opening K.honest K.reads K.may_leave K.moment K.left_since at c.args.journal
+    (g.O.Sink.given c.args.output.now) b bodies) (sym c.requires.none) group) in (
+      on.0,
+      (
+        c.answer_held.new.cutter,
+        (
+          subst (λ b. Cuts b on.0 c.answer_held.new.cutter) fed on.1.0,
+          c.in-Err-settle.ensures.stopped at (bodies ++ on.0) on.1.1,
+        ),
+      ),
+    )
 
 pub returns-in-Err-clause-stopped : goal.returns-in-Err-clause-stopped
 returns-in-Err-clause-stopped g c = λ at bodies group.
     let M = g.M.Machine in
     let K = g.K.Disk in
-    let fed = fed_all c.args.cutter.now c.args.piece.now c.feed.new.self c.feed.result c.feed.ensures.held (c.feed.ensures.whole c.requires.partial c.requires.size) in
-    let on = c.in-Err.ensures.stopped at bodies (subst (λ b. Grouping M.plain M.stands M.opening K.honest K.reads K.may_leave K.moment K.left_since at c.args.journal (g.O.Sink.given c.args.output.now) b bodies) (sym c.requires.none) group) in
+    let fed = fed_all c.args.cutter.now c.args.piece.now c.feed.new.self c.feed.result c.feed.ensures.held
+    (c.feed.ensures.whole c.requires.partial c.requires.size) in
+    let on = c.in-Err.ensures.stopped at bodies
+    (subst (λ b. Grouping M.plain M.stands M.opening K.honest K.reads K.may_leave K.moment K.left_since at c.args.journal
+    (g.O.Sink.given c.args.output.now) b bodies) (sym c.requires.none) group) in
     (on.0, (on.1.0, (subst (λ b. Cuts b on.0 on.1.0) fed on.1.1.0, on.1.1.1)))
 
 pub returns-in-Ok-settle-clause-went : goal.returns-in-Ok-settle-clause-went
@@ -56,4 +82,5 @@ returns-in-Ok-settle-clause-went g c =
 pub returns-in-Err-settle-clause-fault : goal.returns-in-Err-settle-clause-fault
 returns-in-Err-settle-clause-fault g c =
     let K = g.K.Disk in
-    stopped_later K.honest K.faults g.O.Sink.faults c.args.journal.disk c.in-Ok.journal.disk c.args.output.now c.answer_held.new.output c.settle.new.output c.in-Err-settle.stop c.in-Ok.ensures.went c.in-Ok.ensures.write_later c.in-Err-settle.ensures.fault
+    stopped_later K.honest K.faults g.O.Sink.faults c.args.journal.disk c.in-Ok.journal.disk c.args.output.now c.answer_held.new.output c.settle.new.output
+    c.in-Err-settle.stop c.in-Ok.ensures.went c.in-Ok.ensures.write_later c.in-Err-settle.ensures.fault

@@ -14,7 +14,9 @@ loop-taken-preserved g c =
     let M = g.M.Machine in
     let K = g.K.Disk in
     record {
-      told = λ at group. turns_on M.plain M.stands M.opening K.honest K.reads K.may_leave K.moment K.left_since at (g.I.Source.left c.args.input.now) (g.I.Source.left c.loop-taken.input) (g.I.Source.left c.turn.new.input) c.loop-taken.taken c.in-Ok.count c.loop-taken.journal c.in-Ok.answered (g.O.Sink.given c.loop-taken.output) (g.O.Sink.given c.turn.new.output) c.loop-taken.buffers.cutter c.turn.new.buffers.cutter
+      told = λ at group. turns_on M.plain M.stands M.opening K.honest K.reads K.may_leave K.moment K.left_since at (g.I.Source.left c.args.input.now)
+          (g.I.Source.left c.loop-taken.input) (g.I.Source.left c.turn.new.input) c.loop-taken.taken c.in-Ok.count c.loop-taken.journal c.in-Ok.answered
+          (g.O.Sink.given c.loop-taken.output) (g.O.Sink.given c.turn.new.output) c.loop-taken.buffers.cutter c.turn.new.buffers.cutter
           (c.loop-taken.invariant.told at group) c.in-Ok.ensures.turned;
       grouped = λ at group.
           let on = c.loop-taken.invariant.grouped at group in
@@ -33,12 +35,16 @@ returns-in-Err-clause-outcome g c = λ at group.
     let M = g.M.Machine in
     let K = g.K.Disk in
     let few : c.loop-taken.taken + c.min-size.result ≤ 1099511627776 = omega (arith, c.min-size.ensures, c.loop-taken.invariant.within) in
-    turns_end M.plain M.stands M.opening K.honest K.reads K.may_leave K.moment K.left_since at (g.I.Source.left c.args.input.now) (g.I.Source.left c.loop-taken.input) (g.I.Source.left c.turn.new.input) c.loop-taken.taken c.min-size.result c.loop-taken.journal c.in-Err.end.0 c.in-Err.end.1 (g.O.Sink.given c.loop-taken.output) (g.O.Sink.given c.turn.new.output) c.loop-taken.buffers.cutter
+    turns_end M.plain M.stands M.opening K.honest K.reads K.may_leave K.moment K.left_since at (g.I.Source.left c.args.input.now)
+    (g.I.Source.left c.loop-taken.input) (g.I.Source.left c.turn.new.input) c.loop-taken.taken c.min-size.result c.loop-taken.journal c.in-Err.end.0
+    c.in-Err.end.1 (g.O.Sink.given c.loop-taken.output) (g.O.Sink.given c.turn.new.output) c.loop-taken.buffers.cutter
     few (c.loop-taken.invariant.told at group) c.in-Err.ensures.outcome
 
 pub returns-clause-outcome : goal.returns-clause-outcome
 returns-clause-outcome g c = λ at group.
     let M = g.M.Machine in
     let K = g.K.Disk in
-    turns_spent M.plain M.stands M.opening K.honest K.reads K.may_leave K.moment K.left_since at (g.I.Source.left c.args.input.now) (g.I.Source.left c.loop-taken.input) c.loop-taken.taken c.loop-taken.journal c.close.result.1 (g.O.Sink.given c.loop-taken.output) c.loop-taken.buffers.cutter
+    turns_spent M.plain M.stands M.opening K.honest K.reads K.may_leave K.moment K.left_since at (g.I.Source.left c.args.input.now)
+    (g.I.Source.left c.loop-taken.input) c.loop-taken.taken c.loop-taken.journal c.close.result.1 (g.O.Sink.given c.loop-taken.output)
+    c.loop-taken.buffers.cutter
     c.loop-taken.invariant.ready.partial c.loop-taken.invariant.within (omega arith) c.close.ensures.disk (c.loop-taken.invariant.told at group)

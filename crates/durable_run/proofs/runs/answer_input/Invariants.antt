@@ -6,10 +6,15 @@ use Rattle.durable_run.proofs.runs.answer_input.Given as goal
 
 abbrev pub invariant-loop-taken : goal.invariant-loop-taken
 invariant-loop-taken g l = record {
-  told : (at : Start g.M.Machine.Plain g.row.K.Denot) → Grouping g.M.Machine.plain g.M.Machine.stands g.M.Machine.opening g.K.Disk.honest g.K.Disk.reads g.K.Disk.may_leave g.K.Disk.moment g.K.Disk.left_since at l.fn.journal (g.O.Sink.given l.fn.output) [] []
-      → WhileTold (g.I.Source.left l.fn.input) (g.I.Source.left l.input) (λ first left. Taking g.M.Machine.plain g.M.Machine.stands g.M.Machine.opening g.K.Disk.honest g.K.Disk.reads g.K.Disk.may_leave g.K.Disk.moment g.K.Disk.left_since at l.taken l.journal (g.O.Sink.given l.output) l.buffers.cutter first left);
-  grouped : (at : Start g.M.Machine.Plain g.row.K.Denot) → Grouping g.M.Machine.plain g.M.Machine.stands g.M.Machine.opening g.K.Disk.honest g.K.Disk.reads g.K.Disk.may_leave g.K.Disk.moment g.K.Disk.left_since at l.fn.journal (g.O.Sink.given l.fn.output) [] []
-      → (bodies : List (List ℕ)) × Grouping g.M.Machine.plain g.M.Machine.stands g.M.Machine.opening g.K.Disk.honest g.K.Disk.reads g.K.Disk.may_leave g.K.Disk.moment g.K.Disk.left_since at l.journal (g.O.Sink.given l.output) [] bodies;
+  told : (at : Start g.M.Machine.Plain g.row.K.Denot) → Grouping g.M.Machine.plain g.M.Machine.stands g.M.Machine.opening g.K.Disk.honest g.K.Disk.reads
+      g.K.Disk.may_leave g.K.Disk.moment g.K.Disk.left_since at l.fn.journal (g.O.Sink.given l.fn.output) [] []
+      → WhileTold (g.I.Source.left l.fn.input) (g.I.Source.left l.input)
+      (λ first left. Taking g.M.Machine.plain g.M.Machine.stands g.M.Machine.opening g.K.Disk.honest g.K.Disk.reads g.K.Disk.may_leave g.K.Disk.moment
+      g.K.Disk.left_since at l.taken l.journal (g.O.Sink.given l.output) l.buffers.cutter first left);
+  grouped : (at : Start g.M.Machine.Plain g.row.K.Denot) → Grouping g.M.Machine.plain g.M.Machine.stands g.M.Machine.opening g.K.Disk.honest g.K.Disk.reads
+      g.K.Disk.may_leave g.K.Disk.moment g.K.Disk.left_since at l.fn.journal (g.O.Sink.given l.fn.output) [] []
+      → (bodies : List (List ℕ)) × Grouping g.M.Machine.plain g.M.Machine.stands g.M.Machine.opening g.K.Disk.honest g.K.Disk.reads g.K.Disk.may_leave
+      g.K.Disk.moment g.K.Disk.left_since at l.journal (g.O.Sink.given l.output) [] bodies;
   ready : AreReady l.buffers;
   room : length l.piece ≡ 65536;
   within : l.taken ≤ 1099511627776;

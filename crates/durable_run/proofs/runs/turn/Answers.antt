@@ -7,7 +7,9 @@ pub returns-in-Ok-eq0-clause-outcome : goal.returns-in-Ok-eq0-clause-outcome
 returns-in-Ok-eq0-clause-outcome g c =
     let M = g.M.Machine in
     let K = g.K.Disk in
-    told_end M.plain M.stands M.opening K.honest K.reads K.may_leave K.moment K.left_since (g.I.Source.left c.args.input.now) (g.I.Source.left c.take_front.new.input) c.end_of.result c.args.journal c.close.result.1 (g.O.Sink.given c.args.output.now) c.args.buffers.now.cutter c.take_front.new.buf c.in-Ok-eq0.field-0 c.args.size
+    told_end M.plain M.stands M.opening K.honest K.reads K.may_leave K.moment K.left_since (g.I.Source.left c.args.input.now)
+    (g.I.Source.left c.take_front.new.input) c.end_of.result c.args.journal c.close.result.1 (g.O.Sink.given c.args.output.now)
+    c.args.buffers.now.cutter c.take_front.new.buf c.in-Ok-eq0.field-0 c.args.size
     c.in-Ok-eq0.field-0-test c.end_of.ensures c.requires.ready.partial c.requires.some c.close.ensures.disk c.in-Ok-eq0.ensures.bytes
 
 pub returns-in-Part-clause-turned : goal.returns-in-Part-clause-turned
@@ -15,7 +17,9 @@ returns-in-Part-clause-turned g c =
     let M = g.M.Machine in
     let K = g.K.Disk in
     let within : c.in-Ok.count ≤ length c.take_front.new.buf = omega (arith, c.in-Ok.ensures.bound, c.in-Ok.ensures.room, c.requires.within, c.requires.room) in
-    told_turned M.plain M.stands M.opening K.honest K.reads K.may_leave K.moment K.left_since (g.I.Source.left c.args.input.now) (g.I.Source.left c.take_front.new.input) c.args.journal c.in-Ok-answer_piece.journal (g.O.Sink.given c.args.output.now) (g.O.Sink.given c.answer_piece.new.output) c.args.buffers.now.cutter c.take_front.new.buf c.answer_piece.new.cutter c.in-Ok.count
+    told_turned M.plain M.stands M.opening K.honest K.reads K.may_leave K.moment K.left_since (g.I.Source.left c.args.input.now)
+    (g.I.Source.left c.take_front.new.input) c.args.journal c.in-Ok-answer_piece.journal (g.O.Sink.given c.args.output.now)
+    (g.O.Sink.given c.answer_piece.new.output) c.args.buffers.now.cutter c.take_front.new.buf c.answer_piece.new.cutter c.in-Ok.count
     c.in-Ok-answer_piece.ensures.grouped within c.in-Ok.ensures.bytes
 
 pub returns-in-Part-clause-grouped : goal.returns-in-Part-clause-grouped
@@ -35,15 +39,21 @@ returns-in-Long-clause-outcome g c =
     let M = g.M.Machine in
     let K = g.K.Disk in
     let within : c.in-Ok.count ≤ length c.take_front.new.buf = omega (arith, c.in-Ok.ensures.bound, c.in-Ok.ensures.room, c.requires.within, c.requires.room) in
-    told_long M.plain M.stands M.opening K.honest K.reads K.may_leave K.moment K.left_since (g.I.Source.left c.args.input.now) (g.I.Source.left c.take_front.new.input) c.in-Long.len c.args.journal c.in-Ok-answer_piece.journal c.close-in-Long.result.1 (g.O.Sink.given c.args.output.now) (g.O.Sink.given c.answer_piece.new.output) c.args.buffers.now.cutter c.take_front.new.buf c.answer_piece.new.cutter c.in-Ok.count c.args.size
-    c.in-Ok-answer_piece.ensures.grouped within c.in-Ok.ensures.bound (subst (λ n. IsBehind n c.answer_piece.new.cutter) c.in-Long.is c.in-Ok-answer_piece.ensures.behind) c.close-in-Long.ensures.disk c.in-Ok.ensures.bytes
+    told_long M.plain M.stands M.opening K.honest K.reads K.may_leave K.moment K.left_since (g.I.Source.left c.args.input.now)
+    (g.I.Source.left c.take_front.new.input) c.in-Long.len c.args.journal c.in-Ok-answer_piece.journal c.close-in-Long.result.1
+    (g.O.Sink.given c.args.output.now) (g.O.Sink.given c.answer_piece.new.output) c.args.buffers.now.cutter c.take_front.new.buf
+    c.answer_piece.new.cutter c.in-Ok.count c.args.size
+    c.in-Ok-answer_piece.ensures.grouped within c.in-Ok.ensures.bound
+    (subst (λ n. IsBehind n c.answer_piece.new.cutter) c.in-Long.is c.in-Ok-answer_piece.ensures.behind) c.close-in-Long.ensures.disk c.in-Ok.ensures.bytes
 
 pub returns-in-Err-Disk-clause-outcome : goal.returns-in-Err-Disk-clause-outcome
 returns-in-Err-Disk-clause-outcome g c =
     let M = g.M.Machine in
     let K = g.K.Disk in
     let within : c.in-Ok.count ≤ length c.take_front.new.buf = omega (arith, c.in-Ok.ensures.bound, c.in-Ok.ensures.room, c.requires.within, c.requires.room) in
-    told_disk M.plain M.stands M.opening K.honest K.reads K.may_leave K.moment K.left_since (g.I.Source.left c.args.input.now) (g.I.Source.left c.take_front.new.input) c.args.journal c.in-Err-Disk.field-0 c.in-Err-Disk.disk (g.O.Sink.given c.args.output.now) (g.O.Sink.given c.answer_piece.new.output) c.args.buffers.now.cutter c.take_front.new.buf c.in-Ok.count c.args.size
+    told_disk M.plain M.stands M.opening K.honest K.reads K.may_leave K.moment K.left_since (g.I.Source.left c.args.input.now)
+    (g.I.Source.left c.take_front.new.input) c.args.journal c.in-Err-Disk.field-0 c.in-Err-Disk.disk (g.O.Sink.given c.args.output.now)
+    (g.O.Sink.given c.answer_piece.new.output) c.args.buffers.now.cutter c.take_front.new.buf c.in-Ok.count c.args.size
     c.in-Err-Disk.field-0-is c.in-Err-Disk.ensures.stopped within c.in-Ok.ensures.bound c.in-Ok.ensures.bytes
 
 pub returns-in-Err-Output-clause-outcome : goal.returns-in-Err-Output-clause-outcome
@@ -51,12 +61,15 @@ returns-in-Err-Output-clause-outcome g c =
     let M = g.M.Machine in
     let K = g.K.Disk in
     let within : c.in-Ok.count ≤ length c.take_front.new.buf = omega (arith, c.in-Ok.ensures.bound, c.in-Ok.ensures.room, c.requires.within, c.requires.room) in
-    told_output M.plain M.stands M.opening K.honest K.reads K.may_leave K.moment K.left_since (g.I.Source.left c.args.input.now) (g.I.Source.left c.take_front.new.input) c.args.journal c.in-Err-Output.field-0 c.in-Err-Output.disk (g.O.Sink.given c.args.output.now) (g.O.Sink.given c.answer_piece.new.output) c.args.buffers.now.cutter c.take_front.new.buf c.in-Ok.count c.args.size
+    told_output M.plain M.stands M.opening K.honest K.reads K.may_leave K.moment K.left_since (g.I.Source.left c.args.input.now)
+    (g.I.Source.left c.take_front.new.input) c.args.journal c.in-Err-Output.field-0 c.in-Err-Output.disk (g.O.Sink.given c.args.output.now)
+    (g.O.Sink.given c.answer_piece.new.output) c.args.buffers.now.cutter c.take_front.new.buf c.in-Ok.count c.args.size
     c.in-Err-Output.field-0-is c.in-Err-Output.ensures.stopped within c.in-Ok.ensures.bound c.in-Ok.ensures.bytes
 
 pub returns-in-Err-clause-outcome : goal.returns-in-Err-clause-outcome
 returns-in-Err-clause-outcome g c =
     let M = g.M.Machine in
     let K = g.K.Disk in
-    told_read M.plain M.stands M.opening K.honest K.reads K.may_leave K.moment K.left_since (g.I.Source.left c.args.input.now) (g.I.Source.left c.take_front.new.input) c.args.journal c.close-in-Err.result.1 (g.O.Sink.given c.args.output.now) c.args.buffers.now.cutter c.args.size
+    told_read M.plain M.stands M.opening K.honest K.reads K.may_leave K.moment K.left_since (g.I.Source.left c.args.input.now)
+    (g.I.Source.left c.take_front.new.input) c.args.journal c.close-in-Err.result.1 (g.O.Sink.given c.args.output.now) c.args.buffers.now.cutter c.args.size
     c.requires.ready.partial c.requires.some c.close-in-Err.ensures.disk c.in-Err.ensures.bytes

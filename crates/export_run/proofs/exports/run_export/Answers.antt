@@ -21,7 +21,8 @@ returns-in-Ok-export_at-clause-outcome g c =
     let new = g.O.Sink.given c.export_at.new.output in
     weaker before after (Asked x from to Ok) (ExportOutcome Ok x from to old new)
     (subst (λ status. WhileTold before after (Asked x from to status)) c.in-Ok.is c.ask_silently.ensures.outcome)
-    (λ a b o. ended-well x from to old new a b (λ t stands. subst (λ r. Exported t.dag t.collected x old new r) c.in-Ok-export_at.is (c.export_at.ensures.exported t stands)) o)
+    (λ a b o. ended-well x from to old new a b (λ t stands. subst (λ r. Exported t.dag t.collected x old new r) c.in-Ok-export_at.is
+    (c.export_at.ensures.exported t stands)) o)
 
 pub returns-in-Err-NoState-clause-outcome : goal.returns-in-Err-NoState-clause-outcome
 returns-in-Err-NoState-clause-outcome g c =
@@ -34,7 +35,8 @@ returns-in-Err-NoState-clause-outcome g c =
     let new = g.O.Sink.given c.export_at.new.output in
     weaker before after (Asked x from to Ok) (ExportOutcome (NoState x) x from to old new)
     (subst (λ status. WhileTold before after (Asked x from to status)) c.in-Ok.is c.ask_silently.ensures.outcome)
-    (λ a b o. ended-without x from to old new a b (λ t stands. subst (λ r. Exported t.dag t.collected x old new r) (c.in-Err-NoState.is ∙ ap (λ f. Err f) c.in-Err-NoState.field-0-is) (c.export_at.ensures.exported t stands)) o)
+    (λ a b o. ended-without x from to old new a b (λ t stands. subst (λ r. Exported t.dag t.collected x old new r)
+    (c.in-Err-NoState.is ∙ ap (λ f. Err f) c.in-Err-NoState.field-0-is) (c.export_at.ensures.exported t stands)) o)
 
 pub returns-in-Err-WriteFault-clause-outcome : goal.returns-in-Err-WriteFault-clause-outcome
 returns-in-Err-WriteFault-clause-outcome g c =
@@ -47,7 +49,8 @@ returns-in-Err-WriteFault-clause-outcome g c =
     let new = g.O.Sink.given c.export_at.new.output in
     weaker before after (Asked x from to Ok) (ExportOutcome WriteFault x from to old new)
     (subst (λ status. WhileTold before after (Asked x from to status)) c.in-Ok.is c.ask_silently.ensures.outcome)
-    (λ a b o. ended-broken x from to old new a b (λ t stands. subst (λ r. Exported t.dag t.collected x old new r) (c.in-Err-WriteFault.is ∙ ap (λ f. Err f) c.in-Err-WriteFault.field-0-is) (c.export_at.ensures.exported t stands)) o)
+    (λ a b o. ended-broken x from to old new a b (λ t stands. subst (λ r. Exported t.dag t.collected x old new r)
+    (c.in-Err-WriteFault.is ∙ ap (λ f. Err f) c.in-Err-WriteFault.field-0-is) (c.export_at.ensures.exported t stands)) o)
 
 pub returns-in-Err-NoMemory-clause-outcome : goal.returns-in-Err-NoMemory-clause-outcome
 returns-in-Err-NoMemory-clause-outcome g c =
@@ -60,7 +63,8 @@ returns-in-Err-NoMemory-clause-outcome g c =
     let new = g.O.Sink.given c.export_at.new.output in
     weaker before after (Asked x from to Ok) (ExportOutcome NoMemory x from to old new)
     (subst (λ status. WhileTold before after (Asked x from to status)) c.in-Ok.is c.ask_silently.ensures.outcome)
-    (λ a b o. ended-wanting x from to old new a b (ap (λ o. g.O.Sink.given o) (c.export_at.ensures.nothing (inr (c.in-Err-NoMemory.is ∙ ap (λ f. Err f) c.in-Err-NoMemory.field-0-is)))) o)
+    (λ a b o. ended-wanting x from to old new a b (ap (λ o. g.O.Sink.given o)
+    (c.export_at.ensures.nothing (inr (c.in-Err-NoMemory.is ∙ ap (λ f. Err f) c.in-Err-NoMemory.field-0-is)))) o)
 
 pub returns-in-WriteFault-clause-outcome : goal.returns-in-WriteFault-clause-outcome
 returns-in-WriteFault-clause-outcome g c =
@@ -86,7 +90,8 @@ returns-in_default g c =
     record {
       outcome = weaker before after (Asked x from to status) (ExportOutcome status x from to old old) c.ask_silently.ensures.outcome
           (λ a b o. ended-early x from to old status a b c.ask_silently.ensures.status c.in_default.not-Ok c.in_default.not-WriteFault o);
-      exact = decided-early x before after (Rose (g.I.Source.faults c.args.input.now) (g.I.Source.faults c.ask_silently.new.input) → ⊥) (Rose (g.O.Sink.faults c.args.output.now) (g.O.Sink.faults c.args.output.now) → ⊥) status
+      exact = decided-early x before after (Rose (g.I.Source.faults c.args.input.now) (g.I.Source.faults c.ask_silently.new.input) → ⊥)
+          (Rose (g.O.Sink.faults c.args.output.now) (g.O.Sink.faults c.args.output.now) → ⊥) status
           c.in_default.not-Ok c.in_default.not-WriteFault c.ask_silently.ensures.exact;
       status = early-end x status c.ask_silently.ensures.status;
       read_later = c.ask_silently.ensures.later;

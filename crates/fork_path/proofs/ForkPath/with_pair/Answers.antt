@@ -9,7 +9,8 @@ use Rattle.fork_path.proofs.ForkPath.with_pair.Goals as goal
 pub returns-clause-added : goal.returns-clause-added
 returns-clause-added c =
     let pair : ℕ × ℕ = (c.args.fork, c.args.branch) in
-    put-pairs c.self.inside.tiles.items c.put_tile.new.tiles.items c.of.result pair c.args.self.now.pairs (ap (λ v. v.pairs) c.self.view_is) c.of.ensures c.put_tile.ensures.pairs
+    put-pairs c.self.inside.tiles.items c.put_tile.new.tiles.items c.of.result pair c.args.self.now.pairs (ap (λ v. v.pairs) c.self.view_is) c.of.ensures
+    c.put_tile.ensures.pairs
 
 pub returns-clause-ascending : goal.returns-clause-ascending
 returns-clause-ascending c = ascending-pairs_of c.put_tile.new.tiles.items
@@ -18,14 +19,16 @@ pub returns-clause-pairs : goal.returns-clause-pairs
 returns-clause-pairs c =
     let pair : ℕ × ℕ = (c.args.fork, c.args.branch) in
     let seen = ap (λ v. v.pairs) c.self.view_is in
-    let added = put-pairs c.self.inside.tiles.items c.put_tile.new.tiles.items c.of.result pair c.args.self.now.pairs seen c.of.ensures c.put_tile.ensures.pairs in
+    let added = put-pairs c.self.inside.tiles.items c.put_tile.new.tiles.items c.of.result pair c.args.self.now.pairs seen c.of.ensures
+    c.put_tile.ensures.pairs in
     (grown pair c.args.self.now.pairs (pairs_of c.put_tile.new.tiles.items) (seen-ascending c.self.inside.tiles.items c.args.self.now.pairs seen) added).pairs
 
 pub returns-clause-count : goal.returns-clause-count
 returns-clause-count c =
     let pair : ℕ × ℕ = (c.args.fork, c.args.branch) in
     let seen = ap (λ v. v.pairs) c.self.view_is in
-    let added = put-pairs c.self.inside.tiles.items c.put_tile.new.tiles.items c.of.result pair c.args.self.now.pairs seen c.of.ensures c.put_tile.ensures.pairs in
+    let added = put-pairs c.self.inside.tiles.items c.put_tile.new.tiles.items c.of.result pair c.args.self.now.pairs seen c.of.ensures
+    c.put_tile.ensures.pairs in
     (grown pair c.args.self.now.pairs (pairs_of c.put_tile.new.tiles.items) (seen-ascending c.self.inside.tiles.items c.args.self.now.pairs seen) added).count
 
 pub invariant_of-self : goal.invariant_of-self

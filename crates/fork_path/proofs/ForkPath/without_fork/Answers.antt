@@ -5,7 +5,8 @@ use Rattle.fork_path.proofs.ForkPath.without_fork.Goals as goal
 
 pub returns-clause-pairs : goal.returns-clause-pairs
 returns-clause-pairs c =
-    dropped-pairs c.self.inside.tiles.items c.drop_fork.new.tiles.items c.args.fork c.args.self.now.pairs (ap (λ v. v.pairs) c.self.view_is) c.drop_fork.ensures.pairs
+    dropped-pairs c.self.inside.tiles.items c.drop_fork.new.tiles.items c.args.fork c.args.self.now.pairs (ap (λ v. v.pairs) c.self.view_is)
+    c.drop_fork.ensures.pairs
 
 pub returns-clause-ascending : goal.returns-clause-ascending
 returns-clause-ascending c = ascending-pairs_of c.drop_fork.new.tiles.items

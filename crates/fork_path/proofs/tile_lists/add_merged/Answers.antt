@@ -8,8 +8,10 @@ pub loop-tile-preserved : goal.loop-tile-preserved
 loop-tile-preserved c =
     let others = c.args.others.now in
     let lt : c.loop-tile.tile-index < length others = omega arith in
-    tile_merging-more c.args.tiles.now.items c.args.own.now others c.loop-tile.tiles.items c.loop-tile.rest.now c.around.result.0.now c.around.result.2.now c.extend_from_slice.new.self.items c.push.new.self.items
-    _ c.around.result.1 c.loop-tile.tile-index lt c.loop-tile.invariant c.around.ensures.key c.around.ensures.keys c.around.ensures.pairs c.around.ensures.filled c.in_ok-extend_from_slice.ensures.items c.in_ok-push.ensures.items
+    tile_merging-more c.args.tiles.now.items c.args.own.now others c.loop-tile.tiles.items c.loop-tile.rest.now c.around.result.0.now c.around.result.2.now
+    c.extend_from_slice.new.self.items c.push.new.self.items
+    _ c.around.result.1 c.loop-tile.tile-index lt c.loop-tile.invariant c.around.ensures.key c.around.ensures.keys c.around.ensures.pairs
+    c.around.ensures.filled c.in_ok-extend_from_slice.ensures.items c.in_ok-push.ensures.items
 
 pub returns-clause-filled : goal.returns-clause-filled
 returns-clause-filled c = λ base own others.

@@ -15,7 +15,8 @@ returns-then-is_at-clause-pairs c = λ p.
 
 pub returns-else-is_at-clause-keys : goal.returns-else-is_at-clause-keys
 returns-else-is_at-clause-keys c = λ up.
-    around-keys-new c.args.tile c.args.tiles.now c.first_not_before-place.result up c.first_not_before-place.ensures.bound c.first_not_before-place.ensures.before c.first_not_before-place.ensures.behind
+    around-keys-new c.args.tile c.args.tiles.now c.first_not_before-place.result up c.first_not_before-place.ensures.bound
+    c.first_not_before-place.ensures.before c.first_not_before-place.ensures.behind
     (c.is_at.ensures.not_here c.if-is_at.false)
 
 pub returns-else-is_at-clause-pairs : goal.returns-else-is_at-clause-pairs

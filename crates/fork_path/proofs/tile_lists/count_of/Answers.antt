@@ -18,12 +18,19 @@ loop-tile-preserved c =
     let more = sum_by_more (λ t. count_ones t.bits) tiles i none lt in
     let sum = c.loop-tile.invariant.sum in
     let bound = c.loop-tile.invariant.bound in
-    record { sum = omega (arith, more, sum); bound = omega (arith, few, bound); words = below_more (λ k. (get_or tiles k none).bits < 2 ^ 64) i c.loop-tile.invariant.words fits }
+    record {
+      sum = omega (arith, more, sum);
+      bound = omega (arith, few, bound);
+      words =
+          below_more (λ k. (get_or tiles k none).bits < 2 ^ 64) i c.loop-tile.invariant.words fits;
+    }
 
 pub returns : goal.returns
 returns c = λ up.
     let tiles = c.args.tiles.now in
     let none : Tile = record { forks = 0; branches = 0; bits = 0 } in
     let done : c.loop-tile.tile-index ≡ length tiles = omega arith in
-    c.loop-tile.invariant.sum ∙ ap (λ n. sum_by (λ (t : Tile). count_ones t.bits) (take n tiles)) done ∙ ap (sum_by (λ (t : Tile). count_ones t.bits)) (take_all (length tiles) tiles (omega arith))
-    ∙ sym (length-pairs_of tiles up (words-from tiles (λ i d lt. subst (λ t. t.bits < 2 ^ 64) (get_or_default tiles i none d lt) (c.loop-tile.invariant.words i (omega arith)))))
+    c.loop-tile.invariant.sum ∙ ap (λ n. sum_by (λ (t : Tile). count_ones t.bits) (take n tiles)) done
+    ∙ ap (sum_by (λ (t : Tile). count_ones t.bits)) (take_all (length tiles) tiles (omega arith))
+    ∙ sym (length-pairs_of tiles up (words-from tiles (λ i d lt. subst (λ t. t.bits < 2 ^ 64) (get_or_default tiles i none d lt)
+    (c.loop-tile.invariant.words i (omega arith)))))

@@ -13,9 +13,11 @@ returns-clause-ascending c = λ up.
     let new = c.clear_fork.new.tiles in
     let old = c.args.tiles.now.items in
     let whole : take c.args.tiles.now.len (new ++ drop (length new) old) ≡ new = written new old c.args.tiles.now.len (search rules) (search rules) in
-    let kept : c.retain.new.self.items ≡ filter keep (take c.args.tiles.now.len (new ++ drop (length new) old)) = filter_same _ _ _ (λ x b f' k. search rules) _ _ c.retain.ensures.filtered in
+    let kept : c.retain.new.self.items ≡ filter keep (take c.args.tiles.now.len (new ++ drop (length new) old)) =
+    filter_same _ _ _ (λ x b f' k. search rules) _ _ c.retain.ensures.filtered in
     let keys : keys_of new ≡ keys_of old = c.clear_fork.ensures.keys ∙ ap keys_of c.as_mut_slice.ensures.value in
-    subst (λ ts. are_ascending_pairs (keys_of ts) ≡ true) (sym (kept ∙ ap (filter keep) whole)) (kept-keys keep new (subst (λ ks. are_ascending_pairs ks ≡ true) (sym keys) up))
+    subst (λ ts. are_ascending_pairs (keys_of ts) ≡ true) (sym (kept ∙ ap (filter keep) whole))
+    (kept-keys keep new (subst (λ ks. are_ascending_pairs ks ≡ true) (sym keys) up))
 
 pub returns-clause-pairs : goal.returns-clause-pairs
 returns-clause-pairs c = λ p.
@@ -23,7 +25,8 @@ returns-clause-pairs c = λ p.
     let new = c.clear_fork.new.tiles in
     let old = c.args.tiles.now.items in
     let whole : take c.args.tiles.now.len (new ++ drop (length new) old) ≡ new = written new old c.args.tiles.now.len (search rules) (search rules) in
-    let kept : c.retain.new.self.items ≡ filter keep (take c.args.tiles.now.len (new ++ drop (length new) old)) = filter_same _ _ _ (λ x b f' k. search rules) _ _ c.retain.ensures.filtered in
+    let kept : c.retain.new.self.items ≡ filter keep (take c.args.tiles.now.len (new ++ drop (length new) old)) =
+    filter_same _ _ _ (λ x b f' k. search rules) _ _ c.retain.ensures.filtered in
     ap (λ ts. some_holds ts p) (kept ∙ ap (filter keep) whole) ∙ kept-pairs keep new p (λ t n. left_out-holds t p n)
     ∙ c.clear_fork.ensures.pairs p ∙ ap (λ ts. not (p.0 == c.args.fork) && some_holds ts p) c.as_mut_slice.ensures.value
 

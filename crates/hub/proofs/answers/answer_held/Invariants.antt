@@ -4,7 +4,8 @@ use Rattle.hub.proofs.answers.answer_held.Given as goal
 
 abbrev pub invariant-loop-cutter : goal.invariant-loop-cutter
 invariant-loop-cutter g l = record {
-  served : Serves g.M.Machine.plain (g.M.Machine.stands l.fn.machine) (g.M.Machine.stands l.machine) l.fn.actor l.fn.cutter l.cutter l.fn.waiting l.waiting l.fn.tally l.tally;
+  served : Serves g.M.Machine.plain (g.M.Machine.stands l.fn.machine) (g.M.Machine.stands l.machine) l.fn.actor l.fn.cutter l.cutter l.fn.waiting l.waiting
+      l.fn.tally l.tally;
   opening : g.M.Machine.opening l.machine ≡ g.M.Machine.opening l.fn.machine;
 }
 

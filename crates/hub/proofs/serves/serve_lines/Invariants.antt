@@ -5,7 +5,9 @@ use Rattle.hub.proofs.serves.serve_lines.Given as goal
 
 abbrev pub invariant-loop-turns : goal.invariant-loop-turns
 invariant-loop-turns g l = record {
-  led : (s : g.M.Machine.Plain) → g.M.Machine.stands l.fn.machine s → Led g.M.Machine.plain (option_map rule_of l.fn.upkeep) (g.M.Machine.stands l.machine) s l.lines l.tally (g.P.Ports.seen l.fn.ports) (g.P.Ports.seen l.ports) l.turns;
+  led : (s : g.M.Machine.Plain) → g.M.Machine.stands l.fn.machine s →
+      Led g.M.Machine.plain (option_map rule_of l.fn.upkeep) (g.M.Machine.stands l.machine) s l.lines l.tally (g.P.Ports.seen l.fn.ports)
+      (g.P.Ports.seen l.ports) l.turns;
   slots : length l.lines ≡ 256;
   room : length l.piece ≡ 65536;
   opening : g.M.Machine.opening l.machine ≡ g.M.Machine.opening l.fn.machine;

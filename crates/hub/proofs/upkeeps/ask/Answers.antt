@@ -5,4 +5,5 @@ pub returns-in-Ok-clause-asked : goal.returns-in-Ok-clause-asked
 returns-in-Ok-clause-asked g c = λ s f. asked_ok g.M.Machine.plain (g.M.Machine.stands c.act.new.self) c.args.request.now s (c.in-Ok.ensures.step s f)
 
 pub returns-in-Err-clause-asked : goal.returns-in-Err-clause-asked
-returns-in-Err-clause-asked g c = λ s f. asked_err g.M.Machine.plain (g.M.Machine.stands c.act.new.self) c.args.request.now s c.in-Err.ensures.sure (c.in-Err.ensures.same s f)
+returns-in-Err-clause-asked g c = λ s f. asked_err g.M.Machine.plain (g.M.Machine.stands c.act.new.self) c.args.request.now s c.in-Err.ensures.sure
+    (c.in-Err.ensures.same s f)

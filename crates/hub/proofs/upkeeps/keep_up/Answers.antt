@@ -11,15 +11,18 @@ loop-request-preserved g c =
     let requests = c.args.requests.now in
     let place = c.loop-request.request-index in
     record {
-      asked = λ s f. subst (λ bodies. Asked g.M.Machine.plain (g.M.Machine.stands c.ask.new.machine) bodies s) (sym (one_more requests place record { ref_ptr = (0, 0); now = [] } c.loop-request-test.true))
-          (asked_more g.M.Machine.plain (g.M.Machine.stands c.loop-request.machine) (g.M.Machine.stands c.ask.new.machine) (take place (map (λ r. r.now) requests)) ((get_or requests place record { ref_ptr = (0, 0); now = [] }).now ∷ []) s
+      asked = λ s f. subst (λ bodies. Asked g.M.Machine.plain (g.M.Machine.stands c.ask.new.machine) bodies s)
+          (sym (one_more requests place record { ref_ptr = (0, 0); now = [] } c.loop-request-test.true))
+          (asked_more g.M.Machine.plain (g.M.Machine.stands c.loop-request.machine) (g.M.Machine.stands c.ask.new.machine)
+          (take place (map (λ r. r.now) requests)) ((get_or requests place record { ref_ptr = (0, 0); now = [] }).now ∷ []) s
           (c.loop-request.invariant.asked s f) c.ask.ensures.asked);
       opening = c.ask.ensures.opening ∙ c.loop-request.invariant.opening;
     }
 
 pub returns-clause-asked : goal.returns-clause-asked
 returns-clause-asked g c =
-    λ s f. subst (λ bodies. Asked g.M.Machine.plain (g.M.Machine.stands c.loop-request.machine) bodies s) (all_of c.args.requests.now c.loop-request.request-index c.loop-request-test.false) (c.loop-request.invariant.asked s f)
+    λ s f. subst (λ bodies. Asked g.M.Machine.plain (g.M.Machine.stands c.loop-request.machine) bodies s)
+    (all_of c.args.requests.now c.loop-request.request-index c.loop-request-test.false) (c.loop-request.invariant.asked s f)
 
 pub returns-clause-opening : goal.returns-clause-opening
 returns-clause-opening g c = c.loop-request.invariant.opening

@@ -10,7 +10,10 @@ returns-then-count-le-MAX_FRAME c =
     let k = c.in-Some.count in
     let found = c.in-Some.ensures in
     let size : length (take k bytes) ≡ k = length-take-le k bytes (omega (arith, found.0.high)) in (
-      (front_free k bytes (λ place below _ is. found.0.before place (omega arith) below (eq-eqb (get_or bytes place 0) 10 is)), omega (arith, size, c.if-count-le-MAX_FRAME.true)),
+      (
+        front_free k bytes (λ place below _ is. found.0.before place (omega arith) below (eq-eqb (get_or bytes place 0) 10 is)),
+        omega (arith, size, c.if-count-le-MAX_FRAME.true),
+      ),
       found.0.high,
       at_feed k bytes found.0.high (eqb-true (get_or bytes k 0) 10 found.1),
     )

@@ -13,13 +13,15 @@ use Rattle.merge_rules.proofs.settling.settle.Goals as goal
 pub returns-then-page-gt-MOST_KEYS : goal.returns-then-page-gt-MOST_KEYS
 returns-then-page-gt-MOST_KEYS c = λ rs ks stands x y ea eb may.
     let keys = conflict_keys rs (x ∷ y ∷ []) in
-    let page = subst (λ zs. IsPageOf zs c.in_ok-page.page) (all-behind keys may.keys) (c.in_ok-page.ensures rs ks stands (x ∷ y ∷ []) (ap₂ (λ o q. o ∷ q ∷ []) ea eb)) in
+    let page = subst (λ zs. IsPageOf zs c.in_ok-page.page) (all-behind keys may.keys)
+    (c.in_ok-page.ensures rs ks stands (x ∷ y ∷ []) (ap₂ (λ o q. o ∷ q ∷ []) ea eb)) in
     (wide keys c.in_ok-page.page.total page.0 c.if-page-gt-MOST_KEYS.true, page.0)
 
 pub returns : goal.returns
 returns c = λ rs ks stands x y ea eb may.
     let keys = conflict_keys rs (x ∷ y ∷ []) in
-    let page = subst (λ zs. IsPageOf zs c.in_ok-page.page) (all-behind keys may.keys) (c.in_ok-page.ensures rs ks stands (x ∷ y ∷ []) (ap₂ (λ o q. o ∷ q ∷ []) ea eb)) in
+    let page = subst (λ zs. IsPageOf zs c.in_ok-page.page) (all-behind keys may.keys)
+    (c.in_ok-page.ensures rs ks stands (x ∷ y ∷ []) (ap₂ (λ o q. o ∷ q ∷ []) ea eb)) in
     let short = few keys c.in_ok-page.page.total page.0 c.if-page-gt-MOST_KEYS.false in
     let named_a = subst (λ t. id_at t c.args.a ≡ Some x) (sym c.dag.ensures) ea in
     let named_b = subst (λ t. id_at t c.args.b ≡ Some y) (sym c.dag.ensures) eb in

@@ -13,4 +13,5 @@ use Rattle.merge_rules.proofs.settling.values_of.Given as goal
 abbrev pub invariant-loop-key : goal.invariant-loop-key
 invariant-loop-key l =
     (rs : List Record) (ks : List StateId) → StoreStands l.store rs ks → (x y : StateId) → id_at l.store.table l.a ≡ Some x → id_at l.store.table l.b ≡ Some y →
-    IsParting l.store.table (fork_points rs (x ∷ y ∷ [])) l.parting → IsTrue (are_ascending_keys l.keys) → SoFar (value_of l.rules rs x y) l.keys l.key-index l.writes
+    IsParting l.store.table (fork_points rs (x ∷ y ∷ [])) l.parting → IsTrue (are_ascending_keys l.keys) →
+    SoFar (value_of l.rules rs x y) l.keys l.key-index l.writes

@@ -13,7 +13,8 @@ join-requires-clause-merges c = λ site stands x y ea eb valid.
     let slots : Slot × Slot = (c.in-Some.a, c.in-Some.b) in
     let at = leaves-at core site stands slots c.dag.result.now (c.dag.ensures ∙ ap (λ v. v.table) c.store.ensures.is) c.in-Some.ensures.first in
     let settled = settled-at core site stands slots at c.store-2.result.now c.store-2.ensures.is c.args.rules.now c.in_ok-keys.field-0 c.in_ok-keys.ensures in
-    values-may-be-merged core.store.table site stands.1 slots at c.args.rules.now c.in-Values.writes (subst (SettledAs c.args.rules.now site.dag at.x at.y) c.in-Values.is settled) valid x y ea eb
+    values-may-be-merged core.store.table site stands.1 slots at c.args.rules.now c.in-Values.writes
+    (subst (SettledAs c.args.rules.now site.dag at.x at.y) c.in-Values.is settled) valid x y ea eb
 
 pub returns-in-Wide-clause-plain : goal.returns-in-Wide-clause-plain
 returns-in-Wide-clause-plain c = λ site stands.

@@ -14,5 +14,6 @@ commit_merge-requires-clause-merges c = λ site stands xs named.
 
 pub returns-in_err-reply-clause-joined : goal.returns-in_err-reply-clause-joined
 returns-in_err-reply-clause-joined c = λ site stands x y ea eb.
-    ended-short (SiteStands c.commit_merge.new.self) site (ended_as (merge_in_one site c.args.actor (x ∷ y ∷ []) c.args.writes)) c.in_err-reply.field-0.0 c.from_residual.result c.from_residual.ensures.1
+    ended-short (SiteStands c.commit_merge.new.self) site (ended_as (merge_in_one site c.args.actor (x ∷ y ∷ []) c.args.writes)) c.in_err-reply.field-0.0
+    c.from_residual.result c.from_residual.ensures.1
     (c.in_err-reply.ensures.given site stands (x ∷ y ∷ []) (ap₂ (λ o p. o ∷ p ∷ []) ea eb))

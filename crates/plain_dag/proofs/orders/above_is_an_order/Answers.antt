@@ -1,4 +1,5 @@
-use Rattle.plain_dag.proofs.Order.{above-reflexive, above-transitive, above-antisymmetric, ancestors-arrive-earlier, ancestors-are-known, arrival-tells, apart-means-incomparable}
+use Rattle.plain_dag.proofs.Order.{above-reflexive, above-transitive, above-antisymmetric, ancestors-arrive-earlier, ancestors-are-known, arrival-tells}
+use Rattle.plain_dag.proofs.Order.{apart-means-incomparable}
 use Rattle.plain_dag.proofs.orders.above_is_an_order.Goals as goal
 
 pub returns-clause-reflexive : goal.returns-clause-reflexive

@@ -14,12 +14,15 @@ loop-key-preserved c =
     let ws = c.loop-key.writes in
     elim c.match-branch-2.branch [
       | in-Some+in_ok-copy+in_ok-insert w ↦
-          let new_is : c.match-branch-2.writes ≡ with_write key w.in-Some.write ws = w.writes-is ∙ (w.in_ok-insert.ensures.added ∙ ap (λ (k : List ℕ). with_write k w.in-Some.write ws) w.in_ok-copy.ensures) in
+          let new_is : c.match-branch-2.writes ≡ with_write key w.in-Some.write ws = w.writes-is
+          ∙ (w.in_ok-insert.ensures.added ∙ ap (λ (k : List ℕ). with_write k w.in-Some.write ws) w.in_ok-copy.ensures) in
           record {
-            ascending = λ up. subst (λ (vs : List KeyWrite). IsTrue (are_ascending_keys (keys_of vs))) (sym new_is) (ascending-with_write key w.in-Some.write ws (c.loop-key.invariant.ascending up));
+            ascending = λ up. subst (λ (vs : List KeyWrite). IsTrue (are_ascending_keys (keys_of vs))) (sym new_is)
+                (ascending-with_write key w.in-Some.write ws (c.loop-key.invariant.ascending up));
             reads = λ rs ks stands x named met has.
                 subst (λ (vs : List KeyWrite). HasReads (read_write rs x) (λ k. met k || is_key_among k (take (i + 1) items)) vs) (sym new_is)
-                (key-written (read_write rs x) (λ k. met k || is_key_among k (take i items)) (λ k. met k || is_key_among k (take (i + 1) items)) key ws (c.loop-key.invariant.reads rs ks stands x named met has)
+                (key-written (read_write rs x) (λ k. met k || is_key_among k (take i items)) (λ k. met k || is_key_among k (take (i + 1) items)) key ws
+                (c.loop-key.invariant.reads rs ks stands x named met has)
                 (one-more met items i key c.loop-key-test.true c.key-item.is) w.in-Some.write
                 (sym (ap write_found (c.read_at.ensures rs ks stands x named)) ∙ (sym c.in_ok-write.ensures ∙ w.in-Some.is)));
           }
@@ -28,7 +31,8 @@ loop-key-preserved c =
             ascending = λ up. subst (λ (vs : List KeyWrite). IsTrue (are_ascending_keys (keys_of vs))) (sym w.writes-is) (c.loop-key.invariant.ascending up);
             reads = λ rs ks stands x named met has.
                 subst (λ (vs : List KeyWrite). HasReads (read_write rs x) (λ k. met k || is_key_among k (take (i + 1) items)) vs) (sym w.writes-is)
-                (key-absent (read_write rs x) (λ k. met k || is_key_among k (take i items)) (λ k. met k || is_key_among k (take (i + 1) items)) key ws (c.loop-key.invariant.reads rs ks stands x named met has)
+                (key-absent (read_write rs x) (λ k. met k || is_key_among k (take i items)) (λ k. met k || is_key_among k (take (i + 1) items)) key ws
+                (c.loop-key.invariant.reads rs ks stands x named met has)
                 (one-more met items i key c.loop-key-test.true c.key-item.is)
                 (sym (ap write_found (c.read_at.ensures rs ks stands x named)) ∙ (sym c.in_ok-write.ensures ∙ w.in_default.is)));
           }
@@ -36,4 +40,5 @@ loop-key-preserved c =
 
 pub returns-clause-reads : goal.returns-clause-reads
 returns-clause-reads c = λ rs ks stands x named met has.
-    subst (λ (js : List (List ℕ)). HasReads (read_write rs x) (λ k. met k || is_key_among k js) c.loop-key.writes) (take_all c.loop-key.key-index c.args.keys.now c.loop-key-test.false) (c.loop-key.invariant.reads rs ks stands x named met has)
+    subst (λ (js : List (List ℕ)). HasReads (read_write rs x) (λ k. met k || is_key_among k js) c.loop-key.writes)
+    (take_all c.loop-key.key-index c.args.keys.now c.loop-key-test.false) (c.loop-key.invariant.reads rs ks stands x named met has)

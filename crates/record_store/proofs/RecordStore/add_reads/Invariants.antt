@@ -10,6 +10,7 @@ use Rattle.record_store.proofs.RecordStore.add_reads.Given as goal
 abbrev pub invariant-loop-key : goal.invariant-loop-key
 invariant-loop-key l = record {
   ascending : IsTrue (are_ascending_keys (keys_of l.fn.writes)) → IsTrue (are_ascending_keys (keys_of l.writes));
-  reads : (rs : List Record) (ks : List StateId) → StoreStands l.self rs ks → (x : StateId) → id_at l.self.table l.slot ≡ Some x → (met : List ℕ → Bool) → HasReads (read_write rs x) met l.fn.writes →
+  reads : (rs : List Record) (ks : List StateId) → StoreStands l.self rs ks → (x : StateId) → id_at l.self.table l.slot ≡ Some x → (met : List ℕ → Bool) →
+      HasReads (read_write rs x) met l.fn.writes →
       HasReads (read_write rs x) (λ k. met k || is_key_among k (take l.key-index l.keys)) l.writes;
 }

@@ -9,15 +9,18 @@ use Rattle.record_store.proofs.Holding.{still-held, short-of_memory, refused-by_
 use Rattle.record_store.proofs.RecordStore.commit.Goals as goal
 
 pub invariant_of-self : goal.invariant_of-self
-invariant_of-self c = still-held c.self.inside c.args.self.now c.self.view_is c.self.inside.dag c.make_room.new.self c.self.invariant refl c.make_room.ensures.same c.make_room.ensures.noted
+invariant_of-self c = still-held c.self.inside c.args.self.now c.self.view_is c.self.inside.dag c.make_room.new.self c.self.invariant refl
+    c.make_room.ensures.same c.make_room.ensures.noted
 
 pub returns-in_err-make_room-clause-added : goal.returns-in_err-make_room-clause-added
 returns-in_err-make_room-clause-added c = λ rs ks r stands _ _ _.
-    short-of_memory c.self.inside c.args.self.now c.self.view_is c.make_room.new.self c.make_room.ensures.same c.in_err-make_room.ensures.not_listed c.from_residual.result c.from_residual.ensures.1 rs ks r stands
+    short-of_memory c.self.inside c.args.self.now c.self.view_is c.make_room.new.self c.make_room.ensures.same c.in_err-make_room.ensures.not_listed
+    c.from_residual.result c.from_residual.ensures.1 rs ks r stands
 
 pub invariant_of-self-in-Err : goal.invariant_of-self-in-Err
 invariant_of-self-in-Err c =
-    still-held c.self.inside c.args.self.now c.self.view_is c.add.new.self c.withdraw.new.self c.self.invariant c.in-Err.ensures.same (λ k. c.withdraw.ensures.same k ∙ c.make_room.ensures.same k)
+    still-held c.self.inside c.args.self.now c.self.view_is c.add.new.self c.withdraw.new.self c.self.invariant c.in-Err.ensures.same
+    (λ k. c.withdraw.ensures.same k ∙ c.make_room.ensures.same k)
     (λ s. c.withdraw.ensures.noted s ∙ c.make_room.ensures.noted s)
 
 pub returns-in-Err-clause-added : goal.returns-in-Err-clause-added
@@ -27,20 +30,25 @@ returns-in-Err-clause-added c = λ rs ks r stands id_is _ may.
     let listed =
     c.withdraw.ensures.listed ∙ ap₂ take c.keys-listed.ensures.count c.in_ok-make_room.ensures.listed ∙ take-append_seam old more in
     refused-by_table c.self.inside c.args.self.now c.self.view_is c.add.new.self c.withdraw.new.self c.args.parents.now c.in-Err.fault c.in-Err.ensures.same
-    (λ k. c.withdraw.ensures.same k ∙ c.make_room.ensures.same k) listed (Err c.in-Err.fault) refl rs ks r stands may (λ held allowed. c.in-Err.ensures.added rs ks r held id_is allowed)
+    (λ k. c.withdraw.ensures.same k ∙ c.make_room.ensures.same k) listed (Err c.in-Err.fault) refl rs ks r stands may
+    (λ held allowed. c.in-Err.ensures.added rs ks r held id_is allowed)
 
 pub add-requires-in-Ok-clause-order : goal.add-requires-in-Ok-clause-order
 add-requires-in-Ok-clause-order c = λ k.
     order-stays c.self.inside.dag c.add.new.self c.add.ensures.kept (versions_of c.make_room.new.self k)
-    (subst (λ (vs : List Version). IsTrue (are_in_order (is_kept_at c.self.inside.dag) (arrival_at c.self.inside.dag) vs)) (sym (c.make_room.ensures.same k)) (c.self.invariant.versions k))
+    (subst (λ (vs : List Version). IsTrue (are_in_order (is_kept_at c.self.inside.dag) (arrival_at c.self.inside.dag) vs))
+    (sym (c.make_room.ensures.same k)) (c.self.invariant.versions k))
 
 pub add-requires-in-Ok-clause-newest : goal.add-requires-in-Ok-clause-newest
 add-requires-in-Ok-clause-newest c = λ k.
     all-came_before c.self.inside.dag c.add.new.self c.add.ensures.kept c.in-Ok.slot c.in-Ok.ensures.newest (versions_of c.make_room.new.self k)
-    (subst (λ (vs : List Version). IsTrue (are_in_order (is_kept_at c.self.inside.dag) (arrival_at c.self.inside.dag) vs)) (sym (c.make_room.ensures.same k)) (c.self.invariant.versions k))
+    (subst (λ (vs : List Version). IsTrue (are_in_order (is_kept_at c.self.inside.dag) (arrival_at c.self.inside.dag) vs))
+    (sym (c.make_room.ensures.same k)) (c.self.invariant.versions k))
 
 pub returns-in-Ok-clause-added : goal.returns-in-Ok-clause-added
 returns-in-Ok-clause-added c = λ rs ks r stands id_is writes_is may.
-    added-to_both c.self.inside c.args.self.now c.self.view_is c.add.new.self c.add-in-Ok.new.self c.args.id c.args.writes.now c.args.parents.now c.in-Ok.slot c.in-Ok.ensures.slot c.add.ensures.keeps
-    (λ k. c.add-in-Ok.ensures.added k ∙ ap₂ (λ (vs : List Version) (ws : List KeyWrite). vs ++ version_by c.in-Ok.slot c.args.id (write_of k ws)) (c.make_room.ensures.same k) c.replace-moved.ensures.value)
+    added-to_both c.self.inside c.args.self.now c.self.view_is c.add.new.self c.add-in-Ok.new.self c.args.id c.args.writes.now c.args.parents.now
+    c.in-Ok.slot c.in-Ok.ensures.slot c.add.ensures.keeps
+    (λ k. c.add-in-Ok.ensures.added k ∙ ap₂ (λ (vs : List Version) (ws : List KeyWrite). vs ++ version_by c.in-Ok.slot c.args.id (write_of k ws))
+    (c.make_room.ensures.same k) c.replace-moved.ensures.value)
     rs ks r stands id_is writes_is may (λ held allowed. c.in-Ok.ensures.added rs ks r held id_is allowed)

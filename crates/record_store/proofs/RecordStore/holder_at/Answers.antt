@@ -14,7 +14,8 @@ holder-requires-clause-kept c = slot-is_kept_at c.self.inside c.args.self.now c.
 pub returns-clause-slot : goal.returns-clause-slot
 returns-clause-slot c =
     subst (λ (s : Store). IfSome c.holder.result (λ h. IsTrue (is_slot s.table h))) c.self.view_is
-    (subst (λ o. IfSome o (λ h. IsTrue (is_slot c.self.inside.dag h))) (sym c.holder.ensures) (holder-is_slot c.self.inside.dag c.args.slot (versions_of c.self.inside.versions c.args.key.now)))
+    (subst (λ o. IfSome o (λ h. IsTrue (is_slot c.self.inside.dag h))) (sym c.holder.ensures)
+    (holder-is_slot c.self.inside.dag c.args.slot (versions_of c.self.inside.versions c.args.key.now)))
 
 pub returns-clause-holder : goal.returns-clause-holder
 returns-clause-holder c = λ rs ks stands x named.

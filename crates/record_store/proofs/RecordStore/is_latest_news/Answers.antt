@@ -14,8 +14,10 @@ returns-in-Some c = λ rs ks stands x y from_is child_is.
     (subst (λ (s : Store). id_at s.table c.in-Some.holder ≡ Some named.0) (sym c.self.view_is) named.1)
     (subst (λ (s : Store). id_at s.table c.args.from ≡ Some x) (sym c.self.view_is) from_is) in
     ap not above
-    ∙ holder-is_news now rs ks stands c.args.from c.args.child x y from_is child_is c.args.key.now (Some named.0) (sym named.1 ∙ c.in-Some.ensures.holder rs ks stands y child_is)
+    ∙ holder-is_news now rs ks stands c.args.from c.args.child x y from_is child_is c.args.key.now (Some named.0)
+    (sym named.1 ∙ c.in-Some.ensures.holder rs ks stands y child_is)
 
 pub returns-in-None : goal.returns-in-None
 returns-in-None c = λ rs ks stands x y from_is child_is.
-    holder-is_news c.args.self.now rs ks stands c.args.from c.args.child x y from_is child_is c.args.key.now None (c.in-None.ensures.holder rs ks stands y child_is)
+    holder-is_news c.args.self.now rs ks stands c.args.from c.args.child x y from_is child_is c.args.key.now None
+    (c.in-None.ensures.holder rs ks stands y child_is)

@@ -13,7 +13,12 @@ one-in_order (e ∷ []) x is = refl
 one-in_order (e ∷ f ∷ es) x is = absurd (let bad : ⊥ = cc in bad)
 
 pub invariant_of-result : goal.invariant_of-result
-invariant_of-result c = record { in_order = one-in_order c.in_ok-new.field-0.entries _ c.in_ok-new.ensures.stands.ids; versions = λ k. subst (λ vs. IsTrue (are_in_order (is_kept_at c.in_ok-new.field-0) (arrival_at c.in_ok-new.field-0) vs)) (sym (c.new-2.ensures.empty k)) refl; noted = λ s kept arrived. absurd (let first = first-arrived c.in_ok-new.field-0 c.in_ok-new.ensures.stands s in omega arith) }
+invariant_of-result c = record {
+  in_order = one-in_order c.in_ok-new.field-0.entries _ c.in_ok-new.ensures.stands.ids;
+  versions =
+      λ k. subst (λ vs. IsTrue (are_in_order (is_kept_at c.in_ok-new.field-0) (arrival_at c.in_ok-new.field-0) vs)) (sym (c.new-2.ensures.empty k)) refl;
+  noted = λ s kept arrived. absurd (let first = first-arrived c.in_ok-new.field-0 c.in_ok-new.ensures.stands s in omega arith);
+}
 
 pub returns-clause-stands : goal.returns-clause-stands
 returns-clause-stands c = record { table = c.in_ok-new.ensures.stands; versions = λ k. ap (map (shown_version c.in_ok-new.field-0)) (c.new-2.ensures.empty k) }

@@ -8,5 +8,6 @@ loop-place-preserved c =
     let within : c.loop-place.place < length c.loop-place.slots = omega (arith, c.loop-place.invariant.room, c.requires.few, c.loop-place-test.true) in
     record {
       room = length-set c.loop-place.slots c.loop-place.place c.in-Some.slot ∙ c.loop-place.invariant.room;
-      slots = slots-step (id_at c.self.inside.dag) c.loop-place.slots c.args.states.now c.loop-place.place c.in-Some.slot _ within c.loop-place-test.true c.in-Some.ensures.found c.loop-place.invariant.slots;
+      slots = slots-step (id_at c.self.inside.dag) c.loop-place.slots c.args.states.now c.loop-place.place c.in-Some.slot _ within c.loop-place-test.true
+          c.in-Some.ensures.found c.loop-place.invariant.slots;
     }

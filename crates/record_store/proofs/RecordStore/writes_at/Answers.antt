@@ -16,14 +16,16 @@ loop-chunk-preserved c =
     let before = c.loop-chunk.invariant in
     let done = before.done in
     let rest = c.next.new.self in
-    let seam : done ++ c.loop-chunk.chunk-iterator ≡ (done ++ chunk ∷ []) ++ rest = ap (λ (cs : Chunks). done ++ cs) c.in-Some.ensures.steps ∙ sym (append_assoc done (chunk ∷ []) rest) in
+    let seam : done ++ c.loop-chunk.chunk-iterator ≡ (done ++ chunk ∷ []) ++ rest = ap (λ (cs : Chunks). done ++ cs) c.in-Some.ensures.steps
+    ∙ sym (append_assoc done (chunk ∷ []) rest) in
     record {
       done = done ++ chunk ∷ [];
       all = λ k. sym (ap (is_key_in k) seam) ∙ before.all k;
       ascending = c.in_ok-add_reads.ensures.ascending before.ascending;
       reads = λ rs ks stands x named k.
           c.in_ok-add_reads.ensures.reads rs ks stands x named (λ j. is_key_in j done) (before.reads rs ks stands x named) k
-          ∙ ap (λ b. if b then read_write rs x k else None) (ap (λ (js : List (List ℕ)). is_key_in k done || is_key_among k js) c.as_slice.ensures ∙ sym (chunk-more done chunk k));
+          ∙ ap (λ b. if b then read_write rs x k else None) (ap (λ (js : List (List ℕ)). is_key_in k done || is_key_among k js) c.as_slice.ensures
+          ∙ sym (chunk-more done chunk k));
     }
 
 pub returns : goal.returns
@@ -33,4 +35,5 @@ returns c = λ rs ks stands x named alone r is.
     let whole : done ≡ done ++ c.loop-chunk.chunk-iterator = sym (append-nil done) ∙ ap (λ (cs : Chunks). done ++ cs) (sym c.in-None.ensures.steps.0) in
     writes-are (seen c.self.inside) rs ks (seen-stands c.self.inside c.args.self.now c.self.view_is rs ks stands) c.self.invariant.in_order c.args.slot x
     (subst (λ (s : Store). id_at s.table c.args.slot ≡ Some x) (sym c.self.view_is) named) alone r is (λ k. is_key_in k done) c.loop-chunk.writes
-    (λ k. ap (is_key_in k) whole ∙ before.all k ∙ ap (λ (s : Store). has_version_at c.args.slot (versions_of s.versions k)) (sym c.self.view_is)) before.ascending (before.reads rs ks stands x named)
+    (λ k. ap (is_key_in k) whole ∙ before.all k ∙ ap (λ (s : Store). has_version_at c.args.slot (versions_of s.versions k)) (sym c.self.view_is))
+    before.ascending (before.reads rs ks stands x named)

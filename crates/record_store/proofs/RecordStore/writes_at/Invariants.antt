@@ -13,5 +13,6 @@ invariant-loop-chunk l = record {
   done : Chunks;
   all : (k : List ℕ) → is_key_in k (done ++ l.chunk-iterator) ≡ has_version_at l.slot (versions_of l.self.versions k);
   ascending : IsTrue (are_ascending_keys (keys_of l.writes));
-  reads : (rs : List Record) (ks : List StateId) → StoreStands l.self rs ks → (x : StateId) → id_at l.self.table l.slot ≡ Some x → HasReads (read_write rs x) (λ k. is_key_in k done) l.writes;
+  reads : (rs : List Record) (ks : List StateId) → StoreStands l.self rs ks → (x : StateId) → id_at l.self.table l.slot ≡ Some x →
+      HasReads (read_write rs x) (λ k. is_key_in k done) l.writes;
 }

@@ -4,4 +4,5 @@ use Rattle.std.proofs.Common.{arith}
 use Rattle.rule_list.proofs.reading.count_of.Goals as goal
 
 pub returns : goal.returns
-returns c = count_from_yields_List _ _ c.count.ensures.ran (YieldsList-from_str_split 44 c.args.text.now (omega arith) c.split.ensures.text c.split.ensures.has_more c.split.ensures.pattern)
+returns c = count_from_yields_List _ _ c.count.ensures.ran (YieldsList-from_str_split 44 c.args.text.now (omega arith) c.split.ensures.text
+    c.split.ensures.has_more c.split.ensures.pattern)

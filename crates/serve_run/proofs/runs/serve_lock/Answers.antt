@@ -15,8 +15,10 @@ returns-clause-served g c =
       trail = c.close-trailed.result.trail;
       taken = b.taken;
       asked = b.asked;
-      each = subst (λ t. AreServed g.G.Link.Duplex.left g.G.Link.Sink.given g.G.Link.Duplex.take_faults g.G.Link.Sink.faults g.M.Machine.plain (g.M.Machine.opening z.machine) z.max_trail 0 t 1 b.taken) (sym seen) b.each;
-      rounds = subst (λ t. MakesRounds g.M.Machine.opening g.M.Machine.plain g.D.Link.Duplex.left g.D.Link.Sink.given g.D.Link.Duplex.take_faults g.D.Link.Sink.faults g.D.Dial.told g.D.Dial.faults z
+      each = subst (λ t. AreServed g.G.Link.Duplex.left g.G.Link.Sink.given g.G.Link.Duplex.take_faults g.G.Link.Sink.faults g.M.Machine.plain
+          (g.M.Machine.opening z.machine) z.max_trail 0 t 1 b.taken) (sym seen) b.each;
+      rounds = subst (λ t. MakesRounds g.M.Machine.opening g.M.Machine.plain g.D.Link.Duplex.left g.D.Link.Sink.given g.D.Link.Duplex.take_faults
+          g.D.Link.Sink.faults g.D.Dial.told g.D.Dial.faults z
           (workload c.args.options) t b.asked c.args.dial.now c.serve_beside_rounds-pass.new.dial c.serve_beside_rounds-pass.result.2) (sym seen) b.rounds;
       whole = sym b.owned ∙ c.close-trailed.ensures.owned;
       told = b.told_links;

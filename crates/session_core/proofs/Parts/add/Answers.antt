@@ -17,8 +17,10 @@ pub commit-requires-clause-slots : goal.commit-requires-clause-slots
 commit-requires-clause-slots c =
     let table = c.self.inside.store.table in
     let ps = c.args.rec.parents in
-    let named = subst (λ (xs : List StateId). map (id_at table) (take (length xs) c.slots_of-slots.result) ≡ map (λ x. Some x) xs) c.as_slice.ensures c.slots_of-slots.ensures in
-    subst (λ n. IsTrue (list_all (is_slot table) (take n c.slots_of-slots.result))) (sym c.len.ensures) (named-are_slots table (take (length ps) c.slots_of-slots.result) ps named)
+    let named = subst (λ (xs : List StateId). map (id_at table) (take (length xs) c.slots_of-slots.result) ≡ map (λ x. Some x) xs) c.as_slice.ensures
+    c.slots_of-slots.ensures in
+    subst (λ n. IsTrue (list_all (is_slot table) (take n c.slots_of-slots.result))) (sym c.len.ensures)
+    (named-are_slots table (take (length ps) c.slots_of-slots.result) ps named)
 
 pub invariant_of-self-2 : goal.invariant_of-self-2
 invariant_of-self-2 c = grown-parts c.self.inside c.commit.new.self c.self.invariant c.commit.ensures.keeps c.commit.ensures.limits
@@ -30,11 +32,13 @@ returns-in_err-commit c = λ site stands sound fit.
     let table = core.store.table in
     let r = c.args.rec in
     let below = take c.len.result c.slots_of-slots.result in
-    let told = subst (λ (xs : List StateId). map (id_at table) (take (length xs) c.slots_of-slots.result) ≡ map (λ x. Some x) xs) c.as_slice.ensures c.slots_of-slots.ensures in
+    let told = subst (λ (xs : List StateId). map (id_at table) (take (length xs) c.slots_of-slots.result) ≡ map (λ x. Some x) xs) c.as_slice.ensures
+    c.slots_of-slots.ensures in
     let named = subst (λ n. map (id_at table) (take n c.slots_of-slots.result) ≡ map (λ x. Some x) r.parents) (sym c.len.ensures) told in
     let may = fit-may-be-added core site r below here (fit-arrives site r sound c.requires.valid fit) named in
     let added = c.in_err-commit.ensures.added site.dag site.collected r here.store refl refl may in
-    stopped (CoreStands (record core { store = c.commit.new.self })) (unless site (growth_refusals site r) (with_record r site, Applied)) site (add_stop c.in_err-commit.field-0.0) c.from_residual.result c.from_residual.ensures.1
+    stopped (CoreStands (record core { store = c.commit.new.self })) (unless site (growth_refusals site r) (with_record r site, Applied)) site
+    (add_stop c.in_err-commit.field-0.0) c.from_residual.result c.from_residual.ensures.1
     (growth-stops core site r c.commit.new.self here (with_record r site, Applied) c.in_err-commit.field-0.0 added c.in_err-commit.ensures.same.table)
 
 pub returns : goal.returns
@@ -44,10 +48,12 @@ returns c = λ site stands sound fit.
     let table = core.store.table in
     let r = c.args.rec in
     let below = take c.len.result c.slots_of-slots.result in
-    let told = subst (λ (xs : List StateId). map (id_at table) (take (length xs) c.slots_of-slots.result) ≡ map (λ x. Some x) xs) c.as_slice.ensures c.slots_of-slots.ensures in
+    let told = subst (λ (xs : List StateId). map (id_at table) (take (length xs) c.slots_of-slots.result) ≡ map (λ x. Some x) xs) c.as_slice.ensures
+    c.slots_of-slots.ensures in
     let named = subst (λ n. map (id_at table) (take n c.slots_of-slots.result) ≡ map (λ x. Some x) r.parents) (sym c.len.ensures) told in
     let may = fit-may-be-added core site r below here (fit-arrives site r sound c.requires.valid fit) named in
     let added = c.in_ok-commit.ensures.added site.dag site.collected r here.store refl refl may in
-    as-given (CoreStands (record core { store = c.commit.new.self })) (unless site (growth_refusals site r) (with_record r site, Applied)) (with_record r site, Applied) Applied
+    as-given (CoreStands (record core { store = c.commit.new.self })) (unless site (growth_refusals site r) (with_record r site, Applied))
+    (with_record r site, Applied) Applied
     (growth-free core site r c.commit.new.self here (with_record r site, Applied) c.in_ok-commit.field-0 added)
     (grown-site core site r c.commit.new.self here added.1 c.commit.ensures.keeps c.commit.ensures.limits, refl)

@@ -21,8 +21,10 @@ returns-clause-chosen c = λ site stands sound s is.
     let same = c.last.ensures.state s entry in
     let known = subst (λ x. IsTrue (is_known site.dag x)) (sym same) (open-session site c.args.actor s sound is).0.last in
     let chosen =
-    c.choose.ensures.chosen site.dag site.collected stands_table s.ceiling (c.ceiling-ceiling.ensures.ceiling table site.dag site.collected placed s entry) known
+    c.choose.ensures.chosen site.dag site.collected stands_table s.ceiling (c.ceiling-ceiling.ensures.ceiling table site.dag site.collected placed s entry)
+    known
     (c.last.ensures.stand_in table site.dag site.collected placed s entry ∙ ap (λ x. Some (stand_in site.dag site.collected x)) (sym same))
     (collected-above site c.args.actor s sound is) in
     subst (λ x. ChosenAs c.args.self.now.store.table site.dag s.ceiling (begin_state site.dag x c.args.begin.now) c.choose.result) same
-    (subst (λ t. ChosenAs t site.dag s.ceiling (begin_state site.dag c.last.result.0 c.args.begin.now) c.choose.result) (c.dag.ensures ∙ ap (λ v. v.store.table) c.self.view_is) chosen)
+    (subst (λ t. ChosenAs t site.dag s.ceiling (begin_state site.dag c.last.result.0 c.args.begin.now) c.choose.result)
+    (c.dag.ensures ∙ ap (λ v. v.store.table) c.self.view_is) chosen)

@@ -9,7 +9,8 @@ use Rattle.session_core.proofs.Parts.close.Goals as goal
 pub invariant_of-self : goal.invariant_of-self
 invariant_of-self c =
     ended-held (record c.self.inside { book = c.close_session.new.self })
-    (sessions-held c.self.inside c.self.invariant c.close_session.new.self c.close_session.ensures.rest (c.close_session.ensures.slots c.self.inside.store.table)) c.args.actor c.end.new.self c.end.ensures
+    (sessions-held c.self.inside c.self.invariant c.close_session.new.self c.close_session.ensures.rest
+    (c.close_session.ensures.slots c.self.inside.store.table)) c.args.actor c.end.new.self c.end.ensures
 
 pub returns-clause-given : goal.returns-clause-given
 returns-clause-given c = λ site stands sound.

@@ -24,7 +24,8 @@ returns-in_ok-below-in-Merge c = λ site stands sound.
     let has = subst (HasTxn table site n) c.in-Merge.is (c.in_ok-merge.ensures.stands site stands sound) in
     let may = c.in_ok-below-in-Merge.ensures.may site stands has.named in
     let named = ap (map (id_at table)) (c.as_slice.ensures ∙ c.in_ok-below-in-Merge.ensures.slots) ∙ has.named in
-    as-done commit_reply (CoreStands c.commit_below.new.self) (with_txn site n (λ s u. commit site n u c.args.flags c.args.k)) (commit_below site n m.states m.writes []) site c.commit_below.result
+    as-done commit_reply (CoreStands c.commit_below.new.self) (with_txn site n (λ s u. commit site n u c.args.flags c.args.k))
+    (commit_below site n m.states m.writes []) site c.commit_below.result
     (has-answer table site n (KeptMerge m) has (λ u. commit site n u c.args.flags c.args.k) ∙ merges-below site n t c.args.flags may.0 may.1)
     (c.commit_below.ensures site stands (Merge t) m.states has.found named (merge-arrives site sound n t has.found may.1))
 
@@ -38,6 +39,7 @@ returns-else-is_empty c = λ site stands sound.
     let some = sym c.is_empty.ensures ∙ c.if-is_empty.false in
     let x = landing site.dag (guarded c.args.flags t.reads (keys_of t.writes)) t.state in
     let lands = c.landing-landing.ensures.landing site stands has.named (below-is-kept site sound n t has.found) in
-    as-done commit_reply (CoreStands c.commit_at.new.self) (with_txn site n (λ s u. commit site n u c.args.flags c.args.k)) (commit_at site n t c.args.flags c.args.k x) site c.commit_at.result
+    as-done commit_reply (CoreStands c.commit_at.new.self) (with_txn site n (λ s u. commit site n u c.args.flags c.args.k))
+    (commit_at site n t c.args.flags c.args.k x) site c.commit_at.result
     (has-answer table site n (KeptSingle one) has (λ u. commit site n u c.args.flags c.args.k) ∙ writes-too site n t c.args.flags c.args.k some)
     (c.commit_at.ensures site stands sound t x has.found lands (may-arrive site sound n t has.found c.args.flags))

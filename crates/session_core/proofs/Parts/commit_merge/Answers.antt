@@ -13,6 +13,7 @@ returns c = λ site stands sound xs named may.
     let core = c.args.self.now in
     let n = c.args.actor in
     let s = open-session core site stands n c.in_ok-no_txn.ensures.open in
-    as-answer (CoreStands c.commit_written.new.self) (merge_in_one site n xs c.args.writes) (commit_below site n xs c.args.writes []) site c.commit_written.result
+    as-answer (CoreStands c.commit_written.new.self) (merge_in_one site n xs c.args.writes) (commit_below site n xs c.args.writes []) site
+    c.commit_written.result
     (no-txn-answer site n (λ s. commit_below site n xs c.args.writes []) s.value s.is (none-kept core site stands n c.in_ok-no_txn.ensures.none))
     (c.commit_written.ensures site stands xs named (joined-arrives site sound xs c.args.writes (joins site xs c.args.writes may)))

@@ -15,12 +15,14 @@ use Rattle.session_core.proofs.Parts.commit_written.Goals as goal
 
 pub committed-requires-clause-slots : goal.committed-requires-clause-slots
 committed-requires-clause-slots c =
-    subst (λ t. AreSlots c.self.inside.book t) (sym c.dag-in-Ok.ensures) (slots-grow c.self.inside.book c.self.inside.store.table c.commit.new.self.table c.commit.ensures.keeps c.self.invariant.places)
+    subst (λ t. AreSlots c.self.inside.book t) (sym c.dag-in-Ok.ensures)
+    (slots-grow c.self.inside.book c.self.inside.store.table c.commit.new.self.table c.commit.ensures.keeps c.self.invariant.places)
 
 pub invariant_of-self : goal.invariant_of-self
 invariant_of-self c =
     let none = subst (λ v. entry_of c.args.actor v.txns ≡ None) (sym c.self.view_is) c.requires.none in
-    grown-held c.self.inside c.commit.new.self c.committed.new.self c.args.actor c.self.inside.txns c.self.invariant c.commit.ensures.keeps c.commit.ensures.limits c.committed.ensures.rest
+    grown-held c.self.inside c.commit.new.self c.committed.new.self c.args.actor c.self.inside.txns c.self.invariant c.commit.ensures.keeps
+    c.commit.ensures.limits c.committed.ensures.rest
     (subst (λ t. AreSlots c.committed.new.self t) c.dag-in-Ok.ensures c.committed.ensures.slots) (without-none c.args.actor c.self.inside.txns none)
 
 pub invariant_of-self-in-Err-1 : goal.invariant_of-self-in-Err-1
@@ -34,7 +36,8 @@ returns-in-Err c = λ site stands xs named_now arrives.
     let ws = c.args.writes in
     let named = subst (λ v. map (id_at v.store.table) c.args.below.now ≡ map (λ x. Some x) xs) (sym c.self.view_is) named_now in
     let may =
-    may-commit core site here c.dag.result.now c.dag.ensures c.own_site-own.result c.count-count.result c.own_site-own.ensures.is c.count-count.ensures.count c.if-count.false c.args.below.now xs ws named arrives in
+    may-commit core site here c.dag.result.now c.dag.ensures c.own_site-own.result c.count-count.result c.own_site-own.ensures.is
+    c.count-count.ensures.count c.if-count.false c.args.below.now xs ws named arrives in
     let r = next_record site xs ws in
     let added = c.in-Err.ensures.added site.dag site.collected r here.store (sym may.named) refl may.added in
     let stops = commit-stops core site here n xs ws c.commit.new.self c.in-Err.fault may.more added c.in-Err.ensures.same.table in
@@ -49,16 +52,20 @@ returns-in-Ok c = λ site stands xs named_now arrives.
     let none = subst (λ v. entry_of n v.txns ≡ None) (sym c.self.view_is) c.requires.none in
     let named = subst (λ v. map (id_at v.store.table) c.args.below.now ≡ map (λ x. Some x) xs) (sym c.self.view_is) named_now in
     let may =
-    may-commit core site here c.dag.result.now c.dag.ensures c.own_site-own.result c.count-count.result c.own_site-own.ensures.is c.count-count.ensures.count c.if-count.false c.args.below.now xs ws named arrives in
+    may-commit core site here c.dag.result.now c.dag.ensures c.own_site-own.result c.count-count.result c.own_site-own.ensures.is
+    c.count-count.ensures.count c.if-count.false c.args.below.now xs ws named arrives in
     let r = next_record site xs ws in
     let added = c.in-Ok.ensures.added site.dag site.collected r here.store (sym may.named) refl may.added in
     let stands_new = subst (λ z. Stands z (r ∷ site.dag) site.collected) (sym c.dag-in-Ok.ensures) added.1.table in
     let placed =
     subst (λ z. ArePlaced c.self.inside.book z (r ∷ site.dag) site.collected) (sym c.dag-in-Ok.ensures)
-    (placed-grow c.self.inside.book c.self.inside.store.table c.commit.new.self.table site.dag site.collected r here.store.table c.commit.ensures.keeps here.placed) in
+    (placed-grow c.self.inside.book c.self.inside.store.table c.commit.new.self.table site.dag site.collected r here.store.table c.commit.ensures.keeps
+    here.placed) in
     let named_new = subst (λ z. id_at z c.in-Ok.slot ≡ Some r.id) (sym c.dag-in-Ok.ensures) (c.in-Ok.ensures.slot.1 ∙ ap (λ y. Some y) may.named) in
-    commit-gives core site here n xs ws c.commit.new.self c.committed.new.self c.self.inside.txns (record { site = c.own_site-own.result; sequence = c.count-count.result + 1 }) c.in_ok-parents.parents may.more may.named
+    commit-gives core site here n xs ws c.commit.new.self c.committed.new.self c.self.inside.txns
+    (record { site = c.own_site-own.result; sequence = c.count-count.result + 1 }) c.in_ok-parents.parents may.more may.named
     (told-parents c.dag-2.result.now c.self.inside.store.table c.dag-2.ensures c.args.below.now xs c.in_ok-parents.parents c.in_ok-parents.ensures named)
     added c.commit.ensures.keeps c.commit.ensures.limits c.committed.ensures.rest
     (c.committed.ensures.sessions (r ∷ site.dag) site.collected stands_new placed r.id named_new)
-    (subst (λ z. ArePlaced c.committed.new.self z (r ∷ site.dag) site.collected) c.dag-in-Ok.ensures (c.committed.ensures.placed (r ∷ site.dag) site.collected stands_new placed)) (without-none n c.self.inside.txns none)
+    (subst (λ z. ArePlaced c.committed.new.self z (r ∷ site.dag) site.collected) c.dag-in-Ok.ensures
+    (c.committed.ensures.placed (r ∷ site.dag) site.collected stands_new placed)) (without-none n c.self.inside.txns none)

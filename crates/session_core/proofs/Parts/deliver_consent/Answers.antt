@@ -23,7 +23,10 @@ returns c = λ site stands sound.
     let before = subst (λ t. ArePlaced core.book t site.dag site.collected) (sym c.dag.ensures) here.placed in
     let placed = subst (λ t. ArePlaced book t site.dag site.collected) c.dag.ensures (c.take_consent.ensures.placed site.dag site.collected table before) in
     let told = c.take_consent.ensures.judged site.dag site.collected table before
-    (subst (λ (fs : List Floor). (x : StateId) → IsTrue (is_among x site.collected) → IsTrue (is_closed site.dag fs x)) (sym here.floors) sound.collected.closed) in
+    (subst (λ (fs : List Floor). (x : StateId) → IsTrue (is_among x site.collected) → IsTrue (is_closed site.dag fs x))
+    (sym here.floors) sound.collected.closed) in
     let is = told ∙ ap₂ (λ (fs : List Floor) own. consent_end site.dag fs own promise) here.floors here.own in
-    subst (λ r. GivesOrStops (CoreStands (record core { book = book })) (deliver_consent site promise) site r) (sym (c.consent_reply.ensures ∙ ap consent_reply is))
-    (consent-gives core book site promise here sound.one_floor_each c.take_consent.ensures.rest placed (subst (TakenIn core.book book promise) is c.take_consent.ensures.taken))
+    subst (λ r. GivesOrStops (CoreStands (record core { book = book })) (deliver_consent site promise) site r)
+    (sym (c.consent_reply.ensures ∙ ap consent_reply is))
+    (consent-gives core book site promise here sound.one_floor_each c.take_consent.ensures.rest placed
+    (subst (TakenIn core.book book promise) is c.take_consent.ensures.taken))

@@ -23,7 +23,8 @@ returns-in-Fit c = λ site stands sound.
 pub invariant_of-self : goal.invariant_of-self
 invariant_of-self c =
     room-held c.self.inside c.hold.new.self c.self.invariant
-    (subst (λ (room : List Record). IsTrue (list_all is_record room)) (sym c.hold.ensures.held) (held-valid c.args.rec c.self.inside.waiting c.requires c.self.invariant.room))
+    (subst (λ (room : List Record). IsTrue (list_all is_record room)) (sym c.hold.ensures.held)
+    (held-valid c.args.rec c.self.inside.waiting c.requires c.self.invariant.room))
 
 pub returns-in-Known : goal.returns-in-Known
 returns-in-Known c = λ site stands sound.
@@ -37,7 +38,8 @@ returns-in-Early c = λ site stands sound.
     let r = c.args.rec in
     let have = c.in-Early.have in
     let told = sym (c.in_ok-judge.ensures.judged site stands sound) ∙ ap reply_of c.in-Early.is in
-    as-given (CoreStands (record core { waiting = c.hold.new.self })) (deliver_record site r) (with_held r site, Early have) (Early have) (delivered-early site r have told)
+    as-given (CoreStands (record core { waiting = c.hold.new.self })) (deliver_record site r) (with_held r site, Early have) (Early have)
+    (delivered-early site r have told)
     (early-held core site r c.hold.new.self here c.hold.ensures.held, refl)
 
 pub returns-in-Refused : goal.returns-in-Refused

@@ -29,4 +29,5 @@ loop-place-preserved c = λ site stands sound.
     let r = c.at.result.now in
     let there = sym (ap (λ (room : List Record). slice_get room place) here.waiting) ∙ c.at.ensures in
     let unfit = judged-unfit site r c.in_ok-judge.field-0 c.in_default.not-Fit (c.in_ok-judge.ensures.judged site stands sound) in
-    subst (λ n. ◌≡◌ {A = Option (ℕ × Record)} (first_fit (is_fit site) (take n site.waiting)) None) next (none-further (is_fit site) place site.waiting r (c.loop-place.invariant site stands sound) there unfit)
+    subst (λ n. ◌≡◌ {A = Option (ℕ × Record)} (first_fit (is_fit site) (take n site.waiting)) None) next
+    (none-further (is_fit site) place site.waiting r (c.loop-place.invariant site stands sound) there unfit)

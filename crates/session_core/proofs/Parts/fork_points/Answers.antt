@@ -21,6 +21,7 @@ returns c = λ site stands sound.
     let here = subst (λ d. Stands d site.dag site.collected) (sym table) stands.store.table in
     let named = subst (λ d. map (id_at d) t.slots ≡ map (λ x. Some x) t.states) (sym table) has.named in
     let is = c.in_ok-page.ensures site.dag site.collected here t.states (ap (map (id_at c.dag.result.now)) c.as_slice.ensures ∙ named) in
-    as-given (CoreStands c.args.self.now) (with_txn site c.args.actor (λ s u. fork_points_of site u)) (site, page_of_states (fork_points site.dag t.states)) (States page.total page.first)
+    as-given (CoreStands c.args.self.now) (with_txn site c.args.actor (λ s u. fork_points_of site u))
+    (site, page_of_states (fork_points site.dag t.states)) (States page.total page.first)
     (has-answer c.args.self.now.store.table site c.args.actor (KeptMerge t) has (fork_points_of site))
     (stands, ap₂ (λ (n : ℕ) (xs : List StateId). States n xs) is.0 is.1)

@@ -17,7 +17,8 @@ give_found-requires-clause-valid c =
     (reply-told core n (Get k) c.requires.key c.requires.stands (found (found_write c.own_write.result))
     (λ site stands sound.
     let has = subst (HasTxn core.store.table site n) c.in-Single.is (c.in_ok-single.ensures.stands site stands sound) in
-    ap (λ (a : Answer). a.1) (single-own core.store.table site n k one has c.in-Some.write.now (sym c.in-Some.ensures)) ∙ ap found (sym c.own_write.ensures))).valid
+    ap (λ (a : Answer). a.1) (single-own core.store.table site n k one has c.in-Some.write.now (sym c.in-Some.ensures))
+    ∙ ap found (sym c.own_write.ensures))).valid
 
 pub give_found-requires-clause-short : goal.give_found-requires-clause-short
 give_found-requires-clause-short c =
@@ -28,7 +29,8 @@ give_found-requires-clause-short c =
     (reply-told core n (Get k) c.requires.key c.requires.stands (found (found_write c.own_write.result))
     (λ site stands sound.
     let has = subst (HasTxn core.store.table site n) c.in-Single.is (c.in_ok-single.ensures.stands site stands sound) in
-    ap (λ (a : Answer). a.1) (single-own core.store.table site n k one has c.in-Some.write.now (sym c.in-Some.ensures)) ∙ ap found (sym c.own_write.ensures))).short
+    ap (λ (a : Answer). a.1) (single-own core.store.table site n k one has c.in-Some.write.now (sym c.in-Some.ensures))
+    ∙ ap found (sym c.own_write.ensures))).short
 
 pub unreachable-requires : goal.unreachable-requires
 unreachable-requires c =

@@ -40,9 +40,11 @@ returns-in-Known-clause-judged c = λ site stands sound.
 pub returns-in-Early-clause-judged : goal.returns-in-Early-clause-judged
 returns-in-Early-clause-judged c = λ site stands sound.
     let here = subst (λ v. CoreStands v site) (sym c.self.view_is) stands in
-    sym (within-six site c.args.rec.now (IsEarly c.in-Early.have) (sym (c.in-Early.ensures.judged site here.store (book-stands (seen c.self.inside) site here sound))))
+    sym (within-six site c.args.rec.now (IsEarly c.in-Early.have)
+    (sym (c.in-Early.ensures.judged site here.store (book-stands (seen c.self.inside) site here sound))))
 
 pub returns-in-Refused-clause-judged : goal.returns-in-Refused-clause-judged
 returns-in-Refused-clause-judged c = λ site stands sound.
     let here = subst (λ v. CoreStands v site) (sym c.self.view_is) stands in
-    sym (within-six site c.args.rec.now (IsRefused c.in-Refused.refusal) (sym (c.in-Refused.ensures.judged site here.store (book-stands (seen c.self.inside) site here sound))))
+    sym (within-six site c.args.rec.now (IsRefused c.in-Refused.refusal)
+    (sym (c.in-Refused.ensures.judged site here.store (book-stands (seen c.self.inside) site here sound))))

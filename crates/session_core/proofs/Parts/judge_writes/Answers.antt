@@ -9,5 +9,7 @@ pub open_conflict-requires : goal.open_conflict-requires
 open_conflict-requires c =
     let table = c.self.inside.store.table in
     let ps = c.args.rec.now.parents in
-    let named = subst (λ (xs : List StateId). map (id_at table) (take (length xs) c.slots_of-slots.result) ≡ map (λ x. Some x) xs) c.as_slice.ensures c.slots_of-slots.ensures in
-    subst (λ n. IsTrue (list_all (is_slot table) (take n c.slots_of-slots.result))) (sym c.len.ensures) (named-are_slots table (take (length ps) c.slots_of-slots.result) ps named)
+    let named = subst (λ (xs : List StateId). map (id_at table) (take (length xs) c.slots_of-slots.result) ≡ map (λ x. Some x) xs) c.as_slice.ensures
+    c.slots_of-slots.ensures in
+    subst (λ n. IsTrue (list_all (is_slot table) (take n c.slots_of-slots.result))) (sym c.len.ensures)
+    (named-are_slots table (take (length ps) c.slots_of-slots.result) ps named)

@@ -14,7 +14,8 @@ pub invariant_of-self-2 : goal.invariant_of-self-2
 invariant_of-self-2 c =
     let slots = subst (λ t. IsTrue (list_all (is_slot t) c.in_ok-slots.slots.items)) c.dag-dag.ensures c.in_ok-slots.ensures.slots in
     begun-held c.self.inside c.self.invariant c.args.actor c.merge-txn.result c.begin.new.self
-    (subst (λ t. IsTrue (has_slots c.self.inside.store.table t)) (sym c.merge-txn.ensures) (subst (λ ss. IsTrue (list_all (is_slot c.self.inside.store.table) ss)) (sym c.from_vec.ensures) slots)) c.in_ok-begin.ensures.begun
+    (subst (λ t. IsTrue (has_slots c.self.inside.store.table t)) (sym c.merge-txn.ensures)
+    (subst (λ ss. IsTrue (list_all (is_slot c.self.inside.store.table) ss)) (sym c.from_vec.ensures) slots)) c.in_ok-begin.ensures.begun
 
 pub returns : goal.returns
 returns c = λ site stands xs e.

@@ -12,7 +12,8 @@ returns c = λ site stands sound s is.
     let xs = leaves site.dag in
     let table = c.dag.ensures ∙ ap (λ v. v.store.table) c.self.view_is in
     let table_too = c.dag-dag.ensures ∙ ap (λ v. v.store.table) c.self.view_is in
-    let count : c.leaves-count.result ≡ length xs = c.leaves-count.ensures site.dag site.collected (subst (λ t. Stands t site.dag site.collected) (sym table) stands.store.table) in
+    let count : c.leaves-count.result ≡ length xs = c.leaves-count.ensures site.dag site.collected
+    (subst (λ t. Stands t site.dag site.collected) (sym table) stands.store.table) in
     let named = c.leaf_slots.ensures.leaves site.dag site.collected (subst (λ t. Stands t site.dag site.collected) (sym table_too) stands.store.table) in
     let few : length xs ≤ 8 = omega (arith, count, c.if-count-gt-MOST_STATES.false) in
     let all = c.as_slice.ensures ∙ states-told c.in_ok-leaves.leaves xs (sym c.in_ok-leaves.ensures ∙ named) in

@@ -34,7 +34,8 @@ returns c =
         floors = c.in_ok-book.ensures.floors;
         placed = c.in_ok-book.ensures.placed store.table (root_record ∷ []) [] c.in_ok-store.ensures.stands.table
             (subst (λ t. id_at t c.last-root.result ≡ Some the_root) c.dag.ensures
-            (c.last-root.ensures.last (root_record ∷ []) [] (subst (λ t. Stands t (root_record ∷ []) []) (sym c.dag.ensures) c.in_ok-store.ensures.stands.table)));
+            (c.last-root.ensures.last (root_record ∷ []) [] (subst (λ t. Stands t (root_record ∷ []) [])
+            (sym c.dag.ensures) c.in_ok-store.ensures.stands.table)));
         txns = none-kept c.new-txns.result c.new-txns.ensures;
         slots = none-held (λ n held. IsNamed store.table held) c.new-txns.result c.new-txns.ensures;
         waiting = c.in_ok-waiting.ensures;

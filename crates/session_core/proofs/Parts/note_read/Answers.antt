@@ -28,10 +28,12 @@ returns c = λ site stands sound t at_now none.
     elim c.match-note_read.branch [
       | in-Some-Ok w ↦
           subst (NotesOrStops new site n k t.state) (sym w.result-is)
-          (note-done core site here n k t at has none es w.in-Some-Ok.field-0-0 (subst (λ z. NotedAs core.txns es n k (Some z)) w.in-Some-Ok.field-0-is w.in-Some-Ok.ensures))
+          (note-done core site here n k t at has none es w.in-Some-Ok.field-0-0
+          (subst (λ z. NotedAs core.txns es n k (Some z)) w.in-Some-Ok.field-0-is w.in-Some-Ok.ensures))
       | in-Some-Err w ↦
           subst (NotesOrStops new site n k t.state) (sym w.result-is)
           (subst (Stops new (reading site n k) site) (sym w.from.ensures)
-          (note-stops core site here n k t at has none es w.in-Some-Err.fault (subst (λ z. NotedAs core.txns es n k (Some z)) w.in-Some-Err.field-0-is w.in-Some-Err.ensures)))
+          (note-stops core site here n k t at has none es w.in-Some-Err.fault
+          (subst (λ z. NotedAs core.txns es n k (Some z)) w.in-Some-Err.field-0-is w.in-Some-Err.ensures)))
       | in-None w ↦ absurd (note-there core site here n k t at has none es w.in-None.ensures)
     ]

@@ -8,4 +8,5 @@ use Rattle.session_core.proofs.Parts.open_txn.Goals as goal
 pub returns-in-Some-clause-stands : goal.returns-in-Some-clause-stands
 returns-in-Some-clause-stands c = λ site stands sound.
     let here = subst (λ v. CoreStands v site) (sym c.self.view_is) stands in
-    subst (λ v. HasTxn v.store.table site c.args.actor c.in-Some.txn.now) c.self.view_is (has-txn (seen c.self.inside) site here c.args.actor sound c.in-Some.txn.now (sym c.in-Some.ensures))
+    subst (λ v. HasTxn v.store.table site c.args.actor c.in-Some.txn.now) c.self.view_is
+    (has-txn (seen c.self.inside) site here c.args.actor sound c.in-Some.txn.now (sym c.in-Some.ensures))

@@ -21,7 +21,9 @@ returns-in-Some-Ok c = λ site stands sound.
 pub returns-in-Some-Err : goal.returns-in-Some-Err
 returns-in-Some-Err c = λ site stands sound.
     let here = subst (λ v. CoreStands v site) (sym c.self.view_is) stands in
-    let put = subst (λ z. PutAs c.self.inside.txns c.put.new.self c.args.actor c.args.key c.args.write (Some z)) c.in-Some-Err.field-0-is c.in-Some-Err.ensures in
+    let put = subst (λ z. PutAs c.self.inside.txns c.put.new.self c.args.actor c.args.key c.args.write (Some z)) c.in-Some-Err.field-0-is
+    c.in-Some-Err.ensures in
     let n = c.args.actor in
-    subst (Stops (CoreStands (record (seen c.self.inside) { txns = c.put.new.self })) (with_txn site n (λ s t. set_key site n t c.args.key c.args.write)) site) (sym c.from.ensures)
+    subst (Stops (CoreStands (record (seen c.self.inside) { txns = c.put.new.self })) (with_txn site n (λ s t. set_key site n t c.args.key c.args.write))
+    site) (sym c.from.ensures)
     (put-stops (seen c.self.inside) site here sound n c.args.key c.args.write c.put.new.self c.in-Some-Err.fault put)

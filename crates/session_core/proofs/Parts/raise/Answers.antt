@@ -26,7 +26,8 @@ returns-in-None-clause-given c = λ site stands sound.
     let table = subst (λ t. Stands t site.dag site.collected) (sym c.dag-dag.ensures) here.store.table in
     let known = sym (c.knows.ensures site.dag site.collected table) ∙ c.if-not-knows.false in
     let gone = c.in-None.ensures.none refl site.dag site.collected table in
-    let apart = gone-above site.dag sound.dag site.collected x (own_floor site).state known gone (λ y among. closed-above_own site y sound (sound.collected.closed y among)) in
+    let apart = gone-above site.dag sound.dag site.collected x (own_floor site).state known gone
+    (λ y among. closed-above_own site y sound (sound.collected.closed y among)) in
     let own = c.own_site.ensures.is ∙ here.own in
     let named = c.floor.ensures.floor core.store.table site.dag site.collected here.placed ∙ ap₂ (λ fs n. Some (floor_of fs n).state) here.floors own in
     let told = subst (λ t. id_at t c.floor.result.0 ≡ Some c.id_of.result) c.dag-dag.ensures c.id_of.ensures.is in
@@ -41,7 +42,8 @@ returns-clause-given c = λ site stands sound.
     let here = subst (λ v. CoreStands v site) (sym c.self.view_is) stands in
     let table = subst (λ t. Stands t site.dag site.collected) (sym c.dag-dag.ensures) here.store.table in
     let known = sym (c.knows.ensures site.dag site.collected table) ∙ c.if-not-knows.false in
-    let told = c.raise.ensures.raised site.dag site.collected table (subst (λ t. ArePlaced core.book t site.dag site.collected) (sym c.dag-dag.ensures) here.placed) x c.in-Some.ensures.found in
+    let told = c.raise.ensures.raised site.dag site.collected table
+    (subst (λ t. ArePlaced core.book t site.dag site.collected) (sym c.dag-dag.ensures) here.placed) x c.in-Some.ensures.found in
     let placed = subst (λ t. ArePlaced book t site.dag site.collected) c.dag-dag.ensures
     (c.raise.ensures.placed site.dag site.collected table (subst (λ t. ArePlaced core.book t site.dag site.collected) (sym c.dag-dag.ensures) here.placed)) in
     elim c.match-raise.branch [

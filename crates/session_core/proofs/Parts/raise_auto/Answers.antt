@@ -34,7 +34,8 @@ returns-clause-given c = λ site stands sound.
       | in-Ok w ↦
           let moved = subst (AutoRaisedIn site.dag c.dag-dag.result.now core.book book) w.in-Ok.is told in
           let same = same_Some w.id_of.result y (sym w.id_of.ensures.is ∙ moved.0 ∙ ap (λ z. Some z) is) in
-          let given = number-left core book site y here w.in-Ok.number (subst (λ z. FloorMoved site.dag core.book book z (Ok w.in-Ok.number)) is moved.1) c.raise_auto.ensures.rest placed in
+          let given = number-left core book site y here w.in-Ok.number (subst (λ z. FloorMoved site.dag core.book book z (Ok w.in-Ok.number)) is moved.1)
+          c.raise_auto.ensures.rest placed in
           subst (λ a. GivesOrStops (CoreStands (seen a)) (raise_auto site) site c.match-raise_auto.result) (sym w.self-inside-is)
           (subst (λ r. GivesOrStops (CoreStands (record core { book = book })) (raise_auto site) site r) (sym w.result-is)
           (subst (λ z. IsGiven (CoreStands (record core { book = book })) (raise_auto site) (Raised z w.in-Ok.number)) (sym same) given))

@@ -29,6 +29,7 @@ returns-in-None-clause-given c = λ site stands sound.
     let told = subst (λ t. id_at t c.ceiling.result ≡ Some c.id_of.result) c.dag-dag.ensures c.id_of.ensures.is in
     let same = same_Some s.value.ceiling c.id_of.result (sym named ∙ told) in (
       stands,
-      no-txn-answer site n (λ r. set_ceiling site n r x) s.value s.is (none-kept now site stands n c.in_ok-no_txn.ensures.none) ∙ back-ceiling core core.book site n s.value x here known apart
+      no-txn-answer site n (λ r. set_ceiling site n r x) s.value s.is (none-kept now site stands n c.in_ok-no_txn.ensures.none)
+          ∙ back-ceiling core core.book site n s.value x here known apart
           ∙ ap (λ y. refused site (CeilingBack y)) same,
     )

@@ -16,7 +16,8 @@ returns c = λ site stands sound.
     let x = c.args.state in
     let known = sym (c.knows.ensures site.dag site.collected here) ∙ c.if-not-knows.false in
     let named = c.in-Some.ensures.found in
-    as-given (CoreStands c.args.self.now) (show site x) (site, Shown (arrival site.dag x) (children site.dag x) (fork_path site.dag site.collected x)) (Shown c.arrival.result c.from_vec.result c.in_ok-path.field-0)
+    as-given (CoreStands c.args.self.now) (show site x) (site, Shown (arrival site.dag x) (children site.dag x) (fork_path site.dag site.collected x))
+    (Shown c.arrival.result c.from_vec.result c.in_ok-path.field-0)
     (is-shown site c.dag-dag.result.now c.in-Some.slot x here named known) (
       stands,
       shown-as (c.arrival.ensures.arrival site.dag site.collected here x named)

@@ -9,7 +9,8 @@ loop-place-preserved c = record {
   so_far = λ site stands.
       let sites = c.sites-place-end.ensures.is ∙ ap (λ v. length (floors_of v.book)) c.self.view_is ∙ ap length stands.floors in
       let within : c.loop-place.place < length site.floors = subst (λ m. c.loop-place.place < m) sites c.loop-place-test.true in
-      next-line site.dag site.floors c.loop-place.place c.loop-place.lines c.push.new.self c.site_line.result within (c.loop-place.invariant.so_far site stands) (c.site_line.ensures site stands) c.push.ensures;
+      next-line site.dag site.floors c.loop-place.place c.loop-place.lines c.push.new.self c.site_line.result within
+      (c.loop-place.invariant.so_far site stands) (c.site_line.ensures site stands) c.push.ensures;
 }
 
 pub returns : goal.returns

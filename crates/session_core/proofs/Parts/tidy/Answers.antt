@@ -17,12 +17,14 @@ invariant_of-self c =
     let here = subst (λ v. CoreStands v site) (sym c.self.view_is) c.requires.stands in
     let told = c.tidy-collected.ensures in
     let together = core-together (seen c.self.inside) site here sound in
-    tidy-held c.self.inside c.tidy-collected.new.store c.tidy-collected.new.book site c.args.n here sound (told.names site.dag site.collected together) c.self.invariant told.numbers told.promises told.slots
+    tidy-held c.self.inside c.tidy-collected.new.store c.tidy-collected.new.book site c.args.n here sound (told.names site.dag site.collected together)
+    c.self.invariant told.numbers told.promises told.slots
 
 pub returns : goal.returns
 returns c = λ site stands sound.
     let here = subst (λ v. CoreStands v site) (sym c.self.view_is) stands in
     let told = c.tidy-collected.ensures in
     let together = core-together (seen c.self.inside) site here sound in
-    tidy-gives (seen c.self.inside) c.tidy-collected.new.store c.tidy-collected.new.book site c.args.n here sound (told.names site.dag site.collected together) c.tidy-collected.result told.numbers told.promises
+    tidy-gives (seen c.self.inside) c.tidy-collected.new.store c.tidy-collected.new.book site c.args.n here sound
+    (told.names site.dag site.collected together) c.tidy-collected.result told.numbers told.promises
     (told.tidied site.dag site.collected together) (told.count site.dag site.collected together)

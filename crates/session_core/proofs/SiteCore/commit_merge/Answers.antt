@@ -13,9 +13,12 @@ use Rattle.session_core.proofs.SiteCore.commit_merge.Goals as goal
 pub invariant_of-self : goal.invariant_of-self
 invariant_of-self c =
     let old = c.self.inside.parts in
-    let may = subst (λ (v : Core). (site : Site) → SiteStands v site → (xs : List StateId) → map (id_at v.store.table) c.args.below.now ≡ map (λ x. Some x) xs → MayBeMerged site xs c.args.writes) (sym c.self.view_is) c.requires.merges in
-    let names = have-names old.store.table c.args.below.now (subst (λ v. IsTrue (list_all (is_slot v.store.table) c.args.below.now)) (sym c.self.view_is) c.requires.slots) in
-    merge-stands old c.commit_merge.new.self c.args.actor names.states c.args.writes c.commit_merge.result (λ site stands sound m. c.commit_merge.ensures site stands sound names.states names.named m) c.commit_merge.result refl
+    let may = subst (λ (v : Core). (site : Site) → SiteStands v site → (xs : List StateId) → map (id_at v.store.table) c.args.below.now
+    ≡ map (λ x. Some x) xs → MayBeMerged site xs c.args.writes) (sym c.self.view_is) c.requires.merges in
+    let names = have-names old.store.table c.args.below.now (subst (λ v. IsTrue (list_all (is_slot v.store.table) c.args.below.now))
+    (sym c.self.view_is) c.requires.slots) in
+    merge-stands old c.commit_merge.new.self c.args.actor names.states c.args.writes c.commit_merge.result
+    (λ site stands sound m. c.commit_merge.ensures site stands sound names.states names.named m) c.commit_merge.result refl
     c.self.invariant (may c.self.invariant.site (c.self.invariant.stands, c.self.invariant.sound) names.states names.named)
 
 pub returns-clause-given : goal.returns-clause-given
@@ -24,15 +27,20 @@ returns-clause-given c =
     Gives (SiteStands c.commit_merge.new.self) (merge_in_one site c.args.actor xs c.args.writes) site c.told.result) c.self.view_is
     (λ site at xs named.
     let old = c.self.inside.parts in
-    let may = subst (λ (v : Core). (site : Site) → SiteStands v site → (xs : List StateId) → map (id_at v.store.table) c.args.below.now ≡ map (λ x. Some x) xs → MayBeMerged site xs c.args.writes) (sym c.self.view_is) c.requires.merges in
-    merge-told old c.commit_merge.new.self c.args.actor xs c.args.writes c.commit_merge.result (λ site stands sound m. c.commit_merge.ensures site stands sound xs named m) c.commit_merge.result refl
+    let may = subst (λ (v : Core). (site : Site) → SiteStands v site → (xs : List StateId) → map (id_at v.store.table) c.args.below.now
+    ≡ map (λ x. Some x) xs → MayBeMerged site xs c.args.writes) (sym c.self.view_is) c.requires.merges in
+    merge-told old c.commit_merge.new.self c.args.actor xs c.args.writes c.commit_merge.result
+    (λ site stands sound m. c.commit_merge.ensures site stands sound xs named m) c.commit_merge.result refl
     c.told.result c.told.ensures site at (may site at xs named))
 
 pub returns-clause-opening : goal.returns-clause-opening
 returns-clause-opening c =
     let old = c.self.inside.parts in
-    let may = subst (λ (v : Core). (site : Site) → SiteStands v site → (xs : List StateId) → map (id_at v.store.table) c.args.below.now ≡ map (λ x. Some x) xs → MayBeMerged site xs c.args.writes) (sym c.self.view_is) c.requires.merges in
-    let names = have-names old.store.table c.args.below.now (subst (λ v. IsTrue (list_all (is_slot v.store.table) c.args.below.now)) (sym c.self.view_is) c.requires.slots) in
+    let may = subst (λ (v : Core). (site : Site) → SiteStands v site → (xs : List StateId) → map (id_at v.store.table) c.args.below.now
+    ≡ map (λ x. Some x) xs → MayBeMerged site xs c.args.writes) (sym c.self.view_is) c.requires.merges in
+    let names = have-names old.store.table c.args.below.now (subst (λ v. IsTrue (list_all (is_slot v.store.table) c.args.below.now))
+    (sym c.self.view_is) c.requires.slots) in
     subst (λ v. opened_with c.commit_merge.new.self ≡ opened_with v) c.self.view_is
-    (merge-opening old c.commit_merge.new.self c.args.actor names.states c.args.writes c.commit_merge.result (λ site stands sound m. c.commit_merge.ensures site stands sound names.states names.named m) c.commit_merge.result refl
+    (merge-opening old c.commit_merge.new.self c.args.actor names.states c.args.writes c.commit_merge.result
+    (λ site stands sound m. c.commit_merge.ensures site stands sound names.states names.named m) c.commit_merge.result refl
     c.self.invariant (may c.self.invariant.site (c.self.invariant.stands, c.self.invariant.sound) names.states names.named))

@@ -18,7 +18,8 @@ returns-clause-given c =
 
 pub returns-clause-told : goal.returns-clause-told
 returns-clause-told c =
-    told-told c.self.inside.parts c.deliver.new.self 0 (Deliver c.args.item) refl c.requires c.deliver.result c.told.result c.told.ensures c.deliver.ensures c.self.invariant
+    told-told c.self.inside.parts c.deliver.new.self 0 (Deliver c.args.item) refl c.requires c.deliver.result c.told.result c.told.ensures
+    c.deliver.ensures c.self.invariant
 
 pub returns-clause-opening : goal.returns-clause-opening
 returns-clause-opening c =

@@ -13,7 +13,8 @@ returns-clause-write_later g c = omega (arith, c.ask_all-served.ensures.write_la
 
 pub returns-clause-write : goal.returns-clause-write
 returns-clause-write g c = λ e.
-    rose_on (g.L.Sink.faults c.args.link.now) (g.L.Sink.faults c.ask_all-served.new.device) (g.L.Sink.faults c.finish.new.self) (c.ask_all-served.ensures.write e) c.ask_all-served.ensures.write_later c.finish.ensures.faults
+    rose_on (g.L.Sink.faults c.args.link.now) (g.L.Sink.faults c.ask_all-served.new.device) (g.L.Sink.faults c.finish.new.self)
+    (c.ask_all-served.ensures.write e) c.ask_all-served.ensures.write_later c.finish.ensures.faults
 
 pub returns-clause-exact : goal.returns-clause-exact
 returns-clause-exact g c =

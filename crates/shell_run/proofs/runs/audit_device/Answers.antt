@@ -7,5 +7,6 @@ use Rattle.shell_run.proofs.runs.audit_device.Goals as goal
 pub returns-in-Err-clause-outcome : goal.returns-in-Err-clause-outcome
 returns-in-Err-clause-outcome g c =
     same (g.D.Duplex.left c.args.device.now)
-    (AuditOutcome g.M.Machine.plain NoMemory (g.M.Machine.stands c.args.machine.now) (g.M.Machine.stands c.args.machine.now) (g.D.Sink.given c.args.device.now) (g.D.Sink.given c.args.device.now))
+    (AuditOutcome g.M.Machine.plain NoMemory (g.M.Machine.stands c.args.machine.now) (g.M.Machine.stands c.args.machine.now)
+    (g.D.Sink.given c.args.device.now) (g.D.Sink.given c.args.device.now))
     (λ x. no_audit g.M.Machine.plain (g.M.Machine.stands c.args.machine.now) (g.D.Sink.given c.args.device.now) x)

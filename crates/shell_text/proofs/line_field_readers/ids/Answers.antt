@@ -9,13 +9,15 @@ loop-place-init c = record { xs = []; reads = ap (λ z. Some ([], z)) (sym c.aga
 
 pub returns-in-None : goal.returns-in-None
 returns-in-None c =
-    times-none (id_until 32) c.loop-place._place c.args.count c.args.words.now c.loop-place.invariant.xs c.loop-place.left c.loop-place.invariant.reads (sym c.in-None.ensures) (omega arith)
+    times-none (id_until 32) c.loop-place._place c.args.count c.args.words.now c.loop-place.invariant.xs c.loop-place.left c.loop-place.invariant.reads
+    (sym c.in-None.ensures) (omega arith)
 
 pub loop-place-preserved : goal.loop-place-preserved
 loop-place-preserved c =
     record {
       xs = c.loop-place.invariant.xs ++ c.in-Some.id ∷ [];
-      reads = times-more (id_until 32) c.loop-place._place c.args.words.now c.loop-place.invariant.xs c.loop-place.left c.in-Some.id c.in-Some.next c.loop-place.invariant.reads (sym c.in-Some.ensures);
+      reads = times-more (id_until 32) c.loop-place._place c.args.words.now c.loop-place.invariant.xs c.loop-place.left c.in-Some.id c.in-Some.next
+          c.loop-place.invariant.reads (sym c.in-Some.ensures);
       made = c.pushed-ids.ensures c.loop-place.invariant.xs c.in-Some.id c.loop-place.invariant.made refl;
     }
 

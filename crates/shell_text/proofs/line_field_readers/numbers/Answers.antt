@@ -10,17 +10,22 @@ loop-place-init c = record { xs = []; reads = ap (λ z. Some ([], z)) (sym c.aga
 
 pub returns-in-None : goal.returns-in-None
 returns-in-None c =
-    times-none (number_until (2 ^ 32) 32) c.loop-place._place c.args.count c.args.words.now c.loop-place.invariant.xs c.loop-place.left c.loop-place.invariant.reads (sym c.in-None.ensures) (omega arith)
+    times-none (number_until (2 ^ 32) 32) c.loop-place._place c.args.count c.args.words.now c.loop-place.invariant.xs c.loop-place.left
+    c.loop-place.invariant.reads (sym c.in-None.ensures) (omega arith)
 
 pub loop-place-preserved : goal.loop-place-preserved
 loop-place-preserved c =
     record {
       xs = c.loop-place.invariant.xs ++ c.in-Some.number ∷ [];
-      reads = times-more (number_until (2 ^ 32) 32) c.loop-place._place c.args.words.now c.loop-place.invariant.xs c.loop-place.left c.in-Some.number c.in-Some.next c.loop-place.invariant.reads (sym c.in-Some.ensures);
+      reads = times-more (number_until (2 ^ 32) 32) c.loop-place._place c.args.words.now c.loop-place.invariant.xs c.loop-place.left c.in-Some.number
+          c.in-Some.next c.loop-place.invariant.reads (sym c.in-Some.ensures);
       made = c.pushed-numbers.ensures c.loop-place.invariant.xs c.in-Some.number c.loop-place.invariant.made refl;
     }
 
 pub returns : goal.returns
 returns c =
-    let same : c.loop-place._place ≡ c.args.count = omega arith in
-    (c.loop-place.invariant.xs, ap (λ k. times (number_until (2 ^ 32) 32) k c.args.words.now) (sym same) ∙ c.loop-place.invariant.reads, c.loop-place.invariant.made)
+    let same : c.loop-place._place ≡ c.args.count = omega arith in (
+      c.loop-place.invariant.xs,
+      ap (λ k. times (number_until (2 ^ 32) 32) k c.args.words.now) (sym same) ∙ c.loop-place.invariant.reads,
+      c.loop-place.invariant.made,
+    )

@@ -8,5 +8,6 @@ use Rattle.shell_text.proofs.line_field_readers.read_begin_merge.Goals as goal
 pub returns-in-Some : goal.returns-in-Some
 returns-in-Some c =
     let read = c.in-Some.ensures in
-    answer-made takes_no_memory BeginMerge merge_text c.args.words.now (States read.0) c.in-Some.left c.begin_merge.result (states-read c.args.words.now read.0 c.in-Some.left read.1)
+    answer-made takes_no_memory BeginMerge merge_text c.args.words.now (States read.0) c.in-Some.left c.begin_merge.result
+    (states-read c.args.words.now read.0 c.in-Some.left read.1)
     (c.begin_merge.ensures read.0 read.2)

@@ -7,12 +7,14 @@ use Rattle.shell_text.proofs.line_readers.read_line.Goals as goal
 
 pub returns-in-Ok-clause-read : goal.returns-in-Ok-clause-read
 returns-in-Ok-clause-read c =
-    asked-read c.args.line.now c.new-words.result c.in-Some.actor c.in-Some.left c.new-words.ensures c.in-Some.ensures ∙ ap (option_map (λ request. (c.in-Some.actor, request))) c.in-Ok.ensures
+    asked-read c.args.line.now c.new-words.result c.in-Some.actor c.in-Some.left c.new-words.ensures c.in-Some.ensures
+    ∙ ap (option_map (λ request. (c.in-Some.actor, request))) c.in-Ok.ensures
 
 pub returns-in-Ok-clause-malformed : goal.returns-in-Ok-clause-malformed
 returns-in-Ok-clause-malformed c =
     asked-found (asked_of c.args.line.now) (c.in-Some.actor, c.in-Ok.request)
-    (asked-read c.args.line.now c.new-words.result c.in-Some.actor c.in-Some.left c.new-words.ensures c.in-Some.ensures ∙ ap (option_map (λ request. (c.in-Some.actor, request))) c.in-Ok.ensures)
+    (asked-read c.args.line.now c.new-words.result c.in-Some.actor c.in-Some.left c.new-words.ensures c.in-Some.ensures
+    ∙ ap (option_map (λ request. (c.in-Some.actor, request))) c.in-Ok.ensures)
 
 pub returns-in-Err-clause-malformed : goal.returns-in-Err-clause-malformed
 returns-in-Err-clause-malformed c =

@@ -11,8 +11,10 @@ use Rattle.shell_text.proofs.list_fields.put_path.Goals as goal
 
 pub returns-in-None : goal.returns-in-None
 returns-in-None c =
-    next-none u32_front (counted u32_front (times (both id_front u32_front))) (λ xs. texts (codes " path" ++ spaced (number_word (length xs))) (λ p. spaced (pair_word p)) xs)
-    (λ left e. made-none (λ read. read.1) (after u32_front (times (both id_front u32_front))) left (after-none u32_front (times (both id_front u32_front)) left e)) c.args.unread.now c.u32.new.self c.args.out.now c.in-None.ensures
+    next-none u32_front (counted u32_front (times (both id_front u32_front)))
+    (λ xs. texts (codes " path" ++ spaced (number_word (length xs))) (λ p. spaced (pair_word p)) xs)
+    (λ left e. made-none (λ read. read.1) (after u32_front (times (both id_front u32_front))) left
+    (after-none u32_front (times (both id_front u32_front)) left e)) c.args.unread.now c.u32.new.self c.args.out.now c.in-None.ensures
 
 pub returns : goal.returns
 returns c =
@@ -20,4 +22,5 @@ returns c =
     ∙ ap (puts (times (both id_front u32_front) c.in-Some.count) (texts [] (λ p. spaced (pair_word p))))
     (c.say_numbered.ensures ∙ ap (λ n. says (codes " path" ++ spaced (number_word n)) (putting c.u32.new.self c.args.out.now)) c.from.ensures)
     ∙ numbered (both id_front u32_front) (λ p. spaced (pair_word p)) (codes " path") c.in-Some.count (putting c.u32.new.self c.args.out.now)
-    ∙ counted-put u32_front (both id_front u32_front) (λ xs. texts (codes " path" ++ spaced (number_word (length xs))) (λ p. spaced (pair_word p)) xs) c.args.unread.now c.in-Some.count c.u32.new.self c.args.out.now c.in-Some.ensures
+    ∙ counted-put u32_front (both id_front u32_front) (λ xs. texts (codes " path" ++ spaced (number_word (length xs))) (λ p. spaced (pair_word p)) xs)
+    c.args.unread.now c.in-Some.count c.u32.new.self c.args.out.now c.in-Some.ensures

@@ -22,13 +22,15 @@ returns-then-is_site_count c =
     ∙ ap (puts (times site_line_front c.in-Some.count) (texts [] (λ l. spaced (site_line_word l))))
     (c.say_numbered.ensures ∙ ap (λ n. says (codes " sites" ++ spaced (number_word n)) (putting c.u8.new.self c.args.out.now)) c.from.ensures)
     ∙ numbered site_line_front (λ l. spaced (site_line_word l)) (codes " sites") c.in-Some.count (putting c.u8.new.self c.args.out.now)
-    ∙ counted-tested u8_front site_line_front are_site_lines (λ xs. texts (codes " sites" ++ spaced (number_word (length xs))) (λ l. spaced (site_line_word l)) xs)
+    ∙ counted-tested u8_front site_line_front are_site_lines
+    (λ xs. texts (codes " sites" ++ spaced (number_word (length xs))) (λ l. spaced (site_line_word l)) xs)
     c.args.unread.now c.in-Some.count c.u8.new.self c.args.out.now c.in-Some.ensures
     (λ mid xs rest e. site_lines-tested c.in-Some.count mid xs rest e ∙ sym c.is_site_count.ensures ∙ c.if-is_site_count.true)
 
 pub returns-else-is_site_count : goal.returns-else-is_site_count
 returns-else-is_site_count c =
     ap (λ o. putting o c.args.out.now) c.lose.ensures
-    ∙ counted-refused u8_front site_line_front are_site_lines (λ xs. texts (codes " sites" ++ spaced (number_word (length xs))) (λ l. spaced (site_line_word l)) xs)
+    ∙ counted-refused u8_front site_line_front are_site_lines
+    (λ xs. texts (codes " sites" ++ spaced (number_word (length xs))) (λ l. spaced (site_line_word l)) xs)
     c.args.unread.now c.in-Some.count c.u8.new.self c.args.out.now c.in-Some.ensures
     (λ mid xs rest e. site_lines-tested c.in-Some.count mid xs rest e ∙ sym c.is_site_count.ensures ∙ c.if-is_site_count.false)

@@ -7,4 +7,5 @@ use Rattle.text_words.proofs.Ordered.{Ordered}
 use Rattle.shell_text.proofs.list_lines.put_ascending_ids.Given as goal
 
 abbrev pub invariant-loop-place : goal.invariant-loop-place
-invariant-loop-place l = Ordered (λ (x : StateId). x) are_ascending id_front l.fn.lead (λ x. spaced (id_word x)) (putting l.fn.unread l.fn.out) l._place l.last (putting l.unread l.out)
+invariant-loop-place l = Ordered (λ (x : StateId). x) are_ascending id_front l.fn.lead (λ x. spaced (id_word x)) (putting l.fn.unread l.fn.out) l._place
+    l.last (putting l.unread l.out)

@@ -8,4 +8,5 @@ use Rattle.text_words.proofs.Ordered.{Ordered}
 use Rattle.shell_text.proofs.list_lines.put_ascending_keys.Given as goal
 
 abbrev pub invariant-loop-place : goal.invariant-loop-place
-invariant-loop-place l = Ordered (λ (k : List ℕ). k) are_ascending_keys key_front l.fn.lead (λ k. spaced (byte_word k)) (putting l.fn.unread l.fn.out) l._place (option_copied l.last) (putting l.unread l.out)
+invariant-loop-place l = Ordered (λ (k : List ℕ). k) are_ascending_keys key_front l.fn.lead (λ k. spaced (byte_word k)) (putting l.fn.unread l.fn.out)
+    l._place (option_copied l.last) (putting l.unread l.out)

@@ -13,13 +13,15 @@ pub returns-then-is_lost : goal.returns-then-is_lost
 returns-then-is_lost c =
     let none = ap (λ o. putting o c.loop-place.out) (none-lost c.loop-place.unread (sym c.is_lost.ensures ∙ c.if-is_lost.true)) in
     none
-    ∙ times-lost id_front c.args.lead.now (λ x. spaced (id_word x)) c.loop-place._place c.args.count (putting c.args.unread.now c.args.out.now) (omega arith) (sym c.loop-place.invariant ∙ none)
+    ∙ times-lost id_front c.args.lead.now (λ x. spaced (id_word x)) c.loop-place._place c.args.count (putting c.args.unread.now c.args.out.now)
+    (omega arith) (sym c.loop-place.invariant ∙ none)
 
 pub loop-place-preserved : goal.loop-place-preserved
 loop-place-preserved c =
     let next : suc c.loop-place._place ≡ c.loop-place._place + 1 = omega arith in
     let s = putting c.args.unread.now c.args.out.now in
-    c.put_id.ensures ∙ ap (puts id_front (λ x. spaced (id_word x))) c.loop-place.invariant ∙ times-put id_front c.args.lead.now (λ x. spaced (id_word x)) c.loop-place._place s
+    c.put_id.ensures ∙ ap (puts id_front (λ x. spaced (id_word x))) c.loop-place.invariant
+    ∙ times-put id_front c.args.lead.now (λ x. spaced (id_word x)) c.loop-place._place s
     ∙ ap (λ k. puts (times id_front k) (texts c.args.lead.now (λ x. spaced (id_word x))) s) next
 
 pub returns : goal.returns

@@ -13,16 +13,19 @@ pub returns-then-is_lost : goal.returns-then-is_lost
 returns-then-is_lost c =
     let none = ap (λ o. putting o c.loop-place.out) (none-lost c.loop-place.unread (sym c.is_lost.ensures ∙ c.if-is_lost.true)) in
     none
-    ∙ times-lost u32_front c.args.lead.now (λ n. spaced (number_word n)) c.loop-place._place c.args.count (putting c.args.unread.now c.args.out.now) (omega arith) (sym c.loop-place.invariant ∙ none)
+    ∙ times-lost u32_front c.args.lead.now (λ n. spaced (number_word n)) c.loop-place._place c.args.count (putting c.args.unread.now c.args.out.now)
+    (omega arith) (sym c.loop-place.invariant ∙ none)
 
 pub loop-place-preserved : goal.loop-place-preserved
 loop-place-preserved c =
     let next : suc c.loop-place._place ≡ c.loop-place._place + 1 = omega arith in
     let s = putting c.args.unread.now c.args.out.now in
-    c.put_u32.ensures ∙ ap (puts u32_front (λ n. spaced (number_word n))) c.loop-place.invariant ∙ times-put u32_front c.args.lead.now (λ n. spaced (number_word n)) c.loop-place._place s
+    c.put_u32.ensures ∙ ap (puts u32_front (λ n. spaced (number_word n))) c.loop-place.invariant
+    ∙ times-put u32_front c.args.lead.now (λ n. spaced (number_word n)) c.loop-place._place s
     ∙ ap (λ k. puts (times u32_front k) (texts c.args.lead.now (λ n. spaced (number_word n))) s) next
 
 pub returns : goal.returns
 returns c =
     let all : c.loop-place._place ≡ c.args.count = omega arith in
-    c.loop-place.invariant ∙ ap (λ k. puts (times u32_front k) (texts c.args.lead.now (λ n. spaced (number_word n))) (putting c.args.unread.now c.args.out.now)) all
+    c.loop-place.invariant ∙ ap (λ k. puts (times u32_front k) (texts c.args.lead.now (λ n. spaced (number_word n)))
+    (putting c.args.unread.now c.args.out.now)) all

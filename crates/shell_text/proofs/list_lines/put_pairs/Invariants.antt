@@ -6,4 +6,5 @@ use Rattle.shell_text.specs.ReplyLines.{pair_word}
 use Rattle.shell_text.proofs.list_lines.put_pairs.Given as goal
 
 abbrev pub invariant-loop-place : goal.invariant-loop-place
-invariant-loop-place l = putting l.unread l.out ≡ puts (times (both id_front u32_front) l._place) (texts l.fn.lead (λ p. spaced (pair_word p))) (putting l.fn.unread l.fn.out)
+invariant-loop-place l = putting l.unread l.out ≡ puts (times (both id_front u32_front) l._place) (texts l.fn.lead (λ p. spaced (pair_word p)))
+    (putting l.fn.unread l.fn.out)

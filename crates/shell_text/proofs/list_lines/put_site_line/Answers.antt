@@ -15,7 +15,8 @@ returns c =
     let s = putting c.args.unread.now c.args.out.now in
     c.put_u32_behind.ensures
     ∙ ap (puts u32_front (λ n. 58 ∷ number_word n))
-    (c.put_id_behind.ensures ∙ ap (puts id_front (λ x. 58 ∷ id_word x)) c.put_u32.ensures ∙ puts-both u32_front id_front (λ n. spaced (number_word n)) (λ x. 58 ∷ id_word x) s)
+    (c.put_id_behind.ensures ∙ ap (puts id_front (λ x. 58 ∷ id_word x)) c.put_u32.ensures
+    ∙ puts-both u32_front id_front (λ n. spaced (number_word n)) (λ x. 58 ∷ id_word x) s)
     ∙ puts-both (both u32_front id_front) u32_front (λ p. spaced (number_word p.0) ++ 58 ∷ id_word p.1) (λ n. 58 ∷ number_word n) s
     ∙ puts-same (both (both u32_front id_front) u32_front) (λ p. (spaced (number_word p.0.0) ++ 58 ∷ id_word p.0.1) ++ 58 ∷ number_word p.1)
     (λ p. spaced (site_line_word (record { count = p.0.0; floor = p.0.1; number = p.1 }))) (λ p. joined (number_word p.0.0) (id_word p.0.1) (number_word p.1)) s

@@ -6,4 +6,5 @@ use Rattle.shell_text.specs.ReplyLines.{site_line_word}
 use Rattle.shell_text.proofs.list_lines.put_site_lines.Given as goal
 
 abbrev pub invariant-loop-place : goal.invariant-loop-place
-invariant-loop-place l = putting l.unread l.out ≡ puts (times site_line_front l._place) (texts l.fn.lead (λ l. spaced (site_line_word l))) (putting l.fn.unread l.fn.out)
+invariant-loop-place l = putting l.unread l.out ≡ puts (times site_line_front l._place) (texts l.fn.lead (λ l. spaced (site_line_word l)))
+    (putting l.fn.unread l.fn.out)

@@ -14,21 +14,29 @@ loop-place-init c = record { xs = []; reads = refl; ordered = refl; last_is = re
 
 pub returns-in-None : goal.returns-in-None
 returns-in-None c =
-    makes-none (only_if (λ (cs : List Consent). are_ascending_numbers (map (λ c. c.site) cs)) (times consent_front c.args.count)) c.args.reader.now c.consent.new.self None refl
-    (progress-none (λ (c : Consent). c.site) (λ (cs : List Consent). are_ascending_numbers (map (λ c. c.site) cs)) consent_front c.args.reader.now c.loop-place._place c.args.count c.loop-place.reader c.loop-place.last lacking
+    makes-none (only_if (λ (cs : List Consent). are_ascending_numbers (map (λ c. c.site) cs)) (times consent_front c.args.count)) c.args.reader.now
+    c.consent.new.self None refl
+    (progress-none (λ (c : Consent). c.site) (λ (cs : List Consent). are_ascending_numbers (map (λ c. c.site) cs)) consent_front c.args.reader.now
+    c.loop-place._place c.args.count c.loop-place.reader c.loop-place.last lacking
     c.loop-place.invariant (untaken consent_front c.loop-place.reader c.consent.new.self c.in-None.ensures) (omega arith))
 
 pub returns-then-not-site_follows : goal.returns-then-not-site_follows
 returns-then-not-site_follows c =
-    makes-none (only_if (λ (cs : List Consent). are_ascending_numbers (map (λ c. c.site) cs)) (times consent_front c.args.count)) c.args.reader.now c.consent.new.self None refl
-    (progress-breaks (λ (c : Consent). c.site) nat_lt (λ (cs : List Consent). are_ascending_numbers (map (λ c. c.site) cs)) consents-order consent_front c.args.reader.now c.loop-place._place c.args.count c.loop-place.reader c.loop-place.last lacking
-    c.in-Some.consent c.consent.new.self c.loop-place.invariant (taken consent_front c.loop-place.reader c.consent.new.self c.in-Some.consent c.in-Some.ensures) (sym c.if-not-site_follows.ensures) (omega arith))
+    makes-none (only_if (λ (cs : List Consent). are_ascending_numbers (map (λ c. c.site) cs)) (times consent_front c.args.count)) c.args.reader.now
+    c.consent.new.self None refl
+    (progress-breaks (λ (c : Consent). c.site) nat_lt (λ (cs : List Consent). are_ascending_numbers (map (λ c. c.site) cs)) consents-order consent_front
+    c.args.reader.now c.loop-place._place c.args.count c.loop-place.reader c.loop-place.last lacking
+    c.in-Some.consent c.consent.new.self c.loop-place.invariant
+    (taken consent_front c.loop-place.reader c.consent.new.self c.in-Some.consent c.in-Some.ensures) (sym c.if-not-site_follows.ensures) (omega arith))
 
 pub loop-place-preserved : goal.loop-place-preserved
 loop-place-preserved c =
-    progress-more (λ (c : Consent). c.site) nat_lt (λ (cs : List Consent). are_ascending_numbers (map (λ c. c.site) cs)) consents-order consent_front c.args.reader.now c.loop-place._place c.loop-place.reader c.loop-place.last lacking lacking
-    c.in-Some.consent c.consent.new.self c.loop-place.invariant (taken consent_front c.loop-place.reader c.consent.new.self c.in-Some.consent c.in-Some.ensures) (sym c.if-not-site_follows.ensures) (λ _. tt)
+    progress-more (λ (c : Consent). c.site) nat_lt (λ (cs : List Consent). are_ascending_numbers (map (λ c. c.site) cs)) consents-order consent_front
+    c.args.reader.now c.loop-place._place c.loop-place.reader c.loop-place.last lacking lacking
+    c.in-Some.consent c.consent.new.self c.loop-place.invariant
+    (taken consent_front c.loop-place.reader c.consent.new.self c.in-Some.consent c.in-Some.ensures) (sym c.if-not-site_follows.ensures) (λ _. tt)
 
 pub returns : goal.returns
 returns c =
-    progress-whole (λ (c : Consent). c.site) (λ (cs : List Consent). are_ascending_numbers (map (λ c. c.site) cs)) consent_front c.args.reader.now c.loop-place._place c.args.count c.loop-place.reader c.loop-place.last lacking c.loop-place.invariant (omega arith)
+    progress-whole (λ (c : Consent). c.site) (λ (cs : List Consent). are_ascending_numbers (map (λ c. c.site) cs)) consent_front c.args.reader.now
+    c.loop-place._place c.args.count c.loop-place.reader c.loop-place.last lacking c.loop-place.invariant (omega arith)

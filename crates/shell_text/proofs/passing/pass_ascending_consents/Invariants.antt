@@ -7,4 +7,5 @@ use Rattle.shell_text.proofs.Passings.{lacking}
 use Rattle.shell_text.proofs.passing.pass_ascending_consents.Given as goal
 
 abbrev pub invariant-loop-place : goal.invariant-loop-place
-invariant-loop-place l = Progress (λ (c : Consent). c.site) (λ (cs : List Consent). are_ascending_numbers (map (λ c. c.site) cs)) consent_front l.initial.reader l._place l.reader l.last (lacking)
+invariant-loop-place l = Progress (λ (c : Consent). c.site) (λ (cs : List Consent). are_ascending_numbers (map (λ c. c.site) cs)) consent_front
+    l.initial.reader l._place l.reader l.last (lacking)

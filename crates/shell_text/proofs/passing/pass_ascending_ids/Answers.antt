@@ -21,14 +21,19 @@ returns-in-None c =
 pub returns-then-not-id_follows : goal.returns-then-not-id_follows
 returns-then-not-id_follows c =
     makes-none (only_if are_ascending (times id_front c.args.count)) c.args.reader.now c.id.new.self None refl
-    (progress-breaks (λ (x : StateId). x) is_before are_ascending ids-order id_front c.args.reader.now c.loop-place._place c.args.count c.loop-place.reader c.loop-place.last lacking
-    c.in-Some.id c.id.new.self c.loop-place.invariant (taken id_front c.loop-place.reader c.id.new.self c.in-Some.id c.in-Some.ensures) (sym c.if-not-id_follows.ensures) (omega arith))
+    (progress-breaks (λ (x : StateId). x) is_before are_ascending ids-order id_front c.args.reader.now c.loop-place._place c.args.count c.loop-place.reader
+    c.loop-place.last lacking
+    c.in-Some.id c.id.new.self c.loop-place.invariant (taken id_front c.loop-place.reader c.id.new.self c.in-Some.id c.in-Some.ensures)
+    (sym c.if-not-id_follows.ensures) (omega arith))
 
 pub loop-place-preserved : goal.loop-place-preserved
 loop-place-preserved c =
-    progress-more (λ (x : StateId). x) is_before are_ascending ids-order id_front c.args.reader.now c.loop-place._place c.loop-place.reader c.loop-place.last lacking lacking
-    c.in-Some.id c.id.new.self c.loop-place.invariant (taken id_front c.loop-place.reader c.id.new.self c.in-Some.id c.in-Some.ensures) (sym c.if-not-id_follows.ensures) (λ _. tt)
+    progress-more (λ (x : StateId). x) is_before are_ascending ids-order id_front c.args.reader.now c.loop-place._place c.loop-place.reader
+    c.loop-place.last lacking lacking
+    c.in-Some.id c.id.new.self c.loop-place.invariant (taken id_front c.loop-place.reader c.id.new.self c.in-Some.id c.in-Some.ensures)
+    (sym c.if-not-id_follows.ensures) (λ _. tt)
 
 pub returns : goal.returns
 returns c =
-    progress-whole (λ (x : StateId). x) are_ascending id_front c.args.reader.now c.loop-place._place c.args.count c.loop-place.reader c.loop-place.last lacking c.loop-place.invariant (omega arith)
+    progress-whole (λ (x : StateId). x) are_ascending id_front c.args.reader.now c.loop-place._place c.args.count c.loop-place.reader c.loop-place.last
+    lacking c.loop-place.invariant (omega arith)

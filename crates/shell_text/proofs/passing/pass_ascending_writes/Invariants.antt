@@ -8,4 +8,5 @@ use Rattle.shell_text.proofs.Passings.{lacking}
 use Rattle.shell_text.proofs.passing.pass_ascending_writes.Given as goal
 
 abbrev pub invariant-loop-place : goal.invariant-loop-place
-invariant-loop-place l = Progress (λ (w : KeyWrite). w.0) (λ (ws : List KeyWrite). are_ascending_keys (keys_of ws)) (both key_front write_front) l.initial.reader l._place l.reader (option_copied l.last) (lacking)
+invariant-loop-place l = Progress (λ (w : KeyWrite). w.0) (λ (ws : List KeyWrite). are_ascending_keys (keys_of ws)) (both key_front write_front)
+    l.initial.reader l._place l.reader (option_copied l.last) (lacking)

@@ -13,14 +13,16 @@ pub returns-then-not-pass_record : goal.returns-then-not-pass_record
 returns-then-not-pass_record c =
     let none = unmade record_front c.loop-place.reader c.pass_record.new.reader c.if-not-pass_record.ensures in
     makes-none (times record_front c.args.count) c.args.reader.now c.pass_record.new.reader None refl
-    (times-none record_front c.loop-place._place c.args.count c.args.reader.now c.loop-place.invariant.xs c.loop-place.reader c.loop-place.invariant.reads none (omega arith))
+    (times-none record_front c.loop-place._place c.args.count c.args.reader.now c.loop-place.invariant.xs c.loop-place.reader c.loop-place.invariant.reads
+    none (omega arith))
 
 pub loop-place-preserved : goal.loop-place-preserved
 loop-place-preserved c =
     let read = making record_front c.loop-place.reader c.pass_record.new.reader lacking c.if-not-pass_record.ensures in
     record {
       xs = c.loop-place.invariant.xs ++ read.0 ∷ [];
-      reads = times-more record_front c.loop-place._place c.args.reader.now c.loop-place.invariant.xs c.loop-place.reader read.0 c.pass_record.new.reader c.loop-place.invariant.reads read.1;
+      reads = times-more record_front c.loop-place._place c.args.reader.now c.loop-place.invariant.xs c.loop-place.reader read.0 c.pass_record.new.reader
+          c.loop-place.invariant.reads read.1;
       made = tt;
     }
 

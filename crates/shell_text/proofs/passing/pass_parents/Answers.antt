@@ -26,5 +26,7 @@ returns c =
     let n = c.in-Some.count in
     let count = taken u8_front c.args.reader.now c.u8.new.self n c.in-Some.ensures in
     let read = making (only_if are_ascending (times id_front n)) c.u8.new.self c.pass_ascending_ids.new.reader lacking c.if-not-pass_ascending_ids.ensures in
-    let whole = counted-ordered u8_front id_front are_parents are_ascending (is_within 1 8) parents-tested c.args.reader.now n c.u8.new.self read.0 c.pass_ascending_ids.new.reader count read.1 in
-    if-passes are_parents (counted u8_front (times id_front)) c.args.reader.now c.pass_ascending_ids.new.reader read.0 c.is_parent_count.result whole.0 (whole.1 ∙ sym c.is_parent_count.ensures)
+    let whole = counted-ordered u8_front id_front are_parents are_ascending (is_within 1 8) parents-tested c.args.reader.now n c.u8.new.self read.0
+    c.pass_ascending_ids.new.reader count read.1 in
+    if-passes are_parents (counted u8_front (times id_front)) c.args.reader.now c.pass_ascending_ids.new.reader read.0 c.is_parent_count.result whole.0
+    (whole.1 ∙ sym c.is_parent_count.ensures)

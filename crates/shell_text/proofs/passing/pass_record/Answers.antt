@@ -32,7 +32,8 @@ returns c =
     let writes = making writes_front c.pass_parents.new.reader c.pass_writes.new.reader lacking c.if-not-pass_writes.ensures in
     let p = parents.1 in
     let w = writes.1 in
-    if-passes (λ (r : Rattle.tardis_base.specs.declared.records.Record.Record). not (Rattle.tardis_base.specs.Ids.same_id r.id Rattle.tardis_base.specs.Ids.root))
+    if-passes (λ (r : Rattle.tardis_base.specs.declared.records.Record.Record). not
+    (Rattle.tardis_base.specs.Ids.same_id r.id Rattle.tardis_base.specs.Ids.root))
     (made (λ p. record { id = p.0.0; parents = p.0.1; writes = p.1 }) (both (both id_front parents_front) writes_front))
     c.args.reader.now c.pass_writes.new.reader (record { id = c.in-Some.id; parents = parents.0; writes = writes.0 }) c.is_other.result
     (rw (id, p, w) refl) (sym c.is_other.ensures)

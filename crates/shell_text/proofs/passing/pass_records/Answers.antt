@@ -12,4 +12,5 @@ returns-in-None c =
 pub returns : goal.returns
 returns c =
     let count = taken u16_front c.args.reader.now c.u16.new.self c.in-Some.count c.in-Some.ensures in
-    makes-after u16_front record_front c.args.reader.now c.in-Some.count c.u16.new.self (read_if c.pass_counted_records.result) c.pass_counted_records.new.reader count c.pass_counted_records.ensures
+    makes-after u16_front record_front c.args.reader.now c.in-Some.count c.u16.new.self (read_if c.pass_counted_records.result)
+    c.pass_counted_records.new.reader count c.pass_counted_records.ensures

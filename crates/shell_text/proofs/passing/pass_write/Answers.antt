@@ -10,7 +10,8 @@ use Rattle.shell_text.proofs.passing.pass_write.Goals as goal
 
 pub returns-in-None : goal.returns-in-None
 returns-in-None c =
-    makes-none write_front c.args.reader.now c.u8.new.self None refl (code-none write_rows c.args.reader.now refl (untaken u8_front c.args.reader.now c.u8.new.self c.in-None.ensures))
+    makes-none write_front c.args.reader.now c.u8.new.self None refl
+    (code-none write_rows c.args.reader.now refl (untaken u8_front c.args.reader.now c.u8.new.self c.in-None.ensures))
 
 pub returns-in-0 : goal.returns-in-0
 returns-in-0 c =
@@ -31,7 +32,8 @@ returns-in-None-value c =
     let kind = taken u8_front c.args.reader.now c.u8.new.self c.in-Some.kind c.in-Some.ensures in
     let none = untaken value_front c.u8.new.self c.value.new.self c.in-None-value.ensures in
     makes-none write_front c.args.reader.now c.value.new.self None refl
-    (code-read write_rows c.args.reader.now c.in-Some.kind c.u8.new.self kind ∙ ap (λ k. front_of_code k write_rows c.u8.new.self) c.in-1.is ∙ made-none Put value_front c.u8.new.self none)
+    (code-read write_rows c.args.reader.now c.in-Some.kind c.u8.new.self kind ∙ ap (λ k. front_of_code k write_rows c.u8.new.self) c.in-1.is
+    ∙ made-none Put value_front c.u8.new.self none)
 
 pub returns-in_default : goal.returns-in_default
 returns-in_default c =

@@ -17,14 +17,19 @@ pub returns-then-not-pass_ascending_writes : goal.returns-then-not-pass_ascendin
 returns-then-not-pass_ascending_writes c =
     let n = c.in-Some.count in
     let count = taken u8_front c.args.reader.now c.u8.new.self n c.in-Some.ensures in
-    let none = unmade (only_if (λ (ws : List KeyWrite). are_ascending_keys (keys_of ws)) (times (both key_front write_front) n)) c.u8.new.self c.pass_ascending_writes.new.reader c.if-not-pass_ascending_writes.ensures in
+    let none = unmade (only_if (λ (ws : List KeyWrite). are_ascending_keys (keys_of ws)) (times (both key_front write_front) n)) c.u8.new.self
+    c.pass_ascending_writes.new.reader c.if-not-pass_ascending_writes.ensures in
     makes-none writes_front c.args.reader.now c.pass_ascending_writes.new.reader None refl
-    (counted-unordered u8_front (both key_front write_front) are_writes (λ (ws : List KeyWrite). are_ascending_keys (keys_of ws)) (λ n. nat_le n 64) writes-tested c.args.reader.now n c.u8.new.self count none)
+    (counted-unordered u8_front (both key_front write_front) are_writes (λ (ws : List KeyWrite). are_ascending_keys (keys_of ws))
+    (λ n. nat_le n 64) writes-tested c.args.reader.now n c.u8.new.self count none)
 
 pub returns : goal.returns
 returns c =
     let n = c.in-Some.count in
     let count = taken u8_front c.args.reader.now c.u8.new.self n c.in-Some.ensures in
-    let read = making (only_if (λ (ws : List KeyWrite). are_ascending_keys (keys_of ws)) (times (both key_front write_front) n)) c.u8.new.self c.pass_ascending_writes.new.reader lacking c.if-not-pass_ascending_writes.ensures in
-    let whole = counted-ordered u8_front (both key_front write_front) are_writes (λ (ws : List KeyWrite). are_ascending_keys (keys_of ws)) (λ n. nat_le n 64) writes-tested c.args.reader.now n c.u8.new.self read.0 c.pass_ascending_writes.new.reader count read.1 in
-    if-passes are_writes (counted u8_front (times (both key_front write_front))) c.args.reader.now c.pass_ascending_writes.new.reader read.0 c.is_write_count.result whole.0 (whole.1 ∙ sym c.is_write_count.ensures)
+    let read = making (only_if (λ (ws : List KeyWrite). are_ascending_keys (keys_of ws)) (times (both key_front write_front) n)) c.u8.new.self
+    c.pass_ascending_writes.new.reader lacking c.if-not-pass_ascending_writes.ensures in
+    let whole = counted-ordered u8_front (both key_front write_front) are_writes (λ (ws : List KeyWrite). are_ascending_keys (keys_of ws))
+    (λ n. nat_le n 64) writes-tested c.args.reader.now n c.u8.new.self read.0 c.pass_ascending_writes.new.reader count read.1 in
+    if-passes are_writes (counted u8_front (times (both key_front write_front))) c.args.reader.now c.pass_ascending_writes.new.reader read.0
+    c.is_write_count.result whole.0 (whole.1 ∙ sym c.is_write_count.ensures)

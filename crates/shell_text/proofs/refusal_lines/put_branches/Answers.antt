@@ -18,7 +18,8 @@ returns-in-None c =
     let gone = next-gone u8_front c.args.unread.now c.u8.new.self c.in-None.ensures in
     let none = ap (λ o. putting o c.args.out.now) gone in
     none
-    ∙ ap (puts u32_front (λ n. spaced (number_word n))) (sym none ∙ tested-then-lost u8_front is_constraint id_front first c.args.unread.now c.u8.new.self c.args.out.now c.in-None.ensures)
+    ∙ ap (puts u32_front (λ n. spaced (number_word n))) (sym none
+    ∙ tested-then-lost u8_front is_constraint id_front first c.args.unread.now c.u8.new.self c.args.out.now c.in-None.ensures)
     ∙ puts-both (both (only_if is_constraint u8_front) id_front) u32_front first (λ n. spaced (number_word n)) (putting c.args.unread.now c.args.out.now)
 
 pub returns-in-4 : goal.returns-in-4
@@ -48,5 +49,6 @@ returns-in_default c =
     let eight : c.in-Some.constraint ≡ 8 → ⊥ = λ e. omega (arith, e) in
     ap (λ o. putting o c.args.out.now) c.lose.ensures
     ∙ ap (puts u32_front (λ n. spaced (number_word n)))
-    (tested-then-refused u8_front is_constraint id_front first c.args.unread.now c.in-Some.constraint c.u8.new.self c.args.out.now c.in-Some.ensures (other-constraint c.in-Some.constraint four eight))
+    (tested-then-refused u8_front is_constraint id_front first c.args.unread.now c.in-Some.constraint c.u8.new.self c.args.out.now c.in-Some.ensures
+    (other-constraint c.in-Some.constraint four eight))
     ∙ puts-both (both (only_if is_constraint u8_front) id_front) u32_front first (λ n. spaced (number_word n)) (putting c.args.unread.now c.args.out.now)

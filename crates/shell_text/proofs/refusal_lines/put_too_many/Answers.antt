@@ -40,4 +40,5 @@ unfolding text
 returns-in_default c =
     let other : 1 ≤ c.in-Some.what → c.in-Some.what ≤ 3 → ⊥ = λ a b. omega (arith, a, b) in
     ap (λ o. putting o c.args.out.now) c.lose.ensures
-    ∙ tested-then-refused u8_front is_what u32_front text c.args.unread.now c.in-Some.what c.u8.new.self c.args.out.now c.in-Some.ensures (other-what c.in-Some.what other)
+    ∙ tested-then-refused u8_front is_what u32_front text c.args.unread.now c.in-Some.what c.u8.new.self c.args.out.now c.in-Some.ensures
+    (other-what c.in-Some.what other)

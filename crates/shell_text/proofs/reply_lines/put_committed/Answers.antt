@@ -8,4 +8,5 @@ use Rattle.shell_text.proofs.reply_lines.put_committed.Goals as goal
 pub returns : goal.returns
 returns c =
     c.put_parents.ensures ∙ ap (puts parents_front (texts (codes " from") (λ x. spaced (id_word x)))) c.put_id.ensures
-    ∙ puts-both id_front parents_front (λ x. codes "committed" ++ spaced (id_word x)) (texts (codes " from") (λ x. spaced (id_word x))) (putting c.args.unread.now c.args.out.now)
+    ∙ puts-both id_front parents_front (λ x. codes "committed" ++ spaced (id_word x)) (texts (codes " from") (λ x. spaced (id_word x)))
+    (putting c.args.unread.now c.args.out.now)

@@ -7,4 +7,5 @@ use Rattle.shell_text.specs.ReplyLines.{refusal_words}
 use Rattle.shell_text.proofs.reply_lines.put_refused.Goals as goal
 
 pub returns : goal.returns
-returns c = c.put_refusal.ensures ∙ ap (puts refusal_front (λ r. spaced (line (refusal_words r)))) c.say.ensures ∙ says-puts refusal_front (λ r. spaced (line (refusal_words r))) (codes "refused") (putting c.args.unread.now c.args.out.now)
+returns c = c.put_refusal.ensures ∙ ap (puts refusal_front (λ r. spaced (line (refusal_words r)))) c.say.ensures
+    ∙ says-puts refusal_front (λ r. spaced (line (refusal_words r))) (codes "refused") (putting c.args.unread.now c.args.out.now)

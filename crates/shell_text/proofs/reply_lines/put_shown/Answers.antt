@@ -12,6 +12,10 @@ pub returns : goal.returns
 returns c =
     c.put_path.ensures
     ∙ ap (puts path_front (λ qs. texts (codes " path" ++ spaced (number_word (length qs))) (λ q. spaced (pair_word q)) qs))
-    (c.put_children.ensures ∙ ap (puts children_front (λ xs. texts (codes " children" ++ spaced (number_word (length xs))) (λ x. spaced (id_word x)) xs)) c.put_u64.ensures
-    ∙ puts-both u64_front children_front (λ x. codes "shown" ++ spaced (number_word x)) (λ xs. texts (codes " children" ++ spaced (number_word (length xs))) (λ x. spaced (id_word x)) xs) (putting c.args.unread.now c.args.out.now))
-    ∙ puts-both (both u64_front children_front) path_front (λ p. (codes "shown" ++ spaced (number_word p.0)) ++ texts (codes " children" ++ spaced (number_word (length p.1))) (λ x. spaced (id_word x)) p.1) (λ qs. texts (codes " path" ++ spaced (number_word (length qs))) (λ q. spaced (pair_word q)) qs) (putting c.args.unread.now c.args.out.now)
+    (c.put_children.ensures ∙ ap (puts children_front (λ xs. texts (codes " children" ++ spaced (number_word (length xs))) (λ x. spaced (id_word x)) xs))
+    c.put_u64.ensures
+    ∙ puts-both u64_front children_front (λ x. codes "shown" ++ spaced (number_word x))
+    (λ xs. texts (codes " children" ++ spaced (number_word (length xs))) (λ x. spaced (id_word x)) xs) (putting c.args.unread.now c.args.out.now))
+    ∙ puts-both (both u64_front children_front) path_front (λ p. (codes "shown" ++ spaced (number_word p.0))
+    ++ texts (codes " children" ++ spaced (number_word (length p.1))) (λ x. spaced (id_word x)) p.1)
+    (λ qs. texts (codes " path" ++ spaced (number_word (length qs))) (λ q. spaced (pair_word q)) qs) (putting c.args.unread.now c.args.out.now)

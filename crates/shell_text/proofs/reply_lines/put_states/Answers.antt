@@ -13,10 +13,18 @@ use Rattle.shell_text.proofs.reply_lines.put_states.Goals as goal
 pub returns-in-Some : goal.returns-in-Some
 returns-in-Some c =
     c.put_first_ids.ensures
-    ∙ next-then u32_front (λ total. only_if (are_first_ids total) (counted u16_front (times id_front))) (λ p. texts (codes "states" ++ spaced (number_word p.0)) (λ x. spaced (id_word x)) p.1) c.args.unread.now c.in-Some.total c.u32.new.self c.args.out.now c.in-Some.ensures
-    ∙ puts-front-same (after u32_front (λ total. only_if (are_first_ids total) (counted u16_front (times id_front)))) first_ids_front (λ p. texts (codes "states" ++ spaced (number_word p.0)) (λ x. spaced (id_word x)) p.1) (tested-late are_first_ids u32_front (counted u16_front (times id_front))) (putting c.args.unread.now c.args.out.now)
+    ∙ next-then u32_front (λ total. only_if (are_first_ids total) (counted u16_front (times id_front)))
+    (λ p. texts (codes "states" ++ spaced (number_word p.0)) (λ x. spaced (id_word x)) p.1) c.args.unread.now c.in-Some.total c.u32.new.self
+    c.args.out.now c.in-Some.ensures
+    ∙ puts-front-same (after u32_front (λ total. only_if (are_first_ids total) (counted u16_front (times id_front)))) first_ids_front
+    (λ p. texts (codes "states" ++ spaced (number_word p.0)) (λ x. spaced (id_word x)) p.1)
+    (tested-late are_first_ids u32_front (counted u16_front (times id_front))) (putting c.args.unread.now c.args.out.now)
 
 pub returns-in-None : goal.returns-in-None
 returns-in-None c =
-    next-then-lost u32_front (λ total. only_if (are_first_ids total) (counted u16_front (times id_front))) (λ p. texts (codes "states" ++ spaced (number_word p.0)) (λ x. spaced (id_word x)) p.1) c.args.unread.now c.u32.new.self c.args.out.now c.in-None.ensures
-    ∙ puts-front-same (after u32_front (λ total. only_if (are_first_ids total) (counted u16_front (times id_front)))) first_ids_front (λ p. texts (codes "states" ++ spaced (number_word p.0)) (λ x. spaced (id_word x)) p.1) (tested-late are_first_ids u32_front (counted u16_front (times id_front))) (putting c.args.unread.now c.args.out.now)
+    next-then-lost u32_front (λ total. only_if (are_first_ids total) (counted u16_front (times id_front)))
+    (λ p. texts (codes "states" ++ spaced (number_word p.0)) (λ x. spaced (id_word x)) p.1) c.args.unread.now c.u32.new.self c.args.out.now
+    c.in-None.ensures
+    ∙ puts-front-same (after u32_front (λ total. only_if (are_first_ids total) (counted u16_front (times id_front)))) first_ids_front
+    (λ p. texts (codes "states" ++ spaced (number_word p.0)) (λ x. spaced (id_word x)) p.1)
+    (tested-late are_first_ids u32_front (counted u16_front (times id_front))) (putting c.args.unread.now c.args.out.now)

@@ -9,11 +9,13 @@ use Rattle.shell_text.proofs.reply_list_readers.first_keys.Goals as goal
 pub returns-then-is_first_of : goal.returns-then-is_first_of
 returns-then-is_first_of c =
     let fits : is_u32 c.args.total ≡ true = lt-ltb c.args.total (2 ^ 32) (omega arith) in
-    ordered-read key_text (are_first_keys c.args.total) are_ascending_keys (is_first_of c.args.total) (first-keys-tested c.args.total fits) c.args.words.now c.count-count.result c.ascending_keys.result c.count-count.ensures
+    ordered-read key_text (are_first_keys c.args.total) are_ascending_keys (is_first_of c.args.total) (first-keys-tested c.args.total fits)
+    c.args.words.now c.count-count.result c.ascending_keys.result c.count-count.ensures
     (sym c.is_first_of.ensures ∙ c.if-is_first_of.true) c.ascending_keys.ensures
 
 pub returns-else-is_first_of : goal.returns-else-is_first_of
 returns-else-is_first_of c =
     let fits : is_u32 c.args.total ≡ true = lt-ltb c.args.total (2 ^ 32) (omega arith) in
-    ordered-other key_text (are_first_keys c.args.total) are_ascending_keys (is_first_of c.args.total) (first-keys-tested c.args.total fits) c.args.words.now c.count-count.result c.count-count.ensures
+    ordered-other key_text (are_first_keys c.args.total) are_ascending_keys (is_first_of c.args.total) (first-keys-tested c.args.total fits)
+    c.args.words.now c.count-count.result c.count-count.ensures
     (sym c.is_first_of.ensures ∙ c.if-is_first_of.false)

@@ -9,13 +9,15 @@ loop-place-init c = record { xs = []; reads = ap (λ z. Some ([], z)) (sym c.aga
 
 pub returns-in-None : goal.returns-in-None
 returns-in-None c =
-    times-none pair_text c.loop-place._place c.args.count c.args.words.now c.loop-place.invariant.xs c.loop-place.left c.loop-place.invariant.reads (sym c.in-None.ensures) (omega arith)
+    times-none pair_text c.loop-place._place c.args.count c.args.words.now c.loop-place.invariant.xs c.loop-place.left c.loop-place.invariant.reads
+    (sym c.in-None.ensures) (omega arith)
 
 pub loop-place-preserved : goal.loop-place-preserved
 loop-place-preserved c =
     record {
       xs = c.loop-place.invariant.xs ++ c.in-Some.pair ∷ [];
-      reads = times-more pair_text c.loop-place._place c.args.words.now c.loop-place.invariant.xs c.loop-place.left c.in-Some.pair c.in-Some.next c.loop-place.invariant.reads (sym c.in-Some.ensures);
+      reads = times-more pair_text c.loop-place._place c.args.words.now c.loop-place.invariant.xs c.loop-place.left c.in-Some.pair c.in-Some.next
+          c.loop-place.invariant.reads (sym c.in-Some.ensures);
       made = c.pushed-pairs.ensures c.loop-place.invariant.xs c.in-Some.pair c.loop-place.invariant.made refl;
     }
 

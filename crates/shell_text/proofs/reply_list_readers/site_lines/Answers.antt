@@ -10,7 +10,8 @@ loop-place-init c = ap (λ z. Some (z, c.args.words.now)) (sym c.new-lines.ensur
 
 pub returns-in-None : goal.returns-in-None
 returns-in-None c =
-    sym (times-none site_line_text c.loop-place._place c.args.count c.args.words.now c.loop-place.lines c.loop-place.left c.loop-place.invariant (sym c.in-None.ensures) (omega arith))
+    sym (times-none site_line_text c.loop-place._place c.args.count c.args.words.now c.loop-place.lines c.loop-place.left c.loop-place.invariant
+    (sym c.in-None.ensures) (omega arith))
 
 pub push-requires : goal.push-requires
 push-requires c =
@@ -19,7 +20,8 @@ push-requires c =
 
 pub loop-place-preserved : goal.loop-place-preserved
 loop-place-preserved c =
-    times-more site_line_text c.loop-place._place c.args.words.now c.loop-place.lines c.loop-place.left c.in-Some.line c.in-Some.next c.loop-place.invariant (sym c.in-Some.ensures)
+    times-more site_line_text c.loop-place._place c.args.words.now c.loop-place.lines c.loop-place.left c.in-Some.line c.in-Some.next
+    c.loop-place.invariant (sym c.in-Some.ensures)
     ∙ ap (λ lines. Some (lines, c.in-Some.next)) (sym c.push.ensures)
 
 pub returns : goal.returns

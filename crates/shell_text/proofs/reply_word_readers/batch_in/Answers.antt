@@ -9,7 +9,8 @@ use Rattle.shell_text.proofs.reply_word_readers.batch_in.Goals as goal
 pub returns-in-Ok-clause-read : goal.returns-in-Ok-clause-read
 returns-in-Ok-clause-read c =
     let bytes = take c.in-Some.count c.read_hex.new.room in
-    batch-read c.args.word.now bytes c.in-Ok.batch c.in-Some.ensures.bytes.1 ((c.things_have_one_spelling.ensures.batch.some bytes c.in-Ok.batch).1 c.in-Ok.ensures.spelled)
+    batch-read c.args.word.now bytes c.in-Ok.batch c.in-Some.ensures.bytes.1
+    ((c.things_have_one_spelling.ensures.batch.some bytes c.in-Ok.batch).1 c.in-Ok.ensures.spelled)
 
 pub returns-in-Err-clause-malformed : goal.returns-in-Err-clause-malformed
 returns-in-Err-clause-malformed c =

@@ -11,5 +11,6 @@ use Rattle.shell_text.proofs.reply_word_readers.read_first_keys.Goals as goal
 pub returns-in-Some : goal.returns-in-Some
 returns-in-Some c =
     let read = c.in-Some.ensures in
-    answer-made reply_takes_no_memory (λ xs. Keys c.args.total xs) (only_if (are_first_keys c.args.total) (rest_of key_text)) c.args.words.now read.0 c.in-Some.left c.ended.result read.1
+    answer-made reply_takes_no_memory (λ xs. Keys c.args.total xs) (only_if (are_first_keys c.args.total) (rest_of key_text)) c.args.words.now read.0
+    c.in-Some.left c.ended.result read.1
     (c.ended.ensures (Keys c.args.total read.0) (c.keys.ensures read.0 read.2) refl)

@@ -10,4 +10,6 @@ use Rattle.shell_text.proofs.reply_word_readers.read_keys.Goals as goal
 
 pub returns-in-Some : goal.returns-in-Some
 returns-in-Some c =
-    subst (λ o. IsReply o c.read_first_keys.result) (sym (tested-beside Keys are_first_keys u32_text (rest_of key_text) c.args.words.now c.in-Some.total c.in-Some.left (sym c.in-Some.ensures))) c.read_first_keys.ensures
+    subst (λ o. IsReply o c.read_first_keys.result)
+    (sym (tested-beside Keys are_first_keys u32_text (rest_of key_text) c.args.words.now c.in-Some.total c.in-Some.left (sym c.in-Some.ensures)))
+    c.read_first_keys.ensures

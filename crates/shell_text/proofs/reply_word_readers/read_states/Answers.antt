@@ -9,4 +9,6 @@ use Rattle.shell_text.proofs.reply_word_readers.read_states.Goals as goal
 
 pub returns-in-Some : goal.returns-in-Some
 returns-in-Some c =
-    subst (λ o. IsReply o c.read_first_ids.result) (sym (tested-beside States are_first_ids u32_text (rest_of id_text) c.args.words.now c.in-Some.total c.in-Some.left (sym c.in-Some.ensures))) c.read_first_ids.ensures
+    subst (λ o. IsReply o c.read_first_ids.result)
+    (sym (tested-beside States are_first_ids u32_text (rest_of id_text) c.args.words.now c.in-Some.total c.in-Some.left (sym c.in-Some.ensures)))
+    c.read_first_ids.ensures

@@ -23,7 +23,8 @@ asked : (item : List ℕ) (x : Rattle.tardis_base.specs.declared.records.Item.It
 asked item x e =
     ap (option_and_then (λ read. alone read.0 read.1)) (made-read Deliver item_front item x [] (whole-source item_front item x e))
 
-none-asked : (item : List ℕ) (o : Option (Rattle.tardis_base.specs.declared.records.Item.Item × List ℕ)) → item_front item ≡ o → item_of item ≡ None → request_of (20 ∷ item) ≡ None
+none-asked : (item : List ℕ) (o : Option (Rattle.tardis_base.specs.declared.records.Item.Item × List ℕ)) → item_front item ≡ o → item_of item ≡ None →
+    request_of (20 ∷ item) ≡ None
 none-asked item None is e = ap (option_and_then (λ read. alone read.0 read.1)) (made-none Deliver item_front item is)
 none-asked item (Some (x, [])) is e = absurd (clash x (sym (ap (option_and_then (λ read. alone read.0 read.1)) is) ∙ e))
   where
@@ -31,7 +32,8 @@ none-asked item (Some (x, [])) is e = absurd (clash x (sym (ap (option_and_then 
     clash x e = absurd (cc)
 none-asked item (Some (x, y ∷ rest)) is e = ap (option_and_then (λ read. alone read.0 read.1)) (made-read Deliver item_front item x (y ∷ rest) is)
 
-some-item : (o : Option Rattle.tardis_base.specs.declared.records.Item.Item) → is_some o ≡ true → (x : Rattle.tardis_base.specs.declared.records.Item.Item) × (o ≡ Some x)
+some-item : (o : Option Rattle.tardis_base.specs.declared.records.Item.Item) → is_some o ≡ true → (x : Rattle.tardis_base.specs.declared.records.Item.Item)
+    × (o ≡ Some x)
 some-item None e = absurd (cc)
 some-item (Some x) e = (x, refl)
 
@@ -44,11 +46,13 @@ returns-then-spells_item c =
     let x = some-item (item_of c.args.item.now) (sym c.if-spells_item.ensures) in
     let is = asked c.args.item.now x.0 x.1 in
     let spelled = (reads-item.only c.args.item.now x.0 [] (whole-source item_front c.args.item.now x.0 x.1)).1 ∙ append-nil (item_spelling x.0) in
-    let text : number_word c.args.actor ++ (codes " deliver " ++ hex_word c.args.item.now) ≡ request_line (c.args.actor, Deliver x.0) = ap (λ z. number_word c.args.actor ++ (codes " deliver " ++ hex_word z)) spelled in
+    let text : number_word c.args.actor ++ (codes " deliver " ++ hex_word c.args.item.now) ≡ request_line (c.args.actor, Deliver x.0) =
+    ap (λ z. number_word c.args.actor ++ (codes " deliver " ++ hex_word z)) spelled in
     let fits = request-fits c.args.actor (20 ∷ c.args.item.now) (Deliver x.0) (omega arith) is (omega (arith, c.requires)) in
     said c.say_hex.new.self c.say_hex.new.out (number_word c.args.actor ++ (codes " deliver " ++ hex_word c.args.item.now)) []
     (c.say_hex.ensures
-    ∙ ap (says (codes " deliver " ++ hex_word c.args.item.now)) (c.say_digits.ensures ∙ ap (λ n. says (number_word n) (putting c.new-unread.result c.clear.new.self)) c.from.ensures)
+    ∙ ap (says (codes " deliver " ++ hex_word c.args.item.now))
+    (c.say_digits.ensures ∙ ap (λ n. says (number_word n) (putting c.new-unread.result c.clear.new.self)) c.from.ensures)
     ∙ says-twice (number_word c.args.actor) (codes " deliver " ++ hex_word c.args.item.now) (putting c.new-unread.result c.clear.new.self)
     ∙ ap₂ (λ v o. says (number_word c.args.actor ++ (codes " deliver " ++ hex_word c.args.item.now)) (putting v o)) c.new-unread.ensures c.clear.ensures)
     (omega (arith, fits, ap length text))

@@ -13,6 +13,8 @@ returns c =
     let r = c.args.reply.now in
     let is : reply_of (reply_spelling r) ≡ Some r =
     whole-read reply_front (reply_spelling r) r (ap reply_front (sym (append-nil (reply_spelling r))) ∙ reads-reply.back r [] c.requires.valid) in
-    let bytes : c.bytes.result.now ≡ reply_spelling r = c.bytes.ensures.same ∙ c.write_reply.ensures ∙ ap (λ z. z ++ reply_spelling r) c.in_ok-spelling.ensures in
-    let line : c.put_reply_line.new.out ≡ reply_line c.args.reply.now = c.put_reply_line.ensures ∙ ap (λ z. reply_line_of z) bytes ∙ ap (λ o. option_map_or reply_line o []) is in
+    let bytes : c.bytes.result.now ≡ reply_spelling r = c.bytes.ensures.same ∙ c.write_reply.ensures
+    ∙ ap (λ z. z ++ reply_spelling r) c.in_ok-spelling.ensures in
+    let line : c.put_reply_line.new.out ≡ reply_line c.args.reply.now = c.put_reply_line.ensures ∙ ap (λ z. reply_line_of z) bytes
+    ∙ ap (λ o. option_map_or reply_line o []) is in
     subst (λ z. IfOk c.text_of.result (λ text. text ≡ z)) line c.text_of.ensures

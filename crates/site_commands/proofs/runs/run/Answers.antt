@@ -20,7 +20,8 @@ returns-in-Ok-clause-ends g c =
     let new = g.O.Sink.given c.run_site.new.output in
     record {
       outcome = weaker (g.I.Source.left c.args.input.now) (g.I.Source.left c.run_site.new.input)
-          (λ first left. Outcome status (SiteStands c.in-Ok.site) (λ s bodies. Answered site_machine (shape_of status) (SiteStands c.run_site.new.machine) old new s (map event_of bodies)) first left)
+          (λ first left. Outcome status (SiteStands c.in-Ok.site)
+          (λ s bodies. Answered site_machine (shape_of status) (SiteStands c.run_site.new.machine) old new s (map event_of bodies)) first left)
           (RunFrom site status old new)
           c.run_site.ensures.outcome
           (λ x y o. run_from site (SiteStands c.in-Ok.site) (SiteStands c.run_site.new.machine) status old new x y

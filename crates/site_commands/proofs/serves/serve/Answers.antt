@@ -11,9 +11,12 @@ use Rattle.site_commands.proofs.serves.serve.Goals as goal
 pub returns-clause-ends : goal.returns-clause-ends
 returns-clause-ends g c =
     let work = workload c.args.options in
-    let fails = fails_of opened_with g.G.Link.Duplex.left g.G.Link.Sink.given g.G.Link.Duplex.take_faults g.G.Link.Sink.faults g.D.Link.Duplex.left g.D.Link.Sink.given g.D.Link.Duplex.take_faults g.D.Link.Sink.faults
-    g.D.Dial.told g.D.Dial.faults site_machine (opening c.args.limits c.args.own) c.args.limits.max_trail g.G.Gate.told g.G.Gate.faults g.O.Sink.given g.O.Sink.faults
-    work c.args.gate.now c.serve_site.new.gate c.args.dial.now c.serve_site.new.dial c.args.output.now c.serve_site.new.output c.serve_site.result c.serve_site.ensures in
+    let fails = fails_of opened_with g.G.Link.Duplex.left g.G.Link.Sink.given g.G.Link.Duplex.take_faults g.G.Link.Sink.faults g.D.Link.Duplex.left
+    g.D.Link.Sink.given g.D.Link.Duplex.take_faults g.D.Link.Sink.faults
+    g.D.Dial.told g.D.Dial.faults site_machine (opening c.args.limits c.args.own) c.args.limits.max_trail g.G.Gate.told g.G.Gate.faults g.O.Sink.given
+    g.O.Sink.faults
+    work c.args.gate.now c.serve_site.new.gate c.args.dial.now c.serve_site.new.dial c.args.output.now c.serve_site.new.output c.serve_site.result
+    c.serve_site.ensures in
     let R = Rose (g.G.Gate.faults c.args.gate.now) (g.G.Gate.faults c.serve_site.new.gate) in
     let S = Rose (g.O.Sink.faults c.args.output.now) (g.O.Sink.faults c.serve_site.new.output) in
     let T = Rose (g.D.Dial.faults c.args.dial.now) (g.D.Dial.faults c.serve_site.new.dial) in
@@ -27,9 +30,12 @@ returns-clause-ends g c =
 pub returns-clause-write : goal.returns-clause-write
 returns-clause-write g c =
     let work = workload c.args.options in
-    let fails = fails_of opened_with g.G.Link.Duplex.left g.G.Link.Sink.given g.G.Link.Duplex.take_faults g.G.Link.Sink.faults g.D.Link.Duplex.left g.D.Link.Sink.given g.D.Link.Duplex.take_faults g.D.Link.Sink.faults
-    g.D.Dial.told g.D.Dial.faults site_machine (opening c.args.limits c.args.own) c.args.limits.max_trail g.G.Gate.told g.G.Gate.faults g.O.Sink.given g.O.Sink.faults
-    work c.args.gate.now c.serve_site.new.gate c.args.dial.now c.serve_site.new.dial c.args.output.now c.serve_site.new.output c.serve_site.result c.serve_site.ensures in
+    let fails = fails_of opened_with g.G.Link.Duplex.left g.G.Link.Sink.given g.G.Link.Duplex.take_faults g.G.Link.Sink.faults g.D.Link.Duplex.left
+    g.D.Link.Sink.given g.D.Link.Duplex.take_faults g.D.Link.Sink.faults
+    g.D.Dial.told g.D.Dial.faults site_machine (opening c.args.limits c.args.own) c.args.limits.max_trail g.G.Gate.told g.G.Gate.faults g.O.Sink.given
+    g.O.Sink.faults
+    work c.args.gate.now c.serve_site.new.gate c.args.dial.now c.serve_site.new.dial c.args.output.now c.serve_site.new.output c.serve_site.result
+    c.serve_site.ensures in
     let R = Rose (g.G.Gate.faults c.args.gate.now) (g.G.Gate.faults c.serve_site.new.gate) in
     let S = Rose (g.O.Sink.faults c.args.output.now) (g.O.Sink.faults c.serve_site.new.output) in
     let T = Rose (g.D.Dial.faults c.args.dial.now) (g.D.Dial.faults c.serve_site.new.dial) in
@@ -41,9 +47,12 @@ returns-clause-write g c =
 pub returns-clause-gate : goal.returns-clause-gate
 returns-clause-gate g c =
     let work = workload c.args.options in
-    let fails = fails_of opened_with g.G.Link.Duplex.left g.G.Link.Sink.given g.G.Link.Duplex.take_faults g.G.Link.Sink.faults g.D.Link.Duplex.left g.D.Link.Sink.given g.D.Link.Duplex.take_faults g.D.Link.Sink.faults
-    g.D.Dial.told g.D.Dial.faults site_machine (opening c.args.limits c.args.own) c.args.limits.max_trail g.G.Gate.told g.G.Gate.faults g.O.Sink.given g.O.Sink.faults
-    work c.args.gate.now c.serve_site.new.gate c.args.dial.now c.serve_site.new.dial c.args.output.now c.serve_site.new.output c.serve_site.result c.serve_site.ensures in
+    let fails = fails_of opened_with g.G.Link.Duplex.left g.G.Link.Sink.given g.G.Link.Duplex.take_faults g.G.Link.Sink.faults g.D.Link.Duplex.left
+    g.D.Link.Sink.given g.D.Link.Duplex.take_faults g.D.Link.Sink.faults
+    g.D.Dial.told g.D.Dial.faults site_machine (opening c.args.limits c.args.own) c.args.limits.max_trail g.G.Gate.told g.G.Gate.faults g.O.Sink.given
+    g.O.Sink.faults
+    work c.args.gate.now c.serve_site.new.gate c.args.dial.now c.serve_site.new.dial c.args.output.now c.serve_site.new.output c.serve_site.result
+    c.serve_site.ensures in
     let R = Rose (g.G.Gate.faults c.args.gate.now) (g.G.Gate.faults c.serve_site.new.gate) in
     let S = Rose (g.O.Sink.faults c.args.output.now) (g.O.Sink.faults c.serve_site.new.output) in
     let T = Rose (g.D.Dial.faults c.args.dial.now) (g.D.Dial.faults c.serve_site.new.dial) in
@@ -55,9 +64,12 @@ returns-clause-gate g c =
 pub returns-clause-dial : goal.returns-clause-dial
 returns-clause-dial g c =
     let work = workload c.args.options in
-    let fails = fails_of opened_with g.G.Link.Duplex.left g.G.Link.Sink.given g.G.Link.Duplex.take_faults g.G.Link.Sink.faults g.D.Link.Duplex.left g.D.Link.Sink.given g.D.Link.Duplex.take_faults g.D.Link.Sink.faults
-    g.D.Dial.told g.D.Dial.faults site_machine (opening c.args.limits c.args.own) c.args.limits.max_trail g.G.Gate.told g.G.Gate.faults g.O.Sink.given g.O.Sink.faults
-    work c.args.gate.now c.serve_site.new.gate c.args.dial.now c.serve_site.new.dial c.args.output.now c.serve_site.new.output c.serve_site.result c.serve_site.ensures in
+    let fails = fails_of opened_with g.G.Link.Duplex.left g.G.Link.Sink.given g.G.Link.Duplex.take_faults g.G.Link.Sink.faults g.D.Link.Duplex.left
+    g.D.Link.Sink.given g.D.Link.Duplex.take_faults g.D.Link.Sink.faults
+    g.D.Dial.told g.D.Dial.faults site_machine (opening c.args.limits c.args.own) c.args.limits.max_trail g.G.Gate.told g.G.Gate.faults g.O.Sink.given
+    g.O.Sink.faults
+    work c.args.gate.now c.serve_site.new.gate c.args.dial.now c.serve_site.new.dial c.args.output.now c.serve_site.new.output c.serve_site.result
+    c.serve_site.ensures in
     let R = Rose (g.G.Gate.faults c.args.gate.now) (g.G.Gate.faults c.serve_site.new.gate) in
     let S = Rose (g.O.Sink.faults c.args.output.now) (g.O.Sink.faults c.serve_site.new.output) in
     let T = Rose (g.D.Dial.faults c.args.dial.now) (g.D.Dial.faults c.serve_site.new.dial) in

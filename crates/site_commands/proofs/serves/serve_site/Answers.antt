@@ -20,6 +20,7 @@ pub returns-in-Ok : goal.returns-in-Ok
 returns-in-Ok g c =
     subst (λ s. ServeOutcome opened_with site_machine g.G.Link.Duplex.left g.G.Link.Sink.given g.G.Link.Duplex.take_faults g.G.Link.Sink.faults
     g.D.Link.Duplex.left g.D.Link.Sink.given g.D.Link.Duplex.take_faults g.D.Link.Sink.faults g.D.Dial.told g.D.Dial.faults s c.args.limits.max_trail
-    g.G.Gate.told g.G.Gate.faults g.O.Sink.given g.O.Sink.faults (workload c.args.options) c.args.gate.now c.serve_links.new.gate c.args.dial.now c.serve_links.new.dial
+    g.G.Gate.told g.G.Gate.faults g.O.Sink.given g.O.Sink.faults (workload c.args.options) c.args.gate.now c.serve_links.new.gate c.args.dial.now
+    c.serve_links.new.dial
     c.args.output.now c.serve_links.new.output c.serve_links.result)
     c.in-Ok.ensures.opened c.serve_links.ensures

@@ -20,9 +20,11 @@ loop-place-preserved c = λ site stands book.
     let number = c.floor-number.ensures.number in
     elim c.if-number-ne0.branch [
       | then-number-ne0+in_ok-push w ↦
-          let state = same_Some w.id_of.result f.state (sym w.id_of.ensures.is ∙ c.floor-number.ensures.floor c.args.dag.now site.dag site.collected book.placed) in
+          let state = same_Some w.id_of.result f.state (sym w.id_of.ensures.is
+          ∙ c.floor-number.ensures.floor c.args.dag.now site.dag site.collected book.placed) in
           let some = false_from_ne_true (f.number == 0) (λ t. w.if-number-ne0.true (number ∙ eqb-true f.number 0 t)) in
-          consent-told (consents_from 1 fs) cs (i + 1) f rest so_far some _ (consent-same (i + 1) f c.floor-number.result.1 w.id_of.result c.floor-number.result.2 number state c.floor-number.ensures.stated)
+          consent-told (consents_from 1 fs) cs (i + 1) f rest so_far some _
+          (consent-same (i + 1) f c.floor-number.result.1 w.id_of.result c.floor-number.result.2 number state c.floor-number.ensures.stated)
           ∙ ap (λ z. z ++ consents_from (i + 1 + 1) rest) (sym (w.consents-is ∙ w.in_ok-push.ensures.added))
       | else-number-ne0 w ↦
           consent-passed (consents_from 1 fs) cs (i + 1) f rest so_far (eq-eqb f.number 0 (sym number ∙ w.if-number-ne0.false))

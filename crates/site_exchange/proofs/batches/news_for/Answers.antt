@@ -22,7 +22,8 @@ GivesKept table slots = (rs : List Record) (ks : List StateId) → Stands table 
 
 -- this tells whether the state of the slot is news
 abbrev TellsNews : Table → Book → List ℕ → Slot → Bool → Type 0
-TellsNews table book counts slot told = (site : Site) → Stands table site.dag site.collected → BookStands table book site → (x : StateId) → id_at table slot ≡ Some x → told ≡ is_news site counts x
+TellsNews table book counts slot told = (site : Site) → Stands table site.dag site.collected → BookStands table book site → (x : StateId) →
+    id_at table slot ≡ Some x → told ≡ is_news site counts x
 
 pub loop-slot-init : goal.loop-slot-init
 loop-slot-init c = record {
@@ -43,11 +44,13 @@ returns-in-None c = λ site stands book.
     let q = is_news site counts in
     let kept = (subst (λ (t : Table). GivesKept t slots) c.dag.ensures c.kept_slots-slot-items.ensures.kept) site.dag site.collected stands.table in
     let n = named-next (id_at table) slots zs i (record { 0 = 0 }) kept c.loop-slot-test.true in
-    let told = (subst (λ (t : Table). TellsNews t c.args.book.now counts (get_or slots i (record { 0 = 0 })) c.is_news.result) c.dag-in-loop-slot.ensures c.is_news.ensures) site stands.table book n.state n.named in
+    let told = (subst (λ (t : Table). TellsNews t c.args.book.now counts (get_or slots i (record { 0 = 0 })) c.is_news.result) c.dag-in-loop-slot.ensures
+    c.is_news.ensures) site stands.table book n.state n.named in
     let news = sym told ∙ c.if-is_news.true in
     let given = subst (GivenIn site.dag n.state c.loop-slot.room c.loop-slot.news c.give.new.news) c.in-None.is
     (c.in_ok-left.ensures.given site.dag site.collected stands n.state n.named (news-alone table c.args.book.now site stands.table book counts n.state news)) in
-    let so_far = c.loop-slot.invariant.news site stands book ∙ ap (λ z. c.loop-slot.news ++ fitting c.loop-slot.room (records_of site.dag (filter q z))) n.next in
+    let so_far = c.loop-slot.invariant.news site stands book
+    ∙ ap (λ z. c.loop-slot.news ++ fitting c.loop-slot.room (records_of site.dag (filter q z))) n.next in
     sym (none-given (news_for site counts) site.dag q n.state (drop (i + 1) zs) c.loop-slot.room c.loop-slot.news c.give.new.news so_far news given)
 
 pub loop-slot-preserved : goal.loop-slot-preserved
@@ -69,14 +72,16 @@ loop-slot-preserved c =
           let q = is_news site counts in
           let kept = (subst (λ (t : Table). GivesKept t slots) c.dag.ensures c.kept_slots-slot-items.ensures.kept) site.dag site.collected stands.table in
           let n = named-next (id_at table) slots zs i (record { 0 = 0 }) kept c.loop-slot-test.true in
-          let told = (subst (λ (t : Table). TellsNews t c.args.book.now counts (get_or slots i (record { 0 = 0 })) c.is_news.result) c.dag-in-loop-slot.ensures c.is_news.ensures) site stands.table book n.state n.named in
+          let told = (subst (λ (t : Table). TellsNews t c.args.book.now counts (get_or slots i (record { 0 = 0 })) c.is_news.result)
+          c.dag-in-loop-slot.ensures c.is_news.ensures) site stands.table book n.state n.named in
           let rest = drop (i + 1) zs in
           let so_far = c.loop-slot.invariant.news site stands book ∙ ap (λ z. old ++ fitting room (records_of site.dag (filter q z))) n.next in
           elim c.if-is_news.branch [
             | then-is_news+in_ok-left+in-Some w ↦
                 let news = sym told ∙ w.if-is_news.true in
                 let given = subst (GivenIn site.dag n.state room old w.give.new.news) w.in-Some.is
-                (w.in_ok-left.ensures.given site.dag site.collected stands n.state n.named (news-alone table c.args.book.now site stands.table book counts n.state news)) in
+                (w.in_ok-left.ensures.given site.dag site.collected stands n.state n.named
+                (news-alone table c.args.book.now site stands.table book counts n.state news)) in
                 one-given (news_for site counts) site.dag q n.state rest room old w.give.new.news so_far news w.in-Some.left given
                 ∙ (ap (λ z. z ++ fitting w.in-Some.left (records_of site.dag (filter q rest))) (sym w.news-is)
                 ∙ ap (λ m. c.if-is_news.news ++ fitting m (records_of site.dag (filter q rest))) (sym w.room-is))

@@ -12,5 +12,6 @@ abbrev pub invariant-loop-slot : goal.invariant-loop-slot
 invariant-loop-slot l = record {
   room : l.room ≤ 786432;
   news : (site : Site) → StoreStands l.store site.dag site.collected → BookStands l.store.table l.book site →
-      news_for site l.counts ≡ l.news ++ fitting l.room (records_of site.dag (filter (is_news site l.counts) (drop l.slot-index (kept_states site.dag site.collected))));
+      news_for site l.counts ≡ l.news ++ fitting l.room (records_of site.dag
+      (filter (is_news site l.counts) (drop l.slot-index (kept_states site.dag site.collected))));
 }

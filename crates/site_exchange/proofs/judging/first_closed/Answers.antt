@@ -29,7 +29,8 @@ loop-state-preserved c =
     let table = c.args.dag.now in
     record {
       listed = list_all_more (is_listed table) xs i root c.loop-state-test.true
-          ∙ and_from (list_all (is_listed table) (take i xs)) (is_listed table (get_or xs i root)) c.loop-state.invariant.listed (c.is_closed.ensures.listed c.if-is_closed.false);
+          ∙ and_from (list_all (is_listed table) (take i xs)) (is_listed table (get_or xs i root)) c.loop-state.invariant.listed
+          (c.is_closed.ensures.listed c.if-is_closed.false);
       closed = λ site stands book known.
           let p = is_closed site.dag site.floors in
           let here = all-at-place (is_known site.dag) xs i root c.loop-state-test.true known in

@@ -4,7 +4,8 @@ use Rattle.site_run.proofs.answers.answer_held.Given as goal
 
 abbrev pub invariant-loop-body : goal.invariant-loop-body
 invariant-loop-body g l = record {
-  served : Serves g.R.Responder.may Whole (g.R.Responder.stands l.fn.subject) (g.R.Responder.stands l.subject) (g.O.Sink.given l.fn.output) (g.O.Sink.given l.output) l.fn.gathered.bytes l.gathered.bytes l.fn.cutter l.cutter;
+  served : Serves g.R.Responder.may Whole (g.R.Responder.stands l.fn.subject) (g.R.Responder.stands l.subject) (g.O.Sink.given l.fn.output)
+      (g.O.Sink.given l.output) l.fn.gathered.bytes l.gathered.bytes l.fn.cutter l.cutter;
   fits : length l.gathered.bytes + g.R.Responder.MOST ≤ l.gathered.room;
   room : l.gathered.room ≡ l.fn.gathered.room;
   later : g.O.Sink.faults l.fn.output ≤ g.O.Sink.faults l.output;

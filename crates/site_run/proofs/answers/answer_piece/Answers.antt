@@ -6,5 +6,7 @@ pub returns-in-Err-write_to-clause-broken : goal.returns-in-Err-write_to-clause-
 returns-in-Err-write_to-clause-broken g c =
     piece_lost g.R.Responder.may (g.R.Responder.stands c.args.subject.now) (g.R.Responder.stands c.answer_held.new.subject)
     (g.O.Sink.given c.args.output.now) (g.O.Sink.given c.answer_held.new.output) (g.O.Sink.given c.write_to.new.output)
-    c.args.gathered.now.bytes c.answer_held.new.gathered.bytes c.args.cutter.now c.args.piece.now c.feed.new.self c.answer_held.new.cutter c.feed.result c.args.gathered.now.room
-    (omega (arith, c.in-Err-write_to.ensures.within, c.in-Ok.ensures.room)) c.requires.none c.feed.ensures.held (c.feed.ensures.whole c.requires.partial c.requires.size) c.in-Ok.ensures.served.1 c.in-Err-write_to.ensures.bytes
+    c.args.gathered.now.bytes c.answer_held.new.gathered.bytes c.args.cutter.now c.args.piece.now c.feed.new.self c.answer_held.new.cutter c.feed.result
+    c.args.gathered.now.room
+    (omega (arith, c.in-Err-write_to.ensures.within, c.in-Ok.ensures.room)) c.requires.none c.feed.ensures.held
+    (c.feed.ensures.whole c.requires.partial c.requires.size) c.in-Ok.ensures.served.1 c.in-Err-write_to.ensures.bytes

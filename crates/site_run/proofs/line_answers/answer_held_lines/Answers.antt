@@ -8,17 +8,22 @@ use Rattle.site_run.proofs.line_answers.answer_held_lines.Goals as goal
 
 pub loop-line-smaller : goal.loop-line-smaller
 loop-line-smaller g c =
-    let left : c.next.follows.lender-at-none ≡ drop (length c.in-Line.line.now + 1) c.loop-line.cutter = subst (λ r. Leaves c.loop-line.cutter r c.next.follows.lender-at-none) c.in-Line.is c.next.follows.holds-at-none in
+    let left : c.next.follows.lender-at-none ≡ drop (length c.in-Line.line.now + 1) c.loop-line.cutter =
+    subst (λ r. Leaves c.loop-line.cutter r c.next.follows.lender-at-none) c.in-Line.is c.next.follows.holds-at-none in
     fewer_lines c.loop-line.cutter c.next.follows.lender-at-none c.in-Line.line.now left c.in-Line.ensures.cut.1
 
 pub loop-line-preserved : goal.loop-line-preserved
 loop-line-preserved g c =
-    let left : c.next.follows.lender-at-none ≡ drop (length c.in-Line.line.now + 1) c.loop-line.cutter = subst (λ r. Leaves c.loop-line.cutter r c.next.follows.lender-at-none) c.in-Line.is c.next.follows.holds-at-none in
+    let left : c.next.follows.lender-at-none ≡ drop (length c.in-Line.line.now + 1) c.loop-line.cutter =
+    subst (λ r. Leaves c.loop-line.cutter r c.next.follows.lender-at-none) c.in-Line.is c.next.follows.holds-at-none in
     record {
-      served = line_serves_line g.R.Responder.may Whole whole_then (g.R.Responder.stands c.args.subject.now) (g.R.Responder.stands c.loop-line.subject) (g.R.Responder.stands c.answer_body.new.subject)
+      served = line_serves_line g.R.Responder.may Whole whole_then (g.R.Responder.stands c.args.subject.now) (g.R.Responder.stands c.loop-line.subject)
+          (g.R.Responder.stands c.answer_body.new.subject)
           (g.O.Sink.given c.args.output.now) (g.O.Sink.given c.loop-line.output) (g.O.Sink.given c.answer_body.new.output)
-          c.args.gathered.now.bytes c.loop-line.gathered.bytes c.answer_body.new.gathered.bytes c.args.cutter.now c.loop-line.cutter c.next.follows.lender-at-none c.in-Line.line.now
-          c.loop-line.invariant.served c.in-Line.ensures.cut.0 (subst (λ r. c.loop-line.cutter ≡ ended c.in-Line.line.now ++ r) (sym left) c.in-Line.ensures.cut.1) c.in-Ok.ensures.answered;
+          c.args.gathered.now.bytes c.loop-line.gathered.bytes c.answer_body.new.gathered.bytes c.args.cutter.now c.loop-line.cutter
+          c.next.follows.lender-at-none c.in-Line.line.now
+          c.loop-line.invariant.served c.in-Line.ensures.cut.0
+          (subst (λ r. c.loop-line.cutter ≡ ended c.in-Line.line.now ++ r) (sym left) c.in-Line.ensures.cut.1) c.in-Ok.ensures.answered;
       fits = c.in-Ok.ensures.fits;
       room = c.in-Ok.ensures.room ∙ c.loop-line.invariant.room;
       later = omega (arith, c.in-Ok.ensures.cause.later, c.loop-line.invariant.later);
@@ -29,9 +34,13 @@ loop-line-preserved g c =
 pub returns-in-Err-clause-broken : goal.returns-in-Err-clause-broken
 returns-in-Err-clause-broken g c = (
   drop (length c.in-Line.line.now + 1) c.loop-line.cutter,
-  line_serves_line g.R.Responder.may (Front c.args.gathered.now.room) (front_then c.args.gathered.now.room) (g.R.Responder.stands c.args.subject.now) (g.R.Responder.stands c.loop-line.subject) (g.R.Responder.stands c.answer_body.new.subject)
+  line_serves_line g.R.Responder.may (Front c.args.gathered.now.room) (front_then c.args.gathered.now.room) (g.R.Responder.stands c.args.subject.now)
+      (g.R.Responder.stands c.loop-line.subject) (g.R.Responder.stands c.answer_body.new.subject)
       (g.O.Sink.given c.args.output.now) (g.O.Sink.given c.loop-line.output) (g.O.Sink.given c.answer_body.new.output)
-      c.args.gathered.now.bytes c.loop-line.gathered.bytes [] c.args.cutter.now c.loop-line.cutter (drop (length c.in-Line.line.now + 1) c.loop-line.cutter) c.in-Line.line.now
+      c.args.gathered.now.bytes c.loop-line.gathered.bytes [] c.args.cutter.now c.loop-line.cutter
+      (drop (length c.in-Line.line.now + 1) c.loop-line.cutter) c.in-Line.line.now
       c.loop-line.invariant.served c.in-Line.ensures.cut.0 c.in-Line.ensures.cut.1
-      (λ s f. subst (λ r. AnsweredBy g.R.Responder.may (Front r) (g.R.Responder.stands c.answer_body.new.subject) (g.O.Sink.given c.loop-line.output) (g.O.Sink.given c.answer_body.new.output) c.loop-line.gathered.bytes [] s (c.in-Line.line.now ∷ [])) c.loop-line.invariant.room (c.in-Err.ensures.broken s f)),
+      (λ s f. subst (λ r. AnsweredBy g.R.Responder.may (Front r) (g.R.Responder.stands c.answer_body.new.subject) (g.O.Sink.given c.loop-line.output)
+      (g.O.Sink.given c.answer_body.new.output) c.loop-line.gathered.bytes [] s (c.in-Line.line.now ∷ [])) c.loop-line.invariant.room
+      (c.in-Err.ensures.broken s f)),
 )

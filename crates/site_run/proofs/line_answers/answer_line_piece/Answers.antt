@@ -6,5 +6,7 @@ pub returns-in-Err-write_to-clause-broken : goal.returns-in-Err-write_to-clause-
 returns-in-Err-write_to-clause-broken g c =
     line_piece_lost g.R.Responder.may (g.R.Responder.stands c.args.subject.now) (g.R.Responder.stands c.answer_held_lines.new.subject)
     (g.O.Sink.given c.args.output.now) (g.O.Sink.given c.answer_held_lines.new.output) (g.O.Sink.given c.write_to.new.output)
-    c.args.gathered.now.bytes c.answer_held_lines.new.gathered.bytes c.args.cutter.now c.args.piece.now c.feed.new.self c.answer_held_lines.new.cutter c.feed.result c.args.gathered.now.room
-    (omega (arith, c.in-Err-write_to.ensures.within, c.in-Ok.ensures.room)) c.requires.none c.feed.ensures.held (c.feed.ensures.whole c.requires.part c.requires.size) c.in-Ok.ensures.served.1 c.in-Err-write_to.ensures.bytes
+    c.args.gathered.now.bytes c.answer_held_lines.new.gathered.bytes c.args.cutter.now c.args.piece.now c.feed.new.self c.answer_held_lines.new.cutter
+    c.feed.result c.args.gathered.now.room
+    (omega (arith, c.in-Err-write_to.ensures.within, c.in-Ok.ensures.room)) c.requires.none c.feed.ensures.held
+    (c.feed.ensures.whole c.requires.part c.requires.size) c.in-Ok.ensures.served.1 c.in-Err-write_to.ensures.bytes

@@ -15,21 +15,28 @@ use Rattle.site_run.proofs.runs.answer_frames.Goals as goal
 pub returns-in-Ok-clause-exact : goal.returns-in-Ok-clause-exact
 returns-in-Ok-clause-exact g c =
     weaker (g.D.Duplex.left c.args.device.now) (g.D.Duplex.left c.answer_input.new.device)
-    (Done g.R.Responder.may (1048576 + g.R.Responder.MOST) (g.R.Responder.stands c.args.subject.now) (g.R.Responder.stands c.answer_input.new.subject) (g.D.Sink.given c.args.device.now) (g.D.Sink.given c.answer_input.new.device) c.answer_input.result)
+    (Done g.R.Responder.may (1048576 + g.R.Responder.MOST) (g.R.Responder.stands c.args.subject.now) (g.R.Responder.stands c.answer_input.new.subject)
+    (g.D.Sink.given c.args.device.now) (g.D.Sink.given c.answer_input.new.device) c.answer_input.result)
     (λ first left. (all : List (List ℕ)) (rest : List ℕ) → IsCut first all rest → length first < most_taken
-    → (Rose (g.D.Duplex.take_faults c.args.device.now) (g.D.Duplex.take_faults c.answer_input.new.device) → ⊥) → (Rose (g.D.Sink.faults c.args.device.now) (g.D.Sink.faults c.answer_input.new.device) → ⊥)
+    → (Rose (g.D.Duplex.take_faults c.args.device.now) (g.D.Duplex.take_faults c.answer_input.new.device) → ⊥) →
+    (Rose (g.D.Sink.faults c.args.device.now) (g.D.Sink.faults c.answer_input.new.device) → ⊥)
     → EndsAs rest c.answer_input.result)
     c.answer_input.ensures.outcome
     (λ x y o. λ all rest d few no_read no_write.
     ends_as c.answer_input.result (g.R.Responder.stands c.args.subject.now)
-    (λ s bodies. AnsweredBy g.R.Responder.may (shape_within (1048576 + g.R.Responder.MOST) c.answer_input.result) (g.R.Responder.stands c.answer_input.new.subject) (g.D.Sink.given c.args.device.now) (g.D.Sink.given c.answer_input.new.device) [] [] s bodies)
+    (λ s bodies. AnsweredBy g.R.Responder.may (shape_within (1048576 + g.R.Responder.MOST) c.answer_input.result)
+    (g.R.Responder.stands c.answer_input.new.subject) (g.D.Sink.given c.args.device.now) (g.D.Sink.given c.answer_input.new.device) [] [] s bodies)
     x y o (λ e. no_read (c.answer_input.ensures.read e)) (λ e. no_write (c.answer_input.ensures.write e)) all rest d few)
 
 pub returns-in-Err-clause-outcome : goal.returns-in-Err-clause-outcome
 returns-in-Err-clause-outcome g c =
     same (g.D.Duplex.left c.args.device.now)
-    (Done g.R.Responder.may (1048576 + g.R.Responder.MOST) (g.R.Responder.stands c.args.subject.now) (g.R.Responder.stands c.args.subject.now) (g.D.Sink.given c.args.device.now) (g.D.Sink.given c.args.device.now) NoMemory)
+    (Done g.R.Responder.may (1048576 + g.R.Responder.MOST) (g.R.Responder.stands c.args.subject.now) (g.R.Responder.stands c.args.subject.now)
+    (g.D.Sink.given c.args.device.now) (g.D.Sink.given c.args.device.now) NoMemory)
     (λ x. done_none g.R.Responder.may (1048576 + g.R.Responder.MOST) (g.R.Responder.stands c.args.subject.now) (g.D.Sink.given c.args.device.now) x)
 
 pub returns-in-Err-clause-prompt : goal.returns-in-Err-clause-prompt
-returns-in-Err-clause-prompt g c = each_none (g.D.Duplex.takes c.args.device.now) (λ moment. WhileTold (g.D.Duplex.left c.args.device.now) moment.left (UpToDate (g.R.Responder.stands c.args.subject.now) (λ s bodies. AnsweredBy g.R.Responder.may Whole (λ _. Unit {0}) (g.D.Sink.given c.args.device.now) moment.given [] [] s bodies)))
+returns-in-Err-clause-prompt g c = each_none (g.D.Duplex.takes c.args.device.now)
+    (λ moment. WhileTold (g.D.Duplex.left c.args.device.now) moment.left
+    (UpToDate (g.R.Responder.stands c.args.subject.now) (λ s bodies. AnsweredBy g.R.Responder.may Whole (λ _. Unit {0})
+    (g.D.Sink.given c.args.device.now) moment.given [] [] s bodies)))

@@ -15,21 +15,32 @@ use Rattle.site_run.proofs.runs.run_device.Goals as goal
 pub returns-in-Ok-clause-outcome : goal.returns-in-Ok-clause-outcome
 returns-in-Ok-clause-outcome g c =
     weaker (g.D.Duplex.left c.args.device.now) (g.D.Duplex.left c.answer_frames.new.device)
-    (Done (MachineMay g.M.Machine.plain) 2097156 (g.M.Machine.stands c.args.machine.now) (g.M.Machine.stands c.answer_frames.new.subject) (g.D.Sink.given c.args.device.now) (g.D.Sink.given c.answer_frames.new.device) c.answer_frames.result)
-    (λ first left. Outcome c.answer_frames.result (g.M.Machine.stands c.args.machine.now) (λ s bodies. Answered g.M.Machine.plain (shape_of c.answer_frames.result) (g.M.Machine.stands c.answer_frames.new.subject) (g.D.Sink.given c.args.device.now) (g.D.Sink.given c.answer_frames.new.device) s (map event_of bodies)) first left)
+    (Done (MachineMay g.M.Machine.plain) 2097156 (g.M.Machine.stands c.args.machine.now) (g.M.Machine.stands c.answer_frames.new.subject)
+    (g.D.Sink.given c.args.device.now) (g.D.Sink.given c.answer_frames.new.device) c.answer_frames.result)
+    (λ first left. Outcome c.answer_frames.result (g.M.Machine.stands c.args.machine.now)
+    (λ s bodies. Answered g.M.Machine.plain (shape_of c.answer_frames.result) (g.M.Machine.stands c.answer_frames.new.subject)
+    (g.D.Sink.given c.args.device.now) (g.D.Sink.given c.answer_frames.new.device) s (map event_of bodies)) first left)
     c.answer_frames.ensures.outcome
-    (λ x y o. machine_outcome g.M.Machine.plain c.answer_frames.result (g.M.Machine.stands c.args.machine.now) (g.M.Machine.stands c.answer_frames.new.subject) (g.D.Sink.given c.args.device.now) (g.D.Sink.given c.answer_frames.new.device) x y o)
+    (λ x y o. machine_outcome g.M.Machine.plain c.answer_frames.result (g.M.Machine.stands c.args.machine.now)
+    (g.M.Machine.stands c.answer_frames.new.subject) (g.D.Sink.given c.args.device.now) (g.D.Sink.given c.answer_frames.new.device) x y o)
 
 pub returns-in-Err-clause-outcome : goal.returns-in-Err-clause-outcome
 returns-in-Err-clause-outcome g c =
     same (g.D.Duplex.left c.args.device.now)
-    (λ first left. Outcome NoMemory (g.M.Machine.stands c.args.machine.now) (λ s bodies. Answered g.M.Machine.plain (shape_of NoMemory) (g.M.Machine.stands c.args.machine.now) (g.D.Sink.given c.args.device.now) (g.D.Sink.given c.args.device.now) s (map event_of bodies)) first left)
-    (λ x. machine_outcome g.M.Machine.plain NoMemory (g.M.Machine.stands c.args.machine.now) (g.M.Machine.stands c.args.machine.now) (g.D.Sink.given c.args.device.now) (g.D.Sink.given c.args.device.now) x x
+    (λ first left. Outcome NoMemory (g.M.Machine.stands c.args.machine.now)
+    (λ s bodies. Answered g.M.Machine.plain (shape_of NoMemory) (g.M.Machine.stands c.args.machine.now) (g.D.Sink.given c.args.device.now)
+    (g.D.Sink.given c.args.device.now) s (map event_of bodies)) first left)
+    (λ x. machine_outcome g.M.Machine.plain NoMemory (g.M.Machine.stands c.args.machine.now) (g.M.Machine.stands c.args.machine.now)
+    (g.D.Sink.given c.args.device.now) (g.D.Sink.given c.args.device.now) x x
     (done_none (MachineMay g.M.Machine.plain) 2097156 (g.M.Machine.stands c.args.machine.now) (g.D.Sink.given c.args.device.now) x))
 
 pub returns-in-Ok-clause-prompt : goal.returns-in-Ok-clause-prompt
 returns-in-Ok-clause-prompt g c =
-    machine_prompt g.M.Machine.plain (g.M.Machine.stands c.args.machine.now) (g.D.Sink.given c.args.device.now) (g.D.Duplex.left c.args.device.now) (g.D.Duplex.takes c.args.device.now) (g.D.Duplex.takes c.answer_frames.new.device) c.answer_frames.ensures.prompt
+    machine_prompt g.M.Machine.plain (g.M.Machine.stands c.args.machine.now) (g.D.Sink.given c.args.device.now) (g.D.Duplex.left c.args.device.now)
+    (g.D.Duplex.takes c.args.device.now) (g.D.Duplex.takes c.answer_frames.new.device) c.answer_frames.ensures.prompt
 
 pub returns-in-Err-clause-prompt : goal.returns-in-Err-clause-prompt
-returns-in-Err-clause-prompt g c = each_none (g.D.Duplex.takes c.args.device.now) (λ moment. WhileTold (g.D.Duplex.left c.args.device.now) moment.left (UpToDate (g.M.Machine.stands c.args.machine.now) (λ s bodies. Answered g.M.Machine.plain Whole (λ _. Unit {0}) (g.D.Sink.given c.args.device.now) moment.given s (map event_of bodies))))
+returns-in-Err-clause-prompt g c = each_none (g.D.Duplex.takes c.args.device.now)
+    (λ moment. WhileTold (g.D.Duplex.left c.args.device.now) moment.left
+    (UpToDate (g.M.Machine.stands c.args.machine.now) (λ s bodies. Answered g.M.Machine.plain Whole (λ _. Unit {0}) (g.D.Sink.given c.args.device.now)
+    moment.given s (map event_of bodies))))

@@ -9,5 +9,11 @@ pub returns-clause-outcome : goal.returns-clause-outcome
 returns-clause-outcome g c =
     let input : c.run_device.new.device.input.now ≡ c.input-1.given.0 = search rules in
     let output : c.run_device.new.device.output.now ≡ c.output-1.given.0 = search rules in
-    subst (λ i. WhileTold (g.I.Source.left c.args.input.now) (g.I.Source.left i) (λ first left. Outcome c.run_device.result (g.M.Machine.stands c.args.machine.now) (λ s bodies. Answered g.M.Machine.plain (shape_of c.run_device.result) (g.M.Machine.stands c.run_device.new.machine) (g.O.Sink.given c.args.output.now) (g.O.Sink.given c.output-1.given.0) s (map event_of bodies)) first left)) input
-    (subst (λ o. WhileTold (g.I.Source.left c.args.input.now) (g.I.Source.left c.run_device.new.device.input.now) (λ first left. Outcome c.run_device.result (g.M.Machine.stands c.args.machine.now) (λ s bodies. Answered g.M.Machine.plain (shape_of c.run_device.result) (g.M.Machine.stands c.run_device.new.machine) (g.O.Sink.given c.args.output.now) (g.O.Sink.given o) s (map event_of bodies)) first left)) output c.run_device.ensures.outcome)
+    subst (λ i. WhileTold (g.I.Source.left c.args.input.now) (g.I.Source.left i)
+    (λ first left. Outcome c.run_device.result (g.M.Machine.stands c.args.machine.now)
+    (λ s bodies. Answered g.M.Machine.plain (shape_of c.run_device.result) (g.M.Machine.stands c.run_device.new.machine)
+    (g.O.Sink.given c.args.output.now) (g.O.Sink.given c.output-1.given.0) s (map event_of bodies)) first left)) input
+    (subst (λ o. WhileTold (g.I.Source.left c.args.input.now) (g.I.Source.left c.run_device.new.device.input.now)
+    (λ first left. Outcome c.run_device.result (g.M.Machine.stands c.args.machine.now)
+    (λ s bodies. Answered g.M.Machine.plain (shape_of c.run_device.result) (g.M.Machine.stands c.run_device.new.machine)
+    (g.O.Sink.given c.args.output.now) (g.O.Sink.given o) s (map event_of bodies)) first left)) output c.run_device.ensures.outcome)

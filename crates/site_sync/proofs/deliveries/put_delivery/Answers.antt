@@ -7,15 +7,19 @@ use Rattle.site_sync.proofs.Items.{list_all_get, records_valid, consents_valid, 
 use Rattle.site_sync.proofs.deliveries.put_delivery.Goals as goal
 
 pub put_record-requires : goal.put_record-requires
-put_record-requires c = list_all_get is_record c.args.batch.now.records c.args.place c.at.result.now c.at.ensures (records_valid c.args.batch.now c.requires.valid)
+put_record-requires c = list_all_get is_record c.args.batch.now.records c.args.place c.at.result.now c.at.ensures
+    (records_valid c.args.batch.now c.requires.valid)
 
 pub put_consent-requires : goal.put_consent-requires
-put_consent-requires c = list_all_get is_consent c.args.batch.now.consents (c.args.place - c.len-records.result) c.at-else-place-records.result.now c.at-else-place-records.ensures (consents_valid c.args.batch.now c.requires.valid)
+put_consent-requires c = list_all_get is_consent c.args.batch.now.consents (c.args.place - c.len-records.result) c.at-else-place-records.result.now
+    c.at-else-place-records.ensures (consents_valid c.args.batch.now c.requires.valid)
 
 pub returns-then-place-records-clause-delivers : goal.returns-then-place-records-clause-delivers
 returns-then-place-records-clause-delivers c = λ item at.
     let b = c.args.batch.now in
-    c.put_record.ensures.delivers ∙ ap (λ i. (delivery i).1) (same_some (State c.at.result.now) item (slice_get (items b) c.args.place) (record_at b.records b.consents c.args.place c.at.result.now c.at.ensures) at)
+    c.put_record.ensures.delivers ∙ ap (λ i. (delivery i).1)
+    (same_some (State c.at.result.now) item (slice_get (items b) c.args.place)
+    (record_at b.records b.consents c.args.place c.at.result.now c.at.ensures) at)
 
 pub returns-else-place-records-clause-delivers : goal.returns-else-place-records-clause-delivers
 returns-else-place-records-clause-delivers c = λ item at.

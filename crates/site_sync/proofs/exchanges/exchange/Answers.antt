@@ -13,28 +13,54 @@ pub put_pull-requires : goal.put_pull-requires
 put_pull-requires g c =
     let z = start_of c.args.lock.now in
     let s : StepsOnce g.M.Machine.opening g.M.Machine.plain z c.args.pass stat c.step-pass.new.out c.step-pass.result.0 Done =
-    record { keeps = c.step-pass.ensures.pass; ended = subst (λ r. Ended g.M.Machine.opening g.M.Machine.plain z c.args.pass stat c.step-pass.new.out c.step-pass.result.0 r) c.in-Done.is c.step-pass.ensures.ended } in
-    let counts = told_counts g.M.Machine.opening g.M.Machine.plain z c.args.pass c.step-pass.result.0 c.step-pass.new.out c.requires.counts s c.step-pass.ensures.each in
+    record {
+      keeps = c.step-pass.ensures.pass;
+      ended = subst
+          (λ r. Ended g.M.Machine.opening g.M.Machine.plain z c.args.pass stat c.step-pass.new.out c.step-pass.result.0 r) c.in-Done.is
+          c.step-pass.ensures.ended;
+    } in
+    let counts = told_counts g.M.Machine.opening g.M.Machine.plain z c.args.pass c.step-pass.result.0 c.step-pass.new.out c.requires.counts s
+    c.step-pass.ensures.each in
     record { told = counts }
 
 pub returns-in-Ok-clause-exchange : goal.returns-in-Ok-clause-exchange
 returns-in-Ok-clause-exchange g c =
     let z = start_of c.args.lock.now in
     let s : StepsOnce g.M.Machine.opening g.M.Machine.plain z c.args.pass stat c.step-pass.new.out c.step-pass.result.0 Done =
-    record { keeps = c.step-pass.ensures.pass; ended = subst (λ r. Ended g.M.Machine.opening g.M.Machine.plain z c.args.pass stat c.step-pass.new.out c.step-pass.result.0 r) c.in-Done.is c.step-pass.ensures.ended } in
-    let counts = told_counts g.M.Machine.opening g.M.Machine.plain z c.args.pass c.step-pass.result.0 c.step-pass.new.out c.requires.counts s c.step-pass.ensures.each in
-    let gave : WhileTold (g.D.Sink.given c.args.device.now) (g.D.Sink.given c.fetch.new.device) (λ before after. Gave (Ok c.in-Ok.batch) before after (pull_frame counts.0)) =
-    subst (λ b. WhileTold (g.D.Sink.given c.args.device.now) (g.D.Sink.given c.fetch.new.device) (λ before after. Gave (Ok c.in-Ok.batch) before after b)) (c.bytes.ensures.same ∙ c.put_pull.ensures counts.0 counts.1) c.in-Ok.ensures.gave in
-    exchange_asked g.M.Machine.opening g.M.Machine.plain z g.D.Duplex.left g.D.Sink.given g.D.Duplex.take_faults g.D.Sink.faults c.args.pass c.step-pass.result.0 c.deliver_all.result.0 c.args.device.now c.fetch.new.device c.deliver_all.result.1 c.step-pass.new.out counts.0 (Ok c.in-Ok.batch)
-    counts.1 s gave c.in-Ok.ensures.fetched c.deliver_all.ensures.delivers c.in-Ok.ensures.read_later c.in-Ok.ensures.write_later c.in-Ok.ensures.read c.in-Ok.ensures.write c.in-Ok.ensures.no_dial
+    record {
+      keeps = c.step-pass.ensures.pass;
+      ended = subst
+          (λ r. Ended g.M.Machine.opening g.M.Machine.plain z c.args.pass stat c.step-pass.new.out c.step-pass.result.0 r) c.in-Done.is
+          c.step-pass.ensures.ended;
+    } in
+    let counts = told_counts g.M.Machine.opening g.M.Machine.plain z c.args.pass c.step-pass.result.0 c.step-pass.new.out c.requires.counts s
+    c.step-pass.ensures.each in
+    let gave : WhileTold (g.D.Sink.given c.args.device.now) (g.D.Sink.given c.fetch.new.device)
+    (λ before after. Gave (Ok c.in-Ok.batch) before after (pull_frame counts.0)) =
+    subst (λ b. WhileTold (g.D.Sink.given c.args.device.now) (g.D.Sink.given c.fetch.new.device) (λ before after. Gave (Ok c.in-Ok.batch) before after b))
+    (c.bytes.ensures.same ∙ c.put_pull.ensures counts.0 counts.1) c.in-Ok.ensures.gave in
+    exchange_asked g.M.Machine.opening g.M.Machine.plain z g.D.Duplex.left g.D.Sink.given g.D.Duplex.take_faults g.D.Sink.faults c.args.pass
+    c.step-pass.result.0 c.deliver_all.result.0 c.args.device.now c.fetch.new.device c.deliver_all.result.1 c.step-pass.new.out counts.0 (Ok c.in-Ok.batch)
+    counts.1 s gave c.in-Ok.ensures.fetched c.deliver_all.ensures.delivers c.in-Ok.ensures.read_later c.in-Ok.ensures.write_later c.in-Ok.ensures.read
+    c.in-Ok.ensures.write c.in-Ok.ensures.no_dial
 
 pub returns-in-Err-clause-exchange : goal.returns-in-Err-clause-exchange
 returns-in-Err-clause-exchange g c =
     let z = start_of c.args.lock.now in
     let s : StepsOnce g.M.Machine.opening g.M.Machine.plain z c.args.pass stat c.step-pass.new.out c.step-pass.result.0 Done =
-    record { keeps = c.step-pass.ensures.pass; ended = subst (λ r. Ended g.M.Machine.opening g.M.Machine.plain z c.args.pass stat c.step-pass.new.out c.step-pass.result.0 r) c.in-Done.is c.step-pass.ensures.ended } in
-    let counts = told_counts g.M.Machine.opening g.M.Machine.plain z c.args.pass c.step-pass.result.0 c.step-pass.new.out c.requires.counts s c.step-pass.ensures.each in
-    let gave : WhileTold (g.D.Sink.given c.args.device.now) (g.D.Sink.given c.fetch.new.device) (λ before after. Gave (Err c.in-Err.end) before after (pull_frame counts.0)) =
-    subst (λ b. WhileTold (g.D.Sink.given c.args.device.now) (g.D.Sink.given c.fetch.new.device) (λ before after. Gave (Err c.in-Err.end) before after b)) (c.bytes.ensures.same ∙ c.put_pull.ensures counts.0 counts.1) c.in-Err.ensures.gave in
-    exchange_asked g.M.Machine.opening g.M.Machine.plain z g.D.Duplex.left g.D.Sink.given g.D.Duplex.take_faults g.D.Sink.faults c.args.pass c.step-pass.result.0 c.step-pass.result.0 c.args.device.now c.fetch.new.device c.in-Err.end c.step-pass.new.out counts.0 (Err c.in-Err.end)
-    counts.1 s gave c.in-Err.ensures.fetched (refl, refl) c.in-Err.ensures.read_later c.in-Err.ensures.write_later c.in-Err.ensures.read c.in-Err.ensures.write c.in-Err.ensures.no_dial
+    record {
+      keeps = c.step-pass.ensures.pass;
+      ended = subst
+          (λ r. Ended g.M.Machine.opening g.M.Machine.plain z c.args.pass stat c.step-pass.new.out c.step-pass.result.0 r) c.in-Done.is
+          c.step-pass.ensures.ended;
+    } in
+    let counts = told_counts g.M.Machine.opening g.M.Machine.plain z c.args.pass c.step-pass.result.0 c.step-pass.new.out c.requires.counts s
+    c.step-pass.ensures.each in
+    let gave : WhileTold (g.D.Sink.given c.args.device.now) (g.D.Sink.given c.fetch.new.device)
+    (λ before after. Gave (Err c.in-Err.end) before after (pull_frame counts.0)) =
+    subst (λ b. WhileTold (g.D.Sink.given c.args.device.now) (g.D.Sink.given c.fetch.new.device) (λ before after. Gave (Err c.in-Err.end) before after b))
+    (c.bytes.ensures.same ∙ c.put_pull.ensures counts.0 counts.1) c.in-Err.ensures.gave in
+    exchange_asked g.M.Machine.opening g.M.Machine.plain z g.D.Duplex.left g.D.Sink.given g.D.Duplex.take_faults g.D.Sink.faults c.args.pass
+    c.step-pass.result.0 c.step-pass.result.0 c.args.device.now c.fetch.new.device c.in-Err.end c.step-pass.new.out counts.0 (Err c.in-Err.end)
+    counts.1 s gave c.in-Err.ensures.fetched (refl, refl) c.in-Err.ensures.read_later c.in-Err.ensures.write_later c.in-Err.ensures.read
+    c.in-Err.ensures.write c.in-Err.ensures.no_dial

@@ -7,4 +7,5 @@ use Rattle.site_sync.proofs.pulls.put_counts.Goals as goal
 
 pub write_u32-requires : goal.write_u32-requires
 write_u32-requires c =
-    room-next count_spelling c.args.lines.now c.loop-line.line-index (record { count = 0; floor = root; number = 0 }) c.args.out.now c.loop-line.out longest_frame c.loop-line.invariant (omega arith) (omega arith)
+    room-next count_spelling c.args.lines.now c.loop-line.line-index (record { count = 0; floor = root; number = 0 }) c.args.out.now c.loop-line.out
+    longest_frame c.loop-line.invariant (omega arith) (omega arith)

@@ -10,8 +10,10 @@ pub returns-clause-goes_on : goal.returns-clause-goes_on
 returns-clause-goes_on g c =
     let z = start_of c.args.lock.now in
     goes_both c.args.pass c.step-pass.result.0 c.step-pass-2.result.0
-    (goes_step g.M.Machine.opening g.M.Machine.plain z c.args.pass c.step-pass.result.0 (0, request_spelling RaiseAuto) c.step-pass.new.out c.step-pass.result.1 (record { keeps = c.step-pass.ensures.pass; ended = c.step-pass.ensures.ended }))
-    (goes_step g.M.Machine.opening g.M.Machine.plain z c.step-pass.result.0 c.step-pass-2.result.0 (0, request_spelling (Tidy 64)) c.step-pass-2.new.out c.step-pass-2.result.1 (record { keeps = c.step-pass-2.ensures.pass; ended = c.step-pass-2.ensures.ended }))
+    (goes_step g.M.Machine.opening g.M.Machine.plain z c.args.pass c.step-pass.result.0 (0, request_spelling RaiseAuto) c.step-pass.new.out
+    c.step-pass.result.1 (record { keeps = c.step-pass.ensures.pass; ended = c.step-pass.ensures.ended }))
+    (goes_step g.M.Machine.opening g.M.Machine.plain z c.step-pass.result.0 c.step-pass-2.result.0 (0, request_spelling (Tidy 64)) c.step-pass-2.new.out
+    c.step-pass-2.result.1 (record { keeps = c.step-pass-2.ensures.pass; ended = c.step-pass-2.ensures.ended }))
 
 pub returns-clause-tidies : goal.returns-clause-tidies
 returns-clause-tidies g c = record {

@@ -1,4 +1,5 @@
-use Rattle.std.proofs.Common.{◌≡◌, ◌∙◌, ◌+◌, ◌-◌, ◌++◌, ◌∷◌, [], not, ◌<◌, ℕ, true, List, ltb, length, filter, take, get_or, unwrap_or, slice_get, slice_set, Option, None, Result, Ok, Err, OnErr, IsTrue, refl, sym, ap, subst, arith}
+use Rattle.std.proofs.Common.{◌≡◌, ◌∙◌, ◌+◌, ◌-◌, ◌++◌, ◌∷◌, [], not, ◌<◌, ℕ, true, List, ltb, length, filter, take, get_or, unwrap_or, slice_get, slice_set}
+use Rattle.std.proofs.Common.{Option, None, Result, Ok, Err, OnErr, IsTrue, refl, sym, ap, subst, arith}
 use Rattle.std.specs.List.{list_all}
 use Rattle.std.proofs.lemmas.Bool.{ne_eqb}
 use Rattle.std.proofs.lemmas.Option.{unwrap_or-slice_get}
@@ -29,7 +30,8 @@ use Rattle.state_dag.proofs.NextSlot.{IsNext, next-slot}
 use Rattle.state_dag.proofs.LastSlots.{slots-kept, slot-was, last-named, kept-stays, last-arrives, arrives-last}
 use Rattle.state_dag.proofs.GrownTables.{distinct-from_differ, refused-alike, table-grown}
 use Rattle.state_dag.proofs.HeldNext.{view-same, held-stays, entries-after, slot-fresh, held-next}
-use Rattle.state_dag.proofs.AddSteps.{parents-placed, short-kept, gains-seen, none-seen, long-seen, entry-seen, gains-at_places, few-gains, all-grown, leaves-in_order, fault-answered}
+use Rattle.state_dag.proofs.AddSteps.{parents-placed, short-kept, gains-seen, none-seen, long-seen, entry-seen, gains-at_places, few-gains, all-grown}
+use Rattle.state_dag.proofs.AddSteps.{leaves-in_order, fault-answered}
 use Rattle.state_dag.proofs.Known.{limits-parts}
 use Rattle.state_dag.proofs.StateDag.add.Goals as goal
 
@@ -39,22 +41,27 @@ returns-then-self-clause-added c = λ rs ks r stands is may.
     let old = c.args.self.now in
     let is_full = c.if-self.true in
     let equal : a.kept ≡ a.limits.max_kept = omega arith in
-    full old old rs ks r c.args.parents.now stands a.kept (sym (entries-long a c.self.invariant) ∙ ap (λ (t : Table). length t.entries) c.self.view_is) (equal ∙ ap (λ (t : Table). t.limits.max_kept) c.self.view_is) refl
+    full old old rs ks r c.args.parents.now stands a.kept (sym (entries-long a c.self.invariant) ∙ ap (λ (t : Table). length t.entries) c.self.view_is)
+    (equal ∙ ap (λ (t : Table). t.limits.max_kept) c.self.view_is) refl
 
 pub new_node-requires : goal.new_node-requires
 new_node-requires c =
-    subst (λ (ns : List Node). list_all (λ (s : Slot). ltb s.0 (length ns)) c.args.parents.now ≡ true) (sym c.deref.ensures.value) (parents-placed c.self.inside c.self.invariant c.args.self.now c.self.view_is c.args.parents.now c.requires.slots)
+    subst (λ (ns : List Node). list_all (λ (s : Slot). ltb s.0 (length ns)) c.args.parents.now ≡ true) (sym c.deref.ensures.value)
+    (parents-placed c.self.inside c.self.invariant c.args.self.now c.self.view_is c.args.parents.now c.requires.slots)
 
 pub gains-requires-clause-places : goal.gains-requires-clause-places
 gains-requires-clause-places c =
     subst (λ (ns : List Node). list_all (λ (s : Slot). ltb s.0 (length ns)) (take c.self.inside.kept c.deref-2.result.now) ≡ true) (sym c.deref-3.ensures.value)
-    (subst (λ (ss : List Slot). list_all (λ (s : Slot). ltb s.0 (length c.self.inside.nodes.items)) ss ≡ true) (sym (ap (take c.self.inside.kept) c.deref-2.ensures.value)) (kept-placed c.self.inside c.self.invariant))
+    (subst (λ (ss : List Slot). list_all (λ (s : Slot). ltb s.0 (length c.self.inside.nodes.items)) ss ≡ true)
+    (sym (ap (take c.self.inside.kept) c.deref-2.ensures.value)) (kept-placed c.self.inside c.self.invariant))
 
 pub gains-requires-clause-in_order : goal.gains-requires-clause-in_order
-gains-requires-clause-in_order c = slots-ascend c.self.inside c.self.invariant c.deref-3.result.now (take c.self.inside.kept c.deref-2.result.now) c.deref-3.ensures.value (ap (take c.self.inside.kept) c.deref-2.ensures.value)
+gains-requires-clause-in_order c = slots-ascend c.self.inside c.self.invariant c.deref-3.result.now (take c.self.inside.kept c.deref-2.result.now)
+    c.deref-3.ensures.value (ap (take c.self.inside.kept) c.deref-2.ensures.value)
 
 pub gains-requires-clause-short : goal.gains-requires-clause-short
-gains-requires-clause-short c = short-kept c.self.inside c.self.invariant c.args.self.now c.self.view_is c.args.parents.now c.requires.slots c.deref-3.result.now (take c.self.inside.kept c.deref-2.result.now) c.deref-3.ensures.value (ap (take c.self.inside.kept) c.deref-2.ensures.value)
+gains-requires-clause-short c = short-kept c.self.inside c.self.invariant c.args.self.now c.self.view_is c.args.parents.now c.requires.slots
+    c.deref-3.result.now (take c.self.inside.kept c.deref-2.result.now) c.deref-3.ensures.value (ap (take c.self.inside.kept) c.deref-2.ensures.value)
 
 pub returns-in_err-gains-clause-added : goal.returns-in_err-gains-clause-added
 returns-in_err-gains-clause-added c = λ rs ks r stands is may.
@@ -67,8 +74,13 @@ returns-in_err-gains-clause-added c = λ rs ks r stands is may.
     let wrong : AddFault → Result Slot AddFault = λ f. Err f in
     let has_room = c.if-self.false in
     subst (λ (z : Result Slot AddFault). AddedTo old old rs ks r z) (sym (p.1 ∙ ap wrong p.2))
-    (fault-answered a c.self.invariant old parents n c.args.id c.self.view_is (entry-seen c.self.inside c.self.invariant c.args.self.now c.self.view_is c.args.parents.now c.requires.slots c.deref.result.now c.args.id (record { 0 = 0 }) (entry_of 0 c.in_ok-node.node) c.deref.ensures.value (c.in_ok-node.ensures 0)) (λ e. omega arith) fault
-    (long-told (seen a) parents n.id (length n.path.pairs) (found-all a c.self.invariant) fault (long-seen c.self.inside c.self.invariant c.args.self.now c.self.view_is c.args.parents.now c.requires.slots c.deref-3.result.now (take c.self.inside.kept c.deref-2.result.now) c.deref-3.ensures.value (ap (take c.self.inside.kept) c.deref-2.ensures.value) fault c.in_err-gains.ensures.long)) rs ks r stands is may)
+    (fault-answered a c.self.invariant old parents n c.args.id c.self.view_is
+    (entry-seen c.self.inside c.self.invariant c.args.self.now c.self.view_is c.args.parents.now c.requires.slots c.deref.result.now c.args.id
+    (record { 0 = 0 }) (entry_of 0 c.in_ok-node.node) c.deref.ensures.value (c.in_ok-node.ensures 0)) (λ e. omega arith) fault
+    (long-told (seen a) parents n.id (length n.path.pairs) (found-all a c.self.invariant) fault
+    (long-seen c.self.inside c.self.invariant c.args.self.now c.self.view_is c.args.parents.now c.requires.slots c.deref-3.result.now
+    (take c.self.inside.kept c.deref-2.result.now) c.deref-3.ensures.value (ap (take c.self.inside.kept) c.deref-2.ensures.value) fault
+    c.in_err-gains.ensures.long)) rs ks r stands is may)
 
 pub returns-in_err-check_path-clause-added : goal.returns-in_err-check_path-clause-added
 returns-in_err-check_path-clause-added c = λ rs ks r stands is may.
@@ -81,59 +93,120 @@ returns-in_err-check_path-clause-added c = λ rs ks r stands is may.
     let wrong : AddFault → Result Slot AddFault = λ f. Err f in
     let has_room = c.if-self.false in
     subst (λ (z : Result Slot AddFault). AddedTo old old rs ks r z) (sym (p.1 ∙ ap wrong p.2))
-    (fault-answered a c.self.invariant old parents n c.args.id c.self.view_is (entry-seen c.self.inside c.self.invariant c.args.self.now c.self.view_is c.args.parents.now c.requires.slots c.deref.result.now c.args.id (record { 0 = 0 }) (entry_of 0 c.in_ok-node.node) c.deref.ensures.value (c.in_ok-node.ensures 0)) (λ e. omega arith) fault
-    (own-told (seen a) parents n.id (length n.path.pairs) (found-all a c.self.invariant) fault (none-seen c.self.inside c.self.invariant c.args.self.now c.self.view_is c.args.parents.now c.requires.slots c.deref-3.result.now (take c.self.inside.kept c.deref-2.result.now) c.deref-3.ensures.value (ap (take c.self.inside.kept) c.deref-2.ensures.value) c.in_ok-gains.ensures.long) c.in_err-check_path.ensures) rs ks r stands is may)
+    (fault-answered a c.self.invariant old parents n c.args.id c.self.view_is
+    (entry-seen c.self.inside c.self.invariant c.args.self.now c.self.view_is c.args.parents.now c.requires.slots c.deref.result.now c.args.id
+    (record { 0 = 0 }) (entry_of 0 c.in_ok-node.node) c.deref.ensures.value (c.in_ok-node.ensures 0)) (λ e. omega arith) fault
+    (own-told (seen a) parents n.id (length n.path.pairs) (found-all a c.self.invariant) fault
+    (none-seen c.self.inside c.self.invariant c.args.self.now c.self.view_is c.args.parents.now c.requires.slots c.deref-3.result.now
+    (take c.self.inside.kept c.deref-2.result.now) c.deref-3.ensures.value (ap (take c.self.inside.kept) c.deref-2.ensures.value)
+    c.in_ok-gains.ensures.long) c.in_err-check_path.ensures) rs ks r stands is may)
 
 pub make_room-requires-clause-places : goal.make_room-requires-clause-places
 make_room-requires-clause-places c = parents-placed c.self.inside c.self.invariant c.args.self.now c.self.view_is c.args.parents.now c.requires.slots
 
 pub make_room-requires-clause-gains : goal.make_room-requires-clause-gains
-make_room-requires-clause-gains c = gains-at_places c.self.inside c.self.invariant c.args.self.now c.self.view_is c.args.parents.now c.requires.slots c.deref-4.result.now (c.deref-4.ensures.value ∙ gains-seen c.self.inside c.self.invariant c.args.self.now c.self.view_is c.args.parents.now c.requires.slots c.deref-3.result.now (take c.self.inside.kept c.deref-2.result.now) c.deref-3.ensures.value (ap (take c.self.inside.kept) c.deref-2.ensures.value) c.in_ok-gains.gains.items c.in_ok-gains.ensures.gains) c.self.inside.nodes.items refl
+make_room-requires-clause-gains c = gains-at_places c.self.inside c.self.invariant c.args.self.now c.self.view_is c.args.parents.now c.requires.slots
+    c.deref-4.result.now (c.deref-4.ensures.value ∙ gains-seen c.self.inside c.self.invariant c.args.self.now c.self.view_is c.args.parents.now
+    c.requires.slots c.deref-3.result.now (take c.self.inside.kept c.deref-2.result.now) c.deref-3.ensures.value
+    (ap (take c.self.inside.kept) c.deref-2.ensures.value) c.in_ok-gains.gains.items c.in_ok-gains.ensures.gains) c.self.inside.nodes.items refl
 
 pub make_room-requires-clause-few : goal.make_room-requires-clause-few
-make_room-requires-clause-few c = few-gains c.self.inside c.self.invariant c.args.self.now c.self.view_is c.args.parents.now c.requires.slots c.deref-4.result.now (c.deref-4.ensures.value ∙ gains-seen c.self.inside c.self.invariant c.args.self.now c.self.view_is c.args.parents.now c.requires.slots c.deref-3.result.now (take c.self.inside.kept c.deref-2.result.now) c.deref-3.ensures.value (ap (take c.self.inside.kept) c.deref-2.ensures.value) c.in_ok-gains.gains.items c.in_ok-gains.ensures.gains)
+make_room-requires-clause-few c = few-gains c.self.inside c.self.invariant c.args.self.now c.self.view_is c.args.parents.now c.requires.slots
+    c.deref-4.result.now (c.deref-4.ensures.value ∙ gains-seen c.self.inside c.self.invariant c.args.self.now c.self.view_is c.args.parents.now
+    c.requires.slots c.deref-3.result.now (take c.self.inside.kept c.deref-2.result.now) c.deref-3.ensures.value
+    (ap (take c.self.inside.kept) c.deref-2.ensures.value) c.in_ok-gains.gains.items c.in_ok-gains.ensures.gains)
 
 pub drop_slots-requires : goal.drop_slots-requires
-drop_slots-requires c = leaves-in_order c.self.inside c.self.invariant c.args.self.now c.self.view_is c.args.parents.now c.requires.slots c.make_room.new.nodes.items c.deref-6.result.now c.make_slot_room-2.new.slots.items c.deref-6.ensures.value c.make_room.ensures.same c.make_slot_room-2.ensures.items
+drop_slots-requires c = leaves-in_order c.self.inside c.self.invariant c.args.self.now c.self.view_is c.args.parents.now c.requires.slots
+    c.make_room.new.nodes.items c.deref-6.result.now c.make_slot_room-2.new.slots.items c.deref-6.ensures.value c.make_room.ensures.same
+    c.make_slot_room-2.ensures.items
 
 pub grow-requires-clause-places : goal.grow-requires-clause-places
 grow-requires-clause-places c =
-    subst (λ (n : ℕ). list_all (λ (s : Slot). ltb s.0 n) c.args.parents.now ≡ true) (sym (same-count c.make_room.new.nodes.items c.self.inside.nodes.items c.make_room.ensures.same)) (parents-placed c.self.inside c.self.invariant c.args.self.now c.self.view_is c.args.parents.now c.requires.slots)
+    subst (λ (n : ℕ). list_all (λ (s : Slot). ltb s.0 n) c.args.parents.now ≡ true)
+    (sym (same-count c.make_room.new.nodes.items c.self.inside.nodes.items c.make_room.ensures.same))
+    (parents-placed c.self.inside c.self.invariant c.args.self.now c.self.view_is c.args.parents.now c.requires.slots)
 
 pub grow-requires-clause-gains : goal.grow-requires-clause-gains
-grow-requires-clause-gains c = gains-at_places c.self.inside c.self.invariant c.args.self.now c.self.view_is c.args.parents.now c.requires.slots c.deref-7.result.now (c.deref-7.ensures.value ∙ gains-seen c.self.inside c.self.invariant c.args.self.now c.self.view_is c.args.parents.now c.requires.slots c.deref-3.result.now (take c.self.inside.kept c.deref-2.result.now) c.deref-3.ensures.value (ap (take c.self.inside.kept) c.deref-2.ensures.value) c.in_ok-gains.gains.items c.in_ok-gains.ensures.gains) c.make_room.new.nodes.items (same-count c.make_room.new.nodes.items c.self.inside.nodes.items c.make_room.ensures.same)
+grow-requires-clause-gains c = gains-at_places c.self.inside c.self.invariant c.args.self.now c.self.view_is c.args.parents.now c.requires.slots
+    c.deref-7.result.now (c.deref-7.ensures.value ∙ gains-seen c.self.inside c.self.invariant c.args.self.now c.self.view_is c.args.parents.now
+    c.requires.slots c.deref-3.result.now (take c.self.inside.kept c.deref-2.result.now) c.deref-3.ensures.value
+    (ap (take c.self.inside.kept) c.deref-2.ensures.value) c.in_ok-gains.gains.items c.in_ok-gains.ensures.gains) c.make_room.new.nodes.items
+    (same-count c.make_room.new.nodes.items c.self.inside.nodes.items c.make_room.ensures.same)
 
 pub invariant_of-self : goal.invariant_of-self
 invariant_of-self c =
     let a = c.self.inside in
-    let b : Inside = record { limits = a.limits; counts = a.counts; known = a.known; nodes = c.make_room.new.nodes; order = a.order; kept = a.kept; leaves = a.leaves; slots = a.slots } in
+    let b : Inside = record {
+      limits = a.limits;
+      counts = a.counts;
+      known = a.known;
+      nodes = c.make_room.new.nodes;
+      order = a.order;
+      kept =
+          a.kept;
+      leaves = a.leaves;
+      slots = a.slots;
+    } in
     held-stays a b c.self.invariant refl refl refl refl refl refl c.make_room.ensures.same (λ x. refl)
 
 pub invariant_of-self-in_err-make_slot_room : goal.invariant_of-self-in_err-make_slot_room
 invariant_of-self-in_err-make_slot_room c =
     let a = c.self.inside in
-    let b : Inside = record { limits = a.limits; counts = a.counts; known = a.known; nodes = c.make_room.new.nodes; order = c.make_slot_room.new.slots; kept = a.kept; leaves = a.leaves; slots = a.slots } in
+    let b : Inside = record {
+      limits = a.limits;
+      counts = a.counts;
+      known = a.known;
+      nodes = c.make_room.new.nodes;
+      order =
+          c.make_slot_room.new.slots;
+      kept = a.kept;
+      leaves = a.leaves;
+      slots = a.slots;
+    } in
     held-stays a b c.self.invariant refl refl refl refl c.make_slot_room.ensures.items refl c.make_room.ensures.same (λ x. refl)
 
 pub invariant_of-self-in_err-make_slot_room-2 : goal.invariant_of-self-in_err-make_slot_room-2
 invariant_of-self-in_err-make_slot_room-2 c =
     let a = c.self.inside in
-    let b : Inside = record { limits = a.limits; counts = a.counts; known = a.known; nodes = c.make_room.new.nodes; order = c.make_slot_room.new.slots; kept = a.kept; leaves = c.make_slot_room-2.new.slots; slots = a.slots } in
+    let b : Inside = record {
+      limits = a.limits;
+      counts = a.counts;
+      known = a.known;
+      nodes = c.make_room.new.nodes;
+      order =
+          c.make_slot_room.new.slots;
+      kept = a.kept;
+      leaves = c.make_slot_room-2.new.slots;
+      slots = a.slots;
+    } in
     held-stays a b c.self.invariant refl refl refl c.make_slot_room-2.ensures.items c.make_slot_room.ensures.items refl c.make_room.ensures.same (λ x. refl)
 
 pub put-requires : goal.put-requires
 put-requires c = λ x of_site from.
     let a = c.self.inside in
     let i = c.args.id.site - 1 in
-    let next = c.requires.next ∙ ap (λ (m : ℕ). m + 1) (unwrap_or-slice_get c.args.self.now.counts i 0 ∙ ap (λ (t : Table). get_or t.counts i 0) (sym c.self.view_is)) in
+    let next = c.requires.next ∙ ap (λ (m : ℕ). m + 1) (unwrap_or-slice_get c.args.self.now.counts i 0
+    ∙ ap (λ (t : Table). get_or t.counts i 0) (sym c.self.view_is)) in
     let counted = ap (λ (n : ℕ). get_or a.counts.items (n - 1) 0) of_site in
     c.self.invariant.indexed x ∙ uncounted-none a.counts.items x (seen a).entries c.self.invariant.among_counted (omega arith)
 
 pub invariant_of-self-in_err-put : goal.invariant_of-self-in_err-put
 invariant_of-self-in_err-put c =
     let a = c.self.inside in
-    let b : Inside = record { limits = a.limits; counts = a.counts; known = a.known; nodes = c.make_room.new.nodes; order = c.make_slot_room.new.slots; kept = a.kept; leaves = c.make_slot_room-2.new.slots; slots = c.put.new.self } in
-    held-stays a b c.self.invariant refl refl refl c.make_slot_room-2.ensures.items c.make_slot_room.ensures.items refl c.make_room.ensures.same c.in_err-put.ensures.same
+    let b : Inside = record {
+      limits = a.limits;
+      counts = a.counts;
+      known = a.known;
+      nodes = c.make_room.new.nodes;
+      order =
+          c.make_slot_room.new.slots;
+      kept = a.kept;
+      leaves = c.make_slot_room-2.new.slots;
+      slots = c.put.new.self;
+    } in
+    held-stays a b c.self.invariant refl refl refl c.make_slot_room-2.ensures.items c.make_slot_room.ensures.items refl c.make_room.ensures.same
+    c.in_err-put.ensures.same
 
 pub overflow_add-self : goal.overflow_add-self
 overflow_add-self c =
@@ -158,7 +231,17 @@ pub returns-in_err-make_room-clause-same : goal.returns-in_err-make_room-clause-
 returns-in_err-make_room-clause-same c =
     let a = c.self.inside in
     let old = c.args.self.now in
-    let b : Inside = record { limits = a.limits; counts = a.counts; known = a.known; nodes = c.make_room.new.nodes; order = a.order; kept = a.kept; leaves = a.leaves; slots = a.slots } in
+    let b : Inside = record {
+      limits = a.limits;
+      counts = a.counts;
+      known = a.known;
+      nodes = c.make_room.new.nodes;
+      order = a.order;
+      kept =
+          a.kept;
+      leaves = a.leaves;
+      slots = a.slots;
+    } in
     let stays : seen b ≡ old = view-same a b c.self.invariant refl refl refl refl refl refl c.make_room.ensures.same (λ x. refl) old c.self.view_is in
     on_err c.from_residual-in_err-make_room.result (seen b ≡ old) stays
 
@@ -166,7 +249,17 @@ pub returns-in_err-make_room-clause-keeps : goal.returns-in_err-make_room-clause
 returns-in_err-make_room-clause-keeps c =
     let a = c.self.inside in
     let old = c.args.self.now in
-    let b : Inside = record { limits = a.limits; counts = a.counts; known = a.known; nodes = c.make_room.new.nodes; order = a.order; kept = a.kept; leaves = a.leaves; slots = a.slots } in
+    let b : Inside = record {
+      limits = a.limits;
+      counts = a.counts;
+      known = a.known;
+      nodes = c.make_room.new.nodes;
+      order = a.order;
+      kept =
+          a.kept;
+      leaves = a.leaves;
+      slots = a.slots;
+    } in
     let stays : seen b ≡ old = view-same a b c.self.invariant refl refl refl refl refl refl c.make_room.ensures.same (λ x. refl) old c.self.view_is in
     subst (λ (t : Table). KeepsSlots old t) (sym stays) (λ s x h. h)
 
@@ -174,7 +267,17 @@ pub returns-in_err-make_room-clause-kept : goal.returns-in_err-make_room-clause-
 returns-in_err-make_room-clause-kept c =
     let a = c.self.inside in
     let old = c.args.self.now in
-    let b : Inside = record { limits = a.limits; counts = a.counts; known = a.known; nodes = c.make_room.new.nodes; order = a.order; kept = a.kept; leaves = a.leaves; slots = a.slots } in
+    let b : Inside = record {
+      limits = a.limits;
+      counts = a.counts;
+      known = a.known;
+      nodes = c.make_room.new.nodes;
+      order = a.order;
+      kept =
+          a.kept;
+      leaves = a.leaves;
+      slots = a.slots;
+    } in
     let stays : seen b ≡ old = view-same a b c.self.invariant refl refl refl refl refl refl c.make_room.ensures.same (λ x. refl) old c.self.view_is in
     subst (λ (t : Table). (s : Slot) → IsTrue (is_kept_at old s) → IsTrue (is_kept_at t s) × (arrival_at t s ≡ arrival_at old s)) (sym stays) (λ s h. (h, refl))
 
@@ -182,7 +285,17 @@ pub returns-in_err-make_room-clause-added : goal.returns-in_err-make_room-clause
 returns-in_err-make_room-clause-added c = λ rs ks r stands is may.
     let a = c.self.inside in
     let old = c.args.self.now in
-    let b : Inside = record { limits = a.limits; counts = a.counts; known = a.known; nodes = c.make_room.new.nodes; order = a.order; kept = a.kept; leaves = a.leaves; slots = a.slots } in
+    let b : Inside = record {
+      limits = a.limits;
+      counts = a.counts;
+      known = a.known;
+      nodes = c.make_room.new.nodes;
+      order = a.order;
+      kept =
+          a.kept;
+      leaves = a.leaves;
+      slots = a.slots;
+    } in
     let stays : seen b ≡ old = view-same a b c.self.invariant refl refl refl refl refl refl c.make_room.ensures.same (λ x. refl) old c.self.view_is in
     let p = err_from_is_err_and c.from_residual-in_err-make_room.result c.from_residual-in_err-make_room.ensures.1 in
     let wrong : AddFault → Result Slot AddFault = λ f. Err f in
@@ -192,32 +305,76 @@ pub returns-in_err-make_slot_room-clause-same : goal.returns-in_err-make_slot_ro
 returns-in_err-make_slot_room-clause-same c =
     let a = c.self.inside in
     let old = c.args.self.now in
-    let b : Inside = record { limits = a.limits; counts = a.counts; known = a.known; nodes = c.make_room.new.nodes; order = c.make_slot_room.new.slots; kept = a.kept; leaves = a.leaves; slots = a.slots } in
-    let stays : seen b ≡ old = view-same a b c.self.invariant refl refl refl refl c.make_slot_room.ensures.items refl c.make_room.ensures.same (λ x. refl) old c.self.view_is in
+    let b : Inside = record {
+      limits = a.limits;
+      counts = a.counts;
+      known = a.known;
+      nodes = c.make_room.new.nodes;
+      order =
+          c.make_slot_room.new.slots;
+      kept = a.kept;
+      leaves = a.leaves;
+      slots = a.slots;
+    } in
+    let stays : seen b ≡ old = view-same a b c.self.invariant refl refl refl refl c.make_slot_room.ensures.items refl c.make_room.ensures.same
+    (λ x. refl) old c.self.view_is in
     on_err c.from_residual-in_err-make_slot_room.result (seen b ≡ old) stays
 
 pub returns-in_err-make_slot_room-clause-keeps : goal.returns-in_err-make_slot_room-clause-keeps
 returns-in_err-make_slot_room-clause-keeps c =
     let a = c.self.inside in
     let old = c.args.self.now in
-    let b : Inside = record { limits = a.limits; counts = a.counts; known = a.known; nodes = c.make_room.new.nodes; order = c.make_slot_room.new.slots; kept = a.kept; leaves = a.leaves; slots = a.slots } in
-    let stays : seen b ≡ old = view-same a b c.self.invariant refl refl refl refl c.make_slot_room.ensures.items refl c.make_room.ensures.same (λ x. refl) old c.self.view_is in
+    let b : Inside = record {
+      limits = a.limits;
+      counts = a.counts;
+      known = a.known;
+      nodes = c.make_room.new.nodes;
+      order =
+          c.make_slot_room.new.slots;
+      kept = a.kept;
+      leaves = a.leaves;
+      slots = a.slots;
+    } in
+    let stays : seen b ≡ old = view-same a b c.self.invariant refl refl refl refl c.make_slot_room.ensures.items refl c.make_room.ensures.same
+    (λ x. refl) old c.self.view_is in
     subst (λ (t : Table). KeepsSlots old t) (sym stays) (λ s x h. h)
 
 pub returns-in_err-make_slot_room-clause-kept : goal.returns-in_err-make_slot_room-clause-kept
 returns-in_err-make_slot_room-clause-kept c =
     let a = c.self.inside in
     let old = c.args.self.now in
-    let b : Inside = record { limits = a.limits; counts = a.counts; known = a.known; nodes = c.make_room.new.nodes; order = c.make_slot_room.new.slots; kept = a.kept; leaves = a.leaves; slots = a.slots } in
-    let stays : seen b ≡ old = view-same a b c.self.invariant refl refl refl refl c.make_slot_room.ensures.items refl c.make_room.ensures.same (λ x. refl) old c.self.view_is in
+    let b : Inside = record {
+      limits = a.limits;
+      counts = a.counts;
+      known = a.known;
+      nodes = c.make_room.new.nodes;
+      order =
+          c.make_slot_room.new.slots;
+      kept = a.kept;
+      leaves = a.leaves;
+      slots = a.slots;
+    } in
+    let stays : seen b ≡ old = view-same a b c.self.invariant refl refl refl refl c.make_slot_room.ensures.items refl c.make_room.ensures.same
+    (λ x. refl) old c.self.view_is in
     subst (λ (t : Table). (s : Slot) → IsTrue (is_kept_at old s) → IsTrue (is_kept_at t s) × (arrival_at t s ≡ arrival_at old s)) (sym stays) (λ s h. (h, refl))
 
 pub returns-in_err-make_slot_room-clause-added : goal.returns-in_err-make_slot_room-clause-added
 returns-in_err-make_slot_room-clause-added c = λ rs ks r stands is may.
     let a = c.self.inside in
     let old = c.args.self.now in
-    let b : Inside = record { limits = a.limits; counts = a.counts; known = a.known; nodes = c.make_room.new.nodes; order = c.make_slot_room.new.slots; kept = a.kept; leaves = a.leaves; slots = a.slots } in
-    let stays : seen b ≡ old = view-same a b c.self.invariant refl refl refl refl c.make_slot_room.ensures.items refl c.make_room.ensures.same (λ x. refl) old c.self.view_is in
+    let b : Inside = record {
+      limits = a.limits;
+      counts = a.counts;
+      known = a.known;
+      nodes = c.make_room.new.nodes;
+      order =
+          c.make_slot_room.new.slots;
+      kept = a.kept;
+      leaves = a.leaves;
+      slots = a.slots;
+    } in
+    let stays : seen b ≡ old = view-same a b c.self.invariant refl refl refl refl c.make_slot_room.ensures.items refl c.make_room.ensures.same
+    (λ x. refl) old c.self.view_is in
     let p = err_from_is_err_and c.from_residual-in_err-make_slot_room.result c.from_residual-in_err-make_slot_room.ensures.1 in
     let wrong : AddFault → Result Slot AddFault = λ f. Err f in
     subst (λ (z : Result Slot AddFault). AddedTo old (seen b) rs ks r z) (sym (p.1 ∙ ap wrong p.2)) stays
@@ -226,32 +383,76 @@ pub returns-in_err-make_slot_room-2-clause-same : goal.returns-in_err-make_slot_
 returns-in_err-make_slot_room-2-clause-same c =
     let a = c.self.inside in
     let old = c.args.self.now in
-    let b : Inside = record { limits = a.limits; counts = a.counts; known = a.known; nodes = c.make_room.new.nodes; order = c.make_slot_room.new.slots; kept = a.kept; leaves = c.make_slot_room-2.new.slots; slots = a.slots } in
-    let stays : seen b ≡ old = view-same a b c.self.invariant refl refl refl c.make_slot_room-2.ensures.items c.make_slot_room.ensures.items refl c.make_room.ensures.same (λ x. refl) old c.self.view_is in
+    let b : Inside = record {
+      limits = a.limits;
+      counts = a.counts;
+      known = a.known;
+      nodes = c.make_room.new.nodes;
+      order =
+          c.make_slot_room.new.slots;
+      kept = a.kept;
+      leaves = c.make_slot_room-2.new.slots;
+      slots = a.slots;
+    } in
+    let stays : seen b ≡ old = view-same a b c.self.invariant refl refl refl c.make_slot_room-2.ensures.items c.make_slot_room.ensures.items refl
+    c.make_room.ensures.same (λ x. refl) old c.self.view_is in
     on_err c.from_residual-in_err-make_slot_room-2.result (seen b ≡ old) stays
 
 pub returns-in_err-make_slot_room-2-clause-keeps : goal.returns-in_err-make_slot_room-2-clause-keeps
 returns-in_err-make_slot_room-2-clause-keeps c =
     let a = c.self.inside in
     let old = c.args.self.now in
-    let b : Inside = record { limits = a.limits; counts = a.counts; known = a.known; nodes = c.make_room.new.nodes; order = c.make_slot_room.new.slots; kept = a.kept; leaves = c.make_slot_room-2.new.slots; slots = a.slots } in
-    let stays : seen b ≡ old = view-same a b c.self.invariant refl refl refl c.make_slot_room-2.ensures.items c.make_slot_room.ensures.items refl c.make_room.ensures.same (λ x. refl) old c.self.view_is in
+    let b : Inside = record {
+      limits = a.limits;
+      counts = a.counts;
+      known = a.known;
+      nodes = c.make_room.new.nodes;
+      order =
+          c.make_slot_room.new.slots;
+      kept = a.kept;
+      leaves = c.make_slot_room-2.new.slots;
+      slots = a.slots;
+    } in
+    let stays : seen b ≡ old = view-same a b c.self.invariant refl refl refl c.make_slot_room-2.ensures.items c.make_slot_room.ensures.items refl
+    c.make_room.ensures.same (λ x. refl) old c.self.view_is in
     subst (λ (t : Table). KeepsSlots old t) (sym stays) (λ s x h. h)
 
 pub returns-in_err-make_slot_room-2-clause-kept : goal.returns-in_err-make_slot_room-2-clause-kept
 returns-in_err-make_slot_room-2-clause-kept c =
     let a = c.self.inside in
     let old = c.args.self.now in
-    let b : Inside = record { limits = a.limits; counts = a.counts; known = a.known; nodes = c.make_room.new.nodes; order = c.make_slot_room.new.slots; kept = a.kept; leaves = c.make_slot_room-2.new.slots; slots = a.slots } in
-    let stays : seen b ≡ old = view-same a b c.self.invariant refl refl refl c.make_slot_room-2.ensures.items c.make_slot_room.ensures.items refl c.make_room.ensures.same (λ x. refl) old c.self.view_is in
+    let b : Inside = record {
+      limits = a.limits;
+      counts = a.counts;
+      known = a.known;
+      nodes = c.make_room.new.nodes;
+      order =
+          c.make_slot_room.new.slots;
+      kept = a.kept;
+      leaves = c.make_slot_room-2.new.slots;
+      slots = a.slots;
+    } in
+    let stays : seen b ≡ old = view-same a b c.self.invariant refl refl refl c.make_slot_room-2.ensures.items c.make_slot_room.ensures.items refl
+    c.make_room.ensures.same (λ x. refl) old c.self.view_is in
     subst (λ (t : Table). (s : Slot) → IsTrue (is_kept_at old s) → IsTrue (is_kept_at t s) × (arrival_at t s ≡ arrival_at old s)) (sym stays) (λ s h. (h, refl))
 
 pub returns-in_err-make_slot_room-2-clause-added : goal.returns-in_err-make_slot_room-2-clause-added
 returns-in_err-make_slot_room-2-clause-added c = λ rs ks r stands is may.
     let a = c.self.inside in
     let old = c.args.self.now in
-    let b : Inside = record { limits = a.limits; counts = a.counts; known = a.known; nodes = c.make_room.new.nodes; order = c.make_slot_room.new.slots; kept = a.kept; leaves = c.make_slot_room-2.new.slots; slots = a.slots } in
-    let stays : seen b ≡ old = view-same a b c.self.invariant refl refl refl c.make_slot_room-2.ensures.items c.make_slot_room.ensures.items refl c.make_room.ensures.same (λ x. refl) old c.self.view_is in
+    let b : Inside = record {
+      limits = a.limits;
+      counts = a.counts;
+      known = a.known;
+      nodes = c.make_room.new.nodes;
+      order =
+          c.make_slot_room.new.slots;
+      kept = a.kept;
+      leaves = c.make_slot_room-2.new.slots;
+      slots = a.slots;
+    } in
+    let stays : seen b ≡ old = view-same a b c.self.invariant refl refl refl c.make_slot_room-2.ensures.items c.make_slot_room.ensures.items refl
+    c.make_room.ensures.same (λ x. refl) old c.self.view_is in
     let p = err_from_is_err_and c.from_residual-in_err-make_slot_room-2.result c.from_residual-in_err-make_slot_room-2.ensures.1 in
     let wrong : AddFault → Result Slot AddFault = λ f. Err f in
     subst (λ (z : Result Slot AddFault). AddedTo old (seen b) rs ks r z) (sym (p.1 ∙ ap wrong p.2)) stays
@@ -260,32 +461,76 @@ pub returns-in_err-put-clause-same : goal.returns-in_err-put-clause-same
 returns-in_err-put-clause-same c =
     let a = c.self.inside in
     let old = c.args.self.now in
-    let b : Inside = record { limits = a.limits; counts = a.counts; known = a.known; nodes = c.make_room.new.nodes; order = c.make_slot_room.new.slots; kept = a.kept; leaves = c.make_slot_room-2.new.slots; slots = c.put.new.self } in
-    let stays : seen b ≡ old = view-same a b c.self.invariant refl refl refl c.make_slot_room-2.ensures.items c.make_slot_room.ensures.items refl c.make_room.ensures.same c.in_err-put.ensures.same old c.self.view_is in
+    let b : Inside = record {
+      limits = a.limits;
+      counts = a.counts;
+      known = a.known;
+      nodes = c.make_room.new.nodes;
+      order =
+          c.make_slot_room.new.slots;
+      kept = a.kept;
+      leaves = c.make_slot_room-2.new.slots;
+      slots = c.put.new.self;
+    } in
+    let stays : seen b ≡ old = view-same a b c.self.invariant refl refl refl c.make_slot_room-2.ensures.items c.make_slot_room.ensures.items refl
+    c.make_room.ensures.same c.in_err-put.ensures.same old c.self.view_is in
     on_err c.from_residual-in_err-put.result (seen b ≡ old) stays
 
 pub returns-in_err-put-clause-keeps : goal.returns-in_err-put-clause-keeps
 returns-in_err-put-clause-keeps c =
     let a = c.self.inside in
     let old = c.args.self.now in
-    let b : Inside = record { limits = a.limits; counts = a.counts; known = a.known; nodes = c.make_room.new.nodes; order = c.make_slot_room.new.slots; kept = a.kept; leaves = c.make_slot_room-2.new.slots; slots = c.put.new.self } in
-    let stays : seen b ≡ old = view-same a b c.self.invariant refl refl refl c.make_slot_room-2.ensures.items c.make_slot_room.ensures.items refl c.make_room.ensures.same c.in_err-put.ensures.same old c.self.view_is in
+    let b : Inside = record {
+      limits = a.limits;
+      counts = a.counts;
+      known = a.known;
+      nodes = c.make_room.new.nodes;
+      order =
+          c.make_slot_room.new.slots;
+      kept = a.kept;
+      leaves = c.make_slot_room-2.new.slots;
+      slots = c.put.new.self;
+    } in
+    let stays : seen b ≡ old = view-same a b c.self.invariant refl refl refl c.make_slot_room-2.ensures.items c.make_slot_room.ensures.items refl
+    c.make_room.ensures.same c.in_err-put.ensures.same old c.self.view_is in
     subst (λ (t : Table). KeepsSlots old t) (sym stays) (λ s x h. h)
 
 pub returns-in_err-put-clause-kept : goal.returns-in_err-put-clause-kept
 returns-in_err-put-clause-kept c =
     let a = c.self.inside in
     let old = c.args.self.now in
-    let b : Inside = record { limits = a.limits; counts = a.counts; known = a.known; nodes = c.make_room.new.nodes; order = c.make_slot_room.new.slots; kept = a.kept; leaves = c.make_slot_room-2.new.slots; slots = c.put.new.self } in
-    let stays : seen b ≡ old = view-same a b c.self.invariant refl refl refl c.make_slot_room-2.ensures.items c.make_slot_room.ensures.items refl c.make_room.ensures.same c.in_err-put.ensures.same old c.self.view_is in
+    let b : Inside = record {
+      limits = a.limits;
+      counts = a.counts;
+      known = a.known;
+      nodes = c.make_room.new.nodes;
+      order =
+          c.make_slot_room.new.slots;
+      kept = a.kept;
+      leaves = c.make_slot_room-2.new.slots;
+      slots = c.put.new.self;
+    } in
+    let stays : seen b ≡ old = view-same a b c.self.invariant refl refl refl c.make_slot_room-2.ensures.items c.make_slot_room.ensures.items refl
+    c.make_room.ensures.same c.in_err-put.ensures.same old c.self.view_is in
     subst (λ (t : Table). (s : Slot) → IsTrue (is_kept_at old s) → IsTrue (is_kept_at t s) × (arrival_at t s ≡ arrival_at old s)) (sym stays) (λ s h. (h, refl))
 
 pub returns-in_err-put-clause-added : goal.returns-in_err-put-clause-added
 returns-in_err-put-clause-added c = λ rs ks r stands is may.
     let a = c.self.inside in
     let old = c.args.self.now in
-    let b : Inside = record { limits = a.limits; counts = a.counts; known = a.known; nodes = c.make_room.new.nodes; order = c.make_slot_room.new.slots; kept = a.kept; leaves = c.make_slot_room-2.new.slots; slots = c.put.new.self } in
-    let stays : seen b ≡ old = view-same a b c.self.invariant refl refl refl c.make_slot_room-2.ensures.items c.make_slot_room.ensures.items refl c.make_room.ensures.same c.in_err-put.ensures.same old c.self.view_is in
+    let b : Inside = record {
+      limits = a.limits;
+      counts = a.counts;
+      known = a.known;
+      nodes = c.make_room.new.nodes;
+      order =
+          c.make_slot_room.new.slots;
+      kept = a.kept;
+      leaves = c.make_slot_room-2.new.slots;
+      slots = c.put.new.self;
+    } in
+    let stays : seen b ≡ old = view-same a b c.self.invariant refl refl refl c.make_slot_room-2.ensures.items c.make_slot_room.ensures.items refl
+    c.make_room.ensures.same c.in_err-put.ensures.same old c.self.view_is in
     let p = err_from_is_err_and c.from_residual-in_err-put.result c.from_residual-in_err-put.ensures.1 in
     let wrong : AddFault → Result Slot AddFault = λ f. Err f in
     subst (λ (z : Result Slot AddFault). AddedTo old (seen b) rs ks r z) (sym (p.1 ∙ ap wrong p.2)) stays
@@ -298,32 +543,55 @@ is-next c =
     let has_room = c.if-self.false in
     let one = (same-count c.make_room.new.nodes.items c.self.inside.nodes.items c.make_room.ensures.same) in
     let two = c.grow.ensures.count in
-    next-slot a c.self.invariant c.next_slot-slot.result (c.next_slot-slot.ensures ∙ ap (λ (ss : List Slot). slot_after_all ss a.kept) (c.deref-5.ensures.value ∙ c.make_slot_room.ensures.items)) c.grow.new.nodes.items c.in_ok-node.node (omega arith) (omega arith)
+    next-slot a c.self.invariant c.next_slot-slot.result (c.next_slot-slot.ensures
+    ∙ ap (λ (ss : List Slot). slot_after_all ss a.kept) (c.deref-5.ensures.value ∙ c.make_slot_room.ensures.items)) c.grow.new.nodes.items
+    c.in_ok-node.node (omega arith) (omega arith)
 
 -- what became of each entry
-follows : (c : goal.After-drop-gains-2) → Follow (Became (seen c.self.inside) c.args.parents.now c.args.id c.next_slot-slot.result) (seen c.self.inside).entries (entries_in c.grow.new.nodes.items (kept_of c.self.inside))
+follows : (c : goal.After-drop-gains-2) → Follow (Became (seen c.self.inside) c.args.parents.now c.args.id c.next_slot-slot.result)
+    (seen c.self.inside).entries (entries_in c.grow.new.nodes.items (kept_of c.self.inside))
 follows c =
-    all-grown c.self.inside c.self.invariant c.args.self.now c.self.view_is c.args.parents.now c.requires.slots c.deref-7.result.now (c.deref-7.ensures.value ∙ gains-seen c.self.inside c.self.invariant c.args.self.now c.self.view_is c.args.parents.now c.requires.slots c.deref-3.result.now (take c.self.inside.kept c.deref-2.result.now) c.deref-3.ensures.value (ap (take c.self.inside.kept) c.deref-2.ensures.value) c.in_ok-gains.gains.items c.in_ok-gains.ensures.gains) c.make_room.new.nodes.items c.grow.new.nodes.items c.in_ok-node.node c.args.id c.next_slot-slot.result c.make_room.ensures.same c.grow.ensures.count c.grow.ensures.each
+    all-grown c.self.inside c.self.invariant c.args.self.now c.self.view_is c.args.parents.now c.requires.slots c.deref-7.result.now
+    (c.deref-7.ensures.value ∙ gains-seen c.self.inside c.self.invariant c.args.self.now c.self.view_is c.args.parents.now c.requires.slots
+    c.deref-3.result.now (take c.self.inside.kept c.deref-2.result.now) c.deref-3.ensures.value
+    (ap (take c.self.inside.kept) c.deref-2.ensures.value) c.in_ok-gains.gains.items c.in_ok-gains.ensures.gains) c.make_room.new.nodes.items
+    c.grow.new.nodes.items c.in_ok-node.node c.args.id c.next_slot-slot.result c.make_room.ensures.same c.grow.ensures.count c.grow.ensures.each
 
 same-nodes : (c : goal.After-drop-gains-2) → length c.grow.new.nodes.items ≡ length c.self.inside.nodes.items
 same-nodes c = c.grow.ensures.count ∙ (same-count c.make_room.new.nodes.items c.self.inside.nodes.items c.make_room.ensures.same)
 
 abbrev inside-next : goal.After-drop-gains-2 → Inside
-inside-next c = record { limits = c.self.inside.limits; counts = c.set_count.new.counts; known = c.self.inside.known + 1; nodes = c.put_node.new.nodes; order = c.list_slot.new.order; kept = c.self.inside.kept + 1; leaves = c.push_reserved.new.self; slots = c.put.new.self }
+inside-next c = record {
+  limits = c.self.inside.limits;
+  counts = c.set_count.new.counts;
+  known = c.self.inside.known + 1;
+  nodes =
+      c.put_node.new.nodes;
+  order = c.list_slot.new.order;
+  kept = c.self.inside.kept + 1;
+  leaves = c.push_reserved.new.self;
+  slots = c.put.new.self;
+}
 
 listed : (c : goal.After-drop-gains-2) → c.list_slot.new.order.items ≡ with_slot c.self.inside.order.items c.self.inside.kept c.next_slot-slot.result
 listed c = c.list_slot.ensures ∙ ap (λ (ss : List Slot). with_slot ss c.self.inside.kept c.next_slot-slot.result) c.make_slot_room.ensures.items
 
-entries-next : (c : goal.After-drop-gains-2) → (seen (inside-next c)).entries ≡ entries_in c.grow.new.nodes.items (kept_of c.self.inside) ++ entry_of c.next_slot-slot.result.0 c.in_ok-node.node ∷ []
+entries-next : (c : goal.After-drop-gains-2) → (seen (inside-next c)).entries ≡ entries_in c.grow.new.nodes.items (kept_of c.self.inside)
+    ++ entry_of c.next_slot-slot.result.0 c.in_ok-node.node ∷ []
 entries-next c =
-    entries-after c.self.inside (inside-next c) c.self.invariant c.grow.new.nodes.items c.in_ok-node.node c.args.id c.next_slot-slot.result c.args.parents.now (is-next c) (same-nodes c) c.put_node.ensures (listed c) refl
+    entries-after c.self.inside (inside-next c) c.self.invariant c.grow.new.nodes.items c.in_ok-node.node c.args.id c.next_slot-slot.result
+    c.args.parents.now (is-next c) (same-nodes c) c.put_node.ensures (listed c) refl
 
 is-fresh : (c : goal.After-drop-gains-2) → entry_at (seen c.self.inside) c.next_slot-slot.result ≡ None
 is-fresh c =
-    slot-fresh c.self.inside (inside-next c) c.self.invariant c.grow.new.nodes.items c.in_ok-node.node c.args.id c.next_slot-slot.result c.args.parents.now (is-next c) (same-nodes c) c.put_node.ensures (listed c) refl
+    slot-fresh c.self.inside (inside-next c) c.self.invariant c.grow.new.nodes.items c.in_ok-node.node c.args.id c.next_slot-slot.result c.args.parents.now
+    (is-next c) (same-nodes c) c.put_node.ensures (listed c) refl
 
-new-entry : (c : goal.After-drop-gains-2) → IsNewEntry c.args.self.now c.args.parents.now c.args.id c.next_slot-slot.result (entry_of c.next_slot-slot.result.0 c.in_ok-node.node)
-new-entry c = (entry-seen c.self.inside c.self.invariant c.args.self.now c.self.view_is c.args.parents.now c.requires.slots c.deref.result.now c.args.id (record { 0 = c.next_slot-slot.result.0 }) (entry_of c.next_slot-slot.result.0 c.in_ok-node.node) c.deref.ensures.value (c.in_ok-node.ensures c.next_slot-slot.result.0))
+new-entry : (c : goal.After-drop-gains-2) → IsNewEntry c.args.self.now c.args.parents.now c.args.id c.next_slot-slot.result
+    (entry_of c.next_slot-slot.result.0 c.in_ok-node.node)
+new-entry c = (entry-seen c.self.inside c.self.invariant c.args.self.now c.self.view_is c.args.parents.now c.requires.slots c.deref.result.now c.args.id
+    (record { 0 = c.next_slot-slot.result.0 }) (entry_of c.next_slot-slot.result.0 c.in_ok-node.node) c.deref.ensures.value
+    (c.in_ok-node.ensures c.next_slot-slot.result.0))
 
 pub put_node-requires-clause-slot : goal.put_node-requires-clause-slot
 put_node-requires-clause-slot c =
@@ -332,7 +600,9 @@ put_node-requires-clause-slot c =
     let has_room = c.if-self.false in
     let one = (same-count c.make_room.new.nodes.items c.self.inside.nodes.items c.make_room.ensures.same) in
     let two = c.grow.ensures.count in
-    let next = next-slot a c.self.invariant c.next_slot-slot.result (c.next_slot-slot.ensures ∙ ap (λ (ss : List Slot). slot_after_all ss a.kept) (c.deref-5.ensures.value ∙ c.make_slot_room.ensures.items)) c.grow.new.nodes.items c.in_ok-node.node (omega arith) (omega arith) in
+    let next = next-slot a c.self.invariant c.next_slot-slot.result
+    (c.next_slot-slot.ensures ∙ ap (λ (ss : List Slot). slot_after_all ss a.kept) (c.deref-5.ensures.value ∙ c.make_slot_room.ensures.items))
+    c.grow.new.nodes.items c.in_ok-node.node (omega arith) (omega arith) in
     let inside = next.within in
     omega arith
 
@@ -349,45 +619,71 @@ invariant_of-self-2 c =
     let sites = c.self.invariant.sites in
     let most = ap (λ (t : Table). t.limits.sites) c.self.view_is in
     let has_room = c.if-self.false in
-    held-next a (inside-next c) c.self.invariant c.grow.new.nodes.items n id slot parents (is-next c) (same-nodes c) c.put_node.ensures (listed c) refl (follows c) i id.sequence refl refl c.set_count.ensures.set
+    held-next a (inside-next c) c.self.invariant c.grow.new.nodes.items n id slot parents (is-next c) (same-nodes c) c.put_node.ensures (listed c) refl
+    (follows c) i id.sequence refl refl c.set_count.ensures.set
     c.in_ok-put.ensures.put
-    (c.push_reserved.ensures.items ∙ ap (λ (ss : List Slot). ss ++ slot ∷ []) (c.drop_slots.ensures.items ∙ ap (filter (λ (s : Slot). not (is_slot_among s parents))) c.make_slot_room-2.ensures.items))
+    (c.push_reserved.ensures.items ∙ ap (λ (ss : List Slot). ss ++ slot ∷ [])
+    (c.drop_slots.ensures.items ∙ ap (filter (λ (s : Slot). not (is_slot_among s parents))) c.make_slot_room-2.ensures.items))
     (omega arith) entry.id_is (entry.arrival_is ∙ sym (ap (λ (t : Table). t.known) c.self.view_is)) entry.no_children entry.no_stand_ins entry.path.ascending
-    (short-told (seen a) parents n.id (length n.path.pairs) (found-all a c.self.invariant) (none-seen c.self.inside c.self.invariant c.args.self.now c.self.view_is c.args.parents.now c.requires.slots c.deref-3.result.now (take c.self.inside.kept c.deref-2.result.now) c.deref-3.ensures.value (ap (take c.self.inside.kept) c.deref-2.ensures.value) c.in_ok-gains.ensures.long)) c.in_ok-check_path.ensures (let first = c.requires.first in let last = c.requires.last in omega arith)
-    (c.requires.next ∙ ap (λ (m : ℕ). m + 1) (unwrap_or-slice_get c.args.self.now.counts i 0 ∙ ap (λ (t : Table). get_or t.counts i 0) (sym c.self.view_is))) c.set_count.ensures.fits refl refl
+    (short-told (seen a) parents n.id (length n.path.pairs) (found-all a c.self.invariant)
+    (none-seen c.self.inside c.self.invariant c.args.self.now c.self.view_is c.args.parents.now c.requires.slots c.deref-3.result.now
+    (take c.self.inside.kept c.deref-2.result.now) c.deref-3.ensures.value (ap (take c.self.inside.kept) c.deref-2.ensures.value)
+    c.in_ok-gains.ensures.long)) c.in_ok-check_path.ensures (let first = c.requires.first in let last = c.requires.last in omega arith)
+    (c.requires.next ∙ ap (λ (m : ℕ). m + 1) (unwrap_or-slice_get c.args.self.now.counts i 0
+    ∙ ap (λ (t : Table). get_or t.counts i 0) (sym c.self.view_is))) c.set_count.ensures.fits refl refl
 
 pub returns-clause-slot : goal.returns-clause-slot
-returns-clause-slot c = subst (λ (t : Table). IsNewSlot t (seen (inside-next c)) c.args.id c.next_slot-slot.result) c.self.view_is (last-named (seen c.self.inside) (seen (inside-next c)) (seen c.self.inside) c.args.parents.now c.args.id c.next_slot-slot.result (entries_in c.grow.new.nodes.items (kept_of c.self.inside)) (entry_of c.next_slot-slot.result.0 c.in_ok-node.node) (follows c) (entries-next c) refl (is-fresh c) c.args.id (new-entry c).id_is)
+returns-clause-slot c = subst (λ (t : Table). IsNewSlot t (seen (inside-next c)) c.args.id c.next_slot-slot.result) c.self.view_is
+    (last-named (seen c.self.inside) (seen (inside-next c)) (seen c.self.inside) c.args.parents.now c.args.id c.next_slot-slot.result
+    (entries_in c.grow.new.nodes.items (kept_of c.self.inside)) (entry_of c.next_slot-slot.result.0 c.in_ok-node.node) (follows c)
+    (entries-next c) refl (is-fresh c) c.args.id (new-entry c).id_is)
 
 pub returns-clause-keeps : goal.returns-clause-keeps
-returns-clause-keeps c = subst (λ (t : Table). KeepsSlots t (seen (inside-next c))) c.self.view_is (slots-kept (seen c.self.inside) (seen (inside-next c)) (seen c.self.inside) c.args.parents.now c.args.id c.next_slot-slot.result (entries_in c.grow.new.nodes.items (kept_of c.self.inside)) (entry_of c.next_slot-slot.result.0 c.in_ok-node.node) (follows c) (entries-next c) refl (is-fresh c))
+returns-clause-keeps c = subst (λ (t : Table). KeepsSlots t (seen (inside-next c))) c.self.view_is
+    (slots-kept (seen c.self.inside) (seen (inside-next c)) (seen c.self.inside) c.args.parents.now c.args.id c.next_slot-slot.result
+    (entries_in c.grow.new.nodes.items (kept_of c.self.inside)) (entry_of c.next_slot-slot.result.0 c.in_ok-node.node) (follows c)
+    (entries-next c) refl (is-fresh c))
 
 pub returns-clause-kept : goal.returns-clause-kept
 returns-clause-kept c =
-    subst (λ (t : Table). (s : Slot) → IsTrue (is_kept_at t s) → IsTrue (is_kept_at (seen (inside-next c)) s) × (arrival_at (seen (inside-next c)) s ≡ arrival_at t s)) c.self.view_is
-    (kept-stays (seen c.self.inside) (seen (inside-next c)) (seen c.self.inside) c.args.parents.now c.args.id c.next_slot-slot.result (entries_in c.grow.new.nodes.items (kept_of c.self.inside)) (entry_of c.next_slot-slot.result.0 c.in_ok-node.node) (follows c) (entries-next c) refl (is-fresh c) (invariant_of-self-2 c).in_order)
+    subst (λ (t : Table). (s : Slot) → IsTrue (is_kept_at t s) → IsTrue (is_kept_at (seen (inside-next c)) s)
+    × (arrival_at (seen (inside-next c)) s ≡ arrival_at t s)) c.self.view_is
+    (kept-stays (seen c.self.inside) (seen (inside-next c)) (seen c.self.inside) c.args.parents.now c.args.id c.next_slot-slot.result
+    (entries_in c.grow.new.nodes.items (kept_of c.self.inside)) (entry_of c.next_slot-slot.result.0 c.in_ok-node.node) (follows c)
+    (entries-next c) refl (is-fresh c) (invariant_of-self-2 c).in_order)
 
 pub returns-clause-arrived : goal.returns-clause-arrived
 returns-clause-arrived c =
-    let h = last-arrives (seen c.self.inside) (seen (inside-next c)) (seen c.self.inside) c.args.parents.now c.args.id c.next_slot-slot.result (entries_in c.grow.new.nodes.items (kept_of c.self.inside)) (entry_of c.next_slot-slot.result.0 c.in_ok-node.node) (follows c) (entries-next c) refl (is-fresh c) (invariant_of-self-2 c).in_order in
+    let h = last-arrives (seen c.self.inside) (seen (inside-next c)) (seen c.self.inside) c.args.parents.now c.args.id c.next_slot-slot.result
+    (entries_in c.grow.new.nodes.items (kept_of c.self.inside)) (entry_of c.next_slot-slot.result.0 c.in_ok-node.node) (follows c)
+    (entries-next c) refl (is-fresh c) (invariant_of-self-2 c).in_order in
     (h.0, h.1 ∙ (new-entry c).arrival_is)
 
 pub returns-clause-newest : goal.returns-clause-newest
 returns-clause-newest c =
-    subst (λ (t : Table). (s : Slot) → IsTrue (is_kept_at t s) → arrival_at (seen (inside-next c)) s < arrival_at (seen (inside-next c)) c.next_slot-slot.result) c.self.view_is
-    (arrives-last (seen c.self.inside) (seen (inside-next c)) (seen c.self.inside) c.args.parents.now c.args.id c.next_slot-slot.result (entries_in c.grow.new.nodes.items (kept_of c.self.inside)) (entry_of c.next_slot-slot.result.0 c.in_ok-node.node) (follows c) (entries-next c) refl (is-fresh c) c.self.inside.known ((new-entry c).arrival_is ∙ sym (ap (λ (t : Table). t.known) c.self.view_is)) c.self.invariant.arrived)
+    subst (λ (t : Table). (s : Slot) → IsTrue (is_kept_at t s) → arrival_at (seen (inside-next c)) s
+    < arrival_at (seen (inside-next c)) c.next_slot-slot.result) c.self.view_is
+    (arrives-last (seen c.self.inside) (seen (inside-next c)) (seen c.self.inside) c.args.parents.now c.args.id c.next_slot-slot.result
+    (entries_in c.grow.new.nodes.items (kept_of c.self.inside)) (entry_of c.next_slot-slot.result.0 c.in_ok-node.node) (follows c)
+    (entries-next c) refl (is-fresh c) c.self.inside.known ((new-entry c).arrival_is ∙ sym (ap (λ (t : Table). t.known) c.self.view_is))
+    c.self.invariant.arrived)
 
 pub returns-clause-others : goal.returns-clause-others
 returns-clause-others c =
     subst (λ (t : Table). (s : Slot) → (s ≡ c.next_slot-slot.result → ⊥) → IsTrue (is_slot (seen (inside-next c)) s) → IsTrue (is_slot t s)) c.self.view_is
-    (slot-was (seen c.self.inside) (seen (inside-next c)) (seen c.self.inside) c.args.parents.now c.args.id c.next_slot-slot.result (entries_in c.grow.new.nodes.items (kept_of c.self.inside)) (entry_of c.next_slot-slot.result.0 c.in_ok-node.node) (follows c) (entries-next c) refl (is-fresh c))
+    (slot-was (seen c.self.inside) (seen (inside-next c)) (seen c.self.inside) c.args.parents.now c.args.id c.next_slot-slot.result
+    (entries_in c.grow.new.nodes.items (kept_of c.self.inside)) (entry_of c.next_slot-slot.result.0 c.in_ok-node.node) (follows c)
+    (entries-next c) refl (is-fresh c))
 
 -- a table that has grown by the state of a record
-added-as : (old new : Table) (rs : List Record) (ks : List StateId) (r : Record) (parents : List Slot) → Stands old rs ks → MayBeAdded old rs ks r parents → (slot : Slot) (x : StateId) (e : Entry) → r.id ≡ x →
+added-as : (old new : Table) (rs : List Record) (ks : List StateId) (r : Record) (parents : List Slot) → Stands old rs ks → MayBeAdded old rs ks r parents
+    → (slot : Slot) (x : StateId) (e : Entry) → r.id ≡ x →
     (g : IsGrown old new x parents slot) → g.newest ≡ e → refusal_of old x parents (length e.path) ≡ None → AddedTo old new rs ks r (Ok slot)
 added-as old new rs ks r parents stands may slot x e is =
-    subst (λ (z : StateId). (g : IsGrown old new z parents slot) → g.newest ≡ e → refusal_of old z parents (length e.path) ≡ None → AddedTo old new rs ks r (Ok slot)) is
-    (λ g newest none. added old new rs ks r parents stands may slot g (subst (λ (f : Entry). refusal_of old r.id parents (length f.path) ≡ None) (sym newest) none))
+    subst (λ (z : StateId). (g : IsGrown old new z parents slot) → g.newest ≡ e → refusal_of old z parents (length e.path) ≡ None →
+    AddedTo old new rs ks r (Ok slot)) is
+    (λ g newest none. added old new rs ks r parents stands may slot g
+    (subst (λ (f : Entry). refusal_of old r.id parents (length f.path) ≡ None) (sym newest) none))
 
 pub returns-clause-added : goal.returns-clause-added
 returns-clause-added c = λ rs ks r stands is may.
@@ -406,17 +702,22 @@ returns-clause-added c = λ rs ks r stands is may.
     ∙ ap (λ (z : ℕ). slice_set a.counts.items i z) c.requires.next
     ∙ ap (λ (t : Table). slice_set t.counts i (unwrap_or (slice_get old.counts i) 0 + 1)) c.self.view_is in
     let entry = new-entry c in
-    let follow = subst (λ (t : Table). Follow (Became t parents id slot) t.entries (entries_in c.grow.new.nodes.items (kept_of a))) c.self.view_is (follows c) in
+    let follow = subst (λ (t : Table). Follow (Became t parents id slot) t.entries (entries_in c.grow.new.nodes.items (kept_of a))) c.self.view_is
+    (follows c) in
     let up = subst (λ (t : Table). list_all (λ (z : Entry). are_ascending_pairs z.path) t.entries ≡ true) c.self.view_is c.self.invariant.ascending in
     let fresh = subst (λ (t : Table). ◌≡◌ {A = Option Entry} (entry_at t slot) None) c.self.view_is (is-fresh c) in
-    let g = table-grown old new id parents slot (entries_in c.grow.new.nodes.items (kept_of a)) e (ap (λ (t : Table). t.limits) c.self.view_is) counts (ap (λ (t : Table). t.known + 1) c.self.view_is)
+    let g = table-grown old new id parents slot (entries_in c.grow.new.nodes.items (kept_of a)) e (ap (λ (t : Table). t.limits) c.self.view_is) counts
+    (ap (λ (t : Table). t.known + 1) c.self.view_is)
     fresh (entries-next c) distinct up follow entry in
     let kept : a.kept ≡ length old.entries = sym (entries-long a c.self.invariant) ∙ ap (λ (t : Table). length t.entries) c.self.view_is in
     let room = ne_eqb (length old.entries) old.limits.max_kept (λ e.
     let equal : a.kept ≡ a.limits.max_kept = kept ∙ e ∙ sym (ap (λ (t : Table). t.limits.max_kept) c.self.view_is) in
     let has_room = c.if-self.false in
     omega arith) in
-    let told = nothing-told (seen a) parents n.id (length n.path.pairs) (found-all a c.self.invariant) (none-seen c.self.inside c.self.invariant c.args.self.now c.self.view_is c.args.parents.now c.requires.slots c.deref-3.result.now (take c.self.inside.kept c.deref-2.result.now) c.deref-3.ensures.value (ap (take c.self.inside.kept) c.deref-2.ensures.value) c.in_ok-gains.ensures.long) c.in_ok-check_path.ensures in
+    let told = nothing-told (seen a) parents n.id (length n.path.pairs) (found-all a c.self.invariant)
+    (none-seen c.self.inside c.self.invariant c.args.self.now c.self.view_is c.args.parents.now c.requires.slots c.deref-3.result.now
+    (take c.self.inside.kept c.deref-2.result.now) c.deref-3.ensures.value (ap (take c.self.inside.kept) c.deref-2.ensures.value)
+    c.in_ok-gains.ensures.long) c.in_ok-check_path.ensures in
     let seen_told = subst (λ (t : Table). path_refusal t n.id parents (length n.path.pairs) ≡ None) c.self.view_is told in
     let named = subst (λ (x : StateId). path_refusal old x parents (length n.path.pairs) ≡ None) entry.id_is seen_told in
     added-as old new rs ks r parents stands may slot id e is g.0 g.1 (refused-alike old id parents (length n.path.pairs) None room named)

@@ -1,4 +1,5 @@
-use Rattle.std.proofs.Common.{◌≡◌, ◌∙◌, ◌+◌, ◌-◌, ◌++◌, ◌∷◌, [], ◌<◌, ℕ, Bool, true, eqb, ltb, List, length, take, drop, get_or, Option, Some, None, cond, is_some, refl, sym, ap, subst, arith}
+use Rattle.std.proofs.Common.{◌≡◌, ◌∙◌, ◌+◌, ◌-◌, ◌++◌, ◌∷◌, [], ◌<◌, ℕ, Bool, true, eqb, ltb, List, length, take, drop, get_or, Option, Some, None, cond}
+use Rattle.std.proofs.Common.{is_some, refl, sym, ap, subst, arith}
 use Rattle.std.specs.List.{list_all}
 use Rattle.std.specs.Option.{option_and_then}
 use Rattle.state_dag.specs.IdSlots.{slot_of_state}
@@ -16,17 +17,20 @@ use Rattle.state_dag.specs.Shared.{common}
 use Rattle.state_dag.specs.Detached.{shared_slot, passing_on, forgetting, changed_at}
 use Rattle.state_dag.proofs.Memory.{kept-placed, kept-long, kept-slots, entries-long, entries-apart, entry-kept, take-read}
 use Rattle.state_dag.proofs.AddSteps.{leaves-in_order}
-use Rattle.state_dag.proofs.LeftTables.{HasLeft, left-detached, left-above, left-shared, left-gone, left-names, left-others, left-kept, left-arrives, left-stays, left-slots, heir-first, slot-read}
+use Rattle.state_dag.proofs.LeftTables.{HasLeft, left-detached, left-above, left-shared, left-gone, left-names, left-others, left-kept, left-arrives}
+use Rattle.state_dag.proofs.LeftTables.{left-stays, left-slots, heir-first, slot-read}
 use Rattle.state_dag.proofs.LeftSlots.{Parted, parted}
 use Rattle.state_dag.proofs.LeftMemory.{was, followed, heir-kept, held-left}
 use Rattle.state_dag.proofs.StateDag.detach.Goals as goal
 
 pub drop_slot-requires : goal.drop_slot-requires
-drop_slot-requires c = leaves-in_order c.self.inside c.self.invariant c.args.self.now c.self.view_is [] refl c.self.inside.nodes.items c.deref.result.now c.self.inside.leaves.items c.deref.ensures.value refl refl
+drop_slot-requires c = leaves-in_order c.self.inside c.self.invariant c.args.self.now c.self.view_is [] refl c.self.inside.nodes.items c.deref.result.now
+    c.self.inside.leaves.items c.deref.ensures.value refl refl
 
 pub hand_over-requires-clause-places : goal.hand_over-requires-clause-places
 hand_over-requires-clause-places c =
-    subst (λ (ss : List Slot). list_all (λ (s : Slot). ltb s.0 (length c.self.inside.nodes.items)) ss ≡ true) (sym (ap (take c.self.inside.kept) c.deref-2.ensures.value)) (kept-placed c.self.inside c.self.invariant)
+    subst (λ (ss : List Slot). list_all (λ (s : Slot). ltb s.0 (length c.self.inside.nodes.items)) ss ≡ true)
+    (sym (ap (take c.self.inside.kept) c.deref-2.ensures.value)) (kept-placed c.self.inside c.self.invariant)
 
 pub hand_over-requires-clause-place : goal.hand_over-requires-clause-place
 hand_over-requires-clause-place c =
@@ -49,7 +53,17 @@ free_slot-requires c =
 
 -- what the memory is afterwards
 abbrev inside-left : goal.After-self-1 → Inside
-inside-left c = record { limits = c.self.inside.limits; counts = c.self.inside.counts; known = c.self.inside.known; nodes = c.hand_over.new.nodes; order = c.free_slot.new.order; kept = c.self.inside.kept - 1; leaves = c.drop_slot.new.slots; slots = c.remove.new.self }
+inside-left c = record {
+  limits = c.self.inside.limits;
+  counts = c.self.inside.counts;
+  known = c.self.inside.known;
+  nodes = c.hand_over.new.nodes;
+  order =
+      c.free_slot.new.order;
+  kept = c.self.inside.kept - 1;
+  leaves = c.drop_slot.new.slots;
+  slots = c.remove.new.self;
+}
 
 place-within : (c : goal.After-self-1) → c.place-place.result < c.self.inside.kept
 place-within c =
@@ -75,17 +89,25 @@ parts : (c : goal.After-self-1) → Parted c.self.inside.order.items c.place-pla
 parts c = parted c.self.inside.order.items c.place-place.result c.self.inside.kept c.args.slot (place-within c) c.self.invariant.inside (place-read c)
 
 each-changed : (c : goal.After-self-1) → (k : ℕ) (e : Node) → k < length c.self.inside.nodes.items →
-    entry_of k (get_or c.hand_over.new.nodes.items k e) ≡ changed_at (forgetting c.args.slot (ltb 1 c.len-is_fork.result)) (drop (c.place-place.result + 1) (kept_of c.self.inside)) (changed_at (passing_on c.args.slot c.index-heir.result.now) (take c.place-place.result (kept_of c.self.inside)) (entry_of k (get_or c.self.inside.nodes.items k e)))
+    entry_of k (get_or c.hand_over.new.nodes.items k e) ≡ changed_at (forgetting c.args.slot (ltb 1 c.len-is_fork.result))
+    (drop (c.place-place.result + 1) (kept_of c.self.inside))
+    (changed_at (passing_on c.args.slot c.index-heir.result.now) (take c.place-place.result (kept_of c.self.inside))
+    (entry_of k (get_or c.self.inside.nodes.items k e)))
 each-changed c =
     subst (λ (ss : List Slot). (k : ℕ) (e : Node) → k < length c.self.inside.nodes.items →
-    entry_of k (get_or c.hand_over.new.nodes.items k e) ≡ changed_at (forgetting c.args.slot (ltb 1 c.len-is_fork.result)) (drop (c.place-place.result + 1) ss) (changed_at (passing_on c.args.slot c.index-heir.result.now) (take c.place-place.result ss) (entry_of k (get_or c.self.inside.nodes.items k e))))
+    entry_of k (get_or c.hand_over.new.nodes.items k e) ≡ changed_at (forgetting c.args.slot (ltb 1 c.len-is_fork.result))
+    (drop (c.place-place.result + 1) ss) (changed_at (passing_on c.args.slot c.index-heir.result.now) (take c.place-place.result ss)
+    (entry_of k (get_or c.self.inside.nodes.items k e))))
     (ap (take c.self.inside.kept) c.deref-2.ensures.value) c.hand_over.ensures.each
 
-freed : (c : goal.After-self-1) → c.free_slot.new.order.items ≡ take c.place-place.result c.self.inside.order.items ++ (drop (c.place-place.result + 1) c.self.inside.order.items ++ c.args.slot ∷ [])
+freed : (c : goal.After-self-1) → c.free_slot.new.order.items ≡ take c.place-place.result c.self.inside.order.items
+    ++ (drop (c.place-place.result + 1) c.self.inside.order.items ++ c.args.slot ∷ [])
 freed c =
     c.free_slot.ensures c.args.slot
-    ∙ append_assoc (take c.place-place.result c.self.inside.order.items) (drop (c.place-place.result + 1) c.self.inside.order.items) (get_or c.self.inside.order.items c.place-place.result c.args.slot ∷ [])
-    ∙ ap (λ (s : Slot). take c.place-place.result c.self.inside.order.items ++ (drop (c.place-place.result + 1) c.self.inside.order.items ++ s ∷ [])) (place-read c)
+    ∙ append_assoc (take c.place-place.result c.self.inside.order.items) (drop (c.place-place.result + 1) c.self.inside.order.items)
+    (get_or c.self.inside.order.items c.place-place.result c.args.slot ∷ [])
+    ∙ ap (λ (s : Slot). take c.place-place.result c.self.inside.order.items ++ (drop (c.place-place.result + 1) c.self.inside.order.items ++ s ∷ []))
+    (place-read c)
 
 slot-there : (c : goal.After-self-1) → is_slot (seen c.self.inside) c.args.slot ≡ true
 slot-there c = subst (λ (t : Table). is_slot t c.args.slot ≡ true) (sym c.self.view_is) (go (entry_at c.args.self.now c.args.slot) c.node-node.ensures.entry)
@@ -94,12 +116,14 @@ slot-there c = subst (λ (t : Table). is_slot t c.args.slot ≡ true) (sym c.sel
     go o is = ap is_some is
 
 -- the node that was read is that in the slot's place
-node-read : (c : goal.After-self-1) → entry_of c.args.slot.0 c.node-node.result.now ≡ entry_of c.args.slot.0 (get_or c.self.inside.nodes.items c.args.slot.0 c.node-node.result.now)
+node-read : (c : goal.After-self-1) → entry_of c.args.slot.0 c.node-node.result.now
+    ≡ entry_of c.args.slot.0 (get_or c.self.inside.nodes.items c.args.slot.0 c.node-node.result.now)
 node-read c =
     let n = c.node-node.result.now in
     let one = entry_of c.args.slot.0 n in
     let two = entry_of c.args.slot.0 (get_or c.self.inside.nodes.items c.args.slot.0 n) in
-    same_Some one two (sym c.node-node.ensures.entry ∙ ap (λ (t : Table). entry_at t c.args.slot) (sym c.self.view_is) ∙ entry-kept c.self.inside c.self.invariant c.args.slot n (slot-there c))
+    same_Some one two (sym c.node-node.ensures.entry ∙ ap (λ (t : Table). entry_at t c.args.slot) (sym c.self.view_is)
+    ∙ entry-kept c.self.inside c.self.invariant c.args.slot n (slot-there c))
 
 shares-now : (c : goal.After-self-1) → shared_slot c.args.self.now c.args.slot ≡ Some c.index-heir.result.now
 shares-now c =
@@ -128,7 +152,8 @@ has-left c =
       was = was a (inside-left c) c.self.invariant s heir fork p n w c.hand_over.ensures.count (each-changed c) c.hand_over.ensures.ascending (freed c) refl;
       at = refl;
       distinct = entries-apart a c.self.invariant;
-      follows = followed a (inside-left c) c.self.invariant s heir fork p n w c.hand_over.ensures.count (each-changed c) c.hand_over.ensures.ascending (freed c) refl (shares-before c);
+      follows = followed a (inside-left c) c.self.invariant s heir fork p n w c.hand_over.ensures.count (each-changed c) c.hand_over.ensures.ascending
+          (freed c) refl (shares-before c);
       up = c.self.invariant.in_order;
       shares = shares-before c;
       later = c.self.invariant.later;
@@ -136,7 +161,8 @@ has-left c =
       limits = refl;
       counts = refl;
       known = refl;
-      heir_there = heir-kept a (inside-left c) c.self.invariant s heir fork p n w c.hand_over.ensures.count (each-changed c) c.hand_over.ensures.ascending (freed c) refl (shares-before c) refl;
+      heir_there = heir-kept a (inside-left c) c.self.invariant s heir fork p n w c.hand_over.ensures.count (each-changed c) c.hand_over.ensures.ascending
+          (freed c) refl (shares-before c) refl;
     }
 
 has-left-now : (c : goal.After-self-1) → HasLeft c.args.self.now (seen (inside-left c)) c.args.slot c.index-heir.result.now
@@ -146,9 +172,11 @@ pub invariant_of-self : goal.invariant_of-self
 invariant_of-self c =
     let a = c.self.inside in
     let n = c.node-node.result.now in
-    held-left a (inside-left c) c.self.invariant c.args.slot c.index-heir.result.now (ltb 1 c.len-is_fork.result) c.place-place.result n (parts c) c.hand_over.ensures.count (each-changed c) c.hand_over.ensures.ascending (freed c) refl (shares-before c) refl
+    held-left a (inside-left c) c.self.invariant c.args.slot c.index-heir.result.now (ltb 1 c.len-is_fork.result) c.place-place.result n
+    (parts c) c.hand_over.ensures.count (each-changed c) c.hand_over.ensures.ascending (freed c) refl (shares-before c) refl
     refl refl refl c.drop_slot.ensures.items
-    (subst (λ (z : StateId). (x : StateId) → slot_of_state c.remove.new.self x ≡ cond (same_id x z) None (slot_of_state a.slots x)) (ap (λ (e : Entry). e.id) (node-read c)) c.remove.ensures)
+    (subst (λ (z : StateId). (x : StateId) → slot_of_state c.remove.new.self x ≡ cond (same_id x z) None (slot_of_state a.slots x))
+    (ap (λ (e : Entry). e.id) (node-read c)) c.remove.ensures)
 
 pub returns-clause-detached : goal.returns-clause-detached
 returns-clause-detached c = left-detached c.args.self.now (seen (inside-left c)) c.args.slot c.index-heir.result.now (has-left-now c)

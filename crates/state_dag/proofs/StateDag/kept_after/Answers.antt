@@ -13,7 +13,8 @@ returns-in-None-clause-slots c = read-is (is_slot c.args.self.now) c.kept_slots.
 
 pub returns-in-None-clause-is : goal.returns-in-None-clause-is
 returns-in-None-clause-is c =
-    c.slot_at.ensures ∙ ap (λ ss. slice_get ss 0) c.kept_slots.ensures.is ∙ read-entry c.args.self.now.entries 0 ∙ ap (slot_after c.args.self.now.entries) (sym c.in-None.is)
+    c.slot_at.ensures ∙ ap (λ ss. slice_get ss 0) c.kept_slots.ensures.is ∙ read-entry c.args.self.now.entries 0
+    ∙ ap (slot_after c.args.self.now.entries) (sym c.in-None.is)
 
 pub returns-in-None-clause-first : goal.returns-in-None-clause-first
 returns-in-None-clause-first c = λ none rs ks stands.
@@ -23,16 +24,20 @@ returns-in-None-clause-first c = λ none rs ks stands.
 
 pub returns-in-Some-clause-slots : goal.returns-in-Some-clause-slots
 returns-in-Some-clause-slots c =
-    read-is (is_slot c.args.self.now) c.kept_slots-in-Some.result.now (c.place-place.result + 1) c.slot_at-in-Some.result c.kept_slots-in-Some.ensures.slots c.slot_at-in-Some.ensures
+    read-is (is_slot c.args.self.now) c.kept_slots-in-Some.result.now (c.place-place.result + 1) c.slot_at-in-Some.result
+    c.kept_slots-in-Some.ensures.slots c.slot_at-in-Some.ensures
 
-read-next : (c : goal.After-slot_at-in-Some) → c.slot_at-in-Some.result ≡ option_map (λ (e : Entry). e.slot) (slice_get c.args.self.now.entries (c.place-place.result + 1))
-read-next c = c.slot_at-in-Some.ensures ∙ ap (λ ss. slice_get ss (c.place-place.result + 1)) c.kept_slots-in-Some.ensures.is ∙ read-entry c.args.self.now.entries (c.place-place.result + 1)
+read-next : (c : goal.After-slot_at-in-Some) → c.slot_at-in-Some.result
+    ≡ option_map (λ (e : Entry). e.slot) (slice_get c.args.self.now.entries (c.place-place.result + 1))
+read-next c = c.slot_at-in-Some.ensures ∙ ap (λ ss. slice_get ss (c.place-place.result + 1)) c.kept_slots-in-Some.ensures.is
+    ∙ read-entry c.args.self.now.entries (c.place-place.result + 1)
 
 pub returns-in-Some-clause-is : goal.returns-in-Some-clause-is
 returns-in-Some-clause-is c =
     let es = c.args.self.now.entries in
     let p = c.place-place.result in
-    read-next c ∙ sym (slot-behind es (entries-distinct c.self.inside c.args.self.now c.self.invariant c.self.view_is) p (p + 1) no_entry (omega arith) c.place-place.ensures.within)
+    read-next c ∙ sym (slot-behind es (entries-distinct c.self.inside c.args.self.now c.self.invariant c.self.view_is) p (p + 1) no_entry
+    (omega arith) c.place-place.ensures.within)
     ∙ ap (λ s. slot_after es (Some s)) (c.place-place.ensures.at no_entry) ∙ ap (slot_after es) (sym c.in-Some.is)
 
 pub returns-in-Some-clause-next : goal.returns-in-Some-clause-next
@@ -41,6 +46,7 @@ returns-in-Some-clause-next c = λ rs ks stands s x is named.
     let p = c.place-place.result in
     let found = entries-found c.self.inside table c.self.invariant c.self.view_is in
     let same : (get_or table.entries p no_entry).slot ≡ s = c.place-place.ensures.at no_entry ∙ same_Some c.in-Some.slot s (sym c.in-Some.is ∙ is) in
-    let id : (get_or table.entries p no_entry).id ≡ x = same_Some (get_or table.entries p no_entry).id x (sym (named-entry table p no_entry found c.place-place.ensures.within) ∙ ap (id_at table) same ∙ named) in
+    let id : (get_or table.entries p no_entry).id ≡ x = same_Some (get_or table.entries p no_entry).id x
+    (sym (named-entry table p no_entry found c.place-place.ensures.within) ∙ ap (id_at table) same ∙ named) in
     ap (option_and_then (id_at table)) (read-next c) ∙ next-is table rs ks p (p + 1) no_entry stands found (omega arith) c.place-place.ensures.within
     ∙ ap (λ z. next_of (kept_states rs ks) (Some z)) id

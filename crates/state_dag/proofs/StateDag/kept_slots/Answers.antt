@@ -8,12 +8,14 @@ use Rattle.state_dag.proofs.StateDag.kept_slots.Goals as goal
 
 pub returns-clause-is : goal.returns-clause-is
 returns-clause-is c =
-    ap (take c.self.inside.kept) c.deref.ensures.value ∙ sym (kept-slots c.self.inside c.self.invariant) ∙ ap (λ (t : Table). map (λ (e : Entry). e.slot) t.entries) c.self.view_is
+    ap (take c.self.inside.kept) c.deref.ensures.value ∙ sym (kept-slots c.self.inside c.self.invariant)
+    ∙ ap (λ (t : Table). map (λ (e : Entry). e.slot) t.entries) c.self.view_is
 
 pub returns-clause-slots : goal.returns-clause-slots
 returns-clause-slots c =
     let table = c.args.self.now in
-    subst (λ ss. list_all (is_slot table) ss ≡ true) (sym (returns-clause-is c)) (slots-are table table.entries (entries-found c.self.inside table c.self.invariant c.self.view_is))
+    subst (λ ss. list_all (is_slot table) ss ≡ true) (sym (returns-clause-is c))
+    (slots-are table table.entries (entries-found c.self.inside table c.self.invariant c.self.view_is))
 
 pub returns-clause-kept : goal.returns-clause-kept
 returns-clause-kept c = λ rs ks stands.

@@ -17,5 +17,6 @@ returns-then-id-self c = λ rs ks stands.
 pub returns : goal.returns
 returns c = λ rs ks stands.
     let limits = ap (λ t. t.limits.sites) c.self.view_is in
-    ap (leb c.args.id.sequence) (c.index.ensures ∙ counted c.args.self.now rs ks stands c.args.id.site c.self.inside.counts.items c.index.result.now (ap (λ t. t.counts) c.self.view_is) (omega arith) (omega arith))
+    ap (leb c.args.id.sequence) (c.index.ensures ∙ counted c.args.self.now rs ks stands c.args.id.site c.self.inside.counts.items c.index.result.now
+    (ap (λ t. t.counts) c.self.view_is) (omega arith) (omega arith))
     ∙ knows-counted rs stands.dag c.args.id (omega arith) (omega arith)

@@ -30,7 +30,8 @@ returns-clause-slot c =
     let long = entries-long a c.self.invariant in
     subst (λ t. is_slot t c.index.result.now ≡ true) c.self.view_is
     (subst (λ s. is_slot (seen a) s ≡ true) (last-slot c)
-    (named-is_slot (seen a) (get_or (seen a).entries (a.kept - 1) no_entry).slot (get_or (seen a).entries (a.kept - 1) no_entry).id (named-entry (seen a) (a.kept - 1) no_entry (found-all a c.self.invariant) (omega arith))))
+    (named-is_slot (seen a) (get_or (seen a).entries (a.kept - 1) no_entry).slot (get_or (seen a).entries (a.kept - 1) no_entry).id
+    (named-entry (seen a) (a.kept - 1) no_entry (found-all a c.self.invariant) (omega arith))))
 
 pub returns-clause-end : goal.returns-clause-end
 returns-clause-end c =
@@ -39,7 +40,8 @@ returns-clause-end c =
     let long = entries-long a c.self.invariant in
     subst (λ (t : Table). ◌≡◌ {A = Option Slot} (slot_after t.entries (Some c.index.result.now)) None) c.self.view_is
     (subst (λ s. ◌≡◌ {A = Option Slot} (slot_after (seen a).entries (Some s)) None) (last-slot c)
-    (slot-behind (seen a).entries (entries-apart a c.self.invariant) (a.kept - 1) a.kept no_entry (omega arith) (omega arith) ∙ ap (option_map (λ (e : Entry). e.slot)) (slice_get_past (seen a).entries a.kept (omega arith))))
+    (slot-behind (seen a).entries (entries-apart a c.self.invariant) (a.kept - 1) a.kept no_entry (omega arith) (omega arith)
+    ∙ ap (option_map (λ (e : Entry). e.slot)) (slice_get_past (seen a).entries a.kept (omega arith))))
 
 pub returns-clause-last : goal.returns-clause-last
 returns-clause-last c = λ rs ks stands.
@@ -49,4 +51,5 @@ returns-clause-last c = λ rs ks stands.
     let there = subst (λ t. Stands t rs ks) (sym c.self.view_is) stands in
     subst (λ t. id_at t c.index.result.now ≡ Some (last_arrived rs)) c.self.view_is
     (subst (λ s. id_at (seen a) s ≡ Some (last_arrived rs)) (last-slot c)
-    (named-entry (seen a) (a.kept - 1) no_entry (found-all a c.self.invariant) (omega arith) ∙ ap (λ z. Some z) (last-is (seen a) rs ks (a.kept - 1) no_entry there (omega arith))))
+    (named-entry (seen a) (a.kept - 1) no_entry (found-all a c.self.invariant) (omega arith)
+    ∙ ap (λ z. Some z) (last-is (seen a) rs ks (a.kept - 1) no_entry there (omega arith))))

@@ -12,7 +12,8 @@ lent-are c = c.as_slice.ensures.value ∙ c.self.invariant.childless ∙ ap (λ 
 pub returns-clause-slots : goal.returns-clause-slots
 returns-clause-slots c =
     let table = c.args.self.now in
-    subst (λ ss. list_all (is_slot table) ss ≡ true) (sym (lent-are c)) (leaf-slots-are table table.entries (entries-found c.self.inside table c.self.invariant c.self.view_is))
+    subst (λ ss. list_all (is_slot table) ss ≡ true) (sym (lent-are c))
+    (leaf-slots-are table table.entries (entries-found c.self.inside table c.self.invariant c.self.view_is))
 
 pub returns-clause-leaves : goal.returns-clause-leaves
 returns-clause-leaves c = λ rs ks stands.

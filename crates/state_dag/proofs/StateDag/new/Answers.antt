@@ -1,4 +1,5 @@
-use Rattle.std.proofs.Common.{◌≡◌, ◌∙◌, ◌+◌, ◌++◌, ℕ, true, leb, ltb, List, [], ◌∷◌, length, map, get_or, find, take, cond, Some, None, is_some, eqb, ap₂, sum, replicate, refl, subst, sym, ap, arith}
+use Rattle.std.proofs.Common.{◌≡◌, ◌∙◌, ◌+◌, ◌++◌, ℕ, true, leb, ltb, List, [], ◌∷◌, length, map, get_or, find, take, cond, Some, None, is_some, eqb, ap₂}
+use Rattle.std.proofs.Common.{sum, replicate, refl, subst, sym, ap, arith}
 use Rattle.std.specs.List.{list_all}
 use Rattle.std.specs.Option.{option_map_or}
 use Rattle.state_dag.specs.IdSlots.{slot_of_state}
@@ -32,7 +33,8 @@ returns-clause-stands c =
     let n = c.root_node.result in
     let r = c.root_node.ensures in
     let one : c.push.new.self.items ≡ n ∷ [] = c.in_ok-push.ensures.items ∙ ap (λ zs. zs ++ n ∷ []) c.new-nodes.ensures.items in
-    let two : c.push-2.new.self.items ≡ record { 0 = 0 } ∷ [] = c.in_ok-push-2.ensures.items ∙ ap (λ ss. ss ++ record { 0 = 0 } ∷ []) c.new-order.ensures.items in
+    let two : c.push-2.new.self.items ≡ record { 0 = 0 } ∷ [] = c.in_ok-push-2.ensures.items
+    ∙ ap (λ ss. ss ++ record { 0 = 0 } ∷ []) c.new-order.ensures.items in
     let seen = seen-root c.push.new.self.items c.push-2.new.self.items n one two in
     let table : List Entry → Table = λ es. record { limits = c.args.limits.now; counts = c.in_ok-counts.counts.items; known = 1; entries = es } in
     subst (λ es. Stands (table es) (root_record ∷ []) []) (sym seen)
@@ -49,7 +51,8 @@ invariant_of-result c =
     let r = c.root_node.ensures in
     let limits = c.args.limits.now in
     let one : c.push.new.self.items ≡ n ∷ [] = c.in_ok-push.ensures.items ∙ ap (λ zs. zs ++ n ∷ []) c.new-nodes.ensures.items in
-    let two : c.push-2.new.self.items ≡ record { 0 = 0 } ∷ [] = c.in_ok-push-2.ensures.items ∙ ap (λ ss. ss ++ record { 0 = 0 } ∷ []) c.new-order.ensures.items in
+    let two : c.push-2.new.self.items ≡ record { 0 = 0 } ∷ [] = c.in_ok-push-2.ensures.items
+    ∙ ap (λ ss. ss ++ record { 0 = 0 } ∷ []) c.new-order.ensures.items in
     let view = seen-root c.push.new.self.items c.push-2.new.self.items n one two in
     let long = ap length one in
     let listed = ap length two in
@@ -64,22 +67,37 @@ invariant_of-result c =
       inside = omega arith;
       all = omega arith;
       few = omega arith;
-      placed = subst (λ ss. list_all (λ (s : Slot). ltb s.0 (length c.push.new.self.items)) ss ≡ true) (sym two) (and_from (ltb 0 (length c.push.new.self.items)) true (lt-ltb 0 (length c.push.new.self.items) (omega arith)) refl);
+      placed = subst (λ ss. list_all (λ (s : Slot). ltb s.0 (length c.push.new.self.items)) ss ≡ true) (sym two)
+          (and_from (ltb 0 (length c.push.new.self.items)) true (lt-ltb 0 (length c.push.new.self.items) (omega arith)) refl);
       distinct = subst AreDistinct (sym two) (refl, tt);
       in_order = subst (λ es. arrive_in_order es ≡ true) (sym view) refl;
-      arrived = subst (λ es. list_all (λ (e : Entry). ltb e.arrival 1) es ≡ true) (sym view) (and_from (ltb n.arrival 1) true (lt-ltb n.arrival 1 (omega arith)) refl);
-      ascending = subst (λ es. list_all (λ (e : Entry). are_ascending_pairs e.path) es ≡ true) (sym view) (and_from (are_ascending_pairs n.path.pairs) true (ap are_ascending_pairs r.path) refl);
-      short = subst (λ es. list_all (λ (e : Entry). leb (length e.path) limits.max_path) es ≡ true) (sym view) (and_from (leb (length n.path.pairs) limits.max_path) true (le-leb (length n.path.pairs) limits.max_path (omega arith)) refl);
-      stand_ins = subst (λ (es : List Entry). list_all (λ (e : Entry). list_all (λ (s : Slot). is_some (find (λ (f : Entry). eqb f.slot.0 s.0) es)) e.stand_ins) es ≡ true) (sym view)
-          (and_from (list_all (λ (s : Slot). is_some (find (λ (f : Entry). eqb f.slot.0 s.0) (entry_of 0 n ∷ []))) n.stand_ins.items) true (ap (list_all (λ (s : Slot). is_some (find (λ (f : Entry). eqb f.slot.0 s.0) (entry_of 0 n ∷ [])))) r.stand_ins) refl);
-      later = subst (λ (es : List Entry). list_all (λ (e : Entry). list_all (λ (s : Slot). ltb e.arrival (option_map_or (λ (f : Entry). f.arrival) (find (λ (f : Entry). eqb f.slot.0 s.0) es) 0)) e.stand_ins) es ≡ true) (sym view)
-          (and_from (list_all (λ (s : Slot). ltb n.arrival (option_map_or (λ (f : Entry). f.arrival) (find (λ (f : Entry). eqb f.slot.0 s.0) (entry_of 0 n ∷ [])) 0)) n.stand_ins.items) true (ap (list_all (λ (s : Slot). ltb n.arrival (option_map_or (λ (f : Entry). f.arrival) (find (λ (f : Entry). eqb f.slot.0 s.0) (entry_of 0 n ∷ [])) 0))) r.stand_ins) refl);
-      childless = c.in_ok-push-3.ensures.items ∙ ap (λ ss. ss ++ record { 0 = 0 } ∷ []) c.new-leaves.ensures.items ∙ sym (ap childless_slots view ∙ leaves-last [] (entry_of 0 n) r.children);
+      arrived = subst (λ es. list_all (λ (e : Entry). ltb e.arrival 1) es ≡ true) (sym view)
+          (and_from (ltb n.arrival 1) true (lt-ltb n.arrival 1 (omega arith)) refl);
+      ascending = subst (λ es. list_all (λ (e : Entry). are_ascending_pairs e.path) es ≡ true) (sym view)
+          (and_from (are_ascending_pairs n.path.pairs) true (ap are_ascending_pairs r.path) refl);
+      short = subst (λ es. list_all (λ (e : Entry). leb (length e.path) limits.max_path) es ≡ true) (sym view)
+          (and_from (leb (length n.path.pairs) limits.max_path) true (le-leb (length n.path.pairs) limits.max_path (omega arith)) refl);
+      stand_ins = subst (λ (es : List Entry). list_all (λ (e : Entry). list_all (λ (s : Slot). is_some (find (λ (f : Entry). eqb f.slot.0 s.0) es))
+          e.stand_ins) es ≡ true) (sym view)
+          (and_from (list_all (λ (s : Slot). is_some (find (λ (f : Entry). eqb f.slot.0 s.0) (entry_of 0 n ∷ []))) n.stand_ins.items) true
+          (ap (list_all (λ (s : Slot). is_some (find (λ (f : Entry). eqb f.slot.0 s.0) (entry_of 0 n ∷ [])))) r.stand_ins) refl);
+      later = subst
+          (λ (es : List Entry). list_all (λ (e : Entry). list_all
+          (λ (s : Slot). ltb e.arrival (option_map_or (λ (f : Entry). f.arrival) (find (λ (f : Entry). eqb f.slot.0 s.0) es) 0)) e.stand_ins) es
+          ≡ true) (sym view)
+          (and_from (list_all
+          (λ (s : Slot). ltb n.arrival (option_map_or (λ (f : Entry). f.arrival) (find (λ (f : Entry). eqb f.slot.0 s.0) (entry_of 0 n ∷ [])) 0))
+          n.stand_ins.items) true
+          (ap (list_all (λ (s : Slot). ltb n.arrival
+          (option_map_or (λ (f : Entry). f.arrival) (find (λ (f : Entry). eqb f.slot.0 s.0) (entry_of 0 n ∷ [])) 0))) r.stand_ins) refl);
+      childless = c.in_ok-push-3.ensures.items ∙ ap (λ ss. ss ++ record { 0 = 0 } ∷ []) c.new-leaves.ensures.items
+          ∙ sym (ap childless_slots view ∙ leaves-last [] (entry_of 0 n) r.children);
       sites = ap length zeros ∙ length-replicate limits.sites 0;
       fit = subst (λ cs. list_all (λ m. ltb m 4294967296) cs ≡ true) (sym zeros) (fits-none limits.sites);
       counted = sym (ap (λ cs. sum cs + 1) zeros ∙ ap (λ m. m + 1) (sum-none limits.sites));
       among_counted = subst (λ es. list_all (λ (e : Entry). is_counted c.in_ok-counts.counts.items e.id) es ≡ true) (sym view)
-          (and_from (is_counted c.in_ok-counts.counts.items n.id) true (subst (λ z. is_counted c.in_ok-counts.counts.items z ≡ true) (sym r.id) (le-leb 0 (get_or c.in_ok-counts.counts.items 0 0) (omega arith))) refl);
+          (and_from (is_counted c.in_ok-counts.counts.items n.id) true
+          (subst (λ z. is_counted c.in_ok-counts.counts.items z ≡ true) (sym r.id) (le-leb 0 (get_or c.in_ok-counts.counts.items 0 0) (omega arith))) refl);
       once = subst (λ (es : List Entry). AllDiffer (map (λ (e : Entry). e.id) es)) (sym view) (refl, tt);
       indexed = λ x.
           c.in_ok-put.ensures.put x

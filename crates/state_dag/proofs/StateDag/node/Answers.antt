@@ -27,5 +27,6 @@ returns-clause-kept c =
 pub returns-clause-stand_ins : goal.returns-clause-stand_ins
 returns-clause-stand_ins c =
     let table = c.args.self.now in
-    all-found (λ (e : Entry). list_all (is_slot table) e.stand_ins) table.entries c.args.slot.0 (entry_of c.args.slot.0 c.index.result.now) (returns-clause-entry c)
+    all-found (λ (e : Entry). list_all (is_slot table) e.stand_ins) table.entries c.args.slot.0 (entry_of c.args.slot.0 c.index.result.now)
+    (returns-clause-entry c)
     (subst (λ (t : Table). list_all (λ (e : Entry). list_all (is_slot t) e.stand_ins) t.entries ≡ true) c.self.view_is c.self.invariant.stand_ins)

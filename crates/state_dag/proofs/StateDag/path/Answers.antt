@@ -22,6 +22,8 @@ returns c = λ rs ks stands x named.
     let shows = shown table rs ks stands c.args.slot (entry_of c.args.slot.0 c.node.result.now) x c.node.ensures.entry named in
     let path = c.node.result.now.path.pairs in
     let slots = kept-are a c.self.invariant table c.kept_slots.result.now c.self.view_is c.kept_slots.ensures.is in
-    let entries : entries_in c.as_slice.result.now c.kept_slots.result.now ≡ table.entries = ap₂ entries_in c.as_slice.ensures.value slots ∙ ap (λ (t : Table). t.entries) c.self.view_is in
+    let entries : entries_in c.as_slice.result.now c.kept_slots.result.now ≡ table.entries = ap₂ entries_in c.as_slice.ensures.value slots
+    ∙ ap (λ (t : Table). t.entries) c.self.view_is in
     let found : AreFound table table.entries = subst (λ (t : Table). AreFound t t.entries) c.self.view_is (found-all a c.self.invariant) in
-    subst (λ list. IfOk c.named_path.result (λ p. p ≡ list)) (ap (flat_map (named_branches path)) entries ∙ named-is_path table rs ks x path stands shows.has_path found) c.named_path.ensures
+    subst (λ list. IfOk c.named_path.result (λ p. p ≡ list))
+    (ap (flat_map (named_branches path)) entries ∙ named-is_path table rs ks x path stands shows.has_path found) c.named_path.ensures

@@ -11,10 +11,12 @@ first_from-requires c =
     slots-ascend c.self.inside c.self.invariant c.deref.result.now c.kept_slots.result.now c.deref.ensures.value
     (kept-are c.self.inside c.self.invariant c.args.self.now c.kept_slots.result.now c.self.view_is c.kept_slots.ensures.is)
 
-stands-at : (c : goal.After-first_from) → (c.first_from.result < length (kept_of c.self.inside)) × ((d : Slot) → get_or (kept_of c.self.inside) c.first_from.result d ≡ c.args.slot)
+stands-at : (c : goal.After-first_from) → (c.first_from.result < length (kept_of c.self.inside))
+    × ((d : Slot) → get_or (kept_of c.self.inside) c.first_from.result d ≡ c.args.slot)
 stands-at c =
     let a = c.self.inside in
-    placed-at a c.self.invariant c.deref.result.now c.kept_slots.result.now c.deref.ensures.value (kept-are a c.self.invariant c.args.self.now c.kept_slots.result.now c.self.view_is c.kept_slots.ensures.is) c.args.slot
+    placed-at a c.self.invariant c.deref.result.now c.kept_slots.result.now c.deref.ensures.value
+    (kept-are a c.self.invariant c.args.self.now c.kept_slots.result.now c.self.view_is c.kept_slots.ensures.is) c.args.slot
     c.node.result.now.arrival c.first_from.result (subst (λ t. is_slot t c.args.slot ≡ true) (sym c.self.view_is) c.requires)
     (arrival-of_node a c.self.invariant c.args.self.now c.args.slot c.node.result.now c.self.view_is c.requires c.node.ensures.entry)
     c.first_from.ensures.before c.first_from.ensures.from
@@ -31,4 +33,5 @@ returns-clause-within c =
 pub returns-clause-at : goal.returns-clause-at
 returns-clause-at c = λ d.
     let w = stands-at c in
-    ap (λ (t : Table). (get_or t.entries c.first_from.result d).slot) (sym c.self.view_is) ∙ placed-entry c.self.inside c.self.invariant c.args.slot c.first_from.result d w.0 w.1
+    ap (λ (t : Table). (get_or t.entries c.first_from.result d).slot) (sym c.self.view_is)
+    ∙ placed-entry c.self.inside c.self.invariant c.args.slot c.first_from.result d w.0 w.1

@@ -27,7 +27,8 @@ returns-clause-later c =
     (subst (λ (t : Table). list_all (λ f. list_all (λ s. ltb f.arrival (arrival_at t s)) f.stand_ins) t.entries ≡ true) c.self.view_is c.self.invariant.later)
 
 -- what all of the entry's slots are
-common-of : (o : Option Entry) (ss : List Slot) → option_map (λ e. e.stand_ins) o ≡ Some ss → common (λ (a b : Slot). eqb a.0 b.0) ss ≡ option_and_then (λ (e : Entry). common (λ (a b : Slot). eqb a.0 b.0) e.stand_ins) o
+common-of : (o : Option Entry) (ss : List Slot) → option_map (λ e. e.stand_ins) o ≡ Some ss → common (λ (a b : Slot). eqb a.0 b.0) ss
+    ≡ option_and_then (λ (e : Entry). common (λ (a b : Slot). eqb a.0 b.0) e.stand_ins) o
 common-of None ss is = absurd (none-some ss is)
 common-of (Some e) ss is = ap (common (λ (a b : Slot). eqb a.0 b.0)) (sym (same_Some e.stand_ins ss is))
 

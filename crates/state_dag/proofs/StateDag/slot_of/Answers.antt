@@ -8,7 +8,8 @@ searched : (c : goal.After-get) → c.get.result ≡ slot_of_id c.args.self.now.
 searched c = c.get.ensures ∙ c.self.invariant.indexed c.args.id ∙ ap (λ (t : Table). slot_of_id t.entries c.args.id) c.self.view_is
 
 pub returns-clause-found : goal.returns-clause-found
-returns-clause-found c = searched-names c.args.self.now c.args.id c.get.result (entries-found c.self.inside c.args.self.now c.self.invariant c.self.view_is) (searched c)
+returns-clause-found c = searched-names c.args.self.now c.args.id c.get.result
+    (entries-found c.self.inside c.args.self.now c.self.invariant c.self.view_is) (searched c)
 
 pub returns-clause-kept : goal.returns-clause-kept
 returns-clause-kept c =

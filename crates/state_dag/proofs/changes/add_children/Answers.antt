@@ -1,4 +1,5 @@
-use Rattle.std.proofs.Common.{◌≡◌, ◌∙◌, ◌<◌, ◌≤◌, ◌+◌, ◌++◌, ◌∷◌, [], ℕ, false, IsTrue, inl, inr, eqb, length, take, get_or, refl, sym, ap, subst, eq-eqb, length-append, arith}
+use Rattle.std.proofs.Common.{◌≡◌, ◌∙◌, ◌<◌, ◌≤◌, ◌+◌, ◌++◌, ◌∷◌, [], ℕ, false, IsTrue, inl, inr, eqb, length, take, get_or, refl, sym, ap, subst, eq-eqb}
+use Rattle.std.proofs.Common.{length-append, arith}
 use Rattle.std.specs.List.{list_all}
 use Rattle.std.proofs.lemmas.Bool.{cases_Bool}
 use Rattle.std.proofs.lemmas.List.{length-set, get_or-set_other}
@@ -41,7 +42,8 @@ loop-parent-preserved c =
           at-set (λ (m : Node). m ≡ record (get_or first k d) { children = m.children; stand_ins = m.stand_ins }) nodes p new k d here
           (λ e.
           made.rest
-          ∙ ap (λ (m : Node). record m { children = new.children; stand_ins = new.stand_ins }) (read-at nodes p old new here c.index_mut.ensures.value k d e ∙ c.loop-parent.invariant.rest k d))
+          ∙ ap (λ (m : Node). record m { children = new.children; stand_ins = new.stand_ins })
+          (read-at nodes p old new here c.index_mut.ensures.value k d e ∙ c.loop-parent.invariant.rest k d))
           (λ ne. c.loop-parent.invariant.rest k d);
       others = λ k d out.
           let parts = among-parts c.args.id c.args.slot parents i none within k out in
@@ -51,11 +53,14 @@ loop-parent-preserved c =
           (λ e.
           let same : old ≡ get_or first k d =
           read-at nodes p old new here c.index_mut.ensures.value k d e
-          ∙ c.loop-parent.invariant.others k d (subst (λ (m : ℕ). is_slot_among (record { 0 = m }) (take i parents) ≡ false) (sym e) (distinct-at parents i none distinct within)) in
+          ∙ c.loop-parent.invariant.others k d (subst (λ (m : ℕ). is_slot_among (record { 0 = m }) (take i parents) ≡ false) (sym e)
+          (distinct-at parents i none distinct within)) in
           let room = roomy distinct in
-          child-own c.args.id c.args.slot parents i none within k (get_or first k d) new (sym e) (made.children room.0 ∙ ap (λ (m : Node). m.children.items ++ c.args.id ∷ []) same)
+          child-own c.args.id c.args.slot parents i none within k (get_or first k d) new (sym e)
+          (made.children room.0 ∙ ap (λ (m : Node). m.children.items ++ c.args.id ∷ []) same)
           (made.stand_ins room.1 ∙ ap (λ (m : Node). m.stand_ins.items ++ c.args.slot ∷ []) same))
-          (λ ne. child-other c.args.id c.args.slot parents i none within k (get_or first k d) (get_or nodes k d) ne (c.loop-parent.invariant.each distinct k d (omega arith)));
+          (λ ne. child-other c.args.id c.args.slot parents i none within k (get_or first k d) (get_or nodes k d) ne
+          (c.loop-parent.invariant.each distinct k d (omega arith)));
       parent = λ k d lt there.
           at-set (λ (m : Node). 1 ≤ length m.children.items) nodes p new k d here
           (λ e.
@@ -76,6 +81,7 @@ loop-parent-preserved c =
           at-set (λ (m : Node). IsTrue (list_all test m.stand_ins.items)) nodes p new k d here
           (λ e.
           let same = read-at nodes p old new here c.index_mut.ensures.value k d e in
-          made.slots test (subst (λ (m : Node). IsTrue (list_all test m.stand_ins.items)) (sym same) (c.loop-parent.invariant.slots test k d (omega arith) all own)) own)
+          made.slots test (subst (λ (m : Node). IsTrue (list_all test m.stand_ins.items)) (sym same)
+          (c.loop-parent.invariant.slots test k d (omega arith) all own)) own)
           (λ ne. c.loop-parent.invariant.slots test k d (omega arith) all own);
     }

@@ -62,7 +62,8 @@ loop-gain-preserved c =
           at-set (HasGained (take (i + 1) gains) k (get_or first k d)) nodes p new k d here
           (λ e.
           gained-more gains i none within k (sym e) (get_or first k d) old path
-          (subst (HasGained (take i gains) k (get_or first k d)) (sym (read-at nodes p old new here c.index_mut.ensures.value k d e)) (c.loop-gain.invariant.each k d (omega arith))) made.pairs made.ascending longer)
+          (subst (HasGained (take i gains) k (get_or first k d)) (sym (read-at nodes p old new here c.index_mut.ensures.value k d e))
+          (c.loop-gain.invariant.each k d (omega arith))) made.pairs made.ascending longer)
           (λ ne. gained-other gains i none within k (λ e. ne (sym e)) (get_or first k d) (get_or nodes k d) (c.loop-gain.invariant.each k d (omega arith)));
       spare = λ k d lt.
           let before = c.loop-gain.invariant.spare k d (omega arith) in

@@ -39,11 +39,14 @@ loop-slot-preserved c =
           at-set (λ (m : Node). entry_of k m ≡ changed_at change (take (i + 1) slots) (entry_of k (get_or first k d))) nodes p new k d here
           (λ e.
           changed-own change twice (λ f. refl) slots i none within (entry_of k (get_or first k d)) (entry_of k old) (entry_of k new) (sym e)
-          (ap (entry_of k) (read-at nodes p old new here c.index_mut.ensures.value k d e) ∙ c.loop-slot.invariant.each k d (omega arith)) (c.pass_children.ensures.entry k))
-          (λ ne. changed-other change twice (λ f. refl) slots i none within (entry_of k (get_or first k d)) (entry_of k (get_or nodes k d)) (λ e. ne (sym e)) (c.loop-slot.invariant.each k d (omega arith)));
+          (ap (entry_of k) (read-at nodes p old new here c.index_mut.ensures.value k d e) ∙ c.loop-slot.invariant.each k d (omega arith))
+          (c.pass_children.ensures.entry k))
+          (λ ne. changed-other change twice (λ f. refl) slots i none within (entry_of k (get_or first k d)) (entry_of k (get_or nodes k d))
+          (λ e. ne (sym e)) (c.loop-slot.invariant.each k d (omega arith)));
       paths = λ k d.
           at-set (λ (m : Node). m.path ≡ (get_or first k d).path) nodes p new k d here
-          (λ e. c.pass_children.ensures.path ∙ ap (λ (m : Node). m.path) (read-at nodes p old new here c.index_mut.ensures.value k d e) ∙ c.loop-slot.invariant.paths k d)
+          (λ e. c.pass_children.ensures.path ∙ ap (λ (m : Node). m.path) (read-at nodes p old new here c.index_mut.ensures.value k d e)
+          ∙ c.loop-slot.invariant.paths k d)
           (λ ne. c.loop-slot.invariant.paths k d);
     }
 
@@ -51,4 +54,5 @@ pub returns-clause-each : goal.returns-clause-each
 returns-clause-each c = λ k d lt.
     let count = c.loop-slot.invariant.count in
     c.loop-slot.invariant.each k d (omega arith)
-    ∙ ap (λ ss. changed_at (passing_on c.args.gone c.args.heir) ss (entry_of k (get_or c.args.nodes.now.items k d))) (take_all c.loop-slot.slot-index c.args.slots.now (omega arith))
+    ∙ ap (λ ss. changed_at (passing_on c.args.gone c.args.heir) ss (entry_of k (get_or c.args.nodes.now.items k d)))
+    (take_all c.loop-slot.slot-index c.args.slots.now (omega arith))

@@ -23,13 +23,15 @@ loop-parent-preserved c =
             omega arith,
             λ k d lt.
                 led-more table parents c.loop-parent.parent-index (record { 0 = 0 }) (get_or slots k d) c.loop-parent-test.true (before.1 k d (omega arith))
-                (c.only_child.ensures (get_or slots k d) ∙ (ap (λ (o : Option (Bor Node)). is_child_above table (get_or slots k d) (option_copied o)) w.in-Some.is ∙ later-isnt_above table (get_or slots k d) child (place.before k d (omega arith)))),
+                (c.only_child.ensures (get_or slots k d) ∙ (ap (λ (o : Option (Bor Node)). is_child_above table (get_or slots k d) (option_copied o))
+                w.in-Some.is ∙ later-isnt_above table (get_or slots k d) child (place.before k d (omega arith)))),
           )
       | in_default w ↦
           let first = w.first-is in (
             omega arith,
             λ k d lt.
                 led-more table parents c.loop-parent.parent-index (record { 0 = 0 }) (get_or slots k d) c.loop-parent-test.true (before.1 k d (omega arith))
-                (c.only_child.ensures (get_or slots k d) ∙ ap (λ (o : Option (Bor Node)). is_child_above table (get_or slots k d) (option_copied o)) w.in_default.is),
+                (c.only_child.ensures (get_or slots k d) ∙ ap (λ (o : Option (Bor Node)). is_child_above table (get_or slots k d) (option_copied o))
+                w.in_default.is),
           )
     ]

@@ -20,12 +20,15 @@ loop-place-init c =
     let first = c.first_led-place.ensures in
     record {
       gains = c.new-gains.ensures.items ∙ sym (none-gained_before table c.args.parents.now c.args.slots.now c.first_led-place.result first.before first.within);
-      short = none-long_before table c.args.parents.now c.args.limits.now.max_path c.args.slots.now c.first_led-place.result c.requires.short first.before first.within;
+      short = none-long_before table c.args.parents.now c.args.limits.now.max_path c.args.slots.now c.first_led-place.result c.requires.short first.before
+          first.within;
     }
 
 -- the pairs that are counted
-counted : (nodes : List Node) (parents : List Slot) (slot : Slot) (node : Node) (old new : List Gain) (len before after pairs : ℕ) → slot.0 < length nodes → node ≡ get_or nodes slot.0 node →
-    new ≡ old ++ gains_at (table_of nodes) parents slot → len ≡ length node.path.pairs → before ≡ length old → after ≡ length new → pairs ≡ len + (after - before) → pairs ≡ length_after (table_of nodes) parents slot
+counted : (nodes : List Node) (parents : List Slot) (slot : Slot) (node : Node) (old new : List Gain) (len before after pairs : ℕ) → slot.0 < length nodes
+    → node ≡ get_or nodes slot.0 node →
+    new ≡ old ++ gains_at (table_of nodes) parents slot → len ≡ length node.path.pairs → before ≡ length old → after ≡ length new →
+    pairs ≡ len + (after - before) → pairs ≡ length_after (table_of nodes) parents slot
 counted nodes parents slot node old new len before after pairs placed read is is_len is_before is_after sum =
     let path = ap length (path-found nodes slot.0 node placed) in
     let same = ap (λ (n : Node). length n.path.pairs) read in
@@ -45,12 +48,16 @@ loop-place-preserved c =
     let test = is_long table c.args.limits.now.max_path parents in
     let next : k + 1 ≡ suc k = omega arith in
     let pairs =
-    counted c.args.nodes.now parents slot c.index-nodes-slot.result c.loop-place.gains.items c.add_gains.new.gains.items c.len.result c.len-before.result c.len-in-loop-place.result c.in_ok-pairs.pairs
-    (place-within c.args.nodes.now slots k none c.requires.places (omega arith)) c.index-nodes-slot.is c.in_ok-add_gains.ensures c.len.ensures.count (c.len-before.ensures ∙ c.loop-place.gains.ok.0) (c.len-in-loop-place.ensures ∙ c.add_gains.new.gains.ok.0) c.in_ok-pairs.ensures.is in
+    counted c.args.nodes.now parents slot c.index-nodes-slot.result c.loop-place.gains.items c.add_gains.new.gains.items c.len.result c.len-before.result
+    c.len-in-loop-place.result c.in_ok-pairs.pairs
+    (place-within c.args.nodes.now slots k none c.requires.places (omega arith)) c.index-nodes-slot.is c.in_ok-add_gains.ensures c.len.ensures.count
+    (c.len-before.ensures ∙ c.loop-place.gains.ok.0) (c.len-in-loop-place.ensures ∙ c.add_gains.new.gains.ok.0) c.in_ok-pairs.ensures.is in
     let fits = c.if-pairs-limits.false in
     record {
-      gains = c.in_ok-add_gains.ensures ∙ ap (λ gs. gs ++ f slot) c.loop-place.invariant.gains ∙ flat_map_more f [] (take k slots) slot ∙ ap (flat_map f) (sym (take_more slots k none (omega arith)));
-      short = ap (λ m. find test (take m slots)) next ∙ find-none_more test slots k none c.loop-place.invariant.short (omega arith) (le-ltb c.args.limits.now.max_path (length_after table parents slot) (omega arith));
+      gains = c.in_ok-add_gains.ensures ∙ ap (λ gs. gs ++ f slot) c.loop-place.invariant.gains ∙ flat_map_more f [] (take k slots) slot
+          ∙ ap (flat_map f) (sym (take_more slots k none (omega arith)));
+      short = ap (λ m. find test (take m slots)) next ∙ find-none_more test slots k none c.loop-place.invariant.short (omega arith)
+          (le-ltb c.args.limits.now.max_path (length_after table parents slot) (omega arith));
     }
 
 pub returns-then-pairs-limits-clause-long : goal.returns-then-pairs-limits-clause-long
@@ -65,20 +72,25 @@ returns-then-pairs-limits-clause-long c =
     let placed = place-within nodes slots k none c.requires.places within in
     let node = c.index-nodes-slot.result in
     let pairs =
-    counted c.args.nodes.now parents slot c.index-nodes-slot.result c.loop-place.gains.items c.add_gains.new.gains.items c.len.result c.len-before.result c.len-in-loop-place.result c.in_ok-pairs.pairs
-    (place-within c.args.nodes.now slots k none c.requires.places (omega arith)) c.index-nodes-slot.is c.in_ok-add_gains.ensures c.len.ensures.count (c.len-before.ensures ∙ c.loop-place.gains.ok.0) (c.len-in-loop-place.ensures ∙ c.add_gains.new.gains.ok.0) c.in_ok-pairs.ensures.is in
+    counted c.args.nodes.now parents slot c.index-nodes-slot.result c.loop-place.gains.items c.add_gains.new.gains.items c.len.result c.len-before.result
+    c.len-in-loop-place.result c.in_ok-pairs.pairs
+    (place-within c.args.nodes.now slots k none c.requires.places (omega arith)) c.index-nodes-slot.is c.in_ok-add_gains.ensures c.len.ensures.count
+    (c.len-before.ensures ∙ c.loop-place.gains.ok.0) (c.len-in-loop-place.ensures ∙ c.add_gains.new.gains.ok.0) c.in_ok-pairs.ensures.is in
     let exceeds = c.if-pairs-limits.true in
     let named = λ (n : Node). Some n.id in (
       slot,
-      find-first (is_long table c.args.limits.now.max_path parents) slots k none c.loop-place.invariant.short within (lt-ltb c.args.limits.now.max_path (length_after table parents slot) (omega arith)),
+      find-first (is_long table c.args.limits.now.max_path parents) slots k none c.loop-place.invariant.short within
+          (lt-ltb c.args.limits.now.max_path (length_after table parents slot) (omega arith)),
       id-found nodes slot.0 node placed ∙ ap named (sym c.index-nodes-slot.is),
       sym pairs,
     )
 
 pub returns-clause-gains : goal.returns-clause-gains
 returns-clause-gains c =
-    c.loop-place.invariant.gains ∙ ap (flat_map (gains_at (table_of c.args.nodes.now) c.args.parents.now)) (take_all c.loop-place.place c.args.slots.now (omega arith))
+    c.loop-place.invariant.gains ∙ ap (flat_map (gains_at (table_of c.args.nodes.now) c.args.parents.now))
+    (take_all c.loop-place.place c.args.slots.now (omega arith))
 
 pub returns-clause-long : goal.returns-clause-long
 returns-clause-long c =
-    sym (ap (find (is_long (table_of c.args.nodes.now) c.args.limits.now.max_path c.args.parents.now)) (take_all c.loop-place.place c.args.slots.now (omega arith))) ∙ c.loop-place.invariant.short
+    sym (ap (find (is_long (table_of c.args.nodes.now) c.args.limits.now.max_path c.args.parents.now))
+    (take_all c.loop-place.place c.args.slots.now (omega arith))) ∙ c.loop-place.invariant.short

@@ -8,7 +8,8 @@ use Rattle.state_dag.proofs.named_paths.add_branches.Goals as goal
 use Rattle.state_dag.proofs.named_paths.add_branches.Goals.{then-contains+in_ok-push, else-contains}
 
 -- behind some, the branches of one more number
-one-more : (p : StateId × ℕ → Bool) (x : StateId) (k : ℕ) (b : Bool) (first old new : List (StateId × ℕ)) → b ≡ p (x, k) → old ≡ first ++ filter p (map (λ n. (x, n)) (range_with_len 0 k)) → new ≡ old ++ cond b ((x, k) ∷ []) [] →
+one-more : (p : StateId × ℕ → Bool) (x : StateId) (k : ℕ) (b : Bool) (first old new : List (StateId × ℕ)) → b ≡ p (x, k) → old ≡ first
+    ++ filter p (map (λ n. (x, n)) (range_with_len 0 k)) → new ≡ old ++ cond b ((x, k) ∷ []) [] →
     new ≡ first ++ filter p (map (λ n. (x, n)) (range_with_len 0 (k + 1)))
 one-more p x k b first old new is held put =
     let made : ℕ → StateId × ℕ = λ n. (x, n) in
@@ -28,5 +29,6 @@ loop-branch-preserved c =
           (ap (λ v. v.items) w.named-is ∙ w.in_ok-push.ensures.items ∙ ap (λ b. c.loop-branch.named.items ++ cond b ((x, k) ∷ []) []) (sym w.if-contains.true))
       | else-contains w ↦
           one-more p x k c.contains.result c.args.named.now.items c.loop-branch.named.items items c.contains.ensures c.loop-branch.invariant
-          (ap (λ v. v.items) w.named-is ∙ sym (append-nil c.loop-branch.named.items) ∙ ap (λ b. c.loop-branch.named.items ++ cond b ((x, k) ∷ []) []) (sym w.if-contains.false))
+          (ap (λ v. v.items) w.named-is ∙ sym (append-nil c.loop-branch.named.items)
+          ∙ ap (λ b. c.loop-branch.named.items ++ cond b ((x, k) ∷ []) []) (sym w.if-contains.false))
     ]

@@ -6,4 +6,5 @@ use Rattle.state_dag.proofs.named_paths.add_branches.Given as goal
 
 abbrev pub invariant-loop-branch : goal.invariant-loop-branch
 invariant-loop-branch l =
-    l.named.items ≡ l.fn.named.items ++ filter (λ (b : StateId × ℕ). has_pair (l.slot.0, b.1) l.path.pairs) (map (λ n. (l.node.id, n)) (range_with_len 0 l.branch))
+    l.named.items ≡ l.fn.named.items ++ filter (λ (b : StateId × ℕ). has_pair (l.slot.0, b.1) l.path.pairs)
+    (map (λ n. (l.node.id, n)) (range_with_len 0 l.branch))

@@ -27,4 +27,5 @@ loop-slot-preserved c =
     c.in_ok-add_branches.ensures ∙ ap (λ l. l ++ f (entry_of slot.0 node)) c.loop-slot.invariant
     ∙ ap (λ (n : Node). flat_map f before ++ f (entry_of slot.0 n)) c.index-nodes-slot.is
     ∙ flat_map_more f [] before (entry_of slot.0 (get_or nodes slot.0 node))
-    ∙ ap (flat_map f) (sym (entries-put nodes node (take i slots) slot placed (place-within nodes slots i none c.requires lt)) ∙ ap (entries_in nodes) (sym (take_more slots i none lt)))
+    ∙ ap (flat_map f) (sym (entries-put nodes node (take i slots) slot placed (place-within nodes slots i none c.requires lt))
+    ∙ ap (entries_in nodes) (sym (take_more slots i none lt)))

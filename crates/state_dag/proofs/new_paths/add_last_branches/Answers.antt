@@ -31,7 +31,8 @@ loop-parent-preserved c =
     let table = table_of nodes in
     let test = λ (pair : ℕ × ℕ) (p : Slot). is_same_pair pair (p.0, number_of_children table p) && leb 1 (number_of_children table p) in
     let number : number_of_children table (get_or ps i none) ≡ c.in_ok-branch.branch =
-    children-found nodes place c.index-nodes-parent.result (place-within nodes ps i none c.requires (omega arith)) ∙ sym node.children.ok.0 ∙ sym c.len.ensures ∙ sym c.in_ok-branch.ensures.is in
+    children-found nodes place c.index-nodes-parent.result (place-within nodes ps i none c.requires (omega arith)) ∙ sym node.children.ok.0
+    ∙ sym c.len.ensures ∙ sym c.in_ok-branch.ensures.is in
     let old = λ (pair : ℕ × ℕ). has_pair pair c.args.path.now.pairs in
     let now = λ (pair : ℕ × ℕ). has_pair pair c.loop-parent.path.pairs in
     let next = λ (pair : ℕ × ℕ). has_pair pair c.if-branch-gt0.path.pairs in
@@ -41,14 +42,18 @@ loop-parent-preserved c =
             or-more (test pair) ps i none (old pair) (now pair) (next pair) (omega arith) (c.loop-parent.invariant.pairs pair)
             (ap (λ (q : Pairs). has_pair pair q.pairs) w.path-is
             ∙ w.with_pair.ensures.pairs pair
-            ∙ ap₂ (λ a b. a || b) (sym (is-branch pair place (number_of_children table (get_or ps i none)) c.in_ok-branch.branch number w.if-branch-gt0.true)) (ap (has_pair pair) w.reserve.ensures.same));
+            ∙ ap₂ (λ a b. a || b)
+            (sym (is-branch pair place (number_of_children table (get_or ps i none)) c.in_ok-branch.branch number w.if-branch-gt0.true))
+            (ap (has_pair pair) w.reserve.ensures.same));
         ascending = λ up. subst (λ (q : Pairs). IsTrue (are_ascending_pairs q.pairs)) (sym w.path-is) w.with_pair.ensures.ascending;
       }
       | else-branch-gt0 w ↦ record {
         pairs = λ pair.
             or-more (test pair) ps i none (old pair) (now pair) (next pair) (omega arith) (c.loop-parent.invariant.pairs pair)
             (ap (λ (q : Pairs). has_pair pair q.pairs) w.path-is
-            ∙ ap (λ b. b || now pair) (sym (no-branch pair place (number_of_children table (get_or ps i none)) (number ∙ (let zero : c.in_ok-branch.branch ≡ 0 = omega (arith, w.if-branch-gt0.false) in zero)))));
+            ∙ ap (λ b. b || now pair)
+            (sym (no-branch pair place (number_of_children table (get_or ps i none))
+            (number ∙ (let zero : c.in_ok-branch.branch ≡ 0 = omega (arith, w.if-branch-gt0.false) in zero)))));
         ascending = λ up. subst (λ (q : Pairs). IsTrue (are_ascending_pairs q.pairs)) (sym w.path-is) (c.loop-parent.invariant.ascending up);
       }
     ]

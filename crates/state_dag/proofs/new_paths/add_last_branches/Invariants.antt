@@ -6,6 +6,7 @@ use Rattle.state_dag.proofs.new_paths.add_last_branches.Given as goal
 
 abbrev pub invariant-loop-parent : goal.invariant-loop-parent
 invariant-loop-parent l = record {
-  pairs : (pair : ℕ × ℕ) → has_pair pair l.path.pairs ≡ (is_last_branch (table_of l.nodes) (take l.parent-index l.parents) pair || has_pair pair l.fn.path.pairs);
+  pairs : (pair : ℕ × ℕ) → has_pair pair l.path.pairs ≡ (is_last_branch (table_of l.nodes) (take l.parent-index l.parents) pair || has_pair pair
+      l.fn.path.pairs);
   ascending : IsTrue (are_ascending_pairs l.fn.path.pairs) → IsTrue (are_ascending_pairs l.path.pairs);
 }

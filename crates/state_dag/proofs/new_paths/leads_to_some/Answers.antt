@@ -12,4 +12,6 @@ loop-parent-preserved c =
     let test = λ (p : Slot). leads_first (table_of c.args.nodes.now) p c.args.fork in
     let i = c.loop-parent.parent-index in
     let ps = c.args.parents.now in
-    list_any_more test ps i (record { 0 = 0 }) (omega arith) ∙ or_from (list_any test (take i ps)) (test (get_or ps i (record { 0 = 0 }))) c.loop-parent.invariant (sym c.leads_first.ensures ∙ c.if-leads_first.false)
+    list_any_more test ps i (record { 0 = 0 }) (omega arith)
+    ∙ or_from (list_any test (take i ps)) (test (get_or ps i (record { 0 = 0 }))) c.loop-parent.invariant
+    (sym c.leads_first.ensures ∙ c.if-leads_first.false)

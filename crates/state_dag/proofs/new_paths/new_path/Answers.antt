@@ -19,12 +19,15 @@ joined false false true = refl
 joined false false false = refl
 
 new-pairs : (table : Table) (parents : List Slot) (pair : ℕ × ℕ) →
-    (is_last_branch table parents pair || (list_any (λ p. is_same_pair pair (p.0, 0) && leads_to_some table parents p) parents || (list_any (λ p. has_pair pair (path_at table p)) parents || false)))
+    (is_last_branch table parents pair || (list_any (λ p. is_same_pair pair (p.0, 0) && leads_to_some table parents p) parents ||
+    (list_any (λ p. has_pair pair (path_at table p)) parents || false)))
     ≡ is_new_pair table parents pair
 new-pairs table parents pair =
-    joined (list_any (λ p. has_pair pair (path_at table p)) parents) (list_any (λ p. is_same_pair pair (p.0, 0) && leads_to_some table parents p) parents) (is_last_branch table parents pair)
+    joined (list_any (λ p. has_pair pair (path_at table p)) parents) (list_any (λ p. is_same_pair pair (p.0, 0) && leads_to_some table parents p) parents)
+    (is_last_branch table parents pair)
     ∙ ap (λ b. b || is_last_branch table parents pair)
-    (ap (λ b. list_any (λ p. has_pair pair (path_at table p)) parents || b) (sym (any-swap (λ (q : Slot). is_same_pair pair (q.0, 0)) (λ p q. leads_first table p q) parents parents))
+    (ap (λ b. list_any (λ p. has_pair pair (path_at table p)) parents || b)
+    (sym (any-swap (λ (q : Slot). is_same_pair pair (q.0, 0)) (λ p q. leads_first table p q) parents parents))
     ∙ sym (any-or (λ p. has_pair pair (path_at table p)) (λ p. is_first_branch table parents p pair) parents))
 
 pub returns : goal.returns
@@ -33,7 +36,8 @@ returns c =
     let parents = c.args.parents.now in
     record {
       ascending = c.add_last_branches.ensures.ascending
-          (c.add_first_branches.ensures.ascending (c.unite_paths.ensures.ascending (subst (λ ps. IsTrue (are_ascending_pairs ps)) (sym c.new-path.ensures) refl)));
+          (c.add_first_branches.ensures.ascending (c.unite_paths.ensures.ascending
+          (subst (λ ps. IsTrue (are_ascending_pairs ps)) (sym c.new-path.ensures) refl)));
       pairs = λ pair.
           c.in_ok-add_last_branches.ensures.pairs pair
           ∙ ap (λ b. is_last_branch table parents pair || b)

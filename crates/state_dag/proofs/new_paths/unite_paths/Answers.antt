@@ -12,7 +12,8 @@ loop-parent-preserved c =
     let node = c.index-nodes-parent.result in
     record {
       pairs = λ pair.
-          or-more (λ p. has_pair pair (path_at (table_of nodes) p)) c.args.parents.now c.loop-parent.parent-index (record { 0 = 0 }) (has_pair pair c.args.path.now.pairs)
+          or-more (λ p. has_pair pair (path_at (table_of nodes) p)) c.args.parents.now c.loop-parent.parent-index (record { 0 = 0 })
+          (has_pair pair c.args.path.now.pairs)
           (has_pair pair c.loop-parent.path.pairs) (has_pair pair c.unite.new.self.pairs) (omega arith) (c.loop-parent.invariant.pairs pair)
           (c.in_ok-unite.ensures.pairs pair
           ∙ ap (λ qs. has_pair pair qs || has_pair pair c.loop-parent.path.pairs)

@@ -17,7 +17,8 @@ returns-in_err-make_room_at-clause-same c =
     let old = c.index_mut.result.now in
     let new = c.make_room_at.new.node in
     let made = c.make_room_at.ensures in
-    placed-entries c.loop-parent.nodes.items p old new (omega arith) c.index_mut.ensures.value (λ k. child-entry old new k made.rest made.children made.stand_ins) ∙ c.loop-parent.invariant.same
+    placed-entries c.loop-parent.nodes.items p old new (omega arith) c.index_mut.ensures.value
+    (λ k. child-entry old new k made.rest made.children made.stand_ins) ∙ c.loop-parent.invariant.same
 
 pub loop-parent-preserved : goal.loop-parent-preserved
 loop-parent-preserved c =
@@ -35,10 +36,12 @@ loop-parent-preserved c =
     let first = c.args.nodes.now.items in
     record {
       count = stay ∙ count;
-      same = placed-entries nodes p old new (omega arith) c.index_mut.ensures.value (λ k. child-entry old new k made.rest made.children made.stand_ins) ∙ c.loop-parent.invariant.same;
+      same = placed-entries nodes p old new (omega arith) c.index_mut.ensures.value (λ k. child-entry old new k made.rest made.children made.stand_ins)
+          ∙ c.loop-parent.invariant.same;
       paths = λ k d.
           at-set (λ (m : Node). m.path ≡ (get_or first k d).path) nodes p new k d (omega arith)
-          (λ e. ap (λ (m : Node). m.path) made.rest ∙ ap (λ (m : Node). m.path) (read-at nodes p old new (omega arith) c.index_mut.ensures.value k d e) ∙ c.loop-parent.invariant.paths k d)
+          (λ e. ap (λ (m : Node). m.path) made.rest ∙ ap (λ (m : Node). m.path) (read-at nodes p old new (omega arith) c.index_mut.ensures.value k d e)
+          ∙ c.loop-parent.invariant.paths k d)
           (λ ne. c.loop-parent.invariant.paths k d);
       room = λ k d lt among.
           at-set TakesChild nodes p new k d (omega arith) (λ e. c.in_ok-make_room_at.ensures.room)

@@ -27,7 +27,8 @@ returns-in_err-reserve-clause-same c =
     let count = c.loop-gain.invariant.count in
     let old = c.index_mut.result.now in
     let new : Node = record old { path = c.reserve.new.self } in
-    placed-entries c.loop-gain.nodes.items g.at.0 old new (omega arith) c.index_mut.ensures.value (λ k. path-entry old c.reserve.new.self k c.reserve.ensures.same) ∙ c.loop-gain.invariant.same
+    placed-entries c.loop-gain.nodes.items g.at.0 old new (omega arith) c.index_mut.ensures.value
+    (λ k. path-entry old c.reserve.new.self k c.reserve.ensures.same) ∙ c.loop-gain.invariant.same
 
 pub loop-gain-preserved : goal.loop-gain-preserved
 loop-gain-preserved c =
@@ -45,7 +46,8 @@ loop-gain-preserved c =
     let stay = length-set nodes g.at.0 new in
     record {
       count = stay ∙ count;
-      same = placed-entries nodes g.at.0 old new (omega arith) c.index_mut.ensures.value (λ k. path-entry old c.reserve.new.self k c.reserve.ensures.same) ∙ c.loop-gain.invariant.same;
+      same = placed-entries nodes g.at.0 old new (omega arith) c.index_mut.ensures.value (λ k. path-entry old c.reserve.new.self k c.reserve.ensures.same)
+          ∙ c.loop-gain.invariant.same;
       room = λ k d lt among.
           at-set (λ (m : Node). room ≤ m.path.room) nodes g.at.0 new k d (omega arith) (λ e. c.in_ok-reserve.ensures.room)
           (λ ne. c.loop-gain.invariant.room k d (omega arith) (room-more gains i none k (omega arith) among ne));
@@ -56,4 +58,5 @@ returns-clause-room c =
     let room = c.in_ok-room.ensures.is in
     λ k d lt among.
     subst (λ (n : ℕ). n ≤ (get_or c.loop-gain.nodes.items k d).path.room) room
-    (c.loop-gain.invariant.room k d lt (subst (λ (gs : List Gain). IsTrue (is_gaining k gs)) (sym (take_all c.loop-gain.gain-index c.args.gains.now (omega arith))) among))
+    (c.loop-gain.invariant.room k d lt (subst (λ (gs : List Gain). IsTrue (is_gaining k gs))
+    (sym (take_all c.loop-gain.gain-index c.args.gains.now (omega arith))) among))

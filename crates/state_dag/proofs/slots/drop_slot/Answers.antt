@@ -24,7 +24,8 @@ returns-then-eq-clause-items c =
     let k = c.first_from-place.result in
     let within : k < length xs = (let len = c.len.ensures in let less = c.if-place-len.true in omega (arith, c.args.slots.now.ok.0)) in
     let same = same-slots c.index.result.now c.args.gone (sym c.eq.ensures ∙ c.if-eq.true) in
-    c.remove.ensures.items ∙ removed-one n xs k c.args.gone c.requires within (get_or_default xs k c.args.gone c.index.result.now within ∙ sym c.index.ensures ∙ same)
+    c.remove.ensures.items ∙ removed-one n xs k c.args.gone c.requires within (get_or_default xs k c.args.gone c.index.result.now within
+    ∙ sym c.index.ensures ∙ same)
 
 pub returns-else-place-len-clause-items : goal.returns-else-place-len-clause-items
 returns-else-place-len-clause-items c =
@@ -35,7 +36,8 @@ returns-else-place-len-clause-items c =
     let is = c.arrival_in.ensures in
     sym (removed-none n xs k c.args.gone c.requires
     (λ j d less. subst (λ m. n (get_or xs j d) < m) is (subst (λ ss. n (get_or ss j d) < c.arrival_in.result) c.deref.ensures.value (place.before j d less)))
-    (λ j d le lt. subst (λ m. m ≤ n (get_or xs j d)) is (subst (λ ss. c.arrival_in.result ≤ n (get_or ss j d)) c.deref.ensures.value (place.from j d le (subst (λ ss. j < length ss) (sym c.deref.ensures.value) lt))))
+    (λ j d le lt. subst (λ m. m ≤ n (get_or xs j d)) is (subst (λ ss. c.arrival_in.result ≤ n (get_or ss j d)) c.deref.ensures.value
+    (place.from j d le (subst (λ ss. j < length ss) (sym c.deref.ensures.value) lt))))
     (λ lt here. elim c.else-place-len.branch [
       | else-place-len-via-then-place-len+else-eq w ↦
           let read = w.index.ensures in

@@ -1,4 +1,5 @@
-use Rattle.std.proofs.Common.{◌≡◌, ◌∙◌, ◌+◌, ◌<◌, Bool, true, false, not, ◌&&◌, ◌||◌, eqb, List, [], ◌∷◌, length, filter, take, get_or, refl, sym, ap, subst, arith}
+use Rattle.std.proofs.Common.{◌≡◌, ◌∙◌, ◌+◌, ◌<◌, Bool, true, false, not, ◌&&◌, ◌||◌, eqb, List, [], ◌∷◌, length, filter, take, get_or, refl, sym, ap, subst}
+use Rattle.std.proofs.Common.{arith}
 use Rattle.std.proofs.lemmas.List.{take_all}
 use Rattle.std.proofs.lemmas.List.Folds.{list_any_more}
 use Rattle.tardis_base.specs.declared.ids.Slot.{Slot}
@@ -31,7 +32,8 @@ loop-slot-preserved c =
     let len = c.drop_slot.ensures.len in
     record {
       items = c.drop_slot.ensures.items ∙ ap (filter (λ (s : Slot). not (eqb g.0 s.0))) before.items
-          ∙ filter-both (λ s. not (is_slot_among s (take i gone))) (λ s. not (eqb g.0 s.0)) (λ s. not (is_slot_among s (take (i + 1) gone))) c.args.slots.now.items
+          ∙ filter-both (λ s. not (is_slot_among s (take i gone))) (λ s. not (eqb g.0 s.0)) (λ s. not (is_slot_among s (take (i + 1) gone)))
+          c.args.slots.now.items
           (λ s. ap not (list_any_more (λ (t : Slot). eqb t.0 s.0) gone i none within) ∙ neither (is_slot_among s (take i gone)) (eqb g.0 s.0));
       rise = subst (Rise n) (sym c.drop_slot.ensures.items) (rising-filter n (λ s. not (eqb g.0 s.0)) c.loop-slot.slots.items before.rise);
       len = (let was = before.len in omega arith);
@@ -39,4 +41,5 @@ loop-slot-preserved c =
     }
 
 pub returns-clause-items : goal.returns-clause-items
-returns-clause-items c = c.loop-slot.invariant.items ∙ ap (λ (gs : List Slot). filter (λ s. not (is_slot_among s gs)) c.args.slots.now.items) (take_all c.loop-slot.slot-index c.args.gone.now (omega arith))
+returns-clause-items c = c.loop-slot.invariant.items ∙ ap (λ (gs : List Slot). filter (λ s. not (is_slot_among s gs)) c.args.slots.now.items)
+    (take_all c.loop-slot.slot-index c.args.gone.now (omega arith))

@@ -4,4 +4,5 @@ use Rattle.stream_tests.specs.Replier.{fresh_lines}
 use Rattle.stream_tests.proofs.of_serve_run.serve_row.Goals as goal
 
 pub serve_links-end-requires-clause-counts : goal.serve_links-end-requires-clause-counts
-serve_links-end-requires-clause-counts t c κs within = λ trail each. (fresh_lines, record { told = Statistics 1 1 1 0 fresh_lines; spelled = (refl, refl); states = refl })
+serve_links-end-requires-clause-counts t c κs within = λ trail each.
+    (fresh_lines, record { told = Statistics 1 1 1 0 fresh_lines; spelled = (refl, refl); states = refl })

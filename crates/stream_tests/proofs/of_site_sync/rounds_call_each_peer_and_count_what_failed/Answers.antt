@@ -4,4 +4,5 @@ use Rattle.stream_tests.specs.Replier.{fresh_lines}
 use Rattle.stream_tests.proofs.of_site_sync.rounds_call_each_peer_and_count_what_failed.Goals as goal
 
 pub run_rounds-pass-requires-clause-counts : goal.run_rounds-pass-requires-clause-counts
-run_rounds-pass-requires-clause-counts t c = λ lt trail each. (fresh_lines, record { told = Statistics 1 1 1 0 fresh_lines; spelled = (refl, refl); states = refl })
+run_rounds-pass-requires-clause-counts t c = λ lt trail each.
+    (fresh_lines, record { told = Statistics 1 1 1 0 fresh_lines; spelled = (refl, refl); states = refl })

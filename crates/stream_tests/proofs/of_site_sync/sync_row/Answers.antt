@@ -4,4 +4,5 @@ use Rattle.stream_tests.specs.Replier.{fresh_lines}
 use Rattle.stream_tests.proofs.of_site_sync.sync_row.Goals as goal
 
 pub sync_round-pass-requires-clause-counts : goal.sync_round-pass-requires-clause-counts
-sync_round-pass-requires-clause-counts g t c = λ lt trail each. (fresh_lines, record { told = Statistics 1 1 1 0 fresh_lines; spelled = (refl, refl); states = refl })
+sync_round-pass-requires-clause-counts g t c = λ lt trail each.
+    (fresh_lines, record { told = Statistics 1 1 1 0 fresh_lines; spelled = (refl, refl); states = refl })

@@ -2,7 +2,8 @@ use Rattle.std.proofs.Common.{sym, ◌∙◌, ◌≡◌, true, arith, get_or}
 use Rattle.std.specs.Char.{is_ascii_digit}
 use Rattle.text_words.proofs.LineWords.{no-number, next-value, small-digit}
 use Rattle.text_words.proofs.words.number_of.Goals as goal
-use Rattle.text_words.proofs.words.number_of.Goals.{then-not-is_ascii_digit-via-then-not-is_ascii_digit, then-not-is_ascii_digit-via-else-not-is_ascii_digit+then-number-limit}
+use Rattle.text_words.proofs.words.number_of.Goals.{then-not-is_ascii_digit-via-then-not-is_ascii_digit}
+use Rattle.text_words.proofs.words.number_of.Goals.{then-not-is_ascii_digit-via-else-not-is_ascii_digit+then-number-limit}
 
 pub returns-then-not-is_ascii_digit : goal.returns-then-not-is_ascii_digit
 returns-then-not-is_ascii_digit c =

@@ -21,5 +21,6 @@ returns-else-end-gt0-clause-none g c = λ is.
           let there = subst (λ n. (get_or versions n found).slot ≡ c.args.at) last here in
           both_ways w.eq.result w.if-eq.false (w.eq.ensures ∙ eq-eqb (get_or versions (end - 1) found).slot.0 c.args.at.0 (ap (λ (s : Slot). s.0) there)))
       | else-end-gt0-via-else-end-gt0 w ↦
-          own-none kept arrival c.args.at versions end any_version c.requires.order arrived.bound arrived.early arrived.late (λ j e here. omega (arith, e, w.if-end-gt0.false))
+          own-none kept arrival c.args.at versions end any_version c.requires.order arrived.bound arrived.early arrived.late
+          (λ j e here. omega (arith, e, w.if-end-gt0.false))
     ]

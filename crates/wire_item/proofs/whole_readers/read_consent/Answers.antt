@@ -10,13 +10,15 @@ pub returns-in-Some-clause-spelled : goal.returns-in-Some-clause-spelled
 returns-in-Some-clause-spelled c =
     let read = ap consent_front (sym c.new-reader.ensures) ∙ taken consent_front c.new-reader.result c.consent.new.self c.in-Some.consent c.in-Some.ensures in
     let made = makes consent_front c.args.bytes.now c.consent.new.self (Ok c.in-Some.consent) c.in-Some.consent read refl in
-    (answers reads-consent c.args.bytes.now (Some (Ok c.in-Some.consent)) c.consent.new.self c.is_done.result made c.is_done.ensures c.whole.result c.whole.ensures).spelled
+    (answers reads-consent c.args.bytes.now (Some (Ok c.in-Some.consent)) c.consent.new.self c.is_done.result made c.is_done.ensures c.whole.result
+    c.whole.ensures).spelled
 
 pub returns-in-Some-clause-malformed : goal.returns-in-Some-clause-malformed
 returns-in-Some-clause-malformed c =
     let read = ap consent_front (sym c.new-reader.ensures) ∙ taken consent_front c.new-reader.result c.consent.new.self c.in-Some.consent c.in-Some.ensures in
     let made = makes consent_front c.args.bytes.now c.consent.new.self (Ok c.in-Some.consent) c.in-Some.consent read refl in
-    (answers reads-consent c.args.bytes.now (Some (Ok c.in-Some.consent)) c.consent.new.self c.is_done.result made c.is_done.ensures c.whole.result c.whole.ensures).malformed
+    (answers reads-consent c.args.bytes.now (Some (Ok c.in-Some.consent)) c.consent.new.self c.is_done.result made c.is_done.ensures c.whole.result
+    c.whole.ensures).malformed
 
 pub returns-in-None-clause-malformed : goal.returns-in-None-clause-malformed
 returns-in-None-clause-malformed c =

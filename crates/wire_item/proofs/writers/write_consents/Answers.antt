@@ -6,5 +6,6 @@ use Rattle.wire_item.proofs.writers.write_consents.Goals as goal
 
 pub write_consent-requires-clause-room : goal.write_consent-requires-clause-room
 write_consent-requires-clause-room c =
-    room-next consent_spelling c.args.consents.now c.loop-promise.promise-index (record { site = 0; number = 0; floor = root; count = 0 }) c.args.out.now c.loop-promise.out longest_frame
+    room-next consent_spelling c.args.consents.now c.loop-promise.promise-index (record { site = 0; number = 0; floor = root; count = 0 }) c.args.out.now
+    c.loop-promise.out longest_frame
     c.loop-promise.invariant c.loop-promise-test.true c.requires.room

@@ -6,4 +6,5 @@ use Rattle.wire_item.proofs.Writings.{room-next}
 use Rattle.wire_item.proofs.writers.write_ids.Goals as goal
 
 pub write_id-requires : goal.write_id-requires
-write_id-requires c = room-next id_spelling c.args.ids.now c.loop-id.id-index root c.args.out.now c.loop-id.out longest_frame c.loop-id.invariant (omega arith) (omega arith)
+write_id-requires c = room-next id_spelling c.args.ids.now c.loop-id.id-index root c.args.out.now c.loop-id.out longest_frame c.loop-id.invariant
+    (omega arith) (omega arith)

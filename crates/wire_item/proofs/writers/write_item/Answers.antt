@@ -5,5 +5,6 @@ use Rattle.wire_item.proofs.writers.write_item.Goals as goal
 
 pub returns-in-Promise : goal.returns-in-Promise
 returns-in-Promise c =
-    wrote2 c.args.out.now c.write_u8-in-Promise.new.out c.write_consent.new.out (2 ∷ []) (consent_spelling c.in-Promise.promise) c.write_u8-in-Promise.ensures c.write_consent.ensures
+    wrote2 c.args.out.now c.write_u8-in-Promise.new.out c.write_consent.new.out (2 ∷ []) (consent_spelling c.in-Promise.promise)
+    c.write_u8-in-Promise.ensures c.write_consent.ensures
     ∙ ap (λ i. c.args.out.now ++ item_spelling i) (sym c.in-Promise.is)

@@ -5,4 +5,5 @@ use Rattle.wire_item.proofs.writers.write_key_writes.Goals as goal
 
 pub write_key_write-requires : goal.write_key_write-requires
 write_key_write-requires c =
-    room-item key_write_spelling c.args.writes.now c.loop-pair.pair-index c.pair-item.result c.args.out.now c.loop-pair.out longest_frame c.pair-item.is c.loop-pair.invariant c.loop-pair-test.true c.requires
+    room-item key_write_spelling c.args.writes.now c.loop-pair.pair-index c.pair-item.result c.args.out.now c.loop-pair.out longest_frame c.pair-item.is
+    c.loop-pair.invariant c.loop-pair-test.true c.requires

@@ -5,4 +5,5 @@ use Rattle.wire_talk.proofs.field_writers.write_code_with_id_and_u32.Goals as go
 
 pub returns : goal.returns
 returns c =
-    written-two c.args.out.now (c.args.code ∷ id_spelling c.args.id) (u32_spelling c.args.number) c.write_code_with_id.new.out c.write_u32.new.out c.write_code_with_id.ensures c.write_u32.ensures
+    written-two c.args.out.now (c.args.code ∷ id_spelling c.args.id) (u32_spelling c.args.number) c.write_code_with_id.new.out c.write_u32.new.out
+    c.write_code_with_id.ensures c.write_u32.ensures

@@ -11,7 +11,8 @@ use Rattle.wire_talk.proofs.lent_requests.read_begin.Goals as goal
 pub returns-in_err-begin : goal.returns-in_err-begin
 returns-in_err-begin c =
     let none = untaken begin_front c.args.reader.now c.begin.new.reader c.in_err-begin.ensures in
-    takes-none (made Begin begin_front) c.args.reader.now c.begin.new.reader (option_map request_lent c.from_residual.result) (ap (option_map request_lent) c.from_residual.ensures)
+    takes-none (made Begin begin_front) c.args.reader.now c.begin.new.reader (option_map request_lent c.from_residual.result)
+    (ap (option_map request_lent) c.from_residual.ensures)
     (made-none Begin begin_front c.args.reader.now none)
 
 pub returns : goal.returns

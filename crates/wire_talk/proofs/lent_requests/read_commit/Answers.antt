@@ -13,7 +13,8 @@ use Rattle.wire_talk.proofs.lent_requests.read_commit.Goals as goal
 pub returns-in_err-flags : goal.returns-in_err-flags
 returns-in_err-flags c =
     let none = untaken u8_front c.args.reader.now c.u8.new.self c.in_err-flags.ensures in
-    takes-none (made (λ p. Commit (record { 0 = p.0 }) p.1) commit_front) c.args.reader.now c.u8.new.self (option_map request_lent c.from_residual.result) (ap (option_map request_lent) c.from_residual.ensures)
+    takes-none (made (λ p. Commit (record { 0 = p.0 }) p.1) commit_front) c.args.reader.now c.u8.new.self (option_map request_lent c.from_residual.result)
+    (ap (option_map request_lent) c.from_residual.ensures)
     (made-none (λ p. Commit (record { 0 = p.0 }) p.1) commit_front c.args.reader.now
     (only_if-none is_pair_of_commit (both u8_front u16_front) c.args.reader.now (after-none u8_front (λ _. u16_front) c.args.reader.now none)))
 
@@ -21,7 +22,8 @@ pub returns-in_err-k : goal.returns-in_err-k
 returns-in_err-k c =
     let flags = taken u8_front c.args.reader.now c.u8.new.self c.in_ok-flags.flags c.in_ok-flags.ensures in
     let none = untaken u16_front c.u8.new.self c.u16.new.self c.in_err-k.ensures in
-    takes-none (made (λ p. Commit (record { 0 = p.0 }) p.1) commit_front) c.args.reader.now c.u16.new.self (option_map request_lent c.from_residual-in_err-k.result) (ap (option_map request_lent) c.from_residual-in_err-k.ensures)
+    takes-none (made (λ p. Commit (record { 0 = p.0 }) p.1) commit_front) c.args.reader.now c.u16.new.self
+    (option_map request_lent c.from_residual-in_err-k.result) (ap (option_map request_lent) c.from_residual-in_err-k.ensures)
     (made-none (λ p. Commit (record { 0 = p.0 }) p.1) commit_front c.args.reader.now
     (only_if-none is_pair_of_commit (both u8_front u16_front) c.args.reader.now
     (after-then_none u8_front (λ _. u16_front) c.args.reader.now c.in_ok-flags.flags c.u8.new.self flags none)))
@@ -33,7 +35,8 @@ returns-then-is_commit c =
     let both_read = after-then u8_front (λ _. u16_front) c.args.reader.now c.in_ok-flags.flags c.u8.new.self c.in_ok-k.k c.u16.new.self flags k in
     takes (made (λ p. Commit (record { 0 = p.0 }) p.1) commit_front) c.args.reader.now c.u16.new.self (Commit (record { 0 = c.in_ok-flags.flags }) c.in_ok-k.k)
     (made-read (λ p. Commit (record { 0 = p.0 }) p.1) commit_front c.args.reader.now (c.in_ok-flags.flags, c.in_ok-k.k) c.u16.new.self
-    (only_if-read is_pair_of_commit (both u8_front u16_front) c.args.reader.now (c.in_ok-flags.flags, c.in_ok-k.k) c.u16.new.self both_read (sym c.if-is_commit.ensures)))
+    (only_if-read is_pair_of_commit (both u8_front u16_front) c.args.reader.now (c.in_ok-flags.flags, c.in_ok-k.k) c.u16.new.self both_read
+    (sym c.if-is_commit.ensures)))
 
 pub returns-else-is_commit : goal.returns-else-is_commit
 returns-else-is_commit c =
@@ -42,4 +45,5 @@ returns-else-is_commit c =
     let both_read = after-then u8_front (λ _. u16_front) c.args.reader.now c.in_ok-flags.flags c.u8.new.self c.in_ok-k.k c.u16.new.self flags k in
     takes-none (made (λ p. Commit (record { 0 = p.0 }) p.1) commit_front) c.args.reader.now c.u16.new.self None refl
     (made-none (λ p. Commit (record { 0 = p.0 }) p.1) commit_front c.args.reader.now
-    (only_if-fails is_pair_of_commit (both u8_front u16_front) c.args.reader.now (c.in_ok-flags.flags, c.in_ok-k.k) c.u16.new.self both_read (sym c.if-is_commit.ensures)))
+    (only_if-fails is_pair_of_commit (both u8_front u16_front) c.args.reader.now (c.in_ok-flags.flags, c.in_ok-k.k) c.u16.new.self both_read
+    (sym c.if-is_commit.ensures)))

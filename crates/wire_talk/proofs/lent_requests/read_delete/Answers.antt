@@ -11,7 +11,8 @@ use Rattle.wire_talk.proofs.lent_requests.read_delete.Goals as goal
 pub returns-in_err-key : goal.returns-in_err-key
 returns-in_err-key c =
     let none = untaken key_front c.args.reader.now c.key.new.self c.in_err-key.ensures in
-    takes-none (made Delete key_front) c.args.reader.now c.key.new.self (option_map request_lent c.from_residual.result) (ap (option_map request_lent) c.from_residual.ensures)
+    takes-none (made Delete key_front) c.args.reader.now c.key.new.self (option_map request_lent c.from_residual.result)
+    (ap (option_map request_lent) c.from_residual.ensures)
     (made-none Delete key_front c.args.reader.now none)
 
 pub returns : goal.returns

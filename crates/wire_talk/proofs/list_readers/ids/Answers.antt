@@ -12,14 +12,16 @@ pub returns-in_err-id : goal.returns-in_err-id
 returns-in_err-id c =
     let none = untaken id_front c.loop-place.reader c.id.new.self c.in_err-id.ensures in
     makes-none (times id_front c.args.count) c.args.reader.now c.id.new.self c.from_residual.result c.from_residual.ensures
-    (times-none id_front c.loop-place._place c.args.count c.args.reader.now c.loop-place.invariant.xs c.loop-place.reader c.loop-place.invariant.reads none (omega arith))
+    (times-none id_front c.loop-place._place c.args.count c.args.reader.now c.loop-place.invariant.xs c.loop-place.reader c.loop-place.invariant.reads none
+    (omega arith))
 
 pub loop-place-preserved : goal.loop-place-preserved
 loop-place-preserved c =
     let read = taken id_front c.loop-place.reader c.id.new.self c.in_ok-id.id c.in_ok-id.ensures in
     record {
       xs = c.loop-place.invariant.xs ++ c.in_ok-id.id ∷ [];
-      reads = times-more id_front c.loop-place._place c.args.reader.now c.loop-place.invariant.xs c.loop-place.reader c.in_ok-id.id c.id.new.self c.loop-place.invariant.reads read;
+      reads = times-more id_front c.loop-place._place c.args.reader.now c.loop-place.invariant.xs c.loop-place.reader c.in_ok-id.id c.id.new.self
+          c.loop-place.invariant.reads read;
       made = c.pushed-ids.ensures c.loop-place.invariant.xs c.in_ok-id.id c.loop-place.invariant.made refl;
     }
 

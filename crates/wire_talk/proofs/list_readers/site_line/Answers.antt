@@ -20,11 +20,13 @@ returns-in_err-number c =
     let count = taken u32_front c.args.reader.now c.u32.new.self c.in_ok-count.count c.in_ok-count.ensures in
     let floor = taken id_front c.u32.new.self c.id.new.self c.in_ok-floor.floor c.in_ok-floor.ensures in
     let none = untaken u32_front c.id.new.self c.u32-2.new.self c.in_err-number.ensures in
-    takes-none site_line_front c.args.reader.now c.u32-2.new.self c.from_residual-in_err-number.result c.from_residual-in_err-number.ensures (rw (count, floor, none) refl)
+    takes-none site_line_front c.args.reader.now c.u32-2.new.self c.from_residual-in_err-number.result c.from_residual-in_err-number.ensures
+    (rw (count, floor, none) refl)
 
 pub returns : goal.returns
 returns c =
     let count = taken u32_front c.args.reader.now c.u32.new.self c.in_ok-count.count c.in_ok-count.ensures in
     let floor = taken id_front c.u32.new.self c.id.new.self c.in_ok-floor.floor c.in_ok-floor.ensures in
     let number = taken u32_front c.id.new.self c.u32-2.new.self c.in_ok-number.number c.in_ok-number.ensures in
-    takes site_line_front c.args.reader.now c.u32-2.new.self (record { count = c.in_ok-count.count; floor = c.in_ok-floor.floor; number = c.in_ok-number.number }) (rw (count, floor, number) refl)
+    takes site_line_front c.args.reader.now c.u32-2.new.self
+    (record { count = c.in_ok-count.count; floor = c.in_ok-floor.floor; number = c.in_ok-number.number }) (rw (count, floor, number) refl)

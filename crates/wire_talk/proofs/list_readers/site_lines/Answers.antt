@@ -10,7 +10,8 @@ pub returns-in_err-line : goal.returns-in_err-line
 returns-in_err-line c =
     let none = untaken site_line_front c.loop-place.reader c.site_line.new.reader c.in_err-line.ensures in
     takes-none (times site_line_front c.args.count) c.args.reader.now c.site_line.new.reader c.from_residual.result c.from_residual.ensures
-    (times-none site_line_front c.loop-place._place c.args.count c.args.reader.now c.loop-place.lines c.loop-place.reader c.loop-place.invariant none (omega arith))
+    (times-none site_line_front c.loop-place._place c.args.count c.args.reader.now c.loop-place.lines c.loop-place.reader c.loop-place.invariant none
+    (omega arith))
 
 pub push-requires : goal.push-requires
 push-requires c =
@@ -20,7 +21,8 @@ push-requires c =
 pub loop-place-preserved : goal.loop-place-preserved
 loop-place-preserved c =
     let read = taken site_line_front c.loop-place.reader c.site_line.new.reader c.in_ok-line.line c.in_ok-line.ensures in
-    times-more site_line_front c.loop-place._place c.args.reader.now c.loop-place.lines c.loop-place.reader c.in_ok-line.line c.site_line.new.reader c.loop-place.invariant read
+    times-more site_line_front c.loop-place._place c.args.reader.now c.loop-place.lines c.loop-place.reader c.in_ok-line.line c.site_line.new.reader
+    c.loop-place.invariant read
     ∙ ap (λ lines. Some (lines, c.site_line.new.reader)) (sym c.push.ensures)
 
 pub returns : goal.returns

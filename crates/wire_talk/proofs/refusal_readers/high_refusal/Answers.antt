@@ -18,34 +18,41 @@ returns-in_ok-u16-in-23-clause-makes c =
 
 pub returns-in_err-id-in-24-clause-makes : goal.returns-in_err-id-in-24-clause-makes
 returns-in_err-id-in-24-clause-makes c =
-    arm-none refusal_rows 24 c.args.code ClosedParent id_front c.args.reader.now c.id.new.self c.from_residual-in_err-id-in-24.result c.in-24.is refl c.from_residual-in_err-id-in-24.ensures
+    arm-none refusal_rows 24 c.args.code ClosedParent id_front c.args.reader.now c.id.new.self c.from_residual-in_err-id-in-24.result c.in-24.is refl
+    c.from_residual-in_err-id-in-24.ensures
     (untaken id_front c.args.reader.now c.id.new.self c.in_err-id-in-24.ensures)
 
 pub returns-in_ok-id-in-24-clause-makes : goal.returns-in_ok-id-in-24-clause-makes
 returns-in_ok-id-in-24-clause-makes c =
-    arm-takes refusal_rows 24 c.args.code ClosedParent id_front c.args.reader.now c.in_ok-id-in-24.field-0 c.id.new.self c.in-24.is refl c.in_ok-id-in-24.ensures
+    arm-takes refusal_rows 24 c.args.code ClosedParent id_front c.args.reader.now c.in_ok-id-in-24.field-0 c.id.new.self c.in-24.is refl
+    c.in_ok-id-in-24.ensures
 
 pub returns-in_err-pair-in-25-clause-makes : goal.returns-in_err-pair-in-25-clause-makes
 returns-in_err-pair-in-25-clause-makes c =
-    arm-none refusal_rows 25 c.args.code (λ p. OwnItem p.0 p.1) (both u16_front u32_front) c.args.reader.now c.u16_and_u32.new.reader c.from_residual-in_err-pair-in-25.result c.in-25.is refl c.from_residual-in_err-pair-in-25.ensures
+    arm-none refusal_rows 25 c.args.code (λ p. OwnItem p.0 p.1) (both u16_front u32_front) c.args.reader.now c.u16_and_u32.new.reader
+    c.from_residual-in_err-pair-in-25.result c.in-25.is refl c.from_residual-in_err-pair-in-25.ensures
     (untaken (both u16_front u32_front) c.args.reader.now c.u16_and_u32.new.reader c.in_err-pair-in-25.ensures)
 
 pub returns-in_ok-pair-in-25-clause-makes : goal.returns-in_ok-pair-in-25-clause-makes
 returns-in_ok-pair-in-25-clause-makes c =
-    arm-takes refusal_rows 25 c.args.code (λ p. OwnItem p.0 p.1) (both u16_front u32_front) c.args.reader.now c.in_ok-pair-in-25.pair c.u16_and_u32.new.reader c.in-25.is refl c.in_ok-pair-in-25.ensures
+    arm-takes refusal_rows 25 c.args.code (λ p. OwnItem p.0 p.1) (both u16_front u32_front) c.args.reader.now c.in_ok-pair-in-25.pair
+    c.u16_and_u32.new.reader c.in-25.is refl c.in_ok-pair-in-25.ensures
 
 pub returns-in_err-u64-in-26-clause-makes : goal.returns-in_err-u64-in-26-clause-makes
 returns-in_err-u64-in-26-clause-makes c =
-    arm-none refusal_rows 26 c.args.code TrailFull u64_front c.args.reader.now c.u64.new.self c.from_residual-in_err-u64-in-26.result c.in-26.is refl c.from_residual-in_err-u64-in-26.ensures
+    arm-none refusal_rows 26 c.args.code TrailFull u64_front c.args.reader.now c.u64.new.self c.from_residual-in_err-u64-in-26.result c.in-26.is refl
+    c.from_residual-in_err-u64-in-26.ensures
     (untaken u64_front c.args.reader.now c.u64.new.self c.in_err-u64-in-26.ensures)
 
 pub returns-in_ok-u64-in-26-clause-makes : goal.returns-in_ok-u64-in-26-clause-makes
 returns-in_ok-u64-in-26-clause-makes c =
-    arm-takes refusal_rows 26 c.args.code TrailFull u64_front c.args.reader.now c.in_ok-u64-in-26.field-0 c.u64.new.self c.in-26.is refl c.in_ok-u64-in-26.ensures
+    arm-takes refusal_rows 26 c.args.code TrailFull u64_front c.args.reader.now c.in_ok-u64-in-26.field-0 c.u64.new.self c.in-26.is refl
+    c.in_ok-u64-in-26.ensures
 
 pub returns-in_err-u8-in-27-clause-makes : goal.returns-in_err-u8-in-27-clause-makes
 returns-in_err-u8-in-27-clause-makes c =
-    arm-none refusal_rows 27 c.args.code Unsupported u8_front c.args.reader.now c.u8.new.self c.from_residual-in_err-u8-in-27.result c.in-27.is refl c.from_residual-in_err-u8-in-27.ensures
+    arm-none refusal_rows 27 c.args.code Unsupported u8_front c.args.reader.now c.u8.new.self c.from_residual-in_err-u8-in-27.result c.in-27.is refl
+    c.from_residual-in_err-u8-in-27.ensures
     (untaken u8_front c.args.reader.now c.u8.new.self c.in_err-u8-in-27.ensures)
 
 pub returns-in_ok-u8-in-27-clause-makes : goal.returns-in_ok-u8-in-27-clause-makes
@@ -54,21 +61,25 @@ returns-in_ok-u8-in-27-clause-makes c =
 
 pub returns-in_err-u32-in-28-clause-makes : goal.returns-in_err-u32-in-28-clause-makes
 returns-in_err-u32-in-28-clause-makes c =
-    arm-none refusal_rows 28 c.args.code NoSuchItem u32_front c.args.reader.now c.u32.new.self c.from_residual-in_err-u32-in-28.result c.in-28.is refl c.from_residual-in_err-u32-in-28.ensures
+    arm-none refusal_rows 28 c.args.code NoSuchItem u32_front c.args.reader.now c.u32.new.self c.from_residual-in_err-u32-in-28.result c.in-28.is refl
+    c.from_residual-in_err-u32-in-28.ensures
     (untaken u32_front c.args.reader.now c.u32.new.self c.in_err-u32-in-28.ensures)
 
 pub returns-in_ok-u32-in-28-clause-makes : goal.returns-in_ok-u32-in-28-clause-makes
 returns-in_ok-u32-in-28-clause-makes c =
-    arm-takes refusal_rows 28 c.args.code NoSuchItem u32_front c.args.reader.now c.in_ok-u32-in-28.field-0 c.u32.new.self c.in-28.is refl c.in_ok-u32-in-28.ensures
+    arm-takes refusal_rows 28 c.args.code NoSuchItem u32_front c.args.reader.now c.in_ok-u32-in-28.field-0 c.u32.new.self c.in-28.is refl
+    c.in_ok-u32-in-28.ensures
 
 pub returns-in_err-u32-in-29-clause-makes : goal.returns-in_err-u32-in-29-clause-makes
 returns-in_err-u32-in-29-clause-makes c =
-    arm-none refusal_rows 29 c.args.code BagFull u32_front c.args.reader.now c.u32-in-29.new.self c.from_residual-in_err-u32-in-29.result c.in-29.is refl c.from_residual-in_err-u32-in-29.ensures
+    arm-none refusal_rows 29 c.args.code BagFull u32_front c.args.reader.now c.u32-in-29.new.self c.from_residual-in_err-u32-in-29.result c.in-29.is refl
+    c.from_residual-in_err-u32-in-29.ensures
     (untaken u32_front c.args.reader.now c.u32-in-29.new.self c.in_err-u32-in-29.ensures)
 
 pub returns-in_ok-u32-in-29-clause-makes : goal.returns-in_ok-u32-in-29-clause-makes
 returns-in_ok-u32-in-29-clause-makes c =
-    arm-takes refusal_rows 29 c.args.code BagFull u32_front c.args.reader.now c.in_ok-u32-in-29.field-0 c.u32-in-29.new.self c.in-29.is refl c.in_ok-u32-in-29.ensures
+    arm-takes refusal_rows 29 c.args.code BagFull u32_front c.args.reader.now c.in_ok-u32-in-29.field-0 c.u32-in-29.new.self c.in-29.is refl
+    c.in_ok-u32-in-29.ensures
 
 pub returns-in_default-clause-makes : goal.returns-in_default-clause-makes
 returns-in_default-clause-makes c =

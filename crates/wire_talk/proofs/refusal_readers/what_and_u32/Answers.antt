@@ -14,7 +14,8 @@ pub returns-in_err-number : goal.returns-in_err-number
 returns-in_err-number c =
     let first = taken (only_if is_what u8_front) c.args.reader.now c.what.new.reader c.in_ok-what.what c.in_ok-what.ensures in
     let none = untaken u32_front c.what.new.reader c.u32.new.self c.in_err-number.ensures in
-    takes-none (both (only_if is_what u8_front) u32_front) c.args.reader.now c.u32.new.self c.from_residual-in_err-number.result c.from_residual-in_err-number.ensures
+    takes-none (both (only_if is_what u8_front) u32_front) c.args.reader.now c.u32.new.self c.from_residual-in_err-number.result
+    c.from_residual-in_err-number.ensures
     (after-then_none (only_if is_what u8_front) (λ _. u32_front) c.args.reader.now c.in_ok-what.what c.what.new.reader first none)
 
 pub returns : goal.returns
@@ -22,4 +23,5 @@ returns c =
     let first = taken (only_if is_what u8_front) c.args.reader.now c.what.new.reader c.in_ok-what.what c.in_ok-what.ensures in
     let second = taken u32_front c.what.new.reader c.u32.new.self c.in_ok-number.number c.in_ok-number.ensures in
     takes (both (only_if is_what u8_front) u32_front) c.args.reader.now c.u32.new.self (c.in_ok-what.what, c.in_ok-number.number)
-    (after-then (only_if is_what u8_front) (λ _. u32_front) c.args.reader.now c.in_ok-what.what c.what.new.reader c.in_ok-number.number c.u32.new.self first second)
+    (after-then (only_if is_what u8_front) (λ _. u32_front) c.args.reader.now c.in_ok-what.what c.what.new.reader c.in_ok-number.number c.u32.new.self
+    first second)

@@ -12,13 +12,16 @@ use Rattle.wire_talk.proofs.reply_field_readers.first_ids.Goals as goal
 pub returns-in_err-count : goal.returns-in_err-count
 returns-in_err-count c =
     let none = untaken u16_front c.args.reader.now c.u16.new.self c.in_err-count.ensures in
-    makes-none (only_if (are_first_ids c.args.total) (counted u16_front (times id_front))) c.args.reader.now c.u16.new.self c.from_residual.result c.from_residual.ensures (rw (none) refl)
+    makes-none (only_if (are_first_ids c.args.total) (counted u16_front (times id_front))) c.args.reader.now c.u16.new.self c.from_residual.result
+    c.from_residual.ensures (rw (none) refl)
 
 pub returns-in_err-first : goal.returns-in_err-first
 returns-in_err-first c =
     let count = taken u16_front c.args.reader.now c.u16.new.self c.in_ok-count.count c.in_ok-count.ensures in
-    let none = ap (λ n. times id_front n c.u16.new.self) (sym c.from.ensures) ∙ unmade (times id_front c.from.result) c.u16.new.self c.ids.new.reader c.in_err-first.ensures in
-    makes-none (only_if (are_first_ids c.args.total) (counted u16_front (times id_front))) c.args.reader.now c.ids.new.reader c.from_residual-in_err-first.result c.from_residual-in_err-first.ensures (rw (count, none) refl)
+    let none = ap (λ n. times id_front n c.u16.new.self) (sym c.from.ensures)
+    ∙ unmade (times id_front c.from.result) c.u16.new.self c.ids.new.reader c.in_err-first.ensures in
+    makes-none (only_if (are_first_ids c.args.total) (counted u16_front (times id_front))) c.args.reader.now c.ids.new.reader
+    c.from_residual-in_err-first.result c.from_residual-in_err-first.ensures (rw (count, none) refl)
 
 pub returns-then-is_first_of : goal.returns-then-is_first_of
 returns-then-is_first_of c =

@@ -15,11 +15,13 @@ returns-in_err-count c =
 pub returns-then-is_count_of_sites : goal.returns-then-is_count_of_sites
 returns-then-is_count_of_sites c =
     let count = taken u8_front c.args.reader.now c.u8.new.self c.in_ok-count.count c.in_ok-count.ensures in
-    fit-takes u8_front site_line_front are_site_lines (is_within 1 16) site_lines-tested c.args.reader.now c.in_ok-count.count c.u8.new.self c.site_lines.result c.site_lines.new.reader
+    fit-takes u8_front site_line_front are_site_lines (is_within 1 16) site_lines-tested c.args.reader.now c.in_ok-count.count c.u8.new.self
+    c.site_lines.result c.site_lines.new.reader
     count (sym c.if-is_count_of_sites.ensures) c.site_lines.ensures
 
 pub returns-else-is_count_of_sites : goal.returns-else-is_count_of_sites
 returns-else-is_count_of_sites c =
     let count = taken u8_front c.args.reader.now c.u8.new.self c.in_ok-count.count c.in_ok-count.ensures in
     takes-none site_lines_front c.args.reader.now c.u8.new.self None refl
-    (counted-unfit u8_front site_line_front are_site_lines (is_within 1 16) site_lines-tested c.args.reader.now c.in_ok-count.count c.u8.new.self count (sym c.if-is_count_of_sites.ensures))
+    (counted-unfit u8_front site_line_front are_site_lines (is_within 1 16) site_lines-tested c.args.reader.now c.in_ok-count.count c.u8.new.self count
+    (sym c.if-is_count_of_sites.ensures))

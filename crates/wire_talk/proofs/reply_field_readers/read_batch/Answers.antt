@@ -8,7 +8,8 @@ use Rattle.wire_talk.proofs.reply_field_readers.read_batch.Goals as goal
 pub returns-in_err-batch : goal.returns-in_err-batch
 returns-in_err-batch c =
     let none = unmade batch_front c.args.reader.now c.batch.new.self c.in_err-batch.ensures in
-    makes-none (made Batch batch_front) c.args.reader.now c.batch.new.self c.from_residual.result c.from_residual.ensures (made-none Batch batch_front c.args.reader.now none)
+    makes-none (made Batch batch_front) c.args.reader.now c.batch.new.self c.from_residual.result c.from_residual.ensures
+    (made-none Batch batch_front c.args.reader.now none)
 
 pub returns : goal.returns
 returns c =

@@ -15,14 +15,17 @@ pub returns-in_err-parents : goal.returns-in_err-parents
 returns-in_err-parents c =
     let id = taken id_front c.args.reader.now c.id.new.self c.in_ok-id.id c.in_ok-id.ensures in
     let none = unmade parents_front c.id.new.self c.parents.new.self c.in_err-parents.ensures in
-    makes-none (made (λ p. Committed p.0 p.1) (both id_front parents_front)) c.args.reader.now c.parents.new.self c.from_residual-in_err-parents.result c.from_residual-in_err-parents.ensures
-    (made-none (λ p. Committed p.0 p.1) (both id_front parents_front) c.args.reader.now (after-then_none id_front (λ _. parents_front) c.args.reader.now c.in_ok-id.id c.id.new.self id none))
+    makes-none (made (λ p. Committed p.0 p.1) (both id_front parents_front)) c.args.reader.now c.parents.new.self c.from_residual-in_err-parents.result
+    c.from_residual-in_err-parents.ensures
+    (made-none (λ p. Committed p.0 p.1) (both id_front parents_front) c.args.reader.now
+    (after-then_none id_front (λ _. parents_front) c.args.reader.now c.in_ok-id.id c.id.new.self id none))
 
 pub returns : goal.returns
 returns c =
     let id = taken id_front c.args.reader.now c.id.new.self c.in_ok-id.id c.in_ok-id.ensures in
     let parents = making parents_front c.id.new.self c.parents.new.self c.in_ok-parents.parents c.in_ok-parents.ensures in
-    makes (made (λ p. Committed p.0 p.1) (both id_front parents_front)) c.args.reader.now c.parents.new.self c.committed.result (Committed c.in_ok-id.id parents.0)
+    makes (made (λ p. Committed p.0 p.1) (both id_front parents_front)) c.args.reader.now c.parents.new.self c.committed.result
+    (Committed c.in_ok-id.id parents.0)
     (made-read (λ p. Committed p.0 p.1) (both id_front parents_front) c.args.reader.now (c.in_ok-id.id, parents.0) c.parents.new.self
     (after-then id_front (λ _. parents_front) c.args.reader.now c.in_ok-id.id c.id.new.self parents.0 c.parents.new.self id parents.1))
     (c.committed.ensures parents.0 parents.2)

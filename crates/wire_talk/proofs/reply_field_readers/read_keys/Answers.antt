@@ -17,15 +17,20 @@ returns-in_err-total c =
 pub returns-in_err-first : goal.returns-in_err-first
 returns-in_err-first c =
     let total = taken u32_front c.args.reader.now c.u32.new.self c.in_ok-total.total c.in_ok-total.ensures in
-    let none = unmade (only_if (are_first_keys c.in_ok-total.total) (counted u16_front (times key_front))) c.u32.new.self c.first_keys.new.reader c.in_err-first.ensures in
-    makes-none (made (λ p. Keys p.0 p.1) first_keys_front) c.args.reader.now c.first_keys.new.reader c.from_residual-in_err-first.result c.from_residual-in_err-first.ensures
-    (made-none (λ p. Keys p.0 p.1) first_keys_front c.args.reader.now (second-none are_first_keys u32_front (counted u16_front (times key_front)) c.args.reader.now c.in_ok-total.total c.u32.new.self total none))
+    let none = unmade (only_if (are_first_keys c.in_ok-total.total) (counted u16_front (times key_front))) c.u32.new.self c.first_keys.new.reader
+    c.in_err-first.ensures in
+    makes-none (made (λ p. Keys p.0 p.1) first_keys_front) c.args.reader.now c.first_keys.new.reader c.from_residual-in_err-first.result
+    c.from_residual-in_err-first.ensures
+    (made-none (λ p. Keys p.0 p.1) first_keys_front c.args.reader.now
+    (second-none are_first_keys u32_front (counted u16_front (times key_front)) c.args.reader.now c.in_ok-total.total c.u32.new.self total none))
 
 pub returns : goal.returns
 returns c =
     let total = taken u32_front c.args.reader.now c.u32.new.self c.in_ok-total.total c.in_ok-total.ensures in
-    let first = making (only_if (are_first_keys c.in_ok-total.total) (counted u16_front (times key_front))) c.u32.new.self c.first_keys.new.reader c.in_ok-first.first c.in_ok-first.ensures in
+    let first = making (only_if (are_first_keys c.in_ok-total.total) (counted u16_front (times key_front))) c.u32.new.self c.first_keys.new.reader
+    c.in_ok-first.first c.in_ok-first.ensures in
     makes (made (λ p. Keys p.0 p.1) first_keys_front) c.args.reader.now c.first_keys.new.reader c.keys_of.result (Keys c.in_ok-total.total first.0)
     (made-read (λ p. Keys p.0 p.1) first_keys_front c.args.reader.now (c.in_ok-total.total, first.0) c.first_keys.new.reader
-    (second-read are_first_keys u32_front (counted u16_front (times key_front)) c.args.reader.now c.in_ok-total.total c.u32.new.self first.0 c.first_keys.new.reader total first.1))
+    (second-read are_first_keys u32_front (counted u16_front (times key_front)) c.args.reader.now c.in_ok-total.total c.u32.new.self first.0
+    c.first_keys.new.reader total first.1))
     (c.keys_of.ensures first.0 first.2)

@@ -8,7 +8,8 @@ use Rattle.wire_talk.proofs.reply_field_readers.read_merging.Goals as goal
 pub returns-in_err-states : goal.returns-in_err-states
 returns-in_err-states c =
     let none = unmade parents_front c.args.reader.now c.parents.new.self c.in_err-states.ensures in
-    makes-none (made Merging parents_front) c.args.reader.now c.parents.new.self c.from_residual.result c.from_residual.ensures (made-none Merging parents_front c.args.reader.now none)
+    makes-none (made Merging parents_front) c.args.reader.now c.parents.new.self c.from_residual.result c.from_residual.ensures
+    (made-none Merging parents_front c.args.reader.now none)
 
 pub returns : goal.returns
 returns c =

@@ -8,7 +8,8 @@ use Rattle.wire_talk.proofs.reply_field_readers.read_refused.Goals as goal
 pub returns-in_err-refusal-clause-makes : goal.returns-in_err-refusal-clause-makes
 returns-in_err-refusal-clause-makes c =
     let none = unmade refusal_front c.args.reader.now c.refusal.new.reader c.in_err-refusal.ensures.makes in
-    makes-none (made Refused refusal_front) c.args.reader.now c.refusal.new.reader c.from_residual.result c.from_residual.ensures (made-none Refused refusal_front c.args.reader.now none)
+    makes-none (made Refused refusal_front) c.args.reader.now c.refusal.new.reader c.from_residual.result c.from_residual.ensures
+    (made-none Refused refusal_front c.args.reader.now none)
 
 pub returns-clause-makes : goal.returns-clause-makes
 returns-clause-makes c =

@@ -17,15 +17,20 @@ returns-in_err-total c =
 pub returns-in_err-first : goal.returns-in_err-first
 returns-in_err-first c =
     let total = taken u32_front c.args.reader.now c.u32.new.self c.in_ok-total.total c.in_ok-total.ensures in
-    let none = unmade (only_if (are_first_ids c.in_ok-total.total) (counted u16_front (times id_front))) c.u32.new.self c.first_ids.new.reader c.in_err-first.ensures in
-    makes-none (made (λ p. States p.0 p.1) first_ids_front) c.args.reader.now c.first_ids.new.reader c.from_residual-in_err-first.result c.from_residual-in_err-first.ensures
-    (made-none (λ p. States p.0 p.1) first_ids_front c.args.reader.now (second-none are_first_ids u32_front (counted u16_front (times id_front)) c.args.reader.now c.in_ok-total.total c.u32.new.self total none))
+    let none = unmade (only_if (are_first_ids c.in_ok-total.total) (counted u16_front (times id_front))) c.u32.new.self c.first_ids.new.reader
+    c.in_err-first.ensures in
+    makes-none (made (λ p. States p.0 p.1) first_ids_front) c.args.reader.now c.first_ids.new.reader c.from_residual-in_err-first.result
+    c.from_residual-in_err-first.ensures
+    (made-none (λ p. States p.0 p.1) first_ids_front c.args.reader.now
+    (second-none are_first_ids u32_front (counted u16_front (times id_front)) c.args.reader.now c.in_ok-total.total c.u32.new.self total none))
 
 pub returns : goal.returns
 returns c =
     let total = taken u32_front c.args.reader.now c.u32.new.self c.in_ok-total.total c.in_ok-total.ensures in
-    let first = making (only_if (are_first_ids c.in_ok-total.total) (counted u16_front (times id_front))) c.u32.new.self c.first_ids.new.reader c.in_ok-first.first c.in_ok-first.ensures in
+    let first = making (only_if (are_first_ids c.in_ok-total.total) (counted u16_front (times id_front))) c.u32.new.self c.first_ids.new.reader
+    c.in_ok-first.first c.in_ok-first.ensures in
     makes (made (λ p. States p.0 p.1) first_ids_front) c.args.reader.now c.first_ids.new.reader c.states.result (States c.in_ok-total.total first.0)
     (made-read (λ p. States p.0 p.1) first_ids_front c.args.reader.now (c.in_ok-total.total, first.0) c.first_ids.new.reader
-    (second-read are_first_ids u32_front (counted u16_front (times id_front)) c.args.reader.now c.in_ok-total.total c.u32.new.self first.0 c.first_ids.new.reader total first.1))
+    (second-read are_first_ids u32_front (counted u16_front (times id_front)) c.args.reader.now c.in_ok-total.total c.u32.new.self first.0
+    c.first_ids.new.reader total first.1))
     (c.states.ensures first.0 first.2)

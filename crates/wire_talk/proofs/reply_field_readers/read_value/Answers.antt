@@ -15,14 +15,17 @@ pub returns-in_err-value : goal.returns-in_err-value
 returns-in_err-value c =
     let writer = taken id_front c.args.reader.now c.id.new.self c.in_ok-writer.writer c.in_ok-writer.ensures in
     let none = untaken value_front c.id.new.self c.value.new.self c.in_err-value.ensures in
-    makes-none (made (λ p. Value p.0 p.1) (both id_front value_front)) c.args.reader.now c.value.new.self c.from_residual-in_err-value.result c.from_residual-in_err-value.ensures
-    (made-none (λ p. Value p.0 p.1) (both id_front value_front) c.args.reader.now (after-then_none id_front (λ _. value_front) c.args.reader.now c.in_ok-writer.writer c.id.new.self writer none))
+    makes-none (made (λ p. Value p.0 p.1) (both id_front value_front)) c.args.reader.now c.value.new.self c.from_residual-in_err-value.result
+    c.from_residual-in_err-value.ensures
+    (made-none (λ p. Value p.0 p.1) (both id_front value_front) c.args.reader.now
+    (after-then_none id_front (λ _. value_front) c.args.reader.now c.in_ok-writer.writer c.id.new.self writer none))
 
 pub returns : goal.returns
 returns c =
     let writer = taken id_front c.args.reader.now c.id.new.self c.in_ok-writer.writer c.in_ok-writer.ensures in
     let value = taken value_front c.id.new.self c.value.new.self c.in_ok-value.value.now c.in_ok-value.ensures in
-    makes (made (λ p. Value p.0 p.1) (both id_front value_front)) c.args.reader.now c.value.new.self c.value_of.result (Value c.in_ok-writer.writer c.in_ok-value.value.now)
+    makes (made (λ p. Value p.0 p.1) (both id_front value_front)) c.args.reader.now c.value.new.self c.value_of.result
+    (Value c.in_ok-writer.writer c.in_ok-value.value.now)
     (made-read (λ p. Value p.0 p.1) (both id_front value_front) c.args.reader.now (c.in_ok-writer.writer, c.in_ok-value.value.now) c.value.new.self
     (after-then id_front (λ _. value_front) c.args.reader.now c.in_ok-writer.writer c.id.new.self c.in_ok-value.value.now c.value.new.self writer value))
     c.value_of.ensures

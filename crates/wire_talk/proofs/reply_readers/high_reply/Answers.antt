@@ -1,5 +1,6 @@
 use Rattle.std.proofs.Common.{None, refl, sym, subst, arith, ◌≤◌, IsTrue}
-use Rattle.tardis_base.specs.declared.replies.Reply.TheVariants.{Raised, Tidied, Stat as Statistics, Shown, Batch, Applied, Known, Early, Closed, Refused, NoMemory}
+use Rattle.tardis_base.specs.declared.replies.Reply.TheVariants.{Raised, Tidied, Stat as Statistics, Shown, Batch, Applied, Known, Early, Closed, Refused}
+use Rattle.tardis_base.specs.declared.replies.Reply.TheVariants.{NoMemory}
 use Rattle.wire_item.specs.Fronts.{both, front_of_code, made}
 use Rattle.wire_item.specs.Readings.{batch_front, id_front, u16_front, u32_front, u64_front}
 use Rattle.wire_item.proofs.Takings.{makes-none, untaken}
@@ -10,16 +11,19 @@ use Rattle.wire_talk.proofs.reply_readers.high_reply.Goals as goal
 
 pub returns-in_err-pair-in-12-clause-read : goal.returns-in_err-pair-in-12-clause-read
 returns-in_err-pair-in-12-clause-read c =
-    arm-none reply_rows 12 c.args.code (λ p. Raised p.0 p.1) (both id_front u32_front) c.args.reader.now c.id_and_u32.new.reader c.from_residual.result c.in-12.is refl c.from_residual.ensures
+    arm-none reply_rows 12 c.args.code (λ p. Raised p.0 p.1) (both id_front u32_front) c.args.reader.now c.id_and_u32.new.reader c.from_residual.result
+    c.in-12.is refl c.from_residual.ensures
     (untaken (both id_front u32_front) c.args.reader.now c.id_and_u32.new.reader c.in_err-pair-in-12.ensures)
 
 pub returns-in_ok-pair-in-12-clause-read : goal.returns-in_ok-pair-in-12-clause-read
 returns-in_ok-pair-in-12-clause-read c =
-    arm-takes reply_rows 12 c.args.code (λ p. Raised p.0 p.1) (both id_front u32_front) c.args.reader.now c.in_ok-pair-in-12.pair c.id_and_u32.new.reader c.in-12.is refl c.in_ok-pair-in-12.ensures
+    arm-takes reply_rows 12 c.args.code (λ p. Raised p.0 p.1) (both id_front u32_front) c.args.reader.now c.in_ok-pair-in-12.pair c.id_and_u32.new.reader
+    c.in-12.is refl c.in_ok-pair-in-12.ensures
 
 pub returns-in_err-u32-in-13-clause-read : goal.returns-in_err-u32-in-13-clause-read
 returns-in_err-u32-in-13-clause-read c =
-    arm-none reply_rows 13 c.args.code Tidied u32_front c.args.reader.now c.u32.new.self c.from_residual-in_err-u32-in-13.result c.in-13.is refl c.from_residual-in_err-u32-in-13.ensures
+    arm-none reply_rows 13 c.args.code Tidied u32_front c.args.reader.now c.u32.new.self c.from_residual-in_err-u32-in-13.result c.in-13.is refl
+    c.from_residual-in_err-u32-in-13.ensures
     (untaken u32_front c.args.reader.now c.u32.new.self c.in_err-u32-in-13.ensures)
 
 pub returns-in_ok-u32-in-13-clause-read : goal.returns-in_ok-u32-in-13-clause-read
@@ -28,21 +32,27 @@ returns-in_ok-u32-in-13-clause-read c =
 
 pub returns-in_err-u32-in-19-clause-read : goal.returns-in_err-u32-in-19-clause-read
 returns-in_err-u32-in-19-clause-read c =
-    arm-none reply_rows 19 c.args.code Early u32_front c.args.reader.now c.u32-in-19.new.self c.from_residual-in_err-u32-in-19.result c.in-19.is refl c.from_residual-in_err-u32-in-19.ensures
+    arm-none reply_rows 19 c.args.code Early u32_front c.args.reader.now c.u32-in-19.new.self c.from_residual-in_err-u32-in-19.result c.in-19.is refl
+    c.from_residual-in_err-u32-in-19.ensures
     (untaken u32_front c.args.reader.now c.u32-in-19.new.self c.in_err-u32-in-19.ensures)
 
 pub returns-in_ok-u32-in-19-clause-read : goal.returns-in_ok-u32-in-19-clause-read
 returns-in_ok-u32-in-19-clause-read c =
-    arm-takes reply_rows 19 c.args.code Early u32_front c.args.reader.now c.in_ok-u32-in-19.field-0 c.u32-in-19.new.self c.in-19.is refl c.in_ok-u32-in-19.ensures
+    arm-takes reply_rows 19 c.args.code Early u32_front c.args.reader.now c.in_ok-u32-in-19.field-0 c.u32-in-19.new.self c.in-19.is refl
+    c.in_ok-u32-in-19.ensures
 
 pub returns-in_err-read_statistics-in-14-clause-read : goal.returns-in_err-read_statistics-in-14-clause-read
 returns-in_err-read_statistics-in-14-clause-read c =
-    arm-untaken reply_rows 14 c.args.code (made (λ p. Statistics p.0.0.0.0 p.0.0.0.1 p.0.0.1 p.0.1 p.1) (both (both (both (both u64_front u32_front) u32_front) u16_front) site_lines_front)) c.args.reader.now c.read_statistics.new.reader c.from_residual-in_err-read_statistics-in-14.result c.in-14.is refl c.from_residual-in_err-read_statistics-in-14.ensures
+    arm-untaken reply_rows 14 c.args.code (made (λ p. Statistics p.0.0.0.0 p.0.0.0.1 p.0.0.1 p.0.1 p.1)
+    (both (both (both (both u64_front u32_front) u32_front) u16_front) site_lines_front)) c.args.reader.now c.read_statistics.new.reader
+    c.from_residual-in_err-read_statistics-in-14.result c.in-14.is refl c.from_residual-in_err-read_statistics-in-14.ensures
     c.in_err-read_statistics-in-14.ensures
 
 pub returns-in_ok-read_statistics-in-14-clause-read : goal.returns-in_ok-read_statistics-in-14-clause-read
 returns-in_ok-read_statistics-in-14-clause-read c =
-    arm-taken reply_rows 14 c.args.code (made (λ p. Statistics p.0.0.0.0 p.0.0.0.1 p.0.0.1 p.0.1 p.1) (both (both (both (both u64_front u32_front) u32_front) u16_front) site_lines_front)) c.args.reader.now c.in_ok-read_statistics-in-14.field-0 c.read_statistics.new.reader c.in-14.is refl c.in_ok-read_statistics-in-14.ensures
+    arm-taken reply_rows 14 c.args.code (made (λ p. Statistics p.0.0.0.0 p.0.0.0.1 p.0.0.1 p.0.1 p.1)
+    (both (both (both (both u64_front u32_front) u32_front) u16_front) site_lines_front)) c.args.reader.now c.in_ok-read_statistics-in-14.field-0
+    c.read_statistics.new.reader c.in-14.is refl c.in_ok-read_statistics-in-14.ensures
 
 pub returns-in-17-clause-read : goal.returns-in-17-clause-read
 returns-in-17-clause-read c = arm-plain reply_rows 17 c.args.code Applied c.args.reader.now c.in-17.is refl
@@ -58,7 +68,8 @@ returns-in-22-clause-read c = arm-plain reply_rows 22 c.args.code NoMemory c.arg
 
 pub returns-in-15-clause-sure : goal.returns-in-15-clause-sure
 returns-in-15-clause-sure c = λ r rest e read sure is.
-    absurd (arm-sure reply_rows 15 c.args.code (λ p. Shown p.0.0 p.0.1 p.1) (both (both u64_front children_front) path_front) reply_takes_no_memory (λ x. refl) c.args.reader.now r rest c.in-15.is refl read sure)
+    absurd (arm-sure reply_rows 15 c.args.code (λ p. Shown p.0.0 p.0.1 p.1) (both (both u64_front children_front) path_front) reply_takes_no_memory
+    (λ x. refl) c.args.reader.now r rest c.in-15.is refl read sure)
 
 pub returns-in-16-clause-sure : goal.returns-in-16-clause-sure
 returns-in-16-clause-sure c = λ r rest e read sure is.
@@ -72,4 +83,5 @@ returns-in-21-clause-sure c = λ r rest e read sure is.
 pub returns-in_default-clause-read : goal.returns-in_default-clause-read
 returns-in_default-clause-read c =
     let great : 23 ≤ c.args.code = omega arith in
-    makes-none (front_of_code c.args.code reply_rows) c.args.reader.now c.args.reader.now None refl (front-beyond 23 reply_rows c.args.code c.args.reader.now refl great)
+    makes-none (front_of_code c.args.code reply_rows) c.args.reader.now c.args.reader.now None refl
+    (front-beyond 23 reply_rows c.args.code c.args.reader.now refl great)

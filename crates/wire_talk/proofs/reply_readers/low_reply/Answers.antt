@@ -19,7 +19,8 @@ returns-in_ok-id-in-1-clause-read c =
 
 pub returns-in_err-id-in-2-clause-read : goal.returns-in_err-id-in-2-clause-read
 returns-in_err-id-in-2-clause-read c =
-    arm-none reply_rows 2 c.args.code Begun id_front c.args.reader.now c.id-in-2.new.self c.from_residual-in_err-id-in-2.result c.in-2.is refl c.from_residual-in_err-id-in-2.ensures
+    arm-none reply_rows 2 c.args.code Begun id_front c.args.reader.now c.id-in-2.new.self c.from_residual-in_err-id-in-2.result c.in-2.is refl
+    c.from_residual-in_err-id-in-2.ensures
     (untaken id_front c.args.reader.now c.id-in-2.new.self c.in_err-id-in-2.ensures)
 
 pub returns-in_ok-id-in-2-clause-read : goal.returns-in_ok-id-in-2-clause-read
@@ -28,7 +29,8 @@ returns-in_ok-id-in-2-clause-read c =
 
 pub returns-in_err-id-in-5-clause-read : goal.returns-in_err-id-in-5-clause-read
 returns-in_err-id-in-5-clause-read c =
-    arm-none reply_rows 5 c.args.code Deleted id_front c.args.reader.now c.id-in-5.new.self c.from_residual-in_err-id-in-5.result c.in-5.is refl c.from_residual-in_err-id-in-5.ensures
+    arm-none reply_rows 5 c.args.code Deleted id_front c.args.reader.now c.id-in-5.new.self c.from_residual-in_err-id-in-5.result c.in-5.is refl
+    c.from_residual-in_err-id-in-5.ensures
     (untaken id_front c.args.reader.now c.id-in-5.new.self c.in_err-id-in-5.ensures)
 
 pub returns-in_ok-id-in-5-clause-read : goal.returns-in_ok-id-in-5-clause-read
@@ -37,7 +39,8 @@ returns-in_ok-id-in-5-clause-read c =
 
 pub returns-in_err-id-in-9-clause-read : goal.returns-in_err-id-in-9-clause-read
 returns-in_err-id-in-9-clause-read c =
-    arm-none reply_rows 9 c.args.code Ended id_front c.args.reader.now c.id-in-9.new.self c.from_residual-in_err-id-in-9.result c.in-9.is refl c.from_residual-in_err-id-in-9.ensures
+    arm-none reply_rows 9 c.args.code Ended id_front c.args.reader.now c.id-in-9.new.self c.from_residual-in_err-id-in-9.result c.in-9.is refl
+    c.from_residual-in_err-id-in-9.ensures
     (untaken id_front c.args.reader.now c.id-in-9.new.self c.in_err-id-in-9.ensures)
 
 pub returns-in_ok-id-in-9-clause-read : goal.returns-in_ok-id-in-9-clause-read
@@ -56,21 +59,26 @@ returns-in-3-clause-sure c = λ r rest e read sure is.
 
 pub returns-in-4-clause-sure : goal.returns-in-4-clause-sure
 returns-in-4-clause-sure c = λ r rest e read sure is.
-    absurd (arm-sure reply_rows 4 c.args.code (λ p. Value p.0 p.1) (both id_front value_front) reply_takes_no_memory (λ x. refl) c.args.reader.now r rest c.in-4.is refl read sure)
+    absurd (arm-sure reply_rows 4 c.args.code (λ p. Value p.0 p.1) (both id_front value_front) reply_takes_no_memory (λ x. refl) c.args.reader.now r rest
+    c.in-4.is refl read sure)
 
 pub returns-in-8-clause-sure : goal.returns-in-8-clause-sure
 returns-in-8-clause-sure c = λ r rest e read sure is.
-    absurd (arm-sure reply_rows 8 c.args.code (λ p. Committed p.0 p.1) (both id_front parents_front) reply_takes_no_memory (λ x. refl) c.args.reader.now r rest c.in-8.is refl read sure)
+    absurd (arm-sure reply_rows 8 c.args.code (λ p. Committed p.0 p.1) (both id_front parents_front) reply_takes_no_memory (λ x. refl) c.args.reader.now r
+    rest c.in-8.is refl read sure)
 
 pub returns-in-10-clause-sure : goal.returns-in-10-clause-sure
 returns-in-10-clause-sure c = λ r rest e read sure is.
-    absurd (arm-sure reply_rows 10 c.args.code (λ p. States p.0 p.1) first_ids_front reply_takes_no_memory (λ x. refl) c.args.reader.now r rest c.in-10.is refl read sure)
+    absurd (arm-sure reply_rows 10 c.args.code (λ p. States p.0 p.1) first_ids_front reply_takes_no_memory (λ x. refl) c.args.reader.now r rest c.in-10.is
+    refl read sure)
 
 pub returns-in-11-clause-sure : goal.returns-in-11-clause-sure
 returns-in-11-clause-sure c = λ r rest e read sure is.
-    absurd (arm-sure reply_rows 11 c.args.code (λ p. Keys p.0 p.1) first_keys_front reply_takes_no_memory (λ x. refl) c.args.reader.now r rest c.in-11.is refl read sure)
+    absurd (arm-sure reply_rows 11 c.args.code (λ p. Keys p.0 p.1) first_keys_front reply_takes_no_memory (λ x. refl) c.args.reader.now r rest c.in-11.is
+    refl read sure)
 
 pub returns-in_default-clause-read : goal.returns-in_default-clause-read
 returns-in_default-clause-read c =
     let zero : c.args.code ≡ 0 = omega arith in
-    makes-none (front_of_code c.args.code reply_rows) c.args.reader.now c.args.reader.now None refl (ap (λ k. front_of_code k reply_rows c.args.reader.now) zero)
+    makes-none (front_of_code c.args.code reply_rows) c.args.reader.now c.args.reader.now None refl
+    (ap (λ k. front_of_code k reply_rows c.args.reader.now) zero)

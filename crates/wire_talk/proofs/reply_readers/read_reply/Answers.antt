@@ -8,9 +8,11 @@ use Rattle.wire_talk.proofs.reply_readers.read_reply.Goals as goal
 pub returns-clause-spelled : goal.returns-clause-spelled
 returns-clause-spelled c =
     let made = subst (λ b. Makes reply_front b c.reply-taken.result c.reply-taken.new.reader) c.new-reader.ensures c.reply-taken.ensures.read in
-    (answers reads-reply c.args.bytes.now c.reply-taken.result c.reply-taken.new.reader c.is_done.result made c.is_done.ensures c.whole.result c.whole.ensures).spelled
+    (answers reads-reply c.args.bytes.now c.reply-taken.result c.reply-taken.new.reader c.is_done.result made c.is_done.ensures c.whole.result
+    c.whole.ensures).spelled
 
 pub returns-clause-malformed : goal.returns-clause-malformed
 returns-clause-malformed c =
     let made = subst (λ b. Makes reply_front b c.reply-taken.result c.reply-taken.new.reader) c.new-reader.ensures c.reply-taken.ensures.read in
-    (answers reads-reply c.args.bytes.now c.reply-taken.result c.reply-taken.new.reader c.is_done.result made c.is_done.ensures c.whole.result c.whole.ensures).malformed
+    (answers reads-reply c.args.bytes.now c.reply-taken.result c.reply-taken.new.reader c.is_done.result made c.is_done.ensures c.whole.result
+    c.whole.ensures).malformed

@@ -12,5 +12,6 @@ write_site_line-requires c =
     let lines = c.as_slice-line-items.result.now in
     let index = c.loop-line.line-index in
     let none : SiteLine = record { count = 0; floor = root; number = 0 } in
-    let room = subst (λ xs. length c.args.out.now + length (flat_map site_line_spelling xs) ≤ longest_frame) (sym c.as_slice-line-items.ensures) c.requires.fits in
+    let room = subst (λ xs. length c.args.out.now + length (flat_map site_line_spelling xs) ≤ longest_frame) (sym c.as_slice-line-items.ensures)
+    c.requires.fits in
     each-room site_line_spelling lines index none (get_or lines index none) c.args.out.now c.loop-line.out c.loop-line-test.true c.loop-line.invariant refl room

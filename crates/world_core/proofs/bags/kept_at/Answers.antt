@@ -11,4 +11,5 @@ returns-then-place-len-clause-valid c = c.kept_in.ensures.valid (list_all_get is
 
 pub returns-else-place-len-clause-item : goal.returns-else-place-len-clause-item
 returns-else-place-len-clause-item c =
-    sym (ap (option_and_then (λ b. slice_get (items b) c.args.item)) (slice_get_past c.args.bag.now c.args.batch (subst (λ n. n ≤ c.args.batch) c.len.ensures c.if-place-len.false)))
+    sym (ap (option_and_then (λ b. slice_get (items b) c.args.item))
+    (slice_get_past c.args.bag.now c.args.batch (subst (λ n. n ≤ c.args.batch) c.len.ensures c.if-place-len.false)))

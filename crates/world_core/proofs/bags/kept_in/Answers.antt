@@ -10,7 +10,8 @@ use Rattle.world_core.proofs.bags.kept_in.Goals as goal
 pub returns-then-item-records-clause-valid : goal.returns-then-item-records-clause-valid
 returns-then-item-records-clause-valid c = λ valid.
     let b = c.args.batch.now in
-    list_all_get is_record b.records c.args.item c.at.result.now c.at.ensures (and_parts (is_u16 (length b.records)) (list_all is_record b.records) (and_parts (are_records b.records) (are_consents b.consents) valid).0).1
+    list_all_get is_record b.records c.args.item c.at.result.now c.at.ensures
+    (and_parts (is_u16 (length b.records)) (list_all is_record b.records) (and_parts (are_records b.records) (are_consents b.consents) valid).0).1
 
 pub returns-then-place-len-clause-item : goal.returns-then-place-len-clause-item
 returns-then-place-len-clause-item c =
@@ -21,7 +22,8 @@ returns-then-place-len-clause-item c =
 pub returns-then-place-len-clause-valid : goal.returns-then-place-len-clause-valid
 returns-then-place-len-clause-valid c = λ valid.
     let b = c.args.batch.now in
-    list_all_get is_consent b.consents (c.args.item - c.len-records.result) c.at-then-place-len.result.now c.at-then-place-len.ensures (consents_of b.consents (and_parts (are_records b.records) (are_consents b.consents) valid).1)
+    list_all_get is_consent b.consents (c.args.item - c.len-records.result) c.at-then-place-len.result.now c.at-then-place-len.ensures
+    (consents_of b.consents (and_parts (are_records b.records) (are_consents b.consents) valid).1)
 
 pub returns-else-place-len-clause-item : goal.returns-else-place-len-clause-item
 returns-else-place-len-clause-item c =

@@ -11,25 +11,29 @@ returns-in_default c =
 
 pub returns-in_default-u32 : goal.returns-in_default-u32
 returns-in_default-u32 c =
-    no_batch c.args.fields.now c.u16.new.self c.in-Some.to (ap u16_front (sym c.new-reader.ensures) ∙ taken u16_front c.new-reader.result c.u16.new.self c.in-Some.to c.in-Some.ensures)
+    no_batch c.args.fields.now c.u16.new.self c.in-Some.to (ap u16_front (sym c.new-reader.ensures)
+    ∙ taken u16_front c.new-reader.result c.u16.new.self c.in-Some.to c.in-Some.ensures)
     (untaken u32_front c.u16.new.self c.u32.new.self c.in_default-u32.ensures)
 
 pub returns-in_default-u32-2 : goal.returns-in_default-u32-2
 returns-in_default-u32-2 c =
-    no_item c.args.fields.now c.u16.new.self c.u32.new.self c.in-Some.to c.in-Some-u32.batch (ap u16_front (sym c.new-reader.ensures) ∙ taken u16_front c.new-reader.result c.u16.new.self c.in-Some.to c.in-Some.ensures)
+    no_item c.args.fields.now c.u16.new.self c.u32.new.self c.in-Some.to c.in-Some-u32.batch
+    (ap u16_front (sym c.new-reader.ensures) ∙ taken u16_front c.new-reader.result c.u16.new.self c.in-Some.to c.in-Some.ensures)
     (taken u32_front c.u16.new.self c.u32.new.self c.in-Some-u32.batch c.in-Some-u32.ensures)
     (untaken u32_front c.u32.new.self c.u32-2.new.self c.in_default-u32-2.ensures)
 
 pub returns-then-is_done : goal.returns-then-is_done
 returns-then-is_done c =
-    carry_read c.args.fields.now c.u16.new.self c.u32.new.self c.u32-2.new.self c.in-Some.to c.in-Some-u32.batch c.in-Some-u32-2.item (ap u16_front (sym c.new-reader.ensures) ∙ taken u16_front c.new-reader.result c.u16.new.self c.in-Some.to c.in-Some.ensures)
+    carry_read c.args.fields.now c.u16.new.self c.u32.new.self c.u32-2.new.self c.in-Some.to c.in-Some-u32.batch c.in-Some-u32-2.item
+    (ap u16_front (sym c.new-reader.ensures) ∙ taken u16_front c.new-reader.result c.u16.new.self c.in-Some.to c.in-Some.ensures)
     (taken u32_front c.u16.new.self c.u32.new.self c.in-Some-u32.batch c.in-Some-u32.ensures)
     (taken u32_front c.u32.new.self c.u32-2.new.self c.in-Some-u32-2.item c.in-Some-u32-2.ensures)
     ∙ alone_done (CarryTo c.in-Some.to c.in-Some-u32.batch c.in-Some-u32-2.item) c.u32-2.new.self (sym c.is_done.ensures ∙ c.if-is_done.true)
 
 pub returns-else-is_done : goal.returns-else-is_done
 returns-else-is_done c =
-    carry_read c.args.fields.now c.u16.new.self c.u32.new.self c.u32-2.new.self c.in-Some.to c.in-Some-u32.batch c.in-Some-u32-2.item (ap u16_front (sym c.new-reader.ensures) ∙ taken u16_front c.new-reader.result c.u16.new.self c.in-Some.to c.in-Some.ensures)
+    carry_read c.args.fields.now c.u16.new.self c.u32.new.self c.u32-2.new.self c.in-Some.to c.in-Some-u32.batch c.in-Some-u32-2.item
+    (ap u16_front (sym c.new-reader.ensures) ∙ taken u16_front c.new-reader.result c.u16.new.self c.in-Some.to c.in-Some.ensures)
     (taken u32_front c.u16.new.self c.u32.new.self c.in-Some-u32.batch c.in-Some-u32.ensures)
     (taken u32_front c.u32.new.self c.u32-2.new.self c.in-Some-u32-2.item c.in-Some-u32-2.ensures)
     ∙ alone_more (CarryTo c.in-Some.to c.in-Some-u32.batch c.in-Some-u32-2.item) c.u32-2.new.self (sym c.is_done.ensures ∙ c.if-is_done.false)

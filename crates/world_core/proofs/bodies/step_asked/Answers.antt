@@ -13,12 +13,14 @@ returns-in_default c =
 
 pub returns-in_default-u16 : goal.returns-in_default-u16
 returns-in_default-u16 c =
-    no_actor c.args.fields.now c.u16.new.self c.in-Some.site (ap u16_front (sym c.new-reader.ensures) ∙ taken u16_front c.new-reader.result c.u16.new.self c.in-Some.site c.in-Some.ensures)
+    no_actor c.args.fields.now c.u16.new.self c.in-Some.site
+    (ap u16_front (sym c.new-reader.ensures) ∙ taken u16_front c.new-reader.result c.u16.new.self c.in-Some.site c.in-Some.ensures)
     (untaken u16_front c.u16.new.self c.u16-2.new.self c.in_default-u16.ensures)
 
 pub behind_header-request-requires : goal.behind_header-request-requires
 behind_header-request-requires c =
-    (behind_four c.args.fields.now c.u16.new.self c.u16-2.new.self c.in-Some.site c.in-Some-u16.actor (ap u16_front (sym c.new-reader.ensures) ∙ taken u16_front c.new-reader.result c.u16.new.self c.in-Some.site c.in-Some.ensures)
+    (behind_four c.args.fields.now c.u16.new.self c.u16-2.new.self c.in-Some.site c.in-Some-u16.actor
+    (ap u16_front (sym c.new-reader.ensures) ∙ taken u16_front c.new-reader.result c.u16.new.self c.in-Some.site c.in-Some.ensures)
     (taken u16_front c.u16.new.self c.u16-2.new.self c.in-Some-u16.actor c.in-Some-u16.ensures)).enough
 
 pub returns : goal.returns

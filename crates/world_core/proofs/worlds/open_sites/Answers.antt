@@ -13,6 +13,7 @@ loop-count-preserved c =
     let next : count + 1 ≡ 1 + count = omega arith in
     record {
       all = subst (λ made. AllStand made (opening_sites limits 1 (count + 1))) (sym c.in-Ok-push.ensures.items)
-          (one_more c.loop-count.made.items limits 1 count c.in-Ok.site c.loop-count.invariant.all (subst (λ k. SiteStands c.in-Ok.site (opening limits k)) next c.in-Ok.ensures));
+          (one_more c.loop-count.made.items limits 1 count c.in-Ok.site c.loop-count.invariant.all
+          (subst (λ k. SiteStands c.in-Ok.site (opening limits k)) next c.in-Ok.ensures));
       within = omega (arith, c.loop-count-test.true);
     }

@@ -10,7 +10,11 @@ use Rattle.dag_lock.proofs.locks.DagLock.new.Goals as goal
 pub new-requires-2 : goal.new-requires-2
 new-requires-2 g c =
     let IsOf = IsOfLock g.M.Machine.opening g.M.Machine.plain c.of.result.value in
-    let one : c.push_reserved.new.self.items ≡ c.args.machine ∷ [] = c.push_reserved.ensures.items ∙ ap (λ (l : List (Kept g.row.M.Denot)). l ++ c.args.machine ∷ []) c.in-Ok.ensures.items in
+    let one : c.push_reserved.new.self.items ≡ c.args.machine ∷ [] = c.push_reserved.ensures.items
+    ∙ ap (λ (l : List (Kept g.row.M.Denot)). l ++ c.args.machine ∷ []) c.in-Ok.ensures.items in
     let same = sym c.of.ensures in
     subst (λ (l : List (Kept g.row.M.Denot)). Turns IsOf c.args.pieces (opening (0 ∷ 0 ∷ []) l (knows Idle [] [] c.args.pieces))) (sym one)
-    (opens IsOf c.args.pieces c.args.machine c.requires.empty (ap (λ (x : Kept g.row.M.Denot). g.M.Machine.opening x.machine) same, ap (λ (x : Kept g.row.M.Denot). x.max_trail) same) c.requires.some)
+    (opens IsOf c.args.pieces c.args.machine c.requires.empty (
+      ap (λ (x : Kept g.row.M.Denot). g.M.Machine.opening x.machine) same,
+      ap (λ (x : Kept g.row.M.Denot). x.max_trail) same,
+    ) c.requires.some)

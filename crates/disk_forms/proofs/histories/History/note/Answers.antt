@@ -15,9 +15,12 @@ invariant_of-self c =
     let old : List Call = with_written c.self.inside.calls.items c.self.inside.written.items in
     let room : length old < c.self.inside.room = subst (λ (r : Recorded). length r.calls < r.room) (sym c.self.view_is) c.requires.room in
     let inv = c.self.invariant in
-    let is = ap (λ ks. with_written ks c.self.inside.written.items) c.push_call.ensures.items ∙ with_none c.self.inside.calls.items c.args.kept c.self.inside.written.items inv.1 (quiet_used c.args.kept c.requires.quiet) in
+    let is = ap (λ ks. with_written ks c.self.inside.written.items) c.push_call.ensures.items
+    ∙ with_none c.self.inside.calls.items c.args.kept c.self.inside.written.items inv.1 (quiet_used c.args.kept c.requires.quiet) in
     let n = length_with c.self.inside.calls.items c.self.inside.written.items in (
-      reads_more c.self.inside.first.items old (with_written c.push_call.new.calls.items c.self.inside.written.items) (c.args.kept, []) c.self.inside.bytes.items is (inv.0 ∙ quiet_reads (known_after (fresh c.self.inside.first.items) old) c.args.kept [] c.requires.quiet),
+      reads_more c.self.inside.first.items old (with_written c.push_call.new.calls.items c.self.inside.written.items)
+          (c.args.kept, []) c.self.inside.bytes.items is (inv.0
+          ∙ quiet_reads (known_after (fresh c.self.inside.first.items) old) c.args.kept [] c.requires.quiet),
       omega (arith, ap used_of c.push_call.ensures.items, used_more c.self.inside.calls.items (c.args.kept), inv.1, quiet_used c.args.kept c.requires.quiet),
       omega (arith, inv.2),
       omega (arith, inv.3),
@@ -31,6 +34,8 @@ pub returns : goal.returns
 returns c =
     let old : List Call = with_written c.self.inside.calls.items c.self.inside.written.items in
     let inv = c.self.invariant in
-    let is = ap (λ ks. with_written ks c.self.inside.written.items) c.push_call.ensures.items ∙ with_none c.self.inside.calls.items c.args.kept c.self.inside.written.items inv.1 (quiet_used c.args.kept c.requires.quiet) in
-    view_call c.self.inside.first.items old (with_written c.push_call.new.calls.items c.self.inside.written.items) (length c.self.inside.written.items) (length c.self.inside.written.items) c.self.inside.room (c.args.kept) [] is (omega (arith))
+    let is = ap (λ ks. with_written ks c.self.inside.written.items) c.push_call.ensures.items
+    ∙ with_none c.self.inside.calls.items c.args.kept c.self.inside.written.items inv.1 (quiet_used c.args.kept c.requires.quiet) in
+    view_call c.self.inside.first.items old (with_written c.push_call.new.calls.items c.self.inside.written.items) (length c.self.inside.written.items)
+    (length c.self.inside.written.items) c.self.inside.room (c.args.kept) [] is (omega (arith))
     ∙ ap (λ (r : Recorded). with_call r (c.args.kept) []) c.self.view_is

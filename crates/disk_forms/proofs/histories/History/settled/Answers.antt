@@ -18,7 +18,8 @@ returns-clause-image c =
     let n = c.count_to_sync-count.result in
     let known = (λ i. known_after (fresh first) (with_written (c.as_slice-calls.ensures.value i) (c.as_slice.ensures.value i))) ∙ ap known_of c.self.view_is in
     let cut = cut_here first calls written n c.count_to_sync-count.ensures.settled c.count_to_sync-count.ensures.since in
-    c.in_ok-written.ensures.image ∙ (ap (λ b. read_after_all b (with_written (take n calls) written)) c.in_ok-image.ensures ∙ (cut.base ∙ ap (λ s. s.base) known))
+    c.in_ok-written.ensures.image ∙ (ap (λ b. read_after_all b (with_written (take n calls) written)) c.in_ok-image.ensures
+    ∙ (cut.base ∙ ap (λ s. s.base) known))
 
 pub returns-clause-since : goal.returns-clause-since
 returns-clause-since c =
@@ -28,11 +29,13 @@ returns-clause-since c =
     let n = c.count_to_sync-count.result in
     let known = (λ i. known_after (fresh first) (with_written (c.as_slice-calls.ensures.value i) (c.as_slice.ensures.value i))) ∙ ap known_of c.self.view_is in
     let cut = cut_here first calls written n c.count_to_sync-count.ensures.settled c.count_to_sync-count.ensures.since in
-    since_seen first calls (take (length calls - n) (drop n calls)) written c.in_ok-written.written.now n (known_of c.args.self.now) cut known (take_rest calls n) c.in_ok-written.ensures.left
+    since_seen first calls (take (length calls - n) (drop n calls)) written c.in_ok-written.written.now n (known_of c.args.self.now) cut known
+    (take_rest calls n) c.in_ok-written.ensures.left
 
 pub returns-clause-written : goal.returns-clause-written
 returns-clause-written c =
     let calls = c.as_slice-calls.result.now in
     let n = c.count_to_sync-count.result in
     let all = ap used_of c.as_slice-calls.ensures.value ∙ (c.self.invariant.1 ∙ sym (ap length c.as_slice.ensures.value)) in
-    used_back calls (take (length calls - n) (drop n calls)) c.as_slice.result.now c.in_ok-written.written.now n all (take_rest calls n) c.in_ok-written.ensures.left
+    used_back calls (take (length calls - n) (drop n calls)) c.as_slice.result.now c.in_ok-written.written.now n all
+    (take_rest calls n) c.in_ok-written.ensures.left

@@ -7,7 +7,8 @@ pub read-requires : goal.read-requires
 read-requires c = let same = looked_reads c.args.self.now.history c.note.new.self (inl c.note.ensures) in omega (arith, ap length same, c.requires tt)
 
 pub returns-in-Ok-clause-bytes : goal.returns-in-Ok-clause-bytes
-returns-in-Ok-clause-bytes c = λ h. c.read.ensures ∙ ap (λ z. take (length c.args.buf.now) (drop c.args.place z)) (looked_reads c.args.self.now.history c.note.new.self (inl c.note.ensures))
+returns-in-Ok-clause-bytes c = λ h. c.read.ensures ∙ ap (λ z. take (length c.args.buf.now) (drop c.args.place z))
+    (looked_reads c.args.self.now.history c.note.new.self (inl c.note.ensures))
 
 pub returns-in-Ok-clause-reads : goal.returns-in-Ok-clause-reads
 returns-in-Ok-clause-reads c = λ h. looked_reads c.args.self.now.history c.note.new.self (inl c.note.ensures)

@@ -8,4 +8,5 @@ returns-then-self-fork-clause-pairs c = without-other c.args.self c.args.fork (Î
 pub returns-clause-pairs : goal.returns-clause-pairs
 returns-clause-pairs c =
     let forks = c.if-self-fork.false in
-    without-holds c.args.self c.args.fork c.place_of_bit.result c.place_of_bit-2.result (omega (arith, forks)) c.place_of_bit.ensures.place c.place_of_bit-2.ensures.place _ refl
+    without-holds c.args.self c.args.fork c.place_of_bit.result c.place_of_bit-2.result (omega (arith, forks)) c.place_of_bit.ensures.place
+    c.place_of_bit-2.ensures.place _ refl

@@ -8,4 +8,5 @@ use Rattle.load_run.proofs.players.Player.settle.Goals as goal
 pub returns-in-Keys-clause-does : goal.returns-in-Keys-clause-does
 returns-in-Keys-clause-does c =
     subst (λ reply. Does c.args.self.now c.put_each.new.self c.put_each.result (settles c.args.i reply)) (sym c.in-Keys.is)
-    (subst (λ ks. Does c.args.self.now c.put_each.new.self c.put_each.result (each_of ks (λ k. asks 9 (Put k (decimal c.args.i))))) c.as_slice.ensures c.put_each.ensures.does)
+    (subst (λ ks. Does c.args.self.now c.put_each.new.self c.put_each.result (each_of ks (λ k. asks 9 (Put k (decimal c.args.i))))) c.as_slice.ensures
+    c.put_each.ensures.does)

@@ -10,6 +10,7 @@ pub returns-clause-does : goal.returns-clause-does
 returns-clause-does c =
     let listed = c.in_ok-listed.listed in
     then_told c.args.self.now c.ask.new.self c.settle.new.self c.settle.result 9 (Conflicts []) listed (settles c.args.i)
-    (subst (λ after. (play : Play) → Plays c.args.self.now play → Plays c.ask.new.self (asks 9 (Conflicts after) play) × (listed ≡ reply_to 9 (Conflicts after) play))
+    (subst (λ after. (play : Play) → Plays c.args.self.now play → Plays c.ask.new.self (asks 9 (Conflicts after) play)
+    × (listed ≡ reply_to 9 (Conflicts after) play))
     c.new-after.ensures c.in_ok-listed.ensures.asked)
     c.settle.ensures.does

@@ -22,7 +22,8 @@ returns c =
           (subst (λ i. NotedAs now i.entries.entries n k (Some w.note_read.result)) (sym w.self-inside-is) (
             v,
             was-there n es now after v w.note_read.new.self c.self.view_is put c.get_mut.ensures.ordered found,
-            is-changed n es now after v w.note_read.new.self c.self.view_is put c.get_mut.ensures.ordered found (noting k) (has_no_place_to_read k (reads_of v)) too_many_reads w.note_read.result w.note_read.ensures.noted
+            is-changed n es now after v w.note_read.new.self c.self.view_is put c.get_mut.ensures.ordered found (noting k)
+                (has_no_place_to_read k (reads_of v)) too_many_reads w.note_read.result w.note_read.ensures.noted
                 w.note_read.ensures.same w.note_read.ensures.full w.note_read.ensures.fault,
           ))
       | in-None w ↦

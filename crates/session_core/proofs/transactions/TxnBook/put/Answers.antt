@@ -22,7 +22,8 @@ returns c =
           (subst (λ i. PutAs now i.entries.entries n k c.args.write (Some w.put.result)) (sym w.self-inside-is) (
             v,
             was-there n es now after v w.put.new.self c.self.view_is put c.get_mut.ensures.ordered found,
-            is-changed n es now after v w.put.new.self c.self.view_is put c.get_mut.ensures.ordered found (putting k c.args.write) (has_no_place_to_write k (writes_of v)) too_many_writes w.put.result w.put.ensures.put
+            is-changed n es now after v w.put.new.self c.self.view_is put c.get_mut.ensures.ordered found (putting k c.args.write)
+                (has_no_place_to_write k (writes_of v)) too_many_writes w.put.result w.put.ensures.put
                 w.put.ensures.same w.put.ensures.full w.put.ensures.fault,
           ))
       | in-None w ↦

@@ -7,7 +7,8 @@ use Rattle.session_core.proofs.transactions.TxnBook.read.Goals.{in-Some, in-None
 
 pub read_in-requires : goal.read_in-requires
 read_in-requires c =
-    c.requires c.in-Some.txn.now (is-there c.args.session c.self.inside.entries.entries c.args.self.now c.in-Some.txn.now c.self.view_is (sym c.get_mut.ensures.value ∙ ap option_copied_mut c.in-Some.is))
+    c.requires c.in-Some.txn.now (is-there c.args.session c.self.inside.entries.entries c.args.self.now c.in-Some.txn.now c.self.view_is
+    (sym c.get_mut.ensures.value ∙ ap option_copied_mut c.in-Some.is))
 
 pub returns : goal.returns
 returns c =
@@ -28,5 +29,6 @@ returns c =
       | in-None w ↦
           let none = sym c.get_mut.ensures.value ∙ ap option_copied_mut w.in-None.is in
           subst (λ r. ReadsIn store now c.match-get_mut.self-inside.entries.entries n k r) (sym w.result-is)
-          (none-read store n k k es now c.match-get_mut.self-inside.entries.entries c.self.view_is none (ap (λ i. i.entries.entries) w.self-inside-is ∙ ap (λ m. m.entries) c.get_mut.follows.holds-at-none) refl)
+          (none-read store n k k es now c.match-get_mut.self-inside.entries.entries c.self.view_is none
+          (ap (λ i. i.entries.entries) w.self-inside-is ∙ ap (λ m. m.entries) c.get_mut.follows.holds-at-none) refl)
     ]

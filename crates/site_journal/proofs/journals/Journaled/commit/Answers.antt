@@ -5,7 +5,8 @@ use Rattle.site_journal.proofs.journals.Journaled.commit.Goals as goal
 
 pub returns-then-count-eq0-clause-committed : goal.returns-then-count-eq0-clause-committed
 returns-then-count-eq0-clause-committed g c = λ entries staged o.
-    committed_none g.M.Machine.plain g.M.Machine.stands g.M.Machine.opening g.K.Disk.honest g.K.Disk.reads g.K.Disk.may_leave c.args.self entries staged o (omega arith)
+    committed_none g.M.Machine.plain g.M.Machine.stands g.M.Machine.opening g.K.Disk.honest g.K.Disk.reads g.K.Disk.may_leave c.args.self entries staged o
+    (omega arith)
 
 pub push_end-requires : goal.push_end-requires
 push_end-requires g c = c.requires.open.2.room
@@ -15,7 +16,14 @@ returns-in-Ok-clause-committed g c = λ entries staged o.
     let M = g.M.Machine in
     let K = g.K.Disk in
     committed M.plain M.stands M.opening K.honest K.reads K.may_leave c.args.self
-    (record { machine = c.args.self.machine; disk = c.append.new.disk; staged = c.clear.new.self; place = c.args.self.place + c.len-count.result; max_trail = c.args.self.max_trail })
+    (record {
+      machine = c.args.self.machine;
+      disk = c.append.new.disk;
+      staged = c.clear.new.self;
+      place =
+          c.args.self.place + c.len-count.result;
+      max_trail = c.args.self.max_trail;
+    })
     entries staged o refl c.clear.ensures (ap (λ n. c.args.self.place + n) c.len-count.ensures.count) refl
     (λ now.
     let h = c.append.ensures.honest.1 now in

@@ -32,5 +32,6 @@ returns-clause-put c =
     site-changed sites i c.args.id.sequence (Some c.args.slot) es c.put.new.self c.in_ok-make_site.ensures.made
     (λ m. tells m ∙ ap (λ fs. cond (eqb m c.args.id.sequence) (Some c.args.slot) (slot_of_number fs m)) c.index_mut.ensures.value)
     x.site x.sequence
-    ∙ ap (cond (same_id x c.args.id) (Some c.args.slot)) (c.make_site.ensures.same x ∙ ap (λ (olds : List (List NumberedSlot)). slot_of_state olds x) c.self.view_is))
+    ∙ ap (cond (same_id x c.args.id) (Some c.args.slot)) (c.make_site.ensures.same x
+    ∙ ap (λ (olds : List (List NumberedSlot)). slot_of_state olds x) c.self.view_is))
     c.put.ensures.put

@@ -22,5 +22,6 @@ invariant_of-self c = subst NumbersRise (sym (gone c)) (removed-rise c.self.insi
 pub returns-in-Some : goal.returns-in-Some
 returns-in-Some c = λ n.
     ap (λ es. slot_of_number es n) (gone c)
-    ∙ number-removed c.self.inside.entries.items c.args.sequence c.in-Some.place n nothing c.self.invariant c.in-Some.ensures.within (c.in-Some.ensures.found nothing)
+    ∙ number-removed c.self.inside.entries.items c.args.sequence c.in-Some.place n nothing c.self.invariant c.in-Some.ensures.within
+    (c.in-Some.ensures.found nothing)
     ∙ ap (λ es. cond (eqb n c.args.sequence) None (slot_of_number es n)) c.self.view_is

@@ -21,7 +21,8 @@ returns-in_err-insert-in-Err-clause-known c =
 pub invariant_of-self-in-Err : goal.invariant_of-self-in-Err
 invariant_of-self-in-Err c =
     let keys = c.self.inside.keys.items in
-    let found = subst (λ ks. IsBinarySearchResult (λ y. slice_cmp nat_cmp y c.args.key) ks (Err c.in-Err.place)) c.as_slice-2.ensures.value c.in-Err.ensures.place in
+    let found = subst (λ ks. IsBinarySearchResult (λ y. slice_cmp nat_cmp y c.args.key) ks (Err c.in-Err.place)) c.as_slice-2.ensures.value
+    c.in-Err.ensures.place in
     let bound = subst (λ ks. IsSearchInRange (Err c.in-Err.place) (length ks)) c.as_slice-2.ensures.value c.in-Err.ensures.bound in
     let new = c.in_ok-insert-in-Err.ensures.items ∙ sym (with_key-at_err c.args.key keys c.in-Err.place c.self.invariant.0 bound found) in (
       subst (λ ks. are_ascending_keys ks ≡ true) (sym new) (ascending-with_key c.args.key keys c.self.invariant.0),
@@ -37,7 +38,8 @@ returns-in-Ok-clause-added c =
 pub returns-in_ok-insert-in-Err-clause-added : goal.returns-in_ok-insert-in-Err-clause-added
 returns-in_ok-insert-in-Err-clause-added c =
     let keys = c.self.inside.keys.items in
-    let found = subst (λ ks. IsBinarySearchResult (λ y. slice_cmp nat_cmp y c.args.key) ks (Err c.in-Err.place)) c.as_slice-2.ensures.value c.in-Err.ensures.place in
+    let found = subst (λ ks. IsBinarySearchResult (λ y. slice_cmp nat_cmp y c.args.key) ks (Err c.in-Err.place)) c.as_slice-2.ensures.value
+    c.in-Err.ensures.place in
     let bound = subst (λ ks. IsSearchInRange (Err c.in-Err.place) (length ks)) c.as_slice-2.ensures.value c.in-Err.ensures.bound in
     c.in_ok-insert-in-Err.ensures.items
     ∙ sym (with_key-at_err c.args.key keys c.in-Err.place c.self.invariant.0 bound found)

@@ -21,7 +21,8 @@ returns-in_err-insert-in-Err-clause-known c =
 pub invariant_of-self : goal.invariant_of-self
 invariant_of-self c =
     let writes = c.self.inside.writes.items in
-    let found = subst (λ ws. IsBinarySearchResult (λ (w : KeyWrite). slice_cmp nat_cmp w.0 c.args.key) ws (Ok c.in-Ok.place)) c.as_slice-2.ensures.value c.in-Ok.ensures.place in
+    let found = subst (λ ws. IsBinarySearchResult (λ (w : KeyWrite). slice_cmp nat_cmp w.0 c.args.key) ws (Ok c.in-Ok.place)) c.as_slice-2.ensures.value
+    c.in-Ok.ensures.place in
     let bound = subst (λ ws. IsSearchInRange (Ok c.in-Ok.place) (length ws)) c.as_slice-2.ensures.value c.in-Ok.ensures.bound in
     let new = with_write-at_ok c.args.key c.args.write writes c.in-Ok.place c.self.invariant.0 bound found in
     let valid = and_from (is_key c.args.key) (is_write c.args.write) c.as_slice.ensures.valid c.value.ensures.valid in (
@@ -33,7 +34,8 @@ invariant_of-self c =
 pub returns-in-Ok-clause-added : goal.returns-in-Ok-clause-added
 returns-in-Ok-clause-added c =
     let writes = c.self.inside.writes.items in
-    let found = subst (λ ws. IsBinarySearchResult (λ (w : KeyWrite). slice_cmp nat_cmp w.0 c.args.key) ws (Ok c.in-Ok.place)) c.as_slice-2.ensures.value c.in-Ok.ensures.place in
+    let found = subst (λ ws. IsBinarySearchResult (λ (w : KeyWrite). slice_cmp nat_cmp w.0 c.args.key) ws (Ok c.in-Ok.place)) c.as_slice-2.ensures.value
+    c.in-Ok.ensures.place in
     let bound = subst (λ ws. IsSearchInRange (Ok c.in-Ok.place) (length ws)) c.as_slice-2.ensures.value c.in-Ok.ensures.bound in
     sym (with_write-at_ok c.args.key c.args.write writes c.in-Ok.place c.self.invariant.0 bound found)
     ∙ ap (with_write c.args.key c.args.write) c.self.view_is
@@ -41,7 +43,8 @@ returns-in-Ok-clause-added c =
 pub invariant_of-self-in-Err : goal.invariant_of-self-in-Err
 invariant_of-self-in-Err c =
     let writes = c.self.inside.writes.items in
-    let found = subst (λ ws. IsBinarySearchResult (λ (w : KeyWrite). slice_cmp nat_cmp w.0 c.args.key) ws (Err c.in-Err.place)) c.as_slice-2.ensures.value c.in-Err.ensures.place in
+    let found = subst (λ ws. IsBinarySearchResult (λ (w : KeyWrite). slice_cmp nat_cmp w.0 c.args.key) ws (Err c.in-Err.place)) c.as_slice-2.ensures.value
+    c.in-Err.ensures.place in
     let bound = subst (λ ws. IsSearchInRange (Err c.in-Err.place) (length ws)) c.as_slice-2.ensures.value c.in-Err.ensures.bound in
     let new = c.in_ok-insert-in-Err.ensures.items ∙ sym (with_write-at_err c.args.key c.args.write writes c.in-Err.place c.self.invariant.0 bound found) in
     let valid = and_from (is_key c.args.key) (is_write c.args.write) c.as_slice.ensures.valid c.value.ensures.valid in (
@@ -53,7 +56,8 @@ invariant_of-self-in-Err c =
 pub returns-in_ok-insert-in-Err-clause-added : goal.returns-in_ok-insert-in-Err-clause-added
 returns-in_ok-insert-in-Err-clause-added c =
     let writes = c.self.inside.writes.items in
-    let found = subst (λ ws. IsBinarySearchResult (λ (w : KeyWrite). slice_cmp nat_cmp w.0 c.args.key) ws (Err c.in-Err.place)) c.as_slice-2.ensures.value c.in-Err.ensures.place in
+    let found = subst (λ ws. IsBinarySearchResult (λ (w : KeyWrite). slice_cmp nat_cmp w.0 c.args.key) ws (Err c.in-Err.place)) c.as_slice-2.ensures.value
+    c.in-Err.ensures.place in
     let bound = subst (λ ws. IsSearchInRange (Err c.in-Err.place) (length ws)) c.as_slice-2.ensures.value c.in-Err.ensures.bound in
     c.in_ok-insert-in-Err.ensures.items
     ∙ sym (with_write-at_err c.args.key c.args.write writes c.in-Err.place c.self.invariant.0 bound found)

@@ -10,5 +10,8 @@ returns-then-self c = next-lost (bytes_front c.args.count) c.self.inside.is_lost
 
 pub returns : goal.returns
 returns c =
-    next-read (bytes_front c.args.count) c.self.inside.reader c.args.self.now (option_copied c.bytes-taken.result) c.bytes-taken.new.self c.is_none-self-inside.result
-    (found c.self.inside.is_lost c.self.inside.reader c.args.self.now c.self.view_is c.if-self.false) (subst (λ n. Takes (bytes_front n) c.self.inside.reader (option_copied c.bytes-taken.result) c.bytes-taken.new.self) c.from.ensures c.bytes-taken.ensures) (copied-some c.bytes-taken.result ∙ c.is_none-self-inside.ensures)
+    next-read (bytes_front c.args.count) c.self.inside.reader c.args.self.now (option_copied c.bytes-taken.result) c.bytes-taken.new.self
+    c.is_none-self-inside.result
+    (found c.self.inside.is_lost c.self.inside.reader c.args.self.now c.self.view_is c.if-self.false)
+    (subst (λ n. Takes (bytes_front n) c.self.inside.reader (option_copied c.bytes-taken.result) c.bytes-taken.new.self) c.from.ensures
+    c.bytes-taken.ensures) (copied-some c.bytes-taken.result ∙ c.is_none-self-inside.ensures)

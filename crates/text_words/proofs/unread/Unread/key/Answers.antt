@@ -10,4 +10,5 @@ returns-then-self c = next-lost key_front c.self.inside.is_lost c.self.inside.re
 pub returns : goal.returns
 returns c =
     next-read key_front c.self.inside.reader c.args.self.now (option_copied c.key-taken.result) c.key-taken.new.self c.is_none-self-inside.result
-    (found c.self.inside.is_lost c.self.inside.reader c.args.self.now c.self.view_is c.if-self.false) c.key-taken.ensures (copied-some c.key-taken.result ∙ c.is_none-self-inside.ensures)
+    (found c.self.inside.is_lost c.self.inside.reader c.args.self.now c.self.view_is c.if-self.false) c.key-taken.ensures
+    (copied-some c.key-taken.result ∙ c.is_none-self-inside.ensures)

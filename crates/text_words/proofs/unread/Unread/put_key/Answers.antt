@@ -12,9 +12,12 @@ returns-in-Some c =
     c.say_bytes.ensures
     ∙ ap (λ o. says (spaced (byte_word c.in-Some.key.now)) (putting o c.args.out.now)) (still c.self.inside.is_lost c.key.new.self c.if-self.false)
     ∙ puts-read key_front (λ x. spaced (byte_word x)) c.self.inside.reader c.args.out.now c.in-Some.key.now c.key.new.self read
-    ∙ ap (λ o. puts key_front (λ x. spaced (byte_word x)) (putting o c.args.out.now)) (sym (found c.self.inside.is_lost c.self.inside.reader c.args.self.now c.self.view_is c.if-self.false))
+    ∙ ap (λ o. puts key_front (λ x. spaced (byte_word x)) (putting o c.args.out.now))
+    (sym (found c.self.inside.is_lost c.self.inside.reader c.args.self.now c.self.view_is c.if-self.false))
 
 pub returns-in-None : goal.returns-in-None
 returns-in-None c =
-    puts-lost key_front (λ x. spaced (byte_word x)) c.self.inside.reader c.args.out.now (untaken key_front c.self.inside.reader c.key.new.self c.in-None.ensures)
-    ∙ ap (λ o. puts key_front (λ x. spaced (byte_word x)) (putting o c.args.out.now)) (sym (found c.self.inside.is_lost c.self.inside.reader c.args.self.now c.self.view_is c.if-self.false))
+    puts-lost key_front (λ x. spaced (byte_word x)) c.self.inside.reader c.args.out.now
+    (untaken key_front c.self.inside.reader c.key.new.self c.in-None.ensures)
+    ∙ ap (λ o. puts key_front (λ x. spaced (byte_word x)) (putting o c.args.out.now))
+    (sym (found c.self.inside.is_lost c.self.inside.reader c.args.self.now c.self.view_is c.if-self.false))

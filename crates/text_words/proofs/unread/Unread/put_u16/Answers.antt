@@ -9,12 +9,16 @@ use Rattle.text_words.proofs.unread.Unread.put_u16.Goals as goal
 pub returns-in-Some : goal.returns-in-Some
 returns-in-Some c =
     let read = taken u16_front c.self.inside.reader c.u16.new.self c.in-Some.number c.in-Some.ensures in
-    c.say_number.ensures ∙ ap (λ n. says (spaced (number_word n)) (putting (if c.self.inside.is_lost then Rattle.std.proofs.Common.None else Some c.u16.new.self) c.args.out.now)) c.from.ensures
+    c.say_number.ensures ∙ ap (λ n. says (spaced (number_word n))
+    (putting (if c.self.inside.is_lost then Rattle.std.proofs.Common.None else Some c.u16.new.self) c.args.out.now)) c.from.ensures
     ∙ ap (λ o. says (spaced (number_word c.in-Some.number)) (putting o c.args.out.now)) (still c.self.inside.is_lost c.u16.new.self c.if-self.false)
     ∙ puts-read u16_front (λ x. spaced (number_word x)) c.self.inside.reader c.args.out.now c.in-Some.number c.u16.new.self read
-    ∙ ap (λ o. puts u16_front (λ x. spaced (number_word x)) (putting o c.args.out.now)) (sym (found c.self.inside.is_lost c.self.inside.reader c.args.self.now c.self.view_is c.if-self.false))
+    ∙ ap (λ o. puts u16_front (λ x. spaced (number_word x)) (putting o c.args.out.now))
+    (sym (found c.self.inside.is_lost c.self.inside.reader c.args.self.now c.self.view_is c.if-self.false))
 
 pub returns-in-None : goal.returns-in-None
 returns-in-None c =
-    puts-lost u16_front (λ x. spaced (number_word x)) c.self.inside.reader c.args.out.now (untaken u16_front c.self.inside.reader c.u16.new.self c.in-None.ensures)
-    ∙ ap (λ o. puts u16_front (λ x. spaced (number_word x)) (putting o c.args.out.now)) (sym (found c.self.inside.is_lost c.self.inside.reader c.args.self.now c.self.view_is c.if-self.false))
+    puts-lost u16_front (λ x. spaced (number_word x)) c.self.inside.reader c.args.out.now
+    (untaken u16_front c.self.inside.reader c.u16.new.self c.in-None.ensures)
+    ∙ ap (λ o. puts u16_front (λ x. spaced (number_word x)) (putting o c.args.out.now))
+    (sym (found c.self.inside.is_lost c.self.inside.reader c.args.self.now c.self.view_is c.if-self.false))

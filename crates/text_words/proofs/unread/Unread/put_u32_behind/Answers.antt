@@ -13,9 +13,12 @@ returns-in-Some c =
     ∙ ap (λ o. says (c.args.lead.now ++ number_word c.from.result) (putting o c.args.out.now)) (still c.self.inside.is_lost c.u32.new.self c.if-self.false)
     ∙ ap (λ n. says (c.args.lead.now ++ number_word n) (putting (Some c.u32.new.self) c.args.out.now)) c.from.ensures
     ∙ puts-read u32_front (λ n. c.args.lead.now ++ number_word n) c.self.inside.reader c.args.out.now c.in-Some.number c.u32.new.self read
-    ∙ ap (λ o. puts u32_front (λ n. c.args.lead.now ++ number_word n) (putting o c.args.out.now)) (sym (found c.self.inside.is_lost c.self.inside.reader c.args.self.now c.self.view_is c.if-self.false))
+    ∙ ap (λ o. puts u32_front (λ n. c.args.lead.now ++ number_word n) (putting o c.args.out.now))
+    (sym (found c.self.inside.is_lost c.self.inside.reader c.args.self.now c.self.view_is c.if-self.false))
 
 pub returns-in-None : goal.returns-in-None
 returns-in-None c =
-    puts-lost u32_front (λ x. c.args.lead.now ++ number_word x) c.self.inside.reader c.args.out.now (untaken u32_front c.self.inside.reader c.u32.new.self c.in-None.ensures)
-    ∙ ap (λ o. puts u32_front (λ x. c.args.lead.now ++ number_word x) (putting o c.args.out.now)) (sym (found c.self.inside.is_lost c.self.inside.reader c.args.self.now c.self.view_is c.if-self.false))
+    puts-lost u32_front (λ x. c.args.lead.now ++ number_word x) c.self.inside.reader c.args.out.now
+    (untaken u32_front c.self.inside.reader c.u32.new.self c.in-None.ensures)
+    ∙ ap (λ o. puts u32_front (λ x. c.args.lead.now ++ number_word x) (putting o c.args.out.now))
+    (sym (found c.self.inside.is_lost c.self.inside.reader c.args.self.now c.self.view_is c.if-self.false))

@@ -12,9 +12,12 @@ returns-in-Some c =
     c.say_number.ensures
     ∙ ap (λ o. says (spaced (number_word c.in-Some.number)) (putting o c.args.out.now)) (still c.self.inside.is_lost c.u64.new.self c.if-self.false)
     ∙ puts-read u64_front (λ x. spaced (number_word x)) c.self.inside.reader c.args.out.now c.in-Some.number c.u64.new.self read
-    ∙ ap (λ o. puts u64_front (λ x. spaced (number_word x)) (putting o c.args.out.now)) (sym (found c.self.inside.is_lost c.self.inside.reader c.args.self.now c.self.view_is c.if-self.false))
+    ∙ ap (λ o. puts u64_front (λ x. spaced (number_word x)) (putting o c.args.out.now))
+    (sym (found c.self.inside.is_lost c.self.inside.reader c.args.self.now c.self.view_is c.if-self.false))
 
 pub returns-in-None : goal.returns-in-None
 returns-in-None c =
-    puts-lost u64_front (λ x. spaced (number_word x)) c.self.inside.reader c.args.out.now (untaken u64_front c.self.inside.reader c.u64.new.self c.in-None.ensures)
-    ∙ ap (λ o. puts u64_front (λ x. spaced (number_word x)) (putting o c.args.out.now)) (sym (found c.self.inside.is_lost c.self.inside.reader c.args.self.now c.self.view_is c.if-self.false))
+    puts-lost u64_front (λ x. spaced (number_word x)) c.self.inside.reader c.args.out.now
+    (untaken u64_front c.self.inside.reader c.u64.new.self c.in-None.ensures)
+    ∙ ap (λ o. puts u64_front (λ x. spaced (number_word x)) (putting o c.args.out.now))
+    (sym (found c.self.inside.is_lost c.self.inside.reader c.args.self.now c.self.view_is c.if-self.false))

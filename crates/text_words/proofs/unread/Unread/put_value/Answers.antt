@@ -12,9 +12,12 @@ returns-in-Some c =
     c.say_bytes.ensures
     ∙ ap (λ o. says (spaced (byte_word c.in-Some.value.now)) (putting o c.args.out.now)) (still c.self.inside.is_lost c.value.new.self c.if-self.false)
     ∙ puts-read value_front (λ x. spaced (byte_word x)) c.self.inside.reader c.args.out.now c.in-Some.value.now c.value.new.self read
-    ∙ ap (λ o. puts value_front (λ x. spaced (byte_word x)) (putting o c.args.out.now)) (sym (found c.self.inside.is_lost c.self.inside.reader c.args.self.now c.self.view_is c.if-self.false))
+    ∙ ap (λ o. puts value_front (λ x. spaced (byte_word x)) (putting o c.args.out.now))
+    (sym (found c.self.inside.is_lost c.self.inside.reader c.args.self.now c.self.view_is c.if-self.false))
 
 pub returns-in-None : goal.returns-in-None
 returns-in-None c =
-    puts-lost value_front (λ x. spaced (byte_word x)) c.self.inside.reader c.args.out.now (untaken value_front c.self.inside.reader c.value.new.self c.in-None.ensures)
-    ∙ ap (λ o. puts value_front (λ x. spaced (byte_word x)) (putting o c.args.out.now)) (sym (found c.self.inside.is_lost c.self.inside.reader c.args.self.now c.self.view_is c.if-self.false))
+    puts-lost value_front (λ x. spaced (byte_word x)) c.self.inside.reader c.args.out.now
+    (untaken value_front c.self.inside.reader c.value.new.self c.in-None.ensures)
+    ∙ ap (λ o. puts value_front (λ x. spaced (byte_word x)) (putting o c.args.out.now))
+    (sym (found c.self.inside.is_lost c.self.inside.reader c.args.self.now c.self.view_is c.if-self.false))

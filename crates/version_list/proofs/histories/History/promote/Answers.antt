@@ -13,10 +13,12 @@ overflow_sub-end g c =
     let arrival = g.A.Above.arrival_of c.args.dag.now in
     let vs = c.deref.result.now in
     let same : c.deref-else-has_version.result.now ≡ vs = c.deref-else-has_version.ensures.value ∙ sym c.deref.ensures.value in
-    let late = subst (λ (xs : List Version). list_any (λ (v : Version). nat_le (arrival v.slot) (arrival c.args.to)) (drop c.arrived_by-end.result xs) ≡ false) same c.arrived_by-end.ensures.late in
+    let late = subst (λ (xs : List Version). list_any (λ (v : Version). nat_le (arrival v.slot) (arrival c.args.to)) (drop c.arrived_by-end.result xs)
+    ≡ false) same c.arrived_by-end.ensures.late in
     let d = c.remove-else-has_version.result in
     let first : c.in-Some.place < c.arrived_by-end.result =
-    before-end (g.A.Above.is_kept c.args.dag.now) arrival c.args.from c.args.to vs c.in-Some.place c.arrived_by-end.result d late c.in-Some.ensures.there.0 (c.in-Some.ensures.there.1 d) c.requires.before in
+    before-end (g.A.Above.is_kept c.args.dag.now) arrival c.args.from c.args.to vs c.in-Some.place c.arrived_by-end.result d late c.in-Some.ensures.there.0
+    (c.in-Some.ensures.there.1 d) c.requires.before in
     omega (arith, first)
 
 pub returns-then-has_version-clause-promoted : goal.returns-then-has_version-clause-promoted
@@ -30,9 +32,11 @@ returns-then-has_version-clause-promoted g c =
     let all : c.deref.result.now ≡ now = c.deref.ensures.value ∙ same in
     let lt = subst (λ (xs : List Version). i < length xs) all c.in-Some.ensures.there.0 in
     let here = subst (λ (xs : List Version). (get_or xs i d).slot ≡ c.args.from) all (c.in-Some.ensures.there.1 d) in
-    let own : has_version_at c.args.to now ≡ true = sym (ap (has_version_at c.args.to) (c.deref-in-Some.ensures.value ∙ same)) ∙ sym c.has_version.ensures ∙ c.if-has_version.true in
+    let own : has_version_at c.args.to now ≡ true = sym (ap (has_version_at c.args.to) (c.deref-in-Some.ensures.value ∙ same)) ∙ sym c.has_version.ensures
+    ∙ c.if-has_version.true in
     let after : c.remove.new.self.items ≡ promoted arrival c.args.from c.args.to now =
-    c.remove.ensures.items ∙ ap (λ (xs : List Version). remove xs i) same ∙ sym (promoted-gone kept arrival c.args.from c.args.to now i i d c.requires.order lt here c.requires.before own) in
+    c.remove.ensures.items ∙ ap (λ (xs : List Version). remove xs i) same
+    ∙ sym (promoted-gone kept arrival c.args.from c.args.to now i i d c.requires.order lt here c.requires.before own) in
     elim c.match-remove.branch [
       | in-Put-1 w ↦ ap (λ (l : Listed). l.versions) w.self-is ∙ after
       | in-Delete-1 w ↦ ap (λ (l : Listed). l.versions) w.self-is ∙ after
@@ -52,7 +56,8 @@ returns-in-Ok-clause-promoted g c =
     let again : c.deref-else-has_version.result.now ≡ now = c.deref-else-has_version.ensures.value ∙ same in
     let lt = subst (λ (xs : List Version). i < length xs) all c.in-Some.ensures.there.0 in
     let here = subst (λ (xs : List Version). (get_or xs i d).slot ≡ c.args.from) all (c.in-Some.ensures.there.1 d) in
-    let none : has_version_at c.args.to now ≡ false = sym (ap (has_version_at c.args.to) (c.deref-in-Some.ensures.value ∙ same)) ∙ sym c.has_version.ensures ∙ c.if-has_version.false in
+    let none : has_version_at c.args.to now ≡ false = sym (ap (has_version_at c.args.to) (c.deref-in-Some.ensures.value ∙ same))
+    ∙ sym c.has_version.ensures ∙ c.if-has_version.false in
     let p = λ (v : Version). nat_le (arrival v.slot) (arrival c.args.to) in
     let late = subst (λ (xs : List Version). list_any p (drop end xs) ≡ false) again c.arrived_by-end.ensures.late in
     let early = subst (λ (xs : List Version). list_all p (take end xs) ≡ true) again c.arrived_by-end.ensures.early in
@@ -64,11 +69,13 @@ returns-in-Ok-clause-promoted g c =
     c.in-Ok.ensures.items
     ∙ ap (λ (xs : List Version). insert xs e (at_state c.args.to d)) (c.remove-else-has_version.ensures.items ∙ ap (λ (xs : List Version). remove xs i) same)
     ∙ sym (ap (λ v. insert (remove now i) e v) moved)
-    ∙ sym (promoted-moved kept arrival c.args.from c.args.to now i e d c.requires.order lt here c.requires.before (omega (arith, first, next)) (omega (arith, first, next, bound))
+    ∙ sym (promoted-moved kept arrival c.args.from c.args.to now i e d c.requires.order lt here c.requires.before (omega (arith, first, next))
+    (omega (arith, first, next, bound))
     (subst (λ n. list_all p (take n now) ≡ true) next early) (subst (λ n. list_any p (drop n now) ≡ false) next late) none)
 
 pub returns-in_default-clause-promoted : goal.returns-in_default-clause-promoted
 returns-in_default-clause-promoted g c =
     let same = ap (λ (l : Listed). l.versions) c.self.view_is in
-    let none : has_version_at c.args.from c.args.self.now.versions ≡ false = sym (ap (has_version_at c.args.from) (c.deref.ensures.value ∙ same)) ∙ c.in_default.ensures.none refl in
+    let none : has_version_at c.args.from c.args.self.now.versions ≡ false = sym (ap (has_version_at c.args.from) (c.deref.ensures.value ∙ same))
+    ∙ c.in_default.ensures.none refl in
     sym (promoted-none (g.A.Above.arrival_of c.args.dag.now) c.args.from c.args.to c.args.self.now.versions none)

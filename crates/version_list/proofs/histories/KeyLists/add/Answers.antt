@@ -20,7 +20,8 @@ loop-key-preserved g c =
       added = λ k.
           added-step old new w c.add_version.ensures.others c.args.slot c.args.writer ws k
           (versions_in c.args.self.now k ++ version_by c.args.slot c.args.writer (write_of k c.args.writes)) other c.add_version.ensures.added
-          (subst (λ vs. versions_in old k ++ version_by c.args.slot c.args.writer (write_of k vs) ≡ versions_in c.args.self.now k ++ version_by c.args.slot c.args.writer (write_of k c.args.writes)) popped (c.loop-key.invariant.added k));
+          (subst (λ vs. versions_in old k ++ version_by c.args.slot c.args.writer (write_of k vs) ≡ versions_in c.args.self.now k
+          ++ version_by c.args.slot c.args.writer (write_of k c.args.writes)) popped (c.loop-key.invariant.added k));
       room = room-step old new w c.add_version.ensures.others ws other room;
       ascending = ascending-front ws w up;
       keys = c.add_version.ensures.keys ∙ c.loop-key.invariant.keys;
@@ -35,7 +36,10 @@ loop-key-preserved g c =
 pub returns-clause-order : goal.returns-clause-order
 returns-clause-order g c = λ k.
     let left : c.loop-key.rest.items ≡ [] = nothing_left c.loop-key.rest.items (sym c.loop-key.rest.ok.0 ∙ c.in_default.ensures.cases.0) in
-    let all = sym (append-nil (versions_in c.loop-key.self k)) ∙ subst (λ vs. versions_in c.loop-key.self k ++ version_by c.args.slot c.args.writer (write_of k vs) ≡ versions_in c.args.self.now k ++ version_by c.args.slot c.args.writer (write_of k c.args.writes)) left (c.loop-key.invariant.added k) in
+    let all = sym (append-nil (versions_in c.loop-key.self k))
+    ∙ subst (λ vs. versions_in c.loop-key.self k ++ version_by c.args.slot c.args.writer (write_of k vs) ≡ versions_in c.args.self.now k
+    ++ version_by c.args.slot c.args.writer (write_of k c.args.writes)) left (c.loop-key.invariant.added k) in
     subst (λ vs. are_in_order (g.A.Above.is_kept c.args.dag.now) (g.A.Above.arrival_of c.args.dag.now) vs ≡ true) (sym all)
-    (in_order-version_by (g.A.Above.is_kept c.args.dag.now) (g.A.Above.arrival_of c.args.dag.now) (versions_in c.args.self.now k) c.args.slot c.args.writer (write_of k c.args.writes)
+    (in_order-version_by (g.A.Above.is_kept c.args.dag.now) (g.A.Above.arrival_of c.args.dag.now) (versions_in c.args.self.now k) c.args.slot c.args.writer
+    (write_of k c.args.writes)
     (c.requires.order k) (c.requires.newest k) c.requires.kept)

@@ -6,7 +6,8 @@ use Rattle.version_list.proofs.histories.KeyLists.add.Given as goal
 
 abbrev pub invariant-loop-key : goal.invariant-loop-key
 invariant-loop-key g l = record {
-  added : (k : List ℕ) → versions_in l.self k ++ version_by l.slot l.writer (write_of k l.rest.items) ≡ versions_in l.fn.self k ++ version_by l.slot l.writer (write_of k l.fn.writes);
+  added : (k : List ℕ) → versions_in l.self k ++ version_by l.slot l.writer (write_of k l.rest.items) ≡ versions_in l.fn.self k
+      ++ version_by l.slot l.writer (write_of k l.fn.writes);
   room : IsTrue (have_room_in l.self l.rest.items);
   ascending : IsTrue (are_ascending_keys (keys_of l.rest.items));
   keys : keys_in l.self ≡ keys_in l.fn.self;

@@ -16,8 +16,10 @@ returns-clause-order g c = λ k.
     let new = c.hand_on.new.self in
     elim (cases_Bool (bytes_eq key k)) [
       | inl t ↦
-          let own = in_order-promoted kept arrival (λ a b. g.met.A.Above.arrivals_differ c.args.dag.now a b) c.args.from c.args.to (versions_in old key) c.requires.to (c.requires.order key) in
+          let own = in_order-promoted kept arrival (λ a b. g.met.A.Above.arrivals_differ c.args.dag.now a b) c.args.from c.args.to
+          (versions_in old key) c.requires.to (c.requires.order key) in
           let here = subst (λ (vs : List Version). IsTrue (are_in_order kept arrival vs)) (sym c.hand_on.ensures.promoted) own in
           subst (λ (j : List ℕ). IsTrue (are_in_order kept arrival (versions_in new j))) ((bytes_eq-Decides key k).0 t) here
-      | inr f ↦ subst (λ o. IsTrue (are_in_order kept arrival (option_map_or (λ (l : Listed). l.versions) o []))) (sym (c.hand_on.ensures.others k f)) (c.requires.order k)
+      | inr f ↦ subst (λ o. IsTrue (are_in_order kept arrival (option_map_or (λ (l : Listed). l.versions) o []))) (sym (c.hand_on.ensures.others k f))
+          (c.requires.order k)
     ]

@@ -16,18 +16,22 @@ loop-preserved g c =
     let first = c.take_first-first.result in
     let rest = c.take_first-first.new.chunks in
     let moved = c.loop.moved in
-    let split = λ (k : List ℕ). in-first k c.loop.rest ∙ ap₂ (λ (xs ys : Chunks). is_key_in k xs || is_key_in k ys) (sym c.take_first-first.ensures.first) (sym c.take_first-first.ensures.rest) in
+    let split = λ (k : List ℕ). in-first k c.loop.rest ∙ ap₂ (λ (xs ys : Chunks). is_key_in k xs || is_key_in k ys) (sym c.take_first-first.ensures.first)
+    (sym c.take_first-first.ensures.rest) in
     let some : 0 < length c.loop.rest = omega (arith, c.loop.invariant.left, c.loop-test.true, c.len-end.ensures.value) in
     let fewer : length rest + 1 ≡ length c.loop.rest = ap (λ (xs : Chunks). length xs + 1) c.take_first-first.ensures.rest ∙ one-fewer c.loop.rest some in
     let one = c.promote_first.ensures.one in
     record {
       promoted = λ k.
-          promoted-step arrival from to c.requires.before (is_key_in k first) (is_key_in k rest) (versions_in old k) (versions_in new k) (c.promote_first.ensures.promoted k)
+          promoted-step arrival from to c.requires.before (is_key_in k first) (is_key_in k rest) (versions_in old k) (versions_in new k)
+          (c.promote_first.ensures.promoted k)
           ∙ ap (λ b. promoted_if b arrival from to (versions_in old k)) (sym (split k))
           ∙ c.loop.invariant.promoted k;
       kept = λ k.
-          ap (λ b. b || (is_key_in k rest && moves from to (versions_in new k))) (c.keep.ensures.keys k ∙ ap (λ b. is_key_in k moved || b) (c.promote_first.ensures.kept k))
-          ∙ kept-step arrival from to c.requires.before (is_key_in k moved) (is_key_in k first) (is_key_in k rest) (versions_in old k) (versions_in new k) (c.promote_first.ensures.promoted k)
+          ap (λ b. b || (is_key_in k rest && moves from to (versions_in new k)))
+          (c.keep.ensures.keys k ∙ ap (λ b. is_key_in k moved || b) (c.promote_first.ensures.kept k))
+          ∙ kept-step arrival from to c.requires.before (is_key_in k moved) (is_key_in k first) (is_key_in k rest) (versions_in old k) (versions_in new k)
+          (c.promote_first.ensures.promoted k)
           ∙ ap (λ b. is_key_in k moved || (b && moves from to (versions_in old k))) (sym (split k))
           ∙ c.loop.invariant.kept k;
       left = omega (arith, fewer, c.loop.invariant.left);

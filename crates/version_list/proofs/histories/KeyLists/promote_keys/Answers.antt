@@ -18,8 +18,10 @@ loop-place-preserved-then-moves g c =
     let one : c.index.result.now ≡ x = let a = at-place xs i x lt here in let b = at-place xs i c.index.result.now lt (sym c.index.ensures) in cc in
     let moved = subst (λ y. moves c.args.from c.args.to (versions_in old y) ≡ true) one (sym c.moves-moves.ensures ∙ c.if-moves.true) in
     record {
-      promoted = λ k. step-next arrival c.args.from c.args.to c.requires.before old new x c.promote.ensures.promoted c.promote.ensures.others xs i lt here k ∙ c.loop-place.invariant.promoted k;
-      kept = λ k. step-moved arrival c.args.from c.args.to c.requires.before old new x c.promote.ensures.promoted c.promote.ensures.others xs i lt here moved k ∙ c.loop-place.invariant.kept k;
+      promoted = λ k. step-next arrival c.args.from c.args.to c.requires.before old new x c.promote.ensures.promoted c.promote.ensures.others xs i lt here
+          k ∙ c.loop-place.invariant.promoted k;
+      kept = λ k. step-moved arrival c.args.from c.args.to c.requires.before old new x c.promote.ensures.promoted c.promote.ensures.others xs i lt here
+          moved k ∙ c.loop-place.invariant.kept k;
       within = omega (arith, lt);
       keys = c.promote.ensures.keys ∙ c.loop-place.invariant.keys;
       order = c.promote.ensures.order;

@@ -29,7 +29,10 @@ returns-clause-noted c = λ q.
 pub invariant_of-self : goal.invariant_of-self
 invariant_of-self c =
     let count = count-set c.args.slot c.append.new.self c.self.inside.chunks.entries c.in-Some.own.now (sym c.in-Some.ensures.value) in
-    let now : chunks_in (c.get_mut.follows.lender c.append.new.self).entries + length c.in-Some.own.now ≡ chunks_in c.self.inside.chunks.entries + length c.append.new.self = ap (λ es. chunks_in es + length c.in-Some.own.now) (c.get_mut.follows.holds c.append.new.self).0 ∙ count in
-    let long : length c.append.new.self ≡ length c.in-Some.own.now + length c.args.chunks = ap (λ (cs : Chunks). length cs) c.in-Ok.ensures.items ∙ length-append c.in-Some.own.now c.args.chunks in
+    let now : chunks_in (c.get_mut.follows.lender c.append.new.self).entries + length c.in-Some.own.now
+    ≡ chunks_in c.self.inside.chunks.entries + length c.append.new.self =
+    ap (λ es. chunks_in es + length c.in-Some.own.now) (c.get_mut.follows.holds c.append.new.self).0 ∙ count in
+    let long : length c.append.new.self ≡ length c.in-Some.own.now + length c.args.chunks = ap (λ (cs : Chunks). length cs) c.in-Ok.ensures.items
+    ∙ length-append c.in-Some.own.now c.args.chunks in
     let view = subst (λ (n : Noted). chunks_in n.by_slot + length c.args.chunks + n.chunks ≤ n.made) (sym c.self.view_is) c.requires.count in
     (c.self.invariant.0, c.self.invariant.1, omega (arith, now, long, view), c.self.invariant.3)

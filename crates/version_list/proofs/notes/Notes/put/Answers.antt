@@ -12,5 +12,6 @@ invariant_of-self c =
     let some = c.requires.chunk in
     let sum = c.self.invariant.2 in
     let count : chunks_in c.insert.new.self.entries ≤ chunks_in c.self.inside.chunks.entries + length c.set_first.new.chunks =
-    subst (λ (es : List (Slot × Chunks)). chunks_in es ≤ chunks_in c.self.inside.chunks.entries + length c.set_first.new.chunks) (sym c.in-Ok.ensures.entries) (count-inserted same_slot c.self.inside.chunks.entries c.args.slot c.set_first.new.chunks) in
+    subst (λ (es : List (Slot × Chunks)). chunks_in es ≤ chunks_in c.self.inside.chunks.entries + length c.set_first.new.chunks)
+    (sym c.in-Ok.ensures.entries) (count-inserted same_slot c.self.inside.chunks.entries c.args.slot c.set_first.new.chunks) in
     (c.self.invariant.0, omega (arith, empty), omega (arith, empty, one, was, some, sum, count), c.self.invariant.3)

@@ -15,11 +15,18 @@ invariant_of-self c = elim c.match-get_mut.branch [
   | in-Some w ↦
       let writes = c.get_mut.follows.holds w.replace.new.dest in
       let count = count-set c.args.slot w.replace.new.dest c.self.inside.chunks.entries w.in-Some.chunks.now (sym w.in-Some.ensures.value) in
-      let now : chunks_in (c.get_mut.follows.lender w.replace.new.dest).entries + length w.in-Some.chunks.now ≡ chunks_in c.self.inside.chunks.entries + length w.replace.new.dest = ap (λ es. chunks_in es + length w.in-Some.chunks.now) writes.0 ∙ count in
+      let now : chunks_in (c.get_mut.follows.lender w.replace.new.dest).entries + length w.in-Some.chunks.now
+      ≡ chunks_in c.self.inside.chunks.entries + length w.replace.new.dest = ap (λ es. chunks_in es + length w.in-Some.chunks.now) writes.0 ∙ count in
       let empty : length w.replace.new.dest ≡ 0 = ap (λ (cs : Chunks). length cs) (w.replace.ensures.after ∙ w.new.ensures) in
       let sum = c.self.invariant.2 in
       subst Held (sym w.self-inside-is) (c.self.invariant.0, c.self.invariant.1, omega (arith, now, empty, sum), c.self.invariant.3)
-  | in-None w ↦ subst Held (sym w.self-inside-is) (c.self.invariant.0, c.self.invariant.1, subst (λ (es : List (Slot × Chunks)). chunks_in es + length c.self.inside.next ≤ c.self.inside.made) (sym (ap (λ m. m.entries) c.get_mut.follows.holds-at-none)) c.self.invariant.2, c.self.invariant.3)
+  | in-None w ↦ subst Held (sym w.self-inside-is) (
+    c.self.invariant.0,
+    c.self.invariant.1,
+    subst (λ (es : List (Slot × Chunks)). chunks_in es + length c.self.inside.next ≤ c.self.inside.made)
+        (sym (ap (λ m. m.entries) c.get_mut.follows.holds-at-none)) c.self.invariant.2,
+    c.self.invariant.3,
+  )
 ]
 
 pub returns-clause-others : goal.returns-clause-others
@@ -43,7 +50,8 @@ returns-clause-noted c = λ q.
           ∙ ap (is_noted_in q) (c.get_mut.follows.holds w.replace.new.dest).0
           ∙ noted-set c.args.slot w.replace.new.dest q c.self.inside.chunks.entries
           ∙ was
-      | in-None w ↦ ap (λ (s : Inside). is_noted_in q s.chunks.entries) w.self-inside-is ∙ ap (λ m. is_noted_in q m.entries) c.get_mut.follows.holds-at-none ∙ was
+      | in-None w ↦ ap (λ (s : Inside). is_noted_in q s.chunks.entries) w.self-inside-is
+          ∙ ap (λ m. is_noted_in q m.entries) c.get_mut.follows.holds-at-none ∙ was
     ]
 
 -- no more chunks are there, with these, than were made
@@ -55,14 +63,20 @@ returns-clause-count c = elim c.match-get_mut.branch [
   | in-Some w ↦
       let writes = c.get_mut.follows.holds w.replace.new.dest in
       let count = count-set c.args.slot w.replace.new.dest c.self.inside.chunks.entries w.in-Some.chunks.now (sym w.in-Some.ensures.value) in
-      let now : chunks_in (c.get_mut.follows.lender w.replace.new.dest).entries + length w.in-Some.chunks.now ≡ chunks_in c.self.inside.chunks.entries + length w.replace.new.dest = ap (λ es. chunks_in es + length w.in-Some.chunks.now) writes.0 ∙ count in
+      let now : chunks_in (c.get_mut.follows.lender w.replace.new.dest).entries + length w.in-Some.chunks.now
+      ≡ chunks_in c.self.inside.chunks.entries + length w.replace.new.dest = ap (λ es. chunks_in es + length w.in-Some.chunks.now) writes.0 ∙ count in
       let empty : length w.replace.new.dest ≡ 0 = ap (λ (cs : Chunks). length cs) (w.replace.ensures.after ∙ w.new.ensures) in
       let out : length w.replace.result ≡ length w.in-Some.chunks.now = ap (λ (cs : Chunks). length cs) w.replace.ensures.value in
       let sum = c.self.invariant.2 in
-      subst (λ s. Within s c.match-get_mut.result) (sym w.self-inside-is) (subst (λ cs. chunks_in (c.get_mut.follows.lender w.replace.new.dest).entries + length cs + length c.self.inside.next ≤ c.self.inside.made) (sym w.result-is) (omega (arith, now, empty, out, sum)))
+      subst (λ s. Within s c.match-get_mut.result) (sym w.self-inside-is)
+      (subst (λ cs. chunks_in (c.get_mut.follows.lender w.replace.new.dest).entries + length cs + length c.self.inside.next ≤ c.self.inside.made)
+      (sym w.result-is) (omega (arith, now, empty, out, sum)))
   | in-None w ↦
-      let same : chunks_in c.get_mut.follows.lender-at-none.entries ≡ chunks_in c.self.inside.chunks.entries = ap (λ m. chunks_in m.entries) c.get_mut.follows.holds-at-none in
+      let same : chunks_in c.get_mut.follows.lender-at-none.entries ≡ chunks_in c.self.inside.chunks.entries =
+      ap (λ m. chunks_in m.entries) c.get_mut.follows.holds-at-none in
       let none : length w.new-in-None.result ≡ 0 = ap (λ (cs : Chunks). length cs) w.new-in-None.ensures in
       let sum = c.self.invariant.2 in
-      subst (λ s. Within s c.match-get_mut.result) (sym w.self-inside-is) (subst (λ cs. chunks_in c.get_mut.follows.lender-at-none.entries + length cs + length c.self.inside.next ≤ c.self.inside.made) (sym w.result-is) (omega (arith, same, none, sum)))
+      subst (λ s. Within s c.match-get_mut.result) (sym w.self-inside-is)
+      (subst (λ cs. chunks_in c.get_mut.follows.lender-at-none.entries + length cs + length c.self.inside.next ≤ c.self.inside.made) (sym w.result-is)
+      (omega (arith, same, none, sum)))
 ]

@@ -8,7 +8,8 @@ pub invariant_of-self : goal.invariant_of-self
 invariant_of-self g c =
     let arrival = g.A.Above.arrival_of c.args.dag.now in (
       ap (λ v. v.items) c.replace-keys.ensures.after ∙ c.new.ensures.items,
-      noted-added arrival c.self.inside.lists c.add.new.self c.self.inside.notes.by_slot c.put.new.self.by_slot c.args.slot c.args.writer c.args.writes c.from_vec.result
+      noted-added arrival c.self.inside.lists c.add.new.self c.self.inside.notes.by_slot c.put.new.self.by_slot c.args.slot c.args.writer c.args.writes
+          c.from_vec.result
           c.self.invariant.1
           c.add.ensures.added
           (λ k.

@@ -7,4 +7,5 @@ use Rattle.version_list.proofs.version_lists.VersionList.make_room.Goals as goal
 pub returns-clause-unused : goal.returns-clause-unused
 returns-clause-unused c =
     let lists = c.make_room-2.new.self in
-    subst (λ (vs : Versions). OnOk c.make_room-2.result ((k : List ℕ) → IsTrue (is_key_among k (drop (length (listed_keys vs)) (keys_in lists))) → versions_in lists k ≡ [])) c.self.view_is c.make_room-2.ensures.unused
+    subst (λ (vs : Versions). OnOk c.make_room-2.result ((k : List ℕ) → IsTrue (is_key_among k (drop (length (listed_keys vs)) (keys_in lists))) →
+    versions_in lists k ≡ [])) c.self.view_is c.make_room-2.ensures.unused

@@ -15,4 +15,5 @@ returns g c =
     let e = c.in_ok-taken.ensures.cases in
     takes (bytes_front g.row.N) c.args.self.now _ c.in_ok-taken.taken.now
     (bytes-split g.row.N c.args.self.now c.checked_bytes.result.now c.in_ok-taken.taken.now c.in_ok-taken.left.now
-    (c.checked_bytes.ensures.same ∙ c.self.view_is) (omega (arith, e.2)) (subst (λ xs. IsTrue (are_bytes xs)) (sym c.checked_bytes.ensures.same) c.checked_bytes.ensures.bytes) e.0 e.1)
+    (c.checked_bytes.ensures.same ∙ c.self.view_is) (omega (arith, e.2))
+    (subst (λ xs. IsTrue (are_bytes xs)) (sym c.checked_bytes.ensures.same) c.checked_bytes.ensures.bytes) e.0 e.1)

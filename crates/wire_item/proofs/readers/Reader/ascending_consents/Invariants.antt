@@ -6,4 +6,5 @@ use Rattle.wire_item.proofs.Progress.{Progress}
 use Rattle.wire_item.proofs.readers.Reader.ascending_consents.Given as goal
 
 abbrev pub invariant-loop-place : goal.invariant-loop-place
-invariant-loop-place l = Progress (λ (c : Consent). c.site) (λ (cs : List Consent). are_ascending_numbers (map (λ c. c.site) cs)) consent_front l.initial.self l._place l.self l.last l.consents
+invariant-loop-place l = Progress (λ (c : Consent). c.site) (λ (cs : List Consent). are_ascending_numbers (map (λ c. c.site) cs)) consent_front
+    l.initial.self l._place l.self l.last l.consents

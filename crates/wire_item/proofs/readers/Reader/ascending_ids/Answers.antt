@@ -14,21 +14,27 @@ loop-place-init c = progress-start (λ (x : StateId). x) is_before are_ascending
 pub returns-in_err-id : goal.returns-in_err-id
 returns-in_err-id c =
     makes-none (only_if are_ascending (times id_front c.args.count)) c.args.self.now c.id.new.self c.from_residual.result c.from_residual.ensures
-    (progress-none (λ (x : StateId). x) are_ascending id_front c.args.self.now c.loop-place._place c.args.count c.loop-place.self c.loop-place.last c.loop-place.ids
+    (progress-none (λ (x : StateId). x) are_ascending id_front c.args.self.now c.loop-place._place c.args.count c.loop-place.self c.loop-place.last
+    c.loop-place.ids
     c.loop-place.invariant (untaken id_front c.loop-place.self c.id.new.self c.in_err-id.ensures) (omega arith))
 
 pub returns-then-not-follows : goal.returns-then-not-follows
 returns-then-not-follows c =
     makes-none (only_if are_ascending (times id_front c.args.count)) c.args.self.now c.id.new.self _ refl
-    (progress-breaks (λ (x : StateId). x) is_before are_ascending ids-order id_front c.args.self.now c.loop-place._place c.args.count c.loop-place.self c.loop-place.last c.loop-place.ids
-    c.in_ok-id.id c.id.new.self c.loop-place.invariant (taken id_front c.loop-place.self c.id.new.self c.in_ok-id.id c.in_ok-id.ensures) (sym c.if-not-follows.ensures) (omega arith))
+    (progress-breaks (λ (x : StateId). x) is_before are_ascending ids-order id_front c.args.self.now c.loop-place._place c.args.count c.loop-place.self
+    c.loop-place.last c.loop-place.ids
+    c.in_ok-id.id c.id.new.self c.loop-place.invariant (taken id_front c.loop-place.self c.id.new.self c.in_ok-id.id c.in_ok-id.ensures)
+    (sym c.if-not-follows.ensures) (omega arith))
 
 pub loop-place-preserved : goal.loop-place-preserved
 loop-place-preserved c =
-    progress-more (λ (x : StateId). x) is_before are_ascending ids-order id_front c.args.self.now c.loop-place._place c.loop-place.self c.loop-place.last c.loop-place.ids c.pushed-ids.result
-    c.in_ok-id.id c.id.new.self c.loop-place.invariant (taken id_front c.loop-place.self c.id.new.self c.in_ok-id.id c.in_ok-id.ensures) (sym c.if-not-follows.ensures)
+    progress-more (λ (x : StateId). x) is_before are_ascending ids-order id_front c.args.self.now c.loop-place._place c.loop-place.self c.loop-place.last
+    c.loop-place.ids c.pushed-ids.result
+    c.in_ok-id.id c.id.new.self c.loop-place.invariant (taken id_front c.loop-place.self c.id.new.self c.in_ok-id.id c.in_ok-id.ensures)
+    (sym c.if-not-follows.ensures)
     (λ _. c.pushed-ids.ensures c.loop-place.invariant.xs c.in_ok-id.id c.loop-place.invariant.made refl)
 
 pub returns : goal.returns
 returns c =
-    progress-whole (λ (x : StateId). x) are_ascending id_front c.args.self.now c.loop-place._place c.args.count c.loop-place.self c.loop-place.last c.loop-place.ids c.loop-place.invariant (omega arith)
+    progress-whole (λ (x : StateId). x) are_ascending id_front c.args.self.now c.loop-place._place c.args.count c.loop-place.self c.loop-place.last
+    c.loop-place.ids c.loop-place.invariant (omega arith)

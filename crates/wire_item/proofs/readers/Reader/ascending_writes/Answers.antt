@@ -10,21 +10,26 @@ use Rattle.wire_item.proofs.Orders.{writes-order}
 use Rattle.wire_item.proofs.readers.Reader.ascending_writes.Goals as goal
 
 pub loop-place-init : goal.loop-place-init
-loop-place-init c = progress-start (λ (w : KeyWrite). w.0) is_key_before (λ (ws : List KeyWrite). are_ascending_keys (keys_of ws)) writes-order (both key_front write_front) c.args.self.now c.new.result c.new.ensures
+loop-place-init c = progress-start (λ (w : KeyWrite). w.0) is_key_before (λ (ws : List KeyWrite). are_ascending_keys (keys_of ws)) writes-order
+    (both key_front write_front) c.args.self.now c.new.result c.new.ensures
 
 pub returns-in_err-key : goal.returns-in_err-key
 returns-in_err-key c =
     let none = untaken key_front c.loop-place.self c.key.new.self c.in_err-key.ensures in
-    makes-none (only_if (λ (ws : List KeyWrite). are_ascending_keys (keys_of ws)) (times (both key_front write_front) c.args.count)) c.args.self.now c.key.new.self c.from_residual.result c.from_residual.ensures
-    (progress-none (λ (w : KeyWrite). w.0) (λ (ws : List KeyWrite). are_ascending_keys (keys_of ws)) (both key_front write_front) c.args.self.now c.loop-place._place c.args.count c.loop-place.self (option_copied c.loop-place.last) c.loop-place.writes
+    makes-none (only_if (λ (ws : List KeyWrite). are_ascending_keys (keys_of ws)) (times (both key_front write_front) c.args.count)) c.args.self.now
+    c.key.new.self c.from_residual.result c.from_residual.ensures
+    (progress-none (λ (w : KeyWrite). w.0) (λ (ws : List KeyWrite). are_ascending_keys (keys_of ws)) (both key_front write_front) c.args.self.now
+    c.loop-place._place c.args.count c.loop-place.self (option_copied c.loop-place.last) c.loop-place.writes
     c.loop-place.invariant (after-none key_front (λ _. write_front) c.loop-place.self none) (omega arith))
 
 pub returns-in_err-write : goal.returns-in_err-write
 returns-in_err-write c =
     let key = taken key_front c.loop-place.self c.key.new.self c.in_ok-key.key.now c.in_ok-key.ensures in
     let none = unmade write_front c.key.new.self c.write.new.self c.in_err-write.ensures in
-    makes-none (only_if (λ (ws : List KeyWrite). are_ascending_keys (keys_of ws)) (times (both key_front write_front) c.args.count)) c.args.self.now c.write.new.self c.from_residual-in_err-write.result c.from_residual-in_err-write.ensures
-    (progress-none (λ (w : KeyWrite). w.0) (λ (ws : List KeyWrite). are_ascending_keys (keys_of ws)) (both key_front write_front) c.args.self.now c.loop-place._place c.args.count c.loop-place.self (option_copied c.loop-place.last) c.loop-place.writes
+    makes-none (only_if (λ (ws : List KeyWrite). are_ascending_keys (keys_of ws)) (times (both key_front write_front) c.args.count)) c.args.self.now
+    c.write.new.self c.from_residual-in_err-write.result c.from_residual-in_err-write.ensures
+    (progress-none (λ (w : KeyWrite). w.0) (λ (ws : List KeyWrite). are_ascending_keys (keys_of ws)) (both key_front write_front) c.args.self.now
+    c.loop-place._place c.args.count c.loop-place.self (option_copied c.loop-place.last) c.loop-place.writes
     c.loop-place.invariant (after-then_none key_front (λ _. write_front) c.loop-place.self c.in_ok-key.key.now c.key.new.self key none) (omega arith))
 
 pub returns-then-not-key_follows : goal.returns-then-not-key_follows
@@ -32,8 +37,10 @@ returns-then-not-key_follows c =
     let key = taken key_front c.loop-place.self c.key.new.self c.in_ok-key.key.now c.in_ok-key.ensures in
     let write = making write_front c.key.new.self c.write.new.self c.in_ok-write.write c.in_ok-write.ensures in
     let read = after-then key_front (λ _. write_front) c.loop-place.self c.in_ok-key.key.now c.key.new.self write.0 c.write.new.self key write.1 in
-    makes-none (only_if (λ (ws : List KeyWrite). are_ascending_keys (keys_of ws)) (times (both key_front write_front) c.args.count)) c.args.self.now c.write.new.self None refl
-    (progress-breaks (λ (w : KeyWrite). w.0) is_key_before (λ (ws : List KeyWrite). are_ascending_keys (keys_of ws)) writes-order (both key_front write_front) c.args.self.now c.loop-place._place c.args.count c.loop-place.self (option_copied c.loop-place.last) c.loop-place.writes
+    makes-none (only_if (λ (ws : List KeyWrite). are_ascending_keys (keys_of ws)) (times (both key_front write_front) c.args.count)) c.args.self.now
+    c.write.new.self None refl
+    (progress-breaks (λ (w : KeyWrite). w.0) is_key_before (λ (ws : List KeyWrite). are_ascending_keys (keys_of ws)) writes-order
+    (both key_front write_front) c.args.self.now c.loop-place._place c.args.count c.loop-place.self (option_copied c.loop-place.last) c.loop-place.writes
     (c.in_ok-key.key.now, write.0) c.write.new.self c.loop-place.invariant read (sym c.if-not-key_follows.ensures) (omega arith))
 
 pub loop-place-preserved : goal.loop-place-preserved
@@ -43,10 +50,13 @@ loop-place-preserved c =
     let read = after-then key_front (λ _. write_front) c.loop-place.self c.in_ok-key.key.now c.key.new.self write.0 c.write.new.self key write.1 in
     let ws : List KeyWrite = c.loop-place.invariant.xs in
     let longer = c.inserted-writes.ensures ws write.0 c.loop-place.invariant.made write.2 in
-    progress-more (λ (w : KeyWrite). w.0) is_key_before (λ (ws : List KeyWrite). are_ascending_keys (keys_of ws)) writes-order (both key_front write_front) c.args.self.now c.loop-place._place c.loop-place.self (option_copied c.loop-place.last) c.loop-place.writes c.inserted-writes.result
+    progress-more (λ (w : KeyWrite). w.0) is_key_before (λ (ws : List KeyWrite). are_ascending_keys (keys_of ws)) writes-order (both key_front write_front)
+    c.args.self.now c.loop-place._place c.loop-place.self (option_copied c.loop-place.last) c.loop-place.writes c.inserted-writes.result
     (c.in_ok-key.key.now, write.0) c.write.new.self c.loop-place.invariant read (sym c.if-not-key_follows.ensures)
-    (λ ordered. if_ok-same c.inserted-writes.result (with_write c.in_ok-key.key.now write.0 ws) (ws ++ (c.in_ok-key.key.now, write.0) ∷ []) longer (with_write-last ws c.in_ok-key.key.now write.0 ordered))
+    (λ ordered. if_ok-same c.inserted-writes.result (with_write c.in_ok-key.key.now write.0 ws) (ws ++ (c.in_ok-key.key.now, write.0) ∷ []) longer
+    (with_write-last ws c.in_ok-key.key.now write.0 ordered))
 
 pub returns : goal.returns
 returns c =
-    progress-whole (λ (w : KeyWrite). w.0) (λ (ws : List KeyWrite). are_ascending_keys (keys_of ws)) (both key_front write_front) c.args.self.now c.loop-place._place c.args.count c.loop-place.self (option_copied c.loop-place.last) c.loop-place.writes c.loop-place.invariant (omega arith)
+    progress-whole (λ (w : KeyWrite). w.0) (λ (ws : List KeyWrite). are_ascending_keys (keys_of ws)) (both key_front write_front) c.args.self.now
+    c.loop-place._place c.args.count c.loop-place.self (option_copied c.loop-place.last) c.loop-place.writes c.loop-place.invariant (omega arith)

@@ -7,4 +7,5 @@ use Rattle.wire_item.proofs.Progress.{Progress}
 use Rattle.wire_item.proofs.readers.Reader.ascending_writes.Given as goal
 
 abbrev pub invariant-loop-place : goal.invariant-loop-place
-invariant-loop-place l = Progress (λ (w : KeyWrite). w.0) (λ (ws : List KeyWrite). are_ascending_keys (keys_of ws)) (both key_front write_front) l.initial.self l._place l.self (option_copied l.last) l.writes
+invariant-loop-place l = Progress (λ (w : KeyWrite). w.0) (λ (ws : List KeyWrite). are_ascending_keys (keys_of ws)) (both key_front write_front)
+    l.initial.self l._place l.self (option_copied l.last) l.writes

@@ -13,7 +13,8 @@ returns-in_err-consents c =
     let records = making records_front c.args.self.now c.records.new.self c.in_ok-records.records c.in_ok-records.ensures in
     let read = records.1 in
     let none = unmade consents_front c.records.new.self c.consents.new.self c.in_err-consents.ensures in
-    makes-none batch_front c.args.self.now c.consents.new.self c.from_residual-in_err-consents.result c.from_residual-in_err-consents.ensures (rw (read, none) refl)
+    makes-none batch_front c.args.self.now c.consents.new.self c.from_residual-in_err-consents.result c.from_residual-in_err-consents.ensures
+    (rw (read, none) refl)
 
 pub returns : goal.returns
 returns c =

@@ -19,7 +19,8 @@ returns-in_err-floor c =
     let site = taken u16_front c.args.self.now c.u16.new.self c.in_ok-site.site c.in_ok-site.ensures in
     let number = taken u32_front c.u16.new.self c.u32.new.self c.in_ok-number.number c.in_ok-number.ensures in
     let none = untaken id_front c.u32.new.self c.id.new.self c.in_err-floor.ensures in
-    takes-none consent_front c.args.self.now c.id.new.self c.from_residual-in_err-floor.result c.from_residual-in_err-floor.ensures (rw (site, number, none) refl)
+    takes-none consent_front c.args.self.now c.id.new.self c.from_residual-in_err-floor.result c.from_residual-in_err-floor.ensures
+    (rw (site, number, none) refl)
 
 pub returns-in_err-count : goal.returns-in_err-count
 returns-in_err-count c =
@@ -27,7 +28,8 @@ returns-in_err-count c =
     let number = taken u32_front c.u16.new.self c.u32.new.self c.in_ok-number.number c.in_ok-number.ensures in
     let floor = taken id_front c.u32.new.self c.id.new.self c.in_ok-floor.floor c.in_ok-floor.ensures in
     let none = untaken u32_front c.id.new.self c.u32-2.new.self c.in_err-count.ensures in
-    takes-none consent_front c.args.self.now c.u32-2.new.self c.from_residual-in_err-count.result c.from_residual-in_err-count.ensures (rw (site, number, floor, none) refl)
+    takes-none consent_front c.args.self.now c.u32-2.new.self c.from_residual-in_err-count.result c.from_residual-in_err-count.ensures
+    (rw (site, number, floor, none) refl)
 
 pub returns-then-is_numbered : goal.returns-then-is_numbered
 returns-then-is_numbered c =
@@ -36,7 +38,13 @@ returns-then-is_numbered c =
     let floor = taken id_front c.u32.new.self c.id.new.self c.in_ok-floor.floor c.in_ok-floor.ensures in
     let count = taken u32_front c.id.new.self c.u32-2.new.self c.in_ok-count.count c.in_ok-count.ensures in
     let valid = sym c.if-is_numbered.ensures in
-    takes consent_front c.args.self.now c.u32-2.new.self (record { site = c.in_ok-site.site; number = c.in_ok-number.number; floor = c.in_ok-floor.floor; count = c.in_ok-count.count }) (rw (site, number, floor, count, valid) refl)
+    takes consent_front c.args.self.now c.u32-2.new.self (record {
+      site = c.in_ok-site.site;
+      number = c.in_ok-number.number;
+      floor =
+          c.in_ok-floor.floor;
+      count = c.in_ok-count.count;
+    }) (rw (site, number, floor, count, valid) refl)
 
 pub returns-else-is_numbered : goal.returns-else-is_numbered
 returns-else-is_numbered c =

@@ -17,24 +17,32 @@ pub returns-in_err-consents : goal.returns-in_err-consents
 returns-in_err-consents c =
     let n = c.in_ok-count.count in
     let count = taken u8_front c.args.self.now c.u8.new.self n c.in_ok-count.ensures in
-    let none = unmade (only_if (λ (cs : List Consent). are_ascending_numbers (map (λ c. c.site) cs)) (times consent_front n)) c.u8.new.self c.ascending_consents.new.self c.in_err-consents.ensures in
+    let none = unmade (only_if (λ (cs : List Consent). are_ascending_numbers (map (λ c. c.site) cs)) (times consent_front n)) c.u8.new.self
+    c.ascending_consents.new.self c.in_err-consents.ensures in
     makes-none consents_front c.args.self.now c.ascending_consents.new.self c.from_residual-in_err-consents.result c.from_residual-in_err-consents.ensures
-    (counted-unordered u8_front consent_front are_consents (λ (cs : List Consent). are_ascending_numbers (map (λ c. c.site) cs)) (λ n. nat_le n 16) consents-tested c.args.self.now n c.u8.new.self count none)
+    (counted-unordered u8_front consent_front are_consents (λ (cs : List Consent). are_ascending_numbers (map (λ c. c.site) cs))
+    (λ n. nat_le n 16) consents-tested c.args.self.now n c.u8.new.self count none)
 
 pub returns-then-is_consent_count : goal.returns-then-is_consent_count
 returns-then-is_consent_count c =
     let n = c.in_ok-count.count in
     let count = taken u8_front c.args.self.now c.u8.new.self n c.in_ok-count.ensures in
-    let read = making (only_if (λ (cs : List Consent). are_ascending_numbers (map (λ c. c.site) cs)) (times consent_front n)) c.u8.new.self c.ascending_consents.new.self c.in_ok-consents.consents c.in_ok-consents.ensures in
-    let whole = counted-ordered u8_front consent_front are_consents (λ (cs : List Consent). are_ascending_numbers (map (λ c. c.site) cs)) (λ n. nat_le n 16) consents-tested c.args.self.now n c.u8.new.self read.0 c.ascending_consents.new.self count read.1 in
+    let read = making (only_if (λ (cs : List Consent). are_ascending_numbers (map (λ c. c.site) cs)) (times consent_front n)) c.u8.new.self
+    c.ascending_consents.new.self c.in_ok-consents.consents c.in_ok-consents.ensures in
+    let whole = counted-ordered u8_front consent_front are_consents (λ (cs : List Consent). are_ascending_numbers (map (λ c. c.site) cs))
+    (λ n. nat_le n 16) consents-tested c.args.self.now n c.u8.new.self read.0 c.ascending_consents.new.self count read.1 in
     makes consents_front c.args.self.now c.ascending_consents.new.self c.in_ok-consents.consents read.0
-    (only_if-read are_consents (counted u8_front (times consent_front)) c.args.self.now read.0 c.ascending_consents.new.self whole.0 (whole.1 ∙ sym c.if-is_consent_count.ensures)) read.2
+    (only_if-read are_consents (counted u8_front (times consent_front)) c.args.self.now read.0 c.ascending_consents.new.self whole.0
+    (whole.1 ∙ sym c.if-is_consent_count.ensures)) read.2
 
 pub returns-else-is_consent_count : goal.returns-else-is_consent_count
 returns-else-is_consent_count c =
     let n = c.in_ok-count.count in
     let count = taken u8_front c.args.self.now c.u8.new.self n c.in_ok-count.ensures in
-    let read = making (only_if (λ (cs : List Consent). are_ascending_numbers (map (λ c. c.site) cs)) (times consent_front n)) c.u8.new.self c.ascending_consents.new.self c.in_ok-consents.consents c.in_ok-consents.ensures in
-    let whole = counted-ordered u8_front consent_front are_consents (λ (cs : List Consent). are_ascending_numbers (map (λ c. c.site) cs)) (λ n. nat_le n 16) consents-tested c.args.self.now n c.u8.new.self read.0 c.ascending_consents.new.self count read.1 in
+    let read = making (only_if (λ (cs : List Consent). are_ascending_numbers (map (λ c. c.site) cs)) (times consent_front n)) c.u8.new.self
+    c.ascending_consents.new.self c.in_ok-consents.consents c.in_ok-consents.ensures in
+    let whole = counted-ordered u8_front consent_front are_consents (λ (cs : List Consent). are_ascending_numbers (map (λ c. c.site) cs))
+    (λ n. nat_le n 16) consents-tested c.args.self.now n c.u8.new.self read.0 c.ascending_consents.new.self count read.1 in
     makes-none consents_front c.args.self.now c.ascending_consents.new.self None refl
-    (only_if-fails are_consents (counted u8_front (times consent_front)) c.args.self.now read.0 c.ascending_consents.new.self whole.0 (whole.1 ∙ sym c.if-is_consent_count.ensures))
+    (only_if-fails are_consents (counted u8_front (times consent_front)) c.args.self.now read.0 c.ascending_consents.new.self whole.0
+    (whole.1 ∙ sym c.if-is_consent_count.ensures))

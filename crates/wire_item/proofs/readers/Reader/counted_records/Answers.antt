@@ -12,14 +12,16 @@ pub returns-in_err-record : goal.returns-in_err-record
 returns-in_err-record c =
     let none = unmade record_front c.loop-place.self c.record.new.self c.in_err-record.ensures in
     makes-none (times record_front c.args.count) c.args.self.now c.record.new.self c.from_residual.result c.from_residual.ensures
-    (times-none record_front c.loop-place._place c.args.count c.args.self.now c.loop-place.invariant.xs c.loop-place.self c.loop-place.invariant.reads none (omega arith))
+    (times-none record_front c.loop-place._place c.args.count c.args.self.now c.loop-place.invariant.xs c.loop-place.self c.loop-place.invariant.reads none
+    (omega arith))
 
 pub loop-place-preserved : goal.loop-place-preserved
 loop-place-preserved c =
     let read = making record_front c.loop-place.self c.record.new.self c.in_ok-record.record c.in_ok-record.ensures in
     record {
       xs = c.loop-place.invariant.xs ++ read.0 ∷ [];
-      reads = times-more record_front c.loop-place._place c.args.self.now c.loop-place.invariant.xs c.loop-place.self read.0 c.record.new.self c.loop-place.invariant.reads read.1;
+      reads = times-more record_front c.loop-place._place c.args.self.now c.loop-place.invariant.xs c.loop-place.self read.0 c.record.new.self
+          c.loop-place.invariant.reads read.1;
       made = c.pushed-records.ensures c.loop-place.invariant.xs read.0 c.loop-place.invariant.made read.2;
     }
 

@@ -16,7 +16,8 @@ returns-in_err-key c =
     let count = taken u8_front c.args.self.now c.u8.new.self c.in_ok-count.count c.in_ok-count.ensures in
     let none = untaken (bytes_front c.from.result) c.u8.new.self c.bytes.new.self c.in_err-key.ensures in
     let same = ap (λ n. bytes_front n c.u8.new.self) (sym c.from.ensures) ∙ none in
-    takes-none key_front c.args.self.now _ (option_copied c.from_residual-in_err-key.result) (ap option_copied c.from_residual-in_err-key.ensures) (rw (count, same) refl)
+    takes-none key_front c.args.self.now _ (option_copied c.from_residual-in_err-key.result) (ap option_copied c.from_residual-in_err-key.ensures)
+    (rw (count, same) refl)
 
 pub returns-then-is_key_length : goal.returns-then-is_key_length
 returns-then-is_key_length c =

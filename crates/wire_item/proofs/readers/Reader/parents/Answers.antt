@@ -26,15 +26,19 @@ returns-then-is_parent_count c =
     let n = c.in_ok-count.count in
     let count = taken u8_front c.args.self.now c.u8.new.self n c.in_ok-count.ensures in
     let read = making (only_if are_ascending (times id_front n)) c.u8.new.self c.ascending_ids.new.self c.in_ok-parents.parents c.in_ok-parents.ensures in
-    let whole = counted-ordered u8_front id_front are_parents are_ascending (is_within 1 8) parents-tested c.args.self.now n c.u8.new.self read.0 c.ascending_ids.new.self count read.1 in
+    let whole = counted-ordered u8_front id_front are_parents are_ascending (is_within 1 8) parents-tested c.args.self.now n c.u8.new.self read.0
+    c.ascending_ids.new.self count read.1 in
     makes parents_front c.args.self.now c.ascending_ids.new.self c.in_ok-parents.parents read.0
-    (only_if-read are_parents (counted u8_front (times id_front)) c.args.self.now read.0 c.ascending_ids.new.self whole.0 (whole.1 ∙ sym c.if-is_parent_count.ensures)) read.2
+    (only_if-read are_parents (counted u8_front (times id_front)) c.args.self.now read.0 c.ascending_ids.new.self whole.0
+    (whole.1 ∙ sym c.if-is_parent_count.ensures)) read.2
 
 pub returns-else-is_parent_count : goal.returns-else-is_parent_count
 returns-else-is_parent_count c =
     let n = c.in_ok-count.count in
     let count = taken u8_front c.args.self.now c.u8.new.self n c.in_ok-count.ensures in
     let read = making (only_if are_ascending (times id_front n)) c.u8.new.self c.ascending_ids.new.self c.in_ok-parents.parents c.in_ok-parents.ensures in
-    let whole = counted-ordered u8_front id_front are_parents are_ascending (is_within 1 8) parents-tested c.args.self.now n c.u8.new.self read.0 c.ascending_ids.new.self count read.1 in
+    let whole = counted-ordered u8_front id_front are_parents are_ascending (is_within 1 8) parents-tested c.args.self.now n c.u8.new.self read.0
+    c.ascending_ids.new.self count read.1 in
     makes-none parents_front c.args.self.now c.ascending_ids.new.self None refl
-    (only_if-fails are_parents (counted u8_front (times id_front)) c.args.self.now read.0 c.ascending_ids.new.self whole.0 (whole.1 ∙ sym c.if-is_parent_count.ensures))
+    (only_if-fails are_parents (counted u8_front (times id_front)) c.args.self.now read.0 c.ascending_ids.new.self whole.0
+    (whole.1 ∙ sym c.if-is_parent_count.ensures))

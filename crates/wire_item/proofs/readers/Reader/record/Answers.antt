@@ -20,7 +20,8 @@ returns-in_err-writes c =
     let parents = making parents_front c.id.new.self c.parents.new.self c.in_ok-parents.parents c.in_ok-parents.ensures in
     let read = parents.1 in
     let none = unmade writes_front c.parents.new.self c.writes.new.self c.in_err-writes.ensures in
-    makes-none record_front c.args.self.now c.writes.new.self c.from_residual-in_err-writes.result c.from_residual-in_err-writes.ensures (rw (id, read, none) refl)
+    makes-none record_front c.args.self.now c.writes.new.self c.from_residual-in_err-writes.result c.from_residual-in_err-writes.ensures
+    (rw (id, read, none) refl)
 
 pub returns-then-is_root : goal.returns-then-is_root
 returns-then-is_root c =

@@ -11,4 +11,5 @@ returns-in_err-count c =
 pub returns : goal.returns
 returns c =
     let count = taken u16_front c.args.self.now c.u16.new.self c.in_ok-count.count c.in_ok-count.ensures in
-    makes-after u16_front record_front c.args.self.now c.in_ok-count.count c.u16.new.self c.counted_records.result c.counted_records.new.self count c.counted_records.ensures
+    makes-after u16_front record_front c.args.self.now c.in_ok-count.count c.u16.new.self c.counted_records.result c.counted_records.new.self count
+    c.counted_records.ensures

@@ -16,4 +16,5 @@ returns c =
     let bytes = c.in_ok-bytes.bytes in
     let read = taken (bytes_front 1) c.args.self.now c.array.new.self bytes c.in_ok-bytes.ensures in
     takes u8_front c.args.self.now c.array.new.self c.from_be_bytes.result
-    (made-read (from_be_bytes w8) (bytes_front 1) c.args.self.now bytes c.array.new.self read ∙ ap (λ k. Rattle.std.proofs.Common.Some (k, c.array.new.self)) (sym c.from_be_bytes.ensures))
+    (made-read (from_be_bytes w8) (bytes_front 1) c.args.self.now bytes c.array.new.self read
+    ∙ ap (λ k. Rattle.std.proofs.Common.Some (k, c.array.new.self)) (sym c.from_be_bytes.ensures))

@@ -16,7 +16,8 @@ returns-in_err-value c =
     let count = taken u16_front c.args.self.now c.u16.new.self c.in_ok-count.count c.in_ok-count.ensures in
     let none = untaken (bytes_front c.from.result) c.u16.new.self c.bytes.new.self c.in_err-value.ensures in
     let same = ap (λ n. bytes_front n c.u16.new.self) (sym c.from.ensures) ∙ none in
-    takes-none value_front c.args.self.now _ (option_copied c.from_residual-in_err-value.result) (ap option_copied c.from_residual-in_err-value.ensures) (rw (count, same) refl)
+    takes-none value_front c.args.self.now _ (option_copied c.from_residual-in_err-value.result) (ap option_copied c.from_residual-in_err-value.ensures)
+    (rw (count, same) refl)
 
 pub returns-then-is_value_length : goal.returns-then-is_value_length
 returns-then-is_value_length c =

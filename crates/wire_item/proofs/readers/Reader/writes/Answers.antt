@@ -17,24 +17,32 @@ pub returns-in_err-writes : goal.returns-in_err-writes
 returns-in_err-writes c =
     let n = c.in_ok-count.count in
     let count = taken u8_front c.args.self.now c.u8.new.self n c.in_ok-count.ensures in
-    let none = unmade (only_if (λ ws. are_ascending_keys (keys_of ws)) (times (both key_front write_front) n)) c.u8.new.self c.ascending_writes.new.self c.in_err-writes.ensures in
+    let none = unmade (only_if (λ ws. are_ascending_keys (keys_of ws)) (times (both key_front write_front) n)) c.u8.new.self c.ascending_writes.new.self
+    c.in_err-writes.ensures in
     makes-none writes_front c.args.self.now c.ascending_writes.new.self c.from_residual-in_err-writes.result c.from_residual-in_err-writes.ensures
-    (counted-unordered u8_front (both key_front write_front) are_writes (λ ws. are_ascending_keys (keys_of ws)) (λ n. nat_le n 64) writes-tested c.args.self.now n c.u8.new.self count none)
+    (counted-unordered u8_front (both key_front write_front) are_writes (λ ws. are_ascending_keys (keys_of ws)) (λ n. nat_le n 64) writes-tested
+    c.args.self.now n c.u8.new.self count none)
 
 pub returns-then-is_write_count : goal.returns-then-is_write_count
 returns-then-is_write_count c =
     let n = c.in_ok-count.count in
     let count = taken u8_front c.args.self.now c.u8.new.self n c.in_ok-count.ensures in
-    let read = making (only_if (λ ws. are_ascending_keys (keys_of ws)) (times (both key_front write_front) n)) c.u8.new.self c.ascending_writes.new.self c.in_ok-writes.writes c.in_ok-writes.ensures in
-    let whole = counted-ordered u8_front (both key_front write_front) are_writes (λ ws. are_ascending_keys (keys_of ws)) (λ n. nat_le n 64) writes-tested c.args.self.now n c.u8.new.self read.0 c.ascending_writes.new.self count read.1 in
+    let read = making (only_if (λ ws. are_ascending_keys (keys_of ws)) (times (both key_front write_front) n)) c.u8.new.self c.ascending_writes.new.self
+    c.in_ok-writes.writes c.in_ok-writes.ensures in
+    let whole = counted-ordered u8_front (both key_front write_front) are_writes (λ ws. are_ascending_keys (keys_of ws)) (λ n. nat_le n 64) writes-tested
+    c.args.self.now n c.u8.new.self read.0 c.ascending_writes.new.self count read.1 in
     makes writes_front c.args.self.now c.ascending_writes.new.self c.in_ok-writes.writes read.0
-    (only_if-read are_writes (counted u8_front (times (both key_front write_front))) c.args.self.now read.0 c.ascending_writes.new.self whole.0 (whole.1 ∙ sym c.if-is_write_count.ensures)) read.2
+    (only_if-read are_writes (counted u8_front (times (both key_front write_front))) c.args.self.now read.0 c.ascending_writes.new.self whole.0
+    (whole.1 ∙ sym c.if-is_write_count.ensures)) read.2
 
 pub returns-else-is_write_count : goal.returns-else-is_write_count
 returns-else-is_write_count c =
     let n = c.in_ok-count.count in
     let count = taken u8_front c.args.self.now c.u8.new.self n c.in_ok-count.ensures in
-    let read = making (only_if (λ ws. are_ascending_keys (keys_of ws)) (times (both key_front write_front) n)) c.u8.new.self c.ascending_writes.new.self c.in_ok-writes.writes c.in_ok-writes.ensures in
-    let whole = counted-ordered u8_front (both key_front write_front) are_writes (λ ws. are_ascending_keys (keys_of ws)) (λ n. nat_le n 64) writes-tested c.args.self.now n c.u8.new.self read.0 c.ascending_writes.new.self count read.1 in
+    let read = making (only_if (λ ws. are_ascending_keys (keys_of ws)) (times (both key_front write_front) n)) c.u8.new.self c.ascending_writes.new.self
+    c.in_ok-writes.writes c.in_ok-writes.ensures in
+    let whole = counted-ordered u8_front (both key_front write_front) are_writes (λ ws. are_ascending_keys (keys_of ws)) (λ n. nat_le n 64) writes-tested
+    c.args.self.now n c.u8.new.self read.0 c.ascending_writes.new.self count read.1 in
     makes-none writes_front c.args.self.now c.ascending_writes.new.self None refl
-    (only_if-fails are_writes (counted u8_front (times (both key_front write_front))) c.args.self.now read.0 c.ascending_writes.new.self whole.0 (whole.1 ∙ sym c.if-is_write_count.ensures))
+    (only_if-fails are_writes (counted u8_front (times (both key_front write_front))) c.args.self.now read.0 c.ascending_writes.new.self whole.0
+    (whole.1 ∙ sym c.if-is_write_count.ensures))
