@@ -57,13 +57,18 @@ fn raise(rt: &impl Abort, table: &StateDag, book: &mut CeilingBook)
     assert!(rt; book.raise_auto(table) == Ok((table.last(), 2)));
 }
 
+fn check_book(rt: &impl Abort, alloc: Global, table: &StateDag) {
+    let mut book = opened(rt, alloc, table);
+    commit(rt, table, &mut book);
+    set_ceiling(rt, table, &mut book);
+    raise(rt, table, &mut book);
+    assert!(rt; !book.closed(table, table.last()));
+    assert!(rt; book.above_all_floors(table, table.last()));
+}
+
 #[test]
 fn a_session_opens_at_the_floor(rt: HostRuntime) {
     let table = StateDag::new(rt.alloc(), &LIMITS).expect(&rt, "room");
-    let mut book = opened(&rt, rt.alloc(), &table);
-    commit(&rt, &table, &mut book);
-    set_ceiling(&rt, &table, &mut book);
-    raise(&rt, &table, &mut book);
-    assert!(rt; !book.closed(&table, table.last()));
-    assert!(rt; book.above_all_floors(&table, table.last()));
+    check_book(&rt, rt.alloc(), &table);
+    drop(table);
 }

@@ -5,7 +5,7 @@ ghost use Rattle.std.specs.List.{list_all};
 ghost use Rattle.state_dag.specs.Table.{is_slot};
 
 use crate::histories::state;
-use crate::stores::{add, at, deletes, key, new_store};
+use crate::stores::{add, at, deletes, key, keys, new_store};
 use conflict_keys::{conflicts, first_open, open_conflict, value_over};
 use record_store::RecordStore;
 use std::alloc::Global;
@@ -15,21 +15,11 @@ use tardis_base::{Found, Key, Over, Slot, WriteSet};
 
 /// A store of two states below the root. Both delete c and d, the first a, and the second b.
 fn forked(rt: &impl Abort, alloc: Global, keys: RandomState) -> RecordStore {
+    let first = deletes(rt, alloc, &[b"a", b"c", b"d"]);
+    let second = deletes(rt, alloc, &[b"b", b"c", b"d"]);
     let mut store = new_store(rt, alloc, keys);
-    add(
-        rt,
-        &mut store,
-        0,
-        None,
-        &deletes(rt, alloc, &[b"a", b"c", b"d"]),
-    );
-    add(
-        rt,
-        &mut store,
-        0,
-        None,
-        &deletes(rt, alloc, &[b"b", b"c", b"d"]),
-    );
+    add(rt, &mut store, 0, None, &first);
+    add(rt, &mut store, 0, None, &second);
     store
 }
 
@@ -46,14 +36,17 @@ fn counts(rt: &impl Abort, alloc: Global, store: &RecordStore, after: &[u8]) -> 
     (page.total, page.first.len())
 }
 
+fn check_pages(rt: &impl Abort, alloc: Global, store: &RecordStore) {
+    for (after, total, shown) in [(b"".as_slice(), 2, 2), (b"c", 1, 1), (b"d", 0, 0)] {
+        assert_eq!(rt; counts(rt, alloc, store, after), (total, shown));
+    }
+}
+
 #[test]
 fn two_states_conflict_in_what_both_write(rt: HostRuntime) {
-    let alloc = rt.alloc();
-    let keys = RandomState::new(&rt).expect(&rt, "random bytes");
-    let store = forked(&rt, alloc, keys);
-    for (after, total, shown) in [(b"".as_slice(), 2, 2), (b"c", 1, 1), (b"d", 0, 0)] {
-        assert_eq!(rt; counts(&rt, alloc, &store, after), (total, shown));
-    }
+    let store = forked(&rt, rt.alloc(), keys(&rt));
+    check_pages(&rt, rt.alloc(), &store);
+    drop(store);
 }
 
 /// What is read of the key over both.
@@ -61,19 +54,22 @@ fn over<'a>(rt: &impl Abort, alloc: Global, store: &'a RecordStore, bytes: &[u8]
     value_over(store, &both(rt, store), &key(rt, alloc, bytes))
 }
 
-#[test]
-fn a_key_is_read_over_two_states(rt: HostRuntime) {
-    let alloc = rt.alloc();
-    let keys = RandomState::new(&rt).expect(&rt, "random bytes");
-    let store = forked(&rt, alloc, keys);
+fn check_values(rt: &impl Abort, alloc: Global, store: &RecordStore) {
     for (bytes, value) in [
         (b"a", Over::Found(Found::Deleted { writer: state(1) })),
         (b"b", Over::Found(Found::Deleted { writer: state(2) })),
         (b"c", Over::Conflict),
         (b"e", Over::Found(Found::Absent)),
     ] {
-        assert_eq!(rt; over(&rt, alloc, &store, bytes), value);
+        assert_eq!(rt; over(rt, alloc, store, bytes), value);
     }
+}
+
+#[test]
+fn a_key_is_read_over_two_states(rt: HostRuntime) {
+    let store = forked(&rt, rt.alloc(), keys(&rt));
+    check_values(&rt, rt.alloc(), &store);
+    drop(store);
 }
 
 /// The first key in conflict that is not among these.
@@ -91,13 +87,17 @@ fn open<'a>(
     open_conflict(alloc, store, &both(rt, store), written).expect(rt, "room")
 }
 
+/// Where c is written again, d is what stays open.
+fn check_open(rt: &impl Abort, alloc: Global, store: &RecordStore) {
+    let least = key(rt, alloc, b"d");
+    let written = deletes(rt, alloc, &[b"c"]);
+    assert!(rt; first(rt, store, &written) == Some(&least));
+    assert!(rt; open(rt, alloc, store, &written) == Some(&least));
+}
+
 #[test]
 fn what_is_not_written_again_stays_open(rt: HostRuntime) {
-    let alloc = rt.alloc();
-    let keys = RandomState::new(&rt).expect(&rt, "random bytes");
-    let store = forked(&rt, alloc, keys);
-    let least = key(&rt, alloc, b"d");
-    let written = deletes(&rt, alloc, &[b"c"]);
-    assert!(rt; first(&rt, &store, &written) == Some(&least));
-    assert!(rt; open(&rt, alloc, &store, &written) == Some(&least));
+    let store = forked(&rt, rt.alloc(), keys(&rt));
+    check_open(&rt, rt.alloc(), &store);
+    drop(store);
 }

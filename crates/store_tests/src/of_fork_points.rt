@@ -31,6 +31,13 @@ fn shows(page: &StatePage, states: &[StateId]) -> bool {
     page.total as usize == states.len() && page.first.as_slice() == states
 }
 
+fn check_fork(rt: &impl Abort, alloc: Global, dag: &StateDag) {
+    assert!(rt; shows(&leaves(rt, alloc, dag), &[state(1), state(2)]));
+    for (one, other, fork) in [(1, 2, 0), (1, 1, 1), (0, 2, 0)] {
+        assert!(rt; shows(&forks(rt, alloc, dag, one, other), &[state(fork)]));
+    }
+}
+
 #[test]
 fn two_states_below_the_root_are_leaves_and_part_there(rt: HostRuntime) {
     let alloc = rt.alloc();
@@ -38,8 +45,6 @@ fn two_states_below_the_root_are_leaves_and_part_there(rt: HostRuntime) {
     assert!(rt; shows(&leaves(&rt, alloc, &dag), &[StateId::ROOT]));
     assert!(rt; add_below(&mut dag, 0, None).is_ok());
     assert!(rt; add_below(&mut dag, 0, None).is_ok());
-    assert!(rt; shows(&leaves(&rt, alloc, &dag), &[state(1), state(2)]));
-    for (one, other, fork) in [(1, 2, 0), (1, 1, 1), (0, 2, 0)] {
-        assert!(rt; shows(&forks(&rt, alloc, &dag, one, other), &[state(fork)]));
-    }
+    check_fork(&rt, alloc, &dag);
+    drop(dag);
 }

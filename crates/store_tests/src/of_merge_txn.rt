@@ -38,17 +38,20 @@ fn has_own(rt: &impl Abort, alloc: Global, txn: &Txn, number: u16, wanted: Optio
     txn.own(&key(rt, alloc, number)) == wanted
 }
 
+fn check_full(rt: &impl Abort, alloc: Global, txn: &mut Txn) {
+    let many = TxnFault::TooMany { what: 1, n: 65 };
+    assert!(rt; writes(rt, alloc, txn, 64, Write::Delete) == Err(many));
+    let new = put(rt, alloc, b"new");
+    assert!(rt; writes(rt, alloc, txn, 8, put(rt, alloc, b"new")).is_ok());
+    assert_eq!(rt; txn.writes().len(), 64);
+    assert!(rt; has_own(rt, alloc, txn, 8, Some(&new)));
+    assert!(rt; has_own(rt, alloc, txn, 64, None));
+}
+
 #[test]
 fn a_65th_key_is_not_written(rt: HostRuntime) {
-    let alloc = rt.alloc();
-    let mut txn = full(&rt, alloc);
-    let many = TxnFault::TooMany { what: 1, n: 65 };
-    assert!(rt; writes(&rt, alloc, &mut txn, 64, Write::Delete) == Err(many));
-    let new = put(&rt, alloc, b"new");
-    assert!(rt; writes(&rt, alloc, &mut txn, 8, put(&rt, alloc, b"new")).is_ok());
-    assert_eq!(rt; txn.writes().len(), 64);
-    assert!(rt; has_own(&rt, alloc, &txn, 8, Some(&new)));
-    assert!(rt; has_own(&rt, alloc, &txn, 64, None));
+    let mut txn = full(&rt, rt.alloc());
+    check_full(&rt, rt.alloc(), &mut txn);
 }
 
 /// Notes that the key of this number is read.

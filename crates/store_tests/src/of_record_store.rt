@@ -4,7 +4,7 @@ ghost use Rattle.std.specs.Prelude.{◌≡◌, ◌+◌, ◌≤◌, slice_get, un
 ghost use Rattle.state_dag.specs.Table.{is_listed};
 
 use crate::histories::state;
-use crate::stores::{add, at, deletes, key, new_store};
+use crate::stores::{add, at, deletes, key, keys, new_store};
 use record_store::RecordStore;
 use std::alloc::Global;
 use std::hash::RandomState;
@@ -144,11 +144,7 @@ fn news(
     store.is_news(from, child, &key(rt, alloc, of))
 }
 
-#[test]
-fn branches_read_their_own(rt: HostRuntime) {
-    let alloc = rt.alloc();
-    let keys = RandomState::new(&rt).expect(&rt, "random bytes");
-    let store = forked(&rt, alloc, keys);
+fn check_branches(rt: &impl Abort, alloc: Global, store: &RecordStore) {
     for row in [
         expects(0, b"x", None, None),
         expects(1, b"x", Some(1), Some(b"1")),
@@ -157,30 +153,44 @@ fn branches_read_their_own(rt: HostRuntime) {
         expects(3, b"x", Some(3), None),
         expects(3, b"y", Some(3), Some(b"3")),
     ] {
-        reads(&rt, alloc, &store, row);
+        reads(rt, alloc, store, row);
     }
+}
+
+fn check_news(rt: &impl Abort, alloc: Global, store: &RecordStore) {
     for (from, child, of, is_news) in [
         (1, 2, b"x", true),
         (1, 2, b"y", false),
         (2, 1, b"x", false),
     ] {
-        assert_eq!(rt; news(&rt, alloc, &store, from, child, of), is_news);
+        assert_eq!(rt; news(rt, alloc, store, from, child, of), is_news);
     }
 }
 
 #[test]
-fn a_merge_comes_back_and_a_full_store_keeps_its_reads(rt: HostRuntime) {
-    let alloc = rt.alloc();
-    let keys = RandomState::new(&rt).expect(&rt, "random bytes");
-    let mut store = forked(&rt, alloc, keys);
-    merge(&rt, alloc, &mut store);
-    overfill(&rt, alloc, &mut store);
+fn branches_read_their_own(rt: HostRuntime) {
+    let store = forked(&rt, rt.alloc(), keys(&rt));
+    check_branches(&rt, rt.alloc(), &store);
+    check_news(&rt, rt.alloc(), &store);
+    drop(store);
+}
+
+fn check_merge(rt: &impl Abort, alloc: Global, store: &RecordStore) {
     for row in [
         expects(4, b"x", Some(4), Some(b"4")),
         expects(4, b"y", Some(3), Some(b"3")),
     ] {
-        reads(&rt, alloc, &store, row);
+        reads(rt, alloc, store, row);
     }
-    assert!(rt; news(&rt, alloc, &store, 2, 4, b"y"));
+    assert!(rt; news(rt, alloc, store, 2, 4, b"y"));
     assert_eq!(rt; store.versions().keys(), 2);
+}
+
+#[test]
+fn a_merge_comes_back_and_a_full_store_keeps_its_reads(rt: HostRuntime) {
+    let mut store = forked(&rt, rt.alloc(), keys(&rt));
+    merge(&rt, rt.alloc(), &mut store);
+    overfill(&rt, rt.alloc(), &mut store);
+    check_merge(&rt, rt.alloc(), &store);
+    drop(store);
 }

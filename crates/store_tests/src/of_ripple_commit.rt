@@ -1,7 +1,7 @@
 //! What no clause says: that a landing is looked for, where the root is alone and where two branches meet.
 
 use crate::histories::state;
-use crate::stores::{add, at, deletes, key, new_store};
+use crate::stores::{add, at, deletes, key, keys, new_store};
 use record_store::RecordStore;
 use ripple_commit::landing;
 use std::alloc::Global;
@@ -32,17 +32,20 @@ fn lands(
     store.dag().id_of(slot)
 }
 
-#[test]
-fn nothing_lands_below_a_lone_root(rt: HostRuntime) {
-    let alloc = rt.alloc();
-    let keys = RandomState::new(&rt).expect(&rt, "random bytes");
-    let store = new_store(&rt, alloc, keys);
+fn check_root(rt: &impl Abort, alloc: Global, store: &RecordStore) {
     for flags in [EndFlags(0), EndFlags::SER, EndFlags::SI] {
         assert_eq!(rt;
-            lands(&rt, alloc, &store, 0, flags, b"x", b"y"),
+            lands(rt, alloc, store, 0, flags, b"x", b"y"),
             StateId::ROOT
         );
     }
+}
+
+#[test]
+fn nothing_lands_below_a_lone_root(rt: HostRuntime) {
+    let store = new_store(&rt, rt.alloc(), keys(&rt));
+    check_root(&rt, rt.alloc(), &store);
+    drop(store);
 }
 
 /// A state that deletes x, one beside it that deletes y, and a merge of both.
@@ -54,11 +57,8 @@ fn merged(rt: &impl Abort, alloc: Global, keys: RandomState) -> RecordStore {
     store
 }
 
-#[test]
-fn a_merge_child_brings_the_news_of_the_other_branch(rt: HostRuntime) {
-    let alloc = rt.alloc();
-    let keys = RandomState::new(&rt).expect(&rt, "random bytes");
-    let store = merged(&rt, alloc, keys);
+/// From the first of the branches.
+fn check_branch(rt: &impl Abort, alloc: Global, store: &RecordStore) {
     for (flags, read, written, below) in [
         (EndFlags::SER, b"y", b"x", 1),
         (EndFlags::SER, b"x", b"y", 3),
@@ -66,8 +66,15 @@ fn a_merge_child_brings_the_news_of_the_other_branch(rt: HostRuntime) {
         (EndFlags::SI, b"y", b"x", 3),
     ] {
         assert_eq!(rt;
-            lands(&rt, alloc, &store, 1, flags, read, written),
+            lands(rt, alloc, store, 1, flags, read, written),
             state(below)
         );
     }
+}
+
+#[test]
+fn a_merge_child_brings_the_news_of_the_other_branch(rt: HostRuntime) {
+    let store = merged(&rt, rt.alloc(), keys(&rt));
+    check_branch(&rt, rt.alloc(), &store);
+    drop(store);
 }

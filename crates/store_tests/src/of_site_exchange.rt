@@ -3,6 +3,7 @@
 ghost use Rattle.std.specs.Prelude.{◌≡◌, ◌≤◌, length};
 ghost use Rattle.ceiling_book.specs.Places.{AreSlots};
 
+use crate::stores::keys;
 use ceiling_book::CeilingBook;
 use record_store::RecordStore;
 use site_exchange::{Judged, WaitRoom, batch_for, judge_record};
@@ -91,20 +92,26 @@ fn filled(rt: &impl Abort, alloc: Global, keys: RandomState, last: usize) -> Rec
     store
 }
 
-/// How many records a batch for these counts has.
+/// How many records of it a batch for these counts has.
 fn given(rt: &impl Abort, alloc: Global, store: &RecordStore, counts: &[u32]) -> usize {
     let book = opening_book(rt, alloc, store);
     let batch = batch_for(alloc, store, &book, counts).expect(rt, "room");
     batch.records.len()
 }
 
+/// How many records of such a store a batch has for one that knows so many.
+fn given_of(rt: &impl Abort, alloc: Global, keys: RandomState, last: usize, known: u32) -> usize {
+    let store = filled(rt, alloc, keys, last);
+    let given = given(rt, alloc, &store, &[0, known]);
+    drop(store);
+    given
+}
+
 #[test]
 fn a_batch_ends_in_front_of_the_byte_that_is_too_many(rt: HostRuntime) {
-    let alloc = rt.alloc();
-    let keys = RandomState::new(&rt).expect(&rt, "random bytes");
+    let keys = keys(&rt);
     for (last, known, count) in [(3762, 0, 3), (3763, 0, 2), (3763, 1, 2)] {
-        let store = filled(&rt, alloc, keys, last);
-        assert_eq!(rt; given(&rt, alloc, &store, &[0, known]), count);
+        assert_eq!(rt; given_of(&rt, rt.alloc(), keys, last, known), count);
     }
 }
 
@@ -126,12 +133,15 @@ fn hold(rt: &impl Abort, alloc: Global, rec: Record) {
     assert!(rt; room.take(0).id.sequence == 2);
 }
 
+fn check_early(rt: &impl Abort, alloc: Global, store: &RecordStore) {
+    let early = wide_record(rt, alloc, 2, 0);
+    assert!(rt; is_early(rt, alloc, store, &early));
+    hold(rt, alloc, early);
+}
+
 #[test]
 fn an_early_record_waits(rt: HostRuntime) {
-    let alloc = rt.alloc();
-    let keys = RandomState::new(&rt).expect(&rt, "random bytes");
-    let store = new_store(&rt, alloc, keys);
-    let early = wide_record(&rt, alloc, 2, 0);
-    assert!(rt; is_early(&rt, alloc, &store, &early));
-    hold(&rt, alloc, early);
+    let store = new_store(&rt, rt.alloc(), keys(&rt));
+    check_early(&rt, rt.alloc(), &store);
+    drop(store);
 }

@@ -8,6 +8,7 @@ use record_store::RecordStore;
 use std::alloc::Global;
 use std::hash::RandomState;
 use std::process::Abort;
+use std::random::RandomSource;
 use tardis_base::{Key, Limits, Slot, Write, WriteSet};
 
 const LIMITS: Limits = Limits {
@@ -17,6 +18,11 @@ const LIMITS: Limits = Limits {
     max_sessions: 1,
     max_trail: 0,
 };
+
+/// A seed of hashing.
+pub(crate) fn keys<R: RandomSource + Abort>(rt: &R) -> RandomState {
+    RandomState::new(rt).expect(rt, "random bytes")
+}
 
 /// A store of the root alone, with room for four states more.
 pub(crate) fn new_store(rt: &impl Abort, alloc: Global, keys: RandomState) -> RecordStore {

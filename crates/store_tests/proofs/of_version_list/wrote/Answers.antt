@@ -6,7 +6,7 @@ use Rattle.version_list.proofs.Adds.{before-added}
 use Rattle.store_tests.proofs.of_version_list.wrote.Goals as goal
 
 pub returns-clause-newest : goal.returns-clause-newest
-returns-clause-newest c = λ k.
+returns-clause-newest g c = λ k.
     let here : Slot = record { 0 = c.args.slot } in
     let next : Slot = record { 0 = c.args.slot + 1 } in
     let before = subst (λ vs. have_come_before (λ (s : Slot). s.0) here vs ≡ true) (sym (c.make_room.ensures.same k)) (c.requires.newest k) in
