@@ -4,8 +4,8 @@ use rand_core::utils::NextWord;
 use rand_pcg::Lcg64Xsh32;
 use record_store::RecordStore;
 use state_dag::StateDag;
-use std::alloc::{AllocError, Global};
-use std::test::Fail;
+use std::alloc::Global;
+use std::process::Abort;
 use tardis_base::{AddFault, Limits, Slot, StateId, WriteSet};
 
 /// The state of this arrival number, where site 1 alone makes states: the root, or one of site 1 with this sequence.
@@ -92,18 +92,20 @@ pub(crate) struct History {
 }
 
 /// A random history, in which one state of so many stands below two, where these are apart.
-pub(crate) fn random_history(alloc: Global, every: u32) -> Result<History, Fail> {
-    let mut dag = StateDag::new(alloc, &LIMITS)?;
+pub(crate) fn random_history(rt: &impl Abort, alloc: Global, every: u32) -> History {
+    let mut dag = StateDag::new(alloc, &LIMITS).expect(rt, "room");
     let mut words = Lcg64Xsh32::new(7, 1);
     let mut edges = Vec::new(alloc);
     for arrival in 1..200u32 {
         let first = words.next_word() % arrival;
         let other = words.next_word() % arrival;
         let second = second_of(&dag, first, other, arrival % every.max(1) == 0);
-        add_below(&mut dag, first, second)?;
-        edges.push((first, second.unwrap_or(first)))?;
+        add_below(&mut dag, first, second).expect(rt, "room");
+        edges
+            .push((first, second.unwrap_or(first)))
+            .expect(rt, "room");
     }
-    Ok(History { dag, edges })
+    History { dag, edges }
 }
 
 /// The other state, where one is wanted and it is apart from the first.
@@ -116,11 +118,12 @@ fn second_of(dag: &StateDag, first: u32, other: u32, is_wanted: bool) -> Option<
 
 /// Which of 200 states are at or above the one, by a walk along the parents of each.
 pub(crate) fn walked(
+    rt: &impl Abort,
     alloc: Global,
     edges: &[(u32, u32)],
     state: u32,
-) -> Result<Vec<bool>, AllocError> {
-    let mut reached = vec![in alloc; false; 200]?;
+) -> Vec<bool> {
+    let mut reached = vec![in alloc; false; 200].expect(rt, "room");
     mark(&mut reached, state);
     for place in (0..edges.len()).rev() {
         if reached.get(place + 1).copied() == Some(true) {
@@ -129,7 +132,7 @@ pub(crate) fn walked(
             mark(&mut reached, second);
         }
     }
-    Ok(reached)
+    reached
 }
 
 fn mark(reached: &mut Vec<bool>, state: u32) {

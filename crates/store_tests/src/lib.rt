@@ -31,3 +31,5 @@ mod of_site_exchange;
 mod of_state_dag;
 #[cfg(test)]
 mod of_version_list;
+#[cfg(test)]
+mod stores;

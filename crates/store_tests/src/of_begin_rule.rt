@@ -4,6 +4,7 @@ use crate::histories::add_below;
 use begin_rule::{BeginFault, MergeFault, choose, choose_all};
 use state_dag::StateDag;
 use std::alloc::Global;
+use std::process::Abort;
 use std::test::Fail;
 use tardis_base::{Begin, Limits, ListOf, Slot, StateId};
 
@@ -68,9 +69,7 @@ fn is_refused(
     }
 }
 
-#[test]
-fn a_lone_root_is_chosen(rt: HostRuntime) -> Result<(), Fail> {
-    let dag = StateDag::new(rt.alloc(), &LIMITS)?;
+fn check_root(rt: &impl Abort, dag: &StateDag) {
     let slot = dag.last();
     let rows = [
         (Begin::Any, Ok(slot)),
@@ -80,25 +79,18 @@ fn a_lone_root_is_chosen(rt: HostRuntime) -> Result<(), Fail> {
         (Begin::At(FIRST), Err(BeginFault::Unknown { state: FIRST })),
     ];
     for (begin, answer) in rows {
-        assert_eq!(rt; choose(&dag, &begin, StateId::ROOT, slot, slot), answer);
+        assert_eq!(rt; choose(dag, &begin, StateId::ROOT, slot, slot), answer);
     }
-    Ok(())
 }
 
 #[test]
-fn a_merge_begins_where_no_state_is_refused(rt: HostRuntime) -> Result<(), Fail> {
-    let mut dag = StateDag::new(rt.alloc(), &LIMITS)?;
-    let one = add_below(&mut dag, 0, None).expect(&rt, "room");
-    let other = add_below(&mut dag, 0, None).expect(&rt, "room");
-    assert!(rt;
-        begins_at(
-            rt.alloc(),
-            &dag,
-            &[FIRST, SECOND],
-            StateId::ROOT,
-            &[one, other]
-        )
-    );
+fn a_lone_root_is_chosen(rt: HostRuntime) {
+    let dag = StateDag::new(rt.alloc(), &LIMITS).expect(&rt, "room");
+    check_root(&rt, &dag);
+    drop(dag);
+}
+
+fn check_refused(rt: &impl Abort, alloc: Global, dag: &StateDag) {
     let unknown = MergeFault::Unknown { state: THIRD };
     let below = MergeFault::Below {
         state: StateId::ROOT,
@@ -115,9 +107,20 @@ fn a_merge_begins_where_no_state_is_refused(rt: HostRuntime) -> Result<(), Fail>
         ([StateId::ROOT, SECOND], StateId::ROOT, comparable),
     ];
     for (states, ceiling, fault) in rows {
-        assert!(rt; is_refused(rt.alloc(), &dag, &states, ceiling, fault));
+        assert!(rt; is_refused(alloc, dag, &states, ceiling, fault));
     }
-    Ok(())
+}
+
+#[test]
+fn a_merge_begins_where_no_state_is_refused(rt: HostRuntime) {
+    let alloc = rt.alloc();
+    let mut dag = StateDag::new(alloc, &LIMITS).expect(&rt, "room");
+    let one = add_below(&mut dag, 0, None).expect(&rt, "room");
+    let other = add_below(&mut dag, 0, None).expect(&rt, "room");
+    let states = [FIRST, SECOND];
+    assert!(rt; begins_at(alloc, &dag, &states, StateId::ROOT, &[one, other]));
+    check_refused(&rt, alloc, &dag);
+    drop(dag);
 }
 
 #[test]

@@ -9,18 +9,18 @@ use branch_region::region;
 use rand_core::utils::NextWord;
 use rand_pcg::Lcg64Xsh32;
 use state_dag::StateDag;
-use std::alloc::{AllocError, Global};
-use std::test::Fail;
-use tardis_base::{NoMemory, Slot};
+use std::alloc::Global;
+use std::process::Abort;
+use tardis_base::Slot;
 
 /// At or above how many of these states each of 200 is, by walks along the parents of each.
-fn counts(alloc: Global, edges: &[(u32, u32)], states: &[u32]) -> Result<Vec<u8>, AllocError> {
-    let mut counts = vec![in alloc; 0u8; 200]?;
+fn counts(rt: &impl Abort, alloc: Global, edges: &[(u32, u32)], states: &[u32]) -> Vec<u8> {
+    let mut counts = vec![in alloc; 0u8; 200].expect(rt, "room");
     for state in states {
-        let reached = walked(alloc, edges, *state)?;
+        let reached = walked(rt, alloc, edges, *state);
         count(&mut counts, reached.as_slice());
     }
-    Ok(counts)
+    counts
 }
 
 /// Counts each state that was reached once more.
@@ -68,44 +68,58 @@ fn are(dag: &StateDag, slots: &[Slot], states: &[u32]) -> bool
 
 /// The states of a region by its definition: those apart, and the last that are shared.
 fn defined(
+    rt: &impl Abort,
     alloc: Global,
     edges: &[(u32, u32)],
     states: &[u32],
-) -> Result<(Vec<u32>, Vec<u32>), NoMemory> {
-    let counts = counts(alloc, edges, states)?;
+) -> (Vec<u32>, Vec<u32>) {
+    let counts = counts(rt, alloc, edges, states);
     let mut apart = Vec::new(alloc);
     let mut shared = Vec::new(alloc);
     for state in 0..200u32 {
         if is_apart(counts.as_slice(), state as usize) {
-            apart.push(state)?;
+            apart.push(state).expect(rt, "room");
         }
         if is_last_shared(counts.as_slice(), edges, states, state) {
-            shared.push(state)?;
+            shared.push(state).expect(rt, "room");
         }
     }
-    Ok((apart, shared))
+    (apart, shared)
+}
+
+/// The slot of the state of this arrival number, which is kept.
+fn at(rt: &impl Abort, dag: &StateDag, arrival: u32) -> Slot
+    ensures { IsTrue (is_slot dag.now result) }
+{
+    dag.slot_of(state(arrival)).expect(rt, "kept")
+}
+
+/// Whether the region of three states is of these states, apart and shared.
+fn has_region(
+    rt: &impl Abort,
+    alloc: Global,
+    dag: &StateDag,
+    states: &[u32; 3],
+    wanted: (&[u32], &[u32]),
+) -> bool {
+    let states = [
+        at(rt, dag, states[0]),
+        at(rt, dag, states[1]),
+        at(rt, dag, states[2]),
+    ];
+    let region = region(alloc, dag, &states).expect(rt, "room");
+    are(dag, region.apart.as_slice(), wanted.0) && are(dag, region.shared.as_slice(), wanted.1)
 }
 
 /// Whether the region of three states is as its definition says.
-fn agrees(alloc: Global, history: &History, states: &[u32; 3]) -> Result<bool, NoMemory> {
-    let (apart, shared) = defined(alloc, history.edges.as_slice(), states.as_slice())?;
-    let dag = &history.dag;
-    let (Some(first), Some(second), Some(third)) = (
-        dag.slot_of(state(states[0])),
-        dag.slot_of(state(states[1])),
-        dag.slot_of(state(states[2])),
-    ) else {
-        return Ok(false);
-    };
-    let region = region(alloc, dag, &[first, second, third])?;
-    Ok(
-        are(dag, region.apart.as_slice(), apart.as_slice())
-            && are(dag, region.shared.as_slice(), shared.as_slice()),
-    )
+fn agrees(rt: &impl Abort, alloc: Global, history: &History, states: &[u32; 3]) -> bool {
+    let (apart, shared) = defined(rt, alloc, history.edges.as_slice(), states.as_slice());
+    let wanted = (apart.as_slice(), shared.as_slice());
+    has_region(rt, alloc, &history.dag, states, wanted)
 }
 
 /// Whether that is so of 200 random threes.
-fn all_agree(alloc: Global, history: &History) -> Result<bool, NoMemory> {
+fn all_agree(rt: &impl Abort, alloc: Global, history: &History) -> bool {
     let mut words = Lcg64Xsh32::new(8, 1);
     for _ in 0..200u32 {
         let states = [
@@ -113,16 +127,16 @@ fn all_agree(alloc: Global, history: &History) -> Result<bool, NoMemory> {
             words.next_word() % 200,
             words.next_word() % 200,
         ];
-        if !agrees(alloc, history, &states)? {
-            return Ok(false);
+        if !agrees(rt, alloc, history, &states) {
+            return false;
         }
     }
-    Ok(true)
+    true
 }
 
 #[test]
-fn regions_in_200_states_are_as_defined(rt: HostRuntime) -> Result<(), Fail> {
-    let history = random_history(rt.alloc(), 4)?;
-    assert!(rt; all_agree(rt.alloc(), &history)?);
-    Ok(())
+fn regions_in_200_states_are_as_defined(rt: HostRuntime) {
+    let history = random_history(&rt, rt.alloc(), 4);
+    assert!(rt; all_agree(&rt, rt.alloc(), &history));
+    drop(history);
 }

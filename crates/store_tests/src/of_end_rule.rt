@@ -2,7 +2,7 @@
 
 use end_rule::{Branches, check};
 use state_dag::StateDag;
-use std::test::Fail;
+use std::process::Abort;
 use tardis_base::{EndFlags, Limits, StateId};
 
 const LIMITS: Limits = Limits {
@@ -13,9 +13,7 @@ const LIMITS: Limits = Limits {
     max_trail: 0,
 };
 
-#[test]
-fn a_leaf_breaks_the_bound_of_none_alone(rt: HostRuntime) -> Result<(), Fail> {
-    let dag = StateDag::new(rt.alloc(), &LIMITS)?;
+fn check_root(rt: &impl Abort, dag: &StateDag) {
     let both = EndFlags::NB | EndFlags::KB;
     let rows = [
         (EndFlags(0), 0, Ok(())),
@@ -32,7 +30,13 @@ fn a_leaf_breaks_the_bound_of_none_alone(rt: HostRuntime) -> Result<(), Fail> {
         ),
     ];
     for (flags, k, answer) in rows {
-        assert!(rt; check(&dag, dag.last(), flags, k) == answer);
+        assert!(rt; check(dag, dag.last(), flags, k) == answer);
     }
-    Ok(())
+}
+
+#[test]
+fn a_leaf_breaks_the_bound_of_none_alone(rt: HostRuntime) {
+    let dag = StateDag::new(rt.alloc(), &LIMITS).expect(&rt, "room");
+    check_root(&rt, &dag);
+    drop(dag);
 }

@@ -4,8 +4,8 @@ use crate::histories::{add_below, state};
 use fork_points::{StatePage, fork_points, leaf_page};
 use state_dag::StateDag;
 use std::alloc::Global;
-use std::test::Fail;
-use tardis_base::{Limits, NoMemory};
+use std::process::Abort;
+use tardis_base::{Limits, StateId};
 
 const LIMITS: Limits = Limits {
     sites: 1,
@@ -15,42 +15,36 @@ const LIMITS: Limits = Limits {
     max_trail: 0,
 };
 
-/// The fork points of the states with these sequences, if both are kept.
-fn forks(
-    alloc: Global,
-    dag: &StateDag,
-    one: u32,
-    other: u32,
-) -> Result<Option<StatePage>, NoMemory> {
-    match (dag.slot_of(state(one)), dag.slot_of(state(other))) {
-        (Some(one), Some(other)) => Ok(Some(fork_points(alloc, dag, &[one, other])?)),
-        _ => Ok(None),
-    }
+fn leaves(rt: &impl Abort, alloc: Global, dag: &StateDag) -> StatePage {
+    leaf_page(alloc, dag).expect(rt, "room")
 }
 
-/// Whether the page shows the states with these sequences, and no more.
-fn shows(page: &StatePage, sequences: &[u32]) -> bool {
-    let mut shown = page.first.iter();
-    for sequence in sequences {
-        if shown.next() != Some(&state(*sequence)) {
-            return false;
-        }
+/// The fork points of the states of these arrival numbers, which are kept.
+fn forks(rt: &impl Abort, alloc: Global, dag: &StateDag, one: u32, other: u32) -> StatePage {
+    let one = dag.slot_of(state(one)).expect(rt, "kept");
+    let other = dag.slot_of(state(other)).expect(rt, "kept");
+    fork_points(alloc, dag, &[one, other]).expect(rt, "room")
+}
+
+/// Whether the page shows these states, and no more.
+fn shows(page: &StatePage, states: &[StateId]) -> bool {
+    page.total as usize == states.len() && page.first.as_slice() == states
+}
+
+fn check_fork(rt: &impl Abort, alloc: Global, dag: &StateDag) {
+    assert!(rt; shows(&leaves(rt, alloc, dag), &[state(1), state(2)]));
+    for (one, other, fork) in [(1, 2, 0), (1, 1, 1), (0, 2, 0)] {
+        assert!(rt; shows(&forks(rt, alloc, dag, one, other), &[state(fork)]));
     }
-    page.total as usize == sequences.len() && page.first.len() == sequences.len()
 }
 
 #[test]
-fn two_states_below_the_root_are_leaves_and_part_there(rt: HostRuntime) -> Result<(), Fail> {
-    let mut dag = StateDag::new(rt.alloc(), &LIMITS)?;
-    assert!(rt; shows(&leaf_page(rt.alloc(), &dag)?, &[0]));
+fn two_states_below_the_root_are_leaves_and_part_there(rt: HostRuntime) {
+    let alloc = rt.alloc();
+    let mut dag = StateDag::new(alloc, &LIMITS).expect(&rt, "room");
+    assert!(rt; shows(&leaves(&rt, alloc, &dag), &[StateId::ROOT]));
     assert!(rt; add_below(&mut dag, 0, None).is_ok());
     assert!(rt; add_below(&mut dag, 0, None).is_ok());
-    assert!(rt; shows(&leaf_page(rt.alloc(), &dag)?, &[1, 2]));
-    for (one, other, sequence) in [(1, 2, 0), (1, 1, 1), (0, 2, 0)] {
-        match forks(rt.alloc(), &dag, one, other)? {
-            Some(page) => assert!(rt; shows(&page, &[sequence])),
-            None => assert!(rt; false, "both are kept"),
-        }
-    }
-    Ok(())
+    check_fork(&rt, alloc, &dag);
+    drop(dag);
 }

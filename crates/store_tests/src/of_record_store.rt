@@ -1,39 +1,15 @@
 //! What no clause says: that each call which takes memory gets it, and rows of reads on two branches and their merge.
 
 ghost use Rattle.std.specs.Prelude.{◌≡◌, ◌+◌, ◌≤◌, slice_get, unwrap_or, IsTrue};
-ghost use Rattle.state_dag.specs.Table.{is_slot};
 ghost use Rattle.state_dag.specs.Table.{is_listed};
 
+use crate::histories::state;
+use crate::stores::{add, at, deletes, key, keys, new_store};
 use record_store::RecordStore;
 use std::alloc::Global;
 use std::hash::RandomState;
 use std::process::Abort;
-use tardis_base::{
-    AddFault, Found, Key, Limits, Record, Slot, StateId, StateList, Value, Write, WriteSet,
-};
-
-const LIMITS: Limits = Limits {
-    sites: 1,
-    max_kept: 5,
-    max_path: 8,
-    max_sessions: 1,
-    max_trail: 0,
-};
-
-/// The state of this sequence: the root, or one of site 1.
-fn state(sequence: u32) -> StateId
-    ensures { 1 ≤ sequence → result ≡ record { site = 1; sequence = sequence } }
-{
-    let site = if sequence == 0 { 0 } else { 1 };
-    StateId { site, sequence }
-}
-
-/// The slot of this state, which is kept.
-fn at(rt: &impl Abort, store: &RecordStore, sequence: u32) -> Slot
-    ensures { IsTrue (is_slot store.now.table result) }
-{
-    store.dag().slot_of(state(sequence)).expect(rt, "kept")
-}
+use tardis_base::{AddFault, Found, Record, StateId, StateList, Value, Write, WriteSet};
 
 /// This state, which is kept.
 fn kept(rt: &impl Abort, store: &RecordStore, sequence: u32) -> StateId
@@ -46,27 +22,13 @@ fn kept(rt: &impl Abort, store: &RecordStore, sequence: u32) -> StateId
 
 /// The next state of site 1, which has this sequence.
 fn next(rt: &impl Abort, store: &RecordStore, sequence: u32) -> StateId
-    requires { 1 ≤ store.now.table.limits.sites }
+    ensures site { 1 ≤ store.now.table.limits.sites }
     ensures is { result ≡ record { site = 1; sequence = sequence } }
     ensures next { sequence ≡ unwrap_or (slice_get store.now.table.counts 0) 0 + 1 }
 {
+    assert!(rt; 1 <= store.dag().limits().sites);
     assert!(rt; u64::from(store.dag().count(1)) + 1 == u64::from(sequence));
     StateId { site: 1, sequence }
-}
-
-/// Adds a state with these writes below this one.
-fn added(rt: &impl Abort, store: &mut RecordStore, sequence: u32, parent: u32, writes: &WriteSet)
-    requires { 1 ≤ store.old.table.limits.sites }
-    ensures { 1 ≤ store.new.table.limits.sites }
-{
-    let id = next(rt, store, sequence);
-    let parent = at(rt, store, parent);
-    store.add_state(id, &[parent], writes).expect(rt, "room");
-}
-
-/// This key.
-fn key(rt: &impl Abort, alloc: Global, bytes: &[u8]) -> Key {
-    Key::new(alloc, bytes).expect(rt, "room")
 }
 
 /// This value.
@@ -88,25 +50,18 @@ fn writes(rt: &impl Abort, alloc: Global, bytes: &[u8]) -> WriteSet {
 }
 
 /// 1.1 below the root writes `x`; below it, 1.2 overwrites that, and 1.3 deletes it and writes `y`.
-fn forked(rt: &impl Abort, alloc: Global, keys: RandomState) -> RecordStore
-    ensures { 1 ≤ result.table.limits.sites }
-{
-    let mut store = RecordStore::new(alloc, keys, &LIMITS).expect(rt, "room");
-    added(rt, &mut store, 1, 0, &writes(rt, alloc, b"1"));
-    added(rt, &mut store, 2, 1, &writes(rt, alloc, b"2"));
-    let mut last = WriteSet::new(alloc);
+fn forked(rt: &impl Abort, alloc: Global, keys: RandomState) -> RecordStore {
+    let mut store = new_store(rt, alloc, keys);
+    add(rt, &mut store, 0, None, &writes(rt, alloc, b"1"));
+    add(rt, &mut store, 1, None, &writes(rt, alloc, b"2"));
+    let mut last = deletes(rt, alloc, &[b"x"]);
     put(rt, alloc, &mut last, b"y", b"3");
-    last.insert(key(rt, alloc, b"x"), Write::Delete)
-        .expect(rt, "room");
-    added(rt, &mut store, 3, 1, &last);
+    add(rt, &mut store, 1, None, &last);
     store
 }
 
 /// Adds a state below 1.2 and 1.3 by its record, and looks at the record of it.
-fn merged(rt: &impl Abort, alloc: Global, store: &mut RecordStore)
-    requires { 1 ≤ store.old.table.limits.sites }
-    ensures { 1 ≤ store.new.table.limits.sites }
-{
+fn merge(rt: &impl Abort, alloc: Global, store: &mut RecordStore) {
     let parents = [kept(rt, store, 2), kept(rt, store, 3)];
     let merge = Record {
         id: next(rt, store, 4),
@@ -114,14 +69,16 @@ fn merged(rt: &impl Abort, alloc: Global, store: &mut RecordStore)
         writes: writes(rt, alloc, b"4"),
     };
     store.add_record(&merge).expect(rt, "room");
-    let slot = at(rt, store, 4);
-    assert!(rt; store.record_of(slot).expect(rt, "room") == merge);
+    assert!(rt; record(rt, store, 4) == merge);
+}
+
+/// The record of this state, which is kept.
+fn record(rt: &impl Abort, store: &RecordStore, sequence: u32) -> Record {
+    store.record_of(at(rt, store, sequence)).expect(rt, "room")
 }
 
 /// Adds no state below 1.4, since the store is full; what was to be written, a new key too, stays where it was.
-fn full(rt: &impl Abort, alloc: Global, store: &mut RecordStore)
-    requires { 1 ≤ store.old.table.limits.sites }
-{
+fn overfill(rt: &impl Abort, alloc: Global, store: &mut RecordStore) {
     let id = next(rt, store, 5);
     let parent = at(rt, store, 4);
     let mut fresh = writes(rt, alloc, b"5");
@@ -187,11 +144,7 @@ fn news(
     store.is_news(from, child, &key(rt, alloc, of))
 }
 
-#[test]
-fn branches_read_their_own(rt: HostRuntime) {
-    let alloc = rt.alloc();
-    let keys = RandomState::new(&rt).expect(&rt, "random bytes");
-    let store = forked(&rt, alloc, keys);
+fn check_branches(rt: &impl Abort, alloc: Global, store: &RecordStore) {
     for row in [
         expects(0, b"x", None, None),
         expects(1, b"x", Some(1), Some(b"1")),
@@ -200,30 +153,44 @@ fn branches_read_their_own(rt: HostRuntime) {
         expects(3, b"x", Some(3), None),
         expects(3, b"y", Some(3), Some(b"3")),
     ] {
-        reads(&rt, alloc, &store, row);
+        reads(rt, alloc, store, row);
     }
+}
+
+fn check_news(rt: &impl Abort, alloc: Global, store: &RecordStore) {
     for (from, child, of, is_news) in [
         (1, 2, b"x", true),
         (1, 2, b"y", false),
         (2, 1, b"x", false),
     ] {
-        assert_eq!(rt; news(&rt, alloc, &store, from, child, of), is_news);
+        assert_eq!(rt; news(rt, alloc, store, from, child, of), is_news);
     }
 }
 
 #[test]
-fn a_merge_comes_back_and_a_full_store_keeps_its_reads(rt: HostRuntime) {
-    let alloc = rt.alloc();
-    let keys = RandomState::new(&rt).expect(&rt, "random bytes");
-    let mut store = forked(&rt, alloc, keys);
-    merged(&rt, alloc, &mut store);
-    full(&rt, alloc, &mut store);
+fn branches_read_their_own(rt: HostRuntime) {
+    let store = forked(&rt, rt.alloc(), keys(&rt));
+    check_branches(&rt, rt.alloc(), &store);
+    check_news(&rt, rt.alloc(), &store);
+    drop(store);
+}
+
+fn check_merge(rt: &impl Abort, alloc: Global, store: &RecordStore) {
     for row in [
         expects(4, b"x", Some(4), Some(b"4")),
         expects(4, b"y", Some(3), Some(b"3")),
     ] {
-        reads(&rt, alloc, &store, row);
+        reads(rt, alloc, store, row);
     }
-    assert!(rt; news(&rt, alloc, &store, 2, 4, b"y"));
+    assert!(rt; news(rt, alloc, store, 2, 4, b"y"));
     assert_eq!(rt; store.versions().keys(), 2);
+}
+
+#[test]
+fn a_merge_comes_back_and_a_full_store_keeps_its_reads(rt: HostRuntime) {
+    let mut store = forked(&rt, rt.alloc(), keys(&rt));
+    merge(&rt, rt.alloc(), &mut store);
+    overfill(&rt, rt.alloc(), &mut store);
+    check_merge(&rt, rt.alloc(), &store);
+    drop(store);
 }

@@ -1,66 +1,80 @@
 //! What no clause says: that a landing is looked for, where the root is alone and where two branches meet.
 
-use crate::histories::{state, write_below};
+use crate::histories::state;
+use crate::stores::{add, at, deletes, key, keys, new_store};
 use record_store::RecordStore;
 use ripple_commit::landing;
 use std::alloc::Global;
 use std::hash::RandomState;
-use std::test::Fail;
-use tardis_base::{EndFlags, Key, KeySet, Limits, Write, WriteSet};
-
-const LIMITS: Limits = Limits {
-    sites: 1,
-    max_kept: 4,
-    max_path: 4,
-    max_sessions: 1,
-    max_trail: 0,
-};
+use std::process::Abort;
+use tardis_base::{EndFlags, KeySet, StateId, WriteSet};
 
 /// Reads this key.
-fn reads(alloc: Global, bytes: &[u8]) -> Result<KeySet, Fail> {
+fn reads(rt: &impl Abort, alloc: Global, bytes: &[u8]) -> KeySet {
     let mut reads = KeySet::new(alloc);
-    reads.insert(Key::new(alloc, bytes)?)?;
-    Ok(reads)
+    reads.insert(key(rt, alloc, bytes)).expect(rt, "room");
+    reads
 }
 
-/// Deletes this key.
-fn deletes(alloc: Global, bytes: &[u8]) -> Result<WriteSet, Fail> {
-    let mut writes = WriteSet::new(alloc);
-    writes.insert(Key::new(alloc, bytes)?, Write::Delete)?;
-    Ok(writes)
+/// Below which state a transaction lands that read this key at the state of this arrival number, and wrote that one.
+fn lands(
+    rt: &impl Abort,
+    alloc: Global,
+    store: &RecordStore,
+    from: u32,
+    flags: EndFlags,
+    read: &[u8],
+    written: &[u8],
+) -> StateId {
+    let reads = reads(rt, alloc, read);
+    let writes = deletes(rt, alloc, &[written]);
+    let slot = landing(store, at(rt, store, from), flags, &reads, &writes);
+    store.dag().id_of(slot)
 }
 
-#[test]
-fn nothing_lands_below_a_lone_root(rt: HostRuntime) -> Result<(), Fail> {
-    let alloc = rt.alloc();
-    let store = RecordStore::new(alloc, RandomState::new(&rt)?, &LIMITS)?;
-    let root = store.dag().last();
-    let reads = reads(alloc, b"x")?;
-    let writes = deletes(alloc, b"y")?;
+fn check_root(rt: &impl Abort, alloc: Global, store: &RecordStore) {
     for flags in [EndFlags(0), EndFlags::SER, EndFlags::SI] {
-        assert_eq!(rt; landing(&store, root, flags, &reads, &writes), root);
+        assert_eq!(rt;
+            lands(rt, alloc, store, 0, flags, b"x", b"y"),
+            StateId::ROOT
+        );
     }
-    Ok(())
 }
 
 #[test]
-fn a_merge_child_brings_the_news_of_the_other_branch(rt: HostRuntime) -> Result<(), Fail> {
-    let alloc = rt.alloc();
-    let mut store = RecordStore::new(alloc, RandomState::new(&rt)?, &LIMITS)?;
-    assert!(rt; write_below(&mut store, 0, None, &deletes(alloc, b"x")?).is_ok());
-    assert!(rt; write_below(&mut store, 0, None, &deletes(alloc, b"y")?).is_ok());
-    assert!(rt; write_below(&mut store, 1, Some(2), &WriteSet::new(alloc)).is_ok());
-    let branch = store.dag().slot_of(state(1)).expect(&rt, "kept");
-    let merge = store.dag().slot_of(state(3)).expect(&rt, "kept");
-    let rows = [
-        (EndFlags::SER, b"y", b"x", branch),
-        (EndFlags::SER, b"x", b"y", merge),
-        (EndFlags::SI, b"x", b"y", branch),
-        (EndFlags::SI, b"y", b"x", merge),
-    ];
-    for (flags, read, written, lands) in rows {
-        let (reads, writes) = (reads(alloc, read)?, deletes(alloc, written)?);
-        assert_eq!(rt; landing(&store, branch, flags, &reads, &writes), lands);
+fn nothing_lands_below_a_lone_root(rt: HostRuntime) {
+    let store = new_store(&rt, rt.alloc(), keys(&rt));
+    check_root(&rt, rt.alloc(), &store);
+    drop(store);
+}
+
+/// A state that deletes x, one beside it that deletes y, and a merge of both.
+fn merged(rt: &impl Abort, alloc: Global, keys: RandomState) -> RecordStore {
+    let mut store = new_store(rt, alloc, keys);
+    add(rt, &mut store, 0, None, &deletes(rt, alloc, &[b"x"]));
+    add(rt, &mut store, 0, None, &deletes(rt, alloc, &[b"y"]));
+    add(rt, &mut store, 1, Some(2), &WriteSet::new(alloc));
+    store
+}
+
+/// From the first of the branches.
+fn check_branch(rt: &impl Abort, alloc: Global, store: &RecordStore) {
+    for (flags, read, written, below) in [
+        (EndFlags::SER, b"y", b"x", 1),
+        (EndFlags::SER, b"x", b"y", 3),
+        (EndFlags::SI, b"x", b"y", 1),
+        (EndFlags::SI, b"y", b"x", 3),
+    ] {
+        assert_eq!(rt;
+            lands(rt, alloc, store, 1, flags, read, written),
+            state(below)
+        );
     }
-    Ok(())
+}
+
+#[test]
+fn a_merge_child_brings_the_news_of_the_other_branch(rt: HostRuntime) {
+    let store = merged(&rt, rt.alloc(), keys(&rt));
+    check_branch(&rt, rt.alloc(), &store);
+    drop(store);
 }

@@ -3,13 +3,13 @@
 ghost use Rattle.std.specs.Prelude.{◌≡◌, ◌≤◌, length};
 ghost use Rattle.ceiling_book.specs.Places.{AreSlots};
 
+use crate::stores::keys;
 use ceiling_book::CeilingBook;
 use record_store::RecordStore;
 use site_exchange::{Judged, WaitRoom, batch_for, judge_record};
 use std::alloc::Global;
 use std::hash::RandomState;
 use std::process::Abort;
-use std::test::Fail;
 use tardis_base::{Key, Limits, Record, StateId, StateList, Value, Write, WriteSet};
 
 const LIMITS: Limits = Limits {
@@ -77,48 +77,71 @@ fn add(rt: &impl Abort, alloc: Global, store: &mut RecordStore, rec: &Record)
     }
 }
 
-/// How many records a batch for these counts has, after two records of 262,144 bytes and a last one.
-fn given(rt: &impl Abort, alloc: Global, keys: RandomState, last: usize, counts: &[u32]) -> usize {
-    let mut store = RecordStore::new(alloc, keys, &LIMITS).expect(rt, "room");
+/// A store of the root alone.
+fn new_store(rt: &impl Abort, alloc: Global, keys: RandomState) -> RecordStore {
+    RecordStore::new(alloc, keys, &LIMITS).expect(rt, "room")
+}
+
+/// A store of two records of 262,144 bytes and a last one.
+fn filled(rt: &impl Abort, alloc: Global, keys: RandomState, last: usize) -> RecordStore {
+    let mut store = new_store(rt, alloc, keys);
     for (sequence, size) in [(1, 3762), (2, 3762), (3, last)] {
-        add(
-            rt,
-            alloc,
-            &mut store,
-            &wide_record(rt, alloc, sequence, size),
-        );
+        let rec = wide_record(rt, alloc, sequence, size);
+        add(rt, alloc, &mut store, &rec);
     }
-    let book = opening_book(rt, alloc, &store);
-    let batch = batch_for(alloc, &store, &book, counts).expect(rt, "room");
+    store
+}
+
+/// How many records of it a batch for these counts has.
+fn given(rt: &impl Abort, alloc: Global, store: &RecordStore, counts: &[u32]) -> usize {
+    let book = opening_book(rt, alloc, store);
+    let batch = batch_for(alloc, store, &book, counts).expect(rt, "room");
     batch.records.len()
 }
 
-#[test]
-fn a_batch_ends_in_front_of_the_byte_that_is_too_many(rt: HostRuntime) -> Result<(), Fail> {
-    let alloc = rt.alloc();
-    let keys = RandomState::new(&rt)?;
-    for (last, known, count) in [(3762, 0, 3), (3763, 0, 2), (3763, 1, 2)] {
-        assert_eq!(rt; given(&rt, alloc, keys, last, &[0, known]), count);
-    }
-    Ok(())
+/// How many records of such a store a batch has for one that knows so many.
+fn given_of(rt: &impl Abort, alloc: Global, keys: RandomState, last: usize, known: u32) -> usize {
+    let store = filled(rt, alloc, keys, last);
+    let given = given(rt, alloc, &store, &[0, known]);
+    drop(store);
+    given
 }
 
 #[test]
-fn an_early_record_waits(rt: HostRuntime) -> Result<(), Fail> {
-    let alloc = rt.alloc();
-    let store = RecordStore::new(alloc, RandomState::new(&rt)?, &LIMITS)?;
-    let book = opening_book(&rt, alloc, &store);
-    let early = wide_record(&rt, alloc, 2, 0);
-    assert!(rt;
-        matches!(
-            judge_record(&store, &book, &early),
-            Judged::Early { have: 0 }
-        )
-    );
-    let mut room = WaitRoom::new(alloc)?;
-    assert!(rt; room.hold(early).is_none());
+fn a_batch_ends_in_front_of_the_byte_that_is_too_many(rt: HostRuntime) {
+    let keys = keys(&rt);
+    for (last, known, count) in [(3762, 0, 3), (3763, 0, 2), (3763, 1, 2)] {
+        assert_eq!(rt; given_of(&rt, rt.alloc(), keys, last, known), count);
+    }
+}
+
+/// Whether the record is early in a store that has none of its site.
+fn is_early(rt: &impl Abort, alloc: Global, store: &RecordStore, rec: &Record) -> bool
+    requires site { 1 ≤ rec.now.id.site }
+    requires few { length rec.now.parents ≤ 8 }
+{
+    let book = opening_book(rt, alloc, store);
+    matches!(judge_record(store, &book, rec), Judged::Early { have: 0 })
+}
+
+/// Holds the record, and takes it out again.
+fn hold(rt: &impl Abort, alloc: Global, rec: Record) {
+    let mut room = WaitRoom::new(alloc).expect(rt, "room");
+    assert!(rt; room.hold(rec).is_none());
     assert!(rt; room.len() == 1);
     assert!(rt; room.at(0).id.sequence == 2);
     assert!(rt; room.take(0).id.sequence == 2);
-    Ok(())
+}
+
+fn check_early(rt: &impl Abort, alloc: Global, store: &RecordStore) {
+    let early = wide_record(rt, alloc, 2, 0);
+    assert!(rt; is_early(rt, alloc, store, &early));
+    hold(rt, alloc, early);
+}
+
+#[test]
+fn an_early_record_waits(rt: HostRuntime) {
+    let store = new_store(&rt, rt.alloc(), keys(&rt));
+    check_early(&rt, rt.alloc(), &store);
+    drop(store);
 }

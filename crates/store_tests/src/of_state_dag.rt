@@ -6,9 +6,8 @@ ghost use Rattle.state_dag.specs.Table.{is_slot};
 
 use crate::histories::{History, add_below, is_above, random_history, state, walked};
 use state_dag::StateDag;
-use std::alloc::{AllocError, Global};
+use std::alloc::Global;
 use std::process::Abort;
-use std::test::Fail;
 use tardis_base::{AddFault, Limits, Slot};
 
 const LIMITS: Limits = Limits {
@@ -28,26 +27,42 @@ fn woven(rt: &impl Abort, alloc: Global) -> StateDag {
     dag
 }
 
+fn check_woven(rt: &impl Abort, dag: &StateDag) {
+    for (a, b, wanted) in [
+        (0, 4, true),
+        (1, 3, true),
+        (2, 4, true),
+        (3, 3, true),
+        (1, 2, false),
+        (3, 4, false),
+        (4, 1, false),
+        (4, 0, false),
+    ] {
+        assert_eq!(rt; is_above(dag, a, b), wanted, "{a} {b}");
+    }
+}
+
 #[test]
 fn states_are_added_below_their_parents(rt: HostRuntime) {
     let dag = woven(&rt, rt.alloc());
-    for (a, b) in [(0, 4), (1, 3), (2, 4), (3, 3)] {
-        assert!(rt; is_above(&dag, a, b));
-    }
-    for (a, b) in [(1, 2), (3, 4), (4, 1), (4, 0)] {
-        assert!(rt; !is_above(&dag, a, b));
-    }
+    check_woven(&rt, &dag);
+    drop(dag);
+}
+
+fn check_path(rt: &impl Abort, dag: &StateDag) {
+    let merge = dag.slot_of(state(3)).expect(rt, "a slot");
+    let path = dag.path(merge).expect(rt, "room");
+    assert_eq!(rt;
+        path.as_slice(),
+        [(state(0), 0), (state(0), 1), (state(1), 0), (state(2), 0)].as_slice()
+    );
 }
 
 #[test]
 fn a_path_has_a_pair_for_each_fork(rt: HostRuntime) {
     let dag = woven(&rt, rt.alloc());
-    let merge = dag.slot_of(state(3)).expect(&rt, "a slot");
-    let path = dag.path(merge).expect(&rt, "room");
-    assert_eq!(rt;
-        path.as_slice(),
-        [(state(0), 0), (state(0), 1), (state(1), 0), (state(2), 0)].as_slice()
-    );
+    check_path(&rt, &dag);
+    drop(dag);
 }
 
 /// The slot of the stand-in that the root's children share.
@@ -64,6 +79,7 @@ fn only_a_lone_child_is_shared_while_all_are_kept(rt: HostRuntime) {
     assert!(rt; child.is_some() && shared_below_root(&dag) == child);
     assert!(rt; add_below(&mut dag, 0, None).is_ok());
     assert_eq!(rt; shared_below_root(&dag), None);
+    drop(dag);
 }
 
 #[test]
@@ -75,6 +91,7 @@ fn a_full_table_refuses_states(rt: HostRuntime) {
     let mut dag = StateDag::new(rt.alloc(), &two).expect(&rt, "room");
     assert!(rt; add_below(&mut dag, 0, None).is_ok());
     assert!(rt; add_below(&mut dag, 1, None) == Err(AddFault::Full { kept: 2 }));
+    drop(dag);
 }
 
 #[test]
@@ -92,26 +109,31 @@ fn a_path_that_is_too_long_is_refused(rt: HostRuntime) {
         pairs: 2,
     };
     assert!(rt; add_below(&mut dag, 1, None) == Err(long));
+    drop(dag);
 }
 
 /// Whether the states at or above this one are those along parents.
-fn agrees_along_parents(alloc: Global, history: &History, below: u32) -> Result<bool, AllocError> {
-    let reached = walked(alloc, history.edges.as_slice(), below)?;
+fn agrees_along_parents(rt: &impl Abort, alloc: Global, history: &History, below: u32) -> bool {
+    let reached = walked(rt, alloc, history.edges.as_slice(), below);
     for above in 0..200u32 {
         if reached.get(above as usize).copied() != Some(is_above(&history.dag, above, below)) {
-            return Ok(false);
+            return false;
         }
     }
-    Ok(true)
+    true
+}
+
+fn check_ancestors(rt: &impl Abort, alloc: Global, history: &History) {
+    for below in 0..200u32 {
+        assert!(rt; agrees_along_parents(rt, alloc, history, below), "{below}");
+    }
 }
 
 #[test]
-fn ancestors_of_200_states_are_those_along_parents(rt: HostRuntime) -> Result<(), Fail> {
-    let history = random_history(rt.alloc(), 5)?;
-    for below in 0..200u32 {
-        assert!(rt; agrees_along_parents(rt.alloc(), &history, below)?);
-    }
-    Ok(())
+fn ancestors_of_200_states_are_those_along_parents(rt: HostRuntime) {
+    let history = random_history(&rt, rt.alloc(), 5);
+    check_ancestors(&rt, rt.alloc(), &history);
+    drop(history);
 }
 
 /// Whether the state at this place is an ancestor of exactly those of the last 256 that don't stand before it.
@@ -148,4 +170,5 @@ fn ancestry_in_a_chain_of_16384_takes_no_walk(rt: HostRuntime) {
     }
     assert_eq!(rt; dag.kept_slots().len(), 16_384);
     assert!(rt; all_agree(&dag, dag.kept_slots()));
+    drop(dag);
 }

@@ -1,13 +1,14 @@
 //! What no clause says: that each call which takes memory gets it, and a row of reads on two branches.
 
-ghost use Rattle.std.specs.Prelude.{◌≡◌, ◌+◌, ◌<◌, ◌==◌, ◌&&◌, not, nat_eq, nat_lt, nat_le, IfOk, OnOk};
+ghost use Rattle.std.specs.Prelude.{◌≡◌, ◌+◌, ◌<◌, ◌==◌, ◌&&◌, not, nat_eq, nat_lt, nat_le};
 ghost use Rattle.std.proofs.Common.{ap};
 ghost use Rattle.std.proofs.lemmas.Bool.{and_parts, leb-true};
 ghost use Rattle.version_list.specs.Versions.{IsInOrder, IsBefore};
 
+use crate::stores::{key, keys};
 use std::alloc::Global;
 use std::hash::RandomState;
-use std::test::Fail;
+use std::process::Abort;
 use tardis_base::{Above, Found, Key, Slot, StateId, Value, Write, WriteSet};
 use version_list::*;
 
@@ -42,54 +43,50 @@ fn id(slot: u32) -> StateId {
 }
 
 /// Adds one write of a state that arrives after all others.
-fn wrote(
-    alloc: Global,
-    list: &mut VersionList,
-    slot: u32,
-    key: &Key,
-    write: Write,
-) -> Result<(), Fail>
+fn wrote(rt: &impl Abort, alloc: Global, list: &mut VersionList, slot: u32, key: &Key, write: Write)
     requires order { IsInOrder (λ s. nat_lt s.0 4) (λ s. s.0) list.old }
     requires newest { IsBefore (λ s. s.0) (record { 0 = slot }) list.old }
     requires kept { slot < 4 }
-    ensures order { OnOk result (IsInOrder (λ s. nat_lt s.0 4) (λ s. s.0) list.new) }
-    ensures newest { OnOk result (IsBefore (λ s. s.0) (record { 0 = slot + 1 }) list.new) }
+    ensures order { IsInOrder (λ s. nat_lt s.0 4) (λ s. s.0) list.new }
+    ensures newest { IsBefore (λ s. s.0) (record { 0 = slot + 1 }) list.new }
 {
     let mut writes = WriteSet::new(alloc);
-    writes.insert(key.copy()?, write)?;
-    list.make_room(&writes)?;
+    let key = key.copy().expect(rt, "room");
+    writes.insert(key, write).expect(rt, "room");
+    list.make_room(&writes).expect(rt, "room");
     list.add(&Branches, Slot(slot), id(slot), writes);
-    Ok(())
 }
 
 /// State 0 deletes the key; on its branches state 1 puts a 1 there, and state 2 deletes it.
-fn branched(alloc: Global, keys: RandomState, key: &Key) -> Result<VersionList, Fail>
-    ensures { IfOk result (λ list. IsInOrder (λ s. nat_lt s.0 4) (λ s. s.0) list) }
+fn branched(rt: &impl Abort, alloc: Global, keys: RandomState, key: &Key) -> VersionList
+    ensures { IsInOrder (λ s. nat_lt s.0 4) (λ s. s.0) result }
 {
     let mut list = VersionList::new(alloc, keys);
-    wrote(alloc, &mut list, 0, key, Write::Delete)?;
-    wrote(
-        alloc,
-        &mut list,
-        1,
-        key,
-        Write::Put(Value::new(alloc, b"1")?),
-    )?;
-    wrote(alloc, &mut list, 2, key, Write::Delete)?;
-    Ok(list)
+    let put = Write::Put(one(rt, alloc));
+    wrote(rt, alloc, &mut list, 0, key, Write::Delete);
+    wrote(rt, alloc, &mut list, 1, key, put);
+    wrote(rt, alloc, &mut list, 2, key, Write::Delete);
+    list
+}
+
+fn one(rt: &impl Abort, alloc: Global) -> Value {
+    Value::new(alloc, b"1").expect(rt, "room")
+}
+
+fn check_reads(rt: &impl Abort, list: &VersionList, key: &Key, value: &Value)
+    requires { IsInOrder (λ s. nat_lt s.0 4) (λ s. s.0) list.now }
+{
+    let writer = id(1);
+    let mine = Found::Value { writer, value };
+    assert_eq!(rt; list.latest(&Branches, key, Slot(3)), mine);
+    assert_eq!(rt; list.holder(&Branches, key, Slot(2)), Some(Slot(2)));
 }
 
 #[test]
-fn branches_read_their_own(rt: HostRuntime) -> Result<(), Fail> {
+fn branches_read_their_own(rt: HostRuntime) {
     let alloc = rt.alloc();
-    let key = Key::new(alloc, b"x")?;
-    let value = Value::new(alloc, b"1")?;
-    let list = branched(alloc, RandomState::new(&rt)?, &key)?;
-    let mine = Found::Value {
-        writer: id(1),
-        value: &value,
-    };
-    assert_eq!(rt; list.latest(&Branches, &key, Slot(3)), mine);
-    assert_eq!(rt; list.holder(&Branches, &key, Slot(2)), Some(Slot(2)));
-    Ok(())
+    let key = key(&rt, alloc, b"x");
+    let list = branched(&rt, alloc, keys(&rt), &key);
+    check_reads(&rt, &list, &key, &one(&rt, alloc));
+    drop(list);
 }
