@@ -1,7 +1,7 @@
 use Rattle.std.proofs.Common.{refl}
 use Rattle.tardis_base.specs.declared.replies.Reply.TheVariants.{Stat as Statistics}
 use Rattle.stream_tests.specs.Replier.{fresh_lines}
-use Rattle.stream_tests.proofs.of_serve_run.serve_row.Goals as goal
+use Rattle.stream_tests.proofs.of_serve_run.serve.Goals as goal
 
 pub serve_links-end-requires-clause-counts : goal.serve_links-end-requires-clause-counts
 serve_links-end-requires-clause-counts t c κs within = λ trail each.
