@@ -81,11 +81,7 @@ fn expects(
 }
 
 /// A gate of so many links, of which these calls fail.
-fn gate(
-    alloc: Global,
-    there: usize,
-    failing: &[u64],
-) -> Result<MemoryGate<MemoryLink>, Fail> {
+fn gate(alloc: Global, there: usize, failing: &[u64]) -> Result<MemoryGate<MemoryLink>, Fail> {
     let mut links = Vec::new(alloc);
     for _ in 0..there {
         links.push(client(alloc)?)?;
@@ -114,9 +110,11 @@ fn comes_to<R: Threads + Wait + Sync>(alloc: Global, rt: &R, row: &Row<'_>) -> R
         unserved: 0,
         end: row.end,
     };
-    Ok(served == want
-        && are_back(gate.back(), row.first, row.taken)
-        && trail.len() == usize::from(row.taken) * 23)
+    Ok(
+        served == want
+            && are_back(gate.back(), row.first, row.taken)
+            && trail.len() == usize::from(row.taken) * 23,
+    )
 }
 
 #[test]
