@@ -89,11 +89,7 @@ fn served(gate: PoolEnd, dial: u32, written: Result<(), WriteFault>) -> ServeEnd
 }
 
 /// A gate of so many links, of which these calls fail.
-fn gate(
-    alloc: Global,
-    there: usize,
-    failing: &[u64],
-) -> Result<MemoryGate<MemoryLink>, Fail> {
+fn gate(alloc: Global, there: usize, failing: &[u64]) -> Result<MemoryGate<MemoryLink>, Fail> {
     let mut links = Vec::new(alloc);
     for _ in 0..there {
         links.push(client(alloc)?)?;
@@ -118,7 +114,7 @@ fn serve<G: Gate, D: Dial + Send, O: Sink, R: Threads + Wait + Sync>(
         rounds: row.rounds.min(2),
         tidy: row.tidy,
     };
-    let end = serve_links(
+    serve_links(
         alloc,
         rt,
         Replier {},
@@ -127,8 +123,7 @@ fn serve<G: Gate, D: Dial + Send, O: Sink, R: Threads + Wait + Sync>(
         gate,
         dial,
         output,
-    );
-    end
+    )
 }
 
 /// How serving up to two links ends, and what is written of the trail.
