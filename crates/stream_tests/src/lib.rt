@@ -7,6 +7,10 @@
 #[cfg(test)]
 mod counters;
 #[cfg(test)]
+mod links;
+#[cfg(test)]
+mod locks;
+#[cfg(test)]
 mod of_dag_lock;
 #[cfg(test)]
 mod of_frame_cut;

@@ -3,13 +3,13 @@ ghost use Rattle.dag_lock.specs.Named.{lock_id};
 ghost use Rattle.dag_lock.specs.Steps.{Keeps};
 
 use crate::counters::Counter;
+use crate::locks::{closed, locked, written};
 use dag_lock::{DagLock, Pass};
 use std::alloc::Global;
 use std::sync::Wait;
 use std::test::Fail;
 use std::thread::{Threads, join};
 use tardis_base::ReplyBuf;
-use tardis_io::MemorySink;
 use trail_log::{Acted, Trailed};
 
 /// A request of actor 1, and what it comes to with the bytes of the reply.
@@ -28,6 +28,22 @@ fn answered<'a>(request: &'a [u8], acted: Acted, reply: &'a [u8]) -> Row<'a> {
     }
 }
 
+/// Asks for up to 100 bytes of the request.
+fn ask<R: Wait>(
+    rt: &R,
+    lock: &DagLock<Counter>,
+    pass: Pass,
+    actor: u16,
+    request: &[u8],
+    out: &mut ReplyBuf,
+) -> (Pass, Acted)
+    requires { pass.lock ≡ lock_id lock.now }
+    ensures { Keeps pass result.0 }
+{
+    let request = &request[..request.len().min(100)];
+    lock.step(rt, pass, actor, request, out)
+}
+
 /// Whether the request comes to what the row says.
 fn step_to<R: Wait>(
     rt: &R,
@@ -39,8 +55,7 @@ fn step_to<R: Wait>(
     requires { pass.lock ≡ lock_id lock.now }
     ensures { Keeps pass result.0 }
 {
-    let request = &row.request[..row.request.len().min(100)];
-    let (pass, acted) = lock.step(rt, pass, 1, request, out);
+    let (pass, acted) = ask(rt, lock, pass, 1, row.request, out);
     (pass, acted == row.acted && out.bytes() == row.reply)
 }
 
@@ -65,12 +80,6 @@ fn comes_to<R: Wait>(
     (mine, right)
 }
 
-/// Whether the trail is written as these bytes.
-fn is_written(alloc: Global, trail: &Trailed<Counter>, written: &[u8]) -> Result<bool, Fail> {
-    let mut sink = MemorySink::new(alloc, 100, 100, &[])?;
-    Ok(trail.write_trail(&mut sink).is_ok() && sink.bytes() == written)
-}
-
 /// Whether the requests come to what the rows say under a lock of a trail of so many bytes at most, which is written so
 /// when the lock is closed.
 fn closes_with<R: Wait>(
@@ -78,13 +87,12 @@ fn closes_with<R: Wait>(
     rt: &R,
     most: u64,
     rows: &[Row<'_>],
-    written: &[u8],
+    bytes: &[u8],
 ) -> Result<bool, Fail> {
     let mut out = ReplyBuf::new(alloc)?;
-    let trail = Trailed::new(alloc, Counter { acts: 0 }, most);
-    let (lock, pass) = DagLock::new(alloc, trail, 1)?;
+    let (lock, pass) = locked(alloc, Counter { acts: 0 }, most, 1)?;
     let (pass, right) = comes_to(rt, &lock, pass, rows, &mut out);
-    Ok(right && is_written(alloc, &lock.close(pass), written)?)
+    Ok(right && written(alloc, &closed(lock, pass))?.as_slice() == bytes)
 }
 
 #[test]
@@ -132,7 +140,7 @@ fn put<R: Wait>(
 {
     let [high, low] = value.to_be_bytes();
     let request = [4, 1, b'x', 0, 2, high, low];
-    let (pass, acted) = lock.step(rt, pass, actor, &request, out);
+    let (pass, acted) = ask(rt, lock, pass, actor, &request, out);
     (pass, acted == Acted::Done)
 }
 
@@ -216,17 +224,26 @@ fn four_put<R: Threads + Wait + Sync>(
     (lock.join(one.0, other.0), one.1.saturating_add(other.1))
 }
 
+/// The actor and the value of a write that stands in a trail.
+fn write_of(entry: &[u8]) -> Option<(u8, u16)> {
+    match entry {
+        [0, 0, 0, 9, 0, actor, 4, 1, b'x', 0, 2, high, low] => {
+            Some((*actor, u16::from_be_bytes([*high, *low])))
+        }
+        _ => None,
+    }
+}
+
 /// How many writes of each actor the trail has, if each actor's values are 0, 1, 2 and so on, and nothing else is there.
 fn counts(alloc: Global, trail: &Trailed<Counter>) -> Result<[u16; 5], Fail> {
-    let mut sink = MemorySink::new(alloc, 60_000, 60_000, &[])?;
-    let _ = trail.write_trail(&mut sink);
+    let bytes = written(alloc, trail)?;
     let mut next = [0u16; 5];
-    for entry in sink.bytes().chunks(13) {
-        let [0, 0, 0, 9, 0, actor, 4, 1, b'x', 0, 2, high, low] = entry else {
+    for entry in bytes.chunks(13) {
+        let Some((actor, value)) = write_of(entry) else {
             return Ok([0; 5]);
         };
-        let at = *actor as usize % 5;
-        if next[at] != u16::from_be_bytes([*high, *low]) {
+        let at = usize::from(actor % 5);
+        if next[at] != value {
             return Ok([0; 5]);
         }
         next[at] = next[at].saturating_add(1);
@@ -234,27 +251,44 @@ fn counts(alloc: Global, trail: &Trailed<Counter>) -> Result<[u16; 5], Fail> {
     Ok(next)
 }
 
+/// How many writes of two actors at once are answered under a lock of a trail of so many bytes at most, and the trail.
+fn two_locked<R: Threads + Wait + Sync>(
+    rt: &R,
+    alloc: Global,
+    most: u64,
+    writes: u16,
+) -> Result<(u64, Trailed<Counter>), Fail> {
+    let (lock, pass) = locked(alloc, Counter { acts: 0 }, most, 2)?;
+    let (pass, done) = two_put(rt, alloc, &lock, pass, (1, 2), writes);
+    Ok((done, closed(lock, pass)))
+}
+
+/// The same for four actors.
+fn four_locked<R: Threads + Wait + Sync>(
+    rt: &R,
+    alloc: Global,
+    most: u64,
+    writes: u16,
+) -> Result<(u64, Trailed<Counter>), Fail> {
+    let (lock, pass) = locked(alloc, Counter { acts: 0 }, most, 4)?;
+    let (pass, done) = four_put(rt, alloc, &lock, pass, writes);
+    Ok((done, closed(lock, pass)))
+}
+
 #[test]
 fn two_actors_at_once_have_each_request_once_and_in_order(rt: HostRuntime) -> Result<(), Fail> {
-    let trail = Trailed::new(rt.alloc(), Counter { acts: 0 }, 1 << 30);
-    let (lock, pass) = DagLock::new(rt.alloc(), trail, 2)?;
-    let (pass, done) = two_put(&rt, rt.alloc(), &lock, pass, (1, 2), 1_000);
+    let (done, trail) = two_locked(&rt, rt.alloc(), 1 << 30, 1_000)?;
     assert_eq!(rt; done, 2_000);
-    assert_eq!(rt;
-        counts(rt.alloc(), &lock.close(pass))?,
-        [0, 1_000, 1_000, 0, 0]
-    );
+    assert_eq!(rt; counts(rt.alloc(), &trail)?, [0, 1_000, 1_000, 0, 0]);
     Ok(())
 }
 
 #[test]
 fn four_actors_at_once_have_each_request_once_and_in_order(rt: HostRuntime) -> Result<(), Fail> {
-    let trail = Trailed::new(rt.alloc(), Counter { acts: 0 }, 1 << 30);
-    let (lock, pass) = DagLock::new(rt.alloc(), trail, 4)?;
-    let (pass, done) = four_put(&rt, rt.alloc(), &lock, pass, 1_000);
+    let (done, trail) = four_locked(&rt, rt.alloc(), 1 << 30, 1_000)?;
     assert_eq!(rt; done, 4_000);
     assert_eq!(rt;
-        counts(rt.alloc(), &lock.close(pass))?,
+        counts(rt.alloc(), &trail)?,
         [0, 1_000, 1_000, 1_000, 1_000]
     );
     Ok(())
@@ -262,11 +296,8 @@ fn four_actors_at_once_have_each_request_once_and_in_order(rt: HostRuntime) -> R
 
 #[test]
 fn a_trail_fills_up_while_two_actors_ask(rt: HostRuntime) -> Result<(), Fail> {
-    let trail = Trailed::new(rt.alloc(), Counter { acts: 0 }, 13 * 50 + 12);
-    let (lock, pass) = DagLock::new(rt.alloc(), trail, 2)?;
-    let (pass, done) = two_put(&rt, rt.alloc(), &lock, pass, (1, 2), 40);
+    let (done, trail) = two_locked(&rt, rt.alloc(), 13 * 50 + 12, 40)?;
     assert_eq!(rt; done, 50);
-    let trail = lock.close(pass);
     assert_eq!(rt; trail.bytes(), 650);
     let counted = counts(rt.alloc(), &trail)?;
     assert_eq!(rt; counted[1].saturating_add(counted[2]), 50);

@@ -1,6 +1,6 @@
 ghost use Rattle.std.specs.Prelude.{◌≡◌, ◌==◌, true, false, [], length, take, not, OnOk, OnErr, IsOk, refl};
 
-use hub::{End, MemoryPorts, Move, Seen, Upkeep, one_trail, serve};
+use hub::{End, MemoryPorts, Move, Ports, Seen, Upkeep, one_trail, serve};
 use std::alloc::Global;
 use std::test::Fail;
 use tardis_base::{ByteList, Machine, NoMemory, ReplyBuf};
@@ -86,11 +86,16 @@ fn put_call(log: &mut Vec<u8>, call: &Seen) -> Result<(), Fail> {
     Ok(())
 }
 
+/// Whether an edge is served until it stops.
+fn is_served<P: Ports>(alloc: Global, machine: &mut Echo, ports: &mut P) -> Result<bool, Fail> {
+    Ok(serve(alloc, machine, ports, None)? == End::Stopped)
+}
+
 /// The calls that an edge with these moves sees.
 fn calls(alloc: Global, machine: &mut Echo, moves: Vec<Move>) -> Result<Vec<u8>, Fail> {
     let mut ports = MemoryPorts::new(alloc, moves);
     let mut log = Vec::new(alloc);
-    if serve(alloc, machine, &mut ports, None)? != End::Stopped {
+    if !is_served(alloc, machine, &mut ports)? {
         return Ok(log);
     }
     let Some(seen) = ports.seen() else {
@@ -102,26 +107,54 @@ fn calls(alloc: Global, machine: &mut Echo, moves: Vec<Move>) -> Result<Vec<u8>,
     Ok(log)
 }
 
+/// A move, with its bytes lent.
+#[derive(Clone, Copy)]
+enum Step<'a> {
+    Accept(bool),
+    Read(usize, &'a [u8]),
+    Write(usize, usize),
+    Close(usize),
+}
+
+fn move_of(alloc: Global, step: Step<'_>) -> Result<Move, Fail> {
+    match step {
+        Step::Accept(comes) => Ok(Move::Accept { comes }),
+        Step::Read(slot, bytes) => read(alloc, slot, bytes),
+        Step::Write(slot, most) => Ok(Move::Write { slot, most }),
+        Step::Close(slot) => Ok(Move::Close { slot }),
+    }
+}
+
+fn moves_of(alloc: Global, steps: &[Step<'_>]) -> Result<Vec<Move>, Fail> {
+    let mut moves = Vec::new(alloc);
+    for step in steps {
+        moves.push(move_of(alloc, *step)?)?;
+    }
+    Ok(moves)
+}
+
 #[test]
 fn each_connection_has_its_own_replies_and_a_closed_session(rt: HostRuntime) -> Result<(), Fail> {
     let alloc = rt.alloc();
     one_trail::<Echo>();
     let mut machine = Echo::new(alloc);
-    let mut moves = Vec::new(alloc);
-    moves.push(Move::Accept { comes: true })?;
-    moves.push(Move::Accept { comes: false })?;
-    moves.push(Move::Accept { comes: true })?;
-    moves.push(read(alloc, 0, b"\x00\x00\x00\x02a")?)?;
-    moves.push(read(alloc, 1, b"\x00\x00\x00\x01b\x00\x00\x00\x00")?)?;
-    moves.push(Move::Write { slot: 0, most: 9 })?;
-    moves.push(read(alloc, 0, b"c\x00\x00")?)?;
-    moves.push(Move::Write { slot: 1, most: 3 })?;
-    moves.push(Move::Write { slot: 0, most: 9 })?;
-    moves.push(Move::Write { slot: 1, most: 99 })?;
-    moves.push(Move::Close { slot: 0 })?;
-    moves.push(Move::Accept { comes: true })?;
-    moves.push(read(alloc, 0, b"\x00\x00\x00\x01d")?)?;
-    moves.push(Move::Write { slot: 0, most: 99 })?;
+    let steps = [
+        Step::Accept(true),
+        Step::Accept(false),
+        Step::Accept(true),
+        Step::Read(0, b"\x00\x00\x00\x02a"),
+        Step::Read(1, b"\x00\x00\x00\x01b\x00\x00\x00\x00"),
+        Step::Write(0, 9),
+        Step::Read(0, b"c\x00\x00"),
+        Step::Write(1, 3),
+        Step::Write(0, 9),
+        Step::Write(1, 99),
+        Step::Close(0),
+        Step::Accept(true),
+        Step::Read(0, b"\x00\x00\x00\x01d"),
+        Step::Write(0, 99),
+    ];
+    let moves = moves_of(alloc, &steps)?;
     let log = calls(alloc, &mut machine, moves)?;
     let want: &[u8] =
         b"A0a1A1R05R19R03W1\x00\x00\x00W0\x00\x00\x00\x02acW1\x01b\x00\x00\x00\x01\x16C0A0R05W0\x00\x00\x00\x01d";
@@ -139,24 +172,33 @@ fn eights(alloc: Global, count: usize) -> Result<Move, Fail> {
     read(alloc, 0, bytes.as_slice())
 }
 
-#[test]
-fn upkeep_comes_after_so_many_replies_and_is_counted_anew(rt: HostRuntime) -> Result<(), Fail> {
-    let alloc = rt.alloc();
-    let mut machine = Echo::new(alloc);
+/// The moves of one connection that reads so many of these requests, each time with one of another code behind them.
+fn moves_with(alloc: Global, counts: &[usize]) -> Result<Vec<Move>, Fail> {
     let mut moves = Vec::new(alloc);
     moves.push(Move::Accept { comes: true })?;
-    for count in [63, 1, 63, 2, 63] {
-        moves.push(eights(alloc, count)?)?;
+    for count in counts {
+        moves.push(eights(alloc, *count)?)?;
         moves.push(read(alloc, 0, b"\x00\x00\x00\x01\x07")?)?;
     }
-    let mut ports = MemoryPorts::new(alloc, moves);
+    Ok(moves)
+}
+
+/// Whether an edge is served until it stops, with an upkeep after 64 replies to these requests.
+fn is_kept_up<P: Ports>(alloc: Global, machine: &mut Echo, ports: &mut P) -> Result<bool, Fail> {
     let upkeep = Upkeep {
         code: 8,
         after: 64,
         requests: &[&[14], &[15, 0, 64]],
     };
-    let end = serve(alloc, &mut machine, &mut ports, Some(upkeep))?;
-    assert!(rt; end == End::Stopped);
+    Ok(serve(alloc, machine, ports, Some(upkeep))? == End::Stopped)
+}
+
+#[test]
+fn upkeep_comes_after_so_many_replies_and_is_counted_anew(rt: HostRuntime) -> Result<(), Fail> {
+    let alloc = rt.alloc();
+    let mut machine = Echo::new(alloc);
+    let mut ports = MemoryPorts::new(alloc, moves_with(alloc, &[63, 1, 63, 2, 63])?);
+    assert!(rt; is_kept_up(alloc, &mut machine, &mut ports)?);
     assert!(rt; machine.own.as_slice() == [(64, 14), (64, 15), (129, 14), (129, 15)].as_slice());
     Ok(())
 }

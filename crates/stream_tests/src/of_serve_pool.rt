@@ -1,25 +1,53 @@
 ghost use Rattle.std.specs.Prelude.{◌≡◌, ◌+◌, ◌%◌, ◌<◌, ◌≤◌, [], ◌∷◌, ℕ, None, false, true, refl};
 ghost use Rattle.std.proofs.Common.{ap};
+ghost use Rattle.dag_lock.specs.Named.{lock_id};
+ghost use Rattle.dag_lock.specs.Steps.{Keeps};
 
 use crate::counters::Counter;
-use dag_lock::DagLock;
+use crate::links::client;
+use crate::locks::{closed, locked, written};
+use dag_lock::{DagLock, Pass};
 use serve_pool::{PoolEnd, Served, serve_all};
 use std::alloc::Global;
+use std::sync::Wait;
 use std::sync::atomic::{AtomicU64, Ordering};
 use std::test::Fail;
-use tardis_io::{Duplex, Failed, Link, MemoryGate, MemoryLink, MemorySink, MemorySource, Sink};
-use trail_log::Trailed;
+use std::thread::Threads;
+use tardis_io::{Duplex, Failed, Gate, Link, MemoryGate, MemoryLink, Sink};
 
-/// Two frames, one in each take.
-fn link(alloc: Global) -> Result<MemoryLink, Fail> {
-    let source = MemorySource::new(
-        alloc,
-        b"\x00\x00\x00\x02\x01\x00\x00\x00\x00\x02\x02\x00",
-        6,
-        &[],
-    )?;
-    let sink = MemorySink::new(alloc, 100, 100, &[])?;
-    Ok(MemoryLink::new(source, sink))
+/// The pieces of the pass: one more than the links of any row, at least.
+const PIECES: u32 = 10;
+
+/// Serves up to nine links of the gate, numbered from `first` on where such numbers are there.
+fn serve<G: Gate, R: Threads + Wait + Sync>(
+    alloc: Global,
+    rt: &R,
+    lock: &DagLock<Counter>,
+    pass: Pass,
+    gate: &mut G,
+    first: u16,
+    links: u16,
+) -> (Pass, Served)
+    requires lock { pass.lock ≡ lock_id lock.now }
+    requires pieces { pass.pieces ≡ 10 }
+    ensures { Keeps pass result.0 }
+{
+    let links = links.min(9);
+    let first = first.min(65_535 - links.saturating_sub(1));
+    serve_all(alloc, rt, lock, pass, gate, first, links)
+}
+
+/// What serving comes to under a lock of its own, and what is written of the trail then.
+fn serve_locked<G: Gate, R: Threads + Wait + Sync>(
+    alloc: Global,
+    rt: &R,
+    gate: &mut G,
+    first: u16,
+    links: u16,
+) -> Result<(Served, Vec<u8>), Fail> {
+    let (lock, pass) = locked(alloc, Counter { acts: 0 }, 1_000, PIECES)?;
+    let (pass, served) = serve(alloc, rt, &lock, pass, gate, first, links);
+    Ok((served, written(alloc, &closed(lock, pass))?))
 }
 
 /// How many links there are, which calls of the gate fail, the first number and how many links may be taken; and what
@@ -52,6 +80,43 @@ fn expects(
     }
 }
 
+/// A gate of so many links, of which these calls fail.
+fn gate(alloc: Global, there: usize, failing: &[u64]) -> Result<MemoryGate<MemoryLink>, Fail> {
+    let mut links = Vec::new(alloc);
+    for _ in 0..there {
+        links.push(client(alloc)?)?;
+    }
+    Ok(MemoryGate::new(alloc, links, failing)?)
+}
+
+/// Whether the links were put back, the last of them first, with the numbers from `first` on, each given two replies.
+fn are_back(back: &[(u16, MemoryLink)], first: u16, taken: u16) -> bool {
+    let mut next = u32::from(first) + u32::from(taken);
+    for (number, link) in back {
+        next = next.saturating_sub(1);
+        if u32::from(*number) != next || link.sink().bytes().len() != 10 {
+            return false;
+        }
+    }
+    next == u32::from(first)
+}
+
+/// Whether serving comes to what the row says, with two requests and a Close of each session in the trail.
+fn comes_to<R: Threads + Wait + Sync>(alloc: Global, rt: &R, row: &Row<'_>) -> Result<bool, Fail> {
+    let mut gate = gate(alloc, row.there, row.failing)?;
+    let (served, trail) = serve_locked(alloc, rt, &mut gate, row.first, row.links)?;
+    let want = Served {
+        taken: row.taken,
+        unserved: 0,
+        end: row.end,
+    };
+    Ok(
+        served == want
+            && are_back(gate.back(), row.first, row.taken)
+            && trail.len() == usize::from(row.taken) * 23,
+    )
+}
+
 #[test]
 fn each_link_is_served_once_and_put_back_with_its_number(rt: HostRuntime) -> Result<(), Fail> {
     let rows = [
@@ -63,32 +128,7 @@ fn each_link_is_served_once_and_put_back_with_its_number(rt: HostRuntime) -> Res
         expects(2, &[], 1, 0, 0, PoolEnd::Done),
     ];
     for row in rows {
-        let mut links = Vec::new(rt.alloc());
-        for _ in 0..row.there {
-            links.push(link(rt.alloc())?)?;
-        }
-        let mut gate = MemoryGate::new(rt.alloc(), links, row.failing)?;
-        let trail = Trailed::new(rt.alloc(), Counter { acts: 0 }, 1_000);
-        let (lock, pass) = DagLock::new(rt.alloc(), trail, 10)?;
-        let links = row.links.min(9);
-        let first = row.first.min(65_535 - links.saturating_sub(1));
-        let (pass, served) = serve_all(rt.alloc(), &rt, &lock, pass, &mut gate, first, links);
-        let want = Served {
-            taken: row.taken,
-            unserved: 0,
-            end: row.end,
-        };
-        assert_eq!(rt; served, want);
-        let mut next = u32::from(first) + u32::from(row.taken);
-        for (number, link) in gate.back() {
-            next = next.saturating_sub(1);
-            assert!(rt; u32::from(*number) == next && link.sink().bytes().len() == 10);
-        }
-        assert_eq!(rt; next, u32::from(first));
-        // two requests and a Close of each session
-        let mut kept = MemorySink::new(rt.alloc(), 1_000, 1_000, &[])?;
-        assert!(rt; lock.close(pass).write_trail(&mut kept).is_ok());
-        assert_eq!(rt; kept.bytes().len() as u64, u64::from(row.taken) * 23);
+        assert!(rt; comes_to(rt.alloc(), &rt, &row)?);
     }
     Ok(())
 }
@@ -166,34 +206,49 @@ impl Link for Waiting<'_> {
     }
 }
 
+/// A link that waits for the other link.
+fn that_waits<'a>(
+    alloc: Global,
+    own: &'a AtomicU64,
+    other: &'a AtomicU64,
+) -> Result<Waiting<'a>, Fail> {
+    Ok(Waiting {
+        link: client(alloc)?,
+        takes: 0,
+        faults: 0,
+        own,
+        other,
+    })
+}
+
+/// A gate of two links that wait for each other.
+fn waiting_gate<'a>(
+    alloc: Global,
+    one: &'a AtomicU64,
+    other: &'a AtomicU64,
+) -> Result<MemoryGate<Waiting<'a>>, Fail> {
+    let mut links = Vec::new(alloc);
+    links.push(that_waits(alloc, one, other)?)?;
+    links.push(that_waits(alloc, other, one)?)?;
+    Ok(MemoryGate::new(alloc, links, &[])?)
+}
+
+/// Whether so many links were put back, each without a fault and given two replies.
+fn have_waited(back: &[(u16, Waiting<'_>)], count: usize) -> bool {
+    for (_, link) in back {
+        if link.faults != 0 || link.link.sink().bytes().len() != 10 {
+            return false;
+        }
+    }
+    back.len() == count
+}
+
 #[test]
 fn two_links_are_served_at_the_same_time(rt: HostRuntime) -> Result<(), Fail> {
     let (one, other) = (AtomicU64::new(0), AtomicU64::new(0));
-    let links = vec![in rt.alloc();
-        Waiting {
-            link: link(rt.alloc())?,
-            takes: 0,
-            faults: 0,
-            own: &one,
-            other: &other
-        },
-        Waiting {
-            link: link(rt.alloc())?,
-            takes: 0,
-            faults: 0,
-            own: &other,
-            other: &one
-        },
-    ]?;
-    let mut gate = MemoryGate::new(rt.alloc(), links, &[])?;
-    let trail = Trailed::new(rt.alloc(), Counter { acts: 0 }, 1_000);
-    let (lock, pass) = DagLock::new(rt.alloc(), trail, 4)?;
-    let (pass, served) = serve_all(rt.alloc(), &rt, &lock, pass, &mut gate, 1, 2);
-    let _ = lock.close(pass);
+    let mut gate = waiting_gate(rt.alloc(), &one, &other)?;
+    let (served, _) = serve_locked(rt.alloc(), &rt, &mut gate, 1, 2)?;
     assert_eq!(rt; served.taken, 2);
-    assert_eq!(rt; gate.back().len(), 2);
-    for (_, link) in gate.back() {
-        assert!(rt; link.faults == 0 && link.link.sink().bytes().len() == 10);
-    }
+    assert!(rt; have_waited(gate.back(), 2));
     Ok(())
 }

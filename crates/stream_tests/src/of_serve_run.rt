@@ -1,3 +1,4 @@
+use crate::links::client;
 use crate::repliers::Replier;
 use serve_pool::PoolEnd;
 use serve_run::{ServeEnd, ServeOptions, Serving, serve_links};
@@ -6,19 +7,9 @@ use std::alloc::Global;
 use std::sync::Wait;
 use std::test::Fail;
 use std::thread::Threads;
-use tardis_io::{MemoryDial, MemoryGate, MemoryLink, MemorySink, MemorySource, WriteFault};
-
-/// Two requests of a client.
-fn link(alloc: Global) -> Result<MemoryLink, Fail> {
-    let source = MemorySource::new(
-        alloc,
-        b"\x00\x00\x00\x02\x01\x00\x00\x00\x00\x02\x02\x00",
-        6,
-        &[],
-    )?;
-    let sink = MemorySink::new(alloc, 100, 100, &[])?;
-    Ok(MemoryLink::new(source, sink))
-}
+use tardis_io::{
+    Dial, Gate, MemoryDial, MemoryGate, MemoryLink, MemorySink, MemorySource, Sink, WriteFault,
+};
 
 /// A batch of one record.
 const ONE: &[u8] =
@@ -97,33 +88,59 @@ fn served(gate: PoolEnd, dial: u32, written: Result<(), WriteFault>) -> ServeEnd
     })
 }
 
+/// A gate of so many links, of which these calls fail.
+fn gate(alloc: Global, there: usize, failing: &[u64]) -> Result<MemoryGate<MemoryLink>, Fail> {
+    let mut links = Vec::new(alloc);
+    for _ in 0..there {
+        links.push(client(alloc)?)?;
+    }
+    Ok(MemoryGate::new(alloc, links, failing)?)
+}
+
+/// Serves up to two links, and makes up to two rounds with up to 15 peers.
+fn serve<G: Gate, D: Dial + Send, O: Sink, R: Threads + Wait + Sync>(
+    alloc: Global,
+    rt: &R,
+    row: Row<'_>,
+    peers: &[String],
+    gate: &mut G,
+    dial: &mut D,
+    output: &mut O,
+) -> ServeEnd {
+    let options = ServeOptions {
+        address: "unix:s",
+        links: 2,
+        peers: &peers[..peers.len().min(15)],
+        rounds: row.rounds.min(2),
+        tidy: row.tidy,
+    };
+    serve_links(
+        alloc,
+        rt,
+        Replier {},
+        row.max_trail,
+        options,
+        gate,
+        dial,
+        output,
+    )
+}
+
 /// How serving up to two links ends, and what is written of the trail.
 fn serve_row<R: Threads + Wait + Sync>(
     alloc: Global,
     rt: &R,
     row: Row<'_>,
 ) -> Result<(ServeEnd, Vec<u8>), Fail> {
-    let mut links = Vec::new(alloc);
-    for _ in 0..row.there {
-        links.push(link(alloc)?)?;
-    }
-    let mut gate = MemoryGate::new(alloc, links, row.gate)?;
+    let mut gate = gate(alloc, row.there, row.gate)?;
     let mut dial = dial(alloc, row.peers)?;
     let mut output = MemorySink::new(alloc, 1_000, 1_000, row.output)?;
     let peers = vec![in alloc; String::from_str(alloc, "unix:p")?]?;
-    let options = ServeOptions {
-        address: "unix:s",
-        links: 2,
-        peers: peers.as_slice(),
-        rounds: row.rounds.min(2),
-        tidy: row.tidy,
-    };
-    let end = serve_links(
+    let end = serve(
         alloc,
         rt,
-        Replier {},
-        row.max_trail,
-        options,
+        row,
+        peers.as_slice(),
         &mut gate,
         &mut dial,
         &mut output,

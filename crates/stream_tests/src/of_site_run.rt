@@ -72,6 +72,13 @@ const FIRST_REPLY: &[u8; 6] = b"\x00\x00\x00\x02ab";
 
 #[test]
 fn pieces_of_any_size_give_the_same_output(rt: HostRuntime) -> Result<(), Fail> {
+    let long = Status::LongFrame { len: 1_048_577 };
+    let rows: [(&[u8], Status, &[u8]); 4] = [
+        (b"", Status::Ok, b""),
+        (TWO, Status::Ok, REPLIES),
+        (FIRST_AND_PART, Status::Cut, FIRST_REPLY),
+        (FIRST_AND_LONG, long, FIRST_REPLY),
+    ];
     for (take, give) in [(1, 1), (1, 1_000), (1_000, 1), (1_000, 1_000), (5, 3)] {
         let devices = Devices {
             take,
@@ -79,19 +86,9 @@ fn pieces_of_any_size_give_the_same_output(rt: HostRuntime) -> Result<(), Fail> 
             give,
             failing_gives: &WELL,
         };
-        let long = Status::LongFrame { len: 1_048_577 };
-        assert!(rt; runs_to(rt.alloc(), b"", &devices, Status::Ok, b"")?);
-        assert!(rt; runs_to(rt.alloc(), TWO, &devices, Status::Ok, REPLIES)?);
-        assert!(rt;
-            runs_to(
-                rt.alloc(),
-                FIRST_AND_PART,
-                &devices,
-                Status::Cut,
-                FIRST_REPLY
-            )?
-        );
-        assert!(rt; runs_to(rt.alloc(), FIRST_AND_LONG, &devices, long, FIRST_REPLY)?);
+        for (input, status, output) in rows {
+            assert!(rt; runs_to(rt.alloc(), input, &devices, status, output)?);
+        }
     }
     Ok(())
 }

@@ -1,11 +1,15 @@
+ghost use Rattle.std.specs.Prelude.{◌≡◌};
+ghost use Rattle.dag_lock.specs.Named.{lock_id};
+ghost use Rattle.dag_lock.specs.Steps.{Keeps};
+
+use crate::locks::{closed, locked, written};
 use crate::repliers::Replier;
-use dag_lock::DagLock;
+use dag_lock::{DagLock, Pass};
 use site_sync::{Rounds, SyncEnd, run_rounds, sync_round};
 use std::alloc::Global;
 use std::sync::Wait;
 use std::test::Fail;
-use tardis_io::{MemoryDial, MemoryLink, MemorySink, MemorySource};
-use trail_log::Trailed;
+use tardis_io::{Dial, MemoryDial, MemoryLink, MemorySink, MemorySource};
 
 /// What a peer sends, the takes, gives and calls that fail, and how much trail there may be; how the exchange ends, what
 /// the peer is given, and how many bytes the trail has then.
@@ -37,31 +41,63 @@ fn link(alloc: Global, sent: &[u8], takes: &[u64], gives: &[u64]) -> Result<Memo
     Ok(MemoryLink::new(source, sink))
 }
 
-/// Makes the exchange of a row, and tells whether it ended so, what the links were given that were put back finished, and how
-/// many bytes the trail has.
-fn sync_row<R: Wait>(alloc: Global, rt: &R, row: Row<'_>) -> Result<(bool, Vec<u8>, usize), Fail> {
-    let (takes, gives, calls) = row.failing;
+/// A dial to links that send these, one after another, of which each fails so, and the calls too.
+fn dial(
+    alloc: Global,
+    sent: &[&[u8]],
+    failing: (&[u64], &[u64], &[u64]),
+) -> Result<MemoryDial<MemoryLink>, Fail> {
+    let (takes, gives, calls) = failing;
     let mut links = Vec::new(alloc);
-    links.push(link(alloc, row.sent, takes, gives)?)?;
-    let mut dial = MemoryDial::new(alloc, links, calls)?;
-    let trail = Trailed::new(alloc, Replier {}, row.most);
-    let (lock, pass) = DagLock::new(alloc, trail, 1)?;
-    let (pass, end) = sync_round(alloc, rt, &lock, pass, &mut dial, "unix:p");
+    for bytes in sent {
+        links.push(link(alloc, bytes, takes, gives)?)?;
+    }
+    Ok(MemoryDial::new(alloc, links, calls)?)
+}
+
+/// What the links were given that were put back finished.
+fn given(alloc: Global, dial: &MemoryDial<MemoryLink>) -> Result<Vec<u8>, Fail> {
     let mut given = Vec::new(alloc);
     for link in dial.back() {
         if link.is_finished() {
             given.extend_from_slice(link.sink().bytes())?;
         }
     }
-    let mut kept = MemorySink::new(alloc, 1_000, 1_000, &[])?;
-    let _ = lock.close(pass).write_trail(&mut kept);
-    Ok((end == row.end, given, kept.bytes().len()))
+    Ok(given)
+}
+
+/// Makes an exchange.
+fn sync<D: Dial, R: Wait>(
+    alloc: Global,
+    rt: &R,
+    lock: &DagLock<Replier>,
+    pass: Pass,
+    dial: &mut D,
+) -> (Pass, SyncEnd)
+    requires { pass.lock ≡ lock_id lock.now }
+    ensures { Keeps pass result.0 }
+{
+    sync_round(alloc, rt, lock, pass, dial, "unix:p")
+}
+
+/// How an exchange ends under a lock of its own, and how many bytes the trail has then.
+fn sync_locked<R: Wait>(
+    alloc: Global,
+    rt: &R,
+    most: u64,
+    dial: &mut MemoryDial<MemoryLink>,
+) -> Result<(SyncEnd, usize), Fail> {
+    let (lock, pass) = locked(alloc, Replier {}, most, 1)?;
+    let (pass, end) = sync(alloc, rt, &lock, pass, dial);
+    Ok((end, written(alloc, &closed(lock, pass))?.len()))
 }
 
 /// Whether the exchange comes to what the row says.
 fn comes_to<R: Wait>(alloc: Global, rt: &R, row: Row<'_>) -> Result<bool, Fail> {
-    let (ended, given, trail) = sync_row(alloc, rt, row)?;
-    Ok(ended && given.as_slice() == row.given && trail == row.trail)
+    let mut dial = dial(alloc, &[row.sent], row.failing)?;
+    let (end, trail) = sync_locked(alloc, rt, row.most, &mut dial)?;
+    let given = given(alloc, &dial)?;
+    Ok(end == row.end && given.as_slice() == row.given && trail == row.trail)
 }
 
 const ALL: SyncEnd = SyncEnd::Done {
@@ -179,34 +215,55 @@ fn an_exchange_ends_as_its_peer_its_link_and_the_trail_let_it(rt: HostRuntime) -
     Ok(())
 }
 
+/// Peers at these addresses.
+fn peers(alloc: Global, addresses: &[&str]) -> Result<Vec<String>, Fail> {
+    let mut peers = Vec::new(alloc);
+    for address in addresses {
+        peers.push(String::from_str(alloc, *address)?)?;
+    }
+    Ok(peers)
+}
+
+/// Whether two rounds with up to 15 peers, each with its collection, come to this.
+fn rounds<D: Dial, R: Wait>(
+    alloc: Global,
+    rt: &R,
+    lock: &DagLock<Replier>,
+    pass: Pass,
+    dial: &mut D,
+    peers: &[String],
+    want: Rounds,
+) -> (Pass, bool)
+    requires { pass.lock ≡ lock_id lock.now }
+    ensures { Keeps pass result.0 }
+{
+    let peers = &peers[..peers.len().min(15)];
+    let (pass, made) = run_rounds(alloc, rt, lock, pass, dial, peers, 2, true);
+    (pass, made == Ok(want))
+}
+
+/// Whether the rounds come to this under a lock of their own, and how many bytes the trail has then.
+fn rounds_locked<R: Wait>(
+    alloc: Global,
+    rt: &R,
+    dial: &mut MemoryDial<MemoryLink>,
+    peers: &[String],
+    want: Rounds,
+) -> Result<(bool, usize), Fail> {
+    let (lock, pass) = locked(alloc, Replier {}, 1_000, 1)?;
+    let (pass, right) = rounds(alloc, rt, &lock, pass, dial, peers, want);
+    Ok((right, written(alloc, &closed(lock, pass))?.len()))
+}
+
 #[test]
 fn rounds_call_each_peer_and_count_what_failed(rt: HostRuntime) -> Result<(), Fail> {
     let alloc = rt.alloc();
-    let mut links = Vec::new(alloc);
-    for sent in [ONE, WITHOUT, ONE] {
-        links.push(link(alloc, sent, &[], &[])?)?;
-    }
-    let mut dial = MemoryDial::new(alloc, links, &[])?;
-    let mut peers = Vec::new(alloc);
-    for address in ["unix:p", "unix:q"] {
-        peers.push(String::from_str(alloc, address)?)?;
-    }
+    let mut dial = dial(alloc, &[ONE, WITHOUT, ONE], (&[], &[], &[]))?;
+    let peers = peers(alloc, &["unix:p", "unix:q"])?;
     assert_eq!(rt; peers.len(), 2);
-    let trail = Trailed::new(alloc, Replier {}, 1_000);
-    let (lock, pass) = DagLock::new(alloc, trail, 1)?;
-    let (pass, made) = run_rounds(
-        alloc,
-        &rt,
-        &lock,
-        pass,
-        &mut dial,
-        peers.as_slice(),
-        2,
-        true,
-    );
-    assert_eq!(rt; made, Ok(Rounds { dial: 1, memory: 1 }));
-    let mut kept = MemorySink::new(alloc, 1_000, 1_000, &[])?;
-    assert!(rt; lock.close(pass).write_trail(&mut kept).is_ok());
-    assert_eq!(rt; kept.bytes().len(), 109);
+    let want = Rounds { dial: 1, memory: 1 };
+    let (right, trail) = rounds_locked(alloc, &rt, &mut dial, peers.as_slice(), want)?;
+    assert!(rt; right);
+    assert_eq!(rt; trail, 109);
     Ok(())
 }

@@ -3,7 +3,21 @@ use std::fs::{self, Files};
 use std::io::{Error, ErrorKind};
 use std::net::{Net, TcpListener, TcpStream};
 use std::test::Fail;
-use tardis_io::{Dial, Duplex, Failed, Gate, Link, Sink};
+use tardis_io::{Dial, Failed, Gate, Link};
+
+/// Whether the link is given all of these, which must be some.
+fn gives<L: Link>(link: &mut L, bytes: &[u8]) -> bool {
+    !bytes.is_empty() && link.give(bytes) == Ok(bytes.len())
+}
+
+/// Whether one take of the link gives these, up to eight, and none at its end.
+fn takes<L: Link>(link: &mut L, bytes: &[u8]) -> bool {
+    let mut buf = [0u8; 8];
+    match link.take(&mut buf) {
+        Ok(count) => &buf[..count] == bytes,
+        Err(Failed) => false,
+    }
+}
 
 /// Whether bytes go over a connection at the address, both ways, and one way to their end.
 fn talks<R: Files + Net<Listener = TcpListener, Stream = TcpStream>>(
@@ -18,13 +32,9 @@ fn talks<R: Files + Net<Listener = TcpListener, Stream = TcpStream>>(
     let Ok(Some(mut far)) = gate.next() else {
         return Ok(false);
     };
-    let mut buf = [0u8; 8];
-    let mut right = near.give(b"ab") == Ok(2)
-        && far.take(&mut buf) == Ok(2)
-        && &buf[..2] == b"ab".as_slice();
-    right = right && far.give(b"c") == Ok(1);
+    let mut right = gives(&mut near, b"ab") && takes(&mut far, b"ab") && gives(&mut far, b"c");
     far.finish();
-    right = right && near.take(&mut buf) == Ok(1) && near.take(&mut buf) == Ok(0);
+    right = right && takes(&mut near, b"c") && takes(&mut near, b"");
     near.finish();
     right = right && near.read_faults() == 0 && far.write_faults() == 0;
     gate.put_back(1, far);

@@ -1,8 +1,8 @@
 use Rattle.std.proofs.Common.{refl}
 use Rattle.tardis_base.specs.declared.replies.Reply.TheVariants.{Stat as Statistics}
 use Rattle.stream_tests.specs.Replier.{fresh_lines}
-use Rattle.stream_tests.proofs.of_site_sync.rounds_call_each_peer_and_count_what_failed.Goals as goal
+use Rattle.stream_tests.proofs.of_site_sync.sync.Goals as goal
 
-pub run_rounds-pass-requires-clause-counts : goal.run_rounds-pass-requires-clause-counts
-run_rounds-pass-requires-clause-counts t c = λ lt trail each.
+pub sync_round-requires-clause-counts : goal.sync_round-requires-clause-counts
+sync_round-requires-clause-counts g t c = λ lt trail each.
     (fresh_lines, record { told = Statistics 1 1 1 0 fresh_lines; spelled = (refl, refl); states = refl })

@@ -1,8 +1,8 @@
 use Rattle.std.proofs.Common.{refl}
 use Rattle.tardis_base.specs.declared.replies.Reply.TheVariants.{Stat as Statistics}
 use Rattle.stream_tests.specs.Replier.{fresh_lines}
-use Rattle.stream_tests.proofs.of_serve_run.serve_row.Goals as goal
+use Rattle.stream_tests.proofs.of_site_sync.rounds.Goals as goal
 
-pub serve_links-end-requires-clause-counts : goal.serve_links-end-requires-clause-counts
-serve_links-end-requires-clause-counts t c κs within = λ trail each.
+pub run_rounds-pass-requires-clause-counts : goal.run_rounds-pass-requires-clause-counts
+run_rounds-pass-requires-clause-counts t c = λ within lt trail each.
     (fresh_lines, record { told = Statistics 1 1 1 0 fresh_lines; spelled = (refl, refl); states = refl })

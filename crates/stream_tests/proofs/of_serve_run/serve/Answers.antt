@@ -1,8 +1,8 @@
 use Rattle.std.proofs.Common.{refl}
 use Rattle.tardis_base.specs.declared.replies.Reply.TheVariants.{Stat as Statistics}
 use Rattle.stream_tests.specs.Replier.{fresh_lines}
-use Rattle.stream_tests.proofs.of_site_sync.sync_row.Goals as goal
+use Rattle.stream_tests.proofs.of_serve_run.serve.Goals as goal
 
-pub sync_round-pass-requires-clause-counts : goal.sync_round-pass-requires-clause-counts
-sync_round-pass-requires-clause-counts g t c = λ lt trail each.
+pub serve_links-requires-clause-counts : goal.serve_links-requires-clause-counts
+serve_links-requires-clause-counts t c κs within = λ trail each.
     (fresh_lines, record { told = Statistics 1 1 1 0 fresh_lines; spelled = (refl, refl); states = refl })
