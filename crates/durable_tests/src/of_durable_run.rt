@@ -1,10 +1,11 @@
 //! Durable runs of a site, over disks that fail and crash.
 
-ghost use Rattle.std.specs.Prelude.{IsTrue};
+ghost use Rattle.std.specs.Prelude.{◌≤◌, IsTrue};
 ghost use Rattle.tardis_base.specs.Valid.{are_limits};
 
+use crate::of_disk_forms::holds;
 use crate::of_site_journal::{CRASHES, Opening, open};
-use crate::talks::{TALK, journal, replies, requests};
+use crate::talks::{journal_of, replies_from, replies_to, requests_from};
 use disk_forms::{MemoryDisk, MemoryStore};
 use durable_run::{durable, run_site_on};
 use std::hash::RandomState;
@@ -21,6 +22,21 @@ const LIMITS: Limits = Limits {
     max_trail: 1_073_741_824,
 };
 
+/// How a durable site with these limits ends, in this store.
+fn ran(
+    rt: &HostRuntime,
+    limits: Limits,
+    store: &mut MemoryStore,
+    source: &mut MemorySource,
+    sink: &mut MemorySink,
+) -> Result<Status, Fail>
+    requires limits { IsTrue (are_limits limits) }
+    requires sites { 1 ≤ limits.sites }
+{
+    let keys = RandomState::new(rt)?;
+    Ok(durable(rt.alloc(), keys, limits, 1, "any", store, source, sink))
+}
+
 /// Whether a durable site with these limits, in a store of an empty disk, writes this output, and puts a disk back that
 /// holds these bytes.
 fn is_kept(
@@ -31,24 +47,14 @@ fn is_kept(
     bytes: &[u8],
 ) -> Result<bool, Fail>
     requires limits { IsTrue (are_limits limits) }
+    requires sites { 1 ≤ limits.sites }
 {
     let alloc = rt.alloc();
     let mut store = MemoryStore::new(MemoryDisk::new(alloc, b"", 1_000, &[])?);
     let mut source = MemorySource::new(alloc, input, 1_000, &[])?;
     let mut sink = MemorySink::new(alloc, 1_000, 1_000, &[])?;
-    let keys = RandomState::new(rt)?;
-    let status = durable(
-        alloc,
-        keys,
-        limits,
-        1,
-        "any",
-        &mut store,
-        &mut source,
-        &mut sink,
-    );
-    let kept = store.disk().is_some_and(|disk| disk.bytes() == bytes);
-    Ok(status == Status::Ok && sink.bytes() == output && kept)
+    let status = ran(rt, limits, &mut store, &mut source, &mut sink)?;
+    Ok(status == Status::Ok && sink.bytes() == output && holds(store, bytes))
 }
 
 /// The journal of a site that actor 1 asked to open a session.
@@ -77,14 +83,28 @@ struct Ended {
     disk: MemoryDisk,
 }
 
+/// Runs a site with these limits over a disk.
+fn run_over(
+    rt: &HostRuntime,
+    limits: Limits,
+    source: &mut MemorySource,
+    output: &mut MemorySink,
+    disk: MemoryDisk,
+) -> Result<(Status, MemoryDisk), Fail>
+    requires limits { IsTrue (are_limits limits) }
+    requires sites { 1 ≤ limits.sites }
+{
+    let keys = RandomState::new(rt)?;
+    Ok(run_site_on(rt.alloc(), keys, limits, 1, disk, source, output))
+}
+
 /// Runs the site over a disk and the requests from this one on, in pieces of so many bytes.
 fn run_from(rt: &HostRuntime, first: usize, piece: u32, disk: MemoryDisk) -> Result<Ended, Fail> {
     let alloc = rt.alloc();
-    let input = requests(alloc, &TALK[first.min(6)..])?;
+    let input = requests_from(alloc, first)?;
     let mut source = MemorySource::new(alloc, input.as_slice(), piece.max(1), &[])?;
     let mut output = MemorySink::new(alloc, 1_000, 1_000, &[])?;
-    let keys = RandomState::new(rt)?;
-    let (status, disk) = run_site_on(alloc, keys, LIMITS, 1, disk, &mut source, &mut output);
+    let (status, disk) = run_over(rt, LIMITS, &mut source, &mut output, disk)?;
     Ok(Ended {
         status,
         output,
@@ -95,28 +115,33 @@ fn run_from(rt: &HostRuntime, first: usize, piece: u32, disk: MemoryDisk) -> Res
 /// To how many of the requests, from the first on, these are the replies.
 fn count_of_replies(rt: &HostRuntime, output: &[u8]) -> Result<usize, Fail> {
     for count in 0..=6usize {
-        if replies(rt.alloc(), &TALK[..count])?.as_slice() == output {
+        if replies_to(rt.alloc(), count)?.as_slice() == output {
             return Ok(count);
         }
     }
     Err(Fail::new("these are no replies"))
 }
 
+/// Whether the disk holds the entries of so many requests.
+fn has_entries(rt: &HostRuntime, disk: &MemoryDisk, count: usize) -> Result<bool, Fail> {
+    Ok(disk.bytes() == journal_of(rt.alloc(), count)?.as_slice())
+}
+
+/// Whether these are the replies to the requests from this one on.
+fn are_replies_from(rt: &HostRuntime, first: usize, output: &[u8]) -> Result<bool, Fail> {
+    Ok(replies_from(rt.alloc(), first)?.as_slice() == output)
+}
+
 /// Whether the site goes on over a disk with the entries of so many requests, and answers the others.
 fn goes_on(rt: &HostRuntime, disk: MemoryDisk, entries: usize) -> Result<bool, Fail> {
-    let alloc = rt.alloc();
-    let entries = entries.min(6);
-    let found = journal(alloc, &TALK[..entries])?;
-    if disk.bytes() != found.as_slice() {
+    if !has_entries(rt, &disk, entries)? {
         return Ok(false);
     }
     let ended = run_from(rt, entries, 1_000, disk)?;
-    let told = replies(alloc, &TALK[entries..])?;
-    let kept = journal(alloc, &TALK)?;
     Ok(
         ended.status == Status::Ok
-            && ended.output.bytes() == told.as_slice()
-            && ended.disk.bytes() == kept.as_slice(),
+            && are_replies_from(rt, entries, ended.output.bytes())?
+            && has_entries(rt, &ended.disk, 6)?,
     )
 }
 

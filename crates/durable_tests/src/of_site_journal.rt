@@ -1,9 +1,11 @@
 //! Opening journals, and acting on them, over a machine that counts.
 
-ghost use Rattle.std.specs.Prelude.{◌≡◌, ◌+◌, ◌%◌, [], ◌∷◌, ℕ, false};
+ghost use Rattle.std.specs.Prelude.{◌≡◌, ◌+◌, ◌≤◌, ◌%◌, [], ◌∷◌, ℕ, List, length, false, IfOk};
+ghost use Rattle.site_journal.specs.Opened.{IsOpen};
 
 use disk_forms::MemoryDisk;
-use site_journal::{JournalEnd, OpenEnd, open_on};
+use disk_store::Disk;
+use site_journal::{JournalEnd, Journaled, OpenEnd, open_on};
 use std::alloc::Global;
 use std::test::Fail;
 use tardis_base::{Machine, NoMemory, ReplyBuf};
@@ -36,7 +38,7 @@ impl Machine for Counter {
 }
 
 /// How opening a journal ended: with so many entries, or with a fault.
-#[derive(Clone, Copy, Debug, PartialEq, Eq)]
+#[derive(Clone, Copy, PartialEq, Eq)]
 pub(crate) enum Opening {
     Entries(u64),
     Fault,
@@ -70,6 +72,12 @@ fn open_bytes(
     Ok(open(alloc, disk))
 }
 
+/// Whether the journal that these bytes are has so many entries, and becomes this one.
+fn opens_as(alloc: Global, before: &[u8], entries: u64, after: &[u8]) -> Result<bool, NoMemory> {
+    let (opening, disk) = open_bytes(alloc, before, &[])?;
+    Ok(opening == Opening::Entries(entries) && disk.bytes() == after)
+}
+
 /// A journal of one entry: actor 1 opens a session.
 const ONE: &[u8] = b"\x01\0\0\0\x04\0\x01\x01\0\0";
 
@@ -83,9 +91,7 @@ fn what_stands_behind_the_entries_becomes_a_closed_gate(rt: HostRuntime) -> Resu
         (b"\x01\0\0\0\x04\0\x01\x01\0\x07\x05", 1, ONE),
     ];
     for (before, entries, after) in rows {
-        let (opening, disk) = open_bytes(rt.alloc(), before, &[])?;
-        assert_eq!(rt; opening, Opening::Entries(entries));
-        assert!(rt; disk.bytes() == after);
+        assert!(rt; opens_as(rt.alloc(), before, entries, after)?);
     }
     Ok(())
 }
@@ -115,12 +121,17 @@ pub(crate) const CRASHES: [u64; 20] = [
     12_157_665_459_056_928_801,
 ];
 
-/// Whether many crashes each leave the one entry, after an opening in which this call failed.
+/// Whether a crash by this choice leaves the one entry, after an opening in which this call failed.
+fn crash_leaves_one(alloc: Global, failing: u64, choice: u64) -> Result<bool, NoMemory> {
+    let (_, disk) = open_bytes(alloc, TORN, &[failing])?;
+    let (opening, disk) = open(alloc, disk.crash(choice)?);
+    Ok(opening == Opening::Entries(1) && disk.bytes() == ONE)
+}
+
+/// Whether many crashes each do.
 fn crashes_leave_one(alloc: Global, failing: u64) -> Result<bool, NoMemory> {
     for choice in CRASHES {
-        let (_, disk) = open_bytes(alloc, TORN, &[failing])?;
-        let (opening, disk) = open(alloc, disk.crash(choice)?);
-        if opening != Opening::Entries(1) || disk.bytes() != ONE {
+        if !crash_leaves_one(alloc, failing, choice)? {
             return Ok(false);
         }
     }
@@ -130,18 +141,55 @@ fn crashes_leave_one(alloc: Global, failing: u64) -> Result<bool, NoMemory> {
 /// The entry, with two bytes behind it.
 const TORN: &[u8] = b"\x01\0\0\0\x04\0\x01\x01\0\x07\x05";
 
+/// Whether an opening in which this call is to fail ends well, with the one entry. Else it ends with the fault.
+fn ends_well(alloc: Global, failing: u64) -> Result<bool, Fail> {
+    match open_bytes(alloc, TORN, &[failing])? {
+        (Opening::Entries(1), disk) if disk.bytes() == ONE => Ok(true),
+        (Opening::Fault, _) => Ok(false),
+        _ => Err(Fail::new("the opening ends otherwise")),
+    }
+}
+
 #[test]
 fn a_crash_of_an_opening_leaves_the_entries(rt: HostRuntime) -> Result<(), Fail> {
     for call in 1..100 {
         assert!(rt; crashes_leave_one(rt.alloc(), call)?, "call {call} fails");
-        let (opening, disk) = open_bytes(rt.alloc(), TORN, &[call])?;
-        if opening == Opening::Entries(1) {
-            assert!(rt; disk.bytes() == ONE);
+        if ends_well(rt.alloc(), call)? {
             return Ok(());
         }
-        assert_eq!(rt; opening, Opening::Fault);
     }
     Err(Fail::new("a call fails each time"))
+}
+
+/// The journal after a request of actor 1 that is answered.
+fn answered<M: Machine, K: Disk>(
+    journal: Journaled<M, K>,
+    request: &[u8],
+    out: &mut ReplyBuf,
+) -> Result<Journaled<M, K>, Fail>
+    requires fits { length request.now ≤ 1048574 }
+    requires open { (entries : List (List ℕ)) × IsOpen M.plain M.stands M.opening K.honest K.reads K.may_leave journal entries [] }
+    ensures open { IfOk result (λ j. (entries : List (List ℕ)) × IsOpen M.plain M.stands M.opening K.honest K.reads K.may_leave j entries []) }
+{
+    match journal.act(1, request, out) {
+        JournalEnd::Done(journal) => Ok(journal),
+        _ => Err(Fail::new("the request is not answered")),
+    }
+}
+
+/// The bytes of the journal, in which a request of actor 1 finds no room, and the disk.
+fn full<M: Machine, K: Disk>(
+    journal: Journaled<M, K>,
+    request: &[u8],
+    out: &mut ReplyBuf,
+) -> Result<(u64, K), Fail>
+    requires fits { length request.now ≤ 1048574 }
+    requires open { (entries : List (List ℕ)) × IsOpen M.plain M.stands M.opening K.honest K.reads K.may_leave journal entries [] }
+{
+    match journal.act(1, request, out) {
+        JournalEnd::TrailFull(journal, bytes) => Ok((bytes, journal.close().1)),
+        _ => Err(Fail::new("the request finds room")),
+    }
 }
 
 #[test]
@@ -151,14 +199,10 @@ fn a_journal_is_full_by_its_bytes(rt: HostRuntime) -> Result<(), Fail> {
         return Err(Fail::new("the journal is not opened"));
     };
     let mut out = ReplyBuf::new(rt.alloc())?;
-    let JournalEnd::Done(journal) = journal.act(1, b"\x01\0", &mut out) else {
-        return Err(Fail::new("the first request is not answered"));
-    };
+    let journal = answered(journal, b"\x01\0", &mut out)?;
     assert!(rt; out.bytes() == b"\0".as_slice());
-    let JournalEnd::TrailFull(journal, bytes) = journal.act(1, b"\x02\0", &mut out) else {
-        return Err(Fail::new("the second request finds room"));
-    };
+    let (bytes, disk) = full(journal, b"\x02\0", &mut out)?;
     assert_eq!(rt; bytes, 9);
-    assert!(rt; journal.close().1.bytes() == ONE);
+    assert!(rt; disk.bytes() == ONE);
     Ok(())
 }

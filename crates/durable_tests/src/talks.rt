@@ -5,13 +5,13 @@ use std::test::Fail;
 
 /// The body of a request's frame, which begins with the actor, and that of its reply's.
 #[derive(Drop)]
-pub(crate) struct Row {
+struct Row {
     asked: &'static [u8],
     told: &'static [u8],
 }
 
 /// A session opens, puts a key, commits, and gets it.
-pub(crate) const TALK: [Row; 6] = [
+const TALK: [Row; 6] = [
     Row {
         asked: b"\0\x01\x01\0",
         told: b"\x01\0\0\0\0\0\0",
@@ -47,7 +47,7 @@ fn put_frame(bytes: &mut Vec<u8>, body: &[u8]) -> Result<(), Fail> {
 }
 
 /// The frames of the requests.
-pub(crate) fn requests(alloc: Global, rows: &[Row]) -> Result<Vec<u8>, Fail> {
+fn requests(alloc: Global, rows: &[Row]) -> Result<Vec<u8>, Fail> {
     let mut frames = Vec::new(alloc);
     for row in rows {
         put_frame(&mut frames, row.asked)?;
@@ -56,7 +56,7 @@ pub(crate) fn requests(alloc: Global, rows: &[Row]) -> Result<Vec<u8>, Fail> {
 }
 
 /// The frames of the replies.
-pub(crate) fn replies(alloc: Global, rows: &[Row]) -> Result<Vec<u8>, Fail> {
+fn replies(alloc: Global, rows: &[Row]) -> Result<Vec<u8>, Fail> {
     let mut frames = Vec::new(alloc);
     for row in rows {
         put_frame(&mut frames, row.told)?;
@@ -65,7 +65,7 @@ pub(crate) fn replies(alloc: Global, rows: &[Row]) -> Result<Vec<u8>, Fail> {
 }
 
 /// The journal with the requests.
-pub(crate) fn journal(alloc: Global, rows: &[Row]) -> Result<Vec<u8>, Fail> {
+fn journal(alloc: Global, rows: &[Row]) -> Result<Vec<u8>, Fail> {
     let mut text = Vec::new(alloc);
     for row in rows {
         text.push(1)?;
@@ -73,4 +73,24 @@ pub(crate) fn journal(alloc: Global, rows: &[Row]) -> Result<Vec<u8>, Fail> {
     }
     text.push(0)?;
     Ok(text)
+}
+
+/// The frames of the requests from this one on.
+pub(crate) fn requests_from(alloc: Global, first: usize) -> Result<Vec<u8>, Fail> {
+    requests(alloc, &TALK[first.min(6)..])
+}
+
+/// The frames of the replies to the requests from this one on.
+pub(crate) fn replies_from(alloc: Global, first: usize) -> Result<Vec<u8>, Fail> {
+    replies(alloc, &TALK[first.min(6)..])
+}
+
+/// The frames of the replies to so many requests.
+pub(crate) fn replies_to(alloc: Global, count: usize) -> Result<Vec<u8>, Fail> {
+    replies(alloc, &TALK[..count.min(6)])
+}
+
+/// The journal with so many requests.
+pub(crate) fn journal_of(alloc: Global, count: usize) -> Result<Vec<u8>, Fail> {
+    journal(alloc, &TALK[..count.min(6)])
 }
