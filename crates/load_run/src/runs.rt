@@ -3,7 +3,9 @@
 ghost use Rattle.std.specs.Prelude.{◌≡◌, ◌≤◌, ℕ, List, IfOk};
 ghost use Rattle.tardis_io.specs.Told.{WhileTold};
 ghost use Rattle.tardis_io.specs.Faults.{Rose};
+ghost use Rattle.load_run.specs.Held.{Plays};
 ghost use Rattle.load_run.specs.Lines.{load_line};
+ghost use Rattle.load_run.specs.Scripts.{opening_play};
 ghost use Rattle.load_run.specs.Ends.{WritesLine, IsLoadEnd};
 
 use crate::lines::line_of;
@@ -45,6 +47,22 @@ fn load(alloc: Global, keys: RandomState, start: u32, steps: u32) -> Result<Vec<
     ensures { IfOk result (λ line. line.items ≡ load_line start steps) }
 {
     let mut player = Player::new(alloc, keys, start)?;
+    let line = played_line(alloc, &mut player, start, steps);
+    drop(player); // for the proof alone
+    line
+}
+
+/// Plays so many steps of the script from its start, and tells the line of it.
+fn played_line(
+    alloc: Global,
+    player: &mut Player,
+    start: u32,
+    steps: u32,
+) -> Result<Vec<u8>, NoMemory>
+    requires opens { Plays player.old (opening_play start) }
+    requires none { player.old.counts.events ≡ 0 }
+    ensures { IfOk result (λ line. line.items ≡ load_line start steps) }
+{
     player.play(steps)?;
     let (known, kept) = player.states()?;
     line_of(alloc, start, steps, &player.counts(), known, kept)
