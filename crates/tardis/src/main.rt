@@ -100,6 +100,3 @@ fn end(rt: &HostRuntime, status: Status) -> ExitCode
     }
     ExitCode::from(status.number())
 }
-
-#[cfg(test)]
-mod tests;
