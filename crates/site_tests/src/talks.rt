@@ -19,7 +19,7 @@ pub fn put(rt: &impl Abort, bytes: &mut Vec<u8>, more: &[u8]) {
 }
 
 /// A worked row: an actor, the bytes of its request, and those of the reply.
-#[derive(Debug, Drop)]
+#[derive(Drop)]
 pub struct Row {
     pub actor: u16,
     pub asked: Vec<u8>,
