@@ -63,11 +63,7 @@ fn branches(rt: &impl Abort, alloc: Global) -> Talk {
 /// They are merged at once.
 fn merged_at_once(rt: &impl Abort, alloc: Global) -> Talk {
     let mut talk = branches(rt, alloc);
-    talk.ask(
-        rt,
-        &[8, 0],
-        &[3, 2, 0, 1, 0, 0, 0, 3, 0, 1, 0, 0, 0, 4],
-    );
+    talk.ask(rt, &[8, 0], &[3, 2, 0, 1, 0, 0, 0, 3, 0, 1, 0, 0, 0, 4]);
     note_conflicts(rt, alloc, &mut talk, &[0, 1]);
     talk.note_all(rt, WIDE_OPEN);
     talk

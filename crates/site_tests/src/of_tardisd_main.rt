@@ -94,9 +94,9 @@ fn is_served(alloc: Global, keys: RandomState, ports: &mut MemoryPorts) -> bool 
 
 /// How many of the calls took these bytes.
 fn count_of_writes(calls: &[Seen], told: &[u8]) -> usize {
-    let wrote = calls
-        .iter()
-        .filter(|call| matches!(call, Seen::WroteTo { bytes, .. } if bytes.as_slice() == told));
+    let wrote = calls.iter().filter(
+        |call| matches!(call, Seen::WroteTo { bytes, .. } if bytes.as_slice() == told),
+    );
     wrote.count()
 }
 

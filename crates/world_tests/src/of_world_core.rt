@@ -108,11 +108,7 @@ fn full_bag(rt: &impl Abort, alloc: Global) -> Talk {
     }
     talk.ask(rt, PULL, b"\x15\x1d\0\0\x04\0");
     talk.ask(rt, b"\x01\0\x01\0\0\x07", b"\x15\x02");
-    talk.ask(
-        rt,
-        b"\x02\0\x02\0\0\0\0\0\0\0\0",
-        b"\x15\x1c\0\0\x04\0",
-    );
+    talk.ask(rt, b"\x02\0\x02\0\0\0\0\0\0\0\0", b"\x15\x1c\0\0\x04\0");
     talk
 }
 
