@@ -103,14 +103,17 @@ fn are_answered(
     answers(rt, alloc, keys, rules, &talk)
 }
 
+/// Rules, and the tables of lines that are asked one after the other.
+const TALKS: [(&str, [&str; 2]); 3] = [
+    (LETTERS, [FORK, MERGED]),
+    (LETTERS, [FORK, MERGED_TWICE]),
+    (SHOP, [NO_AUTO_LINES, SHOPPING]),
+];
+
 #[test]
 fn two_leaves_are_merged_by_rules(rt: HostRuntime) {
     let keys = keys(&rt);
-    for (rules, tables) in [
-        (LETTERS, [FORK, MERGED]),
-        (LETTERS, [FORK, MERGED_TWICE]),
-        (SHOP, [NO_AUTO_LINES, SHOPPING]),
-    ] {
+    for (rules, tables) in TALKS {
         assert!(rt; are_answered(&rt, rt.alloc(), keys, rules, &tables));
     }
 }

@@ -10,14 +10,17 @@ use crate::talks::{Talk, copied, put};
 use std::alloc::Global;
 use std::process::Abort;
 
+/// Tables of rows that are asked one after another.
+const TALKS: [&[&str]; 3] = [
+    &[RAISED_CHAIN, COLLECTED_CHAIN],
+    &[BRANCHED, JOINED, GROWN_TOGETHER],
+    &[FORK_OF_THREE],
+];
+
 #[test]
 fn closed_states_are_collected(rt: HostRuntime) {
     let keys = keys(&rt);
-    for tables in [
-        [RAISED_CHAIN, COLLECTED_CHAIN].as_slice(),
-        &[BRANCHED, JOINED, GROWN_TOGETHER],
-        &[FORK_OF_THREE],
-    ] {
+    for tables in TALKS {
         assert!(rt; are_answered(&rt, rt.alloc(), keys, LIMITS, 1, tables));
         assert!(rt; are_steps(&rt, rt.alloc(), keys, LIMITS, tables));
     }

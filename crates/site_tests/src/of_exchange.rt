@@ -24,16 +24,19 @@ const ONE_PAIR: Limits = Limits {
     ..LIMITS
 };
 
+/// Tables of rows that are asked one after another.
+const TALKS: [&[&str]; 5] = [
+    &[TWO_RECORDS, IN_ORDER],
+    &[TWO_RECORDS, CONSENTS],
+    &[TWO_RECORDS, LYING_PEERS],
+    &[TWO_RECORDS, NEWS],
+    &[SETTLED],
+];
+
 #[test]
 fn what_sites_give_each_other_is_answered(rt: HostRuntime) {
     let keys = keys(&rt);
-    for tables in [
-        [TWO_RECORDS, IN_ORDER].as_slice(),
-        &[TWO_RECORDS, CONSENTS],
-        &[TWO_RECORDS, LYING_PEERS],
-        &[TWO_RECORDS, NEWS],
-        &[SETTLED],
-    ] {
+    for tables in TALKS {
         assert!(rt; are_answered(&rt, rt.alloc(), keys, TWO_SITES, 1, tables));
         assert!(rt; are_steps(&rt, rt.alloc(), keys, TWO_SITES, tables));
     }

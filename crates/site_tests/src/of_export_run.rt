@@ -126,42 +126,48 @@ fn is_so(rt: &impl Abort, alloc: Global, ran: &Ran, status: Status, written: &st
     ran.status == status && ran.written.as_slice() == bytes.as_slice()
 }
 
+/// Bodies of frames, the sequence of a state, how its export ends, and the digits of what is written.
+const EXPORTS: [(&str, u32, Status, &str); 7] = [
+    (ONE_KEY, 1, Status::Ok, "00000000000000010178000131"),
+    (ONE_KEY, 2, GONE, ""),
+    ("", 0, Status::Ok, "0000000000000000"),
+    (
+        MERGED,
+        4,
+        Status::Ok,
+        "000000000000000201610001340178000135",
+    ),
+    (MERGED, 2, GONE, ""),
+    (DELETED, 2, Status::Ok, "0000000000000001017a0000"),
+    (DELETED, 1, Status::Ok, "00000000000000010178000131"),
+];
+
 #[test]
 fn exports_are_those_of_their_state(rt: HostRuntime) {
     let keys = keys(&rt);
-    for (bodies, sequence, status, written) in [
-        (ONE_KEY, 1, Status::Ok, "00000000000000010178000131"),
-        (ONE_KEY, 2, GONE, ""),
-        ("", 0, Status::Ok, "0000000000000000"),
-        (
-            MERGED,
-            4,
-            Status::Ok,
-            "000000000000000201610001340178000135",
-        ),
-        (MERGED, 2, GONE, ""),
-        (DELETED, 2, Status::Ok, "0000000000000001017a0000"),
-        (DELETED, 1, Status::Ok, "00000000000000010178000131"),
-    ] {
+    for (bodies, sequence, status, written) in EXPORTS {
         let ran = exported_from(&rt, rt.alloc(), keys, bodies, sequence);
         assert!(rt; is_so(&rt, rt.alloc(), &ran, status, written));
     }
 }
 
+/// The digits of bytes that are imported, how that ends, and the digits of what is written.
+const IMPORTS: [(&str, Status, &str); 6] = [
+    ("00000000000000010178000131", Status::Ok, SCRIPT),
+    ("0000000000000000", Status::Ok, "0000000400010101"),
+    ("00", Status::BadExport, ""),
+    (
+        "000000000000000201780001310161000134",
+        Status::BadExport,
+        "",
+    ),
+    ("0000000000000001017800013100", Status::BadExport, ""),
+    ("00000000000000020178000131", Status::BadExport, ""),
+];
+
 #[test]
 fn exports_alone_are_imported(rt: HostRuntime) {
-    for (bytes, status, written) in [
-        ("00000000000000010178000131", Status::Ok, SCRIPT),
-        ("0000000000000000", Status::Ok, "0000000400010101"),
-        ("00", Status::BadExport, ""),
-        (
-            "000000000000000201780001310161000134",
-            Status::BadExport,
-            "",
-        ),
-        ("0000000000000001017800013100", Status::BadExport, ""),
-        ("00000000000000020178000131", Status::BadExport, ""),
-    ] {
+    for (bytes, status, written) in IMPORTS {
         let ran = imported_from(&rt, rt.alloc(), bytes, 4_096, &[]);
         assert!(rt; is_so(&rt, rt.alloc(), &ran, status, written));
     }

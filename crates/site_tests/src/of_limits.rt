@@ -29,15 +29,18 @@ const SIXTEEN_SITES: Limits = Limits {
     ..LIMITS
 };
 
+/// Limits, and the rows of a site that has them.
+const ROWS: [(Limits, &str); 4] = [
+    (LIMITS, TALK),
+    (THREE_STATES, FULL_SITE),
+    (ONE_SESSION, SECOND_SESSION),
+    (ONE_PAIR, LONG_PATH),
+];
+
 #[test]
 fn a_site_stays_within_its_limits(rt: HostRuntime) {
     let keys = keys(&rt);
-    for (limits, table) in [
-        (LIMITS, TALK),
-        (THREE_STATES, FULL_SITE),
-        (ONE_SESSION, SECOND_SESSION),
-        (ONE_PAIR, LONG_PATH),
-    ] {
+    for (limits, table) in ROWS {
         assert!(rt; are_answered(&rt, rt.alloc(), keys, limits, 1, &[table]));
     }
 }

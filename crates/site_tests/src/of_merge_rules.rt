@@ -57,105 +57,94 @@ fn joined(
     merged(alloc, rule, Base::Is(base), a, b).expect(rt, "room")
 }
 
-/// What is written to a key before two branches part, and in each of them; nothing is a deletion.
-#[derive(Clone, Copy)]
-struct Texts<'a> {
-    base: Option<&'a [u8]>,
-    left: Option<&'a [u8]>,
-    right: Option<&'a [u8]>,
-}
-
 /// Whether the rule gives what is wanted to a key with this base and these sides; nothing where nothing is wanted.
 fn gives(
     rt: &impl Abort,
     alloc: Global,
     rule: Rule,
-    texts: Texts<'_>,
+    base: Option<&[u8]>,
+    left: Option<&[u8]>,
+    right: Option<&[u8]>,
     wanted: Option<Option<&[u8]>>,
 ) -> bool {
-    let base = write(rt, alloc, texts.base);
-    let left = write(rt, alloc, texts.left);
-    let right = write(rt, alloc, texts.right);
+    let base = write(rt, alloc, base);
+    let left = write(rt, alloc, left);
+    let right = write(rt, alloc, right);
     let given = joined(rt, alloc, rule, &base, &left, &right);
     is_wanted(given.as_ref(), wanted)
 }
 
-/// A row of texts: a rule, the base and the sides, and what is wanted.
+/// A rule, the texts of a base and of two sides, and what is wanted.
 type Row = (
     Rule,
-    Option<&'static str>,
-    Option<&'static str>,
-    Option<&'static str>,
-    Option<Option<&'static str>>,
+    Option<&'static [u8]>,
+    Option<&'static [u8]>,
+    Option<&'static [u8]>,
+    Option<Option<&'static [u8]>>,
 );
+
+const ROWS: [Row; 14] = [
+    (Rule::Last, None, Some(b"x"), Some(b"y"), Some(Some(b"y"))),
+    (Rule::Last, Some(b"x"), Some(b"y"), None, Some(None)),
+    (
+        Rule::Count,
+        Some(b"10"),
+        Some(b"13"),
+        Some(b"8"),
+        Some(Some(b"11")),
+    ),
+    (Rule::Count, None, None, Some(b"-4"), Some(Some(b"-4"))),
+    (
+        Rule::Count,
+        Some(b"1"),
+        Some(b"9223372036854775807"),
+        Some(b"1"),
+        Some(Some(b"9223372036854775807")),
+    ),
+    (
+        Rule::Count,
+        None,
+        Some(b"9223372036854775807"),
+        Some(b"1"),
+        None,
+    ),
+    (
+        Rule::Count,
+        Some(b"-1"),
+        Some(b"-9223372036854775808"),
+        Some(b"-1"),
+        Some(Some(b"-9223372036854775808")),
+    ),
+    (
+        Rule::Count,
+        Some(b"1"),
+        Some(b"-9223372036854775808"),
+        None,
+        None,
+    ),
+    (Rule::Count, None, Some(b"9223372036854775808"), None, None),
+    (Rule::Count, None, Some(b"01"), Some(b"1"), None),
+    (
+        Rule::Set,
+        None,
+        Some(b"a,c"),
+        Some(b"b,c"),
+        Some(Some(b"a,b,c")),
+    ),
+    (Rule::Set, Some(b"a"), None, Some(b"a"), Some(Some(b"a"))),
+    (Rule::Set, None, Some(b"b,a"), Some(b"c"), None),
+    (Rule::Refuse, None, Some(b"x"), None, None),
+];
 
 /// Whether the rule of a row gives what the row says.
 fn is_so(rt: &impl Abort, alloc: Global, row: &Row) -> bool {
     let (rule, base, left, right, wanted) = *row;
-    let texts = Texts {
-        base: base.map(str::as_bytes),
-        left: left.map(str::as_bytes),
-        right: right.map(str::as_bytes),
-    };
-    let wanted = wanted.map(|text| text.map(str::as_bytes));
-    gives(rt, alloc, rule, texts, wanted)
+    gives(rt, alloc, rule, base, left, right, wanted)
 }
 
 #[test]
 fn each_rule_gives_its_values(rt: HostRuntime) {
-    let rows: [Row; 14] = [
-        (Rule::Last, None, Some("x"), Some("y"), Some(Some("y"))),
-        (Rule::Last, Some("x"), Some("y"), None, Some(None)),
-        (
-            Rule::Count,
-            Some("10"),
-            Some("13"),
-            Some("8"),
-            Some(Some("11")),
-        ),
-        (Rule::Count, None, None, Some("-4"), Some(Some("-4"))),
-        (
-            Rule::Count,
-            Some("1"),
-            Some("9223372036854775807"),
-            Some("1"),
-            Some(Some("9223372036854775807")),
-        ),
-        (
-            Rule::Count,
-            None,
-            Some("9223372036854775807"),
-            Some("1"),
-            None,
-        ),
-        (
-            Rule::Count,
-            Some("-1"),
-            Some("-9223372036854775808"),
-            Some("-1"),
-            Some(Some("-9223372036854775808")),
-        ),
-        (
-            Rule::Count,
-            Some("1"),
-            Some("-9223372036854775808"),
-            None,
-            None,
-        ),
-        (Rule::Count, None, Some("9223372036854775808"), None, None),
-        (Rule::Count, None, Some("01"), Some("1"), None),
-        (
-            Rule::Set,
-            None,
-            Some("a,c"),
-            Some("b,c"),
-            Some(Some("a,b,c")),
-        ),
-        (Rule::Set, Some("a"), None, Some("a"), Some(Some("a"))),
-        (Rule::Set, None, Some("b,a"), Some("c"), None),
-        (Rule::Refuse, None, Some("x"), None, None),
-    ];
-    for row in &rows {
+    for row in &ROWS {
         assert!(rt; is_so(&rt, rt.alloc(), row));
     }
 }
@@ -167,27 +156,12 @@ fn letters(rt: &impl Abort, alloc: Global, more: &[u8]) -> Vec<u8> {
     text
 }
 
-/// Whether the rule of sets gives what is wanted to a long item and this one.
-fn unites(
-    rt: &impl Abort,
-    alloc: Global,
-    long: &[u8],
-    item: &[u8],
-    wanted: Option<Option<&[u8]>>,
-) -> bool {
-    let texts = Texts {
-        base: None,
-        left: Some(long),
-        right: Some(item),
-    };
-    gives(rt, alloc, Rule::Set, texts, wanted)
-}
-
 #[test]
 fn a_union_may_be_as_long_as_a_value(rt: HostRuntime) {
     let long = letters(&rt, rt.alloc(), b"");
     let whole = letters(&rt, rt.alloc(), b",b");
+    let long = Some(long.as_slice());
     let wanted = Some(Some(whole.as_slice()));
-    assert!(rt; unites(&rt, rt.alloc(), long.as_slice(), b"b", wanted));
-    assert!(rt; unites(&rt, rt.alloc(), long.as_slice(), b"bb", None));
+    assert!(rt; gives(&rt, rt.alloc(), Rule::Set, None, long, Some(b"b"), wanted));
+    assert!(rt; gives(&rt, rt.alloc(), Rule::Set, None, long, Some(b"bb"), None));
 }

@@ -9,17 +9,20 @@ use crate::talks::{Talk, copied, put};
 use std::alloc::Global;
 use std::process::Abort;
 
+/// Tables of rows that are asked one after another.
+const TALKS: [&[&str]; 6] = [
+    &[CART],
+    &[BRANCHED, JOINED, APART],
+    &[BRANCHED, MERGED_TWICE],
+    &[BRANCHED, ONE_STATE],
+    &[PAST_MERGES],
+    &[NINE_LEAVES],
+];
+
 #[test]
 fn merges_answer_as_told(rt: HostRuntime) {
     let keys = keys(&rt);
-    for tables in [
-        [CART].as_slice(),
-        &[BRANCHED, JOINED, APART],
-        &[BRANCHED, MERGED_TWICE],
-        &[BRANCHED, ONE_STATE],
-        &[PAST_MERGES],
-        &[NINE_LEAVES],
-    ] {
+    for tables in TALKS {
         assert!(rt; are_answered(&rt, rt.alloc(), keys, LIMITS, 1, tables));
     }
 }

@@ -108,29 +108,32 @@ pub(crate) fn are_steps(
     are_so
 }
 
+/// Tables of rows that are asked one after another.
+const TALKS: [&[&str]; 18] = [
+    &[RIPPLE],
+    &[COUNTED],
+    &[LAST_COMMITS],
+    &[NO_STATE],
+    &[CART],
+    &[PAST_MERGES],
+    &[CEILINGS],
+    &[RAISED_CHAIN],
+    &[FOLLOWED],
+    &[BESIDE],
+    &[SKEWED, SER_FORKS],
+    &[SKEWED, SI_PASSES],
+    &[SKEWED, NB_REFUSES],
+    &[BEHIND, ANY_AFTER],
+    &[BEHIND, AT_AFTER],
+    &[BRANCHED, MERGED_TWICE],
+    &[BRANCHED, ONE_STATE],
+    &[BRANCHED, JOINED, APART],
+];
+
 #[test]
 fn each_request_is_a_step(rt: HostRuntime) {
     let keys = keys(&rt);
-    for tables in [
-        [RIPPLE].as_slice(),
-        &[COUNTED],
-        &[LAST_COMMITS],
-        &[NO_STATE],
-        &[CART],
-        &[PAST_MERGES],
-        &[CEILINGS],
-        &[RAISED_CHAIN],
-        &[FOLLOWED],
-        &[BESIDE],
-        &[SKEWED, SER_FORKS],
-        &[SKEWED, SI_PASSES],
-        &[SKEWED, NB_REFUSES],
-        &[BEHIND, ANY_AFTER],
-        &[BEHIND, AT_AFTER],
-        &[BRANCHED, MERGED_TWICE],
-        &[BRANCHED, ONE_STATE],
-        &[BRANCHED, JOINED, APART],
-    ] {
+    for tables in TALKS {
         assert!(rt; are_steps(&rt, rt.alloc(), keys, LIMITS, tables));
     }
 }
