@@ -37,4 +37,6 @@ mod of_tardisd_main;
 #[cfg(test)]
 mod rows;
 #[cfg(test)]
+mod sites;
+#[cfg(test)]
 mod talks;

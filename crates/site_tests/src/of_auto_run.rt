@@ -4,22 +4,14 @@ use crate::auto_rows::{
     BOTH_BEGIN, BOTH_COMMIT, BOTH_GO_ON, FORK, LETTERS, MERGED, MERGED_TWICE, MORE_ARE_WIDE,
     MOST_ARE_MERGED, NO_AUTO_LINES, SHOP, SHOPPING,
 };
+use crate::sites::{LIMITS, an_input, an_output, keys};
+use crate::talks::put;
 use auto_run::auto;
-use rule_list::read_rules;
+use rule_list::{RuleList, read_rules};
 use std::alloc::Global;
 use std::hash::RandomState;
-use std::test::Fail;
-use tardis_base::Limits;
+use std::process::Abort;
 use tardis_io::{MemorySink, MemorySource, Status};
-
-/// The limits of the program's site, where it is alone.
-const LIMITS: Limits = Limits {
-    sites: 1,
-    max_kept: 16_384,
-    max_path: 4_096,
-    max_sessions: 256,
-    max_trail: 1_073_741_824,
-};
 
 /// Lines that are asked, and those that are to answer them.
 #[derive(Drop)]
@@ -30,98 +22,133 @@ struct Talk {
 
 impl Talk {
     /// The lines of these tables.
-    fn of(alloc: Global, tables: &[&str]) -> Result<Talk, Fail> {
+    fn of(rt: &impl Abort, alloc: Global, tables: &[&str]) -> Talk {
         let mut talk = Talk {
             asked: Vec::new(alloc),
             told: Vec::new(alloc),
         };
         for table in tables {
-            talk.note_all(table)?;
+            talk.note_all(rt, table);
         }
-        Ok(talk)
+        talk
     }
 
     /// Puts the lines of a table behind the others.
-    fn note_all(&mut self, table: &str) -> Result<(), Fail> {
+    fn note_all(&mut self, rt: &impl Abort, table: &str) {
         for row in table.lines() {
-            let Some((line, answer)) = row.split_once(" => ") else {
-                return Err(Fail::new("a row has an arrow"));
-            };
-            self.note(line.as_bytes(), answer.as_bytes())?;
+            let (line, answer) = row.split_once(" => ").expect(rt, "an arrow");
+            self.note(rt, line.as_bytes(), answer.as_bytes());
         }
-        Ok(())
     }
 
     /// Puts a line behind the others, and the one that is to answer it.
-    fn note(&mut self, line: &[u8], answer: &[u8]) -> Result<(), Fail> {
-        self.asked.extend_from_slice(line)?;
-        self.asked.push(b'\n')?;
-        self.told.extend_from_slice(answer)?;
-        self.told.push(b'\n')?;
-        Ok(())
+    fn note(&mut self, rt: &impl Abort, line: &[u8], answer: &[u8]) {
+        put(rt, &mut self.asked, line);
+        put(rt, &mut self.asked, b"\n");
+        put(rt, &mut self.told, answer);
+        put(rt, &mut self.told, b"\n");
     }
 
     /// Puts the lines behind the others in which both actors write each key of one byte from the first to the last.
-    fn write_both(&mut self, first: u8, last: u8) -> Result<(), Fail> {
+    fn write_both(&mut self, rt: &impl Abort, first: u8, last: u8) {
         for key in first..=last {
             self.note(
+                rt,
                 &[b'1', b' ', b'p', b'u', b't', b' ', key, b' ', b'1'],
                 b"done",
-            )?;
+            );
             self.note(
+                rt,
                 &[b'2', b' ', b'p', b'u', b't', b' ', key, b' ', b'2'],
                 b"done",
-            )?;
+            );
         }
-        Ok(())
     }
+}
+
+/// The rules that this text writes.
+fn rules_of(rt: &impl Abort, alloc: Global, text: &str) -> RuleList {
+    read_rules(alloc, text).expect(rt, "rules")
+}
+
+/// How the command with these rules ends over these streams.
+fn ends(
+    alloc: Global,
+    keys: RandomState,
+    rules: RuleList,
+    source: &mut MemorySource,
+    sink: &mut MemorySink,
+) -> Status {
+    auto(alloc, keys, LIMITS, 1, rules, source, sink)
 }
 
 /// Whether the command with these rules answers the lines so.
-fn answers(rt: &HostRuntime, rules: &str, talk: &Talk) -> Result<bool, Fail> {
-    let alloc = rt.alloc();
-    let rules = read_rules(alloc, rules)?;
-    let mut source = MemorySource::new(alloc, talk.asked.as_slice(), 4_096, &[])?;
-    let mut sink = MemorySink::new(alloc, 8_192, 65_536, &[])?;
-    let ended = auto(
-        alloc,
-        RandomState::new(rt)?,
-        LIMITS,
-        1,
-        rules,
-        &mut source,
-        &mut sink,
-    );
-    Ok(ended == Status::Ok && sink.bytes() == talk.told.as_slice())
+fn answers(rt: &impl Abort, alloc: Global, keys: RandomState, rules: &str, talk: &Talk) -> bool {
+    let rules = rules_of(rt, alloc, rules);
+    let mut source = an_input(rt, alloc, talk.asked.as_slice(), 4_096, &[]);
+    let mut sink = an_output(rt, alloc, 8_192, 65_536);
+    let ended = ends(alloc, keys, rules, &mut source, &mut sink);
+    ended == Status::Ok && sink.bytes() == talk.told.as_slice()
 }
 
+/// Whether it answers those of these tables so.
+fn are_answered(
+    rt: &impl Abort,
+    alloc: Global,
+    keys: RandomState,
+    rules: &str,
+    tables: &[&str],
+) -> bool {
+    let talk = Talk::of(rt, alloc, tables);
+    answers(rt, alloc, keys, rules, &talk)
+}
+
+/// Rules, and the tables of lines that are asked one after the other.
+const TALKS: [(&str, [&str; 2]); 3] = [
+    (LETTERS, [FORK, MERGED]),
+    (LETTERS, [FORK, MERGED_TWICE]),
+    (SHOP, [NO_AUTO_LINES, SHOPPING]),
+];
+
 #[test]
-fn two_leaves_are_merged_by_rules(rt: HostRuntime) -> Result<(), Fail> {
-    let alloc = rt.alloc();
-    for (rules, tables) in [
-        (LETTERS, [FORK, MERGED]),
-        (LETTERS, [FORK, MERGED_TWICE]),
-        (SHOP, [NO_AUTO_LINES, SHOPPING]),
-    ] {
-        assert!(rt; answers(&rt, rules, &Talk::of(alloc, &tables)?)?);
+fn two_leaves_are_merged_by_rules(rt: HostRuntime) {
+    let keys = keys(&rt);
+    for (rules, tables) in TALKS {
+        assert!(rt; are_answered(&rt, rt.alloc(), keys, rules, &tables));
     }
-    Ok(())
+}
+
+/// Two branches that wrote the same 64 keys.
+fn wide(rt: &impl Abort, alloc: Global) -> Talk {
+    let mut talk = Talk::of(rt, alloc, &[BOTH_BEGIN]);
+    talk.write_both(rt, b'0', b'o');
+    talk.note_all(rt, BOTH_COMMIT);
+    talk
+}
+
+/// They are merged.
+fn merged(rt: &impl Abort, alloc: Global) -> Talk {
+    let mut talk = wide(rt, alloc);
+    talk.note_all(rt, MOST_ARE_MERGED);
+    talk
+}
+
+/// They write one key more, and aren't merged.
+fn wider(rt: &impl Abort, alloc: Global) -> Talk {
+    let mut talk = wide(rt, alloc);
+    talk.note_all(rt, BOTH_GO_ON);
+    talk.write_both(rt, b'p', b'p');
+    talk.note_all(rt, MORE_ARE_WIDE);
+    talk
 }
 
 #[test]
-fn at_most_64_keys_are_merged(rt: HostRuntime) -> Result<(), Fail> {
-    let alloc = rt.alloc();
-    let mut talk = Talk::of(alloc, &[BOTH_BEGIN])?;
-    talk.write_both(b'0', b'o')?;
-    talk.note_all(BOTH_COMMIT)?;
-    talk.note_all(MOST_ARE_MERGED)?;
-    assert!(rt; answers(&rt, "=last", &talk)?);
-    let mut talk = Talk::of(alloc, &[BOTH_BEGIN])?;
-    talk.write_both(b'0', b'o')?;
-    talk.note_all(BOTH_COMMIT)?;
-    talk.note_all(BOTH_GO_ON)?;
-    talk.write_both(b'p', b'p')?;
-    talk.note_all(MORE_ARE_WIDE)?;
-    assert!(rt; answers(&rt, "=last", &talk)?);
-    Ok(())
+fn at_most_64_keys_are_merged(rt: HostRuntime) {
+    let keys = keys(&rt);
+    let talk = merged(&rt, rt.alloc());
+    assert!(rt; answers(&rt, rt.alloc(), keys, "=last", &talk));
+    drop(talk);
+    let talk = wider(&rt, rt.alloc());
+    assert!(rt; answers(&rt, rt.alloc(), keys, "=last", &talk));
+    drop(talk);
 }

@@ -1,21 +1,14 @@
 //! Worked rows of exports and imports.
 
+use crate::sites::{LIMITS, an_input, an_output, keys};
+use crate::talks::{bytes_of, copied, put};
 use branch_export::run_import;
 use export_run::export;
 use std::alloc::Global;
 use std::hash::RandomState;
-use std::test::Fail;
-use tardis_base::{Limits, StateId};
+use std::process::Abort;
+use tardis_base::StateId;
 use tardis_io::{MemorySink, MemorySource, Status};
-
-/// The limits of the program's site.
-const LIMITS: Limits = Limits {
-    sites: 1,
-    max_kept: 16_384,
-    max_path: 4_096,
-    max_sessions: 256,
-    max_trail: 1_073_741_824,
-};
 
 /// Session 1 puts x and commits.
 const ONE_KEY: &str = "00010101 00010200 0001040178000131 000106000000";
@@ -35,6 +28,14 @@ const SCRIPT: &str =
     "0000000400010101000000040001020000000008000104017800013100000006000106000000000000030001\
 0e0000000500010f0040";
 
+/// The state isn't kept.
+const GONE: Status = Status::NoState {
+    state: StateId {
+        site: 1,
+        sequence: 2,
+    },
+};
+
 /// What a run wrote, and how it ended.
 #[derive(Drop)]
 struct Ran {
@@ -42,126 +43,177 @@ struct Ran {
     written: Vec<u8>,
 }
 
+/// Puts the frame of a body behind these.
+fn put_frame(rt: &impl Abort, frames: &mut Vec<u8>, body: &[u8]) {
+    let length = u32::try_from(body.len()).unwrap_or(u32::MAX);
+    put(rt, frames, &length.to_be_bytes());
+    put(rt, frames, body);
+}
+
 /// The frames of these bodies, which are written as hexadecimal digits.
-fn frames(alloc: Global, bodies: &str) -> Result<Vec<u8>, Fail> {
+fn frames(rt: &impl Abort, alloc: Global, bodies: &str) -> Vec<u8> {
     let mut frames = Vec::new(alloc);
     for word in bodies.split_whitespace() {
-        let body = hex::decode(alloc, word)?;
-        let length = u32::try_from(body.len()).unwrap_or(u32::MAX);
-        frames.extend_from_slice(&length.to_be_bytes())?;
-        frames.extend_from_slice(body.as_slice())?;
+        put_frame(rt, &mut frames, bytes_of(rt, alloc, word).as_slice());
     }
-    Ok(frames)
+    frames
 }
 
-/// What the export of this state of site 1 over these frames comes to.
-fn exported(rt: &HostRuntime, input: &[u8], sequence: u32, failing: &[u64]) -> Result<Ran, Fail> {
-    let alloc = rt.alloc();
-    let mut source = MemorySource::new(alloc, input, 4_096, failing)?;
-    let mut sink = MemorySink::new(alloc, 65_536, 4_096, &[])?;
+/// How the export of this state of site 1 ends over these streams.
+fn export_ends(
+    alloc: Global,
+    keys: RandomState,
+    sequence: u32,
+    source: &mut MemorySource,
+    sink: &mut MemorySink,
+) -> Status {
     let site = if sequence == 0 { 0 } else { 1 };
     let state = StateId { site, sequence };
-    let keys = RandomState::new(rt)?;
-    let status = export(alloc, keys, LIMITS, 1, state, &mut source, &mut sink);
-    let written = Vec::from_slice(alloc, sink.bytes())?;
-    Ok(Ran { status, written })
+    export(alloc, keys, LIMITS, 1, state, source, sink)
 }
 
-/// What the import of these bytes comes to, into a sink of so many bytes.
-fn imported(rt: &HostRuntime, input: &[u8], room: u32, failing: &[u64]) -> Result<Ran, Fail> {
-    let alloc = rt.alloc();
-    let mut source = MemorySource::new(alloc, input, 4_096, failing)?;
-    let mut sink = MemorySink::new(alloc, room, 4_096, &[])?;
-    let status = run_import(alloc, &mut source, &mut sink);
-    let written = Vec::from_slice(alloc, sink.bytes())?;
-    Ok(Ran { status, written })
+/// What it comes to over these frames, where these takes fail.
+fn exported(
+    rt: &impl Abort,
+    alloc: Global,
+    keys: RandomState,
+    input: &[u8],
+    sequence: u32,
+    failing: &[u64],
+) -> Ran {
+    let mut source = an_input(rt, alloc, input, 4_096, failing);
+    let mut sink = an_output(rt, alloc, 65_536, 4_096);
+    let status = export_ends(alloc, keys, sequence, &mut source, &mut sink);
+    let written = copied(rt, alloc, sink.bytes());
+    Ran { status, written }
 }
 
-/// Whether it ended so, having written these bytes.
-fn is_so(alloc: Global, ran: &Ran, status: Status, written: &str) -> Result<bool, Fail> {
-    let bytes = hex::decode(alloc, written)?;
-    Ok(ran.status == status && ran.written.as_slice() == bytes.as_slice())
+/// What it comes to over the frames of these bodies.
+fn exported_from(
+    rt: &impl Abort,
+    alloc: Global,
+    keys: RandomState,
+    bodies: &str,
+    sequence: u32,
+) -> Ran {
+    let input = frames(rt, alloc, bodies);
+    exported(rt, alloc, keys, input.as_slice(), sequence, &[])
 }
+
+/// How an import ends over these streams.
+fn import_ends(alloc: Global, source: &mut MemorySource, sink: &mut MemorySink) -> Status {
+    run_import(alloc, source, sink)
+}
+
+/// What the import of these bytes comes to, into an output with room for so many, where these takes fail.
+fn imported(rt: &impl Abort, alloc: Global, input: &[u8], room: u32, failing: &[u64]) -> Ran {
+    let mut source = an_input(rt, alloc, input, 4_096, failing);
+    let mut sink = an_output(rt, alloc, room, 4_096);
+    let status = import_ends(alloc, &mut source, &mut sink);
+    let written = copied(rt, alloc, sink.bytes());
+    Ran { status, written }
+}
+
+/// What the import of the bytes that these digits spell comes to.
+fn imported_from(rt: &impl Abort, alloc: Global, digits: &str, room: u32, failing: &[u64]) -> Ran {
+    let input = bytes_of(rt, alloc, digits);
+    imported(rt, alloc, input.as_slice(), room, failing)
+}
+
+/// Whether it ended so, having written the bytes that these digits spell.
+fn is_so(rt: &impl Abort, alloc: Global, ran: &Ran, status: Status, written: &str) -> bool {
+    let bytes = bytes_of(rt, alloc, written);
+    ran.status == status && ran.written.as_slice() == bytes.as_slice()
+}
+
+/// Bodies of frames, the sequence of a state, how its export ends, and the digits of what is written.
+const EXPORTS: [(&str, u32, Status, &str); 7] = [
+    (ONE_KEY, 1, Status::Ok, "00000000000000010178000131"),
+    (ONE_KEY, 2, GONE, ""),
+    ("", 0, Status::Ok, "0000000000000000"),
+    (
+        MERGED,
+        4,
+        Status::Ok,
+        "000000000000000201610001340178000135",
+    ),
+    (MERGED, 2, GONE, ""),
+    (DELETED, 2, Status::Ok, "0000000000000001017a0000"),
+    (DELETED, 1, Status::Ok, "00000000000000010178000131"),
+];
 
 #[test]
-fn exports_are_those_of_their_state(rt: HostRuntime) -> Result<(), Fail> {
-    let alloc = rt.alloc();
-    let gone = Status::NoState {
-        state: StateId {
-            site: 1,
-            sequence: 2,
-        },
-    };
-    for (bodies, sequence, status, written) in [
-        (ONE_KEY, 1, Status::Ok, "00000000000000010178000131"),
-        (ONE_KEY, 2, gone, ""),
-        ("", 0, Status::Ok, "0000000000000000"),
-        (
-            MERGED,
-            4,
-            Status::Ok,
-            "000000000000000201610001340178000135",
-        ),
-        (MERGED, 2, gone, ""),
-        (DELETED, 2, Status::Ok, "0000000000000001017a0000"),
-        (DELETED, 1, Status::Ok, "00000000000000010178000131"),
-    ] {
-        let input = frames(alloc, bodies)?;
-        let ran = exported(&rt, input.as_slice(), sequence, &[])?;
-        assert!(rt; is_so(alloc, &ran, status, written)?);
+fn exports_are_those_of_their_state(rt: HostRuntime) {
+    let keys = keys(&rt);
+    for (bodies, sequence, status, written) in EXPORTS {
+        let ran = exported_from(&rt, rt.alloc(), keys, bodies, sequence);
+        assert!(rt; is_so(&rt, rt.alloc(), &ran, status, written));
     }
-    Ok(())
 }
 
+/// The digits of bytes that are imported, how that ends, and the digits of what is written.
+const IMPORTS: [(&str, Status, &str); 6] = [
+    ("00000000000000010178000131", Status::Ok, SCRIPT),
+    ("0000000000000000", Status::Ok, "0000000400010101"),
+    ("00", Status::BadExport, ""),
+    (
+        "000000000000000201780001310161000134",
+        Status::BadExport,
+        "",
+    ),
+    ("0000000000000001017800013100", Status::BadExport, ""),
+    ("00000000000000020178000131", Status::BadExport, ""),
+];
+
 #[test]
-fn exports_alone_are_imported(rt: HostRuntime) -> Result<(), Fail> {
-    let alloc = rt.alloc();
-    for (bytes, status, written) in [
-        ("00000000000000010178000131", Status::Ok, SCRIPT),
-        ("0000000000000000", Status::Ok, "0000000400010101"),
-        ("00", Status::BadExport, ""),
-        (
-            "000000000000000201780001310161000134",
-            Status::BadExport,
-            "",
-        ),
-        ("0000000000000001017800013100", Status::BadExport, ""),
-        ("00000000000000020178000131", Status::BadExport, ""),
-    ] {
-        let bytes = hex::decode(alloc, bytes)?;
-        let ran = imported(&rt, bytes.as_slice(), 4_096, &[])?;
-        assert!(rt; is_so(alloc, &ran, status, written)?);
+fn exports_alone_are_imported(rt: HostRuntime) {
+    for (bytes, status, written) in IMPORTS {
+        let ran = imported_from(&rt, rt.alloc(), bytes, 4_096, &[]);
+        assert!(rt; is_so(&rt, rt.alloc(), &ran, status, written));
     }
-    Ok(())
 }
 
-#[test]
-fn of_65_keys_two_commits_are_made(rt: HostRuntime) -> Result<(), Fail> {
-    let alloc = rt.alloc();
-    let mut export = Vec::from_slice(alloc, &65u64.to_be_bytes())?;
+/// An export of 65 keys.
+fn wide_export(rt: &impl Abort, alloc: Global) -> Vec<u8> {
+    let mut export = copied(rt, alloc, &65u64.to_be_bytes());
     for key in 0..65u8 {
-        export.extend_from_slice(&[1, key, 0, 1, key])?;
+        put(rt, &mut export, &[1, key, 0, 1, key]);
     }
-    let script = imported(&rt, export.as_slice(), 65_536, &[])?;
-    assert!(rt; script.status == Status::Ok);
-    let ran = exported(&rt, script.written.as_slice(), 2, &[])?;
-    assert!(rt; ran.status == Status::Ok);
-    assert!(rt; ran.written.as_slice() == export.as_slice());
-    Ok(())
+    export
+}
+
+/// Whether the export of the second state of the script of an export is that export.
+fn comes_back(rt: &impl Abort, alloc: Global, keys: RandomState, export: &[u8]) -> bool {
+    let script = imported(rt, alloc, export, 65_536, &[]);
+    let ran = exported(rt, alloc, keys, script.written.as_slice(), 2, &[]);
+    script.status == Status::Ok && ran.status == Status::Ok && ran.written.as_slice() == export
 }
 
 #[test]
-fn after_a_fault_nothing_is_written(rt: HostRuntime) -> Result<(), Fail> {
-    let alloc = rt.alloc();
-    let input = frames(alloc, ONE_KEY)?;
-    let broken = exported(&rt, input.as_slice(), 1, &[1])?;
-    assert!(rt; is_so(alloc, &broken, Status::ReadFault, "")?);
-    let cut = exported(&rt, &[0, 0, 0], 0, &[])?;
-    assert!(rt; is_so(alloc, &cut, Status::Cut, "")?);
-    let bytes = hex::decode(alloc, "0000000000000000")?;
-    let unread = imported(&rt, bytes.as_slice(), 4_096, &[2])?;
-    assert!(rt; is_so(alloc, &unread, Status::ReadFault, "")?);
-    let unwritten = imported(&rt, bytes.as_slice(), 3, &[])?;
-    assert!(rt; is_so(alloc, &unwritten, Status::WriteFault, "000000")?);
-    Ok(())
+fn of_65_keys_two_commits_are_made(rt: HostRuntime) {
+    let export = wide_export(&rt, rt.alloc());
+    assert!(rt; comes_back(&rt, rt.alloc(), keys(&rt), export.as_slice()));
+}
+
+/// Exports over frames of which a take fails, and over frames that are cut.
+fn check_exports(rt: &impl Abort, alloc: Global, keys: RandomState) {
+    let input = frames(rt, alloc, ONE_KEY);
+    let broken = exported(rt, alloc, keys, input.as_slice(), 1, &[1]);
+    assert!(rt; is_so(rt, alloc, &broken, Status::ReadFault, ""));
+    let cut = exported(rt, alloc, keys, &[0, 0, 0], 0, &[]);
+    assert!(rt; is_so(rt, alloc, &cut, Status::Cut, ""));
+}
+
+/// Imports of which the second take fails, and into an output that is too small.
+fn check_imports(rt: &impl Abort, alloc: Global) {
+    let unread = imported_from(rt, alloc, "0000000000000000", 4_096, &[2]);
+    assert!(rt; is_so(rt, alloc, &unread, Status::ReadFault, ""));
+    let unwritten = imported_from(rt, alloc, "0000000000000000", 3, &[]);
+    assert!(rt; is_so(rt, alloc, &unwritten, Status::WriteFault, "000000"));
+}
+
+#[test]
+fn after_a_fault_nothing_is_written(rt: HostRuntime) {
+    check_exports(&rt, rt.alloc(), keys(&rt));
+    check_imports(&rt, rt.alloc());
 }

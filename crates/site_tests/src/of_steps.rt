@@ -1,115 +1,146 @@
 //! Worked rows asked of the site's step, over requests and replies and not over their bytes.
 
+ghost use Rattle.std.specs.Prelude.{IsTrue};
+ghost use Rattle.session_core.specs.Machine.{IsTold};
+ghost use Rattle.wire_talk.specs.Valid.{is_request};
+
 use crate::floor_rows::{BESIDE, CEILINGS, FOLLOWED, RAISED_CHAIN};
 use crate::merge_rows::{APART, BRANCHED, CART, JOINED, MERGED_TWICE, ONE_STATE, PAST_MERGES};
-use crate::of_limits::{LIMITS, note_chain};
+use crate::of_limits::chained;
 use crate::rows::{
-    ANY_AFTER, AT_AFTER, BEHIND, COUNTED, LAST_COMMITS, LOOKING_BACK, NB_REFUSES, NO_STATE, RIPPLE,
-    SER_FORKS, SI_PASSES, SKEWED,
+    ANY_AFTER, AT_AFTER, BEHIND, COUNTED, LAST_COMMITS, NB_REFUSES, NO_STATE, RIPPLE, SER_FORKS,
+    SI_PASSES, SKEWED,
 };
-use crate::talks::Talk;
+use crate::sites::{LIMITS, keys};
+use crate::talks::{Row, Talk};
 use session_core::SiteCore;
 use std::alloc::Global;
 use std::hash::RandomState;
-use std::test::Fail;
-use tardis_base::{Limits, NoMemory, Reply, ReplyBuf};
+use std::process::Abort;
+use tardis_base::{Limits, Reply, ReplyBuf, Request};
 use wire_talk::{read_request, write_reply};
 
-/// What replies to requests.
-trait Site: Drop {
-    /// Puts the reply to the request that these bytes spell into `out`; whether there is one.
-    fn replies(&mut self, alloc: Global, actor: u16, bytes: &[u8], out: &mut ReplyBuf) -> bool;
+/// The request that these bytes spell.
+fn request_of(rt: &impl Abort, alloc: Global, bytes: &[u8]) -> Request
+    ensures { IsTrue (is_request result) }
+{
+    read_request(alloc, bytes).expect(rt, "a request")
 }
 
-impl Site for SiteCore {
-    fn replies(&mut self, alloc: Global, actor: u16, bytes: &[u8], out: &mut ReplyBuf) -> bool {
-        out.clear();
-        match read_request(alloc, bytes) {
-            Ok(request) => {
-                let mut reply = Reply::NoMemory;
-                match self.step(actor, &request, &mut reply) {
-                    Ok(()) => {
-                        write_reply(&reply, out);
-                        true
-                    }
-                    Err(NoMemory) => false,
-                }
-            }
-            Err(_) => false,
+/// The site's reply to the request.
+fn reply_to(rt: &impl Abort, site: &mut SiteCore, actor: u16, request: &Request) -> Reply
+    requires { IsTrue (is_request request.now) }
+    ensures { IsTold result }
+{
+    let mut reply = Reply::NoMemory;
+    site.step(actor, request, &mut reply).expect(rt, "room");
+    reply
+}
+
+/// Puts the reply into `out`, in place of what was there.
+fn write(reply: &Reply, out: &mut ReplyBuf)
+    requires { IsTold reply.now }
+{
+    out.clear();
+    write_reply(reply, out);
+}
+
+/// Whether the site replies to the request of the row as the row says.
+fn replies(
+    rt: &impl Abort,
+    alloc: Global,
+    site: &mut SiteCore,
+    row: &Row,
+    out: &mut ReplyBuf,
+) -> bool {
+    let request = request_of(rt, alloc, row.asked.as_slice());
+    let reply = reply_to(rt, site, row.actor, &request);
+    write(&reply, out);
+    drop(reply);
+    drop(request);
+    out.bytes() == row.told.as_slice()
+}
+
+/// Whether the site replies so to the requests of all rows.
+fn replies_to_all(
+    rt: &impl Abort,
+    alloc: Global,
+    site: &mut SiteCore,
+    rows: &[Row],
+    out: &mut ReplyBuf,
+) -> bool {
+    for row in rows {
+        if !replies(rt, alloc, site, row, out) {
+            return false;
         }
     }
+    true
 }
 
-/// Whether the site answers the requests by these replies.
-fn answers<S: Site>(alloc: Global, mut site: S, talk: &Talk) -> Result<bool, Fail> {
-    let mut out = ReplyBuf::new(alloc)?;
-    for row in talk.rows() {
-        if !site.replies(alloc, row.actor, row.asked.as_slice(), &mut out)
-            || out.bytes() != row.told.as_slice()
-        {
-            return Ok(false);
-        }
-    }
-    Ok(true)
+/// A site that opens with these limits, as the first.
+fn opened(rt: &impl Abort, alloc: Global, keys: RandomState, limits: Limits) -> SiteCore {
+    assert!(rt; limits.valid());
+    assert!(rt; 1 <= limits.sites);
+    SiteCore::new(alloc, keys, limits, 1).expect(rt, "room")
 }
 
-/// Whether a site that opens does.
-pub(crate) fn steps(rt: &HostRuntime, talk: &Talk) -> Result<bool, Fail> {
-    let alloc = rt.alloc();
-    match SiteCore::new(alloc, RandomState::new(rt)?, LIMITS, 1) {
-        Ok(site) => answers(alloc, site, talk),
-        Err(NoMemory) => Ok(false),
-    }
+/// Whether it replies so to the requests of a talk.
+fn steps(rt: &impl Abort, alloc: Global, keys: RandomState, limits: Limits, talk: &Talk) -> bool {
+    let mut site = opened(rt, alloc, keys, limits);
+    let mut out = ReplyBuf::new(alloc).expect(rt, "room");
+    let are_so = replies_to_all(rt, alloc, &mut site, talk.rows(), &mut out);
+    drop(out);
+    drop(site);
+    are_so
 }
 
-/// Whether a site that opens as the first of two does.
-pub(crate) fn steps_of_two(rt: &HostRuntime, talk: &Talk) -> Result<bool, Fail> {
-    let alloc = rt.alloc();
-    match SiteCore::new(
-        alloc,
-        RandomState::new(rt)?,
-        Limits { sites: 2, ..LIMITS },
-        1,
-    ) {
-        Ok(site) => answers(alloc, site, talk),
-        Err(NoMemory) => Ok(false),
+/// Whether it replies so to the requests of these tables.
+pub(crate) fn are_steps(
+    rt: &impl Abort,
+    alloc: Global,
+    keys: RandomState,
+    limits: Limits,
+    tables: &[&str],
+) -> bool {
+    let talk = Talk::of(rt, alloc, tables);
+    let are_so = steps(rt, alloc, keys, limits, &talk);
+    drop(talk);
+    are_so
+}
+
+/// Tables of rows that are asked one after another.
+const TALKS: [&[&str]; 18] = [
+    &[RIPPLE],
+    &[COUNTED],
+    &[LAST_COMMITS],
+    &[NO_STATE],
+    &[CART],
+    &[PAST_MERGES],
+    &[CEILINGS],
+    &[RAISED_CHAIN],
+    &[FOLLOWED],
+    &[BESIDE],
+    &[SKEWED, SER_FORKS],
+    &[SKEWED, SI_PASSES],
+    &[SKEWED, NB_REFUSES],
+    &[BEHIND, ANY_AFTER],
+    &[BEHIND, AT_AFTER],
+    &[BRANCHED, MERGED_TWICE],
+    &[BRANCHED, ONE_STATE],
+    &[BRANCHED, JOINED, APART],
+];
+
+#[test]
+fn each_request_is_a_step(rt: HostRuntime) {
+    let keys = keys(&rt);
+    for tables in TALKS {
+        assert!(rt; are_steps(&rt, rt.alloc(), keys, LIMITS, tables));
     }
 }
 
 #[test]
-fn each_request_is_a_step(rt: HostRuntime) -> Result<(), Fail> {
-    let alloc = rt.alloc();
-    for tables in [
-        [RIPPLE].as_slice(),
-        &[COUNTED],
-        &[LAST_COMMITS],
-        &[NO_STATE],
-        &[CART],
-        &[PAST_MERGES],
-        &[CEILINGS],
-        &[RAISED_CHAIN],
-        &[FOLLOWED],
-        &[BESIDE],
-        &[SKEWED, SER_FORKS],
-        &[SKEWED, SI_PASSES],
-        &[SKEWED, NB_REFUSES],
-        &[BEHIND, ANY_AFTER],
-        &[BEHIND, AT_AFTER],
-        &[BRANCHED, MERGED_TWICE],
-        &[BRANCHED, ONE_STATE],
-        &[BRANCHED, JOINED, APART],
-    ] {
-        assert!(rt; steps(&rt, &Talk::of(alloc, tables)?)?);
-    }
-    Ok(())
-}
-
-#[test]
-fn each_of_200_commits_is_a_step(rt: HostRuntime) -> Result<(), Fail> {
-    let alloc = rt.alloc();
-    let mut talk = Talk::new(alloc);
-    note_chain(alloc, &mut talk, 200)?;
-    talk.note_all(LOOKING_BACK)?;
-    assert!(rt; steps(&rt, &talk)?);
-    Ok(())
+fn each_of_200_commits_is_a_step(rt: HostRuntime) {
+    let talk = chained(&rt, rt.alloc());
+    assert!(rt; steps(&rt, rt.alloc(), keys(&rt), LIMITS, &talk));
+    drop(talk);
 }

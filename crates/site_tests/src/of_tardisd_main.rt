@@ -1,50 +1,64 @@
+use crate::sites::keys;
+use crate::talks::bytes_of;
 use command_words::{Help, Place, help_of};
 use hub::{End, MemoryPorts, Move, Seen};
 use std::alloc::Global;
 use std::hash::RandomState;
-use std::test::Fail;
+use std::process::Abort;
 use tardis_base::ByteList;
 use tardisd_main::{DaemonEnd, GateFault, help_text, plan_of, serve_place};
 
+/// The place of the site.
+const PLACE: Place = Place { sites: 3, site: 2 };
+
 /// The words of a line.
-fn words_of(alloc: Global, line: &str) -> Result<Vec<String>, Fail> {
+fn words_of(rt: &impl Abort, alloc: Global, line: &str) -> Vec<String> {
     let mut words = Vec::new(alloc);
     for word in line.split_whitespace() {
-        words.push(String::from_str(alloc, word)?)?;
+        let word = String::from_str(alloc, word).expect(rt, "room");
+        words.push(word).expect(rt, "room");
     }
-    Ok(words)
+    words
+}
+
+/// Whether the words are a plan to collect states at the place, and to listen at `unix:s`.
+fn are_planned(words: &[String]) -> bool {
+    match plan_of(words) {
+        Ok(plan) => plan.listen == "unix:s" && plan.place == PLACE && plan.tidy,
+        Err(_) => false,
+    }
+}
+
+/// Whether the words have none of the forms.
+fn are_refused(words: &[String]) -> bool {
+    match plan_of(words) {
+        Ok(_) => false,
+        Err(refused) => refused == DaemonEnd::Usage,
+    }
+}
+
+/// Whether the words ask for the version.
+fn ask_version(words: &[String]) -> bool {
+    help_of(words) == Some(Help::Version)
 }
 
 #[test]
-fn words_are_a_plan_or_refused(rt: HostRuntime) -> Result<(), Fail> {
-    let alloc = rt.alloc();
-    let words = words_of(alloc, "--site 2 --tidy --listen unix:s --sites 3")?;
-    match plan_of(words.as_slice()) {
-        Ok(plan) => {
-            assert!(rt;
-                plan.listen == "unix:s" && plan.place == Place { sites: 3, site: 2 } && plan.tidy
-            );
-        }
-        Err(_) => return Err(Fail::new("a plan")),
-    }
-    let words = words_of(alloc, "--sites 2")?;
-    match plan_of(words.as_slice()) {
-        Ok(_) => return Err(Fail::new("no plan")),
-        Err(refused) => assert_eq!(rt; refused, DaemonEnd::Usage),
-    }
-    let words = words_of(alloc, "--version")?;
-    assert!(rt; help_of(words.as_slice()) == Some(Help::Version));
+fn words_are_a_plan_or_refused(rt: HostRuntime) {
+    let words = words_of(&rt, rt.alloc(), "--site 2 --tidy --listen unix:s --sites 3");
+    assert!(rt; are_planned(words.as_slice()));
+    let words = words_of(&rt, rt.alloc(), "--sites 2");
+    assert!(rt; are_refused(words.as_slice()));
+    let words = words_of(&rt, rt.alloc(), "--version");
+    assert!(rt; ask_version(words.as_slice()));
     assert!(rt; help_text(Help::Version) == "tardisd 0.1.0\n");
-    Ok(())
 }
 
 #[test]
-fn an_end_has_a_line_and_a_number(rt: HostRuntime) -> Result<(), Fail> {
+fn an_end_has_a_line_and_a_number(rt: HostRuntime) {
     let end = DaemonEnd::Gate(GateFault::InUse);
-    let line = format!(in rt.alloc(); "{end}")?;
+    let line = format!(in rt.alloc(); "{end}").expect(&rt, "room");
     assert!(rt; line.as_str() == "tardisd: gate fault: another server listens there");
     assert_eq!(rt; end.number(), 7);
-    Ok(())
 }
 
 /// A session that puts a key and commits, as frames of a connection.
@@ -56,29 +70,47 @@ const TOLD: &str = concat!(
     "0000000e0800020000000101000000000000"
 );
 
-#[test]
-fn a_site_is_served_at_its_place(rt: HostRuntime) -> Result<(), Fail> {
-    let alloc = rt.alloc();
-    let mut moves = Vec::new(alloc);
-    moves.push(Move::Accept { comes: true })?;
-    moves.push(Move::Read {
-        slot: 0,
-        bytes: ByteList::from_vec(hex::decode(alloc, ASKED)?),
-    })?;
-    moves.push(Move::Write { slot: 0, most: 100 })?;
-    let mut ports = MemoryPorts::new(alloc, moves);
-    let place = Place { sites: 3, site: 2 };
-    match serve_place(alloc, RandomState::new(&rt)?, place, true, &mut ports) {
-        Ok(end) => assert!(rt; end == End::Stopped),
-        Err(_) => return Err(Fail::new("memory")),
+/// A connection comes, asks, and is told.
+fn moves(rt: &impl Abort, alloc: Global) -> Vec<Move> {
+    let asked = ByteList::from_vec(bytes_of(rt, alloc, ASKED));
+    let moves = [
+        Move::Accept { comes: true },
+        Move::Read {
+            slot: 0,
+            bytes: asked,
+        },
+        Move::Write { slot: 0, most: 100 },
+    ];
+    Vec::from_array(alloc, moves).expect(rt, "room")
+}
+
+/// Whether a site at the place serves this edge until it says stop.
+fn is_served(alloc: Global, keys: RandomState, ports: &mut MemoryPorts) -> bool {
+    match serve_place(alloc, keys, PLACE, true, ports) {
+        Ok(end) => end == End::Stopped,
+        Err(_) => false,
     }
-    let told = hex::decode(alloc, TOLD)?;
-    let Some(calls) = ports.seen() else {
-        return Err(Fail::new("memory"));
-    };
-    let wrote = calls.iter().filter(|call| {
-        matches!(call, Seen::WroteTo { bytes, .. } if bytes.as_slice() == told.as_slice())
-    });
-    assert_eq!(rt; wrote.count(), 1);
-    Ok(())
+}
+
+/// How many of the calls took these bytes.
+fn count_of_writes(calls: &[Seen], told: &[u8]) -> usize {
+    let wrote = calls.iter().filter(
+        |call| matches!(call, Seen::WroteTo { bytes, .. } if bytes.as_slice() == told),
+    );
+    wrote.count()
+}
+
+/// How often the edge took what was to be told.
+fn count_told(rt: &impl Abort, alloc: Global, ports: &MemoryPorts) -> usize {
+    let told = bytes_of(rt, alloc, TOLD);
+    let calls = ports.seen().expect(rt, "memory");
+    count_of_writes(calls, told.as_slice())
+}
+
+#[test]
+fn a_site_is_served_at_its_place(rt: HostRuntime) {
+    let mut ports = MemoryPorts::new(rt.alloc(), moves(&rt, rt.alloc()));
+    assert!(rt; is_served(rt.alloc(), keys(&rt), &mut ports));
+    assert_eq!(rt; count_told(&rt, rt.alloc(), &ports), 1);
+    drop(ports);
 }

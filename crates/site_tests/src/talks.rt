@@ -1,10 +1,25 @@
 //! Requests and the replies that they are to get.
 
 use std::alloc::Global;
-use std::test::Fail;
+use std::process::Abort;
+
+/// The bytes that these hexadecimal digits spell.
+pub fn bytes_of(rt: &impl Abort, alloc: Global, digits: &str) -> Vec<u8> {
+    hex::decode(alloc, digits).expect(rt, "hexadecimal digits")
+}
+
+/// A copy of these bytes.
+pub fn copied(rt: &impl Abort, alloc: Global, bytes: &[u8]) -> Vec<u8> {
+    Vec::from_slice(alloc, bytes).expect(rt, "room")
+}
+
+/// Puts more bytes behind these.
+pub fn put(rt: &impl Abort, bytes: &mut Vec<u8>, more: &[u8]) {
+    bytes.extend_from_slice(more).expect(rt, "room");
+}
 
 /// A worked row: an actor, the bytes of its request, and those of the reply.
-#[derive(Debug, Drop)]
+#[derive(Drop)]
 pub struct Row {
     pub actor: u16,
     pub asked: Vec<u8>,
@@ -12,25 +27,24 @@ pub struct Row {
 }
 
 /// The row that a line is.
-fn row_of(alloc: Global, line: &str) -> Result<Row, Fail> {
+fn row_of(rt: &impl Abort, alloc: Global, line: &str) -> Row {
     let mut words = line.split_whitespace();
-    let (Some(actor), Some(asked), Some(told)) = (words.next(), words.next(), words.next()) else {
-        return Err(Fail::new("a row has three words"));
-    };
-    Ok(Row {
-        actor: actor.parse()?,
-        asked: hex::decode(alloc, asked)?,
-        told: hex::decode(alloc, told)?,
-    })
+    let actor = words.next().expect(rt, "an actor");
+    let asked = words.next().expect(rt, "a request");
+    let told = words.next().expect(rt, "a reply");
+    Row {
+        actor: actor.parse::<u16>().expect(rt, "a number"),
+        asked: bytes_of(rt, alloc, asked),
+        told: bytes_of(rt, alloc, told),
+    }
 }
 
 /// Puts the frame of a body behind these.
-fn put_frame(frames: &mut Vec<u8>, head: &[u8], body: &[u8]) -> Result<(), Fail> {
+fn put_frame(rt: &impl Abort, frames: &mut Vec<u8>, head: &[u8], body: &[u8]) {
     let length = u32::try_from(head.len().saturating_add(body.len())).unwrap_or(u32::MAX);
-    frames.extend_from_slice(&length.to_be_bytes())?;
-    frames.extend_from_slice(head)?;
-    frames.extend_from_slice(body)?;
-    Ok(())
+    put(rt, frames, &length.to_be_bytes());
+    put(rt, frames, head);
+    put(rt, frames, body);
 }
 
 /// Rows, one after another.
@@ -49,37 +63,40 @@ impl Talk {
     }
 
     /// The rows of these tables.
-    pub fn of(alloc: Global, tables: &[&str]) -> Result<Talk, Fail> {
+    pub fn of(rt: &impl Abort, alloc: Global, tables: &[&str]) -> Talk {
         let mut talk = Talk::new(alloc);
         for table in tables {
-            talk.note_all(table)?;
+            talk.note_all(rt, table);
         }
-        Ok(talk)
+        talk
     }
 
     /// Puts the rows of a table behind the others.
-    pub fn note_all(&mut self, table: &str) -> Result<(), Fail> {
+    pub fn note_all(&mut self, rt: &impl Abort, table: &str) {
         for line in table.lines() {
-            let row = row_of(self.alloc, line)?;
-            self.rows.push(row)?;
+            let row = row_of(rt, self.alloc, line);
+            self.note(rt, row);
         }
-        Ok(())
+    }
+
+    /// Puts a row behind the others.
+    fn note(&mut self, rt: &impl Abort, row: Row) {
+        self.rows.push(row).expect(rt, "room");
     }
 
     /// Puts a request of actor 1 behind the others, and the reply that it is to get.
-    pub fn ask(&mut self, asked: &[u8], told: &[u8]) -> Result<(), Fail> {
-        self.ask_as(1, asked, told)
+    pub fn ask(&mut self, rt: &impl Abort, asked: &[u8], told: &[u8]) {
+        self.ask_as(rt, 1, asked, told);
     }
 
     /// Puts a request of an actor behind the others, and the reply that it is to get.
-    pub fn ask_as(&mut self, actor: u16, asked: &[u8], told: &[u8]) -> Result<(), Fail> {
+    pub fn ask_as(&mut self, rt: &impl Abort, actor: u16, asked: &[u8], told: &[u8]) {
         let row = Row {
             actor,
-            asked: Vec::from_slice(self.alloc, asked)?,
-            told: Vec::from_slice(self.alloc, told)?,
+            asked: copied(rt, self.alloc, asked),
+            told: copied(rt, self.alloc, told),
         };
-        self.rows.push(row)?;
-        Ok(())
+        self.note(rt, row);
     }
 
     pub fn rows(&self) -> &[Row] {
@@ -87,20 +104,21 @@ impl Talk {
     }
 
     /// The frames of the requests.
-    pub fn input(&self) -> Result<Vec<u8>, Fail> {
+    pub fn input(&self, rt: &impl Abort) -> Vec<u8> {
         let mut frames = Vec::new(self.alloc);
         for row in self.rows.as_slice() {
-            put_frame(&mut frames, &row.actor.to_be_bytes(), row.asked.as_slice())?;
+            let actor = row.actor.to_be_bytes();
+            put_frame(rt, &mut frames, &actor, row.asked.as_slice());
         }
-        Ok(frames)
+        frames
     }
 
     /// The frames of the replies.
-    pub fn output(&self) -> Result<Vec<u8>, Fail> {
+    pub fn output(&self, rt: &impl Abort) -> Vec<u8> {
         let mut frames = Vec::new(self.alloc);
         for row in self.rows.as_slice() {
-            put_frame(&mut frames, &[], row.told.as_slice())?;
+            put_frame(rt, &mut frames, &[], row.told.as_slice());
         }
-        Ok(frames)
+        frames
     }
 }

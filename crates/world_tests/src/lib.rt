@@ -8,4 +8,6 @@ mod of_load_run;
 #[cfg(test)]
 mod of_world_core;
 #[cfg(test)]
+mod streams;
+#[cfg(test)]
 mod world_rows;

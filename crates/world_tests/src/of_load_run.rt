@@ -1,6 +1,8 @@
+use crate::streams::{an_output, keys};
 use load_run::run_load;
+use std::alloc::Global;
 use std::hash::RandomState;
-use std::test::Fail;
+use std::process::Abort;
 use tardis_io::{MemorySink, Status};
 
 /// Numbers, and the line of a load. The lines are those of a model of the rules that was written apart from this program, in
@@ -33,16 +35,31 @@ const LINES: [(u32, u32, &str); 5] = [
     ),
 ];
 
+/// How a load by these numbers ends over this output.
+fn ends(alloc: Global, keys: RandomState, start: u32, steps: u32, sink: &mut MemorySink) -> Status {
+    run_load(alloc, keys, start, steps, sink)
+}
+
+/// Whether it writes this line.
+fn writes(
+    rt: &impl Abort,
+    alloc: Global,
+    keys: RandomState,
+    start: u32,
+    steps: u32,
+    line: &str,
+) -> bool {
+    let mut sink = an_output(rt, alloc, 1_000);
+    let status = ends(alloc, keys, start, steps, &mut sink);
+    status == Status::Ok && sink.bytes() == line.as_bytes()
+}
+
 #[test]
-fn two_numbers_determine_the_line(rt: HostRuntime) -> Result<(), Fail> {
+fn two_numbers_determine_the_line(rt: HostRuntime) {
     for (start, steps, line) in LINES {
-        let keys = RandomState::new(&rt)?;
-        let mut sink = MemorySink::new(rt.alloc(), 1_000, 4_096, &[])?;
-        let status = run_load(rt.alloc(), keys, start, steps, &mut sink);
         assert!(rt;
-            status == Status::Ok && sink.bytes() == line.as_bytes(),
+            writes(&rt, rt.alloc(), keys(&rt), start, steps, line),
             "{steps} steps"
         );
     }
-    Ok(())
 }

@@ -1,16 +1,27 @@
+use crate::streams::{an_input, an_output, keys};
 use crate::world_rows::{HALF_LOST, NOT_THERE, SHARED_CART};
 use std::alloc::Global;
 use std::hash::RandomState;
-use std::test::Fail;
+use std::process::Abort;
 use tardis_io::{MemorySink, MemorySource, Status};
 use world_core::run_world;
 
+/// Puts more bytes behind these.
+fn put(rt: &impl Abort, bytes: &mut Vec<u8>, more: &[u8]) {
+    bytes.extend_from_slice(more).expect(rt, "room");
+}
+
 /// Puts the frame of a body behind these.
-fn put_frame(frames: &mut Vec<u8>, body: &[u8]) -> Result<(), Fail> {
+fn put_frame(rt: &impl Abort, frames: &mut Vec<u8>, body: &[u8]) {
     let length = u32::try_from(body.len()).unwrap_or(u32::MAX);
-    frames.extend_from_slice(&length.to_be_bytes())?;
-    frames.extend_from_slice(body)?;
-    Ok(())
+    put(rt, frames, &length.to_be_bytes());
+    put(rt, frames, body);
+}
+
+/// Puts the frame of the body behind these that these hexadecimal digits spell.
+fn put_spelled(rt: &impl Abort, alloc: Global, frames: &mut Vec<u8>, digits: &str) {
+    let body = hex::decode(alloc, digits).expect(rt, "hexadecimal digits");
+    put_frame(rt, frames, body.as_slice());
 }
 
 /// Frames of bodies, and those of the replies that they are to get.
@@ -29,59 +40,80 @@ impl Talk {
     }
 
     /// The rows of a table.
-    fn of(alloc: Global, table: &str) -> Result<Talk, Fail> {
+    fn of(rt: &impl Abort, alloc: Global, table: &str) -> Talk {
         let mut talk = Talk::new(alloc);
         for line in table.lines() {
-            let mut words = line.split_whitespace();
-            let (Some(body), Some(reply)) = (words.next(), words.next()) else {
-                return Err(Fail::new("a row has two words"));
-            };
-            talk.ask(
-                hex::decode(alloc, body)?.as_slice(),
-                hex::decode(alloc, reply)?.as_slice(),
-            )?;
+            talk.note(rt, alloc, line);
         }
-        Ok(talk)
+        talk
+    }
+
+    /// Puts the row behind the others that a line is.
+    fn note(&mut self, rt: &impl Abort, alloc: Global, line: &str) {
+        let mut words = line.split_whitespace();
+        let body = words.next().expect(rt, "a body");
+        let reply = words.next().expect(rt, "a reply");
+        put_spelled(rt, alloc, &mut self.input, body);
+        put_spelled(rt, alloc, &mut self.output, reply);
     }
 
     /// Puts a body behind the others, and the reply that it is to get.
-    fn ask(&mut self, body: &[u8], reply: &[u8]) -> Result<(), Fail> {
-        put_frame(&mut self.input, body)?;
-        put_frame(&mut self.output, reply)
+    fn ask(&mut self, rt: &impl Abort, body: &[u8], reply: &[u8]) {
+        put_frame(rt, &mut self.input, body);
+        put_frame(rt, &mut self.output, reply);
     }
+}
+
+/// How a world of so many sites ends over these streams.
+fn ends(
+    alloc: Global,
+    keys: RandomState,
+    sites: u16,
+    source: &mut MemorySource,
+    sink: &mut MemorySink,
+) -> Status {
+    run_world(alloc, keys, sites.clamp(1, 16), source, sink)
 }
 
 /// Whether a world of so many sites answers so.
-fn answers(alloc: Global, keys: RandomState, sites: u16, talk: &Talk) -> Result<bool, Fail> {
-    let mut source = MemorySource::new(alloc, talk.input.as_slice(), 4_096, &[])?;
-    let mut sink = MemorySink::new(alloc, 100_000, 4_096, &[])?;
-    let status = run_world(alloc, keys, sites.clamp(1, 16), &mut source, &mut sink);
-    Ok(status == Status::Ok && sink.bytes() == talk.output.as_slice())
+fn answers(rt: &impl Abort, alloc: Global, keys: RandomState, sites: u16, talk: &Talk) -> bool {
+    let mut source = an_input(rt, alloc, talk.input.as_slice());
+    let mut sink = an_output(rt, alloc, 100_000);
+    let status = ends(alloc, keys, sites, &mut source, &mut sink);
+    status == Status::Ok && sink.bytes() == talk.output.as_slice()
+}
+
+/// Whether it answers the rows of a table so.
+fn is_answered(rt: &impl Abort, alloc: Global, keys: RandomState, sites: u16, table: &str) -> bool {
+    let talk = Talk::of(rt, alloc, table);
+    answers(rt, alloc, keys, sites, &talk)
 }
 
 #[test]
-fn sites_share_a_cart(rt: HostRuntime) -> Result<(), Fail> {
-    let keys = RandomState::new(&rt)?;
-    let talk = Talk::of(rt.alloc(), SHARED_CART)?;
-    assert!(rt; answers(rt.alloc(), keys, 3, &talk)?);
-    let talk = Talk::of(rt.alloc(), HALF_LOST)?;
-    assert!(rt; answers(rt.alloc(), keys, 3, &talk)?);
-    let talk = Talk::of(rt.alloc(), NOT_THERE)?;
-    assert!(rt; answers(rt.alloc(), keys, 2, &talk)?);
-    Ok(())
-}
-
-#[test]
-fn the_bag_holds_1024_batches(rt: HostRuntime) -> Result<(), Fail> {
-    let keys = RandomState::new(&rt)?;
-    let pull = b"\x01\0\x01\0\0\x13\x02\0\0\0\0\0\0\0\0";
-    let mut talk = Talk::new(rt.alloc());
-    for _ in 0..1_024 {
-        talk.ask(pull, b"\x10\0\0\0")?;
+fn sites_share_a_cart(rt: HostRuntime) {
+    let keys = keys(&rt);
+    for (sites, table) in [(3, SHARED_CART), (3, HALF_LOST), (2, NOT_THERE)] {
+        assert!(rt; is_answered(&rt, rt.alloc(), keys, sites, table));
     }
-    talk.ask(pull, b"\x15\x1d\0\0\x04\0")?;
-    talk.ask(b"\x01\0\x01\0\0\x07", b"\x15\x02")?;
-    talk.ask(b"\x02\0\x02\0\0\0\0\0\0\0\0", b"\x15\x1c\0\0\x04\0")?;
-    assert!(rt; answers(rt.alloc(), keys, 2, &talk)?);
-    Ok(())
+}
+
+/// A pull of a site that has no news.
+const PULL: &[u8] = b"\x01\0\x01\0\0\x13\x02\0\0\0\0\0\0\0\0";
+
+/// 1,024 batches come, and one more is refused; an Abort is answered still, and there is no item that may be carried.
+fn full_bag(rt: &impl Abort, alloc: Global) -> Talk {
+    let mut talk = Talk::new(alloc);
+    for _ in 0..1_024 {
+        talk.ask(rt, PULL, b"\x10\0\0\0");
+    }
+    talk.ask(rt, PULL, b"\x15\x1d\0\0\x04\0");
+    talk.ask(rt, b"\x01\0\x01\0\0\x07", b"\x15\x02");
+    talk.ask(rt, b"\x02\0\x02\0\0\0\0\0\0\0\0", b"\x15\x1c\0\0\x04\0");
+    talk
+}
+
+#[test]
+fn the_bag_holds_1024_batches(rt: HostRuntime) {
+    let talk = full_bag(&rt, rt.alloc());
+    assert!(rt; answers(&rt, rt.alloc(), keys(&rt), 2, &talk));
 }
