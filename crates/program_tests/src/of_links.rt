@@ -126,7 +126,14 @@ fn is_told_again<R: RandomSource + Abort + Threads + Wait + Sync>(
 ) -> bool {
     let again = run_line(rt, alloc, "run", trail);
     let is_right = again.status == Status::Ok
-        && are_given(rt, alloc, trail, again.written.as_slice(), to_writer, to_reader);
+        && are_given(
+            rt,
+            alloc,
+            trail,
+            again.written.as_slice(),
+            to_writer,
+            to_reader,
+        );
     drop(again);
     is_right
 }
@@ -144,9 +151,9 @@ fn check_trail<R: RandomSource + Abort + Threads + Wait + Sync>(
     gate: &MemoryGate<MemoryLink>,
 ) {
     let trail = ran.written.as_slice();
-    assert_eq!(rt; ran.status, Status::Ok);
+    assert!(rt; ran.status == Status::Ok);
     // seven entries of the first client, and four of the second
-    assert_eq!(rt; trail.len(), 94);
+    assert!(rt; trail.len() == 94);
     assert!(rt; is_told_again(rt, alloc, trail, given(gate, 1), given(gate, 2)));
 }
 

@@ -82,11 +82,20 @@ const NO_COMMANDS: [&str; 16] = [
     "--help run",
 ];
 
+/// Whether the program comes to Usage with each of these lines, and writes nothing.
+fn check_unknown<R: RandomSource + Abort + Threads + Wait + Sync>(
+    rt: &R,
+    alloc: Global,
+    lines: &[&'static str],
+) {
+    for line in lines {
+        check_rows(rt, alloc, &[(*line, SESSION, Status::Usage, b"")]);
+    }
+}
+
 #[test]
 fn other_words_are_no_command(rt: HostRuntime) {
-    for line in NO_COMMANDS {
-        check_rows(&rt, rt.alloc(), &[(line, SESSION, Status::Usage, b"")]);
-    }
+    check_unknown(&rt, rt.alloc(), &NO_COMMANDS);
 }
 
 const COMMANDS: [&str; 12] = [
@@ -104,21 +113,23 @@ const COMMANDS: [&str; 12] = [
     "tardis --version ",
 ];
 
-/// Whether the help has this text.
-fn is_told(text: &str) -> bool {
-    USAGE.contains(text)
+/// Whether the help has each of these texts.
+fn check_help(rt: &impl Abort, help: &str, texts: &[&str]) {
+    for text in texts {
+        assert!(rt; help.contains(*text), "{text}");
+    }
 }
 
 #[test]
 fn the_help_tells_each_command(rt: HostRuntime) {
-    check_rows(
-        &rt,
-        rt.alloc(),
-        &[("--help", b"", Status::Ok, USAGE.as_bytes())],
-    );
-    for command in COMMANDS {
-        assert!(rt; is_told(command), "{command}");
-    }
+    let row: Row = ("--help", b"", Status::Ok, USAGE.as_bytes());
+    check_rows(&rt, rt.alloc(), &[row]);
+    check_help(&rt, USAGE, &COMMANDS);
+}
+
+/// Whether these are a front of the session's replies.
+fn is_front(written: &[u8]) -> bool {
+    REPLIES.starts_with(written)
 }
 
 /// Whether `run` over the session ends so, having written a front of its replies, where these calls fail.
@@ -130,9 +141,9 @@ fn cuts_replies<R: RandomSource + Abort + Threads + Wait + Sync>(
     status: Status,
 ) -> bool {
     let ran = run_failing(rt, alloc, "run", SESSION, takes, gives);
-    let is_front = ran.status == status && REPLIES.starts_with(ran.written.as_slice());
+    let is_right = ran.status == status && is_front(ran.written.as_slice());
     drop(ran);
-    is_front
+    is_right
 }
 
 #[test]

@@ -3,11 +3,13 @@
 ghost use Rattle.std.specs.Prelude.{◌≡◌, ℕ, None, true, refl};
 
 use crate::devices::{gate_of, link};
-use crate::programs::Ran;
 use crate::servers::serve_clients;
 use std::alloc::Global;
 use std::process::Abort;
+use std::random::RandomSource;
+use std::sync::Wait;
 use std::sync::atomic::{AtomicU64, Ordering};
+use std::thread::Threads;
 use tardis_io::{Duplex, Failed, Link, MemoryGate, MemoryLink, Sink, Status};
 
 /// A client that opens and begins. It sends its second request only once the other client was given so many replies.
@@ -131,17 +133,27 @@ fn answered(gate: &MemoryGate<Waiting<'_>>) -> usize {
     count
 }
 
-fn check_both(rt: &impl Abort, ran: &Ran, gate: &MemoryGate<Waiting<'_>>) {
-    assert_eq!(rt; ran.status, Status::Ok);
-    assert_eq!(rt; answered(gate), 2);
+/// How the server of both ends, and how many of them were answered.
+fn serve_both<R: RandomSource + Abort + Threads + Wait + Sync>(
+    rt: &R,
+    alloc: Global,
+    one: &AtomicU64,
+    two: &AtomicU64,
+) -> (Status, usize) {
+    let mut gate = gate_of(rt, alloc, both(rt, alloc, one, two));
+    let ran = serve_clients(rt, alloc, "serve --listen x:1 --links 2", &mut gate);
+    let status = ran.status;
+    drop(ran);
+    let count = answered(&gate);
+    drop(gate);
+    (status, count)
 }
 
 #[test]
 fn two_clients_that_wait_for_each_other_are_served(rt: HostRuntime) {
-    let (one, two) = (AtomicU64::new(0), AtomicU64::new(0));
-    let mut gate = gate_of(&rt, rt.alloc(), both(&rt, rt.alloc(), &one, &two));
-    let ran = serve_clients(&rt, rt.alloc(), "serve --listen x:1 --links 2", &mut gate);
-    check_both(&rt, &ran, &gate);
-    drop(ran);
-    drop(gate);
+    let one = AtomicU64::new(0);
+    let two = AtomicU64::new(0);
+    let (status, count) = serve_both(&rt, rt.alloc(), &one, &two);
+    assert!(rt; status == Status::Ok);
+    assert!(rt; count == 2);
 }

@@ -37,11 +37,15 @@ pub(crate) fn keys<R: RandomSource + Abort>(rt: &R) -> RandomState {
     RandomState::new(rt).expect(rt, "random bytes")
 }
 
+fn push_word(rt: &impl Abort, alloc: Global, words: &mut Vec<String>, word: &str) {
+    let word = String::from_str(alloc, word).expect(rt, "room");
+    words.push(word).expect(rt, "room");
+}
+
 /// Puts the words of a line behind these.
 fn push_words(rt: &impl Abort, alloc: Global, words: &mut Vec<String>, line: &str) {
     for word in line.split_whitespace() {
-        let word = String::from_str(alloc, word).expect(rt, "room");
-        words.push(word).expect(rt, "room");
+        push_word(rt, alloc, words, word);
     }
 }
 
@@ -54,7 +58,8 @@ pub(crate) fn words_of(rt: &impl Abort, alloc: Global, line: &str) -> Vec<String
 
 /// A program's arguments: its name, and the words of a line.
 fn args_of(rt: &impl Abort, alloc: Global, line: &str) -> Args {
-    let mut args = words_of(rt, alloc, "tardis");
+    let mut args = Vec::new(alloc);
+    push_word(rt, alloc, &mut args, "tardis");
     push_words(rt, alloc, &mut args, line);
     args.into_iter()
 }

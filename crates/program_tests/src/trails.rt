@@ -10,14 +10,17 @@ pub(crate) struct Part {
     pub(crate) told: Vec<u8>,
 }
 
+/// How many bytes the first frame has, with its length word.
+fn length_of_first(bytes: &[u8]) -> usize {
+    match bytes.first_chunk::<4>() {
+        Some(word) => (u32::from_be_bytes(*word) as usize).saturating_add(4),
+        None => 4,
+    }
+}
+
 /// The first frame and what is behind it.
 fn first_frame(bytes: &[u8]) -> Option<(&[u8], &[u8])> {
-    let word = bytes.first_chunk::<4>()?;
-    let length = u32::from_be_bytes(*word) as usize + 4;
-    if length > bytes.len() {
-        return None;
-    }
-    Some(bytes.split_at(length))
+    bytes.split_at_checked(length_of_first(bytes))
 }
 
 /// Whether the entry is of this actor.
