@@ -2,11 +2,11 @@ use crate::command_rows::{
     AUTO, CARRIED_OUT, CUT, EMPTY_EXPORT, EXPORT, FORK, FORKED, LOADED, LONG, MERGED, OPENED,
     REPLIES, REPLIES_OF_2, SCRIPT, SESSION, TOLD, WORLD, WORLD_REPLIES,
 };
-use crate::programs::{run_failing, run_line};
+use crate::programs::{comes_to, run_failing, run_line};
 use std::alloc::Global;
+use std::process::Abort;
 use std::random::RandomSource;
 use std::sync::Wait;
-use std::test::Fail;
 use std::thread::Threads;
 use tardis_base::StateId;
 use tardis_io::Status;
@@ -45,93 +45,113 @@ const ROWS: [Row; 18] = [
     ("--version", b"", Status::Ok, b"tardis 0.1.0\n"),
 ];
 
-/// Whether the program of a row comes to what the row says.
-fn is_so<R: RandomSource + Threads + Wait + Sync>(
-    alloc: Global,
+/// Whether each program comes to what its row says.
+fn check_rows<R: RandomSource + Abort + Threads + Wait + Sync>(
     rt: &R,
-    row: &Row,
-) -> Result<bool, Fail> {
-    let (line, input, status, output) = *row;
-    let ran = run_line(alloc, rt, line, input)?;
-    Ok(ran.status == status && ran.written.as_slice() == output)
-}
-
-#[test]
-fn each_command_writes_its_bytes(rt: HostRuntime) -> Result<(), Fail> {
-    for row in &ROWS {
-        assert!(rt; is_so(rt.alloc(), &rt, row)?, "{}", row.0);
+    alloc: Global,
+    rows: &[Row],
+) {
+    for row in rows {
+        let (line, input, status, output) = *row;
+        let ran = run_line(rt, alloc, line, input);
+        assert!(rt; comes_to(ran, status, output), "{line}");
     }
-    Ok(())
 }
 
 #[test]
-fn other_words_are_no_command(rt: HostRuntime) -> Result<(), Fail> {
-    for line in [
-        "",
-        "run extra",
-        "run --site 2",
-        "run --sites=2",
-        "run --sites 1 --sites 1",
-        "serve --links 2",
-        "serve --listen a --links 2 --rounds 1000001",
-        "world",
-        "world --sites 17",
-        "load --start 1 --steps 10001",
-        "import 1",
-        "export --at 01.1",
-        "auto --rules =sum",
-        "durable",
-        "Run",
-        "--help run",
-    ] {
-        let row: Row = (line, SESSION, Status::Usage, b"");
-        assert!(rt; is_so(rt.alloc(), &rt, &row)?, "{line}");
+fn each_command_writes_its_bytes(rt: HostRuntime) {
+    check_rows(&rt, rt.alloc(), &ROWS);
+}
+
+const NO_COMMANDS: [&str; 16] = [
+    "",
+    "run extra",
+    "run --site 2",
+    "run --sites=2",
+    "run --sites 1 --sites 1",
+    "serve --links 2",
+    "serve --listen a --links 2 --rounds 1000001",
+    "world",
+    "world --sites 17",
+    "load --start 1 --steps 10001",
+    "import 1",
+    "export --at 01.1",
+    "auto --rules =sum",
+    "durable",
+    "Run",
+    "--help run",
+];
+
+/// Whether the program comes to Usage with each of these lines, and writes nothing.
+fn check_unknown<R: RandomSource + Abort + Threads + Wait + Sync>(
+    rt: &R,
+    alloc: Global,
+    lines: &[&'static str],
+) {
+    for line in lines {
+        check_rows(rt, alloc, &[(*line, SESSION, Status::Usage, b"")]);
     }
-    Ok(())
 }
 
 #[test]
-fn the_help_tells_each_command(rt: HostRuntime) -> Result<(), Fail> {
+fn other_words_are_no_command(rt: HostRuntime) {
+    check_unknown(&rt, rt.alloc(), &NO_COMMANDS);
+}
+
+const COMMANDS: [&str; 12] = [
+    "tardis shell ",
+    "tardis run ",
+    "tardis audit ",
+    "tardis world ",
+    "tardis load ",
+    "tardis serve ",
+    "tardis auto ",
+    "tardis durable ",
+    "tardis export ",
+    "tardis import ",
+    "tardis --help ",
+    "tardis --version ",
+];
+
+/// Whether the help has each of these texts.
+fn check_help(rt: &impl Abort, help: &str, texts: &[&str]) {
+    for text in texts {
+        assert!(rt; help.contains(*text), "{text}");
+    }
+}
+
+#[test]
+fn the_help_tells_each_command(rt: HostRuntime) {
     let row: Row = ("--help", b"", Status::Ok, USAGE.as_bytes());
-    assert!(rt; is_so(rt.alloc(), &rt, &row)?);
-    for command in [
-        "tardis shell ",
-        "tardis run ",
-        "tardis audit ",
-        "tardis world ",
-        "tardis load ",
-        "tardis serve ",
-        "tardis auto ",
-        "tardis durable ",
-        "tardis export ",
-        "tardis import ",
-        "tardis --help ",
-        "tardis --version ",
-    ] {
-        assert!(rt; USAGE.contains(command), "{command}");
-    }
-    Ok(())
+    check_rows(&rt, rt.alloc(), &[row]);
+    check_help(&rt, USAGE, &COMMANDS);
+}
+
+/// Whether these are a front of the session's replies.
+fn is_front(written: &[u8]) -> bool {
+    REPLIES.starts_with(written)
 }
 
 /// Whether `run` over the session ends so, having written a front of its replies, where these calls fail.
-fn cuts_replies<R: RandomSource + Threads + Wait + Sync>(
-    alloc: Global,
+fn cuts_replies<R: RandomSource + Abort + Threads + Wait + Sync>(
     rt: &R,
+    alloc: Global,
     takes: &[u64],
     gives: &[u64],
     status: Status,
-) -> Result<bool, Fail> {
-    let ran = run_failing(alloc, rt, "run", SESSION, takes, gives)?;
-    Ok(ran.status == status && REPLIES.starts_with(ran.written.as_slice()))
+) -> bool {
+    let ran = run_failing(rt, alloc, "run", SESSION, takes, gives);
+    let is_right = ran.status == status && is_front(ran.written.as_slice());
+    drop(ran);
+    is_right
 }
 
 #[test]
-fn a_call_that_fails_cuts_the_replies(rt: HostRuntime) -> Result<(), Fail> {
+fn a_call_that_fails_cuts_the_replies(rt: HostRuntime) {
     for call in 1..=7 {
-        let read = cuts_replies(rt.alloc(), &rt, &[call], &[], Status::ReadFault)?;
+        let read = cuts_replies(&rt, rt.alloc(), &[call], &[], Status::ReadFault);
         assert!(rt; read, "take {call}");
-        let wrote = cuts_replies(rt.alloc(), &rt, &[], &[call], Status::WriteFault)?;
+        let wrote = cuts_replies(&rt, rt.alloc(), &[], &[call], Status::WriteFault);
         assert!(rt; wrote, "give {call}");
     }
-    Ok(())
 }

@@ -1,111 +1,128 @@
-//! A program over devices in memory.
+//! A program over devices in memory, by its arguments.
 
-use disk_forms::{MemoryDisk, MemoryStore};
+use crate::devices::{Streams, no_peer, nobody, streams_over};
 use std::alloc::Global;
 use std::env::Args;
 use std::hash::RandomState;
+use std::process::Abort;
 use std::random::RandomSource;
 use std::sync::Wait;
-use std::test::Fail;
 use std::thread::Threads;
-use tardis_io::{MemoryDial, MemoryGate, MemoryLink, MemorySink, MemorySource, Status};
+use tardis_io::{Dial, Gate, Status};
 use tardis_main::carry_out;
-
-/// The devices of a program: nobody is at its gate, there is no peer, and its file is empty.
-#[derive(Drop)]
-struct Devices {
-    source: MemorySource,
-    sink: MemorySink,
-    gate: MemoryGate<MemoryLink>,
-    dial: MemoryDial<MemoryLink>,
-    store: MemoryStore,
-}
 
 /// How a program ended, and what it wrote.
 #[derive(Drop)]
-pub struct Ran {
-    pub status: Status,
-    pub written: Vec<u8>,
+pub(crate) struct Ran {
+    pub(crate) status: Status,
+    pub(crate) written: Vec<u8>,
 }
 
-fn an_input(alloc: Global, bytes: &[u8], failing: &[u64]) -> Result<MemorySource, Fail> {
-    Ok(MemorySource::new(alloc, bytes, 9, failing)?)
+/// What a program comes to that ended so over these streams.
+pub(crate) fn ended(rt: &impl Abort, alloc: Global, status: Status, streams: Streams) -> Ran {
+    let written = Vec::from_slice(alloc, streams.output.bytes()).expect(rt, "room");
+    drop(streams);
+    Ran { status, written }
 }
 
-fn an_output(alloc: Global, failing: &[u64]) -> Result<MemorySink, Fail> {
-    Ok(MemorySink::new(alloc, 4_096, 9, failing)?)
+/// Whether a program ended so, and wrote this.
+pub(crate) fn comes_to(ran: Ran, status: Status, written: &[u8]) -> bool {
+    let is_right = ran.status == status && ran.written.as_slice() == written;
+    drop(ran);
+    is_right
 }
 
-fn a_file(alloc: Global) -> Result<MemoryStore, Fail> {
-    Ok(MemoryStore::new(MemoryDisk::new(alloc, &[], 1_000, &[])?))
+/// A seed of hashing.
+pub(crate) fn keys<R: RandomSource + Abort>(rt: &R) -> RandomState {
+    RandomState::new(rt).expect(rt, "random bytes")
 }
 
-fn devices_over(alloc: Global, source: MemorySource, sink: MemorySink) -> Result<Devices, Fail> {
-    Ok(Devices {
-        source,
-        sink,
-        gate: MemoryGate::new(alloc, Vec::new(alloc), &[])?,
-        dial: MemoryDial::new(alloc, Vec::new(alloc), &[])?,
-        store: a_file(alloc)?,
-    })
+fn push_word(rt: &impl Abort, alloc: Global, words: &mut Vec<String>, word: &str) {
+    let word = String::from_str(alloc, word).expect(rt, "room");
+    words.push(word).expect(rt, "room");
+}
+
+/// Puts the words of a line behind these.
+fn push_words(rt: &impl Abort, alloc: Global, words: &mut Vec<String>, line: &str) {
+    for word in line.split_whitespace() {
+        push_word(rt, alloc, words, word);
+    }
+}
+
+/// The words of a line.
+pub(crate) fn words_of(rt: &impl Abort, alloc: Global, line: &str) -> Vec<String> {
+    let mut words = Vec::new(alloc);
+    push_words(rt, alloc, &mut words, line);
+    words
 }
 
 /// A program's arguments: its name, and the words of a line.
-fn args_of(alloc: Global, line: &str) -> Result<Args, Fail> {
+fn args_of(rt: &impl Abort, alloc: Global, line: &str) -> Args {
     let mut args = Vec::new(alloc);
-    args.push(String::from_str(alloc, "tardis")?)?;
-    for word in line.split_whitespace() {
-        args.push(String::from_str(alloc, word)?)?;
-    }
-    Ok(args.into_iter())
+    push_word(rt, alloc, &mut args, "tardis");
+    push_words(rt, alloc, &mut args, line);
+    args.into_iter()
 }
 
 /// Carries out the arguments.
-fn carried_out<R: Threads + Wait + Sync>(
-    alloc: Global,
+fn carried_out<G: Gate, D: Dial + Send, R: Threads + Wait + Sync>(
     rt: &R,
+    alloc: Global,
     keys: RandomState,
     args: Args,
-    devices: &mut Devices,
+    streams: &mut Streams,
+    gate: &mut G,
+    dial: &mut D,
 ) -> Status {
     carry_out(
         alloc,
         rt,
         keys,
         args,
-        &mut devices.source,
-        &mut devices.sink,
-        &mut devices.gate,
-        &mut devices.dial,
-        &mut devices.store,
+        &mut streams.input,
+        &mut streams.output,
+        gate,
+        dial,
+        &mut streams.store,
     )
 }
 
-/// What a program with the words of this line comes to over this input, in pieces of 9 bytes, where these takes of the input
-/// and these gives of the output fail.
-pub fn run_failing<R: RandomSource + Threads + Wait + Sync>(
-    alloc: Global,
+/// How a program with the words of this line ends, where nobody is at its gate and there is no peer.
+fn status_of<R: RandomSource + Abort + Threads + Wait + Sync>(
     rt: &R,
+    alloc: Global,
+    line: &str,
+    streams: &mut Streams,
+) -> Status {
+    let args = args_of(rt, alloc, line);
+    let mut gate = nobody(rt, alloc);
+    let mut dial = no_peer(rt, alloc);
+    let status = carried_out(rt, alloc, keys(rt), args, streams, &mut gate, &mut dial);
+    drop(gate);
+    drop(dial);
+    status
+}
+
+/// What it comes to over this input, in pieces of 9 bytes, where these takes of the input and these gives of the output fail.
+pub(crate) fn run_failing<R: RandomSource + Abort + Threads + Wait + Sync>(
+    rt: &R,
+    alloc: Global,
     line: &str,
     input: &[u8],
     takes: &[u64],
     gives: &[u64],
-) -> Result<Ran, Fail> {
-    let keys = RandomState::new(rt)?;
-    let source = an_input(alloc, input, takes)?;
-    let sink = an_output(alloc, gives)?;
-    let mut devices = devices_over(alloc, source, sink)?;
-    let status = carried_out(alloc, rt, keys, args_of(alloc, line)?, &mut devices);
-    let written = Vec::from_slice(alloc, devices.sink.bytes())?;
-    Ok(Ran { status, written })
+) -> Ran {
+    let mut streams = streams_over(rt, alloc, input, 9, takes, gives);
+    let status = status_of(rt, alloc, line, &mut streams);
+    ended(rt, alloc, status, streams)
 }
 
 /// The same where no call fails.
-pub fn run_line<R: RandomSource + Threads + Wait + Sync>(
-    alloc: Global,
+pub(crate) fn run_line<R: RandomSource + Abort + Threads + Wait + Sync>(
     rt: &R,
+    alloc: Global,
     line: &str,
     input: &[u8],
-) -> Result<Ran, Fail> {
-    run_failing(alloc, rt, line, input, &[], &[])
+) -> Ran {
+    run_failing(rt, alloc, line, input, &[], &[])
 }

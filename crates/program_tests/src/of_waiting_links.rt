@@ -2,10 +2,14 @@
 
 ghost use Rattle.std.specs.Prelude.{◌≡◌, ℕ, None, true, refl};
 
-use crate::servers::{dial_of, link, run_line};
+use crate::devices::{gate_of, link};
+use crate::servers::serve_clients;
 use std::alloc::Global;
+use std::process::Abort;
+use std::random::RandomSource;
+use std::sync::Wait;
 use std::sync::atomic::{AtomicU64, Ordering};
-use std::test::Fail;
+use std::thread::Threads;
 use tardis_io::{Duplex, Failed, Link, MemoryGate, MemoryLink, Sink, Status};
 
 /// A client that opens and begins. It sends its second request only once the other client was given so many replies.
@@ -90,31 +94,32 @@ const GIVEN: &[u8] = b"\0\0\0\x07\x01\0\0\0\0\0\0\0\0\0\x07\x02\0\0\0\0\0\0";
 
 /// A client whose replies are counted in `own`, and which waits until `other` is so much.
 fn client<'a>(
+    rt: &impl Abort,
     alloc: Global,
     own: &'a AtomicU64,
     other: &'a AtomicU64,
     awaited: u64,
-) -> Result<Waiting<'a>, Fail> {
-    Ok(Waiting {
-        link: link(alloc, SENT, 6)?,
+) -> Waiting<'a> {
+    Waiting {
+        link: link(rt, alloc, SENT, 6),
         takes: 0,
         faults: 0,
         own,
         other,
         awaited,
-    })
+    }
 }
 
-/// A gate with the first client, which waits for a reply to the second, and the second, which waits for two to the first.
-fn gate_of_both<'a>(
+/// The first client, which waits for a reply to the second, and the second, which waits for two to the first.
+fn both<'a>(
+    rt: &impl Abort,
     alloc: Global,
     one: &'a AtomicU64,
     two: &'a AtomicU64,
-) -> Result<MemoryGate<Waiting<'a>>, Fail> {
-    let mut links = Vec::new(alloc);
-    links.push(client(alloc, one, two, 1)?)?;
-    links.push(client(alloc, two, one, 2)?)?;
-    Ok(MemoryGate::new(alloc, links, &[])?)
+) -> Vec<Waiting<'a>> {
+    let first = client(rt, alloc, one, two, 1);
+    let second = client(rt, alloc, two, one, 2);
+    vec![in alloc; first, second].expect(rt, "room")
 }
 
 /// How many clients were given both replies, without a fault.
@@ -128,14 +133,27 @@ fn answered(gate: &MemoryGate<Waiting<'_>>) -> usize {
     count
 }
 
+/// How the server of both ends, and how many of them were answered.
+fn serve_both<R: RandomSource + Abort + Threads + Wait + Sync>(
+    rt: &R,
+    alloc: Global,
+    one: &AtomicU64,
+    two: &AtomicU64,
+) -> (Status, usize) {
+    let mut gate = gate_of(rt, alloc, both(rt, alloc, one, two));
+    let ran = serve_clients(rt, alloc, "serve --listen x:1 --links 2", &mut gate);
+    let status = ran.status;
+    drop(ran);
+    let count = answered(&gate);
+    drop(gate);
+    (status, count)
+}
+
 #[test]
-fn two_clients_that_wait_for_each_other_are_served(rt: HostRuntime) -> Result<(), Fail> {
-    let (one, two) = (AtomicU64::new(0), AtomicU64::new(0));
-    let mut gate = gate_of_both(rt.alloc(), &one, &two)?;
-    let mut dial = dial_of(rt.alloc(), Vec::new(rt.alloc()))?;
-    let line = "serve --listen x:1 --links 2";
-    let served = run_line(rt.alloc(), &rt, line, b"", &mut gate, &mut dial)?;
-    assert_eq!(rt; served.status, Status::Ok);
-    assert_eq!(rt; answered(&gate), 2);
-    Ok(())
+fn two_clients_that_wait_for_each_other_are_served(rt: HostRuntime) {
+    let one = AtomicU64::new(0);
+    let two = AtomicU64::new(0);
+    let (status, count) = serve_both(&rt, rt.alloc(), &one, &two);
+    assert!(rt; status == Status::Ok);
+    assert!(rt; count == 2);
 }

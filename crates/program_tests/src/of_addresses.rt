@@ -2,8 +2,8 @@
 
 ghost use Rattle.std.specs.Prelude.{None};
 
-use crate::servers::run_line;
-use std::test::Fail;
+use crate::programs::comes_to;
+use crate::servers::serve;
 use tardis_io::{Dial, Failed, Gate, MemoryLink, Status};
 
 /// A gate without links that knows whether it was bound to `unix:s`.
@@ -29,7 +29,8 @@ impl Gate for NotingGate {
     }
 
     fn put_back(&mut self, session: u16, link: MemoryLink) {
-        let _ = (session, link);
+        let _ = session;
+        drop(link);
     }
 }
 
@@ -56,12 +57,12 @@ impl Dial for NotingDial {
     }
 
     fn put_back(&mut self, link: MemoryLink) {
-        let _ = link;
+        drop(link);
     }
 }
 
 #[test]
-fn the_words_addresses_are_bound_and_called(rt: HostRuntime) -> Result<(), Fail> {
+fn the_words_addresses_are_bound_and_called(rt: HostRuntime) {
     let line = "serve --listen unix:s --links 1 --peer unix:p --peer unix:q --rounds 1";
     let mut gate = NotingGate { is_bound: false };
     let mut dial = NotingDial {
@@ -69,9 +70,7 @@ fn the_words_addresses_are_bound_and_called(rt: HostRuntime) -> Result<(), Fail>
         second: false,
         faults: 0,
     };
-    let served = run_line(rt.alloc(), &rt, line, b"", &mut gate, &mut dial)?;
-    assert_eq!(rt; served.status, Status::DialFault);
+    let ran = serve(&rt, rt.alloc(), line, &mut gate, &mut dial);
     assert!(rt; gate.is_bound && dial.second);
-    assert!(rt; served.written.is_empty());
-    Ok(())
+    assert!(rt; comes_to(ran, Status::DialFault, b""));
 }

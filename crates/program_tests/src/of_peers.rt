@@ -1,10 +1,12 @@
 //! A fresh site of two that fetches from a peer, in one round.
 
-use crate::servers::{Ran, dial_of, gate_of, link, replies_to, run_line};
+use crate::devices::{dial_of, link, nobody};
+use crate::programs::{Ran, comes_to, run_line};
+use crate::servers::serve;
 use std::alloc::Global;
+use std::process::Abort;
 use std::random::RandomSource;
 use std::sync::Wait;
-use std::test::Fail;
 use std::thread::Threads;
 use tardis_io::{MemoryDial, MemoryLink, Status};
 
@@ -47,26 +49,23 @@ const COUNTS: &[u8] = b"\0\0\0\x30\x0e\0\0\0\0\0\0\0\x01\0\0\0\x01\0\0\0\x01\0\0
 /// The request for what is above no states of both sites, which each peer is given.
 const PULL: &[u8] = b"\0\0\0\x0a\x13\x02\0\0\0\0\0\0\0\0";
 
-/// How the server ended, and the dial that has its link back.
-#[derive(Drop)]
-struct Served {
-    ran: Ran,
-    dial: MemoryDial<MemoryLink>,
+/// A dial to a peer that sends these bytes.
+fn peer(rt: &impl Abort, alloc: Global, sent: &[u8]) -> MemoryDial<MemoryLink> {
+    let link = link(rt, alloc, sent, 16);
+    dial_of(rt, alloc, vec![in alloc; link].expect(rt, "room"))
 }
 
-/// Serves nobody, and makes a round with a peer that sends these bytes.
-fn make_round<R: RandomSource + Threads + Wait + Sync>(
-    alloc: Global,
+/// Serves nobody, and makes a round with the peer.
+fn make_round<R: RandomSource + Abort + Threads + Wait + Sync>(
     rt: &R,
+    alloc: Global,
     line: &str,
-    sent: &[u8],
-) -> Result<Served, Fail> {
-    let mut links = Vec::new(alloc);
-    links.push(link(alloc, sent, 16)?)?;
-    let mut dial = dial_of(alloc, links)?;
-    let mut gate = gate_of(alloc, Vec::new(alloc))?;
-    let ran = run_line(alloc, rt, line, b"", &mut gate, &mut dial)?;
-    Ok(Served { ran, dial })
+    dial: &mut MemoryDial<MemoryLink>,
+) -> Ran {
+    let mut gate = nobody(rt, alloc);
+    let ran = serve(rt, alloc, line, &mut gate, dial);
+    drop(gate);
+    ran
 }
 
 /// How many links were put back finished, having been given the Pull.
@@ -80,21 +79,34 @@ fn pulled(dial: &MemoryDial<MemoryLink>) -> usize {
     count
 }
 
-/// Whether a round comes to what the row says.
-fn is_so<R: RandomSource + Threads + Wait + Sync>(
-    alloc: Global,
+/// Whether a round with a peer that sends these bytes ends well with this trail, and the peer was asked once.
+fn leaves_trail<R: RandomSource + Abort + Threads + Wait + Sync>(
     rt: &R,
+    alloc: Global,
+    line: &str,
+    sent: &[u8],
+    trail: &[u8],
+) -> bool {
+    let mut dial = peer(rt, alloc, sent);
+    let ran = make_round(rt, alloc, line, &mut dial);
+    let asked = pulled(&dial);
+    drop(dial);
+    comes_to(ran, Status::Ok, trail) && asked == 1
+}
+
+/// Whether a round comes to what the row says.
+fn is_so<R: RandomSource + Abort + Threads + Wait + Sync>(
+    rt: &R,
+    alloc: Global,
     row: &Row,
-) -> Result<bool, Fail> {
+) -> bool {
     let (line, sent, trail, replies) = *row;
-    let served = make_round(alloc, rt, line, sent)?;
-    let again = replies_to(alloc, rt, "run --sites 2", trail)?;
-    Ok(
-        served.ran.status == Status::Ok
-            && served.ran.written.as_slice() == trail
-            && again.as_slice() == replies
-            && pulled(&served.dial) == 1,
-    )
+    leaves_trail(rt, alloc, line, sent, trail)
+        && comes_to(
+            run_line(rt, alloc, "run --sites 2", trail),
+            Status::Ok,
+            replies,
+        )
 }
 
 const PLAIN: &str = "serve --listen x:1 --links 1 --sites 2 --peer y:1 --rounds 1";
@@ -111,9 +123,8 @@ const ROWS: [Row; 4] = [
 ];
 
 #[test]
-fn a_round_delivers_what_a_peer_gives(rt: HostRuntime) -> Result<(), Fail> {
+fn a_round_delivers_what_a_peer_gives(rt: HostRuntime) {
     for (place, row) in ROWS.iter().enumerate() {
-        assert!(rt; is_so(rt.alloc(), &rt, row)?, "row {place}");
+        assert!(rt; is_so(&rt, rt.alloc(), row), "row {place}");
     }
-    Ok(())
 }
