@@ -1,5 +1,5 @@
 //! Tests of what runs over a whole site, over public calls: worked rows through its commands and through its step, merges by
-//! rules, exports and imports, and the server's ends.
+//! rules, exports and imports, worlds, loads, and the server's ends.
 //!
 //! A crate with tests of its own is proved once more for them; so these stand here (`docs/ADDING.md`, 'A test').
 #![tactic(auto)]
@@ -27,6 +27,8 @@ mod of_floors;
 #[cfg(test)]
 mod of_limits;
 #[cfg(test)]
+mod of_load_run;
+#[cfg(test)]
 mod of_merge_rules;
 #[cfg(test)]
 mod of_merges;
@@ -35,8 +37,12 @@ mod of_steps;
 #[cfg(test)]
 mod of_tardisd_main;
 #[cfg(test)]
+mod of_world_core;
+#[cfg(test)]
 mod rows;
 #[cfg(test)]
 mod sites;
 #[cfg(test)]
 mod talks;
+#[cfg(test)]
+mod world_rows;

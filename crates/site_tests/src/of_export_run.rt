@@ -1,7 +1,7 @@
 //! Worked rows of exports and imports.
 
 use crate::sites::{LIMITS, an_input, an_output, keys};
-use crate::talks::{bytes_of, copied, put};
+use crate::talks::{bytes_of, copied, put, put_frame};
 use branch_export::run_import;
 use export_run::export;
 use std::alloc::Global;
@@ -43,18 +43,11 @@ struct Ran {
     written: Vec<u8>,
 }
 
-/// Puts the frame of a body behind these.
-fn put_frame(rt: &impl Abort, frames: &mut Vec<u8>, body: &[u8]) {
-    let length = u32::try_from(body.len()).unwrap_or(u32::MAX);
-    put(rt, frames, &length.to_be_bytes());
-    put(rt, frames, body);
-}
-
 /// The frames of these bodies, which are written as hexadecimal digits.
 fn frames(rt: &impl Abort, alloc: Global, bodies: &str) -> Vec<u8> {
     let mut frames = Vec::new(alloc);
     for word in bodies.split_whitespace() {
-        put_frame(rt, &mut frames, bytes_of(rt, alloc, word).as_slice());
+        put_frame(rt, &mut frames, &[], bytes_of(rt, alloc, word).as_slice());
     }
     frames
 }

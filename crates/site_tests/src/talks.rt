@@ -39,8 +39,8 @@ fn row_of(rt: &impl Abort, alloc: Global, line: &str) -> Row {
     }
 }
 
-/// Puts the frame of a body behind these.
-fn put_frame(rt: &impl Abort, frames: &mut Vec<u8>, head: &[u8], body: &[u8]) {
+/// Puts the frame of a body that begins with this head behind these.
+pub fn put_frame(rt: &impl Abort, frames: &mut Vec<u8>, head: &[u8], body: &[u8]) {
     let length = u32::try_from(head.len().saturating_add(body.len())).unwrap_or(u32::MAX);
     put(rt, frames, &length.to_be_bytes());
     put(rt, frames, head);

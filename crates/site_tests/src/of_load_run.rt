@@ -1,4 +1,4 @@
-use crate::streams::{an_output, keys};
+use crate::sites::{an_output, keys};
 use load_run::run_load;
 use std::alloc::Global;
 use std::hash::RandomState;
@@ -49,7 +49,7 @@ fn writes(
     steps: u32,
     line: &str,
 ) -> bool {
-    let mut sink = an_output(rt, alloc, 1_000);
+    let mut sink = an_output(rt, alloc, 1_000, 4_096);
     let status = ends(alloc, keys, start, steps, &mut sink);
     status == Status::Ok && sink.bytes() == line.as_bytes()
 }

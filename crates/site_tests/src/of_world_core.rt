@@ -1,4 +1,5 @@
-use crate::streams::{an_input, an_output, keys};
+use crate::sites::{an_input, an_output, keys};
+use crate::talks::{bytes_of, put_frame};
 use crate::world_rows::{HALF_LOST, NOT_THERE, SHARED_CART};
 use std::alloc::Global;
 use std::hash::RandomState;
@@ -6,22 +7,9 @@ use std::process::Abort;
 use tardis_io::{MemorySink, MemorySource, Status};
 use world_core::run_world;
 
-/// Puts more bytes behind these.
-fn put(rt: &impl Abort, bytes: &mut Vec<u8>, more: &[u8]) {
-    bytes.extend_from_slice(more).expect(rt, "room");
-}
-
-/// Puts the frame of a body behind these.
-fn put_frame(rt: &impl Abort, frames: &mut Vec<u8>, body: &[u8]) {
-    let length = u32::try_from(body.len()).unwrap_or(u32::MAX);
-    put(rt, frames, &length.to_be_bytes());
-    put(rt, frames, body);
-}
-
 /// Puts the frame of the body behind these that these hexadecimal digits spell.
 fn put_spelled(rt: &impl Abort, alloc: Global, frames: &mut Vec<u8>, digits: &str) {
-    let body = hex::decode(alloc, digits).expect(rt, "hexadecimal digits");
-    put_frame(rt, frames, body.as_slice());
+    put_frame(rt, frames, &[], bytes_of(rt, alloc, digits).as_slice());
 }
 
 /// Frames of bodies, and those of the replies that they are to get.
@@ -59,8 +47,8 @@ impl Talk {
 
     /// Puts a body behind the others, and the reply that it is to get.
     fn ask(&mut self, rt: &impl Abort, body: &[u8], reply: &[u8]) {
-        put_frame(rt, &mut self.input, body);
-        put_frame(rt, &mut self.output, reply);
+        put_frame(rt, &mut self.input, &[], body);
+        put_frame(rt, &mut self.output, &[], reply);
     }
 }
 
@@ -77,8 +65,8 @@ fn ends(
 
 /// Whether a world of so many sites answers so.
 fn answers(rt: &impl Abort, alloc: Global, keys: RandomState, sites: u16, talk: &Talk) -> bool {
-    let mut source = an_input(rt, alloc, talk.input.as_slice());
-    let mut sink = an_output(rt, alloc, 100_000);
+    let mut source = an_input(rt, alloc, talk.input.as_slice(), 4_096, &[]);
+    let mut sink = an_output(rt, alloc, 100_000, 4_096);
     let status = ends(alloc, keys, sites, &mut source, &mut sink);
     status == Status::Ok && sink.bytes() == talk.output.as_slice()
 }
