@@ -1,30 +1,58 @@
 use command_words::{Command, Place, WordsFault, read_words};
 use std::alloc::Global;
-use std::test::Fail;
+use std::process::Abort;
 
 /// The words of a line.
-fn words_of(alloc: Global, line: &str) -> Result<Vec<String>, Fail> {
+fn words_of(rt: &impl Abort, alloc: Global, line: &str) -> Vec<String> {
     let mut words = Vec::new(alloc);
     for word in line.split_whitespace() {
-        words.push(String::from_str(alloc, word)?)?;
+        let word = String::from_str(alloc, word).expect(rt, "room");
+        words.push(word).expect(rt, "room");
     }
-    Ok(words)
+    words
 }
 
-/// What the words of a line are read as, told as a text.
-fn told(alloc: Global, line: &str) -> Result<String, Fail> {
-    let words = words_of(alloc, line)?;
-    Ok(format!(in alloc; "{:?}", read_words(alloc, words.as_slice()))?)
+/// What the words of a line are read as.
+fn read(rt: &impl Abort, alloc: Global, line: &str) -> Result<Command, WordsFault> {
+    let words = words_of(rt, alloc, line);
+    let read = read_words(alloc, words.as_slice());
+    drop(words);
+    read
+}
+
+/// What was read, as a text.
+fn told(rt: &impl Abort, alloc: Global, read: &Result<Command, WordsFault>) -> String {
+    format!(in alloc; "{read:?}").expect(rt, "room")
+}
+
+/// Whether what a line is read as is told by this text.
+fn is_told(rt: &impl Abort, alloc: Global, line: &str, wanted: &str) -> bool {
+    let read = read(rt, alloc, line);
+    let told = told(rt, alloc, &read);
+    drop(read);
+    told.as_str() == wanted
+}
+
+/// Whether a line is read as a run at this place.
+fn is_run(rt: &impl Abort, alloc: Global, line: &str, place: Place) -> bool {
+    let read = read(rt, alloc, line);
+    let is_run = matches!(&read, Ok(Command::Run(at)) if *at == place);
+    drop(read);
+    is_run
+}
+
+/// Whether a line is told to have no form.
+fn has_no_form(rt: &impl Abort, alloc: Global, line: &str) -> bool {
+    let read = read(rt, alloc, line);
+    let has_none = matches!(&read, Err(WordsFault::Usage));
+    drop(read);
+    has_none
 }
 
 #[test]
-fn each_form_is_read(rt: HostRuntime) -> Result<(), Fail> {
+fn each_form_is_read(rt: HostRuntime) {
     let alloc = rt.alloc();
-    let one = Place { sites: 1, site: 1 };
-    let words = words_of(alloc, "run")?;
-    assert!(rt;
-        matches!(read_words(alloc, words.as_slice()), Ok(Command::Run(place)) if place == one)
-    );
+    assert!(rt; is_run(&rt, alloc, "run", Place { sites: 1, site: 1 }));
     for (line, wanted) in [
         (
             "run --site 2 --sites 3",
@@ -62,13 +90,12 @@ fn each_form_is_read(rt: HostRuntime) -> Result<(), Fail> {
         ),
         ("import", "Ok(Import)"),
     ] {
-        assert!(rt; told(alloc, line)?.as_str() == wanted);
+        assert!(rt; is_told(&rt, alloc, line, wanted));
     }
-    Ok(())
 }
 
 #[test]
-fn other_words_have_no_form(rt: HostRuntime) -> Result<(), Fail> {
+fn other_words_have_no_form(rt: HostRuntime) {
     let alloc = rt.alloc();
     for line in [
         "",
@@ -99,8 +126,6 @@ fn other_words_have_no_form(rt: HostRuntime) -> Result<(), Fail> {
         "export --at 1.4294967296",
         "import all",
     ] {
-        let words = words_of(alloc, line)?;
-        assert!(rt; matches!(read_words(alloc, words.as_slice()), Err(WordsFault::Usage)));
+        assert!(rt; has_no_form(&rt, alloc, line));
     }
-    Ok(())
 }

@@ -13,6 +13,16 @@ fn letter<T: Drop>(read: Result<T, ReadFault>) -> u8 {
     }
 }
 
+/// The letter of a line of a request.
+fn asked(alloc: Global, line: &[u8]) -> u8 {
+    letter(read_line(alloc, line))
+}
+
+/// The letter of a line of a reply.
+fn answered(alloc: Global, line: &[u8]) -> u8 {
+    letter(read_reply_line(alloc, line))
+}
+
 #[test]
 fn lines_of_requests_are_read(rt: HostRuntime) {
     let alloc = rt.alloc();
@@ -35,7 +45,7 @@ fn lines_of_requests_are_read(rt: HostRuntime) {
         (b"1 commit si+ser", b'm'),
         (b"0 pull 10000000000", b'm'),
     ] {
-        assert!(rt; letter(read_line(alloc, line)) == want);
+        assert!(rt; asked(alloc, line) == want);
     }
 }
 
@@ -72,6 +82,6 @@ fn lines_of_replies_are_read(rt: HostRuntime) {
         (b"refused trailfull 18446744073709551616", b'm'),
         (b"nomemory ", b'm'),
     ] {
-        assert!(rt; letter(read_reply_line(alloc, line)) == want);
+        assert!(rt; answered(alloc, line) == want);
     }
 }
