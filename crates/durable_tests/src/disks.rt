@@ -5,12 +5,7 @@ use std::alloc::Global;
 use std::process::Abort;
 
 /// A disk that holds these bytes, with room for 1,000, of which the listed calls fail.
-pub(crate) fn disk_of(
-    rt: &impl Abort,
-    alloc: Global,
-    bytes: &[u8],
-    failing: &[u64],
-) -> MemoryDisk {
+pub(crate) fn disk_of(rt: &impl Abort, alloc: Global, bytes: &[u8], failing: &[u64]) -> MemoryDisk {
     MemoryDisk::new(alloc, bytes, 1_000, failing).expect(rt, "room")
 }
 

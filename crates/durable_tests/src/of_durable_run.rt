@@ -271,12 +271,7 @@ fn ends_well<R: RandomSource + Abort>(rt: &R, alloc: Global, plan: Plan) -> bool
 }
 
 /// Has each call fail in turn, until none fails, and answers how many calls there are.
-fn count_of_calls<R: RandomSource + Abort>(
-    rt: &R,
-    alloc: Global,
-    piece: u32,
-    group: usize,
-) -> u64 {
+fn count_of_calls<R: RandomSource + Abort>(rt: &R, alloc: Global, piece: u32, group: usize) -> u64 {
     for before in 0..100u64 {
         let plan = Plan {
             failing: before + 1,

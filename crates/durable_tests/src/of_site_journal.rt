@@ -158,7 +158,10 @@ fn ends_well(rt: &impl Abort, alloc: Global, failing: u64) -> bool {
 #[test]
 fn a_crash_of_an_opening_leaves_the_entries(rt: HostRuntime) {
     for call in 1..100 {
-        assert!(rt; crashes_leave_one(&rt, rt.alloc(), call), "call {call} fails");
+        assert!(rt;
+            crashes_leave_one(&rt, rt.alloc(), call),
+            "call {call} fails"
+        );
         if ends_well(&rt, rt.alloc(), call) {
             return;
         }
