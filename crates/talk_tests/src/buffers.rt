@@ -1,10 +1,10 @@
-//! Buffers that the tests write to, bytes that they read, and what is told of those.
+//! Buffers that the tests write to, keys and bytes that they read, and what is told of these.
 
 ghost use Rattle.std.specs.Prelude.{◌≡◌, []};
 
 use std::alloc::Global;
 use std::process::Abort;
-use tardis_base::{ReadFault, ReplyBuf};
+use tardis_base::{Key, ReadFault, ReplyBuf};
 use text_words::LineBuf;
 
 /// An empty buffer of a frame.
@@ -17,6 +17,10 @@ pub(crate) fn frame_buffer(rt: &impl Abort, alloc: Global) -> ReplyBuf
 /// An empty buffer of a line.
 pub(crate) fn line_buffer(rt: &impl Abort, alloc: Global) -> LineBuf {
     LineBuf::new(alloc).expect(rt, "room")
+}
+
+pub(crate) fn key(rt: &impl Abort, alloc: Global, bytes: &[u8]) -> Key {
+    Key::new(alloc, bytes).expect(rt, "a key")
 }
 
 /// These bytes, and behind them one byte again and again, up to so many in all.

@@ -1,9 +1,49 @@
 //! What no clause says: that there is memory for rules.
 
+use crate::buffers::key;
 use rule_list::{Rule, RuleList, RulesFault, read_rules, rule_for};
 use std::alloc::Global;
 use std::process::Abort;
-use tardis_base::Key;
+
+const NOTES: &str = "n=count,=last,note.=refuse,note=set";
+
+/// Texts of rules, keys, and which of the rules each has.
+const KEYS: [(&str, &[u8], Rule); 6] = [
+    (NOTES, b"n", Rule::Count),
+    (NOTES, b"nota", Rule::Count),
+    (NOTES, b"note", Rule::Set),
+    (NOTES, b"note.1", Rule::Refuse),
+    (NOTES, b"x", Rule::Last),
+    ("n=count,s=set,x=last", b"cart", Rule::Refuse),
+];
+
+/// Texts, and how many rules they have.
+const COUNTS: [(&str, usize); 3] = [
+    (NOTES, 4),
+    (
+        "a=set,b=set,c=set,d=set,e=set,f=set,g=set,h=set,i=set,j=set,k=set,l=set,m=set,n=set,o=set,p=set",
+        16,
+    ),
+    (
+        "aaaaaaaaaaaaaaaaaaaaaaaaaaaaaaaaaaaaaaaaaaaaaaaaaaaaaaaaaaaaaaaa=set",
+        1,
+    ),
+];
+
+/// Texts that have no form.
+const OTHERS: [&str; 11] = [
+    "",
+    ",",
+    "n",
+    "n=",
+    "n=Last",
+    "n=last,",
+    "n=last,n=set",
+    "n=last=",
+    "n m=last",
+    "a=set,b=set,c=set,d=set,e=set,f=set,g=set,h=set,i=set,j=set,k=set,l=set,m=set,n=set,o=set,p=set,q=set",
+    "aaaaaaaaaaaaaaaaaaaaaaaaaaaaaaaaaaaaaaaaaaaaaaaaaaaaaaaaaaaaaaaaa=set",
+];
 
 /// The rules of a text.
 fn rules_of(rt: &impl Abort, alloc: Global, text: &str) -> RuleList {
@@ -16,10 +56,6 @@ fn count_of(rt: &impl Abort, alloc: Global, text: &str) -> usize {
     let count = rules.as_slice().len();
     drop(rules);
     count
-}
-
-fn key(rt: &impl Abort, alloc: Global, bytes: &[u8]) -> Key {
-    Key::new(alloc, bytes).expect(rt, "a key")
 }
 
 /// Which of these rules a key has.
@@ -38,39 +74,26 @@ fn chosen_of(rt: &impl Abort, alloc: Global, text: &str, bytes: &[u8]) -> Rule {
     rule
 }
 
-const NOTES: &str = "n=count,=last,note.=refuse,note=set";
+fn check_keys(rt: &impl Abort, alloc: Global) {
+    for (text, key, wanted) in &KEYS {
+        assert!(rt; chosen_of(rt, alloc, text, key) == *wanted);
+    }
+}
 
 #[test]
 fn a_key_has_the_rule_of_its_longest_prefix(rt: HostRuntime) {
-    let alloc = rt.alloc();
-    assert!(rt; count_of(&rt, alloc, NOTES) == 4);
-    for (text, key, wanted) in [
-        (NOTES, b"n".as_slice(), Rule::Count),
-        (NOTES, b"nota", Rule::Count),
-        (NOTES, b"note", Rule::Set),
-        (NOTES, b"note.1", Rule::Refuse),
-        (NOTES, b"x", Rule::Last),
-        ("n=count,s=set,x=last", b"cart", Rule::Refuse),
-    ] {
-        assert!(rt; chosen_of(&rt, alloc, text, key) == wanted);
+    check_keys(&rt, rt.alloc());
+}
+
+fn check_counts(rt: &impl Abort, alloc: Global) {
+    for (text, wanted) in &COUNTS {
+        assert!(rt; count_of(rt, alloc, text) == *wanted);
     }
 }
 
 #[test]
 fn as_much_as_fits_is_read(rt: HostRuntime) {
-    let alloc = rt.alloc();
-    for (text, wanted) in [
-        (
-            "a=set,b=set,c=set,d=set,e=set,f=set,g=set,h=set,i=set,j=set,k=set,l=set,m=set,n=set,o=set,p=set",
-            16,
-        ),
-        (
-            "aaaaaaaaaaaaaaaaaaaaaaaaaaaaaaaaaaaaaaaaaaaaaaaaaaaaaaaaaaaaaaaa=set",
-            1,
-        ),
-    ] {
-        assert!(rt; count_of(&rt, alloc, text) == wanted);
-    }
+    check_counts(&rt, rt.alloc());
 }
 
 /// Whether a text is told to have no form.
@@ -81,22 +104,13 @@ fn has_no_form(alloc: Global, text: &str) -> bool {
     has_none
 }
 
-#[test]
-fn other_texts_have_no_form(rt: HostRuntime) {
-    let alloc = rt.alloc();
-    for text in [
-        "",
-        ",",
-        "n",
-        "n=",
-        "n=Last",
-        "n=last,",
-        "n=last,n=set",
-        "n=last=",
-        "n m=last",
-        "a=set,b=set,c=set,d=set,e=set,f=set,g=set,h=set,i=set,j=set,k=set,l=set,m=set,n=set,o=set,p=set,q=set",
-        "aaaaaaaaaaaaaaaaaaaaaaaaaaaaaaaaaaaaaaaaaaaaaaaaaaaaaaaaaaaaaaaaa=set",
-    ] {
+fn check_others(rt: &impl Abort, alloc: Global) {
+    for text in &OTHERS {
         assert!(rt; has_no_form(alloc, text));
     }
+}
+
+#[test]
+fn other_texts_have_no_form(rt: HostRuntime) {
+    check_others(&rt, rt.alloc());
 }

@@ -1,5 +1,8 @@
 //! What no clause says: that there is memory for a line, and lines from outside.
 
+ghost use Rattle.std.specs.Prelude.{◌≤◌, length};
+ghost use Rattle.tardis_base.specs.Sizes.{longest_frame};
+
 use crate::buffers::line_buffer;
 use shell_text::{LineBuf, Text, line_of, put_reply_line, put_request_line, reply_line};
 use std::alloc::Global;
@@ -67,12 +70,26 @@ const REPLIES: [(&[u8], &[u8]); 13] = [
     (&[6, 0], b""),
 ];
 
-/// Whether the line of a request of the actor 7, which has at most 1,000 bytes, is this one.
+/// Writes the line of a request of the actor 7.
+fn put_request(bytes: &[u8], out: &mut LineBuf)
+    requires { length bytes.now ≤ longest_frame }
+{
+    put_request_line(7, bytes, out);
+}
+
+/// Writes the line of a reply.
+fn put_reply(bytes: &[u8], out: &mut LineBuf)
+    requires { length bytes.now ≤ longest_frame }
+{
+    put_reply_line(bytes, out);
+}
+
+/// Whether the line of a request, which has at most 1,000 bytes, is this one.
 fn is_request_line(out: &mut LineBuf, bytes: &[u8], line: &[u8]) -> bool {
     if bytes.len() > 1000 {
         return false;
     }
-    put_request_line(7, bytes, out);
+    put_request(bytes, out);
     out.bytes() == line
 }
 
@@ -81,7 +98,7 @@ fn is_reply_line(out: &mut LineBuf, bytes: &[u8], line: &[u8]) -> bool {
     if bytes.len() > 1000 {
         return false;
     }
-    put_reply_line(bytes, out);
+    put_reply(bytes, out);
     out.bytes() == line
 }
 

@@ -5,15 +5,11 @@ ghost use Rattle.std.proofs.Common.{ap};
 ghost use Rattle.std.proofs.lemmas.Bool.{leb-true};
 ghost use Rattle.tardis_base.specs.Sizes.{longest_frame};
 
-use crate::buffers::frame_buffer;
+use crate::buffers::{frame_buffer, key, padded};
 use bitflags::Flags;
 use std::alloc::Global;
 use std::process::Abort;
 use tardis_base::*;
-
-fn key(rt: &impl Abort, alloc: Global, bytes: &[u8]) -> Key {
-    Key::new(alloc, bytes).expect(rt, "a key")
-}
 
 fn value(rt: &impl Abort, alloc: Global, bytes: &[u8]) -> Value {
     Value::new(alloc, bytes).expect(rt, "a value")
@@ -70,9 +66,11 @@ fn is_key_copied(rt: &impl Abort, alloc: Global, bytes: &[u8]) -> bool {
 #[test]
 fn the_longest_key_and_value_fit(rt: HostRuntime) {
     let alloc = rt.alloc();
-    let bytes = vec![in alloc; 7u8; MAX_VALUE].expect(&rt, "room");
+    let bytes = padded(&rt, alloc, &[], 7, MAX_VALUE);
     assert!(rt; is_value_copied(&rt, alloc, bytes.as_slice()));
-    assert!(rt; is_key_copied(&rt, alloc, &[7; MAX_KEY]));
+    drop(bytes);
+    let bytes = padded(&rt, alloc, &[], 7, MAX_KEY);
+    assert!(rt; is_key_copied(&rt, alloc, bytes.as_slice()));
     drop(bytes);
 }
 
@@ -116,7 +114,7 @@ fn the_last_write_is_read(rt: HostRuntime) {
 
 /// A state below the root, with three writes.
 fn item(rt: &impl Abort, alloc: Global) -> Item {
-    let parents = vec![in alloc; StateId::ROOT].expect(rt, "room");
+    let parents = Vec::from_slice(alloc, &[StateId::ROOT]).expect(rt, "room");
     Item::State(Record {
         id: StateId {
             site: 1,
@@ -142,7 +140,7 @@ fn an_item_is_copied(rt: HostRuntime) {
 
 /// Two numbers, and a third that was put behind them.
 fn grown(rt: &impl Abort, alloc: Global) -> CountList {
-    let counts = CountList::from_vec(vec![in alloc; 3, 5].expect(rt, "room"));
+    let counts = CountList::from_vec(Vec::from_slice(alloc, &[3, 5]).expect(rt, "room"));
     pushed(Ok(counts), Ok(8)).expect(rt, "room")
 }
 

@@ -1,6 +1,7 @@
 //! What no clause says: that there is memory for a line, and words from outside.
 
 use crate::buffers::line_buffer;
+use std::process::Abort;
 use text_words::{LineBuf, Unread};
 
 /// State 1.2, the key x, a value of one space, and the number 300.
@@ -16,12 +17,16 @@ fn put_words(bytes: &[u8], out: &mut LineBuf) {
     unread.put_u16(out);
 }
 
-#[test]
-fn words_are_written_from_bytes(rt: HostRuntime) {
-    let mut out = line_buffer(&rt, rt.alloc());
-    put_words(&SPELLED, &mut out);
+fn check_words(rt: &impl Abort, out: &mut LineBuf) {
+    put_words(&SPELLED, out);
     assert!(rt; out.bytes() == b"7 put 1.2 x #20 300".as_slice());
     out.clear();
     assert!(rt; out.bytes().is_empty());
+}
+
+#[test]
+fn words_are_written_from_bytes(rt: HostRuntime) {
+    let mut out = line_buffer(&rt, rt.alloc());
+    check_words(&rt, &mut out);
     drop(out);
 }

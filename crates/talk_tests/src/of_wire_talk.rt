@@ -107,24 +107,32 @@ fn is_none_padded(rt: &impl Abort, alloc: Global, front: &[u8], byte: u8, count:
     is_none
 }
 
+fn check_kept(rt: &impl Abort, alloc: Global) {
+    for bytes in &REQUESTS {
+        assert!(rt; is_kept(rt, alloc, bytes));
+    }
+}
+
 #[test]
 fn requests_are_written_as_they_were_read(rt: HostRuntime) {
-    for bytes in &REQUESTS {
-        assert!(rt; is_kept(&rt, rt.alloc(), bytes));
-    }
+    check_kept(&rt, rt.alloc());
     assert!(rt; is_kept(&rt, rt.alloc(), &DELIVERY));
+}
+
+fn check_malformed(rt: &impl Abort, alloc: Global) {
+    for bytes in &MALFORMED {
+        assert!(rt; is_no_request(alloc, bytes));
+    }
+}
+
+fn check_long(rt: &impl Abort, alloc: Global) {
+    for (front, byte, count) in &LONG {
+        assert!(rt; is_none_padded(rt, alloc, front, *byte, *count));
+    }
 }
 
 #[test]
 fn other_bytes_are_malformed(rt: HostRuntime) {
-    for bytes in &MALFORMED {
-        assert!(rt; is_no_request(rt.alloc(), bytes));
-    }
-}
-
-#[test]
-fn a_key_and_a_value_may_be_too_long(rt: HostRuntime) {
-    for (front, byte, count) in LONG {
-        assert!(rt; is_none_padded(&rt, rt.alloc(), front, byte, count));
-    }
+    check_malformed(&rt, rt.alloc());
+    check_long(&rt, rt.alloc());
 }

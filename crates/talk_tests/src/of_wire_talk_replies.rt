@@ -160,25 +160,27 @@ fn is_no_reply(alloc: Global, bytes: &[u8]) -> bool {
     is_malformed(read_reply(alloc, bytes))
 }
 
-#[test]
-fn replies_are_written_as_they_were_read(rt: HostRuntime) {
-    for bytes in &REPLIES {
-        assert!(rt; is_kept(&rt, rt.alloc(), bytes));
+fn check_kept(rt: &impl Abort, alloc: Global, rows: &[&[u8]]) {
+    for bytes in rows {
+        assert!(rt; is_kept(rt, alloc, bytes));
     }
 }
 
 #[test]
-fn refusals_are_written_as_they_were_read(rt: HostRuntime) {
-    for bytes in &REFUSALS {
-        assert!(rt; is_kept(&rt, rt.alloc(), bytes));
+fn replies_are_written_as_they_were_read(rt: HostRuntime) {
+    check_kept(&rt, rt.alloc(), &REPLIES);
+    check_kept(&rt, rt.alloc(), &REFUSALS);
+}
+
+fn check_malformed(rt: &impl Abort, alloc: Global) {
+    for bytes in &MALFORMED {
+        assert!(rt; is_no_reply(alloc, bytes));
     }
 }
 
 #[test]
 fn other_bytes_spell_no_reply(rt: HostRuntime) {
-    for bytes in &MALFORMED {
-        assert!(rt; is_no_reply(rt.alloc(), bytes));
-    }
+    check_malformed(&rt, rt.alloc());
 }
 
 /// Whether the reply of these bytes, with zeros behind them up to so many in all, is written as it was read.
@@ -197,12 +199,20 @@ fn is_padded_none(rt: &impl Abort, alloc: Global, front: &[u8], count: usize) ->
     is_none
 }
 
+fn check_greatest(rt: &impl Abort, alloc: Global) {
+    for (front, count) in &GREATEST {
+        assert!(rt; is_padded_kept(rt, alloc, front, *count));
+    }
+}
+
+fn check_others(rt: &impl Abort, alloc: Global) {
+    for (front, count) in &OTHERS {
+        assert!(rt; is_padded_none(rt, alloc, front, *count));
+    }
+}
+
 #[test]
 fn lists_have_their_greatest_number(rt: HostRuntime) {
-    for (front, count) in GREATEST {
-        assert!(rt; is_padded_kept(&rt, rt.alloc(), front, count));
-    }
-    for (front, count) in OTHERS {
-        assert!(rt; is_padded_none(&rt, rt.alloc(), front, count));
-    }
+    check_greatest(&rt, rt.alloc());
+    check_others(&rt, rt.alloc());
 }
