@@ -4,6 +4,8 @@
 #![tactic(auto)]
 
 #[cfg(test)]
+mod disks;
+#[cfg(test)]
 mod of_disk_forms;
 #[cfg(test)]
 mod of_durable_run;

@@ -1,21 +1,30 @@
 //! A crash of a disk in memory, a store of it, and a file of the system.
 
+use crate::disks::{crashed, has_disk, holds, store_of};
 use disk_forms::{FileDisk, FileStore, MemoryDisk, MemoryStore};
 use disk_store::{Disk, Store};
 use std::alloc::Global;
-use std::test::Fail;
+use std::path::PathBuf;
+use std::process::Abort;
 use std::{env, fs, process};
-use tardis_io::Failed;
 
-/// What a crash by this choice leaves of three synced bytes, over which a write of three from the third on is pending.
-fn left(alloc: Global, choice: u64) -> Result<MemoryDisk, Fail> {
-    let mut disk = MemoryDisk::new(alloc, b"abc", 100, &[])?;
-    disk.write_at(2, b"xyz")?;
-    Ok(disk.crash(choice)?)
+/// A disk of three synced bytes, over which a write of three from the third on is pending.
+fn pending(rt: &impl Abort, alloc: Global) -> MemoryDisk {
+    let mut disk = MemoryDisk::new(alloc, b"abc", 100, &[]).expect(rt, "room");
+    disk.write_at(2, b"xyz").expect(rt, "a write");
+    disk
+}
+
+/// Whether a crash by this choice leaves these bytes of it.
+fn leaves(rt: &impl Abort, alloc: Global, choice: u64, bytes: &[u8]) -> bool {
+    let disk = crashed(rt, pending(rt, alloc), choice);
+    let is_left = holds(&disk, bytes);
+    drop(disk);
+    is_left
 }
 
 #[test]
-fn a_crash_leaves_fronts_and_torn_bytes(rt: HostRuntime) -> Result<(), Fail> {
+fn a_crash_leaves_fronts_and_torn_bytes(rt: HostRuntime) {
     let rows: [(u64, &[u8]); 9] = [
         (0, b"abxyz"),
         (1, b"abc"),
@@ -28,73 +37,80 @@ fn a_crash_leaves_fronts_and_torn_bytes(rt: HostRuntime) -> Result<(), Fail> {
         (8, b"ab\0\0\0"),
     ];
     for (choice, bytes) in rows {
-        assert_eq!(rt; left(rt.alloc(), choice)?.bytes(), bytes, "choice {choice}");
+        assert!(rt; leaves(&rt, rt.alloc(), choice, bytes), "choice {choice}");
     }
-    Ok(())
-}
-
-/// Whether the store has its disk, which holds these bytes.
-pub(crate) fn holds(store: MemoryStore, bytes: &[u8]) -> bool {
-    store.disk().is_some_and(|disk| disk.bytes() == bytes)
 }
 
 /// Writes `c` behind the two bytes of a disk; whether it isn't synced then.
-fn adds_unsynced(disk: &mut MemoryDisk) -> Result<bool, Failed> {
+fn adds_unsynced(rt: &impl Abort, disk: &mut MemoryDisk) -> bool {
     let end = disk.bytes().len().min(2) as u64;
-    disk.write_at(end, b"c")?;
-    Ok(disk.sync().is_err())
+    disk.write_at(end, b"c").expect(rt, "a write");
+    disk.sync().is_err()
 }
 
 /// Whether the store gives its disk once, and takes it back after a write that wasn't synced.
-fn gives_its_disk_once(store: &mut MemoryStore) -> Result<bool, Failed> {
-    let mut disk = store.open_file("any")?;
+fn gives_its_disk_once(rt: &impl Abort, store: &mut MemoryStore) -> bool {
+    let mut disk = store.open_file("any").expect(rt, "its disk");
     let is_out = store.open_file("any").is_err();
-    let is_unsynced = adds_unsynced(&mut disk)?;
+    let is_unsynced = adds_unsynced(rt, &mut disk);
     store.put_back(disk);
-    Ok(is_out && is_unsynced)
+    is_out && is_unsynced
 }
 
 #[test]
-fn a_store_in_memory_gives_its_disk_once(rt: HostRuntime) -> Result<(), Fail> {
-    let mut store = MemoryStore::new(MemoryDisk::new(rt.alloc(), b"ab", 100, &[2])?);
-    assert!(rt; gives_its_disk_once(&mut store)?);
-    assert!(rt; holds(store, b"abc"));
-    Ok(())
+fn a_store_in_memory_gives_its_disk_once(rt: HostRuntime) {
+    let mut store = store_of(&rt, rt.alloc(), b"ab", &[2]);
+    assert!(rt; gives_its_disk_once(&rt, &mut store));
+    assert!(rt; has_disk(store, b"abc"));
 }
 
 /// Writes `abc` to a new file, by a write and a cut; whether it was empty.
-fn fill(disk: &mut FileDisk) -> Result<bool, Failed> {
-    let is_empty = disk.len()? == 0;
-    disk.write_at(0, b"abcd")?;
-    disk.cut(3)?;
-    disk.sync()?;
-    Ok(is_empty)
+fn fill(rt: &impl Abort, disk: &mut FileDisk) -> bool {
+    let is_empty = disk.len().expect(rt, "a length") == 0;
+    disk.write_at(0, b"abcd").expect(rt, "a write");
+    disk.cut(3).expect(rt, "a cut");
+    disk.sync().expect(rt, "a sync");
+    is_empty
 }
 
 /// Whether the file holds `abc`.
-fn is_filled(disk: &mut FileDisk) -> Result<bool, Failed> {
+fn is_filled(rt: &impl Abort, disk: &mut FileDisk) -> bool {
     let mut back = [0; 2];
-    disk.read_at(1, &mut back)?;
-    Ok(disk.len()? == 3 && back == *b"bc")
+    disk.read_at(1, &mut back).expect(rt, "a read");
+    disk.len().expect(rt, "a length") == 3 && back == *b"bc"
 }
 
-/// Whether the file at this path is new, can't be opened twice, and holds what was written once it is opened again.
-fn is_kept_and_locked(store: &mut FileStore<&HostRuntime>, path: &str) -> Result<bool, Failed> {
-    let mut disk = store.open_file(path)?;
-    let is_new = fill(&mut disk)?;
+/// Whether the file at this path is new and can't be opened twice, once it is written.
+fn is_made_and_locked(rt: &impl Abort, store: &mut FileStore<&HostRuntime>, path: &str) -> bool {
+    let mut disk = store.open_file(path).expect(rt, "a file");
+    let is_new = fill(rt, &mut disk);
     let is_locked = store.open_file(path).is_err();
     store.put_back(disk);
-    let mut disk = store.open_file(path)?;
-    let is_kept = is_filled(&mut disk)?;
+    is_new && is_locked
+}
+
+/// Whether the file at this path holds what was written.
+fn is_kept(rt: &impl Abort, store: &mut FileStore<&HostRuntime>, path: &str) -> bool {
+    let mut disk = store.open_file(path).expect(rt, "the file");
+    let is_kept = is_filled(rt, &mut disk);
     store.put_back(disk);
-    Ok(is_new && is_locked && is_kept)
+    is_kept
+}
+
+/// A path in the folder, for a file of the process of this number.
+fn path_in(rt: &impl Abort, alloc: Global, folder: PathBuf, id: u32) -> PathBuf {
+    let name = format!(in alloc; "disk-forms-{id}").expect(rt, "room");
+    folder.join(alloc, name.as_str()).expect(rt, "room")
 }
 
 #[test]
-fn a_file_is_made_kept_and_locked(rt: HostRuntime) -> Result<(), Fail> {
-    let name = format!(in rt.alloc(); "disk-forms-{}", process::id(rt.process()))?;
-    let path = env::temp_dir(&rt)?.join(rt.alloc(), name.as_str())?;
-    assert!(rt; is_kept_and_locked(&mut FileStore::new(&rt), path.as_str())?);
-    fs::remove_file(&rt, path.as_str())?;
-    Ok(())
+fn a_file_is_made_kept_and_locked(rt: HostRuntime) {
+    let folder = env::temp_dir(&rt).expect(&rt, "a folder");
+    let path = path_in(&rt, rt.alloc(), folder, process::id(rt.process()));
+    let mut store = FileStore::new(&rt);
+    assert!(rt; is_made_and_locked(&rt, &mut store, path.as_str()));
+    assert!(rt; is_kept(&rt, &mut store, path.as_str()));
+    fs::remove_file(&rt, path.as_str()).expect(&rt, "the file");
+    drop(store);
+    drop(path);
 }

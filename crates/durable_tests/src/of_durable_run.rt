@@ -3,15 +3,18 @@
 ghost use Rattle.std.specs.Prelude.{◌≤◌, IsTrue};
 ghost use Rattle.tardis_base.specs.Valid.{are_limits};
 
-use crate::of_disk_forms::holds;
+use crate::disks::{crashed, disk_of, has_disk, holds, store_of};
 use crate::of_site_journal::{CRASHES, Opening, open};
 use crate::talks::{journal_of, replies_from, replies_to, requests_from};
-use disk_forms::{MemoryDisk, MemoryStore};
+use disk_forms::MemoryDisk;
+use disk_store::{Disk, Store};
 use durable_run::{durable, run_site_on};
+use std::alloc::Global;
 use std::hash::RandomState;
-use std::test::Fail;
+use std::process::Abort;
+use std::random::RandomSource;
 use tardis_base::Limits;
-use tardis_io::{MemorySink, MemorySource, Status};
+use tardis_io::{MemorySink, MemorySource, Sink, Source, Status};
 
 /// The limits of a site that is alone.
 const LIMITS: Limits = Limits {
@@ -22,57 +25,76 @@ const LIMITS: Limits = Limits {
     max_trail: 1_073_741_824,
 };
 
+/// A seed of hashing.
+fn keys<R: RandomSource + Abort>(rt: &R) -> RandomState {
+    RandomState::new(rt).expect(rt, "random bytes")
+}
+
+/// These bytes as an input, in pieces of so many.
+fn source_of(rt: &impl Abort, alloc: Global, bytes: &[u8], piece: u32) -> MemorySource {
+    MemorySource::new(alloc, bytes, piece.max(1), &[]).expect(rt, "room")
+}
+
+/// An output with room for 1,000 bytes.
+fn empty_sink(rt: &impl Abort, alloc: Global) -> MemorySink {
+    MemorySink::new(alloc, 1_000, 1_000, &[]).expect(rt, "room")
+}
+
 /// How a durable site with these limits ends, in this store.
-fn ran(
-    rt: &HostRuntime,
+fn ran<R: RandomSource + Abort, S: Store, I: Source, O: Sink>(
+    rt: &R,
+    alloc: Global,
     limits: Limits,
-    store: &mut MemoryStore,
-    source: &mut MemorySource,
-    sink: &mut MemorySink,
-) -> Result<Status, Fail>
+    store: &mut S,
+    source: &mut I,
+    sink: &mut O,
+) -> Status
     requires limits { IsTrue (are_limits limits) }
     requires sites { 1 ≤ limits.sites }
 {
-    let keys = RandomState::new(rt)?;
-    Ok(durable(rt.alloc(), keys, limits, 1, "any", store, source, sink))
+    durable(alloc, keys(rt), limits, 1, "any", store, source, sink)
 }
 
 /// Whether a durable site with these limits, in a store of an empty disk, writes this output, and puts a disk back that
 /// holds these bytes.
-fn is_kept(
-    rt: &HostRuntime,
+fn is_kept<R: RandomSource + Abort>(
+    rt: &R,
+    alloc: Global,
     limits: Limits,
     input: &[u8],
     output: &[u8],
     bytes: &[u8],
-) -> Result<bool, Fail>
+) -> bool
     requires limits { IsTrue (are_limits limits) }
     requires sites { 1 ≤ limits.sites }
 {
-    let alloc = rt.alloc();
-    let mut store = MemoryStore::new(MemoryDisk::new(alloc, b"", 1_000, &[])?);
-    let mut source = MemorySource::new(alloc, input, 1_000, &[])?;
-    let mut sink = MemorySink::new(alloc, 1_000, 1_000, &[])?;
-    let status = ran(rt, limits, &mut store, &mut source, &mut sink)?;
-    Ok(status == Status::Ok && sink.bytes() == output && holds(store, bytes))
+    let mut store = store_of(rt, alloc, b"", &[]);
+    let mut source = source_of(rt, alloc, input, 1_000);
+    let mut sink = empty_sink(rt, alloc);
+    let status = ran(rt, alloc, limits, &mut store, &mut source, &mut sink);
+    let is_written = sink.bytes() == output;
+    drop(sink);
+    drop(source);
+    let is_put_back = has_disk(store, bytes);
+    status == Status::Ok && is_written && is_put_back
 }
 
 /// The journal of a site that actor 1 asked to open a session.
 const OPENED: &[u8] = b"\x01\0\0\0\x04\0\x01\x01\0\0";
 
 #[test]
-fn a_request_is_kept_unless_the_journal_is_full(rt: HostRuntime) -> Result<(), Fail> {
+fn a_request_is_kept_unless_the_journal_is_full(rt: HostRuntime) {
+    let alloc = rt.alloc();
     let open = b"\0\0\0\x04\0\x01\x01\0";
     let opened = b"\0\0\0\x07\x01\0\0\0\0\0\0";
-    assert!(rt; is_kept(&rt, LIMITS, open, opened, OPENED)?);
+    assert!(rt; is_kept(&rt, alloc, LIMITS, open, opened, OPENED));
     let ten_bytes = Limits {
         max_trail: 10,
         ..LIMITS
     };
     let begin = b"\0\0\0\x04\0\x01\x01\0\0\0\0\x04\0\x01\x02\0";
     let full = b"\0\0\0\x07\x01\0\0\0\0\0\0\0\0\0\x0a\x15\x1a\0\0\0\0\0\0\0\x09";
-    assert!(rt; is_kept(&rt, ten_bytes, begin, full, OPENED)?);
-    Ok(())
+    assert!(rt; is_kept(&rt, alloc, ten_bytes, begin, full, OPENED));
 }
 
 /// How a run ended, what it wrote, and its disk.
@@ -84,65 +106,94 @@ struct Ended {
 }
 
 /// Runs a site with these limits over a disk.
-fn run_over(
-    rt: &HostRuntime,
+fn run_over<R: RandomSource + Abort, K: Disk, I: Source, O: Sink>(
+    rt: &R,
+    alloc: Global,
     limits: Limits,
-    source: &mut MemorySource,
-    output: &mut MemorySink,
-    disk: MemoryDisk,
-) -> Result<(Status, MemoryDisk), Fail>
+    source: &mut I,
+    output: &mut O,
+    disk: K,
+) -> (Status, K)
     requires limits { IsTrue (are_limits limits) }
     requires sites { 1 ≤ limits.sites }
 {
-    let keys = RandomState::new(rt)?;
-    Ok(run_site_on(rt.alloc(), keys, limits, 1, disk, source, output))
+    run_site_on(alloc, keys(rt), limits, 1, disk, source, output)
 }
 
 /// Runs the site over a disk and the requests from this one on, in pieces of so many bytes.
-fn run_from(rt: &HostRuntime, first: usize, piece: u32, disk: MemoryDisk) -> Result<Ended, Fail> {
-    let alloc = rt.alloc();
-    let input = requests_from(alloc, first)?;
-    let mut source = MemorySource::new(alloc, input.as_slice(), piece.max(1), &[])?;
-    let mut output = MemorySink::new(alloc, 1_000, 1_000, &[])?;
-    let (status, disk) = run_over(rt, LIMITS, &mut source, &mut output, disk)?;
-    Ok(Ended {
+fn run_from<R: RandomSource + Abort>(
+    rt: &R,
+    alloc: Global,
+    first: usize,
+    piece: u32,
+    disk: MemoryDisk,
+) -> Ended {
+    let input = requests_from(rt, alloc, first);
+    let mut source = source_of(rt, alloc, input.as_slice(), piece);
+    drop(input);
+    let mut output = empty_sink(rt, alloc);
+    let (status, disk) = run_over(rt, alloc, LIMITS, &mut source, &mut output, disk);
+    drop(source);
+    Ended {
         status,
         output,
         disk,
-    })
+    }
+}
+
+/// Whether these are the replies to so many of the requests.
+fn are_replies_to(rt: &impl Abort, alloc: Global, count: usize, output: &[u8]) -> bool {
+    let replies = replies_to(rt, alloc, count);
+    let are_these = replies.as_slice() == output;
+    drop(replies);
+    are_these
 }
 
 /// To how many of the requests, from the first on, these are the replies.
-fn count_of_replies(rt: &HostRuntime, output: &[u8]) -> Result<usize, Fail> {
+fn count_of_replies(rt: &impl Abort, alloc: Global, output: &[u8]) -> usize {
     for count in 0..=6usize {
-        if replies_to(rt.alloc(), count)?.as_slice() == output {
-            return Ok(count);
+        if are_replies_to(rt, alloc, count, output) {
+            return count;
         }
     }
-    Err(Fail::new("these are no replies"))
+    panic!(rt; "these are no replies")
 }
 
 /// Whether the disk holds the entries of so many requests.
-fn has_entries(rt: &HostRuntime, disk: &MemoryDisk, count: usize) -> Result<bool, Fail> {
-    Ok(disk.bytes() == journal_of(rt.alloc(), count)?.as_slice())
+fn has_entries(rt: &impl Abort, alloc: Global, disk: &MemoryDisk, count: usize) -> bool {
+    let journal = journal_of(rt, alloc, count);
+    let has_these = holds(disk, journal.as_slice());
+    drop(journal);
+    has_these
 }
 
 /// Whether these are the replies to the requests from this one on.
-fn are_replies_from(rt: &HostRuntime, first: usize, output: &[u8]) -> Result<bool, Fail> {
-    Ok(replies_from(rt.alloc(), first)?.as_slice() == output)
+fn are_replies_from(rt: &impl Abort, alloc: Global, first: usize, output: &[u8]) -> bool {
+    let replies = replies_from(rt, alloc, first);
+    let are_these = replies.as_slice() == output;
+    drop(replies);
+    are_these
+}
+
+/// Whether the run answered the requests from this one on, and its disk holds the entries of all.
+fn has_answered(rt: &impl Abort, alloc: Global, ended: &Ended, first: usize) -> bool {
+    ended.status == Status::Ok
+        && are_replies_from(rt, alloc, first, ended.output.bytes())
+        && has_entries(rt, alloc, &ended.disk, 6)
 }
 
 /// Whether the site goes on over a disk with the entries of so many requests, and answers the others.
-fn goes_on(rt: &HostRuntime, disk: MemoryDisk, entries: usize) -> Result<bool, Fail> {
-    if !has_entries(rt, &disk, entries)? {
-        return Ok(false);
-    }
-    let ended = run_from(rt, entries, 1_000, disk)?;
-    Ok(
-        ended.status == Status::Ok
-            && are_replies_from(rt, entries, ended.output.bytes())?
-            && has_entries(rt, &ended.disk, 6)?,
-    )
+fn goes_on<R: RandomSource + Abort>(
+    rt: &R,
+    alloc: Global,
+    disk: MemoryDisk,
+    entries: usize,
+) -> bool {
+    let has_these = has_entries(rt, alloc, &disk, entries);
+    let ended = run_from(rt, alloc, entries, 1_000, disk);
+    let has_answered = has_answered(rt, alloc, &ended, entries);
+    drop(ended);
+    has_these && has_answered
 }
 
 /// A run over an empty disk whose listed call fails, in pieces of so many bytes, of which each has so many requests at most.
@@ -153,57 +204,91 @@ struct Plan {
     group: usize,
 }
 
+/// How such a run ends.
+fn run_planned<R: RandomSource + Abort>(rt: &R, alloc: Global, plan: Plan) -> Ended {
+    let disk = disk_of(rt, alloc, b"", &[plan.failing]);
+    run_from(rt, alloc, 0, plan.piece, disk)
+}
+
+/// How many replies the run wrote, and what a crash by this choice leaves of its disk when it has ended.
+fn crash_run<R: RandomSource + Abort>(
+    rt: &R,
+    alloc: Global,
+    plan: Plan,
+    choice: u64,
+) -> (usize, MemoryDisk) {
+    let Ended {
+        status: _,
+        output,
+        disk,
+    } = run_planned(rt, alloc, plan);
+    let written = count_of_replies(rt, alloc, output.bytes());
+    drop(output);
+    (written, crashed(rt, disk, choice))
+}
+
+/// How many entries a journal has that was opened.
+fn entries_of(rt: &impl Abort, opening: Opening) -> usize {
+    match opening {
+        Opening::Entries(entries) => entries as usize,
+        _ => panic!(rt; "the journal is not opened"),
+    }
+}
+
 /// Whether a crash by this choice, when the run has ended, leaves the entries of the replies that were written, or those of
 /// the next group too, and the site goes on from them.
-fn crash_leaves_whole_groups(rt: &HostRuntime, plan: Plan, choice: u64) -> Result<bool, Fail> {
-    let disk = MemoryDisk::new(rt.alloc(), b"", 1_000, &[plan.failing])?;
-    let ended = run_from(rt, 0, plan.piece, disk)?;
-    let written = count_of_replies(rt, ended.output.bytes())?;
-    let (opening, disk) = open(rt.alloc(), ended.disk.crash(choice)?);
-    let Opening::Entries(entries) = opening else {
-        return Ok(false);
-    };
-    let entries = entries as usize;
-    let whole = entries == written || entries == written.saturating_add(plan.group);
-    Ok(whole && goes_on(rt, disk, entries)?)
+fn crash_leaves_whole_groups<R: RandomSource + Abort>(
+    rt: &R,
+    alloc: Global,
+    plan: Plan,
+    choice: u64,
+) -> bool {
+    let (written, disk) = crash_run(rt, alloc, plan, choice);
+    let (opening, disk) = open(alloc, disk);
+    let entries = entries_of(rt, opening);
+    let are_whole = entries == written || entries == written.saturating_add(plan.group);
+    let goes_on = goes_on(rt, alloc, disk, entries);
+    are_whole && goes_on
 }
 
 /// Whether many crashes do.
-fn crashes_leave_whole_groups(rt: &HostRuntime, plan: Plan) -> Result<bool, Fail> {
+fn crashes_leave_whole_groups<R: RandomSource + Abort>(rt: &R, alloc: Global, plan: Plan) -> bool {
     for choice in CRASHES {
-        if !crash_leaves_whole_groups(rt, plan, choice)? {
-            return Ok(false);
+        if !crash_leaves_whole_groups(rt, alloc, plan, choice) {
+            return false;
         }
     }
-    Ok(true)
+    true
+}
+
+/// Whether the run ends well. Else it ends with a disk fault.
+fn ends_well<R: RandomSource + Abort>(rt: &R, alloc: Global, plan: Plan) -> bool {
+    let ended = run_planned(rt, alloc, plan);
+    let status = ended.status;
+    drop(ended);
+    assert!(rt; status == Status::Ok || status == Status::DiskFault);
+    status == Status::Ok
 }
 
 /// Has each call fail in turn, until none fails, and answers how many calls there are.
-fn count_of_calls(rt: &HostRuntime, piece: u32, group: usize) -> Result<u64, Fail> {
+fn count_of_calls<R: RandomSource + Abort>(rt: &R, alloc: Global, piece: u32, group: usize) -> u64 {
     for before in 0..100u64 {
-        let failing = before + 1;
         let plan = Plan {
-            failing,
+            failing: before + 1,
             piece,
             group,
         };
-        if !crashes_leave_whole_groups(rt, plan)? {
-            return Err(Fail::new("a crash leaves a part of a group"));
-        }
-        let disk = MemoryDisk::new(rt.alloc(), b"", 1_000, &[failing])?;
-        match run_from(rt, 0, piece, disk)?.status {
-            Status::DiskFault => {}
-            Status::Ok => return Ok(before),
-            _ => return Err(Fail::new("a disk fault is told otherwise")),
+        assert!(rt; crashes_leave_whole_groups(rt, alloc, plan));
+        if ends_well(rt, alloc, plan) {
+            return before;
         }
     }
-    Err(Fail::new("a call fails each time"))
+    panic!(rt; "a call fails each time")
 }
 
 /// Opening takes 4 calls of the disk, and each group 4, of which 2 are syncs.
 #[test]
-fn a_crash_leaves_whole_groups_whichever_call_failed(rt: HostRuntime) -> Result<(), Fail> {
-    assert_eq!(rt; count_of_calls(&rt, 1, 1)?, 28);
-    assert_eq!(rt; count_of_calls(&rt, 1_000, 6)?, 8);
-    Ok(())
+fn a_crash_leaves_whole_groups_whichever_call_failed(rt: HostRuntime) {
+    assert_eq!(rt; count_of_calls(&rt, rt.alloc(), 1, 1), 28);
+    assert_eq!(rt; count_of_calls(&rt, rt.alloc(), 1_000, 6), 8);
 }

@@ -1,13 +1,15 @@
 //! Opening journals, and acting on them, over a machine that counts.
 
-ghost use Rattle.std.specs.Prelude.{◌≡◌, ◌+◌, ◌≤◌, ◌%◌, [], ◌∷◌, ℕ, List, length, false, IfOk};
+ghost use Rattle.std.specs.Prelude.{◌≡◌, ◌+◌, ◌≤◌, ◌%◌, [], ◌∷◌, ℕ, List, length, false};
 ghost use Rattle.site_journal.specs.Opened.{IsOpen};
+ghost use Rattle.tardis_base.specs.Sizes.{longest_trail};
 
+use crate::disks::{crashed, disk_of, holds};
 use disk_forms::MemoryDisk;
 use disk_store::Disk;
 use site_journal::{JournalEnd, Journaled, OpenEnd, open_on};
 use std::alloc::Global;
-use std::test::Fail;
+use std::process::Abort;
 use tardis_base::{Machine, NoMemory, ReplyBuf};
 
 /// Replies by how many requests came before, and finds no memory for an empty one.
@@ -46,7 +48,7 @@ pub(crate) enum Opening {
 }
 
 /// Opens the journal on a disk, and closes it.
-pub(crate) fn open(alloc: Global, disk: MemoryDisk) -> (Opening, MemoryDisk) {
+pub(crate) fn open<K: Disk>(alloc: Global, disk: K) -> (Opening, K) {
     match open_on(alloc, Counter { acts: 0 }, disk, 1_000) {
         Ok((journal, entries)) => {
             let (machine, disk) = journal.close();
@@ -64,25 +66,27 @@ pub(crate) fn open(alloc: Global, disk: MemoryDisk) -> (Opening, MemoryDisk) {
 
 /// Opens the journal that these bytes are, over a disk whose listed calls fail.
 fn open_bytes(
+    rt: &impl Abort,
     alloc: Global,
     bytes: &[u8],
     failing: &[u64],
-) -> Result<(Opening, MemoryDisk), NoMemory> {
-    let disk = MemoryDisk::new(alloc, bytes, 1_000, failing)?;
-    Ok(open(alloc, disk))
+) -> (Opening, MemoryDisk) {
+    open(alloc, disk_of(rt, alloc, bytes, failing))
 }
 
 /// Whether the journal that these bytes are has so many entries, and becomes this one.
-fn opens_as(alloc: Global, before: &[u8], entries: u64, after: &[u8]) -> Result<bool, NoMemory> {
-    let (opening, disk) = open_bytes(alloc, before, &[])?;
-    Ok(opening == Opening::Entries(entries) && disk.bytes() == after)
+fn opens_as(rt: &impl Abort, alloc: Global, before: &[u8], entries: u64, after: &[u8]) -> bool {
+    let (opening, disk) = open_bytes(rt, alloc, before, &[]);
+    let is_after = holds(&disk, after);
+    drop(disk);
+    opening == Opening::Entries(entries) && is_after
 }
 
 /// A journal of one entry: actor 1 opens a session.
 const ONE: &[u8] = b"\x01\0\0\0\x04\0\x01\x01\0\0";
 
 #[test]
-fn what_stands_behind_the_entries_becomes_a_closed_gate(rt: HostRuntime) -> Result<(), Fail> {
+fn what_stands_behind_the_entries_becomes_a_closed_gate(rt: HostRuntime) {
     let rows: [(&[u8], u64, &[u8]); 5] = [
         (b"", 0, b"\0"),
         (ONE, 1, ONE),
@@ -91,9 +95,8 @@ fn what_stands_behind_the_entries_becomes_a_closed_gate(rt: HostRuntime) -> Resu
         (b"\x01\0\0\0\x04\0\x01\x01\0\x07\x05", 1, ONE),
     ];
     for (before, entries, after) in rows {
-        assert!(rt; opens_as(rt.alloc(), before, entries, after)?);
+        assert!(rt; opens_as(&rt, rt.alloc(), before, entries, after));
     }
-    Ok(())
 }
 
 /// Choices of crashes. The small ones go through what may become of the first call that isn't synced, the large ones tear
@@ -122,87 +125,118 @@ pub(crate) const CRASHES: [u64; 20] = [
 ];
 
 /// Whether a crash by this choice leaves the one entry, after an opening in which this call failed.
-fn crash_leaves_one(alloc: Global, failing: u64, choice: u64) -> Result<bool, NoMemory> {
-    let (_, disk) = open_bytes(alloc, TORN, &[failing])?;
-    let (opening, disk) = open(alloc, disk.crash(choice)?);
-    Ok(opening == Opening::Entries(1) && disk.bytes() == ONE)
+fn crash_leaves_one(rt: &impl Abort, alloc: Global, failing: u64, choice: u64) -> bool {
+    let (_, disk) = open_bytes(rt, alloc, TORN, &[failing]);
+    let (opening, disk) = open(alloc, crashed(rt, disk, choice));
+    let is_one = holds(&disk, ONE);
+    drop(disk);
+    opening == Opening::Entries(1) && is_one
 }
 
 /// Whether many crashes each do.
-fn crashes_leave_one(alloc: Global, failing: u64) -> Result<bool, NoMemory> {
+fn crashes_leave_one(rt: &impl Abort, alloc: Global, failing: u64) -> bool {
     for choice in CRASHES {
-        if !crash_leaves_one(alloc, failing, choice)? {
-            return Ok(false);
+        if !crash_leaves_one(rt, alloc, failing, choice) {
+            return false;
         }
     }
-    Ok(true)
+    true
 }
 
 /// The entry, with two bytes behind it.
 const TORN: &[u8] = b"\x01\0\0\0\x04\0\x01\x01\0\x07\x05";
 
 /// Whether an opening in which this call is to fail ends well, with the one entry. Else it ends with the fault.
-fn ends_well(alloc: Global, failing: u64) -> Result<bool, Fail> {
-    match open_bytes(alloc, TORN, &[failing])? {
-        (Opening::Entries(1), disk) if disk.bytes() == ONE => Ok(true),
-        (Opening::Fault, _) => Ok(false),
-        _ => Err(Fail::new("the opening ends otherwise")),
-    }
+fn ends_well(rt: &impl Abort, alloc: Global, failing: u64) -> bool {
+    let (opening, disk) = open_bytes(rt, alloc, TORN, &[failing]);
+    let is_one = opening == Opening::Entries(1) && holds(&disk, ONE);
+    drop(disk);
+    assert!(rt; is_one || opening == Opening::Fault);
+    is_one
 }
 
 #[test]
-fn a_crash_of_an_opening_leaves_the_entries(rt: HostRuntime) -> Result<(), Fail> {
+fn a_crash_of_an_opening_leaves_the_entries(rt: HostRuntime) {
     for call in 1..100 {
-        assert!(rt; crashes_leave_one(rt.alloc(), call)?, "call {call} fails");
-        if ends_well(rt.alloc(), call)? {
-            return Ok(());
+        assert!(rt;
+            crashes_leave_one(&rt, rt.alloc(), call),
+            "call {call} fails"
+        );
+        if ends_well(&rt, rt.alloc(), call) {
+            return;
         }
     }
-    Err(Fail::new("a call fails each time"))
+    panic!(rt; "a call fails each time");
+}
+
+/// The journal on a disk, which may have so many bytes.
+fn opened<M: Machine, K: Disk>(
+    rt: &impl Abort,
+    alloc: Global,
+    machine: M,
+    disk: K,
+    most: u64,
+) -> Journaled<M, K>
+    requires opening { M.stands machine (M.opening machine) }
+    requires most { most ≤ longest_trail }
+    ensures { (entries : List (List ℕ)) × IsOpen M.plain M.stands M.opening K.honest K.reads K.may_leave result entries [] }
+{
+    match open_on(alloc, machine, disk, most) {
+        Ok((journal, _)) => journal,
+        Err(_) => panic!(rt; "the journal is not opened"),
+    }
 }
 
 /// The journal after a request of actor 1 that is answered.
 fn answered<M: Machine, K: Disk>(
+    rt: &impl Abort,
     journal: Journaled<M, K>,
     request: &[u8],
     out: &mut ReplyBuf,
-) -> Result<Journaled<M, K>, Fail>
+) -> Journaled<M, K>
     requires fits { length request.now ≤ 1048574 }
     requires open { (entries : List (List ℕ)) × IsOpen M.plain M.stands M.opening K.honest K.reads K.may_leave journal entries [] }
-    ensures open { IfOk result (λ j. (entries : List (List ℕ)) × IsOpen M.plain M.stands M.opening K.honest K.reads K.may_leave j entries []) }
+    ensures open { (entries : List (List ℕ)) × IsOpen M.plain M.stands M.opening K.honest K.reads K.may_leave result entries [] }
 {
     match journal.act(1, request, out) {
-        JournalEnd::Done(journal) => Ok(journal),
-        _ => Err(Fail::new("the request is not answered")),
+        JournalEnd::Done(journal) => journal,
+        _ => panic!(rt; "the request is not answered"),
     }
 }
 
 /// The bytes of the journal, in which a request of actor 1 finds no room, and the disk.
 fn full<M: Machine, K: Disk>(
+    rt: &impl Abort,
     journal: Journaled<M, K>,
     request: &[u8],
     out: &mut ReplyBuf,
-) -> Result<(u64, K), Fail>
+) -> (u64, K)
     requires fits { length request.now ≤ 1048574 }
     requires open { (entries : List (List ℕ)) × IsOpen M.plain M.stands M.opening K.honest K.reads K.may_leave journal entries [] }
 {
     match journal.act(1, request, out) {
-        JournalEnd::TrailFull(journal, bytes) => Ok((bytes, journal.close().1)),
-        _ => Err(Fail::new("the request finds room")),
+        JournalEnd::TrailFull(journal, bytes) => (bytes, journal.close().1),
+        _ => panic!(rt; "the request finds room"),
     }
 }
 
-#[test]
-fn a_journal_is_full_by_its_bytes(rt: HostRuntime) -> Result<(), Fail> {
-    let disk = MemoryDisk::new(rt.alloc(), b"", 1_000, &[])?;
-    let Ok((journal, _)) = open_on(rt.alloc(), Counter { acts: 0 }, disk, 10) else {
-        return Err(Fail::new("the journal is not opened"));
-    };
-    let mut out = ReplyBuf::new(rt.alloc())?;
-    let journal = answered(journal, b"\x01\0", &mut out)?;
+/// The disk of a journal that may have 10 bytes, of which a first request takes 9 and a second finds none.
+fn filled<M: Machine, K: Disk>(rt: &impl Abort, alloc: Global, machine: M, disk: K) -> K
+    requires { M.stands machine (M.opening machine) }
+{
+    let mut out = ReplyBuf::new(alloc).expect(rt, "room");
+    let journal = opened(rt, alloc, machine, disk, 10);
+    let journal = answered(rt, journal, b"\x01\0", &mut out);
     assert!(rt; out.bytes() == b"\0".as_slice());
-    let (bytes, disk) = full(journal, b"\x02\0", &mut out)?;
+    let (bytes, disk) = full(rt, journal, b"\x02\0", &mut out);
     assert_eq!(rt; bytes, 9);
-    assert!(rt; disk.bytes() == ONE);
-    Ok(())
+    disk
+}
+
+#[test]
+fn a_journal_is_full_by_its_bytes(rt: HostRuntime) {
+    let empty = disk_of(&rt, rt.alloc(), b"", &[]);
+    let disk = filled(&rt, rt.alloc(), Counter { acts: 0 }, empty);
+    assert!(rt; holds(&disk, ONE));
+    drop(disk);
 }

@@ -1,7 +1,7 @@
 //! A session's requests, the replies that they are to get, and the journal that they leave.
 
 use std::alloc::Global;
-use std::test::Fail;
+use std::process::Abort;
 
 /// The body of a request's frame, which begins with the actor, and that of its reply's.
 #[derive(Drop)]
@@ -39,58 +39,61 @@ const TALK: [Row; 6] = [
 ];
 
 /// Puts the frame of a body behind these bytes.
-fn put_frame(bytes: &mut Vec<u8>, body: &[u8]) -> Result<(), Fail> {
+fn put_frame(rt: &impl Abort, bytes: &mut Vec<u8>, body: &[u8]) {
     let length = u32::try_from(body.len()).unwrap_or(u32::MAX);
-    bytes.extend_from_slice(&length.to_be_bytes())?;
-    bytes.extend_from_slice(body)?;
-    Ok(())
+    put(rt, bytes, &length.to_be_bytes());
+    put(rt, bytes, body);
+}
+
+fn put(rt: &impl Abort, bytes: &mut Vec<u8>, more: &[u8]) {
+    bytes.extend_from_slice(more).expect(rt, "room");
 }
 
 /// The frames of the requests.
-fn requests(alloc: Global, rows: &[Row]) -> Result<Vec<u8>, Fail> {
+fn requests(rt: &impl Abort, alloc: Global, rows: &[Row]) -> Vec<u8> {
     let mut frames = Vec::new(alloc);
     for row in rows {
-        put_frame(&mut frames, row.asked)?;
+        put_frame(rt, &mut frames, row.asked);
     }
-    Ok(frames)
+    frames
 }
 
 /// The frames of the replies.
-fn replies(alloc: Global, rows: &[Row]) -> Result<Vec<u8>, Fail> {
+fn replies(rt: &impl Abort, alloc: Global, rows: &[Row]) -> Vec<u8> {
     let mut frames = Vec::new(alloc);
     for row in rows {
-        put_frame(&mut frames, row.told)?;
+        put_frame(rt, &mut frames, row.told);
     }
-    Ok(frames)
+    frames
 }
 
 /// The journal with the requests.
-fn journal(alloc: Global, rows: &[Row]) -> Result<Vec<u8>, Fail> {
+fn journal(rt: &impl Abort, alloc: Global, rows: &[Row]) -> Vec<u8> {
     let mut text = Vec::new(alloc);
     for row in rows {
-        text.push(1)?;
-        put_frame(&mut text, row.asked)?;
+        put(rt, &mut text, &[1]);
+        put_frame(rt, &mut text, row.asked);
     }
-    text.push(0)?;
-    Ok(text)
+    put(rt, &mut text, &[0]);
+    text
 }
 
 /// The frames of the requests from this one on.
-pub(crate) fn requests_from(alloc: Global, first: usize) -> Result<Vec<u8>, Fail> {
-    requests(alloc, &TALK[first.min(6)..])
+pub(crate) fn requests_from(rt: &impl Abort, alloc: Global, first: usize) -> Vec<u8> {
+    requests(rt, alloc, &TALK[first.min(6)..])
 }
 
 /// The frames of the replies to the requests from this one on.
-pub(crate) fn replies_from(alloc: Global, first: usize) -> Result<Vec<u8>, Fail> {
-    replies(alloc, &TALK[first.min(6)..])
+pub(crate) fn replies_from(rt: &impl Abort, alloc: Global, first: usize) -> Vec<u8> {
+    replies(rt, alloc, &TALK[first.min(6)..])
 }
 
 /// The frames of the replies to so many requests.
-pub(crate) fn replies_to(alloc: Global, count: usize) -> Result<Vec<u8>, Fail> {
-    replies(alloc, &TALK[..count.min(6)])
+pub(crate) fn replies_to(rt: &impl Abort, alloc: Global, count: usize) -> Vec<u8> {
+    replies(rt, alloc, &TALK[..count.min(6)])
 }
 
 /// The journal with so many requests.
-pub(crate) fn journal_of(alloc: Global, count: usize) -> Result<Vec<u8>, Fail> {
-    journal(alloc, &TALK[..count.min(6)])
+pub(crate) fn journal_of(rt: &impl Abort, alloc: Global, count: usize) -> Vec<u8> {
+    journal(rt, alloc, &TALK[..count.min(6)])
 }

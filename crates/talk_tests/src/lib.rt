@@ -4,6 +4,8 @@
 #![tactic(auto)]
 
 #[cfg(test)]
+mod buffers;
+#[cfg(test)]
 mod of_command_words;
 #[cfg(test)]
 mod of_rule_list;

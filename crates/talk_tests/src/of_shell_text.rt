@@ -1,7 +1,12 @@
 //! What no clause says: that there is memory for a line, and lines from outside.
 
-use shell_text::{LineBuf, line_of, put_reply_line, put_request_line, reply_line};
-use std::test::Fail;
+ghost use Rattle.std.specs.Prelude.{◌≤◌, length};
+ghost use Rattle.tardis_base.specs.Sizes.{longest_frame};
+
+use crate::buffers::line_buffer;
+use shell_text::{LineBuf, Text, line_of, put_reply_line, put_request_line, reply_line};
+use std::alloc::Global;
+use std::process::Abort;
 use tardis_base::{Reply, Request};
 
 /// The bytes of a request and its line, with the actor 7.
@@ -65,25 +70,74 @@ const REPLIES: [(&[u8], &[u8]); 13] = [
     (&[6, 0], b""),
 ];
 
-#[test]
-fn lines_are_written_from_bytes(rt: HostRuntime) -> Result<(), Fail> {
-    let mut out = LineBuf::new(rt.alloc())?;
+/// Writes the line of a request of the actor 7.
+fn put_request(bytes: &[u8], out: &mut LineBuf)
+    requires { length bytes.now ≤ longest_frame }
+{
+    put_request_line(7, bytes, out);
+}
+
+/// Writes the line of a reply.
+fn put_reply(bytes: &[u8], out: &mut LineBuf)
+    requires { length bytes.now ≤ longest_frame }
+{
+    put_reply_line(bytes, out);
+}
+
+/// Whether the line of a request, which has at most 1,000 bytes, is this one.
+fn is_request_line(out: &mut LineBuf, bytes: &[u8], line: &[u8]) -> bool {
+    if bytes.len() > 1000 {
+        return false;
+    }
+    put_request(bytes, out);
+    out.bytes() == line
+}
+
+/// Whether the line of a reply, which has at most 1,000 bytes, is this one.
+fn is_reply_line(out: &mut LineBuf, bytes: &[u8], line: &[u8]) -> bool {
+    if bytes.len() > 1000 {
+        return false;
+    }
+    put_reply(bytes, out);
+    out.bytes() == line
+}
+
+fn check_requests(rt: &impl Abort, out: &mut LineBuf) {
     for (bytes, line) in &REQUESTS {
-        put_request_line(7, bytes, &mut out);
-        assert!(rt; out.bytes() == *line);
+        assert!(rt; is_request_line(out, bytes, line));
     }
+}
+
+fn check_replies(rt: &impl Abort, out: &mut LineBuf) {
     for (bytes, line) in &REPLIES {
-        put_reply_line(bytes, &mut out);
-        assert!(rt; out.bytes() == *line);
+        assert!(rt; is_reply_line(out, bytes, line));
     }
-    Ok(())
 }
 
 #[test]
-fn lines_have_memory(rt: HostRuntime) -> Result<(), Fail> {
-    let asked = line_of(rt.alloc(), 7, &Request::Abort)?;
+fn lines_are_written_from_bytes(rt: HostRuntime) {
+    let mut out = line_buffer(&rt, rt.alloc());
+    check_requests(&rt, &mut out);
+    check_replies(&rt, &mut out);
+    drop(out);
+}
+
+/// The line of an abort of the actor 7.
+fn asked(rt: &impl Abort, alloc: Global) -> Text {
+    line_of(alloc, 7, &Request::Abort).expect(rt, "room")
+}
+
+/// The line of a reply that something is done.
+fn answered(rt: &impl Abort, alloc: Global) -> Text {
+    reply_line(alloc, &Reply::Done).expect(rt, "room")
+}
+
+#[test]
+fn lines_have_memory(rt: HostRuntime) {
+    let asked = asked(&rt, rt.alloc());
     assert!(rt; asked.as_slice() == b"7 abort".as_slice());
-    let answered = reply_line(rt.alloc(), &Reply::Done)?;
+    drop(asked);
+    let answered = answered(&rt, rt.alloc());
     assert!(rt; answered.as_slice() == b"done".as_slice());
-    Ok(())
+    drop(answered);
 }

@@ -2,7 +2,61 @@
 
 use shell_text::{read_line, read_reply_line};
 use std::alloc::Global;
+use std::process::Abort;
 use tardis_base::ReadFault;
+
+/// Lines of requests, and the letters of what is answered.
+const REQUESTS: [(&[u8], u8); 17] = [
+    (b"10 open follow", b'r'),
+    (b"1 begin at 1.2", b'r'),
+    (b"1 put #20 #", b'r'),
+    (b"1 commit ser+kb:3", b'r'),
+    (b"1 merge 1.1 2.1", b'r'),
+    (b"1 conflicts", b'r'),
+    (b"7 getfor x 1.2", b'r'),
+    (b"0 pull 3 0", b'r'),
+    (b"0 deliver 02000200000001000200000003 00000003", b'm'),
+    (b"0 deliver 0200020000000100020000000300000003", b'r'),
+    (b"01 open", b'm'),
+    (b"1  open", b'm'),
+    (b"1 open ", b'm'),
+    (b"1 get #0A", b'm'),
+    (b"1 get #78", b'm'),
+    (b"1 commit si+ser", b'm'),
+    (b"0 pull 10000000000", b'm'),
+];
+
+/// The same of replies.
+const REPLIES: [(&[u8], u8); 25] = [
+    (b"merging 1.2 1.3", b'r'),
+    (b"merging 1.3 1.2", b'm'),
+    (b"value 1.1 #", b'r'),
+    (b"value 1.1", b'm'),
+    (b"committed 1.1 from 0.0", b'r'),
+    (b"committed 1.1 from", b'm'),
+    (b"states 2 1.2 1.3", b'r'),
+    (b"states 3 1.2 1.3", b'm'),
+    (b"keys 2 x y", b'r'),
+    (b"keys 2 y x", b'm'),
+    (b"keys 1 #78", b'm'),
+    (
+        b"stat known 1 kept 1 leaves 1 sessions 0 sites 1 0:0.0:0",
+        b'r',
+    ),
+    (b"shown 1 children 1 1.2 path 1 1.1:2", b'r'),
+    (b"shown 1 children 1 1.2 path 2 1.1:2", b'm'),
+    (b"batch 000000", b'r'),
+    (b"batch 00000", b'm'),
+    (b"batch 0000", b'm'),
+    (b"refused toomany reads 257", b'r'),
+    (b"refused toomany reads  257", b'm'),
+    (b"refused conflictkey #0a", b'r'),
+    (b"refused conflictkey #0A", b'm'),
+    (b"refused branches kb 1.1 01", b'm'),
+    (b"refused trailfull 18446744073709551615", b'r'),
+    (b"refused trailfull 18446744073709551616", b'm'),
+    (b"nomemory ", b'm'),
+];
 
 /// The first letter of what is answered: r where something was read, m for Malformed, n for want of memory.
 fn letter<T: Drop>(read: Result<T, ReadFault>) -> u8 {
@@ -13,65 +67,34 @@ fn letter<T: Drop>(read: Result<T, ReadFault>) -> u8 {
     }
 }
 
+/// The letter of a line of a request.
+fn asked(alloc: Global, line: &[u8]) -> u8 {
+    letter(read_line(alloc, line))
+}
+
+/// The letter of a line of a reply.
+fn answered(alloc: Global, line: &[u8]) -> u8 {
+    letter(read_reply_line(alloc, line))
+}
+
+fn check_requests(rt: &impl Abort, alloc: Global) {
+    for (line, want) in &REQUESTS {
+        assert!(rt; asked(alloc, line) == *want);
+    }
+}
+
 #[test]
 fn lines_of_requests_are_read(rt: HostRuntime) {
-    let alloc = rt.alloc();
-    for (line, want) in [
-        (b"10 open follow".as_slice(), b'r'),
-        (b"1 begin at 1.2", b'r'),
-        (b"1 put #20 #", b'r'),
-        (b"1 commit ser+kb:3", b'r'),
-        (b"1 merge 1.1 2.1", b'r'),
-        (b"1 conflicts", b'r'),
-        (b"7 getfor x 1.2", b'r'),
-        (b"0 pull 3 0", b'r'),
-        (b"0 deliver 02000200000001000200000003 00000003", b'm'),
-        (b"0 deliver 0200020000000100020000000300000003", b'r'),
-        (b"01 open", b'm'),
-        (b"1  open", b'm'),
-        (b"1 open ", b'm'),
-        (b"1 get #0A", b'm'),
-        (b"1 get #78", b'm'),
-        (b"1 commit si+ser", b'm'),
-        (b"0 pull 10000000000", b'm'),
-    ] {
-        assert!(rt; letter(read_line(alloc, line)) == want);
+    check_requests(&rt, rt.alloc());
+}
+
+fn check_replies(rt: &impl Abort, alloc: Global) {
+    for (line, want) in &REPLIES {
+        assert!(rt; answered(alloc, line) == *want);
     }
 }
 
 #[test]
 fn lines_of_replies_are_read(rt: HostRuntime) {
-    let alloc = rt.alloc();
-    for (line, want) in [
-        (b"merging 1.2 1.3".as_slice(), b'r'),
-        (b"merging 1.3 1.2", b'm'),
-        (b"value 1.1 #", b'r'),
-        (b"value 1.1", b'm'),
-        (b"committed 1.1 from 0.0", b'r'),
-        (b"committed 1.1 from", b'm'),
-        (b"states 2 1.2 1.3", b'r'),
-        (b"states 3 1.2 1.3", b'm'),
-        (b"keys 2 x y", b'r'),
-        (b"keys 2 y x", b'm'),
-        (b"keys 1 #78", b'm'),
-        (
-            b"stat known 1 kept 1 leaves 1 sessions 0 sites 1 0:0.0:0",
-            b'r',
-        ),
-        (b"shown 1 children 1 1.2 path 1 1.1:2", b'r'),
-        (b"shown 1 children 1 1.2 path 2 1.1:2", b'm'),
-        (b"batch 000000", b'r'),
-        (b"batch 00000", b'm'),
-        (b"batch 0000", b'm'),
-        (b"refused toomany reads 257", b'r'),
-        (b"refused toomany reads  257", b'm'),
-        (b"refused conflictkey #0a", b'r'),
-        (b"refused conflictkey #0A", b'm'),
-        (b"refused branches kb 1.1 01", b'm'),
-        (b"refused trailfull 18446744073709551615", b'r'),
-        (b"refused trailfull 18446744073709551616", b'm'),
-        (b"nomemory ", b'm'),
-    ] {
-        assert!(rt; letter(read_reply_line(alloc, line)) == want);
-    }
+    check_replies(&rt, rt.alloc());
 }

@@ -1,27 +1,35 @@
 //! What no clause says: that each call which takes memory gets it, and a few rows from outside.
 
-ghost use Rattle.std.specs.Prelude.{◌≡◌, nat_lt, nat_le, IsTrue};
+ghost use Rattle.std.specs.Prelude.{◌≡◌, ◌≤◌, length, nat_lt, nat_le, IsTrue};
 ghost use Rattle.std.proofs.Common.{ap};
 ghost use Rattle.std.proofs.lemmas.Bool.{leb-true};
+ghost use Rattle.tardis_base.specs.Sizes.{longest_frame};
 
+use crate::buffers::{frame_buffer, key, padded};
 use bitflags::Flags;
 use std::alloc::Global;
-use std::test::Fail;
+use std::process::Abort;
 use tardis_base::*;
 
-fn key(alloc: Global, bytes: &[u8]) -> Result<Key, BytesFault> {
-    Key::new(alloc, bytes)
+fn value(rt: &impl Abort, alloc: Global, bytes: &[u8]) -> Value {
+    Value::new(alloc, bytes).expect(rt, "a value")
 }
 
-fn write(alloc: Global, value: Option<&[u8]>) -> Result<Write, BytesFault> {
-    match value {
-        Some(bytes) => Ok(Write::Put(Value::new(alloc, bytes)?)),
-        None => Ok(Write::Delete),
+/// Puts these bytes, or deletes where there are none.
+fn write(rt: &impl Abort, alloc: Global, bytes: Option<&[u8]>) -> Write {
+    match bytes {
+        Some(bytes) => Write::Put(value(rt, alloc, bytes)),
+        None => Write::Delete,
     }
 }
 
+/// Writes this to the key.
+fn add(rt: &impl Abort, writes: &mut WriteSet, key: Key, write: Write) {
+    writes.insert(key, write).expect(rt, "room");
+}
+
 /// The writes a=1, ab deleted and b=2.
-fn three_writes(alloc: Global) -> Result<WriteSet, Fail> {
+fn three_writes(rt: &impl Abort, alloc: Global) -> WriteSet {
     let mut writes = WriteSet::new(alloc);
     for (bytes, value) in [
         (b"b".as_slice(), Some(b"0".as_slice())),
@@ -29,85 +37,149 @@ fn three_writes(alloc: Global) -> Result<WriteSet, Fail> {
         (b"ab", None),
         (b"b", Some(b"2")),
     ] {
-        writes.insert(key(alloc, bytes)?, write(alloc, value)?)?;
+        let write = write(rt, alloc, value);
+        add(rt, &mut writes, key(rt, alloc, bytes), write);
     }
-    Ok(writes)
+    writes
+}
+
+/// Whether the value of these bytes equals its copy.
+fn is_value_copied(rt: &impl Abort, alloc: Global, bytes: &[u8]) -> bool {
+    let value = value(rt, alloc, bytes);
+    let copy = value.copy().expect(rt, "room");
+    let is_copied = copy == value;
+    drop(copy);
+    drop(value);
+    is_copied
+}
+
+/// Whether the key of these bytes equals its copy.
+fn is_key_copied(rt: &impl Abort, alloc: Global, bytes: &[u8]) -> bool {
+    let key = key(rt, alloc, bytes);
+    let copy = key.copy().expect(rt, "room");
+    let is_copied = copy == key;
+    drop(copy);
+    drop(key);
+    is_copied
 }
 
 #[test]
-fn the_longest_key_and_value_fit(rt: HostRuntime) -> Result<(), Fail> {
+fn the_longest_key_and_value_fit(rt: HostRuntime) {
     let alloc = rt.alloc();
-    let bytes = vec![in alloc; 7u8; MAX_VALUE]?;
-    let value = Value::new(alloc, bytes.as_slice())?;
-    assert!(rt; value.copy()? == value);
-    let key = key(alloc, &[7; MAX_KEY])?;
-    assert!(rt; key.copy()? == key);
-    Ok(())
+    let bytes = padded(&rt, alloc, &[], 7, MAX_VALUE);
+    assert!(rt; is_value_copied(&rt, alloc, bytes.as_slice()));
+    drop(bytes);
+    let bytes = padded(&rt, alloc, &[], 7, MAX_KEY);
+    assert!(rt; is_key_copied(&rt, alloc, bytes.as_slice()));
+    drop(bytes);
 }
 
-#[test]
-fn keys_stand_in_order(rt: HostRuntime) -> Result<(), Fail> {
-    let alloc = rt.alloc();
+/// The keys a, ab and b, of which one is put twice.
+fn three_keys(rt: &impl Abort, alloc: Global) -> KeySet {
     let mut keys = KeySet::new(alloc);
     for bytes in [b"b".as_slice(), b"a", b"ab", b"a"] {
-        keys.insert(key(alloc, bytes)?)?;
+        keys.insert(key(rt, alloc, bytes)).expect(rt, "room");
     }
+    keys
+}
+
+fn check_keys(rt: &impl Abort, keys: &KeySet) {
     assert!(rt; keys.len() == 3);
     assert!(rt; keys.at(1).as_slice() == b"ab".as_slice());
-    Ok(())
 }
 
 #[test]
-fn the_last_write_is_read(rt: HostRuntime) -> Result<(), Fail> {
-    let alloc = rt.alloc();
-    let writes = three_writes(alloc)?;
-    assert!(rt; writes.get(&key(alloc, b"b")?) == Some(&write(alloc, Some(b"2"))?));
-    Ok(())
+fn keys_stand_in_order(rt: HostRuntime) {
+    let keys = three_keys(&rt, rt.alloc());
+    check_keys(&rt, &keys);
+    drop(keys);
+}
+
+/// Whether these bytes are put to the key.
+fn is_put(rt: &impl Abort, alloc: Global, writes: &WriteSet, of: &[u8], bytes: &[u8]) -> bool {
+    let key = key(rt, alloc, of);
+    let wanted = write(rt, alloc, Some(bytes));
+    let is_put = writes.get(&key) == Some(&wanted);
+    drop(wanted);
+    drop(key);
+    is_put
 }
 
 #[test]
-fn an_item_is_copied(rt: HostRuntime) -> Result<(), Fail> {
-    let alloc = rt.alloc();
-    let item = Item::State(Record {
+fn the_last_write_is_read(rt: HostRuntime) {
+    let writes = three_writes(&rt, rt.alloc());
+    assert!(rt; is_put(&rt, rt.alloc(), &writes, b"b", b"2"));
+    drop(writes);
+}
+
+/// A state below the root, with three writes.
+fn item(rt: &impl Abort, alloc: Global) -> Item {
+    let parents = Vec::from_slice(alloc, &[StateId::ROOT]).expect(rt, "room");
+    Item::State(Record {
         id: StateId {
             site: 1,
             sequence: 1,
         },
-        parents: ListOf::from_vec(vec![in alloc; StateId::ROOT]?),
-        writes: three_writes(alloc)?,
-    });
-    assert!(rt; item.copy()? == item);
-    Ok(())
+        parents: ListOf::from_vec(parents),
+        writes: three_writes(rt, alloc),
+    })
+}
+
+fn copied(rt: &impl Abort, item: &Item) -> Item {
+    item.copy().expect(rt, "room")
 }
 
 #[test]
-fn a_list_grows_at_its_end(rt: HostRuntime) -> Result<(), Fail> {
-    let counts = CountList::from_vec(vec![in rt.alloc(); 3, 5]?);
-    let counts = pushed(Ok(counts), Ok(8))?;
-    assert!(rt; counts.into_vec().as_slice() == [3, 5, 8].as_slice());
-    Ok(())
+fn an_item_is_copied(rt: HostRuntime) {
+    let item = item(&rt, rt.alloc());
+    let copy = copied(&rt, &item);
+    assert!(rt; copy == item);
+    drop(copy);
+    drop(item);
+}
+
+/// Two numbers, and a third that was put behind them.
+fn grown(rt: &impl Abort, alloc: Global) -> CountList {
+    let counts = CountList::from_vec(Vec::from_slice(alloc, &[3, 5]).expect(rt, "room"));
+    pushed(Ok(counts), Ok(8)).expect(rt, "room")
 }
 
 #[test]
-fn a_reply_has_its_room(rt: HostRuntime) -> Result<(), Fail> {
+fn a_list_grows_at_its_end(rt: HostRuntime) {
+    let counts = grown(&rt, rt.alloc()).into_vec();
+    assert!(rt; counts.as_slice() == [3, 5, 8].as_slice());
+    drop(counts);
+}
+
+/// Whether a buffer holds the bytes that are put there.
+fn has_room(rt: &impl Abort, alloc: Global, bytes: &[u8]) -> bool
+    requires { length bytes.now ≤ longest_frame }
+{
+    let mut out = frame_buffer(rt, alloc);
+    out.push(bytes);
+    let has_room = out.bytes() == bytes;
+    drop(out);
+    has_room
+}
+
+#[test]
+fn a_reply_has_its_room(rt: HostRuntime) {
     let alloc = rt.alloc();
-    let mut out = ReplyBuf::new(alloc)?;
-    let most = vec![in alloc; 1u8; MAX_FRAME]?;
-    out.push(most.as_slice());
-    assert!(rt; out.bytes() == most.as_slice());
-    Ok(())
+    let most = vec![in alloc; 1u8; MAX_FRAME].expect(&rt, "room");
+    assert!(rt; has_room(&rt, alloc, most.as_slice()));
+    drop(most);
 }
 
 #[test]
-fn faults_say_what_is_wrong(rt: HostRuntime) -> Result<(), Fail> {
+fn faults_say_what_is_wrong(rt: HostRuntime) {
     let state = StateId {
         site: 2,
         sequence: 15,
     };
     let fault = AddFault::PathFull { state, pairs: 9 };
-    let text = format!(in rt.alloc(); "{fault}")?;
+    let text = format!(in rt.alloc(); "{fault}").expect(&rt, "room");
     assert!(rt; text.as_str() == "the fork path of state 2.15 would have 9 pairs, too many");
-    Ok(())
+    drop(text);
 }
 
 #[test]

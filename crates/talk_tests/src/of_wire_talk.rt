@@ -1,8 +1,13 @@
 //! What no clause says: that memory suffices, and spellings from outside.
 
+ghost use Rattle.std.specs.Prelude.{◌≤◌, length};
+ghost use Rattle.tardis_base.specs.Sizes.{longest_frame};
+ghost use Rattle.wire_talk.specs.Spelled.{SpellsRequest};
+
+use crate::buffers::{frame_buffer, is_malformed, padded};
 use std::alloc::Global;
-use std::test::Fail;
-use tardis_base::{ReadFault, ReplyBuf};
+use std::process::Abort;
+use tardis_base::Request;
 use wire_talk::{read_request, write_request};
 
 /// One request of each kind, as it is spelled.
@@ -55,43 +60,79 @@ const MALFORMED: [&[u8]; 12] = [
     &[19, 0],
 ];
 
-/// Whether a request is written as it was read.
-fn is_kept(alloc: Global, bytes: &[u8]) -> Result<bool, Fail> {
-    let request = read_request(alloc, bytes)?;
-    let mut out = ReplyBuf::new(alloc)?;
-    if bytes.len() > 1000 {
-        return Ok(false);
-    }
-    write_request(&request, &mut out);
-    Ok(out.bytes() == bytes)
+/// A get of a key of 129 bytes, and a put of a value of 4,097: what they begin with, the byte that the key and the value
+/// are made of, and how many bytes there are in all.
+const LONG: [(&[u8], u8, usize); 2] = [(&[3, 129], 97, 131), (&[4, 1, 120, 16, 1], 49, 4102)];
+
+/// The request that these bytes spell.
+fn request(rt: &impl Abort, alloc: Global, bytes: &[u8]) -> Request
+    ensures { SpellsRequest bytes.now result }
+{
+    read_request(alloc, bytes).expect(rt, "a request")
 }
 
-fn is_malformed(alloc: Global, bytes: &[u8]) -> bool {
-    match read_request(alloc, bytes) {
-        Err(ReadFault::Malformed) => true,
-        _ => false,
+/// Whether a request is written as the bytes that spell it.
+fn is_written(rt: &impl Abort, alloc: Global, request: &Request, bytes: &[u8]) -> bool
+    requires spelled { SpellsRequest bytes.now request.now }
+    requires fits { length bytes.now ≤ longest_frame }
+{
+    let mut out = frame_buffer(rt, alloc);
+    write_request(request, &mut out);
+    let is_written = out.bytes() == bytes;
+    drop(out);
+    is_written
+}
+
+/// Whether a request, which has at most 1,000 bytes, is written as it was read.
+fn is_kept(rt: &impl Abort, alloc: Global, bytes: &[u8]) -> bool {
+    if bytes.len() > 1000 {
+        return false;
+    }
+    let request = request(rt, alloc, bytes);
+    let is_kept = is_written(rt, alloc, &request, bytes);
+    drop(request);
+    is_kept
+}
+
+/// Whether these bytes are told to spell no request.
+fn is_no_request(alloc: Global, bytes: &[u8]) -> bool {
+    is_malformed(read_request(alloc, bytes))
+}
+
+/// Whether these are, with one byte behind them again and again, up to so many in all.
+fn is_none_padded(rt: &impl Abort, alloc: Global, front: &[u8], byte: u8, count: usize) -> bool {
+    let bytes = padded(rt, alloc, front, byte, count);
+    let is_none = is_no_request(alloc, bytes.as_slice());
+    drop(bytes);
+    is_none
+}
+
+fn check_kept(rt: &impl Abort, alloc: Global) {
+    for bytes in &REQUESTS {
+        assert!(rt; is_kept(rt, alloc, bytes));
     }
 }
 
 #[test]
-fn requests_are_written_as_they_were_read(rt: HostRuntime) -> Result<(), Fail> {
-    for bytes in &REQUESTS {
-        assert!(rt; is_kept(rt.alloc(), bytes)?);
+fn requests_are_written_as_they_were_read(rt: HostRuntime) {
+    check_kept(&rt, rt.alloc());
+    assert!(rt; is_kept(&rt, rt.alloc(), &DELIVERY));
+}
+
+fn check_malformed(rt: &impl Abort, alloc: Global) {
+    for bytes in &MALFORMED {
+        assert!(rt; is_no_request(alloc, bytes));
     }
-    assert!(rt; is_kept(rt.alloc(), &DELIVERY)?);
-    Ok(())
+}
+
+fn check_long(rt: &impl Abort, alloc: Global) {
+    for (front, byte, count) in &LONG {
+        assert!(rt; is_none_padded(rt, alloc, front, *byte, *count));
+    }
 }
 
 #[test]
 fn other_bytes_are_malformed(rt: HostRuntime) {
-    for bytes in &MALFORMED {
-        assert!(rt; is_malformed(rt.alloc(), bytes));
-    }
-    let mut long_key = [97; 131];
-    long_key[0] = 3;
-    long_key[1] = 129;
-    assert!(rt; is_malformed(rt.alloc(), &long_key));
-    let mut long_value = [49; 4102];
-    long_value[..5].copy_from_slice(&[4, 1, 120, 16, 1]);
-    assert!(rt; is_malformed(rt.alloc(), &long_value));
+    check_malformed(&rt, rt.alloc());
+    check_long(&rt, rt.alloc());
 }

@@ -1,8 +1,13 @@
 //! What no clause says of the reader of replies: that memory suffices, and spellings from outside.
 
+ghost use Rattle.std.specs.Prelude.{◌≤◌, length};
+ghost use Rattle.tardis_base.specs.Sizes.{longest_frame};
+ghost use Rattle.wire_talk.specs.Spelled.{SpellsReply};
+
+use crate::buffers::{frame_buffer, is_malformed, padded};
 use std::alloc::Global;
-use std::test::Fail;
-use tardis_base::{ReadFault, ReplyBuf};
+use std::process::Abort;
+use tardis_base::Reply;
 use wire_talk::{read_reply, write_reply};
 
 /// One reply of each kind, as it is spelled, but for Refused.
@@ -100,57 +105,114 @@ const MALFORMED: [&[u8]; 21] = [
     &[21, 15, 1, 0, 1, 0, 0, 0, 1, 0, 0, 0, 2],
 ];
 
-/// Whether a reply is written as it was read.
-fn is_kept(alloc: Global, bytes: &[u8]) -> Result<bool, Fail> {
-    let reply = read_reply(alloc, bytes)?;
-    let mut out = ReplyBuf::new(alloc)?;
-    if bytes.len() > 2000 {
-        return Ok(false);
-    }
-    write_reply(&reply, &mut out);
-    Ok(out.bytes() == bytes)
+/// Replies that name as many as may be, 256 of 300 states and 16 site lines: what they begin with, and how many bytes there
+/// are in all. The ids and the lines are zeros.
+const GREATEST: [(&[u8], usize); 2] = [
+    (&[10, 0, 0, 1, 44, 1, 0], 1543),
+    (
+        &[14, 0, 0, 0, 0, 0, 0, 0, 0, 0, 0, 0, 0, 0, 0, 0, 0, 0, 0, 16],
+        244,
+    ),
+];
+
+/// The same that name one more, or one state too few.
+const OTHERS: [(&[u8], usize); 3] = [
+    (&[10, 0, 0, 1, 44, 1, 1], 1543),
+    (&[10, 0, 0, 1, 44, 0, 255], 1537),
+    (
+        &[14, 0, 0, 0, 0, 0, 0, 0, 0, 0, 0, 0, 0, 0, 0, 0, 0, 0, 0, 17],
+        258,
+    ),
+];
+
+/// The reply that these bytes spell.
+fn reply(rt: &impl Abort, alloc: Global, bytes: &[u8]) -> Reply
+    ensures { SpellsReply bytes.now result }
+{
+    read_reply(alloc, bytes).expect(rt, "a reply")
 }
 
-fn is_malformed(alloc: Global, bytes: &[u8]) -> bool {
-    match read_reply(alloc, bytes) {
-        Err(ReadFault::Malformed) => true,
-        _ => false,
+/// Whether a reply is written as the bytes that spell it.
+fn is_written(rt: &impl Abort, alloc: Global, reply: &Reply, bytes: &[u8]) -> bool
+    requires spelled { SpellsReply bytes.now reply.now }
+    requires fits { length bytes.now ≤ longest_frame }
+{
+    let mut out = frame_buffer(rt, alloc);
+    write_reply(reply, &mut out);
+    let is_written = out.bytes() == bytes;
+    drop(out);
+    is_written
+}
+
+/// Whether a reply, which has at most 2,000 bytes, is written as it was read.
+fn is_kept(rt: &impl Abort, alloc: Global, bytes: &[u8]) -> bool {
+    if bytes.len() > 2000 {
+        return false;
+    }
+    let reply = reply(rt, alloc, bytes);
+    let is_kept = is_written(rt, alloc, &reply, bytes);
+    drop(reply);
+    is_kept
+}
+
+/// Whether these bytes are told to spell no reply.
+fn is_no_reply(alloc: Global, bytes: &[u8]) -> bool {
+    is_malformed(read_reply(alloc, bytes))
+}
+
+fn check_kept(rt: &impl Abort, alloc: Global, rows: &[&[u8]]) {
+    for bytes in rows {
+        assert!(rt; is_kept(rt, alloc, bytes));
     }
 }
 
 #[test]
-fn replies_are_written_as_they_were_read(rt: HostRuntime) -> Result<(), Fail> {
-    for bytes in &REPLIES {
-        assert!(rt; is_kept(rt.alloc(), bytes)?);
+fn replies_are_written_as_they_were_read(rt: HostRuntime) {
+    check_kept(&rt, rt.alloc(), &REPLIES);
+    check_kept(&rt, rt.alloc(), &REFUSALS);
+}
+
+fn check_malformed(rt: &impl Abort, alloc: Global) {
+    for bytes in &MALFORMED {
+        assert!(rt; is_no_reply(alloc, bytes));
     }
-    for bytes in &REFUSALS {
-        assert!(rt; is_kept(rt.alloc(), bytes)?);
-    }
-    Ok(())
 }
 
 #[test]
 fn other_bytes_spell_no_reply(rt: HostRuntime) {
-    for bytes in &MALFORMED {
-        assert!(rt; is_malformed(rt.alloc(), bytes));
+    check_malformed(&rt, rt.alloc());
+}
+
+/// Whether the reply of these bytes, with zeros behind them up to so many in all, is written as it was read.
+fn is_padded_kept(rt: &impl Abort, alloc: Global, front: &[u8], count: usize) -> bool {
+    let bytes = padded(rt, alloc, front, 0, count);
+    let is_kept = is_kept(rt, alloc, bytes.as_slice());
+    drop(bytes);
+    is_kept
+}
+
+/// Whether such bytes are told to spell no reply.
+fn is_padded_none(rt: &impl Abort, alloc: Global, front: &[u8], count: usize) -> bool {
+    let bytes = padded(rt, alloc, front, 0, count);
+    let is_none = is_no_reply(alloc, bytes.as_slice());
+    drop(bytes);
+    is_none
+}
+
+fn check_greatest(rt: &impl Abort, alloc: Global) {
+    for (front, count) in &GREATEST {
+        assert!(rt; is_padded_kept(rt, alloc, front, *count));
     }
 }
 
-/// Of 300 states 256 stand in the reply, and of site lines 16 at most. The ids and the lines are zeros.
+fn check_others(rt: &impl Abort, alloc: Global) {
+    for (front, count) in &OTHERS {
+        assert!(rt; is_padded_none(rt, alloc, front, *count));
+    }
+}
+
 #[test]
-fn lists_have_their_greatest_number(rt: HostRuntime) -> Result<(), Fail> {
-    let mut states = [0; 1543];
-    states[..7].copy_from_slice(&[10, 0, 0, 1, 44, 1, 0]);
-    assert!(rt; is_kept(rt.alloc(), &states)?);
-    states[6] = 1;
-    assert!(rt; is_malformed(rt.alloc(), &states));
-    states[..7].copy_from_slice(&[10, 0, 0, 1, 44, 0, 255]);
-    assert!(rt; is_malformed(rt.alloc(), &states[..1537]));
-    let mut statistics = [0; 258];
-    statistics[0] = 14;
-    statistics[19] = 16;
-    assert!(rt; is_kept(rt.alloc(), &statistics[..244])?);
-    statistics[19] = 17;
-    assert!(rt; is_malformed(rt.alloc(), &statistics));
-    Ok(())
+fn lists_have_their_greatest_number(rt: HostRuntime) {
+    check_greatest(&rt, rt.alloc());
+    check_others(&rt, rt.alloc());
 }
