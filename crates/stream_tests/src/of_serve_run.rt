@@ -4,16 +4,17 @@ use serve_pool::PoolEnd;
 use serve_run::{ServeEnd, ServeOptions, Serving, serve_links};
 use site_sync::Rounds;
 use std::alloc::Global;
+use std::process::Abort;
 use std::sync::Wait;
-use std::test::Fail;
 use std::thread::Threads;
 use tardis_io::{
     Dial, Gate, MemoryDial, MemoryGate, MemoryLink, MemorySink, MemorySource, Sink, WriteFault,
 };
 
 /// A batch of one record.
-const ONE: &[u8] =
-    b"\x00\x00\x00\x18\x10\x00\x01\x00\x02\x00\x00\x00\x01\x01\x00\x00\x00\x00\x00\x00\x01\x01\x61\x01\x00\x01\x31\x00";
+const ONE: &[u8] = b"\x00\x00\x00\x18\
+\x10\x00\x01\x00\x02\x00\x00\x00\x01\x01\x00\x00\x00\x00\x00\x00\
+\x01\x01\x61\x01\x00\x01\x31\x00";
 
 /// Which takes and gives of each peer's link fail, and which calls of the dial.
 #[derive(Clone, Copy)]
@@ -29,19 +30,38 @@ const WELL: Failing<'static> = Failing {
     calls: &[],
 };
 
-/// A dial to two peers, each of which sends a batch of one record.
-fn dial(alloc: Global, failing: Failing<'_>) -> Result<MemoryDial<MemoryLink>, Fail> {
-    let mut peers = Vec::new(alloc);
-    for _ in 0..2 {
-        let source = MemorySource::new(alloc, ONE, 16, failing.takes)?;
-        let sink = MemorySink::new(alloc, 100, 8, failing.gives)?;
-        peers.push(MemoryLink::new(source, sink))?;
-    }
-    Ok(MemoryDial::new(alloc, peers, failing.calls)?)
+/// What a peer sends, where these takes fail.
+fn source_of(rt: &impl Abort, alloc: Global, failing: &[u64]) -> MemorySource {
+    MemorySource::new(alloc, ONE, 16, failing).expect(rt, "room")
 }
 
-/// How many links there are, which calls of the gate, of the peers and of the output fail, how large the trail may be, and
-/// how many rounds are made, with a collection or without.
+/// An output with room for so many bytes, in pieces of so many, where these gives fail.
+fn sink_of(rt: &impl Abort, alloc: Global, room: u32, piece: u32, failing: &[u64]) -> MemorySink {
+    MemorySink::new(alloc, room, piece.max(1), failing).expect(rt, "room")
+}
+
+/// The link of a peer.
+fn peer(rt: &impl Abort, alloc: Global, failing: Failing<'_>) -> MemoryLink {
+    let source = source_of(rt, alloc, failing.takes);
+    let sink = sink_of(rt, alloc, 100, 8, failing.gives);
+    MemoryLink::new(source, sink)
+}
+
+/// The links of two peers, each of which sends a batch of one record.
+fn two_peers(rt: &impl Abort, alloc: Global, failing: Failing<'_>) -> Vec<MemoryLink> {
+    let one = peer(rt, alloc, failing);
+    let other = peer(rt, alloc, failing);
+    vec![in alloc; one, other].expect(rt, "room")
+}
+
+/// A dial to two peers.
+fn dial_of(rt: &impl Abort, alloc: Global, failing: Failing<'_>) -> MemoryDial<MemoryLink> {
+    let links = two_peers(rt, alloc, failing);
+    MemoryDial::new(alloc, links, failing.calls).expect(rt, "room")
+}
+
+/// How many links there are, which calls of the gate, of the peers and of the output fail, how large
+/// the trail may be, and how many rounds are made, with a collection or without.
 #[derive(Clone, Copy)]
 struct Row<'a> {
     there: usize,
@@ -88,13 +108,36 @@ fn served(gate: PoolEnd, dial: u32, written: Result<(), WriteFault>) -> ServeEnd
     })
 }
 
-/// A gate of so many links, of which these calls fail.
-fn gate(alloc: Global, there: usize, failing: &[u64]) -> Result<MemoryGate<MemoryLink>, Fail> {
+/// Puts the link of a client behind these.
+fn push_client(rt: &impl Abort, alloc: Global, links: &mut Vec<MemoryLink>) {
+    let link = client(alloc).expect(rt, "room");
+    links.push(link).expect(rt, "room");
+}
+
+/// The links of so many clients.
+fn clients(rt: &impl Abort, alloc: Global, there: usize) -> Vec<MemoryLink> {
     let mut links = Vec::new(alloc);
     for _ in 0..there {
-        links.push(client(alloc)?)?;
+        push_client(rt, alloc, &mut links);
     }
-    Ok(MemoryGate::new(alloc, links, failing)?)
+    links
+}
+
+/// A gate of so many links, of which these calls fail.
+fn gate_of(
+    rt: &impl Abort,
+    alloc: Global,
+    there: usize,
+    failing: &[u64],
+) -> MemoryGate<MemoryLink> {
+    let links = clients(rt, alloc, there);
+    MemoryGate::new(alloc, links, failing).expect(rt, "room")
+}
+
+/// The address of the peers.
+fn addresses(rt: &impl Abort, alloc: Global) -> Vec<String> {
+    let address = String::from_str(alloc, "unix:p").expect(rt, "room");
+    vec![in alloc; address].expect(rt, "room")
 }
 
 /// Serves up to two links, and makes up to two rounds with up to 15 peers.
@@ -126,42 +169,67 @@ fn serve<G: Gate, D: Dial + Send, O: Sink, R: Threads + Wait + Sync>(
     )
 }
 
-/// How serving up to two links ends, and what is written of the trail.
-fn serve_row<R: Threads + Wait + Sync>(
-    alloc: Global,
+/// How serving ends over these devices.
+fn serve_over<G: Gate, D: Dial + Send, O: Sink, R: Threads + Wait + Sync + Abort>(
     rt: &R,
+    alloc: Global,
     row: Row<'_>,
-) -> Result<(ServeEnd, Vec<u8>), Fail> {
-    let mut gate = gate(alloc, row.there, row.gate)?;
-    let mut dial = dial(alloc, row.peers)?;
-    let mut output = MemorySink::new(alloc, 1_000, 1_000, row.output)?;
-    let peers = vec![in alloc; String::from_str(alloc, "unix:p")?]?;
-    let end = serve(
-        alloc,
-        rt,
-        row,
-        peers.as_slice(),
-        &mut gate,
-        &mut dial,
-        &mut output,
-    );
-    Ok((end, Vec::from_slice(alloc, output.bytes())?))
+    gate: &mut G,
+    dial: &mut D,
+    output: &mut O,
+) -> ServeEnd {
+    let peers = addresses(rt, alloc);
+    let end = serve(alloc, rt, row, peers.as_slice(), gate, dial, output);
+    drop(peers);
+    end
+}
+
+/// How serving up to two links ends, with the trail on this output.
+fn serve_row<O: Sink, R: Threads + Wait + Sync + Abort>(
+    rt: &R,
+    alloc: Global,
+    row: Row<'_>,
+    output: &mut O,
+) -> ServeEnd {
+    let mut gate = gate_of(rt, alloc, row.there, row.gate);
+    let mut dial = dial_of(rt, alloc, row.peers);
+    let end = serve_over(rt, alloc, row, &mut gate, &mut dial, output);
+    drop(gate);
+    drop(dial);
+    end
 }
 
 /// Whether serving so ends so, and so many bytes of the trail are written.
-fn comes_to<R: Threads + Wait + Sync>(
-    alloc: Global,
+fn comes_to<R: Threads + Wait + Sync + Abort>(
     rt: &R,
+    alloc: Global,
     row: Row<'_>,
     end: ServeEnd,
     length: usize,
-) -> Result<bool, Fail> {
-    let (ended, bytes) = serve_row(alloc, rt, row)?;
-    Ok(ended == end && bytes.len() == length)
+) -> bool {
+    let mut output = sink_of(rt, alloc, 1_000, 1_000, row.output);
+    let ended = serve_row(rt, alloc, row, &mut output);
+    let is_right = ended == end && output.bytes().len() == length;
+    drop(output);
+    is_right
+}
+
+/// Whether serving so writes this trail.
+fn writes<R: Threads + Wait + Sync + Abort>(
+    rt: &R,
+    alloc: Global,
+    row: Row<'_>,
+    trail: &[u8],
+) -> bool {
+    let mut output = sink_of(rt, alloc, 1_000, 1_000, row.output);
+    serve_row(rt, alloc, row, &mut output);
+    let is_right = output.bytes() == trail;
+    drop(output);
+    is_right
 }
 
 #[test]
-fn a_server_writes_its_trail_and_tells_what_failed_first(rt: HostRuntime) -> Result<(), Fail> {
+fn a_server_writes_its_trail_and_tells_what_failed_first(rt: HostRuntime) {
     let rows = [
         (serves(3), served(PoolEnd::Done, 0, Ok(())), 46),
         (
@@ -210,14 +278,14 @@ fn a_server_writes_its_trail_and_tells_what_failed_first(rt: HostRuntime) -> Res
         ),
     ];
     for (row, end, length) in rows {
-        assert!(rt; comes_to(rt.alloc(), &rt, row, end, length)?);
+        assert!(rt; comes_to(&rt, rt.alloc(), row, end, length));
     }
-    Ok(())
 }
 
 #[test]
-fn a_peer_that_fails_ends_its_exchange_alone(rt: HostRuntime) -> Result<(), Fail> {
-    // each take and each give of both links fails in turn, and each call: 23 bytes are those of the link's session
+fn a_peer_that_fails_ends_its_exchange_alone(rt: HostRuntime) {
+    // each take and each give of both links fails in turn, and each call: 23 bytes are those of the
+    // link's session
     let rows: [(&[u64], &[u64], &[u64], u32, usize); 7] = [
         (&[1], &[], &[], 0, 37),
         (&[2], &[], &[], 0, 37),
@@ -234,16 +302,16 @@ fn a_peer_that_fails_ends_its_exchange_alone(rt: HostRuntime) -> Result<(), Fail
             calls,
         };
         let end = served(PoolEnd::Done, failed, Ok(()));
-        assert!(rt; comes_to(rt.alloc(), &rt, syncs(failing, false), end, length)?);
+        assert!(rt; comes_to(&rt, rt.alloc(), syncs(failing, false), end, length));
     }
-    Ok(())
 }
 
+/// The frames of two requests of actor 1, and of its Close.
+const TRAIL: &[u8] = b"\x00\x00\x00\x04\x00\x01\x01\x00\
+\x00\x00\x00\x04\x00\x01\x02\x00\
+\x00\x00\x00\x03\x00\x01\x15";
+
 #[test]
-fn the_trail_has_the_requests_of_its_link(rt: HostRuntime) -> Result<(), Fail> {
-    let (_, bytes) = serve_row(rt.alloc(), &rt, serves(1))?;
-    let trail =
-        b"\x00\x00\x00\x04\x00\x01\x01\x00\x00\x00\x00\x04\x00\x01\x02\x00\x00\x00\x00\x03\x00\x01\x15";
-    assert!(rt; bytes.as_slice() == trail.as_slice());
-    Ok(())
+fn the_trail_has_the_requests_of_its_link(rt: HostRuntime) {
+    assert!(rt; writes(&rt, rt.alloc(), serves(1), TRAIL));
 }
