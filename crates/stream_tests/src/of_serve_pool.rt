@@ -1,6 +1,6 @@
 ghost use Rattle.std.specs.Prelude.{◌≡◌, ◌+◌, ◌%◌, ◌<◌, ◌≤◌, [], ◌∷◌, ℕ, None, false, true, refl};
 ghost use Rattle.std.proofs.Common.{ap};
-ghost use Rattle.dag_lock.specs.Named.{lock_id};
+ghost use Rattle.dag_lock.specs.Named.{lock_id, pieces_of};
 ghost use Rattle.dag_lock.specs.Steps.{Keeps};
 
 use crate::counters::Counter;
@@ -9,11 +9,12 @@ use crate::locks::{closed, locked, written};
 use dag_lock::{DagLock, Pass};
 use serve_pool::{PoolEnd, Served, serve_all};
 use std::alloc::Global;
+use std::process::Abort;
 use std::sync::Wait;
 use std::sync::atomic::{AtomicU64, Ordering};
-use std::test::Fail;
 use std::thread::Threads;
 use tardis_io::{Duplex, Failed, Gate, Link, MemoryGate, MemoryLink, Sink};
+use trail_log::Trailed;
 
 /// The pieces of the pass: one more than the links of any row, at least.
 const PIECES: u32 = 10;
@@ -37,21 +38,40 @@ fn serve<G: Gate, R: Threads + Wait + Sync>(
     serve_all(alloc, rt, lock, pass, gate, first, links)
 }
 
-/// What serving comes to under a lock of its own, and what is written of the trail then.
-fn serve_locked<G: Gate, R: Threads + Wait + Sync>(
-    alloc: Global,
+/// A lock over a machine that counts, and the pass with all its pieces.
+fn opened(rt: &impl Abort, alloc: Global) -> (DagLock<Counter>, Pass)
+    ensures lock { result.1.lock ≡ lock_id result.0 }
+    ensures pieces { result.1.pieces ≡ 10 }
+    ensures whole { pieces_of result.0 ≡ 10 }
+{
+    locked(alloc, Counter { acts: 0 }, 1_000, PIECES).expect(rt, "room")
+}
+
+/// How many bytes are written of a trail.
+fn length_of(rt: &impl Abort, alloc: Global, trail: Trailed<Counter>) -> usize {
+    let bytes = written(alloc, &trail).expect(rt, "room");
+    let length = bytes.len();
+    drop(bytes);
+    drop(trail);
+    length
+}
+
+/// What serving comes to under a lock of its own, and how many bytes are written of the trail then.
+fn serve_locked<G: Gate, R: Threads + Wait + Sync + Abort>(
     rt: &R,
+    alloc: Global,
     gate: &mut G,
     first: u16,
     links: u16,
-) -> Result<(Served, Vec<u8>), Fail> {
-    let (lock, pass) = locked(alloc, Counter { acts: 0 }, 1_000, PIECES)?;
+) -> (Served, usize) {
+    let (lock, pass) = opened(rt, alloc);
     let (pass, served) = serve(alloc, rt, &lock, pass, gate, first, links);
-    Ok((served, written(alloc, &closed(lock, pass))?))
+    let length = length_of(rt, alloc, closed(lock, pass));
+    (served, length)
 }
 
-/// How many links there are, which calls of the gate fail, the first number and how many links may be taken; and what
-/// serving comes to.
+/// How many links there are, which calls of the gate fail, the first number and how many links may
+/// be taken; and what serving comes to.
 #[derive(Drop)]
 struct Row<'a> {
     there: usize,
@@ -80,16 +100,33 @@ fn expects(
     }
 }
 
-/// A gate of so many links, of which these calls fail.
-fn gate(alloc: Global, there: usize, failing: &[u64]) -> Result<MemoryGate<MemoryLink>, Fail> {
-    let mut links = Vec::new(alloc);
-    for _ in 0..there {
-        links.push(client(alloc)?)?;
-    }
-    Ok(MemoryGate::new(alloc, links, failing)?)
+/// Puts the link of a client behind these.
+fn push_client(rt: &impl Abort, alloc: Global, links: &mut Vec<MemoryLink>) {
+    let link = client(alloc).expect(rt, "room");
+    links.push(link).expect(rt, "room");
 }
 
-/// Whether the links were put back, the last of them first, with the numbers from `first` on, each given two replies.
+/// The links of so many clients.
+fn clients(rt: &impl Abort, alloc: Global, there: usize) -> Vec<MemoryLink> {
+    let mut links = Vec::new(alloc);
+    for _ in 0..there {
+        push_client(rt, alloc, &mut links);
+    }
+    links
+}
+
+/// A gate of these links, of which these calls fail.
+fn gate_of<L: Link>(
+    rt: &impl Abort,
+    alloc: Global,
+    links: Vec<L>,
+    failing: &[u64],
+) -> MemoryGate<L> {
+    MemoryGate::new(alloc, links, failing).expect(rt, "room")
+}
+
+/// Whether the links were put back, the last of them first, with the numbers from `first` on, each
+/// given two replies.
 fn are_back(back: &[(u16, MemoryLink)], first: u16, taken: u16) -> bool {
     let mut next = u32::from(first) + u32::from(taken);
     for (number, link) in back {
@@ -101,24 +138,28 @@ fn are_back(back: &[(u16, MemoryLink)], first: u16, taken: u16) -> bool {
     next == u32::from(first)
 }
 
-/// Whether serving comes to what the row says, with two requests and a Close of each session in the trail.
-fn comes_to<R: Threads + Wait + Sync>(alloc: Global, rt: &R, row: &Row<'_>) -> Result<bool, Fail> {
-    let mut gate = gate(alloc, row.there, row.failing)?;
-    let (served, trail) = serve_locked(alloc, rt, &mut gate, row.first, row.links)?;
+/// Whether the row says that serving comes to this, with two requests and a Close of each session
+/// in a trail of so many bytes.
+fn is_told(row: &Row<'_>, served: Served, length: usize) -> bool {
     let want = Served {
         taken: row.taken,
         unserved: 0,
         end: row.end,
     };
-    Ok(
-        served == want
-            && are_back(gate.back(), row.first, row.taken)
-            && trail.len() == usize::from(row.taken) * 23,
-    )
+    served == want && length == usize::from(row.taken) * 23
+}
+
+/// Whether serving comes to what the row says.
+fn comes_to<R: Threads + Wait + Sync + Abort>(rt: &R, alloc: Global, row: &Row<'_>) -> bool {
+    let mut gate = gate_of(rt, alloc, clients(rt, alloc, row.there), row.failing);
+    let (served, length) = serve_locked(rt, alloc, &mut gate, row.first, row.links);
+    let are_back = are_back(gate.back(), row.first, row.taken);
+    drop(gate);
+    are_back && is_told(row, served, length)
 }
 
 #[test]
-fn each_link_is_served_once_and_put_back_with_its_number(rt: HostRuntime) -> Result<(), Fail> {
+fn each_link_is_served_once_and_put_back_with_its_number(rt: HostRuntime) {
     let rows = [
         expects(2, &[], 1, 2, 2, PoolEnd::Done),
         expects(4, &[], 65_533, 3, 3, PoolEnd::Done),
@@ -128,9 +169,8 @@ fn each_link_is_served_once_and_put_back_with_its_number(rt: HostRuntime) -> Res
         expects(2, &[], 1, 0, 0, PoolEnd::Done),
     ];
     for row in rows {
-        assert!(rt; comes_to(rt.alloc(), &rt, &row)?);
+        assert!(rt; comes_to(&rt, rt.alloc(), &row));
     }
-    Ok(())
 }
 
 /// A link that gives its second request only when the other link was given a reply.
@@ -208,29 +248,30 @@ impl Link for Waiting<'_> {
 
 /// A link that waits for the other link.
 fn that_waits<'a>(
+    rt: &impl Abort,
     alloc: Global,
     own: &'a AtomicU64,
     other: &'a AtomicU64,
-) -> Result<Waiting<'a>, Fail> {
-    Ok(Waiting {
-        link: client(alloc)?,
+) -> Waiting<'a> {
+    Waiting {
+        link: client(alloc).expect(rt, "room"),
         takes: 0,
         faults: 0,
         own,
         other,
-    })
+    }
 }
 
-/// A gate of two links that wait for each other.
-fn waiting_gate<'a>(
+/// Two links that wait for each other.
+fn both<'a>(
+    rt: &impl Abort,
     alloc: Global,
     one: &'a AtomicU64,
     other: &'a AtomicU64,
-) -> Result<MemoryGate<Waiting<'a>>, Fail> {
-    let mut links = Vec::new(alloc);
-    links.push(that_waits(alloc, one, other)?)?;
-    links.push(that_waits(alloc, other, one)?)?;
-    Ok(MemoryGate::new(alloc, links, &[])?)
+) -> Vec<Waiting<'a>> {
+    let first = that_waits(rt, alloc, one, other);
+    let second = that_waits(rt, alloc, other, one);
+    vec![in alloc; first, second].expect(rt, "room")
 }
 
 /// Whether so many links were put back, each without a fault and given two replies.
@@ -243,12 +284,25 @@ fn have_waited(back: &[(u16, Waiting<'_>)], count: usize) -> bool {
     back.len() == count
 }
 
+/// How many of both links are taken, and whether both have waited.
+fn serve_both<R: Threads + Wait + Sync + Abort>(
+    rt: &R,
+    alloc: Global,
+    one: &AtomicU64,
+    other: &AtomicU64,
+) -> (u16, bool) {
+    let mut gate = gate_of(rt, alloc, both(rt, alloc, one, other), &[]);
+    let (served, _) = serve_locked(rt, alloc, &mut gate, 1, 2);
+    let have_waited = have_waited(gate.back(), 2);
+    drop(gate);
+    (served.taken, have_waited)
+}
+
 #[test]
-fn two_links_are_served_at_the_same_time(rt: HostRuntime) -> Result<(), Fail> {
-    let (one, other) = (AtomicU64::new(0), AtomicU64::new(0));
-    let mut gate = waiting_gate(rt.alloc(), &one, &other)?;
-    let (served, _) = serve_locked(rt.alloc(), &rt, &mut gate, 1, 2)?;
-    assert_eq!(rt; served.taken, 2);
-    assert!(rt; have_waited(gate.back(), 2));
-    Ok(())
+fn two_links_are_served_at_the_same_time(rt: HostRuntime) {
+    let one = AtomicU64::new(0);
+    let other = AtomicU64::new(0);
+    let (taken, have_waited) = serve_both(&rt, rt.alloc(), &one, &other);
+    assert_eq!(rt; taken, 2);
+    assert!(rt; have_waited);
 }

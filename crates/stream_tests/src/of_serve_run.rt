@@ -60,8 +60,8 @@ fn dial_of(rt: &impl Abort, alloc: Global, failing: Failing<'_>) -> MemoryDial<M
     MemoryDial::new(alloc, links, failing.calls).expect(rt, "room")
 }
 
-/// How many links there are, which calls of the gate, of the peers and of the output fail, how large
-/// the trail may be, and how many rounds are made, with a collection or without.
+/// How many links there are, which calls of the gate, of the peers and of the output fail, how
+/// large the trail may be, and how many rounds are made, with a collection or without.
 #[derive(Clone, Copy)]
 struct Row<'a> {
     there: usize,
