@@ -1,5 +1,5 @@
 ghost use Rattle.std.specs.Prelude.{◌≡◌, ◌+◌, ◌%◌, [], ◌∷◌, ℕ, false};
-ghost use Rattle.dag_lock.specs.Named.{lock_id};
+ghost use Rattle.dag_lock.specs.Named.{lock_id, pieces_of};
 ghost use Rattle.dag_lock.specs.Steps.{Keeps};
 
 use crate::counters::Counter;
@@ -7,12 +7,13 @@ use crate::locks::{closed, locked, written};
 use dag_lock::{DagLock, Pass};
 use session_serve::{SessionEnd, serve_session, sessions_last};
 use std::alloc::Global;
+use std::process::Abort;
 use std::sync::Wait;
-use std::test::Fail;
 use tardis_io::{Link, MemoryLink, MemorySink, MemorySource};
+use trail_log::Trailed;
 
-/// What a link sends, the takes and gives that fail, and how much trail there may be; how session 7 ends over it, what
-/// the link is given, and the trail.
+/// What a link sends, the takes and gives that fail, and how much trail there may be; how session 7
+/// ends over it, what the link is given, and the trail.
 #[derive(Drop)]
 struct Row<'a> {
     sent: &'a [u8],
@@ -24,6 +25,11 @@ struct Row<'a> {
 }
 
 const TALK: &[u8] = b"\x00\x00\x00\x02\x01\x00\x00\x00\x00\x02\x02\x00";
+
+/// The frames of both requests, and of the Close.
+const TALK_TRAIL: &[u8] = b"\x00\x00\x00\x04\x00\x07\x01\x00\
+\x00\x00\x00\x04\x00\x07\x02\x00\
+\x00\x00\x00\x03\x00\x07\x15";
 
 const CLOSED: &[u8] = b"\x00\x00\x00\x03\x00\x07\x15";
 
@@ -41,29 +47,66 @@ fn serve<L: Link, R: Wait>(
     serve_session(alloc, rt, lock, pass, 7, link)
 }
 
-/// How the session ends under a lock of its own, and what is written of the trail then.
-fn served<R: Wait>(
-    alloc: Global,
+/// A lock over a machine that counts, whose trail may have so many bytes, and the pass.
+fn opened(rt: &impl Abort, alloc: Global, most: u64) -> (DagLock<Counter>, Pass)
+    ensures lock { result.1.lock ≡ lock_id result.0 }
+    ensures pieces { result.1.pieces ≡ 1 }
+    ensures whole { pieces_of result.0 ≡ 1 }
+{
+    locked(alloc, Counter { acts: 0 }, most, 1).expect(rt, "room")
+}
+
+/// Whether these are the bytes that are written of a trail.
+fn is_written(rt: &impl Abort, alloc: Global, trail: Trailed<Counter>, bytes: &[u8]) -> bool {
+    let text = written(alloc, &trail).expect(rt, "room");
+    let is_right = text.as_slice() == bytes;
+    drop(text);
+    drop(trail);
+    is_right
+}
+
+/// How the session ends under a lock of its own, and whether this is written of the trail then.
+fn serve_locked<L: Link, R: Wait + Abort>(
     rt: &R,
+    alloc: Global,
     most: u64,
-    link: &mut MemoryLink,
-) -> Result<(SessionEnd, Vec<u8>), Fail> {
-    let (lock, pass) = locked(alloc, Counter { acts: 0 }, most, 1)?;
+    link: &mut L,
+    trail: &[u8],
+) -> (SessionEnd, bool) {
+    let (lock, pass) = opened(rt, alloc, most);
     let (pass, end) = serve(alloc, rt, &lock, pass, link);
-    Ok((end, written(alloc, &closed(lock, pass))?))
+    let is_written = is_written(rt, alloc, closed(lock, pass), trail);
+    (end, is_written)
+}
+
+/// What a link sends, where these takes fail.
+fn source_of(rt: &impl Abort, alloc: Global, sent: &[u8], failing: &[u64]) -> MemorySource {
+    MemorySource::new(alloc, sent, 65_536, failing).expect(rt, "room")
+}
+
+/// What a link is given, where these gives fail.
+fn sink_of(rt: &impl Abort, alloc: Global, failing: &[u64]) -> MemorySink {
+    MemorySink::new(alloc, 100, 100, failing).expect(rt, "room")
+}
+
+/// The link of a row.
+fn link_of(rt: &impl Abort, alloc: Global, row: &Row<'_>) -> MemoryLink {
+    let source = source_of(rt, alloc, row.sent, row.failing.0);
+    let sink = sink_of(rt, alloc, row.failing.1);
+    MemoryLink::new(source, sink)
 }
 
 /// Whether the session comes to what the row says.
-fn comes_to<R: Wait>(alloc: Global, rt: &R, row: &Row<'_>) -> Result<bool, Fail> {
-    let source = MemorySource::new(alloc, row.sent, 65_536, row.failing.0)?;
-    let sink = MemorySink::new(alloc, 100, 100, row.failing.1)?;
-    let mut link = MemoryLink::new(source, sink);
-    let (end, trail) = served(alloc, rt, row.most, &mut link)?;
-    Ok(end == row.end && link.sink().bytes() == row.given && trail.as_slice() == row.trail)
+fn comes_to<R: Wait + Abort>(rt: &R, alloc: Global, row: &Row<'_>) -> bool {
+    let mut link = link_of(rt, alloc, row);
+    let (end, is_written) = serve_locked(rt, alloc, row.most, &mut link, row.trail);
+    let is_given = link.sink().bytes() == row.given;
+    drop(link);
+    end == row.end && is_given && is_written
 }
 
 #[test]
-fn a_session_ends_as_its_link_does_and_closes(rt: HostRuntime) -> Result<(), Fail> {
+fn a_session_ends_as_its_link_does_and_closes(rt: HostRuntime) {
     let rows = [
         Row {
             sent: TALK,
@@ -71,7 +114,7 @@ fn a_session_ends_as_its_link_does_and_closes(rt: HostRuntime) -> Result<(), Fai
             most: 100,
             end: SessionEnd::Ended,
             given: b"\x00\x00\x00\x01\x00\x00\x00\x00\x01\x01",
-            trail: b"\x00\x00\x00\x04\x00\x07\x01\x00\x00\x00\x00\x04\x00\x07\x02\x00\x00\x00\x00\x03\x00\x07\x15",
+            trail: TALK_TRAIL,
         },
         // the trail has no room for the second request, nor for Close
         Row {
@@ -118,7 +161,6 @@ fn a_session_ends_as_its_link_does_and_closes(rt: HostRuntime) -> Result<(), Fai
     ];
     sessions_last::<Counter>();
     for row in rows {
-        assert!(rt; comes_to(rt.alloc(), &rt, &row)?);
+        assert!(rt; comes_to(&rt, rt.alloc(), &row));
     }
-    Ok(())
 }
