@@ -3,7 +3,7 @@ ghost use Rattle.std.specs.Prelude.{◌≤◌, IfOk};
 use std::alloc::Global;
 use std::io;
 use std::io::{Error, ErrorKind, Read, Write};
-use std::test::Fail;
+use std::process::Abort;
 use tardis_base::StateId;
 use tardis_io::{
     CountSink, Dial, Duplex, Failed, Gate, Link, MemoryDial, MemoryGate, MemoryLink, MemorySink,
@@ -11,8 +11,48 @@ use tardis_io::{
     WriteFault, WriterSink, write_all,
 };
 
+/// An input of these bytes, of which at most so many are taken at once, and these takes fail.
+fn source_of(
+    rt: &impl Abort,
+    alloc: Global,
+    bytes: &[u8],
+    piece: u32,
+    failing: &[u64],
+) -> MemorySource {
+    MemorySource::new(alloc, bytes, piece.max(1), failing).expect(rt, "room")
+}
+
+/// An output with so much room, to which at most so many bytes are given at once, and these gives
+/// fail.
+fn sink_of(rt: &impl Abort, alloc: Global, room: u32, piece: u32, failing: &[u64]) -> MemorySink {
+    MemorySink::new(alloc, room, piece.max(1), failing).expect(rt, "room")
+}
+
+/// An input of these bytes that never fails.
+fn steady_source(rt: &impl Abort, alloc: Global, bytes: &[u8]) -> SteadySource {
+    SteadySource::new(alloc, bytes).expect(rt, "room")
+}
+
+/// Whether a take into the buffer, which must have room, answers this.
+fn takes<S: Source>(source: &mut S, buf: &mut [u8], want: Result<usize, Failed>) -> bool {
+    !buf.is_empty() && source.take(buf) == want
+}
+
+/// Whether a give of these bytes, which must be some, answers this.
+fn gives<O: Sink>(sink: &mut O, bytes: &[u8], want: Result<usize, Failed>) -> bool {
+    !bytes.is_empty() && sink.give(bytes) == want
+}
+
+/// Whether the line of the status is this.
+fn is_told(rt: &impl Abort, alloc: Global, status: Status, want: &str) -> bool {
+    let line = format!(in alloc; "{status}").expect(rt, "room");
+    let is_this = line.as_str() == want;
+    drop(line);
+    is_this
+}
+
 #[test]
-fn numbers_and_lines_of_the_statuses(rt: HostRuntime) -> Result<(), Fail> {
+fn numbers_and_lines_of_the_statuses(rt: HostRuntime) {
     let statuses = [
         (Status::Ok, 0, ""),
         (Status::Usage, 1, "usage: tardis COMMAND OPTIONS"),
@@ -39,17 +79,15 @@ fn numbers_and_lines_of_the_statuses(rt: HostRuntime) -> Result<(), Fail> {
         ),
     ];
     for (status, number, want) in statuses {
-        let line = format!(in rt.alloc(); "{status}")?;
-        assert_eq!(rt; line.as_str(), want);
+        assert!(rt; is_told(&rt, rt.alloc(), status, want), "status {number}");
         assert_eq!(rt; status.number(), number);
     }
-    Ok(())
 }
 
 #[test]
-fn a_source_in_memory_fails_at_the_listed_calls(rt: HostRuntime) -> Result<(), Fail> {
-    let mut source = MemorySource::new(rt.alloc(), b"abcde", 2, &[2, 4])?;
-    let takes = [
+fn a_source_in_memory_fails_at_the_listed_calls(rt: HostRuntime) {
+    let mut source = source_of(&rt, rt.alloc(), b"abcde", 2, &[2, 4]);
+    let rows = [
         (Ok(2), "cde"),
         (Err(Failed), "cde"),
         (Ok(2), "e"),
@@ -58,60 +96,65 @@ fn a_source_in_memory_fails_at_the_listed_calls(rt: HostRuntime) -> Result<(), F
         (Ok(0), ""),
     ];
     let mut buf = [0u8; 16];
-    for (want, left) in takes {
-        assert!(rt; source.take(&mut buf) == want);
+    for (want, left) in rows {
+        assert!(rt; takes(&mut source, &mut buf, want));
         assert!(rt; source.left() == left.as_bytes());
     }
-    Ok(())
+    drop(source);
 }
 
 #[test]
-fn a_sink_in_memory_fails_at_the_listed_calls_and_when_it_is_full(
-    rt: HostRuntime,
-) -> Result<(), Fail> {
-    let mut sink = MemorySink::new(rt.alloc(), 5, 3, &[1])?;
-    let gives = [
+fn a_sink_in_memory_fails_at_the_listed_calls_and_when_it_is_full(rt: HostRuntime) {
+    let mut sink = sink_of(&rt, rt.alloc(), 5, 3, &[1]);
+    let rows = [
         (Err(Failed), ""),
         (Ok(3), "abc"),
         (Ok(2), "abcab"),
         (Err(Failed), "abcab"),
     ];
-    for (want, given) in gives {
-        assert!(rt; sink.give(b"abcd") == want);
+    for (want, given) in rows {
+        assert!(rt; gives(&mut sink, b"abcd", want));
         assert!(rt; sink.bytes() == given.as_bytes());
     }
-    Ok(())
+    drop(sink);
 }
 
 #[test]
-fn a_steady_source_gives_all(rt: HostRuntime) -> Result<(), Fail> {
-    let mut source = SteadySource::new(rt.alloc(), b"abc")?;
+fn a_steady_source_gives_all(rt: HostRuntime) {
+    let mut source = steady_source(&rt, rt.alloc(), b"abc");
     let mut buf = [0u8; 2];
     for want in [2, 1, 0] {
-        assert!(rt; source.take(&mut buf) == Ok(want));
+        assert!(rt; takes(&mut source, &mut buf, Ok(want)));
     }
-    Ok(())
+    drop(source);
+}
+
+/// Writes five bytes.
+fn write_five<O: Sink>(sink: &mut O) -> Result<(), WriteFault> {
+    write_all(sink, b"abcde")
 }
 
 /// Whether writing five bytes to a sink with so much room ends so, after these were given.
 fn writes_end(
+    rt: &impl Abort,
     alloc: Global,
     room: u32,
     end: Result<(), WriteFault>,
     given: &[u8],
-) -> Result<bool, Fail> {
-    let mut sink = MemorySink::new(alloc, room, 2, &[])?;
-    Ok(write_all(&mut sink, b"abcde") == end && sink.bytes() == given)
+) -> bool {
+    let mut sink = sink_of(rt, alloc, room, 2, &[]);
+    let is_so = write_five(&mut sink) == end && sink.bytes() == given;
+    drop(sink);
+    is_so
 }
 
 #[test]
-fn all_bytes_are_written_or_a_fault_is_answered(rt: HostRuntime) -> Result<(), Fail> {
+fn all_bytes_are_written_or_a_fault_is_answered(rt: HostRuntime) {
     let mut count = CountSink::new();
-    assert!(rt; write_all(&mut count, b"abcde") == Ok(()));
+    assert!(rt; write_five(&mut count) == Ok(()));
     assert_eq!(rt; count.bytes, 5);
-    assert!(rt; writes_end(rt.alloc(), 5, Ok(()), b"abcde")?);
-    assert!(rt; writes_end(rt.alloc(), 3, Err(WriteFault), b"abc")?);
-    Ok(())
+    assert!(rt; writes_end(&rt, rt.alloc(), 5, Ok(()), b"abcde"));
+    assert!(rt; writes_end(&rt, rt.alloc(), 3, Err(WriteFault), b"abc"));
 }
 
 /// A device that answers its calls in turn: an error, an interruption, nothing, and then each byte.
@@ -170,11 +213,11 @@ fn a_reader_counts_each_error(rt: HostRuntime) {
     let mut source = ReaderSource::new(new_device());
     let mut buf = [0u8; 4];
     for (want, faults) in [(Err(Failed), 1), (Ok(0), 2), (Ok(1), 2)] {
-        assert!(rt; source.take(&mut buf) == want);
+        assert!(rt; takes(&mut source, &mut buf, want));
         assert_eq!(rt; source.faults(), faults);
     }
     let mut input = StdIn::new(rt.stdin());
-    assert!(rt; input.take(&mut buf) == Ok(0));
+    assert!(rt; takes(&mut input, &mut buf, Ok(0)));
     assert_eq!(rt; input.faults(), 0);
 }
 
@@ -187,32 +230,43 @@ fn a_writer_counts_each_error_and_each_write_of_nothing(rt: HostRuntime) {
         (Ok(1), 3),
         (Err(Failed), 4),
     ] {
-        assert!(rt; sink.give(b"ab") == want);
+        assert!(rt; gives(&mut sink, b"ab", want));
         assert_eq!(rt; sink.faults(), faults);
     }
     let mut output = StdOut::new(rt.stdout());
-    assert!(rt; output.give(b"\n") == Ok(1));
+    assert!(rt; gives(&mut output, b"\n", Ok(1)));
     assert_eq!(rt; output.faults(), 0);
 }
 
 /// More bytes than two pieces of a run have, in no pattern that a piece repeats.
-fn many_bytes(alloc: Global) -> Result<Vec<u8>, Fail> {
+fn many_bytes(rt: &impl Abort, alloc: Global) -> Vec<u8> {
     let mut bytes = Vec::new(alloc);
     for number in 0..40_000u32 {
-        bytes.extend_from_slice(&number.wrapping_mul(2_654_435_761).to_be_bytes())?;
+        let word = number.wrapping_mul(2_654_435_761).to_be_bytes();
+        put(rt, &mut bytes, &word);
     }
-    Ok(bytes)
+    bytes
 }
 
-/// A reader of these bytes, and a writer behind those, of which each call moves at most so many.
+fn put(rt: &impl Abort, bytes: &mut Vec<u8>, more: &[u8]) {
+    bytes.extend_from_slice(more).expect(rt, "room");
+}
+
+/// A reader of these bytes, of which each call moves at most so many.
 #[derive(Drop)]
-struct Slow<'a> {
+struct SlowReader<'a> {
     rest: &'a [u8],
+    most: usize,
+}
+
+/// A writer behind these bytes, of which each call moves at most so many.
+#[derive(Drop)]
+struct SlowWriter<'a> {
     seen: &'a mut Vec<u8>,
     most: usize,
 }
 
-impl Read for Slow<'_> {
+impl Read for SlowReader<'_> {
     fn read(&mut self, buf: &mut [u8]) -> io::Result<usize> {
         let count = self.most.min(buf.len()).min(self.rest.len());
         buf[..count].copy_from_slice(&self.rest[..count]);
@@ -221,7 +275,7 @@ impl Read for Slow<'_> {
     }
 }
 
-impl Write for Slow<'_> {
+impl Write for SlowWriter<'_> {
     fn write(&mut self, buf: &[u8]) -> io::Result<usize> {
         let count = self.most.min(buf.len());
         match self.seen.extend_from_slice(&buf[..count]) {
@@ -241,100 +295,166 @@ const PIECE: usize = 65_536;
 /// How many bytes a call of a slow device moves at most.
 const PACES: [usize; 4] = [200_000, 65_537, 4_097, 1_000];
 
-/// What so many takes give, until one gives nothing or fails.
-fn all_taken(
-    alloc: Global,
-    source: &mut ReaderSource<Slow<'_>>,
+/// A buffer for a piece.
+fn piece(rt: &impl Abort, alloc: Global) -> Vec<u8> {
+    vec![in alloc; 0; PIECE].expect(rt, "room")
+}
+
+/// Puts what one take gives behind the bytes. Whether it gave some.
+fn take_some<S: Source>(
+    rt: &impl Abort,
+    source: &mut S,
+    buf: &mut [u8],
+    taken: &mut Vec<u8>,
+) -> bool {
+    if buf.is_empty() {
+        return false;
+    }
+    match source.take(buf) {
+        Ok(0) | Err(Failed) => false,
+        Ok(count) => {
+            put(rt, taken, &buf[..count]);
+            true
+        }
+    }
+}
+
+/// Puts what so many takes give behind the bytes, until one gives nothing or fails.
+fn take_all<S: Source>(
+    rt: &impl Abort,
+    source: &mut S,
     buf: &mut [u8],
     takes: usize,
-) -> Result<Vec<u8>, Fail> {
-    let mut taken = Vec::new(alloc);
+    taken: &mut Vec<u8>,
+) {
     for _ in 0..takes {
-        if buf.is_empty() {
-            return Ok(taken);
-        }
-        match source.take(buf) {
-            Ok(0) | Err(Failed) => return Ok(taken),
-            Ok(count) => taken.extend_from_slice(&buf[..count])?,
+        if !take_some(rt, source, buf, taken) {
+            return;
         }
     }
-    Ok(taken)
+}
+
+/// Whether a reader that moves at most so many bytes in a call gives all of these.
+fn is_read(rt: &impl Abort, alloc: Global, bytes: &[u8], buf: &mut [u8], most: usize) -> bool {
+    let mut source = ReaderSource::new(SlowReader { rest: bytes, most });
+    let mut taken = Vec::new(alloc);
+    take_all(rt, &mut source, buf, bytes.len(), &mut taken);
+    let is_whole = taken.as_slice() == bytes;
+    drop(taken);
+    is_whole
 }
 
 #[test]
-fn a_reader_loses_no_byte(rt: HostRuntime) -> Result<(), Fail> {
-    let bytes = many_bytes(rt.alloc())?;
-    let mut buf = vec![in rt.alloc(); 0; PIECE]?;
+fn a_reader_loses_no_byte(rt: HostRuntime) {
+    let bytes = many_bytes(&rt, rt.alloc());
+    let mut buf = piece(&rt, rt.alloc());
     for most in PACES {
-        let mut unused = Vec::new(rt.alloc());
-        let mut source = ReaderSource::new(Slow {
-            rest: bytes.as_slice(),
-            seen: &mut unused,
-            most,
-        });
-        let taken = all_taken(rt.alloc(), &mut source, buf.as_mut_slice(), bytes.len())?;
-        assert!(rt; taken == bytes, "takes of {most}");
+        assert!(rt;
+            is_read(&rt, rt.alloc(), bytes.as_slice(), buf.as_mut_slice(), most),
+            "takes of {most}"
+        );
     }
-    Ok(())
+    drop(buf);
+    drop(bytes);
+}
+
+/// Whether a writer that moves at most so many bytes in a call takes all of these.
+fn is_written(seen: &mut Vec<u8>, bytes: &[u8], most: usize) -> bool {
+    let mut sink = WriterSink::new(SlowWriter { seen, most });
+    write_all(&mut sink, bytes) == Ok(())
 }
 
 #[test]
-fn a_writer_loses_no_byte(rt: HostRuntime) -> Result<(), Fail> {
-    let bytes = many_bytes(rt.alloc())?;
+fn a_writer_loses_no_byte(rt: HostRuntime) {
+    let bytes = many_bytes(&rt, rt.alloc());
     for most in PACES {
         let mut seen = Vec::new(rt.alloc());
-        let mut sink = WriterSink::new(Slow {
-            rest: &[],
-            seen: &mut seen,
-            most,
-        });
-        assert!(rt; write_all(&mut sink, bytes.as_slice()) == Ok(()));
+        assert!(rt; is_written(&mut seen, bytes.as_slice(), most));
         assert!(rt; seen == bytes, "gives of {most}");
+        drop(seen);
     }
-    Ok(())
+    drop(bytes);
 }
 
-#[test]
-fn a_pair_takes_from_its_source_and_gives_to_its_sink(rt: HostRuntime) -> Result<(), Fail> {
-    let mut input = SteadySource::new(rt.alloc(), b"abc")?;
-    let mut output = MemorySink::new(rt.alloc(), 5, 5, &[])?;
-    let mut pair = Pair {
-        input: &mut input,
-        output: &mut output,
-    };
+/// A pair of both takes two bytes, and gives them.
+fn check_pair<I: Source, O: Sink>(rt: &impl Abort, input: &mut I, output: &mut O) {
+    let mut pair = Pair { input, output };
     let mut buf = [0u8; 2];
     assert!(rt; pair.take(&mut buf) == Ok(2));
     assert!(rt; pair.give(&buf) == Ok(2));
-    assert!(rt; output.bytes() == b"ab".as_slice());
-    Ok(())
 }
 
 #[test]
-fn faults_have_texts(rt: HostRuntime) -> Result<(), Fail> {
-    let failed = format!(in rt.alloc(); "{}", Failed)?;
+fn a_pair_takes_from_its_source_and_gives_to_its_sink(rt: HostRuntime) {
+    let mut input = steady_source(&rt, rt.alloc(), b"abc");
+    let mut output = sink_of(&rt, rt.alloc(), 5, 5, &[]);
+    check_pair(&rt, &mut input, &mut output);
+    assert!(rt; output.bytes() == b"ab".as_slice());
+    drop(output);
+    drop(input);
+}
+
+/// The text of a read or a write that failed.
+fn text_of_failed(rt: &impl Abort, alloc: Global) -> String {
+    format!(in alloc; "{}", Failed).expect(rt, "room")
+}
+
+/// The text of a fault of writing all bytes.
+fn text_of_write_fault(rt: &impl Abort, alloc: Global) -> String {
+    format!(in alloc; "{}", WriteFault).expect(rt, "room")
+}
+
+#[test]
+fn faults_have_texts(rt: HostRuntime) {
+    let failed = text_of_failed(&rt, rt.alloc());
     assert_eq!(rt; failed.as_str(), "a read or a write failed");
-    let write = format!(in rt.alloc(); "{}", WriteFault)?;
+    drop(failed);
+    let write = text_of_write_fault(&rt, rt.alloc());
     assert_eq!(rt;
         write.as_str(),
         "writing failed before all bytes were written"
     );
-    Ok(())
+    drop(write);
 }
 
 /// A link over these bytes that has room for as many.
-fn link(alloc: Global, bytes: &[u8]) -> Result<MemoryLink, Fail> {
-    let source = MemorySource::new(alloc, bytes, 8, &[])?;
-    let sink = MemorySink::new(alloc, 8, 8, &[])?;
-    Ok(MemoryLink::new(source, sink))
+fn link(rt: &impl Abort, alloc: Global, bytes: &[u8]) -> MemoryLink {
+    let source = source_of(rt, alloc, bytes, 8, &[]);
+    let sink = sink_of(rt, alloc, 8, 8, &[]);
+    MemoryLink::new(source, sink)
+}
+
+/// Two links.
+fn links(rt: &impl Abort, alloc: Global) -> Vec<MemoryLink> {
+    let first = link(rt, alloc, b"a");
+    let second = link(rt, alloc, b"b");
+    vec![in alloc; first, second].expect(rt, "room")
 }
 
 /// A gate of two links, of which the second call fails.
-fn gate(alloc: Global) -> Result<MemoryGate<MemoryLink>, Fail> {
-    let mut links = Vec::new(alloc);
-    for bytes in [b"a", b"b"] {
-        links.push(link(alloc, bytes)?)?;
-    }
-    Ok(MemoryGate::new(alloc, links, &[2])?)
+fn gate(rt: &impl Abort, alloc: Global) -> MemoryGate<MemoryLink> {
+    MemoryGate::new(alloc, links(rt, alloc), &[2]).expect(rt, "room")
+}
+
+/// Whether the gate is bound.
+fn is_bound<G: Gate>(gate: &mut G) -> bool {
+    gate.bind("x:1") == Ok(())
+}
+
+/// Whether the gate fails to hand out its next link.
+fn fails_next<G: Gate>(gate: &mut G) -> bool {
+    matches!(gate.next(), Err(Failed))
+}
+
+/// Whether the gate has no more links.
+fn is_over<G: Gate>(gate: &mut G) -> bool {
+    matches!(gate.next(), Ok(None))
+}
+
+/// Whether the link gives one byte and takes it back.
+fn is_echoed<L: Link>(link: &mut L) -> bool {
+    let mut buf = [0u8; 4];
+    link.take(&mut buf) == Ok(1) && link.give(&buf[..1]) == Ok(1)
 }
 
 /// Whether the next link gives one byte and takes it back. It is put back with this number.
@@ -342,8 +462,7 @@ fn echoes<G: Gate>(gate: &mut G, session: u16) -> bool {
     let Ok(Some(mut link)) = gate.next() else {
         return false;
     };
-    let mut buf = [0u8; 4];
-    let is_right = link.take(&mut buf) == Ok(1) && link.give(&buf[..1]) == Ok(1);
+    let is_right = is_echoed(&mut link);
     link.finish();
     gate.put_back(session, link);
     is_right
@@ -358,17 +477,29 @@ fn is_back(gate: &MemoryGate<MemoryLink>, at: usize, session: u16, given: &[u8])
 }
 
 #[test]
-fn a_gate_in_memory_keeps_what_is_put_back(rt: HostRuntime) -> Result<(), Fail> {
-    let mut gate = gate(rt.alloc())?;
-    assert!(rt; gate.bind("x:1") == Ok(()));
-    assert!(rt; matches!(gate.next(), Err(Failed)));
+fn a_gate_in_memory_keeps_what_is_put_back(rt: HostRuntime) {
+    let mut gate = gate(&rt, rt.alloc());
+    assert!(rt; is_bound(&mut gate));
+    assert!(rt; fails_next(&mut gate));
     assert!(rt; echoes(&mut gate, 1));
     assert!(rt; echoes(&mut gate, 2));
-    assert!(rt; matches!(gate.next(), Ok(None)));
+    assert!(rt; is_over(&mut gate));
     assert_eq!(rt; gate.back().len(), 2);
     assert!(rt; is_back(&gate, 0, 1, b"a"));
     assert!(rt; is_back(&gate, 1, 2, b"b"));
-    Ok(())
+    drop(gate);
+}
+
+/// A dial to one link, of which the first call fails.
+fn dial(rt: &impl Abort, alloc: Global) -> MemoryDial<MemoryLink> {
+    let link = link(rt, alloc, b"a");
+    let links = vec![in alloc; link].expect(rt, "room");
+    MemoryDial::new(alloc, links, &[1]).expect(rt, "room")
+}
+
+/// Whether a call of the dial fails.
+fn fails_call<D: Dial>(dial: &mut D) -> bool {
+    matches!(dial.call("x:1"), Err(Failed))
 }
 
 /// Whether a call gives a link, while it is out a further call fails, and it is put back.
@@ -383,13 +514,10 @@ fn is_called_once<D: Dial>(dial: &mut D) -> bool {
 }
 
 #[test]
-fn a_dial_in_memory_fails_where_it_is_told_to_and_when_no_link_is_left(
-    rt: HostRuntime,
-) -> Result<(), Fail> {
-    let links = vec![in rt.alloc(); link(rt.alloc(), b"a")?]?;
-    let mut dial = MemoryDial::new(rt.alloc(), links, &[1])?;
-    assert!(rt; matches!(dial.call("x:1"), Err(Failed)));
+fn a_dial_in_memory_fails_where_it_is_told_to_and_when_no_link_is_left(rt: HostRuntime) {
+    let mut dial = dial(&rt, rt.alloc());
+    assert!(rt; fails_call(&mut dial));
     assert!(rt; is_called_once(&mut dial));
     assert!(rt; dial.back().len() == 1);
-    Ok(())
+    drop(dial);
 }
