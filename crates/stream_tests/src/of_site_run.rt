@@ -1,10 +1,12 @@
+//! Runs of a site over devices in memory, and over one that watches its calls.
+
 ghost use Rattle.std.specs.Prelude.{◌≡◌, true, false, [], None, take, OnOk, OnErr, IsOk, refl};
 
 use site_run::{run_device, run_site};
 use std::alloc::Global;
-use std::test::Fail;
+use std::process::Abort;
 use tardis_base::{Machine, NoMemory, ReplyBuf};
-use tardis_io::{Duplex, Failed, MemorySink, MemorySource, Sink, Status};
+use tardis_io::{Duplex, Failed, MemorySink, MemorySource, Sink, Source, Status};
 
 /// Replies to a request by its first 16 bytes, and finds no memory for an empty one.
 #[derive(Drop)]
@@ -42,120 +44,159 @@ struct Devices<'a> {
     failing_gives: &'a [u64],
 }
 
-/// Runs the machine over an input, and compares the status and the output.
+/// An input of these bytes, at most so many in each take, of which the listed takes fail.
+fn source_of(
+    rt: &impl Abort,
+    alloc: Global,
+    bytes: &[u8],
+    piece: u32,
+    failing: &[u64],
+) -> MemorySource {
+    MemorySource::new(alloc, bytes, piece.max(1), failing).expect(rt, "room")
+}
+
+/// An output of at most so many bytes in each give, of which the listed gives fail.
+fn sink_of(rt: &impl Abort, alloc: Global, piece: u32, failing: &[u64]) -> MemorySink {
+    MemorySink::new(alloc, 1_000, piece.max(1), failing).expect(rt, "room")
+}
+
+/// How the machine ends over these streams.
+fn ended<M: Machine, I: Source, O: Sink>(
+    alloc: Global,
+    machine: &mut M,
+    source: &mut I,
+    sink: &mut O,
+) -> Status {
+    run_site(alloc, machine, source, sink)
+}
+
+/// Whether the machine ends so over an input, and gives this output.
 fn runs_to(
+    rt: &impl Abort,
     alloc: Global,
     input: &[u8],
     devices: &Devices<'_>,
     status: Status,
     output: &[u8],
-) -> Result<bool, Fail> {
+) -> bool {
     let mut machine = Echo { acts: 0 };
-    let mut source = MemorySource::new(alloc, input, devices.take.max(1), devices.failing_takes)?;
-    let mut sink = MemorySink::new(alloc, 1_000, devices.give.max(1), devices.failing_gives)?;
-    let ended = run_site(alloc, &mut machine, &mut source, &mut sink);
-    Ok(ended == status && sink.bytes() == output)
+    let mut source = source_of(rt, alloc, input, devices.take, devices.failing_takes);
+    let mut sink = sink_of(rt, alloc, devices.give, devices.failing_gives);
+    let ended = ended(alloc, &mut machine, &mut source, &mut sink);
+    drop(source);
+    let is_given = sink.bytes() == output;
+    drop(sink);
+    ended == status && is_given
 }
 
 const WELL: [u64; 0] = [];
 
 /// Two frames, of which the second has an empty request.
-const TWO: &[u8; 14] = b"\x00\x00\x00\x04\x00\x01ab\x00\x00\x00\x02\x00\x02";
+const TWO: &[u8] = b"\x00\x00\x00\x04\x00\x01ab\x00\x00\x00\x02\x00\x02";
 
-const REPLIES: &[u8; 11] = b"\x00\x00\x00\x02ab\x00\x00\x00\x01\x16";
+const REPLIES: &[u8] = b"\x00\x00\x00\x02ab\x00\x00\x00\x01\x16";
 
-const FIRST_AND_PART: &[u8; 11] = b"\x00\x00\x00\x04\x00\x01ab\x00\x00\x00";
+const FIRST_AND_PART: &[u8] = b"\x00\x00\x00\x04\x00\x01ab\x00\x00\x00";
 
-const FIRST_AND_LONG: &[u8; 12] = b"\x00\x00\x00\x04\x00\x01ab\x00\x10\x00\x01";
+const FIRST_AND_LONG: &[u8] = b"\x00\x00\x00\x04\x00\x01ab\x00\x10\x00\x01";
 
-const FIRST_REPLY: &[u8; 6] = b"\x00\x00\x00\x02ab";
+const FIRST_REPLY: &[u8] = b"\x00\x00\x00\x02ab";
 
-#[test]
-fn pieces_of_any_size_give_the_same_output(rt: HostRuntime) -> Result<(), Fail> {
-    let long = Status::LongFrame { len: 1_048_577 };
-    let rows: [(&[u8], Status, &[u8]); 4] = [
-        (b"", Status::Ok, b""),
-        (TWO, Status::Ok, REPLIES),
-        (FIRST_AND_PART, Status::Cut, FIRST_REPLY),
-        (FIRST_AND_LONG, long, FIRST_REPLY),
-    ];
-    for (take, give) in [(1, 1), (1, 1_000), (1_000, 1), (1_000, 1_000), (5, 3)] {
-        let devices = Devices {
-            take,
-            failing_takes: &WELL,
-            give,
-            failing_gives: &WELL,
-        };
-        for (input, status, output) in rows {
-            assert!(rt; runs_to(rt.alloc(), input, &devices, status, output)?);
-        }
-    }
-    Ok(())
+/// An input, how a run over it ends, and what it gives.
+type Row = (&'static [u8], Status, &'static [u8]);
+
+const ROWS: [Row; 4] = [
+    (b"", Status::Ok, b""),
+    (TWO, Status::Ok, REPLIES),
+    (FIRST_AND_PART, Status::Cut, FIRST_REPLY),
+    (
+        FIRST_AND_LONG,
+        Status::LongFrame { len: 1_048_577 },
+        FIRST_REPLY,
+    ),
+];
+
+/// How many bytes a take and a give move at most.
+const PIECES: [(u32, u32); 5] = [(1, 1), (1, 1_000), (1_000, 1), (1_000, 1_000), (5, 3)];
+
+/// Whether a run in such pieces comes to what the row says.
+fn comes_to(rt: &impl Abort, alloc: Global, take: u32, give: u32, row: &Row) -> bool {
+    let (input, status, output) = *row;
+    let devices = Devices {
+        take,
+        failing_takes: &WELL,
+        give,
+        failing_gives: &WELL,
+    };
+    runs_to(rt, alloc, input, &devices, status, output)
 }
 
 #[test]
-fn faults_end_a_run(rt: HostRuntime) -> Result<(), Fail> {
+fn pieces_of_any_size_give_the_same_output(rt: HostRuntime) {
+    for (take, give) in PIECES {
+        for row in ROWS.iter() {
+            assert!(rt; comes_to(&rt, rt.alloc(), take, give, row));
+        }
+    }
+}
+
+#[test]
+fn faults_end_a_run(rt: HostRuntime) {
     let read = Devices {
         take: 1,
         failing_takes: &[3],
         give: 1_000,
         failing_gives: &WELL,
     };
-    assert!(rt; runs_to(rt.alloc(), TWO, &read, Status::ReadFault, b"")?);
+    assert!(rt; runs_to(&rt, rt.alloc(), TWO, &read, Status::ReadFault, b""));
     let write = Devices {
         take: 1_000,
         failing_takes: &WELL,
         give: 1,
         failing_gives: &[2],
     };
-    assert!(rt; runs_to(rt.alloc(), TWO, &write, Status::WriteFault, b"\x00")?);
-    Ok(())
+    assert!(rt; runs_to(&rt, rt.alloc(), TWO, &write, Status::WriteFault, b"\x00"));
 }
 
 #[test]
-fn the_replies_to_one_piece_are_given_in_one_write(rt: HostRuntime) -> Result<(), Fail> {
+fn the_replies_to_one_piece_are_given_in_one_write(rt: HostRuntime) {
     let one_write = Devices {
         take: 1_000,
         failing_takes: &WELL,
         give: 1_000,
         failing_gives: &[2],
     };
-    assert!(rt; runs_to(rt.alloc(), TWO, &one_write, Status::Ok, REPLIES)?);
-    Ok(())
+    assert!(rt; runs_to(&rt, rt.alloc(), TWO, &one_write, Status::Ok, REPLIES));
 }
 
 const TWO_ALIKE: &[u8; 16] = b"\x00\x00\x00\x04\x00\x01ab\x00\x00\x00\x04\x00\x02cd";
 
-#[test]
-fn a_reply_is_given_before_the_next_take(rt: HostRuntime) -> Result<(), Fail> {
-    let second_take_fails = Devices {
-        take: 8,
-        failing_takes: &[2],
-        give: 1_000,
-        failing_gives: &WELL,
-    };
-    let read = Status::ReadFault;
-    assert!(rt; runs_to(rt.alloc(), TWO_ALIKE, &second_take_fails, read, FIRST_REPLY)?);
-    let second_give_fails = Devices {
-        take: 8,
-        failing_takes: &WELL,
-        give: 1_000,
-        failing_gives: &[2],
-    };
-    let write = Status::WriteFault;
-    assert!(rt;
-        runs_to(
-            rt.alloc(),
-            TWO_ALIKE,
-            &second_give_fails,
-            write,
-            FIRST_REPLY
-        )?
-    );
-    Ok(())
+/// Whether a run over both, a frame in each take, ends so when the first was answered.
+fn stops_behind_first(
+    rt: &impl Abort,
+    alloc: Global,
+    failing_takes: &[u64],
+    failing_gives: &[u64],
+    status: Status,
+) -> bool {
+    let mut machine = Echo { acts: 0 };
+    let mut source = source_of(rt, alloc, TWO_ALIKE, 8, failing_takes);
+    let mut sink = sink_of(rt, alloc, 1_000, failing_gives);
+    let ended = ended(alloc, &mut machine, &mut source, &mut sink);
+    drop(source);
+    let is_given = sink.bytes() == FIRST_REPLY;
+    drop(sink);
+    ended == status && is_given
 }
 
-/// A device that hands out a frame a take, three times, and counts the takes that came before each reply was given.
+#[test]
+fn a_reply_is_given_before_the_next_take(rt: HostRuntime) {
+    assert!(rt; stops_behind_first(&rt, rt.alloc(), &[2], &WELL, Status::ReadFault));
+    assert!(rt; stops_behind_first(&rt, rt.alloc(), &WELL, &[2], Status::WriteFault));
+}
+
+/// A device that hands out a frame a take, three times, and counts the takes that came before each
+/// reply was given.
 #[derive(Drop)]
 struct Watcher {
     frames: usize,
@@ -205,6 +246,11 @@ impl Duplex for Watcher {
     ghost gives_are_apart = { λ _ _ _. (refl, refl, refl, refl) };
 }
 
+/// How the machine ends over this device.
+fn ended_over<M: Machine, D: Duplex>(alloc: Global, machine: &mut M, device: &mut D) -> Status {
+    run_device(alloc, machine, device)
+}
+
 #[test]
 fn no_take_comes_before_the_replies_are_given(rt: HostRuntime) {
     let mut machine = Echo { acts: 0 };
@@ -213,7 +259,7 @@ fn no_take_comes_before_the_replies_are_given(rt: HostRuntime) {
         given: 0,
         early: 0,
     };
-    let status = run_device(rt.alloc(), &mut machine, &mut device);
+    let status = ended_over(rt.alloc(), &mut machine, &mut device);
     assert_eq!(rt; status, Status::Ok);
     assert_eq!(rt; machine.acts, 3);
     assert_eq!(rt; device.given, 18);
@@ -221,17 +267,19 @@ fn no_take_comes_before_the_replies_are_given(rt: HostRuntime) {
 }
 
 /// Whether a run ends when its first write fails, having given nothing and acted so often.
-fn stops_after(alloc: Global, take: u32, acts: u8) -> Result<bool, Fail> {
+fn stops_after(rt: &impl Abort, alloc: Global, take: u32, acts: u8) -> bool {
     let mut machine = Echo { acts: 0 };
-    let mut source = MemorySource::new(alloc, TWO_ALIKE, take.max(1), &WELL)?;
-    let mut sink = MemorySink::new(alloc, 1_000, 1_000, &[1])?;
-    let status = run_site(alloc, &mut machine, &mut source, &mut sink);
-    Ok(status == Status::WriteFault && machine.acts == acts && sink.bytes().is_empty())
+    let mut source = source_of(rt, alloc, TWO_ALIKE, take, &WELL);
+    let mut sink = sink_of(rt, alloc, 1_000, &[1]);
+    let status = ended(alloc, &mut machine, &mut source, &mut sink);
+    drop(source);
+    let is_empty = sink.bytes().is_empty();
+    drop(sink);
+    status == Status::WriteFault && machine.acts == acts && is_empty
 }
 
 #[test]
-fn nothing_is_acted_on_after_a_write_failed(rt: HostRuntime) -> Result<(), Fail> {
-    assert!(rt; stops_after(rt.alloc(), 8, 1)?);
-    assert!(rt; stops_after(rt.alloc(), 16, 2)?);
-    Ok(())
+fn nothing_is_acted_on_after_a_write_failed(rt: HostRuntime) {
+    assert!(rt; stops_after(&rt, rt.alloc(), 8, 1));
+    assert!(rt; stops_after(&rt, rt.alloc(), 16, 2));
 }
