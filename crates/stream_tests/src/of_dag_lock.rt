@@ -6,8 +6,8 @@ use crate::counters::Counter;
 use crate::locks::{closed, locked, written};
 use dag_lock::{DagLock, Pass};
 use std::alloc::Global;
+use std::process::Abort;
 use std::sync::Wait;
-use std::test::Fail;
 use std::thread::{Threads, join};
 use tardis_base::ReplyBuf;
 use trail_log::{Acted, Trailed};
@@ -82,21 +82,32 @@ fn comes_to<R: Wait>(
 
 /// Whether the requests come to what the rows say under a lock of a trail of so many bytes at most, which is written so
 /// when the lock is closed.
-fn closes_with<R: Wait>(
+fn closes_with<R: Wait + Abort>(
     alloc: Global,
     rt: &R,
     most: u64,
     rows: &[Row<'_>],
     bytes: &[u8],
-) -> Result<bool, Fail> {
-    let mut out = ReplyBuf::new(alloc)?;
-    let (lock, pass) = locked(alloc, Counter { acts: 0 }, most, 1)?;
+) -> bool {
+    let mut out = ReplyBuf::new(alloc).expect(rt, "room");
+    let (lock, pass) = locked(rt, alloc, Counter { acts: 0 }, most, 1);
     let (pass, right) = comes_to(rt, &lock, pass, rows, &mut out);
-    Ok(right && written(alloc, &closed(lock, pass))?.as_slice() == bytes)
+    drop(out);
+    let is_written = writes(rt, alloc, closed(lock, pass), bytes);
+    right && is_written
+}
+
+/// Whether the trail is written so.
+fn writes(rt: &impl Abort, alloc: Global, trail: Trailed<Counter>, bytes: &[u8]) -> bool {
+    let text = written(rt, alloc, &trail);
+    drop(trail);
+    let is_so = text.as_slice() == bytes;
+    drop(text);
+    is_so
 }
 
 #[test]
-fn a_lock_is_closed_with_the_trail_of_what_was_answered(rt: HostRuntime) -> Result<(), Fail> {
+fn a_lock_is_closed_with_the_trail_of_what_was_answered(rt: HostRuntime) {
     let rows: [(u64, [Row<'_>; 3], &[u8]); 2] = [
         (
             10,
@@ -119,11 +130,10 @@ fn a_lock_is_closed_with_the_trail_of_what_was_answered(rt: HostRuntime) -> Resu
     ];
     for (most, rows, written) in rows {
         assert!(rt;
-            closes_with(rt.alloc(), &rt, most, &rows, written)?,
+            closes_with(rt.alloc(), &rt, most, &rows, written),
             "at most {most} bytes"
         );
     }
-    Ok(())
 }
 
 /// Asks for a write of the value, and tells whether it was answered.
@@ -234,72 +244,84 @@ fn write_of(entry: &[u8]) -> Option<(u8, u16)> {
     }
 }
 
-/// How many writes of each actor the trail has, if each actor's values are 0, 1, 2 and so on, and nothing else is there.
-fn counts(alloc: Global, trail: &Trailed<Counter>) -> Result<[u16; 5], Fail> {
-    let bytes = written(alloc, trail)?;
+/// How many writes of each actor these entries are, if each actor's values are 0, 1, 2 and so on, and nothing else is there.
+fn counts_in(entries: &[u8]) -> [u16; 5] {
     let mut next = [0u16; 5];
-    for entry in bytes.chunks(13) {
+    for entry in entries.chunks(13) {
         let Some((actor, value)) = write_of(entry) else {
-            return Ok([0; 5]);
+            return [0; 5];
         };
         let at = usize::from(actor % 5);
         if next[at] != value {
-            return Ok([0; 5]);
+            return [0; 5];
         }
         next[at] = next[at].saturating_add(1);
     }
-    Ok(next)
+    next
+}
+
+/// The same of the trail.
+fn counts(rt: &impl Abort, alloc: Global, trail: &Trailed<Counter>) -> [u16; 5] {
+    let bytes = written(rt, alloc, trail);
+    let next = counts_in(bytes.as_slice());
+    drop(bytes);
+    next
 }
 
 /// How many writes of two actors at once are answered under a lock of a trail of so many bytes at most, and the trail.
-fn two_locked<R: Threads + Wait + Sync>(
+fn two_locked<R: Threads + Wait + Sync + Abort>(
     rt: &R,
     alloc: Global,
     most: u64,
     writes: u16,
-) -> Result<(u64, Trailed<Counter>), Fail> {
-    let (lock, pass) = locked(alloc, Counter { acts: 0 }, most, 2)?;
+) -> (u64, Trailed<Counter>) {
+    let (lock, pass) = locked(rt, alloc, Counter { acts: 0 }, most, 2);
     let (pass, done) = two_put(rt, alloc, &lock, pass, (1, 2), writes);
-    Ok((done, closed(lock, pass)))
+    (done, closed(lock, pass))
 }
 
 /// The same for four actors.
-fn four_locked<R: Threads + Wait + Sync>(
+fn four_locked<R: Threads + Wait + Sync + Abort>(
     rt: &R,
     alloc: Global,
     most: u64,
     writes: u16,
-) -> Result<(u64, Trailed<Counter>), Fail> {
-    let (lock, pass) = locked(alloc, Counter { acts: 0 }, most, 4)?;
+) -> (u64, Trailed<Counter>) {
+    let (lock, pass) = locked(rt, alloc, Counter { acts: 0 }, most, 4);
     let (pass, done) = four_put(rt, alloc, &lock, pass, writes);
-    Ok((done, closed(lock, pass)))
+    (done, closed(lock, pass))
 }
 
 #[test]
-fn two_actors_at_once_have_each_request_once_and_in_order(rt: HostRuntime) -> Result<(), Fail> {
-    let (done, trail) = two_locked(&rt, rt.alloc(), 1 << 30, 1_000)?;
+fn two_actors_at_once_have_each_request_once_and_in_order(rt: HostRuntime) {
+    let (done, trail) = two_locked(&rt, rt.alloc(), 1 << 30, 1_000);
     assert_eq!(rt; done, 2_000);
-    assert_eq!(rt; counts(rt.alloc(), &trail)?, [0, 1_000, 1_000, 0, 0]);
-    Ok(())
+    assert_eq!(rt; counts(&rt, rt.alloc(), &trail), [0, 1_000, 1_000, 0, 0]);
+    drop(trail);
 }
 
 #[test]
-fn four_actors_at_once_have_each_request_once_and_in_order(rt: HostRuntime) -> Result<(), Fail> {
-    let (done, trail) = four_locked(&rt, rt.alloc(), 1 << 30, 1_000)?;
+fn four_actors_at_once_have_each_request_once_and_in_order(rt: HostRuntime) {
+    let (done, trail) = four_locked(&rt, rt.alloc(), 1 << 30, 1_000);
     assert_eq!(rt; done, 4_000);
     assert_eq!(rt;
-        counts(rt.alloc(), &trail)?,
+        counts(&rt, rt.alloc(), &trail),
         [0, 1_000, 1_000, 1_000, 1_000]
     );
-    Ok(())
+    drop(trail);
+}
+
+/// How many writes actors 1 and 2 have in the trail.
+fn both_counted(rt: &impl Abort, alloc: Global, trail: &Trailed<Counter>) -> u16 {
+    let counted = counts(rt, alloc, trail);
+    counted[1].saturating_add(counted[2])
 }
 
 #[test]
-fn a_trail_fills_up_while_two_actors_ask(rt: HostRuntime) -> Result<(), Fail> {
-    let (done, trail) = two_locked(&rt, rt.alloc(), 13 * 50 + 12, 40)?;
+fn a_trail_fills_up_while_two_actors_ask(rt: HostRuntime) {
+    let (done, trail) = two_locked(&rt, rt.alloc(), 13 * 50 + 12, 40);
     assert_eq!(rt; done, 50);
     assert_eq!(rt; trail.bytes(), 650);
-    let counted = counts(rt.alloc(), &trail)?;
-    assert_eq!(rt; counted[1].saturating_add(counted[2]), 50);
-    Ok(())
+    assert_eq!(rt; both_counted(&rt, rt.alloc(), &trail), 50);
+    drop(trail);
 }

@@ -44,12 +44,12 @@ fn opened(rt: &impl Abort, alloc: Global) -> (DagLock<Counter>, Pass)
     ensures pieces { result.1.pieces ≡ 10 }
     ensures whole { pieces_of result.0 ≡ 10 }
 {
-    locked(alloc, Counter { acts: 0 }, 1_000, PIECES).expect(rt, "room")
+    locked(rt, alloc, Counter { acts: 0 }, 1_000, PIECES)
 }
 
 /// How many bytes are written of a trail.
 fn length_of(rt: &impl Abort, alloc: Global, trail: Trailed<Counter>) -> usize {
-    let bytes = written(alloc, &trail).expect(rt, "room");
+    let bytes = written(rt, alloc, &trail);
     let length = bytes.len();
     drop(bytes);
     drop(trail);
@@ -102,7 +102,7 @@ fn expects(
 
 /// Puts the link of a client behind these.
 fn push_client(rt: &impl Abort, alloc: Global, links: &mut Vec<MemoryLink>) {
-    let link = client(alloc).expect(rt, "room");
+    let link = client(rt, alloc);
     links.push(link).expect(rt, "room");
 }
 
@@ -254,7 +254,7 @@ fn that_waits<'a>(
     other: &'a AtomicU64,
 ) -> Waiting<'a> {
     Waiting {
-        link: client(alloc).expect(rt, "room"),
+        link: client(rt, alloc),
         takes: 0,
         faults: 0,
         own,

@@ -110,7 +110,7 @@ fn served(gate: PoolEnd, dial: u32, written: Result<(), WriteFault>) -> ServeEnd
 
 /// Puts the link of a client behind these.
 fn push_client(rt: &impl Abort, alloc: Global, links: &mut Vec<MemoryLink>) {
-    let link = client(alloc).expect(rt, "room");
+    let link = client(rt, alloc);
     links.push(link).expect(rt, "room");
 }
 

@@ -53,12 +53,12 @@ fn opened(rt: &impl Abort, alloc: Global, most: u64) -> (DagLock<Counter>, Pass)
     ensures pieces { result.1.pieces ≡ 1 }
     ensures whole { pieces_of result.0 ≡ 1 }
 {
-    locked(alloc, Counter { acts: 0 }, most, 1).expect(rt, "room")
+    locked(rt, alloc, Counter { acts: 0 }, most, 1)
 }
 
 /// Whether these are the bytes that are written of a trail.
 fn is_written(rt: &impl Abort, alloc: Global, trail: Trailed<Counter>, bytes: &[u8]) -> bool {
-    let text = written(alloc, &trail).expect(rt, "room");
+    let text = written(rt, alloc, &trail);
     let is_right = text.as_slice() == bytes;
     drop(text);
     drop(trail);

@@ -111,7 +111,7 @@ fn trail_left(rt: &impl Abort, alloc: Global, lock: DagLock<Replier>, pass: Pass
     requires whole { pass.pieces ≡ pieces_of lock }
 {
     let trail = closed(lock, pass);
-    let bytes = written(alloc, &trail).expect(rt, "room");
+    let bytes = written(rt, alloc, &trail);
     drop(trail);
     let count = bytes.len();
     drop(bytes);
@@ -125,7 +125,7 @@ fn sync_locked<R: Wait + Abort>(
     most: u64,
     dial: &mut MemoryDial<MemoryLink>,
 ) -> (SyncEnd, usize) {
-    let (lock, pass) = locked(alloc, Replier {}, most, 1).expect(rt, "room");
+    let (lock, pass) = locked(rt, alloc, Replier {}, most, 1);
     let (pass, end) = sync(alloc, rt, &lock, pass, dial);
     (end, trail_left(rt, alloc, lock, pass))
 }
@@ -303,7 +303,7 @@ fn rounds_locked<R: Wait + Abort>(
     peers: &[String],
     want: Rounds,
 ) -> (bool, usize) {
-    let (lock, pass) = locked(alloc, Replier {}, 1_000, 1).expect(rt, "room");
+    let (lock, pass) = locked(rt, alloc, Replier {}, 1_000, 1);
     let (pass, right) = rounds(alloc, rt, &lock, pass, dial, peers, want);
     (right, trail_left(rt, alloc, lock, pass))
 }
