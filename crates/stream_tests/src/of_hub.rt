@@ -2,11 +2,11 @@ ghost use Rattle.std.specs.Prelude.{◌≡◌, ◌==◌, true, false, [], length
 
 use hub::{End, MemoryPorts, Move, Ports, Seen, Upkeep, one_trail, serve};
 use std::alloc::Global;
-use std::test::Fail;
+use std::process::Abort;
 use tardis_base::{ByteList, Machine, NoMemory, ReplyBuf};
 
-/// Replies to a request by its first 16 bytes, and finds no memory for an empty one. It keeps how many requests that begin
-/// with 8 it had at each request of actor 0.
+/// Replies to a request by its first 16 bytes, and finds no memory for an empty one. It keeps how
+/// many requests that begin with 8 it had at each request of actor 0.
 #[derive(Drop)]
 struct Echo {
     closed: u8,
@@ -52,59 +52,69 @@ impl Machine for Echo {
     }
 }
 
-fn read(alloc: Global, slot: usize, bytes: &[u8]) -> Result<Move, Fail> {
-    Ok(Move::Read {
+/// Some bytes, in a vector.
+fn copied(rt: &impl Abort, alloc: Global, bytes: &[u8]) -> Vec<u8> {
+    Vec::from_slice(alloc, bytes).expect(rt, "room")
+}
+
+fn read(rt: &impl Abort, alloc: Global, slot: usize, bytes: &[u8]) -> Move {
+    Move::Read {
         slot,
-        bytes: ByteList::from_vec(Vec::from_slice(alloc, bytes)?),
-    })
+        bytes: ByteList::from_vec(copied(rt, alloc, bytes)),
+    }
+}
+
+fn put(rt: &impl Abort, bytes: &mut Vec<u8>, more: &[u8]) {
+    bytes.extend_from_slice(more).expect(rt, "room");
+}
+
+/// Puts a letter, and the low digit of a number, behind the bytes.
+fn put_mark(rt: &impl Abort, bytes: &mut Vec<u8>, letter: u8, number: usize) {
+    put(rt, bytes, &[letter, b'0' + (number % 10) as u8]);
 }
 
 /// A letter for each call, with its slot, and the bytes that moved.
-fn put_call(log: &mut Vec<u8>, call: &Seen) -> Result<(), Fail> {
+fn put_call(rt: &impl Abort, log: &mut Vec<u8>, call: &Seen) {
     match call {
         Seen::Offered(_) => {}
-        Seen::Accepted { slot, came } => {
-            log.push(if *came { b'A' } else { b'a' })?;
-            log.push(b'0' + (*slot % 10) as u8)?;
-        }
-        Seen::Declined => log.push(b'D')?,
+        Seen::Accepted { slot, came } => put_mark(rt, log, if *came { b'A' } else { b'a' }, *slot),
+        Seen::Declined => put(rt, log, b"D"),
         Seen::ReadFrom { slot, bytes, .. } => {
-            log.push(b'R')?;
-            log.push(b'0' + (*slot % 10) as u8)?;
-            log.push(b'0' + (bytes.len() % 10) as u8)?;
+            put_mark(rt, log, b'R', *slot);
+            put(rt, log, &[b'0' + (bytes.len() % 10) as u8]);
         }
         Seen::WroteTo { slot, bytes, .. } => {
-            log.push(b'W')?;
-            log.push(b'0' + (*slot % 10) as u8)?;
-            log.extend_from_slice(bytes.as_slice())?;
+            put_mark(rt, log, b'W', *slot);
+            put(rt, log, bytes.as_slice());
         }
-        Seen::Closed { slot } => {
-            log.push(b'C')?;
-            log.push(b'0' + (*slot % 10) as u8)?;
-        }
+        Seen::Closed { slot } => put_mark(rt, log, b'C', *slot),
     }
-    Ok(())
+}
+
+/// Puts all calls that these ports saw.
+fn put_calls(rt: &impl Abort, log: &mut Vec<u8>, ports: &MemoryPorts) {
+    let Some(seen) = ports.seen() else {
+        return;
+    };
+    for call in seen {
+        put_call(rt, log, call);
+    }
 }
 
 /// Whether an edge is served until it stops.
-fn is_served<P: Ports>(alloc: Global, machine: &mut Echo, ports: &mut P) -> Result<bool, Fail> {
-    Ok(serve(alloc, machine, ports, None)? == End::Stopped)
+fn is_served<P: Ports>(rt: &impl Abort, alloc: Global, machine: &mut Echo, ports: &mut P) -> bool {
+    serve(alloc, machine, ports, None).expect(rt, "room") == End::Stopped
 }
 
-/// The calls that an edge with these moves sees.
-fn calls(alloc: Global, machine: &mut Echo, moves: Vec<Move>) -> Result<Vec<u8>, Fail> {
+/// The calls that an edge with these moves sees, if it is served until it stops.
+fn calls(rt: &impl Abort, alloc: Global, machine: &mut Echo, moves: Vec<Move>) -> Vec<u8> {
     let mut ports = MemoryPorts::new(alloc, moves);
     let mut log = Vec::new(alloc);
-    if !is_served(alloc, machine, &mut ports)? {
-        return Ok(log);
+    if is_served(rt, alloc, machine, &mut ports) {
+        put_calls(rt, &mut log, &ports);
     }
-    let Some(seen) = ports.seen() else {
-        return Ok(log);
-    };
-    for call in seen {
-        put_call(&mut log, call)?;
-    }
-    Ok(log)
+    drop(ports);
+    log
 }
 
 /// A move, with its bytes lent.
@@ -116,28 +126,29 @@ enum Step<'a> {
     Close(usize),
 }
 
-fn move_of(alloc: Global, step: Step<'_>) -> Result<Move, Fail> {
+fn move_of(rt: &impl Abort, alloc: Global, step: Step<'_>) -> Move {
     match step {
-        Step::Accept(comes) => Ok(Move::Accept { comes }),
-        Step::Read(slot, bytes) => read(alloc, slot, bytes),
-        Step::Write(slot, most) => Ok(Move::Write { slot, most }),
-        Step::Close(slot) => Ok(Move::Close { slot }),
+        Step::Accept(comes) => Move::Accept { comes },
+        Step::Read(slot, bytes) => read(rt, alloc, slot, bytes),
+        Step::Write(slot, most) => Move::Write { slot, most },
+        Step::Close(slot) => Move::Close { slot },
     }
 }
 
-fn moves_of(alloc: Global, steps: &[Step<'_>]) -> Result<Vec<Move>, Fail> {
+fn put_move(rt: &impl Abort, moves: &mut Vec<Move>, next: Move) {
+    moves.push(next).expect(rt, "room");
+}
+
+fn moves_of(rt: &impl Abort, alloc: Global, steps: &[Step<'_>]) -> Vec<Move> {
     let mut moves = Vec::new(alloc);
     for step in steps {
-        moves.push(move_of(alloc, *step)?)?;
+        put_move(rt, &mut moves, move_of(rt, alloc, *step));
     }
-    Ok(moves)
+    moves
 }
 
-#[test]
-fn each_connection_has_its_own_replies_and_a_closed_session(rt: HostRuntime) -> Result<(), Fail> {
-    let alloc = rt.alloc();
-    one_trail::<Echo>();
-    let mut machine = Echo::new(alloc);
+/// The moves of two connections, of which the first ends, and of one that comes into its slot.
+fn moves_of_three(rt: &impl Abort, alloc: Global) -> Vec<Move> {
     let steps = [
         Step::Accept(true),
         Step::Accept(false),
@@ -154,51 +165,76 @@ fn each_connection_has_its_own_replies_and_a_closed_session(rt: HostRuntime) -> 
         Step::Read(0, b"\x00\x00\x00\x01d"),
         Step::Write(0, 99),
     ];
-    let moves = moves_of(alloc, &steps)?;
-    let log = calls(alloc, &mut machine, moves)?;
-    let want: &[u8] =
-        b"A0a1A1R05R19R03W1\x00\x00\x00W0\x00\x00\x00\x02acW1\x01b\x00\x00\x00\x01\x16C0A0R05W0\x00\x00\x00\x01d";
-    assert!(rt; log.as_slice() == want);
-    assert_eq!(rt; machine.closed, 1);
-    Ok(())
+    moves_of(rt, alloc, &steps)
 }
 
-/// A read of so many requests that begin with 8.
-fn eights(alloc: Global, count: usize) -> Result<Move, Fail> {
+/// The calls that an edge with these moves sees.
+const CALLS: &[u8] = b"A0a1A1R05R19R03W1\x00\x00\x00W0\x00\x00\x00\x02ac\
+W1\x01b\x00\x00\x00\x01\x16C0A0R05W0\x00\x00\x00\x01d";
+
+/// What the hub says of one trail is so of this machine.
+fn cite_one_trail() {
+    one_trail::<Echo>();
+}
+
+#[test]
+fn each_connection_has_its_own_replies_and_a_closed_session(rt: HostRuntime) {
+    cite_one_trail();
+    let mut machine = Echo::new(rt.alloc());
+    let moves = moves_of_three(&rt, rt.alloc());
+    let log = calls(&rt, rt.alloc(), &mut machine, moves);
+    assert!(rt; log.as_slice() == CALLS);
+    assert_eq!(rt; machine.closed, 1);
+    drop(log);
+    drop(machine);
+}
+
+/// So many requests that begin with 8.
+fn eights(rt: &impl Abort, alloc: Global, count: usize) -> Vec<u8> {
     let mut bytes = Vec::new(alloc);
     for _ in 0..count {
-        bytes.extend_from_slice(b"\x00\x00\x00\x01\x08")?;
+        put(rt, &mut bytes, b"\x00\x00\x00\x01\x08");
     }
-    read(alloc, 0, bytes.as_slice())
+    bytes
 }
 
-/// The moves of one connection that reads so many of these requests, each time with one of another code behind them.
-fn moves_with(alloc: Global, counts: &[usize]) -> Result<Vec<Move>, Fail> {
+/// A read of so many of these requests.
+fn read_eights(rt: &impl Abort, alloc: Global, count: usize) -> Move {
+    let bytes = eights(rt, alloc, count);
+    let next = read(rt, alloc, 0, bytes.as_slice());
+    drop(bytes);
+    next
+}
+
+/// The moves of one connection that reads so many of these requests, each time with one of another
+/// code behind them.
+fn moves_with(rt: &impl Abort, alloc: Global, counts: &[usize]) -> Vec<Move> {
     let mut moves = Vec::new(alloc);
-    moves.push(Move::Accept { comes: true })?;
+    put_move(rt, &mut moves, Move::Accept { comes: true });
     for count in counts {
-        moves.push(eights(alloc, *count)?)?;
-        moves.push(read(alloc, 0, b"\x00\x00\x00\x01\x07")?)?;
+        put_move(rt, &mut moves, read_eights(rt, alloc, *count));
+        put_move(rt, &mut moves, read(rt, alloc, 0, b"\x00\x00\x00\x01\x07"));
     }
-    Ok(moves)
+    moves
 }
 
 /// Whether an edge is served until it stops, with an upkeep after 64 replies to these requests.
-fn is_kept_up<P: Ports>(alloc: Global, machine: &mut Echo, ports: &mut P) -> Result<bool, Fail> {
+fn is_kept_up<P: Ports>(rt: &impl Abort, alloc: Global, machine: &mut Echo, ports: &mut P) -> bool {
     let upkeep = Upkeep {
         code: 8,
         after: 64,
         requests: &[&[14], &[15, 0, 64]],
     };
-    Ok(serve(alloc, machine, ports, Some(upkeep))? == End::Stopped)
+    serve(alloc, machine, ports, Some(upkeep)).expect(rt, "room") == End::Stopped
 }
 
 #[test]
-fn upkeep_comes_after_so_many_replies_and_is_counted_anew(rt: HostRuntime) -> Result<(), Fail> {
-    let alloc = rt.alloc();
-    let mut machine = Echo::new(alloc);
-    let mut ports = MemoryPorts::new(alloc, moves_with(alloc, &[63, 1, 63, 2, 63])?);
-    assert!(rt; is_kept_up(alloc, &mut machine, &mut ports)?);
+fn upkeep_comes_after_so_many_replies_and_is_counted_anew(rt: HostRuntime) {
+    let mut machine = Echo::new(rt.alloc());
+    let moves = moves_with(&rt, rt.alloc(), &[63, 1, 63, 2, 63]);
+    let mut ports = MemoryPorts::new(rt.alloc(), moves);
+    assert!(rt; is_kept_up(&rt, rt.alloc(), &mut machine, &mut ports));
+    drop(ports);
     assert!(rt; machine.own.as_slice() == [(64, 14), (64, 15), (129, 14), (129, 15)].as_slice());
-    Ok(())
+    drop(machine);
 }

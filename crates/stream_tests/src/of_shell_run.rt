@@ -2,9 +2,9 @@ ghost use Rattle.std.specs.Prelude.{◌≡◌, true, false, [], ◌∷◌, OnOk,
 
 use shell_run::{audit, run_shell};
 use std::alloc::Global;
-use std::test::Fail;
+use std::process::Abort;
 use tardis_base::{Machine, NoMemory, ReplyBuf};
-use tardis_io::{MemorySink, MemorySource, Status};
+use tardis_io::{MemorySink, MemorySource, Sink, Source, Status};
 
 /// Is done with each request, but for a Get, for which it finds no memory.
 #[derive(Drop)]
@@ -44,43 +44,89 @@ const FRAMES: &[u8] = b"\0\0\0\x04\0\x01\x01\0\0\0\0\x02\0\x05\0\0\0\x05\0\x02\x
 
 const TOLD: &str = "1 open -> done\n5 malformed -> done\n2 get x -> nomemory\n";
 
-/// Whether a shell, or else an audit, of a clerk ends so over this input, having written that and asked so often.
+/// What it tells of their first eleven bytes.
+const TOLD_OF_FRONT: &str = "1 open -> done\n";
+
+/// These bytes as an input.
+fn source_of(rt: &impl Abort, alloc: Global, bytes: &[u8]) -> MemorySource {
+    MemorySource::new(alloc, bytes, 4_096, &[]).expect(rt, "room")
+}
+
+/// An output with room for 1,000 bytes.
+fn empty_sink(rt: &impl Abort, alloc: Global) -> MemorySink {
+    MemorySink::new(alloc, 1_000, 1_000, &[]).expect(rt, "room")
+}
+
+/// How a shell of the clerk ends.
+fn shell_ends<I: Source, O: Sink>(
+    alloc: Global,
+    clerk: &mut Clerk,
+    source: &mut I,
+    sink: &mut O,
+) -> Status {
+    run_shell(alloc, clerk, source, sink)
+}
+
+/// How an audit of the clerk ends.
+fn audit_ends<I: Source, O: Sink>(
+    alloc: Global,
+    clerk: &mut Clerk,
+    source: &mut I,
+    sink: &mut O,
+) -> Status {
+    audit(alloc, clerk, source, sink)
+}
+
+/// How a shell, or else an audit, of the clerk ends.
+fn ends<I: Source, O: Sink>(
+    alloc: Global,
+    is_shell: bool,
+    clerk: &mut Clerk,
+    source: &mut I,
+    sink: &mut O,
+) -> Status {
+    if is_shell {
+        shell_ends(alloc, clerk, source, sink)
+    } else {
+        audit_ends(alloc, clerk, source, sink)
+    }
+}
+
+/// Whether a shell, or else an audit, of a clerk ends so over this input, having written that and
+/// asked so often.
 fn runs_to(
+    rt: &impl Abort,
     alloc: Global,
     is_shell: bool,
     input: &[u8],
     status: Status,
     output: &str,
     acts: u8,
-) -> Result<bool, Fail> {
+) -> bool {
     let mut clerk = Clerk { acts: 0 };
-    let mut source = MemorySource::new(alloc, input, 4_096, &[])?;
-    let mut sink = MemorySink::new(alloc, 1_000, 1_000, &[])?;
-    let ended = if is_shell {
-        run_shell(alloc, &mut clerk, &mut source, &mut sink)
-    } else {
-        audit(alloc, &mut clerk, &mut source, &mut sink)
-    };
-    Ok(ended == status && sink.bytes() == output.as_bytes() && clerk.acts == acts)
+    let mut source = source_of(rt, alloc, input);
+    let mut sink = empty_sink(rt, alloc);
+    let ended = ends(alloc, is_shell, &mut clerk, &mut source, &mut sink);
+    drop(source);
+    let is_written = sink.bytes() == output.as_bytes();
+    drop(sink);
+    ended == status && is_written && clerk.acts == acts
+}
+
+/// One byte more than a line may have.
+fn many_letters(rt: &impl Abort, alloc: Global) -> Vec<u8> {
+    vec![in alloc; 0x61; 1_048_577].expect(rt, "room")
 }
 
 #[test]
-fn lines_and_frames_are_answered_in_lines(rt: HostRuntime) -> Result<(), Fail> {
+fn lines_and_frames_are_answered_in_lines(rt: HostRuntime) {
     let alloc = rt.alloc();
     let long = Status::LongFrame { len: 1_048_577 };
-    let letters = vec![in alloc; 0x61; 1_048_577]?;
-    assert!(rt; runs_to(alloc, true, LINES.as_bytes(), Status::Ok, REPLIES, 2)?);
-    assert!(rt; runs_to(alloc, true, letters.as_slice(), long, "", 0)?);
-    assert!(rt; runs_to(alloc, false, FRAMES, Status::Ok, TOLD, 2)?);
-    assert!(rt;
-        runs_to(
-            alloc,
-            false,
-            &FRAMES[..11],
-            Status::Cut,
-            "1 open -> done\n",
-            1
-        )?
-    );
-    Ok(())
+    let letters = many_letters(&rt, alloc);
+    let front = &FRAMES[..11];
+    assert!(rt; runs_to(&rt, alloc, true, LINES.as_bytes(), Status::Ok, REPLIES, 2));
+    assert!(rt; runs_to(&rt, alloc, true, letters.as_slice(), long, "", 0));
+    assert!(rt; runs_to(&rt, alloc, false, FRAMES, Status::Ok, TOLD, 2));
+    assert!(rt; runs_to(&rt, alloc, false, front, Status::Cut, TOLD_OF_FRONT, 1));
+    drop(letters);
 }

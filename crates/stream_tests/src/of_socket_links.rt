@@ -1,8 +1,6 @@
 use socket_links::{SocketDial, SocketGate};
 use std::fs::{self, Files};
-use std::io::{Error, ErrorKind};
 use std::net::{Net, TcpListener, TcpStream};
-use std::test::Fail;
 use tardis_io::{Dial, Failed, Gate, Link};
 
 /// Whether the link is given all of these, which must be some.
@@ -19,46 +17,92 @@ fn takes<L: Link>(link: &mut L, bytes: &[u8]) -> bool {
     }
 }
 
-/// Whether bytes go over a connection at the address, both ways, and one way to their end.
+/// Whether the far link takes what the near one is given, and is given an answer.
+fn is_answered<N: Link, F: Link>(near: &mut N, far: &mut F) -> bool {
+    gives(near, b"ab") && takes(far, b"ab") && gives(far, b"c")
+}
+
+/// Whether the link takes the answer and then comes to its end.
+fn is_ended<L: Link>(link: &mut L) -> bool {
+    takes(link, b"c") && takes(link, b"")
+}
+
+/// Whether bytes go over a connection of these at the address, both ways, and one way to their end.
+fn is_connected<R: Files + Net<Listener = TcpListener, Stream = TcpStream>>(
+    gate: &mut SocketGate<'_, R>,
+    dial: &mut SocketDial<'_, R>,
+    address: &str,
+) -> bool {
+    let (Ok(()), Ok(mut near)) = (gate.bind(address), dial.call(address)) else {
+        return false;
+    };
+    let Ok(Some(mut far)) = gate.next() else {
+        return false;
+    };
+    let mut is_right = is_answered(&mut near, &mut far);
+    far.finish();
+    is_right = is_right && is_ended(&mut near);
+    near.finish();
+    is_right = is_right && near.read_faults() == 0 && far.write_faults() == 0;
+    gate.put_back(1, far);
+    dial.put_back(near);
+    is_right
+}
+
+/// Whether they do so for a gate and a dial that count no fault.
 fn talks<R: Files + Net<Listener = TcpListener, Stream = TcpStream>>(
     rt: &R,
     address: &str,
-) -> Result<bool, Fail> {
+) -> bool {
     let mut gate = SocketGate::new(rt);
     let mut dial = SocketDial::new(rt);
-    let (Ok(()), Ok(mut near)) = (gate.bind(address), dial.call(address)) else {
-        return Ok(false);
-    };
-    let Ok(Some(mut far)) = gate.next() else {
-        return Ok(false);
-    };
-    let mut right = gives(&mut near, b"ab") && takes(&mut far, b"ab") && gives(&mut far, b"c");
-    far.finish();
-    right = right && takes(&mut near, b"c") && takes(&mut near, b"");
-    near.finish();
-    right = right && near.read_faults() == 0 && far.write_faults() == 0;
-    gate.put_back(1, far);
-    dial.put_back(near);
-    Ok(right && gate.faults() == 0 && dial.faults() == 0)
+    let is_right = is_connected(&mut gate, &mut dial, address)
+        && gate.faults() == 0
+        && dial.faults() == 0;
+    drop(dial);
+    drop(gate);
+    is_right
+}
+
+/// The path of the socket.
+const PATH: &str = "links.sock";
+
+/// Its address.
+const ADDRESS: &str = "unix:links.sock";
+
+/// Whether the gate is bound at the path.
+fn is_bound<G: Gate>(gate: &mut G) -> bool {
+    gate.bind(ADDRESS) == Ok(())
+}
+
+/// Whether the gate fails to be bound at the path.
+fn fails_to_bind<G: Gate>(gate: &mut G) -> bool {
+    gate.bind(ADDRESS) == Err(Failed)
+}
+
+/// Whether the gate fails to hand out a link.
+fn fails_next<G: Gate>(gate: &mut G) -> bool {
+    matches!(gate.next(), Err(Failed))
 }
 
 #[test]
-fn bytes_go_over_sockets_of_both_kinds(rt: HostRuntime) -> Result<(), Fail> {
-    let _ = fs::remove_file(&rt, "links.sock");
-    assert!(rt; talks(&rt, "unix:links.sock")?);
+fn bytes_go_over_sockets_of_both_kinds(rt: HostRuntime) {
+    let _ = fs::remove_file(&rt, PATH);
+    assert!(rt; talks(&rt, ADDRESS));
     // the path of a server that is gone is taken over
-    assert!(rt; talks(&rt, "unix:links.sock")?);
+    assert!(rt; talks(&rt, ADDRESS));
     let mut gate = SocketGate::new(&rt);
-    assert!(rt; gate.bind("unix:links.sock") == Ok(()));
+    assert!(rt; is_bound(&mut gate));
     // one that lives keeps its path
     let mut other = SocketGate::new(&rt);
-    assert!(rt; other.bind("unix:links.sock") == Err(Failed) && other.faults() == 1);
-    fs::remove_file(&rt, "links.sock")?;
+    assert!(rt; fails_to_bind(&mut other) && other.faults() == 1);
+    fs::remove_file(&rt, PATH).expect(&rt, "the file");
     // a file that is no socket stays
-    fs::write(&rt, "links.sock", b"kept")?;
-    assert!(rt; other.bind("unix:links.sock") == Err(Failed) && other.faults() == 2);
-    fs::remove_file(&rt, "links.sock")?;
-    assert!(rt; matches!(other.next(), Err(Failed)));
-    assert!(rt; talks(&rt, "127.0.0.1:47391")?);
-    Ok(())
+    fs::write(&rt, PATH, b"kept").expect(&rt, "a file");
+    assert!(rt; fails_to_bind(&mut other) && other.faults() == 2);
+    fs::remove_file(&rt, PATH).expect(&rt, "the file");
+    assert!(rt; fails_next(&mut other));
+    assert!(rt; talks(&rt, "127.0.0.1:47391"));
+    drop(other);
+    drop(gate);
 }
