@@ -34,8 +34,7 @@ const TO_SIXTEEN: [Row; 4] = [
 /// The trail that is written then.
 const OF_SIXTEEN: &[u8] = b"\x00\x00\x00\x05\x00\x01abc\x00\x00\x00\x03\x00\x01a";
 
-const FILLINGS: [(u64, [Row; 4], &[u8]); 2] =
-    [(10, TO_TEN, OF_TEN), (16, TO_SIXTEEN, OF_SIXTEEN)];
+const FILLINGS: [(u64, [Row; 4], &[u8]); 2] = [(10, TO_TEN, OF_TEN), (16, TO_SIXTEEN, OF_SIXTEEN)];
 
 /// A trail of so many bytes at most.
 fn trail_of(alloc: Global, most: u64) -> Trailed<Counter> {
