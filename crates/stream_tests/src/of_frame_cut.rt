@@ -42,8 +42,8 @@ fn mark_of(len: u32) -> u8 {
     }
 }
 
-/// Notes the body that stands at the front, and answers `|`; where none does, it answers `-`, or the
-/// mark of a length word that is too long.
+/// Notes the body that stands at the front, and answers `|`. Where none does, it answers `-`, or
+/// the mark of a length word that is too long.
 fn cut_one(rt: &impl Abort, cutter: &mut FrameCutter, seen: &mut Vec<u8>) -> u8 {
     match cutter.next() {
         Cut::Frame(body) => {

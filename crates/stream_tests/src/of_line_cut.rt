@@ -28,8 +28,8 @@ fn put(rt: &impl Abort, bytes: &mut Vec<u8>, more: &[u8]) {
     bytes.extend_from_slice(more).expect(rt, "room");
 }
 
-/// Puts the line that stands at the front and a `|` behind what is seen, and answers `|`; where none
-/// does, it answers `-`, or `!` where the line is too long.
+/// Puts the line that stands at the front and a `|` behind what is seen, and answers `|`. Where
+/// none does, it answers `-`, or `!` where the line is too long.
 fn cut_one(rt: &impl Abort, cutter: &mut LineCutter, seen: &mut Vec<u8>) -> u8 {
     match cutter.next() {
         Cut::Line(line) => {
