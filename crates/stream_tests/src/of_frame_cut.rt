@@ -35,11 +35,7 @@ fn note(rt: &impl Abort, seen: &mut Vec<u8>, body: &[u8]) {
 
 /// The mark of a length word of so much, which is too long.
 fn mark_of(len: u32) -> u8 {
-    if len == 1_048_577 {
-        b'!'
-    } else {
-        b'?'
-    }
+    if len == 1_048_577 { b'!' } else { b'?' }
 }
 
 /// Notes the body that stands at the front, and answers `|`. Where none does, it answers `-`, or
