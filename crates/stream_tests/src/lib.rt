@@ -38,3 +38,5 @@ mod of_tardis_io;
 mod of_trail_log;
 #[cfg(test)]
 mod repliers;
+#[cfg(test)]
+mod streams;

@@ -1,5 +1,6 @@
 ghost use Rattle.std.specs.Prelude.{◌≡◌, ◌==◌, true, false, [], length, take, not, OnOk, OnErr, IsOk, refl};
 
+use crate::streams::put;
 use hub::{End, MemoryPorts, Move, Ports, Seen, Upkeep, one_trail, serve};
 use std::alloc::Global;
 use std::process::Abort;
@@ -62,10 +63,6 @@ fn read(rt: &impl Abort, alloc: Global, slot: usize, bytes: &[u8]) -> Move {
         slot,
         bytes: ByteList::from_vec(copied(rt, alloc, bytes)),
     }
-}
-
-fn put(rt: &impl Abort, bytes: &mut Vec<u8>, more: &[u8]) {
-    bytes.extend_from_slice(more).expect(rt, "room");
 }
 
 /// Puts a letter, and the low digit of a number, behind the bytes.

@@ -1,5 +1,6 @@
 //! Lines out of pieces of any size.
 
+use crate::streams::put;
 use line_cut::{Cut, LineCutter, one_cut};
 use std::alloc::Global;
 use std::process::Abort;
@@ -21,11 +22,6 @@ fn cutter_of(rt: &impl Abort, alloc: Global) -> LineCutter {
 
 fn feed(cutter: &mut LineCutter, piece: &[u8]) {
     let _ = cutter.feed(piece);
-}
-
-/// Puts more bytes behind these.
-fn put(rt: &impl Abort, bytes: &mut Vec<u8>, more: &[u8]) {
-    bytes.extend_from_slice(more).expect(rt, "room");
 }
 
 /// Puts the line that stands at the front and a `|` behind what is seen, and answers `|`. Where

@@ -4,7 +4,7 @@ ghost use Rattle.dag_lock.specs.Named.{lock_id, pieces_of};
 ghost use Rattle.dag_lock.specs.Steps.{Keeps};
 
 use crate::counters::Counter;
-use crate::links::client;
+use crate::links::{client, clients, gate_of};
 use crate::locks::{closed, locked, written};
 use dag_lock::{DagLock, Pass};
 use serve_pool::{PoolEnd, Served, serve_all};
@@ -13,7 +13,7 @@ use std::process::Abort;
 use std::sync::Wait;
 use std::sync::atomic::{AtomicU64, Ordering};
 use std::thread::Threads;
-use tardis_io::{Duplex, Failed, Gate, Link, MemoryGate, MemoryLink, Sink};
+use tardis_io::{Duplex, Failed, Gate, Link, MemoryLink, Sink};
 use trail_log::Trailed;
 
 /// The pieces of the pass: one more than the links of any row, at least.
@@ -98,31 +98,6 @@ fn expects(
         taken,
         end,
     }
-}
-
-/// Puts the link of a client behind these.
-fn push_client(rt: &impl Abort, alloc: Global, links: &mut Vec<MemoryLink>) {
-    let link = client(rt, alloc);
-    links.push(link).expect(rt, "room");
-}
-
-/// The links of so many clients.
-fn clients(rt: &impl Abort, alloc: Global, there: usize) -> Vec<MemoryLink> {
-    let mut links = Vec::new(alloc);
-    for _ in 0..there {
-        push_client(rt, alloc, &mut links);
-    }
-    links
-}
-
-/// A gate of these links, of which these calls fail.
-fn gate_of<L: Link>(
-    rt: &impl Abort,
-    alloc: Global,
-    links: Vec<L>,
-    failing: &[u64],
-) -> MemoryGate<L> {
-    MemoryGate::new(alloc, links, failing).expect(rt, "room")
 }
 
 /// Whether the links were put back, the last of them first, with the numbers from `first` on, each

@@ -1,5 +1,6 @@
-use crate::links::client;
+use crate::links::{clients, gate_of};
 use crate::repliers::Replier;
+use crate::streams::{sink_of, source_of};
 use serve_pool::PoolEnd;
 use serve_run::{ServeEnd, ServeOptions, Serving, serve_links};
 use site_sync::Rounds;
@@ -7,9 +8,7 @@ use std::alloc::Global;
 use std::process::Abort;
 use std::sync::Wait;
 use std::thread::Threads;
-use tardis_io::{
-    Dial, Gate, MemoryDial, MemoryGate, MemoryLink, MemorySink, MemorySource, Sink, WriteFault,
-};
+use tardis_io::{Dial, Gate, MemoryDial, MemoryLink, Sink, WriteFault};
 
 /// A batch of one record.
 const ONE: &[u8] = b"\x00\x00\x00\x18\
@@ -30,19 +29,9 @@ const WELL: Failing<'static> = Failing {
     calls: &[],
 };
 
-/// What a peer sends, where these takes fail.
-fn source_of(rt: &impl Abort, alloc: Global, failing: &[u64]) -> MemorySource {
-    MemorySource::new(alloc, ONE, 16, failing).expect(rt, "room")
-}
-
-/// An output with room for so many bytes, in pieces of so many, where these gives fail.
-fn sink_of(rt: &impl Abort, alloc: Global, room: u32, piece: u32, failing: &[u64]) -> MemorySink {
-    MemorySink::new(alloc, room, piece.max(1), failing).expect(rt, "room")
-}
-
 /// The link of a peer.
 fn peer(rt: &impl Abort, alloc: Global, failing: Failing<'_>) -> MemoryLink {
-    let source = source_of(rt, alloc, failing.takes);
+    let source = source_of(rt, alloc, ONE, 16, failing.takes);
     let sink = sink_of(rt, alloc, 100, 8, failing.gives);
     MemoryLink::new(source, sink)
 }
@@ -108,32 +97,6 @@ fn served(gate: PoolEnd, dial: u32, written: Result<(), WriteFault>) -> ServeEnd
     })
 }
 
-/// Puts the link of a client behind these.
-fn push_client(rt: &impl Abort, alloc: Global, links: &mut Vec<MemoryLink>) {
-    let link = client(rt, alloc);
-    links.push(link).expect(rt, "room");
-}
-
-/// The links of so many clients.
-fn clients(rt: &impl Abort, alloc: Global, there: usize) -> Vec<MemoryLink> {
-    let mut links = Vec::new(alloc);
-    for _ in 0..there {
-        push_client(rt, alloc, &mut links);
-    }
-    links
-}
-
-/// A gate of so many links, of which these calls fail.
-fn gate_of(
-    rt: &impl Abort,
-    alloc: Global,
-    there: usize,
-    failing: &[u64],
-) -> MemoryGate<MemoryLink> {
-    let links = clients(rt, alloc, there);
-    MemoryGate::new(alloc, links, failing).expect(rt, "room")
-}
-
 /// The address of the peers.
 fn addresses(rt: &impl Abort, alloc: Global) -> Vec<String> {
     let address = String::from_str(alloc, "unix:p").expect(rt, "room");
@@ -191,7 +154,7 @@ fn serve_row<O: Sink, R: Threads + Wait + Sync + Abort>(
     row: Row<'_>,
     output: &mut O,
 ) -> ServeEnd {
-    let mut gate = gate_of(rt, alloc, row.there, row.gate);
+    let mut gate = gate_of(rt, alloc, clients(rt, alloc, row.there), row.gate);
     let mut dial = dial_of(rt, alloc, row.peers);
     let end = serve_over(rt, alloc, row, &mut gate, &mut dial, output);
     drop(gate);

@@ -4,12 +4,13 @@ ghost use Rattle.dag_lock.specs.Steps.{Keeps};
 
 use crate::counters::Counter;
 use crate::locks::{closed, locked, written};
+use crate::streams::{sink_of, source_of};
 use dag_lock::{DagLock, Pass};
 use session_serve::{SessionEnd, serve_session, sessions_last};
 use std::alloc::Global;
 use std::process::Abort;
 use std::sync::Wait;
-use tardis_io::{Link, MemoryLink, MemorySink, MemorySource};
+use tardis_io::{Link, MemoryLink};
 use trail_log::Trailed;
 
 /// What a link sends, the takes and gives that fail, and how much trail there may be; how session 7
@@ -79,20 +80,10 @@ fn serve_locked<L: Link, R: Wait + Abort>(
     (end, is_written)
 }
 
-/// What a link sends, where these takes fail.
-fn source_of(rt: &impl Abort, alloc: Global, sent: &[u8], failing: &[u64]) -> MemorySource {
-    MemorySource::new(alloc, sent, 65_536, failing).expect(rt, "room")
-}
-
-/// What a link is given, where these gives fail.
-fn sink_of(rt: &impl Abort, alloc: Global, failing: &[u64]) -> MemorySink {
-    MemorySink::new(alloc, 100, 100, failing).expect(rt, "room")
-}
-
 /// The link of a row.
 fn link_of(rt: &impl Abort, alloc: Global, row: &Row<'_>) -> MemoryLink {
-    let source = source_of(rt, alloc, row.sent, row.failing.0);
-    let sink = sink_of(rt, alloc, row.failing.1);
+    let source = source_of(rt, alloc, row.sent, 65_536, row.failing.0);
+    let sink = sink_of(rt, alloc, 100, 100, row.failing.1);
     MemoryLink::new(source, sink)
 }
 

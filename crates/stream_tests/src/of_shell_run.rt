@@ -1,10 +1,11 @@
 ghost use Rattle.std.specs.Prelude.{◌≡◌, true, false, [], ◌∷◌, OnOk, OnErr, IsOk};
 
+use crate::streams::{sink_of, source_of};
 use shell_run::{audit, run_shell};
 use std::alloc::Global;
 use std::process::Abort;
 use tardis_base::{Machine, NoMemory, ReplyBuf};
-use tardis_io::{MemorySink, MemorySource, Sink, Source, Status};
+use tardis_io::{Sink, Source, Status};
 
 /// Is done with each request, but for a Get, for which it finds no memory.
 #[derive(Drop)]
@@ -46,16 +47,6 @@ const TOLD: &str = "1 open -> done\n5 malformed -> done\n2 get x -> nomemory\n";
 
 /// What it tells of their first eleven bytes.
 const TOLD_OF_FRONT: &str = "1 open -> done\n";
-
-/// These bytes as an input.
-fn source_of(rt: &impl Abort, alloc: Global, bytes: &[u8]) -> MemorySource {
-    MemorySource::new(alloc, bytes, 4_096, &[]).expect(rt, "room")
-}
-
-/// An output with room for 1,000 bytes.
-fn empty_sink(rt: &impl Abort, alloc: Global) -> MemorySink {
-    MemorySink::new(alloc, 1_000, 1_000, &[]).expect(rt, "room")
-}
 
 /// How a shell of the clerk ends.
 fn shell_ends<I: Source, O: Sink>(
@@ -104,8 +95,8 @@ fn runs_to(
     acts: u8,
 ) -> bool {
     let mut clerk = Clerk { acts: 0 };
-    let mut source = source_of(rt, alloc, input);
-    let mut sink = empty_sink(rt, alloc);
+    let mut source = source_of(rt, alloc, input, 4_096, &[]);
+    let mut sink = sink_of(rt, alloc, 1_000, 1_000, &[]);
     let ended = ends(alloc, is_shell, &mut clerk, &mut source, &mut sink);
     drop(source);
     let is_written = sink.bytes() == output.as_bytes();

@@ -2,11 +2,12 @@
 
 ghost use Rattle.std.specs.Prelude.{◌≡◌, true, false, [], None, take, OnOk, OnErr, IsOk, refl};
 
+use crate::streams::{sink_of, source_of};
 use site_run::{run_device, run_site};
 use std::alloc::Global;
 use std::process::Abort;
 use tardis_base::{Machine, NoMemory, ReplyBuf};
-use tardis_io::{Duplex, Failed, MemorySink, MemorySource, Sink, Source, Status};
+use tardis_io::{Duplex, Failed, Sink, Source, Status};
 
 /// Replies to a request by its first 16 bytes, and finds no memory for an empty one.
 #[derive(Drop)]
@@ -44,22 +45,6 @@ struct Devices<'a> {
     failing_gives: &'a [u64],
 }
 
-/// An input of these bytes, at most so many in each take, of which the listed takes fail.
-fn source_of(
-    rt: &impl Abort,
-    alloc: Global,
-    bytes: &[u8],
-    piece: u32,
-    failing: &[u64],
-) -> MemorySource {
-    MemorySource::new(alloc, bytes, piece.max(1), failing).expect(rt, "room")
-}
-
-/// An output of at most so many bytes in each give, of which the listed gives fail.
-fn sink_of(rt: &impl Abort, alloc: Global, piece: u32, failing: &[u64]) -> MemorySink {
-    MemorySink::new(alloc, 1_000, piece.max(1), failing).expect(rt, "room")
-}
-
 /// How the machine ends over these streams.
 fn ended<M: Machine, I: Source, O: Sink>(
     alloc: Global,
@@ -81,7 +66,7 @@ fn runs_to(
 ) -> bool {
     let mut machine = Echo { acts: 0 };
     let mut source = source_of(rt, alloc, input, devices.take, devices.failing_takes);
-    let mut sink = sink_of(rt, alloc, devices.give, devices.failing_gives);
+    let mut sink = sink_of(rt, alloc, 1_000, devices.give, devices.failing_gives);
     let ended = ended(alloc, &mut machine, &mut source, &mut sink);
     drop(source);
     let is_given = sink.bytes() == output;
@@ -181,7 +166,7 @@ fn stops_behind_first(
 ) -> bool {
     let mut machine = Echo { acts: 0 };
     let mut source = source_of(rt, alloc, TWO_ALIKE, 8, failing_takes);
-    let mut sink = sink_of(rt, alloc, 1_000, failing_gives);
+    let mut sink = sink_of(rt, alloc, 1_000, 1_000, failing_gives);
     let ended = ended(alloc, &mut machine, &mut source, &mut sink);
     drop(source);
     let is_given = sink.bytes() == FIRST_REPLY;
@@ -270,7 +255,7 @@ fn no_take_comes_before_the_replies_are_given(rt: HostRuntime) {
 fn stops_after(rt: &impl Abort, alloc: Global, take: u32, acts: u8) -> bool {
     let mut machine = Echo { acts: 0 };
     let mut source = source_of(rt, alloc, TWO_ALIKE, take, &WELL);
-    let mut sink = sink_of(rt, alloc, 1_000, &[1]);
+    let mut sink = sink_of(rt, alloc, 1_000, 1_000, &[1]);
     let status = ended(alloc, &mut machine, &mut source, &mut sink);
     drop(source);
     let is_empty = sink.bytes().is_empty();

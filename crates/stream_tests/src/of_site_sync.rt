@@ -6,12 +6,13 @@ ghost use Rattle.dag_lock.specs.Steps.{Keeps};
 
 use crate::locks::{closed, locked, written};
 use crate::repliers::Replier;
+use crate::streams::{sink_of, source_of};
 use dag_lock::{DagLock, Pass};
 use site_sync::{Rounds, SyncEnd, run_rounds, sync_round};
 use std::alloc::Global;
 use std::process::Abort;
 use std::sync::Wait;
-use tardis_io::{Dial, MemoryDial, MemoryLink, MemorySink, MemorySource};
+use tardis_io::{Dial, MemoryDial, MemoryLink};
 
 /// The takes, gives and calls that fail.
 type Failing = (&'static [u64], &'static [u64], &'static [u64]);
@@ -38,18 +39,10 @@ const WITHOUT: &[u8] =
 /// The request for what is above no states of both sites.
 const PULL: &[u8] = b"\x00\x00\x00\x0a\x13\x02\x00\x00\x00\x00\x00\x00\x00\x00";
 
-fn source_of(rt: &impl Abort, alloc: Global, sent: &[u8], takes: &[u64]) -> MemorySource {
-    MemorySource::new(alloc, sent, 16, takes).expect(rt, "room")
-}
-
-fn sink_of(rt: &impl Abort, alloc: Global, gives: &[u64]) -> MemorySink {
-    MemorySink::new(alloc, 100, 8, gives).expect(rt, "room")
-}
-
 /// A link that sends these bytes, of which these takes and gives fail.
 fn link(rt: &impl Abort, alloc: Global, sent: &[u8], takes: &[u64], gives: &[u64]) -> MemoryLink {
-    let source = source_of(rt, alloc, sent, takes);
-    let sink = sink_of(rt, alloc, gives);
+    let source = source_of(rt, alloc, sent, 16, takes);
+    let sink = sink_of(rt, alloc, 100, 8, gives);
     MemoryLink::new(source, sink)
 }
 

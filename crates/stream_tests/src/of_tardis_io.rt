@@ -1,32 +1,16 @@
 ghost use Rattle.std.specs.Prelude.{◌≤◌, IfOk};
 
+use crate::streams::{put, sink_of, source_of};
 use std::alloc::Global;
 use std::io;
 use std::io::{Error, ErrorKind, Read, Write};
 use std::process::Abort;
 use tardis_base::StateId;
 use tardis_io::{
-    CountSink, Dial, Duplex, Failed, Gate, Link, MemoryDial, MemoryGate, MemoryLink, MemorySink,
-    MemorySource, Pair, ReaderSource, Sink, Source, Status, StdIn, StdOut, SteadySource,
-    WriteFault, WriterSink, write_all,
+    CountSink, Dial, Duplex, Failed, Gate, Link, MemoryDial, MemoryGate, MemoryLink, Pair,
+    ReaderSource, Sink, Source, Status, StdIn, StdOut, SteadySource, WriteFault, WriterSink,
+    write_all,
 };
-
-/// An input of these bytes, of which at most so many are taken at once, and these takes fail.
-fn source_of(
-    rt: &impl Abort,
-    alloc: Global,
-    bytes: &[u8],
-    piece: u32,
-    failing: &[u64],
-) -> MemorySource {
-    MemorySource::new(alloc, bytes, piece.max(1), failing).expect(rt, "room")
-}
-
-/// An output with so much room, to which at most so many bytes are given at once, and these gives
-/// fail.
-fn sink_of(rt: &impl Abort, alloc: Global, room: u32, piece: u32, failing: &[u64]) -> MemorySink {
-    MemorySink::new(alloc, room, piece.max(1), failing).expect(rt, "room")
-}
 
 /// An input of these bytes that never fails.
 fn steady_source(rt: &impl Abort, alloc: Global, bytes: &[u8]) -> SteadySource {
@@ -246,10 +230,6 @@ fn many_bytes(rt: &impl Abort, alloc: Global) -> Vec<u8> {
         put(rt, &mut bytes, &word);
     }
     bytes
-}
-
-fn put(rt: &impl Abort, bytes: &mut Vec<u8>, more: &[u8]) {
-    bytes.extend_from_slice(more).expect(rt, "room");
 }
 
 /// A reader of these bytes, of which each call moves at most so many.

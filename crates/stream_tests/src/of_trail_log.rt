@@ -3,10 +3,11 @@
 ghost use Rattle.std.specs.Prelude.{◌≡◌, ◌+◌, ◌%◌, [], ◌∷◌, ℕ, false};
 
 use crate::counters::Counter;
+use crate::streams::sink_of;
 use std::alloc::Global;
 use std::process::Abort;
 use tardis_base::{Machine, ReplyBuf};
-use tardis_io::{CountSink, MemorySink, Sink};
+use tardis_io::{CountSink, Sink};
 use trail_log::{Acted, Trailed};
 
 /// A request, and what it comes to with the bytes of the reply.
@@ -45,11 +46,6 @@ fn empty_reply(rt: &impl Abort, alloc: Global) -> ReplyBuf {
     ReplyBuf::new(alloc).expect(rt, "room")
 }
 
-/// A sink with room for so many bytes, at most so many in each give.
-fn sink_of(rt: &impl Abort, alloc: Global, room: u32, piece: u32) -> MemorySink {
-    MemorySink::new(alloc, room, piece.max(1), &[]).expect(rt, "room")
-}
-
 /// What a request comes to, of which the first 1,048,574 bytes are asked.
 fn acted<M: Machine>(
     trail: &mut Trailed<M>,
@@ -86,7 +82,7 @@ fn come_to(rt: &impl Abort, alloc: Global, trail: &mut Trailed<Counter>, rows: &
 
 /// Whether the trail is written as these bytes, and counts them.
 fn is_written(rt: &impl Abort, alloc: Global, trail: &Trailed<Counter>, written: &[u8]) -> bool {
-    let mut sink = sink_of(rt, alloc, 100, 100);
+    let mut sink = sink_of(rt, alloc, 100, 100, &[]);
     let is_whole = is_taken(trail, &mut sink);
     let is_given = sink.bytes() == written;
     drop(sink);
@@ -138,7 +134,7 @@ fn long_trail(rt: &impl Abort, alloc: Global, counts: &[usize]) -> Trailed<Count
 
 /// Whether a sink of five bytes has just these after the trail was not written whole.
 fn is_cut(rt: &impl Abort, alloc: Global, trail: &Trailed<Counter>) -> bool {
-    let mut short = sink_of(rt, alloc, 5, 2);
+    let mut short = sink_of(rt, alloc, 5, 2, &[]);
     let is_whole = is_taken(trail, &mut short);
     let count = short.bytes().len();
     drop(short);
