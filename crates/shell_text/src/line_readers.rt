@@ -56,6 +56,13 @@ fn read_request(alloc: Global, words: &Words) -> Result<Request, ReadFault>
     if let Some(left) = words.behind(b"del ") {
         return read_delete(alloc, &left);
     }
+    read_end_request(alloc, words)
+}
+
+/// One of the requests that end a transaction, begin a merge or show one its forks, or one whose name stands behind those.
+fn read_end_request(alloc: Global, words: &Words) -> Result<Request, ReadFault>
+    ensures { IsAnswer (whole (by_prefix (drop 5 request_text_rows)) words.now) result }
+{
     if let Some(left) = words.behind(b"commit ") {
         return sure(read_commit(&left));
     }
@@ -71,11 +78,11 @@ fn read_request(alloc: Global, words: &Words) -> Result<Request, ReadFault>
     if let Some(left) = words.behind(b"conflicts ") {
         return read_conflicts(alloc, &left);
     }
-    read_other_request(alloc, words)
+    read_state_request(alloc, words)
 }
 
-/// One of the requests whose names stand behind those.
-fn read_other_request(alloc: Global, words: &Words) -> Result<Request, ReadFault>
+/// One of the requests of states and what is kept of them, or one whose name stands behind those.
+fn read_state_request(alloc: Global, words: &Words) -> Result<Request, ReadFault>
     ensures { IsAnswer (whole (by_prefix (drop 10 request_text_rows)) words.now) result }
 {
     if let Some(left) = words.behind(b"getfor ") {
@@ -90,6 +97,13 @@ fn read_other_request(alloc: Global, words: &Words) -> Result<Request, ReadFault
     if let Some(left) = words.behind(b"tidy ") {
         return sure(read_tidy(&left));
     }
+    read_other_request(alloc, words)
+}
+
+/// One of the requests of a site, or one whose name stands behind those.
+fn read_other_request(alloc: Global, words: &Words) -> Result<Request, ReadFault>
+    ensures { IsAnswer (whole (by_prefix (drop 14 request_text_rows)) words.now) result }
+{
     if let Some(left) = words.behind(b"stat ") {
         return sure(alone(Request::Stat, &left));
     }
@@ -105,11 +119,18 @@ fn read_other_request(alloc: Global, words: &Words) -> Result<Request, ReadFault
     if let Some(left) = words.behind(b"deliver ") {
         return read_deliver(alloc, &left);
     }
+    sure(read_last_request(words))
+}
+
+/// One of the requests whose names stand behind all of those.
+fn read_last_request(words: &Words) -> Option<Request>
+    ensures { result ≡ whole (by_prefix (drop 19 request_text_rows)) words.now }
+{
     if let Some(left) = words.behind(b"close ") {
-        return sure(alone(Request::Close, &left));
+        return alone(Request::Close, &left);
     }
     if let Some(left) = words.behind(b"settle ") {
-        return sure(alone(Request::Settle, &left));
+        return alone(Request::Settle, &left);
     }
-    Err(ReadFault::Malformed)
+    None
 }

@@ -33,6 +33,13 @@ pub fn read_refusal(alloc: Global, words: &Words) -> Result<Refusal, ReadFault>
     if let Some(left) = words.behind(b"sessionsfull ") {
         return sure(sessions_full(&left));
     }
+    read_txn_refusal(alloc, words)
+}
+
+/// One of the refusals of a transaction, or one whose name stands behind those.
+fn read_txn_refusal(alloc: Global, words: &Words) -> Result<Refusal, ReadFault>
+    ensures { IsRefusal (whole (by_prefix (drop 4 refusal_text_rows)) words.now) result }
+{
     if let Some(left) = words.behind(b"txnopen ") {
         return sure(alone(Refusal::TxnOpen, &left));
     }
@@ -42,6 +49,13 @@ pub fn read_refusal(alloc: Global, words: &Words) -> Result<Refusal, ReadFault>
     if let Some(left) = words.behind(b"wrongmode ") {
         return sure(alone(Refusal::WrongMode, &left));
     }
+    read_limit_refusal(alloc, words)
+}
+
+/// One of the refusals of what there is too much of, or one whose name stands behind those.
+fn read_limit_refusal(alloc: Global, words: &Words) -> Result<Refusal, ReadFault>
+    ensures { IsRefusal (whole (by_prefix (drop 7 refusal_text_rows)) words.now) result }
+{
     if let Some(left) = words.behind(b"toomany writes ") {
         return sure(too_many(1, &left));
     }
@@ -51,11 +65,11 @@ pub fn read_refusal(alloc: Global, words: &Words) -> Result<Refusal, ReadFault>
     if let Some(left) = words.behind(b"toomany states ") {
         return sure(too_many(3, &left));
     }
-    read_middle_refusal(alloc, words)
+    read_state_refusal(alloc, words)
 }
 
-/// One of the refusals whose names stand behind those.
-fn read_middle_refusal(alloc: Global, words: &Words) -> Result<Refusal, ReadFault>
+/// One of the refusals of a state, or one whose name stands behind those.
+fn read_state_refusal(alloc: Global, words: &Words) -> Result<Refusal, ReadFault>
     ensures { IsRefusal (whole (by_prefix (drop 10 refusal_text_rows)) words.now) result }
 {
     if let Some(left) = words.behind(b"unknown ") {
@@ -70,6 +84,13 @@ fn read_middle_refusal(alloc: Global, words: &Words) -> Result<Refusal, ReadFaul
     if let Some(left) = words.behind(b"notread ") {
         return sure(not_read(&left));
     }
+    read_conflict_refusal(alloc, words)
+}
+
+/// One of the refusals of conflicts and branches, or one whose name stands behind those.
+fn read_conflict_refusal(alloc: Global, words: &Words) -> Result<Refusal, ReadFault>
+    ensures { IsRefusal (whole (by_prefix (drop 14 refusal_text_rows)) words.now) result }
+{
     if let Some(left) = words.behind(b"conflictkey ") {
         return read_conflict_key(alloc, &left);
     }
@@ -82,56 +103,77 @@ fn read_middle_refusal(alloc: Global, words: &Words) -> Result<Refusal, ReadFaul
     if let Some(left) = words.behind(b"branches kb ") {
         return sure(branches(8, &left));
     }
+    sure(read_ceiling_refusal(words))
+}
+
+/// One of the refusals of ceilings and floors, or one whose name stands behind those.
+fn read_ceiling_refusal(words: &Words) -> Option<Refusal>
+    ensures { result ≡ whole (by_prefix (drop 18 refusal_text_rows)) words.now }
+{
     if let Some(left) = words.behind(b"ceilingback ") {
-        return sure(ceiling_back(&left));
+        return ceiling_back(&left);
     }
     if let Some(left) = words.behind(b"floorback ") {
-        return sure(floor_back(&left));
+        return floor_back(&left);
     }
     if let Some(left) = words.behind(b"held ") {
-        return sure(held(&left));
+        return held(&left);
+    }
+    if let Some(left) = words.behind(b"collected ") {
+        return collected(&left);
+    }
+    read_full_refusal(words)
+}
+
+/// One of the refusals where no more fits, or one whose name stands behind those.
+fn read_full_refusal(words: &Words) -> Option<Refusal>
+    ensures { result ≡ whole (by_prefix (drop 22 refusal_text_rows)) words.now }
+{
+    if let Some(left) = words.behind(b"full ") {
+        return full(&left);
+    }
+    if let Some(left) = words.behind(b"pathfull ") {
+        return path_full(&left);
+    }
+    if let Some(left) = words.behind(b"seqend ") {
+        return alone(Refusal::SeqEnd, &left);
+    }
+    read_site_refusal(words)
+}
+
+/// One of the refusals of sites and their items, or one whose name stands behind those.
+fn read_site_refusal(words: &Words) -> Option<Refusal>
+    ensures { result ≡ whole (by_prefix (drop 25 refusal_text_rows)) words.now }
+{
+    if let Some(left) = words.behind(b"badsite ") {
+        return bad_site(&left);
+    }
+    if let Some(left) = words.behind(b"closedparent ") {
+        return closed_parent(&left);
+    }
+    if let Some(left) = words.behind(b"ownitem ") {
+        return own_item(&left);
     }
     read_last_refusal(words)
 }
 
-/// One of the refusals whose names stand behind those.
-fn read_last_refusal(words: &Words) -> Result<Refusal, ReadFault>
-    ensures { IsRefusal (whole (by_prefix (drop 21 refusal_text_rows)) words.now) result }
+/// One of the refusals whose names stand behind all of those.
+fn read_last_refusal(words: &Words) -> Option<Refusal>
+    ensures { result ≡ whole (by_prefix (drop 28 refusal_text_rows)) words.now }
 {
-    if let Some(left) = words.behind(b"collected ") {
-        return sure(collected(&left));
-    }
-    if let Some(left) = words.behind(b"full ") {
-        return sure(full(&left));
-    }
-    if let Some(left) = words.behind(b"pathfull ") {
-        return sure(path_full(&left));
-    }
-    if let Some(left) = words.behind(b"seqend ") {
-        return sure(alone(Refusal::SeqEnd, &left));
-    }
-    if let Some(left) = words.behind(b"badsite ") {
-        return sure(bad_site(&left));
-    }
-    if let Some(left) = words.behind(b"closedparent ") {
-        return sure(closed_parent(&left));
-    }
-    if let Some(left) = words.behind(b"ownitem ") {
-        return sure(own_item(&left));
-    }
     if let Some(left) = words.behind(b"trailfull ") {
-        return sure(trail_full(&left));
+        return trail_full(&left);
     }
     if let Some(left) = words.behind(b"unsupported ") {
-        return sure(unsupported(&left));
+        return unsupported(&left);
     }
     if let Some(left) = words.behind(b"nosuchitem ") {
-        return sure(no_such_item(&left));
+        return no_such_item(&left);
     }
     if let Some(left) = words.behind(b"bagfull ") {
-        return sure(bag_full(&left));
+        return bag_full(&left);
     }
-    Err(ReadFault::Malformed)
+    None
 }
 
 /// The answer for a refusal that takes no memory.

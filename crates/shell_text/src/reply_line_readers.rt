@@ -53,6 +53,14 @@ fn read_reply(alloc: Global, words: &Words) -> Result<Reply, ReadFault>
     if let Some(left) = words.behind(b"value ") {
         return read_value(alloc, &left);
     }
+    read_done_reply(alloc, words)
+}
+
+/// One of the replies to what was done in a transaction, or one whose name stands behind those.
+fn read_done_reply(alloc: Global, words: &Words) -> Result<Reply, ReadFault>
+    requires { behind (codes "batch ") words.now ≡ None }
+    ensures { IsReply (whole (by_prefix (drop 4 reply_text_rows)) words.now) result }
+{
     if let Some(left) = words.behind(b"deleted ") {
         return sure_reply(read_deleted(&left));
     }
@@ -68,17 +76,17 @@ fn read_reply(alloc: Global, words: &Words) -> Result<Reply, ReadFault>
     if let Some(left) = words.behind(b"ended ") {
         return sure_reply(read_ended(&left));
     }
+    read_list_reply(alloc, words)
+}
+
+/// One of the replies that are lists or numbers, or one whose name stands behind those.
+fn read_list_reply(alloc: Global, words: &Words) -> Result<Reply, ReadFault>
+    requires { behind (codes "batch ") words.now ≡ None }
+    ensures { IsReply (whole (by_prefix (drop 9 reply_text_rows)) words.now) result }
+{
     if let Some(left) = words.behind(b"states ") {
         return read_states(alloc, &left);
     }
-    read_other_reply(alloc, words)
-}
-
-/// One of the replies whose names stand behind those.
-fn read_other_reply(alloc: Global, words: &Words) -> Result<Reply, ReadFault>
-    requires { behind (codes "batch ") words.now ≡ None }
-    ensures { IsReply (whole (by_prefix (drop 10 reply_text_rows)) words.now) result }
-{
     if let Some(left) = words.behind(b"keys ") {
         return read_keys(alloc, &left);
     }
@@ -88,12 +96,27 @@ fn read_other_reply(alloc: Global, words: &Words) -> Result<Reply, ReadFault>
     if let Some(left) = words.behind(b"tidied ") {
         return sure_reply(read_tidied(&left));
     }
+    read_shown_reply(alloc, words)
+}
+
+/// One of the replies that show what is kept, or one whose name stands behind those.
+fn read_shown_reply(alloc: Global, words: &Words) -> Result<Reply, ReadFault>
+    requires { behind (codes "batch ") words.now ≡ None }
+    ensures { IsReply (whole (by_prefix (drop 13 reply_text_rows)) words.now) result }
+{
     if let Some(left) = words.behind(b"stat known ") {
         return sure_reply(read_statistics(&left));
     }
     if let Some(left) = words.behind(b"shown ") {
         return read_shown(alloc, &left);
     }
+    read_other_reply(alloc, words)
+}
+
+/// One of the replies whose names stand behind all of those.
+fn read_other_reply(alloc: Global, words: &Words) -> Result<Reply, ReadFault>
+    ensures { IsReply (whole (by_prefix (drop 16 reply_text_rows)) words.now) result }
+{
     if let Some(left) = words.behind(b"applied ") {
         return sure_reply(alone(Reply::Applied, &left));
     }
