@@ -305,14 +305,17 @@ pub fn ids<'a>(
 fn begin_merge(states: Result<StateList, NoMemory>, left: &Words) -> Result<Request, ReadFault>
     ensures { (xs : List StateId) → IfOk states (λ l. l ≡ xs) → IsAnswer (alone (Request.BeginMerge (MergeOf.States xs)) left.now) result }
 {
-    if !left.is_over() {
-        return Err(ReadFault::Malformed);
-    }
     match states {
-        Ok(states) => Ok(Request::BeginMerge {
+        Ok(states) => sure(alone(Request::BeginMerge {
             of: MergeOf::States(states),
-        }),
-        Err(_) => Err(ReadFault::NoMemory),
+        }, left)),
+        Err(_) => {
+            if left.is_over() {
+                Err(ReadFault::NoMemory)
+            } else {
+                Err(ReadFault::Malformed)
+            }
+        },
     }
 }
 
@@ -371,12 +374,15 @@ fn numbers<'a>(
 fn pull(counts: Result<CountList, NoMemory>, left: &Words) -> Result<Request, ReadFault>
     ensures { (ns : List ℕ) → IfOk counts (λ l. l ≡ ns) → IsAnswer (alone (Request.Pull ns) left.now) result }
 {
-    if !left.is_over() {
-        return Err(ReadFault::Malformed);
-    }
     match counts {
-        Ok(counts) => Ok(Request::Pull { counts }),
-        Err(_) => Err(ReadFault::NoMemory),
+        Ok(counts) => sure(alone(Request::Pull { counts }, left)),
+        Err(_) => {
+            if left.is_over() {
+                Err(ReadFault::NoMemory)
+            } else {
+                Err(ReadFault::Malformed)
+            }
+        },
     }
 }
 
