@@ -306,9 +306,12 @@ fn begin_merge(states: Result<StateList, NoMemory>, left: &Words) -> Result<Requ
     ensures { (xs : List StateId) → IfOk states (λ l. l ≡ xs) → IsAnswer (alone (Request.BeginMerge (MergeOf.States xs)) left.now) result }
 {
     match states {
-        Ok(states) => sure(alone(Request::BeginMerge {
-            of: MergeOf::States(states),
-        }, left)),
+        Ok(states) => sure(alone(
+            Request::BeginMerge {
+                of: MergeOf::States(states),
+            },
+            left,
+        )),
         Err(_) => {
             if left.is_over() {
                 Err(ReadFault::NoMemory)

@@ -59,7 +59,7 @@ fn read_request(alloc: Global, words: &Words) -> Result<Request, ReadFault>
     read_end_request(alloc, words)
 }
 
-/// One of the requests that end a transaction, begin a merge or show one its forks, or one whose name stands behind those.
+/// One of the requests that end a transaction or merge states, or one whose name stands behind those.
 fn read_end_request(alloc: Global, words: &Words) -> Result<Request, ReadFault>
     ensures { IsAnswer (whole (by_prefix (drop 5 request_text_rows)) words.now) result }
 {
