@@ -1,4 +1,4 @@
-use Rattle.std.proofs.Common.{◌≡◌, ◌∙◌, sym, subst}
+use Rattle.std.proofs.Common.{◌∙◌, sym, subst}
 use Rattle.load_run.specs.Plays.{asks, reply_to, stepped}
 use Rattle.load_run.specs.Held.{Plays}
 use Rattle.load_run.proofs.Playing.{counted_as}

@@ -1,4 +1,4 @@
-use Rattle.std.proofs.Common.{◌≡◌, sym, subst}
+use Rattle.std.proofs.Common.{sym, subst}
 use Rattle.load_run.specs.Plays.{stepped, reply_to}
 use Rattle.load_run.specs.Held.{Plays}
 use Rattle.load_run.proofs.players.Player.reply_to.Goals as goal
