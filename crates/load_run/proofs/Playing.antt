@@ -67,3 +67,10 @@ pub turn_begins : {A E : Type 0} (old new : Held) (r : Result A E) (i s : ℕ) �
 turn_begins old new r i s has d =
     IfOk-weaker r (λ x. (play : Play) → Plays old play → Plays new (begins i s play)) (λ x. (play : Play) → Plays old play → Plays new (turn_of i s play))
     (λ x f play h. subst (λ b. Plays new (if b then commits_ser s play else begins i s play)) (has play h) (f play h)) d
+
+-- one act, and then another
+pub then_does : {A E : Type 0} (old mid new : Held) (r : Result A E) (first next : Act) → ((play : Play) → Plays old play → Plays mid (first play)) →
+    Does mid new r next → Does old new r (λ play. next (first play))
+then_does old mid new r first next p d =
+    IfOk-weaker r (λ x. (play : Play) → Plays mid play → Plays new (next play)) (λ x. (play : Play) → Plays old play → Plays new (next (first play)))
+    (λ x f play h. f (first play) (p play h)) d

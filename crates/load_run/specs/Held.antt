@@ -6,7 +6,7 @@ use Rattle.tardis_base.specs.declared.replies.Reply.{Reply}
 use Rattle.session_core.specs.Core.{Core}
 use Rattle.session_core.specs.Machine.{SiteStands}
 use Rattle.load_run.specs.declared.counts.Counts.{Counts}
-use Rattle.load_run.specs.Plays.{Play, Act, asks, reply_to, word, drawn}
+use Rattle.load_run.specs.Plays.{Play, Act, stepped, asks, reply_to, word, drawn}
 
 pub record Held : Type 0 where
   pub core : Core
@@ -21,6 +21,10 @@ pub record Plays (held : Held) (play : Play) : Type 0 where
 -- the act is done, unless memory was wanting
 abbrev pub Does : {A E : Type 0} → Held → Held → Result A E → Act → Type 0
 Does old new result act = OnOk result ((play : Play) → Plays old play → Plays new (act play))
+
+-- the site gave the actor this reply, unless memory was wanting, and nothing is counted
+abbrev pub Replied : {E : Type 0} → Held → Held → ℕ → Request → Result Reply E → Type 0
+Replied old new n q result = IfOk result (λ reply. (play : Play) → Plays old play → Plays new (stepped n q play) × (reply ≡ reply_to n q play))
 
 -- the actor has asked, and this is the reply, unless memory was wanting
 abbrev pub Asked : {E : Type 0} → Held → Held → ℕ → Request → Result Reply E → Type 0

@@ -36,6 +36,10 @@ counted reply c =
 unfoldable pub reply_to : ℕ → Request → Play → Reply
 reply_to n q play = (step play.site n q).1
 
+-- the site answers the actor, and nothing is counted
+unfoldable pub stepped : ℕ → Request → Act
+stepped n q play = record play { site = (step play.site n q).0 }
+
 -- the actor asks
 unfoldable pub asks : ℕ → Request → Act
 asks n q play = record play { site = (step play.site n q).0; counts = counted (reply_to n q play) play.counts }

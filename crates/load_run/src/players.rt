@@ -5,10 +5,10 @@ ghost use Rattle.tardis_base.specs.declared.requests.Request.{Request};
 ghost use Rattle.wire_talk.specs.Valid.{is_request};
 ghost use Rattle.plain_dag.specs.Entries.{entry_of};
 ghost use Rattle.session_core.specs.Machine.{IsTold};
-ghost use Rattle.load_run.specs.Plays.{Play};
+ghost use Rattle.load_run.specs.Plays.{Play, asks};
 ghost use Rattle.load_run.specs.Scripts.{opening_play};
 ghost use Rattle.load_run.specs.Lines.{known, kept};
-ghost use Rattle.load_run.specs.Held.{Plays, Asked, Drew};
+ghost use Rattle.load_run.specs.Held.{Plays, Asked, Does, Drew, Replied};
 
 use crate::counts::Counts;
 use command_words::Place;
@@ -86,18 +86,42 @@ impl Player {
         self.site.has_txn(session)
     }
 
+    /// What the site replies to the actor. It isn't counted.
+    fn reply_to(&mut self, actor: u16, request: Request) -> Result<Reply, NoMemory>
+        requires { IsTrue (is_request request) }
+        ensures replied { Replied self.old self.new actor request result }
+        ensures told { IfOk result (λ reply. IsTold reply) }
+        ensures counts { self.new.counts ≡ self.old.counts }
+    {
+        let mut reply = Reply::NoMemory;
+        match self.site.step(actor, &request, &mut reply) {
+            Ok(()) => Ok(reply),
+            Err(NoMemory) => Err(NoMemory),
+        }
+    }
+
     /// Asks the site, as the actor.
-    pub(crate) fn ask(&mut self, actor: u16, request: &Request) -> Result<Reply, NoMemory>
-        requires request { IsTrue (is_request request.now) }
+    pub(crate) fn ask(&mut self, actor: u16, request: Request) -> Result<Reply, NoMemory>
+        requires request { IsTrue (is_request request) }
         requires room { self.old.counts.events + 1 ≤ 18446744073709551615 }
-        ensures asked { Asked self.old self.new actor request.now result }
+        ensures asked { Asked self.old self.new actor request result }
         ensures told { IfOk result (λ reply. IsTold reply) }
         ensures room { self.new.counts.events ≤ self.old.counts.events + 1 }
     {
-        let mut reply = Reply::NoMemory;
-        self.site.step(actor, request, &mut reply)?;
+        let reply = self.reply_to(actor, request)?;
         self.counts = self.counts.with(&reply);
         Ok(reply)
+    }
+
+    /// Asks the site, as the actor, whatever it replies.
+    pub(crate) fn tell(&mut self, actor: u16, request: Request) -> Result<(), NoMemory>
+        requires request { IsTrue (is_request request) }
+        requires room { self.old.counts.events + 1 ≤ 18446744073709551615 }
+        ensures does { Does self.old self.new result (asks actor request) }
+        ensures room { self.new.counts.events ≤ self.old.counts.events + 1 }
+    {
+        self.ask(actor, request)?;
+        Ok(())
     }
 
     /// How many states the site knows, and how many of them it keeps. It isn't counted.
@@ -106,8 +130,7 @@ impl Player {
         ensures kept { IfOk result (λ states. (play : Play) → Plays self.old play → states.1 ≡ kept play.site) }
         ensures counts { self.new.counts ≡ self.old.counts }
     {
-        let mut reply = Reply::NoMemory;
-        self.site.step(0, &Request::Stat, &mut reply)?;
+        let reply = self.reply_to(0, Request::Stat)?;
         match reply {
             Reply::Stat { known, kept, .. } => Ok((known, kept)),
             _ => Err(NoMemory),

@@ -61,8 +61,7 @@ impl Player {
         ensures does { Does self.old self.new result (opens session) }
         ensures room { self.new.counts.events ≤ self.old.counts.events + 1 }
     {
-        self.ask(session, &Request::Open { follow: true })?;
-        Ok(())
+        self.tell(session, Request::Open { follow: true })
     }
 
     /// The session writes the text of the number to the key.
@@ -73,8 +72,7 @@ impl Player {
         ensures room { self.new.counts.events ≤ self.old.counts.events + 1 }
     {
         let value = text_of(self.alloc(), number)?;
-        self.ask(session, &Request::Put { key, value })?;
-        Ok(())
+        self.tell(session, Request::Put { key, value })
     }
 
     /// The session reads the key of the next word.
@@ -85,8 +83,7 @@ impl Player {
     {
         let read = self.word() % 64;
         let key = numbered_key(self.alloc(), read)?;
-        self.ask(session, &Request::Get { key })?;
-        Ok(())
+        self.tell(session, Request::Get { key })
     }
 
     /// The session writes the text of the number to the key of the next word.
@@ -107,8 +104,7 @@ impl Player {
         ensures room { self.new.counts.events ≤ self.old.counts.events + 1 }
     {
         let flags = EndFlags::SER;
-        self.ask(session, &Request::Commit { flags, k: 0 })?;
-        Ok(())
+        self.tell(session, Request::Commit { flags, k: 0 })
     }
 
     /// The session begins, reads a key and writes to one.
@@ -118,7 +114,7 @@ impl Player {
         ensures room { self.new.counts.events ≤ self.old.counts.events + 3 }
     {
         let begin = Begin::Ancestor;
-        self.ask(session, &Request::Begin { begin })?;
+        self.tell(session, Request::Begin { begin })?;
         self.get_drawn(session)?;
         self.put_drawn(session, i)
     }
@@ -172,10 +168,7 @@ impl Player {
         ensures room { self.new.counts.events ≤ self.old.counts.events + 1 }
     {
         match reply {
-            Reply::Refused { .. } => {
-                self.ask(MERGER, &Request::Abort)?;
-                Ok(())
-            },
+            Reply::Refused { .. } => self.tell(MERGER, Request::Abort),
             _ => Ok(()),
         }
     }
@@ -187,7 +180,7 @@ impl Player {
         ensures room { self.new.counts.events ≤ self.old.counts.events + 257 }
     {
         let after = ByteList::new(self.alloc());
-        let listed = self.ask(MERGER, &Request::Conflicts { after })?;
+        let listed = self.ask(MERGER, Request::Conflicts { after })?;
         self.settle(i, &listed)
     }
 
@@ -198,7 +191,7 @@ impl Player {
         ensures room { self.new.counts.events ≤ self.old.counts.events + 2 }
     {
         let flags = EndFlags(0);
-        let reply = self.ask(MERGER, &Request::Commit { flags, k: 0 })?;
+        let reply = self.ask(MERGER, Request::Commit { flags, k: 0 })?;
         self.abort_refused(&reply)
     }
 
@@ -224,7 +217,7 @@ impl Player {
         ensures room { self.new.counts.events ≤ self.old.counts.events + 260 }
     {
         let of = MergeOf::Leaves;
-        let reply = self.ask(MERGER, &Request::BeginMerge { of })?;
+        let reply = self.ask(MERGER, Request::BeginMerge { of })?;
         self.join(i, &reply)
     }
 
@@ -235,9 +228,8 @@ impl Player {
         ensures room { self.new.counts.events ≤ self.old.counts.events + 262 }
     {
         self.merge(i)?;
-        self.ask(0, &Request::RaiseAuto)?;
-        self.ask(0, &Request::Tidy { n: 64 })?;
-        Ok(())
+        self.tell(0, Request::RaiseAuto)?;
+        self.tell(0, Request::Tidy { n: 64 })
     }
 
     /// Step i: a turn, and after each seventh the upkeep.

@@ -4,6 +4,7 @@ use merge_rules::{Base, Side, merged};
 use rule_list::Rule;
 use std::alloc::Global;
 use std::process::Abort;
+use std::str::SplitWhitespace;
 use tardis_base::{StateId, Value, Write};
 
 /// The state of site 1 with this sequence.
@@ -74,78 +75,74 @@ fn gives(
     is_wanted(given.as_ref(), wanted)
 }
 
-/// A rule, the texts of a base and of two sides, and what is wanted.
-type Row = (
-    Rule,
-    Option<&'static [u8]>,
-    Option<&'static [u8]>,
-    Option<&'static [u8]>,
-    Option<Option<&'static [u8]>>,
-);
+/// A rule, the texts of a base and of two sides, and the text that is wanted. A deletion is `-`, and `none` is wanted where the
+/// rule gives nothing.
+const ROWS: &str = "\
+last   -  x                    y  => y
+last   x  y                    -  => -
+count  10 13                   8  => 11
+count  -  -                    -4 => -4
+count  1  9223372036854775807  1  => 9223372036854775807
+count  -  9223372036854775807  1  => none
+count  -1 -9223372036854775808 -1 => -9223372036854775808
+count  1  -9223372036854775808 -  => none
+count  -  9223372036854775808  -  => none
+count  -  01                   1  => none
+set    -  a,c                  b,c => a,b,c
+set    a  -                    a  => a
+set    -  b,a                  c  => none
+refuse -  x                    -  => none";
 
-const ROWS: [Row; 14] = [
-    (Rule::Last, None, Some(b"x"), Some(b"y"), Some(Some(b"y"))),
-    (Rule::Last, Some(b"x"), Some(b"y"), None, Some(None)),
-    (
-        Rule::Count,
-        Some(b"10"),
-        Some(b"13"),
-        Some(b"8"),
-        Some(Some(b"11")),
-    ),
-    (Rule::Count, None, None, Some(b"-4"), Some(Some(b"-4"))),
-    (
-        Rule::Count,
-        Some(b"1"),
-        Some(b"9223372036854775807"),
-        Some(b"1"),
-        Some(Some(b"9223372036854775807")),
-    ),
-    (
-        Rule::Count,
-        None,
-        Some(b"9223372036854775807"),
-        Some(b"1"),
-        None,
-    ),
-    (
-        Rule::Count,
-        Some(b"-1"),
-        Some(b"-9223372036854775808"),
-        Some(b"-1"),
-        Some(Some(b"-9223372036854775808")),
-    ),
-    (
-        Rule::Count,
-        Some(b"1"),
-        Some(b"-9223372036854775808"),
-        None,
-        None,
-    ),
-    (Rule::Count, None, Some(b"9223372036854775808"), None, None),
-    (Rule::Count, None, Some(b"01"), Some(b"1"), None),
-    (
-        Rule::Set,
-        None,
-        Some(b"a,c"),
-        Some(b"b,c"),
-        Some(Some(b"a,b,c")),
-    ),
-    (Rule::Set, Some(b"a"), None, Some(b"a"), Some(Some(b"a"))),
-    (Rule::Set, None, Some(b"b,a"), Some(b"c"), None),
-    (Rule::Refuse, None, Some(b"x"), None, None),
-];
+/// The rule of this name.
+fn rule_of(rt: &impl Abort, name: &str) -> Rule {
+    match name {
+        "last" => Rule::Last,
+        "count" => Rule::Count,
+        "set" => Rule::Set,
+        "refuse" => Rule::Refuse,
+        _ => panic!(rt; "no rule"),
+    }
+}
+
+/// The text that a word stands for; none for a deletion.
+fn text_of(word: &str) -> Option<&[u8]> {
+    if word == "-" {
+        None
+    } else {
+        Some(word.as_bytes())
+    }
+}
+
+/// What a word wants of a rule; none where it wants nothing.
+fn wanted_of(word: &str) -> Option<Option<&[u8]>> {
+    if word == "none" {
+        None
+    } else {
+        Some(text_of(word))
+    }
+}
+
+/// The next word of a row.
+fn word<'a>(rt: &impl Abort, words: &mut SplitWhitespace<'a>) -> &'a str {
+    words.next().expect(rt, "a word")
+}
 
 /// Whether the rule of a row gives what the row says.
-fn is_so(rt: &impl Abort, alloc: Global, row: &Row) -> bool {
-    let (rule, base, left, right, wanted) = *row;
-    gives(rt, alloc, rule, base, left, right, wanted)
+fn is_so(rt: &impl Abort, alloc: Global, row: &str) -> bool {
+    let mut words = row.split_whitespace();
+    let rule = rule_of(rt, word(rt, &mut words));
+    let base = text_of(word(rt, &mut words));
+    let left = text_of(word(rt, &mut words));
+    let right = text_of(word(rt, &mut words));
+    let arrow = word(rt, &mut words);
+    let wanted = wanted_of(word(rt, &mut words));
+    arrow == "=>" && gives(rt, alloc, rule, base, left, right, wanted)
 }
 
 #[test]
 fn each_rule_gives_its_values(rt: HostRuntime) {
-    for row in &ROWS {
-        assert!(rt; is_so(&rt, rt.alloc(), row));
+    for row in ROWS.lines() {
+        assert!(rt; is_so(&rt, rt.alloc(), row), "{row}");
     }
 }
 

@@ -1,19 +1,19 @@
-use Rattle.std.proofs.Common.{◌≡◌, ◌∙◌, sym, subst}
-use Rattle.load_run.specs.Plays.{asks, reply_to}
+use Rattle.std.proofs.Common.{◌∙◌, sym, subst}
+use Rattle.load_run.specs.Plays.{asks, reply_to, stepped}
 use Rattle.load_run.specs.Held.{Plays}
 use Rattle.load_run.proofs.Playing.{counted_as}
 use Rattle.load_run.proofs.players.Player.ask.Goals as goal
 
 pub returns-clause-asked : goal.returns-clause-asked
-unfolding asks reply_to
+unfolding asks reply_to stepped
 returns-clause-asked c = λ play h.
-    let here = subst (λ v. Plays v play) (sym c.self.view_is) h in
-    let given = c.in_ok-step.ensures.done play.site here.site in (
+    let given = c.in_ok-reply.ensures.replied play h in
+    let here = subst (λ v. Plays v (stepped c.args.actor c.args.request play)) (sym c.self.view_is) given.0 in (
       record {
-        site = given.0;
+        site = here.site;
         words = here.words;
         counts = c.with-self-inside.ensures.counted
-            ∙ counted_as c.step.new.reply (reply_to c.args.actor c.args.request.now play) c.self.inside.counts play.counts given.1 here.counts;
+            ∙ counted_as c.in_ok-reply.reply (reply_to c.args.actor c.args.request play) c.self.inside.counts play.counts given.1 here.counts;
       },
       given.1,
     )
