@@ -44,8 +44,15 @@ impl Parts {
             Txn::Merge(merge) => return self.get_over(actor, merge, key),
         };
         let reply = reply_of(self.store.read_at(slot, key))?;
-        self.note_read(actor, key.copy()?)?;
+        self.note_copy(actor, key)?;
         Ok(reply)
+    }
+
+    /// Notes a copy of the key, which the actor's transaction, a single one that hasn't written to it, reads.
+    fn note_copy(&mut self, actor: u16, key: &Key) -> Result<(), Stop>
+        ensures { NotesRead self.old self.new actor key.now result }
+    {
+        self.note_read(actor, key.copy()?)
     }
 
     /// Notes that the actor's transaction, a single one that hasn't written to the key, reads it.
