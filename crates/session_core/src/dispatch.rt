@@ -155,13 +155,20 @@ impl SiteCore {
     {
         match self.answer(actor, request) {
             Ok(answer) => {
-                *reply = answer;
+                tell(answer, reply);
                 Ok(())
             },
             Err(NoMemory) => {
-                *reply = Reply::NoMemory;
+                tell(Reply::NoMemory, reply);
                 Err(NoMemory)
             },
         }
     }
+}
+
+/// This is the reply from now on.
+fn tell(answer: Reply, reply: &mut Reply)
+    ensures { reply.new ≡ answer }
+{
+    *reply = answer;
 }
