@@ -22,4 +22,5 @@ pub returns-in-None-clause-given : goal.returns-in-None-clause-given
 returns-in-None-clause-given c = λ site stands.
     let asks : AsksFor c.args.request.now None = subst (λ asked. AsksFor c.args.request.now asked) c.in-None.is c.in_ok-request.ensures.asked in
     let malformed : step_over_bytes site (c.args.actor, c.args.request.now) ≡ refused site Malformed = asks site c.args.actor in
-    subst (λ (answer : Answer). SiteStands c.args.self.now answer.0 × (c.give_refused.new.out ≡ reply_spelling answer.1)) (sym malformed) (stands, c.give_refused.ensures)
+    subst (λ (answer : Answer). SiteStands c.args.self.now answer.0 × (c.give_refused.new.out ≡ reply_spelling answer.1)) (sym malformed)
+    (stands, c.give_refused.ensures)
