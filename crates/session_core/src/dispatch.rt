@@ -153,22 +153,11 @@ impl SiteCore {
         ensures sure { IsTrue (is_sure request.now) → IsOk result }
         ensures opening { opened_with self.new ≡ opened_with self.old }
     {
-        match self.answer(actor, request) {
-            Ok(answer) => {
-                tell(answer, reply);
-                Ok(())
-            },
-            Err(NoMemory) => {
-                tell(Reply::NoMemory, reply);
-                Err(NoMemory)
-            },
-        }
+        let (answer, end) = match self.answer(actor, request) {
+            Ok(answer) => (answer, Ok(())),
+            Err(NoMemory) => (Reply::NoMemory, Err(NoMemory)),
+        };
+        *reply = answer;
+        end
     }
-}
-
-/// This is the reply from now on.
-fn tell(answer: Reply, reply: &mut Reply)
-    ensures { reply.new ≡ answer }
-{
-    *reply = answer;
 }
