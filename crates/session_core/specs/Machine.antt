@@ -4,6 +4,7 @@ use Rattle.tardis_base.specs.Sizes.{longest_frame}
 use Rattle.tardis_base.specs.declared.replies.Refusal.TheVariants.{Malformed}
 use Rattle.tardis_base.specs.declared.replies.Reply.{Reply}
 use Rattle.tardis_base.specs.declared.replies.Reply.TheVariants.{NoMemory}
+use Rattle.tardis_base.specs.declared.ids.Slot.{Slot}
 use Rattle.tardis_base.specs.declared.ids.StateId.{StateId}
 use Rattle.tardis_base.specs.declared.records.Write.{Write}
 use Rattle.tardis_base.specs.declared.records.Write.TheVariants.{Put as Value, Delete as Deletion}
@@ -15,6 +16,7 @@ use Rattle.wire_talk.specs.RequestReadings.{request_of}
 use Rattle.tardis_base.specs.Keys.{write_of}
 use Rattle.plain_dag.specs.Entries.{entry_of}
 use Rattle.plain_dag.specs.Writers.{read}
+use Rattle.state_dag.specs.Table.{id_at}
 use Rattle.merge_txn.specs.declared.SingleTxn.{SingleTxn as OneKept}
 use Rattle.merge_txn.specs.declared.Txn.TheVariants.{Single as KeptSingle}
 use Rattle.plain_site.specs.Site.{Site, opening, with_txn_changed}
@@ -23,7 +25,7 @@ use Rattle.plain_site.specs.Answers.{Answer, refused, with_txn, found}
 use Rattle.plain_site.specs.Reads.{get, having_read}
 use Rattle.plain_site.specs.Step.{step, step_over_bytes}
 use Rattle.session_core.specs.Core.{Core}
-use Rattle.session_core.specs.Gives.{Stops}
+use Rattle.session_core.specs.Gives.{Stops, GivesOrStops}
 use Rattle.session_core.specs.Stands.{CoreStands}
 use Rattle.session_core.specs.declared.stops.Stop.{Stop}
 
@@ -76,6 +78,12 @@ abbrev pub NotesRead : Core → Core → ℕ → List ℕ → Result (Unit {0}) 
 NotesRead old new n k result =
     (site : Site) → CoreStands old site → IsSound site → (t : OneKept) → entry_of n old.txns ≡ Some (KeptSingle t) → write_of k t.writes ≡ None →
     NotesOrStops (CoreStands new) site n k t.state result
+
+-- so at this slot, which is that of the state that it reads, and the plain answer is given
+abbrev pub ReadsAt : Core → Core → ℕ → Slot → List ℕ → Result Reply Stop → Type 0
+ReadsAt old new n slot k result =
+    (site : Site) → CoreStands old site → IsSound site → (t : OneKept) → entry_of n old.txns ≡ Some (KeptSingle t) → write_of k t.writes ≡ None →
+    id_at old.store.table slot ≡ Some t.state → GivesOrStops (CoreStands new) (reading site n k) site result
 
 -- the reply to the request is written, or a stop and no byte
 abbrev pub Wrote : Core → Core → ℕ → Request → Result (Unit {0}) Stop → List ℕ → Type 0

@@ -21,7 +21,8 @@ ghost use Rattle.plain_dag.specs.Entries.{entry_of};
 ghost use Rattle.merge_txn.specs.declared.Txn.{Txn};
 ghost use Rattle.wire_talk.specs.Lent.{request_lent};
 ghost use Rattle.session_core.specs.Txns.{slot_read};
-ghost use Rattle.session_core.specs.Machine.{AsksFor, SiteStands, GivesBytes, opened_with, writing, Wrote};
+ghost use Rattle.session_core.specs.Gives.{Gives};
+ghost use Rattle.session_core.specs.Machine.{AsksFor, SiteStands, GivesBytes, IsTold, opened_with, writing, Wrote};
 
 use crate::gives::{give_end, give_found, give_refused};
 use crate::reads_and_writes::own_write;
@@ -170,21 +171,47 @@ impl Parts {
     {
         match lent {
             LentRequest::Begin { begin } => self.begin_into(actor, &begin, out),
-            LentRequest::Get { key } => {
-                let key = key_of(self.alloc, key)?;
-                self.get_into(actor, key, out)
-            },
-            LentRequest::Put { key, value } => {
-                let key = key_of(self.alloc, key)?;
-                let value = value_of(self.alloc, value)?;
-                self.put_into(actor, key, Write::Put(value), out)
-            },
-            LentRequest::Delete { key } => {
-                let key = key_of(self.alloc, key)?;
-                self.put_into(actor, key, Write::Delete, out)
-            },
+            LentRequest::Get { key } => self.get_lent(actor, key, out),
+            LentRequest::Put { key, value } => self.put_lent(actor, key, value, out),
+            LentRequest::Delete { key } => self.delete_lent(actor, key, out),
             LentRequest::Commit { flags, k } => self.commit_into(actor, flags, k, out),
         }
+    }
+
+    /// Reads the key of these bytes, and writes the reply into the empty buffer.
+    fn get_lent(&mut self, actor: u16, key: &[u8], out: &mut ReplyBuf) -> Result<(), Stop>
+        requires key { IsTrue (is_key key.now) }
+        requires empty { out.old ≡ [] }
+        requires stands { StandsForSite self.old }
+        ensures { Wrote self.old self.new actor (Request.Get key.now) result out.new }
+    {
+        let key = key_of(self.alloc, key)?;
+        self.get_into(actor, key, out)
+    }
+
+    /// Puts the value of these bytes to the key of these, and writes the reply into the empty buffer.
+    fn put_lent(
+        &mut self,
+        actor: u16,
+        key: &[u8],
+        value: &[u8],
+        out: &mut ReplyBuf,
+    ) -> Result<(), Stop>
+        requires { out.old ≡ [] }
+        ensures { Wrote self.old self.new actor (Request.Put key.now value.now) result out.new }
+    {
+        let key = key_of(self.alloc, key)?;
+        let value = value_of(self.alloc, value)?;
+        self.put_into(actor, key, Write::Put(value), out)
+    }
+
+    /// Deletes the key of these bytes, and writes the reply into the empty buffer.
+    fn delete_lent(&mut self, actor: u16, key: &[u8], out: &mut ReplyBuf) -> Result<(), Stop>
+        requires { out.old ≡ [] }
+        ensures { Wrote self.old self.new actor (Request.Delete key.now) result out.new }
+    {
+        let key = key_of(self.alloc, key)?;
+        self.put_into(actor, key, Write::Delete, out)
     }
 
     /// Begins a transaction, and writes the reply into the empty buffer.
@@ -270,17 +297,22 @@ impl SiteCore {
         ensures sure { IsTrue (is_sure request) → IsOk result }
         ensures opening { opened_with self.new ≡ opened_with self.old }
     {
+        let reply = self.answer_owned(actor, request)?;
+        give(&reply, out);
+        Ok(())
+    }
+
+    /// The reply to the actor's request, which is done. A record that is delivered is moved in.
+    fn answer_owned(&mut self, actor: u16, request: Request) -> Result<Reply, NoMemory>
+        requires { IsTrue (is_request request) }
+        ensures given { (site : Site) → SiteStands self.old site → Gives (SiteStands self.new) (step site actor request) site result }
+        ensures told { IfOk result (λ reply. IsTold reply) }
+        ensures sure { IsTrue (is_sure request) → IsOk result }
+        ensures opening { opened_with self.new ≡ opened_with self.old }
+    {
         match request {
-            Request::Deliver { item } => {
-                let reply = self.deliver(item)?;
-                give(&reply, out);
-                Ok(())
-            },
-            request => {
-                let reply = self.answer(actor, &request)?;
-                give(&reply, out);
-                Ok(())
-            },
+            Request::Deliver { item } => self.deliver(item),
+            request => self.answer(actor, &request),
         }
     }
 }
@@ -303,8 +335,7 @@ impl SiteCore {
         match asked(self.parts.alloc, request)? {
             Some(request) => self.reply(actor, request, out),
             None => {
-                let refusal = Refusal::Malformed;
-                give(&Reply::Refused { refusal }, out);
+                give_refused(Refusal::Malformed, out);
                 Ok(())
             },
         }

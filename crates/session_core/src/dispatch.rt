@@ -1,6 +1,7 @@
 //! The step of a site: a request, and the reply to it.
 
 ghost use Rattle.std.specs.Prelude.{◌≡◌, IsTrue, IsOk, IfOk, OnOk, OnErr};
+ghost use Rattle.tardis_base.specs.declared.requests.Request.{Request};
 ghost use Rattle.wire_item.specs.Valid.{is_item};
 ghost use Rattle.wire_talk.specs.Valid.{is_request};
 ghost use Rattle.plain_site.specs.Site.{Site};
@@ -14,7 +15,7 @@ ghost use Rattle.session_core.specs.Machine.{SiteStands, IsTold, opened_with};
 use crate::commits::CommitEnd;
 use crate::stops::Stop;
 use crate::{Parts, SiteCore};
-use tardis_base::{Item, NoMemory, Reply, Request, Write};
+use tardis_base::{Begin, EndFlags, Item, Key, NoMemory, Reply, Request, Value, Write};
 
 impl Parts {
     /// Answers the actor's request by its own method.
@@ -26,23 +27,11 @@ impl Parts {
     {
         match request {
             Request::Open { follow } => self.open(actor, *follow),
-            Request::Begin { begin } => {
-                let state = self.begin(actor, begin)?;
-                Ok(Reply::Begun { state })
-            },
+            Request::Begin { begin } => self.begin_told(actor, begin),
             Request::Get { key } => self.get(actor, key),
-            Request::Put { key, value } => {
-                self.put(actor, key.copy()?, Write::Put(value.copy()?))?;
-                Ok(Reply::Done)
-            },
-            Request::Delete { key } => {
-                self.put(actor, key.copy()?, Write::Delete)?;
-                Ok(Reply::Done)
-            },
-            Request::Commit { flags, k } => {
-                let end = self.commit(actor, *flags, *k)?;
-                Ok(commit_reply(end))
-            },
+            Request::Put { key, value } => self.put_copy(actor, key, value),
+            Request::Delete { key } => self.delete(actor, key),
+            Request::Commit { flags, k } => self.commit_told(actor, *flags, *k),
             Request::Abort => self.abort(actor),
             Request::BeginMerge { of } => self.begin_merge(actor, of),
             Request::ForkPoints => self.fork_points(actor),
@@ -55,11 +44,52 @@ impl Parts {
             Request::Show { state } => self.show(*state),
             Request::Leaves => self.leaves(),
             Request::Pull { counts } => self.pull(counts.as_slice()),
-            Request::Deliver { item } => self.deliver(item.copy()?),
+            Request::Deliver { item } => self.deliver_copy(item),
             Request::Settle => self.settle(),
             Request::Close => self.close(actor),
             Request::Tidy { n } => Ok(self.tidy(*n)),
         }
+    }
+
+    /// Begins a transaction, and tells at which state.
+    fn begin_told(&mut self, actor: u16, begin: &Begin) -> Result<Reply, Stop>
+        ensures { Answers self.old self.new result (λ site. step site actor (Request.Begin begin.now)) }
+    {
+        let state = self.begin(actor, begin)?;
+        Ok(Reply::Begun { state })
+    }
+
+    /// Takes a copy of the value into the actor's transaction.
+    fn put_copy(&mut self, actor: u16, key: &Key, value: &Value) -> Result<Reply, Stop>
+        ensures { Answers self.old self.new result (λ site. step site actor (Request.Put key.now value.now)) }
+    {
+        self.put(actor, key.copy()?, Write::Put(value.copy()?))?;
+        Ok(Reply::Done)
+    }
+
+    /// Deletes the key in the actor's transaction.
+    fn delete(&mut self, actor: u16, key: &Key) -> Result<Reply, Stop>
+        ensures { Answers self.old self.new result (λ site. step site actor (Request.Delete key.now)) }
+    {
+        self.put(actor, key.copy()?, Write::Delete)?;
+        Ok(Reply::Done)
+    }
+
+    /// Commits the actor's transaction, and tells how it ended.
+    fn commit_told(&mut self, actor: u16, flags: EndFlags, k: u16) -> Result<Reply, Stop>
+        requires { StandsForSite self.old }
+        ensures { Answers self.old self.new result (λ site. step site actor (Request.Commit flags k)) }
+    {
+        let end = self.commit(actor, flags, k)?;
+        Ok(commit_reply(end))
+    }
+
+    /// Takes a copy of what another site made.
+    fn deliver_copy(&mut self, item: &Item) -> Result<Reply, Stop>
+        requires { IsTrue (is_item item.now) }
+        ensures { Answers self.old self.new result (λ site. deliver site item.now) }
+    {
+        self.deliver(item.copy()?)
     }
 }
 
@@ -123,15 +153,11 @@ impl SiteCore {
         ensures sure { IsTrue (is_sure request.now) → IsOk result }
         ensures opening { opened_with self.new ≡ opened_with self.old }
     {
-        match self.answer(actor, request) {
-            Ok(answer) => {
-                *reply = answer;
-                Ok(())
-            },
-            Err(NoMemory) => {
-                *reply = Reply::NoMemory;
-                Err(NoMemory)
-            },
-        }
+        let (answer, end) = match self.answer(actor, request) {
+            Ok(answer) => (answer, Ok(())),
+            Err(NoMemory) => (Reply::NoMemory, Err(NoMemory)),
+        };
+        *reply = answer;
+        end
     }
 }

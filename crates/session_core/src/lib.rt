@@ -118,11 +118,11 @@ impl Parts {
         requires last { own ≤ limits.now.sites }
         ensures stands { IfOk result (λ core. CoreStands core (opening limits.now own)) }
     {
+        let waiting = WaitRoom::new(alloc)?;
         let store = RecordStore::new(alloc, keys, limits)?;
         let root = store.dag().last();
         let book = CeilingBook::new(alloc, limits, own, root)?;
         let txns = TxnBook::new(alloc);
-        let waiting = WaitRoom::new(alloc)?;
         Ok(Parts {
             alloc,
             store,

@@ -13,7 +13,7 @@ ghost use Rattle.session_core.specs.Stands.{CoreStands};
 ghost use Rattle.tardis_base.specs.declared.replies.Reply.{Reply};
 ghost use Rattle.session_core.specs.Gives.{Answers, Does, GivesOrStops};
 ghost use Rattle.session_core.specs.Guards.{HasTxn};
-ghost use Rattle.session_core.specs.Machine.{NotesRead, reading};
+ghost use Rattle.session_core.specs.Machine.{NotesRead, ReadsAt, reading};
 ghost use Rattle.session_core.specs.Reads.{ReadsAs};
 ghost use Rattle.session_core.specs.Txns.{IsNamed};
 
@@ -22,7 +22,7 @@ use crate::merges::slot_among;
 use crate::stops::Stop;
 use conflict_keys::value_over;
 use merge_txn::{MergeTxn, Txn};
-use tardis_base::{Found, Key, NoMemory, Over, Refusal, Reply, StateId, Write};
+use tardis_base::{Found, Key, NoMemory, Over, Refusal, Reply, Slot, StateId, Write};
 
 impl Parts {
     /// Reads the key in the actor's transaction: its own write first, with the root as its writer; then what is read at its
@@ -36,16 +36,34 @@ impl Parts {
     pub(crate) fn get(&mut self, actor: u16, key: &Key) -> Result<Reply, Stop>
         ensures { Answers self.old self.new result (λ site. with_txn site actor (λ s t. get site actor t key.now)) }
     {
-        let slot = match self.open_txn(actor)? {
+        match self.open_txn(actor)? {
             Txn::Single(single) => match single.writes.get(key) {
-                Some(write) => return Ok(reply_of(own_write(write))?),
-                None => single.slot,
+                Some(write) => Ok(reply_of(own_write(write))?),
+                None => {
+                    let slot = single.slot;
+                    self.get_at(actor, slot, key)
+                },
             },
-            Txn::Merge(merge) => return self.get_over(actor, merge, key),
-        };
+            Txn::Merge(merge) => self.get_over(actor, merge, key),
+        }
+    }
+
+    /// Reads the key at this slot, that of the actor's transaction, a single one that hasn't written to the key, and notes
+    /// the read. The value is a copy.
+    fn get_at(&mut self, actor: u16, slot: Slot, key: &Key) -> Result<Reply, Stop>
+        requires { IsTrue (is_slot self.old.store.table slot) }
+        ensures { ReadsAt self.old self.new actor slot key.now result }
+    {
         let reply = reply_of(self.store.read_at(slot, key))?;
-        self.note_read(actor, key.copy()?)?;
+        self.note_copy(actor, key)?;
         Ok(reply)
+    }
+
+    /// Notes a copy of the key, which the actor's transaction, a single one that hasn't written to it, reads.
+    fn note_copy(&mut self, actor: u16, key: &Key) -> Result<(), Stop>
+        ensures { NotesRead self.old self.new actor key.now result }
+    {
+        self.note_read(actor, key.copy()?)
     }
 
     /// Notes that the actor's transaction, a single one that hasn't written to the key, reads it.

@@ -1,17 +1,36 @@
-use Rattle.std.proofs.Common.{◌≡◌, List, Some, IsTrue, length, map, take, refl, sym, subst}
+use Rattle.std.proofs.Common.{◌≡◌, ◌≤◌, List, Some, IsTrue, length, map, take, refl, sym, subst}
 use Rattle.std.specs.List.{list_all}
 use Rattle.tardis_base.specs.declared.ids.StateId.{StateId}
 use Rattle.tardis_base.specs.declared.replies.Reply.TheVariants.{Applied}
-use Rattle.state_dag.specs.Table.{id_at, is_slot}
+use Rattle.state_dag.specs.Table.{id_at, is_listed, is_slot}
 use Rattle.record_store.proofs.Records.{named-are_slots}
+use Rattle.site_exchange.specs.Judgements.{IsAddable}
 use Rattle.plain_site.specs.Answers.{unless}
 use Rattle.plain_site.specs.Commits.{with_record, growth_refusals}
 use Rattle.session_core.specs.Held.{seen}
 use Rattle.session_core.specs.Stands.{CoreStands}
 use Rattle.session_core.specs.Stops.{add_stop}
 use Rattle.session_core.proofs.Answers.{as-given, stopped}
-use Rattle.session_core.proofs.Exchanging.{fit-arrives, fit-may-be-added, grown-site, grown-parts, growth-free, growth-stops}
+use Rattle.session_core.proofs.Exchanging.{record-shape, fit-arrives, fit-may-be-added, grown-site, grown-parts, growth-free, growth-stops}
 use Rattle.session_core.proofs.Parts.add.Goals as goal
+
+pub slots_of-slots-requires-clause-few : goal.slots_of-slots-requires-clause-few
+slots_of-slots-requires-clause-few c =
+    subst (λ (xs : List StateId). length xs ≤ 8) (sym c.as_slice.ensures) (record-shape c.args.rec c.requires.valid).1
+
+pub slots_of-slots-requires-clause-listed : goal.slots_of-slots-requires-clause-listed
+slots_of-slots-requires-clause-listed c =
+    let addable = subst (λ v. IsAddable v.store.table c.args.rec) (sym c.self.view_is) c.requires.fit in
+    subst (λ (xs : List StateId). IsTrue (list_all (is_listed c.self.inside.store.table) xs)) (sym c.as_slice.ensures) addable.parents
+
+pub commit-requires-clause-first : goal.commit-requires-clause-first
+commit-requires-clause-first c = (record-shape c.args.rec c.requires.valid).0
+
+pub commit-requires-clause-last : goal.commit-requires-clause-last
+commit-requires-clause-last c = (subst (λ v. IsAddable v.store.table c.args.rec) (sym c.self.view_is) c.requires.fit).last
+
+pub commit-requires-clause-next : goal.commit-requires-clause-next
+commit-requires-clause-next c = (subst (λ v. IsAddable v.store.table c.args.rec) (sym c.self.view_is) c.requires.fit).next
 
 pub commit-requires-clause-slots : goal.commit-requires-clause-slots
 commit-requires-clause-slots c =
