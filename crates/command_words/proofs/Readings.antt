@@ -24,7 +24,8 @@ read-usage said (Ok command) read is = absurd (cc)
 read-usage said (Err Usage) read is = read
 read-usage said (Err NoMemory) read is = absurd (cc)
 
-pub read-memory : (said : Option Form) (r : Result Command WordsFault) → IsReading said r → r ≡ Err NoMemory → (form : Form) × ((said ≡ Some form) × IsCopied form)
+pub read-memory : (said : Option Form) (r : Result Command WordsFault) → IsReading said r → r ≡ Err NoMemory →
+    (form : Form) × ((said ≡ Some form) × IsCopied form)
 read-memory said (Ok command) read is = absurd (cc)
 read-memory said (Err Usage) read is = absurd (cc)
 read-memory said (Err NoMemory) read is = read

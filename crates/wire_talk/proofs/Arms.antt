@@ -105,7 +105,8 @@ arm-read rows k code f front old a new e row t =
 -- a code, and what was taken behind it
 pub takes-coded : {A : Type 0} (rows : List (ℕ × Front A)) (old : List ℕ) (code : ℕ) (mid : List ℕ) (a : A) (new : List ℕ)
     → u8_front old ≡ Some (code, mid) → Takes (front_of_code code rows) mid (Some a) new → Makes (by_code rows) old (Some (Ok a)) new
-takes-coded rows old code mid a new e t = makes (by_code rows) old new (Ok a) a (code-read rows old code mid e ∙ taken (front_of_code code rows) mid new a t) refl
+takes-coded rows old code mid a new e t =
+    makes (by_code rows) old new (Ok a) a (code-read rows old code mid e ∙ taken (front_of_code code rows) mid new a t) refl
 
 -- a code, and nothing to be taken behind it
 pub lost-coded : {A : Type 0} (rows : List (ℕ × Front A)) (old : List ℕ) (code : ℕ) (mid new : List ℕ) (r : Option (Result A NoMemory))

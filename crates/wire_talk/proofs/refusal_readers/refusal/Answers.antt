@@ -25,7 +25,8 @@ pub returns-in_ok-owned_key-in-13-clause-makes : goal.returns-in_ok-owned_key-in
 returns-in_ok-owned_key-in-13-clause-makes c =
     makes-coded refusal_rows c.args.reader.now c.in_ok-code.code c.u8.new.self (Some c.conflict_key.result) c.owned_key.new.reader
     (taken u8_front c.args.reader.now c.u8.new.self c.in_ok-code.code c.in_ok-code.ensures)
-    (arm-makes refusal_rows 13 c.in_ok-code.code ConflictKey key_front c.u8.new.self c.owned_key.new.reader c.in_ok-owned_key-in-13.field-0 c.conflict_key.result
+    (arm-makes refusal_rows 13 c.in_ok-code.code ConflictKey key_front c.u8.new.self c.owned_key.new.reader c.in_ok-owned_key-in-13.field-0
+    c.conflict_key.result
     c.in-13.is refl c.in_ok-owned_key-in-13.ensures c.conflict_key.ensures)
 
 pub returns-in_ok-owned_key-in-13-clause-sure : goal.returns-in_ok-owned_key-in-13-clause-sure
@@ -46,7 +47,8 @@ pub returns-in_ok-owned_key-in-14-clause-makes : goal.returns-in_ok-owned_key-in
 returns-in_ok-owned_key-in-14-clause-makes c =
     makes-coded refusal_rows c.args.reader.now c.in_ok-code.code c.u8.new.self (Some c.open_conflict.result) c.owned_key-in-14.new.reader
     (taken u8_front c.args.reader.now c.u8.new.self c.in_ok-code.code c.in_ok-code.ensures)
-    (arm-makes refusal_rows 14 c.in_ok-code.code OpenConflict key_front c.u8.new.self c.owned_key-in-14.new.reader c.in_ok-owned_key-in-14.field-0 c.open_conflict.result
+    (arm-makes refusal_rows 14 c.in_ok-code.code OpenConflict key_front c.u8.new.self c.owned_key-in-14.new.reader c.in_ok-owned_key-in-14.field-0
+    c.open_conflict.result
     c.in-14.is refl c.in_ok-owned_key-in-14.ensures c.open_conflict.ensures)
 
 pub returns-in_ok-owned_key-in-14-clause-sure : goal.returns-in_ok-owned_key-in-14-clause-sure
