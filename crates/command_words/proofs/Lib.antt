@@ -1,6 +1,7 @@
 -- Lemmas on words.
 pub mod Lists
 pub mod Numerals
+pub mod Readings
 pub mod Givens
 pub mod Runs
 pub mod Copies

@@ -5,7 +5,7 @@ ghost use Rattle.command_words.specs.Servings.{serving_by};
 ghost use Rattle.std.specs.String.{string_bytes};
 ghost use Rattle.command_words.specs.Settings.{settings, values};
 ghost use Rattle.command_words.specs.Values.{needed, number_or, flag, address, addresses};
-ghost use Rattle.command_words.specs.Forms.{place_alone, place, world, serving, load, Serving, AsLoad};
+ghost use Rattle.command_words.specs.Forms.{place_alone, place, world, serving, serving_at, load, Serving, AsLoad};
 ghost use Rattle.command_words.specs.Commands.{serving_of};
 ghost use Rattle.command_words.specs.Places.{IsPlace};
 
@@ -142,6 +142,15 @@ fn read_asked(words: &[String]) -> Option<Asked<'_>>
         return None;
     }
     let place = read_place(words)?;
+    asked_at(words, place)
+}
+
+/// Reads the options of `serve` beside its place.
+fn asked_at(words: &[String], place: Place) -> Option<Asked<'_>>
+    ensures form { option_map (serving_by (settings (map (λ w. string_bytes w) words.now))) result
+        ≡ serving_at (settings (map (λ w. string_bytes w) words.now)) place }
+    ensures place { IfSome result (λ asked. asked.place ≡ place) }
+{
     let listen = read_address(words, "--listen")?;
     let links = read_needed(words, "--links", 1, 64)?;
     if !are_addresses(words, "--peer", 15) {

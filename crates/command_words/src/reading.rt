@@ -66,6 +66,22 @@ fn read_other(command: &str, options: &[String]) -> Option<Command>
         "run" => Some(Command::Run(read_place_alone(options)?)),
         "shell" => Some(Command::Shell(read_place_alone(options)?)),
         "audit" => Some(Command::Audit(read_place_alone(options)?)),
+        _ => read_rest(command, options),
+    }
+}
+
+/// Reads the options of the commands that are left.
+fn read_rest(command: &str, options: &[String]) -> Option<Command>
+    ensures place { IfSome result (λ read. HasPlace read) }
+    ensures form { bytes_eq command.now (codes "serve") ≡ false
+        → bytes_eq command.now (codes "auto") ≡ false
+        → bytes_eq command.now (codes "durable") ≡ false
+        → bytes_eq command.now (codes "run") ≡ false
+        → bytes_eq command.now (codes "shell") ≡ false
+        → bytes_eq command.now (codes "audit") ≡ false
+        → option_map form_of result ≡ form_behind command.now (settings (map (λ w. string_bytes w) options.now)) }
+{
+    match command {
         "world" => {
             let sites = read_world(options)?;
             Some(Command::World { sites })

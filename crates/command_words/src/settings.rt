@@ -34,29 +34,21 @@ pub(crate) enum Given<'a> {
 pub(crate) fn split_first(words: &[String]) -> Option<Split<'_>>
     ensures { IsSplit (map (λ w. string_bytes w) words.now) result }
 {
-    match words {
-        [] => None,
-        [name] => Some(Split {
-            name: name.as_str(),
-            value: None,
-            rest: &words[1..],
+    let [first, behind @ ..] = words else {
+        return None;
+    };
+    let name = first.as_str();
+    match behind {
+        [value, rest @ ..] if name != "--tidy" => Some(Split {
+            name,
+            value: Some(value.as_str()),
+            rest,
         }),
-        [name, value, ..] => {
-            let name = name.as_str();
-            if name == "--tidy" {
-                Some(Split {
-                    name,
-                    value: None,
-                    rest: &words[1..],
-                })
-            } else {
-                Some(Split {
-                    name,
-                    value: Some(value.as_str()),
-                    rest: &words[2..],
-                })
-            }
-        }
+        _ => Some(Split {
+            name,
+            value: None,
+            rest: behind,
+        }),
     }
 }
 

@@ -68,7 +68,6 @@ pub fn serve<M: Machine, P: Ports>(
 }
 
 /// Makes turns until the edge says stop, and upkeep between them.
-#[tactic(auto, using(crate::proofs::Leading::led_more, crate::proofs::Leading::led_kept))]
 fn serve_lines<M: Machine, P: Ports>(
     alloc: Global,
     machine: &mut M,

@@ -131,3 +131,13 @@ line_piece_written may from to g h k p q r held piece fed rest n none is all a w
     subst (λ b. ServesLines may Whole from to g k [] [] b rest) (fed_all held piece fed n is all)
     (subst (λ e. ServesLines may Whole from to g k e [] fed rest) none
     (subst (λ e. ServesLines may Whole from to g k p e fed rest) empty (line_serves_written may from to g h k p q r fed rest a w empty)))
+
+-- and where the answers found no way
+pub line_piece_broken : {S : Type 0} (may : S → List ℕ → List ℕ → S → Type 0) (from to : S → Type 0) (g h : Option (List ℕ))
+    (p held piece fed : List ℕ) (n most : ℕ) → p ≡ [] → fed ≡ held ++ take n piece → n ≡ length piece →
+    (x : List ℕ) × ServesLines may (Front most) from to g h p [] fed x → (x : List ℕ) × ServesLines may (Front most) from to g h [] [] (held ++ piece) x
+line_piece_broken may from to g h p held piece fed n most none is all a = (
+  a.0,
+  subst (λ b. ServesLines may (Front most) from to g h [] [] b a.0) (fed_all held piece fed n is all)
+      (subst (λ e. ServesLines may (Front most) from to g h e [] fed a.0) none a.1),
+)

@@ -9,7 +9,7 @@ use Rattle.wire_item.specs.Fronts.{Front, made, front_of_code, by_code}
 use Rattle.wire_item.specs.Readings.{u8_front}
 use Rattle.wire_item.specs.Takings.{Takes, Makes}
 use Rattle.wire_item.proofs.Fronts.{Made, made-read, made-source}
-use Rattle.wire_item.proofs.Takings.{taken, untaken, making, makes, makes-none, made-none}
+use Rattle.wire_item.proofs.Takings.{taken, untaken, takes, takes-none, making, makes, makes-none, made-none}
 use Rattle.wire_item.proofs.Codes.{code-read}
 
 -- no row has a code as great as this
@@ -82,3 +82,34 @@ pub arm-untaken : {B : Type 0} (rows : List (ℕ × Front B)) (k code : ℕ) (fr
     → code ≡ k → front_of_code k rows ≡ front → r ≡ None → Takes front old None new → Makes (front_of_code code rows) old r new
 arm-untaken rows k code front old new r e row none t =
     makes-none (front_of_code code rows) old new r none (ap (λ j. front_of_code j rows old) e ∙ ap (λ g. g old) row ∙ untaken front old new t)
+
+-- the arm of a code with no fields, where no memory is wanting
+pub arm-bare : {B : Type 0} (rows : List (ℕ × Front B)) (k code : ℕ) (b : B) (old : List ℕ)
+    → code ≡ k → front_of_code k rows old ≡ Some (b, old) → Takes (front_of_code code rows) old (Some b) old
+arm-bare rows k code b old e row = takes (front_of_code code rows) old old b (ap (λ j. front_of_code j rows old) e ∙ row)
+
+-- the arm of a code whose fields are not there, where no memory is wanting
+pub arm-lost : {A B : Type 0} (rows : List (ℕ × Front B)) (k code : ℕ) (f : A → B) (front : Front A) (old new : List ℕ) (r : Option B)
+    → code ≡ k → front_of_code k rows ≡ made f front → r ≡ None → Takes front old None new → Takes (front_of_code code rows) old r new
+arm-lost rows k code f front old new r e row none t =
+    takes-none (front_of_code code rows) old new r none
+    (ap (λ j. front_of_code j rows old) e ∙ ap (λ g. g old) row ∙ made-none f front old (untaken front old new t))
+
+-- the arm of a code whose fields are there, where no memory is wanting
+pub arm-read : {A B : Type 0} (rows : List (ℕ × Front B)) (k code : ℕ) (f : A → B) (front : Front A) (old : List ℕ) (a : A) (new : List ℕ)
+    → code ≡ k → front_of_code k rows ≡ made f front → Takes front old (Some a) new → Takes (front_of_code code rows) old (Some (f a)) new
+arm-read rows k code f front old a new e row t =
+    takes (front_of_code code rows) old new (f a)
+    (ap (λ j. front_of_code j rows old) e ∙ ap (λ g. g old) row ∙ made-read f front old a new (taken front old new a t))
+
+-- a code, and what was taken behind it
+pub takes-coded : {A : Type 0} (rows : List (ℕ × Front A)) (old : List ℕ) (code : ℕ) (mid : List ℕ) (a : A) (new : List ℕ)
+    → u8_front old ≡ Some (code, mid) → Takes (front_of_code code rows) mid (Some a) new → Makes (by_code rows) old (Some (Ok a)) new
+takes-coded rows old code mid a new e t =
+    makes (by_code rows) old new (Ok a) a (code-read rows old code mid e ∙ taken (front_of_code code rows) mid new a t) refl
+
+-- a code, and nothing to be taken behind it
+pub lost-coded : {A : Type 0} (rows : List (ℕ × Front A)) (old : List ℕ) (code : ℕ) (mid new : List ℕ) (r : Option (Result A NoMemory))
+    → u8_front old ≡ Some (code, mid) → r ≡ None → Takes (front_of_code code rows) mid None new → Makes (by_code rows) old r new
+lost-coded rows old code mid new r e none t =
+    makes-none (by_code rows) old new r none (code-read rows old code mid e ∙ untaken (front_of_code code rows) mid new t)

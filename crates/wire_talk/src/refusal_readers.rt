@@ -21,8 +21,21 @@ pub(crate) fn refusal(reader: &mut Reader<'_>, alloc: Global) -> Option<Result<R
         → IsTrue (refusal_takes_no_memory x) → result ≡ Some (Err e) → ⊥ }
 {
     let code = reader.u8()?;
-    if code < 15 {
-        low_refusal(reader, alloc, code)
+    match code {
+        13 => Some(conflict_key(owned_key(reader, alloc)?)),
+        14 => Some(open_conflict(owned_key(reader, alloc)?)),
+        _ => Some(Ok(plain_refusal(reader, code)?)),
+    }
+}
+
+/// The refusal of a code with no key. It takes no memory.
+fn plain_refusal(reader: &mut Reader<'_>, code: u8) -> Option<Refusal>
+    requires no_conflict { code ≡ 13 → ⊥ }
+    requires no_open_conflict { code ≡ 14 → ⊥ }
+    ensures { Takes (front_of_code code refusal_rows) reader.old result reader.new }
+{
+    if code < 13 {
+        low_refusal(reader, code)
     } else if code < 23 {
         middle_refusal(reader, code)
     } else {
@@ -30,135 +43,125 @@ pub(crate) fn refusal(reader: &mut Reader<'_>, alloc: Global) -> Option<Result<R
     }
 }
 
-/// The refusal of a code below 15.
-fn low_refusal(
-    reader: &mut Reader<'_>,
-    alloc: Global,
-    code: u8,
-) -> Option<Result<Refusal, NoMemory>>
-    requires { code < 15 }
-    ensures makes { Makes (front_of_code code refusal_rows) reader.old result reader.new }
-    ensures sure { (x : Refusal) (rest : List ℕ) (e : NoMemory) → front_of_code code refusal_rows reader.old ≡ Some (x, rest)
-        → IsTrue (refusal_takes_no_memory x) → result ≡ Some (Err e) → ⊥ }
+/// The refusal of a code below 13.
+fn low_refusal(reader: &mut Reader<'_>, code: u8) -> Option<Refusal>
+    requires { code < 13 }
+    ensures { Takes (front_of_code code refusal_rows) reader.old result reader.new }
 {
     match code {
-        1 => Some(Ok(Refusal::Malformed)),
-        2 => Some(Ok(Refusal::NotOpen)),
-        3 => Some(Ok(Refusal::AlreadyOpen)),
-        4 => Some(Ok(Refusal::SessionsFull { n: reader.u16()? })),
-        5 => Some(Ok(Refusal::TxnOpen)),
-        6 => Some(Ok(Refusal::NoTxn)),
-        7 => Some(Ok(Refusal::WrongMode)),
+        1 => Some(Refusal::Malformed),
+        2 => Some(Refusal::NotOpen),
+        3 => Some(Refusal::AlreadyOpen),
+        4 => Some(Refusal::SessionsFull { n: reader.u16()? }),
+        5 => Some(Refusal::TxnOpen),
+        6 => Some(Refusal::NoTxn),
+        7 => Some(Refusal::WrongMode),
         8 => {
             let pair = what_and_u32(reader)?;
-            Some(Ok(Refusal::TooMany {
+            Some(Refusal::TooMany {
                 what: pair.0,
                 n: pair.1,
-            }))
+            })
         },
-        9 => Some(Ok(Refusal::Unknown {
+        9 => Some(Refusal::Unknown {
             state: reader.id()?,
-        })),
+        }),
         10 => {
             let pair = two_ids(reader)?;
-            Some(Ok(Refusal::Below {
+            Some(Refusal::Below {
                 state: pair.0,
                 ceiling: pair.1,
-            }))
+            })
         },
         11 => {
             let pair = two_ids(reader)?;
-            Some(Ok(Refusal::Comparable {
+            Some(Refusal::Comparable {
                 a: pair.0,
                 b: pair.1,
-            }))
+            })
         },
-        12 => Some(Ok(Refusal::NotRead {
+        12 => Some(Refusal::NotRead {
             state: reader.id()?,
-        })),
-        13 => Some(conflict_key(owned_key(reader, alloc)?)),
-        14 => Some(open_conflict(owned_key(reader, alloc)?)),
+        }),
         _ => None,
     }
 }
 
 /// The refusal of a code from 15 to 22.
-fn middle_refusal(reader: &mut Reader<'_>, code: u8) -> Option<Result<Refusal, NoMemory>>
+fn middle_refusal(reader: &mut Reader<'_>, code: u8) -> Option<Refusal>
     requires from { 15 ≤ code }
     requires to { code < 23 }
-    ensures makes { Makes (front_of_code code refusal_rows) reader.old result reader.new }
-    ensures sure { (e : NoMemory) → result ≡ Some (Err e) → ⊥ }
+    ensures { Takes (front_of_code code refusal_rows) reader.old result reader.new }
 {
     match code {
         15 => {
             let parts = constraint_id_and_u32(reader)?;
-            Some(Ok(Refusal::Branches {
+            Some(Refusal::Branches {
                 constraint: parts.0.0,
                 state: parts.0.1,
                 children: parts.1,
-            }))
+            })
         }
-        16 => Some(Ok(Refusal::CeilingBack {
+        16 => Some(Refusal::CeilingBack {
             ceiling: reader.id()?,
-        })),
-        17 => Some(Ok(Refusal::FloorBack {
+        }),
+        17 => Some(Refusal::FloorBack {
             floor: reader.id()?,
-        })),
+        }),
         18 => {
             let pair = u16_and_id(reader)?;
-            Some(Ok(Refusal::Held {
+            Some(Refusal::Held {
                 session: pair.0,
                 ceiling: pair.1,
-            }))
+            })
         },
-        19 => Some(Ok(Refusal::Collected {
+        19 => Some(Refusal::Collected {
             state: reader.id()?,
-        })),
-        20 => Some(Ok(Refusal::Full {
+        }),
+        20 => Some(Refusal::Full {
             kept: reader.u32()?,
-        })),
+        }),
         21 => {
             let pair = id_and_u32(reader)?;
-            Some(Ok(Refusal::PathFull {
+            Some(Refusal::PathFull {
                 state: pair.0,
                 pairs: pair.1,
-            }))
+            })
         },
-        22 => Some(Ok(Refusal::SeqEnd)),
+        22 => Some(Refusal::SeqEnd),
         _ => None,
     }
 }
 
 /// The refusal of a code from 23 on.
-fn high_refusal(reader: &mut Reader<'_>, code: u8) -> Option<Result<Refusal, NoMemory>>
+fn high_refusal(reader: &mut Reader<'_>, code: u8) -> Option<Refusal>
     requires { 23 ≤ code }
-    ensures makes { Makes (front_of_code code refusal_rows) reader.old result reader.new }
-    ensures sure { (e : NoMemory) → result ≡ Some (Err e) → ⊥ }
+    ensures { Takes (front_of_code code refusal_rows) reader.old result reader.new }
 {
     match code {
-        23 => Some(Ok(Refusal::BadSite {
+        23 => Some(Refusal::BadSite {
             site: reader.u16()?,
-        })),
-        24 => Some(Ok(Refusal::ClosedParent {
+        }),
+        24 => Some(Refusal::ClosedParent {
             state: reader.id()?,
-        })),
+        }),
         25 => {
             let pair = u16_and_u32(reader)?;
-            Some(Ok(Refusal::OwnItem {
+            Some(Refusal::OwnItem {
                 site: pair.0,
                 number: pair.1,
-            }))
+            })
         },
-        26 => Some(Ok(Refusal::TrailFull {
+        26 => Some(Refusal::TrailFull {
             bytes: reader.u64()?,
-        })),
-        27 => Some(Ok(Refusal::Unsupported { op: reader.u8()? })),
-        28 => Some(Ok(Refusal::NoSuchItem {
+        }),
+        27 => Some(Refusal::Unsupported { op: reader.u8()? }),
+        28 => Some(Refusal::NoSuchItem {
             batches: reader.u32()?,
-        })),
-        29 => Some(Ok(Refusal::BagFull {
+        }),
+        29 => Some(Refusal::BagFull {
             batches: reader.u32()?,
-        })),
+        }),
         _ => None,
     }
 }

@@ -1,5 +1,5 @@
 use Rattle.std.proofs.Common.{arith}
-use Rattle.site_run.proofs.Serving.{piece_lost}
+use Rattle.site_run.proofs.Serving.{piece_broken, piece_lost, piece_written}
 use Rattle.site_run.proofs.answers.answer_piece.Goals as goal
 
 pub returns-in-Err-write_to-clause-broken : goal.returns-in-Err-write_to-clause-broken
@@ -10,3 +10,20 @@ returns-in-Err-write_to-clause-broken g c =
     c.args.gathered.now.room
     (omega (arith, c.in-Err-write_to.ensures.within, c.in-Ok.ensures.room)) c.requires.none c.feed.ensures.held
     (c.feed.ensures.whole c.requires.partial c.requires.size) c.in-Ok.ensures.served.1 c.in-Err-write_to.ensures.bytes
+
+pub returns-in-Err-clause-broken : goal.returns-in-Err-clause-broken
+returns-in-Err-clause-broken g c =
+    piece_broken g.R.Responder.may (g.R.Responder.stands c.args.subject.now) (g.R.Responder.stands c.answer_held.new.subject)
+    (g.O.Sink.given c.args.output.now) (g.O.Sink.given c.answer_held.new.output) c.args.gathered.now.bytes c.args.cutter.now c.args.piece.now
+    c.feed.new.self c.feed.result c.args.gathered.now.room c.requires.none c.feed.ensures.held
+    (c.feed.ensures.whole c.requires.partial c.requires.size) c.in-Err.ensures.broken
+
+pub returns-in-Ok-write_to-clause-served : goal.returns-in-Ok-write_to-clause-served
+returns-in-Ok-write_to-clause-served g c = (
+  c.in-Ok.ensures.served.0,
+  piece_written g.R.Responder.may (g.R.Responder.stands c.args.subject.now) (g.R.Responder.stands c.answer_held.new.subject)
+      (g.O.Sink.given c.args.output.now) (g.O.Sink.given c.answer_held.new.output) (g.O.Sink.given c.write_to.new.output)
+      c.args.gathered.now.bytes c.answer_held.new.gathered.bytes c.write_to.new.self.bytes c.args.cutter.now c.args.piece.now c.feed.new.self
+      c.answer_held.new.cutter c.feed.result c.requires.none c.feed.ensures.held (c.feed.ensures.whole c.requires.partial c.requires.size)
+      c.in-Ok.ensures.served.1 c.in-Ok-write_to.ensures.bytes c.write_to.ensures.none,
+)

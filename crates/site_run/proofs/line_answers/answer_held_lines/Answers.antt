@@ -2,6 +2,9 @@ use Rattle.std.proofs.Common.{◌≡◌, ◌+◌, ◌++◌, ◌∙◌, [], ◌�
 use Rattle.line_cut.specs.Lines.{ended}
 use Rattle.line_cut.specs.Cuts.{Leaves}
 use Rattle.site_run.specs.Responses.{Whole, Front, AnsweredBy}
+use Rattle.site_run.specs.LineServing.{ServesLines}
+use Rattle.site_run.specs.LineNexts.{IsLineBehind}
+use Rattle.site_run.specs.declared.line_answers.LineNext.TheVariants.{Part, Long}
 use Rattle.site_run.proofs.Turns.{whole_then, front_then}
 use Rattle.site_run.proofs.LineServes.{line_serves_line, fewer_lines}
 use Rattle.site_run.proofs.line_answers.answer_held_lines.Goals as goal
@@ -44,3 +47,19 @@ returns-in-Err-clause-broken g c = (
       (g.O.Sink.given c.answer_body.new.output) c.loop-line.gathered.bytes [] s (c.in-Line.line.now ∷ [])) c.loop-line.invariant.room
       (c.in-Err.ensures.broken s f)),
 )
+
+pub returns-in-NeedMore-clause-served : goal.returns-in-NeedMore-clause-served
+returns-in-NeedMore-clause-served g c =
+    let same : c.next.follows.lender-at-none ≡ c.loop-line.cutter =
+    subst (λ r. Leaves c.loop-line.cutter r c.next.follows.lender-at-none) c.in-NeedMore.is c.next.follows.holds-at-none in
+    subst (λ held. IsLineBehind Part held × ServesLines g.R.Responder.may Whole (g.R.Responder.stands c.args.subject.now)
+    (g.R.Responder.stands c.loop-line.subject) (g.O.Sink.given c.args.output.now) (g.O.Sink.given c.loop-line.output) c.args.gathered.now.bytes
+    c.loop-line.gathered.bytes c.args.cutter.now held) (sym same) (c.in-NeedMore.ensures.cut, c.loop-line.invariant.served)
+
+pub returns-in-Long-clause-served : goal.returns-in-Long-clause-served
+returns-in-Long-clause-served g c =
+    let same : c.next.follows.lender-at-none ≡ c.loop-line.cutter =
+    subst (λ r. Leaves c.loop-line.cutter r c.next.follows.lender-at-none) c.in-Long.is c.next.follows.holds-at-none in
+    subst (λ held. IsLineBehind Long held × ServesLines g.R.Responder.may Whole (g.R.Responder.stands c.args.subject.now)
+    (g.R.Responder.stands c.loop-line.subject) (g.O.Sink.given c.args.output.now) (g.O.Sink.given c.loop-line.output) c.args.gathered.now.bytes
+    c.loop-line.gathered.bytes c.args.cutter.now held) (sym same) (c.in-Long.ensures.cut, c.loop-line.invariant.served)

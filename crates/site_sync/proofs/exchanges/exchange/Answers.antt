@@ -1,12 +1,14 @@
-use Rattle.std.proofs.Common.{◌∙◌, Ok, Err, refl, subst}
+use Rattle.std.proofs.Common.{◌∙◌, Ok, Err, refl, rules, subst}
 use Rattle.tardis_io.specs.Told.{WhileTold}
 use Rattle.trail_log.specs.declared.acted.Acted.TheVariants.{Done}
 use Rattle.dag_lock.specs.Named.{start_of}
 use Rattle.dag_lock.specs.Steps.{Ended}
+use Rattle.site_sync.specs.declared.ends.SyncEnd.TheVariants.{NoMemory, TrailFull}
 use Rattle.site_sync.specs.Asking.{stat, pull_frame}
 use Rattle.site_sync.specs.Steps.{StepsOnce}
 use Rattle.site_sync.specs.Fetching.{Gave}
-use Rattle.site_sync.proofs.Exchanged.{told_counts, exchange_asked}
+use Rattle.site_sync.proofs.Exchanged.{told_counts, exchange_asked, exchange_unasked}
+use Rattle.site_sync.proofs.Going.{goes_both, goes_step}
 use Rattle.site_sync.proofs.exchanges.exchange.Goals as goal
 
 pub put_pull-requires : goal.put_pull-requires
@@ -64,3 +66,36 @@ returns-in-Err-clause-exchange g c =
     c.step-pass.result.0 c.step-pass.result.0 c.args.device.now c.fetch.new.device c.in-Err.end c.step-pass.new.out counts.0 (Err c.in-Err.end)
     counts.1 s gave c.in-Err.ensures.fetched (refl, refl) c.in-Err.ensures.read_later c.in-Err.ensures.write_later c.in-Err.ensures.read
     c.in-Err.ensures.write c.in-Err.ensures.no_dial
+
+pub returns-in-TrailFull-clause-exchange : goal.returns-in-TrailFull-clause-exchange
+returns-in-TrailFull-clause-exchange g c =
+    exchange_unasked g.M.Machine.opening g.M.Machine.plain (start_of c.args.lock.now) g.D.Duplex.left g.D.Sink.given g.D.Duplex.take_faults g.D.Sink.faults
+    c.args.pass c.step-pass.result.0 c.args.device.now (TrailFull c.in-TrailFull.bytes) c.step-pass.result.1 c.step-pass.new.out (search rules)
+    (search rules) (record { keeps = c.step-pass.ensures.pass; ended = c.step-pass.ensures.ended })
+
+pub returns-in-NoMemory-clause-exchange : goal.returns-in-NoMemory-clause-exchange
+returns-in-NoMemory-clause-exchange g c =
+    exchange_unasked g.M.Machine.opening g.M.Machine.plain (start_of c.args.lock.now) g.D.Duplex.left g.D.Sink.given g.D.Duplex.take_faults g.D.Sink.faults
+    c.args.pass c.step-pass.result.0 c.args.device.now NoMemory c.step-pass.result.1 c.step-pass.new.out (search rules)
+    (search rules) (record { keeps = c.step-pass.ensures.pass; ended = c.step-pass.ensures.ended })
+
+pub returns-in-Ok-clause-goes_on : goal.returns-in-Ok-clause-goes_on
+returns-in-Ok-clause-goes_on g c =
+    goes_both c.args.pass c.step-pass.result.0 c.deliver_all.result.0
+    (goes_step g.M.Machine.opening g.M.Machine.plain (start_of c.args.lock.now) c.args.pass c.step-pass.result.0 stat c.step-pass.new.out c.step-pass.result.1
+    (record { keeps = c.step-pass.ensures.pass; ended = c.step-pass.ensures.ended })) c.deliver_all.ensures.goes_on
+
+pub returns-in-Err-clause-goes_on : goal.returns-in-Err-clause-goes_on
+returns-in-Err-clause-goes_on g c =
+    goes_step g.M.Machine.opening g.M.Machine.plain (start_of c.args.lock.now) c.args.pass c.step-pass.result.0 stat c.step-pass.new.out c.step-pass.result.1
+    (record { keeps = c.step-pass.ensures.pass; ended = c.step-pass.ensures.ended })
+
+pub returns-in-TrailFull-clause-goes_on : goal.returns-in-TrailFull-clause-goes_on
+returns-in-TrailFull-clause-goes_on g c =
+    goes_step g.M.Machine.opening g.M.Machine.plain (start_of c.args.lock.now) c.args.pass c.step-pass.result.0 stat c.step-pass.new.out c.step-pass.result.1
+    (record { keeps = c.step-pass.ensures.pass; ended = c.step-pass.ensures.ended })
+
+pub returns-in-NoMemory-clause-goes_on : goal.returns-in-NoMemory-clause-goes_on
+returns-in-NoMemory-clause-goes_on g c =
+    goes_step g.M.Machine.opening g.M.Machine.plain (start_of c.args.lock.now) c.args.pass c.step-pass.result.0 stat c.step-pass.new.out c.step-pass.result.1
+    (record { keeps = c.step-pass.ensures.pass; ended = c.step-pass.ensures.ended })
