@@ -6,7 +6,7 @@ ghost use Rattle.std.specs.Prelude.{◌≡◌, ◌<◌, ◌≤◌, ◌↔◌, �
 ghost use Rattle.tardis_base.specs.declared.faults.NoMemory.{NoMemory};
 ghost use Rattle.tardis_base.specs.declared.replies.Reply.{Reply};
 ghost use Rattle.wire_item.specs.Fronts.{front_of_code};
-ghost use Rattle.wire_item.specs.Takings.{Makes, Takes};
+ghost use Rattle.wire_item.specs.Takings.{Makes};
 ghost use Rattle.wire_talk.specs.Memory.{reply_takes_no_memory};
 ghost use Rattle.wire_talk.specs.ReplyReadings.{reply_front, reply_of, reply_rows};
 ghost use Rattle.wire_talk.specs.Spelled.{SpellsReply};
@@ -53,40 +53,25 @@ fn low_reply(alloc: Global, code: u8, reader: &mut Reader) -> Option<Result<Repl
         → IsTrue (reply_takes_no_memory r) → result ≡ Some (Err e) → ⊥ }
 {
     match code {
+        1 => Some(Ok(Reply::Opened {
+            ceiling: reader.id()?,
+        })),
+        2 => Some(Ok(Reply::Begun {
+            state: reader.id()?,
+        })),
         3 => read_merging(alloc, reader),
         4 => read_value(alloc, reader),
+        5 => Some(Ok(Reply::Deleted {
+            writer: reader.id()?,
+        })),
+        6 => Some(Ok(Reply::Absent)),
+        7 => Some(Ok(Reply::Done)),
         8 => read_committed(alloc, reader),
+        9 => Some(Ok(Reply::Ended {
+            state: reader.id()?,
+        })),
         10 => read_states(alloc, reader),
         11 => read_keys(alloc, reader),
-        _ => Some(Ok(low_plain_reply(code, reader)?)),
-    }
-}
-
-/// The reply of a code below 12, where it takes no memory.
-fn low_plain_reply(code: u8, reader: &mut Reader) -> Option<Reply>
-    requires to { code < 12 }
-    requires not_merging { code ≡ 3 → ⊥ }
-    requires not_value { code ≡ 4 → ⊥ }
-    requires not_committed { code ≡ 8 → ⊥ }
-    requires not_states { code ≡ 10 → ⊥ }
-    requires not_keys { code ≡ 11 → ⊥ }
-    ensures { Takes (front_of_code code reply_rows) reader.old result reader.new }
-{
-    match code {
-        1 => Some(Reply::Opened {
-            ceiling: reader.id()?,
-        }),
-        2 => Some(Reply::Begun {
-            state: reader.id()?,
-        }),
-        5 => Some(Reply::Deleted {
-            writer: reader.id()?,
-        }),
-        6 => Some(Reply::Absent),
-        7 => Some(Reply::Done),
-        9 => Some(Reply::Ended {
-            state: reader.id()?,
-        }),
         _ => None,
     }
 }
@@ -99,40 +84,27 @@ fn high_reply(alloc: Global, code: u8, reader: &mut Reader) -> Option<Result<Rep
         → IsTrue (reply_takes_no_memory r) → result ≡ Some (Err e) → ⊥ }
 {
     match code {
-        15 => read_shown(alloc, reader),
-        16 => read_batch(alloc, reader),
-        21 => read_refused(alloc, reader),
-        _ => Some(Ok(high_plain_reply(code, reader)?)),
-    }
-}
-
-/// The reply of a code from 12 on, where it takes no memory.
-fn high_plain_reply(code: u8, reader: &mut Reader) -> Option<Reply>
-    requires from { 12 ≤ code }
-    requires not_shown { code ≡ 15 → ⊥ }
-    requires not_batch { code ≡ 16 → ⊥ }
-    requires not_refused { code ≡ 21 → ⊥ }
-    ensures { Takes (front_of_code code reply_rows) reader.old result reader.new }
-{
-    match code {
         12 => {
             let pair = id_and_u32(reader)?;
-            Some(Reply::Raised {
+            Some(Ok(Reply::Raised {
                 floor: pair.0,
                 number: pair.1,
-            })
+            }))
         },
-        13 => Some(Reply::Tidied {
+        13 => Some(Ok(Reply::Tidied {
             collected: reader.u32()?,
-        }),
-        14 => read_statistics(reader),
-        17 => Some(Reply::Applied),
-        18 => Some(Reply::Known),
-        19 => Some(Reply::Early {
+        })),
+        14 => Some(Ok(read_statistics(reader)?)),
+        15 => read_shown(alloc, reader),
+        16 => read_batch(alloc, reader),
+        17 => Some(Ok(Reply::Applied)),
+        18 => Some(Ok(Reply::Known)),
+        19 => Some(Ok(Reply::Early {
             have: reader.u32()?,
-        }),
-        20 => Some(Reply::Closed),
-        22 => Some(Reply::NoMemory),
+        })),
+        20 => Some(Ok(Reply::Closed)),
+        21 => read_refused(alloc, reader),
+        22 => Some(Ok(Reply::NoMemory)),
         _ => None,
     }
 }

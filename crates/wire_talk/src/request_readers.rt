@@ -2,11 +2,11 @@
 //!
 //! How requests are spelled is stated in `docs/FORMATS.md`. The cost grows with the number of bytes.
 
-ghost use Rattle.std.specs.Prelude.{◌≡◌, ◌<◌, ◌≤◌, ◌↔◌, None, Some, Err, IfOk, IsTrue};
+ghost use Rattle.std.specs.Prelude.{◌≡◌, ◌↔◌, None, Some, Err, IfOk, IsTrue};
 ghost use Rattle.tardis_base.specs.declared.faults.NoMemory.{NoMemory};
 ghost use Rattle.tardis_base.specs.declared.requests.Request.{Request};
 ghost use Rattle.wire_item.specs.Fronts.{front_of_code};
-ghost use Rattle.wire_item.specs.Takings.{Makes, Takes};
+ghost use Rattle.wire_item.specs.Takings.{Makes};
 ghost use Rattle.wire_talk.specs.Codes.{code_of};
 ghost use Rattle.wire_talk.specs.Memory.{takes_no_memory};
 ghost use Rattle.wire_talk.specs.RequestReadings.{request_front, request_of, request_rows};
@@ -45,48 +45,33 @@ fn fields(alloc: Global, code: u8, reader: &mut Reader) -> Option<Result<Request
     ensures sure { (q : Request) (e : NoMemory) → code_of q ≡ code → IsTrue (takes_no_memory q) → result ≡ Some (Err e) → ⊥ }
 {
     match code {
+        1 => Some(Ok(read_open(reader)?)),
         2..=6 => {
             let lent = lent_fields(code, reader)?;
             Some(owned(alloc, lent))
         },
+        7 => Some(Ok(Request::Abort)),
         8 => read_begin_merge(alloc, reader),
+        9 => Some(Ok(Request::ForkPoints)),
         10 => read_conflicts(alloc, reader),
         11 => read_get_for(alloc, reader),
+        12 => Some(Ok(Request::Ceiling {
+            state: reader.id()?,
+        })),
+        13 => Some(Ok(Request::Raise {
+            state: reader.id()?,
+        })),
+        14 => Some(Ok(Request::RaiseAuto)),
+        15 => Some(Ok(Request::Tidy { n: reader.u16()? })),
+        16 => Some(Ok(Request::Stat)),
+        17 => Some(Ok(Request::Show {
+            state: reader.id()?,
+        })),
+        18 => Some(Ok(Request::Leaves)),
         19 => read_pull(alloc, reader),
         20 => read_deliver(alloc, reader),
-        _ => Some(Ok(plain_fields(code, reader)?)),
-    }
-}
-
-/// What stands behind the code of a request that isn't lent and takes no memory.
-fn plain_fields(code: u8, reader: &mut Reader) -> Option<Request>
-    requires not_lent { 2 ≤ code → 6 < code }
-    requires not_begin_merge { code ≡ 8 → ⊥ }
-    requires not_conflicts { code ≡ 10 → ⊥ }
-    requires not_get_for { code ≡ 11 → ⊥ }
-    requires not_pull { code ≡ 19 → ⊥ }
-    requires not_deliver { code ≡ 20 → ⊥ }
-    ensures { Takes (front_of_code code request_rows) reader.old result reader.new }
-{
-    match code {
-        1 => read_open(reader),
-        7 => Some(Request::Abort),
-        9 => Some(Request::ForkPoints),
-        12 => Some(Request::Ceiling {
-            state: reader.id()?,
-        }),
-        13 => Some(Request::Raise {
-            state: reader.id()?,
-        }),
-        14 => Some(Request::RaiseAuto),
-        15 => Some(Request::Tidy { n: reader.u16()? }),
-        16 => Some(Request::Stat),
-        17 => Some(Request::Show {
-            state: reader.id()?,
-        }),
-        18 => Some(Request::Leaves),
-        21 => Some(Request::Close),
-        22 => Some(Request::Settle),
+        21 => Some(Ok(Request::Close)),
+        22 => Some(Ok(Request::Settle)),
         _ => None,
     }
 }

@@ -1,12 +1,70 @@
-use Rattle.std.proofs.Common.{Ok, refl, sym, subst, IsTrue}
-use Rattle.tardis_base.specs.declared.replies.Reply.TheVariants.{Shown, Batch, Refused}
-use Rattle.wire_item.specs.Fronts.{both, front_of_code}
-use Rattle.wire_item.specs.Readings.{batch_front, u64_front}
-use Rattle.wire_item.proofs.Takings.{makes, makes-none, taken, untaken}
+use Rattle.std.proofs.Common.{None, refl, sym, subst, arith, ◌≤◌, IsTrue}
+use Rattle.tardis_base.specs.declared.replies.Reply.TheVariants.{Raised, Tidied, Stat as Statistics, Shown, Batch, Applied, Known, Early, Closed, Refused}
+use Rattle.tardis_base.specs.declared.replies.Reply.TheVariants.{NoMemory}
+use Rattle.wire_item.specs.Fronts.{both, front_of_code, made}
+use Rattle.wire_item.specs.Readings.{batch_front, id_front, u16_front, u32_front, u64_front}
+use Rattle.wire_item.proofs.Takings.{makes-none, untaken}
 use Rattle.wire_talk.specs.Memory.{reply_takes_no_memory}
-use Rattle.wire_talk.specs.ReplyReadings.{children_front, path_front, refusal_front, reply_rows}
-use Rattle.wire_talk.proofs.Arms.{arm-sure, arm-source}
+use Rattle.wire_talk.specs.ReplyReadings.{children_front, path_front, refusal_front, reply_rows, site_lines_front}
+use Rattle.wire_talk.proofs.Arms.{front-beyond, arm-plain, arm-takes, arm-none, arm-sure, arm-source, arm-taken, arm-untaken}
 use Rattle.wire_talk.proofs.reply_readers.high_reply.Goals as goal
+
+pub returns-in_err-pair-in-12-clause-read : goal.returns-in_err-pair-in-12-clause-read
+returns-in_err-pair-in-12-clause-read c =
+    arm-none reply_rows 12 c.args.code (λ p. Raised p.0 p.1) (both id_front u32_front) c.args.reader.now c.id_and_u32.new.reader c.from_residual.result
+    c.in-12.is refl c.from_residual.ensures
+    (untaken (both id_front u32_front) c.args.reader.now c.id_and_u32.new.reader c.in_err-pair-in-12.ensures)
+
+pub returns-in_ok-pair-in-12-clause-read : goal.returns-in_ok-pair-in-12-clause-read
+returns-in_ok-pair-in-12-clause-read c =
+    arm-takes reply_rows 12 c.args.code (λ p. Raised p.0 p.1) (both id_front u32_front) c.args.reader.now c.in_ok-pair-in-12.pair c.id_and_u32.new.reader
+    c.in-12.is refl c.in_ok-pair-in-12.ensures
+
+pub returns-in_err-u32-in-13-clause-read : goal.returns-in_err-u32-in-13-clause-read
+returns-in_err-u32-in-13-clause-read c =
+    arm-none reply_rows 13 c.args.code Tidied u32_front c.args.reader.now c.u32.new.self c.from_residual-in_err-u32-in-13.result c.in-13.is refl
+    c.from_residual-in_err-u32-in-13.ensures
+    (untaken u32_front c.args.reader.now c.u32.new.self c.in_err-u32-in-13.ensures)
+
+pub returns-in_ok-u32-in-13-clause-read : goal.returns-in_ok-u32-in-13-clause-read
+returns-in_ok-u32-in-13-clause-read c =
+    arm-takes reply_rows 13 c.args.code Tidied u32_front c.args.reader.now c.in_ok-u32-in-13.field-0 c.u32.new.self c.in-13.is refl c.in_ok-u32-in-13.ensures
+
+pub returns-in_err-u32-in-19-clause-read : goal.returns-in_err-u32-in-19-clause-read
+returns-in_err-u32-in-19-clause-read c =
+    arm-none reply_rows 19 c.args.code Early u32_front c.args.reader.now c.u32-in-19.new.self c.from_residual-in_err-u32-in-19.result c.in-19.is refl
+    c.from_residual-in_err-u32-in-19.ensures
+    (untaken u32_front c.args.reader.now c.u32-in-19.new.self c.in_err-u32-in-19.ensures)
+
+pub returns-in_ok-u32-in-19-clause-read : goal.returns-in_ok-u32-in-19-clause-read
+returns-in_ok-u32-in-19-clause-read c =
+    arm-takes reply_rows 19 c.args.code Early u32_front c.args.reader.now c.in_ok-u32-in-19.field-0 c.u32-in-19.new.self c.in-19.is refl
+    c.in_ok-u32-in-19.ensures
+
+pub returns-in_err-read_statistics-in-14-clause-read : goal.returns-in_err-read_statistics-in-14-clause-read
+returns-in_err-read_statistics-in-14-clause-read c =
+    arm-untaken reply_rows 14 c.args.code (made (λ p. Statistics p.0.0.0.0 p.0.0.0.1 p.0.0.1 p.0.1 p.1)
+    (both (both (both (both u64_front u32_front) u32_front) u16_front) site_lines_front)) c.args.reader.now c.read_statistics.new.reader
+    c.from_residual-in_err-read_statistics-in-14.result c.in-14.is refl c.from_residual-in_err-read_statistics-in-14.ensures
+    c.in_err-read_statistics-in-14.ensures
+
+pub returns-in_ok-read_statistics-in-14-clause-read : goal.returns-in_ok-read_statistics-in-14-clause-read
+returns-in_ok-read_statistics-in-14-clause-read c =
+    arm-taken reply_rows 14 c.args.code (made (λ p. Statistics p.0.0.0.0 p.0.0.0.1 p.0.0.1 p.0.1 p.1)
+    (both (both (both (both u64_front u32_front) u32_front) u16_front) site_lines_front)) c.args.reader.now c.in_ok-read_statistics-in-14.field-0
+    c.read_statistics.new.reader c.in-14.is refl c.in_ok-read_statistics-in-14.ensures
+
+pub returns-in-17-clause-read : goal.returns-in-17-clause-read
+returns-in-17-clause-read c = arm-plain reply_rows 17 c.args.code Applied c.args.reader.now c.in-17.is refl
+
+pub returns-in-18-clause-read : goal.returns-in-18-clause-read
+returns-in-18-clause-read c = arm-plain reply_rows 18 c.args.code Known c.args.reader.now c.in-18.is refl
+
+pub returns-in-20-clause-read : goal.returns-in-20-clause-read
+returns-in-20-clause-read c = arm-plain reply_rows 20 c.args.code Closed c.args.reader.now c.in-20.is refl
+
+pub returns-in-22-clause-read : goal.returns-in-22-clause-read
+returns-in-22-clause-read c = arm-plain reply_rows 22 c.args.code NoMemory c.args.reader.now c.in-22.is refl
 
 pub returns-in-15-clause-sure : goal.returns-in-15-clause-sure
 returns-in-15-clause-sure c = λ r rest e read sure is.
@@ -22,13 +80,8 @@ returns-in-21-clause-sure c = λ r rest e read sure is.
     let m = arm-source reply_rows 21 c.args.code Refused refusal_front c.args.reader.now r rest c.in-21.is refl read in
     c.read_refused.ensures.sure m.source rest e m.reads (subst (λ x. IsTrue (reply_takes_no_memory x)) (sym m.is) sure) is
 
-pub returns-in_err-high_plain_reply-in_default-clause-read : goal.returns-in_err-high_plain_reply-in_default-clause-read
-returns-in_err-high_plain_reply-in_default-clause-read c =
-    makes-none (front_of_code c.args.code reply_rows) c.args.reader.now c.high_plain_reply.new.reader c.from_residual.result c.from_residual.ensures
-    (untaken (front_of_code c.args.code reply_rows) c.args.reader.now c.high_plain_reply.new.reader c.in_err-high_plain_reply-in_default.ensures)
-
-pub returns-in_ok-high_plain_reply-in_default-clause-read : goal.returns-in_ok-high_plain_reply-in_default-clause-read
-returns-in_ok-high_plain_reply-in_default-clause-read c =
-    let reply = c.in_ok-high_plain_reply-in_default.field-0 in
-    makes (front_of_code c.args.code reply_rows) c.args.reader.now c.high_plain_reply.new.reader (Ok reply) reply
-    (taken (front_of_code c.args.code reply_rows) c.args.reader.now c.high_plain_reply.new.reader reply c.in_ok-high_plain_reply-in_default.ensures) refl
+pub returns-in_default-clause-read : goal.returns-in_default-clause-read
+returns-in_default-clause-read c =
+    let great : 23 ≤ c.args.code = omega arith in
+    makes-none (front_of_code c.args.code reply_rows) c.args.reader.now c.args.reader.now None refl
+    (front-beyond 23 reply_rows c.args.code c.args.reader.now refl great)

@@ -1,12 +1,57 @@
-use Rattle.std.proofs.Common.{Ok, refl}
-use Rattle.tardis_base.specs.declared.replies.Reply.TheVariants.{Merging, Value, Committed, States, Keys}
+use Rattle.std.proofs.Common.{None, refl, ap, arith, ◌≡◌}
+use Rattle.tardis_base.specs.declared.replies.Reply.TheVariants.{Opened, Begun, Merging, Value, Deleted, Absent, Done, Committed, Ended, States, Keys}
 use Rattle.wire_item.specs.Fronts.{both, front_of_code}
 use Rattle.wire_item.specs.Readings.{id_front, parents_front, value_front}
-use Rattle.wire_item.proofs.Takings.{makes, makes-none, taken, untaken}
+use Rattle.wire_item.proofs.Takings.{makes-none, untaken}
 use Rattle.wire_talk.specs.Memory.{reply_takes_no_memory}
 use Rattle.wire_talk.specs.ReplyReadings.{first_ids_front, first_keys_front, reply_rows}
-use Rattle.wire_talk.proofs.Arms.{arm-sure}
+use Rattle.wire_talk.proofs.Arms.{arm-plain, arm-takes, arm-none, arm-sure}
 use Rattle.wire_talk.proofs.reply_readers.low_reply.Goals as goal
+
+pub returns-in_err-id-in-1-clause-read : goal.returns-in_err-id-in-1-clause-read
+returns-in_err-id-in-1-clause-read c =
+    arm-none reply_rows 1 c.args.code Opened id_front c.args.reader.now c.id.new.self c.from_residual.result c.in-1.is refl c.from_residual.ensures
+    (untaken id_front c.args.reader.now c.id.new.self c.in_err-id-in-1.ensures)
+
+pub returns-in_ok-id-in-1-clause-read : goal.returns-in_ok-id-in-1-clause-read
+returns-in_ok-id-in-1-clause-read c =
+    arm-takes reply_rows 1 c.args.code Opened id_front c.args.reader.now c.in_ok-id-in-1.field-0 c.id.new.self c.in-1.is refl c.in_ok-id-in-1.ensures
+
+pub returns-in_err-id-in-2-clause-read : goal.returns-in_err-id-in-2-clause-read
+returns-in_err-id-in-2-clause-read c =
+    arm-none reply_rows 2 c.args.code Begun id_front c.args.reader.now c.id-in-2.new.self c.from_residual-in_err-id-in-2.result c.in-2.is refl
+    c.from_residual-in_err-id-in-2.ensures
+    (untaken id_front c.args.reader.now c.id-in-2.new.self c.in_err-id-in-2.ensures)
+
+pub returns-in_ok-id-in-2-clause-read : goal.returns-in_ok-id-in-2-clause-read
+returns-in_ok-id-in-2-clause-read c =
+    arm-takes reply_rows 2 c.args.code Begun id_front c.args.reader.now c.in_ok-id-in-2.field-0 c.id-in-2.new.self c.in-2.is refl c.in_ok-id-in-2.ensures
+
+pub returns-in_err-id-in-5-clause-read : goal.returns-in_err-id-in-5-clause-read
+returns-in_err-id-in-5-clause-read c =
+    arm-none reply_rows 5 c.args.code Deleted id_front c.args.reader.now c.id-in-5.new.self c.from_residual-in_err-id-in-5.result c.in-5.is refl
+    c.from_residual-in_err-id-in-5.ensures
+    (untaken id_front c.args.reader.now c.id-in-5.new.self c.in_err-id-in-5.ensures)
+
+pub returns-in_ok-id-in-5-clause-read : goal.returns-in_ok-id-in-5-clause-read
+returns-in_ok-id-in-5-clause-read c =
+    arm-takes reply_rows 5 c.args.code Deleted id_front c.args.reader.now c.in_ok-id-in-5.field-0 c.id-in-5.new.self c.in-5.is refl c.in_ok-id-in-5.ensures
+
+pub returns-in_err-id-in-9-clause-read : goal.returns-in_err-id-in-9-clause-read
+returns-in_err-id-in-9-clause-read c =
+    arm-none reply_rows 9 c.args.code Ended id_front c.args.reader.now c.id-in-9.new.self c.from_residual-in_err-id-in-9.result c.in-9.is refl
+    c.from_residual-in_err-id-in-9.ensures
+    (untaken id_front c.args.reader.now c.id-in-9.new.self c.in_err-id-in-9.ensures)
+
+pub returns-in_ok-id-in-9-clause-read : goal.returns-in_ok-id-in-9-clause-read
+returns-in_ok-id-in-9-clause-read c =
+    arm-takes reply_rows 9 c.args.code Ended id_front c.args.reader.now c.in_ok-id-in-9.field-0 c.id-in-9.new.self c.in-9.is refl c.in_ok-id-in-9.ensures
+
+pub returns-in-6-clause-read : goal.returns-in-6-clause-read
+returns-in-6-clause-read c = arm-plain reply_rows 6 c.args.code Absent c.args.reader.now c.in-6.is refl
+
+pub returns-in-7-clause-read : goal.returns-in-7-clause-read
+returns-in-7-clause-read c = arm-plain reply_rows 7 c.args.code Done c.args.reader.now c.in-7.is refl
 
 pub returns-in-3-clause-sure : goal.returns-in-3-clause-sure
 returns-in-3-clause-sure c = λ r rest e read sure is.
@@ -32,13 +77,8 @@ returns-in-11-clause-sure c = λ r rest e read sure is.
     absurd (arm-sure reply_rows 11 c.args.code (λ p. Keys p.0 p.1) first_keys_front reply_takes_no_memory (λ x. refl) c.args.reader.now r rest c.in-11.is
     refl read sure)
 
-pub returns-in_err-low_plain_reply-in_default-clause-read : goal.returns-in_err-low_plain_reply-in_default-clause-read
-returns-in_err-low_plain_reply-in_default-clause-read c =
-    makes-none (front_of_code c.args.code reply_rows) c.args.reader.now c.low_plain_reply.new.reader c.from_residual.result c.from_residual.ensures
-    (untaken (front_of_code c.args.code reply_rows) c.args.reader.now c.low_plain_reply.new.reader c.in_err-low_plain_reply-in_default.ensures)
-
-pub returns-in_ok-low_plain_reply-in_default-clause-read : goal.returns-in_ok-low_plain_reply-in_default-clause-read
-returns-in_ok-low_plain_reply-in_default-clause-read c =
-    let reply = c.in_ok-low_plain_reply-in_default.field-0 in
-    makes (front_of_code c.args.code reply_rows) c.args.reader.now c.low_plain_reply.new.reader (Ok reply) reply
-    (taken (front_of_code c.args.code reply_rows) c.args.reader.now c.low_plain_reply.new.reader reply c.in_ok-low_plain_reply-in_default.ensures) refl
+pub returns-in_default-clause-read : goal.returns-in_default-clause-read
+returns-in_default-clause-read c =
+    let zero : c.args.code ≡ 0 = omega arith in
+    makes-none (front_of_code c.args.code reply_rows) c.args.reader.now c.args.reader.now None refl
+    (ap (λ k. front_of_code k reply_rows c.args.reader.now) zero)
