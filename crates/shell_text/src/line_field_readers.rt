@@ -305,20 +305,14 @@ pub fn ids<'a>(
 fn begin_merge(states: Result<StateList, NoMemory>, left: &Words) -> Result<Request, ReadFault>
     ensures { (xs : List StateId) → IfOk states (λ l. l ≡ xs) → IsAnswer (alone (Request.BeginMerge (MergeOf.States xs)) left.now) result }
 {
+    if !left.is_over() {
+        return Err(ReadFault::Malformed);
+    }
     match states {
-        Ok(states) => sure(alone(
-            Request::BeginMerge {
-                of: MergeOf::States(states),
-            },
-            left,
-        )),
-        Err(_) => {
-            if left.is_over() {
-                Err(ReadFault::NoMemory)
-            } else {
-                Err(ReadFault::Malformed)
-            }
-        },
+        Ok(states) => Ok(Request::BeginMerge {
+            of: MergeOf::States(states),
+        }),
+        Err(_) => Err(ReadFault::NoMemory),
     }
 }
 
@@ -377,15 +371,12 @@ fn numbers<'a>(
 fn pull(counts: Result<CountList, NoMemory>, left: &Words) -> Result<Request, ReadFault>
     ensures { (ns : List ℕ) → IfOk counts (λ l. l ≡ ns) → IsAnswer (alone (Request.Pull ns) left.now) result }
 {
+    if !left.is_over() {
+        return Err(ReadFault::Malformed);
+    }
     match counts {
-        Ok(counts) => sure(alone(Request::Pull { counts }, left)),
-        Err(_) => {
-            if left.is_over() {
-                Err(ReadFault::NoMemory)
-            } else {
-                Err(ReadFault::Malformed)
-            }
-        },
+        Ok(counts) => Ok(Request::Pull { counts }),
+        Err(_) => Err(ReadFault::NoMemory),
     }
 }
 

@@ -38,15 +38,12 @@ pub fn sure_reply(read: Option<Reply>) -> Result<Reply, ReadFault>
 fn ended(made: Result<Reply, NoMemory>, left: &Words) -> Result<Reply, ReadFault>
     ensures { (reply : Reply) → IfOk made (λ r. r ≡ reply) → IsFalse (reply_takes_no_memory reply) → IsReply (alone reply left.now) result }
 {
+    if !left.is_over() {
+        return Err(ReadFault::Malformed);
+    }
     match made {
-        Ok(reply) => sure_reply(alone(reply, left)),
-        Err(_) => {
-            if left.is_over() {
-                Err(ReadFault::NoMemory)
-            } else {
-                Err(ReadFault::Malformed)
-            }
-        },
+        Ok(reply) => Ok(reply),
+        Err(_) => Err(ReadFault::NoMemory),
     }
 }
 
