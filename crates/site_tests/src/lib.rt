@@ -29,8 +29,6 @@ mod of_limits;
 #[cfg(test)]
 mod of_load_run;
 #[cfg(test)]
-mod of_merge_rules;
-#[cfg(test)]
 mod of_merges;
 #[cfg(test)]
 mod of_steps;
