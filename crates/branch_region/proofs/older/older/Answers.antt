@@ -24,6 +24,14 @@ loop-slot-init c =
       both = λ rs ks stands xs are. (ap (map (id_at table)) c.new-apart.ensures.items, ap (map (id_at table)) c.new-shared.ensures.items);
     }
 
+pub is_above_part-requires-clause-slot : goal.is_above_part-requires-clause-slot
+is_above_part-requires-clause-slot c = all-got (is_slot c.args.dag.now) c.kept_slots-slot-items.result.now c.loop-slot.slot-index (record { 0 = 0 })
+    c.kept_slots-slot-items.ensures.slots c.loop-slot-test.true
+
+pub is_last_shared-requires-clause-slot : goal.is_last_shared-requires-clause-slot
+is_last_shared-requires-clause-slot c = all-got (is_slot c.args.dag.now) c.kept_slots-slot-items.result.now c.loop-slot.slot-index (record { 0 = 0 })
+    c.kept_slots-slot-items.ensures.slots c.loop-slot-test.true
+
 pub returns-then-bound-arrival-clause-slots : goal.returns-then-bound-arrival-clause-slots
 returns-then-bound-arrival-clause-slots c = (c.loop-slot.invariant.apart_slots, c.loop-slot.invariant.shared_slots)
 
