@@ -42,8 +42,8 @@ use id_slots::IdSlots;
 use leads::gains;
 use named_paths::named_path;
 use nodes::{Node, first_from, is_node_above, node_at, root_node};
-use rooms::make_room;
-use slots::{common_slot, drop_slot, drop_slots, list_slot, make_slot_room, next_slot, slot_at};
+use rooms::make_state_room;
+use slots::{common_slot, drop_slot, drop_slots, list_slot, next_slot, slot_at};
 use std::alloc::Global;
 use std::marker::Model;
 use tardis_base::{Above, AddFault, Limits, NoMemory, PathList, Slot, StateId};
@@ -139,9 +139,13 @@ impl StateDag {
         let kept = &self.order[..self.kept as usize];
         let gains = gains(alloc, &self.nodes, kept, parents, &self.limits)?;
         check_path(&node, &self.limits)?;
-        make_room(&mut self.nodes, parents, &gains)?;
-        make_slot_room(&mut self.order)?;
-        make_slot_room(&mut self.leaves)?;
+        make_state_room(
+            &mut self.nodes,
+            &mut self.order,
+            &mut self.leaves,
+            parents,
+            &gains,
+        )?;
         let slot = next_slot(&self.order, self.kept);
         self.slots.put(id, slot)?;
         drop_slots(&self.nodes, &mut self.leaves, parents);

@@ -7,11 +7,38 @@ ghost use Rattle.state_dag.specs.Nodes.{are_places, have_places, is_gaining, gai
 
 use crate::leads::Gain;
 use crate::nodes::Node;
+use crate::slots::make_slot_room;
 use crate::sums::in_u32;
 use tardis_base::{NoMemory, Slot};
 
+/// Makes room for one more state below these parents: for its node and what others get, and for its slot among all and among
+/// the leaves.
+pub fn make_state_room(
+    nodes: &mut Vec<Node>,
+    order: &mut Vec<Slot>,
+    leaves: &mut Vec<Slot>,
+    parents: &[Slot],
+    gains: &[Gain],
+) -> Result<(), NoMemory>
+    requires places { IsTrue (are_places nodes.old.items parents.now) }
+    requires gains { IsTrue (have_places nodes.old.items gains.now) }
+    requires few { (k : ℕ) → gains_of k gains.now ≤ length parents.now }
+    ensures same { entries_from 0 nodes.new.items ≡ entries_from 0 nodes.old.items }
+    ensures order { order.new.items ≡ order.old.items }
+    ensures leaves { leaves.new.items ≡ leaves.old.items }
+    ensures paths { OnOk result (HasPathRoom nodes.new.items gains.now) }
+    ensures children { OnOk result (HasChildRoom nodes.new.items parents.now) }
+    ensures node { OnOk result (vec_len nodes.new < vec_capacity nodes.new) }
+    ensures slot { OnOk result (vec_len order.new < vec_capacity order.new) }
+    ensures leaf { OnOk result (vec_len leaves.new < vec_capacity leaves.new) }
+{
+    make_room(nodes, parents, gains)?;
+    make_slot_room(order)?;
+    make_slot_room(leaves)
+}
+
 /// Makes room for a new node and for what its parents and the gaining paths get.
-pub fn make_room(nodes: &mut Vec<Node>, parents: &[Slot], gains: &[Gain]) -> Result<(), NoMemory>
+fn make_room(nodes: &mut Vec<Node>, parents: &[Slot], gains: &[Gain]) -> Result<(), NoMemory>
     requires places { IsTrue (are_places nodes.old.items parents.now) }
     requires gains { IsTrue (have_places nodes.old.items gains.now) }
     requires few { (k : ℕ) → gains_of k gains.now ≤ length parents.now }

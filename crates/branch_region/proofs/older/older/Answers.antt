@@ -1,4 +1,4 @@
-use Rattle.std.proofs.Common.{◌≡◌, ◌∙◌, ◌<◌, ◌+◌, Bool, Some, map, filter, take, get_or, Vec, Global, IsTrue, sym, ap, subst, arith, take_all}
+use Rattle.std.proofs.Common.{◌≡◌, ◌∙◌, ◌<◌, ◌+◌, Bool, Some, map, filter, take, get_or, Vec, Global, IsTrue, refl, sym, ap, subst, arith, take_all}
 use Rattle.std.specs.List.{list_all}
 use Rattle.tardis_base.specs.declared.ids.StateId.{StateId}
 use Rattle.tardis_base.specs.declared.ids.Slot.{Slot}
@@ -14,6 +14,29 @@ use Rattle.branch_region.proofs.Told.{part-told, part-isnt_last}
 use Rattle.branch_region.proofs.older.older.Goals as goal
 use Rattle.branch_region.proofs.older.older.Goals.{then-is_above_part+in_ok-push, else-is_above_part+then-is_last_shared+in_ok-push-2}
 use Rattle.branch_region.proofs.older.older.Goals.{else-is_above_part+else-is_last_shared}
+
+pub loop-slot-init : goal.loop-slot-init
+loop-slot-init c =
+    let table = c.args.dag.now in
+    record {
+      apart_slots = subst (λ ss. IsTrue (list_all (is_slot table) ss)) (sym c.new-apart.ensures.items) refl;
+      shared_slots = subst (λ ss. IsTrue (list_all (is_slot table) ss)) (sym c.new-shared.ensures.items) refl;
+      both = λ rs ks stands xs are. (ap (map (id_at table)) c.new-apart.ensures.items, ap (map (id_at table)) c.new-shared.ensures.items);
+    }
+
+pub is_above_part-requires-clause-slot : goal.is_above_part-requires-clause-slot
+is_above_part-requires-clause-slot c = all-got (is_slot c.args.dag.now) c.kept_slots-slot-items.result.now c.loop-slot.slot-index (record { 0 = 0 })
+    c.kept_slots-slot-items.ensures.slots c.loop-slot-test.true
+
+pub is_last_shared-requires-clause-slot : goal.is_last_shared-requires-clause-slot
+is_last_shared-requires-clause-slot c = all-got (is_slot c.args.dag.now) c.kept_slots-slot-items.result.now c.loop-slot.slot-index (record { 0 = 0 })
+    c.kept_slots-slot-items.ensures.slots c.loop-slot-test.true
+
+pub returns-then-bound-arrival-clause-slots : goal.returns-then-bound-arrival-clause-slots
+returns-then-bound-arrival-clause-slots c = (c.loop-slot.invariant.apart_slots, c.loop-slot.invariant.shared_slots)
+
+pub returns-clause-slots : goal.returns-clause-slots
+returns-clause-slots c = (c.loop-slot.invariant.apart_slots, c.loop-slot.invariant.shared_slots)
 
 pub returns-then-bound-arrival-clause-apart : goal.returns-then-bound-arrival-clause-apart
 returns-then-bound-arrival-clause-apart c = λ rs ks stands xs are.

@@ -1,9 +1,11 @@
-use Rattle.std.proofs.Common.{◌++◌, List, IsTrue, take, refl, sym, ap₂, subst, ◌∙◌, Err}
+use Rattle.std.proofs.Common.{◌++◌, ℕ, List, IsTrue, take, drop, refl, sym, ap₂, subst, ◌∙◌, Err}
 use Rattle.std.proofs.Math.Seq.{take-append_seam}
-use Rattle.tardis_base.specs.Keys.{KeyWrite, write_of}
+use Rattle.tardis_base.specs.Keys.{KeyWrite, is_key_among, write_of}
 use Rattle.state_dag.specs.Table.{is_kept_at, arrival_at}
 use Rattle.version_list.specs.declared.histories.Version.{Version}
 use Rattle.version_list.specs.Versions.{listed_keys, new_keys, versions_of, version_by, are_in_order}
+use Rattle.record_store.specs.Store.{Store}
+use Rattle.record_store.specs.Answers.{IsSameStore}
 use Rattle.record_store.proofs.Adding.{order-stays, all-came_before}
 use Rattle.record_store.proofs.Holding.{still-held, short-of_memory, refused-by_table, added-to_both}
 use Rattle.record_store.proofs.RecordStore.commit.Goals as goal
@@ -22,6 +24,21 @@ invariant_of-self-in-Err c =
     still-held c.self.inside c.args.self.now c.self.view_is c.add.new.self c.withdraw.new.self c.self.invariant c.in-Err.ensures.same
     (λ k. c.withdraw.ensures.same k ∙ c.make_room.ensures.same k)
     (λ s. c.withdraw.ensures.noted s ∙ c.make_room.ensures.noted s)
+
+pub withdraw-requires : goal.withdraw-requires
+withdraw-requires c = λ k among.
+    c.in_ok-make_room.ensures.unused k
+    (subst (λ (n : ℕ). IsTrue (is_key_among k (drop n (listed_keys c.make_room.new.self)))) c.keys-listed.ensures.count among)
+
+pub returns-in-Err-clause-same : goal.returns-in-Err-clause-same
+returns-in-Err-clause-same c =
+    let old = listed_keys c.self.inside.versions in
+    let more = new_keys old c.args.writes.now in
+    let listed =
+    c.withdraw.ensures.listed ∙ ap₂ take c.keys-listed.ensures.count c.in_ok-make_room.ensures.listed ∙ take-append_seam old more in
+    let new : Store = record { table = c.add.new.self; versions = c.withdraw.new.self } in
+    subst (λ (s : Store). IsSameStore s new) c.self.view_is
+    (record { table = c.in-Err.ensures.same; versions = λ k. c.withdraw.ensures.same k ∙ c.make_room.ensures.same k; listed = listed })
 
 pub returns-in-Err-clause-added : goal.returns-in-Err-clause-added
 returns-in-Err-clause-added c = λ rs ks r stands id_is _ may.

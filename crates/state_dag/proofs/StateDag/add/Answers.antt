@@ -101,38 +101,38 @@ returns-in_err-check_path-clause-added c = λ rs ks r stands is may.
     (take c.self.inside.kept c.deref-2.result.now) c.deref-3.ensures.value (ap (take c.self.inside.kept) c.deref-2.ensures.value)
     c.in_ok-gains.ensures.long) c.in_err-check_path.ensures) rs ks r stands is may)
 
-pub make_room-requires-clause-places : goal.make_room-requires-clause-places
-make_room-requires-clause-places c = parents-placed c.self.inside c.self.invariant c.args.self.now c.self.view_is c.args.parents.now c.requires.slots
+pub make_state_room-requires-clause-places : goal.make_state_room-requires-clause-places
+make_state_room-requires-clause-places c = parents-placed c.self.inside c.self.invariant c.args.self.now c.self.view_is c.args.parents.now c.requires.slots
 
-pub make_room-requires-clause-gains : goal.make_room-requires-clause-gains
-make_room-requires-clause-gains c = gains-at_places c.self.inside c.self.invariant c.args.self.now c.self.view_is c.args.parents.now c.requires.slots
+pub make_state_room-requires-clause-gains : goal.make_state_room-requires-clause-gains
+make_state_room-requires-clause-gains c = gains-at_places c.self.inside c.self.invariant c.args.self.now c.self.view_is c.args.parents.now c.requires.slots
     c.deref-4.result.now (c.deref-4.ensures.value ∙ gains-seen c.self.inside c.self.invariant c.args.self.now c.self.view_is c.args.parents.now
     c.requires.slots c.deref-3.result.now (take c.self.inside.kept c.deref-2.result.now) c.deref-3.ensures.value
     (ap (take c.self.inside.kept) c.deref-2.ensures.value) c.in_ok-gains.gains.items c.in_ok-gains.ensures.gains) c.self.inside.nodes.items refl
 
-pub make_room-requires-clause-few : goal.make_room-requires-clause-few
-make_room-requires-clause-few c = few-gains c.self.inside c.self.invariant c.args.self.now c.self.view_is c.args.parents.now c.requires.slots
+pub make_state_room-requires-clause-few : goal.make_state_room-requires-clause-few
+make_state_room-requires-clause-few c = few-gains c.self.inside c.self.invariant c.args.self.now c.self.view_is c.args.parents.now c.requires.slots
     c.deref-4.result.now (c.deref-4.ensures.value ∙ gains-seen c.self.inside c.self.invariant c.args.self.now c.self.view_is c.args.parents.now
     c.requires.slots c.deref-3.result.now (take c.self.inside.kept c.deref-2.result.now) c.deref-3.ensures.value
     (ap (take c.self.inside.kept) c.deref-2.ensures.value) c.in_ok-gains.gains.items c.in_ok-gains.ensures.gains)
 
 pub drop_slots-requires : goal.drop_slots-requires
 drop_slots-requires c = leaves-in_order c.self.inside c.self.invariant c.args.self.now c.self.view_is c.args.parents.now c.requires.slots
-    c.make_room.new.nodes.items c.deref-6.result.now c.make_slot_room-2.new.slots.items c.deref-6.ensures.value c.make_room.ensures.same
-    c.make_slot_room-2.ensures.items
+    c.make_state_room.new.nodes.items c.deref-6.result.now c.make_state_room.new.leaves.items c.deref-6.ensures.value c.make_state_room.ensures.same
+    c.make_state_room.ensures.leaves
 
 pub grow-requires-clause-places : goal.grow-requires-clause-places
 grow-requires-clause-places c =
     subst (λ (n : ℕ). list_all (λ (s : Slot). ltb s.0 n) c.args.parents.now ≡ true)
-    (sym (same-count c.make_room.new.nodes.items c.self.inside.nodes.items c.make_room.ensures.same))
+    (sym (same-count c.make_state_room.new.nodes.items c.self.inside.nodes.items c.make_state_room.ensures.same))
     (parents-placed c.self.inside c.self.invariant c.args.self.now c.self.view_is c.args.parents.now c.requires.slots)
 
 pub grow-requires-clause-gains : goal.grow-requires-clause-gains
 grow-requires-clause-gains c = gains-at_places c.self.inside c.self.invariant c.args.self.now c.self.view_is c.args.parents.now c.requires.slots
     c.deref-7.result.now (c.deref-7.ensures.value ∙ gains-seen c.self.inside c.self.invariant c.args.self.now c.self.view_is c.args.parents.now
     c.requires.slots c.deref-3.result.now (take c.self.inside.kept c.deref-2.result.now) c.deref-3.ensures.value
-    (ap (take c.self.inside.kept) c.deref-2.ensures.value) c.in_ok-gains.gains.items c.in_ok-gains.ensures.gains) c.make_room.new.nodes.items
-    (same-count c.make_room.new.nodes.items c.self.inside.nodes.items c.make_room.ensures.same)
+    (ap (take c.self.inside.kept) c.deref-2.ensures.value) c.in_ok-gains.gains.items c.in_ok-gains.ensures.gains) c.make_state_room.new.nodes.items
+    (same-count c.make_state_room.new.nodes.items c.self.inside.nodes.items c.make_state_room.ensures.same)
 
 pub invariant_of-self : goal.invariant_of-self
 invariant_of-self c =
@@ -141,46 +141,14 @@ invariant_of-self c =
       limits = a.limits;
       counts = a.counts;
       known = a.known;
-      nodes = c.make_room.new.nodes;
-      order = a.order;
-      kept =
-          a.kept;
-      leaves = a.leaves;
-      slots = a.slots;
-    } in
-    held-stays a b c.self.invariant refl refl refl refl refl refl c.make_room.ensures.same (λ x. refl)
-
-pub invariant_of-self-in_err-make_slot_room : goal.invariant_of-self-in_err-make_slot_room
-invariant_of-self-in_err-make_slot_room c =
-    let a = c.self.inside in
-    let b : Inside = record {
-      limits = a.limits;
-      counts = a.counts;
-      known = a.known;
-      nodes = c.make_room.new.nodes;
+      nodes = c.make_state_room.new.nodes;
       order =
-          c.make_slot_room.new.slots;
+          c.make_state_room.new.order;
       kept = a.kept;
-      leaves = a.leaves;
+      leaves = c.make_state_room.new.leaves;
       slots = a.slots;
     } in
-    held-stays a b c.self.invariant refl refl refl refl c.make_slot_room.ensures.items refl c.make_room.ensures.same (λ x. refl)
-
-pub invariant_of-self-in_err-make_slot_room-2 : goal.invariant_of-self-in_err-make_slot_room-2
-invariant_of-self-in_err-make_slot_room-2 c =
-    let a = c.self.inside in
-    let b : Inside = record {
-      limits = a.limits;
-      counts = a.counts;
-      known = a.known;
-      nodes = c.make_room.new.nodes;
-      order =
-          c.make_slot_room.new.slots;
-      kept = a.kept;
-      leaves = c.make_slot_room-2.new.slots;
-      slots = a.slots;
-    } in
-    held-stays a b c.self.invariant refl refl refl c.make_slot_room-2.ensures.items c.make_slot_room.ensures.items refl c.make_room.ensures.same (λ x. refl)
+    held-stays a b c.self.invariant refl refl refl c.make_state_room.ensures.leaves c.make_state_room.ensures.order refl c.make_state_room.ensures.same (λ x. refl)
 
 pub put-requires : goal.put-requires
 put-requires c = λ x of_site from.
@@ -198,14 +166,14 @@ invariant_of-self-in_err-put c =
       limits = a.limits;
       counts = a.counts;
       known = a.known;
-      nodes = c.make_room.new.nodes;
+      nodes = c.make_state_room.new.nodes;
       order =
-          c.make_slot_room.new.slots;
+          c.make_state_room.new.order;
       kept = a.kept;
-      leaves = c.make_slot_room-2.new.slots;
+      leaves = c.make_state_room.new.leaves;
       slots = c.put.new.self;
     } in
-    held-stays a b c.self.invariant refl refl refl c.make_slot_room-2.ensures.items c.make_slot_room.ensures.items refl c.make_room.ensures.same
+    held-stays a b c.self.invariant refl refl refl c.make_state_room.ensures.leaves c.make_state_room.ensures.order refl c.make_state_room.ensures.same
     c.in_err-put.ensures.same
 
 pub overflow_add-self : goal.overflow_add-self
@@ -227,233 +195,81 @@ on_err : (r : Result Slot AddFault) (P : Type 0) → P → OnErr r P
 on_err (Ok s) P p = tt
 on_err (Err f) P p = p
 
-pub returns-in_err-make_room-clause-same : goal.returns-in_err-make_room-clause-same
-returns-in_err-make_room-clause-same c =
+pub returns-in_err-make_state_room-clause-same : goal.returns-in_err-make_state_room-clause-same
+returns-in_err-make_state_room-clause-same c =
     let a = c.self.inside in
     let old = c.args.self.now in
     let b : Inside = record {
       limits = a.limits;
       counts = a.counts;
       known = a.known;
-      nodes = c.make_room.new.nodes;
-      order = a.order;
-      kept =
-          a.kept;
-      leaves = a.leaves;
+      nodes = c.make_state_room.new.nodes;
+      order =
+          c.make_state_room.new.order;
+      kept = a.kept;
+      leaves = c.make_state_room.new.leaves;
       slots = a.slots;
     } in
-    let stays : seen b ≡ old = view-same a b c.self.invariant refl refl refl refl refl refl c.make_room.ensures.same (λ x. refl) old c.self.view_is in
-    on_err c.from_residual-in_err-make_room.result (seen b ≡ old) stays
+    let stays : seen b ≡ old = view-same a b c.self.invariant refl refl refl c.make_state_room.ensures.leaves c.make_state_room.ensures.order refl
+    c.make_state_room.ensures.same (λ x. refl) old c.self.view_is in
+    on_err c.from_residual-in_err-make_state_room.result (seen b ≡ old) stays
 
-pub returns-in_err-make_room-clause-keeps : goal.returns-in_err-make_room-clause-keeps
-returns-in_err-make_room-clause-keeps c =
+pub returns-in_err-make_state_room-clause-keeps : goal.returns-in_err-make_state_room-clause-keeps
+returns-in_err-make_state_room-clause-keeps c =
     let a = c.self.inside in
     let old = c.args.self.now in
     let b : Inside = record {
       limits = a.limits;
       counts = a.counts;
       known = a.known;
-      nodes = c.make_room.new.nodes;
-      order = a.order;
-      kept =
-          a.kept;
-      leaves = a.leaves;
+      nodes = c.make_state_room.new.nodes;
+      order =
+          c.make_state_room.new.order;
+      kept = a.kept;
+      leaves = c.make_state_room.new.leaves;
       slots = a.slots;
     } in
-    let stays : seen b ≡ old = view-same a b c.self.invariant refl refl refl refl refl refl c.make_room.ensures.same (λ x. refl) old c.self.view_is in
+    let stays : seen b ≡ old = view-same a b c.self.invariant refl refl refl c.make_state_room.ensures.leaves c.make_state_room.ensures.order refl
+    c.make_state_room.ensures.same (λ x. refl) old c.self.view_is in
     subst (λ (t : Table). KeepsSlots old t) (sym stays) (λ s x h. h)
 
-pub returns-in_err-make_room-clause-kept : goal.returns-in_err-make_room-clause-kept
-returns-in_err-make_room-clause-kept c =
+pub returns-in_err-make_state_room-clause-kept : goal.returns-in_err-make_state_room-clause-kept
+returns-in_err-make_state_room-clause-kept c =
     let a = c.self.inside in
     let old = c.args.self.now in
     let b : Inside = record {
       limits = a.limits;
       counts = a.counts;
       known = a.known;
-      nodes = c.make_room.new.nodes;
-      order = a.order;
-      kept =
-          a.kept;
-      leaves = a.leaves;
+      nodes = c.make_state_room.new.nodes;
+      order =
+          c.make_state_room.new.order;
+      kept = a.kept;
+      leaves = c.make_state_room.new.leaves;
       slots = a.slots;
     } in
-    let stays : seen b ≡ old = view-same a b c.self.invariant refl refl refl refl refl refl c.make_room.ensures.same (λ x. refl) old c.self.view_is in
+    let stays : seen b ≡ old = view-same a b c.self.invariant refl refl refl c.make_state_room.ensures.leaves c.make_state_room.ensures.order refl
+    c.make_state_room.ensures.same (λ x. refl) old c.self.view_is in
     subst (λ (t : Table). (s : Slot) → IsTrue (is_kept_at old s) → IsTrue (is_kept_at t s) × (arrival_at t s ≡ arrival_at old s)) (sym stays) (λ s h. (h, refl))
 
-pub returns-in_err-make_room-clause-added : goal.returns-in_err-make_room-clause-added
-returns-in_err-make_room-clause-added c = λ rs ks r stands is may.
+pub returns-in_err-make_state_room-clause-added : goal.returns-in_err-make_state_room-clause-added
+returns-in_err-make_state_room-clause-added c = λ rs ks r stands is may.
     let a = c.self.inside in
     let old = c.args.self.now in
     let b : Inside = record {
       limits = a.limits;
       counts = a.counts;
       known = a.known;
-      nodes = c.make_room.new.nodes;
-      order = a.order;
-      kept =
-          a.kept;
-      leaves = a.leaves;
-      slots = a.slots;
-    } in
-    let stays : seen b ≡ old = view-same a b c.self.invariant refl refl refl refl refl refl c.make_room.ensures.same (λ x. refl) old c.self.view_is in
-    let p = err_from_is_err_and c.from_residual-in_err-make_room.result c.from_residual-in_err-make_room.ensures.1 in
-    let wrong : AddFault → Result Slot AddFault = λ f. Err f in
-    subst (λ (z : Result Slot AddFault). AddedTo old (seen b) rs ks r z) (sym (p.1 ∙ ap wrong p.2)) stays
-
-pub returns-in_err-make_slot_room-clause-same : goal.returns-in_err-make_slot_room-clause-same
-returns-in_err-make_slot_room-clause-same c =
-    let a = c.self.inside in
-    let old = c.args.self.now in
-    let b : Inside = record {
-      limits = a.limits;
-      counts = a.counts;
-      known = a.known;
-      nodes = c.make_room.new.nodes;
+      nodes = c.make_state_room.new.nodes;
       order =
-          c.make_slot_room.new.slots;
+          c.make_state_room.new.order;
       kept = a.kept;
-      leaves = a.leaves;
+      leaves = c.make_state_room.new.leaves;
       slots = a.slots;
     } in
-    let stays : seen b ≡ old = view-same a b c.self.invariant refl refl refl refl c.make_slot_room.ensures.items refl c.make_room.ensures.same
-    (λ x. refl) old c.self.view_is in
-    on_err c.from_residual-in_err-make_slot_room.result (seen b ≡ old) stays
-
-pub returns-in_err-make_slot_room-clause-keeps : goal.returns-in_err-make_slot_room-clause-keeps
-returns-in_err-make_slot_room-clause-keeps c =
-    let a = c.self.inside in
-    let old = c.args.self.now in
-    let b : Inside = record {
-      limits = a.limits;
-      counts = a.counts;
-      known = a.known;
-      nodes = c.make_room.new.nodes;
-      order =
-          c.make_slot_room.new.slots;
-      kept = a.kept;
-      leaves = a.leaves;
-      slots = a.slots;
-    } in
-    let stays : seen b ≡ old = view-same a b c.self.invariant refl refl refl refl c.make_slot_room.ensures.items refl c.make_room.ensures.same
-    (λ x. refl) old c.self.view_is in
-    subst (λ (t : Table). KeepsSlots old t) (sym stays) (λ s x h. h)
-
-pub returns-in_err-make_slot_room-clause-kept : goal.returns-in_err-make_slot_room-clause-kept
-returns-in_err-make_slot_room-clause-kept c =
-    let a = c.self.inside in
-    let old = c.args.self.now in
-    let b : Inside = record {
-      limits = a.limits;
-      counts = a.counts;
-      known = a.known;
-      nodes = c.make_room.new.nodes;
-      order =
-          c.make_slot_room.new.slots;
-      kept = a.kept;
-      leaves = a.leaves;
-      slots = a.slots;
-    } in
-    let stays : seen b ≡ old = view-same a b c.self.invariant refl refl refl refl c.make_slot_room.ensures.items refl c.make_room.ensures.same
-    (λ x. refl) old c.self.view_is in
-    subst (λ (t : Table). (s : Slot) → IsTrue (is_kept_at old s) → IsTrue (is_kept_at t s) × (arrival_at t s ≡ arrival_at old s)) (sym stays) (λ s h. (h, refl))
-
-pub returns-in_err-make_slot_room-clause-added : goal.returns-in_err-make_slot_room-clause-added
-returns-in_err-make_slot_room-clause-added c = λ rs ks r stands is may.
-    let a = c.self.inside in
-    let old = c.args.self.now in
-    let b : Inside = record {
-      limits = a.limits;
-      counts = a.counts;
-      known = a.known;
-      nodes = c.make_room.new.nodes;
-      order =
-          c.make_slot_room.new.slots;
-      kept = a.kept;
-      leaves = a.leaves;
-      slots = a.slots;
-    } in
-    let stays : seen b ≡ old = view-same a b c.self.invariant refl refl refl refl c.make_slot_room.ensures.items refl c.make_room.ensures.same
-    (λ x. refl) old c.self.view_is in
-    let p = err_from_is_err_and c.from_residual-in_err-make_slot_room.result c.from_residual-in_err-make_slot_room.ensures.1 in
-    let wrong : AddFault → Result Slot AddFault = λ f. Err f in
-    subst (λ (z : Result Slot AddFault). AddedTo old (seen b) rs ks r z) (sym (p.1 ∙ ap wrong p.2)) stays
-
-pub returns-in_err-make_slot_room-2-clause-same : goal.returns-in_err-make_slot_room-2-clause-same
-returns-in_err-make_slot_room-2-clause-same c =
-    let a = c.self.inside in
-    let old = c.args.self.now in
-    let b : Inside = record {
-      limits = a.limits;
-      counts = a.counts;
-      known = a.known;
-      nodes = c.make_room.new.nodes;
-      order =
-          c.make_slot_room.new.slots;
-      kept = a.kept;
-      leaves = c.make_slot_room-2.new.slots;
-      slots = a.slots;
-    } in
-    let stays : seen b ≡ old = view-same a b c.self.invariant refl refl refl c.make_slot_room-2.ensures.items c.make_slot_room.ensures.items refl
-    c.make_room.ensures.same (λ x. refl) old c.self.view_is in
-    on_err c.from_residual-in_err-make_slot_room-2.result (seen b ≡ old) stays
-
-pub returns-in_err-make_slot_room-2-clause-keeps : goal.returns-in_err-make_slot_room-2-clause-keeps
-returns-in_err-make_slot_room-2-clause-keeps c =
-    let a = c.self.inside in
-    let old = c.args.self.now in
-    let b : Inside = record {
-      limits = a.limits;
-      counts = a.counts;
-      known = a.known;
-      nodes = c.make_room.new.nodes;
-      order =
-          c.make_slot_room.new.slots;
-      kept = a.kept;
-      leaves = c.make_slot_room-2.new.slots;
-      slots = a.slots;
-    } in
-    let stays : seen b ≡ old = view-same a b c.self.invariant refl refl refl c.make_slot_room-2.ensures.items c.make_slot_room.ensures.items refl
-    c.make_room.ensures.same (λ x. refl) old c.self.view_is in
-    subst (λ (t : Table). KeepsSlots old t) (sym stays) (λ s x h. h)
-
-pub returns-in_err-make_slot_room-2-clause-kept : goal.returns-in_err-make_slot_room-2-clause-kept
-returns-in_err-make_slot_room-2-clause-kept c =
-    let a = c.self.inside in
-    let old = c.args.self.now in
-    let b : Inside = record {
-      limits = a.limits;
-      counts = a.counts;
-      known = a.known;
-      nodes = c.make_room.new.nodes;
-      order =
-          c.make_slot_room.new.slots;
-      kept = a.kept;
-      leaves = c.make_slot_room-2.new.slots;
-      slots = a.slots;
-    } in
-    let stays : seen b ≡ old = view-same a b c.self.invariant refl refl refl c.make_slot_room-2.ensures.items c.make_slot_room.ensures.items refl
-    c.make_room.ensures.same (λ x. refl) old c.self.view_is in
-    subst (λ (t : Table). (s : Slot) → IsTrue (is_kept_at old s) → IsTrue (is_kept_at t s) × (arrival_at t s ≡ arrival_at old s)) (sym stays) (λ s h. (h, refl))
-
-pub returns-in_err-make_slot_room-2-clause-added : goal.returns-in_err-make_slot_room-2-clause-added
-returns-in_err-make_slot_room-2-clause-added c = λ rs ks r stands is may.
-    let a = c.self.inside in
-    let old = c.args.self.now in
-    let b : Inside = record {
-      limits = a.limits;
-      counts = a.counts;
-      known = a.known;
-      nodes = c.make_room.new.nodes;
-      order =
-          c.make_slot_room.new.slots;
-      kept = a.kept;
-      leaves = c.make_slot_room-2.new.slots;
-      slots = a.slots;
-    } in
-    let stays : seen b ≡ old = view-same a b c.self.invariant refl refl refl c.make_slot_room-2.ensures.items c.make_slot_room.ensures.items refl
-    c.make_room.ensures.same (λ x. refl) old c.self.view_is in
-    let p = err_from_is_err_and c.from_residual-in_err-make_slot_room-2.result c.from_residual-in_err-make_slot_room-2.ensures.1 in
+    let stays : seen b ≡ old = view-same a b c.self.invariant refl refl refl c.make_state_room.ensures.leaves c.make_state_room.ensures.order refl
+    c.make_state_room.ensures.same (λ x. refl) old c.self.view_is in
+    let p = err_from_is_err_and c.from_residual-in_err-make_state_room.result c.from_residual-in_err-make_state_room.ensures.1 in
     let wrong : AddFault → Result Slot AddFault = λ f. Err f in
     subst (λ (z : Result Slot AddFault). AddedTo old (seen b) rs ks r z) (sym (p.1 ∙ ap wrong p.2)) stays
 
@@ -465,15 +281,15 @@ returns-in_err-put-clause-same c =
       limits = a.limits;
       counts = a.counts;
       known = a.known;
-      nodes = c.make_room.new.nodes;
+      nodes = c.make_state_room.new.nodes;
       order =
-          c.make_slot_room.new.slots;
+          c.make_state_room.new.order;
       kept = a.kept;
-      leaves = c.make_slot_room-2.new.slots;
+      leaves = c.make_state_room.new.leaves;
       slots = c.put.new.self;
     } in
-    let stays : seen b ≡ old = view-same a b c.self.invariant refl refl refl c.make_slot_room-2.ensures.items c.make_slot_room.ensures.items refl
-    c.make_room.ensures.same c.in_err-put.ensures.same old c.self.view_is in
+    let stays : seen b ≡ old = view-same a b c.self.invariant refl refl refl c.make_state_room.ensures.leaves c.make_state_room.ensures.order refl
+    c.make_state_room.ensures.same c.in_err-put.ensures.same old c.self.view_is in
     on_err c.from_residual-in_err-put.result (seen b ≡ old) stays
 
 pub returns-in_err-put-clause-keeps : goal.returns-in_err-put-clause-keeps
@@ -484,15 +300,15 @@ returns-in_err-put-clause-keeps c =
       limits = a.limits;
       counts = a.counts;
       known = a.known;
-      nodes = c.make_room.new.nodes;
+      nodes = c.make_state_room.new.nodes;
       order =
-          c.make_slot_room.new.slots;
+          c.make_state_room.new.order;
       kept = a.kept;
-      leaves = c.make_slot_room-2.new.slots;
+      leaves = c.make_state_room.new.leaves;
       slots = c.put.new.self;
     } in
-    let stays : seen b ≡ old = view-same a b c.self.invariant refl refl refl c.make_slot_room-2.ensures.items c.make_slot_room.ensures.items refl
-    c.make_room.ensures.same c.in_err-put.ensures.same old c.self.view_is in
+    let stays : seen b ≡ old = view-same a b c.self.invariant refl refl refl c.make_state_room.ensures.leaves c.make_state_room.ensures.order refl
+    c.make_state_room.ensures.same c.in_err-put.ensures.same old c.self.view_is in
     subst (λ (t : Table). KeepsSlots old t) (sym stays) (λ s x h. h)
 
 pub returns-in_err-put-clause-kept : goal.returns-in_err-put-clause-kept
@@ -503,15 +319,15 @@ returns-in_err-put-clause-kept c =
       limits = a.limits;
       counts = a.counts;
       known = a.known;
-      nodes = c.make_room.new.nodes;
+      nodes = c.make_state_room.new.nodes;
       order =
-          c.make_slot_room.new.slots;
+          c.make_state_room.new.order;
       kept = a.kept;
-      leaves = c.make_slot_room-2.new.slots;
+      leaves = c.make_state_room.new.leaves;
       slots = c.put.new.self;
     } in
-    let stays : seen b ≡ old = view-same a b c.self.invariant refl refl refl c.make_slot_room-2.ensures.items c.make_slot_room.ensures.items refl
-    c.make_room.ensures.same c.in_err-put.ensures.same old c.self.view_is in
+    let stays : seen b ≡ old = view-same a b c.self.invariant refl refl refl c.make_state_room.ensures.leaves c.make_state_room.ensures.order refl
+    c.make_state_room.ensures.same c.in_err-put.ensures.same old c.self.view_is in
     subst (λ (t : Table). (s : Slot) → IsTrue (is_kept_at old s) → IsTrue (is_kept_at t s) × (arrival_at t s ≡ arrival_at old s)) (sym stays) (λ s h. (h, refl))
 
 pub returns-in_err-put-clause-added : goal.returns-in_err-put-clause-added
@@ -522,15 +338,15 @@ returns-in_err-put-clause-added c = λ rs ks r stands is may.
       limits = a.limits;
       counts = a.counts;
       known = a.known;
-      nodes = c.make_room.new.nodes;
+      nodes = c.make_state_room.new.nodes;
       order =
-          c.make_slot_room.new.slots;
+          c.make_state_room.new.order;
       kept = a.kept;
-      leaves = c.make_slot_room-2.new.slots;
+      leaves = c.make_state_room.new.leaves;
       slots = c.put.new.self;
     } in
-    let stays : seen b ≡ old = view-same a b c.self.invariant refl refl refl c.make_slot_room-2.ensures.items c.make_slot_room.ensures.items refl
-    c.make_room.ensures.same c.in_err-put.ensures.same old c.self.view_is in
+    let stays : seen b ≡ old = view-same a b c.self.invariant refl refl refl c.make_state_room.ensures.leaves c.make_state_room.ensures.order refl
+    c.make_state_room.ensures.same c.in_err-put.ensures.same old c.self.view_is in
     let p = err_from_is_err_and c.from_residual-in_err-put.result c.from_residual-in_err-put.ensures.1 in
     let wrong : AddFault → Result Slot AddFault = λ f. Err f in
     subst (λ (z : Result Slot AddFault). AddedTo old (seen b) rs ks r z) (sym (p.1 ∙ ap wrong p.2)) stays
@@ -541,10 +357,10 @@ is-next c =
     let a = c.self.inside in
     let within = c.self.invariant.within in
     let has_room = c.if-self.false in
-    let one = (same-count c.make_room.new.nodes.items c.self.inside.nodes.items c.make_room.ensures.same) in
+    let one = (same-count c.make_state_room.new.nodes.items c.self.inside.nodes.items c.make_state_room.ensures.same) in
     let two = c.grow.ensures.count in
     next-slot a c.self.invariant c.next_slot-slot.result (c.next_slot-slot.ensures
-    ∙ ap (λ (ss : List Slot). slot_after_all ss a.kept) (c.deref-5.ensures.value ∙ c.make_slot_room.ensures.items)) c.grow.new.nodes.items
+    ∙ ap (λ (ss : List Slot). slot_after_all ss a.kept) (c.deref-5.ensures.value ∙ c.make_state_room.ensures.order)) c.grow.new.nodes.items
     c.in_ok-node.node (omega arith) (omega arith)
 
 -- what became of each entry
@@ -554,11 +370,11 @@ follows c =
     all-grown c.self.inside c.self.invariant c.args.self.now c.self.view_is c.args.parents.now c.requires.slots c.deref-7.result.now
     (c.deref-7.ensures.value ∙ gains-seen c.self.inside c.self.invariant c.args.self.now c.self.view_is c.args.parents.now c.requires.slots
     c.deref-3.result.now (take c.self.inside.kept c.deref-2.result.now) c.deref-3.ensures.value
-    (ap (take c.self.inside.kept) c.deref-2.ensures.value) c.in_ok-gains.gains.items c.in_ok-gains.ensures.gains) c.make_room.new.nodes.items
-    c.grow.new.nodes.items c.in_ok-node.node c.args.id c.next_slot-slot.result c.make_room.ensures.same c.grow.ensures.count c.grow.ensures.each
+    (ap (take c.self.inside.kept) c.deref-2.ensures.value) c.in_ok-gains.gains.items c.in_ok-gains.ensures.gains) c.make_state_room.new.nodes.items
+    c.grow.new.nodes.items c.in_ok-node.node c.args.id c.next_slot-slot.result c.make_state_room.ensures.same c.grow.ensures.count c.grow.ensures.each
 
 same-nodes : (c : goal.After-drop-gains-2) → length c.grow.new.nodes.items ≡ length c.self.inside.nodes.items
-same-nodes c = c.grow.ensures.count ∙ (same-count c.make_room.new.nodes.items c.self.inside.nodes.items c.make_room.ensures.same)
+same-nodes c = c.grow.ensures.count ∙ (same-count c.make_state_room.new.nodes.items c.self.inside.nodes.items c.make_state_room.ensures.same)
 
 abbrev inside-next : goal.After-drop-gains-2 → Inside
 inside-next c = record {
@@ -574,7 +390,7 @@ inside-next c = record {
 }
 
 listed : (c : goal.After-drop-gains-2) → c.list_slot.new.order.items ≡ with_slot c.self.inside.order.items c.self.inside.kept c.next_slot-slot.result
-listed c = c.list_slot.ensures ∙ ap (λ (ss : List Slot). with_slot ss c.self.inside.kept c.next_slot-slot.result) c.make_slot_room.ensures.items
+listed c = c.list_slot.ensures ∙ ap (λ (ss : List Slot). with_slot ss c.self.inside.kept c.next_slot-slot.result) c.make_state_room.ensures.order
 
 entries-next : (c : goal.After-drop-gains-2) → (seen (inside-next c)).entries ≡ entries_in c.grow.new.nodes.items (kept_of c.self.inside)
     ++ entry_of c.next_slot-slot.result.0 c.in_ok-node.node ∷ []
@@ -598,10 +414,10 @@ put_node-requires-clause-slot c =
     let a = c.self.inside in
     let within = c.self.invariant.within in
     let has_room = c.if-self.false in
-    let one = (same-count c.make_room.new.nodes.items c.self.inside.nodes.items c.make_room.ensures.same) in
+    let one = (same-count c.make_state_room.new.nodes.items c.self.inside.nodes.items c.make_state_room.ensures.same) in
     let two = c.grow.ensures.count in
     let next = next-slot a c.self.invariant c.next_slot-slot.result
-    (c.next_slot-slot.ensures ∙ ap (λ (ss : List Slot). slot_after_all ss a.kept) (c.deref-5.ensures.value ∙ c.make_slot_room.ensures.items))
+    (c.next_slot-slot.ensures ∙ ap (λ (ss : List Slot). slot_after_all ss a.kept) (c.deref-5.ensures.value ∙ c.make_state_room.ensures.order))
     c.grow.new.nodes.items c.in_ok-node.node (omega arith) (omega arith) in
     let inside = next.within in
     omega arith
@@ -623,7 +439,7 @@ invariant_of-self-2 c =
     (follows c) i id.sequence refl refl c.set_count.ensures.set
     c.in_ok-put.ensures.put
     (c.push_reserved.ensures.items ∙ ap (λ (ss : List Slot). ss ++ slot ∷ [])
-    (c.drop_slots.ensures.items ∙ ap (filter (λ (s : Slot). not (is_slot_among s parents))) c.make_slot_room-2.ensures.items))
+    (c.drop_slots.ensures.items ∙ ap (filter (λ (s : Slot). not (is_slot_among s parents))) c.make_state_room.ensures.leaves))
     (omega arith) entry.id_is (entry.arrival_is ∙ sym (ap (λ (t : Table). t.known) c.self.view_is)) entry.no_children entry.no_stand_ins entry.path.ascending
     (short-told (seen a) parents n.id (length n.path.pairs) (found-all a c.self.invariant)
     (none-seen c.self.inside c.self.invariant c.args.self.now c.self.view_is c.args.parents.now c.requires.slots c.deref-3.result.now

@@ -24,6 +24,12 @@ loop-place-init c =
           first.within;
     }
 
+pub add_gains-requires : goal.add_gains-requires
+add_gains-requires c = place-within c.args.nodes.now c.args.slots.now c.loop-place.place none c.requires.places (omega arith)
+
+pub bounds-nodes-slot : goal.bounds-nodes-slot
+bounds-nodes-slot c = place-within c.args.nodes.now c.args.slots.now c.loop-place.place none c.requires.places (omega arith)
+
 -- the pairs that are counted
 counted : (nodes : List Node) (parents : List Slot) (slot : Slot) (node : Node) (old new : List Gain) (len before after pairs : ℕ) → slot.0 < length nodes
     → node ≡ get_or nodes slot.0 node →
