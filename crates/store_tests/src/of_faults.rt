@@ -1,0 +1,88 @@
+//! The texts of faults, which no clause says.
+
+use begin_rule::{BeginFault, MergeFault};
+use ceiling_book::{CeilingBack, OpenFault, RaiseFault};
+use end_rule::Branches;
+use merge_txn::TxnFault;
+use std::alloc::Global;
+use std::fmt::Display;
+use std::process::Abort;
+use tardis_base::{EndFlags, StateId};
+
+const FIRST: StateId = StateId {
+    site: 1,
+    sequence: 1,
+};
+
+const SECOND: StateId = StateId {
+    site: 1,
+    sequence: 2,
+};
+
+/// Whether the fault says this.
+fn says(rt: &impl Abort, alloc: Global, fault: &impl Display, text: &str) -> bool {
+    format!(in alloc; "{fault}").expect(rt, "room").as_str() == text
+}
+
+/// Why a transaction or a merge doesn't begin.
+fn check_begins(rt: &impl Abort, alloc: Global) {
+    let unknown = BeginFault::Unknown { state: FIRST };
+    assert!(rt; says(rt, alloc, &unknown, "the state 1.1 has not arrived here"));
+    let below = MergeFault::Below {
+        state: StateId::ROOT,
+        ceiling: FIRST,
+    };
+    let text =
+        "the state 0.0 is above the session's ceiling 1.1: begin at the ceiling, or at a state that is not above it";
+    assert!(rt; says(rt, alloc, &below, text));
+    let comparable = MergeFault::Comparable {
+        a: StateId::ROOT,
+        b: SECOND,
+    };
+    let text = "of the states 0.0 and 1.2 one is at or above the other: merge without one of them";
+    assert!(rt; says(rt, alloc, &comparable, text));
+}
+
+/// Why a session doesn't open, and why its ceiling or the floor doesn't move.
+fn check_floors(rt: &impl Abort, alloc: Global) {
+    let full = OpenFault::SessionsFull { n: 3 };
+    assert!(rt;
+        says(
+            rt,
+            alloc,
+            &full,
+            "3 sessions are open, as many as may be: close one"
+        )
+    );
+    let back = CeilingBack { ceiling: FIRST };
+    let text = "the session's ceiling 1.1 is not at or above the state: ceilings only go down";
+    assert!(rt; says(rt, alloc, &back, text));
+    let held = RaiseFault::Held {
+        session: 3,
+        ceiling: FIRST,
+    };
+    let text =
+        "session 3 has its ceiling 1.1 above or beside the state: move its ceiling, or close it";
+    assert!(rt; says(rt, alloc, &held, text));
+}
+
+/// Why a transaction takes no more, or doesn't end.
+fn check_ends(rt: &impl Abort, alloc: Global) {
+    let many = TxnFault::TooMany { what: 1, n: 65 };
+    let text = "the transaction would write 65 keys, one more than it may";
+    assert!(rt; says(rt, alloc, &many, text));
+    let branches = Branches {
+        constraint: EndFlags::NB.0,
+        state: FIRST,
+        children: 2,
+    };
+    let text = "state 1.1 has 2 children, too many for the end constraint NB";
+    assert!(rt; says(rt, alloc, &branches, text));
+}
+
+#[test]
+fn faults_say_what_to_do(rt: HostRuntime) {
+    check_begins(&rt, rt.alloc());
+    check_floors(&rt, rt.alloc());
+    check_ends(&rt, rt.alloc());
+}
