@@ -1,31 +1,43 @@
-ghost use Rattle.std.specs.Prelude.{◌≡◌, ◌+◌, ◌%◌, ◌≤◌, [], ◌∷◌, ℕ, false};
-ghost use Rattle.dag_lock.specs.Named.{lock_id};
+//! Passes of a lock that ask at the same time.
+
+ghost use Rattle.std.specs.Prelude.{◌≡◌, ◌+◌, ◌%◌, ◌<◌, ◌≤◌, [], ◌∷◌, ℕ, false};
+ghost use Rattle.dag_lock.specs.Named.{lock_id, pieces_of};
 ghost use Rattle.dag_lock.specs.Steps.{Keeps};
 
 use crate::counters::Counter;
-use crate::locks::{closed, locked, written};
 use dag_lock::{DagLock, Pass};
 use std::alloc::Global;
 use std::process::Abort;
 use std::sync::Wait;
 use std::thread::{Threads, join};
 use tardis_base::ReplyBuf;
+use tardis_io::MemorySink;
 use trail_log::{Acted, Trailed};
 
-/// A request of actor 1, and what it comes to with the bytes of the reply.
-#[derive(Drop)]
-struct Row<'a> {
-    request: &'a [u8],
-    acted: Acted,
-    reply: &'a [u8],
+/// A lock over a machine that counts, whose trail may have so many bytes, and the pass with all its pieces.
+fn locked(rt: &impl Abort, alloc: Global, most: u64, pieces: u32) -> (DagLock<Counter>, Pass)
+    requires { 0 < pieces }
+    ensures { (result.1.lock ≡ lock_id result.0) × (result.1.pieces ≡ pieces) × (pieces_of result.0 ≡ pieces) }
+{
+    let trail = Trailed::new(alloc, Counter { acts: 0 }, most);
+    DagLock::new(alloc, trail, pieces).expect(rt, "room")
 }
 
-fn answered<'a>(request: &'a [u8], acted: Acted, reply: &'a [u8]) -> Row<'a> {
-    Row {
-        request,
-        acted,
-        reply,
-    }
+/// Takes the lock apart.
+fn closed(lock: DagLock<Counter>, pass: Pass) -> Trailed<Counter>
+    requires lock { pass.lock ≡ lock_id lock }
+    requires whole { pass.pieces ≡ pieces_of lock }
+{
+    lock.close(pass)
+}
+
+/// What is written of a trail.
+fn written(rt: &impl Abort, alloc: Global, trail: &Trailed<Counter>) -> Vec<u8> {
+    let mut sink = MemorySink::new(alloc, 60_000, 60_000, &[]).expect(rt, "room");
+    trail.write_trail(&mut sink).expect(rt, "a trail that fits");
+    let bytes = Vec::from_slice(alloc, sink.bytes()).expect(rt, "room");
+    drop(sink);
+    bytes
 }
 
 /// Asks for up to 100 bytes of the request.
@@ -42,98 +54,6 @@ fn ask<R: Wait>(
 {
     let request = &request[..request.len().min(100)];
     lock.step(rt, pass, actor, request, out)
-}
-
-/// Whether the request comes to what the row says.
-fn step_to<R: Wait>(
-    rt: &R,
-    lock: &DagLock<Counter>,
-    pass: Pass,
-    row: &Row<'_>,
-    out: &mut ReplyBuf,
-) -> (Pass, bool)
-    requires { pass.lock ≡ lock_id lock.now }
-    ensures { Keeps pass result.0 }
-{
-    let (pass, acted) = ask(rt, lock, pass, 1, row.request, out);
-    (pass, acted == row.acted && out.bytes() == row.reply)
-}
-
-/// Whether the requests come to what the rows say.
-fn comes_to<R: Wait>(
-    rt: &R,
-    lock: &DagLock<Counter>,
-    pass: Pass,
-    rows: &[Row<'_>],
-    out: &mut ReplyBuf,
-) -> (Pass, bool)
-    requires { pass.lock ≡ lock_id lock.now }
-    ensures { Keeps pass result.0 }
-{
-    let mut mine = pass;
-    let mut right = true;
-    for row in rows {
-        let (next, is_right) = step_to(rt, lock, mine, row, out);
-        mine = next;
-        right = right && is_right;
-    }
-    (mine, right)
-}
-
-/// Whether the requests come to what the rows say under a lock of a trail of so many bytes at most, which is written so
-/// when the lock is closed.
-fn closes_with<R: Wait + Abort>(
-    alloc: Global,
-    rt: &R,
-    most: u64,
-    rows: &[Row<'_>],
-    bytes: &[u8],
-) -> bool {
-    let mut out = ReplyBuf::new(alloc).expect(rt, "room");
-    let (lock, pass) = locked(rt, alloc, Counter { acts: 0 }, most, 1);
-    let (pass, right) = comes_to(rt, &lock, pass, rows, &mut out);
-    drop(out);
-    let is_written = writes(rt, alloc, closed(lock, pass), bytes);
-    right && is_written
-}
-
-/// Whether the trail is written so.
-fn writes(rt: &impl Abort, alloc: Global, trail: Trailed<Counter>, bytes: &[u8]) -> bool {
-    let text = written(rt, alloc, &trail);
-    drop(trail);
-    let is_so = text.as_slice() == bytes;
-    drop(text);
-    is_so
-}
-
-#[test]
-fn a_lock_is_closed_with_the_trail_of_what_was_answered(rt: HostRuntime) {
-    let rows: [(u64, [Row<'_>; 3], &[u8]); 2] = [
-        (
-            10,
-            [
-                answered(b"", Acted::NoMemory, b""),
-                answered(b"\x01\x01", Acted::Done, b"\x00"),
-                answered(b"\x02\x00", Acted::TrailFull { bytes: 8 }, b""),
-            ],
-            b"\x00\x00\x00\x04\x00\x01\x01\x01",
-        ),
-        (
-            16,
-            [
-                answered(b"abc", Acted::Done, b"\x00"),
-                answered(b"a", Acted::Done, b"\x01"),
-                answered(b"", Acted::TrailFull { bytes: 16 }, b""),
-            ],
-            b"\x00\x00\x00\x05\x00\x01abc\x00\x00\x00\x03\x00\x01a",
-        ),
-    ];
-    for (most, rows, written) in rows {
-        assert!(rt;
-            closes_with(rt.alloc(), &rt, most, &rows, written),
-            "at most {most} bytes"
-        );
-    }
 }
 
 /// Asks for a write of the value, and tells whether it was answered.
@@ -275,7 +195,7 @@ fn two_locked<R: Threads + Wait + Sync + Abort>(
     most: u64,
     writes: u16,
 ) -> (u64, Trailed<Counter>) {
-    let (lock, pass) = locked(rt, alloc, Counter { acts: 0 }, most, 2);
+    let (lock, pass) = locked(rt, alloc, most, 2);
     let (pass, done) = two_put(rt, alloc, &lock, pass, (1, 2), writes);
     (done, closed(lock, pass))
 }
@@ -287,17 +207,9 @@ fn four_locked<R: Threads + Wait + Sync + Abort>(
     most: u64,
     writes: u16,
 ) -> (u64, Trailed<Counter>) {
-    let (lock, pass) = locked(rt, alloc, Counter { acts: 0 }, most, 4);
+    let (lock, pass) = locked(rt, alloc, most, 4);
     let (pass, done) = four_put(rt, alloc, &lock, pass, writes);
     (done, closed(lock, pass))
-}
-
-#[test]
-fn two_actors_at_once_have_each_request_once_and_in_order(rt: HostRuntime) {
-    let (done, trail) = two_locked(&rt, rt.alloc(), 1 << 30, 1_000);
-    assert_eq!(rt; done, 2_000);
-    assert_eq!(rt; counts(&rt, rt.alloc(), &trail), [0, 1_000, 1_000, 0, 0]);
-    drop(trail);
 }
 
 #[test]

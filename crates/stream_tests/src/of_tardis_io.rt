@@ -1,15 +1,14 @@
 ghost use Rattle.std.specs.Prelude.{◌≤◌, IfOk};
 
-use crate::streams::{put, sink_of, source_of};
+use crate::streams::put;
 use std::alloc::Global;
 use std::io;
 use std::io::{Error, ErrorKind, Read, Write};
 use std::process::Abort;
 use tardis_base::StateId;
 use tardis_io::{
-    CountSink, Dial, Duplex, Failed, Gate, Link, MemoryDial, MemoryGate, MemoryLink, Pair,
-    ReaderSource, Sink, Source, Status, StdIn, StdOut, SteadySource, WriteFault, WriterSink,
-    write_all,
+    Failed, ReaderSource, Sink, Source, Status, StdIn, StdOut, SteadySource, WriteFault,
+    WriterSink, write_all,
 };
 
 /// An input of these bytes that never fails.
@@ -69,41 +68,6 @@ fn numbers_and_lines_of_the_statuses(rt: HostRuntime) {
 }
 
 #[test]
-fn a_source_in_memory_fails_at_the_listed_calls(rt: HostRuntime) {
-    let mut source = source_of(&rt, rt.alloc(), b"abcde", 2, &[2, 4]);
-    let rows = [
-        (Ok(2), "cde"),
-        (Err(Failed), "cde"),
-        (Ok(2), "e"),
-        (Err(Failed), "e"),
-        (Ok(1), ""),
-        (Ok(0), ""),
-    ];
-    let mut buf = [0u8; 16];
-    for (want, left) in rows {
-        assert!(rt; takes(&mut source, &mut buf, want));
-        assert!(rt; source.left() == left.as_bytes());
-    }
-    drop(source);
-}
-
-#[test]
-fn a_sink_in_memory_fails_at_the_listed_calls_and_when_it_is_full(rt: HostRuntime) {
-    let mut sink = sink_of(&rt, rt.alloc(), 5, 3, &[1]);
-    let rows = [
-        (Err(Failed), ""),
-        (Ok(3), "abc"),
-        (Ok(2), "abcab"),
-        (Err(Failed), "abcab"),
-    ];
-    for (want, given) in rows {
-        assert!(rt; gives(&mut sink, b"abcd", want));
-        assert!(rt; sink.bytes() == given.as_bytes());
-    }
-    drop(sink);
-}
-
-#[test]
 fn a_steady_source_gives_all(rt: HostRuntime) {
     let mut source = steady_source(&rt, rt.alloc(), b"abc");
     let mut buf = [0u8; 2];
@@ -111,34 +75,6 @@ fn a_steady_source_gives_all(rt: HostRuntime) {
         assert!(rt; takes(&mut source, &mut buf, Ok(want)));
     }
     drop(source);
-}
-
-/// Writes five bytes.
-fn write_five<O: Sink>(sink: &mut O) -> Result<(), WriteFault> {
-    write_all(sink, b"abcde")
-}
-
-/// Whether writing five bytes to a sink with so much room ends so, after these were given.
-fn writes_end(
-    rt: &impl Abort,
-    alloc: Global,
-    room: u32,
-    end: Result<(), WriteFault>,
-    given: &[u8],
-) -> bool {
-    let mut sink = sink_of(rt, alloc, room, 2, &[]);
-    let is_so = write_five(&mut sink) == end && sink.bytes() == given;
-    drop(sink);
-    is_so
-}
-
-#[test]
-fn all_bytes_are_written_or_a_fault_is_answered(rt: HostRuntime) {
-    let mut count = CountSink::new();
-    assert!(rt; write_five(&mut count) == Ok(()));
-    assert_eq!(rt; count.bytes, 5);
-    assert!(rt; writes_end(&rt, rt.alloc(), 5, Ok(()), b"abcde"));
-    assert!(rt; writes_end(&rt, rt.alloc(), 3, Err(WriteFault), b"abc"));
 }
 
 /// A device that answers its calls in turn: an error, an interruption, nothing, and then each byte.
@@ -356,24 +292,6 @@ fn a_writer_loses_no_byte(rt: HostRuntime) {
     drop(bytes);
 }
 
-/// A pair of both takes two bytes, and gives them.
-fn check_pair<I: Source, O: Sink>(rt: &impl Abort, input: &mut I, output: &mut O) {
-    let mut pair = Pair { input, output };
-    let mut buf = [0u8; 2];
-    assert!(rt; pair.take(&mut buf) == Ok(2));
-    assert!(rt; pair.give(&buf) == Ok(2));
-}
-
-#[test]
-fn a_pair_takes_from_its_source_and_gives_to_its_sink(rt: HostRuntime) {
-    let mut input = steady_source(&rt, rt.alloc(), b"abc");
-    let mut output = sink_of(&rt, rt.alloc(), 5, 5, &[]);
-    check_pair(&rt, &mut input, &mut output);
-    assert!(rt; output.bytes() == b"ab".as_slice());
-    drop(output);
-    drop(input);
-}
-
 /// The text of a read or a write that failed.
 fn text_of_failed(rt: &impl Abort, alloc: Global) -> String {
     format!(in alloc; "{}", Failed).expect(rt, "room")
@@ -395,109 +313,4 @@ fn faults_have_texts(rt: HostRuntime) {
         "writing failed before all bytes were written"
     );
     drop(write);
-}
-
-/// A link over these bytes that has room for as many.
-fn link(rt: &impl Abort, alloc: Global, bytes: &[u8]) -> MemoryLink {
-    let source = source_of(rt, alloc, bytes, 8, &[]);
-    let sink = sink_of(rt, alloc, 8, 8, &[]);
-    MemoryLink::new(source, sink)
-}
-
-/// Two links.
-fn links(rt: &impl Abort, alloc: Global) -> Vec<MemoryLink> {
-    let first = link(rt, alloc, b"a");
-    let second = link(rt, alloc, b"b");
-    vec![in alloc; first, second].expect(rt, "room")
-}
-
-/// A gate of two links, of which the second call fails.
-fn gate(rt: &impl Abort, alloc: Global) -> MemoryGate<MemoryLink> {
-    MemoryGate::new(alloc, links(rt, alloc), &[2]).expect(rt, "room")
-}
-
-/// Whether the gate is bound.
-fn is_bound<G: Gate>(gate: &mut G) -> bool {
-    gate.bind("x:1") == Ok(())
-}
-
-/// Whether the gate fails to hand out its next link.
-fn fails_next<G: Gate>(gate: &mut G) -> bool {
-    matches!(gate.next(), Err(Failed))
-}
-
-/// Whether the gate has no more links.
-fn is_over<G: Gate>(gate: &mut G) -> bool {
-    matches!(gate.next(), Ok(None))
-}
-
-/// Whether the link gives one byte and takes it back.
-fn is_echoed<L: Link>(link: &mut L) -> bool {
-    let mut buf = [0u8; 4];
-    link.take(&mut buf) == Ok(1) && link.give(&buf[..1]) == Ok(1)
-}
-
-/// Whether the next link gives one byte and takes it back. It is put back with this number.
-fn echoes<G: Gate>(gate: &mut G, session: u16) -> bool {
-    let Ok(Some(mut link)) = gate.next() else {
-        return false;
-    };
-    let is_right = is_echoed(&mut link);
-    link.finish();
-    gate.put_back(session, link);
-    is_right
-}
-
-/// Whether a link was put back at this place with this number, has nothing left and was given this.
-fn is_back(gate: &MemoryGate<MemoryLink>, at: usize, session: u16, given: &[u8]) -> bool {
-    let Some((number, link)) = gate.back().get(at) else {
-        return false;
-    };
-    *number == session && link.source().left().is_empty() && link.sink().bytes() == given
-}
-
-#[test]
-fn a_gate_in_memory_keeps_what_is_put_back(rt: HostRuntime) {
-    let mut gate = gate(&rt, rt.alloc());
-    assert!(rt; is_bound(&mut gate));
-    assert!(rt; fails_next(&mut gate));
-    assert!(rt; echoes(&mut gate, 1));
-    assert!(rt; echoes(&mut gate, 2));
-    assert!(rt; is_over(&mut gate));
-    assert_eq!(rt; gate.back().len(), 2);
-    assert!(rt; is_back(&gate, 0, 1, b"a"));
-    assert!(rt; is_back(&gate, 1, 2, b"b"));
-    drop(gate);
-}
-
-/// A dial to one link, of which the first call fails.
-fn dial(rt: &impl Abort, alloc: Global) -> MemoryDial<MemoryLink> {
-    let link = link(rt, alloc, b"a");
-    let links = vec![in alloc; link].expect(rt, "room");
-    MemoryDial::new(alloc, links, &[1]).expect(rt, "room")
-}
-
-/// Whether a call of the dial fails.
-fn fails_call<D: Dial>(dial: &mut D) -> bool {
-    matches!(dial.call("x:1"), Err(Failed))
-}
-
-/// Whether a call gives a link, while it is out a further call fails, and it is put back.
-fn is_called_once<D: Dial>(dial: &mut D) -> bool {
-    let Ok(mut link) = dial.call("x:1") else {
-        return false;
-    };
-    let has_failed = matches!(dial.call("x:1"), Err(Failed));
-    link.finish();
-    dial.put_back(link);
-    has_failed
-}
-
-#[test]
-fn a_dial_in_memory_fails_where_it_is_told_to_and_when_no_link_is_left(rt: HostRuntime) {
-    let mut dial = dial(&rt, rt.alloc());
-    assert!(rt; fails_call(&mut dial));
-    assert!(rt; is_called_once(&mut dial));
-    assert!(rt; dial.back().len() == 1);
-    drop(dial);
 }

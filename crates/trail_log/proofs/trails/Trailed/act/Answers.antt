@@ -37,3 +37,6 @@ returns-in-Ok-clause-reply g c = λ _.
     (c.args.actor, c.args.request.now) c.act.new.out
     (c.in-Ok.ensures.reply (state_after g.M.Machine.plain (g.M.Machine.opening c.self.inside.machine) c.self.inside.log.trail) c.self.invariant.2)
     c.reserve.ensures.same c.push.ensures)
+
+pub returns-then-self-count-clause-full : goal.returns-then-self-count-clause-full
+returns-then-self-count-clause-full g c = rw (← c.self.view_is) (c.self.invariant.0, omega arith)

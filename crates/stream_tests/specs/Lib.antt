@@ -1,2 +1,0 @@
--- The machine of the tests that reply by the request alone.
-pub mod Replier
