@@ -22,7 +22,7 @@ use std::fmt;
 use tardis_base::{Begin, Slot, StateId};
 
 /// Why a transaction may not begin where it was to begin.
-#[derive(Clone, Copy, Debug, PartialEq, Eq)]
+#[derive(Clone, Copy, Debug)]
 pub enum BeginFault {
     /// There is no such state here.
     Unknown { state: StateId },

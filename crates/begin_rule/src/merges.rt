@@ -20,7 +20,7 @@ use std::fmt;
 use tardis_base::{ListOf, NoMemory, Slot, StateId};
 
 /// Why a merge may not begin at the states that were named.
-#[derive(Clone, Copy, Debug, PartialEq, Eq)]
+#[derive(Clone, Copy, Debug)]
 pub enum MergeFault {
     /// There is no such state here.
     Unknown { state: StateId },

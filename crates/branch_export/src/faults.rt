@@ -6,7 +6,7 @@ use tardis_base::NoMemory;
 use tardis_io::WriteFault;
 
 /// Why the export of a state wasn't written whole.
-#[derive(Clone, Copy, Debug, PartialEq, Eq)]
+#[derive(Clone, Copy, Debug)]
 pub enum ExportFault {
     /// The state is unknown, or was collected.
     NoState,

@@ -9,7 +9,7 @@ use std::alloc::Global;
 use tardis_io::{Failed, Source};
 
 /// Why an input wasn't read to its end.
-#[derive(Clone, Copy, Debug, PartialEq, Eq)]
+#[derive(Clone, Copy)]
 pub(crate) enum InputFault {
     ReadFault,
     NoMemory,

@@ -23,7 +23,7 @@ use std::fmt;
 use tardis_base::{SeqEnd, Slot, StateId};
 
 /// The session's ceiling isn't at or above the state, so it may not move there.
-#[derive(Clone, Copy, Debug, PartialEq, Eq)]
+#[derive(Clone, Copy, Debug)]
 pub struct CeilingBack {
     pub ceiling: StateId,
 }
@@ -41,7 +41,7 @@ impl fmt::Display for CeilingBack {
 impl Error for CeilingBack {}
 
 /// Why the own floor did not move.
-#[derive(Clone, Copy, Debug, PartialEq, Eq)]
+#[derive(Clone, Copy, Debug)]
 pub enum RaiseFault {
     /// The floor isn't at or above the state.
     FloorBack { floor: StateId },

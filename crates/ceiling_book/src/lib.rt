@@ -32,7 +32,7 @@ use std::marker::Model;
 use tardis_base::{Limits, NoMemory, Slot, StateId};
 
 /// Why a session did not open.
-#[derive(Clone, Copy, Debug, PartialEq, Eq)]
+#[derive(Clone, Copy, Debug)]
 pub enum OpenFault {
     AlreadyOpen,
     /// So many are open, and no more may be.

@@ -22,7 +22,7 @@ use tardis_base::{Key, KeyList, NoMemory, Slot};
 const SHOWN: usize = 256;
 
 /// How many keys there are, or 4,294,967,295 where there are more, and the least 256 of them in ascending order.
-#[derive(Debug, Drop)]
+#[derive(Drop)]
 pub struct KeyPage {
     pub total: u32,
     pub first: KeyList,

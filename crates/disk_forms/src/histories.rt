@@ -12,7 +12,7 @@ use std::marker::Model;
 use tardis_base::NoMemory;
 
 /// A call of a disk in memory.
-#[derive(Clone, Copy, Debug, PartialEq, Eq)]
+#[derive(Clone, Copy)]
 pub enum Kept {
     /// Nothing was changed.
     Looked,

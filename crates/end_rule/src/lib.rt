@@ -18,7 +18,7 @@ use tardis_base::{EndFlags, Slot, StateId};
 
 /// Why a transaction may not end where it would land: which constraint is broken, as its bit of `EndFlags`, and how many
 /// children the landing has.
-#[derive(Clone, Copy, Debug, PartialEq, Eq)]
+#[derive(Clone, Copy, Debug)]
 pub struct Branches {
     pub constraint: u8,
     pub state: StateId,

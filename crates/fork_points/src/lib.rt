@@ -20,7 +20,7 @@ use tardis_base::{NoMemory, Slot, StateList};
 const SHOWN: usize = 256;
 
 /// How many states there are, and the first 256 of them in arrival order.
-#[derive(Debug, Drop)]
+#[derive(Drop)]
 pub struct StatePage {
     pub total: u32,
     pub first: StateList,

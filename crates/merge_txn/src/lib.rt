@@ -19,7 +19,7 @@ pub const MAX_WRITES: usize = 64;
 pub const MAX_READS: usize = 256;
 
 /// A single transaction: it reads one state, and notes what it reads.
-#[derive(Debug, Drop)]
+#[derive(Drop)]
 pub struct SingleTxn {
     pub state: StateId,
     /// Where the state is kept, so that no read looks it up.
@@ -29,7 +29,7 @@ pub struct SingleTxn {
 }
 
 /// A merge: it reads one or more states, and makes one of them.
-#[derive(Debug, Drop)]
+#[derive(Drop)]
 pub struct MergeTxn {
     pub states: StateList,
     /// Where the states are kept, in their order, so that no read looks one up.
@@ -38,14 +38,14 @@ pub struct MergeTxn {
 }
 
 /// What a session has begun, and not yet committed.
-#[derive(Debug, Drop)]
+#[derive(Drop)]
 pub enum Txn {
     Single(SingleTxn),
     Merge(MergeTxn),
 }
 
 /// Why a transaction did not take a write or a read.
-#[derive(Clone, Copy, Debug, PartialEq, Eq)]
+#[derive(Clone, Copy, Debug)]
 pub enum TxnFault {
     /// There would be `n` keys, one more than may be: written ones where `what` is 1, read ones where it is 2.
     TooMany { what: u8, n: u32 },

@@ -6,7 +6,7 @@ ghost use Rattle.serve_pool.specs.Rows.{wanting};
 use session_serve::SessionEnd;
 
 /// Why no more links are taken.
-#[derive(Clone, Copy, Debug, PartialEq, Eq)]
+#[derive(Clone, Copy)]
 pub enum PoolEnd {
     /// As many were taken as may be, or the gate had no more.
     Done,
@@ -15,7 +15,7 @@ pub enum PoolEnd {
 }
 
 /// What serving came to.
-#[derive(Clone, Copy, Debug, PartialEq, Eq)]
+#[derive(Clone, Copy)]
 pub struct Served {
     /// How many links were taken.
     pub taken: u16,

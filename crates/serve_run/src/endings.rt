@@ -6,7 +6,7 @@ use tardis_base::NoMemory;
 use tardis_io::WriteFault;
 
 /// What serving came to.
-#[derive(Clone, Copy, Debug, PartialEq, Eq)]
+#[derive(Clone, Copy)]
 pub struct Serving {
     /// For how many links there was no memory.
     pub unserved: u16,
@@ -19,7 +19,7 @@ pub struct Serving {
 }
 
 /// How a server ends.
-#[derive(Clone, Copy, Debug, PartialEq, Eq)]
+#[derive(Clone, Copy)]
 pub enum ServeEnd {
     /// It can't listen at its address, and did nothing else.
     NotBound,

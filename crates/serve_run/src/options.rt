@@ -1,7 +1,7 @@
 //! What a server is to do.
 
 /// What a server is to do.
-#[derive(Clone, Copy, Debug)]
+#[derive(Clone, Copy)]
 pub struct ServeOptions<'a> {
     /// The address at which links are taken.
     pub address: &'a str,

@@ -1,7 +1,7 @@
 //! How a session ends.
 
 /// How a session ends, as a run over its link would.
-#[derive(Clone, Copy, Debug, PartialEq, Eq)]
+#[derive(Clone, Copy)]
 pub enum SessionEnd {
     /// The link's bytes were read to their end, and all replies were given.
     Ended,

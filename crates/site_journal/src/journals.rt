@@ -34,7 +34,7 @@ pub enum OpenEnd<K: Disk> {
 }
 
 /// What became of a request that is to be staged.
-#[derive(Clone, Copy, Debug, PartialEq, Eq)]
+#[derive(Clone, Copy)]
 pub enum Staged {
     /// It was answered, and its entry waits for a commit.
     Done,

@@ -1,7 +1,7 @@
 //! How exchanges end.
 
 /// How an exchange with a peer ends.
-#[derive(Clone, Copy, Debug, PartialEq, Eq)]
+#[derive(Clone, Copy)]
 pub enum SyncEnd {
     /// Every item of the peer's batch was delivered. So many were applied, were known already, came too early, and were
     /// refused.
@@ -34,7 +34,7 @@ pub enum SyncEnd {
 }
 
 /// What rounds of exchanges came to.
-#[derive(Clone, Copy, Debug, PartialEq, Eq)]
+#[derive(Clone, Copy)]
 pub struct Rounds {
     /// How many exchanges ended with `SyncEnd::DialFault`.
     pub dial: u32,

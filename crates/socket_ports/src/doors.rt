@@ -12,7 +12,7 @@ use std::net::{Net, SocketAddr, ToSocketAddrs};
 use std::os::unix::fs::FileTypeExt;
 
 /// No connection can come at an address.
-#[derive(Clone, Copy, PartialEq, Eq)]
+#[derive(Clone, Copy)]
 pub enum DoorFault {
     /// The address has none of the forms, or its host isn't known.
     NoAddress,

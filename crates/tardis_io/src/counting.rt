@@ -8,7 +8,7 @@ use crate::faults::Failed;
 use crate::streams::Sink;
 
 /// A sink that never fails and tells only how many bytes it was given. The count stands still at its end.
-#[derive(Clone, Copy, Debug, PartialEq, Eq)]
+#[derive(Clone, Copy, PartialEq, Eq)]
 pub struct CountSink {
     pub bytes: u64,
 }

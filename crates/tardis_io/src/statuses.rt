@@ -7,7 +7,7 @@ use std::fmt;
 use tardis_base::StateId;
 
 /// How a run ends. The process ends with its number, and its text is the line on standard error.
-#[derive(Clone, Copy, Debug, PartialEq, Eq)]
+#[derive(Clone, Copy, PartialEq, Eq)]
 pub enum Status {
     /// The input was read to its end and all replies were written.
     Ok,

@@ -6,7 +6,7 @@ ghost use Rattle.tardisd_main.specs.Ends.{end_number};
 use std::fmt;
 
 /// Why no connection comes any more.
-#[derive(Clone, Copy, Debug, PartialEq, Eq)]
+#[derive(Clone, Copy, PartialEq, Eq)]
 pub enum GateFault {
     /// The address has none of the forms, or its host isn't known.
     NoAddress,
@@ -21,7 +21,7 @@ pub enum GateFault {
 }
 
 /// How a server ends. The process ends with its number, and its text is the line on standard error.
-#[derive(Clone, Copy, Debug, PartialEq, Eq)]
+#[derive(Clone, Copy, PartialEq, Eq)]
 pub enum DaemonEnd {
     /// It told of itself.
     Told,

@@ -1,7 +1,7 @@
 //! How a request with a trail ends.
 
 /// What became of a request.
-#[derive(Clone, Copy, Debug, PartialEq, Eq)]
+#[derive(Clone, Copy, PartialEq, Eq)]
 pub enum Acted {
     /// It was answered, and is the last entry of the trail.
     Done,

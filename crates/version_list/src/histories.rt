@@ -23,7 +23,7 @@ use std::mem;
 use tardis_base::{Above, Key, KeyList, NoMemory, Slot, StateId, Write, WriteSet};
 
 /// What a state wrote to a key.
-#[derive(Debug, Drop)]
+#[derive(Drop)]
 pub struct Version {
     /// The kept state that stands for the writer.
     pub slot: Slot,
