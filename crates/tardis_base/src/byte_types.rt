@@ -19,7 +19,7 @@ use std::hash::{Hash, Hasher};
 use std::marker::Model;
 
 /// A key: 1 to 128 bytes.
-#[derive(Debug, Drop)]
+#[derive(Drop)]
 pub struct Key {
     bytes: Vec<u8>,
 }
@@ -36,7 +36,7 @@ impl Model for Key {
 }
 
 /// A value: 0 to 4,096 bytes.
-#[derive(Debug, Drop)]
+#[derive(Drop)]
 pub struct Value {
     bytes: Vec<u8>,
 }

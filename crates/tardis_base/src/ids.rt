@@ -28,5 +28,5 @@ impl fmt::Display for StateId {
 }
 
 /// The place of a kept state in one table of states. It says nothing of arrival.
-#[derive(Clone, Copy, Debug, PartialEq, Eq, Hash)]
+#[derive(Clone, Copy, PartialEq, Eq, Hash)]
 pub struct Slot(pub u32);

@@ -21,7 +21,7 @@ use std::marker::Model;
 use std::slice;
 
 /// A list that grows at its end.
-#[derive(Debug, Drop)]
+#[derive(Drop)]
 pub struct ListOf<T> {
     items: Vec<T>,
 }
@@ -50,7 +50,7 @@ pub type CountList = ListOf<u32>;
 pub type ByteList = ListOf<u8>;
 
 /// Keys in ascending order, each once.
-#[derive(Debug, Drop)]
+#[derive(Drop)]
 pub struct KeySet {
     keys: Vec<Key>,
 }
@@ -71,7 +71,7 @@ impl Model for KeySet {
 }
 
 /// Writes in ascending order of their keys, one for each key.
-#[derive(Debug, Drop)]
+#[derive(Drop)]
 pub struct WriteSet {
     writes: Vec<(Key, Write)>,
 }

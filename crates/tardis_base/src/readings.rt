@@ -4,7 +4,7 @@ use crate::byte_types::Value;
 use crate::ids::StateId;
 
 /// What is read of a key at one state.
-#[derive(Clone, Copy, Debug, PartialEq, Eq)]
+#[derive(Clone, Copy)]
 pub enum Found<'a> {
     Value { writer: StateId, value: &'a Value },
     Deleted { writer: StateId },
@@ -12,7 +12,7 @@ pub enum Found<'a> {
 }
 
 /// What is read of a key over several states.
-#[derive(Clone, Copy, Debug, PartialEq, Eq)]
+#[derive(Clone, Copy)]
 pub enum Over<'a> {
     Found(Found<'a>),
     Conflict,

@@ -14,7 +14,7 @@ use crate::lists::{ConsentList, RecordList, StateList, WriteSet};
 use crate::sizes::{MAX_KEPT, MAX_PATH, MAX_SESSIONS, MAX_SITES, MAX_TRAIL};
 
 /// What a transaction does to one key.
-#[derive(Debug, Drop)]
+#[derive(Drop)]
 pub enum Write {
     Put(Value),
     Delete,
