@@ -1,21 +1,31 @@
-use Rattle.std.proofs.Common.{◌≡◌, ◌∙◌, ◌+◌, ◌||◌, not, ℕ, Bool, false, List, Some, map, take, refl, ap, subst, arith, take_all}
+use Rattle.std.proofs.Common.{◌≡◌, ◌∙◌, ◌+◌, ◌||◌, not, ℕ, Bool, false, List, Some, IsTrue, map, take, refl, sym, ap, subst, arith, take_all}
+use Rattle.std.specs.List.{list_all}
 use Rattle.std.specs.Option.{option_copied}
+use Rattle.tardis_base.specs.declared.ids.Slot.{Slot}
 use Rattle.tardis_base.specs.Keys.{has_key}
 use Rattle.version_list.specs.Versions.{is_key_in}
 use Rattle.plain_dag.specs.Conflicts.{is_conflict_key, conflict_keys}
-use Rattle.state_dag.specs.Table.{Table, id_at}
+use Rattle.state_dag.specs.Table.{Table, id_at, is_slot}
 use Rattle.branch_region.specs.Regions.{apart_states}
 use Rattle.conflict_keys.specs.Regions.{is_met}
 use Rattle.plain_dag.proofs.ConflictKeys.{lists-conflict-keys}
 use Rattle.plain_dag.proofs.Ids.{not-both}
 use Rattle.conflict_keys.specs.Opens.{IsLeast, is_open_conflict}
-use Rattle.conflict_keys.proofs.Walks.{named-next, named-length, named-are_kept, GivesApart}
+use Rattle.conflict_keys.proofs.Walks.{named-next, named-length, named-are_kept, all-got, GivesApart}
 use Rattle.conflict_keys.proofs.Meetings.{conflict-is_met, apart-is_met, met-here}
 use Rattle.conflict_keys.proofs.Least.{least-of_fewer, least-found}
 use Rattle.conflict_keys.proofs.opens.open_conflict.Goals as goal
 
 pub loop-slot-init : goal.loop-slot-init
 loop-slot-init c = λ rs ks stands xs are. λ k m. not-both false m refl
+
+pub keys_at-requires : goal.keys_at-requires
+keys_at-requires c =
+    let table = c.args.store.now.table in
+    let apart : IsTrue (list_all (is_slot table) c.in_ok-above.above.apart.items) =
+    subst (λ (t : Table). IsTrue (list_all (is_slot t) c.in_ok-above.above.apart.items)) c.dag.ensures c.in_ok-above.ensures.slots.0 in
+    all-got (is_slot table) c.as_slice-slot-items.result.now c.loop-slot.slot-index (record { 0 = 0 })
+    (subst (λ (ss : List Slot). IsTrue (list_all (is_slot table) ss)) (sym c.as_slice-slot-items.ensures.value) apart) c.loop-slot-test.true
 
 pub loop-slot-preserved : goal.loop-slot-preserved
 loop-slot-preserved c = λ rs ks stands xs are.

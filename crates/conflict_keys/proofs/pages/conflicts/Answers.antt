@@ -1,10 +1,12 @@
-use Rattle.std.proofs.Common.{◌≡◌, ◌∙◌, ◌+◌, ◌||◌, ℕ, Bool, List, [], Some, IfOk, map, take, sym, ap, subst, arith, take_all}
+use Rattle.std.proofs.Common.{◌≡◌, ◌∙◌, ◌+◌, ◌||◌, ℕ, Bool, List, [], Some, IfOk, IsTrue, map, take, sym, ap, subst, arith, take_all}
+use Rattle.std.specs.List.{list_all}
+use Rattle.tardis_base.specs.declared.ids.Slot.{Slot}
 use Rattle.version_list.specs.Versions.{is_key_in}
-use Rattle.state_dag.specs.Table.{Table, id_at}
+use Rattle.state_dag.specs.Table.{Table, id_at, is_slot}
 use Rattle.branch_region.specs.Regions.{apart_states}
 use Rattle.conflict_keys.specs.Regions.{is_met}
 use Rattle.conflict_keys.specs.Pages.{IsPageOf, AreNoted, is_conflict_behind}
-use Rattle.conflict_keys.proofs.Walks.{named-next, named-length, named-are_kept, GivesApart}
+use Rattle.conflict_keys.proofs.Walks.{named-next, named-length, named-are_kept, all-got, GivesApart}
 use Rattle.conflict_keys.proofs.Meetings.{conflict-is_met, apart-is_met, met-here}
 use Rattle.conflict_keys.proofs.Noted.{none-noted, noted-of_fewer, noted-are_all}
 use Rattle.conflict_keys.proofs.pages.conflicts.Goals as goal
@@ -12,6 +14,14 @@ use Rattle.conflict_keys.proofs.pages.conflicts.Goals as goal
 pub loop-slot-init : goal.loop-slot-init
 loop-slot-init c = λ rs ks stands xs are. subst (λ zs. AreNoted (is_conflict_behind rs xs c.args.after.now) (is_met rs ks xs []) zs)
     (sym c.new-noted.ensures.empty) (none-noted (is_conflict_behind rs xs c.args.after.now))
+
+pub keys_at-requires : goal.keys_at-requires
+keys_at-requires c =
+    let table = c.args.store.now.table in
+    let apart : IsTrue (list_all (is_slot table) c.in_ok-above.above.apart.items) =
+    subst (λ (t : Table). IsTrue (list_all (is_slot t) c.in_ok-above.above.apart.items)) c.dag.ensures c.in_ok-above.ensures.slots.0 in
+    all-got (is_slot table) c.as_slice-slot-items.result.now c.loop-slot.slot-index (record { 0 = 0 })
+    (subst (λ (ss : List Slot). IsTrue (list_all (is_slot table) ss)) (sym c.as_slice-slot-items.ensures.value) apart) c.loop-slot-test.true
 
 pub loop-slot-preserved : goal.loop-slot-preserved
 loop-slot-preserved c = λ rs ks stands xs are.

@@ -13,6 +13,12 @@ use Rattle.state_dag.proofs.NodeRooms.{read-at, among-before}
 use Rattle.state_dag.proofs.NodeGrowth.{distinct-at, among-parts, child-own, child-other}
 use Rattle.state_dag.proofs.changes.add_children.Goals as goal
 
+pub index_mut-requires : goal.index_mut-requires
+index_mut-requires c =
+    let lt = place-within c.args.nodes.now.items c.args.parents.now c.loop-parent.parent-index (record { 0 = 0 }) c.requires.places (omega arith) in
+    let count = c.loop-parent.invariant.count in
+    omega (arith, c.loop-parent.nodes.ok.0)
+
 pub loop-parent-preserved : goal.loop-parent-preserved
 loop-parent-preserved c =
     let none : Slot = record { 0 = 0 } in

@@ -7,6 +7,9 @@ use Rattle.state_dag.specs.Nodes.{table_of}
 use Rattle.state_dag.proofs.NodeLists.{id-found, place-within}
 use Rattle.state_dag.proofs.growth.ids_at.Goals as goal
 
+pub bounds-nodes-slot : goal.bounds-nodes-slot
+bounds-nodes-slot c = place-within c.args.nodes.now c.args.slots.now c.loop-slot.slot-index (record { 0 = 0 }) c.requires (omega arith)
+
 pub loop-slot-preserved : goal.loop-slot-preserved
 loop-slot-preserved c =
     let nodes = c.args.nodes.now in

@@ -5,7 +5,11 @@ use Rattle.std.proofs.lemmas.List.Folds.{list_any_more}
 use Rattle.tardis_base.specs.declared.ids.Slot.{Slot}
 use Rattle.state_dag.specs.Grown.{leads_first}
 use Rattle.state_dag.specs.Nodes.{table_of}
+use Rattle.state_dag.proofs.NodeLists.{place-within}
 use Rattle.state_dag.proofs.new_paths.leads_to_some.Goals as goal
+
+pub leads_first-requires : goal.leads_first-requires
+leads_first-requires c = place-within c.args.nodes.now c.args.parents.now c.loop-parent.parent-index (record { 0 = 0 }) c.requires (omega arith)
 
 pub loop-parent-preserved : goal.loop-parent-preserved
 loop-parent-preserved c =

@@ -6,6 +6,9 @@ use Rattle.state_dag.proofs.Passing.{or-more}
 use Rattle.state_dag.proofs.NodeLists.{path-found, place-within}
 use Rattle.state_dag.proofs.new_paths.unite_paths.Goals as goal
 
+pub bounds-nodes-parent : goal.bounds-nodes-parent
+bounds-nodes-parent c = place-within c.args.nodes.now c.args.parents.now c.loop-parent.parent-index (record { 0 = 0 }) c.requires (omega arith)
+
 pub loop-parent-preserved : goal.loop-parent-preserved
 loop-parent-preserved c =
     let nodes = c.args.nodes.now in

@@ -7,6 +7,12 @@ use Rattle.state_dag.proofs.NodeLists.{at-set, place-within}
 use Rattle.state_dag.proofs.NodeRooms.{child-entry, placed-entries, read-at, among-before}
 use Rattle.state_dag.proofs.rooms.make_child_room.Goals as goal
 
+pub index_mut-requires : goal.index_mut-requires
+index_mut-requires c =
+    let lt = place-within c.args.nodes.now.items c.args.parents.now c.loop-parent.parent-index (record { 0 = 0 }) c.requires (omega arith) in
+    let count = c.loop-parent.invariant.count in
+    omega (arith, c.loop-parent.nodes.ok.0)
+
 pub returns-in_err-make_room_at-clause-same : goal.returns-in_err-make_room_at-clause-same
 returns-in_err-make_room_at-clause-same c =
     let none : Slot = record { 0 = 0 } in
