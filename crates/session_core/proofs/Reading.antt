@@ -195,3 +195,7 @@ module _ (stands : Site → Type 0) (site : Site) (n : ℕ) (k : List ℕ) (x : 
   pub note-stopped : (what : Stop) (r : Result Reply Stop) → NotesOrStops stands site n k x (Err what) → IsErrAnd r (λ stop. stop ≡ what) →
       GivesOrStops stands (reading site n k) site r
   note-stopped what r stops is = stopped stands (reading site n k) site what r is stops
+
+-- no read is noted of a key that the transaction has written
+pub own-isnt_noted : {w : Write} (k : List ℕ) (one : OneKept) (t : Kept) → t ≡ KeptSingle one → Some w ≡ write_of k one.writes → None ≡ slot_read k t
+own-isnt_noted k one t is has = sym (ap (slot_read k) is ∙ ap (λ o. slot_unless o one.slot) (sym has))

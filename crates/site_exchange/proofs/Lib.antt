@@ -3,3 +3,4 @@ pub mod Judgements
 pub mod News
 pub mod Consents
 pub mod Sizes
+mod FullRooms

@@ -1,6 +1,6 @@
 -- The news of a site, among the states that it keeps.
-use Rattle.std.proofs.Common.{◌≡◌, ℕ, ◌+◌, ◌-◌, ◌<◌, ◌≤◌, Bool, true, false, not, ◌&&◌, ◌||◌, nat_lt, nat_le, List, [], ◌∷◌, ◌++◌, length, map, filter, find}
-use Rattle.std.proofs.Common.{drop, Option, Some, None, IsTrue, IsFalse, inl, inr, refl, sym, ap, ap₂, subst, ◌∙◌, if◌then◌else◌, append-nil, append_assoc}
+use Rattle.std.proofs.Common.{◌≡◌, ℕ, ◌-◌, Bool, true, false, not, nat_lt, nat_le, List, [], ◌∷◌, ◌++◌, length, map, filter}
+use Rattle.std.proofs.Common.{Option, Some, None, IsTrue, IsFalse, inl, inr, refl, sym, ap, ap₂, subst, ◌∙◌, if◌then◌else◌, append-nil, append_assoc}
 use Rattle.std.proofs.Common.{arith}
 use Rattle.std.specs.Prelude.{slice_get}
 use Rattle.std.specs.List.{All, list_all, filter_map, cons_option}
@@ -10,7 +10,6 @@ use Rattle.std.proofs.lemmas.Bool.{cond-false}
 use Rattle.std.proofs.lemmas.List.Elements.{filter_map-append}
 use Rattle.std.proofs.lemmas.Option.{none-some, same_Some}
 use Rattle.tardis_base.specs.declared.ids.StateId.{StateId}
-use Rattle.tardis_base.specs.declared.ids.Slot.{Slot}
 use Rattle.tardis_base.specs.declared.records.Record.{Record}
 use Rattle.tardis_base.specs.Ids.{same_id, is_among}
 use Rattle.wire_item.specs.Spellings.{record_spelling}
@@ -18,17 +17,16 @@ use Rattle.plain_dag.specs.States.{arrived, is_known, record_at}
 use Rattle.plain_dag.specs.Above.{is_above, is_proper_ancestor}
 use Rattle.plain_dag.specs.Floors.{Floor, is_closed, is_above_floors}
 use Rattle.plain_dag.specs.Collection.{is_kept, kept_states, stand_in}
-use Rattle.plain_dag.specs.Dag.{IsDag}
 use Rattle.plain_dag.specs.Laws.{StandsInWell}
 use Rattle.plain_dag.proofs.Ids.{same_id-true, same_id_self, among-append, among-first, among-later}
 use Rattle.plain_dag.proofs.Histories.{Grows, dag-grows, known-stays, known-isnt-newest}
 use Rattle.plain_dag.proofs.StandIns.{stands-in-well}
-use Rattle.state_dag.specs.Table.{Table, id_at}
+use Rattle.state_dag.specs.Table.{Table}
 use Rattle.state_dag.specs.Stands.{Stands}
 use Rattle.state_dag.proofs.Standing.{slot-is_kept}
 use Rattle.record_store.specs.Answers.{StandsAlone}
 use Rattle.ceiling_book.specs.declared.parts.KnownFloor.{KnownFloor}
-use Rattle.ceiling_book.specs.Book.{Book, known_floor, floors_of}
+use Rattle.ceiling_book.specs.Book.{Book, known_floor}
 use Rattle.ceiling_book.specs.Places.{IsAt}
 use Rattle.plain_site.specs.Site.{Site}
 use Rattle.plain_site.specs.Exchange.{fitting, is_news_for, in_arrival_order}

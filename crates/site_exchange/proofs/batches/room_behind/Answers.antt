@@ -1,4 +1,4 @@
-use Rattle.std.proofs.Common.{◌≡◌, ◌∙◌, ◌+◌, ◌*◌, ◌-◌, ◌<◌, ◌≤◌, length, sym, ap, arith}
+use Rattle.std.proofs.Common.{◌∙◌, ◌+◌, ◌*◌, ◌-◌, ◌<◌, ◌≤◌, length, sym, ap, arith}
 use Rattle.std.specs.Prelude.{sum_by}
 use Rattle.wire_item.specs.Lengths.{key_write_length}
 use Rattle.site_exchange.specs.News.{left_of}
