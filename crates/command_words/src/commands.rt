@@ -5,14 +5,14 @@ use std::alloc::Global;
 use tardis_base::StateId;
 
 /// A site among the sites: its number, which is from 1 to theirs, and how many they are, from 1 to 16.
-#[derive(Clone, Copy, Debug, PartialEq, Eq)]
+#[derive(Clone, Copy, PartialEq, Eq)]
 pub struct Place {
     pub sites: u16,
     pub site: u16,
 }
 
 /// What `serve` is to do.
-#[derive(Debug, Drop)]
+#[derive(Drop)]
 pub struct ServePlan {
     pub place: Place,
     /// The address at which links are taken.
@@ -28,7 +28,7 @@ pub struct ServePlan {
 }
 
 /// A command of the program.
-#[derive(Debug, Drop)]
+#[derive(Drop)]
 pub enum Command {
     /// Frames in, frames out.
     Run(Place),
@@ -53,7 +53,7 @@ pub enum Command {
 }
 
 /// Why words are no command.
-#[derive(Clone, Copy, Debug, PartialEq, Eq)]
+#[derive(Clone, Copy)]
 pub enum WordsFault {
     /// They have none of the forms.
     Usage,

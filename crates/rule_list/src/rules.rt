@@ -6,7 +6,7 @@ use std::marker::Model;
 use tardis_base::ByteList;
 
 /// How two branches' writes to one key are joined.
-#[derive(Clone, Copy, Debug, PartialEq, Eq)]
+#[derive(Clone, Copy)]
 pub enum Rule {
     /// The later write stands.
     Last,
@@ -19,7 +19,7 @@ pub enum Rule {
 }
 
 /// A rule for the keys that begin with a prefix.
-#[derive(Debug, Drop)]
+#[derive(Drop)]
 pub struct PrefixRule {
     /// 0 to 64 bytes.
     pub prefix: ByteList,
@@ -27,7 +27,7 @@ pub struct PrefixRule {
 }
 
 /// 1 to 16 rules, in the order of the text that wrote them. No two have one prefix.
-#[derive(Debug, Drop)]
+#[derive(Drop)]
 pub struct RuleList {
     pub(crate) rules: Vec<PrefixRule>,
 }
@@ -50,7 +50,7 @@ impl RuleList {
 }
 
 /// Why a text was not read as rules.
-#[derive(Clone, Copy, Debug, PartialEq, Eq)]
+#[derive(Clone, Copy)]
 pub enum RulesFault {
     /// It doesn't have the form.
     Form,
