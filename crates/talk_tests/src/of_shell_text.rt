@@ -1,143 +1,112 @@
-//! What no clause says: that there is memory for a line, and lines from outside.
+//! What no clause says: that there is memory for requests and replies, and lines from outside.
 
-ghost use Rattle.std.specs.Prelude.{◌≤◌, length};
-ghost use Rattle.tardis_base.specs.Sizes.{longest_frame};
-
-use crate::buffers::line_buffer;
-use shell_text::{LineBuf, Text, line_of, put_reply_line, put_request_line, reply_line};
+use crate::letters::letter;
+use shell_text::{Text, line_of, read_line, read_reply_line, reply_line};
 use std::alloc::Global;
 use std::process::Abort;
 use tardis_base::{Reply, Request};
 
-/// The bytes of a request and its line, with the actor 7.
-const REQUESTS: [(&[u8], &[u8]); 22] = [
-    (&[1, 0], b"7 open"),
-    (&[1, 1], b"7 open follow"),
-    (&[2, 0], b"7 begin any"),
-    (&[2, 3, 0, 1, 0, 0, 0, 2], b"7 begin at 1.2"),
-    (&[3, 1, 120], b"7 get x"),
-    (&[4, 1, 32, 0, 0], b"7 put #20 #"),
-    (&[5, 1, 35], b"7 del #23"),
-    (&[6, 9, 0, 3], b"7 commit ser+kb:3"),
-    (&[6, 0, 0, 0], b"7 commit -"),
-    (&[7], b"7 abort"),
-    (&[8, 0], b"7 merge leaves"),
-    (&[8, 1, 0, 1, 0, 0, 0, 2], b"7 merge 1.2"),
-    (&[10, 0], b"7 conflicts"),
-    (&[10, 1, 120], b"7 conflicts x"),
-    (&[14], b"7 raise auto"),
-    (&[19, 2, 0, 0, 0, 3, 0, 0, 0, 0], b"7 pull 3 0"),
-    (
-        &[20, 2, 0, 1, 0, 0, 0, 1, 0, 0, 0, 0, 0, 0, 0, 0, 0, 0],
-        b"7 deliver 0200010000000100000000000000000000",
-    ),
-    (&[22], b"7 settle"),
-    (&[], b"7 malformed"),
-    (&[7, 0], b"7 malformed"),
-    (&[6, 8, 0, 0], b"7 malformed"),
-    (&[20, 2], b"7 malformed"),
+/// Lines of requests, and the letters of what is answered.
+const REQUESTS: [(&[u8], u8); 17] = [
+    (b"10 open follow", b'r'),
+    (b"1 begin at 1.2", b'r'),
+    (b"1 put #20 #", b'r'),
+    (b"1 commit ser+kb:3", b'r'),
+    (b"1 merge 1.1 2.1", b'r'),
+    (b"1 conflicts", b'r'),
+    (b"7 getfor x 1.2", b'r'),
+    (b"0 pull 3 0", b'r'),
+    (b"0 deliver 02000200000001000200000003 00000003", b'm'),
+    (b"0 deliver 0200020000000100020000000300000003", b'r'),
+    (b"01 open", b'm'),
+    (b"1  open", b'm'),
+    (b"1 open ", b'm'),
+    (b"1 get #0A", b'm'),
+    (b"1 get #78", b'm'),
+    (b"1 commit si+ser", b'm'),
+    (b"0 pull 10000000000", b'm'),
 ];
 
-/// The bytes of a reply and its line.
-const REPLIES: [(&[u8], &[u8]); 13] = [
-    (&[1, 0, 0, 0, 0, 0, 0], b"opened 0.0"),
-    (&[4, 0, 1, 0, 0, 0, 2, 0, 1, 32], b"value 1.2 #20"),
+/// The same of replies.
+const REPLIES: [(&[u8], u8); 25] = [
+    (b"merging 1.2 1.3", b'r'),
+    (b"merging 1.3 1.2", b'm'),
+    (b"value 1.1 #", b'r'),
+    (b"value 1.1", b'm'),
+    (b"committed 1.1 from 0.0", b'r'),
+    (b"committed 1.1 from", b'm'),
+    (b"states 2 1.2 1.3", b'r'),
+    (b"states 3 1.2 1.3", b'm'),
+    (b"keys 2 x y", b'r'),
+    (b"keys 2 y x", b'm'),
+    (b"keys 1 #78", b'm'),
     (
-        &[8, 0, 1, 0, 0, 0, 1, 1, 0, 0, 0, 0, 0, 0],
-        b"committed 1.1 from 0.0",
-    ),
-    (&[10, 0, 0, 0, 1, 0, 1, 0, 0, 0, 0, 0, 0], b"states 1 0.0"),
-    (&[11, 0, 0, 0, 1, 0, 1, 1, 120], b"keys 1 x"),
-    (
-        &[
-            14, 0, 0, 0, 0, 0, 0, 0, 1, 0, 0, 0, 1, 0, 0, 0, 1, 0, 0, 1, 0, 0, 0, 0, 0, 0, 0, 0, 0,
-            0, 0, 0, 0, 0,
-        ],
         b"stat known 1 kept 1 leaves 1 sessions 0 sites 1 0:0.0:0",
+        b'r',
     ),
-    (
-        &[15, 0, 0, 0, 0, 0, 0, 0, 0, 0, 0, 0, 0, 0, 0, 0, 0],
-        b"shown 0 children 0 path 0",
-    ),
-    (&[16, 0, 0, 0], b"batch 000000"),
-    (&[21, 8, 2, 0, 0, 1, 1], b"refused toomany reads 257"),
-    (
-        &[21, 15, 8, 0, 1, 0, 0, 0, 2, 0, 0, 0, 3],
-        b"refused branches kb 1.2 3",
-    ),
-    (&[22], b"nomemory"),
-    (&[], b""),
-    (&[6, 0], b""),
+    (b"shown 1 children 1 1.2 path 1 1.1:2", b'r'),
+    (b"shown 1 children 1 1.2 path 2 1.1:2", b'm'),
+    (b"batch 000000", b'r'),
+    (b"batch 00000", b'm'),
+    (b"batch 0000", b'm'),
+    (b"refused toomany reads 257", b'r'),
+    (b"refused toomany reads  257", b'm'),
+    (b"refused conflictkey #0a", b'r'),
+    (b"refused conflictkey #0A", b'm'),
+    (b"refused branches kb 1.1 01", b'm'),
+    (b"refused trailfull 18446744073709551615", b'r'),
+    (b"refused trailfull 18446744073709551616", b'm'),
+    (b"nomemory ", b'm'),
 ];
 
-/// Writes the line of a request of the actor 7.
-fn put_request(bytes: &[u8], out: &mut LineBuf)
-    requires { length bytes.now ≤ longest_frame }
-{
-    put_request_line(7, bytes, out);
+/// The letter of a line of a request.
+fn asked(alloc: Global, line: &[u8]) -> u8 {
+    letter(read_line(alloc, line))
 }
 
-/// Writes the line of a reply.
-fn put_reply(bytes: &[u8], out: &mut LineBuf)
-    requires { length bytes.now ≤ longest_frame }
-{
-    put_reply_line(bytes, out);
+/// The letter of a line of a reply.
+fn answered(alloc: Global, line: &[u8]) -> u8 {
+    letter(read_reply_line(alloc, line))
 }
 
-/// Whether the line of a request, which has at most 1,000 bytes, is this one.
-fn is_request_line(out: &mut LineBuf, bytes: &[u8], line: &[u8]) -> bool {
-    if bytes.len() > 1000 {
-        return false;
-    }
-    put_request(bytes, out);
-    out.bytes() == line
-}
-
-/// Whether the line of a reply, which has at most 1,000 bytes, is this one.
-fn is_reply_line(out: &mut LineBuf, bytes: &[u8], line: &[u8]) -> bool {
-    if bytes.len() > 1000 {
-        return false;
-    }
-    put_reply(bytes, out);
-    out.bytes() == line
-}
-
-fn check_requests(rt: &impl Abort, out: &mut LineBuf) {
-    for (bytes, line) in &REQUESTS {
-        assert!(rt; is_request_line(out, bytes, line));
-    }
-}
-
-fn check_replies(rt: &impl Abort, out: &mut LineBuf) {
-    for (bytes, line) in &REPLIES {
-        assert!(rt; is_reply_line(out, bytes, line));
+fn check_requests(rt: &impl Abort, alloc: Global) {
+    for (line, want) in &REQUESTS {
+        assert!(rt; asked(alloc, line) == *want);
     }
 }
 
 #[test]
-fn lines_are_written_from_bytes(rt: HostRuntime) {
-    let mut out = line_buffer(&rt, rt.alloc());
-    check_requests(&rt, &mut out);
-    check_replies(&rt, &mut out);
-    drop(out);
+fn lines_of_requests_are_read(rt: HostRuntime) {
+    check_requests(&rt, rt.alloc());
+}
+
+fn check_replies(rt: &impl Abort, alloc: Global) {
+    for (line, want) in &REPLIES {
+        assert!(rt; answered(alloc, line) == *want);
+    }
+}
+
+#[test]
+fn lines_of_replies_are_read(rt: HostRuntime) {
+    check_replies(&rt, rt.alloc());
 }
 
 /// The line of an abort of the actor 7.
-fn asked(rt: &impl Abort, alloc: Global) -> Text {
+fn request_text(rt: &impl Abort, alloc: Global) -> Text {
     line_of(alloc, 7, &Request::Abort).expect(rt, "room")
 }
 
 /// The line of a reply that something is done.
-fn answered(rt: &impl Abort, alloc: Global) -> Text {
+fn reply_text(rt: &impl Abort, alloc: Global) -> Text {
     reply_line(alloc, &Reply::Done).expect(rt, "room")
 }
 
 #[test]
 fn lines_have_memory(rt: HostRuntime) {
-    let asked = asked(&rt, rt.alloc());
+    let asked = request_text(&rt, rt.alloc());
     assert!(rt; asked.as_slice() == b"7 abort".as_slice());
     drop(asked);
-    let answered = answered(&rt, rt.alloc());
+    let answered = reply_text(&rt, rt.alloc());
     assert!(rt; answered.as_slice() == b"done".as_slice());
     drop(answered);
 }

@@ -1,17 +1,12 @@
 //! What no clause says: that memory suffices, and spellings from outside.
 
-ghost use Rattle.std.specs.Prelude.{◌≤◌, length};
-ghost use Rattle.tardis_base.specs.Sizes.{longest_frame};
-ghost use Rattle.wire_talk.specs.Spelled.{SpellsRequest};
-
-use crate::buffers::{frame_buffer, is_malformed, padded};
+use crate::letters::letter;
 use std::alloc::Global;
 use std::process::Abort;
-use tardis_base::Request;
-use wire_talk::{read_request, write_request};
+use wire_talk::{read_reply, read_request};
 
-/// One request of each kind, as it is spelled.
-const REQUESTS: [&[u8]; 25] = [
+/// One request of each kind, as it is spelled. What is delivered is state 2.1 below the root, which puts 1 to the key a.
+const REQUESTS: [&[u8]; 26] = [
     &[1, 0],
     &[1, 1],
     &[2, 0],
@@ -35,17 +30,15 @@ const REQUESTS: [&[u8]; 25] = [
     &[17, 0, 1, 0, 0, 0, 9],
     &[18],
     &[19, 2, 0, 0, 0, 3, 0, 0, 0, 0],
+    &[
+        20, 1, 0, 2, 0, 0, 0, 1, 1, 0, 0, 0, 0, 0, 0, 1, 1, 97, 1, 0, 1, 49,
+    ],
     &[21],
     &[22],
 ];
 
-/// State 2.1 below the root, which puts 1 to the key a, as it is delivered.
-const DELIVERY: [u8; 22] = [
-    20, 1, 0, 2, 0, 0, 0, 1, 1, 0, 0, 0, 0, 0, 0, 1, 1, 97, 1, 0, 1, 49,
-];
-
 /// Bytes that spell no request.
-const MALFORMED: [&[u8]; 12] = [
+const NO_REQUESTS: [&[u8]; 12] = [
     &[],
     &[0],
     &[23],
@@ -60,79 +53,132 @@ const MALFORMED: [&[u8]; 12] = [
     &[19, 0],
 ];
 
-/// A get of a key of 129 bytes, and a put of a value of 4,097: what they begin with, the byte that the key and the value
-/// are made of, and how many bytes there are in all.
-const LONG: [(&[u8], u8, usize); 2] = [(&[3, 129], 97, 131), (&[4, 1, 120, 16, 1], 49, 4102)];
+/// One reply of each kind, as it is spelled, but for Refused.
+const REPLIES: [&[u8]; 22] = [
+    &[1, 0, 0, 0, 0, 0, 0],
+    &[2, 0, 1, 0, 0, 0, 1],
+    &[3, 2, 0, 1, 0, 0, 0, 2, 0, 2, 0, 0, 0, 1],
+    &[4, 0, 1, 0, 0, 0, 1, 0, 1, 49],
+    &[5, 0, 0, 0, 0, 0, 0],
+    &[6],
+    &[7],
+    &[8, 0, 1, 0, 0, 0, 2, 1, 0, 1, 0, 0, 0, 1],
+    &[9, 0, 1, 0, 0, 0, 2],
+    &[10, 0, 0, 0, 2, 0, 2, 0, 2, 0, 0, 0, 1, 0, 1, 0, 0, 0, 1],
+    &[11, 0, 0, 0, 2, 0, 2, 1, 97, 2, 97, 98],
+    &[11, 0, 0, 0, 0, 0, 0],
+    &[12, 0, 1, 0, 0, 0, 1, 0, 0, 0, 7],
+    &[13, 0, 0, 0, 3],
+    &[
+        14, 0, 0, 0, 0, 0, 0, 0, 5, 0, 0, 0, 4, 0, 0, 0, 2, 0, 1, 1, 0, 0, 0, 4, 0, 1, 0, 0, 0, 1,
+        0, 0, 0, 1,
+    ],
+    &[
+        15, 0, 0, 0, 0, 0, 0, 0, 5, 0, 0, 0, 1, 0, 1, 0, 0, 0, 3, 0, 0, 0, 1, 0, 1, 0, 0, 0, 1, 0,
+        0, 0, 1,
+    ],
+    &[
+        16, 0, 1, 0, 2, 0, 0, 0, 1, 1, 0, 0, 0, 0, 0, 0, 1, 1, 97, 1, 0, 1, 49, 1, 0, 2, 0, 0, 0,
+        1, 0, 2, 0, 0, 0, 1, 0, 0, 0, 1,
+    ],
+    &[17],
+    &[18],
+    &[19, 0, 0, 0, 4],
+    &[20],
+    &[22],
+];
 
-/// The request that these bytes spell.
-fn request(rt: &impl Abort, alloc: Global, bytes: &[u8]) -> Request
-    ensures { SpellsRequest bytes.now result }
-{
-    read_request(alloc, bytes).expect(rt, "a request")
+/// One refusal of each kind, as the reply that brings it is spelled.
+const REFUSALS: [&[u8]; 29] = [
+    &[21, 1],
+    &[21, 2],
+    &[21, 3],
+    &[21, 4, 1, 0],
+    &[21, 5],
+    &[21, 6],
+    &[21, 7],
+    &[21, 8, 2, 0, 0, 1, 1],
+    &[21, 9, 0, 1, 0, 0, 0, 9],
+    &[21, 10, 0, 1, 0, 0, 0, 1, 0, 1, 0, 0, 0, 2],
+    &[21, 11, 0, 2, 0, 0, 0, 1, 0, 1, 0, 0, 0, 1],
+    &[21, 12, 0, 1, 0, 0, 0, 1],
+    &[21, 13, 1, 120],
+    &[21, 14, 2, 120, 121],
+    &[21, 15, 4, 0, 1, 0, 0, 0, 1, 0, 0, 0, 2],
+    &[21, 16, 0, 1, 0, 0, 0, 1],
+    &[21, 17, 0, 0, 0, 0, 0, 0],
+    &[21, 18, 0, 7, 0, 1, 0, 0, 0, 1],
+    &[21, 19, 0, 1, 0, 0, 0, 1],
+    &[21, 20, 0, 0, 0, 8],
+    &[21, 21, 0, 1, 0, 0, 0, 1, 0, 0, 1, 0],
+    &[21, 22],
+    &[21, 23, 0, 3],
+    &[21, 24, 0, 1, 0, 0, 0, 1],
+    &[21, 25, 0, 1, 0, 0, 0, 5],
+    &[21, 26, 0, 0, 0, 1, 0, 0, 0, 0],
+    &[21, 27, 200],
+    &[21, 28, 0, 0, 0, 1],
+    &[21, 29, 0, 0, 4, 0],
+];
+
+/// Bytes that spell no reply: none, no such code, a field that is cut, a byte that is left over, ids that don't ascend,
+/// none of them, a number that isn't the lesser of the total and 256, keys that don't ascend or are one twice, no site
+/// line, no such refusal, no such kind of too many, no such constraint.
+const NO_REPLIES: [&[u8]; 21] = [
+    &[],
+    &[0],
+    &[23],
+    &[255],
+    &[1],
+    &[1, 0, 0, 0, 0, 0],
+    &[1, 0, 1, 0, 0, 0, 0],
+    &[18, 0],
+    &[22, 0],
+    &[3, 2, 0, 2, 0, 0, 0, 1, 0, 1, 0, 0, 0, 2],
+    &[3, 0],
+    &[8, 0, 1, 0, 0, 0, 2, 2, 0, 1, 0, 0, 0, 1, 0, 1, 0, 0, 0, 1],
+    &[10, 0, 0, 0, 1, 0, 0],
+    &[10, 0, 0, 0, 0, 0, 1, 0, 1, 0, 0, 0, 1],
+    &[11, 0, 0, 0, 2, 0, 2, 2, 97, 98, 1, 97],
+    &[11, 0, 0, 0, 2, 0, 2, 1, 97, 1, 97],
+    &[14, 0, 0, 0, 0, 0, 0, 0, 5, 0, 0, 0, 4, 0, 0, 0, 2, 0, 1, 0],
+    &[21, 0],
+    &[21, 30],
+    &[21, 8, 4, 0, 0, 0, 1],
+    &[21, 15, 1, 0, 1, 0, 0, 0, 1, 0, 0, 0, 2],
+];
+
+/// The letter of a request.
+fn request(alloc: Global, bytes: &[u8]) -> u8 {
+    letter(read_request(alloc, bytes))
 }
 
-/// Whether a request is written as the bytes that spell it.
-fn is_written(rt: &impl Abort, alloc: Global, request: &Request, bytes: &[u8]) -> bool
-    requires spelled { SpellsRequest bytes.now request.now }
-    requires fits { length bytes.now ≤ longest_frame }
-{
-    let mut out = frame_buffer(rt, alloc);
-    write_request(request, &mut out);
-    let is_written = out.bytes() == bytes;
-    drop(out);
-    is_written
+/// The letter of a reply.
+fn reply(alloc: Global, bytes: &[u8]) -> u8 {
+    letter(read_reply(alloc, bytes))
 }
 
-/// Whether a request, which has at most 1,000 bytes, is written as it was read.
-fn is_kept(rt: &impl Abort, alloc: Global, bytes: &[u8]) -> bool {
-    if bytes.len() > 1000 {
-        return false;
-    }
-    let request = request(rt, alloc, bytes);
-    let is_kept = is_written(rt, alloc, &request, bytes);
-    drop(request);
-    is_kept
-}
-
-/// Whether these bytes are told to spell no request.
-fn is_no_request(alloc: Global, bytes: &[u8]) -> bool {
-    is_malformed(read_request(alloc, bytes))
-}
-
-/// Whether these are, with one byte behind them again and again, up to so many in all.
-fn is_none_padded(rt: &impl Abort, alloc: Global, front: &[u8], byte: u8, count: usize) -> bool {
-    let bytes = padded(rt, alloc, front, byte, count);
-    let is_none = is_no_request(alloc, bytes.as_slice());
-    drop(bytes);
-    is_none
-}
-
-fn check_kept(rt: &impl Abort, alloc: Global) {
-    for bytes in &REQUESTS {
-        assert!(rt; is_kept(rt, alloc, bytes));
+fn check_requests(rt: &impl Abort, alloc: Global, rows: &[&[u8]], want: u8) {
+    for bytes in rows {
+        assert!(rt; request(alloc, bytes) == want);
     }
 }
 
 #[test]
-fn requests_are_written_as_they_were_read(rt: HostRuntime) {
-    check_kept(&rt, rt.alloc());
-    assert!(rt; is_kept(&rt, rt.alloc(), &DELIVERY));
+fn requests_are_read(rt: HostRuntime) {
+    check_requests(&rt, rt.alloc(), &REQUESTS, b'r');
+    check_requests(&rt, rt.alloc(), &NO_REQUESTS, b'm');
 }
 
-fn check_malformed(rt: &impl Abort, alloc: Global) {
-    for bytes in &MALFORMED {
-        assert!(rt; is_no_request(alloc, bytes));
-    }
-}
-
-fn check_long(rt: &impl Abort, alloc: Global) {
-    for (front, byte, count) in &LONG {
-        assert!(rt; is_none_padded(rt, alloc, front, *byte, *count));
+fn check_replies(rt: &impl Abort, alloc: Global, rows: &[&[u8]], want: u8) {
+    for bytes in rows {
+        assert!(rt; reply(alloc, bytes) == want);
     }
 }
 
 #[test]
-fn other_bytes_are_malformed(rt: HostRuntime) {
-    check_malformed(&rt, rt.alloc());
-    check_long(&rt, rt.alloc());
+fn replies_are_read(rt: HostRuntime) {
+    check_replies(&rt, rt.alloc(), &REPLIES, b'r');
+    check_replies(&rt, rt.alloc(), &REFUSALS, b'r');
+    check_replies(&rt, rt.alloc(), &NO_REPLIES, b'm');
 }

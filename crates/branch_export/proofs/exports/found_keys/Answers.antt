@@ -7,6 +7,9 @@ use Rattle.branch_export.proofs.Contents.{live-of, found-more, found-same}
 use Rattle.branch_export.proofs.exports.found_keys.Goals as goal
 use Rattle.branch_export.proofs.exports.found_keys.Goals.{then-is_value+in_ok-push, else-is_value}
 
+pub loop-place-init : goal.loop-place-init
+loop-place-init c = λ rs ks stands x named. ap (map (λ k. k.now)) c.new-keys.ensures.items
+
 pub loop-place-preserved : goal.loop-place-preserved
 loop-place-preserved c = λ rs ks stands x named.
     let ls = listed_keys c.args.store.now.versions in
