@@ -1,5 +1,5 @@
 use Rattle.dag_lock.specs.Steps.{Keeps}
-use Rattle.stream_tests.proofs.of_dag_lock.puts.Given as goal
+use Rattle.part_tests.proofs.of_dag_lock.puts.Given as goal
 
 abbrev pub invariant-loop-value : goal.invariant-loop-value
 invariant-loop-value g l = Keeps l.fn.pass l.mine

@@ -1,0 +1,34 @@
+//! Tests of the parts, over their public calls: what no clause of theirs says, and no row of a whole site shows (`site_tests`).
+//! Bytes, lines, devices, loops, the trail, the lock, sockets, and the texts of faults.
+//!
+//! A crate with tests of its own is proved once more for them; so these stand here (`docs/ADDING.md`, 'A test').
+#![tactic(auto)]
+
+#[cfg(test)]
+mod counters;
+#[cfg(test)]
+mod letters;
+#[cfg(test)]
+mod of_dag_lock;
+#[cfg(test)]
+mod of_faults;
+#[cfg(test)]
+mod of_shell_text;
+#[cfg(test)]
+mod of_site_run;
+#[cfg(test)]
+mod of_socket_links;
+#[cfg(test)]
+mod of_state_dag;
+#[cfg(test)]
+mod of_tardis_base;
+#[cfg(test)]
+mod of_tardis_io;
+#[cfg(test)]
+mod of_trail_log;
+#[cfg(test)]
+mod of_wire_item;
+#[cfg(test)]
+mod of_wire_talk;
+#[cfg(test)]
+mod streams;
