@@ -11,6 +11,8 @@ mod letters;
 #[cfg(test)]
 mod of_dag_lock;
 #[cfg(test)]
+mod of_disk_forms;
+#[cfg(test)]
 mod of_faults;
 #[cfg(test)]
 mod of_shell_text;

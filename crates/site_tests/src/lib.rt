@@ -1,5 +1,5 @@
 //! Tests of what runs over a whole site, over public calls: worked rows through its commands and through its step, merges by
-//! rules, exports and imports, worlds, loads, and the server's ends.
+//! rules, exports and imports, worlds, loads, durable runs over disks that crash, and the server's ends.
 //!
 //! A crate with tests of its own is proved once more for them; so these stand here (`docs/ADDING.md`, 'A test').
 #![tactic(auto)]
@@ -9,15 +9,21 @@ mod auto_rows;
 #[cfg(test)]
 mod collection_rows;
 #[cfg(test)]
+mod disks;
+#[cfg(test)]
 mod exchange_rows;
 #[cfg(test)]
 mod floor_rows;
+#[cfg(test)]
+mod journal_rows;
 #[cfg(test)]
 mod merge_rows;
 #[cfg(test)]
 mod of_auto_run;
 #[cfg(test)]
 mod of_collection;
+#[cfg(test)]
+mod of_durable_run;
 #[cfg(test)]
 mod of_exchange;
 #[cfg(test)]
@@ -30,6 +36,8 @@ mod of_limits;
 mod of_load_run;
 #[cfg(test)]
 mod of_merges;
+#[cfg(test)]
+mod of_site_journal;
 #[cfg(test)]
 mod of_steps;
 #[cfg(test)]

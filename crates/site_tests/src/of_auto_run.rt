@@ -68,7 +68,10 @@ impl Talk {
 
 /// The rules that this text writes.
 fn rules_of(rt: &impl Abort, alloc: Global, text: &str) -> RuleList {
-    read_rules(alloc, text).expect(rt, "rules")
+    match read_rules(alloc, text) {
+        Ok(rules) => rules,
+        Err(_) => panic!(rt; "no rules"),
+    }
 }
 
 /// How the command with these rules ends over these streams.

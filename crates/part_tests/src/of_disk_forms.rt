@@ -1,7 +1,6 @@
-//! A crash of a disk in memory, a store of it, and a file of the system.
+//! What a crash of a disk in memory leaves, and that a file of the system is made, kept and locked.
 
-use crate::disks::{crashed, has_disk, holds, store_of};
-use disk_forms::{FileDisk, FileStore, MemoryDisk, MemoryStore};
+use disk_forms::{FileDisk, FileStore, MemoryDisk};
 use disk_store::{Disk, Store};
 use std::alloc::Global;
 use std::path::PathBuf;
@@ -17,8 +16,8 @@ fn pending(rt: &impl Abort, alloc: Global) -> MemoryDisk {
 
 /// Whether a crash by this choice leaves these bytes of it.
 fn leaves(rt: &impl Abort, alloc: Global, choice: u64, bytes: &[u8]) -> bool {
-    let disk = crashed(rt, pending(rt, alloc), choice);
-    let is_left = holds(&disk, bytes);
+    let disk = pending(rt, alloc).crash(choice).expect(rt, "room");
+    let is_left = disk.bytes() == bytes;
     drop(disk);
     is_left
 }
@@ -39,29 +38,6 @@ fn a_crash_leaves_fronts_and_torn_bytes(rt: HostRuntime) {
     for (choice, bytes) in rows {
         assert!(rt; leaves(&rt, rt.alloc(), choice, bytes), "choice {choice}");
     }
-}
-
-/// Writes `c` behind the two bytes of a disk; whether it isn't synced then.
-fn adds_unsynced(rt: &impl Abort, disk: &mut MemoryDisk) -> bool {
-    let end = disk.bytes().len().min(2) as u64;
-    disk.write_at(end, b"c").expect(rt, "a write");
-    disk.sync().is_err()
-}
-
-/// Whether the store gives its disk once, and takes it back after a write that wasn't synced.
-fn gives_its_disk_once(rt: &impl Abort, store: &mut MemoryStore) -> bool {
-    let mut disk = store.open_file("any").expect(rt, "its disk");
-    let is_out = store.open_file("any").is_err();
-    let is_unsynced = adds_unsynced(rt, &mut disk);
-    store.put_back(disk);
-    is_out && is_unsynced
-}
-
-#[test]
-fn a_store_in_memory_gives_its_disk_once(rt: HostRuntime) {
-    let mut store = store_of(&rt, rt.alloc(), b"ab", &[2]);
-    assert!(rt; gives_its_disk_once(&rt, &mut store));
-    assert!(rt; has_disk(store, b"abc"));
 }
 
 /// Writes `abc` to a new file, by a write and a cut; whether it was empty.

@@ -4,41 +4,17 @@ ghost use Rattle.std.specs.Prelude.{◌≤◌, IsTrue};
 ghost use Rattle.tardis_base.specs.Valid.{are_limits};
 
 use crate::disks::{crashed, disk_of, has_disk, holds, store_of};
+use crate::journal_rows::{journal_of, replies_from, replies_to, requests_from};
 use crate::of_site_journal::{CRASHES, Opening, open};
-use crate::talks::{journal_of, replies_from, replies_to, requests_from};
+use crate::sites::{LIMITS, an_input, an_output, keys};
 use disk_forms::MemoryDisk;
 use disk_store::{Disk, Store};
 use durable_run::{durable, run_site_on};
 use std::alloc::Global;
-use std::hash::RandomState;
 use std::process::Abort;
 use std::random::RandomSource;
 use tardis_base::Limits;
 use tardis_io::{MemorySink, MemorySource, Sink, Source, Status};
-
-/// The limits of a site that is alone.
-const LIMITS: Limits = Limits {
-    sites: 1,
-    max_kept: 16_384,
-    max_path: 4_096,
-    max_sessions: 256,
-    max_trail: 1_073_741_824,
-};
-
-/// A seed of hashing.
-fn keys<R: RandomSource + Abort>(rt: &R) -> RandomState {
-    RandomState::new(rt).expect(rt, "random bytes")
-}
-
-/// These bytes as an input, in pieces of so many.
-fn source_of(rt: &impl Abort, alloc: Global, bytes: &[u8], piece: u32) -> MemorySource {
-    MemorySource::new(alloc, bytes, piece.max(1), &[]).expect(rt, "room")
-}
-
-/// An output with room for 1,000 bytes.
-fn empty_sink(rt: &impl Abort, alloc: Global) -> MemorySink {
-    MemorySink::new(alloc, 1_000, 1_000, &[]).expect(rt, "room")
-}
 
 /// How a durable site with these limits ends, in this store.
 fn ran<R: RandomSource + Abort, S: Store, I: Source, O: Sink>(
@@ -69,8 +45,8 @@ fn is_kept<R: RandomSource + Abort>(
     requires sites { 1 ≤ limits.sites }
 {
     let mut store = store_of(rt, alloc, b"", &[]);
-    let mut source = source_of(rt, alloc, input, 1_000);
-    let mut sink = empty_sink(rt, alloc);
+    let mut source = an_input(rt, alloc, input, 1_000, &[]);
+    let mut sink = an_output(rt, alloc, 1_000, 1_000);
     let status = ran(rt, alloc, limits, &mut store, &mut source, &mut sink);
     let is_written = sink.bytes() == output;
     drop(sink);
@@ -129,9 +105,9 @@ fn run_from<R: RandomSource + Abort>(
     disk: MemoryDisk,
 ) -> Ended {
     let input = requests_from(rt, alloc, first);
-    let mut source = source_of(rt, alloc, input.as_slice(), piece);
+    let mut source = an_input(rt, alloc, input.as_slice(), piece, &[]);
     drop(input);
-    let mut output = empty_sink(rt, alloc);
+    let mut output = an_output(rt, alloc, 1_000, 1_000);
     let (status, disk) = run_over(rt, alloc, LIMITS, &mut source, &mut output, disk);
     drop(source);
     Ended {

@@ -1,5 +1,6 @@
 //! A session's requests, the replies that they are to get, and the journal that they leave.
 
+use crate::talks::{put, put_frame};
 use std::alloc::Global;
 use std::process::Abort;
 
@@ -38,22 +39,11 @@ const TALK: [Row; 6] = [
     },
 ];
 
-/// Puts the frame of a body behind these bytes.
-fn put_frame(rt: &impl Abort, bytes: &mut Vec<u8>, body: &[u8]) {
-    let length = u32::try_from(body.len()).unwrap_or(u32::MAX);
-    put(rt, bytes, &length.to_be_bytes());
-    put(rt, bytes, body);
-}
-
-fn put(rt: &impl Abort, bytes: &mut Vec<u8>, more: &[u8]) {
-    bytes.extend_from_slice(more).expect(rt, "room");
-}
-
 /// The frames of the requests.
 fn requests(rt: &impl Abort, alloc: Global, rows: &[Row]) -> Vec<u8> {
     let mut frames = Vec::new(alloc);
     for row in rows {
-        put_frame(rt, &mut frames, row.asked);
+        put_frame(rt, &mut frames, &[], row.asked);
     }
     frames
 }
@@ -62,7 +52,7 @@ fn requests(rt: &impl Abort, alloc: Global, rows: &[Row]) -> Vec<u8> {
 fn replies(rt: &impl Abort, alloc: Global, rows: &[Row]) -> Vec<u8> {
     let mut frames = Vec::new(alloc);
     for row in rows {
-        put_frame(rt, &mut frames, row.told);
+        put_frame(rt, &mut frames, &[], row.told);
     }
     frames
 }
@@ -72,7 +62,7 @@ fn journal(rt: &impl Abort, alloc: Global, rows: &[Row]) -> Vec<u8> {
     let mut text = Vec::new(alloc);
     for row in rows {
         put(rt, &mut text, &[1]);
-        put_frame(rt, &mut text, row.asked);
+        put_frame(rt, &mut text, &[], row.asked);
     }
     put(rt, &mut text, &[0]);
     text
