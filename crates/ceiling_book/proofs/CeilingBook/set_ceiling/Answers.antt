@@ -17,6 +17,9 @@ is_ancestor-requires-clause-first c =
     found-ceiling (IsSlotOf c.args.dag.now) (IsSlotOf c.args.dag.now) c.args.self.now c.args.session c.session.result.now c.requires.slots
     (looked-up c.args.session c.args.self.now.sessions ∙ c.session.ensures)
 
+pub is_ancestor-requires-clause-second : goal.is_ancestor-requires-clause-second
+is_ancestor-requires-clause-second c = c.requires.slot
+
 pub returns-then-not-is_ancestor-clause-set : goal.returns-then-not-is_ancestor-clause-set
 returns-then-not-is_ancestor-clause-set c = λ rs ks stands placed s is x named.
     let same = session-found c.args.self.now c.args.session c.session.result.now s c.session.ensures is in
