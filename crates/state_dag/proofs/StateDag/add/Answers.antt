@@ -148,7 +148,8 @@ invariant_of-self c =
       leaves = c.make_state_room.new.leaves;
       slots = a.slots;
     } in
-    held-stays a b c.self.invariant refl refl refl c.make_state_room.ensures.leaves c.make_state_room.ensures.order refl c.make_state_room.ensures.same (λ x. refl)
+    held-stays a b c.self.invariant refl refl refl c.make_state_room.ensures.leaves c.make_state_room.ensures.order refl c.make_state_room.ensures.same
+    (λ x. refl)
 
 pub put-requires : goal.put-requires
 put-requires c = λ x of_site from.

@@ -10,5 +10,6 @@ pub returns-clause-does : goal.returns-clause-does
 returns-clause-does c =
     let s = c.args.session in
     let text = decimal c.args.number in
-    then_drawn c.args.self.now c.word-written.new.self c.put.new.self c.put.result c.word-written.result (λ w. asks s (Put (key (w % 64)) text)) c.word-written.ensures.drew
+    then_drawn c.args.self.now c.word-written.new.self c.put.new.self c.put.result c.word-written.result (λ w. asks s (Put (key (w % 64)) text))
+    c.word-written.ensures.drew
     (subst (λ k. Does c.word-written.new.self c.put.new.self c.put.result (asks s (Put k text))) c.in_ok-key.ensures.key c.put.ensures.does)
