@@ -7,7 +7,7 @@ use merge_txn::TxnFault;
 use std::alloc::Global;
 use std::fmt::Display;
 use std::process::Abort;
-use tardis_base::{EndFlags, StateId};
+use tardis_base::{AddFault, BytesFault, EndFlags, NoMemory, ReadFault, StateId};
 
 const FIRST: StateId = StateId {
     site: 1,
@@ -80,9 +80,22 @@ fn check_ends(rt: &impl Abort, alloc: Global) {
     assert!(rt; says(rt, alloc, &branches, text));
 }
 
+/// That memory is wanting, which each fault that may be it says alike.
+fn check_memory(rt: &impl Abort, alloc: Global) {
+    let text = "out of memory";
+    assert!(rt; says(rt, alloc, &NoMemory, text));
+    assert!(rt; says(rt, alloc, &BytesFault::NoMemory, text));
+    assert!(rt; says(rt, alloc, &ReadFault::NoMemory, text));
+    assert!(rt; says(rt, alloc, &AddFault::NoMemory, text));
+    assert!(rt; says(rt, alloc, &MergeFault::NoMemory, text));
+    assert!(rt; says(rt, alloc, &OpenFault::NoMemory, text));
+    assert!(rt; says(rt, alloc, &TxnFault::NoMemory, text));
+}
+
 #[test]
 fn faults_say_what_to_do(rt: HostRuntime) {
     check_begins(&rt, rt.alloc());
     check_floors(&rt, rt.alloc());
     check_ends(&rt, rt.alloc());
+    check_memory(&rt, rt.alloc());
 }
