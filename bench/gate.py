@@ -70,7 +70,9 @@ def main(words):
     seen, begun = {}, time.time()
     gate = subprocess.Popen(["rt", "ci", *words], cwd=TOP)
     while gate.poll() is None:
-        seen.update(running())
+        for it, (at, spent) in running().items():
+            # (a process that has ended, and that nobody has asked about yet, tells its seconds and no words)
+            seen[it] = (at if any(at) or it not in seen else seen[it][0], spent)
         time.sleep(0.2)
     seconds = collections.Counter()
     for at, spent in seen.values():

@@ -1,7 +1,7 @@
 -- The newest kept state below another.
-use Rattle.std.proofs.Common.{◌≡◌, ◌≤◌, ◌<◌, Bool, true, false, not, List, [], ◌∷◌, find, Some, None, IsTrue, IsFalse, unwrap_or, inl, inr, refl, sym, ap}
+use Rattle.std.proofs.Common.{◌≡◌, ◌≤◌, ◌<◌, Bool, not, List, [], ◌∷◌, find, Some, IsTrue, IsFalse, unwrap_or, inl, inr, sym, ap}
 use Rattle.std.proofs.Common.{subst, ◌∙◌, arith}
-use Rattle.std.proofs.lemmas.Bool.{and_parts, and_from, cases_Bool, both_ways, cond-true, cond-false, false_from_ne_true, not_from_false, cases_lt}
+use Rattle.std.proofs.lemmas.Bool.{and_parts, cases_Bool, both_ways, cond-true, cond-false, false_from_ne_true, cases_lt}
 use Rattle.std.proofs.lemmas.Option.{none-some, same_Some}
 use Rattle.tardis_base.specs.declared.ids.StateId.{StateId}
 use Rattle.tardis_base.specs.declared.records.Record.{Record}

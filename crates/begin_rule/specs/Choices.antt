@@ -1,9 +1,8 @@
 -- What a choice of a read state answers.
-use Rattle.std.specs.Prelude.{◌≡◌, Bool, not, List, map, find, Option, Some, None, Result, Ok, Err, IsTrue, IsFalse}
+use Rattle.std.specs.Prelude.{◌≡◌, List, map, Some, None, Result, Ok, Err, IsTrue, IsFalse}
 use Rattle.tardis_base.specs.declared.ids.StateId.{StateId}
 use Rattle.tardis_base.specs.declared.ids.Slot.{Slot}
 use Rattle.tardis_base.specs.declared.records.Record.{Record}
-use Rattle.tardis_base.specs.Ids.{is_among}
 use Rattle.plain_dag.specs.States.{is_known}
 use Rattle.plain_dag.specs.Above.{comparable_pair}
 use Rattle.plain_dag.specs.Begin.{is_admitted, first_unknown, first_below}

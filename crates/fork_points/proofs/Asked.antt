@@ -2,13 +2,13 @@
 use Rattle.std.proofs.Common.{◌≡◌, Bool, true, false, ◌&&◌, ◌||◌, not, List, [], ◌∷◌, ◌++◌, length, ◌==◌, map, filter, Some, IsTrue, IsFalse, inl, inr, refl}
 use Rattle.std.proofs.Common.{sym, ap, ap₂, subst, ◌∙◌, eqb-true, arith}
 use Rattle.std.specs.List.{list_any, list_all}
-use Rattle.std.proofs.lemmas.Bool.{cond-true, cond-false, and_left, and_parts, and_from, cases_Bool, not_from_false, not-true, false_from_ne_true}
+use Rattle.std.proofs.lemmas.Bool.{cond-true, cond-false, and_parts, and_from, cases_Bool, not_from_false, not-true, false_from_ne_true}
 use Rattle.tardis_base.specs.declared.ids.StateId.{StateId}
 use Rattle.tardis_base.specs.declared.ids.Slot.{Slot}
 use Rattle.tardis_base.specs.declared.records.Record.{Record}
 use Rattle.tardis_base.specs.Ids.{is_among}
 use Rattle.plain_dag.specs.States.{children, is_known, arrived}
-use Rattle.plain_dag.specs.Above.{is_above, is_above_all}
+use Rattle.plain_dag.specs.Above.{is_above_all}
 use Rattle.plain_dag.specs.Forks.{is_leaf, is_fork_point}
 use Rattle.plain_dag.specs.Collection.{is_kept, kept_states, stand_in}
 use Rattle.plain_dag.proofs.Ids.{not-both, among-first, among-later}

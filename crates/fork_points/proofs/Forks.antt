@@ -1,20 +1,20 @@
 -- Fork points among the states that are shared last, and leaves.
-use Rattle.std.proofs.Common.{◌≡◌, ℕ, ◌≤◌, ◌+◌, Bool, true, false, ◌&&◌, ◌||◌, not, ◌==◌, List, [], ◌∷◌, length, map, filter, Some, IsTrue, IsFalse, inl, inr}
+use Rattle.std.proofs.Common.{◌≡◌, ◌≤◌, Bool, true, false, ◌||◌, not, ◌==◌, List, [], ◌∷◌, length, map, filter, Some, IsTrue, IsFalse, inl, inr}
 use Rattle.std.proofs.Common.{refl, sym, ap, subst, ◌∙◌, eqb-true, arith}
-use Rattle.std.specs.List.{list_any, list_all}
+use Rattle.std.specs.List.{list_any}
 use Rattle.std.proofs.lemmas.Bool.{and_parts, and_from, or_left, or_right, cases_Bool, both_ways, not_from_false, not-true, false_from_ne_true}
 use Rattle.std.proofs.lemmas.List.Elements.{filter_agree}
 use Rattle.tardis_base.specs.declared.ids.StateId.{StateId}
 use Rattle.tardis_base.specs.declared.ids.Slot.{Slot}
 use Rattle.tardis_base.specs.declared.records.Record.{Record}
 use Rattle.tardis_base.specs.Ids.{same_id, is_among}
-use Rattle.plain_dag.specs.States.{children, is_known, arrived}
+use Rattle.plain_dag.specs.States.{children, arrived}
 use Rattle.plain_dag.specs.Above.{is_above, is_above_all}
 use Rattle.plain_dag.specs.Forks.{is_leaf, leaves, is_fork_point, fork_points}
 use Rattle.plain_dag.specs.Dag.{IsDag}
 use Rattle.plain_dag.specs.Collection.{kept_states}
-use Rattle.plain_dag.proofs.States.{proper_goes_by_child, same_id_from, same_id_self}
-use Rattle.plain_dag.proofs.Ids.{any-from, any-false-at, not-both}
+use Rattle.plain_dag.proofs.States.{proper_goes_by_child, same_id_from}
+use Rattle.plain_dag.proofs.Ids.{any-from, any-false-at}
 use Rattle.state_dag.specs.Table.{Table, id_at}
 use Rattle.state_dag.specs.Stands.{Stands}
 use Rattle.state_dag.proofs.Known.{limits-parts}

@@ -1,5 +1,5 @@
 -- Laws of the cut.
-use Rattle.std.specs.Prelude.{◌≡◌, ℕ, ◌<◌, List, ◌++◌}
+use Rattle.std.specs.Prelude.{◌≡◌, ℕ, List, ◌++◌}
 use Rattle.line_cut.specs.Lines.{Cuts, IsCut}
 
 -- two cuts of the same bytes are one

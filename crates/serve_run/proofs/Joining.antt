@@ -1,5 +1,5 @@
 -- The pass of the links and that of the rounds, joined.
-use Rattle.std.proofs.Common.{◌≡◌, ◌≤◌, ◌+◌, ◌-◌, ℕ, List, [], Option, Result, Ok, Err, OnErr, sym, ap, ◌∙◌, ◌⊎◌, inl, inr, subst, refl, arith, append-nil}
+use Rattle.std.proofs.Common.{◌≡◌, ◌≤◌, ◌+◌, ◌-◌, ℕ, List, [], Option, Result, Ok, Err, OnErr, sym, ap, ◌∙◌, inl, inr, subst, refl, arith, append-nil}
 use Rattle.tardis_base.specs.Plain.{Event, PlainMachine}
 use Rattle.tardis_base.specs.declared.faults.NoMemory.{NoMemory}
 use Rattle.tardis_io.specs.Links.{ToldGate, ToldDial}

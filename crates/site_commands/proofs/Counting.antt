@@ -1,13 +1,11 @@
 -- A site answers Stat by statistics.
-use Rattle.std.proofs.Common.{◌≡◌, ℕ, ◌<◌, true, List, [], ◌∷◌, Some, IsTrue, refl, sym, ap, subst}
+use Rattle.std.proofs.Common.{◌≡◌, List, [], ◌∷◌, IsTrue, refl, sym, ap, subst}
 use Rattle.std.specs.List.{AllByRecursion, list_all}
 use Rattle.std.proofs.lemmas.Bool.{and_from, lt-ltb}
-use Rattle.tardis_base.specs.declared.records.Limits.{Limits}
 use Rattle.tardis_base.specs.declared.requests.Request.TheVariants.{Stat}
 use Rattle.tardis_base.specs.declared.replies.Refusal.TheVariants.{Malformed}
-use Rattle.tardis_base.specs.declared.replies.SiteLine.{SiteLine}
 use Rattle.tardis_base.specs.Plain.{Event, state_after}
-use Rattle.tardis_base.specs.Valid.{is_u16, is_within, are_limits}
+use Rattle.tardis_base.specs.Valid.{is_u16}
 use Rattle.wire_talk.specs.Laws.{RequestsHaveOneSpelling}
 use Rattle.trail_log.specs.Frames.{IsEntry}
 use Rattle.site_sync.specs.Asking.{stat as stat_event, StatesLines}

@@ -1,8 +1,8 @@
 -- What a shell and an audit of a machine that stands for a site say of the site.
-use Rattle.std.proofs.Common.{◌≡◌, ℕ, Bool, true, false, ◌&&◌, List, [], ◌∷◌, ◌++◌, Option, Some, None, refl, sym, subst, inl, inr, arith}
+use Rattle.std.proofs.Common.{◌≡◌, ℕ, false, ◌&&◌, List, [], ◌∷◌, ◌++◌, Option, Some, None, refl, sym, subst, inl, inr, arith}
 use Rattle.std.proofs.lemmas.List.{append-nil}
 use Rattle.std.specs.Option.{option_map_or}
-use Rattle.tardis_base.specs.Plain.{Event, Answers}
+use Rattle.tardis_base.specs.Plain.{Event}
 use Rattle.tardis_base.specs.declared.requests.Request.{Request}
 use Rattle.tardis_base.specs.declared.requests.Request.TheVariants.{Open, Begin as BeginAt, Get, Put, Delete, Commit, Abort, BeginMerge, ForkPoints}
 use Rattle.tardis_base.specs.declared.requests.Request.TheVariants.{Conflicts, GetFor, Ceiling, Raise, RaiseAuto, Tidy, Stat, Show, Leaves, Pull, Deliver}
@@ -15,7 +15,7 @@ use Rattle.wire_talk.specs.Memory.{takes_no_memory}
 use Rattle.wire_talk.specs.RequestReadings.{request_of}
 use Rattle.site_run.specs.Responses.{Whole, InTurn, AnsweredBy}
 use Rattle.site_run.specs.Endings.{shape_within}
-use Rattle.shell_run.specs.Answers.{over_lines, is_read_without_memory, event_of_line, AskedMay, ShellMay, AuditMay}
+use Rattle.shell_run.specs.Answers.{over_lines, event_of_line, AskedMay, ShellMay, AuditMay}
 use Rattle.shell_run.specs.Outcomes.{ShellOutcome, AuditOutcome}
 use Rattle.plain_site.specs.Site.{Site}
 use Rattle.plain_site.specs.Step.{is_sure, site_machine}

@@ -1,12 +1,12 @@
 -- The steps of an append, and what a crash leaves after each.
-use Rattle.std.proofs.Common.{◌≡◌, inl, inr, ℕ, ◌+◌, ◌-◌, ◌<◌, ◌≤◌, List, [], ◌∷◌, ◌++◌, length, take, drop, refl, sym, ap, ◌∙◌, subst, arith}
+use Rattle.std.proofs.Common.{◌≡◌, inl, ℕ, ◌+◌, ◌-◌, ◌<◌, ◌≤◌, List, [], ◌∷◌, ◌++◌, length, take, drop, sym, ap, ◌∙◌, subst, arith}
 use Rattle.std.specs.List.{AllByRecursion}
 use Rattle.std.proofs.lemmas.List.{take_all}
 use Rattle.disk_store.specs.Disks.{with_bytes, Torn, Follows, NoMore, Only, Elapses, LeavesOnly}
-use Rattle.site_journal.specs.Texts.{IsEntry, marked, journal_text, EndsAt, HasEntries, HasAllOrNone}
-use Rattle.site_journal.specs.Moments.{IsAtRest, IsBehind}
+use Rattle.site_journal.specs.Texts.{IsEntry, marked, journal_text, EndsAt, HasAllOrNone}
+use Rattle.site_journal.specs.Moments.{IsAtRest}
 use Rattle.site_journal.proofs.Texts.{text_is_read}
-use Rattle.site_journal.proofs.Crash.{staged, behind_images, gate_images, written_behind, written_gate, length_text, length_staged}
+use Rattle.site_journal.proofs.Crash.{staged, behind_images, gate_images, written_behind, written_gate, length_staged}
 use Rattle.site_journal.proofs.Times.{started, goes_on}
 
 -- all of a journal text but its first byte

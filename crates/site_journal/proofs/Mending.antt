@@ -1,11 +1,11 @@
 -- What a crash leaves while the end of a journal is mended.
-use Rattle.std.proofs.Common.{◌≡◌, ◌⊎◌, inl, inr, ℕ, ◌+◌, ◌-◌, ◌<◌, ◌≤◌, List, [], ◌∷◌, ◌++◌, length, take, drop, get_or, refl, sym, ap, ◌∙◌, subst, arith}
-use Rattle.std.proofs.Common.{length-append, length-take, length-drop}
+use Rattle.std.proofs.Common.{◌≡◌, inl, inr, ℕ, ◌+◌, ◌<◌, ◌≤◌, List, [], ◌∷◌, ◌++◌, length, take, drop, get_or, sym, ap, ◌∙◌, subst, arith}
+use Rattle.std.proofs.Common.{length-append, length-take}
 use Rattle.std.specs.Prelude.{min}
 use Rattle.std.proofs.Common.{Result, Ok, Err, OnOk}
 use Rattle.std.proofs.lemmas.List.{drop_at, drop_all, drop_more}
 use Rattle.disk_store.specs.Disks.{with_bytes, Torn, Shortened, Follows, NoMore, Only, Elapses, LeavesOnly}
-use Rattle.site_journal.specs.Texts.{marked, journal_text, EndsAt, HasEntries}
+use Rattle.site_journal.specs.Texts.{marked, EndsAt, HasEntries}
 use Rattle.site_journal.specs.Moments.{IsAtRest, IsTorn, WasRead}
 use Rattle.site_journal.proofs.Crash.{size, cut_keeps, cut_done, cut_ends, torn_last, written_last}
 use Rattle.site_journal.proofs.Readings.{one}

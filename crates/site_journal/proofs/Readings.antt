@@ -1,7 +1,6 @@
 -- Bytes have one list of entries.
 use Rattle.std.proofs.Common.{◌≡◌, ◌⊎◌, inl, inr, ⊎_elim, ℕ, ◌+◌, ◌<◌, ◌≤◌, List, [], ◌∷◌, ◌++◌, length, take, drop, get_or, refl, sym, ap, ◌∙◌, subst, arith}
 use Rattle.std.proofs.Common.{append_assoc, length-append, length-take-le}
-use Rattle.std.specs.List.{AllByRecursion}
 use Rattle.std.proofs.lemmas.Bool.{cases_eq, cases_lt}
 use Rattle.frame_cut.specs.Frames.{frame, word}
 use Rattle.frame_cut.proofs.Words.{length-frame, word-frame, same_frame, whole_frame, small_rest, length_behind}

@@ -1,18 +1,15 @@
 -- A machine that answers the entries of a disk, one after another.
-use Rattle.std.proofs.Common.{◌≡◌, ◌⊎◌, inl, inr, ⊎_elim, ℕ, ◌+◌, ◌-◌, ◌<◌, ◌≤◌, List, [], ◌∷◌, ◌++◌, length, take, drop, map, refl, sym, ap, ◌∙◌, subst}
-use Rattle.std.proofs.Common.{arith, append_assoc, length-append, length-take-le}
+use Rattle.std.proofs.Common.{◌≡◌, ◌⊎◌, inl, inr, ⊎_elim, ℕ, ◌+◌, ◌<◌, ◌≤◌, List, [], ◌∷◌, ◌++◌, length, drop, map, refl, sym, ap, ◌∙◌, subst}
+use Rattle.std.proofs.Common.{arith, append_assoc, length-append}
 use Rattle.std.specs.List.{AllByRecursion}
 use Rattle.std.proofs.lemmas.List.{drop-drop, map-append}
 use Rattle.tardis_base.specs.Plain.{Event, PlainMachine, state_after}
-use Rattle.disk_store.specs.Disks.{longest_disk, AsHonest}
+use Rattle.disk_store.specs.Disks.{longest_disk}
 use Rattle.frame_cut.specs.Frames.{frame}
 use Rattle.frame_cut.specs.Events.{event_of}
-use Rattle.site_journal.specs.declared.replays.Found.{Found}
-use Rattle.site_journal.specs.Texts.{IsEntry, marked, EndsAt}
-use Rattle.site_journal.specs.Moments.{WasRead}
+use Rattle.site_journal.specs.Texts.{IsEntry, marked}
 use Rattle.site_journal.specs.Replays.{Replayed}
 use Rattle.site_journal.proofs.Texts.{marked-append, all_more, length_one_more}
-use Rattle.site_journal.proofs.Times.{read_then}
 
 -- the state after one more event
 pub state_more : {S : Type 0} (m : PlainMachine S) (s : S) (events : List Event) (e : Event) → state_after m s (events ++ e ∷ [])

@@ -1,16 +1,15 @@
 -- Entries that are staged, and that are committed.
-use Rattle.std.proofs.Common.{◌≡◌, ◌⊎◌, inl, inr, ⊎_elim, ℕ, ◌+◌, ◌-◌, ◌*◌, ◌<◌, ◌≤◌, List, [], ◌∷◌, ◌++◌, length, map, refl, sym, ap, ◌∙◌, subst, arith}
+use Rattle.std.proofs.Common.{◌≡◌, inl, inr, ⊎_elim, ℕ, ◌+◌, ◌<◌, ◌≤◌, List, [], ◌∷◌, ◌++◌, length, map, refl, sym, ap, ◌∙◌, subst, arith}
 use Rattle.std.proofs.Common.{append-nil, append_assoc, length-append}
 use Rattle.std.specs.Int.{w16, to_be_bytes}
-use Rattle.std.specs.List.{AllByRecursion}
 use Rattle.std.proofs.lemmas.Nat.{from_be_bytes-to_be_bytes_2}
 use Rattle.tardis_base.specs.Plain.{Event, PlainMachine, state_after}
 use Rattle.frame_cut.specs.Frames.{frame}
 use Rattle.frame_cut.specs.Events.{event_of}
 use Rattle.frame_cut.proofs.Words.{length-frame}
-use Rattle.disk_store.specs.Disks.{longest_disk, LeavesOnly}
+use Rattle.disk_store.specs.Disks.{LeavesOnly}
 use Rattle.site_journal.specs.declared.journals.Journaled.{Journaled}
-use Rattle.site_journal.specs.Texts.{IsEntry, entry_of, marked, journal_text, EndsAt, HasEntries, HasAllOrNone}
+use Rattle.site_journal.specs.Texts.{entry_of, marked, EndsAt, HasAllOrNone}
 use Rattle.site_journal.specs.Moments.{IsAtRest, IsBehind}
 use Rattle.site_journal.specs.Opened.{IsOpen}
 use Rattle.site_journal.proofs.Texts.{marked-append, all_more, length_one_more, text_is_read}

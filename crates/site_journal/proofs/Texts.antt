@@ -1,10 +1,10 @@
 -- Journal texts and what stands in them.
-use Rattle.std.proofs.Common.{◌≡◌, ◌≢◌, ◌⊎◌, inl, inr, ℕ, ◌+◌, ◌<◌, ◌≤◌, List, [], ◌∷◌, ◌++◌, length, refl, sym, ap, ◌∙◌, subst, arith, append_assoc}
+use Rattle.std.proofs.Common.{◌≡◌, ◌≢◌, ◌⊎◌, inr, ℕ, ◌+◌, ◌<◌, ◌≤◌, List, [], ◌∷◌, ◌++◌, length, refl, sym, ap, ◌∙◌, arith, append_assoc}
 use Rattle.std.proofs.Common.{length-append}
 use Rattle.std.specs.List.{AllByRecursion}
 use Rattle.frame_cut.specs.Frames.{frame}
 use Rattle.frame_cut.proofs.Words.{length-frame}
-use Rattle.site_journal.specs.Texts.{IsEntry, marked, journal_text, EndsAt, HasEntries}
+use Rattle.site_journal.specs.Texts.{IsEntry, marked, journal_text, EndsAt}
 
 pub marked-append : (entries others : List (List ℕ)) → marked (entries ++ others) ≡ marked entries ++ marked others
 marked-append [] others = refl

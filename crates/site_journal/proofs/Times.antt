@@ -1,5 +1,5 @@
 -- How a run of calls of a disk goes on.
-use Rattle.std.proofs.Common.{◌≡◌, ◌⊎◌, inl, inr, ⊎_elim, ℕ, ◌≤◌, List, refl, ◌∙◌, arith}
+use Rattle.std.proofs.Common.{◌≡◌, inl, inr, ⊎_elim, ℕ, ◌≤◌, List, refl, ◌∙◌, arith}
 use Rattle.disk_store.specs.Disks.{NoMore, Elapses, LeavesOnly}
 use Rattle.site_journal.specs.Moments.{WasRead}
 

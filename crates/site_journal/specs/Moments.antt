@@ -1,5 +1,5 @@
 -- What calls of a disk leave, at each moment.
-use Rattle.std.specs.Prelude.{◌≡◌, ◌⊎◌, ℕ, ◌≤◌, List, length}
+use Rattle.std.specs.Prelude.{◌≡◌, ℕ, ◌≤◌, List, length}
 use Rattle.std.specs.List.{AllByRecursion}
 use Rattle.disk_store.specs.Disks.{Only, NoMore}
 use Rattle.site_journal.specs.Texts.{IsEntry, marked, journal_text, EndsAt}

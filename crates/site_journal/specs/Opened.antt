@@ -13,7 +13,7 @@ use Rattle.site_journal.specs.declared.journals.Staged.{Staged}
 use Rattle.site_journal.specs.declared.journals.Staged.TheVariants.{Done as StagedDone, TrailFull as StagedFull, NoMemory as StagedNoMemory}
 use Rattle.site_journal.specs.declared.journals.JournalEnd.{JournalEnd}
 use Rattle.site_journal.specs.declared.journals.JournalEnd.TheVariants.{Done as ActDone, TrailFull as ActFull, NoMemory as ActNoMemory, DiskFault as ActFault}
-use Rattle.site_journal.specs.Texts.{IsEntry, entry_of, marked, HasEntries}
+use Rattle.site_journal.specs.Texts.{IsEntry, entry_of, marked}
 use Rattle.site_journal.specs.Moments.{IsAtRest, WasRead}
 
 -- At first the disk was only read, and from some moment on a crash leaves what has P: so it is where the journal was opened.

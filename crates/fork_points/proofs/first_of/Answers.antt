@@ -1,6 +1,5 @@
-use Rattle.std.proofs.Common.{◌≡◌, ◌∙◌, ◌+◌, ◌∷◌, [], ◌++◌, length, take, ap, sym, subst, arith, take_all, length-append}
+use Rattle.std.proofs.Common.{◌≡◌, ◌∙◌, ◌∷◌, [], ◌++◌, length, take, ap, sym, arith, take_all, length-append}
 use Rattle.std.proofs.lemmas.Option.{same_Some}
-use Rattle.tardis_base.specs.declared.ids.StateId.{StateId}
 use Rattle.state_dag.specs.Table.{id_at}
 use Rattle.branch_region.proofs.Named.{named-next, named-length}
 use Rattle.fork_points.proofs.first_of.Goals as goal

@@ -1,7 +1,6 @@
-use Rattle.std.proofs.Common.{◌≡◌, ◌∙◌, ◌+◌, ◌||◌, Bool, not, List, Some, Vec, Global, get_or, map, filter, take, IsTrue, IfOk, sym, ap, subst, arith, take_all}
+use Rattle.std.proofs.Common.{◌≡◌, ◌∙◌, ◌+◌, ◌||◌, not, Some, Vec, Global, get_or, map, filter, take, IsTrue, IfOk, sym, ap, subst, arith, take_all}
 use Rattle.std.specs.List.{list_all, list_any}
 use Rattle.std.proofs.lemmas.Bool.{and_parts}
-use Rattle.tardis_base.specs.declared.ids.StateId.{StateId}
 use Rattle.tardis_base.specs.declared.ids.Slot.{Slot}
 use Rattle.tardis_base.specs.Ids.{is_among}
 use Rattle.plain_dag.specs.States.{children}

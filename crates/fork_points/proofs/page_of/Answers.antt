@@ -1,4 +1,4 @@
-use Rattle.std.proofs.Common.{◌≡◌, ◌∙◌, length, min, ap, sym, arith}
+use Rattle.std.proofs.Common.{arith}
 use Rattle.state_dag.specs.Table.{id_at}
 use Rattle.branch_region.proofs.Named.{named-length}
 use Rattle.fork_points.proofs.page_of.Goals as goal

@@ -1,5 +1,4 @@
-use Rattle.std.proofs.Common.{◌≡◌, ◌≤◌, ◌<◌, ◌∙◌, Option, Some, List, not, map, length, get_or, refl, sym, ap, subst, arith}
-use Rattle.tardis_base.specs.declared.ids.StateId.{StateId}
+use Rattle.std.proofs.Common.{◌≡◌, ◌≤◌, ◌<◌, ◌∙◌, Some, not, map, length, get_or, refl, sym, ap, subst, arith}
 use Rattle.tardis_base.specs.declared.ids.Slot.{Slot}
 use Rattle.tardis_base.specs.Ids.{root}
 use Rattle.tardis_base.specs.Keys.{keys_of}

@@ -1,4 +1,4 @@
-use Rattle.std.proofs.Common.{ℕ, ◌≡◌, ◌≢◌, ◌<◌, ◌≤◌, length, take, get_or, eqb, true, arith}
+use Rattle.std.proofs.Common.{◌≡◌, length, take, get_or, arith}
 use Rattle.std.proofs.lemmas.Bool.{eq-eqb, eqb-true}
 use Rattle.std.proofs.lemmas.List.{length-take-le}
 use Rattle.line_cut.proofs.Parts.{at_feed, front_free}

@@ -2,7 +2,6 @@ use Rattle.std.proofs.Common.{◌≡◌, true, sym, subst}
 use Rattle.std.specs.Prelude.{nat_le}
 use Rattle.std.proofs.lemmas.Bool.{and_from, le-leb}
 use Rattle.site_sync.specs.Asking.{TellsCounts}
-use Rattle.plain_site.specs.Site.{opening}
 use Rattle.plain_site.specs.Step.{site_machine}
 use Rattle.session_core.specs.Machine.{opened_with}
 use Rattle.serve_run.specs.Serving.{ServeOutcome, workload}

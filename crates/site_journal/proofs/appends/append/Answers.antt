@@ -1,4 +1,4 @@
-use Rattle.std.proofs.Common.{◌-◌, ◌+◌, ◌≡◌, ◌∷◌, [], ◌∙◌, ap, sym, subst, ◌++◌, length, take, drop, List, ℕ, Result, Ok, Err, OnOk, arith}
+use Rattle.std.proofs.Common.{◌-◌, sym, subst, ◌++◌, length, take, drop, List, ℕ, Result, Ok, Err, OnOk}
 use Rattle.disk_store.specs.Disks.{Only}
 use Rattle.site_journal.specs.Moments.{IsAtRest}
 use Rattle.site_journal.proofs.Appending.{text_tail, first_images, first_write, then_sync, is_staged, room_behind, gate_now, gate_write, is_appended}

@@ -1,4 +1,3 @@
-use Rattle.std.proofs.Common.{◌+◌, ◌≤◌, arith}
 use Rattle.disk_store.specs.Disks.{Only}
 use Rattle.site_journal.specs.Texts.{HasEntries}
 use Rattle.site_journal.specs.Moments.{IsAtRest}

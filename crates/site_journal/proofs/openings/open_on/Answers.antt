@@ -1,4 +1,4 @@
-use Rattle.std.proofs.Common.{◌≡◌, inl, inr, sym, subst}
+use Rattle.std.proofs.Common.{inl, sym, subst}
 use Rattle.site_journal.specs.Texts.{HasEntries}
 use Rattle.site_journal.proofs.Times.{read_call}
 use Rattle.site_journal.proofs.openings.open_on.Goals as goal

@@ -1,4 +1,3 @@
-use Rattle.std.proofs.Common.{◌≡◌}
 use Rattle.site_journal.specs.Texts.{HasEntries}
 use Rattle.site_journal.proofs.Mending.{torn_of, read_torn, read_on, leaves_then}
 use Rattle.site_journal.proofs.openings.recover.Goals as goal

@@ -1,4 +1,4 @@
-use Rattle.std.proofs.Common.{◌≡◌, ◌∙◌, ap, take, arith, take_all}
+use Rattle.std.proofs.Common.{◌∙◌, ap, arith, take_all}
 use Rattle.std.specs.Int.{w32, from_be_bytes}
 use Rattle.std.proofs.lemmas.Nat.{be_bytes_4}
 use Rattle.site_journal.proofs.replays.length_of.Goals as goal

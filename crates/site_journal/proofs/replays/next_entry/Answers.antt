@@ -1,4 +1,4 @@
-use Rattle.std.proofs.Common.{◌≡◌, ◌+◌, ◌-◌, ◌<◌, ◌^◌, ◌++◌, ℕ, List, inl, inr, length, take, drop, arith, length-drop, length-take-le, take_at, ap, sym, ◌∙◌}
+use Rattle.std.proofs.Common.{◌≡◌, ◌+◌, ◌++◌, ℕ, List, inl, inr, length, take, drop, arith, length-drop, length-take-le, take_at, ap, ◌∙◌}
 use Rattle.site_journal.proofs.Readings.{none_by_count}
 use Rattle.site_journal.proofs.Entries.{none_by_head, next_is}
 use Rattle.site_journal.proofs.replays.next_entry.Goals as goal

@@ -1,4 +1,4 @@
-use Rattle.std.proofs.Common.{◌≡◌, ◌+◌, ◌<◌, ◌≤◌, ◌++◌, [], ◌∷◌, ℕ, List, Some, IfSome, length, take, drop, subst, length-take-le, arith, ap, sym, ◌∙◌}
+use Rattle.std.proofs.Common.{◌≡◌, ◌+◌, ◌<◌, ◌≤◌, ◌++◌, [], ◌∷◌, ℕ, List, Some, IfSome, length, take, drop, subst, length-take-le, arith}
 use Rattle.tardis_base.specs.Plain.{Event}
 use Rattle.site_journal.specs.Replays.{IsNextEntry}
 use Rattle.site_journal.proofs.Times.{read_then}

@@ -1,4 +1,4 @@
-use Rattle.std.proofs.Common.{◌≡◌, ◌-◌, ◌≤◌, ℕ, List, length}
+use Rattle.std.proofs.Common.{◌-◌, ◌≤◌, ℕ, List, length}
 use Rattle.disk_store.specs.Disks.{AsHonest}
 use Rattle.site_journal.specs.Moments.{WasRead}
 use Rattle.site_journal.proofs.Replaying.{Progress}

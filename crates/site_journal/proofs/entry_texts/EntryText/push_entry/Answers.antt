@@ -1,4 +1,4 @@
-use Rattle.std.proofs.Common.{◌≡◌, ◌+◌, ◌++◌, [], ◌∷◌, length, ℕ, List, sym, ap, ◌∙◌, append_assoc, length-append, arith}
+use Rattle.std.proofs.Common.{◌≡◌, ◌+◌, ◌++◌, [], ◌∷◌, length, ℕ, List, ap, ◌∙◌, append_assoc, length-append, arith}
 use Rattle.std.specs.Int.{w16, w32, to_be_bytes}
 use Rattle.frame_cut.specs.Frames.{frame}
 use Rattle.site_journal.specs.Texts.{entry_of}

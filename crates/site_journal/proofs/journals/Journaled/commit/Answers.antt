@@ -1,6 +1,5 @@
-use Rattle.std.proofs.Common.{◌≡◌, ◌+◌, ◌<◌, ◌++◌, [], ◌∷◌, length, refl, sym, ap, ◌∙◌, arith}
-use Rattle.site_journal.specs.Texts.{marked, journal_text}
-use Rattle.site_journal.proofs.Staging.{committed, committed_none, rests, is_behind, some_staged}
+use Rattle.std.proofs.Common.{◌+◌, ◌++◌, [], ◌∷◌, length, refl, ap, ◌∙◌, arith}
+use Rattle.site_journal.proofs.Staging.{committed, committed_none, is_behind, some_staged}
 use Rattle.site_journal.proofs.journals.Journaled.commit.Goals as goal
 
 pub returns-then-count-eq0-clause-committed : goal.returns-then-count-eq0-clause-committed

@@ -1,7 +1,6 @@
-use Rattle.std.proofs.Common.{◌≡◌, ◌+◌, ◌<◌, ◌≤◌, ◌++◌, [], ◌∷◌, length, refl, sym, ap, ◌∙◌, arith, true, false, true≢false}
+use Rattle.std.proofs.Common.{◌+◌, ◌≤◌, length, refl, sym, arith, true≢false}
 use Rattle.std.proofs.lemmas.Bool.{false_from_ne_true}
 use Rattle.tardis_base.specs.Plain.{Event}
-use Rattle.site_journal.specs.Texts.{marked}
 use Rattle.site_journal.specs.Opened.{state_of}
 use Rattle.site_journal.proofs.Staging.{staged_more, staged_same, length_all}
 use Rattle.site_journal.proofs.journals.Journaled.stage.Goals as goal
