@@ -123,6 +123,10 @@ delivered text word left result e over h = subst (λ o. IsAnswer o result) (sym 
     go None = refl
     go (Some item) = over-alone (Deliver item) left over
 
+pub item-read : (word bs : List ℕ) (item : Item) → hex_bytes word ≡ Some bs → item_of bs ≡ Some item → option_map Deliver (item_from word)
+    ≡ Some (Deliver item)
+item-read word bs item e is = ap (λ o. option_map Deliver (option_and_then item_of o)) e ∙ ap (option_map Deliver) is
+
 pub not-delivered : (word bs : List ℕ) (fault : ReadFault) → hex_bytes word ≡ Some bs →
     (◌≡◌ {A = Result Item ReadFault} (Err fault) (Err Malformed)) ↔ (item_of bs ≡ None)
     → IsAnswer (option_map Deliver (item_from word)) (Err fault)

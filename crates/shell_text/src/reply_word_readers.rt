@@ -38,13 +38,28 @@ pub fn sure_reply(read: Option<Reply>) -> Result<Reply, ReadFault>
 fn ended(made: Result<Reply, NoMemory>, left: &Words) -> Result<Reply, ReadFault>
     ensures { (reply : Reply) → IfOk made (λ r. r ≡ reply) → IsFalse (reply_takes_no_memory reply) → IsReply (alone reply left.now) result }
 {
-    if !left.is_over() {
-        return Err(ReadFault::Malformed);
+    if left.is_over() {
+        with_memory(made)
+    } else {
+        let_go(made)
     }
+}
+
+/// The reply, where there was memory for it.
+fn with_memory(made: Result<Reply, NoMemory>) -> Result<Reply, ReadFault>
+    ensures { (reply : Reply) → IfOk made (λ r. r ≡ reply) → IsFalse (reply_takes_no_memory reply) → IsReply (Some reply) result }
+{
     match made {
         Ok(reply) => Ok(reply),
         Err(_) => Err(ReadFault::NoMemory),
     }
+}
+
+/// Lets the reply go, since more stands behind it.
+fn let_go(_made: Result<Reply, NoMemory>) -> Result<Reply, ReadFault>
+    ensures { result ≡ Err ReadFault.Malformed }
+{
+    Err(ReadFault::Malformed)
 }
 
 pub fn read_opened(words: &Words) -> Option<Reply>
