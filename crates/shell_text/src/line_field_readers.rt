@@ -3,7 +3,7 @@
 //! Whether a line is one of a request doesn't depend on memory: its words are read before memory is taken, or all the
 //! same where it is wanting.
 
-ghost use Rattle.std.specs.Prelude.{◌≡◌, ℕ, ◌^◌, ◌*◌, ◌+◌, ◌≤◌, List, Some, length, nat_le, option_map, IfOk};
+ghost use Rattle.std.specs.Prelude.{◌≡◌, ℕ, ◌^◌, ◌*◌, ◌+◌, ◌≤◌, List, [], Some, length, nat_le, option_map, IfOk};
 ghost use Rattle.shell_text.specs.Answers.{AreRead, IsAnswer, IsReadInto};
 ghost use Rattle.shell_text.specs.RequestTexts.{after_text, item_from, key_text, leaves_rows, merge_text, value_text};
 ghost use Rattle.tardis_base.specs.declared.ids.StateId.{StateId};
@@ -12,7 +12,7 @@ ghost use Rattle.tardis_base.specs.declared.requests.Request.TheVariants.{Put as
 ghost use Rattle.tardis_base.specs.declared.requests.Request.{Request};
 ghost use Rattle.tardis_base.specs.Sizes.{longest_key, longest_value};
 ghost use Rattle.tardis_base.specs.Valid.{is_within};
-ghost use Rattle.text_words.specs.Texts.{by_prefix, id_until, number_until, parsed, rest_of};
+ghost use Rattle.text_words.specs.Texts.{by_prefix, ends, id_until, number_until, parsed, rest_of};
 ghost use Rattle.wire_item.specs.Fronts.{alone, both, made, only_if, times, whole};
 ghost use Rattle.wire_talk.specs.Valid.{are_counts, is_merge_of};
 
@@ -221,13 +221,18 @@ pub fn read_conflicts(alloc: Global, words: &Words) -> Result<Request, ReadFault
                 Err(ReadFault::Malformed)
             }
         },
-        None => {
-            if words.is_over() {
-                conflicts(alloc, &[])
-            } else {
-                Err(ReadFault::Malformed)
-            }
-        },
+        None => read_all_conflicts(alloc, words),
+    }
+}
+
+/// A Conflicts that names no key.
+fn read_all_conflicts(alloc: Global, words: &Words) -> Result<Request, ReadFault>
+    ensures { IsAnswer (whole (made Request.Conflicts (ends [])) words.now) result }
+{
+    if words.is_over() {
+        conflicts(alloc, &[])
+    } else {
+        Err(ReadFault::Malformed)
     }
 }
 
