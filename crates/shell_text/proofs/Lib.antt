@@ -11,3 +11,4 @@ pub mod ReplyFits
 pub mod RequestFits
 pub mod LineReads
 pub mod ReplyReads
+pub mod NamedReads

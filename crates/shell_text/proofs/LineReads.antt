@@ -10,9 +10,10 @@ use Rattle.tardis_base.specs.declared.faults.ReadFault.TheVariants.{Malformed, N
 use Rattle.tardis_base.specs.declared.ids.StateId.{StateId}
 use Rattle.tardis_base.specs.declared.records.Item.{Item}
 use Rattle.tardis_base.specs.declared.records.Item.TheVariants.{State, Promise}
+use Rattle.tardis_base.specs.declared.requests.MergeOf.{MergeOf}
 use Rattle.tardis_base.specs.declared.requests.MergeOf.TheVariants.{States as TheseStates}
 use Rattle.tardis_base.specs.declared.requests.Request.{Request}
-use Rattle.tardis_base.specs.declared.requests.Request.TheVariants.{Deliver}
+use Rattle.tardis_base.specs.declared.requests.Request.TheVariants.{BeginMerge, Deliver}
 use Rattle.tardis_base.specs.Valid.{are_bytes, is_id, is_key, is_u32, is_value, is_within}
 use Rattle.tardis_base.proofs.TestParts.{and-true}
 use Rattle.wire_item.specs.Fronts.{Front, alone, made, only_if, times, whole}
@@ -123,6 +124,10 @@ delivered text word left result e over h = subst (λ o. IsAnswer o result) (sym 
     go None = refl
     go (Some item) = over-alone (Deliver item) left over
 
+pub item-read : (word bs : List ℕ) (item : Item) → hex_bytes word ≡ Some bs → item_of bs ≡ Some item → option_map Deliver (item_from word)
+    ≡ Some (Deliver item)
+item-read word bs item e is = ap (λ o. option_map Deliver (option_and_then item_of o)) e ∙ ap (option_map Deliver) is
+
 pub not-delivered : (word bs : List ℕ) (fault : ReadFault) → hex_bytes word ≡ Some bs →
     (◌≡◌ {A = Result Item ReadFault} (Err fault) (Err Malformed)) ↔ (item_of bs ≡ None)
     → IsAnswer (option_map Deliver (item_from word)) (Err fault)
@@ -167,6 +172,14 @@ pub states-read : (text : List ℕ) (xs : List StateId) (left : List ℕ) → on
 states-read text xs left e =
     ap (λ o. or_else o (by_prefix leaves_rows text)) (made-read TheseStates (only_if (λ states. is_merge_of (TheseStates states)) (rest_of (id_until 32)))
     text xs left e)
+
+pub leaves-read : (text : List ℕ) → only_if (λ states. is_merge_of (TheseStates states)) (rest_of (id_until 32)) text ≡ None
+    → whole (made BeginMerge (by_prefix leaves_rows)) text ≡ whole (made BeginMerge merge_text) text
+leaves-read text none =
+    ap (λ (o : Option (List StateId × List ℕ)). option_and_then {T = Request × List ℕ} (λ read. alone read.0 read.1)
+    (option_map {T = MergeOf × List ℕ} (λ read. (BeginMerge read.0, read.1))
+    (or_else (option_map {T = List StateId × List ℕ} (λ read. (TheseStates read.0, read.1)) o) (by_prefix leaves_rows text))))
+    (sym none)
 
 -- a request behind an actor's number
 pub asked-read : (line words : List ℕ) (actor : ℕ) (left : List ℕ) → words ≡ line ++ 32 ∷ [] →

@@ -1,6 +1,6 @@
 -- What is read of the words of a reply.
-use Rattle.std.proofs.Common.{◌≡◌, ◌↔◌, ℕ, ◌^◌, ◌*◌, ◌+◌, ◌<◌, ◌≤◌, Bool, true, false, ◌==◌, ◌&&◌, IsTrue, IsFalse, List, [], ◌∷◌, length, ◌++◌, Option, Some}
-use Rattle.std.proofs.Common.{None, Result, Ok, Err, ap, sym, ◌∙◌, subst, refl, arith, codes, is_some, IfOk, unwrap_or}
+use Rattle.std.proofs.Common.{◌≡◌, ◌↔◌, ℕ, Bool, true, false, ◌==◌, ◌&&◌, IsTrue, IsFalse, List, [], ◌∷◌, length, ◌++◌, Option, Some}
+use Rattle.std.proofs.Common.{None, Result, Ok, Err, ap, sym, ◌∙◌, refl, codes, is_some, IfOk, unwrap_or}
 use Rattle.std.specs.Prelude.{option_map, option_and_then}
 use Rattle.std.specs.Bool.{then_some}
 use Rattle.std.specs.List.{list_all}
@@ -29,7 +29,7 @@ use Rattle.wire_talk.specs.Valid.{are_first_ids, are_first_keys, are_site_lines,
 use Rattle.text_words.specs.Texts.{behind, hex_bytes, parsed, read_behind, rest_of, spaces, until}
 use Rattle.text_words.proofs.TextReads.{behind-source}
 use Rattle.text_words.proofs.WordsRead.{reads-id-word}
-use Rattle.shell_text.specs.Answers.{AreRead, IsAnswerWhere, IsRefusal, IsReply}
+use Rattle.shell_text.specs.Answers.{AreRead, IsRefusal, IsReply}
 use Rattle.shell_text.specs.ReplyTexts.{batch_from, id_text, is_batch_line, line_reply_of, named, pair_text, refusal_text, reply_text, shown_text}
 use Rattle.shell_text.specs.ReplyTexts.{site_line_text, site_lines_text, u32_text, u64_text}
 use Rattle.shell_text.specs.RequestTexts.{key_text}

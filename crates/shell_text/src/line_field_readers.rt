@@ -3,16 +3,16 @@
 //! Whether a line is one of a request doesn't depend on memory: its words are read before memory is taken, or all the
 //! same where it is wanting.
 
-ghost use Rattle.std.specs.Prelude.{◌≡◌, ℕ, ◌^◌, ◌*◌, ◌+◌, ◌≤◌, List, Some, length, nat_le, option_map, IfOk};
+ghost use Rattle.std.specs.Prelude.{◌≡◌, ℕ, ◌^◌, ◌*◌, ◌+◌, ◌≤◌, List, [], Some, length, nat_le, option_map, IfOk};
 ghost use Rattle.shell_text.specs.Answers.{AreRead, IsAnswer, IsReadInto};
-ghost use Rattle.shell_text.specs.RequestTexts.{after_text, item_from, key_text, merge_text, value_text};
+ghost use Rattle.shell_text.specs.RequestTexts.{after_text, item_from, key_text, leaves_rows, merge_text, value_text};
 ghost use Rattle.tardis_base.specs.declared.ids.StateId.{StateId};
 ghost use Rattle.tardis_base.specs.declared.requests.MergeOf.{MergeOf};
 ghost use Rattle.tardis_base.specs.declared.requests.Request.TheVariants.{Put as PutKey};
 ghost use Rattle.tardis_base.specs.declared.requests.Request.{Request};
 ghost use Rattle.tardis_base.specs.Sizes.{longest_key, longest_value};
 ghost use Rattle.tardis_base.specs.Valid.{is_within};
-ghost use Rattle.text_words.specs.Texts.{id_until, number_until, parsed, rest_of};
+ghost use Rattle.text_words.specs.Texts.{by_prefix, ends, id_until, number_until, parsed, rest_of};
 ghost use Rattle.wire_item.specs.Fronts.{alone, both, made, only_if, times, whole};
 ghost use Rattle.wire_talk.specs.Valid.{are_counts, is_merge_of};
 
@@ -221,13 +221,18 @@ pub fn read_conflicts(alloc: Global, words: &Words) -> Result<Request, ReadFault
                 Err(ReadFault::Malformed)
             }
         },
-        None => {
-            if words.is_over() {
-                conflicts(alloc, &[])
-            } else {
-                Err(ReadFault::Malformed)
-            }
-        },
+        None => read_all_conflicts(alloc, words),
+    }
+}
+
+/// A Conflicts that names no key.
+fn read_all_conflicts(alloc: Global, words: &Words) -> Result<Request, ReadFault>
+    ensures { IsAnswer (whole (made Request.Conflicts (ends [])) words.now) result }
+{
+    if words.is_over() {
+        conflicts(alloc, &[])
+    } else {
+        Err(ReadFault::Malformed)
     }
 }
 
@@ -245,17 +250,24 @@ fn conflicts(alloc: Global, after: &[u8]) -> Result<Request, ReadFault>
 pub fn read_begin_merge(alloc: Global, words: &Words) -> Result<Request, ReadFault>
     ensures { IsAnswer (whole (made Request.BeginMerge merge_text) words.now) result }
 {
-    if let Some((states, left)) = read_states(alloc, words) {
-        return begin_merge(states, &left);
+    match read_states(alloc, words) {
+        Some((states, left)) => begin_merge(states, &left),
+        None => sure(read_merge_of_leaves(words)),
     }
+}
+
+/// A merge that names no states.
+fn read_merge_of_leaves(words: &Words) -> Option<Request>
+    ensures { result ≡ whole (made Request.BeginMerge (by_prefix leaves_rows)) words.now }
+{
     match words.behind(b"leaves ") {
-        Some(left) => sure(alone(
+        Some(left) => alone(
             Request::BeginMerge {
                 of: MergeOf::Leaves,
             },
             &left,
-        )),
-        None => Err(ReadFault::Malformed),
+        ),
+        None => None,
     }
 }
 

@@ -1,9 +1,9 @@
 //! Reading the words of replies that have fields.
 
-ghost use Rattle.std.specs.Prelude.{◌≡◌, ℕ, ◌*◌, ◌+◌, ◌∷◌, ◌≤◌, [], Err, IfOk, IsFalse, List, None, Some, length, option_map};
+ghost use Rattle.std.specs.Prelude.{◌≡◌, ℕ, ◌*◌, ◌+◌, ◌∷◌, ◌≤◌, [], Err, IfOk, IsFalse, List, None, Some, codes, length, option_map};
 ghost use Rattle.shell_text.specs.Answers.{IsRefusal, IsReply};
 ghost use Rattle.shell_text.specs.ReplyTexts.{batch_from, first_ids_text, first_keys_text, from_rows, id_text, named, parents_text, refusal_text};
-ghost use Rattle.shell_text.specs.ReplyTexts.{shown_text, statistics_text, u16_text, u32_text};
+ghost use Rattle.shell_text.specs.ReplyTexts.{shown_text, site_lines_text, statistics_text, u16_text, u32_text};
 ghost use Rattle.shell_text.specs.RequestTexts.{key_text, value_text};
 ghost use Rattle.tardis_base.specs.declared.ids.StateId.{StateId};
 ghost use Rattle.tardis_base.specs.declared.replies.Refusal.{Refusal};
@@ -38,13 +38,28 @@ pub fn sure_reply(read: Option<Reply>) -> Result<Reply, ReadFault>
 fn ended(made: Result<Reply, NoMemory>, left: &Words) -> Result<Reply, ReadFault>
     ensures { (reply : Reply) → IfOk made (λ r. r ≡ reply) → IsFalse (reply_takes_no_memory reply) → IsReply (alone reply left.now) result }
 {
-    if !left.is_over() {
-        return Err(ReadFault::Malformed);
+    if left.is_over() {
+        with_memory(made)
+    } else {
+        let_go(made)
     }
+}
+
+/// The reply, where there was memory for it.
+fn with_memory(made: Result<Reply, NoMemory>) -> Result<Reply, ReadFault>
+    ensures { (reply : Reply) → IfOk made (λ r. r ≡ reply) → IsFalse (reply_takes_no_memory reply) → IsReply (Some reply) result }
+{
     match made {
         Ok(reply) => Ok(reply),
         Err(_) => Err(ReadFault::NoMemory),
     }
+}
+
+/// Lets the reply go, since more stands behind it.
+fn let_go(_made: Result<Reply, NoMemory>) -> Result<Reply, ReadFault>
+    ensures { result ≡ Err ReadFault.Malformed }
+{
+    Err(ReadFault::Malformed)
 }
 
 pub fn read_opened(words: &Words) -> Option<Reply>
@@ -240,7 +255,16 @@ pub fn read_statistics(words: &Words) -> Option<Reply>
     let (known, left) = words.u64(b' ')?;
     let (kept, left) = named_u32(b"kept ", &left)?;
     let (leaves, left) = named_u32(b"leaves ", &left)?;
-    let (sessions, left) = named_u16(b"sessions ", &left)?;
+    read_sessions_and_sites(known, kept, leaves, &left)
+}
+
+/// The rest of the statistics.
+fn read_sessions_and_sites(known: u64, kept: u32, leaves: u32, words: &Words) -> Option<Reply>
+    ensures { result
+        ≡ whole (made (λ p. Reply.Stat known kept leaves p.0 p.1)
+        (both (named (codes "sessions ") u16_text) (named (codes "sites ") site_lines_text))) words.now }
+{
+    let (sessions, left) = named_u16(b"sessions ", words)?;
     let left = left.behind(b"sites ")?;
     let (sites, left) = lines_of_sites(&left)?;
     alone(

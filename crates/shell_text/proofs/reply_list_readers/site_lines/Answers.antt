@@ -1,4 +1,4 @@
-use Rattle.std.proofs.Common.{sym, ◌∙◌, ap, arith, ◌≡◌, [], Some}
+use Rattle.std.proofs.Common.{sym, ◌∙◌, ap, arith, ◌≡◌, Some}
 use Rattle.wire_item.specs.Fronts.{times}
 use Rattle.wire_item.proofs.Lists.{times-more, times-none}
 use Rattle.shell_text.specs.ReplyTexts.{site_line_text}
