@@ -36,7 +36,12 @@ pub fn auto<I: Source, O: Sink>(
     ensures write { CausedBy Status.WriteFault (O.faults output.old) (O.faults output.new) result }
 {
     match SiteCore::new(alloc, keys, limits, own) {
-        Ok(core) => run_auto(alloc, &mut RuledSite::new(core, rules), input, output),
+        Ok(core) => {
+            let mut site = RuledSite::new(core, rules);
+            let status = run_auto(alloc, &mut site, input, output);
+            drop(site); // for the proof alone
+            status
+        }
         Err(NoMemory) => Status::NoMemory,
     }
 }

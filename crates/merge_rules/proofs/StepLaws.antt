@@ -163,6 +163,12 @@ module _ (table : Table) (site : Site) (sound : IsSound site) (slots : Slot × S
 
 -- ===== A site in memory
 
+-- there aren't two
+pub none-at : (core : Core) (site : Site) → SiteStands core site → (table : Table) → table ≡ core.store.table → FirstTwo table None →
+    (n : ℕ) (rules : List PrefixRule) → auto_step site n rules ≡ (site, Single)
+none-at core site stands table same first n rules =
+    no-leaves table site n rules (first site.dag site.collected (subst (λ t. Stands t site.dag site.collected) (sym same) stands.0.store.table))
+
 module _ (core : Core) (site : Site) (stands : SiteStands core site) (slots : Slot × Slot) where
   -- the slots of the first two leaves
   pub leaves-at : (table : Table) → table ≡ core.store.table → FirstTwo table (Some slots) → AtLeaves core.store.table site slots

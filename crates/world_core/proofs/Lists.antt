@@ -1,7 +1,8 @@
 -- Items of lists by their places.
 use Rattle.std.proofs.Common.{◌≡◌, ℕ, ◌-◌, ◌≤◌, Bool, true, false, IsTrue, List, [], ◌∷◌, ◌++◌, length, slice_get, Option, Some, None, ap, sym, ◌∙◌, subst}
-use Rattle.std.proofs.Common.{arith, Result, Ok, Err, OnOk}
-use Rattle.std.proofs.lemmas.Bool.{and_parts}
+use Rattle.std.proofs.Common.{◌+◌, arith, length-append, refl, Result, Ok, Err, OnOk, OnErr}
+use Rattle.std.proofs.lemmas.Bool.{and_parts, and_from}
+use Rattle.std.proofs.lemmas.List.Folds.{list_all-append}
 use Rattle.std.specs.List.{list_all}
 
 pub list_all_get : {X : Type 0} (p : X → Bool) (xs : List X) (i : ℕ) (x : X) → slice_get xs i ≡ Some x → IsTrue (list_all p xs) → IsTrue (p x)
@@ -23,6 +24,19 @@ get_behind (x ∷ xs) ys (ℕ.suc i) h =
 pub on_ok : {T E : Type 0} {P Q : Type 0} (r : Result T E) → (P → Q) → OnOk r P → OnOk r Q
 on_ok (Ok x) f p = f p
 on_ok (Err e) f p = tt
+
+-- a list that got one more item, or none
+pub all_grown : {X T E : Type 0} (p : X → Bool) (r : Result T E) (old new : List X) (x : X) → IsTrue (p x) → OnOk r (new ≡ old ++ x ∷ []) →
+    OnErr r (new ≡ old) → IsTrue (list_all p old) → IsTrue (list_all p new)
+all_grown p (Ok done) old new x one added same all =
+    subst (λ ys. IsTrue (list_all p ys)) (sym added)
+    (list_all-append p old (x ∷ []) ∙ and_from (list_all p old) (list_all p (x ∷ [])) all (and_from (p x) true one refl))
+all_grown p (Err e) old new x one added same all = subst (λ ys. IsTrue (list_all p ys)) (sym same) all
+
+pub one_longer : {X T E : Type 0} (r : Result T E) (old new : List X) (x : X) → OnOk r (new ≡ old ++ x ∷ []) → OnErr r (new ≡ old) →
+    length new ≤ length old + 1
+one_longer (Ok done) old new x added same = omega (arith, ap length added, length-append old (x ∷ []))
+one_longer (Err e) old new x added same = omega (arith, ap length same)
 
 -- false is not true
 abbrev is_no : Bool → Type 0

@@ -1,6 +1,6 @@
 //! Several sites, and the bag of the batches that they gave.
 
-ghost use Rattle.std.specs.Prelude.{◌≡◌, ◌+◌, ◌≤◌, ◌<◌, ◌⊎◌, ℕ, None, true, false, length, IsTrue, IsOk, IfOk, IfSome};
+ghost use Rattle.std.specs.Prelude.{◌≡◌, ◌+◌, ◌≤◌, ◌<◌, ◌⊎◌, ◌++◌, ◌∷◌, [], ℕ, None, true, false, length, IsTrue, IsOk, IfOk, IfSome, OnOk};
 ghost use Rattle.std.specs.Option.{option_map_or};
 ghost use Rattle.tardis_base.specs.Valid.{are_limits};
 ghost use Rattle.wire_talk.specs.RequestReadings.{request_of};
@@ -196,16 +196,38 @@ fn open_sites(alloc: Global, keys: RandomState, sites: u16) -> Result<Vec<SiteCo
     let mut made = Vec::new(alloc);
     let mut count = 0;
     while count < sites {
-        let site = match open_site(alloc, keys, sites, count + 1) {
-            Ok(site) => site,
-            Err(NoMemory) => return Err(NoMemory),
-        };
-        match made.push(site) {
-            Ok(()) => count += 1,
-            Err(_) => return Err(NoMemory),
-        }
+        open_next(alloc, keys, sites, count, &mut made)?;
+        count += 1;
     }
     Ok(made)
+}
+
+/// Opens one more site behind so many.
+fn open_next(
+    alloc: Global,
+    keys: RandomState,
+    sites: u16,
+    count: u16,
+    made: &mut Vec<SiteCore>,
+) -> Result<(), NoMemory>
+    requires next { count < sites }
+    requires few { sites ≤ 16 }
+    ensures { AllStand made.old.items (opening_sites (world_limits sites) 1 count)
+        → OnOk result (AllStand made.new.items (opening_sites (world_limits sites) 1 (count + 1))) }
+{
+    let site = match open_site(alloc, keys, sites, count + 1) {
+        Ok(site) => site,
+        Err(NoMemory) => return Err(NoMemory),
+    };
+    put(made, site)
+}
+
+/// Puts the item at the end. With no memory it is dropped.
+fn put<T: Drop>(items: &mut Vec<T>, item: T) -> Result<(), NoMemory>
+    ensures { OnOk result (items.new.items ≡ items.old.items ++ item ∷ []) }
+{
+    items.push(item)?;
+    Ok(())
 }
 
 /// A step at a site that is there: what it gives joins the bag.

@@ -16,21 +16,21 @@ use Rattle.auto_run.proofs.commands.auto.Goals as goal
 pub returns-in-Ok-clause-ends : goal.returns-in-Ok-clause-ends
 returns-in-Ok-clause-ends g c =
     let site = opening c.args.limits c.args.own in
-    let status = c.run_auto.result in
+    let status = c.run_auto-status.result in
     let old = g.O.Sink.given c.args.output.now in
-    let new = g.O.Sink.given c.run_auto.new.output in
+    let new = g.O.Sink.given c.run_auto-status.new.output in
     let before = SiteStands c.in-Ok.core in
-    let after = SiteStands c.run_auto.new.site.core in
+    let after = SiteStands c.run_auto-status.new.site.core in
     record {
-      outcome = weaker (g.I.Source.left c.args.input.now) (g.I.Source.left c.run_auto.new.input)
+      outcome = weaker (g.I.Source.left c.args.input.now) (g.I.Source.left c.run_auto-status.new.input)
           (AutoOutcome (over_lines site_machine) c.args.rules status before after old new) (AutoFrom site c.args.rules status old new)
-          (subst (λ (r : RuledCore). WhileTold (g.I.Source.left c.args.input.now) (g.I.Source.left c.run_auto.new.input)
-          (AutoOutcome (over_lines site_machine) r.rules status (SiteStands r.core) after old new)) c.new-in-Ok.ensures c.run_auto.ensures.outcome)
+          (subst (λ (r : RuledCore). WhileTold (g.I.Source.left c.args.input.now) (g.I.Source.left c.run_auto-status.new.input)
+          (AutoOutcome (over_lines site_machine) r.rules status (SiteStands r.core) after old new)) c.new-site.ensures c.run_auto-status.ensures.outcome)
           (λ x y o. auto_from site c.args.rules before after status old new x y
           (c.in-Ok.ensures.stands, opens c.args.limits c.args.own c.requires.limits c.requires.first c.requires.last) (λ t both. both.1) o);
-      exact = c.run_auto.ensures.exact;
-      end = c.run_auto.ensures.status;
-      nothing = λ none. let all = c.run_auto.ensures.nothing none in (all.0, all.1);
+      exact = c.run_auto-status.ensures.exact;
+      end = c.run_auto-status.ensures.status;
+      nothing = λ none. let all = c.run_auto-status.ensures.nothing none in (all.0, all.1);
     }
 
 pub returns-in-Err-clause-ends : goal.returns-in-Err-clause-ends

@@ -1,8 +1,29 @@
-use Rattle.std.proofs.Common.{ap, sym, ◌∙◌, arith}
+use Rattle.std.proofs.Common.{Some, ap, sym, ◌∙◌, subst, arith}
 use Rattle.tardis_base.specs.Keys.{with_write}
 use Rattle.merge_rules.specs.Auto.{value_of}
-use Rattle.merge_rules.proofs.ValueLaws.{so-far-next, so-far-ends}
+use Rattle.merge_rules.proofs.ValueLaws.{SoFar, so-far-first, so-far-next, so-far-fails, so-far-ends}
 use Rattle.merge_rules.proofs.settling.values_of.Goals as goal
+
+pub loop-key-init : goal.loop-key-init
+loop-key-init c = λ rs ks stands x y ea eb parts ascend.
+    let value = value_of c.args.rules.now rs x y in
+    subst (λ ws. SoFar value c.args.keys.now 0 ws) (sym c.new-writes.ensures) (so-far-first value c.args.keys.now)
+
+pub value_of-requires-clause-parting : goal.value_of-requires-clause-parting
+value_of-requires-clause-parting c = c.requires.parting
+
+pub value_of-requires-clause-a : goal.value_of-requires-clause-a
+value_of-requires-clause-a c = c.requires.a
+
+pub value_of-requires-clause-b : goal.value_of-requires-clause-b
+value_of-requires-clause-b c = c.requires.b
+
+pub returns-in-None : goal.returns-in-None
+returns-in-None c = λ rs ks stands x y ea eb parts ascend.
+    so-far-fails (value_of c.args.rules.now rs x y) c.args.keys.now c.loop-key.key-index c.key-item.result c.loop-key-test.true c.key-item.is
+    c.loop-key.writes
+    (c.loop-key.invariant rs ks stands x y ea eb parts ascend) (sym (c.in_ok-write.ensures rs ks stands x y ea eb parts) ∙ c.in-None.is)
+    ∙ ap (λ k. Some k) (sym c.in_ok-copy-in-None.ensures)
 
 pub loop-key-preserved : goal.loop-key-preserved
 loop-key-preserved c = λ rs ks stands x y ea eb parts ascend.
