@@ -11,7 +11,7 @@ ghost use Rattle.wire_talk.specs.Memory.{reply_takes_no_memory};
 ghost use Rattle.wire_talk.specs.ReplyReadings.{reply_front, reply_of, reply_rows};
 ghost use Rattle.wire_talk.specs.Spelled.{SpellsReply};
 
-use crate::refusal_readers::id_and_u32;
+use crate::refusal_readers::{id_and_u32, sure};
 use crate::reply_field_readers::{
     read_batch, read_committed, read_keys, read_merging, read_refused, read_shown, read_states,
     read_statistics, read_value,
@@ -94,7 +94,7 @@ fn high_reply(alloc: Global, code: u8, reader: &mut Reader) -> Option<Result<Rep
         13 => Some(Ok(Reply::Tidied {
             collected: reader.u32()?,
         })),
-        14 => Some(Ok(read_statistics(reader)?)),
+        14 => sure(read_statistics(reader)),
         15 => read_shown(alloc, reader),
         16 => read_batch(alloc, reader),
         17 => Some(Ok(Reply::Applied)),
