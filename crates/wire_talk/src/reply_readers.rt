@@ -2,11 +2,11 @@
 //!
 //! How replies are spelled is stated in `docs/FORMATS.md`. The cost grows with the number of bytes.
 
-ghost use Rattle.std.specs.Prelude.{◌≡◌, ◌<◌, ◌≤◌, ◌↔◌, ℕ, List, None, Some, Err, IfOk, IsTrue};
+ghost use Rattle.std.specs.Prelude.{◌≡◌, ◌<◌, ◌≤◌, ◌↔◌, ◌⊎◌, ℕ, List, None, Some, Err, IfOk, IsTrue};
 ghost use Rattle.tardis_base.specs.declared.faults.NoMemory.{NoMemory};
 ghost use Rattle.tardis_base.specs.declared.replies.Reply.{Reply};
 ghost use Rattle.wire_item.specs.Fronts.{front_of_code};
-ghost use Rattle.wire_item.specs.Takings.{Makes};
+ghost use Rattle.wire_item.specs.Takings.{Makes, Takes};
 ghost use Rattle.wire_talk.specs.Memory.{reply_takes_no_memory};
 ghost use Rattle.wire_talk.specs.ReplyReadings.{reply_front, reply_of, reply_rows};
 ghost use Rattle.wire_talk.specs.Spelled.{SpellsReply};
@@ -53,23 +53,15 @@ fn low_reply(alloc: Global, code: u8, reader: &mut Reader) -> Option<Result<Repl
         → IsTrue (reply_takes_no_memory r) → result ≡ Some (Err e) → ⊥ }
 {
     match code {
-        1 => Some(Ok(Reply::Opened {
-            ceiling: reader.id()?,
-        })),
-        2 => Some(Ok(Reply::Begun {
-            state: reader.id()?,
-        })),
+        1 => sure(read_with_id(code, reader)),
+        2 => sure(read_with_id(code, reader)),
         3 => read_merging(alloc, reader),
         4 => read_value(alloc, reader),
-        5 => Some(Ok(Reply::Deleted {
-            writer: reader.id()?,
-        })),
+        5 => sure(read_with_id(code, reader)),
         6 => Some(Ok(Reply::Absent)),
         7 => Some(Ok(Reply::Done)),
         8 => read_committed(alloc, reader),
-        9 => Some(Ok(Reply::Ended {
-            state: reader.id()?,
-        })),
+        9 => sure(read_with_id(code, reader)),
         10 => read_states(alloc, reader),
         11 => read_keys(alloc, reader),
         _ => None,
@@ -105,6 +97,21 @@ fn high_reply(alloc: Global, code: u8, reader: &mut Reader) -> Option<Result<Rep
         20 => Some(Ok(Reply::Closed)),
         21 => read_refused(alloc, reader),
         22 => Some(Ok(Reply::NoMemory)),
+        _ => None,
+    }
+}
+
+/// The reply of a code with one id behind it.
+fn read_with_id(code: u8, reader: &mut Reader) -> Option<Reply>
+    requires { (code ≡ 1) ⊎ ((code ≡ 2) ⊎ ((code ≡ 5) ⊎ (code ≡ 9))) }
+    ensures { Takes (front_of_code code reply_rows) reader.old result reader.new }
+{
+    let id = reader.id()?;
+    match code {
+        1 => Some(Reply::Opened { ceiling: id }),
+        2 => Some(Reply::Begun { state: id }),
+        5 => Some(Reply::Deleted { writer: id }),
+        9 => Some(Reply::Ended { state: id }),
         _ => None,
     }
 }
