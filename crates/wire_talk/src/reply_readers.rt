@@ -76,24 +76,14 @@ fn high_reply(alloc: Global, code: u8, reader: &mut Reader) -> Option<Result<Rep
         → IsTrue (reply_takes_no_memory r) → result ≡ Some (Err e) → ⊥ }
 {
     match code {
-        12 => {
-            let pair = id_and_u32(reader)?;
-            Some(Ok(Reply::Raised {
-                floor: pair.0,
-                number: pair.1,
-            }))
-        },
-        13 => Some(Ok(Reply::Tidied {
-            collected: reader.u32()?,
-        })),
+        12 => sure(read_raised(reader)),
+        13 => sure(read_with_count(code, reader)),
         14 => sure(read_statistics(reader)),
         15 => read_shown(alloc, reader),
         16 => read_batch(alloc, reader),
         17 => Some(Ok(Reply::Applied)),
         18 => Some(Ok(Reply::Known)),
-        19 => Some(Ok(Reply::Early {
-            have: reader.u32()?,
-        })),
+        19 => sure(read_with_count(code, reader)),
         20 => Some(Ok(Reply::Closed)),
         21 => read_refused(alloc, reader),
         22 => Some(Ok(Reply::NoMemory)),
@@ -114,4 +104,28 @@ fn read_with_id(code: u8, reader: &mut Reader) -> Option<Reply>
         9 => Some(Reply::Ended { state: id }),
         _ => None,
     }
+}
+
+/// The reply of a code with one count behind it.
+fn read_with_count(code: u8, reader: &mut Reader) -> Option<Reply>
+    requires { (code ≡ 13) ⊎ (code ≡ 19) }
+    ensures { Takes (front_of_code code reply_rows) reader.old result reader.new }
+{
+    let count = reader.u32()?;
+    match code {
+        13 => Some(Reply::Tidied { collected: count }),
+        19 => Some(Reply::Early { have: count }),
+        _ => None,
+    }
+}
+
+/// What stands behind the code of a raised floor.
+fn read_raised(reader: &mut Reader) -> Option<Reply>
+    ensures { Takes (front_of_code 12 reply_rows) reader.old result reader.new }
+{
+    let pair = id_and_u32(reader)?;
+    Some(Reply::Raised {
+        floor: pair.0,
+        number: pair.1,
+    })
 }
