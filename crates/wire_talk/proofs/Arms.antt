@@ -49,13 +49,6 @@ arm-makes rows k code f front old new x r e row m made-of =
     makes (front_of_code code rows) old new r (f read.0)
     (ap (λ j. front_of_code j rows old) e ∙ ap (λ g. g old) row ∙ made-read f front old read.0 new read.1) (made-of read.0 read.2)
 
--- the arm of a code whose fields are taken, and are there
-pub arm-takes : {A B : Type 0} (rows : List (ℕ × Front B)) (k code : ℕ) (f : A → B) (front : Front A) (old : List ℕ) (a : A) (new : List ℕ)
-    → code ≡ k → front_of_code k rows ≡ made f front → Takes front old (Some a) new → Makes (front_of_code code rows) old (Some (Ok (f a))) new
-arm-takes rows k code f front old a new e row t =
-    makes (front_of_code code rows) old new (Ok (f a)) (f a)
-    (ap (λ j. front_of_code j rows old) e ∙ ap (λ g. g old) row ∙ made-read f front old a new (taken front old new a t)) refl
-
 -- the arm of a code whose fields always take memory
 pub arm-sure : {A B : Type 0} (rows : List (ℕ × Front B)) (k code : ℕ) (f : A → B) (front : Front A) (sure : B → Bool) → ((a : A) → sure (f a) ≡ false)
     → (old : List ℕ) (b : B) (rest : List ℕ) → code ≡ k → front_of_code k rows ≡ made f front → front_of_code code rows old ≡ Some (b, rest) →
@@ -71,17 +64,6 @@ arm-sure rows k code f front sure takes old b rest e row read is =
 pub arm-source : {A B : Type 0} (rows : List (ℕ × Front B)) (k code : ℕ) (f : A → B) (front : Front A) (old : List ℕ) (b : B) (rest : List ℕ)
     → code ≡ k → front_of_code k rows ≡ made f front → front_of_code code rows old ≡ Some (b, rest) → Made f front old b rest
 arm-source rows k code f front old b rest e row read = made-source f front old b rest (sym (ap (λ j. front_of_code j rows old) e ∙ ap (λ g. g old) row) ∙ read)
-
--- the arm of a code whose whole front is taken
-pub arm-taken : {B : Type 0} (rows : List (ℕ × Front B)) (k code : ℕ) (front : Front B) (old : List ℕ) (b : B) (new : List ℕ)
-    → code ≡ k → front_of_code k rows ≡ front → Takes front old (Some b) new → Makes (front_of_code code rows) old (Some (Ok b)) new
-arm-taken rows k code front old b new e row t =
-    makes (front_of_code code rows) old new (Ok b) b (ap (λ j. front_of_code j rows old) e ∙ ap (λ g. g old) row ∙ taken front old new b t) refl
-
-pub arm-untaken : {B : Type 0} (rows : List (ℕ × Front B)) (k code : ℕ) (front : Front B) (old new : List ℕ) (r : Option (Result B NoMemory))
-    → code ≡ k → front_of_code k rows ≡ front → r ≡ None → Takes front old None new → Makes (front_of_code code rows) old r new
-arm-untaken rows k code front old new r e row none t =
-    makes-none (front_of_code code rows) old new r none (ap (λ j. front_of_code j rows old) e ∙ ap (λ g. g old) row ∙ untaken front old new t)
 
 -- the arm of a code with no fields, where no memory is wanting
 pub arm-bare : {B : Type 0} (rows : List (ℕ × Front B)) (k code : ℕ) (b : B) (old : List ℕ)
