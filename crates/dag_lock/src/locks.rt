@@ -1,6 +1,6 @@
 //! The lock, and the passes to it.
 
-ghost use Rattle.std.specs.Prelude.{◌≡◌, ℕ, ◌+◌, ◌-◌, ◌≤◌, ◌<◌, [], length, IfOk};
+ghost use Rattle.std.specs.Prelude.{◌≡◌, ℕ, ◌+◌, ◌-◌, ◌≤◌, ◌<◌, [], ◌∷◌, length, IfOk};
 ghost use Rattle.std.specs.List.{AllByRecursion, range_with_len};
 ghost use Rattle.tardis_base.specs.Plain.{state_after};
 ghost use Rattle.trail_log.specs.Frames.{IsEntry};
@@ -50,10 +50,7 @@ impl<M: Machine> DagLock<M> {
             machine: Snapshot::of(&machine),
             pieces,
         };
-        let Ok(mut slots) = Vec::with_capacity(alloc, 1) else {
-            return Err(NoMemory);
-        };
-        slots.push_reserved(machine);
+        let slots = alone(alloc, machine)?;
         match Table::new(alloc, &[0, 0], slots, &about) {
             Ok((table, seat)) => Ok((
                 DagLock { table, bells },
@@ -153,6 +150,17 @@ impl<M: Machine> DagLock<M> {
         let _ = trailed.machine(); // for the proof alone
         trailed
     }
+}
+
+/// A vector with this thing and no other.
+fn alone<T: Drop>(alloc: Global, thing: T) -> Result<Vec<T>, NoMemory>
+    ensures { IfOk result (λ things. things.items ≡ thing ∷ []) }
+{
+    let Ok(mut things) = Vec::with_capacity(alloc, 1) else {
+        return Err(NoMemory);
+    };
+    things.push_reserved(thing);
+    Ok(things)
 }
 
 /// Gives pieces of a seat to a new one.

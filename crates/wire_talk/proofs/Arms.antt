@@ -1,9 +1,9 @@
 -- What an arm of a code gives, where its fields are read.
-use Rattle.std.proofs.Common.{◌≡◌, ℕ, Bool, true, false, ◌==◌, ◌≤◌, IsTrue, List, [], ◌∷◌, nat_lt, Option, Some, None, if◌then◌else◌, ap, sym, ◌∙◌, refl}
+use Rattle.std.proofs.Common.{◌≡◌, ℕ, Bool, true, false, ◌==◌, ◌≤◌, IsTrue, List, [], ◌∷◌, nat_lt, Option, Some, None, if◌then◌else◌, ap, sym, subst, ◌∙◌, refl}
 use Rattle.std.proofs.Common.{arith, ne_eqb, ltb-true}
 use Rattle.std.proofs.lemmas.Bool.{and_parts}
 use Rattle.std.specs.List.{list_all}
-use Rattle.std.specs.Prelude.{Result, Ok, IfOk}
+use Rattle.std.specs.Prelude.{Result, Ok, Err, IfOk, option_map}
 use Rattle.tardis_base.specs.declared.faults.NoMemory.{NoMemory}
 use Rattle.wire_item.specs.Fronts.{Front, made, front_of_code, by_code}
 use Rattle.wire_item.specs.Readings.{u8_front}
@@ -49,13 +49,6 @@ arm-makes rows k code f front old new x r e row m made-of =
     makes (front_of_code code rows) old new r (f read.0)
     (ap (λ j. front_of_code j rows old) e ∙ ap (λ g. g old) row ∙ made-read f front old read.0 new read.1) (made-of read.0 read.2)
 
--- the arm of a code whose fields are taken, and are there
-pub arm-takes : {A B : Type 0} (rows : List (ℕ × Front B)) (k code : ℕ) (f : A → B) (front : Front A) (old : List ℕ) (a : A) (new : List ℕ)
-    → code ≡ k → front_of_code k rows ≡ made f front → Takes front old (Some a) new → Makes (front_of_code code rows) old (Some (Ok (f a))) new
-arm-takes rows k code f front old a new e row t =
-    makes (front_of_code code rows) old new (Ok (f a)) (f a)
-    (ap (λ j. front_of_code j rows old) e ∙ ap (λ g. g old) row ∙ made-read f front old a new (taken front old new a t)) refl
-
 -- the arm of a code whose fields always take memory
 pub arm-sure : {A B : Type 0} (rows : List (ℕ × Front B)) (k code : ℕ) (f : A → B) (front : Front A) (sure : B → Bool) → ((a : A) → sure (f a) ≡ false)
     → (old : List ℕ) (b : B) (rest : List ℕ) → code ≡ k → front_of_code k rows ≡ made f front → front_of_code code rows old ≡ Some (b, rest) →
@@ -71,17 +64,6 @@ arm-sure rows k code f front sure takes old b rest e row read is =
 pub arm-source : {A B : Type 0} (rows : List (ℕ × Front B)) (k code : ℕ) (f : A → B) (front : Front A) (old : List ℕ) (b : B) (rest : List ℕ)
     → code ≡ k → front_of_code k rows ≡ made f front → front_of_code code rows old ≡ Some (b, rest) → Made f front old b rest
 arm-source rows k code f front old b rest e row read = made-source f front old b rest (sym (ap (λ j. front_of_code j rows old) e ∙ ap (λ g. g old) row) ∙ read)
-
--- the arm of a code whose whole front is taken
-pub arm-taken : {B : Type 0} (rows : List (ℕ × Front B)) (k code : ℕ) (front : Front B) (old : List ℕ) (b : B) (new : List ℕ)
-    → code ≡ k → front_of_code k rows ≡ front → Takes front old (Some b) new → Makes (front_of_code code rows) old (Some (Ok b)) new
-arm-taken rows k code front old b new e row t =
-    makes (front_of_code code rows) old new (Ok b) b (ap (λ j. front_of_code j rows old) e ∙ ap (λ g. g old) row ∙ taken front old new b t) refl
-
-pub arm-untaken : {B : Type 0} (rows : List (ℕ × Front B)) (k code : ℕ) (front : Front B) (old new : List ℕ) (r : Option (Result B NoMemory))
-    → code ≡ k → front_of_code k rows ≡ front → r ≡ None → Takes front old None new → Makes (front_of_code code rows) old r new
-arm-untaken rows k code front old new r e row none t =
-    makes-none (front_of_code code rows) old new r none (ap (λ j. front_of_code j rows old) e ∙ ap (λ g. g old) row ∙ untaken front old new t)
 
 -- the arm of a code with no fields, where no memory is wanting
 pub arm-bare : {B : Type 0} (rows : List (ℕ × Front B)) (k code : ℕ) (b : B) (old : List ℕ)
@@ -102,14 +84,17 @@ arm-read rows k code f front old a new e row t =
     takes (front_of_code code rows) old new (f a)
     (ap (λ j. front_of_code j rows old) e ∙ ap (λ g. g old) row ∙ made-read f front old a new (taken front old new a t))
 
--- a code, and what was taken behind it
-pub takes-coded : {A : Type 0} (rows : List (ℕ × Front A)) (old : List ℕ) (code : ℕ) (mid : List ℕ) (a : A) (new : List ℕ)
-    → u8_front old ≡ Some (code, mid) → Takes (front_of_code code rows) mid (Some a) new → Makes (by_code rows) old (Some (Ok a)) new
-takes-coded rows old code mid a new e t =
-    makes (by_code rows) old new (Ok a) a (code-read rows old code mid e ∙ taken (front_of_code code rows) mid new a t) refl
+-- what was taken, where no memory is wanting
+pub sure-makes : {A : Type 0} (front : Front A) (old new : List ℕ) (x : Option A) (r : Option (Result A NoMemory)) → r ≡ option_map Ok x →
+    Takes front old x new → Makes front old r new
+sure-makes front old new None r e t = makes-none front old new r e (untaken front old new t)
+sure-makes front old new (Some a) r e t = subst (λ z. Makes front old z new) (sym e) (makes front old new (Ok a) a (taken front old new a t) refl)
 
--- a code, and nothing to be taken behind it
-pub lost-coded : {A : Type 0} (rows : List (ℕ × Front A)) (old : List ℕ) (code : ℕ) (mid new : List ℕ) (r : Option (Result A NoMemory))
-    → u8_front old ≡ Some (code, mid) → r ≡ None → Takes (front_of_code code rows) mid None new → Makes (by_code rows) old r new
-lost-coded rows old code mid new r e none t =
-    makes-none (by_code rows) old new r none (code-read rows old code mid e ∙ untaken (front_of_code code rows) mid new t)
+pub sure-arm : {B : Type 0} (rows : List (ℕ × Front B)) (k code : ℕ) (front : Front B) (old new : List ℕ) (x : Option B) (r : Option (Result B NoMemory))
+    → code ≡ k → front_of_code k rows ≡ front → r ≡ option_map Ok x → Takes front old x new → Makes (front_of_code code rows) old r new
+sure-arm rows k code front old new x r e row is t =
+    subst (λ f. Makes f old r new) (sym (ap (λ j. front_of_code j rows) e ∙ row)) (sure-makes front old new x r is t)
+
+pub sure-free : {A : Type 0} (x : Option A) (r : Option (Result A NoMemory)) (e : NoMemory) → r ≡ option_map Ok x → r ≡ Some (Err e) → ⊥
+sure-free None r e is fault = absurd (cc)
+sure-free (Some a) r e is fault = absurd (cc)

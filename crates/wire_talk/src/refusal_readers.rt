@@ -1,6 +1,6 @@
 //! Reading refusals, and the fields that refusals and replies have, from the front of bytes.
 
-ghost use Rattle.std.specs.Prelude.{◌≡◌, ◌<◌, ◌≤◌, ℕ, List, Some, Err, IfOk, IsTrue};
+ghost use Rattle.std.specs.Prelude.{◌≡◌, ◌<◌, ◌≤◌, ℕ, List, Some, Ok, Err, IfOk, IsTrue, option_map};
 ghost use Rattle.tardis_base.specs.declared.faults.NoMemory.{NoMemory};
 ghost use Rattle.tardis_base.specs.declared.replies.Refusal.{Refusal};
 ghost use Rattle.wire_item.specs.Fronts.{both, front_of_code, only_if};
@@ -24,7 +24,7 @@ pub(crate) fn refusal(reader: &mut Reader<'_>, alloc: Global) -> Option<Result<R
     match code {
         13 => Some(conflict_key(owned_key(reader, alloc)?)),
         14 => Some(open_conflict(owned_key(reader, alloc)?)),
-        _ => Some(Ok(plain_refusal(reader, code)?)),
+        _ => sure(plain_refusal(reader, code)),
     }
 }
 
@@ -245,6 +245,13 @@ fn is_constraint(constraint: u8) -> bool
     ensures { result ≡ is_constraint constraint }
 {
     constraint == 4 || constraint == 8
+}
+
+/// What was taken, where no memory is wanting.
+pub(crate) fn sure<T: Drop>(taken: Option<T>) -> Option<Result<T, NoMemory>>
+    ensures { result ≡ option_map Ok taken }
+{
+    Some(Ok(taken?))
 }
 
 /// A key of its own.

@@ -2,16 +2,16 @@
 //!
 //! How replies are spelled is stated in `docs/FORMATS.md`. The cost grows with the number of bytes.
 
-ghost use Rattle.std.specs.Prelude.{◌≡◌, ◌<◌, ◌≤◌, ◌↔◌, ℕ, List, None, Some, Err, IfOk, IsTrue};
+ghost use Rattle.std.specs.Prelude.{◌≡◌, ◌<◌, ◌≤◌, ◌↔◌, ◌⊎◌, ℕ, List, None, Some, Err, IfOk, IsTrue};
 ghost use Rattle.tardis_base.specs.declared.faults.NoMemory.{NoMemory};
 ghost use Rattle.tardis_base.specs.declared.replies.Reply.{Reply};
 ghost use Rattle.wire_item.specs.Fronts.{front_of_code};
-ghost use Rattle.wire_item.specs.Takings.{Makes};
+ghost use Rattle.wire_item.specs.Takings.{Makes, Takes};
 ghost use Rattle.wire_talk.specs.Memory.{reply_takes_no_memory};
 ghost use Rattle.wire_talk.specs.ReplyReadings.{reply_front, reply_of, reply_rows};
 ghost use Rattle.wire_talk.specs.Spelled.{SpellsReply};
 
-use crate::refusal_readers::id_and_u32;
+use crate::refusal_readers::{id_and_u32, sure};
 use crate::reply_field_readers::{
     read_batch, read_committed, read_keys, read_merging, read_refused, read_shown, read_states,
     read_statistics, read_value,
@@ -53,23 +53,15 @@ fn low_reply(alloc: Global, code: u8, reader: &mut Reader) -> Option<Result<Repl
         → IsTrue (reply_takes_no_memory r) → result ≡ Some (Err e) → ⊥ }
 {
     match code {
-        1 => Some(Ok(Reply::Opened {
-            ceiling: reader.id()?,
-        })),
-        2 => Some(Ok(Reply::Begun {
-            state: reader.id()?,
-        })),
+        1 => sure(read_with_id(code, reader)),
+        2 => sure(read_with_id(code, reader)),
         3 => read_merging(alloc, reader),
         4 => read_value(alloc, reader),
-        5 => Some(Ok(Reply::Deleted {
-            writer: reader.id()?,
-        })),
+        5 => sure(read_with_id(code, reader)),
         6 => Some(Ok(Reply::Absent)),
         7 => Some(Ok(Reply::Done)),
         8 => read_committed(alloc, reader),
-        9 => Some(Ok(Reply::Ended {
-            state: reader.id()?,
-        })),
+        9 => sure(read_with_id(code, reader)),
         10 => read_states(alloc, reader),
         11 => read_keys(alloc, reader),
         _ => None,
@@ -84,27 +76,56 @@ fn high_reply(alloc: Global, code: u8, reader: &mut Reader) -> Option<Result<Rep
         → IsTrue (reply_takes_no_memory r) → result ≡ Some (Err e) → ⊥ }
 {
     match code {
-        12 => {
-            let pair = id_and_u32(reader)?;
-            Some(Ok(Reply::Raised {
-                floor: pair.0,
-                number: pair.1,
-            }))
-        },
-        13 => Some(Ok(Reply::Tidied {
-            collected: reader.u32()?,
-        })),
-        14 => Some(Ok(read_statistics(reader)?)),
+        12 => sure(read_raised(reader)),
+        13 => sure(read_with_count(code, reader)),
+        14 => sure(read_statistics(reader)),
         15 => read_shown(alloc, reader),
         16 => read_batch(alloc, reader),
         17 => Some(Ok(Reply::Applied)),
         18 => Some(Ok(Reply::Known)),
-        19 => Some(Ok(Reply::Early {
-            have: reader.u32()?,
-        })),
+        19 => sure(read_with_count(code, reader)),
         20 => Some(Ok(Reply::Closed)),
         21 => read_refused(alloc, reader),
         22 => Some(Ok(Reply::NoMemory)),
         _ => None,
     }
+}
+
+/// The reply of a code with one id behind it.
+fn read_with_id(code: u8, reader: &mut Reader) -> Option<Reply>
+    requires { (code ≡ 1) ⊎ ((code ≡ 2) ⊎ ((code ≡ 5) ⊎ (code ≡ 9))) }
+    ensures { Takes (front_of_code code reply_rows) reader.old result reader.new }
+{
+    let id = reader.id()?;
+    match code {
+        1 => Some(Reply::Opened { ceiling: id }),
+        2 => Some(Reply::Begun { state: id }),
+        5 => Some(Reply::Deleted { writer: id }),
+        9 => Some(Reply::Ended { state: id }),
+        _ => None,
+    }
+}
+
+/// The reply of a code with one count behind it.
+fn read_with_count(code: u8, reader: &mut Reader) -> Option<Reply>
+    requires { (code ≡ 13) ⊎ (code ≡ 19) }
+    ensures { Takes (front_of_code code reply_rows) reader.old result reader.new }
+{
+    let count = reader.u32()?;
+    match code {
+        13 => Some(Reply::Tidied { collected: count }),
+        19 => Some(Reply::Early { have: count }),
+        _ => None,
+    }
+}
+
+/// What stands behind the code of a raised floor.
+fn read_raised(reader: &mut Reader) -> Option<Reply>
+    ensures { Takes (front_of_code 12 reply_rows) reader.old result reader.new }
+{
+    let pair = id_and_u32(reader)?;
+    Some(Reply::Raised {
+        floor: pair.0,
+        number: pair.1,
+    })
 }

@@ -1,11 +1,12 @@
 use Rattle.tardis_base.specs.declared.replies.Refusal.TheVariants.{ConflictKey, OpenConflict}
+use Rattle.wire_item.specs.Fronts.{front_of_code}
 use Rattle.wire_item.specs.Readings.{key_front, u8_front}
 use Rattle.wire_item.proofs.Codes.{code-none, code-read}
 use Rattle.wire_item.proofs.Takings.{taken, unmade, untaken, makes-none}
 use Rattle.std.proofs.Common.{Some, refl, sym, ◌∙◌}
 use Rattle.wire_talk.specs.Memory.{refusal_takes_no_memory}
 use Rattle.wire_talk.specs.ReplyReadings.{refusal_rows, refusal_front}
-use Rattle.wire_talk.proofs.Arms.{arm-makes, arm-none, arm-sure, lost-coded, makes-coded, takes-coded}
+use Rattle.wire_talk.proofs.Arms.{arm-makes, arm-none, arm-sure, makes-coded, sure-free, sure-makes}
 use Rattle.wire_talk.proofs.refusal_readers.refusal.Goals as goal
 
 pub returns-in_err-code-clause-makes : goal.returns-in_err-code-clause-makes
@@ -57,15 +58,12 @@ returns-in_ok-owned_key-in-14-clause-sure c = λ x rest e read sure is.
     absurd (arm-sure refusal_rows 14 c.in_ok-code.code OpenConflict key_front refusal_takes_no_memory (λ key. refl) c.u8.new.self x rest c.in-14.is refl
     (sym (code-read refusal_rows c.args.reader.now c.in_ok-code.code c.u8.new.self code) ∙ read) sure)
 
-pub returns-in_err-plain_refusal-in_default-clause-makes : goal.returns-in_err-plain_refusal-in_default-clause-makes
-returns-in_err-plain_refusal-in_default-clause-makes c =
-    let failed = c.from_residual-in_err-plain_refusal-in_default in
-    lost-coded refusal_rows c.args.reader.now c.in_ok-code.code c.u8.new.self c.plain_refusal.new.reader failed.result
-    (taken u8_front c.args.reader.now c.u8.new.self c.in_ok-code.code c.in_ok-code.ensures) failed.ensures
-    c.in_err-plain_refusal-in_default.ensures
-
-pub returns-in_ok-plain_refusal-in_default-clause-makes : goal.returns-in_ok-plain_refusal-in_default-clause-makes
-returns-in_ok-plain_refusal-in_default-clause-makes c =
-    takes-coded refusal_rows c.args.reader.now c.in_ok-code.code c.u8.new.self c.in_ok-plain_refusal-in_default.field-0 c.plain_refusal.new.reader
+pub returns-in_default-clause-makes : goal.returns-in_default-clause-makes
+returns-in_default-clause-makes c =
+    makes-coded refusal_rows c.args.reader.now c.in_ok-code.code c.u8.new.self c.sure.result c.plain_refusal.new.reader
     (taken u8_front c.args.reader.now c.u8.new.self c.in_ok-code.code c.in_ok-code.ensures)
-    c.in_ok-plain_refusal-in_default.ensures
+    (sure-makes (front_of_code c.in_ok-code.code refusal_rows) c.u8.new.self c.plain_refusal.new.reader c.plain_refusal.result c.sure.result c.sure.ensures
+    c.plain_refusal.ensures)
+
+pub returns-in_default-clause-sure : goal.returns-in_default-clause-sure
+returns-in_default-clause-sure c = λ x rest e read sure is. sure-free c.plain_refusal.result c.sure.result e c.sure.ensures is

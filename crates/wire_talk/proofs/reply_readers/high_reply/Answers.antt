@@ -1,58 +1,44 @@
 use Rattle.std.proofs.Common.{None, refl, sym, subst, arith, ◌≤◌, IsTrue}
-use Rattle.tardis_base.specs.declared.replies.Reply.TheVariants.{Raised, Tidied, Stat as Statistics, Shown, Batch, Applied, Known, Early, Closed, Refused}
+use Rattle.tardis_base.specs.declared.replies.Reply.TheVariants.{Stat as Statistics, Shown, Batch, Applied, Known, Closed, Refused}
 use Rattle.tardis_base.specs.declared.replies.Reply.TheVariants.{NoMemory}
 use Rattle.wire_item.specs.Fronts.{both, front_of_code, made}
-use Rattle.wire_item.specs.Readings.{batch_front, id_front, u16_front, u32_front, u64_front}
-use Rattle.wire_item.proofs.Takings.{makes-none, untaken}
+use Rattle.wire_item.specs.Readings.{batch_front, u16_front, u32_front, u64_front}
+use Rattle.wire_item.proofs.Takings.{makes-none}
 use Rattle.wire_talk.specs.Memory.{reply_takes_no_memory}
 use Rattle.wire_talk.specs.ReplyReadings.{children_front, path_front, refusal_front, reply_rows, site_lines_front}
-use Rattle.wire_talk.proofs.Arms.{front-beyond, arm-plain, arm-takes, arm-none, arm-sure, arm-source, arm-taken, arm-untaken}
+use Rattle.wire_talk.proofs.Arms.{front-beyond, arm-plain, arm-sure, arm-source, sure-arm, sure-free, sure-makes}
 use Rattle.wire_talk.proofs.reply_readers.high_reply.Goals as goal
 
-pub returns-in_err-pair-in-12-clause-read : goal.returns-in_err-pair-in-12-clause-read
-returns-in_err-pair-in-12-clause-read c =
-    arm-none reply_rows 12 c.args.code (λ p. Raised p.0 p.1) (both id_front u32_front) c.args.reader.now c.id_and_u32.new.reader c.from_residual.result
-    c.in-12.is refl c.from_residual.ensures
-    (untaken (both id_front u32_front) c.args.reader.now c.id_and_u32.new.reader c.in_err-pair-in-12.ensures)
+pub returns-in-12-clause-read : goal.returns-in-12-clause-read
+returns-in-12-clause-read c =
+    sure-arm reply_rows 12 c.args.code (front_of_code 12 reply_rows) c.args.reader.now c.read_raised.new.reader c.read_raised.result c.sure.result c.in-12.is
+    refl c.sure.ensures c.read_raised.ensures
 
-pub returns-in_ok-pair-in-12-clause-read : goal.returns-in_ok-pair-in-12-clause-read
-returns-in_ok-pair-in-12-clause-read c =
-    arm-takes reply_rows 12 c.args.code (λ p. Raised p.0 p.1) (both id_front u32_front) c.args.reader.now c.in_ok-pair-in-12.pair c.id_and_u32.new.reader
-    c.in-12.is refl c.in_ok-pair-in-12.ensures
+pub returns-in-12-clause-sure : goal.returns-in-12-clause-sure
+returns-in-12-clause-sure c = λ r rest e read sure is. sure-free c.read_raised.result c.sure.result e c.sure.ensures is
 
-pub returns-in_err-u32-in-13-clause-read : goal.returns-in_err-u32-in-13-clause-read
-returns-in_err-u32-in-13-clause-read c =
-    arm-none reply_rows 13 c.args.code Tidied u32_front c.args.reader.now c.u32.new.self c.from_residual-in_err-u32-in-13.result c.in-13.is refl
-    c.from_residual-in_err-u32-in-13.ensures
-    (untaken u32_front c.args.reader.now c.u32.new.self c.in_err-u32-in-13.ensures)
+pub returns-in-13-clause-read : goal.returns-in-13-clause-read
+returns-in-13-clause-read c =
+    sure-makes (front_of_code c.args.code reply_rows) c.args.reader.now c.read_with_count.new.reader c.read_with_count.result c.sure-in-13.result c.sure-in-13.ensures c.read_with_count.ensures
 
-pub returns-in_ok-u32-in-13-clause-read : goal.returns-in_ok-u32-in-13-clause-read
-returns-in_ok-u32-in-13-clause-read c =
-    arm-takes reply_rows 13 c.args.code Tidied u32_front c.args.reader.now c.in_ok-u32-in-13.field-0 c.u32.new.self c.in-13.is refl c.in_ok-u32-in-13.ensures
+pub returns-in-13-clause-sure : goal.returns-in-13-clause-sure
+returns-in-13-clause-sure c = λ r rest e read sure is. sure-free c.read_with_count.result c.sure-in-13.result e c.sure-in-13.ensures is
 
-pub returns-in_err-u32-in-19-clause-read : goal.returns-in_err-u32-in-19-clause-read
-returns-in_err-u32-in-19-clause-read c =
-    arm-none reply_rows 19 c.args.code Early u32_front c.args.reader.now c.u32-in-19.new.self c.from_residual-in_err-u32-in-19.result c.in-19.is refl
-    c.from_residual-in_err-u32-in-19.ensures
-    (untaken u32_front c.args.reader.now c.u32-in-19.new.self c.in_err-u32-in-19.ensures)
+pub returns-in-19-clause-read : goal.returns-in-19-clause-read
+returns-in-19-clause-read c =
+    sure-makes (front_of_code c.args.code reply_rows) c.args.reader.now c.read_with_count-in-19.new.reader c.read_with_count-in-19.result c.sure-in-19.result c.sure-in-19.ensures c.read_with_count-in-19.ensures
 
-pub returns-in_ok-u32-in-19-clause-read : goal.returns-in_ok-u32-in-19-clause-read
-returns-in_ok-u32-in-19-clause-read c =
-    arm-takes reply_rows 19 c.args.code Early u32_front c.args.reader.now c.in_ok-u32-in-19.field-0 c.u32-in-19.new.self c.in-19.is refl
-    c.in_ok-u32-in-19.ensures
+pub returns-in-19-clause-sure : goal.returns-in-19-clause-sure
+returns-in-19-clause-sure c = λ r rest e read sure is. sure-free c.read_with_count-in-19.result c.sure-in-19.result e c.sure-in-19.ensures is
 
-pub returns-in_err-read_statistics-in-14-clause-read : goal.returns-in_err-read_statistics-in-14-clause-read
-returns-in_err-read_statistics-in-14-clause-read c =
-    arm-untaken reply_rows 14 c.args.code (made (λ p. Statistics p.0.0.0.0 p.0.0.0.1 p.0.0.1 p.0.1 p.1)
+pub returns-in-14-clause-read : goal.returns-in-14-clause-read
+returns-in-14-clause-read c =
+    sure-arm reply_rows 14 c.args.code (made (λ p. Statistics p.0.0.0.0 p.0.0.0.1 p.0.0.1 p.0.1 p.1)
     (both (both (both (both u64_front u32_front) u32_front) u16_front) site_lines_front)) c.args.reader.now c.read_statistics.new.reader
-    c.from_residual-in_err-read_statistics-in-14.result c.in-14.is refl c.from_residual-in_err-read_statistics-in-14.ensures
-    c.in_err-read_statistics-in-14.ensures
+    c.read_statistics.result c.sure-in-14.result c.in-14.is refl c.sure-in-14.ensures c.read_statistics.ensures
 
-pub returns-in_ok-read_statistics-in-14-clause-read : goal.returns-in_ok-read_statistics-in-14-clause-read
-returns-in_ok-read_statistics-in-14-clause-read c =
-    arm-taken reply_rows 14 c.args.code (made (λ p. Statistics p.0.0.0.0 p.0.0.0.1 p.0.0.1 p.0.1 p.1)
-    (both (both (both (both u64_front u32_front) u32_front) u16_front) site_lines_front)) c.args.reader.now c.in_ok-read_statistics-in-14.field-0
-    c.read_statistics.new.reader c.in-14.is refl c.in_ok-read_statistics-in-14.ensures
+pub returns-in-14-clause-sure : goal.returns-in-14-clause-sure
+returns-in-14-clause-sure c = λ r rest e read sure is. sure-free c.read_statistics.result c.sure-in-14.result e c.sure-in-14.ensures is
 
 pub returns-in-17-clause-read : goal.returns-in-17-clause-read
 returns-in-17-clause-read c = arm-plain reply_rows 17 c.args.code Applied c.args.reader.now c.in-17.is refl

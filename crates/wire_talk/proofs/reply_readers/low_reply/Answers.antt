@@ -1,51 +1,40 @@
 use Rattle.std.proofs.Common.{None, refl, ap, arith, ◌≡◌}
-use Rattle.tardis_base.specs.declared.replies.Reply.TheVariants.{Opened, Begun, Merging, Value, Deleted, Absent, Done, Committed, Ended, States, Keys}
+use Rattle.tardis_base.specs.declared.replies.Reply.TheVariants.{Merging, Value, Absent, Done, Committed, States, Keys}
 use Rattle.wire_item.specs.Fronts.{both, front_of_code}
 use Rattle.wire_item.specs.Readings.{id_front, parents_front, value_front}
-use Rattle.wire_item.proofs.Takings.{makes-none, untaken}
+use Rattle.wire_item.proofs.Takings.{makes-none}
 use Rattle.wire_talk.specs.Memory.{reply_takes_no_memory}
 use Rattle.wire_talk.specs.ReplyReadings.{first_ids_front, first_keys_front, reply_rows}
-use Rattle.wire_talk.proofs.Arms.{arm-plain, arm-takes, arm-none, arm-sure}
+use Rattle.wire_talk.proofs.Arms.{arm-plain, arm-sure, sure-free, sure-makes}
 use Rattle.wire_talk.proofs.reply_readers.low_reply.Goals as goal
 
-pub returns-in_err-id-in-1-clause-read : goal.returns-in_err-id-in-1-clause-read
-returns-in_err-id-in-1-clause-read c =
-    arm-none reply_rows 1 c.args.code Opened id_front c.args.reader.now c.id.new.self c.from_residual.result c.in-1.is refl c.from_residual.ensures
-    (untaken id_front c.args.reader.now c.id.new.self c.in_err-id-in-1.ensures)
+pub returns-in-1-clause-read : goal.returns-in-1-clause-read
+returns-in-1-clause-read c =
+    sure-makes (front_of_code c.args.code reply_rows) c.args.reader.now c.read_with_id.new.reader c.read_with_id.result c.sure.result c.sure.ensures c.read_with_id.ensures
 
-pub returns-in_ok-id-in-1-clause-read : goal.returns-in_ok-id-in-1-clause-read
-returns-in_ok-id-in-1-clause-read c =
-    arm-takes reply_rows 1 c.args.code Opened id_front c.args.reader.now c.in_ok-id-in-1.field-0 c.id.new.self c.in-1.is refl c.in_ok-id-in-1.ensures
+pub returns-in-1-clause-sure : goal.returns-in-1-clause-sure
+returns-in-1-clause-sure c = λ r rest e read sure is. sure-free c.read_with_id.result c.sure.result e c.sure.ensures is
 
-pub returns-in_err-id-in-2-clause-read : goal.returns-in_err-id-in-2-clause-read
-returns-in_err-id-in-2-clause-read c =
-    arm-none reply_rows 2 c.args.code Begun id_front c.args.reader.now c.id-in-2.new.self c.from_residual-in_err-id-in-2.result c.in-2.is refl
-    c.from_residual-in_err-id-in-2.ensures
-    (untaken id_front c.args.reader.now c.id-in-2.new.self c.in_err-id-in-2.ensures)
+pub returns-in-2-clause-read : goal.returns-in-2-clause-read
+returns-in-2-clause-read c =
+    sure-makes (front_of_code c.args.code reply_rows) c.args.reader.now c.read_with_id-in-2.new.reader c.read_with_id-in-2.result c.sure-in-2.result c.sure-in-2.ensures c.read_with_id-in-2.ensures
 
-pub returns-in_ok-id-in-2-clause-read : goal.returns-in_ok-id-in-2-clause-read
-returns-in_ok-id-in-2-clause-read c =
-    arm-takes reply_rows 2 c.args.code Begun id_front c.args.reader.now c.in_ok-id-in-2.field-0 c.id-in-2.new.self c.in-2.is refl c.in_ok-id-in-2.ensures
+pub returns-in-2-clause-sure : goal.returns-in-2-clause-sure
+returns-in-2-clause-sure c = λ r rest e read sure is. sure-free c.read_with_id-in-2.result c.sure-in-2.result e c.sure-in-2.ensures is
 
-pub returns-in_err-id-in-5-clause-read : goal.returns-in_err-id-in-5-clause-read
-returns-in_err-id-in-5-clause-read c =
-    arm-none reply_rows 5 c.args.code Deleted id_front c.args.reader.now c.id-in-5.new.self c.from_residual-in_err-id-in-5.result c.in-5.is refl
-    c.from_residual-in_err-id-in-5.ensures
-    (untaken id_front c.args.reader.now c.id-in-5.new.self c.in_err-id-in-5.ensures)
+pub returns-in-5-clause-read : goal.returns-in-5-clause-read
+returns-in-5-clause-read c =
+    sure-makes (front_of_code c.args.code reply_rows) c.args.reader.now c.read_with_id-in-5.new.reader c.read_with_id-in-5.result c.sure-in-5.result c.sure-in-5.ensures c.read_with_id-in-5.ensures
 
-pub returns-in_ok-id-in-5-clause-read : goal.returns-in_ok-id-in-5-clause-read
-returns-in_ok-id-in-5-clause-read c =
-    arm-takes reply_rows 5 c.args.code Deleted id_front c.args.reader.now c.in_ok-id-in-5.field-0 c.id-in-5.new.self c.in-5.is refl c.in_ok-id-in-5.ensures
+pub returns-in-5-clause-sure : goal.returns-in-5-clause-sure
+returns-in-5-clause-sure c = λ r rest e read sure is. sure-free c.read_with_id-in-5.result c.sure-in-5.result e c.sure-in-5.ensures is
 
-pub returns-in_err-id-in-9-clause-read : goal.returns-in_err-id-in-9-clause-read
-returns-in_err-id-in-9-clause-read c =
-    arm-none reply_rows 9 c.args.code Ended id_front c.args.reader.now c.id-in-9.new.self c.from_residual-in_err-id-in-9.result c.in-9.is refl
-    c.from_residual-in_err-id-in-9.ensures
-    (untaken id_front c.args.reader.now c.id-in-9.new.self c.in_err-id-in-9.ensures)
+pub returns-in-9-clause-read : goal.returns-in-9-clause-read
+returns-in-9-clause-read c =
+    sure-makes (front_of_code c.args.code reply_rows) c.args.reader.now c.read_with_id-in-9.new.reader c.read_with_id-in-9.result c.sure-in-9.result c.sure-in-9.ensures c.read_with_id-in-9.ensures
 
-pub returns-in_ok-id-in-9-clause-read : goal.returns-in_ok-id-in-9-clause-read
-returns-in_ok-id-in-9-clause-read c =
-    arm-takes reply_rows 9 c.args.code Ended id_front c.args.reader.now c.in_ok-id-in-9.field-0 c.id-in-9.new.self c.in-9.is refl c.in_ok-id-in-9.ensures
+pub returns-in-9-clause-sure : goal.returns-in-9-clause-sure
+returns-in-9-clause-sure c = λ r rest e read sure is. sure-free c.read_with_id-in-9.result c.sure-in-9.result e c.sure-in-9.ensures is
 
 pub returns-in-6-clause-read : goal.returns-in-6-clause-read
 returns-in-6-clause-read c = arm-plain reply_rows 6 c.args.code Absent c.args.reader.now c.in-6.is refl
