@@ -93,10 +93,23 @@ impl Player {
         ensures told { IfOk result (λ reply. IsTold reply) }
         ensures counts { self.new.counts ≡ self.old.counts }
     {
+        self.reply_of(actor, &request)
+    }
+
+    /// The same of a request that is lent.
+    fn reply_of(&mut self, actor: u16, request: &Request) -> Result<Reply, NoMemory>
+        requires { IsTrue (is_request request.now) }
+        ensures replied { Replied self.old self.new actor request.now result }
+        ensures told { IfOk result (λ reply. IsTold reply) }
+        ensures counts { self.new.counts ≡ self.old.counts }
+    {
         let mut reply = Reply::NoMemory;
-        match self.site.step(actor, &request, &mut reply) {
+        match self.site.step(actor, request, &mut reply) {
             Ok(()) => Ok(reply),
-            Err(NoMemory) => Err(NoMemory),
+            Err(NoMemory) => {
+                drop(reply); // for the proof alone
+                Err(NoMemory)
+            }
         }
     }
 
@@ -120,7 +133,8 @@ impl Player {
         ensures does { Does self.old self.new result (asks actor request) }
         ensures room { self.new.counts.events ≤ self.old.counts.events + 1 }
     {
-        self.ask(actor, request)?;
+        let reply = self.ask(actor, request)?;
+        drop(reply); // for the proof alone
         Ok(())
     }
 
@@ -131,9 +145,11 @@ impl Player {
         ensures counts { self.new.counts ≡ self.old.counts }
     {
         let reply = self.reply_to(0, Request::Stat)?;
-        match reply {
+        let states = match reply {
             Reply::Stat { known, kept, .. } => Ok((known, kept)),
             _ => Err(NoMemory),
-        }
+        };
+        drop(reply); // for the proof alone
+        states
     }
 }

@@ -181,7 +181,9 @@ impl Player {
     {
         let after = ByteList::new(self.alloc());
         let listed = self.ask(MERGER, Request::Conflicts { after })?;
-        self.settle(i, &listed)
+        let settled = self.settle(i, &listed);
+        drop(listed); // for the proof alone
+        settled
     }
 
     /// The merger commits its merge, or gives it up.
@@ -192,7 +194,9 @@ impl Player {
     {
         let flags = EndFlags(0);
         let reply = self.ask(MERGER, Request::Commit { flags, k: 0 })?;
-        self.abort_refused(&reply)
+        let ended = self.abort_refused(&reply);
+        drop(reply); // for the proof alone
+        ended
     }
 
     /// Where the reply says that a merge began, the merger settles its conflicts and commits.
@@ -218,7 +222,9 @@ impl Player {
     {
         let of = MergeOf::Leaves;
         let reply = self.ask(MERGER, Request::BeginMerge { of })?;
-        self.join(i, &reply)
+        let joined = self.join(i, &reply);
+        drop(reply); // for the proof alone
+        joined
     }
 
     /// The leaves are merged, the floor is raised, and closed states are collected.

@@ -1,5 +1,5 @@
 -- The line behind the last line feed.
-use Rattle.std.proofs.Common.{◌≡◌, ℕ, ◌<◌, ◌≤◌, List, [], ◌∷◌, ◌++◌, length, Option, Result, Ok, Err, OnOk, OnErr, refl, sym, subst, arith}
+use Rattle.std.proofs.Common.{◌≡◌, ℕ, ◌<◌, ◌≤◌, List, [], ◌∷◌, length, Option, Result, Ok, Err, OnOk, OnErr, refl, sym, subst, arith}
 use Rattle.tardis_io.specs.Told.{WhileTold, GivesAll}
 use Rattle.line_cut.specs.Lines.{last_line}
 use Rattle.site_run.specs.Responses.{Whole, Front, AnsweredBy}

@@ -1,4 +1,4 @@
-use Rattle.std.proofs.Common.{◌≡◌, ◌+◌, ◌++◌, ◌∙◌, [], ◌∷◌, length, drop, subst, sym, arith}
+use Rattle.std.proofs.Common.{inl, inr, ◌≡◌, ◌+◌, ◌++◌, ◌∙◌, [], ◌∷◌, length, drop, subst, sym, arith}
 use Rattle.frame_cut.specs.Frames.{frame}
 use Rattle.frame_cut.specs.Cuts.{Leaves}
 use Rattle.site_run.specs.Responses.{Whole, Front, AnsweredBy}
@@ -44,3 +44,21 @@ returns-in-Err-clause-broken g c = (
       (g.O.Sink.given c.answer_body.new.output) c.loop-body.gathered.bytes [] s (c.in-Frame.body.now ∷ [])) c.loop-body.invariant.room
       (c.in-Err.ensures.broken s f)),
 )
+
+pub returns-in-Err-clause-room : goal.returns-in-Err-clause-room
+returns-in-Err-clause-room g c = c.in-Err.ensures.room ∙ c.loop-body.invariant.room
+
+pub returns-in-Err-clause-kept : goal.returns-in-Err-clause-kept
+returns-in-Err-clause-kept g c = c.in-Err.ensures.kept ∙ c.loop-body.invariant.kept
+
+pub returns-in-Err-clause-opening : goal.returns-in-Err-clause-opening
+returns-in-Err-clause-opening g c = c.in-Err.ensures.opening ∙ c.loop-body.invariant.opening
+
+pub returns-in-Err-clause-cause : goal.returns-in-Err-clause-cause
+returns-in-Err-clause-cause g c = record {
+  later = omega (arith, c.in-Err.ensures.cause.later, c.loop-body.invariant.later);
+  failed = elim c.in-Err.ensures.cause.failed [
+    | inl t ↦ inl (omega (arith, t, c.loop-body.invariant.later))
+    | inr e ↦ inr e
+  ];
+}

@@ -1,4 +1,4 @@
-use Rattle.std.proofs.Common.{◌≡◌, ◌+◌, ◌++◌, ◌∙◌, [], ◌∷◌, length, drop, subst, sym, arith}
+use Rattle.std.proofs.Common.{inl, inr, ◌≡◌, ◌+◌, ◌++◌, ◌∙◌, [], ◌∷◌, length, drop, subst, sym, arith}
 use Rattle.line_cut.specs.Lines.{ended}
 use Rattle.line_cut.specs.Cuts.{Leaves}
 use Rattle.site_run.specs.Responses.{Whole, Front, AnsweredBy}
@@ -63,3 +63,21 @@ returns-in-Long-clause-served g c =
     subst (λ held. IsLineBehind Long held × ServesLines g.R.Responder.may Whole (g.R.Responder.stands c.args.subject.now)
     (g.R.Responder.stands c.loop-line.subject) (g.O.Sink.given c.args.output.now) (g.O.Sink.given c.loop-line.output) c.args.gathered.now.bytes
     c.loop-line.gathered.bytes c.args.cutter.now held) (sym same) (c.in-Long.ensures.cut, c.loop-line.invariant.served)
+
+pub returns-in-Err-clause-room : goal.returns-in-Err-clause-room
+returns-in-Err-clause-room g c = c.in-Err.ensures.room ∙ c.loop-line.invariant.room
+
+pub returns-in-Err-clause-kept : goal.returns-in-Err-clause-kept
+returns-in-Err-clause-kept g c = c.in-Err.ensures.kept ∙ c.loop-line.invariant.kept
+
+pub returns-in-Err-clause-opening : goal.returns-in-Err-clause-opening
+returns-in-Err-clause-opening g c = c.in-Err.ensures.opening ∙ c.loop-line.invariant.opening
+
+pub returns-in-Err-clause-cause : goal.returns-in-Err-clause-cause
+returns-in-Err-clause-cause g c = record {
+  later = omega (arith, c.in-Err.ensures.cause.later, c.loop-line.invariant.later);
+  failed = elim c.in-Err.ensures.cause.failed [
+    | inl t ↦ inl (omega (arith, t, c.loop-line.invariant.later))
+    | inr e ↦ inr e
+  ];
+}

@@ -1,4 +1,4 @@
-use Rattle.std.proofs.Common.{arith}
+use Rattle.std.proofs.Common.{◌∙◌, arith}
 use Rattle.site_run.proofs.LineServes.{line_piece_broken, line_piece_lost, line_piece_written}
 use Rattle.site_run.proofs.line_answers.answer_line_piece.Goals as goal
 
@@ -27,3 +27,21 @@ returns-in-Ok-write_to-clause-served g c = (
       c.answer_held_lines.new.cutter c.feed.result c.requires.none c.feed.ensures.held (c.feed.ensures.whole c.requires.part c.requires.size)
       c.in-Ok.ensures.served.1 c.in-Ok-write_to.ensures.bytes c.write_to.ensures.none,
 )
+
+pub returns-in-Ok-write_to-clause-room : goal.returns-in-Ok-write_to-clause-room
+returns-in-Ok-write_to-clause-room g c = c.in-Ok-write_to.ensures.room ∙ c.in-Ok.ensures.room
+
+pub returns-in-Ok-write_to-clause-kept : goal.returns-in-Ok-write_to-clause-kept
+returns-in-Ok-write_to-clause-kept g c = c.in-Ok-write_to.ensures.kept ∙ c.in-Ok.ensures.kept
+
+pub returns-in-Ok-write_to-clause-opening : goal.returns-in-Ok-write_to-clause-opening
+returns-in-Ok-write_to-clause-opening g c = c.in-Ok.ensures.opening
+
+pub returns-in-Err-write_to-clause-room : goal.returns-in-Err-write_to-clause-room
+returns-in-Err-write_to-clause-room g c = c.in-Err-write_to.ensures.room ∙ c.in-Ok.ensures.room
+
+pub returns-in-Err-write_to-clause-kept : goal.returns-in-Err-write_to-clause-kept
+returns-in-Err-write_to-clause-kept g c = c.in-Err-write_to.ensures.kept ∙ c.in-Ok.ensures.kept
+
+pub returns-in-Err-write_to-clause-opening : goal.returns-in-Err-write_to-clause-opening
+returns-in-Err-write_to-clause-opening g c = c.in-Ok.ensures.opening

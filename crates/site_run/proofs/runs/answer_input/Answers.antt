@@ -1,4 +1,4 @@
-use Rattle.std.proofs.Common.{◌≡◌, ◌+◌, ◌≤◌, ◌∙◌, ◌++◌, [], length, take, sym, refl, subst, arith, Ok}
+use Rattle.std.proofs.Common.{◌≡◌, inl, inr, ◌+◌, ◌≤◌, ◌∙◌, ◌++◌, [], length, take, sym, refl, subst, arith, Ok}
 use Rattle.tardis_io.specs.Told.{WhileTold, Takes}
 use Rattle.tardis_io.proofs.Told.{then, weaker}
 use Rattle.tardis_io.specs.declared.statuses.Status.TheVariants.{Ok as Finished, ReadFault, WriteFault as Broken, Cut, LongFrame, Spent}
@@ -256,3 +256,63 @@ pub returns-in-Err-answer_piece-clause-parts : goal.returns-in-Err-answer_piece-
 returns-in-Err-answer_piece-clause-parts g c =
     let apart = g.met.D.Duplex.gives_are_apart c.answer_piece.new.output c.take_front.new.device c.in-Err-answer_piece.ensures.kept in
     apart.3 ∙ (c.in-Ok.ensures.parts ∙ c.loop-taken.invariant.parts)
+
+pub returns-then-holds_any-clause-read_later : goal.returns-then-holds_any-clause-read_later
+returns-then-holds_any-clause-read_later g c = omega (arith, c.in-Ok-eq0.ensures.cause.later, c.loop-taken.invariant.read_later)
+
+pub returns-then-holds_any-clause-write_later : goal.returns-then-holds_any-clause-write_later
+returns-then-holds_any-clause-write_later g c = omega (arith, c.in-Ok-eq0.ensures.faults, c.loop-taken.invariant.write_later)
+
+pub returns-then-holds_any-clause-opening : goal.returns-then-holds_any-clause-opening
+returns-then-holds_any-clause-opening g c = c.loop-taken.invariant.opening
+
+pub returns-then-holds_any-clause-parts : goal.returns-then-holds_any-clause-parts
+returns-then-holds_any-clause-parts g c = c.in-Ok-eq0.ensures.parts ∙ c.loop-taken.invariant.parts
+
+pub returns-in-Ok-eq0-clause-read_later : goal.returns-in-Ok-eq0-clause-read_later
+returns-in-Ok-eq0-clause-read_later g c = omega (arith, c.in-Ok-eq0.ensures.cause.later, c.loop-taken.invariant.read_later)
+
+pub returns-in-Ok-eq0-clause-write_later : goal.returns-in-Ok-eq0-clause-write_later
+returns-in-Ok-eq0-clause-write_later g c = omega (arith, c.in-Ok-eq0.ensures.faults, c.loop-taken.invariant.write_later)
+
+pub returns-in-Ok-eq0-clause-opening : goal.returns-in-Ok-eq0-clause-opening
+returns-in-Ok-eq0-clause-opening g c = c.loop-taken.invariant.opening
+
+pub returns-in-Ok-eq0-clause-parts : goal.returns-in-Ok-eq0-clause-parts
+returns-in-Ok-eq0-clause-parts g c = c.in-Ok-eq0.ensures.parts ∙ c.loop-taken.invariant.parts
+
+pub returns-in-Err-clause-read_later : goal.returns-in-Err-clause-read_later
+returns-in-Err-clause-read_later g c = omega (arith, c.in-Err.ensures.cause.later, c.loop-taken.invariant.read_later)
+
+pub returns-in-Err-clause-write_later : goal.returns-in-Err-clause-write_later
+returns-in-Err-clause-write_later g c = omega (arith, c.in-Err.ensures.faults, c.loop-taken.invariant.write_later)
+
+pub returns-in-Err-clause-opening : goal.returns-in-Err-clause-opening
+returns-in-Err-clause-opening g c = c.loop-taken.invariant.opening
+
+pub returns-in-Err-clause-parts : goal.returns-in-Err-clause-parts
+returns-in-Err-clause-parts g c = c.in-Err.ensures.parts ∙ c.loop-taken.invariant.parts
+
+pub returns-in-Err-clause-read : goal.returns-in-Err-clause-read
+returns-in-Err-clause-read g c = λ _. elim c.in-Err.ensures.cause.failed [
+  | inl t ↦ inl (omega (arith, t, c.loop-taken.invariant.read_later))
+  | inr e ↦ inr e
+]
+
+pub returns-in-Long-clause-write_later : goal.returns-in-Long-clause-write_later
+returns-in-Long-clause-write_later g c = omega (arith, c.in-Ok-answer_piece.ensures.cause.later, c.in-Ok.ensures.faults, c.loop-taken.invariant.write_later)
+
+pub returns-in-Long-clause-opening : goal.returns-in-Long-clause-opening
+returns-in-Long-clause-opening g c = c.in-Ok-answer_piece.ensures.opening ∙ c.loop-taken.invariant.opening
+
+pub returns-in-Err-answer_piece-clause-write_later : goal.returns-in-Err-answer_piece-clause-write_later
+returns-in-Err-answer_piece-clause-write_later g c = omega (arith, c.in-Err-answer_piece.ensures.cause.later, c.in-Ok.ensures.faults, c.loop-taken.invariant.write_later)
+
+pub returns-in-Err-answer_piece-clause-opening : goal.returns-in-Err-answer_piece-clause-opening
+returns-in-Err-answer_piece-clause-opening g c = c.in-Err-answer_piece.ensures.opening ∙ c.loop-taken.invariant.opening
+
+pub returns-in-Err-answer_piece-clause-write : goal.returns-in-Err-answer_piece-clause-write
+returns-in-Err-answer_piece-clause-write g c = λ _. elim c.in-Err-answer_piece.ensures.cause.failed [
+  | inl t ↦ inl (omega (arith, t, c.in-Ok.ensures.faults, c.loop-taken.invariant.write_later))
+  | inr e ↦ inr e
+]

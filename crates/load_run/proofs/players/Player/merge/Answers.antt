@@ -6,5 +6,5 @@ use Rattle.load_run.proofs.players.Player.merge.Goals as goal
 
 pub returns-clause-does : goal.returns-clause-does
 returns-clause-does c =
-    then_told c.args.self.now c.ask.new.self c.join.new.self c.join.result 9 (BeginMerge Leaves) c.in_ok-reply.reply (merges c.args.i)
-    c.in_ok-reply.ensures.asked c.join.ensures.does
+    then_told c.args.self.now c.ask.new.self c.join-joined.new.self c.join-joined.result 9 (BeginMerge Leaves) c.in_ok-reply.reply (merges c.args.i)
+    c.in_ok-reply.ensures.asked c.join-joined.ensures.does
