@@ -3,7 +3,6 @@ use Rattle.std.specs.Prelude.{ℕ, List, [], ◌∷◌, ◌++◌, length, codes,
 use Rattle.plain_dag.specs.Collection.{kept_states}
 use Rattle.plain_site.specs.Site.{Site}
 use Rattle.load_run.specs.declared.counts.Counts.{Counts}
-use Rattle.load_run.specs.Plays.{Play}
 use Rattle.load_run.specs.Scripts.{played}
 
 -- how many states are known, the root among them

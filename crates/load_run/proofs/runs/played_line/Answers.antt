@@ -1,4 +1,4 @@
-use Rattle.std.proofs.Common.{◌≡◌, ◌∙◌, ℕ, IfOk, ap, subst}
+use Rattle.std.proofs.Common.{◌≡◌, ◌∙◌, ℕ, IfOk, subst}
 use Rattle.load_run.specs.declared.counts.Counts.{Counts}
 use Rattle.load_run.specs.Scripts.{opening_play, played}
 use Rattle.load_run.specs.Lines.{known, kept, line_of, load_line}

@@ -1,4 +1,4 @@
-use Rattle.std.proofs.Common.{◌≡◌, List, ℕ, take, length, decimal, sym, subst, arith}
+use Rattle.std.proofs.Common.{List, ℕ, take, decimal, sym, subst, arith}
 use Rattle.std.proofs.lemmas.List.{take_all}
 use Rattle.tardis_base.specs.declared.requests.Request.TheVariants.{Put}
 use Rattle.load_run.specs.Plays.{Act, asks, each_of}

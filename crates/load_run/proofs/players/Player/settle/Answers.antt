@@ -1,4 +1,4 @@
-use Rattle.std.proofs.Common.{◌≡◌, decimal, sym, subst}
+use Rattle.std.proofs.Common.{decimal, sym, subst}
 use Rattle.tardis_base.specs.declared.requests.Request.TheVariants.{Put}
 use Rattle.load_run.specs.Plays.{asks, each_of}
 use Rattle.load_run.specs.Scripts.{settles}

@@ -1,4 +1,4 @@
-use Rattle.std.proofs.Common.{◌≡◌, ◌%◌, ◌==◌, sym, subst, false, if◌then◌else◌}
+use Rattle.std.proofs.Common.{◌%◌, ◌==◌, sym, subst, if◌then◌else◌}
 use Rattle.std.proofs.lemmas.Bool.{false_from_ne_true, eqb-true}
 use Rattle.load_run.specs.Scripts.{turn, upkeep}
 use Rattle.load_run.specs.Held.{Plays}

@@ -1,4 +1,4 @@
-use Rattle.std.proofs.Common.{◌≡◌, ◌+◌, sym, subst, arith}
+use Rattle.std.proofs.Common.{◌≡◌, sym, subst, arith}
 use Rattle.load_run.specs.Plays.{each_to}
 use Rattle.load_run.specs.Scripts.{one_step}
 use Rattle.load_run.specs.Held.{Plays}
