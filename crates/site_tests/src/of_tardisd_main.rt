@@ -53,12 +53,19 @@ fn words_are_a_plan_or_refused(rt: HostRuntime) {
     assert!(rt; help_text(Help::Version) == "tardisd 0.1.0\n");
 }
 
+/// Whether the end is told by the line, and is the number of the program's status.
+fn is_told(rt: &impl Abort, alloc: Global, end: DaemonEnd, line: &str, number: u8) -> bool {
+    let told = format!(in alloc; "{end}").expect(rt, "room");
+    told.as_str() == line && end.number() == number
+}
+
 #[test]
 fn an_end_has_a_line_and_a_number(rt: HostRuntime) {
-    let end = DaemonEnd::Gate(GateFault::InUse);
-    let line = format!(in rt.alloc(); "{end}").expect(&rt, "room");
-    assert!(rt; line.as_str() == "tardisd: gate fault: another server listens there");
-    assert_eq!(rt; end.number(), 7);
+    let in_use = DaemonEnd::Gate(GateFault::InUse);
+    let line = "tardisd: gate fault: another server listens there";
+    assert!(rt; is_told(&rt, rt.alloc(), in_use, line, 7));
+    let line = "tardisd: out of memory";
+    assert!(rt; is_told(&rt, rt.alloc(), DaemonEnd::NoMemory, line, 6));
 }
 
 /// A session that puts a key and commits, as frames of a connection.
