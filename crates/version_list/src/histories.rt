@@ -85,18 +85,21 @@ impl History {
         self.versions.as_slice()
     }
 
-    /// Moves the version at `from`, if there is one, to `to`, or takes it away where that has one. It takes no memory.
-    fn promote<A: Above>(&mut self, dag: &A, from: Slot, to: Slot)
+    /// Moves the version at `from`, if there is one, to `to`, or takes it away where that has one, and answers whether one
+    /// moved. It takes no memory.
+    fn promote<A: Above>(&mut self, dag: &A, from: Slot, to: Slot) -> bool
         requires order { IsTrue (are_in_order (A.is_kept dag.now) (A.arrival_of dag.now) self.old.versions) }
         requires from { IsTrue (A.is_kept dag.now from) }
         requires to { IsTrue (A.is_kept dag.now to) }
         requires before { A.arrival_of dag.now from < A.arrival_of dag.now to }
         ensures promoted { self.new.versions ≡ promoted (A.arrival_of dag.now) from to self.old.versions }
+        ensures moved { result ≡ moves from to self.old.versions }
         ensures room { self.old.room ≤ self.new.room }
     {
         if let Some(place) = place_of(dag, &self.versions, from) {
             if has_version(dag, &self.versions, to) {
-                self.versions.remove(place);
+                drop(self.versions.remove(place));
+                false
             } else {
                 let end = arrived_by(dag, &self.versions, to);
                 let moved = Version {
@@ -104,10 +107,12 @@ impl History {
                     ..self.versions.remove(place)
                 };
                 match self.versions.insert(end - 1, moved) {
-                    Ok(()) => {},
+                    Ok(()) => true,
                     Err(_) => unreachable!(),
                 }
             }
+        } else {
+            false
         }
     }
 }
@@ -210,32 +215,23 @@ impl KeyLists {
         }
     }
 
-    /// Moves the key's version at `from`, if there is one, to `to`, or takes it away where that has one. It takes no memory.
+    /// Moves the key's version at `from`, if there is one, to `to`, or takes it away where that has one, and answers whether
+    /// one moved. It takes no memory.
     ///
     /// The cost is that of a look-up of the key and of three binary searches among its versions, and grows with the number
     /// of those that arrived after `from`, which are moved.
-    pub(crate) fn promote<A: Above>(&mut self, dag: &A, key: &Key, from: Slot, to: Slot)
+    fn promote<A: Above>(&mut self, dag: &A, key: &Key, from: Slot, to: Slot) -> bool
         requires order { AllInOrder (A.is_kept dag.now) (A.arrival_of dag.now) self.old }
         requires from { IsTrue (A.is_kept dag.now from) }
         requires to { IsTrue (A.is_kept dag.now to) }
         requires before { A.arrival_of dag.now from < A.arrival_of dag.now to }
         ensures promoted { versions_in self.new key.now ≡ promoted (A.arrival_of dag.now) from to (versions_in self.old key.now) }
+        ensures moved { result ≡ moves from to (versions_in self.old key.now) }
         ensures others { (k : List ℕ) → bytes_eq key.now k ≡ false → listed_in self.new k ≡ listed_in self.old k }
         ensures keys { keys_in self.new ≡ keys_in self.old }
         ensures order { AllInOrder (A.is_kept dag.now) (A.arrival_of dag.now) self.new }
     {
-        self.hand_on(dag, key, from, to);
-    }
-
-    /// Whether the key has a version at `from` and none at `to`.
-    fn moves<A: Above>(&self, dag: &A, key: &Key, from: Slot, to: Slot) -> bool
-        requires order { AllInOrder (A.is_kept dag.now) (A.arrival_of dag.now) self.now }
-        requires from { IsTrue (A.is_kept dag.now from) }
-        requires to { IsTrue (A.is_kept dag.now to) }
-        ensures { result ≡ moves from to (versions_in self.now key.now) }
-    {
-        let versions = self.versions(key);
-        has_version(dag, versions, from) && !has_version(dag, versions, to)
+        self.hand_on(dag, key, from, to)
     }
 
     /// Promotes each of these keys, and keeps those whose version moved.
@@ -252,9 +248,7 @@ impl KeyLists {
     {
         let mut place = 0;
         while place < keys.len() {
-            let moves = self.moves(dag, &keys[place], from, to);
-            self.promote(dag, &keys[place], from, to);
-            if moves {
+            if self.promote(dag, &keys[place], from, to) {
                 place += 1;
             } else {
                 keys.swap_remove(place);
@@ -329,17 +323,19 @@ impl KeyLists {
         moved
     }
 
-    fn hand_on<A: Above>(&mut self, dag: &A, key: &Key, from: Slot, to: Slot)
+    fn hand_on<A: Above>(&mut self, dag: &A, key: &Key, from: Slot, to: Slot) -> bool
         requires order { IsTrue (are_in_order (A.is_kept dag.now) (A.arrival_of dag.now) (versions_in self.old key.now)) }
         requires from { IsTrue (A.is_kept dag.now from) }
         requires to { IsTrue (A.is_kept dag.now to) }
         requires before { A.arrival_of dag.now from < A.arrival_of dag.now to }
         ensures promoted { versions_in self.new key.now ≡ promoted (A.arrival_of dag.now) from to (versions_in self.old key.now) }
+        ensures moved { result ≡ moves from to (versions_in self.old key.now) }
         ensures others { (k : List ℕ) → bytes_eq key.now k ≡ false → listed_in self.new k ≡ listed_in self.old k }
         ensures keys { keys_in self.new ≡ keys_in self.old }
     {
-        if let Some(history) = self.lists.get_mut(key) {
-            history.promote(dag, from, to);
+        match self.lists.get_mut(key) {
+            Some(history) => history.promote(dag, from, to),
+            None => false,
         }
     }
 

@@ -75,7 +75,7 @@ impl VersionList {
         ensures noted { (s : Slot) → is_noted self.new s ≡ is_noted self.old s }
     {
         self.notes.make_room()?;
-        self.next.reserve(writes.len())?;
+        self.next.reserve_exact(writes.len())?;
         self.lists.make_room(writes)
     }
 

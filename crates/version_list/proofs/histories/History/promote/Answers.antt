@@ -6,7 +6,6 @@ use Rattle.version_list.specs.Versions.{has_version_at}
 use Rattle.version_list.specs.Promoted.{promoted, at_state}
 use Rattle.version_list.proofs.Promotes.{promoted-none, promoted-gone, promoted-moved, before-end}
 use Rattle.version_list.proofs.histories.History.promote.Goals as goal
-use Rattle.version_list.proofs.histories.History.promote.Goals.{in-Put-1, in-Delete-1}
 
 pub overflow_sub-end : goal.overflow_sub-end
 overflow_sub-end g c =
@@ -37,10 +36,7 @@ returns-then-has_version-clause-promoted g c =
     let after : c.remove.new.self.items ≡ promoted arrival c.args.from c.args.to now =
     c.remove.ensures.items ∙ ap (λ (xs : List Version). remove xs i) same
     ∙ sym (promoted-gone kept arrival c.args.from c.args.to now i i d c.requires.order lt here c.requires.before own) in
-    elim c.match-remove.branch [
-      | in-Put-1 w ↦ ap (λ (l : Listed). l.versions) w.self-is ∙ after
-      | in-Delete-1 w ↦ ap (λ (l : Listed). l.versions) w.self-is ∙ after
-    ]
+    after
 
 pub returns-in-Ok-clause-promoted : goal.returns-in-Ok-clause-promoted
 returns-in-Ok-clause-promoted g c =

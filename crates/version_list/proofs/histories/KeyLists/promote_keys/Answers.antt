@@ -1,22 +1,21 @@
-use Rattle.std.proofs.Common.{◌≡◌, ◌<◌, ◌||◌, ◌&&◌, bytes_eq, true, false, length, take, drop, get_or, sym, ap, subst, ◌∙◌, arith}
+use Rattle.std.proofs.Common.{◌≡◌, ◌<◌, ◌||◌, ◌&&◌, bytes_eq, length, take, drop, get_or, sym, ap, ◌∙◌, arith}
 use Rattle.tardis_base.specs.Keys.{is_key_among}
 use Rattle.version_list.specs.Lists.{versions_in}
 use Rattle.version_list.specs.Promoted.{promoted_if, moves}
-use Rattle.version_list.proofs.Moves.{at-place, step-promoted, step-next, step-moved, step-stayed, back-swapped}
+use Rattle.version_list.proofs.Moves.{step-promoted, step-next, step-moved, step-stayed, back-swapped}
 use Rattle.version_list.proofs.histories.KeyLists.promote_keys.Goals as goal
 
-pub loop-place-preserved-then-moves : goal.loop-place-preserved-then-moves
-loop-place-preserved-then-moves g c =
+pub loop-place-preserved-then-promote : goal.loop-place-preserved-then-promote
+loop-place-preserved-then-promote g c =
     let arrival = g.A.Above.arrival_of c.args.dag.now in
-    let x = c.index-in-loop-place.result.now in
+    let x = c.index.result.now in
     let old = c.loop-place.self in
     let new = c.promote.new.self in
     let xs = c.loop-place.keys.items in
     let i = c.loop-place.place in
     let lt : i < length xs = omega (arith, c.loop-place-test.true) in
-    let here : get_or xs i x ≡ x = sym c.index-in-loop-place.ensures in
-    let one : c.index.result.now ≡ x = let a = at-place xs i x lt here in let b = at-place xs i c.index.result.now lt (sym c.index.ensures) in cc in
-    let moved = subst (λ y. moves c.args.from c.args.to (versions_in old y) ≡ true) one (sym c.moves-moves.ensures ∙ c.if-moves.true) in
+    let here : get_or xs i x ≡ x = sym c.index.ensures in
+    let moved = sym c.promote.ensures.moved ∙ c.if-promote.true in
     record {
       promoted = λ k. step-next arrival c.args.from c.args.to c.requires.before old new x c.promote.ensures.promoted c.promote.ensures.others xs i lt here
           k ∙ c.loop-place.invariant.promoted k;
@@ -30,16 +29,15 @@ loop-place-preserved-then-moves g c =
 pub loop-place-preserved : goal.loop-place-preserved
 loop-place-preserved g c =
     let arrival = g.A.Above.arrival_of c.args.dag.now in
-    let x = c.index-in-loop-place.result.now in
+    let x = c.index.result.now in
     let old = c.loop-place.self in
     let new = c.promote.new.self in
     let xs = c.loop-place.keys.items in
     let i = c.loop-place.place in
     let d = c.swap_remove.result in
     let lt : i < length xs = omega (arith, c.loop-place-test.true) in
-    let here : get_or xs i x ≡ x = sym c.index-in-loop-place.ensures in
-    let one : c.index.result.now ≡ x = let a = at-place xs i x lt here in let b = at-place xs i c.index.result.now lt (sym c.index.ensures) in cc in
-    let stayed = subst (λ y. moves c.args.from c.args.to (versions_in old y) ≡ false) one (sym c.moves-moves.ensures ∙ c.if-moves.false) in
+    let here : get_or xs i x ≡ x = sym c.index.ensures in
+    let stayed = sym c.promote.ensures.moved ∙ c.if-promote.false in
     let now = c.swap_remove.ensures.items in
     record {
       promoted = λ k.
