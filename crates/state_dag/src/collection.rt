@@ -52,12 +52,12 @@ fn pass_children(node: &mut Node, gone: Slot, heir: Slot)
     ensures entry { (k : ℕ) → entry_of k node.new ≡ passing_on gone heir (entry_of k node.old) }
     ensures path { node.new.path ≡ node.old.path }
 {
-    pass_slots(&mut node.stand_ins, gone, heir);
+    pass_slots(node.stand_ins.as_mut_slice(), gone, heir);
 }
 
 /// Puts the heir in place of the slot that goes.
-fn pass_slots(slots: &mut Vec<Slot>, gone: Slot, heir: Slot)
-    ensures { slots.new.items ≡ map (passed_on gone heir) slots.old.items }
+fn pass_slots(slots: &mut [Slot], gone: Slot, heir: Slot)
+    ensures { slots.new ≡ map (passed_on gone heir) slots.old }
 {
     for place in 0..slots.len() {
         slots[place] = passed_on(slots[place], gone, heir);

@@ -43,7 +43,7 @@ use leads::gains;
 use named_paths::named_path;
 use nodes::{Node, first_from, is_node_above, node_at, root_node};
 use rooms::make_state_room;
-use slots::{common_slot, drop_slot, drop_slots, list_slot, next_slot, slot_at};
+use slots::{common_slot, drop_slot, drop_slots, first_slot, list_slot, next_slot, slot_at};
 use std::alloc::Global;
 use std::marker::Model;
 use tardis_base::{Above, AddFault, Limits, NoMemory, PathList, Slot, StateId};
@@ -192,7 +192,7 @@ impl StateDag {
         let place = self.place(slot);
         let node = self.node(slot);
         let id = node.id;
-        let heir = node.stand_ins[0];
+        let heir = first_slot(node.stand_ins.as_slice());
         let is_fork = node.children.len() > 1;
         drop_slot(&self.nodes, &mut self.leaves, slot);
         self.slots.remove(id);

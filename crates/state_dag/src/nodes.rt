@@ -10,6 +10,7 @@ ghost use Rattle.state_dag.specs.Table.{entry_at, arrival_at, is_entry_above};
 ghost use Rattle.state_dag.specs.Views.{entry_of};
 
 use fork_path::ForkPath;
+use smallvec::SmallVec;
 use std::alloc::Global;
 use tardis_base::{Slot, StateId};
 
@@ -18,9 +19,9 @@ use tardis_base::{Slot, StateId};
 pub struct Node {
     pub id: StateId,
     pub arrival: u64,
-    pub parents: Vec<StateId>,
-    pub children: Vec<StateId>,
-    pub stand_ins: Vec<Slot>,
+    pub parents: SmallVec<StateId, 2>,
+    pub children: SmallVec<StateId, 2>,
+    pub stand_ins: SmallVec<Slot, 2>,
     pub path: ForkPath,
 }
 
@@ -36,9 +37,9 @@ pub fn root_node(alloc: Global) -> Node
     Node {
         id: StateId::ROOT,
         arrival: 0,
-        parents: Vec::new(alloc),
-        children: Vec::new(alloc),
-        stand_ins: Vec::new(alloc),
+        parents: SmallVec::new(alloc),
+        children: SmallVec::new(alloc),
+        stand_ins: SmallVec::new(alloc),
         path: ForkPath::new(alloc),
     }
 }

@@ -1,6 +1,6 @@
 //! Which slot each kept state has.
 
-ghost use Rattle.std.specs.Prelude.{◌≡◌, ◌==◌, ◌≤◌, ◌<◌, not, filter, slice_get, OnOk, vec_len, vec_capacity};
+ghost use Rattle.std.specs.Prelude.{◌≡◌, ◌==◌, ◌≤◌, ◌<◌, not, filter, length, slice_get, slice_index_or, OnOk, vec_len, vec_capacity};
 ghost use Rattle.state_dag.specs.Shared.{common};
 ghost use Rattle.state_dag.specs.Table.{arrival_at};
 ghost use Rattle.state_dag.specs.Grown.{is_slot_among};
@@ -69,6 +69,14 @@ pub fn drop_slot(nodes: &[Node], slots: &mut Vec<Slot>, gone: Slot)
     if place < slots.len() && slots[place] == gone {
         let _ = slots.remove(place);
     }
+}
+
+/// The first of these slots.
+pub fn first_slot(slots: &[Slot]) -> Slot
+    requires { 0 < length slots.now }
+    ensures { result ≡ slice_index_or slots.now 0 result }
+{
+    slots[0]
 }
 
 /// The slot that all of these are, if they are one.

@@ -8,11 +8,11 @@ use Rattle.state_dag.proofs.StateDag.child_slots.Goals as goal
 
 pub returns-clause-stand_ins : goal.returns-clause-stand_ins
 returns-clause-stand_ins c = λ rs ks stands x named.
-    ap (map (id_at c.args.self.now)) c.as_slice.ensures.value
+    ap (map (id_at c.args.self.now)) c.as_slice.ensures
     ∙ (shown c.args.self.now rs ks stands c.args.slot (entry_of c.args.slot.0 c.node.result.now) x c.node.ensures.entry named).has_stand_ins
 
 pub returns-clause-slots : goal.returns-clause-slots
-returns-clause-slots c = subst (λ ss. list_all (is_slot c.args.self.now) ss ≡ true) (sym c.as_slice.ensures.value) c.node.ensures.stand_ins
+returns-clause-slots c = subst (λ ss. list_all (is_slot c.args.self.now) ss ≡ true) (sym c.as_slice.ensures) c.node.ensures.stand_ins
 
 pub returns-clause-is : goal.returns-clause-is
-returns-clause-is c = ap (option_map (λ (e : Entry). e.stand_ins)) c.node.ensures.entry ∙ ap (λ z. Some z) (sym c.as_slice.ensures.value)
+returns-clause-is c = ap (option_map (λ (e : Entry). e.stand_ins)) c.node.ensures.entry ∙ ap (λ z. Some z) (sym c.as_slice.ensures)

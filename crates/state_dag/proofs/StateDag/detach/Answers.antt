@@ -91,12 +91,12 @@ parts c = parted c.self.inside.order.items c.place-place.result c.self.inside.ke
 each-changed : (c : goal.After-self-1) → (k : ℕ) (e : Node) → k < length c.self.inside.nodes.items →
     entry_of k (get_or c.hand_over.new.nodes.items k e) ≡ changed_at (forgetting c.args.slot (ltb 1 c.len-is_fork.result))
     (drop (c.place-place.result + 1) (kept_of c.self.inside))
-    (changed_at (passing_on c.args.slot c.index-heir.result.now) (take c.place-place.result (kept_of c.self.inside))
+    (changed_at (passing_on c.args.slot c.first_slot-heir.result) (take c.place-place.result (kept_of c.self.inside))
     (entry_of k (get_or c.self.inside.nodes.items k e)))
 each-changed c =
     subst (λ (ss : List Slot). (k : ℕ) (e : Node) → k < length c.self.inside.nodes.items →
     entry_of k (get_or c.hand_over.new.nodes.items k e) ≡ changed_at (forgetting c.args.slot (ltb 1 c.len-is_fork.result))
-    (drop (c.place-place.result + 1) ss) (changed_at (passing_on c.args.slot c.index-heir.result.now) (take c.place-place.result ss)
+    (drop (c.place-place.result + 1) ss) (changed_at (passing_on c.args.slot c.first_slot-heir.result) (take c.place-place.result ss)
     (entry_of k (get_or c.self.inside.nodes.items k e))))
     (ap (take c.self.inside.kept) c.deref-2.ensures.value) c.hand_over.ensures.each
 
@@ -125,25 +125,27 @@ node-read c =
     same_Some one two (sym c.node-node.ensures.entry ∙ ap (λ (t : Table). entry_at t c.args.slot) (sym c.self.view_is)
     ∙ entry-kept c.self.inside c.self.invariant c.args.slot n (slot-there c))
 
-shares-now : (c : goal.After-self-1) → shared_slot c.args.self.now c.args.slot ≡ Some c.index-heir.result.now
+shares-now : (c : goal.After-self-1) → shared_slot c.args.self.now c.args.slot ≡ Some c.first_slot-heir.result
 shares-now c =
     let test : Slot → Slot → Bool = λ a b. eqb a.0 b.0 in
     let read = ap (option_and_then (λ (e : Entry). common test e.stand_ins)) c.node-node.ensures.entry in
-    read ∙ heir-first c.node-node.result.now.stand_ins.items c.index-heir.result.now c.index-heir.ensures (sym (ap is_some read) ∙ c.requires)
+    let heir = c.first_slot-heir.result in
+    let first = c.first_slot-heir.ensures ∙ ap (λ (ss : List Slot). get_or ss 0 heir) c.as_slice.ensures in
+    read ∙ heir-first c.node-node.result.now.stand_ins.items heir first (sym (ap is_some read) ∙ c.requires)
 
-shares-before : (c : goal.After-self-1) → shared_slot (seen c.self.inside) c.args.slot ≡ Some c.index-heir.result.now
+shares-before : (c : goal.After-self-1) → shared_slot (seen c.self.inside) c.args.slot ≡ Some c.first_slot-heir.result
 shares-before c = ap (λ (t : Table). shared_slot t c.args.slot) c.self.view_is ∙ shares-now c
 
-has-left : (c : goal.After-self-1) → HasLeft (seen c.self.inside) (seen (inside-left c)) c.args.slot c.index-heir.result.now
+has-left : (c : goal.After-self-1) → HasLeft (seen c.self.inside) (seen (inside-left c)) c.args.slot c.first_slot-heir.result
 has-left c =
     let a = c.self.inside in
     let n = c.node-node.result.now in
     let s = c.args.slot in
-    let heir = c.index-heir.result.now in
+    let heir = c.first_slot-heir.result in
     let p = c.place-place.result in
     let w = parts c in
     let fork = ltb 1 c.len-is_fork.result in
-    let children : c.len-is_fork.result ≡ length n.children.items = (let len = c.len-is_fork.ensures in omega (arith, n.children.ok.0)) in
+    let children : c.len-is_fork.result ≡ length n.children.items = c.len-is_fork.ensures.value in
     record {
       before = entries_in a.nodes.items w.xs;
       behind = entries_in a.nodes.items w.zs;
@@ -165,45 +167,45 @@ has-left c =
           (freed c) refl (shares-before c) refl;
     }
 
-has-left-now : (c : goal.After-self-1) → HasLeft c.args.self.now (seen (inside-left c)) c.args.slot c.index-heir.result.now
-has-left-now c = subst (λ (t : Table). HasLeft t (seen (inside-left c)) c.args.slot c.index-heir.result.now) c.self.view_is (has-left c)
+has-left-now : (c : goal.After-self-1) → HasLeft c.args.self.now (seen (inside-left c)) c.args.slot c.first_slot-heir.result
+has-left-now c = subst (λ (t : Table). HasLeft t (seen (inside-left c)) c.args.slot c.first_slot-heir.result) c.self.view_is (has-left c)
 
 pub invariant_of-self : goal.invariant_of-self
 invariant_of-self c =
     let a = c.self.inside in
     let n = c.node-node.result.now in
-    held-left a (inside-left c) c.self.invariant c.args.slot c.index-heir.result.now (ltb 1 c.len-is_fork.result) c.place-place.result n
+    held-left a (inside-left c) c.self.invariant c.args.slot c.first_slot-heir.result (ltb 1 c.len-is_fork.result) c.place-place.result n
     (parts c) c.hand_over.ensures.count (each-changed c) c.hand_over.ensures.ascending (freed c) refl (shares-before c) refl
     refl refl refl c.drop_slot.ensures.items
     (subst (λ (z : StateId). (x : StateId) → slot_of_state c.remove.new.self x ≡ cond (same_id x z) None (slot_of_state a.slots x))
     (ap (λ (e : Entry). e.id) (node-read c)) c.remove.ensures)
 
 pub returns-clause-detached : goal.returns-clause-detached
-returns-clause-detached c = left-detached c.args.self.now (seen (inside-left c)) c.args.slot c.index-heir.result.now (has-left-now c)
+returns-clause-detached c = left-detached c.args.self.now (seen (inside-left c)) c.args.slot c.first_slot-heir.result (has-left-now c)
 
 pub returns-clause-shared : goal.returns-clause-shared
-returns-clause-shared c = left-shared c.args.self.now (seen (inside-left c)) c.args.slot c.index-heir.result.now (has-left-now c)
+returns-clause-shared c = left-shared c.args.self.now (seen (inside-left c)) c.args.slot c.first_slot-heir.result (has-left-now c)
 
 pub returns-clause-gone : goal.returns-clause-gone
-returns-clause-gone c = left-gone c.args.self.now (seen (inside-left c)) c.args.slot c.index-heir.result.now (has-left-now c)
+returns-clause-gone c = left-gone c.args.self.now (seen (inside-left c)) c.args.slot c.first_slot-heir.result (has-left-now c)
 
 pub returns-clause-names : goal.returns-clause-names
-returns-clause-names c = left-names c.args.self.now (seen (inside-left c)) c.args.slot c.index-heir.result.now (has-left-now c)
+returns-clause-names c = left-names c.args.self.now (seen (inside-left c)) c.args.slot c.first_slot-heir.result (has-left-now c)
 
 pub returns-clause-kept : goal.returns-clause-kept
-returns-clause-kept c = left-kept c.args.self.now (seen (inside-left c)) c.args.slot c.index-heir.result.now (has-left-now c)
+returns-clause-kept c = left-kept c.args.self.now (seen (inside-left c)) c.args.slot c.first_slot-heir.result (has-left-now c)
 
 pub returns-clause-arrivals : goal.returns-clause-arrivals
-returns-clause-arrivals c = left-arrives c.args.self.now (seen (inside-left c)) c.args.slot c.index-heir.result.now (has-left-now c)
+returns-clause-arrivals c = left-arrives c.args.self.now (seen (inside-left c)) c.args.slot c.first_slot-heir.result (has-left-now c)
 
 pub returns-clause-stays : goal.returns-clause-stays
-returns-clause-stays c = left-stays c.args.self.now (seen (inside-left c)) c.args.slot c.index-heir.result.now (has-left-now c)
+returns-clause-stays c = left-stays c.args.self.now (seen (inside-left c)) c.args.slot c.first_slot-heir.result (has-left-now c)
 
 pub returns-clause-slots : goal.returns-clause-slots
-returns-clause-slots c = left-slots c.args.self.now (seen (inside-left c)) c.args.slot c.index-heir.result.now (has-left-now c)
+returns-clause-slots c = left-slots c.args.self.now (seen (inside-left c)) c.args.slot c.first_slot-heir.result (has-left-now c)
 
 pub returns-clause-above : goal.returns-clause-above
-returns-clause-above c = left-above c.args.self.now (seen (inside-left c)) c.args.slot c.index-heir.result.now (has-left-now c)
+returns-clause-above c = left-above c.args.self.now (seen (inside-left c)) c.args.slot c.first_slot-heir.result (has-left-now c)
 
 pub returns-clause-others : goal.returns-clause-others
-returns-clause-others c = left-others c.args.self.now (seen (inside-left c)) c.args.slot c.index-heir.result.now (has-left-now c)
+returns-clause-others c = left-others c.args.self.now (seen (inside-left c)) c.args.slot c.first_slot-heir.result (has-left-now c)

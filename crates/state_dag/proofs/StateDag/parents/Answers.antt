@@ -5,5 +5,5 @@ use Rattle.state_dag.proofs.StateDag.parents.Goals as goal
 
 pub returns : goal.returns
 returns c = λ rs ks stands x named.
-    c.as_slice.ensures.value ∙ (shown c.args.self.now rs ks stands c.args.slot (entry_of c.args.slot.0 c.node.result.now) x c.node.ensures.entry
+    c.as_slice.ensures ∙ (shown c.args.self.now rs ks stands c.args.slot (entry_of c.args.slot.0 c.node.result.now) x c.node.ensures.entry
     named).has_parents

@@ -1,13 +1,18 @@
-use Rattle.std.proofs.Common.{◌∙◌, set, ap, arith}
+use Rattle.std.proofs.Common.{◌∙◌, get_or, set, ap, arith}
+use Rattle.std.proofs.lemmas.List.{get_or_default}
 use Rattle.std.proofs.lemmas.List.Edits.{map_over_more}
+use Rattle.tardis_base.specs.declared.ids.Slot.{Slot}
 use Rattle.state_dag.specs.Detached.{passed_on}
 use Rattle.state_dag.proofs.collection.pass_slots.Goals as goal
 
 pub loop-place-preserved : goal.loop-place-preserved
 loop-place-preserved c =
     let f = passed_on c.args.gone c.args.heir in
+    let slots = c.loop-place.slots in
     let i = c.loop-place.place in
+    let none : Slot = record { 0 = 0 } in
+    let slot = get_or slots i none in
     record {
-      items = ap (set c.loop-place.slots.items i) c.passed_on.ensures
-          ∙ map_over_more f c.args.slots.now.items c.loop-place.slots.items i c.index.result.now (omega arith) c.loop-place.invariant.items c.index.ensures;
+      items = ap (set slots i) c.passed_on.ensures
+          ∙ map_over_more f c.args.slots.now slots i slot (omega arith) c.loop-place.invariant.items (get_or_default slots i none slot (omega arith));
     }

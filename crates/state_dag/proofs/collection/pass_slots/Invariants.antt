@@ -4,5 +4,5 @@ use Rattle.state_dag.proofs.collection.pass_slots.Given as goal
 
 abbrev pub invariant-loop-place : goal.invariant-loop-place
 invariant-loop-place l = record {
-  items : l.slots.items ≡ map (passed_on l.gone l.heir) (take l.place l.fn.slots.items) ++ drop l.place l.fn.slots.items;
+  items : l.slots ≡ map (passed_on l.gone l.heir) (take l.place l.fn.slots) ++ drop l.place l.fn.slots;
 }
