@@ -1,7 +1,6 @@
-use Rattle.std.proofs.Common.{refl, None, subst, sym, ap, arith}
+use Rattle.std.proofs.Common.{refl, None, arith}
 use Rattle.tardis_base.specs.declared.replies.Refusal.TheVariants.{Malformed, NotOpen, AlreadyOpen, TxnOpen, NoTxn, WrongMode, SeqEnd}
 use Rattle.wire_item.specs.Fronts.{front_of_code}
-use Rattle.wire_item.specs.Takings.{Takes}
 use Rattle.wire_item.proofs.Takings.{takes-none}
 use Rattle.wire_talk.specs.ReplyReadings.{refusal_rows}
 use Rattle.wire_talk.proofs.Arms.{arm-bare, arm-behind}

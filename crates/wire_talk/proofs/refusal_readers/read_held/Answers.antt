@@ -1,6 +1,6 @@
 use Rattle.std.proofs.Common.{refl}
 use Rattle.tardis_base.specs.declared.replies.Refusal.TheVariants.{Held}
-use Rattle.wire_item.specs.Fronts.{both, only_if}
+use Rattle.wire_item.specs.Fronts.{both}
 use Rattle.wire_item.specs.Readings.{u16_front, id_front}
 use Rattle.wire_talk.specs.ReplyReadings.{refusal_rows}
 use Rattle.wire_talk.proofs.Arms.{arm-read, arm-lost, both-lost, both-lost-later, both-read}

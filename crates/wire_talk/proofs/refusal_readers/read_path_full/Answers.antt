@@ -1,9 +1,9 @@
 use Rattle.std.proofs.Common.{refl}
 use Rattle.tardis_base.specs.declared.replies.Refusal.TheVariants.{PathFull}
-use Rattle.wire_item.specs.Fronts.{both, only_if}
+use Rattle.wire_item.specs.Fronts.{both}
 use Rattle.wire_item.specs.Readings.{id_front, u32_front}
 use Rattle.wire_talk.specs.ReplyReadings.{refusal_rows}
-use Rattle.wire_talk.proofs.Arms.{arm-read, arm-lost, both-lost, both-lost-later, both-read}
+use Rattle.wire_talk.proofs.Arms.{arm-read, arm-lost}
 use Rattle.wire_talk.proofs.refusal_readers.read_path_full.Goals as goal
 
 pub returns-in_err-pair : goal.returns-in_err-pair

@@ -1,9 +1,8 @@
 use Rattle.std.proofs.Common.{refl}
 use Rattle.tardis_base.specs.declared.replies.Refusal.TheVariants.{TrailFull}
-use Rattle.wire_item.specs.Fronts.{both, only_if}
 use Rattle.wire_item.specs.Readings.{u64_front}
 use Rattle.wire_talk.specs.ReplyReadings.{refusal_rows}
-use Rattle.wire_talk.proofs.Arms.{arm-read, arm-lost, both-lost, both-lost-later, both-read}
+use Rattle.wire_talk.proofs.Arms.{arm-read, arm-lost}
 use Rattle.wire_talk.proofs.refusal_readers.read_trail_full.Goals as goal
 
 pub returns-in_err-bytes : goal.returns-in_err-bytes

@@ -1,12 +1,11 @@
 use Rattle.std.proofs.Common.{◌≡◌, ◌≢◌, ◌⊎◌, ℕ, List, Option, None, refl, inl, inr, arith}
 use Rattle.tardis_base.specs.declared.replies.Refusal.TheVariants.{Unknown, NotRead, CeilingBack, FloorBack, Collected, ClosedParent}
 use Rattle.tardis_base.specs.declared.replies.Refusal.{Refusal}
-use Rattle.wire_item.specs.Fronts.{both, front_of_code}
+use Rattle.wire_item.specs.Fronts.{front_of_code}
 use Rattle.wire_item.specs.Takings.{Takes}
 use Rattle.wire_item.specs.Readings.{id_front}
-use Rattle.wire_item.proofs.Takings.{untaken}
 use Rattle.wire_talk.specs.ReplyReadings.{refusal_rows}
-use Rattle.wire_talk.proofs.Arms.{arm-read, arm-lost, both-lost, both-lost-later, both-read}
+use Rattle.wire_talk.proofs.Arms.{arm-read, arm-lost}
 use Rattle.wire_talk.proofs.refusal_readers.read_with_id.Goals as goal
 
 -- where the fields are not there

@@ -4,7 +4,6 @@ use Rattle.tardis_base.specs.declared.replies.Refusal.{Refusal}
 use Rattle.wire_item.specs.Fronts.{both, front_of_code}
 use Rattle.wire_item.specs.Takings.{Takes}
 use Rattle.wire_item.specs.Readings.{id_front}
-use Rattle.wire_item.proofs.Takings.{untaken}
 use Rattle.wire_talk.specs.ReplyReadings.{refusal_rows}
 use Rattle.wire_talk.proofs.Arms.{arm-read, arm-lost, both-lost, both-lost-later, both-read}
 use Rattle.wire_talk.proofs.refusal_readers.read_with_two_ids.Goals as goal

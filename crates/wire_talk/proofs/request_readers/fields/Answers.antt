@@ -1,9 +1,8 @@
-use Rattle.std.proofs.Common.{refl, None, Ok, ◌∙◌, ap, arith}
+use Rattle.std.proofs.Common.{refl, None, Ok, ap, arith}
 use Rattle.tardis_base.specs.declared.requests.Request.TheVariants.{Open, Abort, ForkPoints, RaiseAuto, Tidy, Stat, Leaves, Close, Settle}
 use Rattle.wire_item.specs.Fronts.{made, front_of_code}
 use Rattle.wire_item.specs.Readings.{u16_front}
-use Rattle.wire_item.proofs.Fronts.{made-read}
-use Rattle.wire_item.proofs.Takings.{taken, untaken, makes, makes-none, made-none}
+use Rattle.wire_item.proofs.Takings.{makes, makes-none}
 use Rattle.wire_talk.specs.RequestReadings.{flag_front, request_rows}
 use Rattle.wire_talk.proofs.Arms.{sure-arm, sure-free, sure-makes}
 use Rattle.wire_talk.proofs.RequestFields.{rows-other}
