@@ -86,10 +86,10 @@ impl<'a> Reader<'a> {
         let mut last = None;
         for _place in 0..count {
             let key = self.key()?;
-            let write = self.write(alloc)?;
             if !key_follows(last, key) {
                 return None;
             }
+            let write = self.write(alloc)?;
             writes = inserted(alloc, writes, key, write);
             last = Some(key);
         }

@@ -8,3 +8,9 @@ overflow_add-result-2 c = omega (arith, record-bound c.args.rec.now c.requires, 
 
 pub returns : goal.returns
 returns c = omega (arith, record-length c.args.rec.now, c.writes_len.ensures, ap (sum_by key_write_length) c.as_slice.ensures.same)
+
+pub overflow_mul-result : goal.overflow_mul-result
+overflow_mul-result c = omega (arith, record-bound c.args.rec.now c.requires, c.len.ensures)
+
+pub overflow_add-result : goal.overflow_add-result
+overflow_add-result c = omega (arith, record-bound c.args.rec.now c.requires, c.len.ensures)
