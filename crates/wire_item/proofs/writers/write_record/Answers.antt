@@ -1,4 +1,7 @@
-use Rattle.std.proofs.Common.{◌++◌}
+use Rattle.std.proofs.Common.{◌&&◌, ◌++◌, not}
+use Rattle.std.proofs.lemmas.Bool.{and_parts}
+use Rattle.tardis_base.specs.Ids.{root, same_id}
+use Rattle.tardis_base.specs.Valid.{is_id, are_parents, are_writes}
 use Rattle.wire_item.specs.Spellings.{id_spelling, parents_spelling, writes_spelling}
 use Rattle.wire_item.proofs.Written.{room-first, room-rest, written-two}
 use Rattle.wire_item.proofs.writers.write_record.Goals as goal
@@ -29,3 +32,14 @@ returns c =
     c.write_parents.ensures in
     written-two c.args.out.now (id_spelling r.id ++ parents_spelling r.parents) (writes_spelling r.writes) c.write_parents.new.out c.write_writes.new.out two
     c.write_writes.ensures
+
+pub write_parents-requires-clause-valid : goal.write_parents-requires-clause-valid
+write_parents-requires-clause-valid c =
+    let r = c.args.rec.now in
+    let shape = and_parts (is_id r.id && not (same_id r.id root) && are_parents r.parents) (are_writes r.writes) c.requires.valid in
+    (and_parts (is_id r.id && not (same_id r.id root)) (are_parents r.parents) shape.0).1
+
+pub write_writes-requires-clause-valid : goal.write_writes-requires-clause-valid
+write_writes-requires-clause-valid c =
+    let r = c.args.rec.now in
+    (and_parts (is_id r.id && not (same_id r.id root) && are_parents r.parents) (are_writes r.writes) c.requires.valid).1
