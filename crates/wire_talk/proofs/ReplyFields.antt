@@ -107,7 +107,8 @@ unfolding Makes
 fit-makes number front test fits tested old n mid None new e fit m =
     only_if-none test (counted number (times front)) old
     (made-none (λ read. read.1) (after number (times front)) old (after-then_none number (times front) old n mid e m))
-fit-makes number front test fits tested old n mid (Some result) new e fit m =
-    (m.0,
-    only_if-read test (counted number (times front)) old m.0 new (counted-read number front old n mid m.0 new e m.1) (tested n mid m.0 new m.1 ∙ fit),
-    m.2)
+fit-makes number front test fits tested old n mid (Some result) new e fit m = (
+  m.0,
+  only_if-read test (counted number (times front)) old m.0 new (counted-read number front old n mid m.0 new e m.1) (tested n mid m.0 new m.1 ∙ fit),
+  m.2,
+)
