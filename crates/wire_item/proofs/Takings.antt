@@ -146,3 +146,61 @@ makes-after number front old n mid None new e m =
     made-none (λ read. read.1) (after number (times front)) old (after-then_none number (times front) old n mid e m)
 makes-after number front old n mid (Some result) new e m =
     (m.0, made-read (λ read. read.1) (after number (times front)) old (n, m.0) new (after-then number (times front) old n mid m.0 new e m.1), m.2)
+
+-- a list with its number in front, where the number is tested before the list is read, and doesn't pass
+pub counted-unfit : {A : Type 0} (number : Front ℕ) (front : Front A) (test ascends : List A → Bool) (fits : ℕ → Bool)
+    → ((n : ℕ) (mid : List ℕ) (xs : List A) (rest : List ℕ) → times front n mid ≡ Some (xs, rest) → test xs ≡ (fits n && ascends xs))
+    → (old : List ℕ) (n : ℕ) (mid : List ℕ) → number old ≡ Some (n, mid) → fits n ≡ false → only_if test (counted number (times front)) old ≡ None
+counted-unfit {A} number front test ascends fits tested old n mid e unfit = go (times front n mid) refl
+  where
+    go : (o : Option (List A × List ℕ)) → times front n mid ≡ o → only_if test (counted number (times front)) old ≡ None
+    go None is =
+        only_if-none test (counted number (times front)) old
+        (made-none (λ read. read.1) (after number (times front)) old (after-then_none number (times front) old n mid e is))
+    go (Some read) is =
+        only_if-fails test (counted number (times front)) old read.0 read.1
+        (made-read (λ read. read.1) (after number (times front)) old (n, read.0) read.1 (after-then number (times front) old n mid read.0 read.1 e is))
+        (tested n mid read.0 read.1 is ∙ and_left (fits n) (ascends read.0) unfit)
+
+-- the same, where it passes
+pub counted-fit : {A : Type 0} (number : Front ℕ) (front : Front A) (test ascends : List A → Bool) (fits : ℕ → Bool)
+    → ((n : ℕ) (mid : List ℕ) (xs : List A) (rest : List ℕ) → times front n mid ≡ Some (xs, rest) → test xs ≡ (fits n && ascends xs))
+    → (old : List ℕ) (n : ℕ) (mid : List ℕ) (result : Option (Result (List A) NoMemory)) (new : List ℕ)
+    → number old ≡ Some (n, mid) → fits n ≡ true → Makes (only_if ascends (times front n)) mid result new →
+    Makes (only_if test (counted number (times front))) old result new
+unfolding Makes
+counted-fit number front test ascends fits tested old n mid None new e fit m = counted-unordered number front test ascends fits tested old n mid e m
+counted-fit number front test ascends fits tested old n mid (Some result) new e fit m =
+    let whole = counted-ordered number front test ascends fits tested old n mid m.0 new e m.1 in
+    (m.0, only_if-read test (counted number (times front)) old m.0 new whole.0 (whole.1 ∙ fit), m.2)
+
+-- bytes with their number in front, where the number doesn't pass
+pub bytes-unfit : (number : Front ℕ) (test : List ℕ → Bool) (fits : ℕ → Bool)
+    → ((n : ℕ) (mid bytes rest : List ℕ) → bytes_front n mid ≡ Some (bytes, rest) → test bytes ≡ fits n)
+    → (old : List ℕ) (n : ℕ) (mid : List ℕ) → number old ≡ Some (n, mid) → fits n ≡ false → only_if test (counted number bytes_front) old ≡ None
+bytes-unfit number test fits tested old n mid e unfit = go (bytes_front n mid) refl
+  where
+    go : (o : Option (List ℕ × List ℕ)) → bytes_front n mid ≡ o → only_if test (counted number bytes_front) old ≡ None
+    go None is =
+        only_if-none test (counted number bytes_front) old
+        (made-none (λ read. read.1) (after number bytes_front) old (after-then_none number bytes_front old n mid e is))
+    go (Some read) is =
+        only_if-fails test (counted number bytes_front) old read.0 read.1
+        (made-read (λ read. read.1) (after number bytes_front) old (n, read.0) read.1 (after-then number bytes_front old n mid read.0 read.1 e is))
+        (tested n mid read.0 read.1 is ∙ unfit)
+
+-- the same, where it passes
+pub bytes-fit : (number : Front ℕ) (test : List ℕ → Bool) (fits : ℕ → Bool)
+    → ((n : ℕ) (mid bytes rest : List ℕ) → bytes_front n mid ≡ Some (bytes, rest) → test bytes ≡ fits n)
+    → (old : List ℕ) (n count : ℕ) (mid : List ℕ) (result : Option (List ℕ)) (new : List ℕ)
+    → number old ≡ Some (n, mid) → fits n ≡ true → count ≡ n → Takes (bytes_front count) mid result new → Takes (only_if test (counted number bytes_front)) old result new
+unfolding Takes
+bytes-fit number test fits tested old n count mid None new e fit same t =
+    only_if-none test (counted number bytes_front) old
+    (made-none (λ read. read.1) (after number bytes_front) old
+    (after-then_none number bytes_front old n mid e (ap (λ k. bytes_front k mid) (sym same) ∙ t)))
+bytes-fit number test fits tested old n count mid (Some bytes) new e fit same t =
+    let read = ap (λ k. bytes_front k mid) (sym same) ∙ t in
+    only_if-read test (counted number bytes_front) old bytes new
+    (made-read (λ read. read.1) (after number bytes_front) old (n, bytes) new (after-then number bytes_front old n mid bytes new e read))
+    (tested n mid bytes new read ∙ fit)

@@ -11,6 +11,7 @@ ghost use Rattle.wire_item.specs.Takings.{Makes};
 ghost use Rattle.wire_item.specs.Valid.{are_ascending_numbers};
 
 use crate::readers::Reader;
+use crate::thing_readers::both;
 use std::alloc::Global;
 use tardis_base::{Batch, ConsentList, Item, MAX_SITES, NoMemory, Record, RecordList, pushed};
 
@@ -60,9 +61,8 @@ impl<'a> Reader<'a> {
         ensures { Makes consents_front self.old result self.new }
     {
         let count = self.u8()?;
-        let consents = self.ascending_consents(alloc, count)?;
         if is_consent_count(count) {
-            Some(consents)
+            self.ascending_consents(alloc, count)
         } else {
             None
         }
@@ -118,8 +118,6 @@ fn batch_of_parts(
     ensures { (rs : List Record) (cs : List Consent) → IfOk records (λ l. l ≡ rs) → IfOk consents (λ l. l ≡ cs)
         → IfOk result (λ b. b ≡ record { records = rs; consents = cs }) }
 {
-    Ok(Batch {
-        records: records?,
-        consents: consents?,
-    })
+    let (records, consents) = both(records, consents)?;
+    Ok(Batch { records, consents })
 }

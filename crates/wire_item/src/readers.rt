@@ -102,9 +102,8 @@ impl<'a> Reader<'a> {
         ensures { Takes key_front self.old (option_copied result) self.new }
     {
         let count = self.u8()?;
-        let key = self.bytes(usize::from(count))?;
         if is_key_length(count) {
-            Some(key)
+            self.bytes(usize::from(count))
         } else {
             None
         }
@@ -115,9 +114,8 @@ impl<'a> Reader<'a> {
         ensures { Takes value_front self.old (option_copied result) self.new }
     {
         let count = self.u16()?;
-        let value = self.bytes(usize::from(count))?;
         if is_value_length(count) {
-            Some(value)
+            self.bytes(usize::from(count))
         } else {
             None
         }

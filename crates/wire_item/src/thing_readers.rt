@@ -3,7 +3,7 @@
 //! Whether bytes are a spelling doesn't depend on memory: where memory is wanting for a thing, the reader goes on behind
 //! it all the same.
 
-ghost use Rattle.std.specs.Prelude.{◌≡◌, ℕ, ◌==◌, ◌&&◌, ◌++◌, [], ◌∷◌, List, true, not, nat_le, nat_lt, IfOk};
+ghost use Rattle.std.specs.Prelude.{◌≡◌, ℕ, ◌==◌, ◌&&◌, ◌++◌, [], ◌∷◌, ◌⊎◌, List, Ok, true, not, nat_le, nat_lt, IfOk, IsErr, OnErr};
 ghost use Rattle.std.specs.Option.{option_map_or};
 ghost use Rattle.tardis_base.specs.Ids.{are_ascending, is_before, root, same_id};
 ghost use Rattle.tardis_base.specs.Keys.{are_ascending_keys, keys_of, with_write};
@@ -44,9 +44,8 @@ impl<'a> Reader<'a> {
         ensures { Makes parents_front self.old result self.new }
     {
         let count = self.u8()?;
-        let parents = self.ascending_ids(alloc, count)?;
         if is_parent_count(count) {
-            Some(parents)
+            self.ascending_ids(alloc, count)
         } else {
             None
         }
@@ -73,9 +72,8 @@ impl<'a> Reader<'a> {
         ensures { Makes writes_front self.old result self.new }
     {
         let count = self.u8()?;
-        let writes = self.ascending_writes(alloc, count)?;
         if is_write_count(count) {
-            Some(writes)
+            self.ascending_writes(alloc, count)
         } else {
             None
         }
@@ -88,10 +86,10 @@ impl<'a> Reader<'a> {
         let mut last = None;
         for _place in 0..count {
             let key = self.key()?;
-            let write = self.write(alloc)?;
             if !key_follows(last, key) {
                 return None;
             }
+            let write = self.write(alloc)?;
             writes = inserted(alloc, writes, key, write);
             last = Some(key);
         }
@@ -102,13 +100,12 @@ impl<'a> Reader<'a> {
         ensures { Makes record_front self.old result self.new }
     {
         let id = self.id()?;
+        if is_root(id) {
+            return None;
+        }
         let parents = self.parents(alloc)?;
         let writes = self.writes(alloc)?;
-        if is_root(id) {
-            None
-        } else {
-            Some(record_of_parts(id, parents, writes))
-        }
+        Some(record_of_parts(id, parents, writes))
     }
 
     pub fn consent(&mut self) -> Option<Consent>
@@ -185,14 +182,26 @@ fn inserted(
 ) -> Result<WriteSet, NoMemory>
     ensures { (ws : List (List ℕ × Write)) (w : Write) → IfOk writes (λ s. s ≡ ws) → IfOk write (λ v. v ≡ w) → IfOk result (λ s. s ≡ with_write key.now w ws) }
 {
-    let mut writes = writes?;
+    let (mut writes, write) = both(writes, write)?;
     match Key::new(alloc, key) {
         Ok(key) => {
-            writes.insert(key, write?)?;
+            writes.insert(key, write)?;
             Ok(writes)
         },
         Err(_) => Err(NoMemory),
     }
+}
+
+/// Both things, where there was memory for both.
+pub(crate) fn both<A: Drop, B: Drop>(
+    first: Result<A, NoMemory>,
+    second: Result<B, NoMemory>,
+) -> Result<(A, B), NoMemory>
+    ensures both { IfOk result (λ p. (first ≡ Ok p.0) × (second ≡ Ok p.1)) }
+    ensures fault { OnErr result (IsErr first ⊎ IsErr second) }
+{
+    let first = first?;
+    Ok((first, second?))
 }
 
 fn record_of_parts(
@@ -203,9 +212,10 @@ fn record_of_parts(
     ensures { (xs : List StateId) (ws : List (List ℕ × Write)) → IfOk parents (λ l. l ≡ xs) → IfOk writes (λ s. s ≡ ws)
         → IfOk result (λ r. r ≡ record { id = id; parents = xs; writes = ws }) }
 {
+    let (parents, writes) = both(parents, writes)?;
     Ok(Record {
         id,
-        parents: parents?,
-        writes: writes?,
+        parents,
+        writes,
     })
 }

@@ -5,11 +5,11 @@ use Rattle.std.proofs.lemmas.Bool.{and_parts}
 use Rattle.std.specs.List.{list_all}
 use Rattle.std.specs.Prelude.{Result, Ok, Err, IfOk, option_map}
 use Rattle.tardis_base.specs.declared.faults.NoMemory.{NoMemory}
-use Rattle.wire_item.specs.Fronts.{Front, made, front_of_code, by_code}
+use Rattle.wire_item.specs.Fronts.{Front, both, made, front_of_code, by_code}
 use Rattle.wire_item.specs.Readings.{u8_front}
 use Rattle.wire_item.specs.Takings.{Takes, Makes}
 use Rattle.wire_item.proofs.Fronts.{Made, made-read, made-source}
-use Rattle.wire_item.proofs.Takings.{taken, untaken, takes, takes-none, making, makes, makes-none, made-none}
+use Rattle.wire_item.proofs.Takings.{taken, untaken, takes, takes-none, making, makes, makes-none, made-none, after-none, after-then_none, after-then}
 use Rattle.wire_item.proofs.Codes.{code-read}
 
 -- no row has a code as great as this
@@ -98,3 +98,27 @@ sure-arm rows k code front old new x r e row is t =
 pub sure-free : {A : Type 0} (x : Option A) (r : Option (Result A NoMemory)) (e : NoMemory) → r ≡ option_map Ok x → r ≡ Some (Err e) → ⊥
 sure-free None r e is fault = absurd (cc)
 sure-free (Some a) r e is fault = absurd (cc)
+
+-- the arm of a code, where a function reads what stands behind it
+pub arm-behind : {B : Type 0} (rows : List (ℕ × Front B)) (k code : ℕ) (old : List ℕ) (r : Option B) (new : List ℕ)
+    → code ≡ k → Takes (front_of_code k rows) old r new → Takes (front_of_code code rows) old r new
+arm-behind rows k code old r new e t = subst (λ j. Takes (front_of_code j rows) old r new) (sym e) t
+
+-- two things, of which the first is not there
+pub both-lost : {A B : Type 0} (first : Front A) (second : Front B) (old new : List ℕ) → Takes first old None new → Takes (both first second) old None new
+both-lost first second old new t =
+    takes-none (both first second) old new None refl (after-none first (λ _. second) old (untaken first old new t))
+
+-- two things, of which the second is not there
+pub both-lost-later : {A B : Type 0} (first : Front A) (second : Front B) (old : List ℕ) (a : A) (mid new : List ℕ)
+    → Takes first old (Some a) mid → Takes second mid None new → Takes (both first second) old None new
+both-lost-later first second old a mid new t u =
+    takes-none (both first second) old new None refl
+    (after-then_none first (λ _. second) old a mid (taken first old mid a t) (untaken second mid new u))
+
+-- two things that are there
+pub both-read : {A B : Type 0} (first : Front A) (second : Front B) (old : List ℕ) (a : A) (mid : List ℕ) (b : B) (new : List ℕ)
+    → Takes first old (Some a) mid → Takes second mid (Some b) new → Takes (both first second) old (Some (a, b)) new
+both-read first second old a mid b new t u =
+    takes (both first second) old new (a, b)
+    (after-then first (λ _. second) old a mid b new (taken first old mid a t) (taken second mid new b u))

@@ -9,7 +9,9 @@ use Rattle.tardis_base.specs.Valid.{is_u32, is_within, is_id, is_key}
 use Rattle.tardis_base.proofs.TestParts.{and-true}
 use Rattle.wire_item.specs.Fronts.{Front, after, both, counted, only_if, times}
 use Rattle.wire_item.specs.Readings.{id_front, key_front}
-use Rattle.wire_item.specs.Takings.{Takes}
+use Rattle.std.specs.Prelude.{Result}
+use Rattle.tardis_base.specs.declared.faults.NoMemory.{NoMemory}
+use Rattle.wire_item.specs.Takings.{Takes, Makes}
 use Rattle.wire_item.proofs.Fronts.{only_if-read, only_if-source}
 use Rattle.wire_item.proofs.Takings.{made-none, only_if-none, only_if-fails, after-then_none, after-then}
 use Rattle.wire_item.proofs.Ways.{many-times}
@@ -95,3 +97,18 @@ fit-takes number front test fits tested old n mid None new e fit t =
     (made-none (λ read. read.1) (after number (times front)) old (after-then_none number (times front) old n mid e t))
 fit-takes number front test fits tested old n mid (Some xs) new e fit t =
     only_if-read test (counted number (times front)) old xs new (counted-read number front old n mid xs new e t) (tested n mid xs new t ∙ fit)
+
+-- the same where memory may be wanting
+pub fit-makes : {A : Type 0} (number : Front ℕ) (front : Front A) (test : List A → Bool) (fits : ℕ → Bool)
+    → ((n : ℕ) (mid : List ℕ) (xs : List A) (rest : List ℕ) → times front n mid ≡ Some (xs, rest) → test xs ≡ fits n)
+    → (old : List ℕ) (n : ℕ) (mid : List ℕ) (result : Option (Result (List A) NoMemory)) (new : List ℕ) → number old ≡ Some (n, mid) → fits n ≡ true
+    → Makes (times front n) mid result new → Makes (only_if test (counted number (times front))) old result new
+unfolding Makes
+fit-makes number front test fits tested old n mid None new e fit m =
+    only_if-none test (counted number (times front)) old
+    (made-none (λ read. read.1) (after number (times front)) old (after-then_none number (times front) old n mid e m))
+fit-makes number front test fits tested old n mid (Some result) new e fit m = (
+  m.0,
+  only_if-read test (counted number (times front)) old m.0 new (counted-read number front old n mid m.0 new e m.1) (tested n mid m.0 new m.1 ∙ fit),
+  m.2,
+)

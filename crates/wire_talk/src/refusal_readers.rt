@@ -1,10 +1,10 @@
 //! Reading refusals, and the fields that refusals and replies have, from the front of bytes.
 
-ghost use Rattle.std.specs.Prelude.{◌≡◌, ◌<◌, ◌≤◌, ℕ, List, Some, Ok, Err, IfOk, IsTrue, option_map};
+ghost use Rattle.std.specs.Prelude.{◌≡◌, ◌⊎◌, ℕ, List, Some, Ok, Err, IfOk, IsTrue, option_map};
 ghost use Rattle.tardis_base.specs.declared.faults.NoMemory.{NoMemory};
 ghost use Rattle.tardis_base.specs.declared.replies.Refusal.{Refusal};
 ghost use Rattle.wire_item.specs.Fronts.{both, front_of_code, only_if};
-ghost use Rattle.wire_item.specs.Readings.{id_front, key_front, u16_front, u32_front, u8_front};
+ghost use Rattle.wire_item.specs.Readings.{id_front, key_front, u32_front, u8_front};
 ghost use Rattle.wire_item.specs.Takings.{Makes, Takes};
 ghost use Rattle.wire_talk.specs.Memory.{refusal_takes_no_memory};
 ghost use Rattle.wire_talk.specs.ReplyReadings.{refusal_front, refusal_rows};
@@ -34,136 +34,156 @@ fn plain_refusal(reader: &mut Reader<'_>, code: u8) -> Option<Refusal>
     requires no_open_conflict { code ≡ 14 → ⊥ }
     ensures { Takes (front_of_code code refusal_rows) reader.old result reader.new }
 {
-    if code < 13 {
-        low_refusal(reader, code)
-    } else if code < 23 {
-        middle_refusal(reader, code)
-    } else {
-        high_refusal(reader, code)
-    }
-}
-
-/// The refusal of a code below 13.
-fn low_refusal(reader: &mut Reader<'_>, code: u8) -> Option<Refusal>
-    requires { code < 13 }
-    ensures { Takes (front_of_code code refusal_rows) reader.old result reader.new }
-{
     match code {
         1 => Some(Refusal::Malformed),
         2 => Some(Refusal::NotOpen),
         3 => Some(Refusal::AlreadyOpen),
-        4 => Some(Refusal::SessionsFull { n: reader.u16()? }),
         5 => Some(Refusal::TxnOpen),
         6 => Some(Refusal::NoTxn),
         7 => Some(Refusal::WrongMode),
-        8 => {
-            let pair = what_and_u32(reader)?;
-            Some(Refusal::TooMany {
-                what: pair.0,
-                n: pair.1,
-            })
-        },
-        9 => Some(Refusal::Unknown {
-            state: reader.id()?,
-        }),
-        10 => {
-            let pair = two_ids(reader)?;
-            Some(Refusal::Below {
-                state: pair.0,
-                ceiling: pair.1,
-            })
-        },
-        11 => {
-            let pair = two_ids(reader)?;
-            Some(Refusal::Comparable {
-                a: pair.0,
-                b: pair.1,
-            })
-        },
-        12 => Some(Refusal::NotRead {
-            state: reader.id()?,
-        }),
-        _ => None,
-    }
-}
-
-/// The refusal of a code from 15 to 22.
-fn middle_refusal(reader: &mut Reader<'_>, code: u8) -> Option<Refusal>
-    requires from { 15 ≤ code }
-    requires to { code < 23 }
-    ensures { Takes (front_of_code code refusal_rows) reader.old result reader.new }
-{
-    match code {
-        15 => {
-            let parts = constraint_id_and_u32(reader)?;
-            Some(Refusal::Branches {
-                constraint: parts.0.0,
-                state: parts.0.1,
-                children: parts.1,
-            })
-        }
-        16 => Some(Refusal::CeilingBack {
-            ceiling: reader.id()?,
-        }),
-        17 => Some(Refusal::FloorBack {
-            floor: reader.id()?,
-        }),
-        18 => {
-            let pair = u16_and_id(reader)?;
-            Some(Refusal::Held {
-                session: pair.0,
-                ceiling: pair.1,
-            })
-        },
-        19 => Some(Refusal::Collected {
-            state: reader.id()?,
-        }),
-        20 => Some(Refusal::Full {
-            kept: reader.u32()?,
-        }),
-        21 => {
-            let pair = id_and_u32(reader)?;
-            Some(Refusal::PathFull {
-                state: pair.0,
-                pairs: pair.1,
-            })
-        },
         22 => Some(Refusal::SeqEnd),
+        4 | 23 => read_with_u16(reader, code),
+        20 | 28 | 29 => read_with_u32(reader, code),
+        9 | 12 | 16 | 17 | 19 | 24 => read_with_id(reader, code),
+        10 | 11 => read_with_two_ids(reader, code),
+        8 => read_too_many(reader),
+        15 => read_branches(reader),
+        18 => read_held(reader),
+        21 => read_path_full(reader),
+        25 => read_own_item(reader),
+        26 => read_trail_full(reader),
+        27 => read_unsupported(reader),
         _ => None,
     }
 }
 
-/// The refusal of a code from 23 on.
-fn high_refusal(reader: &mut Reader<'_>, code: u8) -> Option<Refusal>
-    requires { 23 ≤ code }
+/// The refusal of a code with one number of 16 bits behind it.
+fn read_with_u16(reader: &mut Reader<'_>, code: u8) -> Option<Refusal>
+    requires { (code ≡ 4) ⊎ (code ≡ 23) }
     ensures { Takes (front_of_code code refusal_rows) reader.old result reader.new }
 {
+    let number = reader.u16()?;
     match code {
-        23 => Some(Refusal::BadSite {
-            site: reader.u16()?,
-        }),
-        24 => Some(Refusal::ClosedParent {
-            state: reader.id()?,
-        }),
-        25 => {
-            let pair = u16_and_u32(reader)?;
-            Some(Refusal::OwnItem {
-                site: pair.0,
-                number: pair.1,
-            })
-        },
-        26 => Some(Refusal::TrailFull {
-            bytes: reader.u64()?,
-        }),
-        27 => Some(Refusal::Unsupported { op: reader.u8()? }),
-        28 => Some(Refusal::NoSuchItem {
-            batches: reader.u32()?,
-        }),
-        29 => Some(Refusal::BagFull {
-            batches: reader.u32()?,
-        }),
+        4 => Some(Refusal::SessionsFull { n: number }),
+        23 => Some(Refusal::BadSite { site: number }),
         _ => None,
     }
+}
+
+/// The refusal of a code with one number of 32 bits behind it.
+fn read_with_u32(reader: &mut Reader<'_>, code: u8) -> Option<Refusal>
+    requires { (code ≡ 20) ⊎ ((code ≡ 28) ⊎ (code ≡ 29)) }
+    ensures { Takes (front_of_code code refusal_rows) reader.old result reader.new }
+{
+    let number = reader.u32()?;
+    match code {
+        20 => Some(Refusal::Full { kept: number }),
+        28 => Some(Refusal::NoSuchItem { batches: number }),
+        29 => Some(Refusal::BagFull { batches: number }),
+        _ => None,
+    }
+}
+
+/// The refusal of a code with one id behind it.
+fn read_with_id(reader: &mut Reader<'_>, code: u8) -> Option<Refusal>
+    requires { (code ≡ 9) ⊎ ((code ≡ 12) ⊎ ((code ≡ 16) ⊎ ((code ≡ 17) ⊎ ((code ≡ 19) ⊎ (code ≡ 24))))) }
+    ensures { Takes (front_of_code code refusal_rows) reader.old result reader.new }
+{
+    let id = reader.id()?;
+    match code {
+        9 => Some(Refusal::Unknown { state: id }),
+        12 => Some(Refusal::NotRead { state: id }),
+        16 => Some(Refusal::CeilingBack { ceiling: id }),
+        17 => Some(Refusal::FloorBack { floor: id }),
+        19 => Some(Refusal::Collected { state: id }),
+        24 => Some(Refusal::ClosedParent { state: id }),
+        _ => None,
+    }
+}
+
+/// The refusal of a code with two ids behind it.
+fn read_with_two_ids(reader: &mut Reader<'_>, code: u8) -> Option<Refusal>
+    requires { (code ≡ 10) ⊎ (code ≡ 11) }
+    ensures { Takes (front_of_code code refusal_rows) reader.old result reader.new }
+{
+    let a = reader.id()?;
+    let b = reader.id()?;
+    match code {
+        10 => Some(Refusal::Below {
+            state: a,
+            ceiling: b,
+        }),
+        11 => Some(Refusal::Comparable { a, b }),
+        _ => None,
+    }
+}
+
+/// What stands behind the code of too much of something.
+fn read_too_many(reader: &mut Reader<'_>) -> Option<Refusal>
+    ensures { Takes (front_of_code 8 refusal_rows) reader.old result reader.new }
+{
+    let what = what(reader)?;
+    let n = reader.u32()?;
+    Some(Refusal::TooMany { what, n })
+}
+
+/// What stands behind the code of a commit that would branch.
+fn read_branches(reader: &mut Reader<'_>) -> Option<Refusal>
+    ensures { Takes (front_of_code 15 refusal_rows) reader.old result reader.new }
+{
+    let constraint = constraint(reader)?;
+    let state = reader.id()?;
+    let children = reader.u32()?;
+    Some(Refusal::Branches {
+        constraint,
+        state,
+        children,
+    })
+}
+
+/// What stands behind the code of a state that a session holds.
+fn read_held(reader: &mut Reader<'_>) -> Option<Refusal>
+    ensures { Takes (front_of_code 18 refusal_rows) reader.old result reader.new }
+{
+    let session = reader.u16()?;
+    let ceiling = reader.id()?;
+    Some(Refusal::Held { session, ceiling })
+}
+
+/// What stands behind the code of a full path.
+fn read_path_full(reader: &mut Reader<'_>) -> Option<Refusal>
+    ensures { Takes (front_of_code 21 refusal_rows) reader.old result reader.new }
+{
+    let pair = id_and_u32(reader)?;
+    Some(Refusal::PathFull {
+        state: pair.0,
+        pairs: pair.1,
+    })
+}
+
+/// What stands behind the code of an item of the site's own.
+fn read_own_item(reader: &mut Reader<'_>) -> Option<Refusal>
+    ensures { Takes (front_of_code 25 refusal_rows) reader.old result reader.new }
+{
+    let site = reader.u16()?;
+    let number = reader.u32()?;
+    Some(Refusal::OwnItem { site, number })
+}
+
+/// What stands behind the code of a full trail.
+fn read_trail_full(reader: &mut Reader<'_>) -> Option<Refusal>
+    ensures { Takes (front_of_code 26 refusal_rows) reader.old result reader.new }
+{
+    let bytes = reader.u64()?;
+    Some(Refusal::TrailFull { bytes })
+}
+
+/// What stands behind the code of an unsupported operation.
+fn read_unsupported(reader: &mut Reader<'_>) -> Option<Refusal>
+    ensures { Takes (front_of_code 27 refusal_rows) reader.old result reader.new }
+{
+    let op = reader.u8()?;
+    Some(Refusal::Unsupported { op })
 }
 
 pub(crate) fn id_and_u32(reader: &mut Reader<'_>) -> Option<(StateId, u32)>
@@ -172,47 +192,6 @@ pub(crate) fn id_and_u32(reader: &mut Reader<'_>) -> Option<(StateId, u32)>
     let id = reader.id()?;
     let number = reader.u32()?;
     Some((id, number))
-}
-
-fn two_ids(reader: &mut Reader<'_>) -> Option<(StateId, StateId)>
-    ensures { Takes (both id_front id_front) reader.old result reader.new }
-{
-    let first = reader.id()?;
-    let second = reader.id()?;
-    Some((first, second))
-}
-
-fn u16_and_id(reader: &mut Reader<'_>) -> Option<(u16, StateId)>
-    ensures { Takes (both u16_front id_front) reader.old result reader.new }
-{
-    let number = reader.u16()?;
-    let id = reader.id()?;
-    Some((number, id))
-}
-
-fn u16_and_u32(reader: &mut Reader<'_>) -> Option<(u16, u32)>
-    ensures { Takes (both u16_front u32_front) reader.old result reader.new }
-{
-    let first = reader.u16()?;
-    let second = reader.u32()?;
-    Some((first, second))
-}
-
-fn what_and_u32(reader: &mut Reader<'_>) -> Option<(u8, u32)>
-    ensures { Takes (both (only_if is_what u8_front) u32_front) reader.old result reader.new }
-{
-    let what = what(reader)?;
-    let number = reader.u32()?;
-    Some((what, number))
-}
-
-fn constraint_id_and_u32(reader: &mut Reader<'_>) -> Option<((u8, StateId), u32)>
-    ensures { Takes (both (both (only_if is_constraint u8_front) id_front) u32_front) reader.old result reader.new }
-{
-    let constraint = constraint(reader)?;
-    let id = reader.id()?;
-    let number = reader.u32()?;
-    Some(((constraint, id), number))
 }
 
 /// What there was too much of.

@@ -111,9 +111,8 @@ fn first_ids(alloc: Global, total: u32, reader: &mut Reader) -> Option<Result<St
     ensures { Makes (only_if (are_first_ids total) (counted u16_front (times id_front))) reader.old result reader.new }
 {
     let count = reader.u16()?;
-    let first = ids(alloc, u32::from(count), reader)?;
     if is_first_of(total, count) {
-        Some(first)
+        ids(alloc, u32::from(count), reader)
     } else {
         None
     }
@@ -124,9 +123,8 @@ fn first_keys(alloc: Global, total: u32, reader: &mut Reader) -> Option<Result<K
     ensures { Makes (only_if (are_first_keys total) (counted u16_front (times key_front))) reader.old result reader.new }
 {
     let count = reader.u16()?;
-    let first = keys(alloc, count, reader)?;
     if is_first_of(total, count) {
-        Some(first)
+        keys(alloc, count, reader)
     } else {
         None
     }

@@ -53,15 +53,12 @@ fn low_reply(alloc: Global, code: u8, reader: &mut Reader) -> Option<Result<Repl
         → IsTrue (reply_takes_no_memory r) → result ≡ Some (Err e) → ⊥ }
 {
     match code {
-        1 => sure(read_with_id(code, reader)),
-        2 => sure(read_with_id(code, reader)),
+        1 | 2 | 5 | 9 => sure(read_with_id(code, reader)),
         3 => read_merging(alloc, reader),
         4 => read_value(alloc, reader),
-        5 => sure(read_with_id(code, reader)),
         6 => Some(Ok(Reply::Absent)),
         7 => Some(Ok(Reply::Done)),
         8 => read_committed(alloc, reader),
-        9 => sure(read_with_id(code, reader)),
         10 => read_states(alloc, reader),
         11 => read_keys(alloc, reader),
         _ => None,
@@ -77,13 +74,12 @@ fn high_reply(alloc: Global, code: u8, reader: &mut Reader) -> Option<Result<Rep
 {
     match code {
         12 => sure(read_raised(reader)),
-        13 => sure(read_with_count(code, reader)),
+        13 | 19 => sure(read_with_count(code, reader)),
         14 => sure(read_statistics(reader)),
         15 => read_shown(alloc, reader),
         16 => read_batch(alloc, reader),
         17 => Some(Ok(Reply::Applied)),
         18 => Some(Ok(Reply::Known)),
-        19 => sure(read_with_count(code, reader)),
         20 => Some(Ok(Reply::Closed)),
         21 => read_refused(alloc, reader),
         22 => Some(Ok(Reply::NoMemory)),

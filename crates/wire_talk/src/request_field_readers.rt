@@ -68,12 +68,11 @@ pub fn read_pull(alloc: Global, reader: &mut Reader) -> Option<Result<Request, N
     ensures { Makes (made Request.Pull counts_front) reader.old result reader.new }
 {
     let count = reader.u8()?;
-    let counts = numbers(alloc, count, reader)?;
-    if is_count_of_sites(count) {
-        Some(pull(counts))
-    } else {
-        None
+    if !is_count_of_sites(count) {
+        return None;
     }
+    let counts = numbers(alloc, count, reader)?;
+    Some(pull(counts))
 }
 
 pub fn read_deliver(alloc: Global, reader: &mut Reader) -> Option<Result<Request, NoMemory>>

@@ -5,7 +5,8 @@
 ghost use Rattle.std.specs.Prelude.{◌≡◌, ◌≤◌, ◌↔◌, ◌⊎◌, None, Some, Err, IfOk, IsTrue};
 ghost use Rattle.tardis_base.specs.declared.faults.NoMemory.{NoMemory};
 ghost use Rattle.tardis_base.specs.declared.requests.Request.{Request};
-ghost use Rattle.wire_item.specs.Fronts.{front_of_code};
+ghost use Rattle.wire_item.specs.Fronts.{front_of_code, made};
+ghost use Rattle.wire_item.specs.Readings.{u16_front};
 ghost use Rattle.wire_item.specs.Takings.{Makes, Takes};
 ghost use Rattle.wire_talk.specs.Codes.{code_of};
 ghost use Rattle.wire_talk.specs.Memory.{takes_no_memory};
@@ -53,12 +54,10 @@ fn fields(alloc: Global, code: u8, reader: &mut Reader) -> Option<Result<Request
         9 => Some(Ok(Request::ForkPoints)),
         10 => read_conflicts(alloc, reader),
         11 => read_get_for(alloc, reader),
-        12 => sure(read_with_id(code, reader)),
-        13 => sure(read_with_id(code, reader)),
+        12 | 13 | 17 => sure(read_with_id(code, reader)),
         14 => Some(Ok(Request::RaiseAuto)),
-        15 => Some(Ok(Request::Tidy { n: reader.u16()? })),
+        15 => sure(read_tidy(reader)),
         16 => Some(Ok(Request::Stat)),
-        17 => sure(read_with_id(code, reader)),
         18 => Some(Ok(Request::Leaves)),
         19 => read_pull(alloc, reader),
         20 => read_deliver(alloc, reader),
@@ -77,6 +76,14 @@ fn read_owned(alloc: Global, code: u8, reader: &mut Reader) -> Option<Result<Req
 {
     let lent = lent_fields(code, reader)?;
     Some(owned(alloc, lent))
+}
+
+/// What stands behind the code of a request to tidy.
+fn read_tidy(reader: &mut Reader) -> Option<Request>
+    ensures { Takes (made Request.Tidy u16_front) reader.old result reader.new }
+{
+    let n = reader.u16()?;
+    Some(Request::Tidy { n })
 }
 
 /// What stands behind the code of a request about one state.

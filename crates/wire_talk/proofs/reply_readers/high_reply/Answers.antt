@@ -24,13 +24,6 @@ returns-in-13-clause-read c =
 pub returns-in-13-clause-sure : goal.returns-in-13-clause-sure
 returns-in-13-clause-sure c = λ r rest e read sure is. sure-free c.read_with_count.result c.sure-in-13.result e c.sure-in-13.ensures is
 
-pub returns-in-19-clause-read : goal.returns-in-19-clause-read
-returns-in-19-clause-read c =
-    sure-makes (front_of_code c.args.code reply_rows) c.args.reader.now c.read_with_count-in-19.new.reader c.read_with_count-in-19.result c.sure-in-19.result c.sure-in-19.ensures c.read_with_count-in-19.ensures
-
-pub returns-in-19-clause-sure : goal.returns-in-19-clause-sure
-returns-in-19-clause-sure c = λ r rest e read sure is. sure-free c.read_with_count-in-19.result c.sure-in-19.result e c.sure-in-19.ensures is
-
 pub returns-in-14-clause-read : goal.returns-in-14-clause-read
 returns-in-14-clause-read c =
     sure-arm reply_rows 14 c.args.code (made (λ p. Statistics p.0.0.0.0 p.0.0.0.1 p.0.0.1 p.0.1 p.1)
@@ -68,6 +61,6 @@ returns-in-21-clause-sure c = λ r rest e read sure is.
 
 pub returns-in_default-clause-read : goal.returns-in_default-clause-read
 returns-in_default-clause-read c =
-    let great : 23 ≤ c.args.code = omega arith in
+    let great : 23 ≤ c.args.code = grind arith in
     makes-none (front_of_code c.args.code reply_rows) c.args.reader.now c.args.reader.now None refl
     (front-beyond 23 reply_rows c.args.code c.args.reader.now refl great)

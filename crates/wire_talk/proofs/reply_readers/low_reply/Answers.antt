@@ -15,27 +15,6 @@ returns-in-1-clause-read c =
 pub returns-in-1-clause-sure : goal.returns-in-1-clause-sure
 returns-in-1-clause-sure c = λ r rest e read sure is. sure-free c.read_with_id.result c.sure.result e c.sure.ensures is
 
-pub returns-in-2-clause-read : goal.returns-in-2-clause-read
-returns-in-2-clause-read c =
-    sure-makes (front_of_code c.args.code reply_rows) c.args.reader.now c.read_with_id-in-2.new.reader c.read_with_id-in-2.result c.sure-in-2.result c.sure-in-2.ensures c.read_with_id-in-2.ensures
-
-pub returns-in-2-clause-sure : goal.returns-in-2-clause-sure
-returns-in-2-clause-sure c = λ r rest e read sure is. sure-free c.read_with_id-in-2.result c.sure-in-2.result e c.sure-in-2.ensures is
-
-pub returns-in-5-clause-read : goal.returns-in-5-clause-read
-returns-in-5-clause-read c =
-    sure-makes (front_of_code c.args.code reply_rows) c.args.reader.now c.read_with_id-in-5.new.reader c.read_with_id-in-5.result c.sure-in-5.result c.sure-in-5.ensures c.read_with_id-in-5.ensures
-
-pub returns-in-5-clause-sure : goal.returns-in-5-clause-sure
-returns-in-5-clause-sure c = λ r rest e read sure is. sure-free c.read_with_id-in-5.result c.sure-in-5.result e c.sure-in-5.ensures is
-
-pub returns-in-9-clause-read : goal.returns-in-9-clause-read
-returns-in-9-clause-read c =
-    sure-makes (front_of_code c.args.code reply_rows) c.args.reader.now c.read_with_id-in-9.new.reader c.read_with_id-in-9.result c.sure-in-9.result c.sure-in-9.ensures c.read_with_id-in-9.ensures
-
-pub returns-in-9-clause-sure : goal.returns-in-9-clause-sure
-returns-in-9-clause-sure c = λ r rest e read sure is. sure-free c.read_with_id-in-9.result c.sure-in-9.result e c.sure-in-9.ensures is
-
 pub returns-in-6-clause-read : goal.returns-in-6-clause-read
 returns-in-6-clause-read c = arm-plain reply_rows 6 c.args.code Absent c.args.reader.now c.in-6.is refl
 
@@ -68,6 +47,6 @@ returns-in-11-clause-sure c = λ r rest e read sure is.
 
 pub returns-in_default-clause-read : goal.returns-in_default-clause-read
 returns-in_default-clause-read c =
-    let zero : c.args.code ≡ 0 = omega arith in
+    let zero : c.args.code ≡ 0 = grind arith in
     makes-none (front_of_code c.args.code reply_rows) c.args.reader.now c.args.reader.now None refl
     (ap (λ k. front_of_code k reply_rows c.args.reader.now) zero)

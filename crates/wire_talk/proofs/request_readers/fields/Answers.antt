@@ -1,9 +1,8 @@
-use Rattle.std.proofs.Common.{refl, None, Ok, ◌∙◌, ap, arith}
+use Rattle.std.proofs.Common.{refl, None, Ok, ap, arith}
 use Rattle.tardis_base.specs.declared.requests.Request.TheVariants.{Open, Abort, ForkPoints, RaiseAuto, Tidy, Stat, Leaves, Close, Settle}
 use Rattle.wire_item.specs.Fronts.{made, front_of_code}
 use Rattle.wire_item.specs.Readings.{u16_front}
-use Rattle.wire_item.proofs.Fronts.{made-read}
-use Rattle.wire_item.proofs.Takings.{taken, untaken, makes, makes-none, made-none}
+use Rattle.wire_item.proofs.Takings.{makes, makes-none}
 use Rattle.wire_talk.specs.RequestReadings.{flag_front, request_rows}
 use Rattle.wire_talk.proofs.Arms.{sure-arm, sure-free, sure-makes}
 use Rattle.wire_talk.proofs.RequestFields.{rows-other}
@@ -17,40 +16,21 @@ returns-in-1-clause-read c =
 pub returns-in-1-clause-sure : goal.returns-in-1-clause-sure
 returns-in-1-clause-sure c = λ q e code free is. sure-free c.read_open.result c.sure.result e c.sure.ensures is
 
-pub returns-in_err-u16-in-15-clause-read : goal.returns-in_err-u16-in-15-clause-read
-returns-in_err-u16-in-15-clause-read c =
-    let none = untaken u16_front c.args.reader.now c.u16.new.self c.in_err-u16-in-15.ensures in
-    makes-none (front_of_code c.args.code request_rows) c.args.reader.now c.u16.new.self c.from_residual.result
-    c.from_residual.ensures
-    (ap (λ k. front_of_code k request_rows c.args.reader.now) c.in-15.is ∙ made-none Tidy u16_front c.args.reader.now none)
+pub returns-in-15-clause-read : goal.returns-in-15-clause-read
+returns-in-15-clause-read c =
+    sure-arm request_rows 15 c.args.code (made Tidy u16_front) c.args.reader.now c.read_tidy.new.reader c.read_tidy.result c.sure-in-15.result c.in-15.is refl
+    c.sure-in-15.ensures c.read_tidy.ensures
 
-pub returns-in_ok-u16-in-15-clause-read : goal.returns-in_ok-u16-in-15-clause-read
-returns-in_ok-u16-in-15-clause-read c =
-    let read = taken u16_front c.args.reader.now c.u16.new.self c.in_ok-u16-in-15.field-0 c.in_ok-u16-in-15.ensures in
-    makes (front_of_code c.args.code request_rows) c.args.reader.now c.u16.new.self (Ok (Tidy c.in_ok-u16-in-15.field-0)) (Tidy c.in_ok-u16-in-15.field-0)
-    (ap (λ k. front_of_code k request_rows c.args.reader.now) c.in-15.is
-    ∙ made-read Tidy u16_front c.args.reader.now c.in_ok-u16-in-15.field-0 c.u16.new.self read) refl
+pub returns-in-15-clause-sure : goal.returns-in-15-clause-sure
+returns-in-15-clause-sure c = λ q e code free is. sure-free c.read_tidy.result c.sure-in-15.result e c.sure-in-15.ensures is
 
 pub returns-in-12-clause-read : goal.returns-in-12-clause-read
 returns-in-12-clause-read c =
-    sure-makes (front_of_code c.args.code request_rows) c.args.reader.now c.read_with_id.new.reader c.read_with_id.result c.sure-in-12.result c.sure-in-12.ensures c.read_with_id.ensures
+    sure-makes (front_of_code c.args.code request_rows) c.args.reader.now c.read_with_id.new.reader c.read_with_id.result c.sure-in-12.result c.sure-in-12.ensures
+    c.read_with_id.ensures
 
 pub returns-in-12-clause-sure : goal.returns-in-12-clause-sure
 returns-in-12-clause-sure c = λ q e code free is. sure-free c.read_with_id.result c.sure-in-12.result e c.sure-in-12.ensures is
-
-pub returns-in-13-clause-read : goal.returns-in-13-clause-read
-returns-in-13-clause-read c =
-    sure-makes (front_of_code c.args.code request_rows) c.args.reader.now c.read_with_id-in-13.new.reader c.read_with_id-in-13.result c.sure-in-13.result c.sure-in-13.ensures c.read_with_id-in-13.ensures
-
-pub returns-in-13-clause-sure : goal.returns-in-13-clause-sure
-returns-in-13-clause-sure c = λ q e code free is. sure-free c.read_with_id-in-13.result c.sure-in-13.result e c.sure-in-13.ensures is
-
-pub returns-in-17-clause-read : goal.returns-in-17-clause-read
-returns-in-17-clause-read c =
-    sure-makes (front_of_code c.args.code request_rows) c.args.reader.now c.read_with_id-in-17.new.reader c.read_with_id-in-17.result c.sure-in-17.result c.sure-in-17.ensures c.read_with_id-in-17.ensures
-
-pub returns-in-17-clause-sure : goal.returns-in-17-clause-sure
-returns-in-17-clause-sure c = λ q e code free is. sure-free c.read_with_id-in-17.result c.sure-in-17.result e c.sure-in-17.ensures is
 
 pub returns-in-7-clause-read : goal.returns-in-7-clause-read
 returns-in-7-clause-read c =
@@ -90,4 +70,4 @@ returns-in-22-clause-read c =
 pub returns-in_default-clause-read : goal.returns-in_default-clause-read
 returns-in_default-clause-read c =
     makes-none (front_of_code c.args.code request_rows) c.args.reader.now c.args.reader.now None refl
-    (rows-other request_rows 1 22 c.args.code c.args.reader.now refl (λ m low high e. omega (arith, low, high, e)))
+    (rows-other request_rows 1 22 c.args.code c.args.reader.now refl (λ m low high e. grind (arith, low, high, e)))
