@@ -166,6 +166,59 @@ pub answer-made : {A B : Type 0} (free : B → Bool) (f : A → B) (front : Fron
 answer-made {A} {B} free f front text a left result e h =
     subst (λ o. IsAnswerWhere free o result) (sym (ap (option_and_then (λ (read : B × List ℕ). alone read.0 read.1)) (made-read f front text a left e))) h
 
+pub whole-made : {A B : Type 0} (f : A → B) (front : Front A) (text : List ℕ) → whole (made f front) text ≡ option_map f (whole front text)
+whole-made {A} {B} f front text = go (front text)
+  where
+    end : (a : A) (rest : List ℕ) → alone (f a) rest ≡ option_map f (alone a rest)
+    end a [] = refl
+    end a (x ∷ rest) = refl
+
+    go : (o : Option (A × List ℕ)) → option_and_then {T = B × List ℕ} (λ read. alone read.0 read.1)
+        (option_map {T = A × List ℕ} {U = B × List ℕ} (λ read. (f read.0, read.1)) o)
+        ≡ option_map f (option_and_then {T = A × List ℕ} (λ read. alone read.0 read.1) o)
+    go None = refl
+    go (Some read) = end read.0 read.1
+
+-- ---- what is kept of a part that was read
+
+pub kept-ok : {A B : Type 0} (f : A → B) (front : Front A) (text : List ℕ) (a : A) → whole front text ≡ Some a → whole (made f front) text ≡ Some (f a)
+kept-ok f front text a e = whole-made f front text ∙ ap (option_map f) e
+
+pub kept-fault : {A B : Type 0} (free : B → Bool) (f : A → B) (read : Option A) (fault : ReadFault) → ((a : A) → free (f a) ≡ false)
+    → IsAnswerWhere {A = A} (λ _. false) read (Err fault) → IsAnswerWhere free (option_map f read) (Err fault)
+kept-fault free f read Malformed never h = ap (option_map f) h
+kept-fault free f read OutOfMemory never h = (f h.0, ap (option_map f) h.1, never h.0)
+
+pub kept-err : {A B : Type 0} (free : B → Bool) (f : A → B) (front : Front A) (text : List ℕ) (fault : ReadFault) → ((a : A) → free (f a) ≡ false)
+    → IsAnswerWhere {A = A} (λ _. false) (whole front text) (Err fault) → IsAnswerWhere free (whole (made f front) text) (Err fault)
+kept-err {A} {B} free f front text fault never h =
+    subst (λ (o : Option B). IsAnswerWhere free o (Err fault)) (sym (whole-made f front text)) (kept-fault free f (whole front text) fault never h)
+
+pub result-same : {A : Type 0} (read : Option A) (result other : Result A ReadFault) → result ≡ other → IsAnswerWhere (λ _. false) read result
+    → IsAnswerWhere (λ _. false) read other
+result-same {A} read result other e h = subst (λ (r : Result A ReadFault). IsAnswerWhere (λ _. false) read r) e h
+
+pub read-same : {A : Type 0} (front : Front (List A)) (text : List ℕ) (read other : Option (Result (List A) NoMemory × List ℕ)) → read ≡ other
+    → AreRead front text read → AreRead front text other
+read-same {A} front text read other e h = subst (λ (o : Option (Result (List A) NoMemory × List ℕ)). AreRead front text o) e h
+
+-- ---- where words end
+
+more-alone : {A : Type 0} (a : A) (left : List ℕ) → (length left == 0) ≡ false → alone a left ≡ None
+more-alone a [] e = absurd (cc)
+more-alone a (x ∷ left) e = refl
+
+pub whole-none : {A : Type 0} (front : Front A) (text : List ℕ) → front text ≡ None → whole front text ≡ None
+whole-none {A} front text e = ap (option_and_then (λ (read : A × List ℕ). alone read.0 read.1)) e
+
+pub whole-over : {A : Type 0} (front : Front A) (text : List ℕ) (a : A) (left : List ℕ) → front text ≡ Some (a, left) → (length left == 0) ≡ true
+    → whole front text ≡ Some a
+whole-over {A} front text a left e over = ap (option_and_then (λ (read : A × List ℕ). alone read.0 read.1)) e ∙ over-alone a left over
+
+pub whole-more : {A : Type 0} (front : Front A) (text : List ℕ) (a : A) (left : List ℕ) → front text ≡ Some (a, left) → (length left == 0) ≡ false
+    → whole front text ≡ None
+whole-more {A} front text a left e more = ap (option_and_then (λ (read : A × List ℕ). alone read.0 read.1)) e ∙ more-alone a left more
+
 pub states-read : (text : List ℕ) (xs : List StateId) (left : List ℕ) → only_if (λ states. is_merge_of (TheseStates states)) (rest_of (id_until 32)) text
     ≡ Some (xs, left)
     → merge_text text ≡ Some (TheseStates xs, left)
