@@ -196,6 +196,18 @@ named-read : {A : Type 0} (name : List ℕ) (front : Front A) (text left : List 
     → front left ≡ Some (a, rest) → named name front text ≡ Some (a, rest)
 named-read name front text left a rest e h = ap (λ o. read_behind front o None) (sym e) ∙ h
 
+pub named-stop : {A B : Type 0} (f : A → B) (name : List ℕ) (front : Front A) (text : List ℕ) → ◌≡◌ {A = Option (List ℕ)} None (behind name text)
+    → None ≡ whole (made f (named name front)) text
+named-stop {A} {B} f name front text e =
+    ap (λ (o : Option (List ℕ)). option_and_then {T = B × List ℕ} (λ read. alone read.0 read.1)
+    (option_map {T = A × List ℕ} (λ read. (f read.0, read.1)) (read_behind front o None))) e
+
+pub named-step : {A B : Type 0} (f : A → B) (name : List ℕ) (front : Front A) (text left : List ℕ)
+    → ◌≡◌ {A = Option (List ℕ)} (Some left) (behind name text) → whole (made f front) left ≡ whole (made f (named name front)) text
+named-step {A} {B} f name front text left e =
+    ap (λ (o : Option (List ℕ)). option_and_then {T = B × List ℕ} (λ read. alone read.0 read.1)
+    (option_map {T = A × List ℕ} (λ read. (f read.0, read.1)) (read_behind front o None))) e
+
 pub shown-read : (text : List ℕ) (arrival : ℕ) (behind_arrival at_children : List ℕ) (children : List StateId) (behind_children at_path : List ℕ)
     (path : List (StateId × ℕ)) (left : List ℕ)
     → ◌≡◌ {A = Option (ℕ × List ℕ)} (Some (arrival, behind_arrival)) (u64_text text)
