@@ -5,3 +5,4 @@ pub mod Readings
 pub mod Givens
 pub mod Runs
 pub mod Copies
+mod Places

@@ -16,7 +16,7 @@ use Rattle.tardis_base.specs.declared.requests.Request.{Request}
 use Rattle.tardis_base.specs.declared.requests.Request.TheVariants.{BeginMerge, Deliver}
 use Rattle.tardis_base.specs.Valid.{are_bytes, is_id, is_key, is_u32, is_value, is_within}
 use Rattle.tardis_base.proofs.TestParts.{and-true}
-use Rattle.wire_item.specs.Fronts.{Front, alone, made, only_if, times, whole}
+use Rattle.wire_item.specs.Fronts.{Front, alone, both, made, only_if, times, whole}
 use Rattle.wire_item.specs.Laws.{ItemsHaveOneSpelling, RecordsHaveTheirLength, RecordsAreBounded, ConsentsHaveSixteenBytes}
 use Rattle.wire_item.specs.Readings.{item_of}
 use Rattle.wire_item.specs.Spellings.{item_spelling}
@@ -165,6 +165,95 @@ pub answer-made : {A B : Type 0} (free : B → Bool) (f : A → B) (front : Fron
     → front text ≡ Some (a, left) → IsAnswerWhere free (alone (f a) left) result → IsAnswerWhere free (whole (made f front) text) result
 answer-made {A} {B} free f front text a left result e h =
     subst (λ o. IsAnswerWhere free o result) (sym (ap (option_and_then (λ (read : B × List ℕ). alone read.0 read.1)) (made-read f front text a left e))) h
+
+pub whole-made : {A B : Type 0} (f : A → B) (front : Front A) (text : List ℕ) → whole (made f front) text ≡ option_map f (whole front text)
+whole-made {A} {B} f front text = go (front text)
+  where
+    end : (a : A) (rest : List ℕ) → alone (f a) rest ≡ option_map f (alone a rest)
+    end a [] = refl
+    end a (x ∷ rest) = refl
+
+    go : (o : Option (A × List ℕ)) → option_and_then {T = B × List ℕ} (λ read. alone read.0 read.1)
+        (option_map {T = A × List ℕ} {U = B × List ℕ} (λ read. (f read.0, read.1)) o)
+        ≡ option_map f (option_and_then {T = A × List ℕ} (λ read. alone read.0 read.1) o)
+    go None = refl
+    go (Some read) = end read.0 read.1
+
+-- ---- what is kept of a part that was read
+
+pub kept-ok : {A B : Type 0} (f : A → B) (front : Front A) (text : List ℕ) (a : A) → whole front text ≡ Some a → whole (made f front) text ≡ Some (f a)
+kept-ok f front text a e = whole-made f front text ∙ ap (option_map f) e
+
+pub kept-fault : {A B : Type 0} (free : B → Bool) (f : A → B) (read : Option A) (fault : ReadFault) → ((a : A) → free (f a) ≡ false)
+    → IsAnswerWhere {A = A} (λ _. false) read (Err fault) → IsAnswerWhere free (option_map f read) (Err fault)
+kept-fault free f read Malformed never h = ap (option_map f) h
+kept-fault free f read OutOfMemory never h = (f h.0, ap (option_map f) h.1, never h.0)
+
+pub kept-err : {A B : Type 0} (free : B → Bool) (f : A → B) (front : Front A) (text : List ℕ) (fault : ReadFault) → ((a : A) → free (f a) ≡ false)
+    → IsAnswerWhere {A = A} (λ _. false) (whole front text) (Err fault) → IsAnswerWhere free (whole (made f front) text) (Err fault)
+kept-err {A} {B} free f front text fault never h =
+    subst (λ (o : Option B). IsAnswerWhere free o (Err fault)) (sym (whole-made f front text)) (kept-fault free f (whole front text) fault never h)
+
+pub result-same : {A : Type 0} (read : Option A) (result other : Result A ReadFault) → result ≡ other → IsAnswerWhere (λ _. false) read result
+    → IsAnswerWhere (λ _. false) read other
+result-same {A} read result other e h = subst (λ (r : Result A ReadFault). IsAnswerWhere (λ _. false) read r) e h
+
+pub read-same : {A : Type 0} (front : Front (List A)) (text : List ℕ) (read other : Option (Result (List A) NoMemory × List ℕ)) → read ≡ other
+    → AreRead front text read → AreRead front text other
+read-same {A} front text read other e h = subst (λ (o : Option (Result (List A) NoMemory × List ℕ)). AreRead front text o) e h
+
+-- ---- one part after another
+
+pub whole-stop : {A B C : Type 0} (f : A × B → C) (first : Front A) (second : Front B) (text : List ℕ) → ◌≡◌ {A = Option (A × List ℕ)} None (first text)
+    → None ≡ whole (made f (both first second)) text
+whole-stop {A} {B} {C} f first second text e =
+    ap (λ (o : Option (A × List ℕ)). option_and_then {T = C × List ℕ} (λ read. alone read.0 read.1)
+    (option_map {T = (A × B) × List ℕ} (λ read. (f read.0, read.1))
+    (option_and_then {T = A × List ℕ} {U = (A × B) × List ℕ} (λ read. made (λ b. (read.0, b)) second read.1) o))) e
+
+pub whole-step : {A B C : Type 0} (f : A × B → C) (first : Front A) (second : Front B) (text : List ℕ) (a : A) (rest : List ℕ)
+    → ◌≡◌ {A = Option (A × List ℕ)} (Some (a, rest)) (first text) → whole (made (λ b. f (a, b)) second) rest ≡ whole (made f (both first second)) text
+whole-step {A} {B} {C} f first second text a rest e =
+    go (second rest)
+    ∙ ap (λ (o : Option (A × List ℕ)). option_and_then {T = C × List ℕ} (λ read. alone read.0 read.1)
+    (option_map {T = (A × B) × List ℕ} (λ read. (f read.0, read.1))
+    (option_and_then {T = A × List ℕ} {U = (A × B) × List ℕ} (λ read. made (λ b. (read.0, b)) second read.1) o))) e
+  where
+    go : (o : Option (B × List ℕ)) → option_and_then {T = C × List ℕ} (λ read. alone read.0 read.1)
+        (option_map {T = B × List ℕ} (λ read. (f (a, read.0), read.1)) o)
+        ≡ option_and_then {T = C × List ℕ} (λ read. alone read.0 read.1) (option_map {T = (A × B) × List ℕ} (λ read. (f read.0, read.1))
+        (option_map {T = B × List ℕ} {U = (A × B) × List ℕ} (λ read. ((a, read.0), read.1)) o))
+    go None = refl
+    go (Some read) = refl
+
+pub last-stop : {A B : Type 0} (f : A → B) (front : Front A) (text : List ℕ) → ◌≡◌ {A = Option (A × List ℕ)} None (front text)
+    → None ≡ whole (made f front) text
+last-stop {A} {B} f front text e =
+    ap (λ (o : Option (A × List ℕ)). option_and_then {T = B × List ℕ} (λ read. alone read.0 read.1)
+    (option_map {T = A × List ℕ} (λ read. (f read.0, read.1)) o)) e
+
+pub last-step : {A B : Type 0} (f : A → B) (front : Front A) (text : List ℕ) (a : A) (rest : List ℕ)
+    → ◌≡◌ {A = Option (A × List ℕ)} (Some (a, rest)) (front text) → alone (f a) rest ≡ whole (made f front) text
+last-step {A} {B} f front text a rest e =
+    ap (λ (o : Option (A × List ℕ)). option_and_then {T = B × List ℕ} (λ read. alone read.0 read.1)
+    (option_map {T = A × List ℕ} (λ read. (f read.0, read.1)) o)) e
+
+-- ---- where words end
+
+more-alone : {A : Type 0} (a : A) (left : List ℕ) → (length left == 0) ≡ false → alone a left ≡ None
+more-alone a [] e = absurd (cc)
+more-alone a (x ∷ left) e = refl
+
+pub whole-none : {A : Type 0} (front : Front A) (text : List ℕ) → front text ≡ None → whole front text ≡ None
+whole-none {A} front text e = ap (option_and_then (λ (read : A × List ℕ). alone read.0 read.1)) e
+
+pub whole-over : {A : Type 0} (front : Front A) (text : List ℕ) (a : A) (left : List ℕ) → front text ≡ Some (a, left) → (length left == 0) ≡ true
+    → whole front text ≡ Some a
+whole-over {A} front text a left e over = ap (option_and_then (λ (read : A × List ℕ). alone read.0 read.1)) e ∙ over-alone a left over
+
+pub whole-more : {A : Type 0} (front : Front A) (text : List ℕ) (a : A) (left : List ℕ) → front text ≡ Some (a, left) → (length left == 0) ≡ false
+    → whole front text ≡ None
+whole-more {A} front text a left e more = ap (option_and_then (λ (read : A × List ℕ). alone read.0 read.1)) e ∙ more-alone a left more
 
 pub states-read : (text : List ℕ) (xs : List StateId) (left : List ℕ) → only_if (λ states. is_merge_of (TheseStates states)) (rest_of (id_until 32)) text
     ≡ Some (xs, left)

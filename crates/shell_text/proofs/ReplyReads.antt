@@ -13,21 +13,22 @@ use Rattle.tardis_base.specs.declared.records.Batch.{Batch as BatchOf}
 use Rattle.tardis_base.specs.declared.replies.Refusal.{Refusal}
 use Rattle.tardis_base.specs.declared.replies.SiteLine.{SiteLine}
 use Rattle.tardis_base.specs.declared.replies.Reply.{Reply}
-use Rattle.tardis_base.specs.declared.replies.Reply.TheVariants.{Batch, Refused}
+use Rattle.tardis_base.specs.declared.replies.Reply.TheVariants.{Batch, Refused, Shown}
 use Rattle.tardis_base.specs.Ids.{is_before, are_ascending}
 use Rattle.tardis_base.specs.Keys.{is_key_before, are_ascending_keys}
 use Rattle.tardis_base.specs.Valid.{are_parents, is_id, is_key, is_u32, is_within}
 use Rattle.tardis_base.proofs.TestParts.{and-true}
 use Rattle.wire_item.specs.Fronts.{Front, alone, both, counted, made, only_if, times, whole}
 use Rattle.wire_item.specs.Readings.{batch_of}
-use Rattle.wire_item.proofs.Fronts.{only_if-read}
+use Rattle.wire_item.proofs.Fronts.{made-read, only_if-read}
 use Rattle.wire_item.proofs.Progress.{IsOrder, Progress}
-use Rattle.wire_item.proofs.Takings.{after-then}
+use Rattle.wire_item.proofs.Takings.{after-then, after-then_none, made-none}
 use Rattle.wire_item.proofs.Ways.{many-times}
 use Rattle.wire_talk.specs.Memory.{reply_takes_no_memory}
 use Rattle.wire_talk.specs.Valid.{are_first_ids, are_first_keys, are_site_lines, is_first_of, is_site_line}
 use Rattle.text_words.specs.Texts.{behind, hex_bytes, parsed, read_behind, rest_of, spaces, until}
 use Rattle.text_words.proofs.TextReads.{behind-source}
+use Rattle.shell_text.proofs.LineReads.{whole-made, whole-none}
 use Rattle.text_words.proofs.WordsRead.{reads-id-word}
 use Rattle.shell_text.specs.Answers.{AreRead, IsRefusal, IsReply}
 use Rattle.shell_text.specs.ReplyTexts.{batch_from, id_text, is_batch_line, line_reply_of, named, pair_text, refusal_text, reply_text, shown_text}
@@ -195,6 +196,18 @@ named-read : {A : Type 0} (name : List ℕ) (front : Front A) (text left : List 
     → front left ≡ Some (a, rest) → named name front text ≡ Some (a, rest)
 named-read name front text left a rest e h = ap (λ o. read_behind front o None) (sym e) ∙ h
 
+pub named-stop : {A B : Type 0} (f : A → B) (name : List ℕ) (front : Front A) (text : List ℕ) → ◌≡◌ {A = Option (List ℕ)} None (behind name text)
+    → None ≡ whole (made f (named name front)) text
+named-stop {A} {B} f name front text e =
+    ap (λ (o : Option (List ℕ)). option_and_then {T = B × List ℕ} (λ read. alone read.0 read.1)
+    (option_map {T = A × List ℕ} (λ read. (f read.0, read.1)) (read_behind front o None))) e
+
+pub named-step : {A B : Type 0} (f : A → B) (name : List ℕ) (front : Front A) (text left : List ℕ)
+    → ◌≡◌ {A = Option (List ℕ)} (Some left) (behind name text) → whole (made f front) left ≡ whole (made f (named name front)) text
+named-step {A} {B} f name front text left e =
+    ap (λ (o : Option (List ℕ)). option_and_then {T = B × List ℕ} (λ read. alone read.0 read.1)
+    (option_map {T = A × List ℕ} (λ read. (f read.0, read.1)) (read_behind front o None))) e
+
 pub shown-read : (text : List ℕ) (arrival : ℕ) (behind_arrival at_children : List ℕ) (children : List StateId) (behind_children at_path : List ℕ)
     (path : List (StateId × ℕ)) (left : List ℕ)
     → ◌≡◌ {A = Option (ℕ × List ℕ)} (Some (arrival, behind_arrival)) (u64_text text)
@@ -210,20 +223,44 @@ shown-read text arrival behind_arrival at_children children behind_children at_p
     (named-read (codes "children ") (counted u32_text (times id_text)) behind_arrival at_children children behind_children e2 e3)
     (named-read (codes "path ") (counted u32_text (times pair_text)) behind_children at_path path left e4 e5))
 
--- ---- refusals
-
-whole-made : {A B : Type 0} (f : A → B) (front : Front A) (text : List ℕ) → whole (made f front) text ≡ option_map f (whole front text)
-whole-made {A} {B} f front text = go (front text)
+pub shown-whole : (text : List ℕ) (arrival : ℕ) (behind_arrival at_children : List ℕ) (children : List StateId) (behind_children at_path : List ℕ)
+    → ◌≡◌ {A = Option (ℕ × List ℕ)} (Some (arrival, behind_arrival)) (u64_text text)
+    → ◌≡◌ {A = Option (List ℕ)} (Some at_children) (behind (codes "children ") behind_arrival) → counted u32_text (times id_text) at_children
+    ≡ Some (children, behind_children)
+    → ◌≡◌ {A = Option (List ℕ)} (Some at_path) (behind (codes "path ") behind_children)
+    → whole (made (λ p. Shown p.0 p.1.0 p.1.1) shown_text) text
+    ≡ option_map (λ ps. Shown arrival children ps) (whole (counted u32_text (times pair_text)) at_path)
+shown-whole text arrival behind_arrival at_children children behind_children at_path e1 e2 e3 e4 = go (paths at_path) refl
   where
-    end : (a : A) (rest : List ℕ) → alone (f a) rest ≡ option_map f (alone a rest)
-    end a [] = refl
-    end a (x ∷ rest) = refl
+    of : ℕ × (List StateId × List (StateId × ℕ)) → Reply
+    of p = Shown p.0 p.1.0 p.1.1
 
-    go : (o : Option (A × List ℕ)) → option_and_then {T = B × List ℕ} (λ read. alone read.0 read.1)
-        (option_map {T = A × List ℕ} {U = B × List ℕ} (λ read. (f read.0, read.1)) o)
-        ≡ option_map f (option_and_then {T = A × List ℕ} (λ read. alone read.0 read.1) o)
-    go None = refl
-    go (Some read) = end read.0 read.1
+    states : Front (List StateId)
+    states = counted u32_text (times id_text)
+
+    paths : Front (List (StateId × ℕ))
+    paths = counted u32_text (times pair_text)
+
+    end : (ps : List (StateId × ℕ)) (rest : List ℕ) → alone (Shown arrival children ps) rest ≡ option_map (λ qs. Shown arrival children qs) (alone ps rest)
+    end ps [] = refl
+    end ps (x ∷ rest) = refl
+
+    go : (o : Option (List (StateId × ℕ) × List ℕ)) → paths at_path ≡ o
+        → whole (made of shown_text) text ≡ option_map (λ ps. Shown arrival children ps) (whole paths at_path)
+    go None is =
+        whole-none (made of shown_text) text (made-none of shown_text text (after-then_none u64_text
+        (λ _. both (named (codes "children ") states) (named (codes "path ") paths)) text arrival behind_arrival (sym e1)
+        (after-then_none (named (codes "children ") states) (λ _. named (codes "path ") paths) behind_arrival children behind_children
+        (named-read (codes "children ") states behind_arrival at_children children behind_children e2 e3)
+        (ap (λ o. read_behind paths o None) (sym e4) ∙ is))))
+        ∙ sym (ap (option_map (λ ps. Shown arrival children ps)) (whole-none paths at_path is))
+    go (Some read) is =
+        ap (option_and_then (λ (r : Reply × List ℕ). alone r.0 r.1)) (made-read of shown_text text (arrival, (children, read.0)) read.1
+        (shown-read text arrival behind_arrival at_children children behind_children at_path read.0 read.1 e1 e2 e3 e4 is))
+        ∙ end read.0 read.1
+        ∙ sym (ap (λ (o : Option (List (StateId × ℕ) × List ℕ)). option_map (λ ps. Shown arrival children ps) (option_and_then (λ r. alone r.0 r.1) o)) is)
+
+-- ---- refusals
 
 pub refusal-read : (text : List ℕ) (refusal : Refusal) → whole refusal_text text ≡ Some refusal → whole (made Refused refusal_text) text
     ≡ Some (Refused refusal)

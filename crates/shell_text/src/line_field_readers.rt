@@ -3,8 +3,8 @@
 //! Whether a line is one of a request doesn't depend on memory: its words are read before memory is taken, or all the
 //! same where it is wanting.
 
-ghost use Rattle.std.specs.Prelude.{◌≡◌, ℕ, ◌^◌, ◌*◌, ◌+◌, ◌≤◌, List, [], Some, length, nat_le, option_map, IfOk};
-ghost use Rattle.shell_text.specs.Answers.{AreRead, IsAnswer, IsReadInto};
+ghost use Rattle.std.specs.Prelude.{◌≡◌, ℕ, ◌^◌, ◌*◌, ◌+◌, ◌≤◌, List, [], Some, length, nat_le, option_map, false, IfOk};
+ghost use Rattle.shell_text.specs.Answers.{AreRead, IsAnswer, IsAnswerWhere, IsReadInto};
 ghost use Rattle.shell_text.specs.RequestTexts.{after_text, item_from, key_text, leaves_rows, merge_text, value_text};
 ghost use Rattle.tardis_base.specs.declared.ids.StateId.{StateId};
 ghost use Rattle.tardis_base.specs.declared.requests.MergeOf.{MergeOf};
@@ -13,14 +13,14 @@ ghost use Rattle.tardis_base.specs.declared.requests.Request.{Request};
 ghost use Rattle.tardis_base.specs.Sizes.{longest_key, longest_value};
 ghost use Rattle.tardis_base.specs.Valid.{is_within};
 ghost use Rattle.text_words.specs.Texts.{by_prefix, ends, id_until, number_until, parsed, rest_of};
-ghost use Rattle.wire_item.specs.Fronts.{alone, both, made, only_if, times, whole};
+ghost use Rattle.wire_item.specs.Fronts.{Front, alone, both, made, only_if, times, whole};
 ghost use Rattle.wire_talk.specs.Valid.{are_counts, is_merge_of};
 
 use crate::line_word_readers::alone;
 use std::alloc::Global;
 use tardis_base::{
-    ByteList, CountList, Key, MAX_KEY, MAX_SITES, MAX_VALUE, MergeOf, NoMemory, ReadFault, Request,
-    StateId, StateList, Value, pushed,
+    ByteList, CountList, Key, ListOf, MAX_KEY, MAX_SITES, MAX_VALUE, MergeOf, NoMemory, ReadFault,
+    Request, StateId, StateList, Value, pushed,
 };
 use text_words::{Words, read_bytes, read_hex};
 use wire_item::{read_item, spellings_have_their_lengths, things_have_one_spelling};
@@ -92,14 +92,15 @@ fn is_value_length(count: usize) -> bool
     count <= MAX_VALUE
 }
 
-pub fn read_get(alloc: Global, words: &Words) -> Result<Request, ReadFault>
-    ensures { IsAnswer (whole (made Request.Get key_text) words.now) result }
+/// The key, where nothing is left behind it.
+pub fn key_alone(alloc: Global, words: &Words) -> Result<Key, ReadFault>
+    ensures { IsAnswerWhere (λ _. false) (whole key_text words.now) result }
 {
     let mut room = [0; MAX_KEY];
     match key_into(words, &mut room) {
         Some((count, left)) => {
             if left.is_over() {
-                get(alloc, &room[..count])
+                key_of(alloc, &room[..count])
             } else {
                 Err(ReadFault::Malformed)
             }
@@ -108,37 +109,58 @@ pub fn read_get(alloc: Global, words: &Words) -> Result<Request, ReadFault>
     }
 }
 
-fn get(alloc: Global, key: &[u8]) -> Result<Request, ReadFault>
-    ensures { IsAnswer (Some (Request.Get key.now)) result }
+fn key_of(alloc: Global, key: &[u8]) -> Result<Key, ReadFault>
+    ensures { IsAnswerWhere (λ _. false) (Some key.now) result }
 {
     match Key::new(alloc, key) {
-        Ok(key) => Ok(Request::Get { key }),
+        Ok(key) => Ok(key),
         Err(_) => Err(ReadFault::NoMemory),
+    }
+}
+
+/// The list, where there was memory for it and nothing is left behind it.
+pub fn list_alone<T: Drop>(
+    read: Option<(Result<ListOf<T>, NoMemory>, Words<'_>)>,
+) -> Result<ListOf<T>, ReadFault>
+    ensures { (front : Front (List T)) (text : List ℕ) → AreRead front text read.entry → IsAnswerWhere (λ _. false) (whole front text) result }
+{
+    match read {
+        Some((list, left)) => {
+            if left.is_over() {
+                with_memory(list)
+            } else {
+                drop(list); // for the proof alone
+                Err(ReadFault::Malformed)
+            }
+        },
+        None => Err(ReadFault::Malformed),
+    }
+}
+
+fn with_memory<T: Drop>(list: Result<ListOf<T>, NoMemory>) -> Result<ListOf<T>, ReadFault>
+    ensures { (xs : List T) → IfOk list (λ l. l ≡ xs) → IsAnswerWhere (λ _. false) (Some xs) result }
+{
+    match list {
+        Ok(list) => Ok(list),
+        Err(_) => Err(ReadFault::NoMemory),
+    }
+}
+
+pub fn read_get(alloc: Global, words: &Words) -> Result<Request, ReadFault>
+    ensures { IsAnswer (whole (made Request.Get key_text) words.now) result }
+{
+    match key_alone(alloc, words) {
+        Ok(key) => Ok(Request::Get { key }),
+        Err(fault) => Err(fault),
     }
 }
 
 pub fn read_delete(alloc: Global, words: &Words) -> Result<Request, ReadFault>
     ensures { IsAnswer (whole (made Request.Delete key_text) words.now) result }
 {
-    let mut room = [0; MAX_KEY];
-    match key_into(words, &mut room) {
-        Some((count, left)) => {
-            if left.is_over() {
-                delete(alloc, &room[..count])
-            } else {
-                Err(ReadFault::Malformed)
-            }
-        },
-        None => Err(ReadFault::Malformed),
-    }
-}
-
-fn delete(alloc: Global, key: &[u8]) -> Result<Request, ReadFault>
-    ensures { IsAnswer (Some (Request.Delete key.now)) result }
-{
-    match Key::new(alloc, key) {
+    match key_alone(alloc, words) {
         Ok(key) => Ok(Request::Delete { key }),
-        Err(_) => Err(ReadFault::NoMemory),
+        Err(fault) => Err(fault),
     }
 }
 
@@ -331,9 +353,9 @@ fn begin_merge(states: Result<StateList, NoMemory>, left: &Words) -> Result<Requ
 pub fn read_pull(alloc: Global, words: &Words) -> Result<Request, ReadFault>
     ensures { IsAnswer (whole (made Request.Pull (only_if are_counts (rest_of (number_until (2 ^ 32) 32)))) words.now) result }
 {
-    match read_counts(alloc, words) {
-        Some((counts, left)) => pull(counts, &left),
-        None => Err(ReadFault::Malformed),
+    match list_alone(read_counts(alloc, words)) {
+        Ok(counts) => Ok(Request::Pull { counts }),
+        Err(fault) => Err(fault),
     }
 }
 
@@ -378,18 +400,6 @@ fn numbers<'a>(
         }
     }
     Some((numbers, left))
-}
-
-fn pull(counts: Result<CountList, NoMemory>, left: &Words) -> Result<Request, ReadFault>
-    ensures { (ns : List ℕ) → IfOk counts (λ l. l ≡ ns) → IsAnswer (alone (Request.Pull ns) left.now) result }
-{
-    if !left.is_over() {
-        return Err(ReadFault::Malformed);
-    }
-    match counts {
-        Ok(counts) => Ok(Request::Pull { counts }),
-        Err(_) => Err(ReadFault::NoMemory),
-    }
 }
 
 pub fn read_deliver(alloc: Global, words: &Words) -> Result<Request, ReadFault>

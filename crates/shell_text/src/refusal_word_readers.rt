@@ -2,7 +2,7 @@
 //!
 //! How refusals are written in lines is stated in `docs/FORMATS.md`.
 
-ghost use Rattle.std.specs.Prelude.{◌≡◌, drop, Some};
+ghost use Rattle.std.specs.Prelude.{◌≡◌, drop};
 ghost use Rattle.shell_text.specs.Answers.{IsRefusal};
 ghost use Rattle.shell_text.specs.ReplyTexts.{id_text, refusal_text, refusal_text_rows, u16_text, u32_text, u64_text, u8_text};
 ghost use Rattle.shell_text.specs.RequestTexts.{key_text};
@@ -11,10 +11,10 @@ ghost use Rattle.tardis_base.specs.declared.replies.Refusal.{Refusal};
 ghost use Rattle.text_words.specs.Texts.{by_prefix};
 ghost use Rattle.wire_item.specs.Fronts.{both, made, whole};
 
-use crate::line_field_readers::key_into;
+use crate::line_field_readers::key_alone;
 use crate::line_word_readers::alone;
 use std::alloc::Global;
-use tardis_base::{Key, MAX_KEY, ReadFault, Refusal};
+use tardis_base::{ReadFault, Refusal};
 use text_words::Words;
 
 /// The refusal of which these are the words.
@@ -189,50 +189,18 @@ fn sure(read: Option<Refusal>) -> Result<Refusal, ReadFault>
 fn read_conflict_key(alloc: Global, words: &Words) -> Result<Refusal, ReadFault>
     ensures { IsRefusal (whole (made Refusal.ConflictKey key_text) words.now) result }
 {
-    let mut room = [0; MAX_KEY];
-    match key_into(words, &mut room) {
-        Some((count, left)) => {
-            if left.is_over() {
-                conflict_key(alloc, &room[..count])
-            } else {
-                Err(ReadFault::Malformed)
-            }
-        },
-        None => Err(ReadFault::Malformed),
-    }
-}
-
-fn conflict_key(alloc: Global, key: &[u8]) -> Result<Refusal, ReadFault>
-    ensures { IsRefusal (Some (Refusal.ConflictKey key.now)) result }
-{
-    match Key::new(alloc, key) {
+    match key_alone(alloc, words) {
         Ok(key) => Ok(Refusal::ConflictKey { key }),
-        Err(_) => Err(ReadFault::NoMemory),
+        Err(fault) => Err(fault),
     }
 }
 
 fn read_open_conflict(alloc: Global, words: &Words) -> Result<Refusal, ReadFault>
     ensures { IsRefusal (whole (made Refusal.OpenConflict key_text) words.now) result }
 {
-    let mut room = [0; MAX_KEY];
-    match key_into(words, &mut room) {
-        Some((count, left)) => {
-            if left.is_over() {
-                open_conflict(alloc, &room[..count])
-            } else {
-                Err(ReadFault::Malformed)
-            }
-        },
-        None => Err(ReadFault::Malformed),
-    }
-}
-
-fn open_conflict(alloc: Global, key: &[u8]) -> Result<Refusal, ReadFault>
-    ensures { IsRefusal (Some (Refusal.OpenConflict key.now)) result }
-{
-    match Key::new(alloc, key) {
+    match key_alone(alloc, words) {
         Ok(key) => Ok(Refusal::OpenConflict { key }),
-        Err(_) => Err(ReadFault::NoMemory),
+        Err(fault) => Err(fault),
     }
 }
 

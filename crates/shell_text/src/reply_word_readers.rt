@@ -1,7 +1,7 @@
 //! Reading the words of replies that have fields.
 
-ghost use Rattle.std.specs.Prelude.{◌≡◌, ℕ, ◌*◌, ◌+◌, ◌∷◌, ◌≤◌, [], Err, IfOk, IsFalse, List, None, Some, codes, length, option_map};
-ghost use Rattle.shell_text.specs.Answers.{IsRefusal, IsReply};
+ghost use Rattle.std.specs.Prelude.{◌≡◌, ℕ, ◌*◌, ◌+◌, ◌∷◌, ◌≤◌, [], Err, IfOk, List, None, Option, Some, false, codes, length, option_map};
+ghost use Rattle.shell_text.specs.Answers.{IsAnswerWhere, IsRefusal, IsReply};
 ghost use Rattle.shell_text.specs.ReplyTexts.{batch_from, first_ids_text, first_keys_text, from_rows, id_text, named, parents_text, refusal_text};
 ghost use Rattle.shell_text.specs.ReplyTexts.{shown_text, site_lines_text, statistics_text, u16_text, u32_text};
 ghost use Rattle.shell_text.specs.RequestTexts.{key_text, value_text};
@@ -13,7 +13,7 @@ ghost use Rattle.wire_item.specs.Fronts.{alone, both, counted, made, only_if, ti
 ghost use Rattle.wire_talk.specs.Memory.{reply_takes_no_memory};
 ghost use Rattle.wire_talk.specs.Valid.{are_first_ids, are_first_keys};
 
-use crate::line_field_readers::value_into;
+use crate::line_field_readers::{list_alone, value_into};
 use crate::line_word_readers::alone;
 use crate::refusal_word_readers::read_refusal;
 use crate::reply_list_readers::{children, first_ids, first_keys, lines_of_sites, parents, path};
@@ -32,34 +32,6 @@ pub fn sure_reply(read: Option<Reply>) -> Result<Reply, ReadFault>
         Some(reply) => Ok(reply),
         None => Err(ReadFault::Malformed),
     }
-}
-
-/// The reply, where there was memory for it and nothing is left behind it.
-fn ended(made: Result<Reply, NoMemory>, left: &Words) -> Result<Reply, ReadFault>
-    ensures { (reply : Reply) → IfOk made (λ r. r ≡ reply) → IsFalse (reply_takes_no_memory reply) → IsReply (alone reply left.now) result }
-{
-    if left.is_over() {
-        with_memory(made)
-    } else {
-        let_go(made)
-    }
-}
-
-/// The reply, where there was memory for it.
-fn with_memory(made: Result<Reply, NoMemory>) -> Result<Reply, ReadFault>
-    ensures { (reply : Reply) → IfOk made (λ r. r ≡ reply) → IsFalse (reply_takes_no_memory reply) → IsReply (Some reply) result }
-{
-    match made {
-        Ok(reply) => Ok(reply),
-        Err(_) => Err(ReadFault::NoMemory),
-    }
-}
-
-/// Lets the reply go, since more stands behind it.
-fn let_go(_made: Result<Reply, NoMemory>) -> Result<Reply, ReadFault>
-    ensures { result ≡ Err ReadFault.Malformed }
-{
-    Err(ReadFault::Malformed)
 }
 
 pub fn read_opened(words: &Words) -> Option<Reply>
@@ -115,16 +87,10 @@ pub fn read_early(words: &Words) -> Option<Reply>
 pub fn read_merging(alloc: Global, words: &Words) -> Result<Reply, ReadFault>
     ensures { IsReply (whole (made Reply.Merging parents_text) words.now) result }
 {
-    match parents(alloc, words) {
-        Some((states, left)) => ended(merging(states), &left),
-        None => Err(ReadFault::Malformed),
+    match list_alone(parents(alloc, words)) {
+        Ok(states) => Ok(Reply::Merging { states }),
+        Err(fault) => Err(fault),
     }
-}
-
-fn merging(states: Result<StateList, NoMemory>) -> Result<Reply, NoMemory>
-    ensures { (xs : List StateId) → IfOk states (λ l. l ≡ xs) → IfOk result (λ r. r ≡ Reply.Merging xs) }
-{
-    Ok(Reply::Merging { states: states? })
 }
 
 pub fn read_value(alloc: Global, words: &Words) -> Result<Reply, ReadFault>
@@ -178,19 +144,10 @@ pub fn read_committed(alloc: Global, words: &Words) -> Result<Reply, ReadFault>
 fn read_committed_from(alloc: Global, id: StateId, words: &Words) -> Result<Reply, ReadFault>
     ensures { IsReply (whole (made (λ xs. Reply.Committed id xs) parents_text) words.now) result }
 {
-    match parents(alloc, words) {
-        Some((parents, left)) => ended(committed(id, parents), &left),
-        None => Err(ReadFault::Malformed),
+    match list_alone(parents(alloc, words)) {
+        Ok(parents) => Ok(Reply::Committed { id, parents }),
+        Err(fault) => Err(fault),
     }
-}
-
-fn committed(id: StateId, parents: Result<StateList, NoMemory>) -> Result<Reply, NoMemory>
-    ensures { (xs : List StateId) → IfOk parents (λ l. l ≡ xs) → IfOk result (λ r. r ≡ Reply.Committed id xs) }
-{
-    Ok(Reply::Committed {
-        id,
-        parents: parents?,
-    })
 }
 
 pub fn read_states(alloc: Global, words: &Words) -> Result<Reply, ReadFault>
@@ -206,19 +163,10 @@ pub fn read_states(alloc: Global, words: &Words) -> Result<Reply, ReadFault>
 fn read_first_ids(alloc: Global, total: u32, words: &Words) -> Result<Reply, ReadFault>
     ensures { IsReply (whole (made (λ xs. Reply.States total xs) (only_if (are_first_ids total) (rest_of id_text))) words.now) result }
 {
-    match first_ids(alloc, total, words) {
-        Some((first, left)) => ended(states(total, first), &left),
-        None => Err(ReadFault::Malformed),
+    match list_alone(first_ids(alloc, total, words)) {
+        Ok(first) => Ok(Reply::States { total, first }),
+        Err(fault) => Err(fault),
     }
-}
-
-fn states(total: u32, first: Result<StateList, NoMemory>) -> Result<Reply, NoMemory>
-    ensures { (xs : List StateId) → IfOk first (λ l. l ≡ xs) → IfOk result (λ r. r ≡ Reply.States total xs) }
-{
-    Ok(Reply::States {
-        total,
-        first: first?,
-    })
 }
 
 pub fn read_keys(alloc: Global, words: &Words) -> Result<Reply, ReadFault>
@@ -234,19 +182,10 @@ pub fn read_keys(alloc: Global, words: &Words) -> Result<Reply, ReadFault>
 fn read_first_keys(alloc: Global, total: u32, words: &Words) -> Result<Reply, ReadFault>
     ensures { IsReply (whole (made (λ ks. Reply.Keys total ks) (only_if (are_first_keys total) (rest_of key_text))) words.now) result }
 {
-    match first_keys(alloc, total, words) {
-        Some((first, left)) => ended(keys(total, first), &left),
-        None => Err(ReadFault::Malformed),
+    match list_alone(first_keys(alloc, total, words)) {
+        Ok(first) => Ok(Reply::Keys { total, first }),
+        Err(fault) => Err(fault),
     }
-}
-
-fn keys(total: u32, first: Result<KeyList, NoMemory>) -> Result<Reply, NoMemory>
-    ensures { (ks : List (List ℕ)) → IfOk first (λ l. l ≡ ks) → IfOk result (λ r. r ≡ Reply.Keys total ks) }
-{
-    Ok(Reply::Keys {
-        total,
-        first: first?,
-    })
 }
 
 pub fn read_statistics(words: &Words) -> Option<Reply>
@@ -306,10 +245,7 @@ pub fn read_shown(alloc: Global, words: &Words) -> Result<Reply, ReadFault>
         Some((arrival, left)) => match left.behind(b"children ") {
             Some(left) => match children(alloc, &left) {
                 Some((children, left)) => match left.behind(b"path ") {
-                    Some(left) => match path(alloc, &left) {
-                        Some((path, left)) => ended(shown(arrival, children, path), &left),
-                        None => Err(ReadFault::Malformed),
-                    },
+                    Some(left) => shown(arrival, children, list_alone(path(alloc, &left))),
                     None => Err(ReadFault::Malformed),
                 },
                 None => Err(ReadFault::Malformed),
@@ -323,16 +259,26 @@ pub fn read_shown(alloc: Global, words: &Words) -> Result<Reply, ReadFault>
 fn shown(
     arrival: u64,
     children: Result<StateList, NoMemory>,
-    path: Result<PathList, NoMemory>,
-) -> Result<Reply, NoMemory>
-    ensures { (xs : List StateId) (ps : List (StateId × ℕ)) → IfOk children (λ l. l ≡ xs) → IfOk path (λ l. l ≡ ps)
-        → IfOk result (λ r. r ≡ Reply.Shown arrival xs ps) }
+    path: Result<PathList, ReadFault>,
+) -> Result<Reply, ReadFault>
+    ensures { (xs : List StateId) (read : Option (List (StateId × ℕ))) → IfOk children (λ l. l ≡ xs) → IsAnswerWhere (λ _. false) read path
+        → IsReply (option_map (λ ps. Reply.Shown arrival xs ps) read) result }
 {
-    Ok(Reply::Shown {
-        arrival,
-        children: children?,
-        path: path?,
-    })
+    let path = match path {
+        Ok(path) => path,
+        Err(fault) => {
+            drop(children); // for the proof alone
+            return Err(fault);
+        },
+    };
+    match children {
+        Ok(children) => Ok(Reply::Shown {
+            arrival,
+            children,
+            path,
+        }),
+        Err(_) => Err(ReadFault::NoMemory),
+    }
 }
 
 pub fn read_refused(alloc: Global, words: &Words) -> Result<Reply, ReadFault>
