@@ -6,5 +6,6 @@ mod Bodies
 mod Outcomes
 mod Turning
 mod Running
+mod TurnEnds
 mod Sites
 pub mod Stores

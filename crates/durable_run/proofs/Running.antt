@@ -37,7 +37,7 @@ pub exact_fault : (a : Option (List ℕ)) (Disks Reads Writes : Type 0) → Disk
 exact_fault a Disks Reads Writes rose = same a (ExactEnd DiskFault Disks Reads Writes) (λ x all rest d few nd nr nw. absurd (nd rose))
 
 -- statuses that differ
-abbrev number : Status → ℕ
+abbrev pub number : Status → ℕ
 number DiskFault = 1
 number ReadFault = 2
 number WriteFault = 3

@@ -31,7 +31,11 @@ pub fn shell<I: Source, O: Sink>(
     ensures write { CausedBy Status.WriteFault (O.faults output.old) (O.faults output.new) result }
 {
     match SiteCore::new(alloc, keys, limits, own) {
-        Ok(mut site) => run_shell(alloc, &mut site, input, output),
+        Ok(mut site) => {
+            let status = run_shell(alloc, &mut site, input, output);
+            drop(site); // for the proof alone
+            status
+        }
         Err(NoMemory) => Status::NoMemory,
     }
 }
@@ -54,7 +58,11 @@ pub fn audit_frames<I: Source, O: Sink>(
     ensures write { CausedBy Status.WriteFault (O.faults output.old) (O.faults output.new) result }
 {
     match SiteCore::new(alloc, keys, limits, own) {
-        Ok(mut site) => audit(alloc, &mut site, input, output),
+        Ok(mut site) => {
+            let status = audit(alloc, &mut site, input, output);
+            drop(site); // for the proof alone
+            status
+        }
         Err(NoMemory) => Status::NoMemory,
     }
 }

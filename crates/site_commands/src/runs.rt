@@ -33,7 +33,11 @@ pub fn run<I: Source, O: Sink>(
     ensures write { CausedBy Status.WriteFault (O.faults output.old) (O.faults output.new) result }
 {
     match SiteCore::new(alloc, keys, limits, own) {
-        Ok(mut site) => run_site(alloc, &mut site, input, output),
+        Ok(mut site) => {
+            let status = run_site(alloc, &mut site, input, output);
+            drop(site); // for the proof alone
+            status
+        }
         Err(NoMemory) => Status::NoMemory,
     }
 }

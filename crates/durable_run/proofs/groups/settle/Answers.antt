@@ -1,4 +1,5 @@
-use Rattle.std.proofs.Common.{arith}
+use Rattle.std.proofs.Common.{subst, sym, arith}
+use Rattle.durable_run.specs.Turns.{Went}
 use Rattle.durable_run.proofs.Grouped.{settled, unwritten, broken}
 use Rattle.durable_run.proofs.groups.settle.Goals as goal
 
@@ -27,3 +28,21 @@ returns-in-Err-clause-stopped g c = λ at bodies group.
     broken M.plain M.stands M.opening K.honest K.reads K.may_leave K.moment K.left_since at c.args.journal c.in-Err.disk (g.O.Sink.given c.args.output.now)
     c.args.gathered.now.bytes bodies
     (g.met.K.Disk.counts_now c.in-Err.disk) c.in-Err.ensures.any_moment group
+
+pub returns-in-Ok-write_to-clause-went : goal.returns-in-Ok-write_to-clause-went
+returns-in-Ok-write_to-clause-went g c = record { later = c.in-Ok.ensures.later; as_honest = c.in-Ok.ensures.honest }
+
+pub returns-in-Err-write_to-clause-fault : goal.returns-in-Err-write_to-clause-fault
+returns-in-Err-write_to-clause-fault g c =
+    let K = g.K.Disk in
+    record {
+      went = subst (λ k. Went K.honest K.faults c.args.journal.disk k) (sym c.close.ensures.disk)
+          (record { later = c.in-Ok.ensures.later; as_honest = c.in-Ok.ensures.honest });
+      rose = c.in-Err-write_to.ensures.cause.failed;
+    }
+
+pub returns-in-Err-clause-fault : goal.returns-in-Err-clause-fault
+returns-in-Err-clause-fault g c = record {
+  went = record { later = c.in-Err.ensures.later; as_honest = c.in-Err.ensures.honest };
+  rose = c.in-Err.ensures.failed;
+}

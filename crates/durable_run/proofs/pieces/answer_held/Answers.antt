@@ -32,7 +32,7 @@ loop-body-preserved g c =
           c.args.cutter.now c.loop-body.cutter c.next.follows.lender-at-none c.in-Frame.body.now bodies c.in-Frame.ensures.cut.0
           (subst (λ r. c.loop-body.cutter ≡ frame c.in-Frame.body.now ++ r) (sym left) c.in-Frame.ensures.cut.1)
           (c.loop-body.invariant.grouped at bodies group) (c.in-Ok.ensures.grouped at);
-      room = c.in-Ok.ensures.room ∙ c.loop-body.invariant.room;
+      room = ◌∙◌ {a = c.answer_frame.new.gathered.room} c.in-Ok.ensures.room c.loop-body.invariant.room;
       went = went_then K.honest K.faults c.args.journal.disk c.loop-body.journal.disk c.in-Ok.answered.disk c.loop-body.invariant.went c.in-Ok.ensures.went;
       write_later = omega (arith, c.in-Ok.ensures.write_later, c.loop-body.invariant.write_later);
     }
@@ -61,3 +61,27 @@ returns-in-Long-clause-grouped g c = λ at bodies group.
     subst (λ r. Leaves c.loop-body.cutter r c.next.follows.lender-at-none) c.in-Long.is c.next.follows.holds-at-none in
     let on = c.loop-body.invariant.grouped at bodies group in
     (on.0, (subst (λ z. Cuts c.args.cutter.now on.0 z) (sym same) on.1.0, on.1.1))
+
+pub returns-in-Err-clause-room : goal.returns-in-Err-clause-room
+returns-in-Err-clause-room g c = ◌∙◌ {a = c.answer_frame.new.gathered.room} c.in-Err.ensures.room c.loop-body.invariant.room
+
+pub returns-in-Err-clause-write_later : goal.returns-in-Err-clause-write_later
+returns-in-Err-clause-write_later g c = omega (arith, c.in-Err.ensures.write_later, c.loop-body.invariant.write_later)
+
+pub returns-in-NeedMore-clause-room : goal.returns-in-NeedMore-clause-room
+returns-in-NeedMore-clause-room g c = c.loop-body.invariant.room
+
+pub returns-in-NeedMore-clause-went : goal.returns-in-NeedMore-clause-went
+returns-in-NeedMore-clause-went g c = c.loop-body.invariant.went
+
+pub returns-in-NeedMore-clause-write_later : goal.returns-in-NeedMore-clause-write_later
+returns-in-NeedMore-clause-write_later g c = c.loop-body.invariant.write_later
+
+pub returns-in-Long-clause-room : goal.returns-in-Long-clause-room
+returns-in-Long-clause-room g c = c.loop-body.invariant.room
+
+pub returns-in-Long-clause-went : goal.returns-in-Long-clause-went
+returns-in-Long-clause-went g c = c.loop-body.invariant.went
+
+pub returns-in-Long-clause-write_later : goal.returns-in-Long-clause-write_later
+returns-in-Long-clause-write_later g c = c.loop-body.invariant.write_later

@@ -1,4 +1,4 @@
-use Rattle.std.proofs.Common.{◌++◌, subst, sym}
+use Rattle.std.proofs.Common.{◌++◌, ◌∙◌, subst, sym, arith}
 use Rattle.frame_cut.specs.Frames.{Cuts}
 use Rattle.durable_run.specs.Groups.{Grouping}
 use Rattle.durable_run.proofs.Bodies.{went_then, stopped_later, fed_all}
@@ -40,7 +40,7 @@ returns-in-Ok-settle-clause-grouped g c = λ at bodies group.
       (
         subst (λ b. Cuts b on.0 c.answer_held.new.cutter) fed on.1.0,
         subst (λ b. Grouping M.plain M.stands M.opening K.honest K.reads K.may_leave K.moment K.left_since at c.in-Ok-settle.settled
-            (g.O.Sink.given c.settle.new.output) b (bodies ++ on.0)) c.in-Ok-settle.ensures.none (c.in-Ok-settle.ensures.grouped at (bodies ++ on.0) on.1.1),
+            (g.O.Sink.given c.settle.new.output) b (bodies ++ on.0)) {x = c.settle.new.gathered.bytes} c.in-Ok-settle.ensures.none (c.in-Ok-settle.ensures.grouped at (bodies ++ on.0) on.1.1),
       ),
     )
 
@@ -84,3 +84,15 @@ returns-in-Err-settle-clause-fault g c =
     let K = g.K.Disk in
     stopped_later K.honest K.faults g.O.Sink.faults c.args.journal.disk c.in-Ok.journal.disk c.args.output.now c.answer_held.new.output c.settle.new.output
     c.in-Err-settle.stop c.in-Ok.ensures.went c.in-Ok.ensures.write_later c.in-Err-settle.ensures.fault
+
+pub returns-in-Ok-settle-clause-room : goal.returns-in-Ok-settle-clause-room
+returns-in-Ok-settle-clause-room g c = ◌∙◌ {a = c.settle.new.gathered.room} c.in-Ok-settle.ensures.room c.in-Ok.ensures.room
+
+pub returns-in-Err-settle-clause-room : goal.returns-in-Err-settle-clause-room
+returns-in-Err-settle-clause-room g c = ◌∙◌ {a = c.settle.new.gathered.room} c.in-Err-settle.ensures.room c.in-Ok.ensures.room
+
+pub returns-in-Ok-settle-clause-write_later : goal.returns-in-Ok-settle-clause-write_later
+returns-in-Ok-settle-clause-write_later g c = omega (arith, c.in-Ok-settle.ensures.write_later, c.in-Ok.ensures.write_later)
+
+pub returns-in-Err-settle-clause-write_later : goal.returns-in-Err-settle-clause-write_later
+returns-in-Err-settle-clause-write_later g c = omega (arith, c.in-Err-settle.ensures.write_later, c.in-Ok.ensures.write_later)

@@ -1,4 +1,6 @@
-use Rattle.std.proofs.Common.{◌+◌, ◌≤◌, ◌++◌, arith}
+use Rattle.std.proofs.Common.{◌+◌, ◌≤◌, ◌++◌, refl, arith}
+use Rattle.tardis_io.specs.declared.statuses.Status.TheVariants.{Spent}
+use Rattle.durable_run.proofs.TurnEnds.{ended_since, ended_plain, no_memory}
 use Rattle.durable_run.proofs.Bodies.{went_then}
 use Rattle.durable_run.proofs.Turning.{turns_on, turns_end, turns_spent}
 use Rattle.durable_run.proofs.runs.answer_input.Goals as goal
@@ -48,3 +50,28 @@ returns-clause-outcome g c = λ at group.
     (g.I.Source.left c.loop-taken.input) c.loop-taken.taken c.loop-taken.journal c.close.result.1 (g.O.Sink.given c.loop-taken.output)
     c.loop-taken.buffers.cutter
     c.loop-taken.invariant.ready.partial c.loop-taken.invariant.within (omega arith) c.close.ensures.disk (c.loop-taken.invariant.told at group)
+
+pub returns-in-Err-clause-ended : goal.returns-in-Err-clause-ended
+returns-in-Err-clause-ended g c =
+    let K = g.K.Disk in
+    ended_since K.honest K.faults g.I.Source.faults g.O.Sink.faults c.args.journal.disk c.loop-taken.journal.disk c.in-Err.end.1 c.args.input.now
+    c.loop-taken.input c.turn.new.input c.args.output.now c.loop-taken.output c.turn.new.output c.in-Err.end.0 c.loop-taken.invariant.went
+    c.loop-taken.invariant.read_later c.loop-taken.invariant.write_later c.in-Err.ensures.ended
+
+pub returns-in-Err-clause-read_later : goal.returns-in-Err-clause-read_later
+returns-in-Err-clause-read_later g c = omega (arith, c.in-Err.ensures.read_later, c.loop-taken.invariant.read_later)
+
+pub returns-in-Err-clause-write_later : goal.returns-in-Err-clause-write_later
+returns-in-Err-clause-write_later g c = omega (arith, c.in-Err.ensures.write_later, c.loop-taken.invariant.write_later)
+
+pub returns-in-Err-clause-memory : goal.returns-in-Err-clause-memory
+returns-in-Err-clause-memory g c = c.in-Err.ensures.memory
+
+pub returns-clause-ended : goal.returns-clause-ended
+returns-clause-ended g c =
+    let K = g.K.Disk in
+    ended_plain K.honest K.faults g.I.Source.faults g.O.Sink.faults c.args.journal.disk c.loop-taken.journal.disk c.close.result.1 c.args.input.now
+    c.loop-taken.input c.args.output.now c.loop-taken.output Spent tt refl c.close.ensures.disk c.loop-taken.invariant.went
+
+pub returns-clause-memory : goal.returns-clause-memory
+returns-clause-memory g c = λ e. no_memory Spent refl e

@@ -13,19 +13,19 @@ use Rattle.site_commands.proofs.lines.audit_frames.Goals as goal
 pub returns-in-Ok-clause-ends : goal.returns-in-Ok-clause-ends
 returns-in-Ok-clause-ends g c =
     let site = opening c.args.limits c.args.own in
-    let status = c.audit.result in
+    let status = c.audit-status.result in
     let old = g.O.Sink.given c.args.output.now in
-    let new = g.O.Sink.given c.audit.new.output in
+    let new = g.O.Sink.given c.audit-status.new.output in
     record {
-      outcome = weaker (g.I.Source.left c.args.input.now) (g.I.Source.left c.audit.new.input)
-          (AuditOutcome site_machine status (SiteStands c.in-Ok.site) (SiteStands c.audit.new.machine) old new)
+      outcome = weaker (g.I.Source.left c.args.input.now) (g.I.Source.left c.audit-status.new.input)
+          (AuditOutcome site_machine status (SiteStands c.in-Ok.site) (SiteStands c.audit-status.new.machine) old new)
           (AuditFrom site status old new)
-          c.audit.ensures.outcome
-          (λ x y o. audit_from site (SiteStands c.in-Ok.site) (SiteStands c.audit.new.machine) status old new x y
+          c.audit-status.ensures.outcome
+          (λ x y o. audit_from site (SiteStands c.in-Ok.site) (SiteStands c.audit-status.new.machine) status old new x y
           (c.in-Ok.ensures.stands, opens c.args.limits c.args.own c.requires.limits c.requires.first c.requires.last) (λ t both. both.1) o);
-      exact = c.audit.ensures.exact;
-      end = c.audit.ensures.status;
-      nothing = λ none. let all = c.audit.ensures.nothing none in (all.0, all.1);
+      exact = c.audit-status.ensures.exact;
+      end = c.audit-status.ensures.status;
+      nothing = λ none. let all = c.audit-status.ensures.nothing none in (all.0, all.1);
     }
 
 pub returns-in-Err-clause-ends : goal.returns-in-Err-clause-ends

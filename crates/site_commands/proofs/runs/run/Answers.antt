@@ -15,20 +15,20 @@ use Rattle.site_commands.proofs.runs.run.Goals as goal
 pub returns-in-Ok-clause-ends : goal.returns-in-Ok-clause-ends
 returns-in-Ok-clause-ends g c =
     let site = opening c.args.limits c.args.own in
-    let status = c.run_site.result in
+    let status = c.run_site-status.result in
     let old = g.O.Sink.given c.args.output.now in
-    let new = g.O.Sink.given c.run_site.new.output in
+    let new = g.O.Sink.given c.run_site-status.new.output in
     record {
-      outcome = weaker (g.I.Source.left c.args.input.now) (g.I.Source.left c.run_site.new.input)
+      outcome = weaker (g.I.Source.left c.args.input.now) (g.I.Source.left c.run_site-status.new.input)
           (λ first left. Outcome status (SiteStands c.in-Ok.site)
-          (λ s bodies. Answered site_machine (shape_of status) (SiteStands c.run_site.new.machine) old new s (map event_of bodies)) first left)
+          (λ s bodies. Answered site_machine (shape_of status) (SiteStands c.run_site-status.new.machine) old new s (map event_of bodies)) first left)
           (RunFrom site status old new)
-          c.run_site.ensures.outcome
-          (λ x y o. run_from site (SiteStands c.in-Ok.site) (SiteStands c.run_site.new.machine) status old new x y
+          c.run_site-status.ensures.outcome
+          (λ x y o. run_from site (SiteStands c.in-Ok.site) (SiteStands c.run_site-status.new.machine) status old new x y
           (c.in-Ok.ensures.stands, opens c.args.limits c.args.own c.requires.limits c.requires.first c.requires.last) (λ t both. both.1) o);
-      exact = c.run_site.ensures.exact;
-      end = c.run_site.ensures.status;
-      nothing = λ none. let all = c.run_site.ensures.nothing none in (all.0, all.1);
+      exact = c.run_site-status.ensures.exact;
+      end = c.run_site-status.ensures.status;
+      nothing = λ none. let all = c.run_site-status.ensures.nothing none in (all.0, all.1);
     }
 
 pub returns-in-Err-clause-ends : goal.returns-in-Err-clause-ends
