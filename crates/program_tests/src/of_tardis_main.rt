@@ -75,7 +75,7 @@ const NO_COMMANDS: [&str; 16] = [
     "world --sites 17",
     "load --start 1 --steps 10001",
     "import 1",
-    "export --at 01.1",
+    "export --at 007.1",
     "auto --rules =sum",
     "durable",
     "Run",
