@@ -6,6 +6,9 @@ ghost use Rattle.tardis_base.specs.Plain.{PlainMachine};
 use crate::faults::NoMemory;
 use crate::reply_bufs::ReplyBuf;
 
+/// The reply where a machine had no memory for an answer.
+pub const NO_MEMORY: [u8; 1] = [22];
+
 /// What answers the requests of actors, one at a time.
 pub trait Machine: Drop {
     ghost Plain: { Type 0 };

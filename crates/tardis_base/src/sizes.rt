@@ -15,6 +15,19 @@ pub const MAX_PARENTS: usize = 8;
 /// The most bytes of a request, of a reply and of a line of text: 1 MiB.
 pub const MAX_FRAME: usize = 1_048_576;
 
+/// The most bytes of a frame with the four bytes of its length.
+pub const MAX_FRAMED: usize = MAX_FRAME + 4;
+
+/// The most bytes of a request whose frame names its actor, in two bytes.
+pub const MAX_REQUEST: usize = MAX_FRAME - 2;
+
+/// How many bytes are taken of an input at once, at most; and how many bytes of replies may wait for one connection before
+/// no more of its requests are answered.
+pub const PIECE: usize = 65_536;
+
+/// The most bytes of the records and consents that are sent to another site at once.
+pub const MAX_NEWS: usize = 786_432;
+
 /// The most states, or keys, that one reply names. It tells how many there are.
 pub const MAX_NAMED: usize = 256;
 
