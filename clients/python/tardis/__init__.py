@@ -19,7 +19,7 @@ from .blocking import Site, Transaction, connect
 from .conversation import Answer
 from .histories import Difference, History, Items, State
 from .ids import ROOT, Bytes, StateId
-from .merging import Merged, MergeStep
+from .merging import Comparison, Conflict, Merged, MergeStep
 from .pipelines import Pipeline
 from .refusals import (
     AlreadyOpen, BadSite, BagFull, Below, Branches, CeilingBack, ClosedParent, Collected, Comparable, ConflictKey, Disconnected,
@@ -35,7 +35,7 @@ __version__ = "0.2.0"
 
 __all__ = [
     "Absent", "AlreadyOpen", "Answer", "Applied", "BadSite", "BagFull", "Base", "Batch", "Begun", "Below", "Branches", "Bytes",
-    "CeilingBack", "Closed", "ClosedParent", "Collected", "Committed", "Comparable", "ConflictKey", "Consent", "Deleted", "Difference",
+    "CeilingBack", "Closed", "ClosedParent", "Collected", "Committed", "Comparable", "Comparison", "Conflict", "ConflictKey", "Consent", "Deleted", "Difference",
     "Disconnected", "Done", "Early", "Ended", "FloorBack", "Full", "Held", "History", "Items", "Keys", "Known", "Malformed", "MergeStep",
     "Merged", "Merging", "NoBranch", "NoMemory", "NoSuchItem", "NoTxn", "NotOpen", "NotRead", "OpenConflict", "Opened", "OwnItem",
     "PathFull", "Pipeline", "ProtocolError", "ROOT", "Raised", "Read", "Record", "Refused", "Reply", "Resolve", "SeqEnd", "SessionsFull",

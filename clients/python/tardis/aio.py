@@ -21,7 +21,7 @@ from .conversation import Answer
 from .core import Core, Finished, Steps, ask, ask_all
 from .histories import Difference, History, Items, State
 from .ids import Bytes, StateId, number
-from .merging import Merged, merge
+from .merging import Comparison, Merged, compare, merge
 from .pipelines import Pipeline
 from .refusals import Branches, Disconnected, NoTxn
 from .replies import Applied, Batch, Committed, Done, Ended, Keys, Raised, Read, Reply, Shown, Stat, States, Value
@@ -264,6 +264,9 @@ class Site:
     async def merge(self, resolve: Resolve, states: Optional[Sequence[At]] = None) -> Optional[Merged]:
         """As `tardis.Site.merge`; `resolve` is a plain function here too."""
         return await self._run(merge(self._core, resolve, states))
+
+    async def compare(self, one: At, other: At) -> Comparison:
+        return await self._run(compare(self._core, one, other))
 
     async def begin_merge(self, states: Sequence[At] = ()) -> Tuple[StateId, ...]:
         return await self._run(ask(requests.begin_merge(states)))

@@ -13,7 +13,7 @@ from .conversation import Answer
 from .core import Core, Finished, Steps, ask, ask_all
 from .histories import Difference, History, Items, State
 from .ids import Bytes, StateId, number
-from .merging import Merged, merge
+from .merging import Comparison, Merged, compare, merge
 from .pipelines import Pipeline
 from .refusals import Branches, Disconnected, NoTxn
 from .replies import Applied, Batch, Committed, Done, Ended, Keys, Raised, Read, Reply, Shown, Stat, States, Value
@@ -295,6 +295,11 @@ class Site:
         parted, or `UNKNOWN`. However many leaves and keys there are, they are joined by as many merges as it takes. What
         `resolve` raises ends the merge; the states that were made before stand."""
         return self._run(merge(self._core, resolve, states))
+
+    def compare(self, one: At, other: At) -> Comparison:
+        """What a merge of two states would have to settle: where they parted, and each key on which they disagree, with what it
+        had there and what each side has. Nothing changes. It takes an open session."""
+        return self._run(compare(self._core, one, other))
 
     def begin_merge(self, states: Sequence[At] = ()) -> Tuple[StateId, ...]:
         """Begins a merge of these states (at most 8), or of all leaves."""

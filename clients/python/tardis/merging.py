@@ -11,7 +11,7 @@ from .replies import Committed, Keys, Read, States, Value
 from .requests import At, Request
 from .resolvers import UNKNOWN, Base, Resolve, Sides, is_asked_of_equal_sides
 
-__all__ = ["Merged", "MergeStep", "merge"]
+__all__ = ["Comparison", "Conflict", "Merged", "MergeStep", "compare", "merge"]
 
 #: a merge writes at most so many keys, reads at most so many states, and a transaction reads at most so many keys
 MOST_WRITES, MOST_STATES, MOST_READS = 64, 8, 256
@@ -33,6 +33,20 @@ class Merged(NamedTuple):
     def keys(self) -> Tuple[bytes, ...]:
         """The keys on which some sides disagreed."""
         return tuple(sorted({key for step in self.steps for key in step.keys}))
+
+
+class Conflict(NamedTuple):
+    """A key on which two states disagree, what it had where they parted, and what each has."""
+    key: bytes
+    base: Base
+    sides: Sides
+
+
+class Comparison(NamedTuple):
+    """Two states that stand apart, where they parted, and the keys that a merge of them has to settle."""
+    states: Tuple[StateId, ...]
+    fork_points: Tuple[StateId, ...]
+    conflicts: Tuple[Conflict, ...]
 
 
 class _TooWide(Exception):
@@ -61,6 +75,28 @@ def merge(core: Core, resolve: Resolve, states: Optional[Sequence[At]]) -> Steps
         else:
             yield from merger.join(chosen)
     return Merged(merger.steps[-1].id, tuple(merger.steps)) if merger.steps else None
+
+
+def _nobody(key: bytes, base: Base, sides: Sides) -> Optional[Bytes]:
+    return None
+
+
+def compare(core: Core, one: At, other: At) -> Steps[Comparison]:
+    """What a merge of two states would have to settle. Nothing changes."""
+    merger = _Merger(core, _nobody)
+    begun, forking = yield from ask_all([requests.begin_merge([one, other]), requests.fork_points()])
+    sides: Tuple[StateId, ...] = begun.result()
+    try:
+        forks: States = forking.result()
+        keys = yield from core.conflicts_after(b"")
+        told = yield from merger._read_sides(keys, sides)
+    finally:
+        if not core.conversation.is_over:
+            yield from core.give_up()
+    bases: Dict[bytes, Base] = {}
+    for place in range(0, len(keys), MOST_READS):
+        bases.update((yield from merger._bases(keys[place:place + MOST_READS], forks)))
+    return Comparison(sides, forks.first, tuple(Conflict(key, bases[key], told[key]) for key in keys))
 
 
 class _Merger:
