@@ -263,15 +263,12 @@ class Core:
     def news(self, seen: Optional[List[int]]) -> Steps[Tuple[List[int], List[State]]]:
         """What came since so many states of each site were seen; the first time, nothing. Of a state that was closed before it
         was asked for only its name is told."""
-        if seen is None:
-            stat, _ = yield from self.pull_news()
-            return [line.count for line in stat.sites], []
         stat = yield from ask(requests.stat())
         if [line.count for line in stat.sites] == seen:
             return seen, []
-        stat, records = yield from self.pull_news()
+        stat, _ = yield from self.pull_news()
         counts = [max(line.count, known) for line, known in zip(stat.sites, self.records.counts(len(stat.sites)))]
-        told = {record.id for record in records}
-        missed = [StateId(site, sequence) for site, (old, new) in enumerate(zip(seen, counts), 1)
-                  for sequence in range(old + 1, new + 1) if StateId(site, sequence) not in told]
-        return counts, [State(id, (), None) for id in missed] + [State(*record) for record in records]
+        new = [StateId(site, sequence) for site, (old, count) in enumerate(zip(seen or counts, counts), 1)
+               for sequence in range(old + 1, count + 1)]
+        missed = [State(id, (), None) for id in new if id not in self.records.records]
+        return counts, missed + [State(*self.records.records[id]) for id in self.records.in_order(new)]

@@ -129,18 +129,19 @@ def _either(one: Sequence[bytes], other: Sequence[bytes]) -> Iterator[bytes]:
 
 
 class _Changes:
-    """What a text keeps of the base's lines, and what it inserts behind so many of them."""
+    """What a text keeps of the base's lines, and what it inserts behind so many of them: in the place of lines that it took
+    out, behind the last of these."""
 
     def __init__(self, base: Sequence[bytes], text: Sequence[bytes]) -> None:
         self.kept: List[bool] = [False] * len(base)
         self.inserted: Dict[int, Sequence[bytes]] = {}
-        done, behind = 0, 0
+        done = 0
         for a, b, size in difflib.SequenceMatcher(None, base, text, autojunk=False).get_matching_blocks():
             if done < b:
-                self.inserted[behind] = text[done:b]
+                self.inserted[a] = text[done:b]
             for place in range(a, a + size):
                 self.kept[place] = True
-            done, behind = b + size, a + size
+            done = b + size
 
 
 def _three_ways(base: Sequence[bytes], one: Sequence[bytes], other: Sequence[bytes]) -> Iterator[bytes]:
