@@ -415,5 +415,5 @@ if __name__ == "__main__":
     import sys
     import time
     ModelServer(sys.argv[1])
-    print("model: listens at unix:" + sys.argv[1], file=sys.stderr, flush=True)
+    print("tardisd: site 1 of 1 listens at unix:" + sys.argv[1], file=sys.stderr, flush=True)
     time.sleep(float(sys.argv[2]) if sys.argv[2:] else 1e9)
