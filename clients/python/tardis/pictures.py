@@ -1,6 +1,7 @@
 """A history drawn in a terminal, as SVG, as DOT, and as JSON; and bytes as words that a person reads."""
 
 import json
+import re
 from typing import Any, Dict, Iterator, List, NamedTuple, Optional, Sequence, Set
 from xml.sax.saxutils import escape
 
@@ -15,18 +16,17 @@ MOST_WRITES, MOST_CHARACTERS = 3, 28
 
 
 def word(data: bytes) -> str:
-    """Bytes as text where they are printed, else as `#` and hexadecimal digits."""
+    """Bytes as one line of text where they can be printed, with `\\n` for a line feed; else `#` and hexadecimal digits. Text that
+    looks like the latter is written so too."""
     try:
         text = data.decode()
     except UnicodeDecodeError:
         return "#" + data.hex()
-    return text if text.isprintable() and not text.startswith("#") else _in_one_line(text, data)
+    shown = text.replace("\n", "\\n").replace("\t", "\\t")
+    return shown if shown.isprintable() and not _LOOKS_HEXADECIMAL.match(shown) else "#" + data.hex()
 
 
-def _in_one_line(text: str, data: bytes) -> str:
-    """Text of several lines as one, with `\\n` between them."""
-    shown = text.replace("\\", "\\\\").replace("\n", "\\n").replace("\t", "\\t")
-    return shown if shown.isprintable() and not shown.startswith("#") else "#" + data.hex()
+_LOOKS_HEXADECIMAL = re.compile("#([0-9a-f]{2})*$")
 
 
 def json_bytes(data: Optional[bytes]) -> Any:

@@ -184,7 +184,7 @@ class Drawing(unittest.TestCase):
             self.assertLess(edge.child_row, edge.parent_row)
 
     def test_words(self):
-        for data, told in [(b"tea", "tea"), (b"", ""), ("é x".encode(), "é x"), (b"a\nb", "a\\nb"), (b"\xff", "#ff"), (b"#x", "#2378"), (b"\x00", "#00")]:
+        for data, told in [(b"tea", "tea"), (b"", ""), ("é x".encode(), "é x"), (b"a\nb", "a\\nb"), (b"\xff", "#ff"), (b"#x", "#x"), (b"#ff", "#236666"), (b"#", "#23"), (b"# a", "# a"), (b"\x00", "#00")]:
             self.assertEqual(word(data), told)
 
 
