@@ -1,6 +1,7 @@
 """The client that waits: a thin shell of a socket around `core`."""
 
 import contextlib
+import select
 import selectors
 import socket
 import threading
@@ -89,6 +90,9 @@ class Site:
         self._stream = stream
         self._timeout = parse_timeout(timeout)
         self._core = Core()
+        self._poll = select.poll() if hasattr(select, "poll") else None
+        if self._poll is not None:
+            self._poll.register(stream, select.POLLIN)
         # who holds a turn may run one transaction, or one call; who holds the wire exchanges
         self._turn = threading.RLock()
         self._wire = threading.RLock()
@@ -116,8 +120,9 @@ class Site:
     def _exchange(self, answers: Sequence[Answer[Any]]) -> None:
         """Sends all of these, and reads until each is answered."""
         conversation = self._core.conversation
-        conversation.check()
+        conversation.check(answers)
         try:
+            self._check_quiet()
             data = conversation.ask(answers)
             if len(data) <= AT_ONCE:
                 self._stream.settimeout(self._timeout)
@@ -126,21 +131,24 @@ class Site:
             else:
                 self._read_while_writing(data)
         except BaseException as fault:
-            self._break_off(fault)
+            self._break_off(fault, answers)
 
-    def _break_off(self, fault: BaseException) -> None:
+    def _check_quiet(self) -> None:
+        """Nothing has come that nobody asked for, nor has the site ended the connection meanwhile."""
+        if self._poll is not None and self._poll.poll(0):
+            self._stream.settimeout(self._timeout)
+            self._take(self._stream.recv(PIECE))
+
+    def _break_off(self, fault: BaseException, answers: Sequence[Answer[Any]]) -> None:
         """Closes the connection, and raises what happened under its name."""
         conversation = self._core.conversation
-        if isinstance(fault, socket.timeout) or isinstance(fault, TimeoutError):
-            slow = TimeoutError(f"no reply came for {self._timeout} seconds; the connection is closed, so connect anew")
-            conversation.end_by(slow)
-            self._stream.close()
-            raise slow from None
-        conversation.end_by(fault)
+        if isinstance(fault, (socket.timeout, TimeoutError)):
+            fault = TimeoutError(f"no reply came for {self._timeout} seconds; the connection is closed, so connect anew")
+        elif isinstance(fault, OSError) and not isinstance(fault, Disconnected):
+            fault = Disconnected(f"the connection broke ({fault}); connect anew")
+        conversation.break_off(fault, answers)
         self._stream.close()
-        if isinstance(fault, OSError) and not isinstance(fault, Disconnected):
-            raise Disconnected(f"the connection broke ({fault}); connect anew") from fault
-        raise fault
+        raise fault from None
 
     def _read_all(self) -> None:
         conversation = self._core.conversation
