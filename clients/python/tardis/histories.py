@@ -1,13 +1,13 @@
 """A site's history as objects: the states that are kept, what each wrote, and what can be worked out from that."""
 
-from typing import Dict, Iterable, Iterator, List, NamedTuple, Optional, Sequence, Set, Tuple
+from typing import Container, Dict, Iterable, Iterator, List, NamedTuple, Optional, Sequence, Set, Tuple
 
 from .ids import ROOT, Bytes, StateId, prefix_bytes
 from .replies import Absent, Batch, Deleted, Read, Record, Stat, Value, Write
 
 __all__ = ["Difference", "History", "Items", "State"]
 
-#: so many records are remembered of those that are collected by now
+#: so many records are remembered of states that are closed by now
 MOST_REMEMBERED = 20_000
 
 
@@ -72,12 +72,13 @@ class Records:
         return new
 
     def forget(self, kept: Set[StateId]) -> None:
-        """Forgets the oldest of those that aren't kept any more, where there are many."""
-        gone = [id for id in self.records if id not in kept]
-        for id in gone[:max(0, len(gone) - MOST_REMEMBERED)]:
-            del self.records[id]
-            del self._place[id]
-        if len(self.gone) > MOST_REMEMBERED:
+        """Forgets the oldest of those that aren't kept for certain, where there are many."""
+        if len(self.records) > len(kept) + 2 * MOST_REMEMBERED:
+            closed = [id for id in self.records if id not in kept]
+            for id in closed[:-MOST_REMEMBERED]:
+                del self.records[id]
+                del self._place[id]
+        if len(self.gone) > 2 * MOST_REMEMBERED:
             self.gone = {id for id in self.gone if id in self.records}
 
     def is_complete(self, stat: Stat) -> bool:
@@ -100,6 +101,26 @@ class Records:
     def in_order(self, states: Iterable[StateId]) -> List[StateId]:
         """Those of these states whose records are known, in order of arrival; the root stands first."""
         return sorted((id for id in states if id in self._place), key=self._place.__getitem__)
+
+    def leading(self, id: StateId, kept: Container[StateId]) -> Optional[Tuple[StateId, ...]]:
+        """The kept states that lead to this one with none between: its parents, or what leads to these where they were collected.
+        None where that isn't known."""
+        record = self.records.get(id)
+        if record is None:
+            return None
+        if all(parent in kept for parent in record.parents):
+            return record.parents
+        found: Dict[StateId, bool] = {}
+        left = list(record.parents)
+        while left:
+            parent = left.pop()
+            if parent in kept:
+                found[parent] = True
+            elif parent in self.records:
+                left.extend(self.records[parent].parents)
+            elif parent != ROOT:
+                return None
+        return tuple(one for one in found if not any(one != other and one in self.above(other) for other in found))
 
     def apart(self, goal: StateId, current: StateId) -> List[StateId]:
         """The states at or above the one and not the other, in order of arrival."""

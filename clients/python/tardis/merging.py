@@ -3,18 +3,21 @@
 from typing import Any, Dict, List, NamedTuple, Optional, Sequence, Tuple
 
 from . import requests
+from .bases import base_of_many
 from .conversation import Answer
 from .core import Core, Steps, ask, ask_all
 from .ids import Bytes, StateId, state_id
 from .refusals import Below, Collected, Comparable, NoMemory, Refused, TooMany, Unknown as UnknownState
 from .replies import Committed, Keys, Read, States, Value
 from .requests import At, Request
-from .resolvers import UNKNOWN, Base, Resolve, Sides, is_asked_of_equal_sides
+from .resolvers import UNKNOWN, Base, Resolve, Sides, is_asked_of_equal_sides, is_asked_of_fork_points
 
 __all__ = ["Comparison", "Conflict", "Merged", "MergeStep", "compare", "merge"]
 
 #: a merge writes at most so many keys, reads at most so many states, and a transaction reads at most so many keys
 MOST_WRITES, MOST_STATES, MOST_READS = 64, 8, 256
+#: two branches that parted at more states than these have no base
+MOST_FORKS = 64
 
 
 class MergeStep(NamedTuple):
@@ -204,12 +207,17 @@ class _Merger:
 
     def _bases(self, keys: Sequence[bytes], forks: States) -> Steps[Dict[bytes, Base]]:
         """What each key had where the sides parted: read there, where the session may, else from what was pulled."""
-        if not 1 <= forks.total <= MOST_STATES:
+        if not 1 <= forks.total <= MOST_FORKS:
             return {key: UNKNOWN for key in keys}
         at_forks: List[Dict[bytes, Optional[Read]]] = []
         for fork in forks.first:
             at_forks.append((yield from self._read_at(fork, keys)))
-        return {key: _one_base([reads[key] for reads in at_forks]) for key in keys}
+        bases = {key: _one_base([reads[key] for reads in at_forks]) for key in keys}
+        open_ones = [key for key in keys if bases[key] is UNKNOWN and is_asked_of_fork_points(self.resolve, key)]
+        if open_ones and forks.total > 1:
+            stat, _ = yield from self.core.pull_news()
+            bases.update({key: base_of_many(self.core.records, stat, self.resolve, key, forks.first) for key in open_ones})
+        return bases
 
     def _read_at(self, state: StateId, keys: Sequence[bytes]) -> Steps[Dict[bytes, Optional[Read]]]:
         gets = [requests.get(key) for key in keys]

@@ -178,6 +178,55 @@ class Calls(OverServers):
         self.assertGreater(len(wide.steps), 2)
         self.assertEqual({value for _, value in one.items(wide.id, "wide ").items}, {b"side 1"})
 
+    def test_branches_that_were_merged_twice_have_a_base(self):
+        one, other = self.two()
+        with one.transaction() as txn:
+            txn.put("n", "10"), txn.put("doc", "a\nb\nc")
+        sides = []
+        for site, n, doc in ((one, "11", "a\nc"), (other, "12", "a\nb\nc\nd")):
+            with site.transaction(at=txn.committed) as side:
+                side.get("n"), side.put("n", n), side.put("doc", doc)
+            sides.append(side.committed)
+        # both merge the same leaves: two states, each below both leaves
+        resolve = tardis.by_prefix({"n": tardis.counter, "doc": tardis.three_way_text})
+        both = [one.merge(resolve, sides).id, other.merge(resolve, sides).id]
+        for site, n, at in ((one, 1, both[0]), (other, 2, both[1])):
+            with site.transaction(at=at) as txn:
+                self.assertEqual(txn.value("n"), b"13")
+                txn.put("n", str(13 + n)), txn.put("doc", txn.value("doc") + b"\n%d" % n)
+        told = one.compare(*one.leaves().first)
+        self.assertEqual((told.fork_points, {conflict.base for conflict in told.conflicts}), (tuple(sides), {tardis.UNKNOWN}))
+        merged = one.merge(resolve)
+        self.assertEqual(dict(one.items(merged.id).items), {b"n": b"16", b"doc": b"a\nc\nd\n1\n2"})
+
+    def test_a_history_of_which_states_were_collected(self):
+        self.serve()
+        site, viewer = self.connect(), self.connect()
+        site.open(follow=True)
+        for number in range(5):
+            with site.transaction() as txn:
+                txn.put("x", str(number))
+        fork = txn.committed
+        with self.connect() as other:
+            other.open()
+            with other.transaction(at=fork) as txn:
+                txn.get("x"), txn.put("x", "beside")
+        at = fork
+        for number in range(5):
+            with site.transaction(at=at) as txn:
+                txn.get("x"), txn.put("x", "again %d" % number)
+            at = txn.committed
+        while site.stat().sessions > 1:
+            pass
+        self.assertEqual(site.raise_floor().floor, txn.committed)
+        site.tidy()
+        leaf = StateId(1, 6)
+        history = viewer.history()
+        self.assertEqual([(state.id, state.parents) for state in history], [(fork, ()), (txn.committed, (fork,)), (leaf, (fork,))])
+        self.assertEqual((history[fork].writes, history[leaf].keys, len(history)), (None, (b"x",), site.stat().kept))
+        self.assertTrue(history.is_above(fork, leaf) and not history.is_above(txn.committed, leaf))
+        self.assertEqual(viewer.items(leaf), tardis.Items(((b"x", b"beside"),), False))
+
     def test_a_merge_that_cannot_be_resolved_changes_nothing(self):
         one, other = self.two()
         one.begin(), other.begin()
