@@ -1,69 +1,84 @@
-"""What a key had where two states parted, where they parted at several states that read differently.
+"""What several states have together, as a merge of them would give it, worked out from the records that were pulled.
 
-Two branches that were merged more than once in different ways share several last states. What these have together is what a
-merge of them would give: so the resolver is asked for it, with what *they* have where *they* parted, and so on upwards.
+It is asked for in two places. Two branches that were merged more than once in different ways share several last states, and what
+these have together is the base of both. And leaves that disagree may be joined by one merge, where what they have together is
+known. Each pair has its own base: what *they* have where *they* parted, and so on upwards.
 """
 
-from typing import Dict, FrozenSet, List, Optional, Sequence, Set
+from typing import Dict, Optional, Sequence
 
-from .histories import Records
+from .histories import Ancestry
 from .ids import StateId
-from .replies import Read, Stat, Value
 from .resolvers import UNKNOWN, Base, Resolve, Sides, Unknown, is_asked_of_equal_sides
 
-__all__ = ["base_of_many"]
+__all__ = ["value_together"]
 
-#: so many joins are made at most; branches that crossed more often have no base
-MOST_JOINS = 200
+#: so many joins are made at most for a key; branches that crossed more often have nothing that is known
+MOST_JOINS = 2_000
 
 
-class _Joiner:
-    def __init__(self, records: Records, stat: Stat, resolve: Resolve, key: bytes) -> None:
-        self.records = records
-        self.stat = stat
-        self.resolve = resolve
+def value_together(ancestry: Ancestry, resolve: Resolve, key: bytes, states: Sequence[StateId]) -> Base:
+    """What these states have together, none of which is above another. UNKNOWN where the records don't reach so far."""
+    if any(state not in ancestry.above for state in states):
+        return UNKNOWN
+    return _Key(key, ancestry, resolve).value(sum(1 << ancestry.above[state].bit_length() - 1 for state in states))
+
+
+class _Key:
+    """One key, and what is known of it for sets of states."""
+
+    def __init__(self, key: bytes, ancestry: Ancestry, resolve: Resolve) -> None:
         self.key = key
+        self.ancestry = ancestry
+        self.resolve = resolve
         self.joins = 0
-        self.known: Dict[FrozenSet[StateId], Base] = {}
+        self.known: Dict[int, Base] = {}
 
-    def value(self, states: Sequence[StateId]) -> Base:
-        """What these states, none of which is above another, have together."""
-        together = frozenset(states)
-        if together not in self.known:
-            self.known[together] = self._join(self.records.in_order(states)) if len(self.records.in_order(states)) == len(states) else UNKNOWN
-        return self.known[together]
+    def value(self, states: int) -> Base:
+        if states not in self.known:
+            self.known[states] = self._join(states)
+        return self.known[states]
 
-    def _join(self, states: List[StateId]) -> Base:
-        joined = self._read(states[0])
-        for place in range(1, len(states)):
-            self.joins += 1
-            other = self._read(states[place])
-            if isinstance(joined, Unknown) or isinstance(other, Unknown) or self.joins > MOST_JOINS:
-                return UNKNOWN
-            shared = self.records.above(*states[:place]) & self.records.above(states[place])
-            joined = self._settle(self.value(self._last(shared)), joined, other, states[0], states[place])
+    def _join(self, states: int) -> Base:
+        """Joins the states one after another, in order of arrival."""
+        joined: Base = None
+        above, first = 0, -1
+        while states:
+            place = (states & -states).bit_length() - 1
+            states &= states - 1
+            value, beside = self._read(place), self.ancestry.above_place(place)
+            if first < 0:
+                joined, first = value, place
+            else:
+                self.joins += 1
+                if isinstance(joined, Unknown) or isinstance(value, Unknown) or self.joins > MOST_JOINS:
+                    return UNKNOWN
+                joined = self._settle(self._base(above, beside), joined, value, first, place)
+            above |= beside
         return joined
 
-    def _settle(self, base: Base, one: Optional[bytes], other: Optional[bytes], first: StateId, second: StateId) -> Base:
+    def _base(self, one: int, other: int) -> Base:
+        """What two sets of states have where they parted. Where either has states of its own that aren't known, they may share others
+        that aren't."""
+        shared, missing = one & other, self.ancestry.missing
+        if not shared or (one & missing & ~shared and other & missing & ~shared):
+            return UNKNOWN
+        return self.value(self.ancestry.last(shared))
+
+    def _read(self, place: int) -> Base:
+        try:
+            written = self.ancestry.writer(self.key, self.ancestry.above_place(place))
+        except KeyError:
+            return UNKNOWN
+        return None if written is None else written[1]
+
+    def _settle(self, base: Base, one: Optional[bytes], other: Optional[bytes], first: int, second: int) -> Base:
         if isinstance(base, Unknown):
             return UNKNOWN
         if one == base or other == base:
             return other if one == base else one
         if one == other and not is_asked_of_equal_sides(self.resolve, self.key):
             return one
-        settled = self.resolve(self.key, base, Sides({first: one, second: other}, {first: first, second: second}))
+        ids = self.ancestry.ids[first], self.ancestry.ids[second]
+        settled = self.resolve(self.key, base, Sides(dict(zip(ids, (one, other))), dict(zip(ids, ids))))
         return settled.encode() if isinstance(settled, str) else settled
-
-    def _last(self, states: Set[StateId]) -> List[StateId]:
-        """Those of these states that aren't above others of them."""
-        inner = {parent for id in states if id in self.records.records for parent in self.records.records[id].parents}
-        return [id for id in states if id not in inner]
-
-    def _read(self, state: StateId) -> Base:
-        read: Optional[Read] = self.records.read(self.key, state, self.stat)
-        return UNKNOWN if read is None else read.value if isinstance(read, Value) else None
-
-
-def base_of_many(records: Records, stat: Stat, resolve: Resolve, key: bytes, forks: Sequence[StateId]) -> Base:
-    """What these fork points have together, worked out from what was pulled. UNKNOWN where that doesn't reach."""
-    return _Joiner(records, stat, resolve, key).value(forks)

@@ -36,8 +36,7 @@ class Sides(Dict[StateId, Optional[bytes]]):
 Resolve = Callable[[bytes, Base, Sides], Optional[Bytes]]
 
 
-def last_writer(key: bytes, base: Base, sides: Sides) -> Optional[bytes]:
-    """What the side has whose writer has the greater id, as the rule `last` of `docs/RULES.md`. It says nothing of time."""
+def _last(key: bytes, base: Base, sides: Sides) -> Optional[bytes]:
     written = [(writer, side) for side, writer in sides.writers.items() if writer is not None]
     return sides[max(written)[1]] if written else None
 
@@ -59,12 +58,14 @@ def _count(key: bytes, base: Base, sides: Sides) -> Optional[bytes]:
 
 
 class ReadyMade:
-    """A resolver that asks nobody, and gives the same each time. So it may be asked what the fork points of two sides have
-    together, where there are several; and perhaps of equal sides."""
+    """A resolver that asks nobody, and gives the same each time, so that it may be asked more than a person: what several
+    fork points have together, which is the base of sides that parted at all of them. It may be asked of equal sides too, and,
+    where it needs no base, of all sides at once. A resolver of one's own says the same by methods of these names."""
 
-    def __init__(self, resolve: Resolve, of_equal_sides: bool = False) -> None:
+    def __init__(self, resolve: Resolve, of_equal_sides: bool = False, of_many_sides: bool = False) -> None:
         self._resolve = resolve
         self._of_equal_sides = of_equal_sides
+        self._of_many_sides = of_many_sides
 
     def __call__(self, key: bytes, base: Base, sides: Sides) -> Optional[Bytes]:
         return self._resolve(key, base, sides)
@@ -72,25 +73,39 @@ class ReadyMade:
     def of_equal_sides(self, key: bytes) -> bool:
         return self._of_equal_sides
 
+    def of_many_sides(self, key: bytes) -> bool:
+        return self._of_many_sides
+
     def of_fork_points(self, key: bytes) -> bool:
-        return True
+        return not self._of_many_sides
 
 
-#: The sum of what each side added, as the rule `count`: decimal texts, of which none counts as 0. It is asked where the sides are
-#: equal too, since two that added one each hold the same. What all sides deleted stays deleted.
-counter: Resolve = ReadyMade(_count, of_equal_sides=True)
-
-
-def is_asked_of_fork_points(resolve: Resolve, key: bytes) -> bool:
-    """Whether a resolver may be asked for a base: where it has a method `of_fork_points` that says so."""
-    says = getattr(resolve, "of_fork_points", None)
+def _says(resolve: Resolve, what: str, key: bytes) -> bool:
+    says = getattr(resolve, what, None)
     return bool(says(key)) if callable(says) else False
 
 
 def is_asked_of_equal_sides(resolve: Resolve, key: bytes) -> bool:
-    """Whether a resolver is asked where all sides have the same value: where it has a method `of_equal_sides` that says so."""
-    says = getattr(resolve, "of_equal_sides", None)
-    return bool(says(key)) if callable(says) else False
+    """Whether a resolver is asked where all sides have the same value."""
+    return _says(resolve, "of_equal_sides", key)
+
+
+def is_asked_of_many_sides(resolve: Resolve, key: bytes) -> bool:
+    """Whether a resolver needs no base, and takes any number of sides."""
+    return _says(resolve, "of_many_sides", key)
+
+
+def is_asked_of_fork_points(resolve: Resolve, key: bytes) -> bool:
+    """Whether a resolver may be asked what several fork points have together."""
+    return _says(resolve, "of_fork_points", key)
+
+
+#: What the side has whose writer has the greater id, as the rule `last` of `docs/RULES.md`. It says nothing of time.
+last_writer: Resolve = ReadyMade(_last, of_many_sides=True)
+
+#: The sum of what each side added, as the rule `count`: decimal texts, of which none counts as 0. It is asked where the sides are
+#: equal too, since two that added one each hold the same. What all sides deleted stays deleted.
+counter: Resolve = ReadyMade(_count, of_equal_sides=True)
 
 
 def union_of(separator: Bytes) -> Resolve:
@@ -195,6 +210,9 @@ class _ByPrefix:
 
     def of_equal_sides(self, key: bytes) -> bool:
         return is_asked_of_equal_sides(self._of(key), key)
+
+    def of_many_sides(self, key: bytes) -> bool:
+        return is_asked_of_many_sides(self._of(key), key)
 
     def of_fork_points(self, key: bytes) -> bool:
         return is_asked_of_fork_points(self._of(key), key)
