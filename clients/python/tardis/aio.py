@@ -18,7 +18,7 @@ from typing import Any, AsyncIterator, Awaitable, Callable, List, Optional, Sequ
 from . import requests
 from .addresses import parse_address, parse_timeout
 from .conversation import Answer, Conversation
-from .core import Core, Finished, Steps, ask, ask_all
+from .core import Aside, Core, Finished, Steps, ask, ask_all
 from .histories import Difference, History, Items, State
 from .ids import Bytes, StateId, number
 from .merging import Comparison, Merged, compare, merge
@@ -31,6 +31,9 @@ from .resolvers import Resolve
 __all__ = ["Site", "Transaction", "connect"]
 
 T = TypeVar("T")
+
+#: a second connection is waited for at most so many seconds
+ASIDE = 5.0
 
 
 class Transaction:
@@ -158,8 +161,9 @@ class Site:
     Several tasks may use it: their calls take turns, and the block of a `transaction()`, a `merge()` and a `retry()` is one turn.
     Where a call is cancelled in the midst of a request, the connection is closed."""
 
-    def __init__(self, core: Core, link: _Link, transport: asyncio.Transport, timeout: Optional[float]) -> None:
+    def __init__(self, core: Core, link: _Link, transport: asyncio.Transport, timeout: Optional[float], address: str) -> None:
         self._core = core
+        self._address = address
         self._link = link
         self._transport = transport
         self._timeout = timeout
@@ -185,7 +189,19 @@ class Site:
                 except StopIteration as end:
                     given: T = end.value
                     return given
-                await self._exchange(answers)
+                if isinstance(answers, Aside):
+                    await self._exchange_aside(answers)
+                else:
+                    await self._exchange(answers)
+
+    async def _exchange_aside(self, answers: Sequence[Answer[Any]]) -> None:
+        """Exchanges these over another connection. Where that can't be had, each says so."""
+        try:
+            async with await connect(self._address, min(ASIDE, self._timeout or ASIDE)) as other:
+                await other._exchange(answers)
+        except (OSError, ProtocolError) as fault:
+            for answer in answers:
+                answer.error = answer.error or fault
 
     async def _exchange(self, answers: Sequence[Answer[Any]]) -> None:
         """Sends all of these, and reads until each is answered. The transport goes on sending while this end reads."""
@@ -411,4 +427,4 @@ async def connect(address: str, timeout: Optional[float] = None) -> Site:
     stream = transport.get_extra_info("socket")
     if stream is not None and not isinstance(place, str):
         stream.setsockopt(socket.IPPROTO_TCP, socket.TCP_NODELAY, 1)
-    return Site(core, made, transport, seconds)
+    return Site(core, made, transport, seconds, address)

@@ -11,12 +11,12 @@ from typing import Any, Callable, Iterator, List, Optional, Sequence, Tuple, Typ
 from . import requests
 from .addresses import parse_address, parse_timeout
 from .conversation import Answer
-from .core import Core, Finished, Steps, ask, ask_all
+from .core import Aside, Core, Finished, Steps, ask, ask_all
 from .histories import Difference, History, Items, State
 from .ids import Bytes, StateId, number
 from .merging import Comparison, Merged, compare, merge
 from .pipelines import Pipeline
-from .refusals import Branches, Disconnected, NoTxn
+from .refusals import Branches, Disconnected, NoTxn, ProtocolError
 from .replies import Applied, Batch, Committed, Done, Ended, Keys, Raised, Read, Reply, Shown, Stat, States, Value
 from .requests import At, Delivered, Request
 from .resolvers import Resolve
@@ -28,6 +28,8 @@ T = TypeVar("T")
 #: up to so many bytes are sent before any reply is read; of more, replies are read while the rest is sent
 AT_ONCE = 16_384
 PIECE = 1 << 18
+#: a second connection is waited for at most so many seconds
+ASIDE = 5.0
 
 
 class Transaction:
@@ -86,8 +88,9 @@ class Site:
     Several threads may use it: their calls take turns, and the block of a `transaction()`, a `merge()` and a `retry()` is one
     turn. Once anything went wrong in the midst of a request the connection is closed, and each call says so."""
 
-    def __init__(self, stream: socket.socket, timeout: Optional[float] = None) -> None:
+    def __init__(self, stream: socket.socket, timeout: Optional[float] = None, address: Optional[str] = None) -> None:
         self._stream = stream
+        self._address = address
         self._timeout = parse_timeout(timeout)
         self._core = Core()
         self._poll = select.poll() if hasattr(select, "poll") else None
@@ -115,7 +118,21 @@ class Site:
                 except StopIteration as end:
                     given: T = end.value
                     return given
-                self._exchange(answers)
+                if isinstance(answers, Aside):
+                    self._exchange_aside(answers)
+                else:
+                    self._exchange(answers)
+
+    def _exchange_aside(self, answers: Sequence[Answer[Any]]) -> None:
+        """Exchanges these over another connection. Where that can't be had, each says so."""
+        try:
+            if self._address is None:
+                raise Disconnected("the address of the site isn't known here")
+            with connect(self._address, min(ASIDE, self._timeout or ASIDE)) as other:
+                other._exchange(answers)
+        except (OSError, ProtocolError) as fault:
+            for answer in answers:
+                answer.error = answer.error or fault
 
     def _exchange(self, answers: Sequence[Answer[Any]]) -> None:
         """Sends all of these, and reads until each is answered."""
@@ -414,7 +431,7 @@ def connect(address: str, timeout: Optional[float] = None) -> Site:
     for longer: `TimeoutError` is raised then, and the connection is closed."""
     place, seconds = parse_address(address), parse_timeout(timeout)
     try:
-        return Site(_unix_stream(place, seconds) if isinstance(place, str) else _tcp_stream(place, seconds), seconds)
+        return Site(_unix_stream(place, seconds) if isinstance(place, str) else _tcp_stream(place, seconds), seconds, address)
     except socket.timeout:
         raise TimeoutError(f"{address} wasn't reached within {seconds} seconds") from None
 

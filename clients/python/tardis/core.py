@@ -11,7 +11,7 @@ from .refusals import CeilingBack, Collected, NoMemory, Refused
 from .replies import Begun, Closed, Committed, Ended, Merging, Opened, Record, Reply, Shown, Stat, States
 from .requests import At, Request
 
-__all__ = ["Core", "Finished", "Steps", "ask", "ask_all"]
+__all__ = ["Aside", "Core", "Finished", "Steps", "ask", "ask_all"]
 
 T = TypeVar("T")
 Steps = Generator[List[Answer[Any]], None, T]
@@ -34,6 +34,18 @@ def ask_all(wanted: Sequence[Request[Any]]) -> Steps[List[Answer[Any]]]:
     answers: List[Answer[Any]] = [Answer(request) for request in wanted]
     yield answers
     return answers
+
+
+class Aside(List[Answer[Any]]):
+    """Requests that are to be exchanged over a connection of their own, which is closed again. Where there is none to be had, the
+    answers say so."""
+
+
+def ask_aside(wanted: Sequence[Request[Any]]) -> Steps[List[Answer[Any]]]:
+    """Exchanges requests in a session of their own: it may read at the site's floor, above the ceiling of this one."""
+    answers = Aside(Answer(request) for request in [requests.open_session(False), *wanted])
+    yield answers
+    return answers[1:]
 
 
 class Finished(NamedTuple):

@@ -5,7 +5,7 @@ from typing import Any, Dict, List, NamedTuple, Optional, Sequence, Tuple
 from . import requests
 from .bases import value_together
 from .conversation import Answer
-from .core import Core, Steps, ask, ask_all
+from .core import Core, Steps, ask, ask_all, ask_aside
 from .ids import Bytes, StateId, state_id
 from .refusals import Below, Collected, Comparable, NoMemory, Refused, TooMany, Unknown as UnknownState
 from .replies import Committed, Keys, Read, States, Value
@@ -252,11 +252,18 @@ class _Merger:
         return bases
 
     def _read_at(self, state: StateId, keys: Sequence[bytes]) -> Steps[Dict[bytes, Optional[Read]]]:
-        gets = [requests.get(key) for key in keys]
-        answers = yield from ask_all([requests.begin(state), *gets, requests.abort()])
+        """What each key reads at a state, where that can be had: in this session, or from what was pulled, or in another session,
+        whose ceiling is the site's floor."""
+        asked: List[Request[Any]] = [requests.begin(state), *[requests.get(key) for key in keys], requests.abort()]
+        answers = yield from ask_all(asked)
         if isinstance(answers[0].error, (Below, Collected, UnknownState)):
             yield from self.core.pull_news()
-            return {key: self.core.records.read(key, state) for key in keys}
+            told = {key: self.core.records.read(key, state) for key in keys}
+            if None not in told.values():
+                return told
+            answers = yield from ask_aside(asked)
+            if answers[0].error is not None:
+                return told
         answers[0].result()
         return {key: answer.result() for key, answer in zip(keys, answers[1:])}
 

@@ -1,7 +1,7 @@
 """The client against each server: what its calls give, what they refuse, and what becomes of a server that is killed."""
 
 import asyncio
-import os
+import inspect
 import pickle
 import threading
 import unittest
@@ -198,6 +198,39 @@ class Calls(OverServers):
         self.assertEqual((told.fork_points, {conflict.base for conflict in told.conflicts}), (tuple(sides), {tardis.UNKNOWN}))
         merged = one.merge(resolve)
         self.assertEqual(dict(one.items(merged.id).items), {b"n": b"16", b"doc": b"a\nc\nd\n1\n2"})
+
+    def test_a_base_at_the_floor_is_read_by_another_session(self):
+        self.serve()
+        one, other = self.connect(), self.connect()
+        one.open(follow=True), other.open(follow=True)
+        with one.transaction() as txn:
+            txn.put("n", "1")
+        for _ in range(2):
+            with one.transaction() as txn:
+                txn.put("n", str(int(txn.value("n")) + 1))
+        one.begin(), other.begin()
+        for site in (one, other):
+            site.put("n", str(int(site.value("n")) + 1)), site.commit()
+        # both ceilings stand below the fork now; nobody may read there but who comes anew, and no record of it is told
+        self.assertEqual((one.raise_floor().floor, one.tidy()), (txn.committed, 3))
+        self.assertRaises(tardis.Below, one.begin, txn.committed)
+        merged = one.merge(tardis.counter)
+        self.assertEqual(dict(one.items(merged.id).items), {b"n": b"5"})
+        self.assertEqual(one.stat().kept, 4)
+
+        async def awaited():
+            async with await tardis.aio.connect(self.address, PATIENCE) as third:
+                await third.open(follow=True)
+                for site in (one, other):
+                    site.begin()
+                for site in (one, other):
+                    site.put("n", str(int(site.value("n")) + 1)), site.commit()
+                await third.ceiling(one.leaves().first[0])
+                self.assertEqual(one.raise_floor().floor, merged.id)
+                again = await third.merge(tardis.counter)
+                self.assertEqual((await third.items(again.id)).items, ((b"n", b"7"),))
+
+        asyncio.run(awaited())
 
     def test_a_history_of_which_states_were_collected(self):
         self.serve()
@@ -423,6 +456,16 @@ class Calls(OverServers):
                 await one.stat()
 
         asyncio.run(story())
+
+
+class Shells(unittest.TestCase):
+    def test_both_shells_have_the_same_calls(self):
+        def calls(of):
+            return {name: [word for word in inspect.signature(getattr(of, name)).parameters] for name in dir(of)
+                    if not name.startswith("_") and callable(getattr(of, name))}
+
+        self.assertEqual(calls(tardis.Site), calls(tardis.aio.Site))
+        self.assertEqual(calls(tardis.Transaction), calls(tardis.aio.Transaction))
 
 
 class Tardisd(OfTardisd, Calls):
