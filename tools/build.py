@@ -47,17 +47,21 @@ def stop(text):
 
 
 class Crate:
-    """A crate of the repository: those that it stands on, all below it, when its text last changed, and how long its proof
-    takes, roughly, in seconds of one quiet processor."""
+    """A crate of the repository: its line, those that it stands on, all below it, when its text last changed, and how long
+    its proof takes, roughly, in seconds of one quiet processor (`seconds`)."""
 
-    def __init__(self, name, crates):
-        self.name, self.deps = name, crates[name]
+    def __init__(self, name, line, deps):
+        self.name, self.line, self.deps = name, line, deps
         self.folder = os.path.join(TOP, "crates", name)
         files = [os.path.join(at, it) for part in PARTS for at, _, found in os.walk(os.path.join(self.folder, part)) for it in found]
         self.changed = max(map(os.path.getmtime, files), default=0)
-        sizes = {end: sum(os.path.getsize(it) for it in files if it.endswith(end)) for end in (".rt", ".antt")}
-        self.seconds = 7 + sizes[".rt"] / 1_000 + sizes[".antt"] / 7_000
+        self.code = sum(os.path.getsize(it) for it in files if it.endswith(".rt"))
         self.below = []
+
+    @property
+    def seconds(self):
+        """By the bytes of its code, and of all code below, whose contracts are loaded: a line through forty crates."""
+        return max(5, self.code / 600 + sum(it.code for it in self.below) / 20_000)
 
     def made(self):
         """When the crate's library, or its program, was made; 0 where there is none."""
@@ -73,20 +77,17 @@ class Crate:
 
 def crates_below(program):
     """The program's crate and those below it, each behind those that it stands on."""
-    lines = {}
     with open(os.path.join(TOP, "crates.txt"), encoding="utf-8") as file:
-        for line in file:
-            name, _, deps = line.partition("#")[0].partition(":")
-            if name.strip():
-                lines[name.split()[0]] = deps.split()
-    lines = {name: [it for it in deps if it in lines] for name, deps in lines.items()}
+        told = [line.partition("#")[0].strip() for line in file]
+    lines = {line.split()[0].rstrip(":"): line for line in told if line}
     found = {}
 
     def visit(name):
         if name not in found:
-            for it in lines[name]:
+            deps = [it for it in lines[name].partition(":")[2].split() if it in lines]
+            for it in deps:
                 visit(it)
-            crate = found[name] = Crate(name, lines)
+            crate = found[name] = Crate(name, lines[name], deps)
             crate.below = [it for it in found.values() if any(it is found[dep] or it in found[dep].below for dep in crate.deps)]
 
     visit(program)
@@ -133,11 +134,10 @@ class Lane:
     """A folder of crates in which one crate is proved at a time."""
 
     def __init__(self, folder):
-        self.folder, self.crate, self.process, self.log = folder, None, None, None
+        self.folder, self.crate, self.process, self.log, self.lines = folder, None, None, None, set()
         os.makedirs(os.path.join(folder, "crates"))
-        for it in ("crates.txt", "HANDLES"):
-            if os.path.exists(os.path.join(TOP, it)):
-                shutil.copy2(os.path.join(TOP, it), folder)
+        if os.path.exists(os.path.join(TOP, "HANDLES")):
+            shutil.copy2(os.path.join(TOP, "HANDLES"), folder)
 
     def place(self, crate, part=""):
         return os.path.join(self.folder, "crates", crate.name, part)
@@ -148,6 +148,9 @@ class Lane:
                 source = os.path.join(it.folder, part)
                 if os.path.isdir(source) and not os.path.exists(self.place(it, part)):
                     shutil.copytree(source, self.place(it, part), copy_function=link)
+        self.lines.update(it.line for it in [crate, *crate.below])
+        with open(os.path.join(self.folder, "crates.txt"), "w", encoding="utf-8") as file:
+            file.write("".join(f"{it}\n" for it in sorted(self.lines)))
         if os.path.isdir(os.path.join(crate.folder, "out")):
             shutil.move(os.path.join(crate.folder, "out"), self.place(crate, "out"))
         self.crate, self.is_alone, self.log = crate, is_alone, os.path.join(self.folder, f"{crate.name}.log")
@@ -301,7 +304,7 @@ def held(crates):
 def build(program):
     """Proves and builds the program, unless it is there and newer than all that it is made from."""
     crates = crates_below(program)
-    if crates[program].is_made():
+    if crates[program].is_made() and crates[program].made() > os.path.getmtime(os.path.join(TOP, "crates.txt")):
         return
     if not shutil.which("rt"):
         stop(f"{program}: the command rt of the toolchain isn't on the PATH; README.md says which one is needed")

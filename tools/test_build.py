@@ -28,9 +28,10 @@ lines = dict(line.strip().split(":") for line in open(top + "/crates.txt") if ":
 home = os.path.dirname(os.path.dirname(os.path.abspath(__file__)))
 note = lambda what: open(home + "/notes", "a").write("%s %s %s\n" % (what, name, " ".join(sys.argv[2:])))
 has = lambda it: os.path.exists(home + "/" + it)
+for it in lines:
+    assert os.path.isdir(top + "/crates/%s/src" % it), it
 below = [it for it in lines[name].split() if it in lines]
 for it in below if verb != "try" else []:
-    assert os.path.isdir(top + "/crates/%s/src" % it), it
     assert os.path.isfile(top + "/crates/%s/out/rlib/stamp" % it), it + " isn't there"
 note(verb)
 if verb == "try":
