@@ -61,7 +61,7 @@ class Crate:
     @property
     def seconds(self):
         """By the bytes of its code, and of all code below, whose contracts are loaded: a line through forty crates."""
-        return max(5, self.code / 600 + sum(it.code for it in self.below) / 20_000)
+        return max(5, self.code / 600 + sum(it.code for it in self.below) / 15_000)
 
     def made(self):
         """When the crate's library, or its program, was made; 0 where there is none."""
