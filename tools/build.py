@@ -33,6 +33,8 @@ PARTS = ("src", "specs", "proofs")
 STOPPED = 70
 # What a check of one crate is likely to take of memory, in bytes.
 ROOM = 2_500_000_000
+# How long nothing is told at most, in seconds.
+SILENCE = 60
 # How long a run that isn't proved may take, in seconds.
 PATIENCE = 86_400
 
@@ -178,7 +180,7 @@ class Build:
         quota = processors()
         self.width = max(1, min(quota, free_memory() // ROOM))
         self.at_first = time_left(crates, [*self.todo, program], self.width)
-        self.alone, self.lanes, self.told = set(), [], 0.0
+        self.alone, self.lanes, self.told = set(), [], self.began
 
     def minutes_left(self):
         """About how many minutes the rest takes, by how fast it went so far."""
@@ -188,10 +190,12 @@ class Build:
         pace = (gone + 60) / (past + 60)
         return max(1, round(left * pace / 60))
 
-    def tell(self, name):
+    def tell(self, what):
+        """Tells how far it is, and what just came to be or is at work."""
         running = sum(1 for it in self.lanes if it.process)
         done = len(self.crates) - len(self.todo) - running - 1
-        say(f"[{done} of {len(self.crates)}] {name}, about {minutes(self.minutes_left())} more")
+        say(f"[{done} of {len(self.crates)}] {what}, about {minutes(self.minutes_left())} more")
+        self.told = time.monotonic()
 
     def run(self):
         home = lanes_home()
@@ -206,6 +210,8 @@ class Build:
                 for lane in self.lanes:
                     if lane.process and lane.process.poll() is not None:
                         self.finish(lane)
+                if time.monotonic() - self.told > SILENCE:
+                    self.tell(f"({', '.join(it.crate.name for it in self.lanes if it.process)})")
         finally:
             for lane in self.lanes:
                 if lane.process:
@@ -311,6 +317,7 @@ def build(program):
     with held(crates):
         if any(name != program and not crate.is_made() for name, crate in crates.items()):
             Build(program, crates).run()
+    say(f"[{len(crates) - 1} of {len(crates)}] ({program}: its last crate is proved, and the program built)")
     with tempfile.TemporaryDirectory() as folder:
         log = os.path.join(folder, f"{program}.log")
         with open(log, "wb") as said:
