@@ -32,7 +32,7 @@ PARTS = ("src", "specs", "proofs")
 # The status where the program isn't there and can't be built.
 STOPPED = 70
 # What a check of one crate is likely to take of memory, in bytes.
-ROOM = 2_500_000_000
+ROOM = 3_000_000_000
 # How long nothing is told at most, in seconds.
 SILENCE = 60
 # How long a run that isn't proved may take, in seconds.
