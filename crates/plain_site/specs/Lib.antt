@@ -10,6 +10,7 @@ pub mod FloorSteps
 pub mod Shows
 pub mod Exchange
 pub mod Step
+pub mod Rest
 pub mod Sound
 pub mod Laws
 pub mod CollectionLaws

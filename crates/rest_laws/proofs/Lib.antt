@@ -1,0 +1,7 @@
+-- What lasts of a site, and why.
+pub mod Passing
+pub mod Adds
+pub mod Trails
+pub mod Rests
+pub mod Seen
+pub mod Wrong

@@ -1,0 +1,4 @@
+-- What a site forgets when it ends, and what it doesn't.
+pub mod Laws
+pub mod Trails
+pub mod WrongSteps

@@ -1,0 +1,55 @@
+//! What a site forgets when it ends, and what it doesn't. The program calls none of it: each function here is empty, and its
+//! contracts are laws, and beside each a wrong step or a wrong way to start again that breaks it. `docs/MODEL.md` says each law
+//! in plain words.
+#![tactic(auto)]
+
+ghost use Rattle.plain_site.specs.Rest.{at_rest};
+ghost use Rattle.plain_site.specs.Step.{step};
+ghost use Rattle.plain_site.specs.WrongSteps.{IsBrokenBy};
+ghost use Rattle.rest_laws.specs.Laws.{RequestsAddWhatLasts, OthersAddNothing, NothingLastsOfOthers, WhatLastsIsSeen};
+ghost use Rattle.rest_laws.specs.Laws.{RestIsSound, RestIsRest, SiteIsShownAsBefore, StatIsAsBefore, ReadsAreAsBefore};
+ghost use Rattle.rest_laws.specs.Trails.{TrailsAreReplayed, OpeningsAreReplayed, AnswersAreReplayed, KeptFrontsAreOfFronts};
+ghost use Rattle.rest_laws.specs.WrongSteps.{IsBrokenAt, keeps_sessions, keeps_txns, loses_newest, raises_at_rest, raises_unseen, tells_floors};
+
+/// What lasts of a request, which is one thing at most, is all that it changes of the site at rest: so whoever keeps what lasts
+/// keeps all that a site needs to start again. A request of which nothing lasts leaves the site at rest as it was; of all but
+/// commits, deliveries, Settle, raised floors and Tidy nothing ever does. And what lasts of a request to a sound site is found
+/// by looking at the site before and behind it, so that nobody has to carry it out of the step.
+pub fn requests_add_what_lasts()
+    ensures adds { RequestsAddWhatLasts step }
+    ensures nothing { OthersAddNothing step }
+    ensures others { NothingLastsOfOthers step }
+    ensures seen { WhatLastsIsSeen step }
+    ensures told_breaks { IsBrokenBy RequestsAddWhatLasts tells_floors }
+    ensures unseen_breaks { IsBrokenBy OthersAddNothing raises_unseen }
+    ensures unseen_breaks_others { IsBrokenBy NothingLastsOfOthers raises_unseen }
+    ensures unseen_breaks_sight { IsBrokenBy WhatLastsIsSeen raises_unseen }
+{}
+
+/// What lasts of a whole trail, replayed one after another, leads from the site at rest to the site at rest after the trail,
+/// however the trail was answered; so from a site that opens. And where all that lasted of what was told is kept, and of the
+/// rest a front, what is kept leads to the site at rest after a front of the trail that has all that was told.
+pub fn trails_are_replayed()
+    ensures trails { TrailsAreReplayed step }
+    ensures openings { OpeningsAreReplayed step }
+    ensures answers { AnswersAreReplayed }
+    ensures fronts { KeptFrontsAreOfFronts }
+    ensures told_breaks { IsBrokenBy TrailsAreReplayed tells_floors }
+    ensures told_breaks_openings { IsBrokenBy OpeningsAreReplayed tells_floors }
+{}
+
+/// A sound site is sound at rest, and at rest it is at rest. To all who ask it is as it was: which states are known and kept,
+/// their children and fork paths, the leaves, the floors and the news are told as before; only no session is open. And at each
+/// state that a session under the own floor may read, a session that opens then is shown each key as it was read there.
+pub fn a_site_at_rest_is_as_before()
+    ensures sound { RestIsSound at_rest }
+    ensures once { RestIsRest at_rest }
+    ensures shown { SiteIsShownAsBefore step at_rest }
+    ensures stat { StatIsAsBefore step at_rest }
+    ensures reads { ReadsAreAsBefore step at_rest }
+    ensures txns_break { IsBrokenAt RestIsSound keeps_txns }
+    ensures raised_breaks { IsBrokenAt RestIsRest raises_at_rest }
+    ensures lost_breaks { IsBrokenAt (SiteIsShownAsBefore step) loses_newest }
+    ensures sessions_break { IsBrokenAt (StatIsAsBefore step) keeps_sessions }
+    ensures lost_breaks_reads { IsBrokenAt (ReadsAreAsBefore step) loses_newest }
+{}
