@@ -11,6 +11,7 @@ pub mod Shows
 pub mod Exchange
 pub mod Step
 pub mod Rest
+pub mod RestSpellings
 pub mod Sound
 pub mod Laws
 pub mod CollectionLaws

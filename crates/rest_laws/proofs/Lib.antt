@@ -4,4 +4,6 @@ pub mod Adds
 pub mod Trails
 pub mod Rests
 pub mod Seen
+pub mod Spelled
+pub mod Valid
 pub mod Wrong

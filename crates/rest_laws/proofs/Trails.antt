@@ -63,7 +63,7 @@ done-lasts site event events reply replies e =
     cond-false (bytes_eq reply no_memory) (lasting_of_answers site events replies)
     (option_to_list (lasting_of_event site event) ++ lasting_of_answers (site_machine.step site event) events replies) other
 
-pub answers-are-replayed : AnswersAreReplayed
+pub answers-are-replayed : AnswersAreReplayed lasting_of_answers
 answers-are-replayed site last [] [] h = ap at_rest (sym h)
 answers-are-replayed site last [] (reply ∷ replies) h = absurd (h)
 answers-are-replayed site last (event ∷ events) [] h = absurd (h)
@@ -160,7 +160,7 @@ kept-front site last (event ∷ events) (reply ∷ replies) (k ∷ kept) lost (i
         let led = fewer same.1 in
         subst (λ s. LedTo next events replies (replay kept s)) (sym adds ∙ ap (λ m. with_lasting m (at_rest site)) same.0) led
 
-pub kept-fronts-are-of-fronts : KeptFrontsAreOfFronts
+pub kept-fronts-are-of-fronts : KeptFrontsAreOfFronts lasting_of_answers
 kept-fronts-are-of-fronts site between last older newer older_replies newer_replies kept lost before behind e =
     let all = lasting_of_answers site older older_replies in
     let old = answers-are-replayed site between older older_replies before in

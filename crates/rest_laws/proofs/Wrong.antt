@@ -1,27 +1,32 @@
 -- Wrong steps and wrong ways to start again break the laws.
-use Rattle.std.proofs.Common.{◌≡◌, ℕ, [], ◌∷◌, Option, Some, None, IsTrue, refl, sym, ap, ◌∙◌}
+use Rattle.std.proofs.Common.{◌≡◌, ℕ, true, false, List, [], ◌∷◌, ◌++◌, length, inl, inr, Option, Some, None, IsTrue, refl, sym, ap, ◌∙◌}
+use Rattle.tardis_base.specs.declared.records.Item.TheVariants.{State}
 use Rattle.std.specs.Prelude.{◌&&◌, codes}
 use Rattle.std.specs.List.{list_all}
 use Rattle.std.proofs.lemmas.Bool.{and_parts}
-use Rattle.tardis_base.specs.declared.requests.Request.TheVariants.{Raise, Stat, Leaves}
+use Rattle.tardis_base.specs.declared.requests.Request.TheVariants.{Raise, RaiseAuto, Stat, Leaves}
 use Rattle.tardis_base.specs.declared.replies.Refusal.TheVariants.{NoTxn}
 use Rattle.tardis_base.specs.declared.replies.Reply.TheVariants.{Refused, States}
 use Rattle.tardis_base.specs.Ids.{root}
+use Rattle.tardis_base.specs.Plain.{Event, Answers, no_memory}
 use Rattle.tardis_base.specs.Valid.{is_u16}
 use Rattle.wire_talk.specs.Valid.{is_request}
 use Rattle.plain_dag.specs.Floors.{Session}
 use Rattle.plain_site.specs.Site.{Site, Single, own_floor}
-use Rattle.plain_site.specs.Step.{step}
+use Rattle.plain_site.specs.Commits.{with_record}
+use Rattle.plain_site.specs.Step.{step, site_machine}
 use Rattle.plain_site.specs.Sound.{IsSound}
 use Rattle.plain_site.specs.RowWords.{lone_site, program_limits, ◌·◌, opens, begin_any, put, none, commit, value}
-use Rattle.plain_site.specs.WrongSteps.{IsBrokenBy}
-use Rattle.plain_site.specs.Rest.{own_promise}
+use Rattle.plain_site.specs.RowByteWords.{hex}
+use Rattle.plain_site.specs.WrongSteps.{IsBrokenBy, first_site, of_second_site}
+use Rattle.plain_site.specs.Rest.{at_rest, News, own_promise}
 use Rattle.plain_site.proofs.SoundOpening.{opening-is-sound}
 use Rattle.plain_site.proofs.SoundRequests.{request-keeps-sound}
 use Rattle.rest_laws.specs.Laws.{RequestsAddWhatLasts, OthersAddNothing, NothingLastsOfOthers, WhatLastsIsSeen, RestIsSound, RestIsRest, SiteIsShownAsBefore}
 use Rattle.rest_laws.specs.Laws.{StatIsAsBefore, ReadsAreAsBefore, without_sessions}
-use Rattle.rest_laws.specs.Trails.{Asked, after, TrailsAreReplayed, OpeningsAreReplayed}
-use Rattle.rest_laws.specs.WrongSteps.{tells_floors, raises_unseen, IsBrokenAt, keeps_txns, raises_at_rest, loses_newest, keeps_sessions}
+use Rattle.rest_laws.specs.SpellingLaws.{WhatLastsIsSpelled}
+use Rattle.rest_laws.specs.Trails.{AnswersAreReplayed, KeptFrontsAreOfFronts, Asked, after, TrailsAreReplayed, OpeningsAreReplayed}
+use Rattle.rest_laws.specs.WrongSteps.{IsBrokenByKeeping, keeps_undone, keeps_twice, makes_up, raises_past_end, tells_floors, raises_unseen, IsBrokenAt, keeps_txns, raises_at_rest, loses_newest, keeps_sessions}
 
 -- the number of the own floor
 abbrev number : Site → ℕ
@@ -53,6 +58,77 @@ some-isnt-none a e = absurd (cc)
 
 pub unseen-floors-break-sight : IsBrokenBy WhatLastsIsSeen raises_unseen
 unseen-floors-break-sight law = some-isnt-none (own_promise lone_site root 1) (law lone_site 0 Stat refl lone-is-sound)
+
+-- the only site, whose floor has the last number
+abbrev at_end : Site
+at_end = record lone_site { floors = record { state = root; number = 4294967295; stated = 0 } ∷ [] }
+
+end-is-sound : IsSound at_end
+end-is-sound = record {
+  limits = refl;
+  own = refl;
+  dag = lone-is-sound.dag;
+  of_the_sites = refl;
+  few_kept = lone-is-sound.few_kept;
+  short_paths = lone-is-sound.short_paths;
+  few_children = lone-is-sound.few_children;
+  few_sessions = lone-is-sound.few_sessions;
+  session_numbers = refl;
+  each_session = refl;
+  txn_numbers = refl;
+  each_txn = lone-is-sound.each_txn;
+  one_floor_each = refl;
+  each_floor = refl;
+  under_floor = refl;
+  collected = record {
+    known = λ x among. absurd (cc);
+    closed = λ x among. absurd (cc);
+    absorbed = λ x among. absurd (cc);
+  };
+  collected_once = refl;
+  waiting = lone-is-sound.waiting;
+}
+
+pub past-end-breaks : IsBrokenBy WhatLastsIsSpelled raises_past_end
+past-end-breaks law =
+    let spelled : false ≡ true = law at_end 0 RaiseAuto (own_promise at_end root 4294967296) refl refl end-is-sound refl in
+    absurd (cc)
+
+-- ===== Ways to keep what lasts
+
+-- the record of another site is delivered
+abbrev delivery : Event
+delivery = (0, hex "14 01 0002 00000001 01 0000 00000000 00")
+
+-- and it is applied
+abbrev applied : Site
+applied = with_record of_second_site first_site
+
+pub undone-breaks : IsBrokenByKeeping AnswersAreReplayed keeps_undone
+undone-breaks law =
+    let same : ◌≡◌ {A = ℕ} 2 1 =
+    ap (λ (s : Site). length s.dag) (law first_site first_site (delivery ∷ []) (no_memory ∷ []) (inr (refl, refl, refl))) in
+    absurd (cc)
+
+pub twice-breaks : IsBrokenByKeeping AnswersAreReplayed keeps_twice
+twice-breaks law =
+    let same : ◌≡◌ {A = ℕ} 3 2 =
+    ap (λ (s : Site). length s.dag) (law first_site applied (delivery ∷ []) ((17 ∷ []) ∷ []) (inl (refl, refl))) in
+    absurd (cc)
+
+-- nothing that was answered led to more records
+nothing-led : (done : List Event) (undone : List Event) (replies : List (List ℕ)) (state : Site) → [] ≡ done ++ undone →
+    Answers site_machine first_site done replies state → state ≡ first_site
+nothing-led [] undone [] state e h = h
+nothing-led [] undone (reply ∷ replies) state e h = absurd (h)
+nothing-led (event ∷ done) undone replies state e h = absurd (cc)
+
+pub made-up-breaks : IsBrokenByKeeping KeptFrontsAreOfFronts makes_up
+made-up-breaks law =
+    let led = law first_site first_site first_site [] [] [] [] (News (State of_second_site) ∷ []) [] refl refl refl in
+    let none = ap at_rest (nothing-led led.done led.undone led.done_replies led.state led.events_are led.answered) in
+    let same : ◌≡◌ {A = ℕ} 3 1 = ap (λ (s : Site). length s.dag) (sym led.rests ∙ none) in
+    absurd (cc)
 
 -- ===== Ways to start again
 

@@ -1,4 +1,5 @@
 -- What a site forgets when it ends, and what it doesn't.
 pub mod Laws
 pub mod Trails
+pub mod SpellingLaws
 pub mod WrongSteps

@@ -45,10 +45,14 @@ lasting_of_answers site (event ∷ events) (reply ∷ replies) =
     if bytes_eq reply no_memory then undone else option_to_list (lasting_of_event site event) ++ later
 lasting_of_answers site _ _ = []
 
--- however a site answered, memory's wants included, what lasts of that leads to where the answers led
-abbrev pub AnswersAreReplayed : Type 0
-AnswersAreReplayed = (site last : Site) (events : List Event) (replies : List (List ℕ)) → Answers site_machine site events replies last →
-    replay (lasting_of_answers site events replies) (at_rest site) ≡ at_rest last
+-- what is kept of events with these replies. The laws are laws of that, so that they can be asked of a wrong one too
+abbrev pub Keeping : Type 0
+Keeping = Site → List Event → List (List ℕ) → List Lasting
+
+-- however a site answered, memory's wants included, what is kept of that leads to where the answers led
+abbrev pub AnswersAreReplayed : Keeping → Type 0
+AnswersAreReplayed keeping = (site last : Site) (events : List Event) (replies : List (List ℕ)) → Answers site_machine site events replies last →
+    replay (keeping site events replies) (at_rest site) ≡ at_rest last
 
 -- a front of these events was answered with a front of these replies, and led to a site that is this one at rest
 pub record LedTo (site : Site) (events : List Event) (replies : List (List ℕ)) (rest : Site) : Type 0 where
@@ -62,12 +66,12 @@ pub record LedTo (site : Site) (events : List Event) (replies : List (List ℕ))
   pub answered : Answers site_machine site done done_replies state
   pub rests : at_rest state ≡ rest
 
--- Where all that lasted of the older events is kept, and of the newer ones just a front, the kept leads to the site at rest
--- after the older events and a front of the newer ones. So whoever kept at least what lasted of what was told has lost
--- nothing of it, and made nothing up.
-abbrev pub KeptFrontsAreOfFronts : Type 0
-KeptFrontsAreOfFronts =
+-- Where all that is kept of the older events is there, and of the newer ones just a front, that leads to the site at rest after
+-- the older events and a front of the newer ones. So where at least what is kept of all that was told is there, nothing of it
+-- is lost, and nothing is made up.
+abbrev pub KeptFrontsAreOfFronts : Keeping → Type 0
+KeptFrontsAreOfFronts keeping =
     (site between last : Site) (older newer : List Event) (older_replies newer_replies : List (List ℕ)) (kept lost : List Lasting) →
     Answers site_machine site older older_replies between → Answers site_machine between newer newer_replies last →
-    lasting_of_answers between newer newer_replies ≡ kept ++ lost →
-    LedTo between newer newer_replies (replay (lasting_of_answers site older older_replies ++ kept) (at_rest site))
+    keeping between newer newer_replies ≡ kept ++ lost →
+    LedTo between newer newer_replies (replay (keeping site older older_replies ++ kept) (at_rest site))

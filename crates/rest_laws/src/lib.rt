@@ -8,8 +8,12 @@ ghost use Rattle.plain_site.specs.Step.{step};
 ghost use Rattle.plain_site.specs.WrongSteps.{IsBrokenBy};
 ghost use Rattle.rest_laws.specs.Laws.{RequestsAddWhatLasts, OthersAddNothing, NothingLastsOfOthers, WhatLastsIsSeen};
 ghost use Rattle.rest_laws.specs.Laws.{RestIsSound, RestIsRest, SiteIsShownAsBefore, StatIsAsBefore, ReadsAreAsBefore};
-ghost use Rattle.rest_laws.specs.Trails.{TrailsAreReplayed, OpeningsAreReplayed, AnswersAreReplayed, KeptFrontsAreOfFronts};
-ghost use Rattle.rest_laws.specs.WrongSteps.{IsBrokenAt, keeps_sessions, keeps_txns, loses_newest, raises_at_rest, raises_unseen, tells_floors};
+ghost use Rattle.rest_laws.specs.Trails.{lasting_of_answers, TrailsAreReplayed, OpeningsAreReplayed, AnswersAreReplayed, KeptFrontsAreOfFronts};
+ghost use Rattle.rest_laws.specs.SpellingLaws.{LastingHasOneSpelling, AllHaveOneSpelling, LastingIsShort, WhatLastsIsSpelled};
+ghost use Rattle.rest_laws.specs.WrongSteps.{IsBrokenAt, keeps_sessions, keeps_txns, loses_newest, raises_at_rest};
+ghost use Rattle.rest_laws.specs.WrongSteps.{IsBrokenByKeeping, keeps_twice, keeps_undone, makes_up, raises_past_end, raises_unseen, tells_floors};
+
+use wire_item::spellings_have_their_lengths;
 
 /// What lasts of a request, which is one thing at most, is all that it changes of the site at rest: so whoever keeps what lasts
 /// keeps all that a site needs to start again. A request of which nothing lasts leaves the site at rest as it was; of all but
@@ -32,10 +36,13 @@ pub fn requests_add_what_lasts()
 pub fn trails_are_replayed()
     ensures trails { TrailsAreReplayed step }
     ensures openings { OpeningsAreReplayed step }
-    ensures answers { AnswersAreReplayed }
-    ensures fronts { KeptFrontsAreOfFronts }
+    ensures answers { AnswersAreReplayed lasting_of_answers }
+    ensures fronts { KeptFrontsAreOfFronts lasting_of_answers }
     ensures told_breaks { IsBrokenBy TrailsAreReplayed tells_floors }
     ensures told_breaks_openings { IsBrokenBy OpeningsAreReplayed tells_floors }
+    ensures undone_breaks { IsBrokenByKeeping AnswersAreReplayed keeps_undone }
+    ensures twice_breaks { IsBrokenByKeeping AnswersAreReplayed keeps_twice }
+    ensures made_up_breaks { IsBrokenByKeeping KeptFrontsAreOfFronts makes_up }
 {}
 
 /// A sound site is sound at rest, and at rest it is at rest. To all who ask it is as it was: which states are known and kept,
@@ -53,3 +60,15 @@ pub fn a_site_at_rest_is_as_before()
     ensures sessions_break { IsBrokenAt (StatIsAsBefore step) keeps_sessions }
     ensures lost_breaks_reads { IsBrokenAt (ReadsAreAsBefore step) loses_newest }
 {}
+
+/// What lasts has one spelling, and so have several that stand one behind another: they are read one by one. What lasts of a
+/// request to a sound site can be spelled, and its spelling has at most 270,649 bytes.
+pub fn what_lasts_has_one_spelling()
+    ensures one { LastingHasOneSpelling }
+    ensures all { AllHaveOneSpelling }
+    ensures short { LastingIsShort }
+    ensures spelled { WhatLastsIsSpelled step }
+    ensures past_end_breaks { IsBrokenBy WhatLastsIsSpelled raises_past_end }
+{
+    spellings_have_their_lengths();
+}
