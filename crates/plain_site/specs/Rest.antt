@@ -1,5 +1,6 @@
 -- What lasts of a site that ends and starts again, and what each request adds to that.
-use Rattle.std.specs.Prelude.{ℕ, ◌==◌, ◌+◌, ◌-◌, nat_lt, List, [], ◌∷◌, length, Option, Some, None, if◌then◌else◌}
+use Rattle.std.specs.Prelude.{ℕ, Bool, true, ◌==◌, ◌+◌, ◌-◌, ◌&&◌, nat_lt, nat_le, List, [], ◌∷◌, ◌++◌, length, Option, Some, None, is_none, if◌then◌else◌}
+use Rattle.std.specs.List.{list_all}
 use Rattle.std.specs.Option.{option_or, option_and_then}
 use Rattle.tardis_base.specs.declared.ids.StateId.{StateId}
 use Rattle.tardis_base.specs.declared.records.Record.{Record}
@@ -13,10 +14,12 @@ use Rattle.tardis_base.specs.declared.replies.Reply.TheVariants.{Committed, Rais
 use Rattle.tardis_base.specs.Plain.{Event}
 use Rattle.wire_talk.specs.RequestReadings.{request_of}
 use Rattle.plain_dag.specs.Floors.{Floor, with_floor, consented}
+use Rattle.plain_dag.specs.Collection.{tidied}
 use Rattle.plain_site.specs.Site.{Site, own_count}
 use Rattle.plain_site.specs.Answers.{Answer}
-use Rattle.plain_site.specs.Commits.{with_record}
+use Rattle.plain_site.specs.Commits.{with_record, growth_refusals}
 use Rattle.plain_site.specs.FloorSteps.{tidy}
+use Rattle.plain_site.specs.Exchange.{judgements, consent_judgements}
 use Rattle.plain_site.specs.Step.{step}
 
 -- ===== At rest
@@ -83,6 +86,30 @@ with_lasting (Collection count) site = (tidy site count).0
 abbrev pub replay : List Lasting → Site → Site
 replay [] site = site
 replay (l ∷ later) site = replay later (with_lasting l site)
+
+-- ===== What a site may take back
+
+-- the site under no number, so that nothing is its own
+abbrev pub nameless : Site → Site
+nameless site = record site { own = 0 }
+
+-- how many states are collected where so many are asked for
+abbrev pub collected_by : ℕ → Site → ℕ
+collected_by count site = length (tidied count site.dag site.floors site.collected) - length site.collected
+
+-- The site may take this back: a record or a promise, own ones too, where nothing would speak against its delivery to a site
+-- of another number; and a collection where so many states are there to be collected.
+abbrev pub fits : Site → Lasting → Bool
+fits site (News (State r)) = list_all is_none (judgements (nameless site) r ++ growth_refusals site r)
+fits site (News (Promise c)) = list_all is_none (consent_judgements (nameless site) c)
+fits site (Collection count) = nat_le 1 count && collected_by count site == count
+
+-- each of these, oldest first, where those before it were taken
+abbrev pub all_fit : Site → List Lasting → Bool
+all_fit site [] = true
+all_fit site (l ∷ later) =
+    let others = all_fit (with_lasting l site) later in
+    fits site l && others
 
 -- ===== What lasts, read back from the sites before and behind a request
 

@@ -6,4 +6,6 @@ pub mod Rests
 pub mod Seen
 pub mod Spelled
 pub mod Valid
+pub mod Fitting
+pub mod FittingTrails
 pub mod Wrong

@@ -1,9 +1,9 @@
 -- What lasts of a request is seen from the site before and behind it.
-use Rattle.std.proofs.Common.{◌≡◌, ℕ, zero, suc, ◌+◌, ◌-◌, ◌<◌, ◌≤◌, not, List, [], ◌∷◌, ◌++◌, length, set, get_or, Option, Some, None, IsTrue, IsFalse}
-use Rattle.std.proofs.Common.{refl, sym, ap, subst, ◌∙◌, arith}
+use Rattle.std.proofs.Common.{◌≡◌, ℕ, zero, suc, ◌+◌, ◌-◌, ◌<◌, ◌≤◌, not, List, [], ◌∷◌, ◌++◌, length, set, get_or, find, Option, Some, None, IsTrue, IsFalse}
+use Rattle.std.proofs.Common.{refl, sym, ap, subst, ◌∙◌, arith, unwrap_or}
 use Rattle.std.specs.Prelude.{◌==◌, ◌&&◌, ◌||◌, nat_lt, nat_le, option_to_list}
 use Rattle.std.specs.Option.{option_or}
-use Rattle.std.proofs.lemmas.Bool.{and_parts, cond-true, cond-false, cond_both, false_from_ne_true, ltb-true, ltb-false, lt-ltb, leb-true, leb-false}
+use Rattle.std.proofs.lemmas.Bool.{and_parts, not-false, cond-true, cond-false, cond_both, false_from_ne_true, ltb-true, ltb-false, lt-ltb, leb-true, leb-false}
 use Rattle.std.proofs.lemmas.Option.{none-some, same_Some, unwrap_or-slice_get}
 use Rattle.tardis_base.specs.declared.ids.StateId.{StateId}
 use Rattle.tardis_base.specs.declared.records.Record.{Record}
@@ -18,9 +18,11 @@ use Rattle.tardis_base.specs.declared.replies.Reply.TheVariants.{Applied, Known,
 use Rattle.tardis_base.specs.Valid.{is_u16, is_u32, is_id}
 use Rattle.wire_item.specs.Valid.{is_consent}
 use Rattle.wire_talk.specs.Valid.{is_request}
-use Rattle.plain_dag.specs.States.{is_known, count_of_site}
+use Rattle.plain_dag.specs.States.{states, is_known, count_of_site}
+use Rattle.plain_dag.proofs.Order.{above-reflexive}
+use Rattle.plain_dag.proofs.Searches.{found-passes}
 use Rattle.plain_dag.specs.Above.{is_above}
-use Rattle.plain_dag.specs.Floors.{Floor, Session, opening_floor, floor_of, with_floor, consented, holding_session, automatic_floor}
+use Rattle.plain_dag.specs.Floors.{Floor, Session, opening_floor, floor_of, with_floor, consented, holding_session, automatic_floor, is_above_ceilings}
 use Rattle.plain_dag.specs.Collection.{tidied}
 use Rattle.plain_site.specs.Site.{Site, own_floor}
 use Rattle.plain_site.specs.Answers.{Answer, when, refuse, refuse_found, unless}
@@ -30,7 +32,7 @@ use Rattle.plain_site.specs.Step.{step}
 use Rattle.plain_site.specs.Sound.{IsSound}
 use Rattle.plain_site.specs.Rest.{at_rest, Lasting, News, Collection, newest, own_promise, what_lasts, collection, lasting_of, with_promise, with_lasting, replay}
 use Rattle.plain_site.specs.Rest.{promise_of, promise_between, lasting_between}
-use Rattle.plain_site.proofs.SoundAnswers.{AreNone, when-none, none-parts}
+use Rattle.plain_site.proofs.SoundAnswers.{AreNone, when-none, none-parts, none-appended}
 use Rattle.plain_site.proofs.SoundBooks.{own-is_site}
 use Rattle.rest_laws.specs.Laws.{WhatLastsIsSeen}
 use Rattle.rest_laws.proofs.Adds.{AreQuiet, refuse-quiet, found-quiet, both-quiet, consent-quiet, tidied-again}
@@ -71,11 +73,13 @@ promise-set n (f ∷ fs) (suc i) g l more =
     cond-false (nat_lt f.number f.number) (Some (promise_of n f)) (promise_between (n + 1) fs (set fs i g)) (no-less f.number)
     ∙ (promise-set (n + 1) fs i g (omega (arith, l)) more ∙ ap (λ m. Some (promise_of m g)) there)
 
--- what is new to a site, so that it is seen behind it: any record; the promise of one of the sites, whose number is higher; so
+-- what is new to a site, so that it is seen behind it: any record; the promise of one of the sites, whose number is higher, of a state that the old floor is at or above; so
 -- many states, all of which are there to be collected
 abbrev pub IsNew : Site → Lasting → Type 0
 IsNew site (News (State r)) = Unit {0}
-IsNew site (News (Promise c)) = (1 ≤ c.site) × (c.site ≤ length site.floors) × ((floor_of site.floors c.site).number < c.number)
+IsNew site (News (Promise c)) =
+    (1 ≤ c.site) × (c.site ≤ length site.floors) × ((floor_of site.floors c.site).number < c.number)
+    × IsTrue (is_above site.dag (floor_of site.floors c.site).state c.floor)
 IsNew site (Collection count) =
     (collection count ≡ Some (Collection count)) × (length (tidied count site.dag site.floors site.collected) - length site.collected ≡ count)
 
@@ -116,43 +120,59 @@ unless-new site q [] answer quiet new = new refl
 unless-new site q (None ∷ more) answer quiet new = unless-new site q more answer quiet new
 unless-new site q (Some reply ∷ more) answer quiet new = quiet-new site q site reply (quiet.0 site)
 
--- the own promise is new
-own-new : (site : Site) (x : StateId) → IsSound site → IsNew site (own_promise site x ((own_floor site).number + 1))
-own-new site x sound =
+-- the own promise of a state that the own floor is at or above is new
+own-new : (site : Site) (x : StateId) → IsSound site → IsTrue (is_above site.dag (own_floor site).state x) →
+    IsNew site (own_promise site x ((own_floor site).number + 1))
+own-new site x sound down =
     let own = own-is_site site sound in
     let all = sound.one_floor_each in
-    (own.0, omega (arith, own.1, all), omega arith)
+    (own.0, omega (arith, own.1, all), omega arith, down)
 
-raised-new : (site : Site) (q : Request) (x : StateId) → IsSound site →
+raised-new : (site : Site) (q : Request) (x : StateId) → IsSound site → IsTrue (is_above site.dag (own_floor site).state x) →
     what_lasts q (raised site x).1 (raised site x).0 ≡ Some (own_promise site x ((own_floor site).number + 1)) → LastsNew site q (raised site x)
-raised-new site q x sound told l e =
-    subst (IsNew site) (same_Some (own_promise site x ((own_floor site).number + 1)) l (sym told ∙ e)) (own-new site x sound)
+raised-new site q x sound down told l e =
+    subst (IsNew site) (same_Some (own_promise site x ((own_floor site).number + 1)) l (sym told ∙ e)) (own-new site x sound down)
 
-raise_to-new : (site : Site) (q : Request) (x : StateId) (refusals : List (Option Reply)) → AreQuiet q refusals → LastsNew site q (raised site x) →
-    LastsNew site q (raise_to site x refusals)
+raise_to-new : (site : Site) (q : Request) (x : StateId) (refusals : List (Option Reply)) → AreQuiet q refusals →
+    (AreNone refusals → LastsNew site q (raised site x)) → LastsNew site q (raise_to site x refusals)
 raise_to-new site q x refusals quiet h =
     let over = (own_floor site).number == 4294967295 in
     unless-new site q (refusals ++ refuse over SeqEnd ∷ []) (raised site x)
-    (both-quiet q refusals (refuse over SeqEnd ∷ []) quiet (refuse-quiet q over SeqEnd [] tt)) (λ none. h)
+    (both-quiet q refusals (refuse over SeqEnd ∷ []) quiet (refuse-quiet q over SeqEnd [] tt))
+    (λ none. h (none-appended refusals (refuse over SeqEnd ∷ []) none).0)
 
 raise-new : (site : Site) (x : StateId) → IsSound site → LastsNew site (Raise x) (raise site x)
 raise-new site x sound =
     let q = Raise x in
     let floor = (own_floor site).state in
     let unknown = not (is_known site.dag x) in
-    let back = not (is_above site.dag floor x) in
+    let above = is_above site.dag floor x in
     let holding = holding_session site.dag site.sessions x in
     let third : List (Option Reply) = refuse_found (λ (s : ℕ × Session). Held s.0 s.1.ceiling) holding ∷ [] in
-    let second : List (Option Reply) = refuse back (FloorBack floor) ∷ third in
+    let second : List (Option Reply) = refuse (not above) (FloorBack floor) ∷ third in
     raise_to-new site q x (refuse unknown (Unknown x) ∷ second)
     (refuse-quiet q unknown (Unknown x) second
-    (refuse-quiet q back (FloorBack floor) third (found-quiet q (λ (s : ℕ × Session). Held s.0 s.1.ceiling) holding [] tt)))
-    (raised-new site q x sound refl)
+    (refuse-quiet q (not above) (FloorBack floor) third (found-quiet q (λ (s : ℕ × Session). Held s.0 s.1.ceiling) holding [] tt)))
+    (λ none.
+    let first = none-parts (refuse unknown (Unknown x)) second none in
+    let back = none-parts (refuse (not above) (FloorBack floor)) third first.1 in
+    raised-new site q x sound (not-false above (when-none (not above) (Refused (FloorBack floor)) back.0)) refl)
+
+automatic-is-below : (site : Site) → IsTrue (is_above site.dag (own_floor site).state (automatic_floor site.dag (own_floor site).state site.sessions))
+automatic-is-below site = go (find (λ x. is_above site.dag (own_floor site).state x && is_above_ceilings site.dag site.sessions x) (states site.dag)) refl
+  where
+    go : (o : Option StateId) → find (λ x. is_above site.dag (own_floor site).state x && is_above_ceilings site.dag site.sessions x) (states site.dag) ≡ o →
+        IsTrue (is_above site.dag (own_floor site).state (unwrap_or o (own_floor site).state))
+    go None e = above-reflexive site.dag (own_floor site).state
+    go (Some x) e =
+        let own = (own_floor site).state in
+        let found = found-passes (λ y. is_above site.dag own y && is_above_ceilings site.dag site.sessions y) (states site.dag) x e in
+        (and_parts (is_above site.dag own x) (is_above_ceilings site.dag site.sessions x) found.1).0
 
 raise_auto-new : (site : Site) → IsSound site → LastsNew site RaiseAuto (raise_auto site)
 raise_auto-new site sound =
     let x = automatic_floor site.dag (own_floor site).state site.sessions in
-    raise_to-new site RaiseAuto x [] tt (raised-new site RaiseAuto x sound refl)
+    raise_to-new site RaiseAuto x [] tt (λ none. raised-new site RaiseAuto x sound (automatic-is-below site) refl)
 
 same-count : (m n : ℕ) → ◌≡◌ {A = Lasting} (Collection m) (Collection n) → m ≡ n
 same-count m n e = cc
@@ -168,7 +188,7 @@ tidy-new site count l e =
     (λ t same d. absurd (none-some l d))
     (λ f same d. subst (IsNew site) (same_Some (Collection many) l d) (same, again)) refl e
 
-consent-site : (c : Consent) → IsTrue (is_consent c) → 1 ≤ c.site
+pub consent-site : (c : Consent) → IsTrue (is_consent c) → 1 ≤ c.site
 consent-site c h =
     leb-true 1 c.site
     (and_parts (nat_le 1 c.site) (nat_le 1 c.number)
@@ -179,19 +199,24 @@ consent-new site c sound valid =
     let f = floor_of site.floors c.site in
     let count = count_of_site site.dag c.site in
     let ahead = nat_lt count c.count || not (is_known site.dag c.floor) in
-    let back = not (is_above site.dag f.state c.floor) in
-    let fourth : List (Option Reply) = when ahead (Early count) ∷ refuse back (FloorBack f.state) ∷ [] in
+    let above = is_above site.dag f.state c.floor in
+    let fifth : List (Option Reply) = refuse (not above) (FloorBack f.state) ∷ [] in
+    let fourth : List (Option Reply) = when ahead (Early count) ∷ fifth in
     let third : List (Option Reply) = refuse (c.site == site.own) (OwnItem c.site c.number) ∷ fourth in
     let second : List (Option Reply) = when (nat_le c.number f.number) Known ∷ third in
     unless-new site (Deliver (Promise c)) (consent_judgements site c) (with_promise c site, Applied) (consent-quiet site c)
     (λ none l e.
     let first = none-parts (refuse (nat_lt site.limits.sites c.site) (BadSite c.site)) second none in
     let more = none-parts (when (nat_le c.number f.number) Known) third first.1 in
+    let other = none-parts (refuse (c.site == site.own) (OwnItem c.site c.number)) fourth more.1 in
+    let early = none-parts (when ahead (Early count)) fifth other.1 in
+    let back = none-parts (refuse (not above) (FloorBack f.state)) [] early.1 in
     let a_site = ltb-false site.limits.sites c.site (when-none (nat_lt site.limits.sites c.site) (Refused (BadSite c.site)) first.0) in
     let higher = leb-false c.number f.number (when-none (nat_le c.number f.number) Known more.0) in
     let all = sound.one_floor_each in
     let least = consent-site c valid in
-    subst (IsNew site) (same_Some (News (Promise c)) l e) (least, omega (arith, a_site, all), higher))
+    let down = not-false above (when-none (not above) (Refused (FloorBack f.state)) back.0) in
+    subst (IsNew site) (same_Some (News (Promise c)) l e) (least, omega (arith, a_site, all), higher, down))
 
 -- a record is always new
 newest-new : (site : Site) (rs : List Record) (l : Lasting) → newest rs ≡ Some l → IsNew site l

@@ -47,14 +47,14 @@ event-adds site (n, bytes) = go (request_of bytes)
     go (Some q) = requests-add-what-lasts site n q
 
 -- what lasts where memory was wanting, and where it wasn't
-undone-lasts : (site : Site) (event : Event) (events : List Event) (reply : List ℕ) (replies : List (List ℕ)) → reply ≡ no_memory →
+pub undone-lasts : (site : Site) (event : Event) (events : List Event) (reply : List ℕ) (replies : List (List ℕ)) → reply ≡ no_memory →
     lasting_of_answers site (event ∷ events) (reply ∷ replies) ≡ lasting_of_answers site events replies
 undone-lasts site event events reply replies e =
     cond-true (bytes_eq reply no_memory) (lasting_of_answers site events replies)
     (option_to_list (lasting_of_event site event) ++ lasting_of_answers (site_machine.step site event) events replies)
     (subst (λ bytes. IsTrue (bytes_eq bytes no_memory)) (sym e) refl)
 
-done-lasts : (site : Site) (event : Event) (events : List Event) (reply : List ℕ) (replies : List (List ℕ)) → reply ≡ site_machine.reply site event →
+pub done-lasts : (site : Site) (event : Event) (events : List Event) (reply : List ℕ) (replies : List (List ℕ)) → reply ≡ site_machine.reply site event →
     lasting_of_answers site (event ∷ events) (reply ∷ replies)
     ≡ option_to_list (lasting_of_event site event) ++ lasting_of_answers (site_machine.step site event) events replies
 done-lasts site event events reply replies e =
@@ -122,7 +122,7 @@ one-wanting site event events reply replies rest e sure led = record {
   rests = led.rests;
 }
 
-same-heads : (l k : Lasting) (ls ks : List Lasting) → l ∷ ls ≡ k ∷ ks → (l ≡ k) × (ls ≡ ks)
+pub same-heads : (l k : Lasting) (ls ks : List Lasting) → l ∷ ls ≡ k ∷ ks → (l ≡ k) × (ls ≡ ks)
 same-heads l k ls ks e = (first, rest)
   where
     first : l ≡ k

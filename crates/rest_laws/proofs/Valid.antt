@@ -104,7 +104,7 @@ newest-is-record : (r : Record) (rs : List Record) → IsDag rs → IsDag (r ∷
 newest-is-record r [] old dag = absurd (old)
 newest-is-record r (s ∷ rs) old dag = dag.0.shape
 
-set-floor : (floors : List Floor) (n : ℕ) (f : Floor) → 1 ≤ n → n ≤ length floors → floor_of (with_floor floors n f) n ≡ f
+pub set-floor : (floors : List Floor) (n : ℕ) (f : Floor) → 1 ≤ n → n ≤ length floors → floor_of (with_floor floors n f) n ≡ f
 set-floor floors n f least most =
     unwrap_or-slice_get (set floors (n - 1) f) (n - 1) opening_floor ∙ get_or-set_same floors (n - 1) f opening_floor (omega (arith, least, most))
 
@@ -128,7 +128,7 @@ promise-is-consent site next c sound after same new =
     (and_from (is_u16 c.site) (is_u32 c.number) (lt-ltb c.site (2 ^ 16) is_site) number) floor) count)
     (and_from (nat_le 1 c.site) (nat_le 1 c.number) (le-leb 1 c.site new.0) (le-leb 1 c.number least))
 
-some-count : (count : ℕ) → collection count ≡ Some (Collection count) → 1 ≤ count
+pub some-count : (count : ℕ) → collection count ≡ Some (Collection count) → 1 ≤ count
 some-count zero e = absurd (none-some (Collection zero) e)
 some-count (suc n) e = omega arith
 

@@ -4,7 +4,7 @@ use Rattle.tardis_base.specs.declared.records.Item.TheVariants.{State}
 use Rattle.std.specs.Prelude.{◌&&◌, codes}
 use Rattle.std.specs.List.{list_all}
 use Rattle.std.proofs.lemmas.Bool.{and_parts}
-use Rattle.tardis_base.specs.declared.requests.Request.TheVariants.{Raise, RaiseAuto, Stat, Leaves}
+use Rattle.tardis_base.specs.declared.requests.Request.TheVariants.{Raise, RaiseAuto, Stat, Leaves, Deliver, Settle}
 use Rattle.tardis_base.specs.declared.replies.Refusal.TheVariants.{NoTxn}
 use Rattle.tardis_base.specs.declared.replies.Reply.TheVariants.{Refused, States}
 use Rattle.tardis_base.specs.Ids.{root}
@@ -25,12 +25,21 @@ use Rattle.plain_site.proofs.SoundRequests.{request-keeps-sound}
 use Rattle.rest_laws.specs.Laws.{RequestsAddWhatLasts, OthersAddNothing, NothingLastsOfOthers, WhatLastsIsSeen, RestIsSound, RestIsRest, SiteIsShownAsBefore}
 use Rattle.rest_laws.specs.Laws.{StatIsAsBefore, ReadsAreAsBefore, without_sessions}
 use Rattle.rest_laws.specs.SpellingLaws.{WhatLastsIsSpelled}
+use Rattle.rest_laws.specs.FitLaws.{WhatLastsFits, KeptFits}
 use Rattle.rest_laws.specs.Trails.{AnswersAreReplayed, KeptFrontsAreOfFronts, Asked, after, TrailsAreReplayed, OpeningsAreReplayed}
-use Rattle.rest_laws.specs.WrongSteps.{IsBrokenByKeeping, keeps_undone, keeps_twice, makes_up, raises_past_end, tells_floors, raises_unseen, IsBrokenAt, keeps_txns, raises_at_rest, loses_newest, keeps_sessions}
+use Rattle.rest_laws.specs.WrongSteps.{IsBrokenByKeeping, keeps_undone, keeps_twice, makes_up, raises_past_end, settles_again, tells_floors, raises_unseen, IsBrokenAt, keeps_txns, raises_at_rest, loses_newest, keeps_sessions}
 
 -- the number of the own floor
 abbrev number : Site → ℕ
 number site = (own_floor site).number
+
+-- such requests keep a sound site sound
+asked-keep-sound : (site : Site) (asked : Asked) → IsTrue (list_all (λ e. is_u16 e.0 && is_request e.1) asked) → IsSound site → IsSound (after step site asked)
+asked-keep-sound site [] valid sound = sound
+asked-keep-sound site (e ∷ later) valid sound =
+    let parts = and_parts (is_u16 e.0 && is_request e.1) (list_all (λ d. is_u16 d.0 && is_request d.1) later) valid in
+    let both = and_parts (is_u16 e.0) (is_request e.1) parts.0 in
+    asked-keep-sound (step site e.0 e.1).0 later parts.1 (request-keeps-sound e.1 site e.0 both.0 both.1 sound)
 
 -- ===== Steps
 
@@ -94,6 +103,15 @@ past-end-breaks law =
     let spelled : false ≡ true = law at_end 0 RaiseAuto (own_promise at_end root 4294967296) refl refl end-is-sound refl in
     absurd (cc)
 
+-- where a record arrived and is told once more, it is known
+pub settled-again-breaks : IsBrokenBy WhatLastsFits settles_again
+settled-again-breaks law =
+    let site = after step first_site ((0, Deliver (State of_second_site)) ∷ []) in
+    let first = opening-is-sound (program_limits 2) 1 refl refl in
+    let sound = asked-keep-sound first_site ((0, Deliver (State of_second_site)) ∷ []) refl first in
+    let fit : false ≡ true = law site 0 Settle (News (State of_second_site)) refl refl sound refl in
+    absurd (cc)
+
 -- ===== Ways to keep what lasts
 
 -- the record of another site is delivered
@@ -116,6 +134,13 @@ twice-breaks law =
     ap (λ (s : Site). length s.dag) (law first_site applied (delivery ∷ []) ((17 ∷ []) ∷ []) (inl (refl, refl))) in
     absurd (cc)
 
+pub twice-breaks-fits : IsBrokenByKeeping KeptFits keeps_twice
+twice-breaks-fits law =
+    let first = opening-is-sound (program_limits 2) 1 refl refl in
+    let twice = News (State of_second_site) ∷ News (State of_second_site) ∷ [] in
+    let fit : false ≡ true = (law first_site applied (delivery ∷ []) ((17 ∷ []) ∷ []) twice [] refl first (inl (refl, refl)) refl).1 in
+    absurd (cc)
+
 -- nothing that was answered led to more records
 nothing-led : (done : List Event) (undone : List Event) (replies : List (List ℕ)) (state : Site) → [] ≡ done ++ undone →
     Answers site_machine first_site done replies state → state ≡ first_site
@@ -131,14 +156,6 @@ made-up-breaks law =
     absurd (cc)
 
 -- ===== Ways to start again
-
--- such requests keep a sound site sound
-asked-keep-sound : (site : Site) (asked : Asked) → IsTrue (list_all (λ e. is_u16 e.0 && is_request e.1) asked) → IsSound site → IsSound (after step site asked)
-asked-keep-sound site [] valid sound = sound
-asked-keep-sound site (e ∷ later) valid sound =
-    let parts = and_parts (is_u16 e.0 && is_request e.1) (list_all (λ d. is_u16 d.0 && is_request d.1) later) valid in
-    let both = and_parts (is_u16 e.0) (is_request e.1) parts.0 in
-    asked-keep-sound (step site e.0 e.1).0 later parts.1 (request-keeps-sound e.1 site e.0 both.0 both.1 sound)
 
 -- a session begins
 abbrev begun : Asked

@@ -2,4 +2,5 @@
 pub mod Laws
 pub mod Trails
 pub mod SpellingLaws
+pub mod FitLaws
 pub mod WrongSteps

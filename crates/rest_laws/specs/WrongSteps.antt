@@ -1,7 +1,8 @@
 -- Wrong steps, wrong ways to keep what lasts, and wrong ways to start again.
 use Rattle.std.specs.Prelude.{[], ◌∷◌, ◌++◌, drop, flat_map, option_to_list}
 use Rattle.tardis_base.specs.declared.records.Item.TheVariants.{State}
-use Rattle.tardis_base.specs.declared.requests.Request.TheVariants.{Raise, RaiseAuto, Stat}
+use Rattle.tardis_base.specs.declared.requests.Request.TheVariants.{Raise, RaiseAuto, Stat, Settle}
+use Rattle.tardis_base.specs.declared.replies.Reply.TheVariants.{Applied}
 use Rattle.plain_site.specs.Site.{own_floor}
 use Rattle.plain_site.specs.FloorSteps.{raised}
 use Rattle.plain_site.specs.Step.{step, site_machine}
@@ -25,6 +26,11 @@ raises_unseen site n q = step site n q
 abbrev pub raises_past_end : Service
 raises_past_end site n RaiseAuto = raised site (own_floor site).state
 raises_past_end site n q = step site n q
+
+-- a Settle tells of the record that arrived last, though it took none
+abbrev pub settles_again : Service
+settles_again site n Settle = (site, Applied)
+settles_again site n q = step site n q
 
 -- ===== Wrong ways to keep what lasts
 

@@ -9,11 +9,13 @@ ghost use Rattle.plain_site.specs.WrongSteps.{IsBrokenBy};
 ghost use Rattle.rest_laws.specs.Laws.{RequestsAddWhatLasts, OthersAddNothing, NothingLastsOfOthers, WhatLastsIsSeen};
 ghost use Rattle.rest_laws.specs.Laws.{RestIsSound, RestIsRest, SiteIsShownAsBefore, StatIsAsBefore, ReadsAreAsBefore};
 ghost use Rattle.rest_laws.specs.Trails.{lasting_of_answers, TrailsAreReplayed, OpeningsAreReplayed, AnswersAreReplayed, KeptFrontsAreOfFronts};
+ghost use Rattle.rest_laws.specs.FitLaws.{KeptFits, WhatFitsKeepsSound, WhatLastsFits};
 ghost use Rattle.rest_laws.specs.SpellingLaws.{LastingHasOneSpelling, AllHaveOneSpelling, LastingIsShort, WhatLastsIsSpelled};
 ghost use Rattle.rest_laws.specs.WrongSteps.{IsBrokenAt, keeps_sessions, keeps_txns, loses_newest, raises_at_rest};
-ghost use Rattle.rest_laws.specs.WrongSteps.{IsBrokenByKeeping, keeps_twice, keeps_undone, makes_up, raises_past_end, raises_unseen, tells_floors};
+ghost use Rattle.rest_laws.specs.WrongSteps.{IsBrokenByKeeping, keeps_twice, keeps_undone, makes_up, raises_past_end, raises_unseen, settles_again, tells_floors};
 
 use wire_item::spellings_have_their_lengths;
+use wire_talk::talk_has_one_spelling;
 
 /// What lasts of a request, which is one thing at most, is all that it changes of the site at rest: so whoever keeps what lasts
 /// keeps all that a site needs to start again. A request of which nothing lasts leaves the site at rest as it was; of all but
@@ -71,4 +73,16 @@ pub fn what_lasts_has_one_spelling()
     ensures past_end_breaks { IsBrokenBy WhatLastsIsSpelled raises_past_end }
 {
     spellings_have_their_lengths();
+}
+
+/// What lasted may be taken back: what is kept of any trail of a sound site, and each front of it, passes the test of `fits`, one
+/// behind another. And whatever bytes hold, be they of a trail or not: what passes leads to a sound site.
+pub fn what_lasted_may_be_taken_back()
+    ensures fits { WhatLastsFits step }
+    ensures kept { KeptFits lasting_of_answers }
+    ensures keeps { WhatFitsKeepsSound }
+    ensures again_breaks { IsBrokenBy WhatLastsFits settles_again }
+    ensures twice_breaks { IsBrokenByKeeping KeptFits keeps_twice }
+{
+    talk_has_one_spelling();
 }
