@@ -155,6 +155,7 @@ class Lane:
             file.write("".join(f"{it}\n" for it in sorted(self.lines)))
         if os.path.isdir(os.path.join(crate.folder, "out")):
             shutil.move(os.path.join(crate.folder, "out"), self.place(crate, "out"))
+        self.began = time.time()
         self.crate, self.is_alone, self.log = crate, is_alone, os.path.join(self.folder, f"{crate.name}.log")
         with open(self.log, "wb") as log:
             words = ["rt", "lib", "--jobs", str(jobs)]
@@ -165,6 +166,9 @@ class Lane:
         if self.process.poll() is None:
             self.process.terminate()
         self.process.wait()
+        with contextlib.suppress(FileNotFoundError):
+            # (so that text that changed meanwhile is newer)
+            os.utime(self.place(self.crate, "out/rlib/stamp"), (self.began, self.began))
         with contextlib.suppress(FileNotFoundError):
             shutil.move(self.place(self.crate, "out"), os.path.join(self.crate.folder, "out"))
         self.process = None
@@ -309,6 +313,7 @@ def held(crates):
 
 def build(program):
     """Proves and builds the program, unless it is there and newer than all that it is made from."""
+    began = time.time()
     crates = crates_below(program)
     if crates[program].is_made() and crates[program].made() > os.path.getmtime(os.path.join(TOP, "crates.txt")):
         return
@@ -324,7 +329,8 @@ def build(program):
             ran = subprocess.run(["rt", "run", "--", "--version"], cwd=crates[program].folder, stdin=subprocess.DEVNULL, stdout=said, stderr=said)
         if ran.returncode:
             failed(program, log)
-    os.utime(os.path.join(crates[program].folder, "out", program))
+    # (so that text that changed meanwhile is newer)
+    os.utime(os.path.join(crates[program].folder, "out", program), (began, began))
 
 
 def from_here(words):
