@@ -6,7 +6,7 @@ use Rattle.std.specs.List.{list_all}
 use Rattle.std.proofs.lemmas.Bool.{and_parts}
 use Rattle.tardis_base.specs.declared.requests.Request.TheVariants.{Raise, RaiseAuto, Stat, Leaves, Deliver, Settle}
 use Rattle.tardis_base.specs.declared.replies.Refusal.TheVariants.{NoTxn}
-use Rattle.tardis_base.specs.declared.replies.Reply.TheVariants.{Refused, States}
+use Rattle.tardis_base.specs.declared.replies.Reply.TheVariants.{Opened, Refused, States}
 use Rattle.tardis_base.specs.Ids.{root}
 use Rattle.tardis_base.specs.Plain.{Event, Answers, no_memory}
 use Rattle.tardis_base.specs.Valid.{is_u16}
@@ -16,7 +16,8 @@ use Rattle.plain_site.specs.Site.{Site, Single, own_floor}
 use Rattle.plain_site.specs.Commits.{with_record}
 use Rattle.plain_site.specs.Step.{step, site_machine}
 use Rattle.plain_site.specs.Sound.{IsSound}
-use Rattle.plain_site.specs.RowWords.{lone_site, program_limits, ◌·◌, opens, begin_any, put, none, commit, value}
+use Rattle.plain_site.specs.RowWords.{lone_site, program_limits, ◌·◌, ◌asks◌=>◌, opens, begin_any, put, none, commit, value}
+use Rattle.plain_site.specs.ClientRuns.{IsRun}
 use Rattle.plain_site.specs.RowByteWords.{hex}
 use Rattle.plain_site.specs.WrongSteps.{IsBrokenBy, first_site, of_second_site}
 use Rattle.plain_site.specs.Rest.{at_rest, News, own_promise}
@@ -25,9 +26,10 @@ use Rattle.plain_site.proofs.SoundRequests.{request-keeps-sound}
 use Rattle.rest_laws.specs.Laws.{RequestsAddWhatLasts, OthersAddNothing, NothingLastsOfOthers, WhatLastsIsSeen, RestIsSound, RestIsRest, SiteIsShownAsBefore}
 use Rattle.rest_laws.specs.Laws.{StatIsAsBefore, ReadsAreAsBefore, without_sessions}
 use Rattle.rest_laws.specs.SpellingLaws.{WhatLastsIsSpelled}
+use Rattle.rest_laws.specs.Lives.{LivesAreOneRun}
 use Rattle.rest_laws.specs.FitLaws.{WhatLastsFits, KeptFits}
 use Rattle.rest_laws.specs.Trails.{AnswersAreReplayed, KeptFrontsAreOfFronts, Asked, after, TrailsAreReplayed, OpeningsAreReplayed}
-use Rattle.rest_laws.specs.WrongSteps.{IsBrokenByKeeping, keeps_undone, keeps_twice, makes_up, raises_past_end, settles_again, tells_floors, raises_unseen, IsBrokenAt, keeps_txns, raises_at_rest, loses_newest, keeps_sessions}
+use Rattle.rest_laws.specs.WrongSteps.{IsBrokenByKeeping, keeps_undone, keeps_twice, makes_up, raises_past_end, keeps_closed, settles_again, tells_floors, raises_unseen, IsBrokenAt, keeps_txns, raises_at_rest, loses_newest, keeps_sessions}
 
 -- the number of the own floor
 abbrev number : Site → ℕ
@@ -110,6 +112,15 @@ settled-again-breaks law =
     let first = opening-is-sound (program_limits 2) 1 refl refl in
     let sound = asked-keep-sound first_site ((0, Deliver (State of_second_site)) ∷ []) refl first in
     let fit : false ≡ true = law site 0 Settle (News (State of_second_site)) refl refl sound refl in
+    absurd (cc)
+
+-- a session opens, and stays open through what is put to rest
+opened-lines : IsRun keeps_closed lone_site (1 asks opens => Opened root ∷ [])
+opened-lines = record { limits = refl; own = refl; opens = refl; answered = (refl, inl refl, tt) }
+
+pub kept-closed-breaks : IsBrokenBy LivesAreOneRun keeps_closed
+kept-closed-breaks law =
+    let same : ◌≡◌ {A = ℕ} 1 0 = ap (λ (s : Site). length s.sessions) (law lone_site (1 asks opens => Opened root ∷ []) [] opened-lines tt).1 in
     absurd (cc)
 
 -- ===== Ways to keep what lasts

@@ -3,4 +3,5 @@ pub mod Laws
 pub mod Trails
 pub mod SpellingLaws
 pub mod FitLaws
+pub mod Lives
 pub mod WrongSteps

@@ -1,7 +1,7 @@
 -- Wrong steps, wrong ways to keep what lasts, and wrong ways to start again.
 use Rattle.std.specs.Prelude.{[], ◌∷◌, ◌++◌, drop, flat_map, option_to_list}
 use Rattle.tardis_base.specs.declared.records.Item.TheVariants.{State}
-use Rattle.tardis_base.specs.declared.requests.Request.TheVariants.{Raise, RaiseAuto, Stat, Settle}
+use Rattle.tardis_base.specs.declared.requests.Request.TheVariants.{Raise, RaiseAuto, Stat, Settle, Close}
 use Rattle.tardis_base.specs.declared.replies.Reply.TheVariants.{Applied}
 use Rattle.plain_site.specs.Site.{own_floor}
 use Rattle.plain_site.specs.FloorSteps.{raised}
@@ -31,6 +31,11 @@ raises_past_end site n q = step site n q
 abbrev pub settles_again : Service
 settles_again site n Settle = (site, Applied)
 settles_again site n q = step site n q
+
+-- a session is told as closed, and stays open
+abbrev pub keeps_closed : Service
+keeps_closed site n Close = (site, (step site n Close).1)
+keeps_closed site n q = step site n q
 
 -- ===== Wrong ways to keep what lasts
 
