@@ -15,7 +15,7 @@ use Rattle.tardis_base.specs.declared.replies.Reply.{Reply}
 use Rattle.tardis_base.specs.declared.replies.Reply.TheVariants.{Applied, Early, Closed, NoMemory}
 use Rattle.tardis_base.specs.Valid.{is_u16}
 use Rattle.wire_talk.specs.Valid.{is_request}
-use Rattle.plain_dag.specs.States.{is_known}
+use Rattle.plain_dag.specs.States.{is_known, record_at}
 use Rattle.plain_dag.specs.Entries.{entry_of, without_entry, have_ascending_numbers}
 use Rattle.plain_dag.specs.Floors.{Session, Sessions}
 use Rattle.plain_site.specs.Site.{Site, Txn}
@@ -25,13 +25,13 @@ use Rattle.plain_site.specs.Exchange.{first_fit_record}
 use Rattle.plain_site.specs.Step.{step}
 use Rattle.plain_site.specs.Sound.{IsSound, is_sound_session}
 use Rattle.plain_site.specs.RowWords.{Line, ◌asks◌=>◌}
-use Rattle.plain_site.specs.ClientRuns.{Told, wants_memory, after_line, site_after, is_asked, IsAnswered, AreAnswered, IsRun, retold, told}
-use Rattle.plain_site.specs.ClientLaws.{DoneCommit, as_line}
+use Rattle.plain_site.specs.ClientRuns.{Told, wants_memory, after_line, site_after, history, is_asked, IsAnswered, AreAnswered, IsRun, retold, told}
+use Rattle.plain_site.specs.ClientLaws.{DoneCommit, as_line, CommitsAreKept, HistoryIsTold}
 use Rattle.plain_site.specs.Rest.{at_rest}
 use Rattle.plain_site.proofs.SoundDeliveries.{room-keeps}
 use Rattle.plain_site.proofs.SoundOpening.{opening-is-sound}
 use Rattle.plain_site.proofs.SoundRequests.{request-keeps-sound}
-use Rattle.rest_laws.specs.Lives.{as_if_none_waited, none_waited, closings, put_to_rest, LivesAreOneRun, CommitsStayTold}
+use Rattle.rest_laws.specs.Lives.{as_if_none_waited, none_waited, closings, put_to_rest, LivesAreOneRun, CommitsStayTold, CommitsOutliveTheSite}
 use Rattle.rest_laws.proofs.Dry.{dry}
 use Rattle.rest_laws.proofs.Living.{site-appended, answered-appended, Leads, then-leads, one-leads, line-dries, wanting-dries}
 
@@ -250,3 +250,24 @@ commits-stay-told start newer older c run =
       ap (λ (lines : List Line). closed ++ lines) stands.1 ∙ sym (append_assoc closed stands.0 rest),
       told-as-before start c.actor older,
     )
+
+-- ===== Commits
+
+pub commits-outlive-the-site : CommitsAreKept step → HistoryIsTold step → CommitsOutliveTheSite step
+commits-outlive-the-site kept is_told start newer older next_life c run answered =
+    let lines = newer ++ as_line c ∷ older in
+    let rest = at_rest (site_after step start lines) in
+    let two = lives-are-one-run start lines next_life run answered in
+    let stays = commits-stay-told start newer older c run in
+    let others = none_waited step start older in
+    let behind = as_line c ∷ others in
+    let all : next_life ++ put_to_rest step start lines ≡ (next_life ++ stays.0) ++ behind =
+    ap (λ (ls : List Line). next_life ++ ls) stays.1 ∙ sym (append_assoc next_life stays.0 behind) in
+    let one = subst (IsRun step start) all two.0 in
+    let its = kept start (next_life ++ stays.0) others c one in
+    let leads : (site_after step start ((next_life ++ stays.0) ++ behind)).dag ≡ (site_after step rest next_life).dag =
+    ap (λ (ls : List Line). (site_after step start ls).dag) (sym all) ∙ ap (λ (s : Site). s.dag) two.1 in
+    let history_is = (is_told start ((next_life ++ stays.0) ++ behind) one).0 in
+    let dag : history start ((next_life ++ stays.0) ++ behind) ≡ (site_after step rest next_life).dag = sym history_is ∙ leads in
+    let r : Record = record { id = c.state; parents = c.parents; writes = its.0.writes } in
+    (its.0, sym stays.2 ∙ its.1, subst (λ (rs : List Record). record_at rs c.state ≡ Some r) dag its.2)

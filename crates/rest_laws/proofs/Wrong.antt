@@ -6,7 +6,7 @@ use Rattle.std.specs.List.{list_all}
 use Rattle.std.proofs.lemmas.Bool.{and_parts}
 use Rattle.tardis_base.specs.declared.requests.Request.TheVariants.{Raise, RaiseAuto, Stat, Leaves, Deliver, Settle}
 use Rattle.tardis_base.specs.declared.replies.Refusal.TheVariants.{NoTxn}
-use Rattle.tardis_base.specs.declared.replies.Reply.TheVariants.{Opened, Refused, States}
+use Rattle.tardis_base.specs.declared.replies.Reply.TheVariants.{Opened, Begun, Done, Committed, Refused, States}
 use Rattle.tardis_base.specs.Ids.{root}
 use Rattle.tardis_base.specs.Plain.{Event, Answers, no_memory}
 use Rattle.tardis_base.specs.Valid.{is_u16}
@@ -16,17 +16,18 @@ use Rattle.plain_site.specs.Site.{Site, Single, own_floor}
 use Rattle.plain_site.specs.Commits.{with_record}
 use Rattle.plain_site.specs.Step.{step, site_machine}
 use Rattle.plain_site.specs.Sound.{IsSound}
-use Rattle.plain_site.specs.RowWords.{lone_site, program_limits, ◌·◌, ◌asks◌=>◌, opens, begin_any, put, none, commit, value}
+use Rattle.plain_site.specs.RowWords.{lone_site, program_limits, ◌·◌, ◌asks◌=>◌, opens, opens_following, begin_any, put, none, commit, value}
 use Rattle.plain_site.specs.ClientRuns.{IsRun}
+use Rattle.plain_site.specs.ClientLaws.{DoneCommit}
 use Rattle.plain_site.specs.RowByteWords.{hex}
-use Rattle.plain_site.specs.WrongSteps.{IsBrokenBy, first_site, of_second_site}
+use Rattle.plain_site.specs.WrongSteps.{IsBrokenBy, first_site, of_second_site, forgets_collected, written_again, collected}
 use Rattle.plain_site.specs.Rest.{at_rest, News, own_promise}
 use Rattle.plain_site.proofs.SoundOpening.{opening-is-sound}
 use Rattle.plain_site.proofs.SoundRequests.{request-keeps-sound}
 use Rattle.rest_laws.specs.Laws.{RequestsAddWhatLasts, OthersAddNothing, NothingLastsOfOthers, WhatLastsIsSeen, RestIsSound, RestIsRest, SiteIsShownAsBefore}
 use Rattle.rest_laws.specs.Laws.{StatIsAsBefore, ReadsAreAsBefore, without_sessions}
 use Rattle.rest_laws.specs.SpellingLaws.{WhatLastsIsSpelled}
-use Rattle.rest_laws.specs.Lives.{LivesAreOneRun}
+use Rattle.rest_laws.specs.Lives.{LivesAreOneRun, CommitsOutliveTheSite}
 use Rattle.rest_laws.specs.FitLaws.{WhatLastsFits, KeptFits}
 use Rattle.rest_laws.specs.Trails.{AnswersAreReplayed, KeptFrontsAreOfFronts, Asked, after, TrailsAreReplayed, OpeningsAreReplayed}
 use Rattle.rest_laws.specs.WrongSteps.{IsBrokenByKeeping, keeps_undone, keeps_twice, makes_up, raises_past_end, keeps_closed, settles_again, tells_floors, raises_unseen, IsBrokenAt, keeps_txns, raises_at_rest, loses_newest, keeps_sessions}
@@ -122,6 +123,26 @@ pub kept-closed-breaks : IsBrokenBy LivesAreOneRun keeps_closed
 kept-closed-breaks law =
     let same : ◌≡◌ {A = ℕ} 1 0 = ap (λ (s : Site). length s.sessions) (law lone_site (1 asks opens => Opened root ∷ []) [] opened-lines tt).1 in
     absurd (cc)
+
+-- 1.1 is committed, and 1.2 below it
+twice-committed : IsRun forgets_collected lone_site (1 asks commit none => Committed (1 · 2) (1 · 1 ∷ []) ∷ written_again)
+twice-committed = record {
+  limits = refl;
+  own = refl;
+  opens = refl;
+  answered = (refl, inl refl, (refl, inl refl, (refl, inl refl, (refl, inl refl, (refl, inl refl, (refl, inl refl, (refl, inl refl, tt)))))));
+}
+
+abbrev first_commit : DoneCommit
+first_commit = record { actor = 1; flags = record { 0 = none }; k = 0; state = 1 · 1; parents = 0 · 0 ∷ [] }
+
+-- in the next life 1.1 is collected, and so forgotten
+pub forgotten-records-break : IsBrokenBy CommitsOutliveTheSite forgets_collected
+forgotten-records-break law =
+    let newer = 1 asks commit none => Committed (1 · 2) (1 · 1 ∷ []) ∷ 1 asks put "x" "2" => Done ∷ 1 asks begin_any => Begun (1 · 1) ∷ [] in
+    let older = 1 asks put "x" "1" => Done ∷ 1 asks begin_any => Begun (0 · 0) ∷ 1 asks opens_following => Opened (0 · 0) ∷ [] in
+    let kept = law lone_site newer older collected first_commit twice-committed (refl, inl refl, (refl, inl refl, tt)) in
+    some-isnt-none (record { id = 1 · 1; parents = 0 · 0 ∷ []; writes = kept.0.writes }) kept.2
 
 -- ===== Ways to keep what lasts
 

@@ -7,10 +7,11 @@ use Rattle.tardis_base.specs.declared.requests.Request.TheVariants.{Deliver, Set
 use Rattle.tardis_base.specs.declared.replies.Reply.{Reply}
 use Rattle.tardis_base.specs.declared.replies.Reply.TheVariants.{Applied, Early, Closed}
 use Rattle.plain_dag.specs.Floors.{Sessions}
+use Rattle.plain_dag.specs.States.{record_at}
 use Rattle.plain_site.specs.Site.{Site}
 use Rattle.plain_site.specs.Exchange.{first_fit_record}
 use Rattle.plain_site.specs.RowWords.{Line, ◌asks◌=>◌}
-use Rattle.plain_site.specs.ClientRuns.{Service, IsRun, AreAnswered, site_after, told}
+use Rattle.plain_site.specs.ClientRuns.{Service, Told, IsRun, AreAnswered, site_after, told}
 use Rattle.plain_site.specs.ClientLaws.{DoneCommit, as_line}
 use Rattle.plain_site.specs.Rest.{at_rest}
 
@@ -57,3 +58,13 @@ CommitsStayTold service = (start : Site) (newer older : List Line) (c : DoneComm
     (later : List Line)
     × (put_to_rest service start (newer ++ as_line c ∷ older) ≡ later ++ as_line c ∷ none_waited service start older)
     × (told c.actor (none_waited service start older) ≡ told c.actor older)
+
+-- Nothing committed is lost when the site ends: in the next life each commit's state has its parents, and what its transaction
+-- wrote.
+abbrev pub CommitsOutliveTheSite : Service → Type 0
+CommitsOutliveTheSite service = (start : Site) (newer older next_life : List Line) (c : DoneCommit) →
+    let lines = newer ++ as_line c ∷ older in
+    let rest = at_rest (site_after service start lines) in
+    IsRun service start lines → AreAnswered service rest next_life →
+    (t : Told) × (told c.actor older ≡ Some t)
+    × (record_at (site_after service rest next_life).dag c.state ≡ Some (record { id = c.state; parents = c.parents; writes = t.writes }))

@@ -5,16 +5,17 @@
 
 ghost use Rattle.plain_site.specs.Rest.{at_rest};
 ghost use Rattle.plain_site.specs.Step.{step};
-ghost use Rattle.plain_site.specs.WrongSteps.{IsBrokenBy};
+ghost use Rattle.plain_site.specs.WrongSteps.{IsBrokenBy, forgets_collected};
 ghost use Rattle.rest_laws.specs.Laws.{RequestsAddWhatLasts, OthersAddNothing, NothingLastsOfOthers, WhatLastsIsSeen};
 ghost use Rattle.rest_laws.specs.Laws.{RestIsSound, RestIsRest, SiteIsShownAsBefore, StatIsAsBefore, ReadsAreAsBefore};
 ghost use Rattle.rest_laws.specs.Trails.{lasting_of_answers, TrailsAreReplayed, OpeningsAreReplayed, AnswersAreReplayed, KeptFrontsAreOfFronts};
 ghost use Rattle.rest_laws.specs.FitLaws.{KeptFits, WhatFitsKeepsSound, WhatLastsFits};
-ghost use Rattle.rest_laws.specs.Lives.{CommitsStayTold, LivesAreOneRun};
+ghost use Rattle.rest_laws.specs.Lives.{CommitsOutliveTheSite, CommitsStayTold, LivesAreOneRun};
 ghost use Rattle.rest_laws.specs.SpellingLaws.{LastingHasOneSpelling, AllHaveOneSpelling, LastingIsShort, WhatLastsIsSpelled};
 ghost use Rattle.rest_laws.specs.WrongSteps.{IsBrokenAt, keeps_sessions, keeps_txns, loses_newest, raises_at_rest};
 ghost use Rattle.rest_laws.specs.WrongSteps.{IsBrokenByKeeping, keeps_closed, keeps_twice, keeps_undone, makes_up, raises_past_end, raises_unseen, settles_again, tells_floors};
 
+use client_laws::nothing_committed_is_lost;
 use wire_item::spellings_have_their_lengths;
 use wire_talk::talk_has_one_spelling;
 
@@ -90,9 +91,14 @@ pub fn what_lasted_may_be_taken_back()
 
 /// Two lives of a site are one run: a site starts again as if at the end of its life each session had been closed, and as if no
 /// record had ever waited but each had come when it was taken. So what is true of all runs, as what a client can rely on, is
-/// true through any number of lives: each commit stands in that run as it stood, with what its actor was told before it.
+/// true through any number of lives: each commit stands in that run as it stood, with what its actor was told before it. So no
+/// commit is lost when the site ends.
 pub fn lives_are_one_run()
     ensures run { LivesAreOneRun step }
     ensures commits { CommitsStayTold step }
+    ensures outlives { CommitsOutliveTheSite step }
     ensures closed_breaks { IsBrokenBy LivesAreOneRun keeps_closed }
-{}
+    ensures forgotten_breaks { IsBrokenBy CommitsOutliveTheSite forgets_collected }
+{
+    nothing_committed_is_lost();
+}
