@@ -11,4 +11,5 @@ pub mod FittingTrails
 pub mod Dry
 pub mod Living
 pub mod Runs
+pub mod Seeing
 pub mod Wrong

@@ -21,7 +21,7 @@ use Rattle.plain_site.specs.ClientRuns.{IsRun}
 use Rattle.plain_site.specs.ClientLaws.{DoneCommit}
 use Rattle.plain_site.specs.RowByteWords.{hex}
 use Rattle.plain_site.specs.WrongSteps.{IsBrokenBy, first_site, of_second_site, forgets_collected, written_again, collected}
-use Rattle.plain_site.specs.Rest.{at_rest, News, own_promise}
+use Rattle.plain_site.specs.Rest.{at_rest, Lasting, News, own_promise}
 use Rattle.plain_site.proofs.SoundOpening.{opening-is-sound}
 use Rattle.plain_site.proofs.SoundRequests.{request-keeps-sound}
 use Rattle.rest_laws.specs.Laws.{RequestsAddWhatLasts, OthersAddNothing, NothingLastsOfOthers, WhatLastsIsSeen, RestIsSound, RestIsRest, SiteIsShownAsBefore}
@@ -29,7 +29,7 @@ use Rattle.rest_laws.specs.Laws.{StatIsAsBefore, ReadsAreAsBefore, without_sessi
 use Rattle.rest_laws.specs.SpellingLaws.{WhatLastsIsSpelled}
 use Rattle.rest_laws.specs.Lives.{LivesAreOneRun, CommitsOutliveTheSite}
 use Rattle.rest_laws.specs.FitLaws.{WhatLastsFits, KeptFits}
-use Rattle.rest_laws.specs.Trails.{AnswersAreReplayed, KeptFrontsAreOfFronts, Asked, after, TrailsAreReplayed, OpeningsAreReplayed}
+use Rattle.rest_laws.specs.Trails.{AnswersAreReplayed, IsKeptAsSeen, KeptFrontsAreOfFronts, Asked, after, TrailsAreReplayed, OpeningsAreReplayed}
 use Rattle.rest_laws.specs.WrongSteps.{IsBrokenByKeeping, keeps_undone, keeps_twice, makes_up, raises_past_end, keeps_closed, settles_again, tells_floors, raises_unseen, IsBrokenAt, keeps_txns, raises_at_rest, loses_newest, keeps_sessions}
 
 -- the number of the own floor
@@ -164,6 +164,12 @@ pub twice-breaks : IsBrokenByKeeping AnswersAreReplayed keeps_twice
 twice-breaks law =
     let same : ◌≡◌ {A = ℕ} 3 2 =
     ap (λ (s : Site). length s.dag) (law first_site applied (delivery ∷ []) ((17 ∷ []) ∷ []) (inl (refl, refl))) in
+    absurd (cc)
+
+pub undone-breaks-sight : IsBrokenByKeeping IsKeptAsSeen keeps_undone
+undone-breaks-sight law =
+    let first = opening-is-sound (program_limits 2) 1 refl refl in
+    let same : ◌≡◌ {A = List Lasting} (News (State of_second_site) ∷ []) [] = law.one first_site first_site delivery no_memory first (inr (refl, refl, refl)) in
     absurd (cc)
 
 pub twice-breaks-fits : IsBrokenByKeeping KeptFits keeps_twice

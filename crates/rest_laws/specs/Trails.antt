@@ -5,8 +5,9 @@ use Rattle.tardis_base.specs.declared.requests.Request.{Request}
 use Rattle.tardis_base.specs.Plain.{Event, Answers, no_memory}
 use Rattle.plain_site.specs.Site.{Site, opening}
 use Rattle.plain_site.specs.Step.{site_machine}
+use Rattle.plain_site.specs.Sound.{IsSound}
 use Rattle.plain_site.specs.ClientRuns.{Service}
-use Rattle.plain_site.specs.Rest.{at_rest, Lasting, lasting_of, lasting_of_event, replay}
+use Rattle.plain_site.specs.Rest.{at_rest, Lasting, lasting_of, lasting_of_event, replay, lasting_between}
 
 -- ===== Requests. They stand oldest first.
 
@@ -75,3 +76,12 @@ KeptFrontsAreOfFronts keeping =
     Answers site_machine site older older_replies between → Answers site_machine between newer newer_replies last →
     keeping between newer newer_replies ≡ kept ++ lost →
     LedTo between newer newer_replies (replay (keeping site older older_replies ++ kept) (at_rest site))
+
+-- What is kept is had by looking at the site behind each answer: of one event it is what is new behind it; and what is kept of
+-- later events stands behind what is kept of earlier ones.
+pub record IsKeptAsSeen (keeping : Keeping) : Type 0 where
+  pub one : (site next : Site) (event : Event) (reply : List ℕ) → IsSound site → Answers site_machine site (event ∷ []) (reply ∷ []) next →
+      keeping site (event ∷ []) (reply ∷ []) ≡ option_to_list (lasting_between site next)
+  pub later : (site between : Site) (older newer : List Event) (older_replies newer_replies : List (List ℕ)) →
+      Answers site_machine site older older_replies between →
+      keeping site (older ++ newer) (older_replies ++ newer_replies) ≡ keeping site older older_replies ++ keeping between newer newer_replies

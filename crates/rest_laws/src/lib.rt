@@ -8,7 +8,7 @@ ghost use Rattle.plain_site.specs.Step.{step};
 ghost use Rattle.plain_site.specs.WrongSteps.{IsBrokenBy, forgets_collected};
 ghost use Rattle.rest_laws.specs.Laws.{RequestsAddWhatLasts, OthersAddNothing, NothingLastsOfOthers, WhatLastsIsSeen};
 ghost use Rattle.rest_laws.specs.Laws.{RestIsSound, RestIsRest, SiteIsShownAsBefore, StatIsAsBefore, ReadsAreAsBefore};
-ghost use Rattle.rest_laws.specs.Trails.{lasting_of_answers, TrailsAreReplayed, OpeningsAreReplayed, AnswersAreReplayed, KeptFrontsAreOfFronts};
+ghost use Rattle.rest_laws.specs.Trails.{lasting_of_answers, TrailsAreReplayed, OpeningsAreReplayed, AnswersAreReplayed, IsKeptAsSeen, KeptFrontsAreOfFronts};
 ghost use Rattle.rest_laws.specs.FitLaws.{KeptFits, WhatFitsKeepsSound, WhatLastsFits};
 ghost use Rattle.rest_laws.specs.Lives.{CommitsOutliveTheSite, CommitsStayTold, LivesAreOneRun};
 ghost use Rattle.rest_laws.specs.SpellingLaws.{LastingHasOneSpelling, AllHaveOneSpelling, LastingIsShort, WhatLastsIsSpelled};
@@ -36,18 +36,23 @@ pub fn requests_add_what_lasts()
 
 /// What lasts of a whole trail, replayed one after another, leads from the site at rest to the site at rest after the trail,
 /// however the trail was answered; so from a site that opens. And where all that lasted of what was told is kept, and of the
-/// rest a front, what is kept leads to the site at rest after a front of the trail that has all that was told.
+/// rest a front, what is kept leads to the site at rest after a front of the trail that has all that was told. What is to be
+/// kept of each answer is had by looking at the site before and behind it.
 pub fn trails_are_replayed()
     ensures trails { TrailsAreReplayed step }
     ensures openings { OpeningsAreReplayed step }
     ensures answers { AnswersAreReplayed lasting_of_answers }
     ensures fronts { KeptFrontsAreOfFronts lasting_of_answers }
+    ensures seen { IsKeptAsSeen lasting_of_answers }
     ensures told_breaks { IsBrokenBy TrailsAreReplayed tells_floors }
     ensures told_breaks_openings { IsBrokenBy OpeningsAreReplayed tells_floors }
     ensures undone_breaks { IsBrokenByKeeping AnswersAreReplayed keeps_undone }
     ensures twice_breaks { IsBrokenByKeeping AnswersAreReplayed keeps_twice }
     ensures made_up_breaks { IsBrokenByKeeping KeptFrontsAreOfFronts makes_up }
-{}
+    ensures undone_breaks_sight { IsBrokenByKeeping IsKeptAsSeen keeps_undone }
+{
+    talk_has_one_spelling();
+}
 
 /// A sound site is sound at rest, and at rest it is at rest. To all who ask it is as it was: which states are known and kept,
 /// their children and fork paths, the leaves, the floors and the news are told as before; only no session is open. And at each
