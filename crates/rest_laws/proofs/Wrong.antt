@@ -20,7 +20,7 @@ use Rattle.plain_site.specs.RowWords.{lone_site, program_limits, ◌·◌, ◌as
 use Rattle.plain_site.specs.ClientRuns.{IsRun}
 use Rattle.plain_site.specs.ClientLaws.{DoneCommit}
 use Rattle.plain_site.specs.RowByteWords.{hex}
-use Rattle.plain_site.specs.WrongSteps.{IsBrokenBy, first_site, of_second_site, forgets_collected, written_again, collected}
+use Rattle.plain_site.specs.WrongSteps.{IsBrokenBy, first_site, of_second_site, forgets_collected, forgets_settled, written_again, collected}
 use Rattle.plain_site.specs.Rest.{at_rest, Lasting, News, own_promise}
 use Rattle.plain_site.proofs.SoundOpening.{opening-is-sound}
 use Rattle.plain_site.proofs.SoundRequests.{request-keeps-sound}
@@ -30,7 +30,7 @@ use Rattle.rest_laws.specs.SpellingLaws.{WhatLastsIsSpelled}
 use Rattle.rest_laws.specs.Lives.{LivesAreOneRun, CommitsOutliveTheSite}
 use Rattle.rest_laws.specs.FitLaws.{WhatLastsFits, KeptFits}
 use Rattle.rest_laws.specs.Trails.{AnswersAreReplayed, IsKeptAsSeen, KeptFrontsAreOfFronts, Asked, after, TrailsAreReplayed, OpeningsAreReplayed}
-use Rattle.rest_laws.specs.WrongSteps.{IsBrokenByKeeping, keeps_undone, keeps_twice, makes_up, raises_past_end, keeps_closed, settles_again, tells_floors, raises_unseen, IsBrokenAt, keeps_txns, raises_at_rest, loses_newest, keeps_sessions}
+use Rattle.rest_laws.specs.WrongSteps.{IsBrokenByKeeping, keeps_undone, keeps_twice, makes_up, raises_past_end, keeps_closed, tells_floors, raises_unseen, IsBrokenAt, keeps_txns, raises_at_rest, loses_newest, keeps_sessions}
 
 -- the number of the own floor
 abbrev number : Site → ℕ
@@ -107,7 +107,7 @@ past-end-breaks law =
     absurd (cc)
 
 -- where a record arrived and is told once more, it is known
-pub settled-again-breaks : IsBrokenBy WhatLastsFits settles_again
+pub settled-again-breaks : IsBrokenBy WhatLastsFits forgets_settled
 settled-again-breaks law =
     let site = after step first_site ((0, Deliver (State of_second_site)) ∷ []) in
     let first = opening-is-sound (program_limits 2) 1 refl refl in

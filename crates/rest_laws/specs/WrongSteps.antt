@@ -1,8 +1,7 @@
 -- Wrong steps, wrong ways to keep what lasts, and wrong ways to start again.
 use Rattle.std.specs.Prelude.{[], ◌∷◌, ◌++◌, drop, flat_map, option_to_list}
 use Rattle.tardis_base.specs.declared.records.Item.TheVariants.{State}
-use Rattle.tardis_base.specs.declared.requests.Request.TheVariants.{Raise, RaiseAuto, Stat, Settle, Close}
-use Rattle.tardis_base.specs.declared.replies.Reply.TheVariants.{Applied}
+use Rattle.tardis_base.specs.declared.requests.Request.TheVariants.{Raise, RaiseAuto, Stat, Close}
 use Rattle.plain_site.specs.Site.{own_floor}
 use Rattle.plain_site.specs.FloorSteps.{raised}
 use Rattle.plain_site.specs.Step.{step, site_machine}
@@ -27,11 +26,6 @@ abbrev pub raises_past_end : Service
 raises_past_end site n RaiseAuto = raised site (own_floor site).state
 raises_past_end site n q = step site n q
 
--- a Settle tells of the record that arrived last, though it took none
-abbrev pub settles_again : Service
-settles_again site n Settle = (site, Applied)
-settles_again site n q = step site n q
-
 -- a session is told as closed, and stays open
 abbrev pub keeps_closed : Service
 keeps_closed site n Close = (site, (step site n Close).1)
@@ -39,6 +33,7 @@ keeps_closed site n q = step site n q
 
 -- ===== Wrong ways to keep what lasts
 
+-- the way to keep breaks the law
 abbrev pub IsBrokenByKeeping : (Keeping → Type 0) → Keeping → Type 0
 IsBrokenByKeeping Law keeping = Law keeping → ⊥
 

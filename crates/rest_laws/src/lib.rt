@@ -1,11 +1,11 @@
 //! What a site forgets when it ends, and what it doesn't. The program calls none of it: each function here is empty, and its
-//! contracts are laws, and beside each a wrong step or a wrong way to start again that breaks it. `docs/MODEL.md` says each law
-//! in plain words.
+//! contracts are laws, and beside them stand wrong steps, wrong ways to keep what lasts and wrong ways to start again that break
+//! them. `docs/MODEL.md` says each law in plain words.
 #![tactic(auto)]
 
 ghost use Rattle.plain_site.specs.Rest.{at_rest};
 ghost use Rattle.plain_site.specs.Step.{step};
-ghost use Rattle.plain_site.specs.WrongSteps.{IsBrokenBy, forgets_collected};
+ghost use Rattle.plain_site.specs.WrongSteps.{IsBrokenBy, forgets_collected, forgets_settled};
 ghost use Rattle.rest_laws.specs.Laws.{RequestsAddWhatLasts, OthersAddNothing, NothingLastsOfOthers, WhatLastsIsSeen};
 ghost use Rattle.rest_laws.specs.Laws.{RestIsSound, RestIsRest, SiteIsShownAsBefore, StatIsAsBefore, ReadsAreAsBefore};
 ghost use Rattle.rest_laws.specs.Trails.{lasting_of_answers, TrailsAreReplayed, OpeningsAreReplayed, AnswersAreReplayed, IsKeptAsSeen, KeptFrontsAreOfFronts};
@@ -13,7 +13,7 @@ ghost use Rattle.rest_laws.specs.FitLaws.{KeptFits, WhatFitsKeepsSound, WhatLast
 ghost use Rattle.rest_laws.specs.Lives.{CommitsOutliveTheSite, CommitsStayTold, LivesAreOneRun};
 ghost use Rattle.rest_laws.specs.SpellingLaws.{LastingHasOneSpelling, AllHaveOneSpelling, LastingIsShort, WhatLastsIsSpelled};
 ghost use Rattle.rest_laws.specs.WrongSteps.{IsBrokenAt, keeps_sessions, keeps_txns, loses_newest, raises_at_rest};
-ghost use Rattle.rest_laws.specs.WrongSteps.{IsBrokenByKeeping, keeps_closed, keeps_twice, keeps_undone, makes_up, raises_past_end, raises_unseen, settles_again, tells_floors};
+ghost use Rattle.rest_laws.specs.WrongSteps.{IsBrokenByKeeping, keeps_closed, keeps_twice, keeps_undone, makes_up, raises_past_end, raises_unseen, tells_floors};
 
 use client_laws::nothing_committed_is_lost;
 use wire_item::spellings_have_their_lengths;
@@ -88,7 +88,7 @@ pub fn what_lasted_may_be_taken_back()
     ensures fits { WhatLastsFits step }
     ensures kept { KeptFits lasting_of_answers }
     ensures keeps { WhatFitsKeepsSound }
-    ensures again_breaks { IsBrokenBy WhatLastsFits settles_again }
+    ensures forgotten_breaks { IsBrokenBy WhatLastsFits forgets_settled }
     ensures twice_breaks { IsBrokenByKeeping KeptFits keeps_twice }
 {
     talk_has_one_spelling();

@@ -12,8 +12,8 @@ returns-clause-kept c = kept-fits c.talk_has_one_spelling.ensures.request
 pub returns-clause-keeps : goal.returns-clause-keeps
 returns-clause-keeps c = what-fits-keeps-sound
 
-pub returns-clause-again_breaks : goal.returns-clause-again_breaks
-returns-clause-again_breaks c = settled-again-breaks
+pub returns-clause-forgotten_breaks : goal.returns-clause-forgotten_breaks
+returns-clause-forgotten_breaks c = settled-again-breaks
 
 pub returns-clause-twice_breaks : goal.returns-clause-twice_breaks
 returns-clause-twice_breaks c = twice-breaks-fits
