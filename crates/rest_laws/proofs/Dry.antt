@@ -14,6 +14,8 @@ use Rattle.tardis_base.specs.declared.requests.Request.{Request}
 use Rattle.tardis_base.specs.declared.requests.Request.TheVariants.{Open, Begin as BeginAt, Get, Put, Delete, Commit, Abort, BeginMerge, ForkPoints}
 use Rattle.tardis_base.specs.declared.requests.Request.TheVariants.{Conflicts, GetFor, Ceiling, Raise, RaiseAuto, Tidy, Stat, Show, Leaves, Pull}
 use Rattle.tardis_base.specs.declared.requests.Request.TheVariants.{Deliver, Settle, Close}
+use Rattle.tardis_base.specs.declared.replies.Excess.TheVariants.{MergedStates}
+use Rattle.tardis_base.specs.Sizes.{most_parents, most_reads, most_writes}
 use Rattle.tardis_base.specs.declared.replies.Refusal.TheVariants.{AlreadyOpen, SessionsFull, Unknown, Below, CeilingBack, WrongMode, NotRead}
 use Rattle.tardis_base.specs.declared.replies.Refusal.TheVariants.{TooMany, ConflictKey, FloorBack, Held, SeqEnd, BadSite, Comparable}
 use Rattle.tardis_base.specs.declared.replies.Refusal.TheVariants.{OpenConflict, Branches}
@@ -33,7 +35,7 @@ use Rattle.plain_dag.specs.Floors.{Session, opening_session, with_ceiling, with_
 use Rattle.plain_site.specs.Site.{Site, SingleTxn, Txn, Single, Merge, own_floor, own_count, next_record, writes_of, with_txn_changed}
 use Rattle.plain_site.specs.Answers.{Answer, refuse, refuse_found, unless, shown, found}
 use Rattle.plain_site.specs.Sessions.{open_session, close_session, begun, begin_at, set_ceiling}
-use Rattle.plain_site.specs.Reads.{having_read, having_written, read_in, get, set_key, get_for}
+use Rattle.plain_site.specs.Reads.{too_many_reads, too_many_writes, having_read, having_written, read_in, get, set_key, get_for}
 use Rattle.plain_site.specs.Commits.{with_record, growth_refusals, without_txn_of, committed, commit_below, commit_single, commit}
 use Rattle.plain_site.specs.Merges.{states_to_merge, in_order, merging, merge_at, fork_points_of, conflicts_of}
 use Rattle.plain_site.specs.FloorSteps.{raised, raise_to, raise}
@@ -117,7 +119,7 @@ module _ (site : Site) where
 
     read-dry : (t : Txn) (k : List ℕ) → SameDry (read_in site n t k) (read_in there n t k)
     read-dry (Single t) k =
-        refusing (refuse (length t.reads == 256 && not (is_key_among k t.reads)) (TooMany 2 257) ∷ [])
+        refusing (refuse (length t.reads == most_reads && not (is_key_among k t.reads)) too_many_reads ∷ [])
         (with_txn_changed n (having_read k) site, found (read site.dag k t.state))
         (with_txn_changed n (having_read k) there, found (read site.dag k t.state)) refl
     read-dry (Merge t) k =
@@ -131,7 +133,7 @@ module _ (site : Site) where
 
     set-dry : (t : Txn) (k : List ℕ) (w : Write) → SameDry (set_key site n t k w) (set_key there n t k w)
     set-dry t k w =
-        refusing (refuse (length (writes_of t) == 64 && not (has_key k (writes_of t))) (TooMany 1 65) ∷ [])
+        refusing (refuse (length (writes_of t) == most_writes && not (has_key k (writes_of t))) too_many_writes ∷ [])
         (with_txn_changed n (having_written k w) site, Done) (with_txn_changed n (having_written k w) there, Done) refl
 
     get_for-dry : (t : Txn) (k : List ℕ) (x : StateId) → SameDry (get_for site t k x) (get_for there t k x)
@@ -144,7 +146,7 @@ module _ (site : Site) where
     merge-dry : (ceiling : StateId) (xs : List StateId) → SameDry (merge_at site n ceiling xs) (merge_at there n ceiling xs)
     merge-dry ceiling xs =
         refusing
-        (refuse (nat_lt 8 (length xs)) (TooMany 3 (length xs))
+        (refuse (nat_lt most_parents (length xs)) (TooMany MergedStates (length xs))
         ∷ refuse_found Unknown (first_unknown site.dag xs)
         ∷ refuse_found (λ (x : StateId). Below x ceiling) (first_below site.dag ceiling xs)
         ∷ refuse_found (λ (pair : StateId × StateId). Comparable pair.0 pair.1) (comparable_pair site.dag xs)

@@ -8,6 +8,8 @@ use Rattle.tardis_base.specs.declared.requests.Request.{Request}
 use Rattle.tardis_base.specs.declared.requests.Request.TheVariants.{Open, Begin as BeginAt, Get, Put, Delete, Commit, Abort, BeginMerge, ForkPoints}
 use Rattle.tardis_base.specs.declared.requests.Request.TheVariants.{Conflicts, GetFor, Ceiling, Raise, RaiseAuto, Tidy, Stat, Show, Leaves, Pull, Deliver}
 use Rattle.tardis_base.specs.declared.requests.Request.TheVariants.{Settle, Close}
+use Rattle.tardis_base.specs.declared.replies.Excess.TheVariants.{MergedStates}
+use Rattle.tardis_base.specs.Sizes.{most_parents, most_reads, most_writes}
 use Rattle.tardis_base.specs.declared.replies.Refusal.TheVariants.{Unknown, Collected, NotRead, BadSite, CeilingBack, AlreadyOpen, SessionsFull, TooMany}
 use Rattle.tardis_base.specs.declared.replies.Refusal.TheVariants.{Below, ConflictKey, Comparable}
 use Rattle.tardis_base.specs.declared.replies.Reply.TheVariants.{Opened, Done, Shown, Batch as BatchIs}
@@ -25,7 +27,7 @@ use Rattle.plain_site.specs.Site.{Site, Txn, Single, Merge, own_floor, writes_of
 use Rattle.plain_site.specs.Answers.{refuse, refuse_found, shown, found}
 use Rattle.tardis_base.specs.Ids.{root}
 use Rattle.plain_site.specs.Sessions.{close_session, begin, begin_at, begun, set_ceiling}
-use Rattle.plain_site.specs.Reads.{having_read, having_written, read_in, get, set_key, get_for}
+use Rattle.plain_site.specs.Reads.{too_many_reads, too_many_writes, having_read, having_written, read_in, get, set_key, get_for}
 use Rattle.plain_site.specs.Commits.{abort}
 use Rattle.plain_site.specs.Merges.{in_order, states_to_merge, merging, merge_at, begin_merge, fork_points_of, conflicts_of}
 use Rattle.plain_site.specs.Exchange.{batch_for}
@@ -47,7 +49,7 @@ module _ (site : Site) (n : ℕ) where
   merge_at-rests : (ceiling : StateId) (xs : List StateId) → Rests (merge_at site n ceiling xs).0
   merge_at-rests ceiling xs =
       unless-keeps Rests site refl
-      (refuse (nat_lt 8 (length xs)) (TooMany 3 (length xs))
+      (refuse (nat_lt most_parents (length xs)) (TooMany MergedStates (length xs))
       ∷ refuse_found Unknown (first_unknown site.dag xs)
       ∷ refuse_found (λ x. Below x ceiling) (first_below site.dag ceiling xs)
       ∷ refuse_found (λ (pair : StateId × StateId). Comparable pair.0 pair.1) (comparable_pair site.dag xs)
@@ -56,7 +58,7 @@ module _ (site : Site) (n : ℕ) where
 
   read_in-rests : (t : Txn) (k : List ℕ) → Rests (read_in site n t k).0
   read_in-rests (Single t) k =
-      unless-keeps Rests site refl (refuse (length t.reads == 256 && not (is_key_among k t.reads)) (TooMany 2 257) ∷ [])
+      unless-keeps Rests site refl (refuse (length t.reads == most_reads && not (is_key_among k t.reads)) too_many_reads ∷ [])
       (with_txn_changed n (having_read k) site, found (read site.dag k t.state)) (λ none. refl)
   read_in-rests (Merge t) k =
       unless-keeps Rests site refl (refuse (is_conflict_key site.dag t.states k) (ConflictKey k) ∷ []) (site, found (value_over site.dag t.states k)) (λ none. refl)
@@ -67,7 +69,7 @@ module _ (site : Site) (n : ℕ) where
 
   set-rests : (t : Txn) (k : List ℕ) (w : Write) → Rests (set_key site n t k w).0
   set-rests t k w =
-      unless-keeps Rests site refl (refuse (length (writes_of t) == 64 && not (has_key k (writes_of t))) (TooMany 1 65) ∷ [])
+      unless-keeps Rests site refl (refuse (length (writes_of t) == most_writes && not (has_key k (writes_of t))) too_many_writes ∷ [])
       (with_txn_changed n (having_written k w) site, Done) (λ none. refl)
 
   fork-points-rest : (t : Txn) → Rests (fork_points_of site t).0
