@@ -3,6 +3,7 @@
 import json
 import os
 import re
+import select
 import subprocess
 import sys
 import time
@@ -101,15 +102,12 @@ class Command(OverServers):
             site = self.connect()
             site.open()
             # it tells what comes from its first look on; so there is news until it has looked
-            for number in range(200):
+            ready, end = [], time.monotonic() + PATIENCE
+            while not ready and time.monotonic() < end:
                 with site.transaction() as txn:
-                    txn.put("n", str(number))
-                if number == 0:
-                    os.set_blocking(watching.stdout.fileno(), False)
-                told = watching.stdout.readline() or b""
-                if told:
-                    break
-                time.sleep(0.05)
+                    txn.put("n", "1")
+                ready, _, _ = select.select([watching.stdout], [], [], 0.05)
+            told = watching.stdout.readline() if ready else b""
             self.assertRegex(told.decode(), r"^1\.\d+ below \d\.\d+  n=\d+\n$")
         finally:
             watching.kill()
