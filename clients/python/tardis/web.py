@@ -21,6 +21,8 @@ PATIENCE = 30.0
 PAGE = os.path.join(os.path.dirname(os.path.abspath(__file__)), "page.html")
 #: a body of a request to this server is no longer
 LONGEST_BODY = 1 << 20
+#: nothing is loaded from elsewhere, and no other page holds this one in a frame
+POLICY = "default-src 'self'; style-src 'unsafe-inline'; script-src 'unsafe-inline'; frame-ancestors 'none'"
 
 
 class Looker:
@@ -160,7 +162,8 @@ class Handler(http.server.BaseHTTPRequestHandler):
             self.send(403, b"this page is for 127.0.0.1 alone", "text/plain")
         elif parts.path == "/":
             with open(PAGE, "rb") as file:
-                self.send(200, file.read().replace(b"{{ADDRESS}}", json.dumps(looker.address).replace("<", "\\u003c").encode()), "text/html; charset=utf-8")
+                address = json.dumps(looker.address).replace("<", "\\u003c")
+                self.send(200, file.read().replace(b"{{ADDRESS}}", address.encode()), "text/html; charset=utf-8")
         elif parts.path in calls:
             self.call(calls[parts.path])
         else:
@@ -199,7 +202,7 @@ class Handler(http.server.BaseHTTPRequestHandler):
         self.send_header("Content-Type", kind)
         self.send_header("Content-Length", str(len(body)))
         self.send_header("Cache-Control", "no-store")
-        self.send_header("Content-Security-Policy", "default-src 'self'; style-src 'unsafe-inline'; script-src 'unsafe-inline'; frame-ancestors 'none'")
+        self.send_header("Content-Security-Policy", POLICY)
         self.end_headers()
         self.wfile.write(body)
 
