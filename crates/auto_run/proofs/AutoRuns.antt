@@ -24,10 +24,10 @@ use Rattle.auto_run.proofs.Shells.{shell_may}
 
 -- ===== The rules stay
 
-ruled : Site → List PrefixRule → Ruled
+unfoldable pub ruled : Site → List PrefixRule → Ruled
 ruled s rules = record { site = s; rules = rules }
 
-in_turn : (rules : List PrefixRule) (s : Ruled) (lines answers : List (List ℕ)) (t : Ruled) → s.rules ≡ rules → InTurn RuledMay s lines answers t
+pub in_turn : (rules : List PrefixRule) (s : Ruled) (lines answers : List (List ℕ)) (t : Ruled) → s.rules ≡ rules → InTurn RuledMay s lines answers t
     → InTurn (AutoMay (over_lines site_machine) rules) s.site lines answers t.site
 in_turn rules s [] [] t is p = ap (λ r. r.site) p
 in_turn rules s (line ∷ lines) (answer ∷ answers) t is p =
