@@ -7,7 +7,7 @@ use Rattle.tardis_io.specs.Moments.{Moment}
 use Rattle.tardis_io.proofs.Told.{weaker}
 use Rattle.site_run.specs.Responses.{Whole, AnsweredBy}
 use Rattle.site_run.specs.Prompt.{EachTake}
-use Rattle.site_run.specs.LineServing.{UpToDateLines}
+use Rattle.site_run.specs.Prompt.{UpToDateLines}
 use Rattle.shell_run.specs.Answers.{over_lines}
 use Rattle.plain_site.specs.Site.{Site}
 use Rattle.plain_site.specs.Step.{site_machine}
@@ -52,11 +52,11 @@ module _ (core : Core) (rules : List PrefixRule) (old given : Option (List ℕ))
       → AutoIsPrompt (over_lines site_machine) rules (SiteStands core) old given first left
   unfolding ruled
   up_to_date first left u = record {
-    lines = u.lines;
+    bodies = u.bodies;
     held = u.held;
     read = u.read;
-    part = u.part;
-    answered = λ s f. site_line s u.lines (u.answered (ruled s rules) (f, refl));
+    partial = u.partial;
+    answered = λ s f. site_line s u.bodies (u.answered (ruled s rules) (f, refl));
   }
 
 pub auto_prompt : (core : Core) (rules : List PrefixRule) (old first : Option (List ℕ)) (before after : Option (List Moment))

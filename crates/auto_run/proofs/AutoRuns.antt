@@ -8,7 +8,7 @@ use Rattle.tardis_io.specs.declared.statuses.Status.TheVariants.{NoMemory}
 use Rattle.line_cut.specs.Lines.{last_line}
 use Rattle.site_run.specs.Responses.{Whole, InTurn, AnsweredBy}
 use Rattle.site_run.specs.Endings.{shape_within}
-use Rattle.site_run.specs.LineEndings.{LineOutcome}
+use Rattle.site_run.specs.Endings.{LineOutcome}
 use Rattle.shell_run.specs.Answers.{over_lines}
 use Rattle.plain_site.specs.Site.{Site}
 use Rattle.plain_site.specs.Step.{site_machine}

@@ -4,8 +4,8 @@ use Rattle.tardis_base.specs.Plain.{PlainMachine}
 use Rattle.tardis_io.specs.declared.statuses.Status.{Status}
 use Rattle.site_run.specs.Responses.{AnsweredBy, Whole}
 use Rattle.site_run.specs.Endings.{shape_within}
-use Rattle.site_run.specs.LineServing.{UpToDateLines}
-use Rattle.site_run.specs.LineEndings.{LineOutcome}
+use Rattle.site_run.specs.Prompt.{UpToDateLines}
+use Rattle.site_run.specs.Endings.{LineOutcome}
 use Rattle.plain_site.specs.Site.{Site}
 use Rattle.plain_site.specs.Step.{site_machine}
 use Rattle.plain_site.specs.Sound.{IsSound}

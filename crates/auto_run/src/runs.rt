@@ -6,7 +6,7 @@ ghost use Rattle.tardis_io.specs.Faults.{Rose};
 ghost use Rattle.line_cut.specs.Lines.{IsCut as AreLines};
 ghost use Rattle.site_run.specs.Prompt.{EachTake};
 ghost use Rattle.site_run.specs.Endings.{most_taken};
-ghost use Rattle.site_run.specs.LineEndings.{IsLineEnd, LinesEndAs};
+ghost use Rattle.site_run.specs.Endings.{IsLineEnd, LinesEndAs};
 ghost use Rattle.shell_run.specs.Answers.{over_lines};
 ghost use Rattle.plain_site.specs.Step.{site_machine};
 ghost use Rattle.session_core.specs.Machine.{SiteStands, opened_with};

@@ -9,8 +9,8 @@ use Rattle.line_cut.proofs.OneCut.{one, front_of}
 use Rattle.line_cut.proofs.Parts.{long_more}
 use Rattle.site_run.specs.Responses.{AnsweredBy}
 use Rattle.site_run.specs.Endings.{EndsSpent, shape_within, most_taken}
-use Rattle.site_run.specs.LineServing.{ServesLines}
-use Rattle.site_run.specs.LineEndings.{LineEnds, AnswersAllLines, LinesEndAs, LineOutcome}
+use Rattle.site_run.specs.Prompt.{ServesLines}
+use Rattle.site_run.specs.Endings.{LineEnds, AnswersAllLines, LinesEndAs, LineOutcome}
 
 -- where as many bytes were taken as may be
 line_ends_spent : (status : Status) (first : List ℕ) (cut : List (List ℕ)) (held : List ℕ) (last : List (List ℕ)) (left : List ℕ) →

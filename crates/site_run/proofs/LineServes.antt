@@ -7,7 +7,7 @@ use Rattle.tardis_io.proofs.Told.{weaker}
 use Rattle.line_cut.specs.Lines.{ended, IsLine, Cuts}
 use Rattle.line_cut.proofs.Joins.{more_bytes, more_lines}
 use Rattle.site_run.specs.Responses.{Whole, Front, AnsweredBy}
-use Rattle.site_run.specs.LineServing.{ServesLines}
+use Rattle.site_run.specs.Prompt.{ServesLines}
 use Rattle.line_cut.proofs.Parts.{length-ended}
 use Rattle.site_run.proofs.Turns.{answered_then, answered_none}
 use Rattle.site_run.proofs.Serving.{written, lost, fed_all}

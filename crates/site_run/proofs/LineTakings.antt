@@ -6,10 +6,10 @@ use Rattle.tardis_io.specs.declared.statuses.Status.TheVariants.{Ok as Finished,
 use Rattle.line_cut.specs.Lines.{IsLine, IsLong, last_line}
 use Rattle.site_run.specs.Responses.{Whole, Front, AnsweredBy}
 use Rattle.site_run.specs.Endings.{shape_within}
-use Rattle.site_run.specs.LineServing.{ServesLines, UpToDateLines}
+use Rattle.site_run.specs.Prompt.{ServesLines, UpToDateLines}
 use Rattle.tardis_io.specs.Told.{WhileTold}
 use Rattle.tardis_io.proofs.Told.{weaker}
-use Rattle.site_run.specs.LineEndings.{LineOutcome}
+use Rattle.site_run.specs.Endings.{LineOutcome}
 use Rattle.site_run.proofs.Turns.{whole_then, front_then, answered_then}
 use Rattle.site_run.proofs.Takings.{ended}
 use Rattle.site_run.proofs.LineServes.{line_serves_none, line_serves_then, line_serves_fed}

@@ -4,7 +4,7 @@ ghost use Rattle.std.specs.Prelude.{◌≡◌, ◌+◌, ◌≤◌, ◌++◌, [],
 ghost use Rattle.tardis_io.specs.Faults.{HasCause};
 ghost use Rattle.line_cut.specs.Lines.{IsLine, last_line};
 ghost use Rattle.site_run.specs.Responses.{AnsweredBy, Whole, Front};
-ghost use Rattle.site_run.specs.LineServing.{ServesLines};
+ghost use Rattle.site_run.specs.Prompt.{ServesLines};
 ghost use Rattle.site_run.specs.LineNexts.{IsLineBehind};
 
 use crate::answers::answer_body;

@@ -8,9 +8,9 @@ ghost use Rattle.line_cut.specs.Lines.{IsCut};
 ghost use Rattle.site_run.specs.Responses.{AnsweredBy, Whole};
 ghost use Rattle.site_run.specs.Prompt.{EachTake};
 ghost use Rattle.site_run.specs.Endings.{shape_within, most_taken};
-ghost use Rattle.site_run.specs.LineServing.{UpToDateLines};
+ghost use Rattle.site_run.specs.Prompt.{UpToDateLines};
 ghost use Rattle.site_run.specs.LineBuffering.{AreFreshForLines};
-ghost use Rattle.site_run.specs.LineEndings.{LineOutcome, LinesEndAs, IsLineEnd};
+ghost use Rattle.site_run.specs.Endings.{LineOutcome, LinesEndAs, IsLineEnd};
 
 use crate::gathered::Gathered;
 use crate::line_answers::{LineNext, answer_last_line, answer_line_piece};

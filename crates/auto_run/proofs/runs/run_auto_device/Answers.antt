@@ -3,7 +3,7 @@ use Rattle.tardis_io.proofs.Told.{weaker, same}
 use Rattle.tardis_io.specs.declared.statuses.Status.TheVariants.{NoMemory}
 use Rattle.site_run.specs.Responses.{AnsweredBy}
 use Rattle.site_run.specs.Endings.{shape_within}
-use Rattle.site_run.specs.LineEndings.{LineOutcome}
+use Rattle.site_run.specs.Endings.{LineOutcome}
 use Rattle.shell_run.specs.Answers.{over_lines}
 use Rattle.plain_site.specs.Step.{site_machine}
 use Rattle.session_core.specs.Machine.{SiteStands}

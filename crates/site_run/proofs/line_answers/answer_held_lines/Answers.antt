@@ -2,7 +2,7 @@ use Rattle.std.proofs.Common.{inl, inr, ◌≡◌, ◌+◌, ◌++◌, ◌∙◌,
 use Rattle.line_cut.specs.Lines.{ended}
 use Rattle.line_cut.specs.Cuts.{Leaves}
 use Rattle.site_run.specs.Responses.{Whole, Front, AnsweredBy}
-use Rattle.site_run.specs.LineServing.{ServesLines}
+use Rattle.site_run.specs.Prompt.{ServesLines}
 use Rattle.site_run.specs.LineNexts.{IsLineBehind}
 use Rattle.site_run.specs.declared.line_answers.LineNext.TheVariants.{Part, Long}
 use Rattle.site_run.proofs.Turns.{whole_then, front_then}

@@ -1,6 +1,6 @@
 use Rattle.std.proofs.Common.{◌≡◌, ◌+◌, ◌≤◌, length}
 use Rattle.site_run.specs.Responses.{Whole}
-use Rattle.site_run.specs.LineServing.{ServesLines}
+use Rattle.site_run.specs.Prompt.{ServesLines}
 use Rattle.site_run.proofs.line_answers.answer_held_lines.Given as goal
 
 abbrev pub invariant-loop-line : goal.invariant-loop-line

@@ -3,7 +3,7 @@ use Rattle.tardis_io.specs.Told.{WhileTold, Takes}
 use Rattle.tardis_io.proofs.Told.{then, weaker}
 use Rattle.tardis_io.specs.declared.statuses.Status.TheVariants.{Ok as Finished, ReadFault, WriteFault as Broken, LongFrame, Spent}
 use Rattle.site_run.specs.Responses.{Whole, Front, AnsweredBy}
-use Rattle.site_run.specs.LineServing.{ServesLines, UpToDateLines}
+use Rattle.site_run.specs.Prompt.{ServesLines, UpToDateLines}
 use Rattle.site_run.specs.LineNexts.{IsLineBehind}
 use Rattle.site_run.proofs.LineTakings.{TakingLines, LinesDone, line_done_all, line_done_last, line_done_read, line_done_spent, taking_more_lines}
 use Rattle.site_run.proofs.LineTakings.{line_done_long, line_done_write, up_to_date_lines}

@@ -3,7 +3,7 @@ use Rattle.tardis_io.specs.Told.{WhileTold}
 use Rattle.line_cut.specs.Lines.{IsLine}
 use Rattle.site_run.specs.Responses.{Whole, AnsweredBy}
 use Rattle.site_run.specs.Prompt.{EachTake}
-use Rattle.site_run.specs.LineServing.{UpToDateLines}
+use Rattle.site_run.specs.Prompt.{UpToDateLines}
 use Rattle.site_run.proofs.LineTakings.{TakingLines}
 use Rattle.site_run.proofs.line_runs.answer_line_input.Given as goal
 

@@ -5,9 +5,9 @@ use Rattle.tardis_io.proofs.Told.{same, weaker}
 use Rattle.tardis_io.specs.declared.statuses.Status.TheVariants.{NoMemory}
 use Rattle.line_cut.specs.Lines.{IsCut}
 use Rattle.site_run.specs.Responses.{Whole, AnsweredBy}
-use Rattle.site_run.specs.LineServing.{UpToDateLines}
+use Rattle.site_run.specs.Prompt.{UpToDateLines}
 use Rattle.site_run.specs.Endings.{shape_within, most_taken}
-use Rattle.site_run.specs.LineEndings.{LinesEndAs}
+use Rattle.site_run.specs.Endings.{LinesEndAs}
 use Rattle.site_run.proofs.LineEnds.{lines_end_as}
 use Rattle.site_run.proofs.LineTakings.{LinesDone, line_done_none}
 use Rattle.site_run.proofs.Prompts.{each_none}
