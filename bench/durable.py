@@ -117,7 +117,12 @@ def of_tardis(program, folder, how, count):
 
 
 def of_redis(program, folder, how, count):
-    path = os.path.join(folder, "s")
+    with tempfile.TemporaryDirectory() as short:
+        # (a socket's path has at most 107 bytes, and Redis goes to its folder before it makes the socket)
+        return beside_log(program, folder, os.path.join(short, "s"), how, count)
+
+
+def beside_log(program, folder, path, how, count):
     words = [program, "--port", "0", "--unixsocket", path, "--save", "", "--appendonly", "yes", "--appendfsync", "always", "--dir", folder]
     process = subprocess.Popen(words, stdin=subprocess.DEVNULL, stdout=subprocess.DEVNULL, stderr=subprocess.DEVNULL)
     try:
@@ -133,14 +138,15 @@ def main():
     parser.add_argument("--redis", default=shutil.which("redis-server") or "")
     parser.add_argument("--folder", default=".")
     told = parser.parse_args()
-    named = [("tardis durable", of_tardis, told.tardis), ("redis-server", of_redis, told.redis)]
+    place = os.path.abspath(told.folder)
+    named = [("tardis durable", of_tardis, os.path.abspath(told.tardis)), ("redis-server", of_redis, told.redis)]
     for how, count in COUNTS:
         best = []
         for name, measure, program in named:
             if os.access(program, os.X_OK):
                 runs = []
                 for _ in range(3):
-                    with tempfile.TemporaryDirectory(dir=told.folder) as folder:
+                    with tempfile.TemporaryDirectory(dir=place) as folder:
                         runs.append(measure(program, folder, how, count))
                 best.append("%s %d" % (name, max(runs)))
         print("%-12s %s" % (how, "   ".join(best)), flush=True)

@@ -84,8 +84,8 @@ def frame_rows(page, begin, end):
     return rows
 
 
-def line_rows(begin, end):
-    rows = [cells(line) for line in section("docs/COMMANDS.md", begin, end)]
+def line_rows(page, begin, end):
+    rows = [cells(line) for line in section(page, begin, end)]
     rows = [Row(row[0].encode() + b"\n", row[1].encode() + b"\n") for row in rows if len(row) > 1]
     assert len(rows) > 5, "the table behind %r has gone" % begin
     return rows
@@ -517,16 +517,16 @@ def told_by(program, words, rows):
 def sessions(program, daemon_program):
     """Each session's name, and how it is run. What is to be told stands in the documents, but for two: of the world they
     tell it in words, and of a load with steps they tell nothing."""
-    cart, made = frame_rows("README.md", "## A cart", "## W"), {}
+    cart, made = frame_rows("docs/FORMATS.md", "## A cart", "## Lines"), {}
     if is_there(program):
         load = ["load", "--start", "1", "--steps", "60"]
         loaded = subprocess.run([program, *load], stdout=subprocess.PIPE, timeout=PATIENCE, check=True).stdout
         made = {
-            "first": talk(["run"], frame_rows("README.md", "## Run it", "## A cart")),
+            "first": talk(["run"], frame_rows("docs/FORMATS.md", "## A session", "## A cart")),
             "cart": talk(["run"], cart),
             "floors": talk(["run"], frame_rows("docs/FLOORS.md", "| Frame in", "Had")),
-            "lines": talk(["shell"], line_rows("## A session of lines", "The first word"), lines=True),
-            "forms": talk(["shell", "--sites", "2"], line_rows("Every form", "Here"), lines=True),
+            "lines": talk(["shell"], line_rows("README.md", "## A cart", "The first word"), lines=True),
+            "forms": talk(["shell", "--sites", "2"], line_rows("docs/COMMANDS.md", "Every form", "Here"), lines=True),
             "world": talk(["world", "--sites", "3"], told_by(program, ["world", "--sites", "3"], world_frames())),
             "load": whole(load, loaded),
             "serve": serve(cart),

@@ -159,11 +159,6 @@ class Server(Served):
         self.pace.close()
 
 
-def union(key, sides):
-    """All items that some side has."""
-    return b",".join(sorted({item for side in sides.values() for item in (side or b"").split(b",")}))
-
-
 def same(what, want):
     assert what == want, "%r, and not %r" % (what, want)
 
@@ -183,7 +178,7 @@ def two_fork_and_merge(one, two, missing):
     one.round(), two.round()
     for server in (one, two):
         same(set(server.client.leaves().first), {left, right})
-    two.client.merge(union)
+    two.client.merge(tardis.union_of(","))
     one.round()
     for server in (one, two):
         same(server.reads("cart"), [b"jam,milk,tea"])
@@ -290,7 +285,7 @@ def a_script_carries(program, folder, servers, kind=Served):
     one, two = servers
     one.put(cart="tea"), two.put(note="yes")
     same([line.split(": ")[1] for line in carried(folder)], ["unix:" + os.path.join(folder, "site3")])
-    one.client.merge(union)
+    one.client.merge(tardis.union_of(","))
     servers.append(kind(program, folder, 3))
     same(carried(folder), [])
     for server in servers:

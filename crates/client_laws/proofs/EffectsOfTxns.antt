@@ -12,6 +12,7 @@ use Rattle.tardis_base.specs.declared.requests.EndFlags.{EndFlags}
 use Rattle.tardis_base.specs.declared.requests.MergeOf.{MergeOf}
 use Rattle.tardis_base.specs.declared.requests.Request.{Request}
 use Rattle.tardis_base.specs.declared.requests.Request.TheVariants.{Begin as BeginAt, Get, Commit, Abort, BeginMerge}
+use Rattle.tardis_base.specs.declared.replies.Excess.TheVariants.{MergedStates}
 use Rattle.tardis_base.specs.declared.replies.Refusal.TheVariants.{TooMany, ConflictKey, Unknown, Below, Comparable, WrongMode, OpenConflict, Branches, SeqEnd}
 use Rattle.tardis_base.specs.declared.replies.Reply.{Reply}
 use Rattle.tardis_base.specs.declared.replies.Reply.TheVariants.{Begun, Merging, Done, Committed, Ended}
@@ -30,7 +31,7 @@ use Rattle.plain_dag.proofs.Keys.{has-new-key}
 use Rattle.plain_site.specs.Site.{Site, SingleTxn, Txn, Single, Merge, own_count, writes_of, read_states, with_txn_changed, next_record}
 use Rattle.plain_site.specs.Answers.{Answer, refuse, refuse_found, shown, found}
 use Rattle.plain_site.specs.Sessions.{begin_at}
-use Rattle.plain_site.specs.Reads.{having_read, having_written, read_in, get, set_key}
+use Rattle.plain_site.specs.Reads.{too_many_writes, too_many_reads, having_read, having_written, read_in, get, set_key}
 use Rattle.plain_site.specs.Commits.{with_record, without_txn_of, abort, growth_refusals, committed, commit_below, commit_at, commit_writes, commit_single}
 use Rattle.plain_site.specs.Commits.{commit}
 use Rattle.plain_site.specs.Merges.{in_order, merge_at}
@@ -109,8 +110,8 @@ module _ (site : Site) (n : ℕ) where
       let fourth : List (Option Reply) = refuse_found (λ (p : StateId × StateId). Comparable p.0 p.1) pair ∷ [] in
       let third : List (Option Reply) = refuse_found (λ (x : StateId). Below x ceiling) below ∷ fourth in
       let second : List (Option Reply) = refuse_found Unknown unknown ∷ third in
-      unless-does site n (BeginMerge of) (refuse many (TooMany 3 (length xs)) ∷ second) (record site { txns = with_entry n t site.txns }, Merging states)
-      (refuse-only many (TooMany 3 (length xs)) second
+      unless-does site n (BeginMerge of) (refuse many (TooMany MergedStates (length xs)) ∷ second) (record site { txns = with_entry n t site.txns }, Merging states)
+      (refuse-only many (TooMany MergedStates (length xs)) second
       (found-only Unknown unknown third
       (found-only (λ (x : StateId). Below x ceiling) below fourth (found-only (λ (p : StateId × StateId). Comparable p.0 p.1) pair [] tt))))
       (begun-does (BeginMerge of) t (Merging states) states (λ seen. refl) refl refl tt (λ rs s. refl) (λ seen rs. refl))
@@ -136,9 +137,9 @@ module _ (site : Site) (n : ℕ) where
   read-does (Single t) k e none =
       let o = read site.dag k t.state in
       let more : Txn = Single (record t { reads = with_key k t.reads }) in
-      unless-does site n (Get k) (refuse (length t.reads == 256 && not (is_key_among k t.reads)) (TooMany 2 257) ∷ [])
+      unless-does site n (Get k) (refuse (length t.reads == 256 && not (is_key_among k t.reads)) too_many_reads ∷ [])
       (with_txn_changed n (having_read k) site, found o)
-      (refuse-only (length t.reads == 256 && not (is_key_among k t.reads)) (TooMany 2 257) [] tt)
+      (refuse-only (length t.reads == 256 && not (is_key_among k t.reads)) too_many_reads [] tt)
       (record {
         grows = inl refl;
         shared = λ seen h. refl;
@@ -189,7 +190,7 @@ module _ (site : Site) (n : ℕ) where
       entry_of n site.txns ≡ Some t → Does site n q (set_key site n t k w)
   set-does q t k w tells keeps records e =
       let full = length (writes_of t) == 64 && not (has_key k (writes_of t)) in
-      unless-does site n q (refuse full (TooMany 1 65) ∷ []) (with_txn_changed n (having_written k w) site, Done) (refuse-only full (TooMany 1 65) [] tt)
+      unless-does site n q (refuse full too_many_writes ∷ []) (with_txn_changed n (having_written k w) site, Done) (refuse-only full too_many_writes [] tt)
       (record {
         grows = inl refl;
         shared = λ seen h. sym (records seen (bare site));

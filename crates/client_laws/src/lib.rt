@@ -44,8 +44,9 @@ pub fn transactions_read_one_snapshot()
     ensures moved_breaks { IsBrokenBy ReadersEndWhereTheyRead ends_at_newest }
 {}
 
-/// Each serializable transaction has read what its place in its branch shows. So each branch is a serial history of its
-/// serializable transactions: done one after another from the root on, they read what they did read.
+/// Each serializable transaction has read what its place in its branch shows. So up to its first merge a branch is a serial
+/// history of its serializable transactions: done one after another from the root on, they read what they did read. Below a
+/// merge each of them still read what its parent shows.
 pub fn serializable_transactions_read_what_their_place_shows()
     ensures reads { SerializableReadsHold step }
     ensures serial { BranchesAreSerial step }

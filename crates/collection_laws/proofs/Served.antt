@@ -16,6 +16,7 @@ use Rattle.tardis_base.specs.declared.requests.Request.TheVariants.{Open, Begin 
 use Rattle.tardis_base.specs.declared.requests.Request.TheVariants.{Conflicts, GetFor, Ceiling, Raise, RaiseAuto, Tidy, Stat, Show, Leaves, Pull}
 use Rattle.tardis_base.specs.declared.requests.Request.TheVariants.{Deliver, Settle, Close}
 use Rattle.tardis_base.specs.declared.replies.Refusal.TheVariants.{AlreadyOpen, SessionsFull, Unknown, Below, CeilingBack, WrongMode, NotRead}
+use Rattle.tardis_base.specs.declared.replies.Excess.TheVariants.{MergedStates}
 use Rattle.tardis_base.specs.declared.replies.Refusal.TheVariants.{TooMany, ConflictKey, FloorBack, Held, SeqEnd, BadSite, Comparable}
 use Rattle.tardis_base.specs.declared.replies.Refusal.TheVariants.{OpenConflict, Branches}
 use Rattle.tardis_base.specs.declared.replies.Reply.{Reply}
@@ -34,7 +35,7 @@ use Rattle.plain_dag.specs.Floors.{Session, opening_session, with_ceiling, with_
 use Rattle.plain_site.specs.Site.{Site, SingleTxn, Txn, Single, Merge, own_floor, own_count, next_record, writes_of, with_txn_changed}
 use Rattle.plain_site.specs.Answers.{Answer, refuse, refuse_found, says_early, unless, shown, found}
 use Rattle.plain_site.specs.Sessions.{open_session, close_session, begun, begin_at, set_ceiling}
-use Rattle.plain_site.specs.Reads.{having_read, having_written, read_in, get, set_key, get_for}
+use Rattle.plain_site.specs.Reads.{too_many_writes, too_many_reads, having_read, having_written, read_in, get, set_key, get_for}
 use Rattle.plain_site.specs.Commits.{with_record, growth_refusals, without_txn_of, committed, commit_below, commit_single, commit}
 use Rattle.plain_site.specs.Merges.{states_to_merge, in_order, merging, merge_at, fork_points_of, conflicts_of}
 use Rattle.plain_site.specs.FloorSteps.{raised, raise_to, raise}
@@ -77,7 +78,7 @@ module _ (ks : List StateId) (Seen : Reply → Type 0) (site : Site) (grows : (r
 
     read-unseen : (t : Txn) (k : List ℕ) → Unseen ks Seen (read_in site n t k) (read_in there n t k)
     read-unseen (Single t) k =
-        refusing (refuse (length t.reads == 256 && not (is_key_among k t.reads)) (TooMany 2 257) ∷ [])
+        refusing (refuse (length t.reads == 256 && not (is_key_among k t.reads)) too_many_reads ∷ [])
         (with_txn_changed n (having_read k) site, found (read site.dag k t.state))
         (with_txn_changed n (having_read k) there, found (read site.dag k t.state)) refl
     read-unseen (Merge t) k =
@@ -91,7 +92,7 @@ module _ (ks : List StateId) (Seen : Reply → Type 0) (site : Site) (grows : (r
 
     set-unseen : (t : Txn) (k : List ℕ) (w : Write) → Unseen ks Seen (set_key site n t k w) (set_key there n t k w)
     set-unseen t k w =
-        refusing (refuse (length (writes_of t) == 64 && not (has_key k (writes_of t))) (TooMany 1 65) ∷ [])
+        refusing (refuse (length (writes_of t) == 64 && not (has_key k (writes_of t))) too_many_writes ∷ [])
         (with_txn_changed n (having_written k w) site, Done) (with_txn_changed n (having_written k w) there, Done) refl
 
     get_for-unseen : (t : Txn) (k : List ℕ) (x : StateId) → Unseen ks Seen (get_for site t k x) (get_for there t k x)
@@ -104,7 +105,7 @@ module _ (ks : List StateId) (Seen : Reply → Type 0) (site : Site) (grows : (r
     merge-unseen : (ceiling : StateId) (xs : List StateId) → Unseen ks Seen (merge_at site n ceiling xs) (merge_at there n ceiling xs)
     merge-unseen ceiling xs =
         refusing
-        (refuse (nat_lt 8 (length xs)) (TooMany 3 (length xs))
+        (refuse (nat_lt 8 (length xs)) (TooMany MergedStates (length xs))
         ∷ refuse_found Unknown (first_unknown site.dag xs)
         ∷ refuse_found (λ (x : StateId). Below x ceiling) (first_below site.dag ceiling xs)
         ∷ refuse_found (λ (pair : StateId × StateId). Comparable pair.0 pair.1) (comparable_pair site.dag xs)

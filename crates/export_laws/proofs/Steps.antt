@@ -10,7 +10,7 @@ use Rattle.tardis_base.specs.declared.records.Write.TheVariants.{Put as Value}
 use Rattle.tardis_base.specs.declared.requests.Begin.TheVariants.{Any}
 use Rattle.tardis_base.specs.declared.requests.Request.TheVariants.{Open, Begin, Put, Commit, RaiseAuto, Tidy}
 use Rattle.tardis_base.specs.declared.replies.Refusal.{Refusal}
-use Rattle.tardis_base.specs.declared.replies.Refusal.TheVariants.{Unknown, Below, TooMany, SeqEnd, Full, PathFull}
+use Rattle.tardis_base.specs.declared.replies.Refusal.TheVariants.{Unknown, Below, SeqEnd, Full, PathFull}
 use Rattle.tardis_base.specs.declared.replies.Reply.TheVariants.{Opened, Begun, Done, Committed, Raised, Tidied}
 use Rattle.tardis_base.specs.Ids.{root, same_id, is_among}
 use Rattle.tardis_base.specs.Keys.{KeyWrite, keys_of, are_ascending_keys, has_key}
@@ -25,7 +25,7 @@ use Rattle.plain_dag.specs.Paths.{long_path}
 use Rattle.plain_dag.proofs.Ids.{among-later, among-differs}
 use Rattle.plain_dag.proofs.Order.{above-reflexive}
 use Rattle.plain_site.specs.Site.{Site, Single, SingleTxn, next_record, with_txn_changed}
-use Rattle.plain_site.specs.Reads.{having_written}
+use Rattle.plain_site.specs.Reads.{too_many_writes, having_written}
 use Rattle.plain_site.specs.Answers.{Answer, refuse, refuse_found, unless}
 use Rattle.plain_site.specs.Sessions.{begun}
 use Rattle.plain_site.specs.Commits.{commit_at, committed}
@@ -102,7 +102,7 @@ pub puts : (gs : List (List Entry)) (before : List Entry) (e : Entry) → length
     step (within gs before) 1 (Put e.0 e.1) ≡ (within gs (before ++ e ∷ []), Done)
 puts gs before e few up maps lengths =
     let ws = map as_write before in
-    passes-one (within gs before) (length ws == 64 && not (has_key e.0 ws)) (TooMany 1 65)
+    passes-one (within gs before) (length ws == 64 && not (has_key e.0 ws)) too_many_writes
     (with_txn_changed 1 (having_written e.0 (Value e.1)) (within gs before), Done)
     (and_left (length ws == 64) (not (has_key e.0 ws)) (ne_eqb (length ws) 64 (λ same. omega arith)))
     ∙ ap (λ (vs : List KeyWrite). (record (standing gs) { txns = (1, Single (writing gs vs)) ∷ [] }, Done)) (with_write-last ws e.0 (Value e.1) up ∙ sym maps)

@@ -2,6 +2,7 @@
 use Rattle.std.specs.Prelude.{◌≡◌, ℕ, ◌==◌, List, [], ◌∷◌, ◌++◌, length, map, replicate, codes, if◌then◌else◌}
 use Rattle.std.specs.List.{range_with_len}
 use Rattle.tardis_base.specs.declared.requests.Request.TheVariants.{Put, Commit, Abort, Tidy}
+use Rattle.tardis_base.specs.declared.replies.Excess.TheVariants.{WrittenKeys}
 use Rattle.tardis_base.specs.declared.replies.Refusal.TheVariants.{TooMany}
 use Rattle.tardis_base.specs.declared.replies.Reply.{Reply}
 use Rattle.tardis_base.specs.declared.replies.Reply.TheVariants.{Opened, Begun, Done, Committed, Raised, Tidied}
@@ -9,7 +10,7 @@ use Rattle.plain_dag.specs.States.{states}
 use Rattle.plain_site.specs.Site.{writes_of}
 use Rattle.plain_site.specs.Answers.{refused, with_txn}
 use Rattle.plain_site.specs.Step.{step}
-use Rattle.plain_site.specs.RowWords.{lone_site, ◌·◌, of_writes}
+use Rattle.plain_site.specs.RowWords.{lone_site, ◌·◌}
 use Rattle.plain_site.specs.ClientRuns.{Service}
 use Rattle.branch_export.specs.Exports.{Entry, export_of, export_spelling}
 use Rattle.branch_export.specs.Scripts.{script}
@@ -60,7 +61,7 @@ TwoGroups =
 
 -- a transaction takes one write
 abbrev pub takes_one_write : Service
-takes_one_write site n (Put k v) = with_txn site n (λ s t. if length (writes_of t) == 0 then step site n (Put k v) else refused site (TooMany of_writes 2))
+takes_one_write site n (Put k v) = with_txn site n (λ s t. if length (writes_of t) == 0 then step site n (Put k v) else refused site (TooMany WrittenKeys 2))
 takes_one_write site n q = step site n q
 
 -- a commit is said to be done, and makes no state

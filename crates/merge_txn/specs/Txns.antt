@@ -1,5 +1,7 @@
 -- What a transaction holds, and when it is full.
-use Rattle.std.specs.Prelude.{ℕ, Bool, ◌==◌, ◌&&◌, not, List, [], if◌then◌else◌, length}
+use Rattle.std.specs.Prelude.{ℕ, Bool, ◌+◌, ◌==◌, ◌&&◌, not, List, [], if◌then◌else◌, length}
+use Rattle.tardis_base.specs.declared.replies.Excess.TheVariants.{WrittenKeys, ReadKeys}
+use Rattle.tardis_base.specs.Sizes.{most_reads, most_writes}
 use Rattle.tardis_base.specs.Keys.{KeyWrite, is_key_among, has_key}
 use Rattle.merge_txn.specs.declared.Txn.{Txn}
 use Rattle.merge_txn.specs.declared.Txn.TheVariants.{Single, Merge}
@@ -26,21 +28,21 @@ abbrev pub with_reads : List (List ℕ) → Txn → Txn
 with_reads ks (Single t) = Single (record t { reads = ks })
 with_reads ks (Merge t) = Merge t
 
--- the key isn't among these written ones, and they are 64
+-- the key isn't among these written ones, and they are as many as may be
 abbrev pub has_no_place_to_write : List ℕ → List KeyWrite → Bool
-has_no_place_to_write k ws = length ws == 64 && not (has_key k ws)
+has_no_place_to_write k ws = length ws == most_writes && not (has_key k ws)
 
--- the key isn't among these read ones, and they are 256
+-- the key isn't among these read ones, and they are as many as may be
 abbrev pub has_no_place_to_read : List ℕ → List (List ℕ) → Bool
-has_no_place_to_read k ks = length ks == 256 && not (is_key_among k ks)
+has_no_place_to_read k ks = length ks == most_reads && not (is_key_among k ks)
 
--- written keys are counted as 1, and 65 are too many
+-- one key more than a transaction may write
 abbrev pub too_many_writes : TxnFault
-too_many_writes = TooMany 1 65
+too_many_writes = TooMany WrittenKeys (most_writes + 1)
 
--- read keys are counted as 2, and 257 are too many
+-- one key more than a transaction may read
 abbrev pub too_many_reads : TxnFault
-too_many_reads = TooMany 2 257
+too_many_reads = TooMany ReadKeys (most_reads + 1)
 
 -- why a write isn't taken: there are too many, or else memory is wanting
 abbrev pub put_fault : List ℕ → List KeyWrite → TxnFault

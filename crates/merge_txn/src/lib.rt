@@ -3,6 +3,7 @@
 
 ghost use Rattle.std.specs.Prelude.{◌≡◌, ◌≤◌, ◌==◌, ◌&&◌, ◌↔◌, not, [], ◌∷◌, length, if◌then◌else◌, IsTrue, IsOk, IfOk, IfErr, OnOk, OnErr};
 ghost use Rattle.std.specs.Option.{option_copied};
+ghost use Rattle.tardis_base.specs.Sizes.{most_reads, most_writes};
 ghost use Rattle.tardis_base.specs.Keys.{is_key_among, has_key, with_key, write_of, with_write};
 ghost use Rattle.merge_txn.specs.Txns.{writes_of, reads_of, with_writes, with_reads, has_no_place_to_write, has_no_place_to_read, too_many_writes};
 ghost use Rattle.merge_txn.specs.Txns.{too_many_reads, put_fault, read_fault};
@@ -10,13 +11,10 @@ ghost use Rattle.merge_txn.specs.Txns.{too_many_reads, put_fault, read_fault};
 use std::alloc::Global;
 use std::error::Error;
 use std::{fmt, mem};
-use tardis_base::{Key, KeySet, ListOf, NoMemory, Slot, StateId, StateList, Write, WriteSet};
-
-/// How many keys a transaction may write.
-pub const MAX_WRITES: usize = 64;
-
-/// How many keys a single transaction may read.
-pub const MAX_READS: usize = 256;
+use tardis_base::{
+    Excess, Key, KeySet, ListOf, MAX_READS, MAX_WRITES, NoMemory, Slot, StateId, StateList, Write,
+    WriteSet,
+};
 
 /// A single transaction: it reads one state, and notes what it reads.
 #[derive(Drop)]
@@ -47,8 +45,8 @@ pub enum Txn {
 /// Why a transaction did not take a write or a read.
 #[derive(Clone, Copy, Debug)]
 pub enum TxnFault {
-    /// There would be `n` keys, one more than may be: written ones where `what` is 1, read ones where it is 2.
-    TooMany { what: u8, n: u32 },
+    /// There would be `n` keys, one more than may be.
+    TooMany { what: Excess, n: u32 },
     NoMemory,
 }
 
@@ -100,7 +98,7 @@ impl Txn {
     pub fn put(&mut self, key: Key, write: Write) -> Result<(), TxnFault>
         ensures put { OnOk result (self.new ≡ with_writes (with_write key write (writes_of self.old)) self.old) }
         ensures same { OnErr result (self.new ≡ self.old) }
-        ensures few { length (writes_of self.old) ≤ 64 → length (writes_of self.new) ≤ 64 }
+        ensures few { length (writes_of self.old) ≤ most_writes → length (writes_of self.new) ≤ most_writes }
         ensures full { (result ≡ Err too_many_writes) ↔ IsTrue (has_no_place_to_write key (writes_of self.old)) }
         ensures fault { IfErr result (λ fault. fault ≡ put_fault key (writes_of self.old)) }
     {
@@ -119,7 +117,7 @@ impl Txn {
         ensures noted { OnOk result (self.new ≡ with_reads (with_key key (reads_of self.old)) self.old) }
         ensures same { OnErr result (self.new ≡ self.old) }
         ensures known { IsTrue (is_key_among key (reads_of self.old)) → IsOk result }
-        ensures few { length (reads_of self.old) ≤ 256 → length (reads_of self.new) ≤ 256 }
+        ensures few { length (reads_of self.old) ≤ most_reads → length (reads_of self.new) ≤ most_reads }
         ensures full { (result ≡ Err too_many_reads) ↔ IsTrue (has_no_place_to_read key (reads_of self.old)) }
         ensures fault { IfErr result (λ fault. fault ≡ read_fault key (reads_of self.old)) }
     {
@@ -155,12 +153,15 @@ impl Txn {
 fn put_write(writes: &mut WriteSet, key: Key, write: Write) -> Result<(), TxnFault>
     ensures put { OnOk result (writes.new ≡ with_write key write writes.old) }
     ensures same { OnErr result (writes.new ≡ writes.old) }
-    ensures few { length writes.old ≤ 64 → length writes.new ≤ 64 }
+    ensures few { length writes.old ≤ most_writes → length writes.new ≤ most_writes }
     ensures full { (result ≡ Err too_many_writes) ↔ IsTrue (has_no_place_to_write key writes.old) }
     ensures fault { IfErr result (λ fault. fault ≡ put_fault key writes.old) }
 {
     if writes.len() == MAX_WRITES && !writes.contains(&key) {
-        return Err(TxnFault::TooMany { what: 1, n: 65 });
+        return Err(TxnFault::TooMany {
+            what: Excess::WrittenKeys,
+            n: MAX_WRITES as u32 + 1,
+        });
     }
     writes.insert(key, write)?;
     Ok(())
@@ -171,7 +172,7 @@ fn note_key(reads: &mut KeySet, key: Key) -> Result<(), TxnFault>
     ensures noted { OnOk result (reads.new ≡ with_key key reads.old) }
     ensures same { OnErr result (reads.new ≡ reads.old) }
     ensures known { IsTrue (is_key_among key reads.old) → IsOk result }
-    ensures few { length reads.old ≤ 256 → length reads.new ≤ 256 }
+    ensures few { length reads.old ≤ most_reads → length reads.new ≤ most_reads }
     ensures full { (result ≡ Err too_many_reads) ↔ IsTrue (has_no_place_to_read key reads.old) }
     ensures fault { IfErr result (λ fault. fault ≡ read_fault key reads.old) }
 {
@@ -180,7 +181,10 @@ fn note_key(reads: &mut KeySet, key: Key) -> Result<(), TxnFault>
         return Ok(());
     }
     if count == MAX_READS {
-        return Err(TxnFault::TooMany { what: 2, n: 257 });
+        return Err(TxnFault::TooMany {
+            what: Excess::ReadKeys,
+            n: MAX_READS as u32 + 1,
+        });
     }
     reads.insert(key)?;
     Ok(())
@@ -189,7 +193,10 @@ fn note_key(reads: &mut KeySet, key: Key) -> Result<(), TxnFault>
 impl fmt::Display for TxnFault {
     fn fmt<W: fmt::Write>(&self, f: &mut fmt::Formatter<W>) -> fmt::Result {
         match self {
-            TxnFault::TooMany { what: 1, n } => {
+            TxnFault::TooMany {
+                what: Excess::WrittenKeys,
+                n,
+            } => {
                 write!(
                     f,
                     "the transaction would write {n} keys, one more than it may"

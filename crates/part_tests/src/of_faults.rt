@@ -7,7 +7,7 @@ use merge_txn::TxnFault;
 use std::alloc::Global;
 use std::fmt::Display;
 use std::process::Abort;
-use tardis_base::{AddFault, BytesFault, EndFlags, NoMemory, ReadFault, StateId};
+use tardis_base::{AddFault, BytesFault, EndFlags, Excess, NoMemory, ReadFault, StateId};
 
 const FIRST: StateId = StateId {
     site: 1,
@@ -68,7 +68,10 @@ fn check_floors(rt: &impl Abort, alloc: Global) {
 
 /// Why a transaction takes no more, or doesn't end.
 fn check_ends(rt: &impl Abort, alloc: Global) {
-    let many = TxnFault::TooMany { what: 1, n: 65 };
+    let many = TxnFault::TooMany {
+        what: Excess::WrittenKeys,
+        n: 65,
+    };
     let text = "the transaction would write 65 keys, one more than it may";
     assert!(rt; says(rt, alloc, &many, text));
     let branches = Branches {

@@ -13,6 +13,7 @@ use Rattle.tardis_base.specs.declared.records.Record.{Record}
 use Rattle.tardis_base.specs.declared.records.Write.{Write}
 use Rattle.tardis_base.specs.declared.records.Write.TheVariants.{Delete as Deletion, Put as Value}
 use Rattle.tardis_base.specs.declared.replies.Refusal.TheVariants.{AlreadyOpen, BadSite, Below, Branches, CeilingBack, Collected, Comparable, ConflictKey}
+use Rattle.tardis_base.specs.declared.replies.Excess.TheVariants.{MergedStates}
 use Rattle.tardis_base.specs.declared.replies.Refusal.TheVariants.{FloorBack, Held, NotRead, SeqEnd, SessionsFull, TooMany, Unknown}
 use Rattle.tardis_base.specs.declared.replies.Reply.{Reply}
 use Rattle.tardis_base.specs.declared.replies.Reply.TheVariants.{Applied, Batch as BatchIs, Done, Ended, Opened, Shown}
@@ -45,7 +46,7 @@ use Rattle.plain_site.specs.Exchange.{settle, settle_record, take_record, with_h
 use Rattle.plain_site.specs.FloorSteps.{raise, raise_to, raised}
 use Rattle.plain_site.specs.Laws.{ClosedGetNoChild}
 use Rattle.plain_site.specs.Merges.{begin_merge, conflicts_of, first_below, first_unknown, fork_points_of, in_order, merge_at, merging, states_to_merge}
-use Rattle.plain_site.specs.Reads.{get, get_for, having_read, having_written, read_in, set_key}
+use Rattle.plain_site.specs.Reads.{too_many_writes, too_many_reads, get, get_for, having_read, having_written, read_in, set_key}
 use Rattle.plain_site.specs.Sessions.{begin, begin_at, begun, close_session, open_session, set_ceiling}
 use Rattle.plain_site.specs.Shows.{show}
 use Rattle.plain_site.specs.Site.{Merge, Single, SingleTxn, Site, Txn, next_record, own_count, own_floor, with_txn_changed, writes_of}
@@ -79,7 +80,7 @@ module _ (site : Site) (n : ℕ) (x : StateId) where
 
   read-stays : (t : Txn) (k : List ℕ) → Stays (read_in site n t k).0
   read-stays (Single t) k =
-      unless-keeps Stays site refl (refuse (length t.reads == 256 && not (is_key_among k t.reads)) (TooMany 2 257) ∷ [])
+      unless-keeps Stays site refl (refuse (length t.reads == 256 && not (is_key_among k t.reads)) too_many_reads ∷ [])
       (with_txn_changed n (having_read k) site, found (read site.dag k t.state)) (λ none. refl)
   read-stays (Merge t) k =
       unless-keeps Stays site refl (refuse (is_conflict_key site.dag t.states k) (ConflictKey k) ∷ []) (site, found (value_over site.dag t.states k))
@@ -90,7 +91,7 @@ module _ (site : Site) (n : ℕ) (x : StateId) where
 
   write-stays : (t : Txn) (k : List ℕ) (w : Write) → Stays (set_key site n t k w).0
   write-stays t k w =
-      unless-keeps Stays site refl (refuse (length (writes_of t) == 64 && not (has_key k (writes_of t))) (TooMany 1 65) ∷ [])
+      unless-keeps Stays site refl (refuse (length (writes_of t) == 64 && not (has_key k (writes_of t))) too_many_writes ∷ [])
       (with_txn_changed n (having_written k w) site, Done) (λ none. refl)
 
   get_for-stays : (t : Txn) (k : List ℕ) (y : StateId) → Stays (get_for site t k y).0
@@ -130,7 +131,7 @@ module _ (site : Site) (n : ℕ) (x : StateId) where
   merge-stays : (ceiling : StateId) (xs : List StateId) → Stays (merge_at site n ceiling xs).0
   merge-stays ceiling xs =
       unless-keeps Stays site refl
-      (refuse (nat_lt 8 (length xs)) (TooMany 3 (length xs))
+      (refuse (nat_lt 8 (length xs)) (TooMany MergedStates (length xs))
       ∷ refuse_found Unknown (first_unknown site.dag xs)
       ∷ refuse_found (λ (y : StateId). Below y ceiling) (first_below site.dag ceiling xs)
       ∷ refuse_found (λ (pair : StateId × StateId). Comparable pair.0 pair.1) (comparable_pair site.dag xs)

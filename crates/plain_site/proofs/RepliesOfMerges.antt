@@ -12,6 +12,7 @@ use Rattle.tardis_base.specs.declared.ids.StateId.{StateId}
 use Rattle.tardis_base.specs.declared.records.Record.{Record}
 use Rattle.tardis_base.specs.declared.requests.MergeOf.{MergeOf}
 use Rattle.tardis_base.specs.declared.requests.MergeOf.TheVariants.{Leaves, States as TheseStates}
+use Rattle.tardis_base.specs.declared.replies.Excess.TheVariants.{MergedStates}
 use Rattle.tardis_base.specs.declared.replies.Refusal.TheVariants.{TooMany, Unknown, Below, Comparable, WrongMode}
 use Rattle.tardis_base.specs.declared.replies.Reply.{Reply}
 use Rattle.tardis_base.specs.declared.replies.Reply.TheVariants.{Merging, Refused}
@@ -79,15 +80,15 @@ comparable-fits rs xs more h m =
 merge-at-fits : (site : Site) (n : ℕ) (ceiling : StateId) (xs : List StateId) → IsTrue (is_id ceiling) → AreStates xs →
     Replies Fits (merge_at site n ceiling xs)
 merge-at-fits site n ceiling xs c h =
-    unless-good site (refuse (nat_lt 8 (length xs)) (TooMany 3 (length xs)) ∷ unknown) (next, Merging (in_order xs))
-    (good-when (nat_lt 8 (length xs)) (Refused (TooMany 3 (length xs))) unknown (refusal-fits (TooMany 3 (length xs)) (lt-ltb (length xs) (2 ^ 32) few))
+    unless-good site (refuse (nat_lt 8 (length xs)) (TooMany MergedStates (length xs)) ∷ unknown) (next, Merging (in_order xs))
+    (good-when (nat_lt 8 (length xs)) (Refused (TooMany MergedStates (length xs))) unknown (refusal-fits (TooMany MergedStates (length xs)) (lt-ltb (length xs) (2 ^ 32) few))
     (good-found Unknown (find (λ x. not (is_known site.dag x)) xs) below
     (λ x e. refusal-fits (Unknown x) (all-found is_id (λ x. not (is_known site.dag x)) xs x h.ids e))
     (good-found (λ x. Below x ceiling) (find (λ x. not (is_admitted site.dag ceiling x)) xs) apart
     (λ x e. refusal-fits (Below x ceiling) (and_from (is_id x) (is_id ceiling) (all-found is_id (λ x. not (is_admitted site.dag ceiling x)) xs x h.ids e) c))
     (comparable-fits site.dag xs [] h.ids good-none))))
     (λ none.
-    let a = none-when (nat_lt 8 (length xs)) (Refused (TooMany 3 (length xs))) unknown none in
+    let a = none-when (nat_lt 8 (length xs)) (Refused (TooMany MergedStates (length xs))) unknown none in
     let b = none-found Unknown (find (λ x. not (is_known site.dag x)) xs) below a.1 in
     let d = none-found (λ x. Below x ceiling) (find (λ x. not (is_admitted site.dag ceiling x)) xs) apart b.1 in
     let p = none-found (λ (p : StateId × StateId). Comparable p.0 p.1) (comparable_pair site.dag xs) [] d.1 in

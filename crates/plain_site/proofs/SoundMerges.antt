@@ -8,6 +8,7 @@ use Rattle.tardis_base.specs.declared.ids.StateId.{StateId}
 use Rattle.tardis_base.specs.declared.records.Record.{Record}
 use Rattle.tardis_base.specs.declared.requests.MergeOf.{MergeOf}
 use Rattle.tardis_base.specs.declared.requests.MergeOf.TheVariants.{Leaves, States as TheseStates}
+use Rattle.tardis_base.specs.declared.replies.Excess.TheVariants.{MergedStates}
 use Rattle.tardis_base.specs.declared.replies.Refusal.TheVariants.{TooMany, Unknown, Below, Comparable}
 use Rattle.tardis_base.specs.declared.replies.Reply.TheVariants.{Merging}
 use Rattle.tardis_base.specs.Ids.{root, is_among, is_before, are_ascending}
@@ -108,10 +109,10 @@ merge_at-keeps site n s xs has some sound =
     let unknown = refuse_found Unknown (find (λ x. not (is_known rs x)) xs) in
     let below = refuse_found (λ x. Below x s.ceiling) (find (λ x. not (is_admitted rs s.ceiling x)) xs) in
     let comparable = refuse_found (λ (pair : StateId × StateId). Comparable pair.0 pair.1) (comparable_pair rs xs) in
-    unless-keeps IsSound site sound (refuse (nat_lt 8 (length xs)) (TooMany 3 (length xs)) ∷ unknown ∷ below ∷ comparable ∷ [])
+    unless-keeps IsSound site sound (refuse (nat_lt 8 (length xs)) (TooMany MergedStates (length xs)) ∷ unknown ∷ below ∷ comparable ∷ [])
     (record site { txns = with_entry n t site.txns }, Merging states)
     (λ none.
-    let first = none-parts (refuse (nat_lt 8 (length xs)) (TooMany 3 (length xs))) (unknown ∷ below ∷ comparable ∷ []) none in
+    let first = none-parts (refuse (nat_lt 8 (length xs)) (TooMany MergedStates (length xs))) (unknown ∷ below ∷ comparable ∷ []) none in
     let second = none-parts unknown (below ∷ comparable ∷ []) first.1 in
     let third = none-parts below (comparable ∷ []) second.1 in
     let fourth = none-parts comparable [] third.1 in

@@ -6,7 +6,7 @@ use Rattle.std.proofs.lemmas.Bool.{and_parts, and_from, not-false, eqb-false, le
 use Rattle.tardis_base.specs.declared.ids.StateId.{StateId}
 use Rattle.tardis_base.specs.declared.records.Record.{Record}
 use Rattle.tardis_base.specs.declared.records.Write.{Write}
-use Rattle.tardis_base.specs.declared.replies.Refusal.TheVariants.{AlreadyOpen, SessionsFull, Unknown, Below, TooMany, ConflictKey}
+use Rattle.tardis_base.specs.declared.replies.Refusal.TheVariants.{AlreadyOpen, SessionsFull, Unknown, Below, ConflictKey}
 use Rattle.tardis_base.specs.declared.replies.Reply.TheVariants.{Opened, Begun, Done}
 use Rattle.tardis_base.specs.declared.requests.Begin.{Begin}
 use Rattle.tardis_base.specs.Ids.{root}
@@ -24,7 +24,7 @@ use Rattle.plain_dag.proofs.Order.{above-reflexive}
 use Rattle.plain_site.specs.Site.{Site, SingleTxn, Txn, Single, Merge, own_floor, writes_of}
 use Rattle.plain_site.specs.Answers.{refuse, shown, found}
 use Rattle.plain_site.specs.Sessions.{open_session, close_session, begin_at, begin}
-use Rattle.plain_site.specs.Reads.{having_read, having_written, read_at, read_in, get, set_key}
+use Rattle.plain_site.specs.Reads.{too_many_writes, too_many_reads, having_read, having_written, read_at, read_in, get, set_key}
 use Rattle.plain_site.specs.Commits.{abort}
 use Rattle.plain_site.specs.Sound.{is_txn, IsSoundTxn, is_sound_session, IsSound}
 use Rattle.plain_site.proofs.SoundEntries.{all-filtered, filter-shortens, with_entry-all, with_entry-ascends, with_entry-length, without_entry-ascends}
@@ -170,10 +170,10 @@ pub set-keeps : (site : Site) (n : ℕ) (t : Txn) (k : List ℕ) (w : Write) →
     IsSound site → IsSound (set_key site n t k w).0
 set-keeps site n t k w has key write sound =
     let full = length (writes_of t) == 64 && not (has_key k (writes_of t)) in
-    unless-keeps IsSound site sound (refuse full (TooMany 1 65) ∷ [])
+    unless-keeps IsSound site sound (refuse full too_many_writes ∷ [])
     (record site { txns = changed n (having_written k w) site.txns }, Done)
     (λ none.
-    let room = when-none full _ (none-parts (refuse full (TooMany 1 65)) [] none).0 in
+    let room = when-none full _ (none-parts (refuse full too_many_writes) [] none).0 in
     txns-keep site (changed n (having_written k w) site.txns) sound (changed-ascends n (having_written k w) site.txns sound.txn_numbers)
     (each-txn_changed site.dag site.sessions site.txns n sound.each_txn (having_written k w) t has
     (λ s old. written-sound site.dag s.ceiling k w t key write room old)))
@@ -202,10 +202,10 @@ read_at-keeps : (site : Site) (n : ℕ) (t : SingleTxn) (k : List ℕ) → entry
     IsSound site → IsSound (read_at site n t k).0
 read_at-keeps site n t k has key sound =
     let full = length t.reads == 256 && not (is_key_among k t.reads) in
-    unless-keeps IsSound site sound (refuse full (TooMany 2 257) ∷ [])
+    unless-keeps IsSound site sound (refuse full too_many_reads ∷ [])
     (record site { txns = changed n (having_read k) site.txns }, found (read site.dag k t.state))
     (λ none.
-    let room = when-none full _ (none-parts (refuse full (TooMany 2 257)) [] none).0 in
+    let room = when-none full _ (none-parts (refuse full too_many_reads) [] none).0 in
     txns-keep site (changed n (having_read k) site.txns) sound (changed-ascends n (having_read k) site.txns sound.txn_numbers)
     (each-txn_changed site.dag site.sessions site.txns n sound.each_txn (having_read k) (Single t) has
     (λ s old. read-sound site.dag s.ceiling k t key room old)))

@@ -108,7 +108,8 @@ IsSerial lines (r ∷ before) =
     ((c : DoneCommit) (t : Told) → HasCommitted lines c t → c.state ≡ r.id → IsTrue (is_ser c.flags) → ReadsShow (one_after_another before) t.reads)
     × IsSerial lines before
 
--- so each branch is a serial history of its serializable transactions
+-- So up to its first merge a branch is a serial history of its serializable transactions. (A branch of states with one parent
+-- each; below a merge the law above says what each of them has read.)
 abbrev pub BranchesAreSerial : Service → Type 0
 BranchesAreSerial service =
     (start : Site) (lines : List Line) (branch : List Record) (x : StateId) → IsRun service start lines → IsBranch (history start lines) branch x →

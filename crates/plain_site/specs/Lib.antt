@@ -10,6 +10,8 @@ pub mod FloorSteps
 pub mod Shows
 pub mod Exchange
 pub mod Step
+pub mod Rest
+pub mod RestSpellings
 pub mod Sound
 pub mod Laws
 pub mod CollectionLaws

@@ -3,9 +3,11 @@ use Rattle.std.specs.Prelude.{ℕ, nat_lt, List, [], ◌∷◌, length, take, fi
 use Rattle.tardis_base.specs.declared.ids.StateId.{StateId}
 use Rattle.tardis_base.specs.declared.requests.MergeOf.{MergeOf}
 use Rattle.tardis_base.specs.declared.requests.MergeOf.TheVariants.{Leaves, States as TheseStates}
+use Rattle.tardis_base.specs.declared.replies.Excess.TheVariants.{MergedStates}
 use Rattle.tardis_base.specs.declared.replies.Refusal.TheVariants.{TooMany, Unknown, Below, Comparable, WrongMode}
 use Rattle.tardis_base.specs.declared.replies.Reply.{Reply}
 use Rattle.tardis_base.specs.declared.replies.Reply.TheVariants.{Merging, States, Keys}
+use Rattle.tardis_base.specs.Sizes.{most_named, most_parents}
 use Rattle.tardis_base.specs.Ids.{is_before}
 use Rattle.tardis_base.specs.Keys.{is_key_before}
 use Rattle.plain_dag.specs.Above.{comparable_pair}
@@ -43,7 +45,7 @@ merging site n xs = (record site { txns = with_entry n (Merge (record { states =
 abbrev pub merge_at : Site → ℕ → StateId → List StateId → Answer
 merge_at site n ceiling xs =
     unless site
-    (refuse (nat_lt 8 (length xs)) (TooMany 3 (length xs))
+    (refuse (nat_lt most_parents (length xs)) (TooMany MergedStates (length xs))
     ∷ refuse_found Unknown (first_unknown site.dag xs)
     ∷ refuse_found (λ x. Below x ceiling) (first_below site.dag ceiling xs)
     ∷ refuse_found (λ pair. Comparable pair.0 pair.1) (comparable_pair site.dag xs)
@@ -53,13 +55,13 @@ merge_at site n ceiling xs =
 abbrev pub begin_merge : Site → ℕ → Session → MergeOf → Answer
 begin_merge site n s of = merge_at site n s.ceiling (states_to_merge site of)
 
--- how many there are, and the first 256 of them
+-- how many there are, and the first of them
 abbrev pub page_of_states : List StateId → Reply
-page_of_states xs = States (length xs) (take 256 xs)
+page_of_states xs = States (length xs) (take most_named xs)
 
--- how many there are, as far as 32 bits tell, and the first 256 of them
+-- how many there are, as far as 32 bits tell, and the first of them
 abbrev pub page_of_keys : List (List ℕ) → Reply
-page_of_keys ks = Keys (min (length ks) 4294967295) (take 256 ks)
+page_of_keys ks = Keys (min (length ks) 4294967295) (take most_named ks)
 
 abbrev pub fork_points_of : Site → Txn → Answer
 fork_points_of site (Single t) = refused site WrongMode

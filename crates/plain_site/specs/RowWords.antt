@@ -119,16 +119,6 @@ get_for key x = GetFor (codes key) x
 
 -- ===== Replies
 
--- what there may be too many of
-abbrev pub of_writes : ℕ
-of_writes = 1
-
-abbrev pub of_reads : ℕ
-of_reads = 2
-
-abbrev pub of_states : ℕ
-of_states = 3
-
 abbrev pub value : StateId → String → Reply
 value writer bytes = Value writer (codes bytes)
 

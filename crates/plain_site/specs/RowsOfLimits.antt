@@ -1,11 +1,11 @@
 -- Worked rows: limits of transactions and of the site.
 use Rattle.std.specs.Prelude.{ℕ, List, [], ◌∷◌, ◌++◌}
 use Rattle.tardis_base.specs.declared.requests.Request.TheVariants.{Get, Put, Abort}
-use Rattle.tardis_base.specs.declared.replies.Refusal.TheVariants.{TooMany, Full, SessionsFull, PathFull}
+use Rattle.tardis_base.specs.declared.replies.Refusal.TheVariants.{Full, SessionsFull, PathFull}
 use Rattle.tardis_base.specs.declared.replies.Reply.TheVariants.{Opened, Begun, Absent, Done, Committed, Refused}
+use Rattle.plain_site.specs.Reads.{too_many_writes, too_many_reads}
 use Rattle.plain_site.specs.Site.{Site, opening}
 use Rattle.plain_site.specs.RowWords.{Line, Talk, lone_site, program_limits, ◌·◌, ◌asks◌=>◌, opens, begin_any, begin_at, get, put, ser, commit, value}
-use Rattle.plain_site.specs.RowWords.{of_writes, of_reads}
 
 abbrev pub begun : List Line
 begun =
@@ -29,7 +29,7 @@ WritesAreLimited =
     Talk lone_site
     (begun
     ++ puts 64
-    ++ 1 asks Put (64 ∷ []) [] => Refused (TooMany of_writes 65)
+    ++ 1 asks Put (64 ∷ []) [] => Refused (too_many_writes)
     ∷ 1 asks Put (63 ∷ []) [] => Done
     ∷ [])
 
@@ -39,7 +39,7 @@ ReadsAreLimited =
     Talk lone_site
     (begun
     ++ gets 256
-    ++ 1 asks Get (1 ∷ 0 ∷ []) => Refused (TooMany of_reads 257)
+    ++ 1 asks Get (1 ∷ 0 ∷ []) => Refused (too_many_reads)
     ∷ 1 asks Get (255 ∷ []) => Absent
     ∷ [])
 

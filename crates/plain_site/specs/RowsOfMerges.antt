@@ -2,10 +2,11 @@
 use Rattle.std.specs.Prelude.{flat_map, List, [], ◌∷◌, ◌++◌, codes}
 use Rattle.std.specs.List.{range_with_len}
 use Rattle.tardis_base.specs.declared.requests.Request.TheVariants.{Show, Abort, ForkPoints}
+use Rattle.tardis_base.specs.declared.replies.Excess.TheVariants.{MergedStates}
 use Rattle.tardis_base.specs.declared.replies.Refusal.TheVariants.{OpenConflict, WrongMode, ConflictKey, NotRead, Comparable, Unknown, TooMany}
 use Rattle.tardis_base.specs.declared.replies.Reply.TheVariants.{Opened, Begun, Merging, Absent, Done, Committed, States, Shown, Refused}
 use Rattle.plain_site.specs.RowWords.{Line, Talk, lone_site, ◌·◌, ◌asks◌=>◌, opens, begin_any, get, put, none, ser, commit, merge_leaves, merge, conflicts}
-use Rattle.plain_site.specs.RowWords.{get_for, value, one_key, of_states}
+use Rattle.plain_site.specs.RowWords.{get_for, value, one_key}
 
 -- two branches: 1.1 and 1.2 both write x, and 1.2 writes y
 abbrev pub branched : List Line
@@ -83,5 +84,5 @@ NineLeavesAreTooMany =
     Talk lone_site
     (flat_map (λ n. n asks opens => Opened (0 · 0) ∷ n asks begin_any => Begun (0 · 0) ∷ []) nine
     ++ flat_map (λ n. n asks get "x" => Absent ∷ n asks put "x" "1" => Done ∷ n asks commit ser => Committed (1 · n) (0 · 0 ∷ []) ∷ []) nine
-    ++ 1 asks merge_leaves => Refused (TooMany of_states 9)
+    ++ 1 asks merge_leaves => Refused (TooMany MergedStates 9)
     ∷ [])

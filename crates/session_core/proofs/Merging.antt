@@ -7,6 +7,7 @@ use Rattle.tardis_base.specs.declared.ids.StateId.{StateId}
 use Rattle.tardis_base.specs.declared.ids.Slot.{Slot}
 use Rattle.tardis_base.specs.declared.records.Record.{Record}
 use Rattle.tardis_base.specs.Ids.{is_among}
+use Rattle.tardis_base.specs.declared.replies.Excess.TheVariants.{MergedStates}
 use Rattle.tardis_base.specs.declared.replies.Refusal.TheVariants.{TooMany, Unknown, Below, Comparable}
 use Rattle.tardis_base.specs.declared.replies.Reply.TheVariants.{Refused, Merging}
 use Rattle.plain_dag.specs.Above.{is_proper_ancestor, comparable_pair}
@@ -61,9 +62,9 @@ merges-at core site stands n ys states told slots es same copied named e = (
 -- ===== Refusals
 
 -- more than 8 states are too many
-pub too-many : (site : Site) (n : ℕ) (c : StateId) (xs : List StateId) → 8 < length xs → merge_at site n c xs ≡ refused site (TooMany 3 (length xs))
+pub too-many : (site : Site) (n : ℕ) (c : StateId) (xs : List StateId) → 8 < length xs → merge_at site n c xs ≡ refused site (TooMany MergedStates (length xs))
 too-many site n c xs l =
-    stop site (Refused (TooMany 3 (length xs)))
+    stop site (Refused (TooMany MergedStates (length xs)))
     (refuse_found Unknown (first_unknown site.dag xs) ∷ refuse_found (λ x. Below x c) (first_below site.dag c xs)
     ∷ refuse_found (λ pair. Comparable pair.0 pair.1) (comparable_pair site.dag xs) ∷ [])
     (merging site n (in_order xs)) (nat_lt 8 (length xs)) (lt-ltb 8 (length xs) l)
@@ -76,7 +77,7 @@ module _ (site : Site) (n : ℕ) (c : StateId) (xs : List StateId) (few : length
 
   is-judged : merge_at site n c xs ≡ judged (first_unknown site.dag xs) (first_below site.dag c xs) (comparable_pair site.dag xs)
   is-judged =
-      skip site (Refused (TooMany 3 (length xs)))
+      skip site (Refused (TooMany MergedStates (length xs)))
       (refuse_found Unknown (first_unknown site.dag xs) ∷ refuse_found (λ x. Below x c) (first_below site.dag c xs)
       ∷ refuse_found (λ pair. Comparable pair.0 pair.1) (comparable_pair site.dag xs) ∷ [])
       (merging site n (in_order xs)) (nat_lt 8 (length xs)) (not-more (length xs) few)

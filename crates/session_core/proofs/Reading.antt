@@ -5,7 +5,7 @@ use Rattle.tardis_base.specs.declared.ids.StateId.{StateId}
 use Rattle.tardis_base.specs.declared.records.Write.{Write}
 use Rattle.tardis_base.specs.declared.readings.Found.{Found as FoundAt}
 use Rattle.tardis_base.specs.declared.readings.Over.TheVariants.{Found, Conflict}
-use Rattle.tardis_base.specs.declared.replies.Refusal.TheVariants.{TooMany, ConflictKey}
+use Rattle.tardis_base.specs.declared.replies.Refusal.TheVariants.{ConflictKey}
 use Rattle.tardis_base.specs.declared.replies.Reply.{Reply}
 use Rattle.tardis_base.specs.declared.replies.Reply.TheVariants.{Refused}
 use Rattle.std.specs.Result.{IsErrAnd}
@@ -26,7 +26,7 @@ use Rattle.plain_site.specs.Site.{Site, SingleTxn, MergeTxn, Single, Merge, with
 use Rattle.plain_site.specs.Sound.{IsSound}
 use Rattle.tardis_base.specs.declared.ids.Slot.{Slot}
 use Rattle.plain_site.specs.Answers.{refused, given, found, shown}
-use Rattle.plain_site.specs.Reads.{get, read_in, having_read}
+use Rattle.plain_site.specs.Reads.{too_many_reads, get, read_in, having_read}
 use Rattle.session_core.specs.Core.{Core}
 use Rattle.session_core.specs.Stands.{CoreStands, txn_of}
 use Rattle.session_core.specs.Guards.{HasTxn}
@@ -75,12 +75,12 @@ module _ (table : Table) (site : Site) (n : ℕ) (k : List ℕ) where
 
       -- a read that is noted
       pub single-noted : has_no_place_to_read k t.reads ≡ false → reading site n k ≡ (with_txn_changed n (having_read k) site, found (read site.dag k t.state))
-      single-noted f = single-none ∙ skip site (Refused (TooMany 2 257)) [] (with_txn_changed n (having_read k) site, found (read site.dag k t.state))
+      single-noted f = single-none ∙ skip site (Refused too_many_reads) [] (with_txn_changed n (having_read k) site, found (read site.dag k t.state))
           (has_no_place_to_read k t.reads) f
 
       -- there would be too many keys
-      pub single-full : has_no_place_to_read k t.reads ≡ true → reading site n k ≡ refused site (TooMany 2 257)
-      single-full e = single-none ∙ stop site (Refused (TooMany 2 257)) [] (with_txn_changed n (having_read k) site, found (read site.dag k t.state))
+      pub single-full : has_no_place_to_read k t.reads ≡ true → reading site n k ≡ refused site too_many_reads
+      single-full e = single-none ∙ stop site (Refused too_many_reads) [] (with_txn_changed n (having_read k) site, found (read site.dag k t.state))
           (has_no_place_to_read k t.reads) e
 
   module _ (t : MergeKept) (has : HasTxn table site n (KeptMerge t)) where

@@ -10,6 +10,7 @@ use Rattle.tardis_base.specs.declared.records.Item.TheVariants.{State, Promise}
 use Rattle.std.proofs.lemmas.Bool.{cond_both}
 use Rattle.tardis_base.specs.declared.records.Write.{Write}
 use Rattle.tardis_base.specs.declared.records.Write.TheVariants.{Put as Value, Delete as Deletion}
+use Rattle.tardis_base.specs.declared.replies.Excess.TheVariants.{MergedStates}
 use Rattle.tardis_base.specs.declared.replies.Refusal.TheVariants.{AlreadyOpen, SessionsFull, TooMany, ConflictKey, Unknown, Below, Collected, SeqEnd}
 use Rattle.tardis_base.specs.declared.replies.Refusal.TheVariants.{WrongMode, OpenConflict, Branches, NotRead, Comparable, CeilingBack, FloorBack, Held}
 use Rattle.tardis_base.specs.declared.replies.Refusal.TheVariants.{BadSite}
@@ -34,7 +35,7 @@ use Rattle.plain_site.specs.Commits.{abort, commit, commit_below, commit_writes,
 use Rattle.plain_site.specs.Exchange.{judgements, take_record, with_held, consent_judgements, deliver, first_fit_record, with_settled, settle_record, settle}
 use Rattle.plain_site.specs.Exchange.{batch_for}
 use Rattle.plain_site.specs.Merges.{in_order, states_to_merge, merge_at, begin_merge, fork_points_of, conflicts_of}
-use Rattle.plain_site.specs.Reads.{get, get_for, set_key, read_in, having_read, having_written}
+use Rattle.plain_site.specs.Reads.{too_many_writes, too_many_reads, get, get_for, set_key, read_in, having_read, having_written}
 use Rattle.plain_site.specs.Sessions.{open_session, close_session, begin, begin_at, set_ceiling}
 use Rattle.plain_site.specs.FloorSteps.{raised, raise_to}
 use Rattle.plain_site.specs.Site.{Site, SingleTxn, Txn, Single, Merge, opening, own_floor, own_count, next_id, writes_of, with_txn_changed}
@@ -70,7 +71,7 @@ module _ (site : Site) (n : ℕ) where
 
   read-same : (t : Txn) (k : List ℕ) → P (read_in site n t k).0
   read-same (Single t) k =
-      unless-keeps P site old (refuse (length t.reads == 256 && not (is_key_among k t.reads)) (TooMany 2 257) ∷ [])
+      unless-keeps P site old (refuse (length t.reads == 256 && not (is_key_among k t.reads)) too_many_reads ∷ [])
       (with_txn_changed n (having_read k) site, found (read site.dag k t.state)) (λ none. (refl, refl))
   read-same (Merge t) k =
       unless-keeps P site old (refuse (is_conflict_key site.dag t.states k) (ConflictKey k) ∷ []) (site, found (value_over site.dag t.states k))
@@ -81,7 +82,7 @@ module _ (site : Site) (n : ℕ) where
 
   set-same : (t : Txn) (k : List ℕ) (w : Write) → P (set_key site n t k w).0
   set-same t k w =
-      unless-keeps P site old (refuse (length (writes_of t) == 64 && not (has_key k (writes_of t))) (TooMany 1 65) ∷ [])
+      unless-keeps P site old (refuse (length (writes_of t) == 64 && not (has_key k (writes_of t))) too_many_writes ∷ [])
       (with_txn_changed n (having_written k w) site, Done) (λ none. (refl, refl))
 
   below-same : (parents : List StateId) (writes : List KeyWrite) (refusals : List (Option Reply)) → P (commit_below site n parents writes refusals).0
@@ -106,7 +107,7 @@ module _ (site : Site) (n : ℕ) where
   merge-same : (ceiling : StateId) (xs : List StateId) → P (merge_at site n ceiling xs).0
   merge-same ceiling xs =
       unless-keeps P site old
-      (refuse (nat_lt 8 (length xs)) (TooMany 3 (length xs))
+      (refuse (nat_lt 8 (length xs)) (TooMany MergedStates (length xs))
       ∷ refuse_found Unknown (find (λ x. not (is_known site.dag x)) xs)
       ∷ refuse_found (λ x. Below x ceiling) (find (λ x. not (is_admitted site.dag ceiling x)) xs)
       ∷ refuse_found (λ pair. Comparable pair.0 pair.1) (comparable_pair site.dag xs)

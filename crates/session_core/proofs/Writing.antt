@@ -1,7 +1,6 @@
 -- A transaction writes.
 use Rattle.std.proofs.Common.{◌≡◌, ℕ, Bool, true, false, List, [], Some, Ok, Err, refl, sym, ap, subst, ◌∙◌}
 use Rattle.tardis_base.specs.declared.records.Write.{Write}
-use Rattle.tardis_base.specs.declared.replies.Refusal.TheVariants.{TooMany}
 use Rattle.tardis_base.specs.declared.replies.Reply.TheVariants.{Refused, Done}
 use Rattle.plain_dag.specs.Entries.{entry_of}
 use Rattle.state_dag.specs.Table.{Table}
@@ -12,7 +11,7 @@ use Rattle.merge_txn.specs.Txns.{writes_of, has_no_place_to_write, put_fault}
 use Rattle.plain_site.specs.Site.{Site, writes_of as plain_writes, with_txn_changed}
 use Rattle.plain_site.specs.Sound.{IsSound}
 use Rattle.plain_site.specs.Answers.{Answer, with_txn}
-use Rattle.plain_site.specs.Reads.{set_key, having_written}
+use Rattle.plain_site.specs.Reads.{too_many_writes, set_key, having_written}
 use Rattle.session_core.specs.Core.{Core}
 use Rattle.session_core.specs.Txns.{putting, IsNamed, PutAs, has_slots}
 use Rattle.session_core.specs.Stands.{CoreStands, txn_of}
@@ -51,7 +50,7 @@ module _ (core : Core) (site : Site) (stands : CoreStands core site) (sound : Is
   pub put-done : (u : Unit {0}) → PutAs core.txns es n k w (Some (Ok u)) → IsGiven (CoreStands (record core { txns = es })) setting Done
   put-done u (t, e, (full, e_is)) =
       as-given (CoreStands (record core { txns = es })) setting (with_txn_changed n (having_written k w) site, Done) Done
-      (is-set t e ∙ skip site (Refused (TooMany 1 65)) [] (with_txn_changed n (having_written k w) site, Done)
+      (is-set t e ∙ skip site (Refused too_many_writes) [] (with_txn_changed n (having_written k w) site, Done)
       (has_no_place_to_write k (plain_writes (txn_of t))) (room t false full))
       (txn-changed core site stands n (having_written k w) (putting k w) es e_is (put-txn k w) (put-names core.store.table k w), refl)
 
@@ -67,7 +66,7 @@ module _ (core : Core) (site : Site) (stands : CoreStands core site) (sound : Is
       go true f there =
           rw f (
             there,
-            is-set t e ∙ stop site (Refused (TooMany 1 65)) [] (with_txn_changed n (having_written k w) site, Done)
+            is-set t e ∙ stop site (Refused too_many_writes) [] (with_txn_changed n (having_written k w) site, Done)
                 (has_no_place_to_write k (plain_writes (txn_of t))) (room t true f),
           )
       go false f there = rw f there

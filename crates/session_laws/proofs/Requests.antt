@@ -7,6 +7,7 @@ use Rattle.tardis_base.specs.declared.requests.Begin.{Begin}
 use Rattle.tardis_base.specs.declared.requests.Begin.TheVariants.{Any, Ancestor, Parent, At}
 use Rattle.tardis_base.specs.declared.requests.MergeOf.{MergeOf}
 use Rattle.tardis_base.specs.declared.requests.MergeOf.TheVariants.{Leaves, States as TheseStates}
+use Rattle.tardis_base.specs.declared.replies.Excess.TheVariants.{MergedStates}
 use Rattle.tardis_base.specs.declared.replies.Refusal.TheVariants.{AlreadyOpen, SessionsFull, TooMany, ConflictKey, Unknown, Below, Comparable, NotRead}
 use Rattle.tardis_base.specs.declared.replies.Reply.{Reply}
 use Rattle.tardis_base.specs.declared.replies.Reply.TheVariants.{Opened, Begun, Merging, Done}
@@ -25,7 +26,7 @@ use Rattle.plain_dag.proofs.Ids.{among-first, among-later, all-at}
 use Rattle.plain_dag.proofs.Searches.{find-agrees}
 use Rattle.plain_site.specs.Answers.{Answer, refuse, refuse_found, given, shown, found}
 use Rattle.plain_site.specs.Merges.{in_order, merge_at, begin_merge}
-use Rattle.plain_site.specs.Reads.{having_read, having_written, read_in, get, set_key, get_for}
+use Rattle.plain_site.specs.Reads.{too_many_writes, too_many_reads, having_read, having_written, read_in, get, set_key, get_for}
 use Rattle.plain_site.specs.Sessions.{open_session, begin_at, begin}
 use Rattle.plain_site.specs.Site.{Site, Txn, Single, Merge, own_floor, writes_of, with_txn_changed}
 use Rattle.plain_site.proofs.SoundBooks.{open-session}
@@ -91,7 +92,7 @@ module _ (core : Core) (a b : Site) (on_a : SiteStands core a) (on_b : SiteStand
   -- a read finds the same
   read-in-alike : (t : Txn) → entry_of n a.txns ≡ Some t → (k : List ℕ) → ReplyAlike (read_in a n t k) (read_in b n t k)
   read-in-alike (Single t) d k =
-      let full = refuse (length t.reads == 256 && not (is_key_among k t.reads)) (TooMany 2 257) in
+      let full = refuse (length t.reads == 256 && not (is_key_among k t.reads)) too_many_reads in
       first-alike a b full full [] [] (with_txn_changed n (having_read k) a, found (read a.dag k t.state))
       (with_txn_changed n (having_read k) b, found (read b.dag k t.state)) refl
       (λ none. ap found (read-same core a b on_a on_b k t.state (one-kept core a b on_a on_b n t d)))
@@ -111,7 +112,7 @@ module _ (core : Core) (a b : Site) (on_a : SiteStands core a) (on_b : SiteStand
 
   pub set-alike : (t : Txn) (k : List ℕ) (w : Write) → ReplyAlike (set_key a n t k w) (set_key b n t k w)
   set-alike t k w =
-      let full = refuse (length (writes_of t) == 64 && not (has_key k (writes_of t))) (TooMany 1 65) in
+      let full = refuse (length (writes_of t) == 64 && not (has_key k (writes_of t))) too_many_writes in
       first-alike a b full full [] [] (with_txn_changed n (having_written k w) a, Done) (with_txn_changed n (having_written k w) b, Done) refl (λ none. refl)
 
   pub get-for-alike : (t : Txn) → entry_of n a.txns ≡ Some t → (k : List ℕ) (x : StateId) → ReplyAlike (get_for a t k x) (get_for b t k x)
@@ -144,7 +145,7 @@ module _ (core : Core) (a b : Site) (on_a : SiteStands core a) (on_b : SiteStand
         record site { txns = with_entry n (Merge (record { states = in_order xs; writes = [] })) site.txns },
         Merging (in_order xs),
       ) in
-      let many = refuse (nat_lt 8 (length xs)) (TooMany 3 (length xs)) in
+      let many = refuse (nat_lt 8 (length xs)) (TooMany MergedStates (length xs)) in
       let unknown : Site → Option Reply = λ site. refuse_found Unknown (find (λ x. not (is_known site.dag x)) xs) in
       let below : Site → Option Reply = λ site. refuse_found (λ x. Below x s.ceiling) (find (λ x. not (is_admitted site.dag s.ceiling x)) xs) in
       let comparable : Site → Option Reply = λ site. refuse_found (λ pair. Comparable pair.0 pair.1) (comparable_pair site.dag xs) in

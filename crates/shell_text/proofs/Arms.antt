@@ -1,12 +1,12 @@
 -- What is put for one code, and what is put behind a thing that was taken first.
 use Rattle.std.proofs.Common.{◌≡◌, ℕ, ◌≤◌, ap₂, ne_eqb, ◌||◌, Bool, true, false, List, Option, Some, None, ap, sym, ◌∙◌, refl}
 use Rattle.std.specs.Prelude.{option_and_then}
-use Rattle.wire_item.specs.Fronts.{Front, nothing_but, made, only_if, both, after, bytes_front, counted, front_of_code}
+use Rattle.wire_item.specs.Fronts.{Front, nothing_but, made, only_if, both, after, bytes_front, counted, front_of_code, by_code}
 use Rattle.wire_item.specs.Readings.{u8_front}
+use Rattle.wire_item.proofs.Codes.{are_codes, code-none, code-read}
 use Rattle.wire_item.proofs.Fronts.{made-read, only_if-read}
 use Rattle.wire_item.proofs.Takings.{after-then, after-then_none, made-none, after-none, only_if-none, only_if-fails}
-use Rattle.wire_talk.specs.Valid.{is_what, is_constraint}
-use Rattle.text_words.proofs.Bytes.{within-parts}
+use Rattle.wire_talk.specs.Valid.{is_constraint}
 use Rattle.text_words.specs.Puts.{Putting, putting, with_text, says, puts, TakesNext}
 use Rattle.text_words.proofs.Putting.{puts-made, puts-same}
 use Rattle.text_words.proofs.Sequences.{says-nothing, next-some, next-none}
@@ -29,13 +29,6 @@ arm-plain rows text k code b name e row same s =
 pub arm-lost : {B : Type 0} (front : Front B) (text : B → List ℕ) → ((left : List ℕ) → front left ≡ None) → (s : Putting) → None ≡ puts front text s
 arm-lost front text none None = refl
 arm-lost front text none (Some s) = sym (ap (option_and_then (λ read. with_text (text read.0) read.1 s.1)) (none s.0))
-
-pub other-what : (n : ℕ) → (1 ≤ n → n ≤ 3 → ⊥) → is_what n ≡ false
-other-what n other = go (is_what n) refl
-  where
-    go : (t : Bool) → is_what n ≡ t → is_what n ≡ false
-    go true e = let p = within-parts 1 3 n e in absurd (other p.0 p.1)
-    go false e = e
 
 pub other-constraint : (n : ℕ) → (n ≡ 4 → ⊥) → (n ≡ 8 → ⊥) → is_constraint n ≡ false
 other-constraint n p q = ap₂ (λ s t. s || t) (ne_eqb n 4 p) (ne_eqb n 8 q)
@@ -85,6 +78,34 @@ tested-then first test second text old a new line h passes =
     ap (λ o. puts second (λ b. text (a, b)) (putting o line)) n.to
     ∙ after-put (only_if test first) (λ _. second) text n.left line a n.rest (only_if-read test first n.left a n.rest n.reads passes)
     ∙ ap (λ o. puts (both (only_if test first) second) text (putting o line)) (sym n.from)
+
+-- behind a code whose row has nothing but a thing, the second thing is put
+pub coded-then : {A B : Type 0} (rows : List (ℕ × Front A)) (second : Front B) (text : A × B → List ℕ) (old : Option (List ℕ)) (code : ℕ) (a : A)
+    (new : Option (List ℕ)) (line : List ℕ)
+    → TakesNext u8_front old (Some code) new → front_of_code code rows ≡ nothing_but a → puts second (λ b. text (a, b)) (putting new line)
+    ≡ puts (both (by_code rows) second) text (putting old line)
+coded-then rows second text old code a new line h row =
+    let n = next-some u8_front old code new h in
+    ap (λ o. puts second (λ b. text (a, b)) (putting o line)) n.to
+    ∙ after-put (by_code rows) (λ _. second) text n.left line a n.rest (code-read rows n.left code n.rest n.reads ∙ ap (λ front. front n.rest) row)
+    ∙ ap (λ o. puts (both (by_code rows) second) text (putting o line)) (sym n.from)
+
+pub coded-then-lost : {A B : Type 0} (rows : List (ℕ × Front A)) (second : Front B) (text : A × B → List ℕ) → are_codes rows ≡ true →
+    (old new : Option (List ℕ)) (line : List ℕ)
+    → TakesNext u8_front old None new → putting new line ≡ puts (both (by_code rows) second) text (putting old line)
+coded-then-lost rows second text fit old new line h =
+    next-none u8_front (both (by_code rows) second) text (λ left e. after-none (by_code rows) (λ _. second) left (code-none rows left fit e)) old new line h
+
+-- no row has the code
+pub coded-then-refused : {A B : Type 0} (rows : List (ℕ × Front A)) (second : Front B) (text : A × B → List ℕ) (old : Option (List ℕ)) (code : ℕ)
+    (new : Option (List ℕ)) (line : List ℕ)
+    → TakesNext u8_front old (Some code) new → ((left : List ℕ) → front_of_code code rows left ≡ None)
+    → None ≡ puts (both (by_code rows) second) text (putting old line)
+coded-then-refused rows second text old code new line h none =
+    let n = next-some u8_front old code new h in
+    sym (ap (λ o. puts (both (by_code rows) second) text (putting o line)) n.from
+    ∙ ap (option_and_then (λ read. with_text (text read.0) read.1 line))
+    (after-none (by_code rows) (λ _. second) n.left (code-read rows n.left code n.rest n.reads ∙ none n.rest)))
 
 pub tested-then-lost : {A B : Type 0} (first : Front A) (test : A → Bool) (second : Front B) (text : A × B → List ℕ) (old new : Option (List ℕ)) (line : List ℕ)
     → TakesNext first old None new → putting new line ≡ puts (both (only_if test first) second) text (putting old line)

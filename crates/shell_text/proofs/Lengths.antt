@@ -16,6 +16,8 @@ use Rattle.tardis_base.specs.declared.requests.Request.TheVariants.{Open, Begin 
 use Rattle.tardis_base.specs.declared.requests.Request.TheVariants.{Conflicts, GetFor, Ceiling, Raise, RaiseAuto, Tidy, Stat, Show, Leaves, Pull, Deliver}
 use Rattle.tardis_base.specs.declared.requests.Request.TheVariants.{Close, Settle}
 use Rattle.tardis_base.specs.declared.replies.Refusal.{Refusal}
+use Rattle.tardis_base.specs.declared.replies.Excess.{Excess}
+use Rattle.tardis_base.specs.declared.replies.Excess.TheVariants.{WrittenKeys, ReadKeys, MergedStates}
 use Rattle.tardis_base.specs.declared.replies.Refusal.TheVariants.{Malformed, NotOpen, AlreadyOpen, SessionsFull, TxnOpen, NoTxn, WrongMode, TooMany, Unknown}
 use Rattle.tardis_base.specs.declared.replies.Refusal.TheVariants.{Below, Comparable, NotRead, ConflictKey, OpenConflict, Branches, CeilingBack, FloorBack}
 use Rattle.tardis_base.specs.declared.replies.Refusal.TheVariants.{Held, Collected, Full, PathFull, SeqEnd, BadSite, ClosedParent, OwnItem, TrailFull}
@@ -31,14 +33,14 @@ use Rattle.tardis_base.proofs.TestParts.{first, second}
 use Rattle.wire_item.specs.Spellings.{u16_spelling, u32_spelling, id_spelling, key_spelling, value_spelling, item_spelling, batch_spelling}
 use Rattle.wire_item.specs.Valid.{is_u8}
 use Rattle.wire_talk.specs.Spellings.{request_spelling, refusal_spelling, reply_spelling, site_line_spelling, pair_spelling}
-use Rattle.wire_talk.specs.Valid.{is_request, is_what, is_constraint, is_first_of, is_site_line, are_site_lines, are_children, is_pair, is_path, is_refusal}
+use Rattle.wire_talk.specs.Valid.{is_request, is_constraint, is_first_of, is_site_line, are_site_lines, are_children, is_pair, is_path, is_refusal}
 use Rattle.wire_talk.specs.Valid.{is_reply}
 use Rattle.text_words.specs.Words.{Word, number_word, id_word, hex_word, is_plain, byte_word}
 use Rattle.text_words.specs.Texts.{ended}
 use Rattle.text_words.proofs.Bytes.{within-parts}
 use Rattle.text_words.proofs.TextReads.{ended-cons, ended-map, ended-append}
 use Rattle.shell_text.specs.RequestLines.{name_if, names_word, flags_word, after_words, request_words, request_line}
-use Rattle.shell_text.specs.ReplyLines.{what_word, constraint_word, refusal_words, site_line_word, pair_word, counted_words, reply_words, reply_line}
+use Rattle.shell_text.specs.ReplyLines.{excess_word, constraint_word, refusal_words, site_line_word, pair_word, counted_words, reply_words, reply_line}
 use Rattle.shell_text.specs.Laws.{ReplyLinesFit, RequestLinesFit}
 use Rattle.shell_text.proofs.RequestsRead.{asked-text}
 use Rattle.shell_text.proofs.RepliesRead.{reply-line}
@@ -161,13 +163,10 @@ counted-length name word xs = cons-length name (number_word (length xs) ∷ map 
 
 -- ---- refusals
 
-what-length : (what : ℕ) → length (what_word what) ≤ 6
-what-length what = go (Rattle.std.proofs.Common.◌==◌ what 1) (Rattle.std.proofs.Common.◌==◌ what 2)
-  where
-    go : (one two : Bool) → length (if one then codes "writes" else if two then codes "reads" else codes "states") ≤ 6
-    go true two = omega arith
-    go false true = omega arith
-    go false false = omega arith
+excess-length : (what : Excess) → length (excess_word what) ≤ 6
+excess-length WrittenKeys = omega arith
+excess-length ReadKeys = omega arith
+excess-length MergedStates = omega arith
 
 constraint-length : (constraint : ℕ) → length (constraint_word constraint) ≤ 2
 constraint-length constraint = go (Rattle.std.proofs.Common.◌==◌ constraint 4)
@@ -233,8 +232,7 @@ short-refusal (Unsupported a) h = omega (arith, short-u8 a h)
 short-refusal (NoSuchItem a) h = omega (arith, short-u32 a h)
 short-refusal (BagFull a) h = omega (arith, short-u32 a h)
 short-refusal (TooMany what n) h =
-    let p = and_parts (is_what what) (is_u32 n) h in
-    omega (arith, length-append (what_word what ++ 32 ∷ []) (number_word n ++ 32 ∷ []), word-length (what_word what), what-length what, short-u32 n p.1)
+    omega (arith, length-append (excess_word what ++ 32 ∷ []) (number_word n ++ 32 ∷ []), word-length (excess_word what), excess-length what, short-u32 n h)
 short-refusal (Branches constraint state children) h =
     let p = and_parts (is_constraint constraint && is_id state) (is_u32 children) h in
     let q = and_parts (is_constraint constraint) (is_id state) p.0 in

@@ -1,5 +1,5 @@
 -- Lines of replies are read as they are written.
-use Rattle.std.proofs.Common.{◌≡◌, ℕ, zero, suc, ◌<◌, ◌≤◌, ◌^◌, Bool, true, false, ◌==◌, ◌&&◌, IsTrue, ◌⊎◌, inl, inr, List, [], ◌∷◌, ◌++◌, length, Some, ap}
+use Rattle.std.proofs.Common.{◌≡◌, ℕ, ◌<◌, ◌^◌, Bool, true, false, ◌==◌, ◌&&◌, IsTrue, ◌⊎◌, inl, inr, List, [], ◌∷◌, ◌++◌, length, Some, ap}
 use Rattle.std.proofs.Common.{ap₂, sym, ◌∙◌, subst, refl, arith, eqb-true, ltb-true, lt-ltb, append_assoc, codes}
 use Rattle.std.proofs.lemmas.Bool.{and_parts, and_from, or_cases}
 use Rattle.std.specs.Prelude.{map, flat_map}
@@ -7,6 +7,7 @@ use Rattle.std.specs.List.{list_all}
 use Rattle.tardis_base.specs.declared.ids.StateId.{StateId}
 use Rattle.tardis_base.specs.declared.replies.SiteLine.{SiteLine}
 use Rattle.tardis_base.specs.declared.replies.Refusal.{Refusal}
+use Rattle.tardis_base.specs.declared.replies.Excess.TheVariants.{WrittenKeys, ReadKeys, MergedStates}
 use Rattle.tardis_base.specs.declared.replies.Refusal.TheVariants.{Malformed, NotOpen, AlreadyOpen, SessionsFull, TxnOpen, NoTxn, WrongMode, TooMany, Unknown}
 use Rattle.tardis_base.specs.declared.replies.Refusal.TheVariants.{Below, Comparable, NotRead, ConflictKey, OpenConflict, Branches, CeilingBack, FloorBack}
 use Rattle.tardis_base.specs.declared.replies.Refusal.TheVariants.{Held, Collected, Full, PathFull, SeqEnd, BadSite, ClosedParent, OwnItem, TrailFull}
@@ -197,9 +198,6 @@ shown-text arrival children path =
 abbrev refusal_ended : Refusal → List ℕ
 refusal_ended refusal = ended (refusal_words refusal)
 
-no-more : (what : ℕ) → 4 ≤ what → IsTrue (is_within 1 3 what) → ⊥
-no-more what few h = let b = within-parts 1 3 what h in omega arith
-
 constraints : (constraint : ℕ) → IsTrue (is_constraint constraint) → (constraint ≡ 4) ⊎ (constraint ≡ 8)
 constraints constraint h =
     elim (or_cases (constraint == 4) (constraint == 8) h) [
@@ -226,11 +224,11 @@ reads-refusal = record { back = back; only = by_prefix-row is_refusal refusal_en
                 (
                   row-all-nothing_but is_refusal refusal_ended (codes "wrongmode ") WrongMode refl refl,
                   (
-                    row-all-made is_refusal refusal_ended (codes "toomany writes ") (λ n. TooMany 1 n) (all-reads reads-u32-word) (λ a h. h) (λ a. refl),
+                    row-all-made is_refusal refusal_ended (codes "toomany writes ") (λ n. TooMany WrittenKeys n) (all-reads reads-u32-word) (λ a h. h) (λ a. refl),
                     (
-                      row-all-made is_refusal refusal_ended (codes "toomany reads ") (λ n. TooMany 2 n) (all-reads reads-u32-word) (λ a h. h) (λ a. refl),
+                      row-all-made is_refusal refusal_ended (codes "toomany reads ") (λ n. TooMany ReadKeys n) (all-reads reads-u32-word) (λ a h. h) (λ a. refl),
                       (
-                        row-all-made is_refusal refusal_ended (codes "toomany states ") (λ n. TooMany 3 n) (all-reads reads-u32-word) (λ a h. h) (λ a. refl),
+                        row-all-made is_refusal refusal_ended (codes "toomany states ") (λ n. TooMany MergedStates n) (all-reads reads-u32-word) (λ a h. h) (λ a. refl),
                         (
                           row-all-made is_refusal refusal_ended (codes "unknown ") Unknown (all-reads reads-id-word) (λ a h. h) (λ a. refl),
                           (
@@ -354,12 +352,9 @@ reads-refusal = record { back = back; only = by_prefix-row is_refusal refusal_en
     back (Unsupported a) h = all-made-back (all-reads reads-u8-word) Unsupported a h
     back (NoSuchItem a) h = all-made-back (all-reads reads-u32-word) NoSuchItem a h
     back (BagFull a) h = all-made-back (all-reads reads-u32-word) BagFull a h
-    back (TooMany zero n) h = absurd (cc)
-    back (TooMany (suc zero) n) h = all-made-back (all-reads reads-u32-word) (λ n. TooMany 1 n) n h
-    back (TooMany (suc (suc zero)) n) h = all-made-back (all-reads reads-u32-word) (λ n. TooMany 2 n) n h
-    back (TooMany (suc (suc (suc zero))) n) h = all-made-back (all-reads reads-u32-word) (λ n. TooMany 3 n) n h
-    back (TooMany (suc (suc (suc (suc what)))) n) h =
-        absurd (no-more (suc (suc (suc (suc what)))) (omega arith) (first (is_within 1 3 (suc (suc (suc (suc what))))) (is_u32 n) h))
+    back (TooMany WrittenKeys n) h = all-made-back (all-reads reads-u32-word) (λ n. TooMany WrittenKeys n) n h
+    back (TooMany ReadKeys n) h = all-made-back (all-reads reads-u32-word) (λ n. TooMany ReadKeys n) n h
+    back (TooMany MergedStates n) h = all-made-back (all-reads reads-u32-word) (λ n. TooMany MergedStates n) n h
     back (Branches constraint state children) h =
         let parts = and_parts (is_constraint constraint && is_id state) (is_u32 children) h in
         let more = and_parts (is_constraint constraint) (is_id state) parts.0 in

@@ -2,6 +2,8 @@
 use Rattle.std.specs.Prelude.{ℕ, ◌==◌, List, [], ◌∷◌, ◌++◌, codes, length, map, if◌then◌else◌}
 use Rattle.tardis_base.specs.declared.ids.StateId.{StateId}
 use Rattle.tardis_base.specs.declared.replies.SiteLine.{SiteLine}
+use Rattle.tardis_base.specs.declared.replies.Excess.{Excess}
+use Rattle.tardis_base.specs.declared.replies.Excess.TheVariants.{WrittenKeys, ReadKeys, MergedStates}
 use Rattle.tardis_base.specs.declared.replies.Refusal.{Refusal}
 use Rattle.tardis_base.specs.declared.replies.Refusal.TheVariants.{Malformed, NotOpen, AlreadyOpen, SessionsFull, TxnOpen, NoTxn, WrongMode, TooMany, Unknown}
 use Rattle.tardis_base.specs.declared.replies.Refusal.TheVariants.{Below, Comparable, NotRead, ConflictKey, OpenConflict, Branches, CeilingBack, FloorBack}
@@ -13,9 +15,11 @@ use Rattle.tardis_base.specs.declared.replies.Reply.TheVariants.{Tidied, Stat as
 use Rattle.wire_item.specs.Spellings.{batch_spelling}
 use Rattle.text_words.specs.Words.{Word, line, number_word, id_word, hex_word, byte_word}
 
--- what there are too many of: 1 for writes, 2 for reads, 3 for states
-abbrev pub what_word : ℕ → Word
-what_word what = if what == 1 then codes "writes" else if what == 2 then codes "reads" else codes "states"
+-- what there would be too many of
+abbrev pub excess_word : Excess → Word
+excess_word WrittenKeys = codes "writes"
+excess_word ReadKeys = codes "reads"
+excess_word MergedStates = codes "states"
 
 -- the flag 4, for no branch, or 8, for so many branches
 abbrev pub constraint_word : ℕ → Word
@@ -29,7 +33,7 @@ refusal_words (SessionsFull n) = codes "sessionsfull" ∷ number_word n ∷ []
 refusal_words TxnOpen = codes "txnopen" ∷ []
 refusal_words NoTxn = codes "notxn" ∷ []
 refusal_words WrongMode = codes "wrongmode" ∷ []
-refusal_words (TooMany what n) = codes "toomany" ∷ what_word what ∷ number_word n ∷ []
+refusal_words (TooMany what n) = codes "toomany" ∷ excess_word what ∷ number_word n ∷ []
 refusal_words (Unknown state) = codes "unknown" ∷ id_word state ∷ []
 refusal_words (Below state ceiling) = codes "below" ∷ id_word state ∷ id_word ceiling ∷ []
 refusal_words (Comparable a b) = codes "comparable" ∷ id_word a ∷ id_word b ∷ []

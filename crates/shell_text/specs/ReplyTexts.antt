@@ -4,6 +4,7 @@ use Rattle.tardis_base.specs.declared.ids.StateId.{StateId}
 use Rattle.tardis_base.specs.declared.records.Batch.{Batch as BatchOf}
 use Rattle.tardis_base.specs.declared.replies.SiteLine.{SiteLine}
 use Rattle.tardis_base.specs.declared.replies.Refusal.{Refusal}
+use Rattle.tardis_base.specs.declared.replies.Excess.TheVariants.{WrittenKeys, ReadKeys, MergedStates}
 use Rattle.tardis_base.specs.declared.replies.Refusal.TheVariants.{Malformed, NotOpen, AlreadyOpen, SessionsFull, TxnOpen, NoTxn, WrongMode, TooMany, Unknown}
 use Rattle.tardis_base.specs.declared.replies.Refusal.TheVariants.{Below, Comparable, NotRead, ConflictKey, OpenConflict, Branches, CeilingBack, FloorBack}
 use Rattle.tardis_base.specs.declared.replies.Refusal.TheVariants.{Held, Collected, Full, PathFull, SeqEnd, BadSite, ClosedParent, OwnItem, TrailFull}
@@ -44,9 +45,9 @@ refusal_text_rows =
     (codes "txnopen ", nothing_but TxnOpen) ∷
     (codes "notxn ", nothing_but NoTxn) ∷
     (codes "wrongmode ", nothing_but WrongMode) ∷
-    (codes "toomany writes ", made (λ n. TooMany 1 n) u32_text) ∷
-    (codes "toomany reads ", made (λ n. TooMany 2 n) u32_text) ∷
-    (codes "toomany states ", made (λ n. TooMany 3 n) u32_text) ∷
+    (codes "toomany writes ", made (λ n. TooMany WrittenKeys n) u32_text) ∷
+    (codes "toomany reads ", made (λ n. TooMany ReadKeys n) u32_text) ∷
+    (codes "toomany states ", made (λ n. TooMany MergedStates n) u32_text) ∷
     (codes "unknown ", made Unknown id_text) ∷
     (codes "below ", made (λ p. Below p.0 p.1) (both id_text id_text)) ∷
     (codes "comparable ", made (λ p. Comparable p.0 p.1) (both id_text id_text)) ∷

@@ -2,6 +2,7 @@
 use Rattle.std.specs.Prelude.{◌≡◌, true, [], ◌∷◌, Some, None, codes}
 use Rattle.tardis_base.specs.declared.requests.MergeOf.TheVariants.{Leaves as AllLeaves}
 use Rattle.tardis_base.specs.declared.requests.Request.TheVariants.{Open, Put, Commit, BeginMerge, GetFor, RaiseAuto, Pull, Settle}
+use Rattle.tardis_base.specs.declared.replies.Excess.TheVariants.{ReadKeys}
 use Rattle.tardis_base.specs.declared.replies.Refusal.TheVariants.{TooMany}
 use Rattle.tardis_base.specs.declared.replies.Reply.TheVariants.{Committed, Stat as Statistics, Refused}
 use Rattle.shell_text.specs.RequestTexts.{asked_of}
@@ -67,4 +68,4 @@ StatisticsLineIsRead =
     ≡ Some (Statistics 1 1 1 0 (record { count = 0; floor = record { site = 0; sequence = 0 }; number = 0 } ∷ []))
 
 abbrev pub RefusedLineIsRead : Type 0
-RefusedLineIsRead = line_reply_of (codes "refused toomany reads 257") ≡ Some (Refused (TooMany 2 257))
+RefusedLineIsRead = line_reply_of (codes "refused toomany reads 257") ≡ Some (Refused (TooMany ReadKeys 257))

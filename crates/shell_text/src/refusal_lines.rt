@@ -1,13 +1,13 @@
 //! Writing refusals from the bytes that spell them.
 
 ghost use Rattle.std.specs.Prelude.{◌≡◌, ◌<◌, ◌≤◌, ◌∷◌, [], ◌++◌, codes};
-ghost use Rattle.shell_text.specs.ReplyLines.{constraint_word, refusal_words, what_word};
+ghost use Rattle.shell_text.specs.ReplyLines.{constraint_word, excess_word, refusal_words};
 ghost use Rattle.text_words.specs.Puts.{putting, puts, spaced};
 ghost use Rattle.text_words.specs.Words.{id_word, line, number_word};
 ghost use Rattle.wire_item.specs.Fronts.{both, front_of_code, only_if};
 ghost use Rattle.wire_item.specs.Readings.{id_front, u32_front, u8_front};
-ghost use Rattle.wire_talk.specs.ReplyReadings.{refusal_front, refusal_rows};
-ghost use Rattle.wire_talk.specs.Valid.{is_constraint, is_what};
+ghost use Rattle.wire_talk.specs.ReplyReadings.{excess_front, refusal_front, refusal_rows};
+ghost use Rattle.wire_talk.specs.Valid.{is_constraint};
 
 use crate::field_words::{
     put_id, put_id_and_u32, put_key, put_two_ids, put_u8, put_u16, put_u16_and_id, put_u16_and_u32,
@@ -85,17 +85,17 @@ fn put_high_refusal(code: u8, unread: &mut Unread, out: &mut LineBuf)
     }
 }
 
-/// What there are too many of, and how many.
+/// What there would be too many of, and how many.
 fn put_too_many(unread: &mut Unread, out: &mut LineBuf)
     ensures { putting unread.new out.new
-        ≡ puts (both (only_if is_what u8_front) u32_front) (λ p. (codes " toomany" ++ spaced (what_word p.0)) ++ spaced (number_word p.1))
+        ≡ puts (both excess_front u32_front) (λ p. (codes " toomany" ++ spaced (excess_word p.0)) ++ spaced (number_word p.1))
         (putting unread.old out.old) }
 {
-    let what = match unread.u8() {
-        Some(what) => what,
+    let code = match unread.u8() {
+        Some(code) => code,
         None => return,
     };
-    match what {
+    match code {
         1 => put_u32(b" toomany writes", unread, out),
         2 => put_u32(b" toomany reads", unread, out),
         3 => put_u32(b" toomany states", unread, out),

@@ -14,7 +14,7 @@ ghost use Rattle.wire_item.specs.Fronts.{both, made, whole};
 use crate::line_field_readers::key_alone;
 use crate::line_word_readers::alone;
 use std::alloc::Global;
-use tardis_base::{ReadFault, Refusal};
+use tardis_base::{Excess, ReadFault, Refusal};
 use text_words::Words;
 
 /// The refusal of which these are the words.
@@ -57,13 +57,13 @@ fn read_limit_refusal(alloc: Global, words: &Words) -> Result<Refusal, ReadFault
     ensures { IsRefusal (whole (by_prefix (drop 7 refusal_text_rows)) words.now) result }
 {
     if let Some(left) = words.behind(b"toomany writes ") {
-        return sure(too_many(1, &left));
+        return sure(too_many(Excess::WrittenKeys, &left));
     }
     if let Some(left) = words.behind(b"toomany reads ") {
-        return sure(too_many(2, &left));
+        return sure(too_many(Excess::ReadKeys, &left));
     }
     if let Some(left) = words.behind(b"toomany states ") {
-        return sure(too_many(3, &left));
+        return sure(too_many(Excess::MergedStates, &left));
     }
     read_state_refusal(alloc, words)
 }
@@ -211,7 +211,7 @@ fn sessions_full(words: &Words) -> Option<Refusal>
     alone(Refusal::SessionsFull { n }, &left)
 }
 
-fn too_many(what: u8, words: &Words) -> Option<Refusal>
+fn too_many(what: Excess, words: &Words) -> Option<Refusal>
     ensures { result ≡ whole (made (λ n. Refusal.TooMany what n) u32_text) words.now }
 {
     let (n, left) = words.u32(b' ')?;

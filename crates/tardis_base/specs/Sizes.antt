@@ -1,6 +1,6 @@
 -- How much one thing may hold.
 use Rattle.std.specs.Prelude.{ℕ}
-use Rattle.tardis_base.specs.declared.sizes.TheConstants.{MAX_KEY, MAX_VALUE, MAX_WRITES, MAX_PARENTS, MAX_FRAME, MAX_FRAMED, MAX_REQUEST, PIECE, MAX_NEWS, MAX_NAMED, MAX_SITES, MAX_KEPT, MAX_PATH, MAX_SESSIONS, MAX_TRAIL}
+use Rattle.tardis_base.specs.declared.sizes.TheConstants.{MAX_KEY, MAX_VALUE, MAX_WRITES, MAX_READS, MAX_PARENTS, MAX_FRAME, MAX_FRAMED, MAX_REQUEST, PIECE, MAX_NEWS, MAX_NAMED, MAX_SITES, MAX_KEPT, MAX_PATH, MAX_SESSIONS, MAX_TRAIL}
 
 -- the most bytes of a key
 abbrev pub longest_key : ℕ
@@ -13,6 +13,10 @@ longest_value = MAX_VALUE
 -- the most writes of a state
 abbrev pub most_writes : ℕ
 most_writes = MAX_WRITES
+
+-- the most keys whose reads a transaction notes
+abbrev pub most_reads : ℕ
+most_reads = MAX_READS
 
 -- the most parents of a state
 abbrev pub most_parents : ℕ

@@ -25,10 +25,10 @@ pub use lists::{
 pub use machines::{Machine, NO_MEMORY};
 pub use readings::{Found, Over};
 pub use records::{Batch, Consent, Item, Limits, Record, Write};
-pub use replies::{Refusal, Reply, SiteLine, SiteLines};
+pub use replies::{Excess, Refusal, Reply, SiteLine, SiteLines};
 pub use reply_bufs::ReplyBuf;
 pub use requests::{Begin, EndFlags, MergeOf, Request};
 pub use sizes::{
     MAX_FRAME, MAX_FRAMED, MAX_KEPT, MAX_KEY, MAX_NAMED, MAX_NEWS, MAX_PARENTS, MAX_PATH,
-    MAX_REQUEST, MAX_SESSIONS, MAX_SITES, MAX_TRAIL, MAX_VALUE, MAX_WRITES, PIECE,
+    MAX_READS, MAX_REQUEST, MAX_SESSIONS, MAX_SITES, MAX_TRAIL, MAX_VALUE, MAX_WRITES, PIECE,
 };

@@ -104,6 +104,17 @@ impl Eq for SiteLines {
     ghost laws = { lists_equiv (Prim.search (comparing, rules)) };
 }
 
+/// What a request would make more of than there may be.
+#[derive(Clone, Copy, Debug, PartialEq, Eq)]
+pub enum Excess {
+    /// Keys that a transaction writes: `MAX_WRITES`.
+    WrittenKeys,
+    /// Keys that a transaction reads: `MAX_READS`.
+    ReadKeys,
+    /// States that a merge reads: `MAX_PARENTS`.
+    MergedStates,
+}
+
 /// Why a request was refused.
 #[derive(Drop)]
 pub enum Refusal {
@@ -117,7 +128,7 @@ pub enum Refusal {
     NoTxn,
     WrongMode,
     TooMany {
-        what: u8,
+        what: Excess,
         n: u32,
     },
     Unknown {

@@ -9,6 +9,9 @@ pub const MAX_VALUE: usize = 4_096;
 /// The most writes of a state.
 pub const MAX_WRITES: usize = 64;
 
+/// The most keys whose reads a transaction notes.
+pub const MAX_READS: usize = 256;
+
 /// The most parents of a state. Only the root has none.
 pub const MAX_PARENTS: usize = 8;
 

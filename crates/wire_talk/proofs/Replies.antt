@@ -1,9 +1,11 @@
 -- Refusals and replies are read as they are spelled.
-use Rattle.std.proofs.Common.{◌≡◌, ℕ, ◌^◌, inl, inr, ◌==◌, ◌&&◌, IsTrue, List, ◌++◌, length, min, nat_le, Some, refl, arith, lt-ltb, eqb-true}
+use Rattle.std.proofs.Common.{◌≡◌, ℕ, Bool, true, ◌^◌, inl, inr, ◌==◌, ◌&&◌, IsTrue, List, ◌++◌, length, min, nat_le, Some, refl, arith, lt-ltb, eqb-true}
 use Rattle.std.proofs.lemmas.Bool.{and_parts, and_from, or_cases}
 use Rattle.std.specs.List.{list_all}
 use Rattle.tardis_base.specs.declared.ids.StateId.{StateId}
 use Rattle.tardis_base.specs.declared.replies.SiteLine.{SiteLine}
+use Rattle.tardis_base.specs.declared.replies.Excess.{Excess}
+use Rattle.tardis_base.specs.declared.replies.Excess.TheVariants.{WrittenKeys, ReadKeys, MergedStates}
 use Rattle.tardis_base.specs.declared.replies.Refusal.{Refusal}
 use Rattle.tardis_base.specs.declared.replies.Refusal.TheVariants.{Malformed, NotOpen, AlreadyOpen, SessionsFull, TxnOpen, NoTxn, WrongMode, TooMany, Unknown}
 use Rattle.tardis_base.specs.declared.replies.Refusal.TheVariants.{Below, Comparable, NotRead, ConflictKey, OpenConflict, Branches, CeilingBack, FloorBack}
@@ -23,18 +25,34 @@ use Rattle.wire_item.proofs.Ways.{made-back}
 use Rattle.wire_item.proofs.Numbers.{reads-u8, reads-u16, reads-u32, reads-u64}
 use Rattle.tardis_base.proofs.TestParts.{first, second}
 use Rattle.wire_item.proofs.Things.{fits, reads-id, reads-key, reads-value, reads-parents, reads-batch}
-use Rattle.wire_talk.specs.Spellings.{refusal_spelling, first_ids_spelling, first_keys_spelling, site_line_spelling, site_lines_spelling, children_spelling}
+use Rattle.wire_talk.specs.Spellings.{excess_spelling, refusal_spelling, first_ids_spelling, first_keys_spelling, site_line_spelling, site_lines_spelling, children_spelling}
 use Rattle.wire_talk.specs.Spellings.{path_spelling, reply_spelling}
-use Rattle.wire_talk.specs.Valid.{is_what, is_constraint, is_refusal, is_first_of, are_first_ids, are_first_keys, is_site_line, are_site_lines, are_children}
+use Rattle.wire_talk.specs.Valid.{is_constraint, is_refusal, is_first_of, are_first_ids, are_first_keys, is_site_line, are_site_lines, are_children}
 use Rattle.wire_talk.specs.Valid.{is_path, is_reply}
-use Rattle.wire_talk.specs.ReplyReadings.{refusal_rows, refusal_front, first_ids_front, first_keys_front, site_line_front, site_lines_front, children_front}
+use Rattle.wire_talk.specs.ReplyReadings.{excess_rows, excess_front, refusal_rows, refusal_front, first_ids_front, first_keys_front, site_line_front, site_lines_front, children_front}
 use Rattle.wire_talk.specs.ReplyReadings.{path_front, reply_rows, reply_front}
 
-what_fits : (what : ℕ) → IsTrue (is_what what) → IsTrue (is_u8 what)
-what_fits what h = fits what 3 256 (second (nat_le 1 what) (nat_le what 3) h) (omega arith)
+abbrev pub is_any : Excess → Bool
+is_any what = true
 
-pub reads-what : Reads is_what u8_spelling (only_if is_what u8_front)
-reads-what = reads-only_if is_what is_what (λ what h. (what_fits what h, h)) (λ what v t. t) reads-u8
+pub reads-excess : Reads is_any excess_spelling excess_front
+reads-excess = record { back = back; only = by_code-only is_any excess_spelling excess_rows rows; bytes = bytes }
+  where
+    rows : RowsRead is_any excess_spelling excess_rows
+    rows = (
+      row-nothing_but is_any excess_spelling 1 WrittenKeys refl refl,
+      (row-nothing_but is_any excess_spelling 2 ReadKeys refl refl, (row-nothing_but is_any excess_spelling 3 MergedStates refl refl, tt)),
+    )
+
+    back : (x : Excess) (rest : List ℕ) → IsTrue (is_any x) → excess_front (excess_spelling x ++ rest) ≡ Some (x, rest)
+    back WrittenKeys rest h = refl
+    back ReadKeys rest h = refl
+    back MergedStates rest h = refl
+
+    bytes : (x : Excess) → IsTrue (is_any x) → IsTrue (are_bytes (excess_spelling x))
+    bytes WrittenKeys h = refl
+    bytes ReadKeys h = refl
+    bytes MergedStates h = refl
 
 constraint_fits : (constraint : ℕ) → IsTrue (is_constraint constraint) → IsTrue (is_u8 constraint)
 constraint_fits constraint h =
@@ -65,7 +83,7 @@ reads-refusal = record { back = back; only = by_code-only is_refusal refusal_spe
                 (
                   row-nothing_but is_refusal refusal_spelling 7 WrongMode refl refl,
                   (
-                    row-made is_refusal refusal_spelling 8 (λ p. TooMany p.0 p.1) (reads-both reads-what reads-u32) (λ a h. h) (λ a. refl),
+                    row-made is_refusal refusal_spelling 8 (λ p. TooMany p.0 p.1) (reads-both reads-excess reads-u32) (λ a h. h) (λ a. refl),
                     (
                       row-made is_refusal refusal_spelling 9 Unknown reads-id (λ a h. h) (λ a. refl),
                       (
@@ -147,7 +165,7 @@ reads-refusal = record { back = back; only = by_code-only is_refusal refusal_spe
     back TxnOpen rest h = refl
     back NoTxn rest h = refl
     back WrongMode rest h = refl
-    back (TooMany what n) rest h = made-back (reads-both reads-what reads-u32) (λ p. TooMany p.0 p.1) (what, n) rest h
+    back (TooMany what n) rest h = made-back (reads-both reads-excess reads-u32) (λ p. TooMany p.0 p.1) (what, n) rest h
     back (Unknown state) rest h = made-back reads-id Unknown state rest h
     back (Below state ceiling) rest h = made-back (reads-both reads-id reads-id) (λ p. Below p.0 p.1) (state, ceiling) rest h
     back (Comparable a b) rest h = made-back (reads-both reads-id reads-id) (λ p. Comparable p.0 p.1) (a, b) rest h
@@ -179,7 +197,7 @@ reads-refusal = record { back = back; only = by_code-only is_refusal refusal_spe
     bytes TxnOpen h = refl
     bytes NoTxn h = refl
     bytes WrongMode h = refl
-    bytes (TooMany what n) h = (reads-both reads-what reads-u32).bytes (what, n) h
+    bytes (TooMany what n) h = (reads-both reads-excess reads-u32).bytes (what, n) h
     bytes (Unknown state) h = reads-id.bytes state h
     bytes (Below state ceiling) h = (reads-both reads-id reads-id).bytes (state, ceiling) h
     bytes (Comparable a b) h = (reads-both reads-id reads-id).bytes (a, b) h

@@ -2,6 +2,8 @@
 use Rattle.std.specs.Prelude.{ℕ, List, [], ◌∷◌, Option}
 use Rattle.tardis_base.specs.declared.ids.StateId.{StateId}
 use Rattle.tardis_base.specs.declared.replies.SiteLine.{SiteLine}
+use Rattle.tardis_base.specs.declared.replies.Excess.{Excess}
+use Rattle.tardis_base.specs.declared.replies.Excess.TheVariants.{WrittenKeys, ReadKeys, MergedStates}
 use Rattle.tardis_base.specs.declared.replies.Refusal.{Refusal}
 use Rattle.tardis_base.specs.declared.replies.Refusal.TheVariants.{Malformed, NotOpen, AlreadyOpen, SessionsFull, TxnOpen, NoTxn, WrongMode}
 use Rattle.tardis_base.specs.declared.replies.Refusal.TheVariants.{TooMany, Unknown, Below, Comparable, NotRead, ConflictKey, OpenConflict}
@@ -14,7 +16,13 @@ use Rattle.tardis_base.specs.declared.replies.Reply.TheVariants.{States, Keys, R
 use Rattle.tardis_base.specs.declared.replies.Reply.TheVariants.{Known, Early, Closed, Refused, NoMemory}
 use Rattle.wire_item.specs.Fronts.{Front, nothing_but, made, only_if, both, times, counted, by_code, whole}
 use Rattle.wire_item.specs.Readings.{u8_front, u16_front, u32_front, u64_front, id_front, key_front, value_front, parents_front, batch_front}
-use Rattle.wire_talk.specs.Valid.{is_what, is_constraint, are_first_ids, are_first_keys, are_site_lines}
+use Rattle.wire_talk.specs.Valid.{is_constraint, are_first_ids, are_first_keys, are_site_lines}
+
+abbrev pub excess_rows : List (ℕ × Front Excess)
+excess_rows = (1, nothing_but WrittenKeys) ∷ (2, nothing_but ReadKeys) ∷ (3, nothing_but MergedStates) ∷ []
+
+abbrev pub excess_front : Front Excess
+excess_front = by_code excess_rows
 
 -- each refusal's front beside its code
 abbrev pub refusal_rows : List (ℕ × Front Refusal)
@@ -26,7 +34,7 @@ refusal_rows =
     (5, nothing_but TxnOpen) ∷
     (6, nothing_but NoTxn) ∷
     (7, nothing_but WrongMode) ∷
-    (8, made (λ p. TooMany p.0 p.1) (both (only_if is_what u8_front) u32_front)) ∷
+    (8, made (λ p. TooMany p.0 p.1) (both excess_front u32_front)) ∷
     (9, made Unknown id_front) ∷
     (10, made (λ p. Below p.0 p.1) (both id_front id_front)) ∷
     (11, made (λ p. Comparable p.0 p.1) (both id_front id_front)) ∷

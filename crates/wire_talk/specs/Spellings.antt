@@ -10,6 +10,8 @@ use Rattle.tardis_base.specs.declared.requests.Request.TheVariants.{Open, Begin 
 use Rattle.tardis_base.specs.declared.requests.Request.TheVariants.{ForkPoints, Conflicts, GetFor, Ceiling, Raise, RaiseAuto, Tidy, Stat}
 use Rattle.tardis_base.specs.declared.requests.Request.TheVariants.{Show, Leaves, Pull, Deliver, Close, Settle}
 use Rattle.tardis_base.specs.declared.replies.SiteLine.{SiteLine}
+use Rattle.tardis_base.specs.declared.replies.Excess.{Excess}
+use Rattle.tardis_base.specs.declared.replies.Excess.TheVariants.{WrittenKeys, ReadKeys, MergedStates}
 use Rattle.tardis_base.specs.declared.replies.Refusal.{Refusal}
 use Rattle.tardis_base.specs.declared.replies.Refusal.TheVariants.{Malformed, NotOpen, AlreadyOpen, SessionsFull, TxnOpen, NoTxn, WrongMode}
 use Rattle.tardis_base.specs.declared.replies.Refusal.TheVariants.{TooMany, Unknown, Below, Comparable, NotRead, ConflictKey, OpenConflict}
@@ -71,6 +73,15 @@ request_spelling (Deliver item) = 20 ∷ item_spelling item
 request_spelling Close = 21 ∷ []
 request_spelling Settle = 22 ∷ []
 
+-- what there would be too many of
+abbrev pub excess_code : Excess → ℕ
+excess_code WrittenKeys = 1
+excess_code ReadKeys = 2
+excess_code MergedStates = 3
+
+abbrev pub excess_spelling : Excess → List ℕ
+excess_spelling what = u8_spelling (excess_code what)
+
 abbrev pub refusal_spelling : Refusal → List ℕ
 refusal_spelling Malformed = 1 ∷ []
 refusal_spelling NotOpen = 2 ∷ []
@@ -79,7 +90,7 @@ refusal_spelling (SessionsFull n) = 4 ∷ u16_spelling n
 refusal_spelling TxnOpen = 5 ∷ []
 refusal_spelling NoTxn = 6 ∷ []
 refusal_spelling WrongMode = 7 ∷ []
-refusal_spelling (TooMany what n) = 8 ∷ (u8_spelling what ++ u32_spelling n)
+refusal_spelling (TooMany what n) = 8 ∷ (excess_spelling what ++ u32_spelling n)
 refusal_spelling (Unknown state) = 9 ∷ id_spelling state
 refusal_spelling (Below state ceiling) = 10 ∷ (id_spelling state ++ id_spelling ceiling)
 refusal_spelling (Comparable a b) = 11 ∷ (id_spelling a ++ id_spelling b)

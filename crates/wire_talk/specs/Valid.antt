@@ -75,10 +75,6 @@ is_request (Deliver item) = is_item item
 is_request Close = true
 is_request Settle = true
 
--- 1 for writes, 2 for reads, 3 for states
-abbrev pub is_what : ℕ → Bool
-is_what what = is_within 1 3 what
-
 -- the flag 4, for no branch, or 8, for so many branches
 abbrev pub is_constraint : ℕ → Bool
 is_constraint constraint = constraint == 4 || constraint == 8
@@ -91,7 +87,7 @@ is_refusal (SessionsFull n) = is_u16 n
 is_refusal TxnOpen = true
 is_refusal NoTxn = true
 is_refusal WrongMode = true
-is_refusal (TooMany what n) = is_what what && is_u32 n
+is_refusal (TooMany what n) = is_u32 n
 is_refusal (Unknown state) = is_id state
 is_refusal (Below state ceiling) = is_id state && is_id ceiling
 is_refusal (Comparable a b) = is_id a && is_id b

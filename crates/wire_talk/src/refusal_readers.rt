@@ -2,16 +2,17 @@
 
 ghost use Rattle.std.specs.Prelude.{◌≡◌, ◌⊎◌, ℕ, List, Some, Ok, Err, IfOk, IsTrue, option_map};
 ghost use Rattle.tardis_base.specs.declared.faults.NoMemory.{NoMemory};
+ghost use Rattle.tardis_base.specs.declared.replies.Excess.{Excess};
 ghost use Rattle.tardis_base.specs.declared.replies.Refusal.{Refusal};
 ghost use Rattle.wire_item.specs.Fronts.{both, front_of_code, only_if};
 ghost use Rattle.wire_item.specs.Readings.{id_front, key_front, u32_front, u8_front};
 ghost use Rattle.wire_item.specs.Takings.{Makes, Takes};
 ghost use Rattle.wire_talk.specs.Memory.{refusal_takes_no_memory};
-ghost use Rattle.wire_talk.specs.ReplyReadings.{refusal_front, refusal_rows};
-ghost use Rattle.wire_talk.specs.Valid.{is_constraint, is_what};
+ghost use Rattle.wire_talk.specs.ReplyReadings.{excess_front, refusal_front, refusal_rows};
+ghost use Rattle.wire_talk.specs.Valid.{is_constraint};
 
 use std::alloc::Global;
-use tardis_base::{Key, NoMemory, Refusal, StateId, Value};
+use tardis_base::{Excess, Key, NoMemory, Refusal, StateId, Value};
 use wire_item::Reader;
 
 /// A refusal. The reader goes on behind it where memory is wanting for it.
@@ -122,7 +123,7 @@ fn read_with_two_ids(reader: &mut Reader<'_>, code: u8) -> Option<Refusal>
 fn read_too_many(reader: &mut Reader<'_>) -> Option<Refusal>
     ensures { Takes (front_of_code 8 refusal_rows) reader.old result reader.new }
 {
-    let what = what(reader)?;
+    let what = excess(reader)?;
     let n = reader.u32()?;
     Some(Refusal::TooMany { what, n })
 }
@@ -194,12 +195,17 @@ pub(crate) fn id_and_u32(reader: &mut Reader<'_>) -> Option<(StateId, u32)>
     Some((id, number))
 }
 
-/// What there was too much of.
-fn what(reader: &mut Reader<'_>) -> Option<u8>
-    ensures { Takes (only_if is_what u8_front) reader.old result reader.new }
+/// What there would be too many of.
+fn excess(reader: &mut Reader<'_>) -> Option<Excess>
+    ensures { Takes excess_front reader.old result reader.new }
 {
-    let what = reader.u8()?;
-    if is_what(what) { Some(what) } else { None }
+    let code = reader.u8()?;
+    match code {
+        1 => Some(Excess::WrittenKeys),
+        2 => Some(Excess::ReadKeys),
+        3 => Some(Excess::MergedStates),
+        _ => None,
+    }
 }
 
 /// The flag of a commit's constraint.
@@ -212,12 +218,6 @@ fn constraint(reader: &mut Reader<'_>) -> Option<u8>
     } else {
         None
     }
-}
-
-fn is_what(what: u8) -> bool
-    ensures { result ≡ is_what what }
-{
-    (1..=3).contains(&what)
 }
 
 fn is_constraint(constraint: u8) -> bool

@@ -3,22 +3,33 @@
 ghost use Rattle.std.specs.Prelude.{◌≡◌, ◌+◌, ◌≤◌, [], ◌∷◌, ◌++◌, length, IsTrue};
 ghost use Rattle.tardis_base.specs.Sizes.{longest_frame};
 ghost use Rattle.wire_item.specs.Spellings.{id_spelling, u16_spelling, u32_spelling, u64_spelling};
-ghost use Rattle.wire_talk.specs.Spellings.{refusal_spelling};
+ghost use Rattle.wire_talk.specs.Spellings.{excess_code, excess_spelling, refusal_spelling};
 ghost use Rattle.wire_talk.specs.Valid.{is_refusal};
 
 use crate::field_writers::{
     write_code_with_id, write_code_with_id_and_u32, write_code_with_key, write_code_with_two_ids,
     write_code_with_u16, write_code_with_u32,
 };
-use tardis_base::{Refusal, ReplyBuf, StateId};
+use tardis_base::{Excess, Refusal, ReplyBuf, StateId};
 use wire_item::{write_id, write_u32, write_u64};
 
-fn write_too_many(what: u8, n: u32, out: &mut ReplyBuf)
+/// The code of what there would be too many of.
+fn excess_code(what: Excess) -> u8
+    ensures { result ≡ excess_code what }
+{
+    match what {
+        Excess::WrittenKeys => 1,
+        Excess::ReadKeys => 2,
+        Excess::MergedStates => 3,
+    }
+}
+
+fn write_too_many(what: Excess, n: u32, out: &mut ReplyBuf)
     requires { length out.old + 6 ≤ longest_frame }
-    ensures { out.new ≡ out.old ++ 8 ∷ what ∷ u32_spelling n }
+    ensures { out.new ≡ out.old ++ 8 ∷ (excess_spelling what ++ u32_spelling n) }
 {
     out.push_byte(8);
-    write_code_with_u32(what, n, out);
+    write_code_with_u32(excess_code(what), n, out);
 }
 
 fn write_branches(constraint: u8, state: StateId, children: u32, out: &mut ReplyBuf)

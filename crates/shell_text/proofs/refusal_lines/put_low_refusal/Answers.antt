@@ -1,13 +1,12 @@
 use Rattle.std.proofs.Common.{◌≡◌, ◌++◌, ◌∙◌, ap, arith, refl, codes}
 use Rattle.tardis_base.specs.declared.replies.Refusal.TheVariants.{Malformed, NotOpen, AlreadyOpen, SessionsFull, TxnOpen, NoTxn, WrongMode, TooMany, Unknown}
 use Rattle.tardis_base.specs.declared.replies.Refusal.TheVariants.{Below, Comparable, NotRead, ConflictKey, OpenConflict}
-use Rattle.wire_item.specs.Fronts.{both, front_of_code, only_if}
-use Rattle.wire_item.specs.Readings.{u8_front, u16_front, u32_front, id_front, key_front}
-use Rattle.wire_talk.specs.ReplyReadings.{refusal_rows}
-use Rattle.wire_talk.specs.Valid.{is_what}
+use Rattle.wire_item.specs.Fronts.{both, front_of_code}
+use Rattle.wire_item.specs.Readings.{u16_front, u32_front, id_front, key_front}
+use Rattle.wire_talk.specs.ReplyReadings.{excess_front, refusal_rows}
 use Rattle.text_words.specs.Words.{line, number_word, id_word, byte_word}
 use Rattle.text_words.specs.Puts.{putting, spaced}
-use Rattle.shell_text.specs.ReplyLines.{what_word, refusal_words}
+use Rattle.shell_text.specs.ReplyLines.{excess_word, refusal_words}
 use Rattle.shell_text.proofs.Arms.{arm, arm-plain, arm-lost}
 use Rattle.shell_text.proofs.refusal_lines.put_low_refusal.Goals as goal
 
@@ -49,7 +48,7 @@ returns-in-7 c =
 pub returns-in-8 : goal.returns-in-8
 returns-in-8 c =
     c.put_too_many.ensures ∙ arm refusal_rows (λ r. spaced (line (refusal_words r))) 8 c.args.code (λ p. TooMany p.0 p.1)
-    (both (only_if is_what u8_front) u32_front) (λ p. (codes " toomany" ++ spaced (what_word p.0)) ++ spaced (number_word p.1)) c.in-8.is refl
+    (both excess_front u32_front) (λ p. (codes " toomany" ++ spaced (excess_word p.0)) ++ spaced (number_word p.1)) c.in-8.is refl
     (λ p. refl) (putting c.args.unread.now c.args.out.now)
 
 pub returns-in-9 : goal.returns-in-9

@@ -1,0 +1,286 @@
+"""`python -m tardis COMMAND ADDRESS ..`: looks into a running site, and changes what a person wants changed."""
+
+import argparse
+import contextlib
+import json
+import os
+import sys
+from typing import Any, Callable, Dict, Iterator, List, Optional
+
+from . import __version__
+from .blocking import Site, Transaction, connect
+from .histories import State
+from .ids import StateId
+from .merging import Merged
+from .pictures import as_dot, as_json, as_svg, as_text, json_bytes, word, wrote
+from .refusals import NoMemory, ProtocolError, Refused, Unresolved
+from .replies import Deleted, Value
+from .resolvers import Base, Resolve, Sides, Unknown, by_prefix, counter, last_writer, three_way_text, union_of, union_of_lines
+
+#: how long a reply is waited for, in seconds
+PATIENCE = 30.0
+
+Words = argparse.Namespace
+
+
+class Told(Exception):
+    """What ends the command with status 1, told on standard error."""
+
+
+# what is printed
+
+def say(words: Words, lines: List[str], data: Any) -> None:
+    """Prints the lines, or with --json the data."""
+    if words.json:
+        print(json.dumps(data, ensure_ascii=False))
+    else:
+        for line in lines:
+            print(line)
+
+
+def graph(site: Site, words: Words) -> None:
+    history = site.history()
+    if words.svg:
+        write_file(words.svg, as_svg(history))
+    if words.dot:
+        write_file(words.dot, as_dot(history))
+    if words.json:
+        print(json.dumps(as_json(history), ensure_ascii=False))
+    elif not (words.svg or words.dot):
+        encoding = (sys.stdout.encoding or "").lower().replace("-", "")
+        sys.stdout.write(as_text(history, words.plain or encoding != "utf8", words.most))
+
+
+def write_file(path: str, text: str) -> None:
+    with open(path, "w", encoding="utf-8") as file:
+        file.write(text)
+
+
+def stat(site: Site, words: Words) -> None:
+    told = site.stat()
+    lines = [f"known {told.known}, kept {told.kept}, leaves {told.leaves}, open sessions {told.sessions}"]
+    lines += [f"site {site}: {line.count} states, floor {line.floor} (raised {line.number} times)" for site, line in enumerate(told.sites, 1)]
+    say(words, lines, {
+        "known": told.known, "kept": told.kept, "leaves": told.leaves, "sessions": told.sessions,
+        "sites": [{"site": number, "states": line.count, "floor": str(line.floor), "raised": line.number}
+                  for number, line in enumerate(told.sites, 1)]})
+
+
+def leaves(site: Site, words: Words) -> None:
+    told = site.leaves()
+    more = [f".. and {told.total - len(told.first)} more"] if told.total > len(told.first) else []
+    say(words, [str(leaf) for leaf in told.first] + more, {"total": told.total, "first": [str(leaf) for leaf in told.first]})
+
+
+def show(site: Site, words: Words) -> None:
+    id = StateId.parse(words.state)
+    shown = site.show(id)
+    history = site.history()
+    state = history[id] if id in history else State(id, (), None)
+    lines = [f"state {id}, which came after {shown.arrival} others", "parents: " + (", ".join(map(str, state.parents)) or "none"),
+             "children: " + (", ".join(map(str, shown.children)) or "none, it is a leaf")]
+    if state.writes is None:
+        lines.append("what it wrote isn't told any more")
+    lines += [f"{word(write.key)} = {word(write.value)}" if write.value is not None else f"{word(write.key)} deleted" for write in state.writes or ()]
+    say(words, lines, {
+        "id": str(id), "arrival": shown.arrival, "parents": [str(parent) for parent in state.parents],
+        "children": [str(child) for child in shown.children], "path": [[str(fork), branch] for fork, branch in shown.path],
+        "writes": None if state.writes is None else [{"key": json_bytes(write.key), "value": json_bytes(write.value)} for write in state.writes]})
+
+
+def get(site: Site, words: Words) -> None:
+    site.open()
+    begun = site.begin(words.at or "any")
+    read = site.get(words.key)
+    site.abort()
+    writer = read.writer if isinstance(read, (Value, Deleted)) else None
+    value = read.value if isinstance(read, Value) else None
+    if words.json:
+        print(json.dumps({"at": str(begun), "key": words.key, "value": json_bytes(value), "writer": None if writer is None else str(writer)},
+                         ensure_ascii=False))
+    elif value is not None:
+        sys.stdout.buffer.write(value + (b"" if value.endswith(b"\n") else b"\n"))
+    else:
+        raise Told(f"{words.key} has no value at {begun}" + (f": {writer} deleted it" if writer is not None else ""))
+
+
+def put(site: Site, words: Words) -> None:
+    key, value = words.key, words.value
+
+    def write(txn: Transaction) -> None:
+        txn.put(key, value)
+
+    change(site, words, write)
+
+
+def delete(site: Site, words: Words) -> None:
+    key = words.key
+
+    def write(txn: Transaction) -> None:
+        txn.delete(key)
+
+    change(site, words, write)
+
+
+def change(site: Site, words: Words, write: Callable[[Transaction], None]) -> None:
+    site.open()
+    with site.transaction(at=words.at or "any") as txn:
+        write(txn)
+    beside = ", ".join(map(str, txn.beside))
+    lines = [f"committed {txn.committed} below {', '.join(map(str, txn.parents))}"]
+    lines += [f"a fork: {beside} stands beside it" if len(txn.beside) == 1 else f"a fork: {beside} stand beside it"] if txn.forked else []
+    say(words, lines, {"committed": str(txn.committed), "parents": [str(parent) for parent in txn.parents], "forked": txn.forked,
+                       "beside": [str(leaf) for leaf in txn.beside]})
+
+
+def keys(site: Site, words: Words) -> None:
+    at = StateId.parse(words.at) if words.at else newest(site)
+    told = site.items(at, words.prefix)
+    lines = [f"{word(key)} = {word(value)}" for key, value in told.items]
+    if not told.is_complete and not words.json:
+        print(f"{at}: states were collected, and keys that were last written there may be missing", file=sys.stderr)
+    say(words, lines, {"at": str(at), "complete": told.is_complete,
+                       "items": [{"key": json_bytes(key), "value": json_bytes(value)} for key, value in told.items]})
+
+
+def newest(site: Site) -> StateId:
+    """The state that arrived last."""
+    site.open()
+    begun = site.begin("any")
+    site.close()
+    return begun
+
+
+RULES: Dict[str, Resolve] = {
+    "last": last_writer, "count": counter, "set": union_of(","), "lines": union_of_lines, "text": three_way_text,
+}
+
+
+def refuse(key: bytes, base: Base, sides: Sides) -> Optional[bytes]:
+    raise Unresolved(key, "its rule is `refuse`, or no rule speaks of it; give --rules PREFIX=RULE,..")
+
+
+def ask_person(key: bytes, base: Base, sides: Sides) -> Optional[bytes]:
+    """Shows the sides, and lets the person choose one, or write another value."""
+    print(f"\n{word(key)}, where they parted: " + ("not known" if isinstance(base, Unknown) else "no value" if base is None else word(base)))
+    choices = list(sides.items())
+    for place, (side, value) in enumerate(choices, 1):
+        print(f"  {place}: {'no value' if value is None else word(value)}   (at {side})")
+    while True:
+        said = input("a number, =VALUE, or - to delete it: ")
+        if said == "-":
+            return None
+        if said.startswith("="):
+            return said[1:].encode()
+        if said.isdigit() and 1 <= int(said) <= len(choices):
+            return choices[int(said) - 1][1]
+
+
+def rules(text: Optional[str]) -> Resolve:
+    if text is None:
+        return ask_person if sys.stdin.isatty() else refuse
+    chosen: Dict[Any, Resolve] = {b"": refuse}
+    for part in text.split(","):
+        prefix, equals, rule = part.rpartition("=")
+        if not equals or rule not in (*RULES, "refuse"):
+            raise Told(f"a rule is PREFIX={'|'.join([*RULES, 'refuse'])}, and not {part!r}")
+        chosen[prefix.encode()] = RULES.get(rule, refuse)
+    return by_prefix(chosen)
+
+
+def merge(site: Site, words: Words) -> None:
+    site.open(follow=True)
+    merged: Optional[Merged] = site.merge(rules(words.rules), words.states or None)
+    if merged is None:
+        say(words, ["one leaf alone, so there is nothing to merge"], None)
+        return
+    lines = [f"{step.id} joins {', '.join(map(str, step.parents))}" + (f": {', '.join(map(word, step.keys))}" if step.keys else "")
+             for step in merged.steps]
+    say(words, lines, {"id": str(merged.id), "steps": [
+        {"id": str(step.id), "parents": [str(parent) for parent in step.parents], "keys": [json_bytes(key) for key in step.keys]}
+        for step in merged.steps]})
+
+
+def watch(site: Site, words: Words) -> None:
+    for state in site.watch(words.every):
+        parents = ", ".join(map(str, state.parents))
+        say(words, [f"{state.id}" + (f" below {parents}" if parents else "") + f"  {wrote(state)}".rstrip()], {
+            "id": str(state.id), "parents": [str(parent) for parent in state.parents],
+            "writes": None if state.writes is None else [
+                {"key": json_bytes(write.key), "value": json_bytes(write.value)} for write in state.writes]})
+        sys.stdout.flush()
+
+
+def web(site: Site, words: Words) -> None:
+    from .web import serve
+    serve(words.address, words.port)
+
+
+# the words
+
+def parser() -> argparse.ArgumentParser:
+    top = argparse.ArgumentParser(prog="python -m tardis", description="Looks into a running site, and changes it. An ADDRESS is unix:PATH or HOST:PORT.")
+    top.add_argument("--version", action="version", version=f"kumovasil {__version__}")
+    commands = top.add_subparsers(dest="command", metavar="COMMAND", required=True)
+
+    def command(name: str, run: Callable[[Site, Words], None], told: str, takes_json: bool = True) -> argparse.ArgumentParser:
+        made = commands.add_parser(name, help=told, description=told)
+        made.add_argument("address", metavar="ADDRESS")
+        made.set_defaults(run=run, json=False)
+        if takes_json:
+            made.add_argument("--json", action="store_true", help="print JSON")
+        return made
+
+    drawn = command("graph", graph, "draws the history, the newest state first")
+    drawn.add_argument("--svg", metavar="FILE", help="write it as SVG")
+    drawn.add_argument("--dot", metavar="FILE", help="write it for Graphviz")
+    drawn.add_argument("--plain", action="store_true", help="draw with ASCII alone")
+    drawn.add_argument("--most", type=int, metavar="N", help="at most so many states")
+    command("stat", stat, "tells what the site knows and keeps")
+    command("leaves", leaves, "lists the ends of all branches")
+    command("show", show, "tells a state's parents, children and writes").add_argument("state", metavar="STATE")
+    for name, run, told in ("get", get, "reads a key"), ("put", put, "writes a key"), ("delete", delete, "deletes a key"):
+        made = command(name, run, told)
+        made.add_argument("key", metavar="KEY")
+        if name == "put":
+            made.add_argument("value", metavar="VALUE")
+        made.add_argument("--at", metavar="STATE", help="at this state; else at the one that arrived last")
+    listed = command("keys", keys, "lists keys and values")
+    listed.add_argument("--at", metavar="STATE", help="at this state; else at the one that arrived last")
+    listed.add_argument("--prefix", default="", help="only keys that begin so")
+    joined = command("merge", merge, "joins all leaves, or the states that are named; asks for each conflict where no rules are given")
+    joined.add_argument("states", metavar="STATE", nargs="*")
+    joined.add_argument("--rules", metavar="PREFIX=RULE,..", help=f"a rule is {', '.join(RULES)} or refuse; the longest prefix counts")
+    watched = command("watch", watch, "tells each state that comes from now on")
+    watched.add_argument("--every", type=float, default=0.5, metavar="SECONDS")
+    page = command("web", web, "serves a page at http://127.0.0.1:PORT/ that shows the site live", False)
+    page.add_argument("--port", type=int, default=8000)
+    return top
+
+
+@contextlib.contextmanager
+def told_in_a_line() -> Iterator[None]:
+    """What a site refuses and what breaks is told in a line, with status 1."""
+    try:
+        yield
+    except (Told, Unresolved, Refused, NoMemory, ProtocolError, OSError, ValueError) as fault:
+        if isinstance(fault, BrokenPipeError):
+            os.dup2(os.open(os.devnull, os.O_WRONLY), sys.stdout.fileno())
+        else:
+            print(f"tardis: {fault}", file=sys.stderr)
+        sys.exit(1)
+    except KeyboardInterrupt:
+        sys.exit(130)
+
+
+def run() -> None:
+    """The command."""
+    words = parser().parse_args()
+    with told_in_a_line():
+        with connect(words.address, PATIENCE) as site:
+            words.run(site, words)
+            sys.stdout.flush()
+
+
+if __name__ == "__main__":
+    run()

@@ -1,0 +1,368 @@
+"""The client for asyncio: the same calls as `tardis.Site`, awaited. A thin shell of streams around `core`.
+
+    import tardis.aio
+
+    async with await tardis.aio.connect("unix:/tmp/site") as site:
+        await site.open()
+        async with site.transaction() as cart:
+            await cart.put("cart", "tea")
+        print(cart.committed)
+"""
+
+import asyncio
+import contextlib
+import socket
+import time
+from typing import Any, AsyncIterator, Awaitable, Callable, List, Optional, Sequence, Tuple, TypeVar, Union
+
+from . import requests
+from .addresses import parse_address, parse_timeout
+from .conversation import Answer
+from .core import Core, Finished, Steps, ask, ask_all
+from .histories import Difference, History, Items, State
+from .ids import Bytes, StateId, number
+from .merging import Comparison, Merged, compare, merge
+from .pipelines import Pipeline
+from .refusals import Branches, Disconnected, NoTxn
+from .replies import Applied, Batch, Committed, Done, Ended, Keys, Raised, Read, Reply, Shown, Stat, States, Value
+from .requests import At, Delivered, Request
+from .resolvers import Resolve
+
+__all__ = ["Site", "Transaction", "connect"]
+
+T = TypeVar("T")
+
+PIECE = 1 << 18
+
+
+class Transaction:
+    """What is read and written between a begin and a commit."""
+
+    def __init__(self, site: "Site", begun: StateId) -> None:
+        self.site = site
+        self.begun = begun
+        self._finished = Finished(None, (), False, ())
+        self._is_over = False
+
+    async def _ask(self, request: Request[T]) -> T:
+        """Asks within this transaction, from whatever task."""
+        if self._is_over:
+            raise NoTxn()
+        return await self.site._run_within(ask(request))
+
+    @property
+    def committed(self) -> Optional[StateId]:
+        """The state that the commit made, once it has. None where nothing was written."""
+        return self._finished.committed
+
+    @property
+    def parents(self) -> Tuple[StateId, ...]:
+        """The states below which it stands."""
+        return self._finished.parents
+
+    @property
+    def forked(self) -> bool:
+        """Whether the commit made a fork: there was another child already, which didn't go with what this one read or wrote."""
+        return self._finished.forked
+
+    @property
+    def beside(self) -> Tuple[StateId, ...]:
+        """The other leaves that there were when it committed, the first 256."""
+        return self._finished.beside
+
+    async def get(self, key: Bytes) -> Read:
+        return await self._ask(requests.get(key))
+
+    async def value(self, key: Bytes, default: Optional[bytes] = None) -> Optional[bytes]:
+        """The bytes that are read, or the default where there are none."""
+        read = await self.get(key)
+        return read.value if isinstance(read, Value) else default
+
+    async def put(self, key: Bytes, value: Bytes) -> None:
+        await self._ask(requests.put(key, value))
+
+    async def delete(self, key: Bytes) -> None:
+        await self._ask(requests.delete(key))
+
+
+class _Turn:
+    """A lock that the task which holds it may take again."""
+
+    def __init__(self) -> None:
+        self._lock = asyncio.Lock()
+        self._task: Optional["asyncio.Task[Any]"] = None
+        self._depth = 0
+
+    async def __aenter__(self) -> None:
+        task = asyncio.current_task()
+        if self._task is not task or task is None:
+            await self._lock.acquire()
+            self._task = task
+        self._depth += 1
+
+    async def __aexit__(self, *raised: object) -> None:
+        self._depth -= 1
+        if self._depth == 0:
+            self._task = None
+            self._lock.release()
+
+
+class Site:
+    """A connection to a site. What each call does stands at the call of the same name of `tardis.Site`.
+
+    Several tasks may use it: their calls take turns, and the block of a `transaction()`, a `merge()` and a `retry()` is one turn.
+    Where a call is cancelled in the midst of a request, the connection is closed."""
+
+    def __init__(self, reader: asyncio.StreamReader, writer: asyncio.StreamWriter, timeout: Optional[float] = None) -> None:
+        self._reader = reader
+        self._writer = writer
+        self._timeout = parse_timeout(timeout)
+        self._core = Core()
+        # who holds a turn may run one transaction, or one call; who holds the wire exchanges
+        self._turn = _Turn()
+        self._wire = asyncio.Lock()
+        #: the transaction that `transaction` or `retry` ran last
+        self.last: Optional[Transaction] = None
+
+    # exchanges
+
+    async def _run(self, steps: Steps[T]) -> T:
+        """Runs the steps of a call, in its turn."""
+        async with self._turn:
+            return await self._run_within(steps)
+
+    async def _run_within(self, steps: Steps[T]) -> T:
+        """Runs the steps of a call within the turn that is held, from whatever task."""
+        async with self._wire:
+            while True:
+                try:
+                    answers = next(steps)
+                except StopIteration as end:
+                    given: T = end.value
+                    return given
+                await self._exchange(answers)
+
+    async def _exchange(self, answers: Sequence[Answer[Any]]) -> None:
+        """Sends all of these, and reads until each is answered. The transport goes on sending while this end reads."""
+        conversation = self._core.conversation
+        conversation.check()
+        try:
+            self._writer.write(conversation.ask(answers))
+            end = None if self._timeout is None else time.monotonic() + self._timeout
+            while conversation.waiting:
+                waiting = conversation.waiting
+                rest = None if end is None else max(0.0, end - time.monotonic())
+                more = await asyncio.wait_for(self._reader.read(PIECE), rest)
+                if not more:
+                    raise conversation.ended()
+                conversation.take(more)
+                if self._timeout is not None and conversation.waiting < waiting:
+                    end = time.monotonic() + self._timeout
+        except BaseException as fault:
+            self._break_off(fault)
+
+    def _break_off(self, fault: BaseException) -> None:
+        """Closes the connection, and raises what happened under its name."""
+        conversation = self._core.conversation
+        if isinstance(fault, (asyncio.TimeoutError, TimeoutError)):
+            slow = TimeoutError(f"no reply came for {self._timeout} seconds; the connection is closed, so connect anew")
+            conversation.end_by(slow)
+            self._writer.transport.abort()
+            raise slow from None
+        conversation.end_by(fault)
+        self._writer.transport.abort()
+        if isinstance(fault, OSError) and not isinstance(fault, Disconnected):
+            raise Disconnected(f"the connection broke ({fault}); connect anew") from fault
+        raise fault
+
+    async def ask(self, body: bytes) -> Reply:
+        return await self._run(ask(requests.raw(body)))
+
+    async def ask_all(self, bodies: Sequence[bytes]) -> List[Reply]:
+        return [answer.result() for answer in await self._run(ask_all([requests.raw(body) for body in bodies]))]
+
+    @contextlib.asynccontextmanager
+    async def pipeline(self) -> AsyncIterator[Pipeline]:
+        """Gathers what is asked in the block (without `await`), and sends it as one at its end."""
+        self._core.conversation.check()
+        pipeline = Pipeline(self._core)
+        yield pipeline
+        if pipeline.answers:
+            async with self._turn, self._wire:
+                await self._exchange(pipeline.answers)
+
+    # sessions
+
+    async def open(self, follow: bool = False) -> StateId:
+        return await self._run(ask(requests.open_session(follow)))
+
+    async def close(self) -> None:
+        await self._run(ask(requests.close()))
+
+    async def ceiling(self, state: At) -> None:
+        await self._run(self._core.set_ceiling(state))
+
+    # transactions
+
+    async def begin(self, at: At = "ancestor") -> StateId:
+        return await self._run(ask(requests.begin(at)))
+
+    async def get(self, key: Bytes) -> Read:
+        return await self._run(ask(requests.get(key)))
+
+    async def value(self, key: Bytes, default: Optional[bytes] = None) -> Optional[bytes]:
+        read = await self.get(key)
+        return read.value if isinstance(read, Value) else default
+
+    async def put(self, key: Bytes, value: Bytes) -> None:
+        await self._run(ask(requests.put(key, value)))
+
+    async def delete(self, key: Bytes) -> None:
+        await self._run(ask(requests.delete(key)))
+
+    async def commit(self, serializable: Optional[bool] = None, snapshot: Optional[bool] = None, no_branch: bool = False,
+                     branches: Optional[int] = None) -> Union[Committed, Ended]:
+        return await self._run(self._core.commit(serializable, snapshot, no_branch, branches))
+
+    async def abort(self) -> None:
+        await self._run(ask(requests.abort()))
+
+    @contextlib.asynccontextmanager
+    async def transaction(self, at: At = "ancestor", serializable: Optional[bool] = None, snapshot: Optional[bool] = None,
+                          no_branch: bool = False, branches: Optional[int] = None) -> AsyncIterator[Transaction]:
+        self._core.committing(serializable, snapshot, no_branch, branches)
+        async with self._turn:
+            txn = Transaction(self, await self.begin(at))
+            self.last = txn
+            try:
+                yield txn
+                txn._finished = await self._run(self._core.finish(serializable, snapshot, no_branch, branches))
+            except BaseException:
+                if not self._core.conversation.is_over:
+                    with contextlib.suppress(Disconnected, TimeoutError):
+                        await self._run(self._core.give_up())
+                raise
+            finally:
+                txn._is_over = True
+
+    async def retry(self, block: Callable[[Transaction], Awaitable[T]], attempts: int = 16, at: At = "ancestor",
+                    serializable: Optional[bool] = None, snapshot: Optional[bool] = None, no_branch: bool = True,
+                    branches: Optional[int] = None) -> T:
+        number("attempts", attempts, 1, 1_000_000)
+        while True:
+            attempts -= 1
+            try:
+                async with self.transaction(at, serializable, snapshot, no_branch and branches is None, branches) as txn:
+                    given = await block(txn)
+                return given
+            except Branches:
+                if attempts == 0:
+                    raise
+
+    # merges
+
+    async def merge(self, resolve: Resolve, states: Optional[Sequence[At]] = None) -> Optional[Merged]:
+        """As `tardis.Site.merge`; `resolve` is a plain function here too."""
+        return await self._run(merge(self._core, resolve, states))
+
+    async def compare(self, one: At, other: At) -> Comparison:
+        return await self._run(compare(self._core, one, other))
+
+    async def begin_merge(self, states: Sequence[At] = ()) -> Tuple[StateId, ...]:
+        return await self._run(ask(requests.begin_merge(states)))
+
+    async def fork_points(self) -> States:
+        return await self._run(ask(requests.fork_points()))
+
+    async def conflicts(self, after: Bytes = b"") -> Keys:
+        return await self._run(ask(requests.conflicts(after)))
+
+    async def all_conflicts(self) -> List[bytes]:
+        return await self._run(self._core.conflicts_after(b""))
+
+    async def get_for(self, key: Bytes, state: At) -> Read:
+        return await self._run(ask(requests.get_for(key, state)))
+
+    # the site
+
+    async def leaves(self) -> States:
+        return await self._run(ask(requests.leaves()))
+
+    async def stat(self) -> Stat:
+        return await self._run(ask(requests.stat()))
+
+    async def show(self, state: At) -> Shown:
+        return await self._run(ask(requests.show(state)))
+
+    async def raise_floor(self, state: Optional[At] = None) -> Raised:
+        return await self._run(ask(requests.raise_floor(state)))
+
+    async def tidy(self, count: int = 65535) -> int:
+        return await self._run(ask(requests.tidy(count)))
+
+    # the history
+
+    async def history(self) -> History:
+        return await self._run(self._core.history())
+
+    async def items(self, state: At, prefix: Bytes = b"") -> Items:
+        return await self._run(self._core.items(state, prefix))
+
+    async def keys(self, state: At, prefix: Bytes = b"") -> Tuple[bytes, ...]:
+        return (await self.items(state, prefix)).keys
+
+    async def diff(self, one: At, other: At) -> Tuple[Difference, ...]:
+        return await self._run(self._core.diff(one, other))
+
+    async def watch(self, every: float = 0.5) -> AsyncIterator[State]:
+        pause = parse_timeout(every) or 0.5
+        seen, states = await self._run(self._core.news(None))
+        while True:
+            for state in states:
+                yield state
+            await asyncio.sleep(pause)
+            seen, states = await self._run(self._core.news(seen))
+
+    # other sites
+
+    async def pull(self, counts: Sequence[int]) -> Batch:
+        return await self._run(ask(requests.pull(counts)))
+
+    async def deliver(self, item: bytes) -> Delivered:
+        return await self._run(ask(requests.deliver(item)))
+
+    async def settle(self) -> Union[Applied, Done]:
+        return await self._run(ask(requests.settle()))
+
+    # the connection
+
+    @property
+    def is_connected(self) -> bool:
+        return not self._core.conversation.is_over
+
+    async def disconnect(self) -> None:
+        """Ends the connection; the site closes the session."""
+        self._core.conversation.end("disconnect() was called")
+        self._writer.close()
+        with contextlib.suppress(OSError):
+            await self._writer.wait_closed()
+
+    async def __aenter__(self) -> "Site":
+        return self
+
+    async def __aexit__(self, *raised: object) -> None:
+        await self.disconnect()
+
+
+async def connect(address: str, timeout: Optional[float] = None) -> Site:
+    """Connects to a site that listens at `unix:PATH` or `HOST:PORT`, as `tardis.connect`."""
+    place, seconds = parse_address(address), parse_timeout(timeout)
+    opening = asyncio.open_unix_connection(place) if isinstance(place, str) else asyncio.open_connection(*place)
+    try:
+        reader, writer = await asyncio.wait_for(opening, seconds)
+    except asyncio.TimeoutError:
+        raise TimeoutError(f"{address} wasn't reached within {seconds} seconds") from None
+    stream = writer.get_extra_info("socket")
+    if stream is not None and not isinstance(place, str):
+        stream.setsockopt(socket.IPPROTO_TCP, socket.TCP_NODELAY, 1)
+    return Site(reader, writer, seconds)

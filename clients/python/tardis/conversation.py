@@ -1,0 +1,132 @@
+"""What one connection has asked and still waits for, without a socket: bytes go in and come out.
+
+Nothing is ever read as the reply to another request: replies belong to requests by their order, and after anything went
+wrong in the midst of one, the conversation is over and says so.
+"""
+
+from collections import deque
+from typing import Any, Callable, Deque, Generic, List, Optional, Sequence, TypeVar
+
+from .refusals import Disconnected, NoMemory, ProtocolError, Refused
+from .replies import LONGEST_FRAME, Reply, read_reply
+from .requests import Request, frame
+
+__all__ = ["Answer", "Conversation"]
+
+T = TypeVar("T")
+
+
+class Answer(Generic[T]):
+    """What a request will be answered: what it gives, or why it was refused."""
+
+    __slots__ = ("request", "is_there", "error", "_value")
+
+    def __init__(self, request: Request[T]) -> None:
+        self.request = request
+        #: whether the reply came
+        self.is_there = False
+        #: the refusal, where there is one; or what ended the connection before the reply came
+        self.error: Optional[BaseException] = None
+        self._value: Optional[T] = None
+
+    def give(self, reply: Reply) -> None:
+        if isinstance(reply, (Refused, NoMemory)):
+            self.error = reply
+        else:
+            self._value = self.request.read(reply)
+        self.is_there = True
+
+    def result(self) -> T:
+        """What the request gave. Raises what was refused."""
+        if self.error is not None:
+            raise self.error
+        if not self.is_there:
+            raise RuntimeError("there is no answer yet: a pipeline is sent at the end of its block")
+        return self._value  # type: ignore[return-value]
+
+    def __repr__(self) -> str:
+        told = repr(self.error) if self.error is not None else repr(self._value) if self.is_there else "none yet"
+        return f"<Answer: {told}>"
+
+
+Note = Callable[[Request[Any], Reply], None]
+
+
+class Conversation:
+    """Requests become bytes to send; bytes that came become replies."""
+
+    def __init__(self, note: Note) -> None:
+        self._note = note
+        self._waiting: Deque[Answer[Any]] = deque()
+        self._held = bytearray()
+        self._why: Optional[str] = None
+
+    @property
+    def waiting(self) -> int:
+        """How many replies are still to come."""
+        return len(self._waiting)
+
+    @property
+    def is_over(self) -> bool:
+        return self._why is not None
+
+    def check(self) -> None:
+        """Raises `Disconnected` where the conversation is over."""
+        if self._why is not None:
+            raise Disconnected(f"this connection is closed, since {self._why}; connect anew")
+
+    def ask(self, answers: Sequence[Answer[Any]]) -> bytes:
+        """The bytes that ask for these."""
+        self.check()
+        data = b"".join([frame(answer.request.body) for answer in answers])
+        self._waiting.extend(answers)
+        return data
+
+    def take(self, data: bytes) -> None:
+        """Takes bytes that came: each whole reply among them answers the request that has waited longest."""
+        self._held += data
+        place, end = 0, len(self._held)
+        while end - place >= 4:
+            length = int.from_bytes(self._held[place:place + 4], "big")
+            if length > LONGEST_FRAME:
+                raise ProtocolError(f"a frame of {length:,} bytes is too long")
+            if end - place - 4 < length:
+                break
+            if not self._waiting:
+                raise ProtocolError("a reply came that nobody asked for")
+            self._give(bytes(self._held[place + 4:place + 4 + length]))
+            place += 4 + length
+        if place:
+            del self._held[:place]
+        if self._held and not self._waiting:
+            raise ProtocolError("a reply came that nobody asked for")
+
+    def _give(self, body: bytes) -> None:
+        reply = read_reply(body)
+        answer = self._waiting[0]
+        answer.give(reply)
+        self._note(answer.request, reply)
+        self._waiting.popleft()
+
+    def ended(self) -> Disconnected:
+        """What is to be raised where the other end sends no more while replies are to come."""
+        cut = " in the midst of a reply" if self._held else ""
+        return Disconnected(f"the site ended the connection{cut}, with {self.waiting} replies to come; connect anew")
+
+    def end(self, why: str) -> None:
+        """Ends the conversation for good: `why` continues "this connection is closed, since ..". What still waited says so too."""
+        if self._why is None:
+            self._why = why
+        for answer in self._waiting:
+            answer.error = Disconnected(f"no reply came, since {why}; whether this was carried out isn't known")
+        self._waiting.clear()
+        self._held.clear()
+
+    def end_by(self, fault: BaseException) -> None:
+        """Ends it since this was raised in the midst of a request."""
+        told = f"{type(fault).__name__}: {fault}" if str(fault) else type(fault).__name__
+        self.end(f"a request was broken off ({told})")
+
+
+def all_answers(requests: Sequence[Request[Any]]) -> List[Answer[Any]]:
+    return [Answer(request) for request in requests]

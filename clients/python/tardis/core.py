@@ -1,0 +1,274 @@
+"""All that a client does, without a socket. Each call is a list of steps: it yields the requests that are to be exchanged for
+their answers, and ends with what the call gives. `blocking` and `aio` are thin shells that exchange them."""
+
+from typing import Any, Dict, Generator, List, NamedTuple, Optional, Sequence, Tuple, TypeVar, Union
+
+from . import requests
+from .conversation import Answer, Conversation
+from .histories import Difference, History, Items, Records, State
+from .ids import ROOT, Bytes, StateId, state_id
+from .refusals import CeilingBack, Collected, NoMemory, Refused
+from .replies import Begun, Closed, Committed, Ended, Merging, Opened, Record, Reply, Shown, Stat, States
+from .requests import At, Request
+
+__all__ = ["Core", "Finished", "Steps", "ask", "ask_all"]
+
+T = TypeVar("T")
+Steps = Generator[List[Answer[Any]], None, T]
+
+#: so many requests are asked at once where there are many
+AT_ONCE = 2_000
+
+
+def ask(request: Request[T]) -> Steps[T]:
+    """Exchanges one request, and gives what it gives, or raises what was refused."""
+    answer = Answer(request)
+    yield [answer]
+    return answer.result()
+
+
+def ask_all(wanted: Sequence[Request[Any]]) -> Steps[List[Answer[Any]]]:
+    """Exchanges requests together, and gives the answers, refusals among them."""
+    answers: List[Answer[Any]] = [Answer(request) for request in wanted]
+    yield answers
+    return answers
+
+
+class Finished(NamedTuple):
+    """What a commit made: the state and its parents (None and () where nothing was written); whether it was not the first
+    child there, and so made a fork; and the other leaves that there were then, the first 256."""
+    committed: Optional[StateId]
+    parents: Tuple[StateId, ...]
+    forked: bool
+    beside: Tuple[StateId, ...]
+
+
+class Core:
+    """One client: its conversation, and what it knows of its session."""
+
+    def __init__(self) -> None:
+        self.conversation = Conversation(self._note)
+        #: whether the session follows
+        self.follows = False
+        #: whether the open transaction is a merge
+        self.merging = False
+        #: the session's ceiling, where it is known
+        self.ceiling: Optional[StateId] = None
+        #: what was told of the history so far
+        self.records = Records()
+
+    def _note(self, request: Request[Any], reply: Reply) -> None:
+        """Sees each request and its reply."""
+        if isinstance(reply, Opened):
+            self.follows, self.merging, self.ceiling = request.body == b"\x01\x01", False, reply.ceiling
+        elif isinstance(reply, Closed):
+            self.follows, self.merging, self.ceiling = False, False, None
+        elif isinstance(reply, (Begun, Merging)):
+            self.merging = isinstance(reply, Merging)
+        elif isinstance(reply, Committed) and self.follows and self.ceiling is not None:
+            # it moves where it is at or above the new state; whether it is can be told of the root and of the parents alone
+            self.ceiling = reply.id if self.ceiling == ROOT or self.ceiling in reply.parents else None
+
+    # transactions
+
+    def set_ceiling(self, state: At) -> Steps[None]:
+        chosen = state_id(state)
+        yield from ask(requests.ceiling(chosen))
+        self.ceiling = chosen
+
+    def committing(self, serializable: Optional[bool], snapshot: Optional[bool], no_branch: bool,
+                   branches: Optional[int]) -> "Request[Union[Committed, Ended]]":
+        """A Commit. A single transaction is serializable and snapshot where nothing else is said; a merge takes no constraints."""
+        usual = not self.merging
+        return requests.commit(
+            usual if serializable is None else serializable, usual if snapshot is None else snapshot, no_branch, branches)
+
+    def commit(self, serializable: Optional[bool] = None, snapshot: Optional[bool] = None, no_branch: bool = False,
+               branches: Optional[int] = None) -> Steps[Union[Committed, Ended]]:
+        ended = yield from ask(self.committing(serializable, snapshot, no_branch, branches))
+        yield from self._follow(ended)
+        return ended
+
+    def _follow(self, ended: Union[Committed, Ended]) -> Steps[None]:
+        """A session that follows and has only read moves its ceiling too, so that readers don't hold the floor."""
+        if isinstance(ended, Ended) and self.follows and ended.state not in (ROOT, self.ceiling):
+            try:
+                yield from self.set_ceiling(ended.state)
+            except (CeilingBack, NoMemory):
+                pass
+
+    def finish(self, serializable: Optional[bool] = None, snapshot: Optional[bool] = None, no_branch: bool = False,
+               branches: Optional[int] = None) -> Steps[Finished]:
+        """Commits, and tells what stands beside the new state."""
+        committing = Answer(self.committing(serializable, snapshot, no_branch, branches))
+        leaving = Answer(requests.leaves())
+        yield [committing, leaving]
+        ended = committing.result()
+        if isinstance(ended, Ended):
+            yield from self._follow(ended)
+            return Finished(None, (), False, ())
+        leaves = States(0, ()) if leaving.error is not None else leaving.result()
+        if leaves.total <= 1:
+            return Finished(ended.id, ended.parents, False, ())
+        forked = yield from self._is_later_child(ended)
+        beside = yield from self._beside(ended.id, leaves)
+        return Finished(ended.id, ended.parents, forked, beside)
+
+    def _is_later_child(self, ended: Committed) -> Steps[bool]:
+        if len(ended.parents) != 1:
+            return False
+        try:
+            shown = yield from ask(requests.show(ended.parents[0]))
+        except (Refused, NoMemory):
+            return False
+        return ended.id in shown.children[1:]
+
+    def _beside(self, made: StateId, leaves: States) -> Steps[Tuple[StateId, ...]]:
+        """The leaves that don't stand at or below this state."""
+        others = [leaf for leaf in leaves.first if leaf != made]
+        if len(others) < len(leaves.first):
+            return tuple(others)
+        shown = yield from self.show_all([made, *others])
+        own = shown.get(made)
+        if own is None:
+            return tuple(others)
+        return tuple(
+            leaf for leaf in others
+            if leaf not in shown or not (shown[leaf].arrival > own.arrival and set(own.path) <= set(shown[leaf].path)))
+
+    def show_all(self, states: Sequence[StateId]) -> Steps[Dict[StateId, Shown]]:
+        """What is shown of these states; those that were collected are left out."""
+        found: Dict[StateId, Shown] = {}
+        for place in range(0, len(states), AT_ONCE):
+            part = states[place:place + AT_ONCE]
+            answers = yield from ask_all([requests.show(state) for state in part])
+            for state, answer in zip(part, answers):
+                if answer.error is None:
+                    found[state] = answer.result()
+                elif not isinstance(answer.error, Collected):
+                    raise answer.error
+        return found
+
+    def give_up(self) -> Steps[None]:
+        """Aborts, where something is open."""
+        try:
+            yield from ask(requests.abort())
+        except (Refused, NoMemory):
+            pass
+
+    def conflicts_after(self, after: Bytes) -> Steps[List[bytes]]:
+        """All conflict keys behind this one, however many there are."""
+        keys: List[bytes] = []
+        page = yield from ask(requests.conflicts(after))
+        while page.first:
+            keys.extend(page.first)
+            if len(page.first) == page.total:
+                break
+            page = yield from ask(requests.conflicts(page.first[-1]))
+        return keys
+
+    # the history
+
+    def pull_news(self) -> Steps[Tuple[Stat, List[Record]]]:
+        """Asks for all records that aren't known here yet. Where floors moved it asks for all that aren't closed."""
+        stat = yield from ask(requests.stat())
+        floors = tuple(line.floor for line in stat.sites)
+        if floors != self.records.open_floors:
+            self.records.open, self.records.open_floors = set(), floors
+        news: List[Record] = []
+        while True:
+            batch = yield from ask(requests.pull(self.records.counts(len(stat.sites))))
+            news.extend(self.records.add(batch))
+            self.records.open.update(record.id for record in batch.records)
+            if not batch.records:
+                return stat, news
+
+    def history(self) -> Steps[History]:
+        """All kept states. Where others commit meanwhile it is that of one moment in between, or asks once more."""
+        for _ in range(5):
+            stat, _ = yield from self.pull_news()
+            kept = yield from self._kept(stat)
+            leaves = yield from ask(requests.leaves())
+            after = yield from ask(requests.stat())
+            if after == stat:
+                break
+        self.records.forget(set(kept))
+        states = self._states(kept)
+        return History(states, leaves.first, stat, self.ceiling, self.records)
+
+    def _kept(self, stat: Stat) -> Steps[Dict[StateId, Optional[Shown]]]:
+        """The states that are kept, and what is shown of those that are closed: only these may be collected."""
+        records = self.records
+        kept: Dict[StateId, Optional[Shown]] = {id: None for id in records.open}
+        unsure = [ROOT, *records.open_floors, *records.records, *(parent for id in records.open for parent in records.records[id].parents)]
+        asked = {id: True for id in unsure if id not in kept and id not in records.gone}
+        kept.update((yield from self._show_some(list(asked))))
+        rest = self._never_told(stat, asked)
+        while len(kept) < stat.kept:
+            part = [id for _, id in zip(range(AT_ONCE), rest)]
+            if not part:
+                break
+            kept.update((yield from self._show_some(part)))
+        return kept
+
+    def _show_some(self, states: List[StateId]) -> Steps[Dict[StateId, Shown]]:
+        """What is shown of these states; it is remembered which were collected."""
+        shown = yield from self.show_all(states)
+        self.records.gone.update(id for id in states if id not in shown)
+        return shown
+
+    def _never_told(self, stat: Stat, asked: Dict[StateId, bool]) -> Generator[StateId, None, None]:
+        """The states whose records weren't told, since they stood above all floors: the newest first."""
+        records = self.records
+        for site, line in enumerate(stat.sites, 1):
+            for sequence in range(line.count, 0, -1):
+                id = StateId(site, sequence)
+                if not (id in records.records or id in asked or id in records.gone):
+                    yield id
+
+    def _states(self, kept: Dict[StateId, Optional[Shown]]) -> List[State]:
+        """The kept states, those whose records were never told before the others, each with its parents as far as they are known."""
+        parents: Dict[StateId, List[StateId]] = {}
+        for id, shown in kept.items():
+            for child in shown.children if shown is not None else ():
+                parents.setdefault(child, []).append(id)
+        old = sorted((shown.arrival, id) for id, shown in kept.items() if id not in self.records.records and shown is not None)
+        told = [id for id in self.records.records if id in kept]
+        states = []
+        for id in [*(id for _, id in old), *told]:
+            record = self.records.records.get(id)
+            of_record = record.parents if record is not None else ()
+            shown_as_child = parents.get(id, [])
+            known = [parent for parent in of_record if parent in kept] + [parent for parent in shown_as_child if parent not in of_record]
+            writes = record.writes if record is not None else () if id == ROOT else None
+            states.append(State(id, tuple(known), writes))
+        return states
+
+    def items(self, state: At, prefix: Bytes) -> Steps[Items]:
+        """The keys and values at a state, from what was pulled."""
+        chosen = state_id(state)
+        yield from ask(requests.show(chosen))
+        stat, _ = yield from self.pull_news()
+        history = History((), (), stat, None, self.records)
+        return history.items(chosen, prefix)
+
+    def diff(self, one: At, other: At) -> Steps[Tuple[Difference, ...]]:
+        """The keys that read differently at two states, from what was pulled."""
+        first, second = state_id(one), state_id(other)
+        for answer in (yield from ask_all([requests.show(first), requests.show(second)])):
+            answer.result()
+        stat, _ = yield from self.pull_news()
+        return History((), (), stat, None, self.records).diff(first, second)
+
+    def news(self, seen: Optional[List[int]]) -> Steps[Tuple[List[int], List[State]]]:
+        """What came since so many states of each site were seen; the first time, nothing. Of a state that was closed before it
+        was asked for only its name is told."""
+        stat = yield from ask(requests.stat())
+        if [line.count for line in stat.sites] == seen:
+            return seen, []
+        stat, _ = yield from self.pull_news()
+        counts = [max(line.count, known) for line, known in zip(stat.sites, self.records.counts(len(stat.sites)))]
+        new = [StateId(site, sequence) for site, (old, count) in enumerate(zip(seen or counts, counts), 1)
+               for sequence in range(old + 1, count + 1)]
+        missed = [State(id, (), None) for id in new if id not in self.records.records]
+        return counts, missed + [State(*self.records.records[id]) for id in self.records.in_order(new)]

@@ -1,0 +1,279 @@
+"""Merges of any number of leaves and of conflict keys, as steps over a `Core`."""
+
+from typing import Any, Dict, List, NamedTuple, Optional, Sequence, Tuple
+
+from . import requests
+from .conversation import Answer
+from .core import Core, Steps, ask, ask_all
+from .ids import Bytes, StateId, state_id
+from .refusals import Below, Collected, Comparable, NoMemory, Refused, TooMany, Unknown as UnknownState
+from .replies import Committed, Keys, Read, States, Value
+from .requests import At, Request
+from .resolvers import UNKNOWN, Base, Resolve, Sides, is_asked_of_equal_sides
+
+__all__ = ["Comparison", "Conflict", "Merged", "MergeStep", "compare", "merge"]
+
+#: a merge writes at most so many keys, reads at most so many states, and a transaction reads at most so many keys
+MOST_WRITES, MOST_STATES, MOST_READS = 64, 8, 256
+
+
+class MergeStep(NamedTuple):
+    """A state that a merge made, what it joins, and the keys on which these disagreed."""
+    id: StateId
+    parents: Tuple[StateId, ...]
+    keys: Tuple[bytes, ...]
+
+
+class Merged(NamedTuple):
+    """The state that joins all, and the states that led to it, the last of which it is."""
+    id: StateId
+    steps: Tuple[MergeStep, ...]
+
+    @property
+    def keys(self) -> Tuple[bytes, ...]:
+        """The keys on which some sides disagreed."""
+        return tuple(sorted({key for step in self.steps for key in step.keys}))
+
+
+class Conflict(NamedTuple):
+    """A key on which two states disagree, what it had where they parted, and what each has."""
+    key: bytes
+    base: Base
+    sides: Sides
+
+
+class Comparison(NamedTuple):
+    """Two states that stand apart, where they parted, and the keys that a merge of them has to settle."""
+    states: Tuple[StateId, ...]
+    fork_points: Tuple[StateId, ...]
+    conflicts: Tuple[Conflict, ...]
+
+
+class _TooWide(Exception):
+    """The states disagree on more keys than a transaction writes."""
+
+    def __init__(self, keys: int) -> None:
+        super().__init__(keys)
+        self.keys = keys
+
+
+def merge(core: Core, resolve: Resolve, states: Optional[Sequence[At]]) -> Steps[Optional[Merged]]:
+    """Joins these states, or all leaves that there are now. None where there is one alone."""
+    if not callable(resolve):
+        raise ValueError(f"resolve is called as resolve(key, base, sides), and {resolve!r} can't be called")
+    chosen = None if states is None else [state_id(state) for state in states]
+    merger = _Merger(core, resolve)
+    rounds = 1
+    while rounds > 0:
+        rounds -= 1
+        if chosen is None:
+            leaves = yield from ask(requests.leaves())
+            if not merger.steps:
+                rounds = leaves.total // max(1, len(leaves.first))
+            yield from merger.join(leaves.first)
+            rounds = 0 if leaves.total <= len(leaves.first) else rounds
+        else:
+            yield from merger.join(chosen)
+    return Merged(merger.steps[-1].id, tuple(merger.steps)) if merger.steps else None
+
+
+def _nobody(key: bytes, base: Base, sides: Sides) -> Optional[Bytes]:
+    return None
+
+
+def compare(core: Core, one: At, other: At) -> Steps[Comparison]:
+    """What a merge of two states would have to settle. Nothing changes."""
+    merger = _Merger(core, _nobody)
+    begun, forking = yield from ask_all([requests.begin_merge([one, other]), requests.fork_points()])
+    sides: Tuple[StateId, ...] = begun.result()
+    try:
+        forks: States = forking.result()
+        keys = yield from core.conflicts_after(b"")
+        told = yield from merger._read_sides(keys, sides)
+    finally:
+        if not core.conversation.is_over:
+            yield from core.give_up()
+    bases: Dict[bytes, Base] = {}
+    for place in range(0, len(keys), MOST_READS):
+        bases.update((yield from merger._bases(keys[place:place + MOST_READS], forks)))
+    return Comparison(sides, forks.first, tuple(Conflict(key, bases[key], told[key]) for key in keys))
+
+
+class _Merger:
+    """One call of merge, and the states that it made so far."""
+
+    def __init__(self, core: Core, resolve: Resolve) -> None:
+        self.core = core
+        self.resolve = resolve
+        self.steps: List[MergeStep] = []
+
+    def join(self, states: Sequence[StateId]) -> Steps[None]:
+        """Joins these states: as many at once as a merge reads where they agree, else one after another, so that each has
+        its own base."""
+        if len(states) < 2:
+            return
+        current, rest = states[0], list(states[1:])
+        while rest:
+            group = rest[:MOST_STATES - 1]
+            rest = rest[len(group):]
+            joined = (yield from self._join_agreeing([current, *group])) if len(group) > 1 else None
+            if joined is not None:
+                current = joined
+                continue
+            for state in group:
+                current = yield from self._join_two(current, state)
+
+    def _join_agreeing(self, states: Sequence[StateId]) -> Steps[Optional[StateId]]:
+        """Joins states that agree on all keys, by one merge. None where they don't, or some of them stand on one branch."""
+        begun, keys = yield from ask_all([requests.begin_merge(states), requests.conflicts(b"")])
+        if isinstance(begun.error, Comparable):
+            return None
+        begun.result()
+        if keys.error is not None or keys.result().total:
+            yield from self.core.give_up()
+            return None
+        return (yield from self._commit(()))
+
+    def _join_two(self, one: StateId, other: StateId) -> Steps[StateId]:
+        try:
+            return (yield from self._step(one, other))
+        except Comparable:
+            shown = yield from self.core.show_all([one, other])
+            return max((one, other), key=lambda state: shown[state].arrival if state in shown else -1)
+        except _TooWide as fault:
+            return (yield from self._walk(one, other, fault.keys))
+
+    # one merge of two states
+
+    def _step(self, one: StateId, other: StateId) -> Steps[StateId]:
+        """Joins two states by one merge: reads all that it takes, asks `resolve`, and then writes in one go."""
+        beginning = requests.begin_merge([one, other])
+        answers = yield from ask_all([beginning, requests.fork_points(), requests.conflicts(b"")])
+        sides: Tuple[StateId, ...] = answers[0].result()
+        try:
+            forks: States = answers[1].result()
+            keys: Keys = answers[2].result()
+            if keys.total > MOST_WRITES:
+                raise _TooWide(keys.total)
+            told = yield from self._read_sides(keys.first, sides)
+            settled = {key: next(iter(side.values())) for key, side in told.items() if self._is_settled(key, side)}
+        except Exception:
+            if not self.core.conversation.is_over:
+                yield from self.core.give_up()
+            raise
+        if len(settled) == len(told):
+            return (yield from self._commit([_writing(key, value) for key, value in settled.items()], keys.first))
+        yield from self.core.give_up()
+        bases = yield from self._bases([key for key in told if key not in settled], forks)
+        written = [
+            _writing(key, settled[key] if key in settled else self.resolve(key, bases[key], side)) for key, side in told.items()]
+        return (yield from self._commit(written, keys.first, beginning))
+
+    def _is_settled(self, key: bytes, sides: Sides) -> bool:
+        """Whether the sides have one value, and nobody is asked."""
+        return len(set(sides.values())) == 1 and not is_asked_of_equal_sides(self.resolve, key)
+
+    def _read_sides(self, keys: Sequence[bytes], sides: Sequence[StateId]) -> Steps[Dict[bytes, Sides]]:
+        answers = yield from ask_all([requests.get_for(key, side) for key in keys for side in sides])
+        reads: List[Read] = [answer.result() for answer in answers]
+        told: Dict[bytes, Sides] = {}
+        for place, key in enumerate(keys):
+            here = dict(zip(sides, reads[place * len(sides):]))
+            told[key] = Sides({side: _value_of(read) for side, read in here.items()}, {side: _writer_of(read) for side, read in here.items()})
+        return told
+
+    def _commit(self, written: Sequence[Request[None]], keys: Sequence[bytes] = (),
+                beginning: Optional[Request[Any]] = None) -> Steps[StateId]:
+        """Writes and commits, in the merge that is open or in one that begins so."""
+        first = [Answer(beginning)] if beginning is not None else []
+        writing: List[Answer[Any]] = [Answer(request) for request in written]
+        committing = Answer(requests.commit(False, False, False, None))
+        yield [*first, *writing, committing]
+        try:
+            for answer in [*first, *writing]:
+                answer.result()
+            ended = committing.result()
+        except (Refused, NoMemory):
+            yield from self.core.give_up()
+            raise
+        assert isinstance(ended, Committed), "a merge makes a state"
+        self.steps.append(MergeStep(ended.id, ended.parents, tuple(keys)))
+        return ended.id
+
+    # what stood where they parted
+
+    def _bases(self, keys: Sequence[bytes], forks: States) -> Steps[Dict[bytes, Base]]:
+        """What each key had where the sides parted: read there, where the session may, else from what was pulled."""
+        if not 1 <= forks.total <= MOST_STATES:
+            return {key: UNKNOWN for key in keys}
+        at_forks: List[Dict[bytes, Optional[Read]]] = []
+        for fork in forks.first:
+            at_forks.append((yield from self._read_at(fork, keys)))
+        return {key: _one_base([reads[key] for reads in at_forks]) for key in keys}
+
+    def _read_at(self, state: StateId, keys: Sequence[bytes]) -> Steps[Dict[bytes, Optional[Read]]]:
+        gets = [requests.get(key) for key in keys]
+        answers = yield from ask_all([requests.begin(state), *gets, requests.abort()])
+        if isinstance(answers[0].error, (Below, Collected, UnknownState)):
+            stat, _ = yield from self.core.pull_news()
+            return {key: self.core.records.read(key, state, stat) for key in keys}
+        answers[0].result()
+        return {key: answer.result() for key, answer in zip(keys, answers[1:])}
+
+    # states that disagree on more keys than one merge writes
+
+    def _walk(self, current: StateId, goal: StateId, keys: int) -> Steps[StateId]:
+        """Joins the one with the states of the other's branch in turn: each of these wrote at most as many keys as a merge may.
+        Where the session may not read there any more, it goes along the other branch."""
+        turned = False
+        while True:
+            yield from self.core.pull_news()
+            branch = self.core.records.apart(goal, current)
+            if not branch:
+                return current
+            try:
+                near = yield from self._farthest(current, branch, keys)
+                current = yield from self._step(current, near)
+            except (Below, Collected):
+                if turned:
+                    raise
+                turned = True
+                current, goal = goal, current
+
+    def _farthest(self, current: StateId, branch: Sequence[StateId], keys: int) -> Steps[StateId]:
+        """A state of the branch that disagrees on few enough keys, and far down."""
+        fits, wide = -1, len(branch)
+        while wide - fits > 1:
+            middle = wide - 1 if wide == len(branch) else (fits + wide) // 2
+            begun, told, _ = yield from ask_all(
+                [requests.begin_merge([current, branch[middle]]), requests.conflicts(b""), requests.abort()])
+            begun.result()
+            keys = told.result().total
+            if keys > MOST_WRITES:
+                wide = middle
+            else:
+                fits = middle
+        if fits < 0:
+            raise TooMany("writes", keys)
+        return branch[fits]
+
+
+def _value_of(read: Read) -> Optional[bytes]:
+    return read.value if isinstance(read, Value) else None
+
+
+def _writer_of(read: Read) -> Optional[StateId]:
+    writer = getattr(read, "writer", None)
+    return writer if isinstance(writer, StateId) else None
+
+
+def _one_base(reads: Sequence[Optional[Read]]) -> Base:
+    """What all fork points read, where they read one thing."""
+    first = reads[0]
+    if first is None or any(read != first for read in reads):
+        return UNKNOWN
+    return _value_of(first)
+
+
+def _writing(key: bytes, value: Optional[Bytes]) -> Request[None]:
+    return requests.delete(key) if value is None else requests.put(key, value)

@@ -1,0 +1,308 @@
+"""What is answered: a type for each reply, and how the bytes of a frame are read (`docs/FORMATS.md`)."""
+
+from typing import Callable, Dict, NamedTuple, Optional, Tuple, TypeVar, Union
+
+from .ids import StateId
+from .refusals import REFUSAL_OF, Branches, NoBranch, NoMemory, ProtocolError, Refused
+
+__all__ = [
+    "Absent", "Applied", "Batch", "Begun", "Closed", "Committed", "Consent", "Deleted", "Done", "Early", "Ended", "Keys", "Known",
+    "Merging", "Opened", "Raised", "Read", "Record", "Reply", "Shown", "SiteLine", "Stat", "States", "Tidied", "Value", "Write",
+    "read_reply",
+]
+
+LONGEST_FRAME = 1_048_576
+
+T = TypeVar("T")
+
+
+class Opened(NamedTuple):
+    ceiling: StateId
+
+
+class Begun(NamedTuple):
+    state: StateId
+
+
+class Merging(NamedTuple):
+    states: Tuple[StateId, ...]
+
+
+class Value(NamedTuple):
+    """The state that wrote the value (0.0 for the transaction's own write), and the value."""
+    writer: StateId
+    value: bytes
+
+
+class Deleted(NamedTuple):
+    writer: StateId
+
+
+class Absent(NamedTuple):
+    pass
+
+
+class Done(NamedTuple):
+    pass
+
+
+class Committed(NamedTuple):
+    id: StateId
+    parents: Tuple[StateId, ...]
+
+
+class Ended(NamedTuple):
+    """A transaction that wrote nothing ended: no state was made."""
+    state: StateId
+
+
+class States(NamedTuple):
+    """How many there are, and the first 256 of them in order of arrival."""
+    total: int
+    first: Tuple[StateId, ...]
+
+
+class Keys(NamedTuple):
+    """How many there are, and the least 256 of them."""
+    total: int
+    first: Tuple[bytes, ...]
+
+
+class Raised(NamedTuple):
+    floor: StateId
+    number: int
+
+
+class Tidied(NamedTuple):
+    collected: int
+
+
+class SiteLine(NamedTuple):
+    """What is known of a site: how many states it made, its floor, and how often that was raised."""
+    count: int  # type: ignore[assignment]
+    floor: StateId
+    number: int
+
+
+class Stat(NamedTuple):
+    """How many states are known and kept, how many leaves and open sessions there are, and a line for each site."""
+    known: int
+    kept: int
+    leaves: int
+    sessions: int
+    sites: Tuple[SiteLine, ...]
+
+
+class Shown(NamedTuple):
+    """How many states had arrived before this one, its children, and for each fork above it the branch that leads here."""
+    arrival: int
+    children: Tuple[StateId, ...]
+    path: Tuple[Tuple[StateId, int], ...]
+
+
+class Write(NamedTuple):
+    """A key, and the value that was put there: None where it was deleted."""
+    key: bytes
+    value: Optional[bytes]
+
+
+class Record(NamedTuple):
+    """A state: its parents, and what it wrote."""
+    id: StateId
+    parents: Tuple[StateId, ...]
+    writes: Tuple[Write, ...]
+
+
+class Consent(NamedTuple):
+    """A site's promise, the so-many-eth, not to read above this floor, given when it had made so many states."""
+    site: int
+    number: int
+    floor: StateId
+    count: int  # type: ignore[assignment]
+
+
+class Batch(NamedTuple):
+    """Records and consents, and the spellings of both, each of which `deliver` takes as it is."""
+    items: Tuple[bytes, ...]
+    records: Tuple[Record, ...]
+    consents: Tuple[Consent, ...]
+
+
+class Applied(NamedTuple):
+    pass
+
+
+class Known(NamedTuple):
+    pass
+
+
+class Early(NamedTuple):
+    have: int
+
+
+class Closed(NamedTuple):
+    pass
+
+
+Read = Union[Value, Deleted, Absent]
+Reply = Union[
+    Opened, Begun, Merging, Value, Deleted, Absent, Done, Committed, Ended, States, Keys, Raised, Tidied, Stat, Shown, Batch, Applied,
+    Known, Early, Closed, Refused, NoMemory,
+]
+
+
+class Reader:
+    """Takes fields from the front of some bytes."""
+
+    def __init__(self, data: bytes) -> None:
+        self.data = data
+        self.place = 0
+
+    def take(self, count: int) -> bytes:
+        taken = self.data[self.place:self.place + count]
+        if len(taken) != count:
+            raise ProtocolError("a reply ends too early")
+        self.place += count
+        return taken
+
+    def number(self, size: int) -> int:
+        return int.from_bytes(self.take(size), "big")
+
+    def id(self) -> StateId:
+        return StateId(self.number(2), self.number(4))
+
+    def key(self) -> bytes:
+        return self.take(self.number(1))
+
+    def value(self) -> bytes:
+        return self.take(self.number(2))
+
+    def many(self, count: int, one: Callable[[], T]) -> Tuple[T, ...]:
+        return tuple(one() for _ in range(count))
+
+    def ids(self, size: int) -> Tuple[StateId, ...]:
+        """So many ids as a number of this size says."""
+        return self.many(self.number(size), self.id)
+
+    def end(self) -> None:
+        if self.place != len(self.data):
+            raise ProtocolError("a reply has too many bytes")
+
+
+def _write(r: Reader) -> Write:
+    key, kind = r.key(), r.number(1)
+    if kind > 1:
+        raise ProtocolError(f"no write has the kind {kind}")
+    return Write(key, r.value() if kind else None)
+
+
+def read_record(r: Reader) -> Record:
+    return Record(r.id(), r.ids(1), r.many(r.number(1), lambda: _write(r)))
+
+
+def _consent(r: Reader) -> Consent:
+    return Consent(r.number(2), r.number(4), r.id(), r.number(4))
+
+
+def _batch(r: Reader) -> Batch:
+    items = []
+
+    def spelled(kind: bytes, one: Callable[[Reader], T]) -> T:
+        start = r.place
+        read = one(r)
+        items.append(kind + r.data[start:r.place])
+        return read
+
+    records = r.many(r.number(2), lambda: spelled(b"\x01", read_record))
+    consents = r.many(r.number(1), lambda: spelled(b"\x02", _consent))
+    return Batch(tuple(items), records, consents)
+
+
+def _site_line(r: Reader) -> SiteLine:
+    return SiteLine(r.number(4), r.id(), r.number(4))
+
+
+def _stat(r: Reader) -> Stat:
+    return Stat(r.number(8), r.number(4), r.number(4), r.number(2), r.many(r.number(1), lambda: _site_line(r)))
+
+
+def _shown(r: Reader) -> Shown:
+    return Shown(r.number(8), r.ids(4), r.many(r.number(4), lambda: (r.id(), r.number(4))))
+
+
+def _what(r: Reader) -> str:
+    code = r.number(1)
+    if code not in _WHAT:
+        raise ProtocolError(f"there can't be too many of {code}")
+    return _WHAT[code]
+
+
+_WHAT = {1: "writes", 2: "reads", 3: "states"}
+
+
+def _branches(r: Reader) -> Refused:
+    code, state, children = r.number(1), r.id(), r.number(4)
+    if code == 4:
+        return NoBranch("no branch", state, children)
+    if code == 8:
+        return Branches("at most k branches", state, children)
+    raise ProtocolError(f"no constraint has the number {code}")
+
+
+
+_FIELDS: Dict[int, Callable[[Reader], Tuple[object, ...]]] = {
+    4: lambda r: (r.number(2),), 8: lambda r: (_what(r), r.number(4)), 9: lambda r: (r.id(),), 10: lambda r: (r.id(), r.id()),
+    11: lambda r: (r.id(), r.id()), 12: lambda r: (r.id(),), 13: lambda r: (r.key(),), 14: lambda r: (r.key(),),
+    16: lambda r: (r.id(),), 17: lambda r: (r.id(),), 18: lambda r: (r.number(2), r.id()), 19: lambda r: (r.id(),),
+    20: lambda r: (r.number(4),), 21: lambda r: (r.id(), r.number(4)), 23: lambda r: (r.number(2),), 24: lambda r: (r.id(),),
+    25: lambda r: (r.number(2), r.number(4)), 26: lambda r: (r.number(8),), 27: lambda r: (r.number(1),),
+    28: lambda r: (r.number(4),), 29: lambda r: (r.number(4),),
+}
+
+
+def _refusal(r: Reader) -> Refused:
+    code = r.number(1)
+    if code == 15:
+        return _branches(r)
+    if code not in REFUSAL_OF:
+        raise ProtocolError(f"no refusal has the number {code}")
+    return REFUSAL_OF[code](*(_FIELDS[code](r) if code in _FIELDS else ()))
+
+
+_REPLIES: Dict[int, Callable[[Reader], Reply]] = {
+    1: lambda r: Opened(r.id()),
+    2: lambda r: Begun(r.id()),
+    3: lambda r: Merging(r.ids(1)),
+    4: lambda r: Value(r.id(), r.value()),
+    5: lambda r: Deleted(r.id()),
+    6: lambda r: Absent(),
+    7: lambda r: Done(),
+    8: lambda r: Committed(r.id(), r.ids(1)),
+    9: lambda r: Ended(r.id()),
+    10: lambda r: States(r.number(4), r.ids(2)),
+    11: lambda r: Keys(r.number(4), r.many(r.number(2), r.key)),
+    12: lambda r: Raised(r.id(), r.number(4)),
+    13: lambda r: Tidied(r.number(4)),
+    14: _stat,
+    15: _shown,
+    16: _batch,
+    17: lambda r: Applied(),
+    18: lambda r: Known(),
+    19: lambda r: Early(r.number(4)),
+    20: lambda r: Closed(),
+    21: _refusal,
+    22: lambda r: NoMemory(),
+}
+
+
+def read_reply(body: bytes) -> Reply:
+    """The reply that the body of a frame spells: a value, or a refusal that isn't raised yet."""
+    if body == b"\x07":
+        return Done()
+    r = Reader(body)
+    code = r.number(1)
+    if code not in _REPLIES:
+        raise ProtocolError(f"no reply has the number {code}")
+    reply = _REPLIES[code](r)
+    r.end()
+    return reply

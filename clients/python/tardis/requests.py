@@ -1,0 +1,217 @@
+"""What is asked: each request's spelling (`docs/FORMATS.md`), and what its reply gives."""
+
+import struct
+from typing import Callable, Generic, List, Optional, Sequence, Tuple, Type, TypeVar, Union
+
+from .ids import Bytes, StateId, flag, key_bytes, number, prefix_bytes, state_id, value_bytes
+from .refusals import ProtocolError
+from .replies import (
+    Absent, Applied, Batch, Begun, Closed, Committed, Deleted, Done, Early, Ended, Keys, Known, Merging, Opened, Raised, Read, Reply,
+    Shown, Stat, States, Tidied, Value)
+
+__all__ = [
+    "Request", "abort", "begin", "begin_merge", "ceiling", "close", "commit", "conflicts", "delete", "deliver", "fork_points", "frame",
+    "get", "get_for", "leaves", "open_session", "pull", "put", "raise_floor", "raw", "settle", "show", "stat", "tidy",
+]
+
+T = TypeVar("T")
+R = TypeVar("R")
+
+At = Union[str, StateId]
+Delivered = Union[Applied, Known, Early]
+
+
+class Request(Generic[T]):
+    """The body of a frame, and how what it gives is taken from its reply."""
+
+    __slots__ = ("body", "read")
+
+    def __init__(self, body: bytes, read: Callable[[Reply], T]) -> None:
+        self.body = body
+        self.read = read
+
+
+def _strange(reply: Reply) -> ProtocolError:
+    return ProtocolError(f"{reply!r} is no answer to what was asked")
+
+
+def _gives(kind: Type[R], pick: Callable[[R], T]) -> Callable[[Reply], T]:
+    """Takes what is picked from a reply of this kind."""
+    def read(reply: Reply) -> T:
+        if not isinstance(reply, kind):
+            raise _strange(reply)
+        return pick(reply)
+    return read
+
+
+def _itself(kind: Type[R]) -> Callable[[Reply], R]:
+    return _gives(kind, lambda reply: reply)
+
+
+_done: Callable[[Reply], None] = _gives(Done, lambda reply: None)
+
+
+def _read(reply: Reply) -> Read:
+    if isinstance(reply, (Value, Deleted, Absent)):
+        return reply
+    raise _strange(reply)
+
+
+def _ended(reply: Reply) -> Union[Committed, Ended]:
+    if isinstance(reply, (Committed, Ended)):
+        return reply
+    raise _strange(reply)
+
+
+def _delivered(reply: Reply) -> Delivered:
+    if isinstance(reply, (Applied, Known, Early)):
+        return reply
+    raise _strange(reply)
+
+
+def _settled(reply: Reply) -> Union[Applied, Done]:
+    if isinstance(reply, (Applied, Done)):
+        return reply
+    raise _strange(reply)
+
+
+def _key(key: Bytes) -> bytes:
+    data = key_bytes(key)
+    return bytes([len(data)]) + data
+
+
+def _value(value: Bytes) -> bytes:
+    data = value_bytes(value)
+    return struct.pack(">H", len(data)) + data
+
+
+def _id(state: At) -> bytes:
+    return struct.pack(">HI", *state_id(state))
+
+
+def frame(body: bytes) -> bytes:
+    """The body behind its length."""
+    return struct.pack(">I", len(body)) + body
+
+
+def raw(body: bytes) -> "Request[Reply]":
+    """A request that is spelled by hand; it gives its reply as it is."""
+    return Request(body, lambda reply: reply)
+
+
+# sessions
+
+def open_session(follow: bool) -> "Request[StateId]":
+    return Request(b"\x01" + bytes([flag("follow", follow)]), _gives(Opened, lambda reply: reply.ceiling))
+
+
+def close() -> "Request[None]":
+    return Request(b"\x15", _gives(Closed, lambda reply: None))
+
+
+def ceiling(state: At) -> "Request[None]":
+    return Request(b"\x0c" + _id(state), _done)
+
+
+# transactions
+
+_BEGINS = {"any": b"\x00", "ancestor": b"\x01", "parent": b"\x02"}
+
+
+def begin(at: At) -> "Request[StateId]":
+    if isinstance(at, str) and at in _BEGINS:
+        kind = _BEGINS[at]
+    else:
+        try:
+            kind = b"\x03" + _id(at)
+        except ValueError as fault:
+            raise ValueError(f"a transaction begins at 'any', 'ancestor', 'parent' or a state: {fault}") from None
+    return Request(b"\x02" + kind, _gives(Begun, lambda reply: reply.state))
+
+
+def get(key: Bytes) -> "Request[Read]":
+    return Request(b"\x03" + _key(key), _read)
+
+
+def put(key: Bytes, value: Bytes) -> "Request[None]":
+    return Request(b"\x04" + _key(key) + _value(value), _done)
+
+
+def delete(key: Bytes) -> "Request[None]":
+    return Request(b"\x05" + _key(key), _done)
+
+
+def commit(serializable: bool, snapshot: bool, no_branch: bool, branches: Optional[int]) -> "Request[Union[Committed, Ended]]":
+    flags = (flag("serializable", serializable) * 1 + flag("snapshot", snapshot) * 2 + flag("no_branch", no_branch) * 4
+             + (branches is not None) * 8)
+    most = 0 if branches is None else number("branches", branches, 1, 0xFFFF)
+    return Request(struct.pack(">BBH", 6, flags, most), _ended)
+
+
+def abort() -> "Request[None]":
+    return Request(b"\x07", _done)
+
+
+# merges
+
+def begin_merge(states: Sequence[At]) -> "Request[Tuple[StateId, ...]]":
+    """A merge of these states, or of all leaves where none is named."""
+    if len(states) > 255:
+        raise ValueError(f"at most 255 states can be named, and not {len(states):,}")
+    spelled = b"\x08" + bytes([len(states)]) + b"".join(map(_id, states))
+    return Request(spelled, _gives(Merging, lambda reply: reply.states))
+
+
+def fork_points() -> "Request[States]":
+    return Request(b"\x09", _itself(States))
+
+
+def conflicts(after: Bytes) -> "Request[Keys]":
+    behind = prefix_bytes(after)
+    return Request(b"\x0a" + bytes([len(behind)]) + behind, _itself(Keys))
+
+
+def get_for(key: Bytes, state: At) -> "Request[Read]":
+    return Request(b"\x0b" + _key(key) + _id(state), _read)
+
+
+# the site
+
+def leaves() -> "Request[States]":
+    return Request(b"\x12", _itself(States))
+
+
+def stat() -> "Request[Stat]":
+    return Request(b"\x10", _itself(Stat))
+
+
+def show(state: At) -> "Request[Shown]":
+    return Request(b"\x11" + _id(state), _itself(Shown))
+
+
+def raise_floor(state: Optional[At]) -> "Request[Raised]":
+    return Request(b"\x0e" if state is None else b"\x0d" + _id(state), _itself(Raised))
+
+
+def tidy(count: int) -> "Request[int]":
+    spelled = struct.pack(">BH", 15, number("how many states are collected", count, 0, 0xFFFF))
+    return Request(spelled, _gives(Tidied, lambda reply: reply.collected))
+
+
+# other sites
+
+def pull(counts: Sequence[int]) -> "Request[Batch]":
+    if not 1 <= len(counts) <= 16:
+        raise ValueError(f"there is a count for each of 1 to 16 sites, and not {len(counts)}")
+    told: List[bytes] = [struct.pack(">I", number("a count", count, 0, 0xFFFFFFFF)) for count in counts]
+    return Request(b"\x13" + bytes([len(told)]) + b"".join(told), _itself(Batch))
+
+
+def deliver(item: bytes) -> "Request[Delivered]":
+    if not isinstance(item, bytes):
+        raise TypeError(f"an item is bytes, as a batch's items are, and not {type(item).__name__}")
+    return Request(b"\x14" + item, _delivered)
+
+
+def settle() -> "Request[Union[Applied, Done]]":
+    return Request(b"\x16", _settled)

@@ -1,0 +1,178 @@
+"""Ready-made answers to what a key shall have after a merge.
+
+Each is called as `resolve(key, base, sides)`. `sides` has for each side the value that it reads (None where it has none);
+`base` is the value where the sides parted, None where there was none, and `UNKNOWN` where nobody can tell any more.
+"""
+
+import difflib
+import enum
+from typing import Callable, Dict, Iterator, List, Mapping, Optional, Sequence, Set, Tuple, Union
+
+from .ids import Bytes, StateId, prefix_bytes
+from .refusals import Unresolved
+
+__all__ = ["Base", "Resolve", "Sides", "UNKNOWN", "Unknown", "by_prefix", "counter", "last_writer", "merge_text", "three_way_text",
+           "union_of", "union_of_lines"]
+
+
+class Unknown(enum.Enum):
+    """The value where the sides parted isn't known."""
+    UNKNOWN = "unknown"
+
+
+UNKNOWN = Unknown.UNKNOWN
+
+Base = Union[bytes, None, Unknown]
+
+
+class Sides(Dict[StateId, Optional[bytes]]):
+    """The value that each side reads, by the side's state; `writers` has the state that wrote it, where there is one."""
+
+    def __init__(self, values: Mapping[StateId, Optional[bytes]], writers: Mapping[StateId, Optional[StateId]]) -> None:
+        super().__init__(values)
+        self.writers: Dict[StateId, Optional[StateId]] = dict(writers)
+
+
+Resolve = Callable[[bytes, Base, Sides], Optional[Bytes]]
+
+
+def last_writer(key: bytes, base: Base, sides: Sides) -> Optional[bytes]:
+    """What the side has whose writer has the greater id, as the rule `last` of `docs/RULES.md`. It says nothing of time."""
+    written = [(writer, side) for side, writer in sides.writers.items() if writer is not None]
+    return sides[max(written)[1]] if written else None
+
+
+class _Counter:
+    """The sum of what each side added, as the rule `count`: decimal texts, of which none counts as 0. It is asked where the sides
+    are equal too, since two that added one each hold the same. What all sides deleted stays deleted."""
+
+    def __call__(self, key: bytes, base: Base, sides: Sides) -> Optional[bytes]:
+        if all(value is None for value in sides.values()):
+            return None
+        if isinstance(base, Unknown):
+            raise Unresolved(key, "the value where the sides parted isn't known, so nobody can tell what each side added")
+        start = self._number(key, base)
+        return b"%d" % (start + sum(self._number(key, value) - start for value in sides.values()))
+
+    def of_equal_sides(self, key: bytes) -> bool:
+        return True
+
+    @staticmethod
+    def _number(key: bytes, value: Optional[bytes]) -> int:
+        try:
+            return int(value or b"0")
+        except ValueError:
+            raise Unresolved(key, f"{value!r} is no number") from None
+
+
+counter: Resolve = _Counter()
+
+
+def is_asked_of_equal_sides(resolve: Resolve, key: bytes) -> bool:
+    """Whether a resolver is asked where all sides have the same value: where it has a method `of_equal_sides` that says so."""
+    says = getattr(resolve, "of_equal_sides", None)
+    return bool(says(key)) if callable(says) else False
+
+
+def union_of(separator: Bytes) -> Resolve:
+    """A set of items with this between each two. What some side added is there; what a side took out of the base is gone.
+    Where the base isn't known, what some side has is there. The items stand in order."""
+    between = separator.encode() if isinstance(separator, str) else separator
+    return lambda key, base, sides: _union(between, base, sides)
+
+
+def _union(between: bytes, base: Base, sides: Sides) -> bytes:
+    def items(value: Base) -> Set[bytes]:
+        return set() if value is None or isinstance(value, Unknown) else {item for item in value.split(between) if item}
+
+    held = [items(value) for value in sides.values()]
+    removed = {item for item in items(base) if any(item not in side for side in held)}
+    return between.join(sorted(set().union(*held) - removed))
+
+
+def union_of_lines(key: bytes, base: Base, sides: Sides) -> bytes:
+    """A set of lines, as `union_of("\\n")` merges it; with a line feed behind the last where some side has it."""
+    merged = _union(b"\n", base, sides)
+    ends = any(value is not None and value.endswith(b"\n") for value in sides.values())
+    return merged + b"\n" if merged and ends else merged
+
+
+def three_way_text(key: bytes, base: Base, sides: Sides) -> Optional[bytes]:
+    """A text, line by line: what some side inserted since the base is there, what some side took out is gone. So where two
+    sides changed one line, both new ones are there, one after the other. A side that deleted the text gives way to one that
+    changed it."""
+    start = None if isinstance(base, Unknown) else base
+    texts = list(sides.values())
+    changed = [text for text in texts if text != start or isinstance(base, Unknown)]
+    present = [text for text in changed if text is not None]
+    if not present:
+        return None if changed else start
+    merged = present[0]
+    for text in present[1:]:
+        merged = merge_text(start, merged, text)
+    return merged
+
+
+def merge_text(base: Optional[bytes], one: bytes, other: bytes) -> bytes:
+    """The two texts, with what each changed of the base. Without a base, the lines of both, each that they share once."""
+    if base is None:
+        return b"\n".join(_either(one.split(b"\n"), other.split(b"\n")))
+    return b"\n".join(_three_ways(base.split(b"\n"), one.split(b"\n"), other.split(b"\n")))
+
+
+def _either(one: Sequence[bytes], other: Sequence[bytes]) -> Iterator[bytes]:
+    matcher = difflib.SequenceMatcher(None, one, other, autojunk=False)
+    for tag, a, b, c, d in matcher.get_opcodes():
+        yield from one[a:b]
+        if tag != "equal":
+            yield from other[c:d]
+
+
+class _Changes:
+    """What a text keeps of the base's lines, and what it inserts behind so many of them: in the place of lines that it took
+    out, behind the last of these."""
+
+    def __init__(self, base: Sequence[bytes], text: Sequence[bytes]) -> None:
+        self.kept: List[bool] = [False] * len(base)
+        self.inserted: Dict[int, Sequence[bytes]] = {}
+        done = 0
+        for a, b, size in difflib.SequenceMatcher(None, base, text, autojunk=False).get_matching_blocks():
+            if done < b:
+                self.inserted[a] = text[done:b]
+            for place in range(a, a + size):
+                self.kept[place] = True
+            done = b + size
+
+
+def _three_ways(base: Sequence[bytes], one: Sequence[bytes], other: Sequence[bytes]) -> Iterator[bytes]:
+    """The base's lines that both kept, and between them what either inserted."""
+    first, second = _Changes(base, one), _Changes(base, other)
+    for place in range(len(base) + 1):
+        yield from _either(first.inserted.get(place, ()), second.inserted.get(place, ()))
+        if place < len(base) and first.kept[place] and second.kept[place]:
+            yield base[place]
+
+
+class _ByPrefix:
+    """What `by_prefix` gives."""
+
+    def __init__(self, resolvers: Mapping[Bytes, Resolve]) -> None:
+        self._chosen: List[Tuple[bytes, Resolve]] = sorted(
+            ((prefix_bytes(prefix), resolve) for prefix, resolve in resolvers.items()), key=lambda pair: -len(pair[0]))
+
+    def _of(self, key: bytes) -> Resolve:
+        for prefix, resolve in self._chosen:
+            if key.startswith(prefix):
+                return resolve
+        raise Unresolved(key, "no prefix of by_prefix() begins it; b'' begins all keys")
+
+    def __call__(self, key: bytes, base: Base, sides: Sides) -> Optional[Bytes]:
+        return self._of(key)(key, base, sides)
+
+    def of_equal_sides(self, key: bytes) -> bool:
+        return is_asked_of_equal_sides(self._of(key), key)
+
+
+def by_prefix(resolvers: Mapping[Bytes, Resolve]) -> Resolve:
+    """Each key's resolver is that of the longest of these prefixes that begins it."""
+    return _ByPrefix(resolvers)

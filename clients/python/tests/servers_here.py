@@ -1,0 +1,90 @@
+"""The servers that the tests of the client run against: those that were built, and the model in Python."""
+
+import os
+import shutil
+import subprocess
+import sys
+import tempfile
+import unittest
+
+HERE = os.path.dirname(os.path.abspath(__file__))
+CLIENT = os.path.dirname(HERE)
+TOP = os.path.dirname(os.path.dirname(CLIENT))
+sys.path[:0] = [path for path in (CLIENT, os.path.join(TOP, "tools")) if path not in sys.path]
+
+import tardis  # noqa: E402
+from model import ModelServer  # noqa: E402
+from servers import PATIENCE, first_line, free_port, stop  # noqa: E402
+
+#: the programs: those that the last build left, unless the environment names others
+TARDISD = os.environ.get("TARDISD") or os.path.join(TOP, "crates", "tardisd", "out", "tardisd")
+TARDIS = os.environ.get("TARDIS") or os.path.join(TOP, "crates", "tardis", "out", "tardis")
+
+
+def is_built(program):
+    return os.access(program, os.X_OK)
+
+
+class Process:
+    """A server that runs until it is stopped."""
+
+    def __init__(self, words):
+        self.process = subprocess.Popen(words, stdin=subprocess.DEVNULL, stdout=subprocess.DEVNULL, stderr=subprocess.PIPE)
+        first_line(self.process)
+
+    def stop(self):
+        if self.process.poll() is None:
+            stop(self.process)
+
+
+class OverServers(unittest.TestCase):
+    """Tests that need a server; those that inherit say which."""
+
+    def start(self, address):
+        raise unittest.SkipTest("a server is named by those that inherit")
+
+    def setUp(self):
+        self.folder = tempfile.mkdtemp()
+        self.addCleanup(shutil.rmtree, self.folder)
+
+    def serve(self, address=None):
+        self.address = address or "unix:" + os.path.join(self.folder, "site")
+        self.server = self.start(self.address)
+        self.addCleanup(self.server.stop)
+        return self.address
+
+    def connect(self, address=None, timeout=PATIENCE):
+        site = tardis.connect(address or self.address, timeout)
+        self.addCleanup(site.disconnect)
+        return site
+
+
+class OfTardisd:
+    """Against `tardisd`."""
+
+    def start(self, address):
+        if not is_built(TARDISD):
+            raise unittest.SkipTest("tardisd isn't built")
+        return Process([TARDISD, "--listen", address])
+
+
+class OfServe:
+    """Against `tardis serve`."""
+
+    def start(self, address):
+        if not is_built(TARDIS):
+            raise unittest.SkipTest("tardis isn't built")
+        return Process([TARDIS, "serve", "--listen", address, "--links", "16"])
+
+
+class OfModel:
+    """Against the model in Python."""
+
+    def start(self, address):
+        if not address.startswith("unix:"):
+            raise unittest.SkipTest("the model listens at a path")
+        return ModelServer(address[len("unix:"):])
+
+
+__all__ = ["CLIENT", "HERE", "OfModel", "OfServe", "OfTardisd", "OverServers", "PATIENCE", "TARDIS", "TARDISD", "TOP", "free_port", "is_built",
+           "tardis"]

@@ -1,0 +1,192 @@
+"""The command for people, `python -m tardis`, and what the page asks."""
+
+import json
+import os
+import re
+import subprocess
+import sys
+import time
+import unittest
+import urllib.error
+import urllib.request
+import xml.dom.minidom
+
+from servers_here import CLIENT, PATIENCE, OfModel, OfTardisd, OverServers, tardis
+
+from tardis.layout import lay_out  # noqa: E402
+from tardis.pictures import word  # noqa: E402
+
+
+class Command(OverServers):
+    def run_it(self, *words, status=0, text=""):
+        """What a command prints."""
+        told = subprocess.run([sys.executable, "-m", "tardis", *words], cwd=CLIENT, input=text.encode(), stdout=subprocess.PIPE,
+                              stderr=subprocess.PIPE, timeout=60, env={**os.environ, "PYTHONIOENCODING": "utf-8"})
+        self.assertEqual(told.returncode, status, told.stderr.decode())
+        self.errors = told.stderr.decode()
+        return told.stdout.decode()
+
+    def fork(self):
+        """A cart of two leaves."""
+        self.serve()
+        one = self.connect()
+        one.open()
+        with one.transaction() as txn:
+            txn.put("cart", "tea"), txn.put("n", "1"), txn.put(b"\xff", b"")
+        for cart in ("tea,milk", "tea,jam"):
+            with one.transaction(at="1.1") as txn:
+                txn.get("cart"), txn.put("cart", cart)
+        one.disconnect()
+
+    def test_looking(self):
+        self.fork()
+        self.assertEqual(self.run_it("graph", self.address), "\n".join([
+            "● 1.3  (leaf)  cart=tea,jam", "│ ● 1.2  (leaf)  cart=tea,milk", "├─╯", "● 1.1  cart=tea  n=1  #ff=", "● 0.0  (root)", ""]))
+        self.assertEqual(self.run_it("graph", self.address, "--plain", "--most", "2").splitlines()[-1], ".. and 2 older states")
+        drawn = json.loads(self.run_it("graph", self.address, "--json"))
+        self.assertEqual([state["id"] for state in drawn["states"]], ["0.0", "1.1", "1.2", "1.3"])
+        self.assertEqual(drawn["states"][1]["writes"][2], {"key": {"hex": "ff"}, "value": ""})
+        files = [os.path.join(self.folder, name) for name in ("h.svg", "h.dot")]
+        self.run_it("graph", self.address, "--svg", files[0], "--dot", files[1])
+        picture = xml.dom.minidom.parse(files[0])
+        self.assertEqual((len(picture.getElementsByTagName("circle")), len(picture.getElementsByTagName("path"))), (4, 3))
+        with open(files[1], encoding="utf-8") as file:
+            self.assertEqual(file.read().count("->"), 3)
+        self.assertEqual(self.run_it("stat", self.address).splitlines()[0], "known 4, kept 4, leaves 2, open sessions 0")
+        self.assertEqual(self.run_it("leaves", self.address), "1.2\n1.3\n")
+        self.assertEqual(self.run_it("show", self.address, "1.1").splitlines(), [
+            "state 1.1, which came after 1 others", "parents: 0.0", "children: 1.2, 1.3", "cart = tea", "n = 1", "#ff = "])
+        self.assertEqual(self.run_it("keys", self.address, "--at", "1.2", "--prefix", "c"), "cart = tea,milk\n")
+        self.assertEqual(json.loads(self.run_it("keys", self.address, "--json"))["items"][0], {"key": "cart", "value": "tea,jam"})
+
+    def test_changing(self):
+        self.fork()
+        self.assertEqual(self.run_it("get", self.address, "cart"), "tea,jam\n")
+        self.assertEqual(self.run_it("get", self.address, "cart", "--at", "1.2"), "tea,milk\n")
+        self.assertEqual(self.run_it("get", self.address, "none", status=1), "")
+        self.assertEqual(self.errors, "tardis: none has no value at 1.3\n")
+        self.assertEqual(self.run_it("put", self.address, "n", "2"), "committed 1.4 below 1.3\n")
+        self.assertEqual(self.run_it("put", self.address, "n", "3", "--at", "1.3"),
+                         "committed 1.5 below 1.3\na fork: 1.2, 1.4 stand beside it\n")
+        self.run_it("merge", self.address, status=1)
+        self.assertIn("its rule is `refuse`", self.errors)
+        self.run_it("merge", self.address, "--rules", "cart=best", status=1)
+        self.assertIn("a rule is PREFIX=last|count", self.errors)
+        # 1.4 added one to the 1 of 1.3, and 1.5 added two
+        self.assertEqual(self.run_it("merge", self.address, "--rules", "cart=set,n=count").splitlines(), [
+            "1.6 joins 1.2, 1.4: cart", "1.7 joins 1.5, 1.6: n"])
+        self.assertEqual(self.run_it("keys", self.address), "cart = jam,milk,tea\nn = 4\n#ff = \n")
+        self.assertEqual(self.run_it("merge", self.address), "one leaf alone, so there is nothing to merge\n")
+        self.assertEqual(self.run_it("delete", self.address, "cart"), "committed 1.8 below 1.7\n")
+        self.run_it("get", self.address, "cart", status=1)
+        self.assertEqual(self.errors, "tardis: cart has no value at 1.8: 1.8 deleted it\n")
+        self.assertEqual(self.connect().stat().sessions, 0)
+
+    def test_what_is_wrong_is_told_in_a_line(self):
+        self.serve()
+        for words, told in [
+                (["stat", "nowhere"], "tardis: an address is unix:PATH or HOST:PORT"), (["stat", "unix:/nowhere/x"], "tardis: [Errno 2]"),
+                (["show", self.address, "1.9"], "tardis: unknown: this site doesn't know the state 1.9"),
+                (["show", self.address, "1"], "tardis: a state is written SITE.SEQUENCE"),
+                (["put", self.address, "", "v"], "tardis: a key has 1 to 128 bytes")]:
+            self.run_it(*words, status=1)
+            self.assertTrue(self.errors.startswith(told) and self.errors.count("\n") == 1, self.errors)
+        self.run_it("draw", self.address, status=2)
+
+    def test_watching(self):
+        self.serve()
+        watching = subprocess.Popen([sys.executable, "-m", "tardis", "watch", self.address, "--every", "0.05"], cwd=CLIENT,
+                                    stdout=subprocess.PIPE, stderr=subprocess.DEVNULL)
+        try:
+            site = self.connect()
+            site.open()
+            # it tells what comes from its first look on; so there is news until it has looked
+            for number in range(200):
+                with site.transaction() as txn:
+                    txn.put("n", str(number))
+                if number == 0:
+                    os.set_blocking(watching.stdout.fileno(), False)
+                told = watching.stdout.readline() or b""
+                if told:
+                    break
+                time.sleep(0.05)
+            self.assertRegex(told.decode(), r"^1\.\d+ below \d\.\d+  n=\d+\n$")
+        finally:
+            watching.kill()
+            watching.wait()
+            watching.stdout.close()
+
+    def test_the_page(self):
+        self.fork()
+        web = subprocess.Popen([sys.executable, "-m", "tardis", "web", self.address, "--port", "0"], cwd=CLIENT, stdout=subprocess.PIPE)
+        try:
+            page = web.stdout.readline().decode().split()[0]
+            self.assertRegex(page, r"^http://127\.0\.0\.1:\d+/$")
+
+            def ask(path, body=None, **headers):
+                data = None if body is None else json.dumps(body).encode()
+                asked = urllib.request.Request(page + path, data, {"Content-Type": "application/json", **headers})
+                try:
+                    with urllib.request.urlopen(asked, timeout=PATIENCE) as told:
+                        return told.status, told.read()
+                except urllib.error.HTTPError as fault:
+                    with fault:
+                        return fault.code, fault.read()
+
+            status, text = ask("")
+            self.assertEqual((status, re.findall(rb"(?:src|href)=", text)), (200, []))
+            drawn = json.loads(ask("api/history")[1])
+            self.assertEqual([row[:3] for row in drawn["rows"]], [["1.3", 0, "leaf"], ["1.2", 1, "leaf"], ["1.1", 0, ""], ["0.0", 0, "root"]])
+            self.assertNotIn("rows", json.loads(ask("api/history?have=" + drawn["version"])[1]))
+            self.assertEqual(json.loads(ask("api/state?id=1.2")[1])["items"][0], ["cart", "tea,milk"])
+            compared = json.loads(ask("api/compare?one=1.2&other=1.3")[1])
+            self.assertEqual((compared["forks"], compared["conflicts"]), (["1.1"], [
+                {"key": "cart", "known": True, "base": "tea", "sides": ["tea,milk", "tea,jam"]}]))
+            self.assertEqual(ask("api/compare?one=1.2&other=1.1")[0], 409)
+            merge = {"one": "1.2", "other": "1.3", "values": [["cart", "all"]]}
+            # another site's page can't merge, nor a name that points here
+            self.assertEqual(ask("api/merge", merge, Origin="http://elsewhere.example")[0], 403)
+            self.assertEqual(ask("api/merge", merge, Host="elsewhere.example")[0], 403)
+            self.assertEqual(ask("api/merge", {**merge, "values": []})[0], 409)
+            self.assertEqual(ask("api/merge", merge), (200, b'{"id": "1.4"}'))
+            self.assertEqual(ask("api/nothing")[0], 404)
+            site = self.connect()
+            self.assertEqual((dict(site.items("1.4").items)[b"cart"], site.stat().sessions), (b"all", 0))
+            self.server.stop()
+            self.assertEqual(ask("api/history")[0], 502)
+        finally:
+            web.kill()
+            web.wait()
+            web.stdout.close()
+
+
+class OverTardisd(OfTardisd, Command):
+    pass
+
+
+class OverModel(OfModel, Command):
+    pass
+
+
+del Command
+
+
+class Drawing(unittest.TestCase):
+    def test_a_long_history_is_laid_out_quickly(self):
+        """16,000 leaves of one state, and a chain: each edge once, and no two states of one row and lane."""
+        states = [tardis.State(tardis.ROOT, (), ())]
+        for number in range(1, 16_001):
+            parent = tardis.ROOT if number % 2 else tardis.StateId(1, max(1, number - 2))
+            states.append(tardis.State(tardis.StateId(1, number), (parent,), ()))
+        layout = lay_out(states)
+        self.assertEqual((len(layout.states), len(layout.edges), layout.width), (16_001, 16_000, 8_000))
+        for edge in layout.edges:
+            self.assertLess(edge.child_row, edge.parent_row)
+
+    def test_words(self):
+        for data, told in [(b"tea", "tea"), (b"", ""), ("é x".encode(), "é x"), (b"a\nb", "a\\nb"), (b"\xff", "#ff"), (b"#x", "#x"), (b"#ff", "#236666"), (b"#", "#23"), (b"# a", "# a"), (b"\x00", "#00")]:
+            self.assertEqual(word(data), told)
+
+
+if __name__ == "__main__":
+    unittest.main()

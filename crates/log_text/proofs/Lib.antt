@@ -1,0 +1,5 @@
+-- Lemmas on the text of a log.
+mod Spelling
+mod Apart
+mod Readings
+mod Crashes

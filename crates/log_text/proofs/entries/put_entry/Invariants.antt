@@ -1,0 +1,9 @@
+use Rattle.std.proofs.Common.{◌≡◌, ◌+◌, ◌*◌, ◌-◌, ◌≤◌, ◌++◌, length, take}
+use Rattle.log_text.specs.Texts.{coded}
+use Rattle.log_text.proofs.entries.put_entry.Given as goal
+
+abbrev pub invariant-loop-byte : goal.invariant-loop-byte
+invariant-loop-byte l = record {
+  items : l.log.items ≡ l.fn.log.items ++ coded (take l.byte-index l.item);
+  room : l.log.len + (2 * (length l.item - l.byte-index) + 1) ≤ l.log.cap;
+}

@@ -1,0 +1,7 @@
+-- What a site forgets when it ends, and what it doesn't.
+pub mod Laws
+pub mod Trails
+pub mod SpellingLaws
+pub mod FitLaws
+pub mod Lives
+pub mod WrongSteps
