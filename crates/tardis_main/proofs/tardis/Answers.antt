@@ -2,7 +2,7 @@ use Rattle.std.proofs.Common.{◌≡◌, ◌∙◌, Some, map, ap, sym, subst, a
 use Rattle.std.proofs.lemmas.List.{length-map}
 use Rattle.std.specs.String.{string_bytes}
 use Rattle.site_run.specs.Endings.{IsRunEnd}
-use Rattle.site_run.specs.LineEndings.{IsLineEnd}
+use Rattle.site_run.specs.Endings.{IsLineEnd}
 use Rattle.load_run.specs.Ends.{IsLoadEnd}
 use Rattle.branch_export.specs.Imported.{IsImportEnd}
 use Rattle.export_run.specs.Exporting.{ExportOutcome, IsExportEnd}
