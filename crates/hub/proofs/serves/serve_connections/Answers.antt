@@ -4,11 +4,11 @@ use Rattle.hub.specs.declared.serves.End.TheVariants.{Stopped}
 use Rattle.hub.specs.Runs.{IsRun}
 use Rattle.hub.specs.Upkeeps.{due_by, rule_of}
 use Rattle.hub.proofs.Leading.{led_start, led_more, led_kept, run_stopped, run_spent}
-use Rattle.hub.proofs.serves.serve_lines.Goals as goal
+use Rattle.hub.proofs.serves.serve_connections.Goals as goal
 
 pub loop-turns-init : goal.loop-turns-init
 loop-turns-init g c = record {
-  led = λ s stands. led_start g.M.Machine.plain (option_map rule_of c.args.upkeep) (g.M.Machine.stands c.args.machine.now) s c.args.lines.now
+  led = λ s stands. led_start g.M.Machine.plain (option_map rule_of c.args.upkeep) (g.M.Machine.stands c.args.machine.now) s c.args.connections.now
       c.whole-tally.result (g.P.Ports.seen c.args.ports.now) stands c.requires.free c.whole-tally.ensures;
   slots = c.requires.slots;
   room = c.requires.room;
@@ -18,7 +18,7 @@ loop-turns-init g c = record {
 pub loop-turns-preserved-in-Some : goal.loop-turns-preserved-in-Some
 loop-turns-preserved-in-Some g c = record {
   led = λ s stands. led_kept g.M.Machine.plain (option_map rule_of c.args.upkeep) (g.M.Machine.stands c.loop-turns.machine)
-      (g.M.Machine.stands c.keep_up.new.machine) s c.loop-turns.lines c.loop-turns.tally c.whole-tally-in-Some.result
+      (g.M.Machine.stands c.keep_up.new.machine) s c.loop-turns.connections c.loop-turns.tally c.whole-tally-in-Some.result
       (g.P.Ports.seen c.args.ports.now) (g.P.Ports.seen c.loop-turns.ports) c.loop-turns.turns (map (λ r. r.now) c.in-Some.requests.now)
       (c.loop-turns.invariant.led s stands) (sym c.in-Some.ensures) c.whole-tally-in-Some.ensures c.keep_up.ensures.asked;
   slots = c.loop-turns.invariant.slots;
@@ -29,7 +29,7 @@ loop-turns-preserved-in-Some g c = record {
 pub loop-turns-preserved : goal.loop-turns-preserved
 loop-turns-preserved g c = record {
   led = λ s stands. led_more g.M.Machine.plain (option_map rule_of c.args.upkeep) (g.M.Machine.stands c.loop-turns.machine)
-      (g.M.Machine.stands c.turn.new.machine) s c.loop-turns.lines c.turn.new.lines c.loop-turns.tally c.turn.new.tally
+      (g.M.Machine.stands c.turn.new.machine) s c.loop-turns.connections c.turn.new.connections c.loop-turns.tally c.turn.new.tally
       (g.P.Ports.seen c.args.ports.now) (g.P.Ports.seen c.loop-turns.ports) (g.P.Ports.seen c.turn.new.ports) c.loop-turns.turns
       (c.loop-turns.invariant.led s stands) (sym c.in-None.ensures) (c.turn.ensures.turned (search rules));
   slots = c.turn.ensures.slots ∙ c.loop-turns.invariant.slots;
@@ -43,7 +43,7 @@ returns-then-not-turn-clause-served g c = λ s stands.
     subst (λ m. IsRun g.M.Machine.plain (option_map rule_of c.args.upkeep) (g.M.Machine.stands m) s Stopped (g.P.Ports.seen c.args.ports.now)
     (g.P.Ports.seen c.turn.new.ports))
     (sym stopped.0)
-    (run_stopped g.M.Machine.plain (option_map rule_of c.args.upkeep) (g.M.Machine.stands c.loop-turns.machine) s c.loop-turns.lines
+    (run_stopped g.M.Machine.plain (option_map rule_of c.args.upkeep) (g.M.Machine.stands c.loop-turns.machine) s c.loop-turns.connections
     c.loop-turns.tally
     (g.P.Ports.seen c.args.ports.now) (g.P.Ports.seen c.loop-turns.ports) (g.P.Ports.seen c.turn.new.ports) c.loop-turns.turns
     (c.loop-turns.invariant.led s stands)
@@ -51,5 +51,5 @@ returns-then-not-turn-clause-served g c = λ s stands.
 
 pub returns-clause-served : goal.returns-clause-served
 returns-clause-served g c = λ s stands.
-    run_spent g.M.Machine.plain (option_map rule_of c.args.upkeep) (g.M.Machine.stands c.loop-turns.machine) s c.loop-turns.lines c.loop-turns.tally
+    run_spent g.M.Machine.plain (option_map rule_of c.args.upkeep) (g.M.Machine.stands c.loop-turns.machine) s c.loop-turns.connections c.loop-turns.tally
     (g.P.Ports.seen c.args.ports.now) (g.P.Ports.seen c.loop-turns.ports) c.loop-turns.turns (c.loop-turns.invariant.led s stands) (omega arith)

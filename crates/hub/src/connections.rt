@@ -1,8 +1,9 @@
-//! The line of a connection: what came of it and what waits to be written to it.
+//! A connection as the hub has it: what came of it and what waits to be written to it.
 
 ghost use Rattle.std.specs.Prelude.{◌≡◌, ℕ, ◌<◌, ◌≤◌, ◌++◌, [], Some, None, true, false, length, drop, ◌⊎◌, IfOk, IfSome, IfNone, IsSome};
 ghost use Rattle.hub.specs.Answering.{Serves};
-ghost use Rattle.hub.specs.Lines.{line_at, OthersStay, IsStopped, most_waiting};
+ghost use Rattle.tardis_base.specs.Sizes.{piece};
+ghost use Rattle.hub.specs.Connections.{connection_at, OthersStay, IsStopped};
 
 use crate::answers::answer_held;
 use crate::upkeeps::Tally;
@@ -10,39 +11,37 @@ use crate::waitings::Waiting;
 use frame_cut::FrameCutter;
 use std::alloc::Global;
 use std::marker::Model;
-use tardis_base::{Machine, NoMemory, ReplyBuf};
-
-/// So many bytes may wait where more is read and answered.
-pub(crate) const MOST_WAITING: usize = 65_536;
+use tardis_base::{Machine, NoMemory, PIECE, ReplyBuf};
 
 /// A connection's bytes: those that came and aren't answered, those that wait to be written, and whether the frame that
 /// is next is too long. It is seen as these.
 #[derive(Drop)]
-pub struct Line {
+pub struct Connection {
     cutter: FrameCutter,
     waiting: Waiting,
     long: bool,
 }
 
-impl Model for Line {
+impl Model for Connection {
     ghost use Rattle.std.specs.Prelude.{◌≡◌, ◌≤◌, false, length};
-    ghost use Rattle.hub.specs.Lines.{LineState};
+    ghost use Rattle.tardis_base.specs.Sizes.{piece, longest_framed};
+    ghost use Rattle.hub.specs.Connections.{ConnectionState};
 
-    ghost Value = { LineState };
+    ghost Value = { ConnectionState };
 
     ghost view = { λ l. record { cutter = l.cutter; waiting = l.waiting; long = l.long } };
 
-    ghost invariant = { λ l. l.long ≡ false → length l.waiting ≤ 65536 → length l.cutter ≤ 1048580 };
+    ghost invariant = { λ l. l.long ≡ false → length l.waiting ≤ piece → length l.cutter ≤ longest_framed };
 }
 
-impl Line {
-    /// A line with no bytes. All room is reserved now, and none is taken later.
-    pub(crate) fn new(alloc: Global) -> Result<Line, NoMemory>
+impl Connection {
+    /// A connection of which no bytes came. All room is reserved now, and none is taken later.
+    pub(crate) fn new(alloc: Global) -> Result<Connection, NoMemory>
         ensures { IfOk result (λ l. l ≡ record { cutter = []; waiting = []; long = false }) }
     {
         let cutter = FrameCutter::new(alloc)?;
         let waiting = Waiting::new(alloc)?;
-        Ok(Line {
+        Ok(Connection {
             cutter,
             waiting,
             long: false,
@@ -51,10 +50,10 @@ impl Line {
 
     /// Whether more is read of the connection.
     pub fn wants_read(&self) -> bool
-        ensures yes { result ≡ true → (self.now.long ≡ false) × (length self.now.waiting ≤ most_waiting) }
-        ensures no { result ≡ false → (self.now.long ≡ true) ⊎ (most_waiting < length self.now.waiting) }
+        ensures yes { result ≡ true → (self.now.long ≡ false) × (length self.now.waiting ≤ piece) }
+        ensures no { result ≡ false → (self.now.long ≡ true) ⊎ (piece < length self.now.waiting) }
     {
-        !self.long && self.waiting.len() <= MOST_WAITING
+        !self.long && self.waiting.len() <= PIECE
     }
 
     /// Takes a piece that came of the connection, and answers the requests that it completes.
@@ -62,19 +61,19 @@ impl Line {
         &mut self,
         machine: &mut M,
         actor: u16,
-        piece: &[u8],
+        bytes: &[u8],
         reply: &mut ReplyBuf,
         tally: &mut Tally,
     )
         requires short { self.old.long ≡ false }
-        requires few { length self.old.waiting ≤ most_waiting }
-        requires size { length piece.now ≤ 65536 }
+        requires few { length self.old.waiting ≤ piece }
+        requires size { length bytes.now ≤ piece }
         ensures served { Serves M.plain (M.stands machine.old) (M.stands machine.new) actor
-            (self.old.cutter ++ piece.now) self.new.cutter self.old.waiting self.new.waiting tally.old tally.new }
+            (self.old.cutter ++ bytes.now) self.new.cutter self.old.waiting self.new.waiting tally.old tally.new }
         ensures stopped { IsStopped self.new.long self.new.cutter self.new.waiting }
         ensures opening { M.opening machine.new ≡ M.opening machine.old }
     {
-        let _ = self.cutter.feed(piece);
+        let _ = self.cutter.feed(bytes);
         self.long = answer_held(
             machine,
             actor,
@@ -129,48 +128,56 @@ impl Line {
         !self.waiting.bytes().is_empty()
     }
 
-    /// Whether all is done: the frame that is next is too long, and nothing waits to be written.
+    /// Whether it is to be ended: the frame that is next is too long, and nothing waits to be written.
     pub fn is_over(&self) -> bool
-        ensures { result ≡ true → (self.now.long ≡ true) × (self.now.waiting ≡ []) }
+        ensures yes { result ≡ true → (self.now.long ≡ true) × (self.now.waiting ≡ []) }
+        ensures no { result ≡ false → (self.now.long ≡ false) ⊎ (0 < length self.now.waiting) }
     {
         self.long && self.waiting.bytes().is_empty()
     }
 }
 
 /// A slot that no connection has, if there is one.
-pub(crate) fn free_slot(lines: &[Option<Line>]) -> Option<usize>
-    ensures free { IfSome result (λ slot. (slot < length lines.now) × (line_at lines.now slot ≡ None)) }
-    ensures full { IfNone result ((n : ℕ) → n < length lines.now → IsSome (line_at lines.now n)) }
+pub(crate) fn free_slot(connections: &[Option<Connection>]) -> Option<usize>
+    ensures free { IfSome result (λ slot. (slot < length connections.now) × (connection_at connections.now slot ≡ None)) }
+    ensures full { IfNone result ((n : ℕ) → n < length connections.now → IsSome (connection_at connections.now n)) }
 {
-    for slot in 0..lines.len() {
-        if lines[slot].is_none() {
+    for slot in 0..connections.len() {
+        if connections[slot].is_none() {
             return Some(slot);
         }
     }
     None
 }
 
-/// Takes the line out of a slot, which is then free.
-pub(crate) fn take_line(lines: &mut [Option<Line>], slot: usize) -> Option<Line>
-    ensures was { result ≡ line_at lines.old slot }
-    ensures others { OthersStay slot lines.old lines.new }
-    ensures free { line_at lines.new slot ≡ None }
-    ensures within { IsSome result → slot < length lines.old }
-    ensures slots { length lines.new ≡ length lines.old }
+/// Takes the connection out of a slot, which is then free.
+pub(crate) fn take_connection(
+    connections: &mut [Option<Connection>],
+    slot: usize,
+) -> Option<Connection>
+    ensures was { result ≡ connection_at connections.old slot }
+    ensures others { OthersStay slot connections.old connections.new }
+    ensures free { connection_at connections.new slot ≡ None }
+    ensures within { IsSome result → slot < length connections.old }
+    ensures slots { length connections.new ≡ length connections.old }
 {
-    if slot < lines.len() {
-        lines[slot].take()
+    if slot < connections.len() {
+        connections[slot].take()
     } else {
         None
     }
 }
 
-/// Puts a line into a slot.
-pub(crate) fn put_line(lines: &mut [Option<Line>], slot: usize, line: Line)
-    requires { slot < length lines.old }
-    ensures others { OthersStay slot lines.old lines.new }
-    ensures there { line_at lines.new slot ≡ Some line }
-    ensures slots { length lines.new ≡ length lines.old }
+/// Puts a connection into a slot.
+pub(crate) fn put_connection(
+    connections: &mut [Option<Connection>],
+    slot: usize,
+    connection: Connection,
+)
+    requires { slot < length connections.old }
+    ensures others { OthersStay slot connections.old connections.new }
+    ensures there { connection_at connections.new slot ≡ Some connection }
+    ensures slots { length connections.new ≡ length connections.old }
 {
-    lines[slot] = Some(line);
+    connections[slot] = Some(connection);
 }
