@@ -233,20 +233,6 @@ impl StateDag {
         self.slots.get(id)
     }
 
-    /// Whether a state is kept at the slot. The cost grows with the logarithm of the number of kept states.
-    pub fn has_slot(&self, slot: Slot) -> bool
-        ensures { result ≡ is_slot self.now slot }
-    {
-        match node_at(&self.nodes, slot) {
-            Some(node) => {
-                let kept = self.kept_slots();
-                let place = first_from(&self.nodes, kept, node.arrival);
-                place < kept.len() && kept[place] == slot
-            },
-            None => false,
-        }
-    }
-
     /// The place of the state at the slot among the kept ones: how many of these arrived before it. The cost grows with the
     /// logarithm of the number of kept states.
     pub fn place(&self, slot: Slot) -> usize
