@@ -114,7 +114,7 @@ impl StateDag {
     ///
     /// The cost grows with the fork paths of the parents and the logarithm of the number of kept states. Where a parent gets
     /// its second child it grows with the number of the states that are kept from its first child on, and with their fork
-    /// paths too.
+    /// paths too; its third child and later ones cost as the first did.
     pub fn add(&mut self, id: StateId, parents: &[Slot]) -> Result<Slot, AddFault>
         requires slots { IsTrue (list_all (is_slot self.old) parents.now) }
         requires first { 1 ≤ id.site }
