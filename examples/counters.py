@@ -4,7 +4,7 @@ It prints:
 
     1.1 has 10 visits
     6 clients wrote, each on a branch of its own: 6 leaves
-    merged by 5 merges, which settled cart/1, visits/home
+    merged as 1.8, which settled cart/1, visits/home
     visits/home is 16, cart/1 is item0,item1,item2,item3,item4,item5,tea
     rules that don't speak of a key refuse it: the key b'price' can't be resolved
 """
@@ -38,7 +38,7 @@ def main(address):
     print(f"{len(clients)} clients wrote, each on a branch of its own: {first.leaves().total} leaves")
     merged = first.merge(RULES)
     keys = ", ".join(key.decode() for key in merged.keys)
-    print(f"merged by {len(merged.steps)} merges, which settled {keys}")
+    print(f"merged as {merged.id}, which settled {keys}")
     values = {key.decode(): value.decode() for key, value in first.items(merged.id).items}
     print(f"visits/home is {values['visits/home']}, cart/1 is {values['cart/1']}")
     for number, client in enumerate(clients[:2]):

@@ -10,7 +10,7 @@ It prints:
     merged in Basel as 1.2, and carried to Zurich
     in Zurich: monday=Ann tuesday=Bob
     the laptop was offline since 1.2, and comes back: 2.2 is a fork beside 1.3
-    merged: monday=Ann tuesday=Bob,Eve wednesday=Carl
+    merged: monday=Ann tuesday=Bob,Dora,Eve wednesday=Carl
     both offices read the same
 """
 

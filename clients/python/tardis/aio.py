@@ -1,4 +1,4 @@
-"""The client for asyncio: the same calls as `tardis.Site`, awaited. A thin shell of streams around `core`.
+"""The client for asyncio: the same calls as `tardis.Site`, awaited. A thin shell of a transport around `core`.
 
     import tardis.aio
 
@@ -17,13 +17,13 @@ from typing import Any, AsyncIterator, Awaitable, Callable, List, Optional, Sequ
 
 from . import requests
 from .addresses import parse_address, parse_timeout
-from .conversation import Answer
-from .core import Core, Finished, Steps, ask, ask_all
+from .conversation import Answer, Conversation
+from .core import Aside, Core, Finished, Steps, ask, ask_all
 from .histories import Difference, History, Items, State
 from .ids import Bytes, StateId, number
 from .merging import Comparison, Merged, compare, merge
 from .pipelines import Pipeline
-from .refusals import Branches, Disconnected, NoTxn
+from .refusals import Branches, Disconnected, NoTxn, ProtocolError
 from .replies import Applied, Batch, Committed, Done, Ended, Keys, Raised, Read, Reply, Shown, Stat, States, Value
 from .requests import At, Delivered, Request
 from .resolvers import Resolve
@@ -32,7 +32,8 @@ __all__ = ["Site", "Transaction", "connect"]
 
 T = TypeVar("T")
 
-PIECE = 1 << 18
+#: a second connection is waited for at most so many seconds
+ASIDE = 5.0
 
 
 class Transaction:
@@ -107,17 +108,65 @@ class _Turn:
             self._lock.release()
 
 
+class _Link(asyncio.Protocol):
+    """What comes goes to the conversation, and whoever waits is woken."""
+
+    def __init__(self, conversation: Conversation) -> None:
+        self.conversation = conversation
+        self.transport: Optional[asyncio.Transport] = None
+        self._fault: Optional[BaseException] = None
+        self._news: "Optional[asyncio.Future[None]]" = None
+
+    def connection_made(self, transport: asyncio.BaseTransport) -> None:
+        assert isinstance(transport, asyncio.Transport)
+        self.transport = transport
+
+    def data_received(self, data: bytes) -> None:
+        try:
+            self.conversation.take(data)
+            self._wake()
+        except ProtocolError as fault:
+            self._lose(fault)
+
+    def eof_received(self) -> None:
+        self._lose(self.conversation.ended())
+
+    def connection_lost(self, fault: Optional[Exception]) -> None:
+        self._lose(fault or self.conversation.ended())
+
+    def _lose(self, fault: BaseException) -> None:
+        """The connection is over. Where somebody waits it is told there, else at the next call."""
+        if self._fault is None:
+            self._fault = fault
+            if not self.conversation.waiting:
+                self.conversation.end("the site ended it" if isinstance(fault, OSError) else str(fault))
+        self._wake()
+
+    def _wake(self) -> None:
+        if self._news is not None and not self._news.done():
+            self._news.set_result(None)
+
+    async def wait(self, seconds: Optional[float]) -> None:
+        """Waits until something comes. Raises what ended the connection."""
+        if self._fault is None:
+            self._news = asyncio.get_event_loop().create_future()
+            await asyncio.wait_for(self._news, seconds)
+        if self._fault is not None:
+            raise self._fault
+
+
 class Site:
     """A connection to a site. What each call does stands at the call of the same name of `tardis.Site`.
 
     Several tasks may use it: their calls take turns, and the block of a `transaction()`, a `merge()` and a `retry()` is one turn.
     Where a call is cancelled in the midst of a request, the connection is closed."""
 
-    def __init__(self, reader: asyncio.StreamReader, writer: asyncio.StreamWriter, timeout: Optional[float] = None) -> None:
-        self._reader = reader
-        self._writer = writer
-        self._timeout = parse_timeout(timeout)
-        self._core = Core()
+    def __init__(self, core: Core, link: _Link, transport: asyncio.Transport, timeout: Optional[float], address: str) -> None:
+        self._core = core
+        self._address = address
+        self._link = link
+        self._transport = transport
+        self._timeout = timeout
         # who holds a turn may run one transaction, or one call; who holds the wire exchanges
         self._turn = _Turn()
         self._wire = asyncio.Lock()
@@ -140,40 +189,46 @@ class Site:
                 except StopIteration as end:
                     given: T = end.value
                     return given
-                await self._exchange(answers)
+                if isinstance(answers, Aside):
+                    await self._exchange_aside(answers)
+                else:
+                    await self._exchange(answers)
+
+    async def _exchange_aside(self, answers: Sequence[Answer[Any]]) -> None:
+        """Exchanges these over another connection. Where that can't be had, each says so."""
+        try:
+            async with await connect(self._address, min(ASIDE, self._timeout or ASIDE)) as other:
+                await other._exchange(answers)
+        except (OSError, ProtocolError) as fault:
+            for answer in answers:
+                answer.error = answer.error or fault
 
     async def _exchange(self, answers: Sequence[Answer[Any]]) -> None:
         """Sends all of these, and reads until each is answered. The transport goes on sending while this end reads."""
         conversation = self._core.conversation
-        conversation.check()
+        conversation.check(answers)
         try:
-            self._writer.write(conversation.ask(answers))
+            self._transport.write(conversation.ask(answers))
             end = None if self._timeout is None else time.monotonic() + self._timeout
             while conversation.waiting:
                 waiting = conversation.waiting
                 rest = None if end is None else max(0.0, end - time.monotonic())
-                more = await asyncio.wait_for(self._reader.read(PIECE), rest)
-                if not more:
-                    raise conversation.ended()
-                conversation.take(more)
+                await self._link.wait(rest)
                 if self._timeout is not None and conversation.waiting < waiting:
                     end = time.monotonic() + self._timeout
         except BaseException as fault:
-            self._break_off(fault)
+            self._break_off(fault, answers)
 
-    def _break_off(self, fault: BaseException) -> None:
+    def _break_off(self, fault: BaseException, answers: Sequence[Answer[Any]]) -> None:
         """Closes the connection, and raises what happened under its name."""
         conversation = self._core.conversation
         if isinstance(fault, (asyncio.TimeoutError, TimeoutError)):
-            slow = TimeoutError(f"no reply came for {self._timeout} seconds; the connection is closed, so connect anew")
-            conversation.end_by(slow)
-            self._writer.transport.abort()
-            raise slow from None
-        conversation.end_by(fault)
-        self._writer.transport.abort()
-        if isinstance(fault, OSError) and not isinstance(fault, Disconnected):
-            raise Disconnected(f"the connection broke ({fault}); connect anew") from fault
-        raise fault
+            fault = TimeoutError(f"no reply came for {self._timeout} seconds; the connection is closed, so connect anew")
+        elif isinstance(fault, OSError) and not isinstance(fault, Disconnected):
+            fault = Disconnected(f"the connection broke ({fault}); connect anew")
+        conversation.break_off(fault, answers)
+        self._transport.abort()
+        raise fault from None
 
     async def ask(self, body: bytes) -> Reply:
         return await self._run(ask(requests.raw(body)))
@@ -343,9 +398,9 @@ class Site:
     async def disconnect(self) -> None:
         """Ends the connection; the site closes the session."""
         self._core.conversation.end("disconnect() was called")
-        self._writer.close()
-        with contextlib.suppress(OSError):
-            await self._writer.wait_closed()
+        self._transport.close()
+        # the transport is closed in the loop's next turn
+        await asyncio.sleep(0)
 
     async def __aenter__(self) -> "Site":
         return self
@@ -357,12 +412,19 @@ class Site:
 async def connect(address: str, timeout: Optional[float] = None) -> Site:
     """Connects to a site that listens at `unix:PATH` or `HOST:PORT`, as `tardis.connect`."""
     place, seconds = parse_address(address), parse_timeout(timeout)
-    opening = asyncio.open_unix_connection(place) if isinstance(place, str) else asyncio.open_connection(*place)
+    loop, core = asyncio.get_event_loop(), Core()
+
+    def link() -> _Link:
+        return _Link(core.conversation)
+
+    opening: Awaitable[Tuple[asyncio.BaseTransport, _Link]] = (
+        loop.create_unix_connection(link, place) if isinstance(place, str) else loop.create_connection(link, place[0], place[1]))
     try:
-        reader, writer = await asyncio.wait_for(opening, seconds)
+        transport, made = await asyncio.wait_for(opening, seconds)
     except asyncio.TimeoutError:
         raise TimeoutError(f"{address} wasn't reached within {seconds} seconds") from None
-    stream = writer.get_extra_info("socket")
+    assert isinstance(transport, asyncio.Transport)
+    stream = transport.get_extra_info("socket")
     if stream is not None and not isinstance(place, str):
         stream.setsockopt(socket.IPPROTO_TCP, socket.TCP_NODELAY, 1)
-    return Site(reader, writer, seconds)
+    return Site(core, made, transport, seconds, address)

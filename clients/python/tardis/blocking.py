@@ -1,6 +1,7 @@
 """The client that waits: a thin shell of a socket around `core`."""
 
 import contextlib
+import select
 import selectors
 import socket
 import threading
@@ -10,12 +11,12 @@ from typing import Any, Callable, Iterator, List, Optional, Sequence, Tuple, Typ
 from . import requests
 from .addresses import parse_address, parse_timeout
 from .conversation import Answer
-from .core import Core, Finished, Steps, ask, ask_all
+from .core import Aside, Core, Finished, Steps, ask, ask_all
 from .histories import Difference, History, Items, State
 from .ids import Bytes, StateId, number
 from .merging import Comparison, Merged, compare, merge
 from .pipelines import Pipeline
-from .refusals import Branches, Disconnected, NoTxn
+from .refusals import Branches, Disconnected, NoTxn, ProtocolError
 from .replies import Applied, Batch, Committed, Done, Ended, Keys, Raised, Read, Reply, Shown, Stat, States, Value
 from .requests import At, Delivered, Request
 from .resolvers import Resolve
@@ -27,6 +28,8 @@ T = TypeVar("T")
 #: up to so many bytes are sent before any reply is read; of more, replies are read while the rest is sent
 AT_ONCE = 16_384
 PIECE = 1 << 18
+#: a second connection is waited for at most so many seconds
+ASIDE = 5.0
 
 
 class Transaction:
@@ -85,10 +88,14 @@ class Site:
     Several threads may use it: their calls take turns, and the block of a `transaction()`, a `merge()` and a `retry()` is one
     turn. Once anything went wrong in the midst of a request the connection is closed, and each call says so."""
 
-    def __init__(self, stream: socket.socket, timeout: Optional[float] = None) -> None:
+    def __init__(self, stream: socket.socket, timeout: Optional[float] = None, address: Optional[str] = None) -> None:
         self._stream = stream
+        self._address = address
         self._timeout = parse_timeout(timeout)
         self._core = Core()
+        self._poll = select.poll() if hasattr(select, "poll") else None
+        if self._poll is not None:
+            self._poll.register(stream, select.POLLIN)
         # who holds a turn may run one transaction, or one call; who holds the wire exchanges
         self._turn = threading.RLock()
         self._wire = threading.RLock()
@@ -111,13 +118,28 @@ class Site:
                 except StopIteration as end:
                     given: T = end.value
                     return given
-                self._exchange(answers)
+                if isinstance(answers, Aside):
+                    self._exchange_aside(answers)
+                else:
+                    self._exchange(answers)
+
+    def _exchange_aside(self, answers: Sequence[Answer[Any]]) -> None:
+        """Exchanges these over another connection. Where that can't be had, each says so."""
+        try:
+            if self._address is None:
+                raise Disconnected("the address of the site isn't known here")
+            with connect(self._address, min(ASIDE, self._timeout or ASIDE)) as other:
+                other._exchange(answers)
+        except (OSError, ProtocolError) as fault:
+            for answer in answers:
+                answer.error = answer.error or fault
 
     def _exchange(self, answers: Sequence[Answer[Any]]) -> None:
         """Sends all of these, and reads until each is answered."""
         conversation = self._core.conversation
-        conversation.check()
+        conversation.check(answers)
         try:
+            self._check_quiet()
             data = conversation.ask(answers)
             if len(data) <= AT_ONCE:
                 self._stream.settimeout(self._timeout)
@@ -126,21 +148,24 @@ class Site:
             else:
                 self._read_while_writing(data)
         except BaseException as fault:
-            self._break_off(fault)
+            self._break_off(fault, answers)
 
-    def _break_off(self, fault: BaseException) -> None:
+    def _check_quiet(self) -> None:
+        """Nothing has come that nobody asked for, nor has the site ended the connection meanwhile."""
+        if self._poll is not None and self._poll.poll(0):
+            self._stream.settimeout(self._timeout)
+            self._take(self._stream.recv(PIECE))
+
+    def _break_off(self, fault: BaseException, answers: Sequence[Answer[Any]]) -> None:
         """Closes the connection, and raises what happened under its name."""
         conversation = self._core.conversation
-        if isinstance(fault, socket.timeout) or isinstance(fault, TimeoutError):
-            slow = TimeoutError(f"no reply came for {self._timeout} seconds; the connection is closed, so connect anew")
-            conversation.end_by(slow)
-            self._stream.close()
-            raise slow from None
-        conversation.end_by(fault)
+        if isinstance(fault, (socket.timeout, TimeoutError)):
+            fault = TimeoutError(f"no reply came for {self._timeout} seconds; the connection is closed, so connect anew")
+        elif isinstance(fault, OSError) and not isinstance(fault, Disconnected):
+            fault = Disconnected(f"the connection broke ({fault}); connect anew")
+        conversation.break_off(fault, answers)
         self._stream.close()
-        if isinstance(fault, OSError) and not isinstance(fault, Disconnected):
-            raise Disconnected(f"the connection broke ({fault}); connect anew") from fault
-        raise fault
+        raise fault from None
 
     def _read_all(self) -> None:
         conversation = self._core.conversation
@@ -406,7 +431,7 @@ def connect(address: str, timeout: Optional[float] = None) -> Site:
     for longer: `TimeoutError` is raised then, and the connection is closed."""
     place, seconds = parse_address(address), parse_timeout(timeout)
     try:
-        return Site(_unix_stream(place, seconds) if isinstance(place, str) else _tcp_stream(place, seconds), seconds)
+        return Site(_unix_stream(place, seconds) if isinstance(place, str) else _tcp_stream(place, seconds), seconds, address)
     except socket.timeout:
         raise TimeoutError(f"{address} wasn't reached within {seconds} seconds") from None
 

@@ -5,7 +5,7 @@ wrong in the midst of one, the conversation is over and says so.
 """
 
 from collections import deque
-from typing import Any, Callable, Deque, Generic, List, Optional, Sequence, TypeVar
+from typing import Any, Callable, Deque, Generic, Optional, Sequence, TypeVar
 
 from .refusals import Disconnected, NoMemory, ProtocolError, Refused
 from .replies import LONGEST_FRAME, Reply, read_reply
@@ -70,14 +70,16 @@ class Conversation:
     def is_over(self) -> bool:
         return self._why is not None
 
-    def check(self) -> None:
-        """Raises `Disconnected` where the conversation is over."""
+    def check(self, answers: Sequence[Answer[Any]] = ()) -> None:
+        """Raises `Disconnected` where the conversation is over; these answers say that they weren't asked for."""
         if self._why is not None:
+            for answer in answers:
+                answer.error = Disconnected(f"this wasn't sent, since {self._why}; connect anew")
             raise Disconnected(f"this connection is closed, since {self._why}; connect anew")
 
     def ask(self, answers: Sequence[Answer[Any]]) -> bytes:
         """The bytes that ask for these."""
-        self.check()
+        self.check(answers)
         data = b"".join([frame(answer.request.body) for answer in answers])
         self._waiting.extend(answers)
         return data
@@ -109,9 +111,10 @@ class Conversation:
         self._waiting.popleft()
 
     def ended(self) -> Disconnected:
-        """What is to be raised where the other end sends no more while replies are to come."""
+        """What is to be raised where the other end sends no more."""
         cut = " in the midst of a reply" if self._held else ""
-        return Disconnected(f"the site ended the connection{cut}, with {self.waiting} replies to come; connect anew")
+        come = f", with {self.waiting} replies to come" if self.waiting else ""
+        return Disconnected(f"the site ended the connection{cut}{come}; connect anew")
 
     def end(self, why: str) -> None:
         """Ends the conversation for good: `why` continues "this connection is closed, since ..". What still waited says so too."""
@@ -122,11 +125,10 @@ class Conversation:
         self._waiting.clear()
         self._held.clear()
 
-    def end_by(self, fault: BaseException) -> None:
-        """Ends it since this was raised in the midst of a request."""
+    def break_off(self, fault: BaseException, answers: Sequence[Answer[Any]]) -> None:
+        """Ends it since this was raised in the midst of these. Those that weren't sent say so."""
         told = f"{type(fault).__name__}: {fault}" if str(fault) else type(fault).__name__
         self.end(f"a request was broken off ({told})")
-
-
-def all_answers(requests: Sequence[Request[Any]]) -> List[Answer[Any]]:
-    return [Answer(request) for request in requests]
+        for answer in answers:
+            if not answer.is_there and answer.error is None:
+                answer.error = Disconnected(f"this wasn't sent, since {self._why}; connect anew")

@@ -12,13 +12,15 @@ from .refusals import CeilingBack, Collected, NoMemory, Refused
 from .replies import Begun, Closed, Committed, Ended, Merging, Opened, Record, Reply, Shown, Stat, States
 from .requests import At, Request
 
-__all__ = ["Core", "Finished", "Steps", "ask", "ask_all"]
+__all__ = ["Aside", "Core", "Finished", "Steps", "ask", "ask_all"]
 
 T = TypeVar("T")
 Steps = Generator[List[Answer[Any]], None, T]
 
 #: so many requests are asked at once where there are many
 AT_ONCE = 2_000
+#: old states that were never told of are looked for by so many of these
+MOST_ROUNDS = 25
 
 
 def ask(request: Request[T]) -> Steps[T]:
@@ -35,6 +37,18 @@ def ask_all(wanted: Sequence[Request[Any]]) -> Steps[List[Answer[Any]]]:
     return answers
 
 
+class Aside(List[Answer[Any]]):
+    """Requests that are to be exchanged over a connection of their own, which is closed again. Where there is none to be had, the
+    answers say so."""
+
+
+def ask_aside(wanted: Sequence[Request[Any]]) -> Steps[List[Answer[Any]]]:
+    """Exchanges requests in a session of their own: it may read at the site's floor, above the ceiling of this one."""
+    answers = Aside(Answer(request) for request in [requests.open_session(False), *wanted])
+    yield answers
+    return answers[1:]
+
+
 class Finished(NamedTuple):
     """What a commit made: the state and its parents (None and () where nothing was written); whether it was not the first
     child there, and so made a fork; and the other leaves that there were then, the first 256."""
@@ -42,6 +56,18 @@ class Finished(NamedTuple):
     parents: Tuple[StateId, ...]
     forked: bool
     beside: Tuple[StateId, ...]
+
+
+def _by_paths(id: StateId, shows: Dict[StateId, Shown]) -> List[StateId]:
+    """The last of the closed states that lead to this one. One leads to another where it came before, and its way through the
+    forks is a part of the other's."""
+    own = shows.get(id)
+    if own is None:
+        return []
+    path = set(own.path)
+    before = [(other, shown) for other, shown in shows.items() if shown.arrival < own.arrival and path.issuperset(shown.path)]
+    return [other for other, shown in before
+            if not any(shown.arrival < later.arrival and set(later.path).issuperset(shown.path) for _, later in before)]
 
 
 class Core:
@@ -182,6 +208,7 @@ class Core:
             news.extend(self.records.add(batch))
             self.records.open.update(record.id for record in batch.records)
             if not batch.records:
+                self.records.forget(self.records.open)
                 return stat, news
 
     def history(self) -> Steps[History]:
@@ -193,8 +220,7 @@ class Core:
             after = yield from ask(requests.stat())
             if after == stat:
                 break
-        self.records.forget(set(kept))
-        states = self._states(kept)
+        states = yield from self._states(kept)
         return History(states, leaves.first, stat, self.ceiling, self.records)
 
     def _kept(self, stat: Stat) -> Steps[Dict[StateId, Optional[Shown]]]:
@@ -205,8 +231,8 @@ class Core:
         asked = {id: True for id in unsure if id not in kept and id not in records.gone}
         kept.update((yield from self._show_some(list(asked))))
         rest = self._never_told(stat, asked)
-        while len(kept) < stat.kept:
-            part = [id for _, id in zip(range(AT_ONCE), rest)]
+        for _ in range(MOST_ROUNDS):
+            part = [] if len(kept) >= stat.kept else [id for _, id in zip(range(AT_ONCE), rest)]
             if not part:
                 break
             kept.update((yield from self._show_some(part)))
@@ -227,22 +253,22 @@ class Core:
                 if not (id in records.records or id in asked or id in records.gone):
                     yield id
 
-    def _states(self, kept: Dict[StateId, Optional[Shown]]) -> List[State]:
-        """The kept states, those whose records were never told before the others, each with its parents as far as they are known."""
-        parents: Dict[StateId, List[StateId]] = {}
-        for id, shown in kept.items():
-            for child in shown.children if shown is not None else ():
-                parents.setdefault(child, []).append(id)
-        old = sorted((shown.arrival, id) for id, shown in kept.items() if id not in self.records.records and shown is not None)
-        told = [id for id in self.records.records if id in kept]
+    def _states(self, kept: Dict[StateId, Optional[Shown]]) -> Steps[List[State]]:
+        """The kept states, those whose records were never told before the others, each with the kept states that lead to it."""
+        records = self.records.records
+        old = sorted((shown.arrival, id) for id, shown in kept.items() if id not in records and shown is not None)
+        ids = [*(id for _, id in old), *(id for id in records if id in kept)]
+        leading = {id: self.records.leading(id, kept) for id in ids if id != ROOT}
+        unsure = [id for id, found in leading.items() if found is None]
+        shows: Dict[StateId, Shown] = {id: shown for id, shown in kept.items() if shown is not None}
+        if unsure:
+            shows.update((yield from self.show_all([id for id in unsure if id not in shows])))
         states = []
-        for id in [*(id for _, id in old), *told]:
-            record = self.records.records.get(id)
-            of_record = record.parents if record is not None else ()
-            shown_as_child = parents.get(id, [])
-            known = [parent for parent in of_record if parent in kept] + [parent for parent in shown_as_child if parent not in of_record]
-            writes = record.writes if record is not None else () if id == ROOT else None
-            states.append(State(id, tuple(known), writes))
+        for id in ids:
+            found = leading.get(id, ())
+            parents = _by_paths(id, shows) if found is None else found
+            record = records.get(id)
+            states.append(State(id, tuple(parents), record.writes if record is not None else () if id == ROOT else None))
         return states
 
     def items(self, state: At, prefix: Bytes) -> Steps[Items]:

@@ -1,13 +1,13 @@
 """A site's history as objects: the states that are kept, what each wrote, and what can be worked out from that."""
 
-from typing import Dict, Iterable, Iterator, List, NamedTuple, Optional, Sequence, Set, Tuple
+from typing import Container, Dict, Iterable, Iterator, List, NamedTuple, Optional, Sequence, Set, Tuple
 
 from .ids import ROOT, Bytes, StateId, prefix_bytes
 from .replies import Absent, Batch, Deleted, Read, Record, Stat, Value, Write
 
 __all__ = ["Difference", "History", "Items", "State"]
 
-#: so many records are remembered of those that are collected by now
+#: so many records are remembered of states that are closed by now
 MOST_REMEMBERED = 20_000
 
 
@@ -42,6 +42,54 @@ class Items(NamedTuple):
         return tuple(key for key, _ in self.items)
 
 
+class Ancestry:
+    """The records that are known at one moment, in numbers. Sets of states are whole numbers, with a bit for each state by its
+    place: the root's first, then the parents of which no record is known, then the records in order of arrival. 16,000 states
+    take some 20 MB."""
+
+    def __init__(self, records: Dict[StateId, Record]) -> None:
+        missing = {parent: True for record in records.values() for parent in record.parents if parent not in records and parent != ROOT}
+        self.ids: List[StateId] = [ROOT, *missing, *records]
+        self.above: Dict[StateId, int] = {id: 1 << place for place, id in enumerate(self.ids[:len(missing) + 1])}
+        #: the states of which no record is known, so that nobody can tell what they or those above them wrote
+        self.missing = (1 << len(missing) + 1) - 2
+        self.writes: Dict[bytes, List[Tuple[int, Optional[bytes]]]] = {}
+        for place, record in enumerate(records.values(), len(missing) + 1):
+            above = 1 << place
+            for parent in record.parents:
+                above |= self.above[parent]
+            self.above[record.id] = above
+            for write in record.writes:
+                self.writes.setdefault(write.key, []).append((place, write.value))
+
+    def above_place(self, place: int) -> int:
+        return self.above[self.ids[place]]
+
+    def is_whole(self, state: StateId) -> bool:
+        """Whether the state and all above it are known."""
+        return state in self.above and not self.above[state] & self.missing
+
+    def writer(self, key: bytes, above: int) -> Optional[Tuple[int, Optional[bytes]]]:
+        """The place of the last of these states that wrote the key, and what it wrote. Raises KeyError where nobody can tell."""
+        for place, value in reversed(self.writes.get(key, [])):
+            if above >> place & 1:
+                if above & self.missing & ~self.above_place(place):
+                    raise KeyError(key)
+                return place, value
+        if above & self.missing:
+            raise KeyError(key)
+        return None
+
+    def last(self, states: int) -> int:
+        """Those of these states that aren't above others of them: the one that arrived last, and so on."""
+        found = 0
+        while states:
+            place = states.bit_length() - 1
+            found |= 1 << place
+            states &= ~self.above_place(place)
+        return found
+
+
 class Records:
     """The records that a client was told so far, in the order in which they came."""
 
@@ -54,6 +102,7 @@ class Records:
         self.gone: Set[StateId] = set()
         self._place: Dict[StateId, int] = {ROOT: -1}
         self._came = 0
+        self._ancestry: Optional[Ancestry] = None
 
     def counts(self, sites: int) -> List[int]:
         """How many records of each site are known, for the next Pull."""
@@ -69,15 +118,25 @@ class Records:
             self.records[record.id] = record
             self._place[record.id] = self._came
             self._came += 1
+        if new:
+            self._ancestry = None
         return new
 
+    def ancestry(self) -> Ancestry:
+        """What follows from the records, until others come."""
+        if self._ancestry is None:
+            self._ancestry = Ancestry(self.records)
+        return self._ancestry
+
     def forget(self, kept: Set[StateId]) -> None:
-        """Forgets the oldest of those that aren't kept any more, where there are many."""
-        gone = [id for id in self.records if id not in kept]
-        for id in gone[:max(0, len(gone) - MOST_REMEMBERED)]:
-            del self.records[id]
-            del self._place[id]
-        if len(self.gone) > MOST_REMEMBERED:
+        """Forgets the oldest of those that aren't kept for certain, where there are many."""
+        if len(self.records) > len(kept) + 2 * MOST_REMEMBERED:
+            self._ancestry = None
+            closed = [id for id in self.records if id not in kept]
+            for id in closed[:-MOST_REMEMBERED]:
+                del self.records[id]
+                del self._place[id]
+        if len(self.gone) > 2 * MOST_REMEMBERED:
             self.gone = {id for id in self.gone if id in self.records}
 
     def is_complete(self, stat: Stat) -> bool:
@@ -101,26 +160,52 @@ class Records:
         """Those of these states whose records are known, in order of arrival; the root stands first."""
         return sorted((id for id in states if id in self._place), key=self._place.__getitem__)
 
+    def leading(self, id: StateId, kept: Container[StateId]) -> Optional[Tuple[StateId, ...]]:
+        """The kept states that lead to this one with none between: its parents, or what leads to these where they were collected.
+        None where that isn't known."""
+        record = self.records.get(id)
+        if record is None:
+            return None
+        if all(parent in kept for parent in record.parents):
+            return record.parents
+        found: Dict[StateId, bool] = {}
+        left = list(record.parents)
+        while left:
+            parent = left.pop()
+            if parent in kept:
+                found[parent] = True
+            elif parent in self.records:
+                left.extend(self.records[parent].parents)
+            elif parent != ROOT:
+                return None
+        return tuple(one for one in found if not any(one != other and one in self.above(other) for other in found))
+
     def apart(self, goal: StateId, current: StateId) -> List[StateId]:
         """The states at or above the one and not the other, in order of arrival."""
         return [id for id in self.in_order(self.above(goal) - self.above(current)) if id != ROOT]
 
-    def read(self, key: bytes, state: StateId, stat: Stat) -> Optional[Read]:
+    def read(self, key: bytes, state: StateId) -> Optional[Read]:
         """What is read of the key at the state. None where that isn't known."""
-        for id in reversed(self.in_order(self.above(state))):
-            record = self.records.get(id)
-            for write in record.writes if record is not None else ():
-                if write.key == key:
-                    return Deleted(id) if write.value is None else Value(id, write.value)
-        return Absent() if self.is_complete(stat) else None
+        ancestry = self.ancestry()
+        try:
+            found = ancestry.writer(key, ancestry.above[state])
+        except KeyError:
+            return None
+        if found is None:
+            return Absent()
+        place, value = found
+        return Deleted(ancestry.ids[place]) if value is None else Value(ancestry.ids[place], value)
 
     def contents(self, state: StateId) -> Dict[bytes, Optional[bytes]]:
-        """Each key that was written at or above the state, as far as that is known, and what is read of it there."""
+        """Each key of which it is known what is read of it at the state, and that: None where it was deleted or never written."""
+        ancestry = self.ancestry()
         found: Dict[bytes, Optional[bytes]] = {}
-        for id in self.in_order(self.above(state)):
-            record = self.records.get(id)
-            for write in record.writes if record is not None else ():
-                found[write.key] = write.value
+        for key in ancestry.writes:
+            try:
+                written = ancestry.writer(key, ancestry.above[state])
+            except KeyError:
+                continue
+            found[key] = None if written is None else written[1]
         return found
 
 
@@ -194,11 +279,9 @@ class History:
         begin = prefix_bytes(prefix)
         contents = self._records.contents(state)
         found = tuple((key, value) for key, value in sorted(contents.items()) if value is not None and key.startswith(begin))
-        return Items(found, self.is_complete)
+        return Items(found, self._records.ancestry().is_whole(state))
 
     def diff(self, one: StateId, other: StateId) -> Tuple[Difference, ...]:
-        """The keys that read differently at the two states, in order."""
+        """The keys that read differently at the two states, in order, as far as it is known what either reads."""
         first, second = self._records.contents(one), self._records.contents(other)
-        return tuple(
-            Difference(key, first.get(key), second.get(key))
-            for key in sorted({*first, *second}) if first.get(key) != second.get(key))
+        return tuple(Difference(key, first[key], second[key]) for key in sorted(first) if key in second and first[key] != second[key])

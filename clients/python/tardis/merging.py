@@ -3,18 +3,22 @@
 from typing import Any, Dict, List, NamedTuple, Optional, Sequence, Tuple
 
 from . import requests
+from .bases import value_together
 from .conversation import Answer
-from .core import Core, Steps, ask, ask_all
+from .core import Core, Steps, ask, ask_all, ask_aside
 from .ids import Bytes, StateId, state_id
 from .refusals import Below, Collected, Comparable, NoMemory, Refused, TooMany, Unknown as UnknownState
 from .replies import Committed, Keys, Read, States, Value
 from .requests import At, Request
-from .resolvers import UNKNOWN, Base, Resolve, Sides, is_asked_of_equal_sides
+from .resolvers import (
+    UNKNOWN, Base, Resolve, Sides, Unknown, is_asked_of_equal_sides, is_asked_of_fork_points, is_asked_of_many_sides)
 
 __all__ = ["Comparison", "Conflict", "Merged", "MergeStep", "compare", "merge"]
 
 #: a merge writes at most so many keys, reads at most so many states, and a transaction reads at most so many keys
 MOST_WRITES, MOST_STATES, MOST_READS = 64, 8, 256
+#: two branches that parted at more states than these have no base
+MOST_FORKS = 64
 
 
 class MergeStep(NamedTuple):
@@ -108,31 +112,61 @@ class _Merger:
         self.steps: List[MergeStep] = []
 
     def join(self, states: Sequence[StateId]) -> Steps[None]:
-        """Joins these states: as many at once as a merge reads where they agree, else one after another, so that each has
-        its own base."""
+        """Joins these states: as many at once as a merge reads where it is known what they have together, else one after
+        another, so that each pair has its own base."""
         if len(states) < 2:
             return
         current, rest = states[0], list(states[1:])
         while rest:
             group = rest[:MOST_STATES - 1]
             rest = rest[len(group):]
-            joined = (yield from self._join_agreeing([current, *group])) if len(group) > 1 else None
+            joined = (yield from self._join_at_once([current, *group])) if len(group) > 1 else None
             if joined is not None:
                 current = joined
                 continue
             for state in group:
                 current = yield from self._join_two(current, state)
 
-    def _join_agreeing(self, states: Sequence[StateId]) -> Steps[Optional[StateId]]:
-        """Joins states that agree on all keys, by one merge. None where they don't, or some of them stand on one branch."""
-        begun, keys = yield from ask_all([requests.begin_merge(states), requests.conflicts(b"")])
+    def _join_at_once(self, states: Sequence[StateId]) -> Steps[Optional[StateId]]:
+        """Joins these states by one merge. None where it isn't known what they have together, or some stand on one branch."""
+        begun, conflicting = yield from ask_all([requests.begin_merge(states), requests.conflicts(b"")])
         if isinstance(begun.error, Comparable):
             return None
         begun.result()
-        if keys.error is not None or keys.result().total:
+        try:
+            keys: Keys = conflicting.result()
+            written = yield from self._together(keys, states)
+        except Exception:
+            if not self.core.conversation.is_over:
+                yield from self.core.give_up()
+            raise
+        if written is None:
             yield from self.core.give_up()
             return None
-        return (yield from self._commit(()))
+        return (yield from self._commit(written, keys.first))
+
+    def _together(self, keys: Keys, states: Sequence[StateId]) -> Steps[Optional[List[Request[None]]]]:
+        """What a merge of these states writes, where each key's resolver can say so without asking anybody."""
+        if keys.total > MOST_WRITES or not all(
+                is_asked_of_many_sides(self.resolve, key) or is_asked_of_fork_points(self.resolve, key) for key in keys.first):
+            return None
+        if not keys.first:
+            return []
+        told = yield from self._read_sides(keys.first, states)
+        yield from self.core.pull_news()
+        ancestry = self.core.records.ancestry()
+        written: List[Request[None]] = []
+        for key, sides in told.items():
+            if self._is_settled(key, sides):
+                written.append(_writing(key, next(iter(sides.values()))))
+            elif is_asked_of_many_sides(self.resolve, key):
+                written.append(_writing(key, self.resolve(key, UNKNOWN, sides)))
+            else:
+                value = value_together(ancestry, self.resolve, key, states)
+                if isinstance(value, Unknown):
+                    return None
+                written.append(_writing(key, value))
+        return written
 
     def _join_two(self, one: StateId, other: StateId) -> Steps[StateId]:
         try:
@@ -204,19 +238,32 @@ class _Merger:
 
     def _bases(self, keys: Sequence[bytes], forks: States) -> Steps[Dict[bytes, Base]]:
         """What each key had where the sides parted: read there, where the session may, else from what was pulled."""
-        if not 1 <= forks.total <= MOST_STATES:
+        if not 1 <= forks.total <= MOST_FORKS:
             return {key: UNKNOWN for key in keys}
         at_forks: List[Dict[bytes, Optional[Read]]] = []
         for fork in forks.first:
             at_forks.append((yield from self._read_at(fork, keys)))
-        return {key: _one_base([reads[key] for reads in at_forks]) for key in keys}
+        bases = {key: _one_base([reads[key] for reads in at_forks]) for key in keys}
+        open_ones = [key for key in keys if bases[key] is UNKNOWN and is_asked_of_fork_points(self.resolve, key)]
+        if open_ones and forks.total > 1:
+            yield from self.core.pull_news()
+            ancestry = self.core.records.ancestry()
+            bases.update({key: value_together(ancestry, self.resolve, key, forks.first) for key in open_ones})
+        return bases
 
     def _read_at(self, state: StateId, keys: Sequence[bytes]) -> Steps[Dict[bytes, Optional[Read]]]:
-        gets = [requests.get(key) for key in keys]
-        answers = yield from ask_all([requests.begin(state), *gets, requests.abort()])
+        """What each key reads at a state, where that can be had: in this session, or from what was pulled, or in another session,
+        whose ceiling is the site's floor."""
+        asked: List[Request[Any]] = [requests.begin(state), *[requests.get(key) for key in keys], requests.abort()]
+        answers = yield from ask_all(asked)
         if isinstance(answers[0].error, (Below, Collected, UnknownState)):
-            stat, _ = yield from self.core.pull_news()
-            return {key: self.core.records.read(key, state, stat) for key in keys}
+            yield from self.core.pull_news()
+            told = {key: self.core.records.read(key, state) for key in keys}
+            if None not in told.values():
+                return told
+            answers = yield from ask_aside(asked)
+            if answers[0].error is not None:
+                return told
         answers[0].result()
         return {key: answer.result() for key, answer in zip(keys, answers[1:])}
 

@@ -36,49 +36,83 @@ class Sides(Dict[StateId, Optional[bytes]]):
 Resolve = Callable[[bytes, Base, Sides], Optional[Bytes]]
 
 
-def last_writer(key: bytes, base: Base, sides: Sides) -> Optional[bytes]:
-    """What the side has whose writer has the greater id, as the rule `last` of `docs/RULES.md`. It says nothing of time."""
+def _last(key: bytes, base: Base, sides: Sides) -> Optional[bytes]:
     written = [(writer, side) for side, writer in sides.writers.items() if writer is not None]
     return sides[max(written)[1]] if written else None
 
 
-class _Counter:
-    """The sum of what each side added, as the rule `count`: decimal texts, of which none counts as 0. It is asked where the sides
-    are equal too, since two that added one each hold the same. What all sides deleted stays deleted."""
+def _count(key: bytes, base: Base, sides: Sides) -> Optional[bytes]:
+    if all(value is None for value in sides.values()):
+        return None
+    if isinstance(base, Unknown):
+        raise Unresolved(key, "the value where the sides parted isn't known, so nobody can tell what each side added")
 
-    def __call__(self, key: bytes, base: Base, sides: Sides) -> Optional[bytes]:
-        if all(value is None for value in sides.values()):
-            return None
-        if isinstance(base, Unknown):
-            raise Unresolved(key, "the value where the sides parted isn't known, so nobody can tell what each side added")
-        start = self._number(key, base)
-        return b"%d" % (start + sum(self._number(key, value) - start for value in sides.values()))
-
-    def of_equal_sides(self, key: bytes) -> bool:
-        return True
-
-    @staticmethod
-    def _number(key: bytes, value: Optional[bytes]) -> int:
+    def number(value: Optional[bytes]) -> int:
         try:
             return int(value or b"0")
         except ValueError:
             raise Unresolved(key, f"{value!r} is no number") from None
 
+    start = number(base)
+    return b"%d" % (start + sum(number(value) - start for value in sides.values()))
 
-counter: Resolve = _Counter()
+
+class ReadyMade:
+    """A resolver that asks nobody, and gives the same each time, so that it may be asked more than a person: what several
+    fork points have together, which is the base of sides that parted at all of them. It may be asked of equal sides too, and,
+    where it needs no base, of all sides at once. A resolver of one's own says the same by methods of these names."""
+
+    def __init__(self, resolve: Resolve, of_equal_sides: bool = False, of_many_sides: bool = False) -> None:
+        self._resolve = resolve
+        self._of_equal_sides = of_equal_sides
+        self._of_many_sides = of_many_sides
+
+    def __call__(self, key: bytes, base: Base, sides: Sides) -> Optional[Bytes]:
+        return self._resolve(key, base, sides)
+
+    def of_equal_sides(self, key: bytes) -> bool:
+        return self._of_equal_sides
+
+    def of_many_sides(self, key: bytes) -> bool:
+        return self._of_many_sides
+
+    def of_fork_points(self, key: bytes) -> bool:
+        return not self._of_many_sides
+
+
+def _says(resolve: Resolve, what: str, key: bytes) -> bool:
+    says = getattr(resolve, what, None)
+    return bool(says(key)) if callable(says) else False
 
 
 def is_asked_of_equal_sides(resolve: Resolve, key: bytes) -> bool:
-    """Whether a resolver is asked where all sides have the same value: where it has a method `of_equal_sides` that says so."""
-    says = getattr(resolve, "of_equal_sides", None)
-    return bool(says(key)) if callable(says) else False
+    """Whether a resolver is asked where all sides have the same value."""
+    return _says(resolve, "of_equal_sides", key)
+
+
+def is_asked_of_many_sides(resolve: Resolve, key: bytes) -> bool:
+    """Whether a resolver needs no base, and takes any number of sides."""
+    return _says(resolve, "of_many_sides", key)
+
+
+def is_asked_of_fork_points(resolve: Resolve, key: bytes) -> bool:
+    """Whether a resolver may be asked what several fork points have together."""
+    return _says(resolve, "of_fork_points", key)
+
+
+#: What the side has whose writer has the greater id, as the rule `last` of `docs/RULES.md`. It says nothing of time.
+last_writer: Resolve = ReadyMade(_last, of_many_sides=True)
+
+#: The sum of what each side added, as the rule `count`: decimal texts, of which none counts as 0. It is asked where the sides are
+#: equal too, since two that added one each hold the same. What all sides deleted stays deleted.
+counter: Resolve = ReadyMade(_count, of_equal_sides=True)
 
 
 def union_of(separator: Bytes) -> Resolve:
     """A set of items with this between each two. What some side added is there; what a side took out of the base is gone.
     Where the base isn't known, what some side has is there. The items stand in order."""
     between = separator.encode() if isinstance(separator, str) else separator
-    return lambda key, base, sides: _union(between, base, sides)
+    return ReadyMade(lambda key, base, sides: _union(between, base, sides))
 
 
 def _union(between: bytes, base: Base, sides: Sides) -> bytes:
@@ -90,17 +124,17 @@ def _union(between: bytes, base: Base, sides: Sides) -> bytes:
     return between.join(sorted(set().union(*held) - removed))
 
 
-def union_of_lines(key: bytes, base: Base, sides: Sides) -> bytes:
-    """A set of lines, as `union_of("\\n")` merges it; with a line feed behind the last where some side has it."""
+def _lines(key: bytes, base: Base, sides: Sides) -> bytes:
     merged = _union(b"\n", base, sides)
     ends = any(value is not None and value.endswith(b"\n") for value in sides.values())
     return merged + b"\n" if merged and ends else merged
 
 
-def three_way_text(key: bytes, base: Base, sides: Sides) -> Optional[bytes]:
-    """A text, line by line: what some side inserted since the base is there, what some side took out is gone. So where two
-    sides changed one line, both new ones are there, one after the other. A side that deleted the text gives way to one that
-    changed it."""
+#: A set of lines, as `union_of("\n")` merges it; with a line feed behind the last where some side has it.
+union_of_lines: Resolve = ReadyMade(_lines)
+
+
+def _text(key: bytes, base: Base, sides: Sides) -> Optional[bytes]:
     start = None if isinstance(base, Unknown) else base
     texts = list(sides.values())
     changed = [text for text in texts if text != start or isinstance(base, Unknown)]
@@ -111,6 +145,11 @@ def three_way_text(key: bytes, base: Base, sides: Sides) -> Optional[bytes]:
     for text in present[1:]:
         merged = merge_text(start, merged, text)
     return merged
+
+
+#: A text, line by line: what some side inserted since the base is there, what some side took out is gone. So where two sides
+#: changed one line, both new ones are there, one after the other. A side that deleted the text gives way to one that changed it.
+three_way_text: Resolve = ReadyMade(_text)
 
 
 def merge_text(base: Optional[bytes], one: bytes, other: bytes) -> bytes:
@@ -171,6 +210,12 @@ class _ByPrefix:
 
     def of_equal_sides(self, key: bytes) -> bool:
         return is_asked_of_equal_sides(self._of(key), key)
+
+    def of_many_sides(self, key: bytes) -> bool:
+        return is_asked_of_many_sides(self._of(key), key)
+
+    def of_fork_points(self, key: bytes) -> bool:
+        return is_asked_of_fork_points(self._of(key), key)
 
 
 def by_prefix(resolvers: Mapping[Bytes, Resolve]) -> Resolve:

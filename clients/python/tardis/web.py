@@ -124,7 +124,7 @@ def drawing(history: History) -> Dict[str, Any]:
         "rows": [[str(state.id), lane, ", ".join(said.get(state.id, ())), wrote(state), len(state.parents)]
                  for state, lane in zip(layout.states, layout.lanes)],
         "edges": [[edge.child_row, edge.child_lane, edge.lane, edge.parent_row, edge.parent_lane] for edge in layout.edges],
-        "width": layout.width, "leaves": [str(leaf) for leaf in history.leaves], "known": history.stat.known, "kept": history.stat.kept,
+        "leaves": [str(leaf) for leaf in history.leaves], "total": history.stat.leaves, "known": history.stat.known, "kept": history.stat.kept,
         "collected": history.collected, "complete": history.is_complete,
         "sites": [[site, line.count, str(line.floor), line.number] for site, line in enumerate(history.stat.sites, 1)]}
 

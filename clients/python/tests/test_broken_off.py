@@ -44,9 +44,7 @@ class BrokenOff(unittest.TestCase):
         self.addCleanup(shutil.rmtree, self.folder)
 
     def against(self, script, timeout=5.0):
-        for name in os.listdir(self.folder):
-            os.unlink(os.path.join(self.folder, name))
-        server = Scripted(self.folder, script)
+        server = Scripted(tempfile.mkdtemp(dir=self.folder), script)
         self.addCleanup(server.thread.join, 5)
         site = tardis.connect(server.address, timeout)
         self.addCleanup(site.disconnect)
@@ -161,6 +159,39 @@ class BrokenOff(unittest.TestCase):
             with self.assertRaises(tardis.ProtocolError):
                 site.get("a")
             self.is_over(site)
+
+    def test_a_reply_that_nobody_asked_for(self):
+        for late, told in [(VALUE, "a reply came that nobody asked for"), (b"", "ended the connection|the site ended it")]:
+            sent = threading.Event()
+
+            def script(link):
+                link.recv(1000)
+                link.sendall(VALUE)
+                sent.wait(5)
+                link.sendall(late)
+                if late:
+                    link.recv(1000)
+
+            site = self.against(script)
+            self.assertEqual(site.get("a").value, b"a")
+            sent.set()
+            time.sleep(0.1)
+            with self.assertRaisesRegex((tardis.ProtocolError, tardis.Disconnected), told):
+                site.get("b")
+            self.is_over(site)
+
+            async def awaited():
+                server = Scripted(tempfile.mkdtemp(dir=self.folder), script)
+                site = await tardis.aio.connect(server.address, 5)
+                self.assertEqual((await site.get("a")).value, b"a")
+                sent.set()
+                await asyncio.sleep(0.1)
+                with self.assertRaisesRegex(tardis.Disconnected, told):
+                    await site.get("b")
+                await site.disconnect()
+
+            sent.clear()
+            asyncio.run(awaited())
 
     def test_what_is_wrong_is_told_before_it_is_sent(self):
         def script(link):

@@ -1,7 +1,7 @@
 """The client against each server: what its calls give, what they refuse, and what becomes of a server that is killed."""
 
 import asyncio
-import os
+import inspect
 import pickle
 import threading
 import unittest
@@ -177,6 +177,88 @@ class Calls(OverServers):
         self.assertEqual((len(wide.keys), one.leaves().first), (150, (wide.id,)))
         self.assertGreater(len(wide.steps), 2)
         self.assertEqual({value for _, value in one.items(wide.id, "wide ").items}, {b"side 1"})
+
+    def test_branches_that_were_merged_twice_have_a_base(self):
+        one, other = self.two()
+        with one.transaction() as txn:
+            txn.put("n", "10"), txn.put("doc", "a\nb\nc")
+        sides = []
+        for site, n, doc in ((one, "11", "a\nc"), (other, "12", "a\nb\nc\nd")):
+            with site.transaction(at=txn.committed) as side:
+                side.get("n"), side.put("n", n), side.put("doc", doc)
+            sides.append(side.committed)
+        # both merge the same leaves: two states, each below both leaves
+        resolve = tardis.by_prefix({"n": tardis.counter, "doc": tardis.three_way_text})
+        both = [one.merge(resolve, sides).id, other.merge(resolve, sides).id]
+        for site, n, at in ((one, 1, both[0]), (other, 2, both[1])):
+            with site.transaction(at=at) as txn:
+                self.assertEqual(txn.value("n"), b"13")
+                txn.put("n", str(13 + n)), txn.put("doc", txn.value("doc") + b"\n%d" % n)
+        told = one.compare(*one.leaves().first)
+        self.assertEqual((told.fork_points, {conflict.base for conflict in told.conflicts}), (tuple(sides), {tardis.UNKNOWN}))
+        merged = one.merge(resolve)
+        self.assertEqual(dict(one.items(merged.id).items), {b"n": b"16", b"doc": b"a\nc\nd\n1\n2"})
+
+    def test_a_base_at_the_floor_is_read_by_another_session(self):
+        self.serve()
+        one, other = self.connect(), self.connect()
+        one.open(follow=True), other.open(follow=True)
+        with one.transaction() as txn:
+            txn.put("n", "1")
+        for _ in range(2):
+            with one.transaction() as txn:
+                txn.put("n", str(int(txn.value("n")) + 1))
+        one.begin(), other.begin()
+        for site in (one, other):
+            site.put("n", str(int(site.value("n")) + 1)), site.commit()
+        # both ceilings stand below the fork now; nobody may read there but who comes anew, and no record of it is told
+        self.assertEqual((one.raise_floor().floor, one.tidy()), (txn.committed, 3))
+        self.assertRaises(tardis.Below, one.begin, txn.committed)
+        merged = one.merge(tardis.counter)
+        self.assertEqual(dict(one.items(merged.id).items), {b"n": b"5"})
+        self.assertEqual(one.stat().kept, 4)
+
+        async def awaited():
+            async with await tardis.aio.connect(self.address, PATIENCE) as third:
+                await third.open(follow=True)
+                for site in (one, other):
+                    site.begin()
+                for site in (one, other):
+                    site.put("n", str(int(site.value("n")) + 1)), site.commit()
+                await third.ceiling(one.leaves().first[0])
+                self.assertEqual(one.raise_floor().floor, merged.id)
+                again = await third.merge(tardis.counter)
+                self.assertEqual((await third.items(again.id)).items, ((b"n", b"7"),))
+
+        asyncio.run(awaited())
+
+    def test_a_history_of_which_states_were_collected(self):
+        self.serve()
+        site, viewer = self.connect(), self.connect()
+        site.open(follow=True)
+        for number in range(5):
+            with site.transaction() as txn:
+                txn.put("x", str(number))
+        fork = txn.committed
+        with self.connect() as other:
+            other.open()
+            with other.transaction(at=fork) as txn:
+                txn.get("x"), txn.put("x", "beside")
+        at = fork
+        for number in range(5):
+            with site.transaction(at=at) as txn:
+                txn.get("x"), txn.put("x", "again %d" % number)
+            at = txn.committed
+        while site.stat().sessions > 1:
+            pass
+        self.assertEqual(site.raise_floor().floor, txn.committed)
+        site.tidy()
+        leaf = StateId(1, 6)
+        history = viewer.history()
+        self.assertEqual([(state.id, state.parents) for state in history], [(fork, ()), (txn.committed, (fork,)), (leaf, (fork,))])
+        self.assertEqual((history[fork].writes, history[leaf].keys, len(history)), (None, (b"x",), site.stat().kept))
+        self.assertTrue(history.is_above(fork, leaf) and not history.is_above(txn.committed, leaf))
+        self.assertEqual(viewer.items(leaf), tardis.Items(((b"x", b"beside"),), False))
 
     def test_a_merge_that_cannot_be_resolved_changes_nothing(self):
         one, other = self.two()
@@ -374,6 +456,16 @@ class Calls(OverServers):
                 await one.stat()
 
         asyncio.run(story())
+
+
+class Shells(unittest.TestCase):
+    def test_both_shells_have_the_same_calls(self):
+        def calls(of):
+            return {name: [word for word in inspect.signature(getattr(of, name)).parameters] for name in dir(of)
+                    if not name.startswith("_") and callable(getattr(of, name))}
+
+        self.assertEqual(calls(tardis.Site), calls(tardis.aio.Site))
+        self.assertEqual(calls(tardis.Transaction), calls(tardis.aio.Transaction))
 
 
 class Tardisd(OfTardisd, Calls):

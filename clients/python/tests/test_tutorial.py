@@ -77,7 +77,7 @@ class Runner:
         self.shell.stdin.flush()
         told, end = "", time.monotonic() + PATIENCE
         # what runs in the background has said its first line when it is there
-        while MARK not in told or (source.endswith("&") and not re.search(r"listens at|shows", told)):
+        while MARK not in told or (source.endswith("&") and not re.search(r"(listens at|shows) .*\n", told)):
             ready, _, _ = select.select([self.shell.stdout], [], [], max(0, end - time.monotonic()))
             assert ready, "this took too long: %s; it said %r" % (source, told)
             more = os.read(self.shell.stdout.fileno(), 1 << 16)
