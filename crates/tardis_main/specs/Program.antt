@@ -91,7 +91,7 @@ module _ {I O : Type 0} (left : I → Option (List ℕ)) (reads : I → ℕ) (gi
 
 -- what these words of `serve` ask for
 abbrev pub work_of : Serving → Workload
-work_of plan = record { links = plan.links; peers = length plan.peers; rounds = plan.rounds; tidy = plan.tidy }
+work_of plan = record { links = plan.links; peers = plan.peers; rounds = plan.rounds; tidy = plan.tidy }
 
 module _ {L G X D O : Type 0} (link_left link_given : L → Option (List ℕ)) (link_takes link_gives : L → ℕ) (told : G → Option (ToldGate L)) (gates : G → ℕ)
     (peer_left peer_given : X → Option (List ℕ)) (peer_takes peer_gives : X → ℕ) (dial_told : D → Option (ToldDial X)) (dials : D → ℕ)
