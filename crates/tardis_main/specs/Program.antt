@@ -96,7 +96,7 @@ module _ {I O : Type 0} (i : ASource I) (o : ASink O)
 
 -- what these words of `serve` ask for
 abbrev pub work_of : Serving → Workload
-work_of plan = record { links = plan.links; peers = length plan.peers; rounds = plan.rounds; tidy = plan.tidy }
+work_of plan = record { links = plan.links; peers = plan.peers; rounds = plan.rounds; tidy = plan.tidy }
 
 module _ {L G X D O : Type 0} (g : AGate G L) (l : ADuplex L) (gives : ASink L) (d : ADial D X) (x : ADuplex X) (dialled : ASink X) (o : ASink O)
     (gate gate_now : G) (dial dial_now : D) (before after : O) (words : List (List ℕ)) (status : Status) where
