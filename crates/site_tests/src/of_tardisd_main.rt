@@ -95,8 +95,26 @@ fn words_are_carried_out(rt: HostRuntime) {
         is_announced: false,
     };
     let told = b"tardisd 0.1.0\n";
-    assert!(rt; end_as(&rt, rt.alloc(), "--version", &mut doors, DaemonEnd::Told, told));
-    assert!(rt; end_as(&rt, rt.alloc(), "--sites 2", &mut doors, DaemonEnd::Usage, b""));
+    assert!(rt;
+        end_as(
+            &rt,
+            rt.alloc(),
+            "--version",
+            &mut doors,
+            DaemonEnd::Told,
+            told
+        )
+    );
+    assert!(rt;
+        end_as(
+            &rt,
+            rt.alloc(),
+            "--sites 2",
+            &mut doors,
+            DaemonEnd::Usage,
+            b""
+        )
+    );
     assert!(rt; !doors.is_opened);
     let line = "--site 2 --tidy --listen unix:s --sites 3";
     let lost = DaemonEnd::Gate(GateFault::Lost);
