@@ -4,6 +4,7 @@ their answers, and ends with what the call gives. `blocking` and `aio` are thin 
 from typing import Any, Dict, Generator, List, NamedTuple, Optional, Sequence, Tuple, TypeVar, Union
 
 from . import requests
+from .codes import RequestCode
 from .conversation import Answer, Conversation
 from .histories import Difference, History, Items, Records, State
 from .ids import ROOT, Bytes, StateId, state_id
@@ -86,7 +87,7 @@ class Core:
     def _note(self, request: Request[Any], reply: Reply) -> None:
         """Sees each request and its reply."""
         if isinstance(reply, Opened):
-            self.follows, self.merging, self.ceiling = request.body == b"\x01\x01", False, reply.ceiling
+            self.follows, self.merging, self.ceiling = request.body == bytes((RequestCode.OPEN, True)), False, reply.ceiling
         elif isinstance(reply, Closed):
             self.follows, self.merging, self.ceiling = False, False, None
         elif isinstance(reply, (Begun, Merging)):

@@ -2,6 +2,7 @@
 
 from typing import Callable, Dict, NamedTuple, Optional, Tuple, TypeVar, Union
 
+from .codes import ReplyCode
 from .ids import StateId
 from .refusals import REFUSAL_OF, Branches, NoBranch, NoMemory, ProtocolError, Refused
 
@@ -270,34 +271,37 @@ def _refusal(r: Reader) -> Refused:
 
 
 _REPLIES: Dict[int, Callable[[Reader], Reply]] = {
-    1: lambda r: Opened(r.id()),
-    2: lambda r: Begun(r.id()),
-    3: lambda r: Merging(r.ids(1)),
-    4: lambda r: Value(r.id(), r.value()),
-    5: lambda r: Deleted(r.id()),
-    6: lambda r: Absent(),
-    7: lambda r: Done(),
-    8: lambda r: Committed(r.id(), r.ids(1)),
-    9: lambda r: Ended(r.id()),
-    10: lambda r: States(r.number(4), r.ids(2)),
-    11: lambda r: Keys(r.number(4), r.many(r.number(2), r.key)),
-    12: lambda r: Raised(r.id(), r.number(4)),
-    13: lambda r: Tidied(r.number(4)),
-    14: _stat,
-    15: _shown,
-    16: _batch,
-    17: lambda r: Applied(),
-    18: lambda r: Known(),
-    19: lambda r: Early(r.number(4)),
-    20: lambda r: Closed(),
-    21: _refusal,
-    22: lambda r: NoMemory(),
+    ReplyCode.OPENED: lambda r: Opened(r.id()),
+    ReplyCode.BEGUN: lambda r: Begun(r.id()),
+    ReplyCode.MERGING: lambda r: Merging(r.ids(1)),
+    ReplyCode.VALUE: lambda r: Value(r.id(), r.value()),
+    ReplyCode.DELETED: lambda r: Deleted(r.id()),
+    ReplyCode.ABSENT: lambda r: Absent(),
+    ReplyCode.DONE: lambda r: Done(),
+    ReplyCode.COMMITTED: lambda r: Committed(r.id(), r.ids(1)),
+    ReplyCode.ENDED: lambda r: Ended(r.id()),
+    ReplyCode.STATES: lambda r: States(r.number(4), r.ids(2)),
+    ReplyCode.KEYS: lambda r: Keys(r.number(4), r.many(r.number(2), r.key)),
+    ReplyCode.RAISED: lambda r: Raised(r.id(), r.number(4)),
+    ReplyCode.TIDIED: lambda r: Tidied(r.number(4)),
+    ReplyCode.STAT: _stat,
+    ReplyCode.SHOWN: _shown,
+    ReplyCode.BATCH: _batch,
+    ReplyCode.APPLIED: lambda r: Applied(),
+    ReplyCode.KNOWN: lambda r: Known(),
+    ReplyCode.EARLY: lambda r: Early(r.number(4)),
+    ReplyCode.CLOSED: lambda r: Closed(),
+    ReplyCode.REFUSED: _refusal,
+    ReplyCode.NO_MEMORY: lambda r: NoMemory(),
 }
+
+
+_DONE = bytes((ReplyCode.DONE,))
 
 
 def read_reply(body: bytes) -> Reply:
     """The reply that the body of a frame spells: a value, or a refusal that isn't raised yet."""
-    if body == b"\x07":
+    if body == _DONE:
         return Done()
     r = Reader(body)
     code = r.number(1)

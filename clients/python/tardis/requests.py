@@ -3,6 +3,7 @@
 import struct
 from typing import Callable, Generic, List, Optional, Sequence, Tuple, Type, TypeVar, Union
 
+from .codes import RequestCode
 from .ids import Bytes, StateId, flag, key_bytes, number, prefix_bytes, state_id, value_bytes
 from .refusals import ProtocolError
 from .replies import (
@@ -89,6 +90,11 @@ def _id(state: At) -> bytes:
     return struct.pack(">HI", *state_id(state))
 
 
+def _body(code: RequestCode, fields: bytes = b"") -> bytes:
+    """The body of a request: its code, and its fields."""
+    return bytes((code,)) + fields
+
+
 def frame(body: bytes) -> bytes:
     """The body behind its length."""
     return struct.pack(">I", len(body)) + body
@@ -102,15 +108,15 @@ def raw(body: bytes) -> "Request[Reply]":
 # sessions
 
 def open_session(follow: bool) -> "Request[StateId]":
-    return Request(b"\x01" + bytes([flag("follow", follow)]), _gives(Opened, lambda reply: reply.ceiling))
+    return Request(_body(RequestCode.OPEN, bytes([flag("follow", follow)])), _gives(Opened, lambda reply: reply.ceiling))
 
 
 def close() -> "Request[None]":
-    return Request(b"\x15", _gives(Closed, lambda reply: None))
+    return Request(_body(RequestCode.CLOSE), _gives(Closed, lambda reply: None))
 
 
 def ceiling(state: At) -> "Request[None]":
-    return Request(b"\x0c" + _id(state), _done)
+    return Request(_body(RequestCode.CEILING, _id(state)), _done)
 
 
 # transactions
@@ -126,30 +132,30 @@ def begin(at: At) -> "Request[StateId]":
             kind = b"\x03" + _id(at)
         except ValueError as fault:
             raise ValueError(f"a transaction begins at 'any', 'ancestor', 'parent' or a state: {fault}") from None
-    return Request(b"\x02" + kind, _gives(Begun, lambda reply: reply.state))
+    return Request(_body(RequestCode.BEGIN, kind), _gives(Begun, lambda reply: reply.state))
 
 
 def get(key: Bytes) -> "Request[Read]":
-    return Request(b"\x03" + _key(key), _read)
+    return Request(_body(RequestCode.GET, _key(key)), _read)
 
 
 def put(key: Bytes, value: Bytes) -> "Request[None]":
-    return Request(b"\x04" + _key(key) + _value(value), _done)
+    return Request(_body(RequestCode.PUT, _key(key) + _value(value)), _done)
 
 
 def delete(key: Bytes) -> "Request[None]":
-    return Request(b"\x05" + _key(key), _done)
+    return Request(_body(RequestCode.DELETE, _key(key)), _done)
 
 
 def commit(serializable: bool, snapshot: bool, no_branch: bool, branches: Optional[int]) -> "Request[Union[Committed, Ended]]":
     flags = (flag("serializable", serializable) * 1 + flag("snapshot", snapshot) * 2 + flag("no_branch", no_branch) * 4
              + (branches is not None) * 8)
     most = 0 if branches is None else number("branches", branches, 1, 0xFFFF)
-    return Request(struct.pack(">BBH", 6, flags, most), _ended)
+    return Request(_body(RequestCode.COMMIT, struct.pack(">BH", flags, most)), _ended)
 
 
 def abort() -> "Request[None]":
-    return Request(b"\x07", _done)
+    return Request(_body(RequestCode.ABORT), _done)
 
 
 # merges
@@ -158,43 +164,43 @@ def begin_merge(states: Sequence[At]) -> "Request[Tuple[StateId, ...]]":
     """A merge of these states, or of all leaves where none is named."""
     if len(states) > 255:
         raise ValueError(f"at most 255 states can be named, and not {len(states):,}")
-    spelled = b"\x08" + bytes([len(states)]) + b"".join(map(_id, states))
+    spelled = _body(RequestCode.BEGIN_MERGE, bytes([len(states)]) + b"".join(map(_id, states)))
     return Request(spelled, _gives(Merging, lambda reply: reply.states))
 
 
 def fork_points() -> "Request[States]":
-    return Request(b"\x09", _itself(States))
+    return Request(_body(RequestCode.FORK_POINTS), _itself(States))
 
 
 def conflicts(after: Bytes) -> "Request[Keys]":
     behind = prefix_bytes(after)
-    return Request(b"\x0a" + bytes([len(behind)]) + behind, _itself(Keys))
+    return Request(_body(RequestCode.CONFLICTS, bytes([len(behind)]) + behind), _itself(Keys))
 
 
 def get_for(key: Bytes, state: At) -> "Request[Read]":
-    return Request(b"\x0b" + _key(key) + _id(state), _read)
+    return Request(_body(RequestCode.GET_FOR, _key(key) + _id(state)), _read)
 
 
 # the site
 
 def leaves() -> "Request[States]":
-    return Request(b"\x12", _itself(States))
+    return Request(_body(RequestCode.LEAVES), _itself(States))
 
 
 def stat() -> "Request[Stat]":
-    return Request(b"\x10", _itself(Stat))
+    return Request(_body(RequestCode.STAT), _itself(Stat))
 
 
 def show(state: At) -> "Request[Shown]":
-    return Request(b"\x11" + _id(state), _itself(Shown))
+    return Request(_body(RequestCode.SHOW, _id(state)), _itself(Shown))
 
 
 def raise_floor(state: Optional[At]) -> "Request[Raised]":
-    return Request(b"\x0e" if state is None else b"\x0d" + _id(state), _itself(Raised))
+    return Request(_body(RequestCode.RAISE_AUTO) if state is None else _body(RequestCode.RAISE, _id(state)), _itself(Raised))
 
 
 def tidy(count: int) -> "Request[int]":
-    spelled = struct.pack(">BH", 15, number("how many states are collected", count, 0, 0xFFFF))
+    spelled = _body(RequestCode.TIDY, struct.pack(">H", number("how many states are collected", count, 0, 0xFFFF)))
     return Request(spelled, _gives(Tidied, lambda reply: reply.collected))
 
 
@@ -204,14 +210,14 @@ def pull(counts: Sequence[int]) -> "Request[Batch]":
     if not 1 <= len(counts) <= 16:
         raise ValueError(f"there is a count for each of 1 to 16 sites, and not {len(counts)}")
     told: List[bytes] = [struct.pack(">I", number("a count", count, 0, 0xFFFFFFFF)) for count in counts]
-    return Request(b"\x13" + bytes([len(told)]) + b"".join(told), _itself(Batch))
+    return Request(_body(RequestCode.PULL, bytes([len(told)]) + b"".join(told)), _itself(Batch))
 
 
 def deliver(item: bytes) -> "Request[Delivered]":
     if not isinstance(item, bytes):
         raise TypeError(f"an item is bytes, as a batch's items are, and not {type(item).__name__}")
-    return Request(b"\x14" + item, _delivered)
+    return Request(_body(RequestCode.DELIVER, item), _delivered)
 
 
 def settle() -> "Request[Union[Applied, Done]]":
-    return Request(b"\x16", _settled)
+    return Request(_body(RequestCode.SETTLE), _settled)

@@ -8,6 +8,7 @@ import unittest
 from servers_here import TOP, tardis
 
 from tardis import requests  # noqa: E402
+from tardis.codes import ReplyCode, RequestCode  # noqa: E402
 from tardis.refusals import REFUSAL_OF  # noqa: E402
 from tardis.replies import read_reply  # noqa: E402
 
@@ -82,6 +83,12 @@ FIELDS = {
 
 
 class Spellings(unittest.TestCase):
+    def test_codes_are_those_of_the_site(self):
+        for module, codes in ("request_codes", RequestCode), ("reply_codes", ReplyCode):
+            source = "\n".join(lines(f"crates/wire_talk/src/{module}.rt"))
+            stated = dict(re.findall(r"pub const (\w+): u8 = (\d+);", source))
+            self.assertEqual({code.name: str(code.value) for code in codes}, stated)
+
     def test_requests_are_spelled_as_the_bodies_of_the_replication(self):
         count = 0
         for line in lines("docs/REPLICATION.md"):

@@ -8,7 +8,7 @@ use Rattle.tardis_io.specs.declared.statuses.Status.TheVariants.{NoMemory}
 use Rattle.line_cut.specs.Lines.{last_line}
 use Rattle.site_run.specs.Responses.{Whole, InTurn, AnsweredBy}
 use Rattle.site_run.specs.Endings.{shape_within}
-use Rattle.site_run.specs.LineEndings.{LineOutcome}
+use Rattle.site_run.specs.Endings.{LineOutcome}
 use Rattle.shell_run.specs.Answers.{over_lines}
 use Rattle.plain_site.specs.Site.{Site}
 use Rattle.plain_site.specs.Step.{site_machine}
@@ -24,10 +24,10 @@ use Rattle.auto_run.proofs.Shells.{shell_may}
 
 -- ===== The rules stay
 
-ruled : Site → List PrefixRule → Ruled
+unfoldable pub ruled : Site → List PrefixRule → Ruled
 ruled s rules = record { site = s; rules = rules }
 
-in_turn : (rules : List PrefixRule) (s : Ruled) (lines answers : List (List ℕ)) (t : Ruled) → s.rules ≡ rules → InTurn RuledMay s lines answers t
+pub in_turn : (rules : List PrefixRule) (s : Ruled) (lines answers : List (List ℕ)) (t : Ruled) → s.rules ≡ rules → InTurn RuledMay s lines answers t
     → InTurn (AutoMay (over_lines site_machine) rules) s.site lines answers t.site
 in_turn rules s [] [] t is p = ap (λ r. r.site) p
 in_turn rules s (line ∷ lines) (answer ∷ answers) t is p =

@@ -5,3 +5,4 @@ mod Refusals
 mod Answering
 mod Shells
 pub mod AutoRuns
+mod AutoPrompts

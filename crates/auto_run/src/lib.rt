@@ -14,4 +14,4 @@ mod runs;
 pub use commands::auto;
 pub use laws::auto_lines_have_one_reading;
 pub use ruled_sites::RuledSite;
-pub use runs::run_auto;
+pub use runs::{run_auto, run_auto_device};

@@ -4,12 +4,13 @@ ghost use Rattle.std.specs.Prelude.{◌≡◌, ◌<◌, ◌≤◌, ℕ, List, le
 ghost use Rattle.tardis_io.specs.Told.{WhileTold};
 ghost use Rattle.tardis_io.specs.Faults.{Rose};
 ghost use Rattle.line_cut.specs.Lines.{IsCut as AreLines};
+ghost use Rattle.site_run.specs.Prompt.{EachTake};
 ghost use Rattle.site_run.specs.Endings.{most_taken};
-ghost use Rattle.site_run.specs.LineEndings.{IsLineEnd, LinesEndAs};
+ghost use Rattle.site_run.specs.Endings.{IsLineEnd, LinesEndAs};
 ghost use Rattle.shell_run.specs.Answers.{over_lines};
 ghost use Rattle.plain_site.specs.Step.{site_machine};
 ghost use Rattle.session_core.specs.Machine.{SiteStands, opened_with};
-ghost use Rattle.auto_run.specs.Outcomes.{AutoOutcome};
+ghost use Rattle.auto_run.specs.Outcomes.{AutoOutcome, AutoIsPrompt};
 
 use crate::replies::AutoReplies;
 use crate::ruled_sites::RuledSite;
@@ -47,11 +48,13 @@ pub fn run_auto<I: Source, O: Sink>(
     run_auto_device(alloc, site, &mut Pair { input, output })
 }
 
-/// The same over one device.
-fn run_auto_device<D: Duplex>(alloc: Global, site: &mut RuledSite, device: &mut D) -> Status
+/// The same over one device. Before each take all lines whose line feed was taken were answered, and all answers given.
+pub fn run_auto_device<D: Duplex>(alloc: Global, site: &mut RuledSite, device: &mut D) -> Status
     ensures outcome { WhileTold (D.left device.old) (D.left device.new)
         (AutoOutcome (over_lines site_machine) site.old.rules result (SiteStands site.old.core) (SiteStands site.new.core) (D.given device.old)
         (D.given device.new)) }
+    ensures prompt { EachTake (D.takes device.old) (D.takes device.new) (λ moment. WhileTold (D.left device.old) moment.left
+        (AutoIsPrompt (over_lines site_machine) site.old.rules (SiteStands site.old.core) (D.given device.old) moment.given)) }
     ensures exact { WhileTold (D.left device.old) (D.left device.new) (λ first left. (all : List (List ℕ)) (rest : List ℕ)
         → AreLines first all rest → length first < most_taken
         → (Rose (D.take_faults device.old) (D.take_faults device.new) → ⊥) → (Rose (D.faults device.old) (D.faults device.new) → ⊥)

@@ -2,6 +2,7 @@
 use Rattle.std.specs.Prelude.{ℕ, Bool, List, [], ◌∷◌, Option, None, codes, bytes_eq, option_map, option_and_then, if◌then◌else◌}
 use Rattle.std.specs.Bool.{then_some}
 use Rattle.tardis_base.specs.declared.ids.StateId.{StateId}
+use Rattle.tardis_base.specs.Sizes.{most_sites}
 use Rattle.rule_list.specs.declared.rules.PrefixRule.{PrefixRule}
 use Rattle.rule_list.specs.RuleTexts.{rules_of}
 use Rattle.command_words.specs.declared.commands.Place.{Place}
@@ -38,7 +39,7 @@ of found name = values name found
 abbrev pub place : List Setting → Option Place
 place found =
     option_and_then (λ sites. option_map (λ site. record { sites = sites; site = site }) (number_or 1 1 sites (of found (codes "--site"))))
-    (number_or 1 1 16 (of found (codes "--sites")))
+    (number_or 1 1 most_sites (of found (codes "--sites")))
 
 -- a place, and nothing else
 abbrev pub place_alone : List Setting → Option Place
@@ -46,7 +47,7 @@ place_alone found = if are_only (codes "--sites" ∷ codes "--site" ∷ []) foun
 
 -- `--sites M`, from 1 to 16
 abbrev pub world : List Setting → Option ℕ
-world found = if are_only (codes "--sites" ∷ []) found then needed 1 16 (of found (codes "--sites")) else None
+world found = if are_only (codes "--sites" ∷ []) found then needed 1 most_sites (of found (codes "--sites")) else None
 
 -- the options of `serve` beside its place
 abbrev pub serving_at : List Setting → Place → Option Serving

@@ -1,6 +1,7 @@
 -- Which places there are.
 use Rattle.std.specs.Prelude.{ℕ, ◌≤◌}
 use Rattle.tardis_base.specs.declared.records.Limits.{Limits}
+use Rattle.tardis_base.specs.Sizes.{most_sites, most_kept, most_pairs, most_sessions, longest_trail}
 use Rattle.command_words.specs.declared.commands.Place.{Place}
 use Rattle.command_words.specs.declared.commands.Command.{Command}
 use Rattle.command_words.specs.declared.commands.Command.TheVariants.{Run, Shell, Audit, World, Serve, Load, Auto, Durable, Export, Import}
@@ -8,7 +9,7 @@ use Rattle.command_words.specs.declared.commands.Command.TheVariants.{Run, Shell
 -- a site of 1 to 16 sites
 pub record IsPlace (place : Place) : Type 0 where
   pub some : 1 ≤ place.sites
-  pub most : place.sites ≤ 16
+  pub most : place.sites ≤ most_sites
   pub first : 1 ≤ place.site
   pub last : place.site ≤ place.sites
 
@@ -17,7 +18,7 @@ abbrev pub HasPlace : Command → Type 0
 HasPlace (Run place) = IsPlace place
 HasPlace (Shell place) = IsPlace place
 HasPlace (Audit place) = IsPlace place
-HasPlace (World sites) = (1 ≤ sites) × (sites ≤ 16)
+HasPlace (World sites) = (1 ≤ sites) × (sites ≤ most_sites)
 HasPlace (Serve plan) = IsPlace plan.place
 HasPlace (Load start steps) = Unit {0}
 HasPlace (Auto place rules) = IsPlace place
@@ -27,4 +28,4 @@ HasPlace Import = Unit {0}
 
 -- the limits of a site that a program runs, by how many sites there are
 abbrev pub program_limits : ℕ → Limits
-program_limits sites = record { sites = sites; max_kept = 16384; max_path = 4096; max_sessions = 256; max_trail = 1073741824 }
+program_limits sites = record { sites = sites; max_kept = most_kept; max_path = most_pairs; max_sessions = most_sessions; max_trail = longest_trail }

@@ -8,13 +8,14 @@ ghost use Rattle.command_words.specs.Values.{needed, number_or, flag, address, a
 ghost use Rattle.command_words.specs.Forms.{place_alone, place, world, serving, serving_at, load, Serving, AsLoad};
 ghost use Rattle.command_words.specs.Commands.{serving_of};
 ghost use Rattle.command_words.specs.Places.{IsPlace};
+ghost use Rattle.tardis_base.specs.Sizes.{most_sites};
 
 use crate::commands::{Place, ServePlan, WordsFault};
 use crate::numbers::{is_address, read_number};
 use crate::peers::{are_addresses, copies_of};
 use crate::settings::{Given, are_only, how_given};
 use std::alloc::Global;
-use tardis_base::NoMemory;
+use tardis_base::{MAX_SITES, NoMemory};
 
 /// The number of an option that must be there.
 fn read_needed(words: &[String], name: &str, least: u32, most: u32) -> Option<u32>
@@ -75,7 +76,7 @@ pub(crate) fn read_place(words: &[String]) -> Option<Place>
     ensures form { result ≡ place (settings (map (λ w. string_bytes w) words.now)) }
     ensures place { IfSome result (λ p. IsPlace p) }
 {
-    let sites = read_number_or(words, "--sites", 1, 1, 16)?;
+    let sites = read_number_or(words, "--sites", 1, 1, MAX_SITES as u32)?;
     let site = read_number_or(words, "--site", 1, 1, sites)?;
     Some(Place {
         sites: sites as u16,
@@ -99,12 +100,12 @@ pub(crate) fn read_place_alone(words: &[String]) -> Option<Place>
 pub(crate) fn read_world(words: &[String]) -> Option<u16>
     ensures form { result ≡ world (settings (map (λ w. string_bytes w) words.now)) }
     ensures from { IfSome result (λ n. 1 ≤ n) }
-    ensures to { IfSome result (λ n. n ≤ 16) }
+    ensures to { IfSome result (λ n. n ≤ most_sites) }
 {
     if !are_only(words, &["--sites"]) {
         return None;
     }
-    let sites = read_needed(words, "--sites", 1, 16)?;
+    let sites = read_needed(words, "--sites", 1, MAX_SITES as u32)?;
     Some(sites as u16)
 }
 

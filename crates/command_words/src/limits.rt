@@ -5,15 +5,15 @@ ghost use Rattle.tardis_base.specs.Valid.{are_limits};
 ghost use Rattle.command_words.specs.Places.{IsPlace, program_limits};
 
 use crate::commands::Place;
-use tardis_base::Limits;
+use tardis_base::{Limits, MAX_KEPT, MAX_PATH, MAX_SESSIONS, MAX_TRAIL};
 
 /// The limits of a site that is alone.
 const LIMITS: Limits = Limits {
     sites: 1,
-    max_kept: 16_384,
-    max_path: 4_096,
-    max_sessions: 256,
-    max_trail: 1_073_741_824,
+    max_kept: MAX_KEPT,
+    max_path: MAX_PATH,
+    max_sessions: MAX_SESSIONS,
+    max_trail: MAX_TRAIL,
 };
 
 impl Place {

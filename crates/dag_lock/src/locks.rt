@@ -1,6 +1,7 @@
 //! The lock, and the passes to it.
 
 ghost use Rattle.std.specs.Prelude.{◌≡◌, ℕ, ◌+◌, ◌-◌, ◌≤◌, ◌<◌, [], ◌∷◌, length, IfOk};
+ghost use Rattle.tardis_base.specs.Sizes.{longest_request};
 ghost use Rattle.std.specs.List.{AllByRecursion, range_with_len};
 ghost use Rattle.tardis_base.specs.Plain.{state_after};
 ghost use Rattle.trail_log.specs.Frames.{IsEntry};
@@ -72,7 +73,7 @@ impl<M: Machine> DagLock<M> {
         out: &mut ReplyBuf,
     ) -> (Pass, Acted)
         requires lock { pass.lock ≡ lock_id self.now }
-        requires fits { length request.now ≤ 1048574 }
+        requires fits { length request.now ≤ longest_request }
         ensures ended { Ended M.opening M.plain (start_of self.now) pass (actor, request.now) out.new result.0 result.1 }
         ensures pass { Keeps pass result.0 }
         ensures each { AllByRecursion IsEntry result.0.seen }

@@ -1,6 +1,7 @@
 //! The steps of one turn: a ticket is drawn, its turn is waited for, the machine acts, and the turn is passed on.
 
 ghost use Rattle.std.specs.Prelude.{◌≡◌, ◌≤◌, ◌<◌, [], ◌∷◌, length};
+ghost use Rattle.tardis_base.specs.Sizes.{longest_request};
 ghost use Rattle.atomic_table.specs.Table.{rest};
 ghost use Rattle.trail_log.specs.Trail.{Kept};
 ghost use Rattle.dag_lock.specs.Known.{Begins};
@@ -103,7 +104,7 @@ pub(crate) fn act<M: Machine>(
 ) -> Acted
     requires lock { seat.old.table_id ≡ words.now.table_id }
     requires holds { Holds seat.old.me (λ x. Unit {0}) }
-    requires fits { length request.now ≤ 1048574 }
+    requires fits { length request.now ≤ longest_request }
     ensures lock { seat.new.table_id ≡ seat.old.table_id }
     ensures view { seat.new.me.0 ≡ seat.old.me.0 }
     ensures acts { Holds seat.old.me (λ x. Holds seat.new.me (λ y. Acts M.opening M.plain (actor, request.now) result out.new x y)) }

@@ -1,13 +1,24 @@
 -- A history with one more call.
 use Rattle.std.proofs.Common.{◌≡◌, ◌⊎◌, inl, inr, ⊎_elim, ℕ, ◌+◌, ◌≤◌, List, [], ◌∷◌, ◌++◌, length, take, drop, refl, sym, ap, ◌∙◌, subst, arith}
 use Rattle.std.proofs.Common.{length-append, append-nil}
+use Rattle.std.proofs.lemmas.Bool.{cases_lt}
 use Rattle.std.proofs.lemmas.List.{take-append-le, drop-append-le, take_all, length-drop}
 use Rattle.disk_forms.specs.declared.histories.Kept.{Kept}
 use Rattle.disk_forms.specs.declared.histories.Kept.TheVariants.{Looked, Wrote, Tore, CutTo, MayCut, Synced}
 use Rattle.disk_store.specs.Disks.{with_bytes, Torn, Shortened, Follows, NoMore, Only, Elapses}
 use Rattle.disk_forms.specs.Memory.{Call, Known, Recorded, fresh, after, known_after, known_of, with_call, IsImage, LeftSince, used, used_of, with_written}
-use Rattle.disk_forms.specs.Memory.{MayNote, IsQuiet}
+use Rattle.disk_forms.specs.Memory.{Notes, IsQuiet}
 use Rattle.disk_forms.specs.MemoryLaws.{steps_last, torn_same, shortened_same, reads_is}
+
+-- a call that failed was recorded, or the record is as it was
+abbrev pub MayNote : Kept → Recorded → Recorded → Type 0
+MayNote kept old new = (new ≡ with_call old kept []) ⊎ (new ≡ old)
+
+pub may_note : (kept : Kept) (old new : Recorded) → Notes kept old new → MayNote kept old new
+may_note kept old new notes = elim (cases_lt (length old.calls) old.room) [
+  | inl below ↦ inl (notes.noted below)
+  | inr full ↦ inr (notes.full full)
+]
 
 pub used_more : (calls : List Kept) (kept : Kept) → used_of (calls ++ kept ∷ []) ≡ used_of calls + used kept
 used_more [] kept = omega arith

@@ -2,4 +2,5 @@
 pub mod Memory
 pub mod MemoryLaws
 pub mod Crashes
+pub mod MemoryDisks
 pub mod MemoryStores

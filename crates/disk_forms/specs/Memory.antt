@@ -1,5 +1,5 @@
 -- A disk in memory: the record of its calls, and what it knows by it.
-use Rattle.std.specs.Prelude.{Bool, ◌≡◌, ◌⊎◌, ℕ, ◌+◌, List, [], ◌∷◌, ◌++◌, length, take, drop, true, false, Result, Ok, Err}
+use Rattle.std.specs.Prelude.{◌≡◌, ◌⊎◌, ℕ, ◌+◌, ◌<◌, ◌≤◌, List, [], ◌∷◌, ◌++◌, length, take, drop, true, false, Result, Ok, Err}
 use Rattle.tardis_io.specs.declared.faults.Failed.{Failed}
 use Rattle.tardis_io.specs.Memory.{Plan, fails_next, after_call, after_fault}
 use Rattle.disk_forms.specs.declared.histories.Kept.{Kept}
@@ -90,11 +90,25 @@ IsQuiet (Wrote place count) = ⊥
 IsQuiet (CutTo len) = ⊥
 IsQuiet _ = Unit {0}
 
--- a call of this plan fails exactly where it is listed or there is no room
-abbrev pub PlanAnswers : Bool → Plan → Plan → Result Unit Failed → Type 0
-PlanAnswers has_room old new (Ok answer) = (fails_next old ≡ false) × (has_room ≡ true) × (new ≡ after_call old)
-PlanAnswers has_room old new (Err e) = ((fails_next old ≡ true) ⊎ (has_room ≡ false)) × (new ≡ after_fault old)
+-- one more call that writes so many bytes finds room
+abbrev pub HasRoom : Recorded → ℕ → Type 0
+HasRoom r count = (length r.calls < r.room) × (r.written + count ≤ r.room)
 
--- a call that failed was recorded, or the record is as it was
-abbrev pub MayNote : Kept → Recorded → Recorded → Type 0
-MayNote kept old new = (new ≡ with_call old kept []) ⊎ (new ≡ old)
+-- it finds none
+abbrev pub IsFull : Recorded → ℕ → Type 0
+IsFull r count = (r.room ≤ length r.calls) ⊎ (r.room < r.written + count)
+
+-- A call of this plan, which writes so many bytes, fails exactly where it is listed or finds no room.
+abbrev pub PlanAnswers : {T : Type 0} → Recorded → ℕ → Plan → Plan → Result T Failed → Type 0
+PlanAnswers r count old new (Ok answer) = (fails_next old ≡ false) × HasRoom r count × (new ≡ after_call old)
+PlanAnswers r count old new (Err e) = ((fails_next old ≡ true) ⊎ IsFull r count) × (new ≡ after_fault old)
+
+-- a call that failed is recorded wherever there is room for one call more
+pub record Notes (kept : Kept) (old new : Recorded) : Type 0 where
+  pub noted : length old.calls < old.room → new ≡ with_call old kept []
+  pub full : old.room ≤ length old.calls → new ≡ old
+
+-- a call that was well is recorded as this, with the bytes that it wrote, and one that failed as that
+abbrev pub Records : {T : Type 0} → Kept → List ℕ → Kept → Recorded → Recorded → Result T Failed → Type 0
+Records done bytes failed old new (Ok answer) = new ≡ with_call old done bytes
+Records done bytes failed old new (Err e) = Notes failed old new

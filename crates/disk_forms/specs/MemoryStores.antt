@@ -1,5 +1,5 @@
 -- A store of one disk in memory.
-use Rattle.std.specs.Prelude.{◌≡◌, ℕ, Option, Some, None}
+use Rattle.std.specs.Prelude.{◌≡◌, ℕ, List, Option, Some, None}
 use Rattle.disk_store.specs.Stores.{ToldStore}
 use Rattle.disk_forms.specs.declared.memory_disks.MemoryDisk.{MemoryDisk}
 use Rattle.disk_forms.specs.declared.memory_stores.Held.{Held}
@@ -10,11 +10,15 @@ pub record KeptStore : Type 0 where
   pub told : ToldStore MemoryDisk
   pub faults : ℕ
 
+-- a store whose disk is there, at this path, and wasn't asked for anything
+abbrev pub store_of : List ℕ → MemoryDisk → KeptStore
+store_of path disk = record { told = record { at = path; within = Some disk; back = None; out = 0; elsewhere = 0 }; faults = 0 }
+
 -- where the disk is
-abbrev pub told_of : Held → ToldStore MemoryDisk
-told_of (Within disk) = record { within = Some disk; back = None; out = 0 }
-told_of Out = record { within = None; back = None; out = 1 }
-told_of (Back disk) = record { within = None; back = Some disk; out = 0 }
+abbrev pub told_of : List ℕ → Held → ℕ → ToldStore MemoryDisk
+told_of path (Within disk) n = record { at = path; within = Some disk; back = None; out = 0; elsewhere = n }
+told_of path Out n = record { at = path; within = None; back = None; out = 1; elsewhere = n }
+told_of path (Back disk) n = record { at = path; within = None; back = Some disk; out = 0; elsewhere = n }
 
 -- a disk that wasn't handed out yet has counted no fault
 abbrev pub IsHeld : Held → Type 0

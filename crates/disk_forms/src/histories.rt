@@ -1,8 +1,8 @@
 //! The record of a disk in memory: what it held at first, and what was done to it.
 
-ghost use Rattle.std.specs.Prelude.{◌≡◌, ◌+◌, ◌<◌, ◌≤◌, ◌⊎◌, true, false, [], ◌∷◌, ◌++◌, length, take, drop, vec_capacity, IfOk, OnOk};
+ghost use Rattle.std.specs.Prelude.{◌≡◌, ◌+◌, ◌<◌, ◌≤◌, true, false, [], ◌∷◌, ◌++◌, length, take, drop, vec_capacity, IfOk, OnOk};
 ghost use Rattle.disk_store.specs.Disks.{with_bytes, Torn, Shortened};
-ghost use Rattle.disk_forms.specs.Memory.{known_of, with_call, with_written, used, used_of, IsQuiet, IsImage};
+ghost use Rattle.disk_forms.specs.Memory.{known_of, with_call, with_written, used, used_of, IsQuiet, IsImage, HasRoom, IsFull};
 ghost use Rattle.disk_forms.specs.Crashes.{unused, IsSince};
 ghost use Rattle.disk_forms.specs.declared.histories.Kept.TheVariants.{Wrote, CutTo};
 
@@ -160,8 +160,8 @@ impl History {
 
     /// Whether one more call that writes so many bytes finds room.
     pub(crate) fn has_room(&self, count: usize) -> bool
-        ensures fits { result ≡ true → (length self.now.calls < self.now.room) × (self.now.written + count ≤ self.now.room) }
-        ensures full { result ≡ false → (self.now.room ≤ length self.now.calls) ⊎ (self.now.room < self.now.written + count) }
+        ensures fits { result ≡ true → HasRoom self.now count }
+        ensures full { result ≡ false → IsFull self.now count }
     {
         if self.calls.len() == self.room {
             return false;
@@ -174,7 +174,8 @@ impl History {
 
     /// Whether no call more finds room.
     pub(crate) fn is_full(&self) -> bool
-        ensures { result ≡ false → length self.now.calls < self.now.room }
+        ensures room { result ≡ false → length self.now.calls < self.now.room }
+        ensures full { result ≡ true → self.now.room ≤ length self.now.calls }
     {
         if self.calls.len() < self.room {
             return false;

@@ -1,10 +1,11 @@
 //! A disk in memory, of which some calls may fail, and which a crash may tear.
 
-ghost use Rattle.std.specs.Prelude.{◌≡◌, ◌+◌, ◌≤◌, [], length, take, drop, true, IfOk, OnOk, MatchResult};
-ghost use Rattle.tardis_io.specs.Faults.{HasCause, Rose};
-ghost use Rattle.tardis_io.specs.Memory.{fresh_plan, after_call, after_fault, fails_next};
-ghost use Rattle.disk_store.specs.Disks.{longest_disk, with_bytes, Torn, Shortened, Follows, NoMore, Only, Elapses};
-ghost use Rattle.disk_forms.specs.Memory.{fresh, known_of, IsImage, LeftSince, IsQuiet, MayNote, PlanAnswers};
+ghost use Rattle.std.specs.Prelude.{◌≡◌, ◌+◌, ◌≤◌, [], length, take, drop, IfOk, OnOk};
+ghost use Rattle.tardis_io.specs.Faults.{HasCause};
+ghost use Rattle.tardis_io.specs.Memory.{fresh_plan};
+ghost use Rattle.disk_store.specs.Disks.{longest_disk, with_bytes, Torn, Shortened, Follows, NoMore, Only};
+ghost use Rattle.disk_forms.specs.declared.histories.Kept.TheVariants.{Looked, Wrote, Tore, CutTo, MayCut, Synced};
+ghost use Rattle.disk_forms.specs.Memory.{fresh, known_of, IsImage, IsQuiet, Notes, PlanAnswers};
 ghost use Rattle.disk_forms.specs.Crashes.{unused};
 ghost use Rattle.disk_forms.specs.MemoryLaws.{reads_is, counts_now, only_now};
 ghost use Rattle.std.proofs.Common.{refl};
@@ -77,28 +78,24 @@ impl MemoryDisk {
     }
 }
 
-/// Counts a call, which fails where it is to fail or finds no room.
-fn start(plan: &mut DiskPlan, has_room: bool) -> Result<(), Failed>
-    ensures answer { PlanAnswers has_room plan.old plan.new result }
+/// Counts a call that writes so many bytes. It fails where it is to fail or finds no room.
+fn start(plan: &mut DiskPlan, history: &History, count: usize) -> Result<(), Failed>
+    ensures answer { PlanAnswers history.now count plan.old plan.new result }
     ensures cause { HasCause plan.old.faults plan.new.faults result }
 {
-    match plan.call() {
-        Ok(()) => {
-            if has_room {
-                Ok(())
-            } else {
-                plan.fault();
-                Err(Failed)
-            }
-        }
-        Err(Failed) => Err(Failed),
+    plan.call()?;
+    if history.has_room(count) {
+        Ok(())
+    } else {
+        plan.fault();
+        Err(Failed)
     }
 }
 
-/// Records a call that failed, while there is room.
+/// Records a call that failed, wherever there is room.
 fn note_fault(history: &mut History, kept: Kept)
     requires { IsQuiet kept }
-    ensures { MayNote kept history.old history.new }
+    ensures { Notes kept history.old history.new }
 {
     if !history.is_full() {
         history.note(kept);
@@ -106,20 +103,30 @@ fn note_fault(history: &mut History, kept: Kept)
 }
 
 impl Disk for MemoryDisk {
+    ghost use Rattle.disk_forms.specs.MemoryDisks.{reads, may_leave, moment, left_since, GoesOn, Calls};
+
     ghost honest = { λ _. Unit {0} };
 
-    ghost reads = { λ d. (known_of d.history).reads };
+    ghost reads = { λ d. reads d };
 
-    ghost may_leave = { λ d. IsImage (known_of d.history) };
+    ghost may_leave = { λ d. may_leave d };
 
-    ghost moment = { λ d. length d.history.calls };
+    ghost moment = { λ d. moment d };
 
-    ghost left_since = { λ d t image. LeftSince t (fresh d.history.first) d.history.calls image };
+    ghost left_since = { λ d. left_since d };
 
     ghost faults = { λ d. d.plan.faults };
 
-    fn len(&mut self) -> Result<u64, Failed> {
-        match start(&mut self.plan, self.history.has_room(0)) {
+    fn len(&mut self) -> Result<u64, Failed>
+        ensures bound { IfOk result (λ count. count ≤ longest_disk) }
+        ensures count { IfOk result (λ count. count ≡ length (reads self.old)) }
+        ensures reads { reads self.new ≡ reads self.old }
+        ensures crash { NoMore (may_leave self.old) (may_leave self.new) }
+        ensures time { GoesOn self.old self.new }
+        ensures cause { HasCause self.old.plan.faults self.new.plan.faults result }
+        ensures exact { Calls Looked [] Looked self.old self.new result }
+    {
+        match start(&mut self.plan, &self.history, 0) {
             Ok(()) => {
                 self.history.note(Kept::Looked);
                 Ok(self.history.bytes().len() as u64)
@@ -131,8 +138,16 @@ impl Disk for MemoryDisk {
         }
     }
 
-    fn read_at(&mut self, place: u64, buf: &mut [u8]) -> Result<(), Failed> {
-        match start(&mut self.plan, self.history.has_room(0)) {
+    fn read_at(&mut self, place: u64, buf: &mut [u8]) -> Result<(), Failed>
+        requires { place + length buf.old ≤ length (reads self.old) }
+        ensures bytes { OnOk result (buf.new ≡ take (length buf.old) (drop place (reads self.old))) }
+        ensures reads { reads self.new ≡ reads self.old }
+        ensures crash { NoMore (may_leave self.old) (may_leave self.new) }
+        ensures time { GoesOn self.old self.new }
+        ensures cause { HasCause self.old.plan.faults self.new.plan.faults result }
+        ensures exact { Calls Looked [] Looked self.old self.new result }
+    {
+        match start(&mut self.plan, &self.history, 0) {
             Ok(()) => {
                 self.history.note(Kept::Looked);
                 self.history.read(place, buf);
@@ -145,8 +160,16 @@ impl Disk for MemoryDisk {
         }
     }
 
-    fn write_at(&mut self, place: u64, bytes: &[u8]) -> Result<(), Failed> {
-        match start(&mut self.plan, self.history.has_room(bytes.len())) {
+    fn write_at(&mut self, place: u64, bytes: &[u8]) -> Result<(), Failed>
+        requires begin { place ≤ length (reads self.old) }
+        requires end { place + length bytes.now ≤ longest_disk }
+        ensures written { OnOk result (reads self.new ≡ with_bytes (reads self.old) place bytes.now) }
+        ensures crash { Follows (Torn place (length bytes.now)) (may_leave self.old) (may_leave self.new) }
+        ensures time { GoesOn self.old self.new }
+        ensures cause { HasCause self.old.plan.faults self.new.plan.faults result }
+        ensures exact { Calls (Wrote place (length bytes.now)) bytes.now (Tore place (length bytes.now)) self.old self.new result }
+    {
+        match start(&mut self.plan, &self.history, bytes.len()) {
             Ok(()) => {
                 self.history.write(place, bytes);
                 Ok(())
@@ -159,8 +182,15 @@ impl Disk for MemoryDisk {
         }
     }
 
-    fn cut(&mut self, len: u64) -> Result<(), Failed> {
-        match start(&mut self.plan, self.history.has_room(0)) {
+    fn cut(&mut self, len: u64) -> Result<(), Failed>
+        requires { len ≤ length (reads self.old) }
+        ensures shorter { OnOk result (reads self.new ≡ take len (reads self.old)) }
+        ensures crash { Follows (Shortened len) (may_leave self.old) (may_leave self.new) }
+        ensures time { GoesOn self.old self.new }
+        ensures cause { HasCause self.old.plan.faults self.new.plan.faults result }
+        ensures exact { Calls (CutTo len) [] (MayCut len) self.old self.new result }
+    {
+        match start(&mut self.plan, &self.history, 0) {
             Ok(()) => {
                 self.history.cut(len);
                 Ok(())
@@ -172,8 +202,15 @@ impl Disk for MemoryDisk {
         }
     }
 
-    fn sync(&mut self) -> Result<(), Failed> {
-        match start(&mut self.plan, self.history.has_room(0)) {
+    fn sync(&mut self) -> Result<(), Failed>
+        ensures durable { OnOk result (Only (reads self.old) (may_leave self.new)) }
+        ensures reads { reads self.new ≡ reads self.old }
+        ensures crash { NoMore (may_leave self.old) (may_leave self.new) }
+        ensures time { GoesOn self.old self.new }
+        ensures cause { HasCause self.old.plan.faults self.new.plan.faults result }
+        ensures exact { Calls Synced [] Looked self.old self.new result }
+    {
+        match start(&mut self.plan, &self.history, 0) {
             Ok(()) => {
                 self.history.note(Kept::Synced);
                 Ok(())

@@ -1,9 +1,10 @@
 //! A store of one disk in memory.
 
 ghost use Rattle.std.specs.Prelude.{◌≡◌, ◌↔◌, Some, None, IfOk, is_none, true};
+ghost use Rattle.std.specs.String.{string_bytes};
 ghost use Rattle.tardis_io.specs.Faults.{HasCause};
 ghost use Rattle.disk_store.specs.Stores.{Opens, IsOut, with_back, count_after};
-ghost use Rattle.disk_forms.specs.MemoryStores.{disk_of};
+ghost use Rattle.disk_forms.specs.MemoryStores.{disk_of, store_of};
 
 use crate::memory_disks::MemoryDisk;
 use disk_store::Store;
@@ -22,32 +23,37 @@ pub enum Held {
     Back(MemoryDisk),
 }
 
-/// A store of one disk in memory, which it gives once, whatever the path. Opening it a second time is a counted fault,
-/// also after it was put back.
+/// A store of one disk in memory, at one path, which it gives once. Opening it a second time is a counted fault, also after
+/// it was put back, and so is opening another path, which it counts apart too.
 #[derive(Drop)]
 pub struct MemoryStore {
+    path: String,
     held: Held,
+    elsewhere: u64,
     faults: u64,
 }
 
 impl Model for MemoryStore {
+    ghost use Rattle.std.specs.String.{string_bytes};
     ghost use Rattle.disk_forms.specs.MemoryStores.{KeptStore, told_of, IsHeld};
 
     ghost Value = { KeptStore };
 
-    ghost view = { λ s. record { told = told_of s.held; faults = s.faults } };
+    ghost view = { λ s. record { told = told_of (string_bytes s.path) s.held s.elsewhere; faults = s.faults } };
 
     ghost invariant = { λ s. IsHeld s.held };
 }
 
 impl MemoryStore {
-    /// A store of this disk, which has counted no fault.
-    pub fn new(disk: MemoryDisk) -> MemoryStore
+    /// A store of this disk, which has counted no fault, at this path.
+    pub fn new(path: String, disk: MemoryDisk) -> MemoryStore
         requires { disk.plan.faults ≡ 0 }
-        ensures { result ≡ record { told = record { within = Some disk; back = None; out = 0 }; faults = 0 } }
+        ensures { result ≡ store_of (string_bytes path) disk }
     {
         MemoryStore {
+            path,
             held: Held::Within(disk),
+            elsewhere: 0,
             faults: 0,
         }
     }
@@ -57,7 +63,9 @@ impl MemoryStore {
         ensures disk { result ≡ disk_of self.told }
         ensures out { is_none result ≡ true ↔ self.told.out ≡ 1 }
     {
-        match self.held {
+        let MemoryStore { path, held, .. } = self;
+        drop(path);
+        match held {
             Held::Within(disk) | Held::Back(disk) => Some(disk),
             Held::Out => None,
         }
@@ -74,7 +82,11 @@ impl Store for MemoryStore {
     ghost faults = { λ s. s.faults };
 
     fn open_file(&mut self, path: &str) -> Result<MemoryDisk, Failed> {
-        let _ = path;
+        if path != self.path.as_str() {
+            self.elsewhere = self.elsewhere.saturating_add(1);
+            self.faults = self.faults.saturating_add(1);
+            return Err(Failed);
+        }
         match mem::replace(&mut self.held, Held::Out) {
             Held::Within(disk) => Ok(disk),
             held => {

@@ -1,25 +1,47 @@
 -- What a store tells of its disk.
-use Rattle.std.specs.Prelude.{◌≡◌, ℕ, Option, Some, None, Result, Ok, Err}
+use Rattle.std.specs.Prelude.{◌≡◌, ℕ, List, Option, Some, None, Result, Ok, Err, bytes_eq, if◌then◌else◌}
 use Rattle.tardis_io.specs.declared.faults.Failed.{Failed}
 use Rattle.tardis_io.specs.Faults.{raised}
 
--- a store's disk: the one that it was given and hasn't handed out, or that was put back; and whether one is out
+-- a store's disk: the path at which it stands; the disk itself, while it wasn't handed out, or where it was put back; whether
+-- it is out; and how many times another path was asked for
 pub record ToldStore (D : Type 0) : Type 0 where
+  pub at : List ℕ
   pub within : Option D
   pub back : Option D
   pub out : ℕ
+  pub elsewhere : ℕ
 
 module _ {D : Type 0} where
-  -- the disk that stood within is handed out
-  abbrev pub OpensOne : ToldStore D → ToldStore D → Result D Failed → Type 0
-  OpensOne old new (Ok disk) = (old.within ≡ Some disk) × (new ≡ record { within = None; back = old.back; out = 1 })
-  OpensOne old new (Err e) = new ≡ old
+  -- the store after it was asked for a path, and opened nothing
+  abbrev pub after_asking : ToldStore D → List ℕ → ToldStore D
+  after_asking t path = record {
+    at = t.at;
+    within = t.within;
+    back = t.back;
+    out = t.out;
+    elsewhere = if bytes_eq path t.at then t.elsewhere else raised t.elsewhere;
+  }
 
-  abbrev pub Opens : Option (ToldStore D) → Option (ToldStore D) → Result D Failed → Type 0
-  Opens None None result = Unit {0}
-  Opens (Some old) (Some new) result = OpensOne old new result
-  Opens None (Some new) result = ⊥
-  Opens (Some old) None result = ⊥
+  -- the disk that stood within is handed out, where this is its path
+  abbrev pub Hands : List ℕ → Option (ToldStore D) → Option (ToldStore D) → D → Type 0
+  Hands path None None disk = Unit {0}
+  Hands path (Some old) (Some new) disk =
+      (path ≡ old.at) × (old.within ≡ Some disk) × (new ≡ record { at = old.at; within = None; back = old.back; out = 1; elsewhere = old.elsewhere })
+  Hands path None (Some new) disk = ⊥
+  Hands path (Some old) None disk = ⊥
+
+  -- none is: its disk stands elsewhere, or was handed out before
+  abbrev pub Refuses : List ℕ → Option (ToldStore D) → Option (ToldStore D) → Type 0
+  Refuses path None None = Unit {0}
+  Refuses path (Some old) (Some new) = (new ≡ after_asking old path) × (path ≡ old.at → old.within ≡ None)
+  Refuses path None (Some new) = ⊥
+  Refuses path (Some old) None = ⊥
+
+  -- what became of a call for the disk at a path
+  abbrev pub Opens : List ℕ → Option (ToldStore D) → Option (ToldStore D) → Result D Failed → Type 0
+  Opens path old new (Ok disk) = Hands path old new disk
+  Opens path old new (Err e) = Refuses path old new
 
   -- where it is told, the disk is out
   abbrev pub IsOut : Option (ToldStore D) → Type 0
@@ -29,7 +51,7 @@ module _ {D : Type 0} where
   -- the disk was put back
   abbrev pub with_back : Option (ToldStore D) → D → Option (ToldStore D)
   with_back None disk = None
-  with_back (Some t) disk = Some (record { within = t.within; back = Some disk; out = 0 })
+  with_back (Some t) disk = Some (record { at = t.at; within = t.within; back = Some disk; out = 0; elsewhere = t.elsewhere })
 
 -- a store's count after a disk with this count was put back: it rises exactly where the disk counted a fault
 abbrev pub count_after : ℕ → ℕ → ℕ

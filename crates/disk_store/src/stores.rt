@@ -7,8 +7,8 @@ ghost use Rattle.disk_store.specs.Stores.{ToldStore, Opens, IsOut, with_back, co
 use crate::disks::Disk;
 use tardis_io::Failed;
 
-/// Opens disks by their paths, and takes each back when its work is over. A store may tell the disk that it holds, and
-/// may be told to be honest; then each disk that it opens is honest.
+/// Opens disks by their paths, and takes each back when its work is over. A store may tell the disk that it holds and the
+/// path at which it stands, and may be told to be honest; then each disk that it opens is honest.
 pub trait Store {
     type Disk: Disk;
 
@@ -26,7 +26,7 @@ pub trait Store {
         ensures fresh { IfOk result (λ disk. Self.Disk.faults disk ≡ 0) }
         ensures honest { honest self.old → IfOk result (λ disk. Self.Disk.honest disk) }
         ensures still { honest self.old → honest self.new }
-        ensures told { Opens (told self.old) (told self.new) result }
+        ensures told { Opens path.now (told self.old) (told self.new) result }
         ensures cause { HasCause (faults self.old) (faults self.new) result };
 
     /// Takes back a disk that this store opened, as it is, and counts a fault exactly where the disk counted one. It

@@ -7,6 +7,8 @@ use Rattle.frame_cut.proofs.Joins.{more_bodies}
 use Rattle.frame_cut.proofs.Words.{length-frame}
 use Rattle.durable_run.specs.declared.groups.Stop.{Stop}
 use Rattle.durable_run.specs.declared.groups.Stop.TheVariants.{Disk, Output}
+use Rattle.tardis_io.specs.declared.streams.Sink.{Ghosts as ASink}
+use Rattle.disk_store.specs.declared.disks.Disk.{Ghosts as ADisk}
 use Rattle.durable_run.specs.Turns.{Went, Stopped}
 
 -- a count that rose since later rose since earlier
@@ -14,27 +16,27 @@ pub rose_earlier : (a b c : ℕ) → a ≤ b → Rose b c → Rose a c
 rose_earlier a b c less (inl more) = inl (omega (arith, less, more))
 rose_earlier a b c less (inr end) = inr end
 
-module _ {K : Type 0} (honest : K → Type 0) (faults : K → ℕ) where
-  pub went_same : (a : K) → Went honest faults a a
+module _ {K : Type 0} (k : ADisk K) where
+  pub went_same : (a : K) → Went k a a
   went_same a = record { later = omega arith; as_honest = ((λ h. h), (λ h. h)) }
 
-  pub went_then : (a b c : K) → Went honest faults a b → Went honest faults b c → Went honest faults a c
+  pub went_then : (a b c : K) → Went k a b → Went k b c → Went k a c
   went_then a b c p q = record {
     later = omega (arith, p.later, q.later);
     as_honest = ((λ h. q.as_honest.0 (p.as_honest.0 h)), (λ h. p.as_honest.1 (q.as_honest.1 h)));
   }
 
-  pub stopped_later : {O : Type 0} (writes : O → ℕ) (a b : K) (x y z : O) (stop : Stop K) → Went honest faults a b → writes x ≤ writes y →
-      Stopped honest faults writes b y z stop → Stopped honest faults writes a x z stop
-  stopped_later writes a b x y z (Disk d) w less s = record {
+  pub stopped_later : {O : Type 0} (snk : ASink O) (a b : K) (x y z : O) (stop : Stop K) → Went k a b → snk.faults x ≤ snk.faults y →
+      Stopped k snk b y z stop → Stopped k snk a x z stop
+  stopped_later snk a b x y z (Disk d) w less s = record {
     went = went_then a b d w s.went;
     rose =
-        rose_earlier (faults a) (faults b) (faults d) w.later s.rose;
+        rose_earlier (k.faults a) (k.faults b) (k.faults d) w.later s.rose;
   }
-  stopped_later writes a b x y z (Output d) w less s = record {
+  stopped_later snk a b x y z (Output d) w less s = record {
     went = went_then a b d w s.went;
     rose =
-        rose_earlier (writes x) (writes y) (writes z) less s.rose;
+        rose_earlier (snk.faults x) (snk.faults y) (snk.faults z) less s.rose;
   }
 
 -- one body is at the front

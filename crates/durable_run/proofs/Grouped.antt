@@ -2,7 +2,7 @@
 use Rattle.std.proofs.Common.{◌≡◌, inl, inr, ℕ, ◌+◌, ◌≤◌, ◌<◌, length, map, Option, List, [], ◌∷◌, ◌++◌, refl, sym, ap, ◌∙◌, subst, arith, append_assoc}
 use Rattle.std.proofs.lemmas.List.{append-nil}
 use Rattle.std.specs.List.{concat}
-use Rattle.tardis_base.specs.Plain.{PlainMachine, Event, state_after}
+use Rattle.tardis_base.specs.Plain.{Event, state_after}
 use Rattle.tardis_io.specs.Told.{WhileTold}
 use Rattle.tardis_io.proofs.Told.{then, weaker}
 use Rattle.tardis_io.specs.declared.statuses.Status.{Status}
@@ -22,25 +22,27 @@ use Rattle.durable_run.specs.Groups.{Start, Grouping}
 use Rattle.durable_run.specs.Ends.{Durable}
 use Rattle.durable_run.proofs.Moments.{front_more, front_of, mends_then, mends_weaker, left_now, rest_has}
 use Rattle.durable_run.proofs.InTurns.{concat-append, in_turn_then, none_answered, none_staged}
+use Rattle.disk_store.specs.declared.disks.Disk.{Ghosts as ADisk}
+use Rattle.durable_run.specs.Buffering.{most_gathered}
+use Rattle.tardis_base.specs.declared.machines.Machine.{Ghosts as AMachine}
 
-module _ {M S K : Type 0} (plain : PlainMachine S) (stands : M → S → Type 0) (opening : M → S) (honest : K → Type 0) (reads : K → List ℕ)
-    (may_leave : K → List ℕ → Type 0) (moment : K → ℕ) (left_since : K → ℕ → List ℕ → Type 0) where
+module _ {M K : Type 0} (m : AMachine M) (k : ADisk K) where
   -- what was staged gave a reply, and the journal has these entries staged then
-  abbrev Replied : Start S K → Journaled M K → List (List ℕ) → List (List ℕ) → Event → List ℕ → Type 0
+  abbrev Replied : Start m.Plain K → Journaled M K → List (List ℕ) → List (List ℕ) → Event → List ℕ → Type 0
   Replied at new entries staged e reply = (now : List (List ℕ))
-      × (MayReply plain at.state at.most (entries ++ staged) e reply (entries ++ now) × IsOpen plain stands opening honest reads may_leave new entries now)
+      × (MayReply m.plain at.state at.most (entries ++ staged) e reply (entries ++ now) × IsOpen m k new entries now)
 
-  replied : (at : Start S K) (old new : Journaled M K) (entries staged : List (List ℕ)) (e : Event) (out reply : List ℕ) (became : Staged) →
-      opening old.machine ≡ at.state → old.max_trail ≡ at.most
-      → IsOpen plain stands opening honest reads may_leave old entries staged →
-      StagedBy plain stands opening honest reads may_leave became old new entries staged e out → reply ≡ reply_of became out →
+  replied : (at : Start m.Plain K) (old new : Journaled M K) (entries staged : List (List ℕ)) (e : Event) (out reply : List ℕ) (became : Staged) →
+      m.opening old.machine ≡ at.state → old.max_trail ≡ at.most
+      → IsOpen m k old entries staged →
+      StagedBy m k became old new entries staged e out → reply ≡ reply_of became out →
       Replied at new entries staged e reply
   replied at old new entries staged e out reply Done state most was by is = (
     staged ++ entry_of e ∷ [],
     (
       inl (record {
         fits = subst (λ n. length (marked (entries ++ staged)) + (length e.1 + 7) ≤ n) most by.2;
-        replied = is ∙ (by.1 ∙ ap (λ s. plain.reply (state_after plain s (map event_of (entries ++ staged))) e) state);
+        replied = is ∙ (by.1 ∙ ap (λ s. m.plain.reply (state_after m.plain s (map event_of (entries ++ staged))) e) state);
         entry = sym (append_assoc entries staged (entry_of e ∷ []));
       }),
       by.0,
@@ -54,7 +56,7 @@ module _ {M S K : Type 0} (plain : PlainMachine S) (stands : M → S → Type 0)
         replied = is ∙ ap (λ b. reply_of (TrailFull b) []) by.2;
         same = refl;
       })),
-      subst (λ j. IsOpen plain stands opening honest reads may_leave j entries staged) (sym by.0) was,
+      subst (λ j. IsOpen m k j entries staged) (sym by.0) was,
     ),
   )
   replied at old new entries staged e out reply NoMemory state most was by is = (
@@ -71,18 +73,18 @@ module _ {M S K : Type 0} (plain : PlainMachine S) (stands : M → S → Type 0)
   )
 
   -- a body more was answered
-  pub one_more : (at : Start S K) (old new : Journaled M K) (given : Option (List ℕ)) (before after out reply body : List ℕ) (bodies : List (List ℕ))
+  pub one_more : (at : Start m.Plain K) (old new : Journaled M K) (given : Option (List ℕ)) (before after out reply body : List ℕ) (bodies : List (List ℕ))
       (e : Event) (became : Staged)
-      → e ≡ event_of body → ((entries staged : List (List ℕ)) → IsOpen plain stands opening honest reads may_leave old entries staged →
-      StagedBy plain stands opening honest reads may_leave became old new entries staged e out)
-      → reply ≡ reply_of became out → after ≡ before ++ frame reply → opening new.machine ≡ opening old.machine → new.max_trail ≡ old.max_trail →
+      → e ≡ event_of body → ((entries staged : List (List ℕ)) → IsOpen m k old entries staged →
+      StagedBy m k became old new entries staged e out)
+      → reply ≡ reply_of became out → after ≡ before ++ frame reply → m.opening new.machine ≡ m.opening old.machine → new.max_trail ≡ old.max_trail →
       new.disk ≡ old.disk
-      → Grouping plain stands opening honest reads may_leave moment left_since at old given before bodies
-      → Grouping plain stands opening honest reads may_leave moment left_since at new given after (bodies ++ body ∷ [])
+      → Grouping m k at old given before bodies
+      → Grouping m k at new given after (bodies ++ body ∷ [])
   one_more at old new given before after out reply body bodies e became event by is put opened limit disk g =
       let r = replied at old new g.entries g.staged e out reply became g.state g.most g.is_open (by g.entries g.staged g.is_open) is in
-      let may : MayAnswer plain at.state at.most (g.entries ++ g.staged) body (frame reply) (g.entries ++ r.0) =
-      (reply, (refl, subst (λ x. MayReply plain at.state at.most (g.entries ++ g.staged) x reply (g.entries ++ r.0)) event r.1.0)) in
+      let may : MayAnswer m.plain at.state at.most (g.entries ++ g.staged) body (frame reply) (g.entries ++ r.0) =
+      (reply, (refl, subst (λ x. MayReply m.plain at.state at.most (g.entries ++ g.staged) x reply (g.entries ++ r.0)) event r.1.0)) in
       record {
         written = g.written;
         grouped = g.grouped ++ body ∷ [];
@@ -93,7 +95,7 @@ module _ {M S K : Type 0} (plain : PlainMachine S) (stands : M → S → Type 0)
         staged = r.0;
         each = g.each;
         told = g.told;
-        waiting = in_turn_then (MayAnswer plain at.state at.most) g.entries g.grouped g.others (g.entries ++ g.staged) (body ∷ []) (frame reply ∷ [])
+        waiting = in_turn_then (MayAnswer m.plain at.state at.most) g.entries g.grouped g.others (g.entries ++ g.staged) (body ∷ []) (frame reply ∷ [])
             (g.entries ++ r.0) g.waiting (g.entries ++ r.0, (may, refl));
         holds = put ∙ (ap (λ z. z ++ frame reply) g.holds ∙ (ap (λ z. concat g.others ++ z) (sym (append-nil (frame reply)))
             ∙ sym (concat-append g.others (frame reply ∷ []))));
@@ -102,8 +104,8 @@ module _ {M S K : Type 0} (plain : PlainMachine S) (stands : M → S → Type 0)
         most = limit ∙ g.most;
         new = g.new;
         grew = g.grew;
-        as_honest = subst (λ d. AsHonest honest at.disk d) (sym disk) g.as_honest;
-        any_moment = λ h. subst (λ d. Mends reads may_leave moment left_since at.disk d (HasFront at.entries g.entries)) (sym disk) (g.any_moment h);
+        as_honest = subst (λ d. AsHonest k.honest at.disk d) (sym disk) g.as_honest;
+        any_moment = λ h. subst (λ d. Mends k at.disk d (HasFront at.entries g.entries)) (sym disk) (g.any_moment h);
       }
 
   -- what is written behind what was written
@@ -116,30 +118,30 @@ module _ {M S K : Type 0} (plain : PlainMachine S) (stands : M → S → Type 0)
       then a b c (λ y z. z ≡ y ++ concat answers) after (λ y z. shape y z (concat (answers ++ others))) p w
       (λ x y z m n. subst (shape x z) (sym (concat-append answers others)) (f x y z m n))
 
-  mended : (at : Start S K) (old : Journaled M K) (now : K) (given : Option (List ℕ)) (gathered : List ℕ) (bodies : List (List ℕ))
-      (g : Grouping plain stands opening honest reads may_leave moment left_since at old given gathered bodies)
-      → (honest old.disk → (entries staged : List (List ℕ)) → IsOpen plain stands opening honest reads may_leave old entries staged →
-      LeavesOnly moment left_since old.disk now (HasAllOrNone entries staged))
-      → honest at.disk → Mends reads may_leave moment left_since at.disk now (HasFront at.entries (g.entries ++ g.staged))
+  mended : (at : Start m.Plain K) (old : Journaled M K) (now : K) (given : Option (List ℕ)) (gathered : List ℕ) (bodies : List (List ℕ))
+      (g : Grouping m k at old given gathered bodies)
+      → (k.honest old.disk → (entries staged : List (List ℕ)) → IsOpen m k old entries staged →
+      LeavesOnly k.moment k.left_since old.disk now (HasAllOrNone entries staged))
+      → k.honest at.disk → Mends k at.disk now (HasFront at.entries (g.entries ++ g.staged))
   mended at old now given gathered bodies g leaves h =
-      mends_then reads may_leave moment left_since at.disk old.disk now (HasFront at.entries g.entries) (HasAllOrNone g.entries g.staged)
+      mends_then k at.disk old.disk now (HasFront at.entries g.entries) (HasAllOrNone g.entries g.staged)
       (HasFront at.entries (g.entries ++ g.staged))
       (g.any_moment h) (leaves (g.as_honest.0 h) g.entries g.staged g.is_open)
       (λ image. front_more at.entries g.entries g.staged image) (λ image. front_of at.entries g.new g.entries g.staged image g.grew)
 
-  pub both_honest : (a b c : K) → AsHonest honest a b → AsHonest honest b c → AsHonest honest a c
+  pub both_honest : (a b c : K) → AsHonest k.honest a b → AsHonest k.honest b c → AsHonest k.honest a c
   both_honest a b c p q = ((λ h. q.0 (p.0 h)), (λ h. p.1 (q.1 h)))
 
   -- the group's entries came to the disk, and its answers were written
-  pub settled : (at : Start S K) (old new : Journaled M K) (given now : Option (List ℕ)) (gathered after : List ℕ) (bodies : List (List ℕ))
-      → ((entries staged : List (List ℕ)) → IsOpen plain stands opening honest reads may_leave old entries staged →
-      IsOpen plain stands opening honest reads may_leave new (entries ++ staged) [])
-      → (honest old.disk → (entries staged : List (List ℕ)) → IsOpen plain stands opening honest reads may_leave old entries staged →
-      LeavesOnly moment left_since old.disk new.disk (HasAllOrNone entries staged))
-      → AsHonest honest old.disk new.disk → opening new.machine ≡ opening old.machine → new.max_trail ≡ old.max_trail
+  pub settled : (at : Start m.Plain K) (old new : Journaled M K) (given now : Option (List ℕ)) (gathered after : List ℕ) (bodies : List (List ℕ))
+      → ((entries staged : List (List ℕ)) → IsOpen m k old entries staged →
+      IsOpen m k new (entries ++ staged) [])
+      → (k.honest old.disk → (entries staged : List (List ℕ)) → IsOpen m k old entries staged →
+      LeavesOnly k.moment k.left_since old.disk new.disk (HasAllOrNone entries staged))
+      → AsHonest k.honest old.disk new.disk → m.opening new.machine ≡ m.opening old.machine → new.max_trail ≡ old.max_trail
       → WhileTold given now (λ y z. z ≡ y ++ gathered) → after ≡ []
-      → Grouping plain stands opening honest reads may_leave moment left_since at old given gathered bodies
-      → Grouping plain stands opening honest reads may_leave moment left_since at new now after bodies
+      → Grouping m k at old given gathered bodies
+      → Grouping m k at new now after bodies
   settled at old new given now gathered after bodies committed leaves as_honest opened limit gave none g = record {
     written = g.written ++ g.grouped;
     grouped = [];
@@ -148,7 +150,7 @@ module _ {M S K : Type 0} (plain : PlainMachine S) (stands : M → S → Type 0)
     others = [];
     entries = g.entries ++ g.staged;
     staged = [];
-    each = in_turn_then (MayAnswer plain at.state at.most) at.entries g.written g.answers g.entries g.grouped g.others (g.entries ++ g.staged) g.each g.waiting;
+    each = in_turn_then (MayAnswer m.plain at.state at.most) at.entries g.written g.answers g.entries g.grouped g.others (g.entries ++ g.staged) g.each g.waiting;
     told = told_more at.given given now g.answers g.others gathered Whole g.told g.holds (λ y z. z ≡ y ++ gathered) gave
         (λ x y z m n. n ∙ (ap (λ w. w ++ gathered) m ∙ (append_assoc x (concat g.answers) gathered ∙ ap (λ w. x ++ (concat g.answers ++ w)) g.holds)));
     waiting = append-nil (g.entries ++ g.staged);
@@ -163,15 +165,15 @@ module _ {M S K : Type 0} (plain : PlainMachine S) (stands : M → S → Type 0)
   }
 
   -- the group's entries came to the disk, and of its answers a front was written
-  pub unwritten : (at : Start S K) (old new : Journaled M K) (disk : K) (given now : Option (List ℕ)) (gathered : List ℕ) (bodies : List (List ℕ))
-      → ((entries staged : List (List ℕ)) → IsOpen plain stands opening honest reads may_leave old entries staged →
-      IsOpen plain stands opening honest reads may_leave new (entries ++ staged) [])
-      → (honest old.disk → (entries staged : List (List ℕ)) → IsOpen plain stands opening honest reads may_leave old entries staged →
-      LeavesOnly moment left_since old.disk new.disk (HasAllOrNone entries staged))
-      → AsHonest honest old.disk new.disk → disk ≡ new.disk
-      → WhileTold given now (λ y z. (lost : List ℕ) × ((z ++ lost ≡ y ++ gathered) × (length lost ≤ length gathered))) → length gathered ≤ 2097156
-      → Grouping plain stands opening honest reads may_leave moment left_since at old given gathered bodies
-      → Durable plain honest reads may_leave moment left_since WriteFault at disk now bodies
+  pub unwritten : (at : Start m.Plain K) (old new : Journaled M K) (disk : K) (given now : Option (List ℕ)) (gathered : List ℕ) (bodies : List (List ℕ))
+      → ((entries staged : List (List ℕ)) → IsOpen m k old entries staged →
+      IsOpen m k new (entries ++ staged) [])
+      → (k.honest old.disk → (entries staged : List (List ℕ)) → IsOpen m k old entries staged →
+      LeavesOnly k.moment k.left_since old.disk new.disk (HasAllOrNone entries staged))
+      → AsHonest k.honest old.disk new.disk → disk ≡ new.disk
+      → WhileTold given now (λ y z. (lost : List ℕ) × ((z ++ lost ≡ y ++ gathered) × (length lost ≤ length gathered))) → length gathered ≤ most_gathered
+      → Grouping m k at old given gathered bodies
+      → Durable m.plain k WriteFault at disk now bodies
   unwritten at old new disk given now gathered bodies committed leaves as_honest same gave few g =
       let rested = committed g.entries g.staged g.is_open in
       record {
@@ -182,9 +184,9 @@ module _ {M S K : Type 0} (plain : PlainMachine S) (stands : M → S → Type 0)
         others = [];
         entries = g.entries ++ g.staged;
         staged = [];
-        each = in_turn_then (MayAnswer plain at.state at.most) at.entries g.written g.answers g.entries g.grouped g.others (g.entries ++ g.staged) g.each
+        each = in_turn_then (MayAnswer m.plain at.state at.most) at.entries g.written g.answers g.entries g.grouped g.others (g.entries ++ g.staged) g.each
             g.waiting;
-        told = told_more at.given given now g.answers g.others gathered (Front 2097156) g.told g.holds
+        told = told_more at.given given now g.answers g.others gathered (Front most_gathered) g.told g.holds
             (λ y z. (lost : List ℕ) × ((z ++ lost ≡ y ++ gathered) × (length lost ≤ length gathered))) gave
             (λ x y z m n. (
               n.0,
@@ -195,20 +197,20 @@ module _ {M S K : Type 0} (plain : PlainMachine S) (stands : M → S → Type 0)
             ));
         waiting = append-nil (g.entries ++ g.staged);
         whole = λ ok. (refl, refl);
-        images = λ h image leaves_it. inl (rest_has reads may_leave moment left_since new.disk (g.entries ++ g.staged) rested.each
-            (rested.rest (as_honest.0 (g.as_honest.0 h))) image (subst (λ d. may_leave d image) same leaves_it));
-        any_moment = λ h. subst (λ d. Mends reads may_leave moment left_since at.disk d (HasFront at.entries ((g.entries ++ g.staged) ++ []))) (sym same)
-            (subst (λ z. Mends reads may_leave moment left_since at.disk new.disk (HasFront at.entries z)) (sym (append-nil (g.entries ++ g.staged)))
+        images = λ h image leaves_it. inl (rest_has k new.disk (g.entries ++ g.staged) rested.each
+            (rested.rest (as_honest.0 (g.as_honest.0 h))) image (subst (λ d. k.may_leave d image) same leaves_it));
+        any_moment = λ h. subst (λ d. Mends k at.disk d (HasFront at.entries ((g.entries ++ g.staged) ++ []))) (sym same)
+            (subst (λ z. Mends k at.disk new.disk (HasFront at.entries z)) (sym (append-nil (g.entries ++ g.staged)))
             (mended at old new.disk given gathered bodies g leaves h));
       }
 
   -- the group's entries went to the disk when it failed
-  pub broken : (at : Start S K) (old : Journaled M K) (disk : K) (given : Option (List ℕ)) (gathered : List ℕ) (bodies : List (List ℕ))
-      → ((t : ℕ) (image : List ℕ) → t ≤ moment disk → may_leave disk image → left_since disk t image)
-      → (honest old.disk → (entries staged : List (List ℕ)) → IsOpen plain stands opening honest reads may_leave old entries staged →
-      LeavesOnly moment left_since old.disk disk (HasAllOrNone entries staged))
-      → Grouping plain stands opening honest reads may_leave moment left_since at old given gathered bodies
-      → Durable plain honest reads may_leave moment left_since DiskFault at disk given bodies
+  pub broken : (at : Start m.Plain K) (old : Journaled M K) (disk : K) (given : Option (List ℕ)) (gathered : List ℕ) (bodies : List (List ℕ))
+      → ((t : ℕ) (image : List ℕ) → t ≤ k.moment disk → k.may_leave disk image → k.left_since disk t image)
+      → (k.honest old.disk → (entries staged : List (List ℕ)) → IsOpen m k old entries staged →
+      LeavesOnly k.moment k.left_since old.disk disk (HasAllOrNone entries staged))
+      → Grouping m k at old given gathered bodies
+      → Durable m.plain k DiskFault at disk given bodies
   broken at old disk given gathered bodies counts leaves g = record {
     written = g.written;
     grouped = g.grouped;
@@ -221,19 +223,19 @@ module _ {M S K : Type 0} (plain : PlainMachine S) (stands : M → S → Type 0)
     told = g.told;
     waiting = g.waiting;
     whole = λ ok. absurd (ok refl);
-    images = λ h image leaves_it. left_now reads may_leave moment left_since old.disk disk (HasAllOrNone g.entries g.staged) counts
+    images = λ h image leaves_it. left_now k old.disk disk (HasAllOrNone g.entries g.staged) counts
         (leaves (g.as_honest.0 h) g.entries g.staged g.is_open) image leaves_it;
     any_moment = mended at old disk given gathered bodies g leaves;
   }
 
   -- a run ended between two groups
-  pub rested : (status : Status) (at : Start S K) (old : Journaled M K) (disk : K) (given : Option (List ℕ)) (bodies : List (List ℕ)) →
+  pub rested : (status : Status) (at : Start m.Plain K) (old : Journaled M K) (disk : K) (given : Option (List ℕ)) (bodies : List (List ℕ)) →
       ((y z u : List ℕ) → z ≡ y ++ u → shape_of status y z u) → disk ≡ old.disk
-      → Grouping plain stands opening honest reads may_leave moment left_since at old given [] bodies
-      → Durable plain honest reads may_leave moment left_since status at disk given bodies
+      → Grouping m k at old given [] bodies
+      → Durable m.plain k status at disk given bodies
   rested status at old disk given bodies shape same g =
-      let no_group : g.grouped ≡ [] = none_answered plain at.state at.most g.entries g.grouped g.others (g.entries ++ g.staged) g.waiting (sym g.holds) in
-      let no_entry : g.staged ≡ [] = none_staged plain at.state at.most g.entries g.staged g.grouped g.others g.waiting no_group in
+      let no_group : g.grouped ≡ [] = none_answered m.plain at.state at.most g.entries g.grouped g.others (g.entries ++ g.staged) g.waiting (sym g.holds) in
+      let no_entry : g.staged ≡ [] = none_staged m.plain at.state at.most g.entries g.staged g.grouped g.others g.waiting no_group in
       record {
         written = g.written;
         grouped = g.grouped;
@@ -247,9 +249,9 @@ module _ {M S K : Type 0} (plain : PlainMachine S) (stands : M → S → Type 0)
             (λ y z m. shape y z (concat g.answers) m);
         waiting = g.waiting;
         whole = λ ok. (no_group, no_entry);
-        images = λ h image leaves_it. inl (rest_has reads may_leave moment left_since old.disk g.entries g.is_open.each (g.is_open.rest (g.as_honest.0 h))
-            image (subst (λ d. may_leave d image) same leaves_it));
-        any_moment = λ h. subst (λ d. Mends reads may_leave moment left_since at.disk d (HasFront at.entries (g.entries ++ g.staged))) (sym same)
-            (mends_weaker reads may_leave moment left_since at.disk old.disk (HasFront at.entries g.entries) (HasFront at.entries (g.entries ++ g.staged))
+        images = λ h image leaves_it. inl (rest_has k old.disk g.entries g.is_open.each (g.is_open.rest (g.as_honest.0 h))
+            image (subst (λ d. k.may_leave d image) same leaves_it));
+        any_moment = λ h. subst (λ d. Mends k at.disk d (HasFront at.entries (g.entries ++ g.staged))) (sym same)
+            (mends_weaker k at.disk old.disk (HasFront at.entries g.entries) (HasFront at.entries (g.entries ++ g.staged))
             (g.any_moment h) (λ image. front_more at.entries g.entries g.staged image));
       }

@@ -7,5 +7,6 @@ mod Outcomes
 mod Turning
 mod Running
 mod TurnEnds
+mod Prompts
 mod Sites
 pub mod Stores

@@ -8,6 +8,7 @@ use Rattle.site_journal.specs.Texts.{IsEntry, journal_text, HasEntries, HasAllOr
 use Rattle.site_journal.specs.Moments.{IsAtRest}
 use Rattle.site_journal.specs.Opened.{Mends}
 use Rattle.durable_run.specs.Replies.{HasFront}
+use Rattle.disk_store.specs.declared.disks.Disk.{Ghosts as ADisk}
 
 abbrev first : List ℕ → ℕ
 first [] = 7
@@ -64,41 +65,41 @@ front_found entries bytes h = record {
   has = subst (λ z. HasEntries z bytes) (sym (append-nil entries)) h;
 }
 
-module _ {K : Type 0} (reads : K → List ℕ) (may_leave : K → List ℕ → Type 0) (moment : K → ℕ) (left_since : K → ℕ → List ℕ → Type 0) where
+module _ {K : Type 0} (k : ADisk K) where
   -- each image has what a weaker fact asks
-  pub leaves_weaker : (a b : K) (P Q : List ℕ → Type 0) → LeavesOnly moment left_since a b P → ((image : List ℕ) → P image → Q image) →
-      LeavesOnly moment left_since a b Q
+  pub leaves_weaker : (a b : K) (P Q : List ℕ → Type 0) → LeavesOnly k.moment k.left_since a b P → ((image : List ℕ) → P image → Q image) →
+      LeavesOnly k.moment k.left_since a b Q
   leaves_weaker a b P Q p f = record {
     later = p.later;
     each = λ image left. f image (p.each image left);
     before = λ t image le left. ⊎_elim (λ was. inl was) (λ now. inr (f image now)) (p.before t image le left);
   }
 
-  pub leaves_then : (a b c : K) (P Q R : List ℕ → Type 0) → LeavesOnly moment left_since a b P → LeavesOnly moment left_since b c Q
-      → ((image : List ℕ) → P image → R image) → ((image : List ℕ) → Q image → R image) → LeavesOnly moment left_since a c R
+  pub leaves_then : (a b c : K) (P Q R : List ℕ → Type 0) → LeavesOnly k.moment k.left_since a b P → LeavesOnly k.moment k.left_since b c Q
+      → ((image : List ℕ) → P image → R image) → ((image : List ℕ) → Q image → R image) → LeavesOnly k.moment k.left_since a c R
   leaves_then a b c P Q R p q f g = record {
     later = omega (arith, p.later, q.later);
-    each = λ image left. ⊎_elim (λ was. f image (p.each image was)) (λ now. g image now) (q.before (moment a) image p.later left);
+    each = λ image left. ⊎_elim (λ was. f image (p.each image was)) (λ now. g image now) (q.before (k.moment a) image p.later left);
     before = λ t image le left. ⊎_elim
         (λ was. ⊎_elim (λ older. inl older) (λ some. inr (f image some)) (p.before t image le was))
         (λ now. inr (g image now)) (q.before t image (omega (arith, le, p.later)) left);
   }
 
-  pub mends_weaker : (a b : K) (P Q : List ℕ → Type 0) → Mends reads may_leave moment left_since a b P → ((image : List ℕ) → P image → Q image) →
-      Mends reads may_leave moment left_since a b Q
+  pub mends_weaker : (a b : K) (P Q : List ℕ → Type 0) → Mends k a b P → ((image : List ℕ) → P image → Q image) →
+      Mends k a b Q
   mends_weaker a b P Q p f = (p.0, (p.1.0, leaves_weaker p.0 b P Q p.1.1 f))
 
-  pub mends_then : (a b c : K) (P Q R : List ℕ → Type 0) → Mends reads may_leave moment left_since a b P → LeavesOnly moment left_since b c Q
-      → ((image : List ℕ) → P image → R image) → ((image : List ℕ) → Q image → R image) → Mends reads may_leave moment left_since a c R
+  pub mends_then : (a b c : K) (P Q R : List ℕ → Type 0) → Mends k a b P → LeavesOnly k.moment k.left_since b c Q
+      → ((image : List ℕ) → P image → R image) → ((image : List ℕ) → Q image → R image) → Mends k a c R
   mends_then a b c P Q R p q f g = (p.0, (p.1.0, leaves_then p.0 b c P Q R p.1.1 q f g))
 
   -- what a crash now may leave is what some moment since then left
-  pub left_now : (a b : K) (P : List ℕ → Type 0) → ((t : ℕ) (image : List ℕ) → t ≤ moment b → may_leave b image → left_since b t image) →
-      LeavesOnly moment left_since a b P → (image : List ℕ) → may_leave b image → P image
-  left_now a b P counts p image leaves = p.each image (counts (moment a) image p.later leaves)
+  pub left_now : (a b : K) (P : List ℕ → Type 0) → ((t : ℕ) (image : List ℕ) → t ≤ k.moment b → k.may_leave b image → k.left_since b t image) →
+      LeavesOnly k.moment k.left_since a b P → (image : List ℕ) → k.may_leave b image → P image
+  left_now a b P counts p image leaves = p.each image (counts (k.moment a) image p.later leaves)
 
   -- a disk at rest leaves its entries
-  pub rest_has : (disk : K) (entries : List (List ℕ)) → AllByRecursion IsEntry entries → IsAtRest reads may_leave disk entries → (image : List ℕ) →
-      may_leave disk image → HasEntries entries image
+  pub rest_has : (disk : K) (entries : List (List ℕ)) → AllByRecursion IsEntry entries → IsAtRest k disk entries → (image : List ℕ) →
+      k.may_leave disk image → HasEntries entries image
   rest_has disk entries each rest image leaves =
       subst (HasEntries entries) (sym (rest.durable image leaves ∙ rest.text)) (text_has entries each)

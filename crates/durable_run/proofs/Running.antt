@@ -19,11 +19,15 @@ use Rattle.tardis_io.specs.Faults.{Rose}
 use Rattle.site_run.specs.Endings.{EndsAs, most_taken}
 use Rattle.durable_run.specs.Replies.{HasFront}
 use Rattle.durable_run.specs.Groups.{Start, Grouping}
-use Rattle.durable_run.specs.Ends.{Durable, NotOpened}
+use Rattle.durable_run.specs.Ends.{Durable, NotOpened, RanOn}
 use Rattle.durable_run.specs.Turns.{EndsSo, Went, Ended}
 use Rattle.durable_run.proofs.Bodies.{rose_earlier, went_then, went_same}
 use Rattle.durable_run.proofs.Moments.{front_found, mends_weaker}
 use Rattle.durable_run.proofs.Outcomes.{ends_as}
+use Rattle.tardis_io.specs.declared.streams.Source.{Ghosts as ASource}
+use Rattle.tardis_io.specs.declared.streams.Sink.{Ghosts as ASink}
+use Rattle.disk_store.specs.declared.disks.Disk.{Ghosts as ADisk}
+use Rattle.tardis_base.specs.declared.machines.Machine.{Ghosts as AMachine}
 
 -- a status that comes without a fault, where nothing was counted
 abbrev pub ExactEnd : Status → Type 0 → Type 0 → Type 0 → List ℕ → List ℕ → Type 0
@@ -59,18 +63,50 @@ memory_no_write : NoMemory ≡ WriteFault → ⊥
 memory_no_write e = let n : 0 ≡ 3 = ap number e in omega (arith, n)
 
 -- a disk that wasn't touched
-pub untouched : {K : Type 0} (reads : K → List ℕ) (may_leave : K → List ℕ → Type 0) (moment : K → ℕ) (left_since : K → ℕ → List ℕ → Type 0) (disk : K) →
-    WasRead reads may_leave moment left_since disk disk
-untouched reads may_leave moment left_since disk = record { same = refl; crash = λ image is. is; later = omega arith; since = λ t image le left. left }
+pub untouched : {K : Type 0} (k : ADisk K) (disk : K) →
+    WasRead k disk disk
+untouched k disk = record { same = refl; crash = λ image is. is; later = omega arith; since = λ t image le left. left }
 
-module _ {M S K : Type 0} (plain : PlainMachine S) (stands : M → S → Type 0) (opening : M → S) (honest : K → Type 0) (reads : K → List ℕ)
-    (may_leave : K → List ℕ → Type 0) (moment : K → ℕ) (left_since : K → ℕ → List ℕ → Type 0) where
+pub no_buffers : {S K I O : Type 0} (plain : PlainMachine S) (k : ADisk K) (src : ASource I) (snk : ASink O) (disk : K) (i : I) (o : O) →
+    NotOpened plain k src snk NoMemory disk disk i i o o
+no_buffers plain k src snk disk i o = record {
+  end = inl refl;
+  unread = refl;
+  unwritten = refl;
+  any_moment = λ h entries has. inr (untouched k disk);
+}
+
+pub ended_none : {K I O : Type 0} (k : ADisk K) (src : ASource I) (snk : ASink O) (disk : K) (i : I) (o : O) →
+    Ended k src snk disk disk i i o o NoMemory
+ended_none k src snk disk i o = record {
+  end = tt;
+  went = went_same k disk;
+  disk_rose = λ e. absurd (memory_no_disk e);
+  read_rose = λ e. absurd (memory_no_read e);
+  write_rose = λ e. absurd (memory_no_write e);
+}
+
+-- how a run ended, told of values that are the same
+module _ {S K I O : Type 0} (plain : PlainMachine S) (k : ADisk K) (src : ASource I) (snk : ASink O) where
+  pub apart_unopened : (status : Status) (old new : K) (i j x : I) (o p y : O) → NotOpened plain k src snk status old new i j o p → j ≡ x → p ≡ y →
+      NotOpened plain k src snk status old new i x o y
+  apart_unopened status old new i j x o p y n input output =
+      subst (λ z. NotOpened plain k src snk status old new i z o y) input
+      (subst (λ z. NotOpened plain k src snk status old new i j o z) output n)
+
+  pub apart_ran : (opening : S) (most : ℕ) (status : Status) (old new : K) (i j x : I) (o p y : O) → RanOn plain k src snk opening most status old new i j o p →
+      j ≡ x → p ≡ y → RanOn plain k src snk opening most status old new i x o y
+  apart_ran opening most status old new i j x o p y r input output =
+      subst (λ z. RanOn plain k src snk opening most status old new i z o y) input
+      (subst (λ z. RanOn plain k src snk opening most status old new i j o z) output r)
+
+module _ {M K : Type 0} (m : AMachine M) (k : ADisk K) where
   -- the journal was opened
-  pub begun : (entries : List (List ℕ)) (state : S) (disk : K) (given : Option (List ℕ)) (most : ℕ) (journal : Journaled M K) →
-      IsOpen plain stands opening honest reads may_leave journal entries []
-      → opening journal.machine ≡ state → journal.max_trail ≡ most → AsHonest honest disk journal.disk → (honest disk → HasEntries entries (reads disk))
-      → (honest disk → (found : List (List ℕ)) → HasEntries found (reads disk) → Mends reads may_leave moment left_since disk journal.disk (HasEntries found))
-      → Grouping plain stands opening honest reads may_leave moment left_since
+  pub begun : (entries : List (List ℕ)) (state : m.Plain) (disk : K) (given : Option (List ℕ)) (most : ℕ) (journal : Journaled M K) →
+      IsOpen m k journal entries []
+      → m.opening journal.machine ≡ state → journal.max_trail ≡ most → AsHonest k.honest disk journal.disk → (k.honest disk → HasEntries entries (k.reads disk))
+      → (k.honest disk → (found : List (List ℕ)) → HasEntries found (k.reads disk) → Mends k disk journal.disk (HasEntries found))
+      → Grouping m k
       (record { entries = entries; state = state; disk = disk; given = given; most = most }) journal given [] []
   begun entries state disk given most journal is_open opened limit as_honest found images = record {
     written = [];
@@ -90,111 +126,92 @@ module _ {M S K : Type 0} (plain : PlainMachine S) (stands : M → S → Type 0)
     new = [];
     grew = sym (append-nil entries);
     as_honest = as_honest;
-    any_moment = λ h. mends_weaker reads may_leave moment left_since disk journal.disk (HasEntries entries) (HasFront entries entries)
+    any_moment = λ h. mends_weaker k disk journal.disk (HasEntries entries) (HasFront entries entries)
         (images h entries (found h)) (λ image. front_found entries image);
   }
 
   -- the status tells what ended the run
-  pub exact_end : (at : Start S K) (a b : Option (List ℕ)) (status : Status) (disk : K) (now : Option (List ℕ)) (Disks Reads Writes : Type 0) →
+  pub exact_end : (at : Start m.Plain K) (a b : Option (List ℕ)) (status : Status) (disk : K) (now : Option (List ℕ)) (Disks Reads Writes : Type 0) →
       (status ≡ DiskFault → Disks) → (status ≡ ReadFault → Reads) → (status ≡ WriteFault → Writes)
-      → WhileTold a b (EndsSo plain honest reads may_leave moment left_since at status disk now) → WhileTold a b (ExactEnd status Disks Reads Writes)
-  exact_end at a b status disk now Disks Reads Writes k r w told =
-      weaker a b (EndsSo plain honest reads may_leave moment left_since at status disk now) (ExactEnd status Disks Reads Writes) told
-      (λ x y o all rest d few nd nr nw. ends_as status (λ s. s ≡ at.entries)
-      (λ s bodies. Durable plain honest reads may_leave moment left_since status
+      → WhileTold a b (EndsSo m.plain k at status disk now) → WhileTold a b (ExactEnd status Disks Reads Writes)
+  exact_end at a b status disk now Disks Reads Writes x r w told =
+      weaker a b (EndsSo m.plain k at status disk now) (ExactEnd status Disks Reads Writes) told
+      (λ first left o all rest d few nd nr nw. ends_as status (λ s. s ≡ at.entries)
+      (λ s bodies. Durable m.plain k status
       (record { entries = s; state = at.state; disk = at.disk; given = at.given; most = at.most }) disk now bodies)
-      x y o (λ e. nr (r e)) (λ e. nw (w e)) (λ e. nd (k e)) all rest d few)
+      first left o (λ e. nr (r e)) (λ e. nw (w e)) (λ e. nd (x e)) all rest d few)
 
   -- the journal wasn't opened
-  pub unopened_fault : {I O : Type 0} (left : I → Option (List ℕ)) (given : O → Option (List ℕ)) (disk d : K) (end : OpenEnd K) (i : I) (o : O) →
+  pub unopened_fault : {I O : Type 0} (src : ASource I) (snk : ASink O) (disk d : K) (end : OpenEnd K) (i : I) (o : O) →
       end ≡ OpenFaulted d
-      → (honest disk → (entries : List (List ℕ)) → HasEntries entries (reads disk) →
-      OpenImages {M = M} {K = K} reads may_leave moment left_since disk (Err end) (HasEntries entries))
-      → NotOpened plain honest reads may_leave moment left_since left given DiskFault disk d i i o o
-  unopened_fault left given disk d end i o is images = record {
+      → (k.honest disk → (entries : List (List ℕ)) → HasEntries entries (k.reads disk) →
+      OpenImages {M = M} {K = K} k disk (Err end) (HasEntries entries))
+      → NotOpened m.plain k src snk DiskFault disk d i i o o
+  unopened_fault src snk disk d end i o is images = record {
     end = inr refl;
     unread = refl;
     unwritten = refl;
-    any_moment = λ h entries has. subst (λ e. OpenImages {M = M} {K = K} reads may_leave moment left_since disk (Err e) (HasEntries entries)) is
+    any_moment = λ h entries has. subst (λ e. OpenImages {M = M} {K = K} k disk (Err e) (HasEntries entries)) is
         (images h entries has);
   }
 
-  pub unopened_memory : {I O : Type 0} (left : I → Option (List ℕ)) (given : O → Option (List ℕ)) (disk d : K) (end : OpenEnd K) (i : I) (o : O) →
+  pub unopened_memory : {I O : Type 0} (src : ASource I) (snk : ASink O) (disk d : K) (end : OpenEnd K) (i : I) (o : O) →
       end ≡ OpenWanting d
-      → (honest disk → (entries : List (List ℕ)) → HasEntries entries (reads disk) →
-      OpenImages {M = M} {K = K} reads may_leave moment left_since disk (Err end) (HasEntries entries))
-      → NotOpened plain honest reads may_leave moment left_since left given NoMemory disk d i i o o
-  unopened_memory left given disk d end i o is images = record {
+      → (k.honest disk → (entries : List (List ℕ)) → HasEntries entries (k.reads disk) →
+      OpenImages {M = M} {K = K} k disk (Err end) (HasEntries entries))
+      → NotOpened m.plain k src snk NoMemory disk d i i o o
+  unopened_memory src snk disk d end i o is images = record {
     end = inl refl;
     unread = refl;
     unwritten = refl;
-    any_moment = λ h entries has. subst (λ e. OpenImages {M = M} {K = K} reads may_leave moment left_since disk (Err e) (HasEntries entries)) is
+    any_moment = λ h entries has. subst (λ e. OpenImages {M = M} {K = K} k disk (Err e) (HasEntries entries)) is
         (images h entries has);
   }
 
-  pub no_buffers : {I O : Type 0} (left : I → Option (List ℕ)) (given : O → Option (List ℕ)) (disk : K) (i : I) (o : O) →
-      NotOpened plain honest reads may_leave moment left_since left given NoMemory disk disk i i o o
-  no_buffers left given disk i o = record {
-    end = inl refl;
-    unread = refl;
-    unwritten = refl;
-    any_moment = λ h entries has. inr (untouched reads may_leave moment left_since disk);
-  }
+  pub rose_of : (disk d : K) (end : OpenEnd K) → end ≡ OpenFaulted d → OpenFault {M = M} {K = K} k disk (Err end) →
+      Rose (k.faults disk) (k.faults d)
+  rose_of disk d end is failed = subst (λ e. OpenFault {M = M} {K = K} k disk (Err e)) is failed
 
-  pub rose_of : (faults : K → ℕ) (disk d : K) (end : OpenEnd K) → end ≡ OpenFaulted d → OpenFault {M = M} {K = K} faults disk (Err end) →
-      Rose (faults disk) (faults d)
-  rose_of faults disk d end is failed = subst (λ e. OpenFault {M = M} {K = K} faults disk (Err e)) is failed
-
-  went_fault : (faults : K → ℕ) (disk d : K) (end : OpenEnd K) → end ≡ OpenFaulted d → faults disk ≤ faults (disk_of {M = M} {K = K} (Err end)) →
-      AsHonest honest disk (disk_of {M = M} {K = K} (Err end)) → Went honest faults disk d
-  went_fault faults disk d end is later as_honest = subst (λ e. Went honest faults disk (disk_of {M = M} {K = K} (Err e))) is
+  went_fault : (disk d : K) (end : OpenEnd K) → end ≡ OpenFaulted d → k.faults disk ≤ k.faults (disk_of {M = M} {K = K} (Err end)) →
+      AsHonest k.honest disk (disk_of {M = M} {K = K} (Err end)) → Went k disk d
+  went_fault disk d end is later as_honest = subst (λ e. Went k disk (disk_of {M = M} {K = K} (Err e))) is
       (record { later = later; as_honest = as_honest })
 
-  went_memory : (faults : K → ℕ) (disk d : K) (end : OpenEnd K) → end ≡ OpenWanting d → faults disk ≤ faults (disk_of {M = M} {K = K} (Err end)) →
-      AsHonest honest disk (disk_of {M = M} {K = K} (Err end)) → Went honest faults disk d
-  went_memory faults disk d end is later as_honest = subst (λ e. Went honest faults disk (disk_of {M = M} {K = K} (Err e))) is
+  went_memory : (disk d : K) (end : OpenEnd K) → end ≡ OpenWanting d → k.faults disk ≤ k.faults (disk_of {M = M} {K = K} (Err end)) →
+      AsHonest k.honest disk (disk_of {M = M} {K = K} (Err end)) → Went k disk d
+  went_memory disk d end is later as_honest = subst (λ e. Went k disk (disk_of {M = M} {K = K} (Err e))) is
       (record { later = later; as_honest = as_honest })
 
-  pub ended_fault : {I O : Type 0} (faults : K → ℕ) (takes : I → ℕ) (gives : O → ℕ) (disk d : K) (end : OpenEnd K) (i : I) (o : O) → end ≡ OpenFaulted d →
-      OpenFault {M = M} {K = K} faults disk (Err end)
-      → faults disk ≤ faults (disk_of {M = M} {K = K} (Err end)) → AsHonest honest disk (disk_of {M = M} {K = K} (Err end)) →
-      Ended honest faults takes gives disk d i i o o DiskFault
-  ended_fault faults takes gives disk d end i o is failed later as_honest = record {
+  pub ended_fault : {I O : Type 0} (src : ASource I) (snk : ASink O) (disk d : K) (end : OpenEnd K) (i : I) (o : O) → end ≡ OpenFaulted d →
+      OpenFault {M = M} {K = K} k disk (Err end)
+      → k.faults disk ≤ k.faults (disk_of {M = M} {K = K} (Err end)) → AsHonest k.honest disk (disk_of {M = M} {K = K} (Err end)) →
+      Ended k src snk disk d i i o o DiskFault
+  ended_fault src snk disk d end i o is failed later as_honest = record {
     end = tt;
-    went = went_fault faults disk d end is later as_honest;
-    disk_rose = λ e. rose_of faults disk d end is failed;
+    went = went_fault disk d end is later as_honest;
+    disk_rose = λ e. rose_of disk d end is failed;
     read_rose = λ e. absurd (other_fault e);
     write_rose = λ e. absurd (another_fault e);
   }
 
-  pub ended_memory : {I O : Type 0} (faults : K → ℕ) (takes : I → ℕ) (gives : O → ℕ) (disk d : K) (end : OpenEnd K) (i : I) (o : O) → end ≡ OpenWanting d
-      → faults disk ≤ faults (disk_of {M = M} {K = K} (Err end)) → AsHonest honest disk (disk_of {M = M} {K = K} (Err end)) →
-      Ended honest faults takes gives disk d i i o o NoMemory
-  ended_memory faults takes gives disk d end i o is later as_honest = record {
+  pub ended_memory : {I O : Type 0} (src : ASource I) (snk : ASink O) (disk d : K) (end : OpenEnd K) (i : I) (o : O) → end ≡ OpenWanting d
+      → k.faults disk ≤ k.faults (disk_of {M = M} {K = K} (Err end)) → AsHonest k.honest disk (disk_of {M = M} {K = K} (Err end)) →
+      Ended k src snk disk d i i o o NoMemory
+  ended_memory src snk disk d end i o is later as_honest = record {
     end = tt;
-    went = went_memory faults disk d end is later as_honest;
+    went = went_memory disk d end is later as_honest;
     disk_rose = λ e. absurd (memory_no_disk e);
     read_rose = λ e. absurd (memory_no_read e);
     write_rose = λ e. absurd (memory_no_write e);
   }
 
-  pub ended_later : {I O : Type 0} (faults : K → ℕ) (takes : I → ℕ) (gives : O → ℕ) (disk mid now : K) (i j : I) (o p : O) (status : Status) →
-      faults disk ≤ faults mid → AsHonest honest disk mid
-      → Ended honest faults takes gives mid now i j o p status → Ended honest faults takes gives disk now i j o p status
-  ended_later faults takes gives disk mid now i j o p status later as_honest e = record {
+  pub ended_later : {I O : Type 0} (src : ASource I) (snk : ASink O) (disk mid now : K) (i j : I) (o p : O) (status : Status) →
+      k.faults disk ≤ k.faults mid → AsHonest k.honest disk mid
+      → Ended k src snk mid now i j o p status → Ended k src snk disk now i j o p status
+  ended_later src snk disk mid now i j o p status later as_honest e = record {
     end = e.end;
-    went = went_then honest faults disk mid now (record { later = later; as_honest = as_honest }) e.went;
-    disk_rose = λ s. rose_earlier (faults disk) (faults mid) (faults now) later (e.disk_rose s);
+    went = went_then k disk mid now (record { later = later; as_honest = as_honest }) e.went;
+    disk_rose = λ s. rose_earlier (k.faults disk) (k.faults mid) (k.faults now) later (e.disk_rose s);
     read_rose = e.read_rose;
     write_rose = e.write_rose;
-  }
-
-  pub ended_none : {I O : Type 0} (faults : K → ℕ) (takes : I → ℕ) (gives : O → ℕ) (disk : K) (i : I) (o : O) →
-      Ended honest faults takes gives disk disk i i o o NoMemory
-  ended_none faults takes gives disk i o = record {
-    end = tt;
-    went = went_same honest faults disk;
-    disk_rose = λ e. absurd (memory_no_disk e);
-    read_rose = λ e. absurd (memory_no_read e);
-    write_rose = λ e. absurd (memory_no_write e);
   }

@@ -5,6 +5,9 @@ use Rattle.tardis_io.specs.declared.statuses.Status.{Status}
 use Rattle.tardis_io.specs.declared.statuses.Status.TheVariants.{Ok as Finished, Cut, ReadFault, WriteFault, DiskFault, NoMemory}
 use Rattle.tardis_io.specs.Faults.{Rose}
 use Rattle.site_run.specs.Endings.{IsRunEnd}
+use Rattle.tardis_io.specs.declared.streams.Source.{Ghosts as ASource}
+use Rattle.tardis_io.specs.declared.streams.Sink.{Ghosts as ASink}
+use Rattle.disk_store.specs.declared.disks.Disk.{Ghosts as ADisk}
 use Rattle.durable_run.specs.Ends.{as_in_midst}
 use Rattle.durable_run.specs.declared.groups.Stop.{Stop}
 use Rattle.durable_run.specs.declared.groups.Stop.TheVariants.{Disk, Output}
@@ -19,43 +22,43 @@ differ test a b fails holds e = false≢true (sym fails ∙ ap test e ∙ holds)
 abbrev has : ℕ → Status → Bool
 has n status = number status == n
 
-module _ {K I O : Type 0} (honest : K → Type 0) (faults : K → ℕ) (takes : I → ℕ) (gives : O → ℕ) where
+module _ {K I O : Type 0} (k : ADisk K) (src : ASource I) (snk : ASink O) where
   -- a run that no fault ended
   pub ended_plain : (disk mid now : K) (i j : I) (o p : O) (status : Status) → IsRunEnd (as_in_midst status) → number status ≡ 0 → now ≡ mid →
-      Went honest faults disk mid → Ended honest faults takes gives disk now i j o p status
+      Went k disk mid → Ended k src snk disk now i j o p status
   ended_plain disk mid now i j o p status end zero same went = record {
     end = end;
-    went = subst (λ k. Went honest faults disk k) (sym same) went;
+    went = subst (λ d. Went k disk d) (sym same) went;
     disk_rose = λ e. absurd (differ (has 1) status DiskFault (ap (λ n. n == 1) zero) refl e);
     read_rose = λ e. absurd (differ (has 2) status ReadFault (ap (λ n. n == 2) zero) refl e);
     write_rose = λ e. absurd (differ (has 3) status WriteFault (ap (λ n. n == 3) zero) refl e);
   }
 
   -- the input ended
-  pub ended_input : (disk now : K) (i j : I) (o : O) (whole : Bool) (status : Status) → status ≡ (if whole then Finished else Cut) → now ≡ disk →
-      Ended honest faults takes gives disk now i j o o status
-  ended_input disk now i j o true status is same =
-      subst (λ s. Ended honest faults takes gives disk now i j o o s) (sym is)
-      (ended_plain disk disk now i j o o Finished tt refl same (went_same honest faults disk))
-  ended_input disk now i j o false status is same =
-      subst (λ s. Ended honest faults takes gives disk now i j o o s) (sym is)
-      (ended_plain disk disk now i j o o Cut tt refl same (went_same honest faults disk))
+  pub ended_input : (disk now : K) (i j : I) (o p : O) (whole : Bool) (status : Status) → status ≡ (if whole then Finished else Cut) → now ≡ disk →
+      Ended k src snk disk now i j o p status
+  ended_input disk now i j o p true status is same =
+      subst (λ s. Ended k src snk disk now i j o p s) (sym is)
+      (ended_plain disk disk now i j o p Finished tt refl same (went_same k disk))
+  ended_input disk now i j o p false status is same =
+      subst (λ s. Ended k src snk disk now i j o p s) (sym is)
+      (ended_plain disk disk now i j o p Cut tt refl same (went_same k disk))
 
   -- the input failed
-  pub ended_read : (disk now : K) (i j : I) (o : O) → Rose (takes i) (takes j) → now ≡ disk → Ended honest faults takes gives disk now i j o o ReadFault
-  ended_read disk now i j o rose same = record {
+  pub ended_read : (disk now : K) (i j : I) (o p : O) → Rose (src.faults i) (src.faults j) → now ≡ disk → Ended k src snk disk now i j o p ReadFault
+  ended_read disk now i j o p rose same = record {
     end = tt;
-    went = subst (λ k. Went honest faults disk k) (sym same) (went_same honest faults disk);
+    went = subst (λ d. Went k disk d) (sym same) (went_same k disk);
     disk_rose = λ e. absurd (differ (has 1) ReadFault DiskFault refl refl e);
     read_rose = λ e. rose;
     write_rose = λ e. absurd (differ (has 3) ReadFault WriteFault refl refl e);
   }
 
   -- the disk failed
-  pub ended_disk : (disk now : K) (i j : I) (o p : O) (stop : Stop K) → stop ≡ Disk now → Stopped honest faults gives disk o p stop →
-      Ended honest faults takes gives disk now i j o p DiskFault
+  pub ended_disk : (disk now : K) (i j : I) (o p : O) (stop : Stop K) → stop ≡ Disk now → Stopped k snk disk o p stop →
+      Ended k src snk disk now i j o p DiskFault
   ended_disk disk now i j o p stop is stopped =
-      let s = subst (λ z. Stopped honest faults gives disk o p z) is stopped in record {
+      let s = subst (λ z. Stopped k snk disk o p z) is stopped in record {
         end = tt;
         went = s.went;
         disk_rose = λ e. s.rose;
@@ -64,10 +67,10 @@ module _ {K I O : Type 0} (honest : K → Type 0) (faults : K → ℕ) (takes : 
       }
 
   -- the sink failed
-  pub ended_output : (disk now : K) (i j : I) (o p : O) (stop : Stop K) → stop ≡ Output now → Stopped honest faults gives disk o p stop →
-      Ended honest faults takes gives disk now i j o p WriteFault
+  pub ended_output : (disk now : K) (i j : I) (o p : O) (stop : Stop K) → stop ≡ Output now → Stopped k snk disk o p stop →
+      Ended k src snk disk now i j o p WriteFault
   ended_output disk now i j o p stop is stopped =
-      let s = subst (λ z. Stopped honest faults gives disk o p z) is stopped in record {
+      let s = subst (λ z. Stopped k snk disk o p z) is stopped in record {
         end = tt;
         went = s.went;
         disk_rose = λ e. absurd (differ (has 1) WriteFault DiskFault refl refl e);
@@ -87,14 +90,14 @@ pub input_no_memory : (whole : Bool) (status : Status) → status ≡ (if whole 
 input_no_memory true status is e = no_memory Finished refl (sym is ∙ e)
 input_no_memory false status is e = no_memory Cut refl (sym is ∙ e)
 
-module _ {K I O : Type 0} (honest : K → Type 0) (faults : K → ℕ) (takes : I → ℕ) (gives : O → ℕ) where
+module _ {K I O : Type 0} (k : ADisk K) (src : ASource I) (snk : ASink O) where
   -- a turn that ended a run ended it since an earlier moment
-  pub ended_since : (disk mid now : K) (i j k : I) (o p q : O) (status : Status) → Went honest faults disk mid → takes i ≤ takes j → gives o ≤ gives p
-      → Ended honest faults takes gives mid now j k p q status → Ended honest faults takes gives disk now i k o q status
-  ended_since disk mid now i j k o p q status went read written e = record {
+  pub ended_since : (disk mid now : K) (i j l : I) (o p q : O) (status : Status) → Went k disk mid → src.faults i ≤ src.faults j → snk.faults o ≤ snk.faults p
+      → Ended k src snk mid now j l p q status → Ended k src snk disk now i l o q status
+  ended_since disk mid now i j l o p q status went read written e = record {
     end = e.end;
-    went = went_then honest faults disk mid now went e.went;
-    disk_rose = λ s. rose_earlier (faults disk) (faults mid) (faults now) went.later (e.disk_rose s);
-    read_rose = λ s. rose_earlier (takes i) (takes j) (takes k) read (e.read_rose s);
-    write_rose = λ s. rose_earlier (gives o) (gives p) (gives q) written (e.write_rose s);
+    went = went_then k disk mid now went e.went;
+    disk_rose = λ s. rose_earlier (k.faults disk) (k.faults mid) (k.faults now) went.later (e.disk_rose s);
+    read_rose = λ s. rose_earlier (src.faults i) (src.faults j) (src.faults l) read (e.read_rose s);
+    write_rose = λ s. rose_earlier (snk.faults o) (snk.faults p) (snk.faults q) written (e.write_rose s);
   }

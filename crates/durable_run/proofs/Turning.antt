@@ -4,7 +4,6 @@ use Rattle.std.proofs.Common.{subst, arith, append_assoc}
 use Rattle.std.proofs.lemmas.Bool.{false≢true}
 use Rattle.std.proofs.lemmas.Bool.Decides.{nat_tests}
 use Rattle.std.proofs.lemmas.List.{nil_from_length, length-append, length-take-le}
-use Rattle.tardis_base.specs.Plain.{PlainMachine}
 use Rattle.tardis_io.specs.Told.{WhileTold, Takes}
 use Rattle.tardis_io.proofs.Told.{weaker, then as told_then, same as told_same}
 use Rattle.tardis_io.specs.declared.statuses.Status.{Status}
@@ -20,6 +19,8 @@ use Rattle.durable_run.specs.declared.groups.Stop.TheVariants.{Disk, Output}
 use Rattle.durable_run.specs.Turns.{EndsSo, IsStop}
 use Rattle.durable_run.proofs.Grouped.{rested}
 use Rattle.durable_run.proofs.Outcomes.{outcome}
+use Rattle.disk_store.specs.declared.disks.Disk.{Ghosts as ADisk}
+use Rattle.tardis_base.specs.declared.machines.Machine.{Ghosts as AMachine}
 
 -- so many more bytes were taken
 count_more : (taken n : ℕ) (first before after buf : List ℕ) → length first ≡ taken + length before → before ≡ take n buf ++ after → n ≤ length buf →
@@ -43,81 +44,80 @@ ended before after buf n zero moved none =
     let all : before ≡ after = subst (λ k. before ≡ take k buf ++ after) zero moved in
     (none zero, sym all ∙ none zero)
 
-module _ {M S K : Type 0} (plain : PlainMachine S) (stands : M → S → Type 0) (opening : M → S) (honest : K → Type 0) (reads : K → List ℕ)
-    (may_leave : K → List ℕ → Type 0) (moment : K → ℕ) (left_since : K → ℕ → List ℕ → Type 0) where
+module _ {M K : Type 0} (m : AMachine M) (k : ADisk K) where
   -- a run that ended so, from what was cut and what it came to
-  pub ends_so : (at : Start S K) (status : Status) (disk : K) (given : Option (List ℕ)) (bodies : List (List ℕ)) (first held left : List ℕ)
-      → Cuts first bodies (held ++ left) → Durable plain honest reads may_leave moment left_since status at disk given bodies →
+  pub ends_so : (at : Start m.Plain K) (status : Status) (disk : K) (given : Option (List ℕ)) (bodies : List (List ℕ)) (first held left : List ℕ)
+      → Cuts first bodies (held ++ left) → Durable m.plain k status at disk given bodies →
       Ends (as_in_midst status) first bodies held left
-      → EndsSo plain honest reads may_leave moment left_since at status disk given first left
+      → EndsSo m.plain k at status disk given first left
   ends_so at status disk given bodies first held left read durable ends =
       outcome (as_in_midst status) (λ s. s ≡ at.entries)
-      (λ s bodies. Durable plain honest reads may_leave moment left_since status
+      (λ s bodies. Durable m.plain k status
       (record { entries = s; state = at.state; disk = at.disk; given = at.given; most = at.most }) disk given bodies)
       first bodies held left read
-      (λ s e. subst (λ x. Durable plain honest reads may_leave moment left_since status
+      (λ s e. subst (λ x. Durable m.plain k status
       (record { entries = x; state = at.state; disk = at.disk; given = at.given; most = at.most }) disk given bodies) (sym e) durable)
       ends
 
   -- the input ended
-  done_by : (b : Bool) (at : Start S K) (taken : ℕ) (journal : Journaled M K) (disk : K) (given : Option (List ℕ)) (held first before after buf : List ℕ)
+  done_by : (b : Bool) (at : Start m.Plain K) (taken : ℕ) (journal : Journaled M K) (disk : K) (given : Option (List ℕ)) (held first before after buf : List ℕ)
       (n : ℕ)
-      → Taking plain stands opening honest reads may_leave moment left_since at taken journal given held first before → n ≡ 0 →
+      → Taking m k at taken journal given held first before → n ≡ 0 →
       (before ≡ take n buf ++ after) × (n ≡ 0 → before ≡ [])
       → (length held == 0) ≡ b → IsPartial held → taken < most_taken → disk ≡ journal.disk
-      → EndsSo plain honest reads may_leave moment left_since at (if b then Finished else Cut) disk given first after
+      → EndsSo m.plain k at (if b then Finished else Cut) disk given first after
   done_by true at taken journal disk given held first before after buf n t zero moved is partial few same =
       let e = ended before after buf n zero moved.0 moved.1 in
       let left : before ≡ after = e.0 ∙ sym e.1 in
       let empty : length before ≡ 0 = ap length e.0 in
       ends_so at Finished disk given t.bodies first held after (subst (λ z. Cuts first t.bodies (held ++ z)) left t.read)
-      (rested plain stands opening honest reads may_leave moment left_since Finished at journal disk given t.bodies (λ y z u p. p) same t.group)
+      (rested m k Finished at journal disk given t.bodies (λ y z u p. p) same t.group)
       (nil_from_length held (grind (arith, nat_tests, is)), e.1, omega (arith, t.count, empty, few))
   done_by false at taken journal disk given held first before after buf n t zero moved is partial few same =
       let e = ended before after buf n zero moved.0 moved.1 in
       let left : before ≡ after = e.0 ∙ sym e.1 in
       let empty : length before ≡ 0 = ap length e.0 in
       ends_so at Cut disk given t.bodies first held after (subst (λ z. Cuts first t.bodies (held ++ z)) left t.read)
-      (rested plain stands opening honest reads may_leave moment left_since Cut at journal disk given t.bodies (λ y z u p. p) same t.group)
+      (rested m k Cut at journal disk given t.bodies (λ y z u p. p) same t.group)
       ((λ z. false≢true (sym is ∙ ap (λ h. length h == 0) z)), partial, e.1, omega (arith, t.count, empty, few))
 
-  pub done_end : (status : Status) (at : Start S K) (taken : ℕ) (journal : Journaled M K) (disk : K) (given : Option (List ℕ))
+  pub done_end : (status : Status) (at : Start m.Plain K) (taken : ℕ) (journal : Journaled M K) (disk : K) (given : Option (List ℕ))
       (held first before after buf : List ℕ) (n : ℕ)
-      → Taking plain stands opening honest reads may_leave moment left_since at taken journal given held first before → n ≡ 0 →
+      → Taking m k at taken journal given held first before → n ≡ 0 →
       (before ≡ take n buf ++ after) × (n ≡ 0 → before ≡ [])
       → status ≡ (if length held == 0 then Finished else Cut) → IsPartial held → taken < most_taken → disk ≡ journal.disk
-      → EndsSo plain honest reads may_leave moment left_since at status disk given first after
+      → EndsSo m.plain k at status disk given first after
   done_end status at taken journal disk given held first before after buf n t zero moved is partial few same =
-      subst (λ s. EndsSo plain honest reads may_leave moment left_since at s disk given first after) (sym is)
+      subst (λ s. EndsSo m.plain k at s disk given first after) (sym is)
       (done_by (length held == 0) at taken journal disk given held first before after buf n t zero moved refl partial few same)
 
-  pub done_read : (at : Start S K) (taken : ℕ) (journal : Journaled M K) (disk : K) (given : Option (List ℕ)) (held first before after : List ℕ)
-      → Taking plain stands opening honest reads may_leave moment left_since at taken journal given held first before → after ≡ before → IsPartial held →
+  pub done_read : (at : Start m.Plain K) (taken : ℕ) (journal : Journaled M K) (disk : K) (given : Option (List ℕ)) (held first before after : List ℕ)
+      → Taking m k at taken journal given held first before → after ≡ before → IsPartial held →
       taken < most_taken → disk ≡ journal.disk
-      → EndsSo plain honest reads may_leave moment left_since at ReadFault disk given first after
+      → EndsSo m.plain k at ReadFault disk given first after
   done_read at taken journal disk given held first before after t left partial few same =
       let count : length after ≡ length before = ap length left in
       ends_so at ReadFault disk given t.bodies first held after (subst (λ z. Cuts first t.bodies (held ++ z)) (sym left) t.read)
-      (rested plain stands opening honest reads may_leave moment left_since ReadFault at journal disk given t.bodies (λ y z u p. p) same t.group)
+      (rested m k ReadFault at journal disk given t.bodies (λ y z u p. p) same t.group)
       (partial, omega (arith, t.count, count, few))
 
-  pub done_spent : (at : Start S K) (taken : ℕ) (journal : Journaled M K) (disk : K) (given : Option (List ℕ)) (held first left : List ℕ)
-      → Taking plain stands opening honest reads may_leave moment left_since at taken journal given held first left → IsPartial held → taken ≤ most_taken →
+  pub done_spent : (at : Start m.Plain K) (taken : ℕ) (journal : Journaled M K) (disk : K) (given : Option (List ℕ)) (held first left : List ℕ)
+      → Taking m k at taken journal given held first left → IsPartial held → taken ≤ most_taken →
       most_taken ≤ taken → disk ≡ journal.disk
-      → EndsSo plain honest reads may_leave moment left_since at Spent disk given first left
+      → EndsSo m.plain k at Spent disk given first left
   done_spent at taken journal disk given held first left t partial within all same =
       ends_so at Spent disk given t.bodies first held left t.read
-      (rested plain stands opening honest reads may_leave moment left_since Spent at journal disk given t.bodies (λ y z u p. p) same t.group)
+      (rested m k Spent at journal disk given t.bodies (λ y z u p. p) same t.group)
       (partial, omega (arith, t.count, within, all))
 
   -- a piece was answered, and the run goes on
-  pub taking_more : (at : Start S K) (taken n : ℕ) (old new : Journaled M K) (given now : Option (List ℕ)) (held first before after buf piece rest : List ℕ)
-      → ((bodies : List (List ℕ)) → Grouping plain stands opening honest reads may_leave moment left_since at old given [] bodies
-      → (more : List (List ℕ)) × (Cuts (held ++ piece) more rest × Grouping plain stands opening honest reads may_leave moment left_since at new now []
+  pub taking_more : (at : Start m.Plain K) (taken n : ℕ) (old new : Journaled M K) (given now : Option (List ℕ)) (held first before after buf piece rest : List ℕ)
+      → ((bodies : List (List ℕ)) → Grouping m k at old given [] bodies
+      → (more : List (List ℕ)) × (Cuts (held ++ piece) more rest × Grouping m k at new now []
       (bodies ++ more)))
       → (before ≡ take n buf ++ after) × (n ≡ 0 → before ≡ []) → n ≤ length buf → piece ≡ take n buf
-      → Taking plain stands opening honest reads may_leave moment left_since at taken old given held first before
-      → Taking plain stands opening honest reads may_leave moment left_since at (taken + n) new now rest first after
+      → Taking m k at taken old given held first before
+      → Taking m k at (taken + n) new now rest first after
   taking_more at taken n old new given now held first before after buf piece rest grouped moved within is t =
       let on = grouped t.bodies t.group in
       record {
@@ -127,25 +127,25 @@ module _ {M S K : Type 0} (plain : PlainMachine S) (stands : M → S → Type 0)
         group = on.1.1;
       }
 
-  pub done_long : (len : ℕ) (at : Start S K) (taken : ℕ) (journal : Journaled M K) (disk : K) (given : Option (List ℕ)) (held first left : List ℕ)
-      → Taking plain stands opening honest reads may_leave moment left_since at taken journal given held first left → IsLong held len → taken ≤ most_taken
+  pub done_long : (len : ℕ) (at : Start m.Plain K) (taken : ℕ) (journal : Journaled M K) (disk : K) (given : Option (List ℕ)) (held first left : List ℕ)
+      → Taking m k at taken journal given held first left → IsLong held len → taken ≤ most_taken
       → disk ≡ journal.disk
-      → EndsSo plain honest reads may_leave moment left_since at (LongFrame len) disk given first left
+      → EndsSo m.plain k at (LongFrame len) disk given first left
   done_long len at taken journal disk given held first left t long few same =
       ends_so at (LongFrame len) disk given t.bodies first held left t.read
-      (rested plain stands opening honest reads may_leave moment left_since (LongFrame len) at journal disk given t.bodies (λ y z u p. p) same t.group)
+      (rested m k (LongFrame len) at journal disk given t.bodies (λ y z u p. p) same t.group)
       (long, omega (arith, t.count, few))
 
   -- a piece was answered in part, when a disk or a sink failed
-  pub done_stop : (status : Status) (at : Start S K) (taken n : ℕ) (old : Journaled M K) (disk : K) (given now : Option (List ℕ))
+  pub done_stop : (status : Status) (at : Start m.Plain K) (taken n : ℕ) (old : Journaled M K) (disk : K) (given now : Option (List ℕ))
       (held first before after buf piece : List ℕ)
       → as_in_midst status ≡ WriteFault
-      → ((bodies : List (List ℕ)) → Grouping plain stands opening honest reads may_leave moment left_since at old given [] bodies
+      → ((bodies : List (List ℕ)) → Grouping m k at old given [] bodies
       → (more : List (List ℕ))
-      × ((rest : List ℕ) × (Cuts (held ++ piece) more rest × Durable plain honest reads may_leave moment left_since status at disk now (bodies ++ more))))
+      × ((rest : List ℕ) × (Cuts (held ++ piece) more rest × Durable m.plain k status at disk now (bodies ++ more))))
       → (before ≡ take n buf ++ after) × (n ≡ 0 → before ≡ []) → n ≤ length buf → piece ≡ take n buf → taken + n ≤ most_taken
-      → Taking plain stands opening honest reads may_leave moment left_since at taken old given held first before
-      → EndsSo plain honest reads may_leave moment left_since at status disk now first after
+      → Taking m k at taken old given held first before
+      → EndsSo m.plain k at status disk now first after
   done_stop status at taken n old disk given now held first before after buf piece midst stopped moved within is few t =
       let on = stopped t.bodies t.group in
       let count : length first ≡ taken + n + length after = count_more taken n first before after buf t.count moved.0 within in
@@ -155,20 +155,20 @@ module _ {M S K : Type 0} (plain : PlainMachine S) (stands : M → S → Type 0)
 
   -- a turn took so many bytes, and answered what they complete
   abbrev pub GoesOn : Journaled M K → Journaled M K → Option (List ℕ) → Option (List ℕ) → List ℕ → List ℕ → ℕ → List ℕ → List ℕ → Type 0
-  GoesOn old new given now held rest n before after = (at : Start S K) (taken : ℕ) (first : List ℕ)
-      → Taking plain stands opening honest reads may_leave moment left_since at taken old given held first before →
-      Taking plain stands opening honest reads may_leave moment left_since at (taken + n) new now rest first after
+  GoesOn old new given now held rest n before after = (at : Start m.Plain K) (taken : ℕ) (first : List ℕ)
+      → Taking m k at taken old given held first before →
+      Taking m k at (taken + n) new now rest first after
 
   -- a turn ended the run
   abbrev pub EndsHere : Journaled M K → Status → K → Option (List ℕ) → Option (List ℕ) → List ℕ → ℕ → List ℕ → List ℕ → Type 0
-  EndsHere old status disk given now held size before after = (at : Start S K) (taken : ℕ) (first : List ℕ)
-      → Taking plain stands opening honest reads may_leave moment left_since at taken old given held first before → taken + size ≤ most_taken →
-      EndsSo plain honest reads may_leave moment left_since at status disk now first after
+  EndsHere old status disk given now held size before after = (at : Start m.Plain K) (taken : ℕ) (first : List ℕ)
+      → Taking m k at taken old given held first before → taken + size ≤ most_taken →
+      EndsSo m.plain k at status disk now first after
 
   pub told_turned : (a b : Option (List ℕ)) (old new : Journaled M K) (given now : Option (List ℕ)) (held buf rest : List ℕ) (n : ℕ)
-      → ((at : Start S K) (bodies : List (List ℕ)) → Grouping plain stands opening honest reads may_leave moment left_since at old given [] bodies
+      → ((at : Start m.Plain K) (bodies : List (List ℕ)) → Grouping m k at old given [] bodies
       → (more : List (List ℕ)) × (Cuts (held ++ take n buf) more rest
-      × Grouping plain stands opening honest reads may_leave moment left_since at new now [] (bodies ++ more)))
+      × Grouping m k at new now [] (bodies ++ more)))
       → n ≤ length buf → WhileTold a b (λ before after. Takes before after (Ok n) buf) → WhileTold a b (GoesOn old new given now held rest n)
   told_turned a b old new given now held buf rest n grouped within told =
       weaker a b (λ before after. Takes before after (Ok n) buf) (GoesOn old new given now held rest n) told
@@ -189,9 +189,9 @@ module _ {M S K : Type 0} (plain : PlainMachine S) (stands : M → S → Type 0)
       (λ x y left at taken first t few. done_read at taken old disk given held first x y t left partial (omega (arith, few, some)) same)
 
   pub told_long : (a b : Option (List ℕ)) (len : ℕ) (old new : Journaled M K) (disk : K) (given now : Option (List ℕ)) (held buf rest : List ℕ) (n size : ℕ)
-      → ((at : Start S K) (bodies : List (List ℕ)) → Grouping plain stands opening honest reads may_leave moment left_since at old given [] bodies
+      → ((at : Start m.Plain K) (bodies : List (List ℕ)) → Grouping m k at old given [] bodies
       → (more : List (List ℕ)) × (Cuts (held ++ take n buf) more rest
-      × Grouping plain stands opening honest reads may_leave moment left_since at new now [] (bodies ++ more)))
+      × Grouping m k at new now [] (bodies ++ more)))
       → n ≤ length buf → n ≤ size → IsLong rest len → disk ≡ new.disk
       → WhileTold a b (λ before after. Takes before after (Ok n) buf) → WhileTold a b (EndsHere old (LongFrame len) disk given now held size)
   told_long a b len old new disk given now held buf rest n size grouped within less long same told =
@@ -201,9 +201,9 @@ module _ {M S K : Type 0} (plain : PlainMachine S) (stands : M → S → Type 0)
 
   pub told_stop : (a b : Option (List ℕ)) (status : Status) (old : Journaled M K) (disk : K) (given now : Option (List ℕ)) (held buf : List ℕ) (n size : ℕ)
       → as_in_midst status ≡ WriteFault
-      → ((at : Start S K) (bodies : List (List ℕ)) → Grouping plain stands opening honest reads may_leave moment left_since at old given [] bodies
+      → ((at : Start m.Plain K) (bodies : List (List ℕ)) → Grouping m k at old given [] bodies
       → (more : List (List ℕ))
-      × ((rest : List ℕ) × (Cuts (held ++ take n buf) more rest × Durable plain honest reads may_leave moment left_since status at disk now
+      × ((rest : List ℕ) × (Cuts (held ++ take n buf) more rest × Durable m.plain k status at disk now
       (bodies ++ more))))
       → n ≤ length buf → n ≤ size
       → WhileTold a b (λ before after. Takes before after (Ok n) buf) → WhileTold a b (EndsHere old status disk given now held size)
@@ -214,9 +214,9 @@ module _ {M S K : Type 0} (plain : PlainMachine S) (stands : M → S → Type 0)
 
   -- the same where it is told what stopped the run
   abbrev pub WasStopped : Journaled M K → Stop K → Option (List ℕ) → Option (List ℕ) → List ℕ → Type 0
-  WasStopped old stop given now bytes = (at : Start S K) (bodies : List (List ℕ)) →
-      Grouping plain stands opening honest reads may_leave moment left_since at old given [] bodies
-      → (more : List (List ℕ)) × ((rest : List ℕ) × (Cuts bytes more rest × IsStop plain honest reads may_leave moment left_since at stop now (bodies ++ more)))
+  WasStopped old stop given now bytes = (at : Start m.Plain K) (bodies : List (List ℕ)) →
+      Grouping m k at old given [] bodies
+      → (more : List (List ℕ)) × ((rest : List ℕ) × (Cuts bytes more rest × IsStop m.plain k at stop now (bodies ++ more)))
 
   pub told_disk : (a b : Option (List ℕ)) (old : Journaled M K) (stop : Stop K) (disk : K) (given now : Option (List ℕ)) (held buf : List ℕ) (n size : ℕ)
       → stop ≡ Disk disk → WasStopped old stop given now (held ++ take n buf) → n ≤ length buf → n ≤ size
@@ -224,7 +224,7 @@ module _ {M S K : Type 0} (plain : PlainMachine S) (stands : M → S → Type 0)
   told_disk a b old stop disk given now held buf n size is stopped within less told =
       told_stop a b DiskFault old disk given now held buf n size refl
       (λ at bodies group. let x = stopped at bodies group in
-      (x.0, (x.1.0, (x.1.1.0, subst (λ s. IsStop plain honest reads may_leave moment left_since at s now (bodies ++ x.0)) is x.1.1.1))))
+      (x.0, (x.1.0, (x.1.1.0, subst (λ s. IsStop m.plain k at s now (bodies ++ x.0)) is x.1.1.1))))
       within less told
 
   pub told_output : (a b : Option (List ℕ)) (old : Journaled M K) (stop : Stop K) (disk : K) (given now : Option (List ℕ)) (held buf : List ℕ) (n size : ℕ)
@@ -233,13 +233,13 @@ module _ {M S K : Type 0} (plain : PlainMachine S) (stands : M → S → Type 0)
   told_output a b old stop disk given now held buf n size is stopped within less told =
       told_stop a b WriteFault old disk given now held buf n size refl
       (λ at bodies group. let x = stopped at bodies group in
-      (x.0, (x.1.0, (x.1.1.0, subst (λ s. IsStop plain honest reads may_leave moment left_since at s now (bodies ++ x.0)) is x.1.1.1))))
+      (x.0, (x.1.0, (x.1.1.0, subst (λ s. IsStop m.plain k at s now (bodies ++ x.0)) is x.1.1.1))))
       within less told
 
   -- nothing was taken yet
-  pub taking_none : (at : Start S K) (journal : Journaled M K) (given : Option (List ℕ)) (held bytes : List ℕ) → held ≡ [] →
-      Grouping plain stands opening honest reads may_leave moment left_since at journal given [] [] →
-      Taking plain stands opening honest reads may_leave moment left_since at 0 journal given held bytes bytes
+  pub taking_none : (at : Start m.Plain K) (journal : Journaled M K) (given : Option (List ℕ)) (held bytes : List ℕ) → held ≡ [] →
+      Grouping m k at journal given [] [] →
+      Taking m k at 0 journal given held bytes bytes
   taking_none at journal given held bytes none group = record {
     bodies = [];
     count = omega arith;
@@ -248,38 +248,38 @@ module _ {M S K : Type 0} (plain : PlainMachine S) (stands : M → S → Type 0)
   }
 
   -- turn after turn
-  pub turns_on : (at : Start S K) (a b c : Option (List ℕ)) (taken n : ℕ) (old new : Journaled M K) (given now : Option (List ℕ)) (held rest : List ℕ)
-      → WhileTold a b (λ first left. Taking plain stands opening honest reads may_leave moment left_since at taken old given held first left) →
+  pub turns_on : (at : Start m.Plain K) (a b c : Option (List ℕ)) (taken n : ℕ) (old new : Journaled M K) (given now : Option (List ℕ)) (held rest : List ℕ)
+      → WhileTold a b (λ first left. Taking m k at taken old given held first left) →
       WhileTold b c (GoesOn old new given now held rest n)
-      → WhileTold a c (λ first left. Taking plain stands opening honest reads may_leave moment left_since at (taken + n) new now rest first left)
+      → WhileTold a c (λ first left. Taking m k at (taken + n) new now rest first left)
   turns_on at a b c taken n old new given now held rest so_far turn =
-      told_then a b c (λ first left. Taking plain stands opening honest reads may_leave moment left_since at taken old given held first left)
-      (GoesOn old new given now held rest n) (λ first left. Taking plain stands opening honest reads may_leave moment left_since at
+      told_then a b c (λ first left. Taking m k at taken old given held first left)
+      (GoesOn old new given now held rest n) (λ first left. Taking m k at
       (taken + n) new now rest first left)
       so_far turn (λ x y z t on. on at taken x t)
 
-  pub turns_end : (at : Start S K) (a b c : Option (List ℕ)) (taken size : ℕ) (old : Journaled M K) (status : Status) (disk : K)
+  pub turns_end : (at : Start m.Plain K) (a b c : Option (List ℕ)) (taken size : ℕ) (old : Journaled M K) (status : Status) (disk : K)
       (given now : Option (List ℕ)) (held : List ℕ)
-      → taken + size ≤ most_taken → WhileTold a b (λ first left. Taking plain stands opening honest reads may_leave moment left_since at taken old given
+      → taken + size ≤ most_taken → WhileTold a b (λ first left. Taking m k at taken old given
       held first left) → WhileTold b c (EndsHere old status disk given now held size)
-      → WhileTold a c (EndsSo plain honest reads may_leave moment left_since at status disk now)
+      → WhileTold a c (EndsSo m.plain k at status disk now)
   turns_end at a b c taken size old status disk given now held few so_far turn =
-      told_then a b c (λ first left. Taking plain stands opening honest reads may_leave moment left_since at taken old given held first left)
-      (EndsHere old status disk given now held size) (EndsSo plain honest reads may_leave moment left_since at status disk now)
+      told_then a b c (λ first left. Taking m k at taken old given held first left)
+      (EndsHere old status disk given now held size) (EndsSo m.plain k at status disk now)
       so_far turn (λ x y z t end. end at taken x t few)
 
-  pub turns_spent : (at : Start S K) (a b : Option (List ℕ)) (taken : ℕ) (old : Journaled M K) (disk : K) (given : Option (List ℕ)) (held : List ℕ)
+  pub turns_spent : (at : Start m.Plain K) (a b : Option (List ℕ)) (taken : ℕ) (old : Journaled M K) (disk : K) (given : Option (List ℕ)) (held : List ℕ)
       → IsPartial held → taken ≤ most_taken → most_taken ≤ taken → disk ≡ old.disk →
-      WhileTold a b (λ first left. Taking plain stands opening honest reads may_leave moment left_since at taken old given held first left)
-      → WhileTold a b (EndsSo plain honest reads may_leave moment left_since at Spent disk given)
+      WhileTold a b (λ first left. Taking m k at taken old given held first left)
+      → WhileTold a b (EndsSo m.plain k at Spent disk given)
   turns_spent at a b taken old disk given held partial within all same so_far =
-      weaker a b (λ first left. Taking plain stands opening honest reads may_leave moment left_since at taken old given held first left)
-      (EndsSo plain honest reads may_leave moment left_since at Spent disk given) so_far
+      weaker a b (λ first left. Taking m k at taken old given held first left)
+      (EndsSo m.plain k at Spent disk given) so_far
       (λ x y t. done_spent at taken old disk given held x y t partial within all same)
 
-  pub turns_none : (at : Start S K) (a : Option (List ℕ)) (journal : Journaled M K) (given : Option (List ℕ)) (held : List ℕ) → held ≡ [] →
-      Grouping plain stands opening honest reads may_leave moment left_since at journal given [] []
-      → WhileTold a a (λ first left. Taking plain stands opening honest reads may_leave moment left_since at 0 journal given held first left)
+  pub turns_none : (at : Start m.Plain K) (a : Option (List ℕ)) (journal : Journaled M K) (given : Option (List ℕ)) (held : List ℕ) → held ≡ [] →
+      Grouping m k at journal given [] []
+      → WhileTold a a (λ first left. Taking m k at 0 journal given held first left)
   turns_none at a journal given held none group = told_same a
-      (λ first left. Taking plain stands opening honest reads may_leave moment left_since at 0 journal given held first left)
+      (λ first left. Taking m k at 0 journal given held first left)
       (λ x. taking_none at journal given held x none group)

@@ -12,14 +12,18 @@ use Rattle.site_run.specs.Responses.{InTurn}
 use Rattle.site_run.specs.Endings.{Outcome, shape_of}
 use Rattle.durable_run.specs.Replies.{MayAnswer, HasFront}
 use Rattle.durable_run.specs.Groups.{Start}
+use Rattle.durable_run.specs.Prompt.{IsPrompt}
+use Rattle.tardis_io.specs.declared.streams.Source.{Ghosts as ASource}
+use Rattle.tardis_io.specs.declared.streams.Sink.{Ghosts as ASink}
+use Rattle.tardis_io.specs.declared.duplexes.Duplex.{Ghosts as ADuplex}
+use Rattle.disk_store.specs.declared.disks.Disk.{Ghosts as ADisk}
 
 -- a disk that fails ends a run in its midst, as a sink that fails does
 abbrev pub as_in_midst : Status → Status
 as_in_midst DiskFault = WriteFault
 as_in_midst status = status
 
-module _ {S K : Type 0} (plain : PlainMachine S) (honest : K → Type 0) (reads : K → List ℕ) (may_leave : K → List ℕ → Type 0) (moment : K → ℕ)
-    (left_since : K → ℕ → List ℕ → Type 0) where
+module _ {S K : Type 0} (plain : PlainMachine S) (k : ADisk K) where
   -- Since the start these bodies were answered in turn. All answers to the first of them were written, or a front where the
   -- sink failed, and their entries are in each image that a crash may leave. The rest are a group whose entries went to the
   -- disk when it failed, and are there all or none; no answer to them was written.
@@ -35,16 +39,16 @@ module _ {S K : Type 0} (plain : PlainMachine S) (honest : K → Type 0) (reads 
     pub told : WhileTold at.given given (λ y z. shape_of status y z (concat answers))
     pub waiting : InTurn (MayAnswer plain at.state at.most) entries grouped others (entries ++ staged)
     pub whole : (status ≡ DiskFault → ⊥) → (grouped ≡ []) × (staged ≡ [])
-    pub images : honest at.disk → (image : List ℕ) → may_leave disk image → HasAllOrNone entries staged image
-    pub any_moment : honest at.disk → Mends reads may_leave moment left_since at.disk disk (HasFront at.entries (entries ++ staged))
+    pub images : k.honest at.disk → (image : List ℕ) → k.may_leave disk image → HasAllOrNone entries staged image
+    pub any_moment : k.honest at.disk → Mends k at.disk disk (HasFront at.entries (entries ++ staged))
 
-  module _ {I O : Type 0} (left : I → Option (List ℕ)) (given : O → Option (List ℕ)) where
+  module _ {I O : Type 0} (i : ASource I) (o : ASink O) where
     -- The journal was opened, and the run went on from the entries that were found: those of the disk, where it is honest.
     pub record RanOn (opening : S) (most : ℕ) (status : Status) (old new : K) (input_old input_new : I) (output_old output_new : O) : Type 0 where
       pub entries : List (List ℕ)
-      pub found : honest old → HasEntries entries (reads old)
-      pub outcome : WhileTold (left input_old) (left input_new) (λ first rest. Outcome (as_in_midst status) (λ s. s ≡ entries)
-          (λ s bodies. Durable status (record { entries = s; state = opening; disk = old; given = given output_old; most = most }) new (given output_new)
+      pub found : k.honest old → HasEntries entries (k.reads old)
+      pub outcome : WhileTold (i.left input_old) (i.left input_new) (λ first rest. Outcome (as_in_midst status) (λ s. s ≡ entries)
+          (λ s bodies. Durable status (record { entries = s; state = opening; disk = old; given = o.given output_old; most = most }) new (o.given output_new)
           bodies) first rest)
 
     -- The journal wasn't opened: nothing was read or written, and a crash leaves the entries that there were. Where the first
@@ -53,5 +57,15 @@ module _ {S K : Type 0} (plain : PlainMachine S) (honest : K → Type 0) (reads 
       pub end : (status ≡ NoMemory) ⊎ (status ≡ DiskFault)
       pub unread : input_new ≡ input_old
       pub unwritten : output_new ≡ output_old
-      pub any_moment : honest old → (entries : List (List ℕ)) → HasEntries entries (reads old)
-          → Mends reads may_leave moment left_since old new (HasEntries entries) ⊎ WasRead reads may_leave moment left_since old new
+      pub any_moment : k.honest old → (entries : List (List ℕ)) → HasEntries entries (k.reads old)
+          → Mends k old new (HasEntries entries) ⊎ WasRead k old new
+
+-- a device as what is read from
+abbrev pub source_of : {D : Type 0} → ADuplex D → ASource D
+source_of d = record { left = d.left; faults = d.take_faults }
+
+-- a run that went on over one device, and kept no reply back
+pub record RanPromptly {S K D : Type 0} (plain : PlainMachine S) (k : ADisk K) (d : ADuplex D) (o : ASink D) (opening : S) (most : ℕ) (status : Status)
+    (old new : K) (device_old device_new : D) : Type 0 where
+  pub ran : RanOn plain k (source_of d) o opening most status old new device_old device_new device_old device_new
+  pub prompt : IsPrompt plain d o opening most ran.entries device_old device_new

@@ -4,4 +4,5 @@ pub mod Groups
 pub mod Ends
 pub mod Buffering
 pub mod Turns
+pub mod Prompt
 pub mod Commands

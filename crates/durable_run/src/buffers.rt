@@ -6,10 +6,10 @@ ghost use Rattle.durable_run.specs.Buffering.{AreFresh};
 use frame_cut::FrameCutter;
 use site_run::Gathered;
 use std::alloc::Global;
-use tardis_base::{NoMemory, ReplyBuf};
+use tardis_base::{MAX_FRAME, MAX_FRAMED, NoMemory, ReplyBuf};
 
 /// How many bytes of answers may be gathered: a mebibyte, and one longest answer.
-const GATHERED: usize = 2_097_156;
+pub(crate) const GATHERED: usize = MAX_FRAME + MAX_FRAMED;
 
 /// What a run holds between its input and its output.
 #[derive(Drop)]

@@ -1,8 +1,9 @@
 //! Groups: requests whose entries go to the disk at once, and whose answers are written after that.
 
 ghost use Rattle.std.specs.Prelude.{◌≡◌, ◌+◌, ◌≤◌, ◌++◌, [], ◌∷◌, ℕ, List, Option, length, IfOk, IfErr, OnOk};
-ghost use Rattle.tardis_base.specs.Sizes.{longest_frame};
+ghost use Rattle.tardis_base.specs.Sizes.{longest_frame, longest_framed};
 ghost use Rattle.durable_run.specs.Replies.{reply_of};
+ghost use Rattle.durable_run.specs.Buffering.{most_gathered};
 ghost use Rattle.durable_run.specs.Groups.{Start, Grouping};
 ghost use Rattle.durable_run.specs.Turns.{Went, Stopped, IsStop};
 ghost use Rattle.site_journal.specs.Opened.{HasRoom};
@@ -11,12 +12,9 @@ use disk_store::Disk;
 use frame_cut::event;
 use site_journal::{Journaled, Staged};
 use site_run::{Gathered, put_reply};
-use tardis_base::{Machine, Refusal, Reply, ReplyBuf};
+use tardis_base::{MAX_FRAMED, Machine, Refusal, Reply, ReplyBuf};
 use tardis_io::{Sink, WriteFault};
 use wire_talk::write_reply;
-
-/// The most bytes of one answer.
-const MOST: usize = 1_048_580;
 
 /// What stopped a run in its midst. The disk is handed back.
 #[derive(Drop)]
@@ -34,13 +32,13 @@ pub(crate) fn answer_body<M: Machine, K: Disk>(
 )
     requires body { length body.now ≤ longest_frame }
     requires staged { HasRoom journal.old }
-    requires room { length gathered.old.bytes + 1048580 ≤ gathered.old.room }
+    requires room { length gathered.old.bytes + longest_framed ≤ gathered.old.room }
     requires group { (at : Start M.Plain K) × ((given : Option (List ℕ))
-        × ((bodies : List (List ℕ)) × Grouping M.plain M.stands M.opening K.honest K.reads K.may_leave K.moment K.left_since at journal.old given
+        × ((bodies : List (List ℕ)) × Grouping M.Machine K.Disk at journal.old given
         gathered.old.bytes bodies)) }
     ensures grouped { (at : Start M.Plain K) (given : Option (List ℕ)) (bodies : List (List ℕ))
-        → Grouping M.plain M.stands M.opening K.honest K.reads K.may_leave K.moment K.left_since at journal.old given gathered.old.bytes bodies
-        → Grouping M.plain M.stands M.opening K.honest K.reads K.may_leave K.moment K.left_since at journal.new given gathered.new.bytes
+        → Grouping M.Machine K.Disk at journal.old given gathered.old.bytes bodies
+        → Grouping M.Machine K.Disk at journal.new given gathered.new.bytes
         (bodies ++ body.now ∷ []) }
     ensures room { gathered.new.room ≡ gathered.old.room }
     ensures disk { journal.new.disk ≡ journal.old.disk }
@@ -75,22 +73,23 @@ pub(crate) fn settle<M: Machine, K: Disk, O: Sink>(
     gathered: &mut Gathered,
     output: &mut O,
 ) -> Result<Journaled<M, K>, Stop<K>>
-    requires room { gathered.old.room ≡ 2097156 }
+    requires room { gathered.old.room ≡ most_gathered }
     requires group { (at : Start M.Plain K) × ((bodies : List (List ℕ))
-        × Grouping M.plain M.stands M.opening K.honest K.reads K.may_leave K.moment K.left_since at journal (O.given output.old) gathered.old.bytes bodies) }
+        × Grouping M.Machine K.Disk at journal (O.given output.old) gathered.old.bytes bodies) }
     ensures grouped { (at : Start M.Plain K) (bodies : List (List ℕ))
-        → Grouping M.plain M.stands M.opening K.honest K.reads K.may_leave K.moment K.left_since at journal (O.given output.old) gathered.old.bytes bodies
-        → IfOk result (λ j. Grouping M.plain M.stands M.opening K.honest K.reads K.may_leave K.moment K.left_since at j (O.given output.new)
+        → Grouping M.Machine K.Disk at journal (O.given output.old) gathered.old.bytes bodies
+        → IfOk result (λ j. Grouping M.Machine K.Disk at j (O.given output.new)
         gathered.new.bytes bodies) }
     ensures stopped { (at : Start M.Plain K) (bodies : List (List ℕ))
-        → Grouping M.plain M.stands M.opening K.honest K.reads K.may_leave K.moment K.left_since at journal (O.given output.old) gathered.old.bytes bodies
-        → IfErr result (λ stop. IsStop M.plain K.honest K.reads K.may_leave K.moment K.left_since at stop (O.given output.new) bodies) }
+        → Grouping M.Machine K.Disk at journal (O.given output.old) gathered.old.bytes bodies
+        → IfErr result (λ stop. IsStop M.plain K.Disk at stop (O.given output.new) bodies) }
     ensures none { OnOk result (gathered.new.bytes ≡ []) }
     ensures staged { IfOk result (λ j. j.staged ≡ []) }
     ensures room { gathered.new.room ≡ gathered.old.room }
-    ensures went { IfOk result (λ j. Went K.honest K.faults journal.disk j.disk) }
-    ensures fault { IfErr result (λ stop. Stopped K.honest K.faults O.faults journal.disk output.old output.new stop) }
+    ensures went { IfOk result (λ j. Went K.Disk journal.disk j.disk) }
+    ensures fault { IfErr result (λ stop. Stopped K.Disk O.Sink journal.disk output.old output.new stop) }
     ensures write_later { O.faults output.old ≤ O.faults output.new }
+    ensures kept { O.kept output.new ≡ O.kept output.old }
 {
     match journal.commit() {
         Ok(journal) => match gathered.write_to(output) {
@@ -107,24 +106,25 @@ pub(crate) fn make_room<M: Machine, K: Disk, O: Sink>(
     gathered: &mut Gathered,
     output: &mut O,
 ) -> Result<Journaled<M, K>, Stop<K>>
-    requires room { gathered.old.room ≡ 2097156 }
+    requires room { gathered.old.room ≡ most_gathered }
     requires group { (at : Start M.Plain K) × ((bodies : List (List ℕ))
-        × Grouping M.plain M.stands M.opening K.honest K.reads K.may_leave K.moment K.left_since at journal (O.given output.old) gathered.old.bytes bodies) }
+        × Grouping M.Machine K.Disk at journal (O.given output.old) gathered.old.bytes bodies) }
     ensures grouped { (at : Start M.Plain K) (bodies : List (List ℕ))
-        → Grouping M.plain M.stands M.opening K.honest K.reads K.may_leave K.moment K.left_since at journal (O.given output.old) gathered.old.bytes bodies
-        → IfOk result (λ j. Grouping M.plain M.stands M.opening K.honest K.reads K.may_leave K.moment K.left_since at j (O.given output.new)
+        → Grouping M.Machine K.Disk at journal (O.given output.old) gathered.old.bytes bodies
+        → IfOk result (λ j. Grouping M.Machine K.Disk at j (O.given output.new)
         gathered.new.bytes bodies) }
     ensures stopped { (at : Start M.Plain K) (bodies : List (List ℕ))
-        → Grouping M.plain M.stands M.opening K.honest K.reads K.may_leave K.moment K.left_since at journal (O.given output.old) gathered.old.bytes bodies
-        → IfErr result (λ stop. IsStop M.plain K.honest K.reads K.may_leave K.moment K.left_since at stop (O.given output.new) bodies) }
+        → Grouping M.Machine K.Disk at journal (O.given output.old) gathered.old.bytes bodies
+        → IfErr result (λ stop. IsStop M.plain K.Disk at stop (O.given output.new) bodies) }
     ensures staged { IfOk result (λ j. HasRoom j) }
-    ensures gathered { OnOk result (length gathered.new.bytes + 1048580 ≤ gathered.new.room) }
+    ensures gathered { OnOk result (length gathered.new.bytes + longest_framed ≤ gathered.new.room) }
     ensures room { gathered.new.room ≡ gathered.old.room }
-    ensures went { IfOk result (λ j. Went K.honest K.faults journal.disk j.disk) }
-    ensures fault { IfErr result (λ stop. Stopped K.honest K.faults O.faults journal.disk output.old output.new stop) }
+    ensures went { IfOk result (λ j. Went K.Disk journal.disk j.disk) }
+    ensures fault { IfErr result (λ stop. Stopped K.Disk O.Sink journal.disk output.old output.new stop) }
     ensures write_later { O.faults output.old ≤ O.faults output.new }
+    ensures kept { O.kept output.new ≡ O.kept output.old }
 {
-    if journal.has_room() && gathered.has_room(MOST) {
+    if journal.has_room() && gathered.has_room(MAX_FRAMED) {
         Ok(journal)
     } else {
         settle(journal, gathered, output)

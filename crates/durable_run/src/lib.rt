@@ -9,6 +9,6 @@ mod pieces;
 mod runs;
 mod site_runs;
 
-pub use commands::durable;
-pub use runs::run_durable;
-pub use site_runs::run_site_on;
+pub use commands::{durable, durable_device};
+pub use runs::{run_durable, run_durable_device};
+pub use site_runs::{run_site_on, run_site_on_device};

@@ -1,8 +1,9 @@
 //! The frames that a piece of the input completes.
 
 ghost use Rattle.std.specs.Prelude.{◌≡◌, ◌+◌, ◌≤◌, ◌++◌, [], ◌∷◌, ℕ, List, length, IfOk, IfErr, OnOk};
-ghost use Rattle.tardis_base.specs.Sizes.{longest_frame};
+ghost use Rattle.tardis_base.specs.Sizes.{longest_frame, piece as piece_size};
 ghost use Rattle.frame_cut.specs.Frames.{IsPartial, Cuts};
+ghost use Rattle.durable_run.specs.Buffering.{most_gathered};
 ghost use Rattle.durable_run.specs.Groups.{Start, Grouping};
 ghost use Rattle.durable_run.specs.Turns.{Went, Stopped, IsStop, IsBehind};
 
@@ -32,20 +33,21 @@ fn answer_frame<M: Machine, K: Disk, O: Sink>(
     output: &mut O,
 ) -> Result<Journaled<M, K>, Stop<K>>
     requires body { length body.now ≤ longest_frame }
-    requires room { gathered.old.room ≡ 2097156 }
+    requires room { gathered.old.room ≡ most_gathered }
     requires group { (at : Start M.Plain K) × ((bodies : List (List ℕ))
-        × Grouping M.plain M.stands M.opening K.honest K.reads K.may_leave K.moment K.left_since at journal (O.given output.old) gathered.old.bytes bodies) }
+        × Grouping M.Machine K.Disk at journal (O.given output.old) gathered.old.bytes bodies) }
     ensures grouped { (at : Start M.Plain K) (bodies : List (List ℕ))
-        → Grouping M.plain M.stands M.opening K.honest K.reads K.may_leave K.moment K.left_since at journal (O.given output.old) gathered.old.bytes bodies
-        → IfOk result (λ j. Grouping M.plain M.stands M.opening K.honest K.reads K.may_leave K.moment K.left_since at j (O.given output.new)
+        → Grouping M.Machine K.Disk at journal (O.given output.old) gathered.old.bytes bodies
+        → IfOk result (λ j. Grouping M.Machine K.Disk at j (O.given output.new)
         gathered.new.bytes (bodies ++ body.now ∷ [])) }
     ensures stopped { (at : Start M.Plain K) (bodies : List (List ℕ))
-        → Grouping M.plain M.stands M.opening K.honest K.reads K.may_leave K.moment K.left_since at journal (O.given output.old) gathered.old.bytes bodies
-        → IfErr result (λ stop. IsStop M.plain K.honest K.reads K.may_leave K.moment K.left_since at stop (O.given output.new) bodies) }
+        → Grouping M.Machine K.Disk at journal (O.given output.old) gathered.old.bytes bodies
+        → IfErr result (λ stop. IsStop M.plain K.Disk at stop (O.given output.new) bodies) }
     ensures room { gathered.new.room ≡ gathered.old.room }
-    ensures went { IfOk result (λ j. Went K.honest K.faults journal.disk j.disk) }
-    ensures fault { IfErr result (λ stop. Stopped K.honest K.faults O.faults journal.disk output.old output.new stop) }
+    ensures went { IfOk result (λ j. Went K.Disk journal.disk j.disk) }
+    ensures fault { IfErr result (λ stop. Stopped K.Disk O.Sink journal.disk output.old output.new stop) }
     ensures write_later { O.faults output.old ≤ O.faults output.new }
+    ensures kept { O.kept output.new ≡ O.kept output.old }
 {
     match make_room(journal, gathered, output) {
         Ok(mut journal) => {
@@ -64,23 +66,24 @@ fn answer_held<M: Machine, K: Disk, O: Sink>(
     gathered: &mut Gathered,
     output: &mut O,
 ) -> Result<(Journaled<M, K>, Next), Stop<K>>
-    requires room { gathered.old.room ≡ 2097156 }
+    requires room { gathered.old.room ≡ most_gathered }
     requires group { (at : Start M.Plain K) × ((bodies : List (List ℕ))
-        × Grouping M.plain M.stands M.opening K.honest K.reads K.may_leave K.moment K.left_since at journal (O.given output.old) gathered.old.bytes bodies) }
+        × Grouping M.Machine K.Disk at journal (O.given output.old) gathered.old.bytes bodies) }
     ensures grouped { (at : Start M.Plain K) (bodies : List (List ℕ))
-        → Grouping M.plain M.stands M.opening K.honest K.reads K.may_leave K.moment K.left_since at journal (O.given output.old) gathered.old.bytes bodies
+        → Grouping M.Machine K.Disk at journal (O.given output.old) gathered.old.bytes bodies
         → IfOk result (λ held. (more : List (List ℕ)) × (Cuts cutter.old more cutter.new
-        × Grouping M.plain M.stands M.opening K.honest K.reads K.may_leave K.moment K.left_since at held.0 (O.given output.new) gathered.new.bytes
+        × Grouping M.Machine K.Disk at held.0 (O.given output.new) gathered.new.bytes
         (bodies ++ more))) }
     ensures stopped { (at : Start M.Plain K) (bodies : List (List ℕ))
-        → Grouping M.plain M.stands M.opening K.honest K.reads K.may_leave K.moment K.left_since at journal (O.given output.old) gathered.old.bytes bodies
+        → Grouping M.Machine K.Disk at journal (O.given output.old) gathered.old.bytes bodies
         → IfErr result (λ stop. (more : List (List ℕ)) × ((rest : List ℕ) × (Cuts cutter.old more rest
-        × IsStop M.plain K.honest K.reads K.may_leave K.moment K.left_since at stop (O.given output.new) (bodies ++ more)))) }
+        × IsStop M.plain K.Disk at stop (O.given output.new) (bodies ++ more)))) }
     ensures behind { IfOk result (λ held. IsBehind held.1 cutter.new) }
     ensures room { gathered.new.room ≡ gathered.old.room }
-    ensures went { IfOk result (λ held. Went K.honest K.faults journal.disk held.0.disk) }
-    ensures fault { IfErr result (λ stop. Stopped K.honest K.faults O.faults journal.disk output.old output.new stop) }
+    ensures went { IfOk result (λ held. Went K.Disk journal.disk held.0.disk) }
+    ensures fault { IfErr result (λ stop. Stopped K.Disk O.Sink journal.disk output.old output.new stop) }
     ensures write_later { O.faults output.old ≤ O.faults output.new }
+    ensures kept { O.kept output.new ≡ O.kept output.old }
 {
     let mut journal = journal;
     loop {
@@ -105,25 +108,26 @@ pub(crate) fn answer_piece<M: Machine, K: Disk, O: Sink>(
     piece: &[u8],
 ) -> Result<(Journaled<M, K>, Next), Stop<K>>
     requires partial { IsPartial cutter.old }
-    requires size { length piece.now ≤ 65536 }
+    requires size { length piece.now ≤ piece_size }
     requires none { gathered.old.bytes ≡ [] }
-    requires room { gathered.old.room ≡ 2097156 }
+    requires room { gathered.old.room ≡ most_gathered }
     requires group { (at : Start M.Plain K) × ((bodies : List (List ℕ))
-        × Grouping M.plain M.stands M.opening K.honest K.reads K.may_leave K.moment K.left_since at journal (O.given output.old) [] bodies) }
+        × Grouping M.Machine K.Disk at journal (O.given output.old) [] bodies) }
     ensures grouped { (at : Start M.Plain K) (bodies : List (List ℕ))
-        → Grouping M.plain M.stands M.opening K.honest K.reads K.may_leave K.moment K.left_since at journal (O.given output.old) [] bodies
+        → Grouping M.Machine K.Disk at journal (O.given output.old) [] bodies
         → IfOk result (λ held. (more : List (List ℕ)) × (Cuts (cutter.old ++ piece.now) more cutter.new
-        × Grouping M.plain M.stands M.opening K.honest K.reads K.may_leave K.moment K.left_since at held.0 (O.given output.new) [] (bodies ++ more))) }
+        × Grouping M.Machine K.Disk at held.0 (O.given output.new) [] (bodies ++ more))) }
     ensures stopped { (at : Start M.Plain K) (bodies : List (List ℕ))
-        → Grouping M.plain M.stands M.opening K.honest K.reads K.may_leave K.moment K.left_since at journal (O.given output.old) [] bodies
+        → Grouping M.Machine K.Disk at journal (O.given output.old) [] bodies
         → IfErr result (λ stop. (more : List (List ℕ)) × ((rest : List ℕ) × (Cuts (cutter.old ++ piece.now) more rest
-        × IsStop M.plain K.honest K.reads K.may_leave K.moment K.left_since at stop (O.given output.new) (bodies ++ more)))) }
+        × IsStop M.plain K.Disk at stop (O.given output.new) (bodies ++ more)))) }
     ensures behind { IfOk result (λ held. IsBehind held.1 cutter.new) }
     ensures none { OnOk result (gathered.new.bytes ≡ []) }
     ensures room { gathered.new.room ≡ gathered.old.room }
-    ensures went { IfOk result (λ held. Went K.honest K.faults journal.disk held.0.disk) }
-    ensures fault { IfErr result (λ stop. Stopped K.honest K.faults O.faults journal.disk output.old output.new stop) }
+    ensures went { IfOk result (λ held. Went K.Disk journal.disk held.0.disk) }
+    ensures fault { IfErr result (λ stop. Stopped K.Disk O.Sink journal.disk output.old output.new stop) }
     ensures write_later { O.faults output.old ≤ O.faults output.new }
+    ensures kept { O.kept output.new ≡ O.kept output.old }
 {
     let _ = cutter.feed(piece);
     match answer_held(journal, cutter, reply, gathered, output) {

@@ -1,7 +1,8 @@
 -- How an export over frames ends.
-use Rattle.std.specs.Prelude.{◌≡◌, ◌≢◌, ℕ, ◌+◌, ◌≤◌, true, false, List, [], ◌++◌, length, map, Option}
+use Rattle.std.specs.Prelude.{◌≡◌, ◌≢◌, ℕ, ◌+◌, ◌<◌, ◌≤◌, true, false, List, [], ◌++◌, length, map, Option}
 use Rattle.tardis_base.specs.declared.ids.StateId.{StateId}
 use Rattle.tardis_base.specs.Plain.{Event, Answers, state_after}
+use Rattle.tardis_base.specs.Sizes.{longest_frame}
 use Rattle.tardis_io.specs.declared.statuses.Status.{Status}
 use Rattle.tardis_io.specs.declared.statuses.Status.TheVariants.{Ok, ReadFault, WriteFault, Cut, LongFrame, NoMemory, Spent, NoState}
 use Rattle.tardis_io.specs.Told.{WhileTold}
@@ -65,11 +66,11 @@ ExportEndsAs x rest (LongFrame len) = IsLong rest len
 ExportEndsAs x rest NoMemory = Unit {0}
 ExportEndsAs x rest _ = ⊥
 
--- the ends that an export may have
+-- the ends that an export may have: a frame that is too long is told by a length above the longest
 abbrev pub IsExportEnd : StateId → Status → Type 0
 IsExportEnd x Ok = Unit {0}
 IsExportEnd x Cut = Unit {0}
-IsExportEnd x (LongFrame len) = Unit {0}
+IsExportEnd x (LongFrame len) = longest_frame < len
 IsExportEnd x ReadFault = Unit {0}
 IsExportEnd x WriteFault = Unit {0}
 IsExportEnd x NoMemory = Unit {0}

@@ -10,7 +10,7 @@ use Rattle.hub.specs.declared.ports.Ready.TheVariants.{Stop}
 use Rattle.hub.specs.declared.ports.Seen.{Seen}
 use Rattle.hub.specs.declared.ports.Seen.TheVariants.{Offered}
 use Rattle.hub.specs.declared.serves.End.TheVariants.{Stopped, Spent}
-use Rattle.hub.specs.Lines.{LineState, line_at}
+use Rattle.hub.specs.Connections.{ConnectionState, connection_at}
 use Rattle.hub.specs.Telling.{Tells}
 use Rattle.hub.specs.Upkeeps.{UpkeepRule, counted, whole_tally, noted, due_by}
 use Rattle.hub.specs.Answering.{Asked}
@@ -40,7 +40,7 @@ pub tells_lost : (o n : Option (List Seen)) (calls : List Seen) → n ≡ None �
 tells_lost o n calls none = subst (λ z. Tells o z calls) (sym none) (tells_no_more o calls)
 
 -- an offer, and what was done of it
-pub turned : {S : Type 0} (m : PlainMachine S) (from to : S → Type 0) (old new : List (Option LineState)) (offer : Ready) (tally next : Tally)
+pub turned : {S : Type 0} (m : PlainMachine S) (from to : S → Type 0) (old new : List (Option ConnectionState)) (offer : Ready) (tally next : Tally)
     (a b c : Option (List Seen)) → Tells a b (Offered offer ∷ []) → GoesOn m from to old new offer tally next b c → Turned m from to old new tally next a c
 turned m from to old new offer tally next a b c p goes s turns keeps =
     let w = goes s turns keeps in
@@ -56,9 +56,9 @@ tally_start : (rule : Option UpkeepRule) → IsTally rule (whole_tally rule) []
 tally_start None = tt
 tally_start (Some rule) = all_left rule
 
-pub led_start : {S : Type 0} (m : PlainMachine S) (rule : Option UpkeepRule) (from : S → Type 0) (s : S) (lines : List (Option LineState)) (tally : Tally)
-    (a : Option (List Seen)) → from s → ((n : ℕ) → line_at lines n ≡ None) → tally ≡ whole_tally rule → Led m rule from s lines tally a a 0
-led_start m rule from s lines tally a f free whole = record {
+pub led_start : {S : Type 0} (m : PlainMachine S) (rule : Option UpkeepRule) (from : S → Type 0) (s : S) (connections : List (Option ConnectionState)) (tally : Tally)
+    (a : Option (List Seen)) → from s → ((n : ℕ) → connection_at connections n ≡ None) → tally ≡ whole_tally rule → Led m rule from s connections tally a a 0
+led_start m rule from s connections tally a f free whole = record {
   turns = [];
   keeps = record { state = s; ran = refl; stands = f; served = tt; fits = λ n. subst (λ l. Fits None l) (sym (free n)) tt };
   seen = tells_none a;
@@ -117,7 +117,7 @@ kept_tally None next bodies replies older whole = tt
 kept_tally (Some rule) next bodies replies older whole = whole ∙ all_left rule
 
 -- one turn of the edge more
-pub led_more : {S : Type 0} (m : PlainMachine S) (rule : Option UpkeepRule) (from to : S → Type 0) (s : S) (old new : List (Option LineState))
+pub led_more : {S : Type 0} (m : PlainMachine S) (rule : Option UpkeepRule) (from to : S → Type 0) (s : S) (old new : List (Option ConnectionState))
     (tally next : Tally) (a b c : Option (List Seen)) (count : ℕ) → Led m rule from s old tally a b count → due_by tally rule ≡ None →
     Turned m from to old new tally next b c → Led m rule to s new next a c (count + 1)
 led_more m rule from to s old new tally next a b c count led none goes =
@@ -132,11 +132,11 @@ led_more m rule from to s old new tally next a b c count led none goes =
     }
 
 -- an upkeep more
-pub led_kept : {S : Type 0} (m : PlainMachine S) (rule : Option UpkeepRule) (from to : S → Type 0) (s : S) (lines : List (Option LineState))
-    (tally next : Tally) (a b : Option (List Seen)) (count : ℕ) (bodies : List (List ℕ)) → Led m rule from s lines tally a b count → due_by tally rule
+pub led_kept : {S : Type 0} (m : PlainMachine S) (rule : Option UpkeepRule) (from to : S → Type 0) (s : S) (connections : List (Option ConnectionState))
+    (tally next : Tally) (a b : Option (List Seen)) (count : ℕ) (bodies : List (List ℕ)) → Led m rule from s connections tally a b count → due_by tally rule
     ≡ Some bodies → next ≡ whole_tally rule
-    → ((u : S) → from u → Asked m to bodies u) → Led m rule to s lines next a b (count + 1)
-led_kept m rule from to s lines tally next a b count bodies led is whole asked =
+    → ((u : S) → from u → Asked m to bodies u) → Led m rule to s connections next a b (count + 1)
+led_kept m rule from to s connections tally next a b count bodies led is whole asked =
     let k = asked led.keeps.state led.keeps.stands in
     record {
       turns = KeptUp bodies k.replies ∷ led.turns;
@@ -144,7 +144,7 @@ led_kept m rule from to s lines tally next a b count bodies led is whole asked =
         state = k.state;
         ran = (led.keeps.state, (led.keeps.ran, k.answers));
         stands = k.stands;
-        served = (tt, (λ n. each_talk (talk n led.turns) (line_at lines n) (led.keeps.fits n), led.keeps.served));
+        served = (tt, (λ n. each_talk (talk n led.turns) (connection_at connections n) (led.keeps.fits n), led.keeps.served));
         fits = led.keeps.fits;
       };
       seen = subst (λ calls. Tells a b calls) (sym (append-nil (calls_in led.turns))) led.seen;
@@ -154,10 +154,10 @@ led_kept m rule from to s lines tally next a b count bodies led is whole asked =
     }
 
 -- the edge said stop
-pub run_stopped : {S : Type 0} (m : PlainMachine S) (rule : Option UpkeepRule) (to : S → Type 0) (s : S) (lines : List (Option LineState)) (tally : Tally)
-    (a b c : Option (List Seen)) (count : ℕ) → Led m rule to s lines tally a b count → due_by tally rule ≡ None → Tells b c (Offered Stop ∷ []) →
+pub run_stopped : {S : Type 0} (m : PlainMachine S) (rule : Option UpkeepRule) (to : S → Type 0) (s : S) (connections : List (Option ConnectionState)) (tally : Tally)
+    (a b c : Option (List Seen)) (count : ℕ) → Led m rule to s connections tally a b count → due_by tally rule ≡ None → Tells b c (Offered Stop ∷ []) →
     IsRun m rule to s Stopped a c
-run_stopped m rule to s lines tally a b c count led none stop = record {
+run_stopped m rule to s connections tally a b c count led none stop = record {
   turns = led.turns;
   state = led.keeps.state;
   ran = led.keeps.ran;
@@ -169,9 +169,9 @@ run_stopped m rule to s lines tally a b c count led none stop = record {
 }
 
 -- as many turns were made as may be
-pub run_spent : {S : Type 0} (m : PlainMachine S) (rule : Option UpkeepRule) (to : S → Type 0) (s : S) (lines : List (Option LineState)) (tally : Tally)
-    (a b : Option (List Seen)) (count : ℕ) → Led m rule to s lines tally a b count → count ≡ 18446744073709551615 → IsRun m rule to s Spent a b
-run_spent m rule to s lines tally a b count led all = record {
+pub run_spent : {S : Type 0} (m : PlainMachine S) (rule : Option UpkeepRule) (to : S → Type 0) (s : S) (connections : List (Option ConnectionState)) (tally : Tally)
+    (a b : Option (List Seen)) (count : ℕ) → Led m rule to s connections tally a b count → count ≡ 18446744073709551615 → IsRun m rule to s Spent a b
+run_spent m rule to s connections tally a b count led all = record {
   turns = led.turns;
   state = led.keeps.state;
   ran = led.keeps.ran;
@@ -183,8 +183,8 @@ run_spent m rule to s lines tally a b count led all = record {
 }
 
 -- a free slot behind free ones
-pub free_more : (lines : List (Option LineState)) → ((n : ℕ) → line_at lines n ≡ None) → (n : ℕ) → line_at (lines ++ None ∷ []) n ≡ None
+pub free_more : (connections : List (Option ConnectionState)) → ((n : ℕ) → connection_at connections n ≡ None) → (n : ℕ) → connection_at (connections ++ None ∷ []) n ≡ None
 free_more [] free ℕ.zero = refl
 free_more [] free (ℕ.suc n) = refl
-free_more (l ∷ lines) free ℕ.zero = free 0
-free_more (l ∷ lines) free (ℕ.suc n) = free_more lines (λ k. free (ℕ.suc k)) n
+free_more (l ∷ connections) free ℕ.zero = free 0
+free_more (l ∷ connections) free (ℕ.suc n) = free_more connections (λ k. free (ℕ.suc k)) n

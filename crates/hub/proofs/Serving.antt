@@ -11,10 +11,11 @@ use Rattle.tardis_base.specs.Plain.{Event, PlainMachine, Answers, no_memory}
 use Rattle.frame_cut.specs.Frames.{frame, frames, IsBody, Cuts}
 use Rattle.frame_cut.proofs.Joins.{frames-append, more_bodies}
 use Rattle.frame_cut.proofs.Words.{length-frame}
+use Rattle.tardis_base.specs.Sizes.{piece, longest_framed}
 use Rattle.hub.specs.declared.upkeeps.Tally.{Tally}
 use Rattle.hub.specs.Upkeeps.{begins_with, counted, noted}
 use Rattle.hub.specs.Answering.{asks, Replied, Answered, Serves, Asked}
-use Rattle.hub.specs.Lines.{IsStopped}
+use Rattle.hub.specs.Connections.{IsStopped}
 
 -- answers, and then more answers
 pub answers_append : {S : Type 0} (m : PlainMachine S) (s : S) (es fs : List Event) (ys zs : List (List ℕ)) (t u : S) → Answers m s es ys t →
@@ -99,7 +100,7 @@ fewer old new body left whole =
     omega (arith, long, head, less)
 
 -- where little waits and the next frame isn't too long, few bytes are held
-pub bounded_of : (long : Bool) (held waiting : List ℕ) → IsStopped long held waiting → long ≡ false → length waiting ≤ 65536 → length held ≤ 1048580
+pub bounded_of : (long : Bool) (held waiting : List ℕ) → IsStopped long held waiting → long ≡ false → length waiting ≤ piece → length held ≤ longest_framed
 bounded_of true held waiting s short few = absurd (cc)
 bounded_of false held waiting s short few = elim s [
   | inl p ↦ elim p [
@@ -114,12 +115,12 @@ pub still_long : (long : Bool) (held waiting other : List ℕ) → long ≡ true
 still_long true held waiting other is s = s
 still_long false held waiting other is s = absurd (cc)
 
--- all of a piece was fed
-pub fed_all : {S : Type 0} (m : PlainMachine S) (from to : S → Type 0) (actor : ℕ) (held piece fed rest p q : List ℕ) (k l : Tally) (n : ℕ) → fed ≡ held
-    ++ take n piece → n ≡ min (length piece) (1114116 - length held) → length held ≤ 1048580 → length piece ≤ 65536
-    → Serves m from to actor fed rest p q k l → Serves m from to actor (held ++ piece) rest p q k l
-fed_all m from to actor held piece fed rest p q k l n is count few size a =
-    subst (λ b. Serves m from to actor b rest p q k l) (is ∙ ap (λ z. held ++ z) (take_all n piece (omega (arith, count, few, size)))) a
+-- all of a bytes was fed
+pub fed_all : {S : Type 0} (m : PlainMachine S) (from to : S → Type 0) (actor : ℕ) (held bytes fed rest p q : List ℕ) (k l : Tally) (n : ℕ) → fed ≡ held
+    ++ take n bytes → n ≡ min (length bytes) (1114116 - length held) → length held ≤ longest_framed → length bytes ≤ piece
+    → Serves m from to actor fed rest p q k l → Serves m from to actor (held ++ bytes) rest p q k l
+fed_all m from to actor held bytes fed rest p q k l n is count few size a =
+    subst (λ b. Serves m from to actor b rest p q k l) (is ∙ ap (λ z. held ++ z) (take_all n bytes (omega (arith, count, few, size)))) a
 
 -- no request was asked yet, one more, and all
 pub asked_none : {S : Type 0} (m : PlainMachine S) (from : S → Type 0) (s : S) → from s → Asked m from [] s

@@ -5,19 +5,20 @@ use Rattle.std.proofs.lemmas.List.{append-nil, take-append-drop}
 use Rattle.std.proofs.lemmas.Bool.{cases_eq}
 use Rattle.tardis_base.specs.Plain.{PlainMachine}
 use Rattle.frame_cut.specs.Frames.{Cuts, IsLong}
+use Rattle.tardis_base.specs.Sizes.{piece}
 use Rattle.hub.specs.declared.upkeeps.Tally.{Tally}
 use Rattle.hub.specs.declared.ports.Ready.{Ready}
 use Rattle.hub.specs.declared.ports.Ready.TheVariants.{Accept, Read, Write, Close}
 use Rattle.hub.specs.declared.ports.Seen.{Seen}
 use Rattle.hub.specs.declared.ports.Seen.TheVariants.{Accepted, Declined, ReadFrom, WroteTo, Closed}
 use Rattle.hub.specs.Answering.{Serves}
-use Rattle.hub.specs.Lines.{LineState, line_at, OthersStay, IsStopped}
+use Rattle.hub.specs.Connections.{slots, ConnectionState, connection_at, OthersStay, IsStopped}
 use Rattle.hub.specs.Telling.{Tells}
 use Rattle.hub.specs.Talks.{Talk, no_talk, waits}
 use Rattle.hub.specs.Turns.{Turn, Rested, Opened, Missed, TurnedAway, Received, Sent, Ended, talk, more_of, MayRest, IsShut, HasNothing, WaitFew, WaitSoMany}
 use Rattle.hub.specs.Runs.{close}
 use Rattle.hub.specs.Keeping.{Fits, Keeps, Went, GoesOn}
-use Rattle.hub.proofs.Holding.{waits_is, held_is, each_talk, none_of, fresh_line, line_more, fits_there}
+use Rattle.hub.proofs.Holding.{waits_is, held_is, each_talk, none_of, fresh_connection, connection_more, fits_there}
 
 -- nothing more was told
 pub tells_none : (o : Option (List Seen)) → Tells o o []
@@ -25,21 +26,21 @@ tells_none None = tt
 tells_none (Some seen) = sym (append-nil seen)
 
 -- bytes came of a connection, and requests were answered
-received_at : {S : Type 0} (m : PlainMachine S) (from to : S → Type 0) (old new : List (Option LineState)) (slot room : ℕ) (came : List ℕ)
-    (l k : LineState) (tally next : Tally) (before after : Option (List Seen)) (s : S) (turns : List Turn) (o : Option Talk)
-    → talk slot turns ≡ o → Fits o (Some l) → line_at new slot ≡ Some k → OthersStay slot old new → length l.waiting ≤ 65536 → room ≡ 65536
+received_at : {S : Type 0} (m : PlainMachine S) (from to : S → Type 0) (old new : List (Option ConnectionState)) (slot room : ℕ) (came : List ℕ)
+    (l k : ConnectionState) (tally next : Tally) (before after : Option (List Seen)) (s : S) (turns : List Turn) (o : Option Talk)
+    → talk slot turns ≡ o → Fits o (Some l) → connection_at new slot ≡ Some k → OthersStay slot old new → length l.waiting ≤ piece → room ≡ piece
     → Serves m from to (slot + 1) (l.cutter ++ came) k.cutter l.waiting k.waiting tally next → IsStopped k.long k.cutter k.waiting →
     Tells before after (ReadFrom slot room came ∷ [])
     → Keeps m from s old turns → Went m to s new turns (Read slot) tally next before after
 received_at m from to old new slot room came l k tally next before after s turns None e f is others few much serves stopped tells keeps = absurd f
 received_at m from to old new slot room came l k tally next before after s turns (Some t) e f is others few much serves stopped tells keeps =
     let a = serves.answered keeps.state keeps.stands in
-    let line = line_more t l k came [] l.waiting serves.bodies a.replies f refl serves.read a.put stopped in
-    let here : Fits (more_of (talk slot turns) came [] serves.bodies a.replies) (line_at new slot) =
+    let connection = connection_more t l k came [] l.waiting serves.bodies a.replies f refl serves.read a.put stopped in
+    let here : Fits (more_of (talk slot turns) came [] serves.bodies a.replies) (connection_at new slot) =
     subst (λ z. Fits (more_of (talk slot turns) came [] serves.bodies a.replies) z) (sym is)
-    (subst (λ z. Fits (more_of z came [] serves.bodies a.replies) (Some k)) (sym e) line) in
+    (subst (λ z. Fits (more_of z came [] serves.bodies a.replies) (Some k)) (sym e) connection) in
     let fits = fits_there slot (λ n. more_of (talk n turns) came [] serves.bodies a.replies) (λ n. talk n turns) old new keeps.fits here others in
-    let few' : length (waits t) ≤ 65536 = subst (λ w. length w ≤ 65536) (sym (waits_is t l.waiting f.given)) few in (
+    let few' : length (waits t) ≤ piece = subst (λ w. length w ≤ piece) (sym (waits_is t l.waiting f.given)) few in (
       Received slot room came serves.bodies a.replies,
       (
         record {
@@ -48,7 +49,7 @@ received_at m from to old new slot room came l k tally next before after s turns
           stands = a.stands;
           served = (
             (subst (λ z. WaitFew z) (sym e) few', much),
-            (λ n. each_talk (talk n (Received slot room came serves.bodies a.replies ∷ turns)) (line_at new n) (fits n), keeps.served),
+            (λ n. each_talk (talk n (Received slot room came serves.bodies a.replies ∷ turns)) (connection_at new n) (fits n), keeps.served),
           );
           fits = fits;
         },
@@ -56,9 +57,9 @@ received_at m from to old new slot room came l k tally next before after s turns
       ),
     )
 
-pub received : {S : Type 0} (m : PlainMachine S) (from to : S → Type 0) (old new : List (Option LineState)) (slot room : ℕ) (came : List ℕ)
-    (l k : LineState) (tally next : Tally) (before after : Option (List Seen))
-    → line_at old slot ≡ Some l → line_at new slot ≡ Some k → OthersStay slot old new → length l.waiting ≤ 65536 → room ≡ 65536
+pub received : {S : Type 0} (m : PlainMachine S) (from to : S → Type 0) (old new : List (Option ConnectionState)) (slot room : ℕ) (came : List ℕ)
+    (l k : ConnectionState) (tally next : Tally) (before after : Option (List Seen))
+    → connection_at old slot ≡ Some l → connection_at new slot ≡ Some k → OthersStay slot old new → length l.waiting ≤ piece → room ≡ piece
     → Serves m from to (slot + 1) (l.cutter ++ came) k.cutter l.waiting k.waiting tally next → IsStopped k.long k.cutter k.waiting →
     Tells before after (ReadFrom slot room came ∷ [])
     → GoesOn m from to old new (Read slot) tally next before after
@@ -67,9 +68,9 @@ received m from to old new slot room came l k tally next before after was is oth
     (subst (λ o. Fits (talk slot turns) o) was (keeps.fits slot)) is others few much serves stopped tells keeps
 
 -- a front of what waits was written to a connection, and requests were answered
-sent_at : {S : Type 0} (m : PlainMachine S) (from to : S → Type 0) (old new : List (Option LineState)) (slot offered count : ℕ) (l k : LineState)
+sent_at : {S : Type 0} (m : PlainMachine S) (from to : S → Type 0) (old new : List (Option ConnectionState)) (slot offered count : ℕ) (l k : ConnectionState)
     (tally next : Tally) (before after : Option (List Seen)) (s : S) (turns : List Turn) (o : Option Talk)
-    → talk slot turns ≡ o → Fits o (Some l) → line_at new slot ≡ Some k → OthersStay slot old new → offered ≡ length l.waiting
+    → talk slot turns ≡ o → Fits o (Some l) → connection_at new slot ≡ Some k → OthersStay slot old new → offered ≡ length l.waiting
     → Serves m from to (slot + 1) l.cutter k.cutter (drop count l.waiting) k.waiting tally next →
     (IsStopped l.long l.cutter l.waiting → IsStopped k.long k.cutter k.waiting) → Tells before after (WroteTo slot offered (take count l.waiting) ∷ [])
     → Keeps m from s old turns → Went m to s new turns (Write slot) tally next before after
@@ -78,10 +79,10 @@ sent_at m from to old new slot offered count l k tally next before after s turns
     let w : List ℕ = take count l.waiting in
     let a = serves.answered keeps.state keeps.stands in
     let cut : Cuts (l.cutter ++ []) serves.bodies k.cutter = subst (λ z. Cuts z serves.bodies k.cutter) (sym (append-nil l.cutter)) serves.read in
-    let line = line_more t l k [] w (drop count l.waiting) serves.bodies a.replies f (sym (take-append-drop count l.waiting)) cut a.put (stopped f.stopped) in
-    let here : Fits (more_of (talk slot turns) [] w serves.bodies a.replies) (line_at new slot) =
+    let connection = connection_more t l k [] w (drop count l.waiting) serves.bodies a.replies f (sym (take-append-drop count l.waiting)) cut a.put (stopped f.stopped) in
+    let here : Fits (more_of (talk slot turns) [] w serves.bodies a.replies) (connection_at new slot) =
     subst (λ z. Fits (more_of (talk slot turns) [] w serves.bodies a.replies) z) (sym is)
-    (subst (λ z. Fits (more_of z [] w serves.bodies a.replies) (Some k)) (sym e) line) in
+    (subst (λ z. Fits (more_of z [] w serves.bodies a.replies) (Some k)) (sym e) connection) in
     let fits = fits_there slot (λ n. more_of (talk n turns) [] w serves.bodies a.replies) (λ n. talk n turns) old new keeps.fits here others in
     let all' : offered ≡ length (waits t) = subst (λ z. offered ≡ length z) (sym (waits_is t l.waiting f.given)) all in (
       Sent slot offered w serves.bodies a.replies,
@@ -92,7 +93,7 @@ sent_at m from to old new slot offered count l k tally next before after s turns
           stands = a.stands;
           served = (
             subst (λ z. WaitSoMany z offered) (sym e) all',
-            (λ n. each_talk (talk n (Sent slot offered w serves.bodies a.replies ∷ turns)) (line_at new n) (fits n), keeps.served),
+            (λ n. each_talk (talk n (Sent slot offered w serves.bodies a.replies ∷ turns)) (connection_at new n) (fits n), keeps.served),
           );
           fits = fits;
         },
@@ -100,9 +101,9 @@ sent_at m from to old new slot offered count l k tally next before after s turns
       ),
     )
 
-pub sent : {S : Type 0} (m : PlainMachine S) (from to : S → Type 0) (old new : List (Option LineState)) (slot offered count : ℕ) (l k : LineState)
+pub sent : {S : Type 0} (m : PlainMachine S) (from to : S → Type 0) (old new : List (Option ConnectionState)) (slot offered count : ℕ) (l k : ConnectionState)
     (tally next : Tally) (before after : Option (List Seen))
-    → line_at old slot ≡ Some l → line_at new slot ≡ Some k → OthersStay slot old new → offered ≡ length l.waiting
+    → connection_at old slot ≡ Some l → connection_at new slot ≡ Some k → OthersStay slot old new → offered ≡ length l.waiting
     → Serves m from to (slot + 1) l.cutter k.cutter (drop count l.waiting) k.waiting tally next →
     (IsStopped l.long l.cutter l.waiting → IsStopped k.long k.cutter k.waiting) → Tells before after (WroteTo slot offered (take count l.waiting) ∷ [])
     → GoesOn m from to old new (Write slot) tally next before after
@@ -111,13 +112,13 @@ sent m from to old new slot offered count l k tally next before after was is oth
     (subst (λ o. Fits (talk slot turns) o) was (keeps.fits slot)) is others all serves stopped tells keeps
 
 -- a connection came into a free slot
-pub opened : {S : Type 0} (m : PlainMachine S) (from to : S → Type 0) (old new : List (Option LineState)) (slot : ℕ) (l : LineState) (tally : Tally)
+pub opened : {S : Type 0} (m : PlainMachine S) (from to : S → Type 0) (old new : List (Option ConnectionState)) (slot : ℕ) (l : ConnectionState) (tally : Tally)
     (before after : Option (List Seen))
-    → ((s : S) → from s → to s) → slot < 256 → line_at old slot ≡ None → line_at new slot ≡ Some l → l ≡ record { cutter = []; waiting = []; long = false }
+    → ((s : S) → from s → to s) → slot < slots → connection_at old slot ≡ None → connection_at new slot ≡ Some l → l ≡ record { cutter = []; waiting = []; long = false }
     → OthersStay slot old new → Tells before after (Accepted slot true ∷ [])
     → GoesOn m from to old new Accept tally tally before after
 opened m from to old new slot l tally before after same within was is fresh others tells s turns keeps =
-    let here : Fits (Some no_talk) (line_at new slot) = subst (λ z. Fits (Some no_talk) z) (sym is) (fresh_line l fresh) in
+    let here : Fits (Some no_talk) (connection_at new slot) = subst (λ z. Fits (Some no_talk) z) (sym is) (fresh_connection l fresh) in
     let fits = fits_there slot (λ n. Some no_talk) (λ n. talk n turns) old new keeps.fits here others in
     let free : talk slot turns ≡ None = none_of (talk slot turns) (subst (λ z. Fits (talk slot turns) z) was (keeps.fits slot)) in (
       Opened slot,
@@ -126,7 +127,7 @@ opened m from to old new slot l tally before after same within was is fresh othe
           state = keeps.state;
           ran = (keeps.state, (keeps.ran, refl));
           stands = same keeps.state keeps.stands;
-          served = ((within, free), (λ n. each_talk (talk n (Opened slot ∷ turns)) (line_at new n) (fits n), keeps.served));
+          served = ((within, free), (λ n. each_talk (talk n (Opened slot ∷ turns)) (connection_at new n) (fits n), keeps.served));
           fits = fits;
         },
         (refl, (Accepted slot true ∷ [], (refl, tells))),
@@ -134,12 +135,12 @@ opened m from to old new slot l tally before after same within was is fresh othe
     )
 
 -- none came after all
-pub missed : {S : Type 0} (m : PlainMachine S) (from to : S → Type 0) (old new : List (Option LineState)) (slot : ℕ) (tally : Tally)
+pub missed : {S : Type 0} (m : PlainMachine S) (from to : S → Type 0) (old new : List (Option ConnectionState)) (slot : ℕ) (tally : Tally)
     (before after : Option (List Seen))
-    → ((s : S) → from s → to s) → new ≡ old → slot < 256 → line_at old slot ≡ None → Tells before after (Accepted slot false ∷ [])
+    → ((s : S) → from s → to s) → new ≡ old → slot < slots → connection_at old slot ≡ None → Tells before after (Accepted slot false ∷ [])
     → GoesOn m from to old new Accept tally tally before after
 missed m from to old new slot tally before after same unchanged within was tells s turns keeps =
-    let fits : (n : ℕ) → Fits (talk n turns) (line_at new n) = λ n. subst (λ z. Fits (talk n turns) (line_at z n)) (sym unchanged) (keeps.fits n) in
+    let fits : (n : ℕ) → Fits (talk n turns) (connection_at new n) = λ n. subst (λ z. Fits (talk n turns) (connection_at z n)) (sym unchanged) (keeps.fits n) in
     let free : talk slot turns ≡ None = none_of (talk slot turns) (subst (λ z. Fits (talk slot turns) z) was (keeps.fits slot)) in (
       Missed slot,
       (
@@ -147,7 +148,7 @@ missed m from to old new slot tally before after same unchanged within was tells
           state = keeps.state;
           ran = (keeps.state, (keeps.ran, refl));
           stands = same keeps.state keeps.stands;
-          served = ((within, free), (λ n. each_talk (talk n turns) (line_at new n) (fits n), keeps.served));
+          served = ((within, free), (λ n. each_talk (talk n turns) (connection_at new n) (fits n), keeps.served));
           fits = fits;
         },
         (refl, (Accepted slot false ∷ [], (refl, tells))),
@@ -155,18 +156,20 @@ missed m from to old new slot tally before after same unchanged within was tells
     )
 
 -- a connection was turned away
-pub turned_away : {S : Type 0} (m : PlainMachine S) (from to : S → Type 0) (old new : List (Option LineState)) (tally : Tally)
+pub turned_away : {S : Type 0} (m : PlainMachine S) (from to : S → Type 0) (old new : List (Option ConnectionState)) (slot : ℕ) (tally : Tally)
     (before after : Option (List Seen))
-    → ((s : S) → from s → to s) → new ≡ old → Tells before after (Declined ∷ []) → GoesOn m from to old new Accept tally tally before after
-turned_away m from to old new tally before after same unchanged tells s turns keeps =
-    let fits : (n : ℕ) → Fits (talk n turns) (line_at new n) = λ n. subst (λ z. Fits (talk n turns) (line_at z n)) (sym unchanged) (keeps.fits n) in (
+    → ((s : S) → from s → to s) → new ≡ old → slot < slots → connection_at old slot ≡ None → Tells before after (Declined ∷ []) →
+    GoesOn m from to old new Accept tally tally before after
+turned_away m from to old new slot tally before after same unchanged within was tells s turns keeps =
+    let fits : (n : ℕ) → Fits (talk n turns) (connection_at new n) = λ n. subst (λ z. Fits (talk n turns) (connection_at z n)) (sym unchanged) (keeps.fits n) in
+    let free : talk slot turns ≡ None = none_of (talk slot turns) (subst (λ z. Fits (talk slot turns) z) was (keeps.fits slot)) in (
       TurnedAway,
       (
         record {
           state = keeps.state;
           ran = (keeps.state, (keeps.ran, refl));
           stands = same keeps.state keeps.stands;
-          served = (tt, (λ n. each_talk (talk n turns) (line_at new n) (fits n), keeps.served));
+          served = ((slot, within, free), (λ n. each_talk (talk n turns) (connection_at new n) (fits n), keeps.served));
           fits = fits;
         },
         (refl, (Declined ∷ [], (refl, tells))),
@@ -174,20 +177,20 @@ turned_away m from to old new tally before after same unchanged tells s turns ke
     )
 
 -- nothing was to do
-pub rested : {S : Type 0} (m : PlainMachine S) (from to : S → Type 0) (old new : List (Option LineState)) (offer : Ready) (tally : Tally)
+pub rested : {S : Type 0} (m : PlainMachine S) (from to : S → Type 0) (old new : List (Option ConnectionState)) (offer : Ready) (tally : Tally)
     (before after : Option (List Seen))
-    → ((s : S) → from s → to s) → ((n : ℕ) → line_at new n ≡ line_at old n) → after ≡ before →
-    ((turns : List Turn) → ((n : ℕ) → Fits (talk n turns) (line_at old n)) → MayRest turns offer)
+    → ((s : S) → from s → to s) → ((n : ℕ) → connection_at new n ≡ connection_at old n) → after ≡ before →
+    ((turns : List Turn) → ((n : ℕ) → Fits (talk n turns) (connection_at old n)) → MayRest turns offer)
     → GoesOn m from to old new offer tally tally before after
 rested m from to old new offer tally before after same unchanged none may s turns keeps =
-    let fits : (n : ℕ) → Fits (talk n turns) (line_at new n) = λ n. subst (λ z. Fits (talk n turns) z) (sym (unchanged n)) (keeps.fits n) in (
+    let fits : (n : ℕ) → Fits (talk n turns) (connection_at new n) = λ n. subst (λ z. Fits (talk n turns) z) (sym (unchanged n)) (keeps.fits n) in (
       Rested offer,
       (
         record {
           state = keeps.state;
           ran = (keeps.state, (keeps.ran, refl));
           stands = same keeps.state keeps.stands;
-          served = (may turns keeps.fits, (λ n. each_talk (talk n turns) (line_at new n) (fits n), keeps.served));
+          served = (may turns keeps.fits, (λ n. each_talk (talk n turns) (connection_at new n) (fits n), keeps.served));
           fits = fits;
         },
         (refl, ([], (refl, subst (λ z. Tells before z []) (sym none) (tells_none before)))),
@@ -195,17 +198,17 @@ rested m from to old new offer tally before after same unchanged none may s turn
     )
 
 -- a connection ended, and its session was closed
-some_of : (o : Option Talk) (l : LineState) → Fits o (Some l) → IsSome o
+some_of : (o : Option Talk) (l : ConnectionState) → Fits o (Some l) → IsSome o
 some_of None l f = absurd f
 some_of (Some t) l f = refl
 
-pub ended : {S : Type 0} (m : PlainMachine S) (from to : S → Type 0) (old new : List (Option LineState)) (slot : ℕ) (l : LineState) (tally : Tally)
+pub ended : {S : Type 0} (m : PlainMachine S) (from to : S → Type 0) (old new : List (Option ConnectionState)) (slot : ℕ) (l : ConnectionState) (tally : Tally)
     (before after : Option (List Seen))
-    → ((s : S) → from s → to (m.step s (slot + 1, close))) → line_at old slot ≡ Some l → line_at new slot ≡ None → OthersStay slot old new →
+    → ((s : S) → from s → to (m.step s (slot + 1, close))) → connection_at old slot ≡ Some l → connection_at new slot ≡ None → OthersStay slot old new →
     Tells before after (Closed slot ∷ [])
     → GoesOn m from to old new (Close slot) tally tally before after
 ended m from to old new slot l tally before after stepped was is others tells s turns keeps =
-    let here : Fits None (line_at new slot) = subst (λ z. Fits None z) (sym is) tt in
+    let here : Fits None (connection_at new slot) = subst (λ z. Fits None z) (sym is) tt in
     let fits = fits_there slot (λ n. None) (λ n. talk n turns) old new keeps.fits here others in (
       Ended slot,
       (
@@ -215,7 +218,7 @@ ended m from to old new slot l tally before after stepped was is others tells s 
           stands = stepped keeps.state keeps.stands;
           served = (
             some_of (talk slot turns) l (subst (λ z. Fits (talk slot turns) z) was (keeps.fits slot)),
-            (λ n. each_talk (talk n (Ended slot ∷ turns)) (line_at new n) (fits n), keeps.served),
+            (λ n. each_talk (talk n (Ended slot ∷ turns)) (connection_at new n) (fits n), keeps.served),
           );
           fits = fits;
         },
@@ -224,51 +227,51 @@ ended m from to old new slot l tally before after stepped was is others tells s 
     )
 
 -- what may be left undone
-some_talk : (o : Option Talk) (l : Option LineState) → Fits o l → IsSome l → IsSome o
+some_talk : (o : Option Talk) (l : Option ConnectionState) → Fits o l → IsSome l → IsSome o
 some_talk None None f s = s
 some_talk None (Some l) f s = absurd f
 some_talk (Some t) l f s = refl
 
-pub full_rests : (old : List (Option LineState)) (turns : List Turn) → ((n : ℕ) → Fits (talk n turns) (line_at old n)) → length old ≡ 256 →
-    ((n : ℕ) → n < length old → IsSome (line_at old n)) → MayRest turns Accept
-full_rests old turns fits slots full = λ n within. some_talk (talk n turns) (line_at old n) (fits n) (full n (omega (arith, within, slots)))
+pub full_rests : (old : List (Option ConnectionState)) (turns : List Turn) → ((n : ℕ) → Fits (talk n turns) (connection_at old n)) → length old ≡ slots →
+    ((n : ℕ) → n < length old → IsSome (connection_at old n)) → MayRest turns Accept
+full_rests old turns fits slots full = λ n within. some_talk (talk n turns) (connection_at old n) (fits n) (full n (omega (arith, within, slots)))
 
-shut_at : (o : Option Talk) (l : LineState) → Fits o (Some l) → (l.long ≡ true) ⊎ (65536 < length l.waiting) → IsShut o
+shut_at : (o : Option Talk) (l : ConnectionState) → Fits o (Some l) → (l.long ≡ true) ⊎ (piece < length l.waiting) → IsShut o
 shut_at None l f why = absurd f
 shut_at (Some t) l f why = elim why [
   | inl long ↦ inr (subst (λ h. (len : ℕ) × IsLong h len) (sym (held_is t l.cutter f.cut)) (subst (λ b. IsStopped b l.cutter l.waiting) long f.stopped))
-  | inr much ↦ inl (subst (λ w. 65536 < length w) (sym (waits_is t l.waiting f.given)) much)
+  | inr much ↦ inl (subst (λ w. piece < length w) (sym (waits_is t l.waiting f.given)) much)
 ]
 
-pub shut_rests : (old : List (Option LineState)) (turns : List Turn) (slot : ℕ) (l : LineState) → ((n : ℕ) → Fits (talk n turns) (line_at old n)) →
-    line_at old slot ≡ Some l → (l.long ≡ true) ⊎ (65536 < length l.waiting) → MayRest turns (Read slot)
+pub shut_rests : (old : List (Option ConnectionState)) (turns : List Turn) (slot : ℕ) (l : ConnectionState) → ((n : ℕ) → Fits (talk n turns) (connection_at old n)) →
+    connection_at old slot ≡ Some l → (l.long ≡ true) ⊎ (piece < length l.waiting) → MayRest turns (Read slot)
 shut_rests old turns slot l fits was why = shut_at (talk slot turns) l (subst (λ z. Fits (talk slot turns) z) was (fits slot)) why
 
-empty_at : (o : Option Talk) (l : LineState) → Fits o (Some l) → l.waiting ≡ [] → HasNothing o
+empty_at : (o : Option Talk) (l : ConnectionState) → Fits o (Some l) → l.waiting ≡ [] → HasNothing o
 empty_at None l f empty = absurd f
 empty_at (Some t) l f empty = waits_is t l.waiting f.given ∙ empty
 
-pub empty_rests : (old : List (Option LineState)) (turns : List Turn) (slot : ℕ) (l : LineState) → ((n : ℕ) → Fits (talk n turns) (line_at old n)) →
-    line_at old slot ≡ Some l → l.waiting ≡ [] → MayRest turns (Write slot)
+pub empty_rests : (old : List (Option ConnectionState)) (turns : List Turn) (slot : ℕ) (l : ConnectionState) → ((n : ℕ) → Fits (talk n turns) (connection_at old n)) →
+    connection_at old slot ≡ Some l → l.waiting ≡ [] → MayRest turns (Write slot)
 empty_rests old turns slot l fits was empty = empty_at (talk slot turns) l (subst (λ z. Fits (talk slot turns) z) was (fits slot)) empty
 
 -- where no connection is, nothing is to do
-pub no_read : (old : List (Option LineState)) (turns : List Turn) (slot : ℕ) → ((n : ℕ) → Fits (talk n turns) (line_at old n)) → line_at old slot ≡ None →
+pub no_read : (old : List (Option ConnectionState)) (turns : List Turn) (slot : ℕ) → ((n : ℕ) → Fits (talk n turns) (connection_at old n)) → connection_at old slot ≡ None →
     MayRest turns (Read slot)
 no_read old turns slot fits was = subst (λ o. IsShut o) (sym (none_of (talk slot turns) (subst (λ z. Fits (talk slot turns) z) was (fits slot)))) tt
 
-pub no_write : (old : List (Option LineState)) (turns : List Turn) (slot : ℕ) → ((n : ℕ) → Fits (talk n turns) (line_at old n)) → line_at old slot ≡ None →
+pub no_write : (old : List (Option ConnectionState)) (turns : List Turn) (slot : ℕ) → ((n : ℕ) → Fits (talk n turns) (connection_at old n)) → connection_at old slot ≡ None →
     MayRest turns (Write slot)
 no_write old turns slot fits was = subst (λ o. HasNothing o) (sym (none_of (talk slot turns) (subst (λ z. Fits (talk slot turns) z) was (fits slot)))) tt
 
-pub no_close : (old : List (Option LineState)) (turns : List Turn) (slot : ℕ) → ((n : ℕ) → Fits (talk n turns) (line_at old n)) → line_at old slot ≡ None →
+pub no_close : (old : List (Option ConnectionState)) (turns : List Turn) (slot : ℕ) → ((n : ℕ) → Fits (talk n turns) (connection_at old n)) → connection_at old slot ≡ None →
     MayRest turns (Close slot)
 no_close old turns slot fits was = none_of (talk slot turns) (subst (λ z. Fits (talk slot turns) z) was (fits slot))
 
--- the slot was free before, and is again; or it has its line again
-pub all_stay : (slot : ℕ) (old taken : List (Option LineState)) → OthersStay slot old taken → line_at old slot ≡ line_at taken slot → (n : ℕ) →
-    line_at taken n ≡ line_at old n
+-- the slot was free before, and is again; or it has its connection again
+pub all_stay : (slot : ℕ) (old taken : List (Option ConnectionState)) → OthersStay slot old taken → connection_at old slot ≡ connection_at taken slot → (n : ℕ) →
+    connection_at taken n ≡ connection_at old n
 all_stay slot old taken others same n = elim (cases_eq n slot) [
-  | inl here ↦ subst (λ k. line_at taken k ≡ line_at old k) (sym here) (sym same)
+  | inl here ↦ subst (λ k. connection_at taken k ≡ connection_at old k) (sym here) (sym same)
   | inr other ↦ others n other
 ]

@@ -1,7 +1,7 @@
 -- What a hub answers, what each of its connections has of it, and what its edge sees.
 pub mod Upkeeps
 pub mod Answering
-pub mod Lines
+pub mod Connections
 pub mod Telling
 pub mod Talks
 pub mod Turns

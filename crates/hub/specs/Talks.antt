@@ -1,5 +1,6 @@
 -- What one connection has of a run.
 use Rattle.std.specs.Prelude.{◌≡◌, ℕ, ◌<◌, List, [], ◌++◌, length, drop, ◌⊎◌}
+use Rattle.tardis_base.specs.Sizes.{piece}
 use Rattle.frame_cut.specs.Frames.{frames, Cuts, IsEnd}
 
 -- what came of it and what was written to it, its requests and their replies
@@ -35,4 +36,4 @@ waits t = drop (length t.wrote) (frames t.replies)
 pub record IsTalk (t : Talk) : Type 0 where
   pub asked : Cuts t.came t.bodies (held t)
   pub given : t.wrote ++ waits t ≡ frames t.replies
-  pub prompt : IsEnd (held t) ⊎ (65536 < length (waits t))
+  pub prompt : IsEnd (held t) ⊎ (piece < length (waits t))

@@ -1,6 +1,8 @@
 -- The turns of a hub: what the edge offered, and what was done of it.
 use Rattle.std.specs.Prelude.{◌≡◌, ℕ, ◌<◌, ◌≤◌, ◌==◌, Bool, true, false, List, [], ◌∷◌, ◌++◌, length, Option, Some, None, IsSome, ◌⊎◌}
+use Rattle.tardis_base.specs.Sizes.{piece}
 use Rattle.frame_cut.specs.Frames.{IsLong}
+use Rattle.hub.specs.Connections.{slots}
 use Rattle.hub.specs.declared.ports.Ready.{Ready}
 use Rattle.hub.specs.declared.ports.Ready.TheVariants.{Accept, Read, Write, Close, Stop}
 use Rattle.hub.specs.declared.ports.Seen.{Seen}
@@ -65,7 +67,7 @@ talk n (turn ∷ older) = talk_after n turn (talk n older)
 -- no more is read of a connection: much waits, or the frame that is next is too long
 abbrev pub IsShut : Option Talk → Type 0
 IsShut None = Unit {0}
-IsShut (Some t) = (65536 < length (waits t)) ⊎ ((len : ℕ) × IsLong (held t) len)
+IsShut (Some t) = (piece < length (waits t)) ⊎ ((len : ℕ) × IsLong (held t) len)
 
 abbrev pub HasNothing : Option Talk → Type 0
 HasNothing None = Unit {0}
@@ -73,7 +75,7 @@ HasNothing (Some t) = waits t ≡ []
 
 -- nothing may be done of an offer only where there is nothing to do
 abbrev pub MayRest : List Turn → Ready → Type 0
-MayRest older Accept = (n : ℕ) → n < 256 → IsSome (talk n older)
+MayRest older Accept = (n : ℕ) → n < slots → IsSome (talk n older)
 MayRest older (Read n) = IsShut (talk n older)
 MayRest older (Write n) = HasNothing (talk n older)
 MayRest older (Close n) = talk n older ≡ None
@@ -82,20 +84,24 @@ MayRest older Stop = ⊥
 -- the bytes that wait there are few, or so many
 abbrev pub WaitFew : Option Talk → Type 0
 WaitFew None = ⊥
-WaitFew (Some t) = length (waits t) ≤ 65536
+WaitFew (Some t) = length (waits t) ≤ piece
 
 abbrev pub WaitSoMany : Option Talk → ℕ → Type 0
 WaitSoMany None offered = ⊥
 WaitSoMany (Some t) offered = offered ≡ length (waits t)
 
--- The right turn after older ones. A read offers room for 65,536 bytes, and a write all that waits. When the hub asks
+-- some slot has no connection
+abbrev pub HasFreeSlot : List Turn → Type 0
+HasFreeSlot older = (n : ℕ) × (n < slots) × (talk n older ≡ None)
+
+-- The right turn after older ones. A connection is turned away only while a slot is free, and else it waits. A read offers room for 65,536 bytes, and a write all that waits. When the hub asks
 -- requests itself is said by `AreTimely`.
 abbrev pub IsRight : List Turn → Turn → Type 0
 IsRight older (Rested offer) = MayRest older offer
-IsRight older (Opened slot) = (slot < 256) × (talk slot older ≡ None)
-IsRight older (Missed slot) = (slot < 256) × (talk slot older ≡ None)
-IsRight older TurnedAway = Unit {0}
-IsRight older (Received slot room came bodies replies) = WaitFew (talk slot older) × (room ≡ 65536)
+IsRight older (Opened slot) = (slot < slots) × (talk slot older ≡ None)
+IsRight older (Missed slot) = (slot < slots) × (talk slot older ≡ None)
+IsRight older TurnedAway = HasFreeSlot older
+IsRight older (Received slot room came bodies replies) = WaitFew (talk slot older) × (room ≡ piece)
 IsRight older (Sent slot offered wrote bodies replies) = WaitSoMany (talk slot older) offered
 IsRight older (Ended slot) = IsSome (talk slot older)
 IsRight older (KeptUp bodies replies) = Unit {0}

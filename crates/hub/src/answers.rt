@@ -1,21 +1,17 @@
 //! The answers to what came of one connection.
 
 ghost use Rattle.std.specs.Prelude.{◌≡◌, ◌≤◌, ◌++◌, true, [], ◌∷◌, length};
-ghost use Rattle.tardis_base.specs.Sizes.{longest_frame};
+ghost use Rattle.tardis_base.specs.Sizes.{longest_frame, piece};
 ghost use Rattle.frame_cut.specs.Frames.{frame};
 ghost use Rattle.hub.specs.Upkeeps.{noted};
 ghost use Rattle.hub.specs.Answering.{Replied, Serves};
-ghost use Rattle.hub.specs.Lines.{IsStopped, most_waiting};
+ghost use Rattle.hub.specs.Connections.{IsStopped};
 ghost use Rattle.hub.specs.Runs.{close};
 
-use crate::lines::MOST_WAITING;
 use crate::upkeeps::Tally;
 use crate::waitings::Waiting;
 use frame_cut::{Cut, FrameCutter};
-use tardis_base::{Machine, NoMemory, ReplyBuf};
-
-/// The reply that memory is wanting.
-const WANTING: [u8; 1] = [22];
+use tardis_base::{Machine, NO_MEMORY, NoMemory, PIECE, ReplyBuf};
 
 /// The request that closes a session.
 const CLOSE: [u8; 1] = [21];
@@ -33,7 +29,7 @@ pub(crate) fn answer_held<M: Machine>(
     ensures stopped { IsStopped result cutter.new waiting.new }
     ensures opening { M.opening machine.new ≡ M.opening machine.old }
 {
-    while waiting.len() <= MOST_WAITING {
+    while waiting.len() <= PIECE {
         match cutter.next() {
             Cut::Frame(body) => answer_body(machine, actor, body, waiting, reply, tally),
             Cut::NeedMore => return false,
@@ -52,20 +48,20 @@ pub(crate) fn answer_body<M: Machine>(
     reply: &mut ReplyBuf,
     tally: &mut Tally,
 )
-    requires few { length waiting.old ≤ most_waiting }
+    requires few { length waiting.old ≤ piece }
     ensures answered { (s : M.Plain) → M.stands machine.old s → Replied M.plain (M.stands machine.new) waiting.old waiting.new tally.old tally.new s
         (actor, body.now) }
     ensures opening { M.opening machine.new ≡ M.opening machine.old }
 {
     match machine.act(actor, body, reply) {
         Ok(()) => put_reply(reply.bytes(), waiting, tally),
-        Err(NoMemory) => put_reply(&WANTING, waiting, tally),
+        Err(NoMemory) => put_reply(&NO_MEMORY, waiting, tally),
     }
 }
 
 /// Puts a reply behind what waits, and counts it.
 fn put_reply(reply: &[u8], waiting: &mut Waiting, tally: &mut Tally)
-    requires few { length waiting.old ≤ most_waiting }
+    requires few { length waiting.old ≤ piece }
     requires reply { length reply.now ≤ longest_frame }
     ensures put { waiting.new ≡ waiting.old ++ frame reply.now }
     ensures counted { tally.new ≡ noted tally.old (reply.now ∷ []) }

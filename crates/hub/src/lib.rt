@@ -2,8 +2,8 @@
 #![tactic(auto)]
 
 mod answers;
+mod connections;
 mod laws;
-mod lines;
 mod memory;
 mod ports;
 mod serves;
@@ -11,10 +11,11 @@ mod turns;
 mod upkeeps;
 mod waitings;
 
+pub use connections::Connection;
 pub use laws::one_trail;
-pub use lines::Line;
 pub use memory::{MemoryPorts, Move};
 pub use ports::{Ports, Ready, Seen};
 pub use serves::{End, serve};
+pub use turns::SLOTS;
 pub use upkeeps::Upkeep;
 pub use waitings::Waiting;

@@ -4,7 +4,7 @@ ghost use Rattle.std.specs.Prelude.{◌≡◌, ◌≤◌, [], ◌∷◌, length,
 ghost use Rattle.hub.specs.Telling.{Tells};
 ghost use Rattle.hub.specs.Memory.{told};
 
-use crate::lines::Line;
+use crate::connections::Connection;
 use crate::ports::{Ports, Ready, Seen};
 use std::alloc::Global;
 use tardis_base::ByteList;
@@ -92,8 +92,8 @@ impl Ports for MemoryPorts {
 
     ghost seen = { λ p. told p.lost p.seen.items };
 
-    fn ready(&mut self, lines: &[Option<Line>]) -> Ready {
-        let _ = lines;
+    fn ready(&mut self, connections: &[Option<Connection>]) -> Ready {
+        let _ = connections;
         let offer = match self.moves.get(self.played) {
             None => Ready::Stop,
             Some(Move::Accept { .. }) => Ready::Accept,

@@ -3,7 +3,7 @@
 ghost use Rattle.std.specs.Prelude.{◌≡◌, ◌≤◌, List, [], ◌∷◌, Option, length, take};
 ghost use Rattle.hub.specs.Telling.{Tells};
 
-use crate::lines::Line;
+use crate::connections::Connection;
 use tardis_base::ByteList;
 
 /// What is ready at the edge.
@@ -57,9 +57,9 @@ pub trait Ports {
 
     ghost seen: { Self → Option (List Seen) };
 
-    /// Waits until something is ready. The lines show what each connection wants: whether more is read of it and what
+    /// Waits until something is ready. The connections show what each wants: whether more is read of it and what
     /// waits to be written to it. Nothing is promised of what is offered.
-    fn ready(&mut self, lines: &[Option<Line>]) -> Ready
+    fn ready(&mut self, connections: &[Option<Connection>]) -> Ready
         ensures told { Tells (seen self.old) (seen self.new) (Seen.Offered result ∷ []) };
 
     /// Brings the next connection into the slot. `false` means that none came after all.

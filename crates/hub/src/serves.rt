@@ -1,16 +1,17 @@
 //! The loop of a hub.
 
 ghost use Rattle.std.specs.Prelude.{◌≡◌, ◌<◌, ℕ, ◌+◌, true, None, length, option_map, IfOk, IfSome, OnErr};
-ghost use Rattle.hub.specs.Lines.{line_at};
+ghost use Rattle.tardis_base.specs.Sizes.{piece};
+ghost use Rattle.hub.specs.Connections.{connection_at, slots};
 ghost use Rattle.hub.specs.Upkeeps.{rule_of};
 ghost use Rattle.hub.specs.Runs.{close, IsRun};
 
-use crate::lines::Line;
+use crate::connections::Connection;
 use crate::ports::Ports;
 use crate::turns::{SLOTS, turn};
 use crate::upkeeps::{Tally, Upkeep, keep_up};
 use std::alloc::Global;
-use tardis_base::{Machine, NoMemory, ReplyBuf};
+use tardis_base::{Machine, NoMemory, PIECE, ReplyBuf};
 
 /// Why a hub ended.
 #[derive(Clone, Copy, PartialEq, Eq)]
@@ -21,16 +22,13 @@ pub enum End {
     Spent,
 }
 
-/// So many bytes are read at once.
-const PIECE: usize = 65_536;
-
 /// Serves the connections of an edge: each in a slot of 256, its requests those of the actor that is the slot's number
 /// and one more. Frames hold requests without an actor, and a reply's frame answers each.
 ///
 /// It makes one turn for each offer of the edge, until that says stop. All that came of a connection is answered in that
 /// turn, unless more than 65,536 bytes wait to be written to it: then it isn't read from until they are fewer, which
 /// costs the others nothing. When a connection ends its session is closed, whatever was open in it. The edge is shown the
-/// lines at each turn, and has to end a connection whose frame that is next is too long.
+/// connections at each turn, and has to end a connection whose frame that is next is too long.
 ///
 /// An upkeep is made between two turns, as soon as it is due, and counts as a turn. Where it is due when the edge would say
 /// stop, it is made before that is asked.
@@ -45,22 +43,22 @@ pub fn serve<M: Machine, P: Ports>(
     upkeep: Option<Upkeep<'_>>,
 ) -> Result<End, NoMemory>
     requires often { IfSome (option_map rule_of upkeep) (λ rule. 0 < rule.after) }
-    requires sure { (n : ℕ) → n < 256 → M.plain.is_sure (n + 1, close) ≡ true }
+    requires sure { (n : ℕ) → n < slots → M.plain.is_sure (n + 1, close) ≡ true }
     ensures served { IfOk result (λ end. (s : M.Plain) → M.stands machine.old s
         → IsRun M.plain (option_map rule_of upkeep.entry) (M.stands machine.new) s end (P.seen ports.old) (P.seen ports.new)) }
     ensures nothing { OnErr result ((machine.new ≡ machine.old) × (ports.new ≡ ports.old)) }
     ensures opening { M.opening machine.new ≡ M.opening machine.old }
 {
-    let mut lines = free_lines(alloc)?;
+    let mut connections = free_connections(alloc)?;
     let mut reply = ReplyBuf::new(alloc)?;
     match vec![in alloc; 0; PIECE] {
-        Ok(mut piece) => Ok(serve_lines(
+        Ok(mut buf) => Ok(serve_connections(
             alloc,
             machine,
-            lines.as_mut_slice(),
+            connections.as_mut_slice(),
             ports,
             upkeep,
-            piece.as_mut_slice(),
+            buf.as_mut_slice(),
             &mut reply,
         )),
         Err(_) => Err(NoMemory),
@@ -68,19 +66,19 @@ pub fn serve<M: Machine, P: Ports>(
 }
 
 /// Makes turns until the edge says stop, and upkeep between them.
-fn serve_lines<M: Machine, P: Ports>(
+fn serve_connections<M: Machine, P: Ports>(
     alloc: Global,
     machine: &mut M,
-    lines: &mut [Option<Line>],
+    connections: &mut [Option<Connection>],
     ports: &mut P,
     upkeep: Option<Upkeep<'_>>,
-    piece: &mut [u8],
+    buf: &mut [u8],
     reply: &mut ReplyBuf,
 ) -> End
-    requires slots { length lines.old ≡ 256 }
-    requires free { (n : ℕ) → line_at lines.old n ≡ None }
-    requires room { length piece.old ≡ 65536 }
-    requires sure { (n : ℕ) → n < 256 → M.plain.is_sure (n + 1, close) ≡ true }
+    requires slots { length connections.old ≡ slots }
+    requires free { (n : ℕ) → connection_at connections.old n ≡ None }
+    requires room { length buf.old ≡ piece }
+    requires sure { (n : ℕ) → n < slots → M.plain.is_sure (n + 1, close) ≡ true }
     ensures served { (s : M.Plain) → M.stands machine.old s
         → IsRun M.plain (option_map rule_of upkeep.entry) (M.stands machine.new) s result (P.seen ports.old) (P.seen ports.new) }
     ensures opening { M.opening machine.new ≡ M.opening machine.old }
@@ -95,7 +93,7 @@ fn serve_lines<M: Machine, P: Ports>(
                 tally = Tally::whole(upkeep);
             }
             None => {
-                if !turn(alloc, machine, lines, ports, piece, reply, &mut tally) {
+                if !turn(alloc, machine, connections, ports, buf, reply, &mut tally) {
                     return End::Stopped;
                 }
             }
@@ -106,13 +104,13 @@ fn serve_lines<M: Machine, P: Ports>(
 
 /// Slots that no connection has.
 #[tactic(auto, using(crate::proofs::Leading::free_more))]
-fn free_lines(alloc: Global) -> Result<Vec<Option<Line>>, NoMemory>
-    ensures slots { IfOk result (λ lines. length lines.items ≡ 256) }
-    ensures free { IfOk result (λ lines. (n : ℕ) → line_at lines.items n ≡ None) }
+fn free_connections(alloc: Global) -> Result<Vec<Option<Connection>>, NoMemory>
+    ensures slots { IfOk result (λ connections. length connections.items ≡ slots) }
+    ensures free { IfOk result (λ connections. (n : ℕ) → connection_at connections.items n ≡ None) }
 {
-    let mut lines = Vec::with_capacity(alloc, SLOTS)?;
+    let mut connections = Vec::with_capacity(alloc, SLOTS)?;
     for _ in 0..SLOTS {
-        lines.push(None)?;
+        connections.push(None)?;
     }
-    Ok(lines)
+    Ok(connections)
 }

@@ -1,6 +1,8 @@
 //! The turns of a hub: what is done of what the edge offers.
 
 ghost use Rattle.std.specs.Prelude.{◌≡◌, ◌<◌, ℕ, ◌+◌, true, false, [], ◌∷◌, length};
+ghost use Rattle.tardis_base.specs.Sizes.{piece};
+ghost use Rattle.hub.specs.Connections.{slots};
 ghost use Rattle.hub.specs.Runs.{close};
 ghost use Rattle.hub.specs.Telling.{Tells};
 ghost use Rattle.hub.specs.Keeping.{GoesOn, Turned};
@@ -8,67 +10,67 @@ ghost use Rattle.hub.specs.declared.ports.Seen.{Seen};
 ghost use Rattle.hub.specs.declared.upkeeps.Tally.{Tally};
 
 use crate::answers::close_session;
-use crate::lines::{Line, free_slot, put_line, take_line};
+use crate::connections::{Connection, free_slot, put_connection, take_connection};
 use crate::ports::{Ports, Ready};
 use crate::upkeeps::Tally;
 use std::alloc::Global;
 use tardis_base::{Machine, NoMemory, ReplyBuf};
 
-/// The slots of a hub.
-pub(crate) const SLOTS: usize = 256;
+/// As many connections may be there at once, each in a slot.
+pub const SLOTS: usize = 256;
 
 /// Lets a connection into a free slot. Where there is none it waits; where there is no memory it is turned away.
 fn enter<M: Machine, P: Ports>(
     alloc: Global,
     machine: &mut M,
-    lines: &mut [Option<Line>],
+    connections: &mut [Option<Connection>],
     ports: &mut P,
 )
-    requires slots { length lines.old ≡ 256 }
-    ensures turned { (tally : Tally) → GoesOn M.plain (M.stands machine.old) (M.stands machine.new) lines.old lines.new Ready.Accept tally tally
+    requires slots { length connections.old ≡ slots }
+    ensures turned { (tally : Tally) → GoesOn M.plain (M.stands machine.old) (M.stands machine.new) connections.old connections.new Ready.Accept tally tally
         (P.seen ports.old) (P.seen ports.new) }
-    ensures slots { length lines.new ≡ length lines.old }
+    ensures slots { length connections.new ≡ length connections.old }
     ensures opening { M.opening machine.new ≡ M.opening machine.old }
 {
-    match free_slot(lines) {
-        Some(slot) => match Line::new(alloc) {
-            Ok(line) => {
+    match free_slot(connections) {
+        Some(slot) => match Connection::new(alloc) {
+            Ok(connection) => {
                 if ports.accept(slot) {
-                    put_line(lines, slot, line);
+                    put_connection(connections, slot, connection);
                 }
             }
             Err(NoMemory) => ports.decline(),
         },
-        None => {}
+        None => {} // it waits until one ends
     }
 }
 
 /// Reads of a connection and answers what came, unless much waits to be written to it or it is over.
 fn hear<M: Machine, P: Ports>(
     machine: &mut M,
-    lines: &mut [Option<Line>],
+    connections: &mut [Option<Connection>],
     ports: &mut P,
     slot: usize,
-    piece: &mut [u8],
+    buf: &mut [u8],
     reply: &mut ReplyBuf,
     tally: &mut Tally,
 )
-    requires slots { length lines.old ≡ 256 }
-    requires room { length piece.old ≡ 65536 }
-    ensures turned { GoesOn M.plain (M.stands machine.old) (M.stands machine.new) lines.old lines.new (Ready.Read slot) tally.old tally.new
+    requires slots { length connections.old ≡ slots }
+    requires room { length buf.old ≡ piece }
+    ensures turned { GoesOn M.plain (M.stands machine.old) (M.stands machine.new) connections.old connections.new (Ready.Read slot) tally.old tally.new
         (P.seen ports.old) (P.seen ports.new) }
-    ensures slots { length lines.new ≡ length lines.old }
-    ensures room { length piece.new ≡ length piece.old }
+    ensures slots { length connections.new ≡ length connections.old }
+    ensures room { length buf.new ≡ length buf.old }
     ensures opening { M.opening machine.new ≡ M.opening machine.old }
 {
-    match take_line(lines, slot) {
-        Some(mut line) => {
-            if line.wants_read() {
-                let count = ports.read(slot, piece);
-                line.receive(machine, slot as u16 + 1, &piece[..count], reply, tally);
-                put_line(lines, slot, line);
+    match take_connection(connections, slot) {
+        Some(mut connection) => {
+            if connection.wants_read() {
+                let count = ports.read(slot, buf);
+                connection.receive(machine, slot as u16 + 1, &buf[..count], reply, tally);
+                put_connection(connections, slot, connection);
             } else {
-                put_line(lines, slot, line);
+                put_connection(connections, slot, connection);
             }
         }
         None => {}
@@ -78,26 +80,26 @@ fn hear<M: Machine, P: Ports>(
 /// Writes what waits to a connection, and answers what was held meanwhile.
 fn tell<M: Machine, P: Ports>(
     machine: &mut M,
-    lines: &mut [Option<Line>],
+    connections: &mut [Option<Connection>],
     ports: &mut P,
     slot: usize,
     reply: &mut ReplyBuf,
     tally: &mut Tally,
 )
-    requires slots { length lines.old ≡ 256 }
-    ensures turned { GoesOn M.plain (M.stands machine.old) (M.stands machine.new) lines.old lines.new (Ready.Write slot) tally.old tally.new
+    requires slots { length connections.old ≡ slots }
+    ensures turned { GoesOn M.plain (M.stands machine.old) (M.stands machine.new) connections.old connections.new (Ready.Write slot) tally.old tally.new
         (P.seen ports.old) (P.seen ports.new) }
-    ensures slots { length lines.new ≡ length lines.old }
+    ensures slots { length connections.new ≡ length connections.old }
     ensures opening { M.opening machine.new ≡ M.opening machine.old }
 {
-    match take_line(lines, slot) {
-        Some(mut line) => {
-            if line.has_to_write() {
-                let count = ports.write(slot, line.to_write());
-                line.sent(machine, slot as u16 + 1, count, reply, tally);
-                put_line(lines, slot, line);
+    match take_connection(connections, slot) {
+        Some(mut connection) => {
+            if connection.has_to_write() {
+                let count = ports.write(slot, connection.to_write());
+                connection.sent(machine, slot as u16 + 1, count, reply, tally);
+                put_connection(connections, slot, connection);
             } else {
-                put_line(lines, slot, line);
+                put_connection(connections, slot, connection);
             }
         }
         None => {}
@@ -107,20 +109,20 @@ fn tell<M: Machine, P: Ports>(
 /// Ends a connection, and closes its session.
 fn leave<M: Machine, P: Ports>(
     machine: &mut M,
-    lines: &mut [Option<Line>],
+    connections: &mut [Option<Connection>],
     ports: &mut P,
     slot: usize,
     reply: &mut ReplyBuf,
 )
-    requires slots { length lines.old ≡ 256 }
-    requires sure { (n : ℕ) → n < 256 → M.plain.is_sure (n + 1, close) ≡ true }
-    ensures turned { (tally : Tally) → GoesOn M.plain (M.stands machine.old) (M.stands machine.new) lines.old lines.new (Ready.Close slot) tally tally
+    requires slots { length connections.old ≡ slots }
+    requires sure { (n : ℕ) → n < slots → M.plain.is_sure (n + 1, close) ≡ true }
+    ensures turned { (tally : Tally) → GoesOn M.plain (M.stands machine.old) (M.stands machine.new) connections.old connections.new (Ready.Close slot) tally tally
         (P.seen ports.old) (P.seen ports.new) }
-    ensures slots { length lines.new ≡ length lines.old }
+    ensures slots { length connections.new ≡ length connections.old }
     ensures opening { M.opening machine.new ≡ M.opening machine.old }
 {
-    match take_line(lines, slot) {
-        Some(_line) => {
+    match take_connection(connections, slot) {
+        Some(_connection) => {
             ports.close(slot);
             close_session(machine, slot as u16 + 1, reply);
         }
@@ -132,38 +134,38 @@ fn leave<M: Machine, P: Ports>(
 pub(crate) fn turn<M: Machine, P: Ports>(
     alloc: Global,
     machine: &mut M,
-    lines: &mut [Option<Line>],
+    connections: &mut [Option<Connection>],
     ports: &mut P,
-    piece: &mut [u8],
+    buf: &mut [u8],
     reply: &mut ReplyBuf,
     tally: &mut Tally,
 ) -> bool
-    requires slots { length lines.old ≡ 256 }
-    requires room { length piece.old ≡ 65536 }
-    requires sure { (n : ℕ) → n < 256 → M.plain.is_sure (n + 1, close) ≡ true }
-    ensures turned { result ≡ true → Turned M.plain (M.stands machine.old) (M.stands machine.new) lines.old lines.new tally.old tally.new
+    requires slots { length connections.old ≡ slots }
+    requires room { length buf.old ≡ piece }
+    requires sure { (n : ℕ) → n < slots → M.plain.is_sure (n + 1, close) ≡ true }
+    ensures turned { result ≡ true → Turned M.plain (M.stands machine.old) (M.stands machine.new) connections.old connections.new tally.old tally.new
         (P.seen ports.old) (P.seen ports.new) }
-    ensures stopped { result ≡ false → (machine.new ≡ machine.old) × (lines.new ≡ lines.old) × (tally.new ≡ tally.old)
+    ensures stopped { result ≡ false → (machine.new ≡ machine.old) × (connections.new ≡ connections.old) × (tally.new ≡ tally.old)
         × Tells (P.seen ports.old) (P.seen ports.new) (Seen.Offered Ready.Stop ∷ []) }
-    ensures slots { length lines.new ≡ length lines.old }
-    ensures room { length piece.new ≡ length piece.old }
+    ensures slots { length connections.new ≡ length connections.old }
+    ensures room { length buf.new ≡ length buf.old }
     ensures opening { M.opening machine.new ≡ M.opening machine.old }
 {
-    match ports.ready(lines) {
+    match ports.ready(connections) {
         Ready::Accept => {
-            enter(alloc, machine, lines, ports);
+            enter(alloc, machine, connections, ports);
             true
         }
         Ready::Read(slot) => {
-            hear(machine, lines, ports, slot, piece, reply, tally);
+            hear(machine, connections, ports, slot, buf, reply, tally);
             true
         }
         Ready::Write(slot) => {
-            tell(machine, lines, ports, slot, reply, tally);
+            tell(machine, connections, ports, slot, reply, tally);
             true
         }
         Ready::Close(slot) => {
-            leave(machine, lines, ports, slot, reply);
+            leave(machine, connections, ports, slot, reply);
             true
         }
         Ready::Stop => false,

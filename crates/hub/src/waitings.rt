@@ -1,16 +1,16 @@
 //! Bytes that wait to be written to a connection.
 
 ghost use Rattle.std.specs.Prelude.{◌≡◌, ◌≤◌, ◌++◌, [], length, drop, IfOk};
-ghost use Rattle.tardis_base.specs.Sizes.{longest_frame};
+ghost use Rattle.tardis_base.specs.Sizes.{longest_frame, piece};
 ghost use Rattle.frame_cut.specs.Frames.{frame};
 
 use frame_cut::{keep_rest, put_frame};
 use std::alloc::Global;
 use std::marker::Model;
-use tardis_base::NoMemory;
+use tardis_base::{MAX_FRAMED, NoMemory, PIECE};
 
-/// A longest frame behind 65,536 bytes.
-const ROOM: usize = 1_114_116;
+/// A longest frame behind as much as may wait where one more is answered.
+const ROOM: usize = PIECE + MAX_FRAMED;
 
 /// The bytes of replies that weren't written yet, in room that was reserved once. It is seen as these bytes.
 #[derive(Drop)]
@@ -19,13 +19,14 @@ pub struct Waiting {
 }
 
 impl Model for Waiting {
-    ghost use Rattle.std.specs.Prelude.{List, ℕ, ◌≤◌, length, vec_capacity};
+    ghost use Rattle.std.specs.Prelude.{List, ℕ, ◌≤◌, ◌+◌, length, vec_capacity};
+    ghost use Rattle.tardis_base.specs.Sizes.{piece, longest_framed};
 
     ghost Value = { List ℕ };
 
     ghost view = { λ w. w.bytes.items };
 
-    ghost invariant = { λ w. (length w.bytes.items ≤ 1114116) × (1114116 ≤ vec_capacity w.bytes) };
+    ghost invariant = { λ w. (length w.bytes.items ≤ piece + longest_framed) × (piece + longest_framed ≤ vec_capacity w.bytes) };
 }
 
 impl Waiting {
@@ -53,7 +54,7 @@ impl Waiting {
 
     /// Puts the frame of a reply behind the bytes that wait.
     pub(crate) fn put(&mut self, reply: &[u8])
-        requires few { length self.old ≤ 65536 }
+        requires few { length self.old ≤ piece }
         requires reply { length reply.now ≤ longest_frame }
         ensures { self.new ≡ self.old ++ frame reply.now }
     {

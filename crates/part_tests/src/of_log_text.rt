@@ -13,7 +13,9 @@ fn entries_are_read_back(rt: HostRuntime) {
     let mut rest = log.as_slice();
     let mut item = Vec::new(rt.alloc());
     for wanted in items {
-        let count = read_entry(rest, &mut item).expect(&rt, "room").expect(&rt, "an entry");
+        let count = read_entry(rest, &mut item)
+            .expect(&rt, "room")
+            .expect(&rt, "an entry");
         assert!(rt; item.as_slice() == wanted);
         rest = &rest[count..];
     }

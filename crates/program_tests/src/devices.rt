@@ -44,8 +44,13 @@ fn sink_of(rt: &impl Abort, alloc: Global, room: u32, piece: u32, failing: &[u64
     MemorySink::new(alloc, room, piece.max(1), failing).expect(rt, "room")
 }
 
+/// An empty file at the path `carts`.
 fn empty_file(rt: &impl Abort, alloc: Global) -> MemoryStore {
-    MemoryStore::new(MemoryDisk::new(alloc, &[], 1_000, &[]).expect(rt, "room"))
+    let path = String::from_str(alloc, "carts").expect(rt, "room");
+    MemoryStore::new(
+        path,
+        MemoryDisk::new(alloc, &[], 1_000, &[]).expect(rt, "room"),
+    )
 }
 
 /// A link that sends these bytes, at most so many in each take.

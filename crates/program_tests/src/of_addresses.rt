@@ -2,9 +2,10 @@
 
 ghost use Rattle.std.specs.Prelude.{None};
 
+use crate::devices::no_peer;
 use crate::programs::comes_to;
 use crate::servers::serve;
-use tardis_io::{Dial, Failed, Gate, MemoryLink, Status};
+use tardis_io::{Failed, Gate, MemoryDial, MemoryLink, Status};
 
 /// A gate without links that knows whether it was bound to `unix:s`.
 #[derive(Drop)]
@@ -18,6 +19,8 @@ impl Gate for NotingGate {
     ghost told = { λ _. None };
 
     ghost faults = { λ _. 0 };
+
+    ghost is_bound = { λ _. Unit {0} };
 
     fn bind(&mut self, address: &str) -> Result<(), Failed> {
         self.is_bound = address == "unix:s";
@@ -34,43 +37,28 @@ impl Gate for NotingGate {
     }
 }
 
-/// A dial without links that knows whether it was asked for `unix:p`, and then for `unix:q`.
-#[derive(Drop)]
-struct NotingDial {
-    first: bool,
-    second: bool,
-    faults: u64,
-}
-
-impl Dial for NotingDial {
-    type Link = MemoryLink;
-
-    ghost told = { λ _. None };
-
-    ghost faults = { λ d. d.faults };
-
-    fn call(&mut self, address: &str) -> Result<MemoryLink, Failed> {
-        self.second = self.first && address == "unix:q";
-        self.first = address == "unix:p";
-        self.faults = self.faults.saturating_add(1);
-        Err(Failed)
+/// Whether the dial was asked for these addresses, in order.
+fn was_asked_for(dial: &MemoryDial<MemoryLink>, addresses: &[&str]) -> bool {
+    let Some(asked) = dial.asked() else {
+        return false;
+    };
+    for (place, address) in addresses.iter().enumerate() {
+        match asked.get(place) {
+            Some(found) if found.as_str() == *address => {}
+            _ => return false,
+        }
     }
-
-    fn put_back(&mut self, link: MemoryLink) {
-        drop(link);
-    }
+    asked.len() == addresses.len()
 }
 
 #[test]
 fn the_words_addresses_are_bound_and_called(rt: HostRuntime) {
-    let line = "serve --listen unix:s --links 1 --peer unix:p --peer unix:q --rounds 1";
+    let line = "serve --listen unix:s --links 1 --peer unix:p --peer unix:q --rounds 2";
     let mut gate = NotingGate { is_bound: false };
-    let mut dial = NotingDial {
-        first: false,
-        second: false,
-        faults: 0,
-    };
+    let mut dial = no_peer(&rt, rt.alloc());
     let ran = serve(&rt, rt.alloc(), line, &mut gate, &mut dial);
-    assert!(rt; gate.is_bound && dial.second);
+    assert!(rt; gate.is_bound);
+    assert!(rt; was_asked_for(&dial, &["unix:p", "unix:q", "unix:p", "unix:q"]));
     assert!(rt; comes_to(ran, Status::DialFault, b""));
+    drop(dial);
 }

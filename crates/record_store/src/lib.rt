@@ -117,8 +117,9 @@ impl RecordStore {
     ///
     /// Where it is refused, or there is no memory, the writes stay where they were, and only room for more may have grown. The
     /// cost grows with the lengths of the parents' fork paths, and for each write with a look-up of its key; a key that was
-    /// never written before is copied, and nothing else. Where a parent gets its second child it grows with the number of kept
-    /// states and their fork paths too.
+    /// never written before is copied, and nothing else. Where a parent gets its second child it grows with the number of the
+    /// states that are kept from its first child on, and with their fork paths too; a third child and later ones cost as the
+    /// first did.
     pub fn commit(
         &mut self,
         id: StateId,
@@ -238,7 +239,6 @@ impl RecordStore {
         ensures { (rs : List Record) (ks : List StateId) → StoreStands self.now rs ks → (x : StateId) → id_at self.now.table slot ≡ Some x
             → found result ≡ read rs key.now x }
     {
-        let _ = &self.dag; // for the proof alone
         self.versions.latest(&self.dag, key, slot)
     }
 
@@ -294,7 +294,6 @@ impl RecordStore {
         ensures holder { (rs : List Record) (ks : List StateId) → StoreStands self.now rs ks → (x : StateId) → id_at self.now.table slot ≡ Some x
             → option_and_then (id_at self.now.table) result ≡ option_map (stand_in rs ks) (latest_writer rs key.now x) }
     {
-        let _ = &self.dag; // for the proof alone
         self.versions.holder(&self.dag, key, slot)
     }
 
@@ -305,7 +304,6 @@ impl RecordStore {
         ensures { (rs : List Record) (ks : List StateId) → StoreStands self.now rs ks → (x : StateId) → id_at self.now.table slot ≡ Some x
             → (k : List ℕ) → is_key_in k result.now ≡ holds_key rs ks k x }
     {
-        let _ = &self.dag; // for the proof alone
         self.versions.keys_at(slot)
     }
 
@@ -315,7 +313,6 @@ impl RecordStore {
         ensures { (rs : List Record) (ks : List StateId) → StoreStands self.now rs ks → (x : StateId) → id_at self.now.table slot ≡ Some x
             → StandsAlone rs ks x → (r : Record) → record_at rs x ≡ Some r → IfOk result (λ writes. writes ≡ r.writes) }
     {
-        let _ = &self.dag; // for the proof alone
         let mut writes = WriteSet::new(self.alloc);
         for chunk in self.versions.keys_at(slot) {
             self.add_reads(slot, chunk.as_slice(), &mut writes)?;

@@ -30,6 +30,7 @@ pub fn serve_all<M: Machine + Send, G: Gate, R: Threads + Wait + Sync>(
     links: u16,
 ) -> (Pass, Served)
     requires lock { pass.lock ≡ lock_id lock.now }
+    requires bound { G.is_bound gate.old }
     requires numbers { first + links ≤ 65536 }
     requires pieces { links < pass.pieces }
     ensures serves { Serves G.Link.left G.Link.given G.Link.take_faults G.Link.faults M.plain (M.opening (start_of lock.now).machine)
@@ -55,6 +56,7 @@ fn serve_from<M: Machine + Send, G: Gate, R: Threads + Wait + Sync>(
     links: u16,
 ) -> (Pass, Served)
     requires lock { pass.lock ≡ lock_id lock.now }
+    requires bound { G.is_bound gate.old }
     requires numbers { first + links ≤ 65536 }
     requires pieces { links < pass.pieces }
     ensures { Pools G.Link.left G.Link.given G.Link.take_faults G.Link.faults M.plain (M.opening (start_of lock.now).machine) (start_of lock.now).max_trail
@@ -87,6 +89,7 @@ fn serve_beside<M: Machine + Send, G: Gate, R: Threads + Wait + Sync>(
     links: u16,
 ) -> (Pass, Served)
     requires lock { pass.lock ≡ lock_id lock.now }
+    requires bound { G.is_bound gate.old }
     requires some { 0 < links }
     requires numbers { first + links ≤ 65536 }
     requires pieces { links < pass.pieces }
@@ -115,7 +118,7 @@ fn serve_beside<M: Machine + Send, G: Gate, R: Threads + Wait + Sync>(
             }
         },
         &mut || -> Option<(Pass, Served)>
-            requires { IsSync R.row × IsSend M.row × IsSend G.Link.row × (next + left ≤ 65536)
+            requires { IsSync R.row × IsSend M.row × IsSend G.Link.row × G.is_bound gate.now × (next + left ≤ 65536)
                 × IsSomeAnd others (λ p. (p.lock ≡ lock_id lock.now) × (left < p.pieces)) }
             ensures { IfSome others.entry (λ p. IsSomeAnd result (λ r. Pools G.Link.left G.Link.given G.Link.take_faults G.Link.faults M.plain
                 (M.opening (start_of lock.entry.now).machine) (start_of lock.entry.now).max_trail

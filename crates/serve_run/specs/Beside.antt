@@ -17,7 +17,7 @@ use Rattle.serve_pool.specs.declared.ends.PoolEnd.TheVariants.{Done, GateFault}
 -- the rounds
 pub record Synced {M P X D : Type 0} (opening : M → P) (m : PlainMachine P) (left given : X → Option (List ℕ)) (take_faults faults : X → ℕ)
     (told : D → Option (ToldDial X)) (dial_faults : D → ℕ)
-    (machine : Kept M) (rounds peers : ℕ) (tidy : Bool) (p q : Known) (d e : D) (made : Result Rounds NoMemory) : Type 0 where
+    (machine : Kept M) (rounds : ℕ) (peers : List (List ℕ)) (tidy : Bool) (p q : Known) (d e : D) (made : Result Rounds NoMemory) : Type 0 where
   pub goes_on : GoesOn p q
   pub rounds_made : IfOk made (λ n. AreRounds opening m machine left given take_faults faults told dial_faults rounds peers tidy p d n q e)
   pub nothing : OnErr made ((q ≡ p) × (e ≡ d))

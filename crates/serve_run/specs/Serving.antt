@@ -1,5 +1,6 @@
 -- What a server does from its address to its trail.
-use Rattle.std.specs.Prelude.{◌≡◌, ℕ, ◌<◌, ◌≤◌, ◌⊎◌, Bool, List, [], length, Option, Result, IfOk, OnErr}
+use Rattle.std.specs.Prelude.{◌≡◌, ℕ, ◌<◌, ◌≤◌, ◌⊎◌, Bool, List, [], length, map, Option, Result, IfOk, OnErr}
+use Rattle.std.specs.String.{string_bytes}
 use Rattle.std.specs.List.{range_with_len}
 use Rattle.tardis_base.specs.Plain.{Event, PlainMachine}
 use Rattle.tardis_base.specs.declared.faults.NoMemory.{NoMemory}
@@ -21,16 +22,16 @@ use Rattle.serve_run.specs.declared.endings.Serving.{Serving}
 use Rattle.serve_run.specs.declared.endings.ServeEnd.{ServeEnd}
 use Rattle.serve_run.specs.declared.endings.ServeEnd.TheVariants.{NotBound, NotMade, Served}
 
--- How much a server is to do: so many links are taken at most, and so many rounds are made, each with so many peers, and
--- with a collection or without.
+-- What a server is to do: so many links are taken at most, and so many rounds are made, each with the peers at these
+-- addresses, in order, and with a collection or without.
 pub record Workload : Type 0 where
   pub links : ℕ
-  pub peers : ℕ
+  pub peers : List (List ℕ)
   pub rounds : ℕ
   pub tidy : Bool
 
 abbrev pub workload : ServeOptions → Workload
-workload o = record { links = o.links; peers = length o.peers.now; rounds = o.rounds; tidy = o.tidy }
+workload o = record { links = o.links; peers = map (λ p. string_bytes p) o.peers.now; rounds = o.rounds; tidy = o.tidy }
 
 module _ {M P X D : Type 0} (opening : M → P) (m : PlainMachine P) (left given : X → Option (List ℕ)) (take_faults faults : X → ℕ)
     (told : D → Option (ToldDial X)) (dial_faults : D → ℕ) where

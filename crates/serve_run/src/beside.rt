@@ -1,6 +1,7 @@
 //! Serving links, and making rounds beside them.
 
-ghost use Rattle.std.specs.Prelude.{◌≡◌, ◌+◌, ◌<◌, ◌≤◌, [], length, IfSome, IsSomeAnd};
+ghost use Rattle.std.specs.Prelude.{◌≡◌, ◌+◌, ◌<◌, ◌≤◌, [], length, map, IfSome, IsSomeAnd};
+ghost use Rattle.std.specs.String.{string_bytes};
 ghost use denote.Param.Send.{IsSync, IsSend};
 ghost use Rattle.dag_lock.specs.Named.{lock_id, start_of};
 ghost use Rattle.site_sync.specs.Asking.{TellsCounts};
@@ -35,6 +36,7 @@ pub(crate) fn serve_beside_rounds<
 ) -> (Pass, Served, Result<Rounds, NoMemory>)
     requires pass { pass ≡ record { lock = lock_id lock.now; seen = []; owned = []; pieces = options.links + 2 } }
     requires counts { TellsCounts M.plain (M.opening (start_of lock.now).machine) }
+    requires bound { G.is_bound gate.old }
     requires peers { length options.peers.now ≤ 15 }
     requires rounds { options.rounds ≤ 1000000 }
     ensures { ServesBoth M.opening M.plain G.Link.left G.Link.given G.Link.take_faults G.Link.faults D.Link.left D.Link.given D.Link.take_faults D.Link.faults
@@ -52,7 +54,7 @@ pub(crate) fn serve_beside_rounds<
                 × TellsCounts M.plain (M.opening (start_of lock.now).machine) × (length peers.now ≤ 15) × (rounds ≤ 1000000) }
             ensures { IfSome mine.entry (λ p. IsSomeAnd result (λ r. Synced M.opening M.plain D.Link.left D.Link.given D.Link.take_faults D.Link.faults
                 D.told D.faults
-                (start_of lock.entry.now) rounds (length peers.entry.now) tidy p r.0 dial.entry.now dial.exit.now r.1)) }
+                (start_of lock.entry.now) rounds (map (λ a. string_bytes a) peers.entry.now) tidy p r.0 dial.entry.now dial.exit.now r.1)) }
         {
             match mine.take() {
                 Some(pass) => Some(run_rounds(alloc, rt, lock, pass, dial, peers, rounds, tidy)),
@@ -60,7 +62,7 @@ pub(crate) fn serve_beside_rounds<
             }
         },
         &mut || -> Option<(Pass, Served)>
-            requires { IsSync R.row × IsSend M.row × IsSend G.Link.row × (1 + links ≤ 65536)
+            requires { IsSync R.row × IsSend M.row × IsSend G.Link.row × G.is_bound gate.now × (1 + links ≤ 65536)
                 × IsSomeAnd others (λ p. (p.lock ≡ lock_id lock.now) × (links < p.pieces)) }
             ensures { IfSome others.entry (λ p. IsSomeAnd result (λ r. Pooled M.plain G.Link.left G.Link.given G.Link.take_faults G.Link.faults G.told G.faults
                 (M.opening (start_of lock.entry.now).machine) (start_of lock.entry.now).max_trail links p r.0 gate.entry.now gate.exit.now r.1)) }

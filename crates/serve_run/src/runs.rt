@@ -69,6 +69,7 @@ fn serve_lock<M: Machine + Send, G: Gate, D: Dial + Send, O: Sink, R: Threads + 
     requires pass { pass ≡ record { lock = lock_id lock; seen = []; owned = []; pieces = options.links + 2 } }
     requires pieces { pieces_of lock ≡ options.links + 2 }
     requires counts { TellsCounts M.plain (M.opening (start_of lock).machine) }
+    requires bound { G.is_bound gate.old }
     requires peers { length options.peers.now ≤ 15 }
     requires rounds { options.rounds ≤ 1000000 }
     ensures served { ServesLinks M.opening M.plain G.Link.left G.Link.given G.Link.take_faults G.Link.faults D.Link.left D.Link.given

@@ -142,8 +142,9 @@ impl SiteCore {
     ///
     /// The cost grows with the logarithm of the number of open sessions, and else is that of the request's own call: of a
     /// Get a read of its key, of a Put a copy of the value and a place among the transaction's writes, of a Commit the landing
-    /// and the adding of the record. The leaves, a Pull, and a merge's fork points, conflict keys and Commit, cost more with
-    /// each kept state. A Settle judges the waiting records up to the first fit one.
+    /// and the adding of the record; of a merge's fork points, conflict keys and Commit what its branches have done since they
+    /// parted, as `branch_region::region` says; of the leaves, the states, a Show and a Pull what they list or try. A Settle judges
+    /// the waiting records up to the first fit one. One table of costs is in `docs/SPEED.md`.
     pub fn step(&mut self, actor: u16, request: &Request, reply: &mut Reply) -> Result<(), NoMemory>
         requires { IsTrue (is_request request.now) }
         ensures done { OnOk result ((site : Site) → SiteStands self.old site → IsGiven (SiteStands self.new) (step site actor request.now) reply.new) }

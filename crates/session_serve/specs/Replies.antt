@@ -1,5 +1,6 @@
 -- What a session asks, and what it is replied.
 use Rattle.std.specs.Prelude.{◌≡◌, ℕ, List, [], ◌∷◌, length, map, nat_le, if◌then◌else◌, Some}
+use Rattle.tardis_base.specs.Sizes.{longest_request}
 use Rattle.tardis_base.specs.declared.requests.Request.TheVariants.{Close}
 use Rattle.tardis_base.specs.declared.replies.Refusal.TheVariants.{TrailFull as FullTrail}
 use Rattle.tardis_base.specs.declared.replies.Reply.TheVariants.{Refused}
@@ -11,7 +12,7 @@ use Rattle.session_serve.specs.Turns.{Turn}
 
 -- the request in a body: its bytes, or the empty one where they are more than a request may have
 abbrev pub request_in : List ℕ → List ℕ
-request_in body = if nat_le (length body) 1048574 then body else []
+request_in body = if nat_le (length body) longest_request then body else []
 
 -- what the bodies ask: each its request, by the session
 abbrev pub asked_by : ℕ → List (List ℕ) → List Event

@@ -1,6 +1,7 @@
 //! What asks the lock for a session.
 
 ghost use Rattle.std.specs.Prelude.{◌≡◌, ◌≤◌, List, ℕ, length};
+ghost use Rattle.tardis_base.specs.Sizes.{longest_request};
 ghost use Rattle.trail_log.specs.declared.acted.Acted.{Acted};
 ghost use Rattle.dag_lock.specs.Named.{lock_id, start_of};
 ghost use Rattle.dag_lock.specs.Steps.{Ended, Keeps};
@@ -23,7 +24,7 @@ pub(crate) trait Asks {
     ghost opening: { Self → Self };
 
     fn ask(&mut self, request: &[u8], out: &mut ReplyBuf) -> Acted
-        requires { length request.now ≤ 1048574 }
+        requires { length request.now ≤ longest_request }
         ensures asks { asks self.old request.now result out.new self.new }
         ensures opening { opening self.new ≡ opening self.old };
 }
@@ -93,7 +94,7 @@ impl<'a, M: Machine, R: Wait> Asks for Asker<'a, M, R> {
     ghost opening = { at_first };
 
     fn ask(&mut self, request: &[u8], out: &mut ReplyBuf) -> Acted
-        requires { length request.now ≤ 1048574 }
+        requires { length request.now ≤ longest_request }
         ensures asks { AsksOnce M.opening M.plain self.old request.now result out.new self.new }
         ensures opening { at_first self.new ≡ at_first self.old }
     {
@@ -116,7 +117,7 @@ fn step_once<M: Machine, R: Wait>(
     out: &mut ReplyBuf,
 ) -> (Pass, Acted)
     requires lock { pass.lock ≡ lock_id lock.now }
-    requires fits { length request.now ≤ 1048574 }
+    requires fits { length request.now ≤ longest_request }
     ensures ended { Ended M.opening M.plain (start_of lock.now) pass (session, request.now) out.new result.0 result.1 }
     ensures pass { Keeps pass result.0 }
 {

@@ -1,13 +1,14 @@
 //! The answers to a session's frames.
 
 ghost use Rattle.std.specs.Prelude.{◌≡◌, ◌≤◌, length};
+ghost use Rattle.tardis_base.specs.Sizes.{longest_framed, longest_request};
 ghost use Rattle.session_serve.specs.Replies.{request_in, reply_without};
 ghost use Rattle.session_serve.specs.Asking.{Asked};
 
 use crate::askers::Asks;
 use site_run::{Gathered, Responder, put_reply};
 use std::alloc::Global;
-use tardis_base::{NoMemory, Refusal, Reply, ReplyBuf};
+use tardis_base::{MAX_FRAMED, MAX_REQUEST, NoMemory, Refusal, Reply, ReplyBuf};
 use trail_log::Acted;
 use wire_talk::write_reply;
 
@@ -33,9 +34,9 @@ impl<A: Asks> Responder<A> for SessionReplies {
 
     ghost opening = { A.opening };
 
-    ghost MOST = { 1048580 };
+    ghost MOST = { longest_framed };
 
-    const MOST: usize = 1_048_580;
+    const MOST: usize = MAX_FRAMED;
 
     fn respond(&mut self, subject: &mut A, body: &[u8], out: &mut Gathered) {
         let acted = subject.ask(request_of(body), &mut self.reply);
@@ -44,15 +45,12 @@ impl<A: Asks> Responder<A> for SessionReplies {
     }
 }
 
-/// The most bytes of a request.
-const MOST_ASKED: usize = 1_048_574;
-
 /// The request in a body. One of more bytes spells none, as the empty one does.
 fn request_of(body: &[u8]) -> &[u8]
     ensures same { result.now ≡ request_in body.now }
-    ensures fits { length result.now ≤ 1048574 }
+    ensures fits { length result.now ≤ longest_request }
 {
-    if body.len() <= MOST_ASKED { body } else { &[] }
+    if body.len() <= MAX_REQUEST { body } else { &[] }
 }
 
 /// Makes the buffer the reply to a request, which is in it where the request was answered.

@@ -5,8 +5,8 @@ use Rattle.tardis_io.specs.declared.statuses.Status.{Status}
 use Rattle.site_run.specs.Responses.{AnsweredBy, Whole}
 use Rattle.site_run.specs.Prompt.{UpToDate}
 use Rattle.site_run.specs.Endings.{Outcome, shape_within}
-use Rattle.site_run.specs.LineServing.{UpToDateLines}
-use Rattle.site_run.specs.LineEndings.{LineOutcome}
+use Rattle.site_run.specs.Prompt.{UpToDateLines}
+use Rattle.site_run.specs.Endings.{LineOutcome}
 use Rattle.shell_run.specs.Answers.{ShellMay, AuditMay}
 
 -- the most bytes of one line of a shell, with its line feed

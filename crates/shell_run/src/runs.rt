@@ -7,7 +7,7 @@ ghost use Rattle.frame_cut.specs.Frames.{IsCut};
 ghost use Rattle.line_cut.specs.Lines.{IsCut as AreLines};
 ghost use Rattle.site_run.specs.Prompt.{EachTake};
 ghost use Rattle.site_run.specs.Endings.{EndsAs, IsRunEnd, most_taken};
-ghost use Rattle.site_run.specs.LineEndings.{IsLineEnd, LinesEndAs};
+ghost use Rattle.site_run.specs.Endings.{IsLineEnd, LinesEndAs};
 ghost use Rattle.shell_run.specs.Answers.{over_lines};
 ghost use Rattle.shell_run.specs.Outcomes.{ShellOutcome, ShellIsPrompt, AuditOutcome, AuditIsPrompt};
 

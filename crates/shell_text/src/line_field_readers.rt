@@ -10,7 +10,7 @@ ghost use Rattle.tardis_base.specs.declared.ids.StateId.{StateId};
 ghost use Rattle.tardis_base.specs.declared.requests.MergeOf.{MergeOf};
 ghost use Rattle.tardis_base.specs.declared.requests.Request.TheVariants.{Put as PutKey};
 ghost use Rattle.tardis_base.specs.declared.requests.Request.{Request};
-ghost use Rattle.tardis_base.specs.Sizes.{longest_key, longest_value};
+ghost use Rattle.tardis_base.specs.Sizes.{longest_key, longest_value, most_sites};
 ghost use Rattle.tardis_base.specs.Valid.{is_within};
 ghost use Rattle.text_words.specs.Texts.{by_prefix, ends, id_until, number_until, parsed, rest_of};
 ghost use Rattle.wire_item.specs.Fronts.{Front, alone, both, made, only_if, times, whole};
@@ -375,7 +375,7 @@ fn read_counts<'a>(
 }
 
 fn is_count_of_sites(count: usize) -> bool
-    ensures { result ≡ is_within 1 16 count }
+    ensures { result ≡ is_within 1 most_sites count }
 {
     (1..=usize::from(MAX_SITES)).contains(&count)
 }

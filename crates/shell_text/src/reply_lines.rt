@@ -11,6 +11,7 @@ ghost use Rattle.text_words.specs.Words.{byte_word, id_word, line, number_word};
 ghost use Rattle.wire_item.specs.Fronts.{both, front_of_code};
 ghost use Rattle.wire_item.specs.Readings.{id_front, parents_front, u16_front, u32_front, u64_front};
 ghost use Rattle.wire_talk.specs.ReplyReadings.{children_front, first_ids_front, first_keys_front, path_front, refusal_front, reply_rows, site_lines_front};
+ghost use Rattle.wire_talk.specs.declared.reply_codes.TheConstants.{BATCH, RAISED};
 
 use crate::field_words::{put_id, put_id_and_u32, put_id_and_value, put_u16, put_u32, put_u64};
 use crate::list_fields::{
@@ -20,9 +21,7 @@ use crate::passing::pass_batch;
 use crate::refusal_lines::put_refusal;
 use text_words::{LineBuf, Unread};
 use wire_item::Reader;
-
-/// The code of the reply that has a batch, which is written in hexadecimal as it stands.
-const BATCH: u8 = 16;
+use wire_talk::reply_codes::{self, BATCH};
 
 /// Writes the line of the reply that the bytes spell, and nothing where they spell none. What the buffer held is forgotten.
 pub fn put_reply_line(reply: &[u8], out: &mut LineBuf)
@@ -41,7 +40,7 @@ pub fn put_reply_line(reply: &[u8], out: &mut LineBuf)
 
 /// The line of the reply with the code, which isn't that of a batch.
 fn put_fields_line(code: u8, fields: &[u8], out: &mut LineBuf)
-    requires other { code ≡ 16 → ⊥ }
+    requires other { code ≡ BATCH → ⊥ }
     requires empty { out.old ≡ [] }
     requires fits { length fields.now + 1 ≤ longest_frame }
     ensures { out.new ≡ reply_line_of (code ∷ fields.now) }
@@ -57,7 +56,7 @@ fn put_fields_line(code: u8, fields: &[u8], out: &mut LineBuf)
 fn put_batch_line(batch: &[u8], out: &mut LineBuf)
     requires empty { out.old ≡ [] }
     requires fits { length batch.now + 1 ≤ longest_frame }
-    ensures { out.new ≡ reply_line_of (16 ∷ batch.now) }
+    ensures { out.new ≡ reply_line_of (BATCH ∷ batch.now) }
 {
     let mut reader = Reader::new(batch);
     if pass_batch(&mut reader) {
@@ -70,54 +69,54 @@ fn put_batch_line(batch: &[u8], out: &mut LineBuf)
 
 /// The reply of the code, which isn't that of a batch.
 fn put_coded_reply(code: u8, unread: &mut Unread, out: &mut LineBuf)
-    requires { code ≡ 16 → ⊥ }
+    requires { code ≡ BATCH → ⊥ }
     ensures { putting unread.new out.new ≡ puts (front_of_code code reply_rows) reply_line (putting unread.old out.old) }
 {
-    if code < 12 {
+    if code < reply_codes::RAISED {
         put_low_reply(code, unread, out);
     } else {
         put_high_reply(code, unread, out);
     }
 }
 
-/// The reply of a code below 12.
+/// The reply of a code below that of a raised floor.
 fn put_low_reply(code: u8, unread: &mut Unread, out: &mut LineBuf)
-    requires { code < 12 }
+    requires { code < RAISED }
     ensures { putting unread.new out.new ≡ puts (front_of_code code reply_rows) reply_line (putting unread.old out.old) }
 {
     match code {
-        1 => put_id(b"opened", unread, out),
-        2 => put_id(b"begun", unread, out),
-        3 => put_parents(b"merging", unread, out),
-        4 => put_id_and_value(b"value", unread, out),
-        5 => put_id(b"deleted", unread, out),
-        6 => unread.say(b"absent", out),
-        7 => unread.say(b"done", out),
-        8 => put_committed(unread, out),
-        9 => put_id(b"ended", unread, out),
-        10 => put_states(unread, out),
-        11 => put_keys(unread, out),
+        reply_codes::OPENED => put_id(b"opened", unread, out),
+        reply_codes::BEGUN => put_id(b"begun", unread, out),
+        reply_codes::MERGING => put_parents(b"merging", unread, out),
+        reply_codes::VALUE => put_id_and_value(b"value", unread, out),
+        reply_codes::DELETED => put_id(b"deleted", unread, out),
+        reply_codes::ABSENT => unread.say(b"absent", out),
+        reply_codes::DONE => unread.say(b"done", out),
+        reply_codes::COMMITTED => put_committed(unread, out),
+        reply_codes::ENDED => put_id(b"ended", unread, out),
+        reply_codes::STATES => put_states(unread, out),
+        reply_codes::KEYS => put_keys(unread, out),
         _ => unread.lose(),
     }
 }
 
-/// The reply of a code from 12 on, which isn't that of a batch.
+/// The reply of a code from that of a raised floor on, which isn't that of a batch.
 fn put_high_reply(code: u8, unread: &mut Unread, out: &mut LineBuf)
-    requires from { 12 ≤ code }
-    requires other { code ≡ 16 → ⊥ }
+    requires from { RAISED ≤ code }
+    requires other { code ≡ BATCH → ⊥ }
     ensures { putting unread.new out.new ≡ puts (front_of_code code reply_rows) reply_line (putting unread.old out.old) }
 {
     match code {
-        12 => put_id_and_u32(b"raised", unread, out),
-        13 => put_u32(b"tidied", unread, out),
-        14 => put_statistics(unread, out),
-        15 => put_shown(unread, out),
-        17 => unread.say(b"applied", out),
-        18 => unread.say(b"known", out),
-        19 => put_u32(b"early", unread, out),
-        20 => unread.say(b"closed", out),
-        21 => put_refused(unread, out),
-        22 => unread.say(b"nomemory", out),
+        reply_codes::RAISED => put_id_and_u32(b"raised", unread, out),
+        reply_codes::TIDIED => put_u32(b"tidied", unread, out),
+        reply_codes::STAT => put_statistics(unread, out),
+        reply_codes::SHOWN => put_shown(unread, out),
+        reply_codes::APPLIED => unread.say(b"applied", out),
+        reply_codes::KNOWN => unread.say(b"known", out),
+        reply_codes::EARLY => put_u32(b"early", unread, out),
+        reply_codes::CLOSED => unread.say(b"closed", out),
+        reply_codes::REFUSED => put_refused(unread, out),
+        reply_codes::NO_MEMORY => unread.say(b"nomemory", out),
         _ => unread.lose(),
     }
 }

@@ -10,7 +10,7 @@ ghost use Rattle.shell_text.specs.ReplyTexts.{id_text, pair_text, parents_text, 
 ghost use Rattle.shell_text.specs.RequestTexts.{key_text};
 ghost use Rattle.tardis_base.specs.Ids.{are_ascending};
 ghost use Rattle.tardis_base.specs.Keys.{are_ascending_keys, is_key_before};
-ghost use Rattle.tardis_base.specs.Sizes.{most_sites};
+ghost use Rattle.tardis_base.specs.Sizes.{most_parents, most_sites};
 ghost use Rattle.tardis_base.specs.Valid.{is_within};
 ghost use Rattle.text_words.specs.Texts.{rest_of};
 ghost use Rattle.wire_item.specs.Fronts.{counted, only_if, times};
@@ -41,7 +41,7 @@ pub fn parents<'a>(
 }
 
 fn is_parent_count(count: usize) -> bool
-    ensures { result ≡ is_within 1 8 count }
+    ensures { result ≡ is_within 1 most_parents count }
 {
     (1..=MAX_PARENTS).contains(&count)
 }
@@ -232,7 +232,7 @@ pub fn lines_of_sites<'a>(words: &Words<'a>) -> Option<(SiteLines, Words<'a>)>
 }
 
 fn is_count_of_sites(count: u32) -> bool
-    ensures { result ≡ is_within 1 16 count }
+    ensures { result ≡ is_within 1 most_sites count }
 {
     (1..=u32::from(MAX_SITES)).contains(&count)
 }

@@ -11,15 +11,14 @@ ghost use Rattle.text_words.specs.Puts.{putting, puts, spaced};
 ghost use Rattle.text_words.specs.Words.{line};
 ghost use Rattle.wire_item.specs.Fronts.{front_of_code};
 ghost use Rattle.wire_talk.specs.RequestReadings.{request_rows};
+ghost use Rattle.wire_talk.specs.declared.request_codes.TheConstants.{DELIVER};
 
 use crate::field_words::{put_id, put_key, put_key_and_id, put_key_and_value, put_u16};
 use crate::passing::pass_item;
 use crate::request_fields::{put_begin, put_commit, put_conflicts, put_merge, put_open, put_pull};
 use text_words::{LineBuf, Unread};
 use wire_item::Reader;
-
-/// The code of the request that has an item, which is written in hexadecimal as it stands.
-const DELIVER: u8 = 20;
+use wire_talk::request_codes::{self, DELIVER};
 
 /// Writes the line of the actor's request that the bytes spell, and the actor and `malformed` where they spell none. What
 /// the buffer held is forgotten.
@@ -41,7 +40,7 @@ pub fn put_request_line(actor: u16, request: &[u8], out: &mut LineBuf)
 
 /// The line of the request with the code, which isn't that of an item.
 fn put_fields_line(actor: u16, code: u8, fields: &[u8], out: &mut LineBuf)
-    requires other { code ≡ 20 → ⊥ }
+    requires other { code ≡ DELIVER → ⊥ }
     requires fits { length fields.now + 1 ≤ longest_frame }
     ensures { out.new ≡ request_line_of actor (code ∷ fields.now) }
 {
@@ -57,7 +56,7 @@ fn put_fields_line(actor: u16, code: u8, fields: &[u8], out: &mut LineBuf)
 /// The line of the request with an item.
 fn put_deliver_line(actor: u16, item: &[u8], out: &mut LineBuf)
     requires fits { length item.now + 1 ≤ longest_frame }
-    ensures { out.new ≡ request_line_of actor (20 ∷ item.now) }
+    ensures { out.new ≡ request_line_of actor (DELIVER ∷ item.now) }
 {
     if spells_item(item) {
         out.clear();
@@ -91,31 +90,31 @@ fn put_malformed_line(actor: u16, out: &mut LineBuf)
 
 /// The words of the request of the code, which isn't that of an item, with a space before each.
 fn put_coded_request(code: u8, unread: &mut Unread, out: &mut LineBuf)
-    requires { code ≡ 20 → ⊥ }
+    requires { code ≡ DELIVER → ⊥ }
     ensures { putting unread.new out.new ≡ puts (front_of_code code request_rows) (λ r. spaced (line (request_words r))) (putting unread.old out.old) }
 {
     match code {
-        1 => put_open(unread, out),
-        2 => put_begin(unread, out),
-        3 => put_key(b" get", unread, out),
-        4 => put_key_and_value(b" put", unread, out),
-        5 => put_key(b" del", unread, out),
-        6 => put_commit(unread, out),
-        7 => unread.say(b" abort", out),
-        8 => put_merge(unread, out),
-        9 => unread.say(b" forks", out),
-        10 => put_conflicts(unread, out),
-        11 => put_key_and_id(b" getfor", unread, out),
-        12 => put_id(b" ceiling", unread, out),
-        13 => put_id(b" raise", unread, out),
-        14 => unread.say(b" raise auto", out),
-        15 => put_u16(b" tidy", unread, out),
-        16 => unread.say(b" stat", out),
-        17 => put_id(b" show", unread, out),
-        18 => unread.say(b" leaves", out),
-        19 => put_pull(unread, out),
-        21 => unread.say(b" close", out),
-        22 => unread.say(b" settle", out),
+        request_codes::OPEN => put_open(unread, out),
+        request_codes::BEGIN => put_begin(unread, out),
+        request_codes::GET => put_key(b" get", unread, out),
+        request_codes::PUT => put_key_and_value(b" put", unread, out),
+        request_codes::DELETE => put_key(b" del", unread, out),
+        request_codes::COMMIT => put_commit(unread, out),
+        request_codes::ABORT => unread.say(b" abort", out),
+        request_codes::BEGIN_MERGE => put_merge(unread, out),
+        request_codes::FORK_POINTS => unread.say(b" forks", out),
+        request_codes::CONFLICTS => put_conflicts(unread, out),
+        request_codes::GET_FOR => put_key_and_id(b" getfor", unread, out),
+        request_codes::CEILING => put_id(b" ceiling", unread, out),
+        request_codes::RAISE => put_id(b" raise", unread, out),
+        request_codes::RAISE_AUTO => unread.say(b" raise auto", out),
+        request_codes::TIDY => put_u16(b" tidy", unread, out),
+        request_codes::STAT => unread.say(b" stat", out),
+        request_codes::SHOW => put_id(b" show", unread, out),
+        request_codes::LEAVES => unread.say(b" leaves", out),
+        request_codes::PULL => put_pull(unread, out),
+        request_codes::CLOSE => unread.say(b" close", out),
+        request_codes::SETTLE => unread.say(b" settle", out),
         _ => unread.lose(),
     }
 }

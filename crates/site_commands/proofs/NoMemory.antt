@@ -5,7 +5,7 @@ use Rattle.tardis_io.specs.declared.statuses.Status.TheVariants.{NoMemory}
 use Rattle.frame_cut.specs.Frames.{IsCut}
 use Rattle.line_cut.specs.Lines.{IsCut as AreLines}
 use Rattle.site_run.specs.Endings.{EndsAs, most_taken}
-use Rattle.site_run.specs.LineEndings.{LinesEndAs}
+use Rattle.site_run.specs.Endings.{LinesEndAs}
 use Rattle.site_commands.specs.Ends.{UnlessFaulty, FramesEnd, LinesEnd}
 
 module _ {I O : Type 0} (left : I → Option (List ℕ)) (reads : I → ℕ) (writes : O → ℕ) (input : I) (output : O) (From : List ℕ → List ℕ → Type 0)

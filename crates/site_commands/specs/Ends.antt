@@ -11,7 +11,7 @@ use Rattle.site_sync.specs.declared.ends.Rounds.{Rounds}
 use Rattle.frame_cut.specs.Frames.{IsCut}
 use Rattle.line_cut.specs.Lines.{IsCut as AreLines}
 use Rattle.site_run.specs.Endings.{EndsAs, IsRunEnd, most_taken}
-use Rattle.site_run.specs.LineEndings.{IsLineEnd, LinesEndAs}
+use Rattle.site_run.specs.Endings.{IsLineEnd, LinesEndAs}
 use Rattle.serve_pool.specs.declared.ends.PoolEnd.{PoolEnd}
 use Rattle.serve_pool.specs.declared.ends.PoolEnd.TheVariants.{Done as AllServed, GateFault as NextFailed}
 use Rattle.serve_run.specs.declared.endings.ServeEnd.{ServeEnd}

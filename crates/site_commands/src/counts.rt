@@ -6,8 +6,9 @@ use plain_site::replies::replies_fit_a_frame;
 use plain_site::soundness::{every_run_keeps_sound, opening_is_sound};
 use wire_talk::talk_has_one_spelling;
 
-/// A site that opens answers Stat by statistics, a line for each site, whatever was asked before.
-pub(crate) fn sites_tell_counts()
+/// A site that opens answers Stat by statistics, a line for each site, whatever was asked before. Exchanges with peers ask
+/// it of the machine that they work for. This call does nothing.
+pub fn sites_tell_counts()
     ensures { SitesTellCounts }
 {
     opening_is_sound();

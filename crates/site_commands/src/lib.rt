@@ -9,6 +9,7 @@ mod lines;
 mod runs;
 mod serves;
 
+pub use counts::sites_tell_counts;
 pub use lines::{audit_frames, shell};
 pub use runs::run;
 pub use serves::serve;

@@ -7,6 +7,7 @@ use Rattle.std.proofs.lemmas.List.{drop-drop, drop_more}
 use Rattle.frame_cut.specs.Frames.{frame, word}
 use Rattle.site_journal.specs.Texts.{IsEntry}
 use Rattle.site_journal.proofs.Texts.{not_one}
+use Rattle.tardis_base.specs.Sizes.{longest_frame}
 use Rattle.site_journal.proofs.Readings.{none_by_word}
 
 -- bytes whose first four are the length word of a frame
@@ -61,12 +62,12 @@ none_by_mark all mark place is within shut = none_at (drop place all) (get_or ma
 
 pub none_by_head : (all mark head : List ℕ) (place count : ℕ) → mark ≡ take 1 (drop place all) → head ≡ take 4 (drop (place + 1) all) →
     to_be_bytes w32 count ≡ head → count < 2 ^ 32 → place < length all
-    → (length all ≤ place + 5 + count) ⊎ ((count < 2) ⊎ (1048576 < count)) → (entry more : List ℕ) → drop place all ≡ 1 ∷ (frame entry ++ more) →
+    → (length all ≤ place + 5 + count) ⊎ ((count < 2) ⊎ (longest_frame < count)) → (entry more : List ℕ) → drop place all ≡ 1 ∷ (frame entry ++ more) →
     IsEntry entry → more ≡ []
 none_by_head all mark head place count is is' says small within why =
     let tail : List ℕ = drop (place + 1) all in
     let w : word tail ≡ count = word_by tail head count is' says small in
-    let why' : (length tail ≤ 4 + word tail) ⊎ ((word tail < 2) ⊎ (1048576 < word tail)) = elim why [
+    let why' : (length tail ≤ 4 + word tail) ⊎ ((word tail < 2) ⊎ (longest_frame < word tail)) = elim why [
       | inl few ↦ inl (omega (arith, length-drop (place + 1) all, few, w))
       | inr odd ↦ elim odd [ inl small ↦ inr (inl (omega (arith, small, w))) | inr large ↦ inr (inr (omega (arith, large, w))) ]
     ] in

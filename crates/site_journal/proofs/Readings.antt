@@ -5,6 +5,7 @@ use Rattle.std.proofs.lemmas.Bool.{cases_eq, cases_lt}
 use Rattle.frame_cut.specs.Frames.{frame, word}
 use Rattle.frame_cut.proofs.Words.{length-frame, word-frame, same_frame, whole_frame, small_rest, length_behind}
 use Rattle.site_journal.specs.Texts.{IsEntry, marked, EndsAt}
+use Rattle.tardis_base.specs.Sizes.{longest_frame}
 use Rattle.site_journal.proofs.Texts.{not_one}
 
 -- the same without the first entry
@@ -70,7 +71,7 @@ empty_of [] is = refl
 empty_of (x ∷ more) is = absurd (omega arith)
 
 -- what isn't there: too few bytes for the length word's entry and one more, or a length word that no entry has
-pub none_by_word : (gate : ℕ) (tail : List ℕ) → (length tail ≤ 4 + word tail) ⊎ ((word tail < 2) ⊎ (1048576 < word tail))
+pub none_by_word : (gate : ℕ) (tail : List ℕ) → (length tail ≤ 4 + word tail) ⊎ ((word tail < 2) ⊎ (longest_frame < word tail))
     → (entry more : List ℕ) → gate ∷ tail ≡ 1 ∷ (frame entry ++ more) → IsEntry entry → more ≡ []
 none_by_word gate tail why entry more is fits =
     let says = entry_says gate tail entry more fits is in
@@ -96,7 +97,7 @@ every_within (ℕ.suc fuel) (gate ∷ tail) within small = elim (cases_eq gate 1
     | inr few ↦ ([], (gate ∷ tail, none (gate ∷ tail) (none_by_word gate tail (inl few))))
     | inl enough ↦ elim (cases_lt (word tail) 2) [
       | inl less ↦ ([], (gate ∷ tail, none (gate ∷ tail) (none_by_word gate tail (inr (inl less)))))
-      | inr two ↦ elim (cases_lt 1048576 (word tail)) [
+      | inr two ↦ elim (cases_lt longest_frame (word tail)) [
         | inl large ↦ ([], (gate ∷ tail, none (gate ∷ tail) (none_by_word gate tail (inr (inr large)))))
         | inr fits ↦
             let n : ℕ = word tail in

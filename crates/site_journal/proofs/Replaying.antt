@@ -10,6 +10,9 @@ use Rattle.frame_cut.specs.Events.{event_of}
 use Rattle.site_journal.specs.Texts.{IsEntry, marked}
 use Rattle.site_journal.specs.Replays.{Replayed}
 use Rattle.site_journal.proofs.Texts.{marked-append, all_more, length_one_more}
+use Rattle.disk_store.specs.declared.disks.Disk.{Ghosts as ADisk}
+use Rattle.tardis_base.specs.Sizes.{longest_frame}
+use Rattle.tardis_base.specs.declared.machines.Machine.{Ghosts as AMachine}
 
 -- the state after one more event
 pub state_more : {S : Type 0} (m : PlainMachine S) (s : S) (events : List Event) (e : Event) → state_after m s (events ++ e ∷ [])
@@ -22,23 +25,23 @@ pub state_entry : {S : Type 0} (m : PlainMachine S) (s : S) (entries : List (Lis
 state_entry m s entries entry = ap (state_after m s) (map-append event_of entries (entry ∷ [])) ∙ state_more m s (map event_of entries) (event_of entry)
 
 -- how far it has come: these entries were answered, and stand before the place
-pub record Progress {M S K : Type 0} (plain : PlainMachine S) (stands : M → S → Type 0) (opening : M → S) (honest : K → Type 0) (reads : K → List ℕ)
+pub record Progress {M K : Type 0} (m : AMachine M) (k : ADisk K)
     (first machine : M) (disk : K) (count place size : ℕ) (entries : List (List ℕ)) : Type 0 where
   pub each : AllByRecursion IsEntry entries
-  pub stood : stands machine (state_after plain (opening machine) (map event_of entries))
-  pub same : opening machine ≡ opening first
+  pub stood : m.stands machine (state_after m.plain (m.opening machine) (map event_of entries))
+  pub same : m.opening machine ≡ m.opening first
   pub counts : count ≡ length entries
   pub few : count ≤ place
   pub at : place ≡ length (marked entries)
   pub within : place ≤ size
   pub behind : ((entries ≡ []) × (place ≡ 0)) ⊎ (place < size)
   pub most : size ≤ longest_disk
-  pub long : honest disk → size ≡ length (reads disk)
-  pub front : honest disk → reads disk ≡ marked entries ++ drop place (reads disk)
+  pub long : k.honest disk → size ≡ length (k.reads disk)
+  pub front : k.honest disk → k.reads disk ≡ marked entries ++ drop place (k.reads disk)
 
-module _ {M S K : Type 0} (plain : PlainMachine S) (stands : M → S → Type 0) (opening : M → S) (honest : K → Type 0) (reads : K → List ℕ) where
-  pub begins : (machine : M) (disk : K) (size : ℕ) → stands machine (opening machine) → size ≤ longest_disk → (honest disk → size ≡ length (reads disk)) →
-      Progress plain stands opening honest reads machine machine disk 0 0 size []
+module _ {M K : Type 0} (m : AMachine M) (k : ADisk K) where
+  pub begins : (machine : M) (disk : K) (size : ℕ) → m.stands machine (m.opening machine) → size ≤ longest_disk → (k.honest disk → size ≡ length (k.reads disk)) →
+      Progress m k machine machine disk 0 0 size []
   begins machine disk size stood most long = record {
     each = tt;
     stood = stood;
@@ -54,16 +57,16 @@ module _ {M S K : Type 0} (plain : PlainMachine S) (stands : M → S → Type 0)
   }
 
   pub more : (first machine next : M) (disk : K) (count place size : ℕ) (entries : List (List ℕ)) (entry : List ℕ) (n : ℕ) (e : Event) →
-      Progress plain stands opening honest reads first machine disk count place size entries
-      → 2 ≤ n → n ≤ 1048576 → place + 5 + n < size → length entry ≡ n → e ≡ event_of entry
-      → ((s : S) → stands machine s → stands next (plain.step s e)) → opening next ≡ opening machine
-      → (honest disk → drop place (reads disk) ≡ 1 ∷ (frame entry ++ drop (5 + n) (drop place (reads disk))))
-      → Progress plain stands opening honest reads first next disk (count + 1) (place + (5 + n)) size (entries ++ entry ∷ [])
+      Progress m k first machine disk count place size entries
+      → 2 ≤ n → n ≤ longest_frame → place + 5 + n < size → length entry ≡ n → e ≡ event_of entry
+      → ((s : m.Plain) → m.stands machine s → m.stands next (m.plain.step s e)) → m.opening next ≡ m.opening machine
+      → (k.honest disk → drop place (k.reads disk) ≡ 1 ∷ (frame entry ++ drop (5 + n) (drop place (k.reads disk))))
+      → Progress m k first next disk (count + 1) (place + (5 + n)) size (entries ++ entry ∷ [])
   more first machine next disk count place size entries entry n e p two fits enough is event step same there = record {
     each = all_more entries (entry ∷ []) p.each ((omega (arith, is, two), omega (arith, is, fits)), tt);
-    stood = subst (stands next) (sym (ap (λ s. state_after plain s (map event_of (entries ++ entry ∷ []))) same
-        ∙ (state_entry plain (opening machine) entries entry ∙ ap (plain.step (state_after plain (opening machine) (map event_of entries))) (sym event))))
-        (step (state_after plain (opening machine) (map event_of entries)) p.stood);
+    stood = subst (m.stands next) (sym (ap (λ s. state_after m.plain s (map event_of (entries ++ entry ∷ []))) same
+        ∙ (state_entry m.plain (m.opening machine) entries entry ∙ ap (m.plain.step (state_after m.plain (m.opening machine) (map event_of entries))) (sym event))))
+        (step (state_after m.plain (m.opening machine) (map event_of entries)) p.stood);
     same = same ∙ p.same;
     counts = omega (arith, p.counts, length-append entries (entry ∷ []));
     few = omega (arith, p.few);
@@ -73,8 +76,8 @@ module _ {M S K : Type 0} (plain : PlainMachine S) (stands : M → S → Type 0)
     most = p.most;
     long = p.long;
     front = λ h.
-        let rest : List ℕ = drop (5 + n) (drop place (reads disk)) in
-        let moved : rest ≡ drop (place + (5 + n)) (reads disk) = drop-drop (5 + n) place (reads disk) in
+        let rest : List ℕ = drop (5 + n) (drop place (k.reads disk)) in
+        let moved : rest ≡ drop (place + (5 + n)) (k.reads disk) = drop-drop (5 + n) place (k.reads disk) in
         p.front h ∙ (ap (λ z. marked entries ++ z) (there h) ∙ (sym (behind_entry rest) ∙ ap (λ z. marked (entries ++ entry ∷ []) ++ z) moved));
   }
     where
@@ -85,8 +88,8 @@ module _ {M S K : Type 0} (plain : PlainMachine S) (stands : M → S → Type 0)
 
   -- the same of the disk after it was read
   pub moved : (first machine : M) (old new : K) (count place size : ℕ) (entries : List (List ℕ)) →
-      Progress plain stands opening honest reads first machine old count place size entries
-      → (honest new → honest old) → (honest old → reads new ≡ reads old) → Progress plain stands opening honest reads first machine new count place size entries
+      Progress m k first machine old count place size entries
+      → (k.honest new → k.honest old) → (k.honest old → k.reads new ≡ k.reads old) → Progress m k first machine new count place size entries
   moved first machine old new count place size entries p back same = record {
     each = p.each;
     stood = p.stood;
@@ -103,9 +106,9 @@ module _ {M S K : Type 0} (plain : PlainMachine S) (stands : M → S → Type 0)
 
   -- where none is next, all were answered
   pub ends : (first machine : M) (disk : K) (count place size : ℕ) (entries : List (List ℕ)) →
-      Progress plain stands opening honest reads first machine disk count place size entries
-      → (honest disk → (entry rest : List ℕ) → drop place (reads disk) ≡ 1 ∷ (frame entry ++ rest) → IsEntry entry → rest ≡ [])
-      → Replayed plain stands opening honest reads machine disk (record { entries = count; place = place; size = size })
+      Progress m k first machine disk count place size entries
+      → (k.honest disk → (entry rest : List ℕ) → drop place (k.reads disk) ≡ 1 ∷ (frame entry ++ rest) → IsEntry entry → rest ≡ [])
+      → Replayed m k machine disk (record { entries = count; place = place; size = size })
   ends first machine disk count place size entries p none = record {
     entries = entries;
     each = p.each;
@@ -117,7 +120,7 @@ module _ {M S K : Type 0} (plain : PlainMachine S) (stands : M → S → Type 0)
     most = p.most;
     size = p.long;
     ends = λ h. (
-      drop place (reads disk),
+      drop place (k.reads disk),
       record {
         whole = p.front h;
         each = p.each;
@@ -128,5 +131,5 @@ module _ {M S K : Type 0} (plain : PlainMachine S) (stands : M → S → Type 0)
     );
   }
     where
-      some : honest disk → place < size → 0 < length (drop place (reads disk))
-      some h less = omega (arith, ap length (p.front h), length-append (marked entries) (drop place (reads disk)), p.at, p.long h, less)
+      some : k.honest disk → place < size → 0 < length (drop place (k.reads disk))
+      some h less = omega (arith, ap length (p.front h), length-append (marked entries) (drop place (k.reads disk)), p.at, p.long h, less)

@@ -1,16 +1,18 @@
 //! A machine with its journal on a disk.
 
 ghost use Rattle.std.specs.Prelude.{◌≡◌, ◌≢◌, ◌⊎◌, ◌+◌, ◌<◌, ◌≤◌, ◌++◌, [], ◌∷◌, ◌==◌, ℕ, List, length, map, true, false, IfOk, IfErr};
-ghost use Rattle.tardis_base.specs.Sizes.{longest_trail};
+ghost use Rattle.tardis_base.specs.Sizes.{longest_request, longest_trail};
 ghost use Rattle.tardis_base.specs.Plain.{state_after};
 ghost use Rattle.tardis_io.specs.Faults.{Rose};
 ghost use Rattle.frame_cut.specs.Events.{event_of};
 ghost use Rattle.disk_store.specs.Disks.{LeavesOnly, AsHonest};
+ghost use Rattle.site_journal.specs.Sizes.{most_staged, longest_entry};
 ghost use Rattle.site_journal.specs.Texts.{entry_of, HasEntries, HasAllOrNone};
 ghost use Rattle.site_journal.specs.Opened.{IsOpen, HasRoom, StagedBy, EndsAct, ActRose, OpenFault, OpenImages, disk_after, disk_at, disk_of};
 
 use crate::appends::append;
 use crate::entry_texts::EntryText;
+use crate::sizes::{MOST_ENTRY, ROOM};
 use disk_store::Disk;
 use tardis_base::{Machine, NoMemory, ReplyBuf};
 use tardis_io::Failed;
@@ -61,9 +63,9 @@ impl<M: Machine, K: Disk> Journaled<M, K> {
     /// Whether one more request of any length may be staged before a commit.
     pub fn has_room(&self) -> bool
         ensures room { result ≡ true → HasRoom self.now }
-        ensures full { result ≡ false → 1048570 < length self.now.staged }
+        ensures full { result ≡ false → most_staged < length self.now.staged + longest_entry }
     {
-        self.staged.len() <= 1_048_570
+        self.staged.len() + MOST_ENTRY <= ROOM
     }
 
     /// Answers a request of an actor into `out`, and stages its entry, which then waits for a commit. Its reply is not
@@ -71,11 +73,11 @@ impl<M: Machine, K: Disk> Journaled<M, K> {
     ///
     /// Where it ends otherwise than by `Staged::Done` nothing is changed and `out` is empty.
     pub fn stage(&mut self, actor: u16, request: &[u8], out: &mut ReplyBuf) -> Staged
-        requires fits { length request.now ≤ 1048574 }
+        requires fits { length request.now ≤ longest_request }
         requires room { HasRoom self.old }
-        requires open { (entries staged : List (List ℕ)) × IsOpen M.plain M.stands M.opening K.honest K.reads K.may_leave self.old entries staged }
-        ensures staged { (entries staged : List (List ℕ)) → IsOpen M.plain M.stands M.opening K.honest K.reads K.may_leave self.old entries staged
-            → StagedBy M.plain M.stands M.opening K.honest K.reads K.may_leave result self.old self.new entries staged (actor, request.now) out.new }
+        requires open { (entries staged : List (List ℕ)) × IsOpen M.Machine K.Disk self.old entries staged }
+        ensures staged { (entries staged : List (List ℕ)) → IsOpen M.Machine K.Disk self.old entries staged
+            → StagedBy M.Machine K.Disk result self.old self.new entries staged (actor, request.now) out.new }
         ensures disk { self.new.disk ≡ self.old.disk }
         ensures opening { M.opening self.new.machine ≡ M.opening self.old.machine }
         ensures most { self.new.max_trail ≡ self.old.max_trail }
@@ -98,11 +100,11 @@ impl<M: Machine, K: Disk> Journaled<M, K> {
     /// Puts all entries that are staged on the disk at once: after a crash all of them are there, or none. Where it
     /// fails the disk is to be opened again.
     pub fn commit(mut self) -> Result<Journaled<M, K>, K>
-        requires open { (entries staged : List (List ℕ)) × IsOpen M.plain M.stands M.opening K.honest K.reads K.may_leave self entries staged }
-        ensures committed { (entries staged : List (List ℕ)) → IsOpen M.plain M.stands M.opening K.honest K.reads K.may_leave self entries staged
-            → IfOk result (λ j. IsOpen M.plain M.stands M.opening K.honest K.reads K.may_leave j (entries ++ staged) []) }
+        requires open { (entries staged : List (List ℕ)) × IsOpen M.Machine K.Disk self entries staged }
+        ensures committed { (entries staged : List (List ℕ)) → IsOpen M.Machine K.Disk self entries staged
+            → IfOk result (λ j. IsOpen M.Machine K.Disk j (entries ++ staged) []) }
         ensures any_moment { K.honest self.disk → (entries staged : List (List ℕ))
-            → IsOpen M.plain M.stands M.opening K.honest K.reads K.may_leave self entries staged
+            → IsOpen M.Machine K.Disk self entries staged
             → LeavesOnly K.moment K.left_since self.disk (disk_after result) (HasAllOrNone entries staged) }
         ensures honest { AsHonest K.honest self.disk (disk_after result) }
         ensures failed { IfErr result (λ disk. Rose (K.faults self.disk) (K.faults disk)) }
@@ -129,14 +131,14 @@ impl<M: Machine, K: Disk> Journaled<M, K> {
     ///
     /// Where it ends otherwise than by `JournalEnd::Done`, `out` is empty.
     pub fn act(mut self, actor: u16, request: &[u8], out: &mut ReplyBuf) -> JournalEnd<M, K>
-        requires fits { length request.now ≤ 1048574 }
-        requires open { (entries : List (List ℕ)) × IsOpen M.plain M.stands M.opening K.honest K.reads K.may_leave self entries [] }
-        ensures answered { (entries : List (List ℕ)) → IsOpen M.plain M.stands M.opening K.honest K.reads K.may_leave self entries []
-            → EndsAct M.plain M.stands M.opening K.honest K.reads K.may_leave result self entries (actor, request.now) out.new }
-        ensures any_moment { K.honest self.disk → (entries : List (List ℕ)) → IsOpen M.plain M.stands M.opening K.honest K.reads K.may_leave self entries []
+        requires fits { length request.now ≤ longest_request }
+        requires open { (entries : List (List ℕ)) × IsOpen M.Machine K.Disk self entries [] }
+        ensures answered { (entries : List (List ℕ)) → IsOpen M.Machine K.Disk self entries []
+            → EndsAct M.Machine K.Disk result self entries (actor, request.now) out.new }
+        ensures any_moment { K.honest self.disk → (entries : List (List ℕ)) → IsOpen M.Machine K.Disk self entries []
             → LeavesOnly K.moment K.left_since self.disk (disk_at result) (HasAllOrNone entries (entry_of (actor, request.now) ∷ [])) }
         ensures honest { AsHonest K.honest self.disk (disk_at result) }
-        ensures failed { ActRose K.faults self.disk result }
+        ensures failed { ActRose K.Disk self.disk result }
         ensures later { K.faults self.disk ≤ K.faults (disk_at result) }
     {
         match self.stage(actor, request, out) {

@@ -9,6 +9,7 @@ mod laws;
 mod mends;
 mod openings;
 mod replays;
+mod sizes;
 
 pub use journals::{JournalEnd, Journaled, OpenEnd, Staged};
 pub use laws::one_journal;

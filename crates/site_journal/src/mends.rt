@@ -11,31 +11,29 @@ use tardis_io::Failed;
 
 /// Makes one byte 0 of what stands behind the last entry. Whatever fails, and at every moment, the entries stay.
 pub(crate) fn mend<K: Disk>(disk: &mut K, place: u64, size: u64) -> Result<(), Failed>
-    requires torn { K.honest disk.old → (entries : List (List ℕ)) × IsTorn K.reads K.may_leave disk.old entries place size }
+    requires torn { K.honest disk.old → (entries : List (List ℕ)) × IsTorn K.Disk disk.old entries place size }
     requires within { place ≤ size }
     requires end { size ≤ longest_disk }
     requires begin { (place ≡ 0) ⊎ (place < size) }
-    ensures at_rest { K.honest disk.old → (entries : List (List ℕ)) → IsTorn K.reads K.may_leave disk.old entries place size
-        → OnOk result (IsAtRest K.reads K.may_leave disk.new entries) }
-    ensures any_moment { K.honest disk.old → (entries : List (List ℕ)) → IsTorn K.reads K.may_leave disk.old entries place size
+    ensures at_rest { K.honest disk.old → (entries : List (List ℕ)) → IsTorn K.Disk disk.old entries place size
+        → OnOk result (IsAtRest K.Disk disk.new entries) }
+    ensures any_moment { K.honest disk.old → (entries : List (List ℕ)) → IsTorn K.Disk disk.old entries place size
         → LeavesOnly K.moment K.left_since disk.old disk.new (HasEntries entries) }
     ensures honest { AsHonest K.honest disk.old disk.new }
     ensures cause { HasCause (K.faults disk.old) (K.faults disk.new) result }
 {
-    match cut_rest(disk, place, size) {
-        Ok(()) => end_rest(disk, place, size.min(place + 1)),
-        Err(Failed) => Err(Failed),
-    }
+    cut_rest(disk, place, size)?;
+    end_rest(disk, place, size.min(place + 1))
 }
 
 /// Cuts off what stands behind the first byte of the rest. That byte stays, since there has to be one behind the last
 /// entry, and what stands behind it has to be gone before it may be written.
 pub(crate) fn cut_rest<K: Disk>(disk: &mut K, place: u64, size: u64) -> Result<(), Failed>
-    requires torn { K.honest disk.old → (entries : List (List ℕ)) × IsTorn K.reads K.may_leave disk.old entries place size }
+    requires torn { K.honest disk.old → (entries : List (List ℕ)) × IsTorn K.Disk disk.old entries place size }
     requires within { place ≤ size }
-    ensures torn { K.honest disk.old → (entries : List (List ℕ)) → IsTorn K.reads K.may_leave disk.old entries place size
-        → OnOk result (IsTorn K.reads K.may_leave disk.new entries place (min size (place + 1))) }
-    ensures any_moment { K.honest disk.old → (entries : List (List ℕ)) → IsTorn K.reads K.may_leave disk.old entries place size
+    ensures torn { K.honest disk.old → (entries : List (List ℕ)) → IsTorn K.Disk disk.old entries place size
+        → OnOk result (IsTorn K.Disk disk.new entries place (min size (place + 1))) }
+    ensures any_moment { K.honest disk.old → (entries : List (List ℕ)) → IsTorn K.Disk disk.old entries place size
         → LeavesOnly K.moment K.left_since disk.old disk.new (HasEntries entries) }
     ensures honest { AsHonest K.honest disk.old disk.new }
     ensures cause { HasCause (K.faults disk.old) (K.faults disk.new) result }
@@ -43,42 +41,37 @@ pub(crate) fn cut_rest<K: Disk>(disk: &mut K, place: u64, size: u64) -> Result<(
     if size - place <= 1 {
         return Ok(());
     }
-    match disk.cut(place + 1) {
-        Ok(()) => disk.sync(),
-        Err(Failed) => Err(Failed),
-    }
+    disk.cut(place + 1)?;
+    disk.sync()
 }
 
 /// Writes the byte 0, where it isn't there.
 pub(crate) fn end_rest<K: Disk>(disk: &mut K, place: u64, size: u64) -> Result<(), Failed>
-    requires torn { K.honest disk.old → (entries : List (List ℕ)) × IsTorn K.reads K.may_leave disk.old entries place size }
+    requires torn { K.honest disk.old → (entries : List (List ℕ)) × IsTorn K.Disk disk.old entries place size }
     requires within { place ≤ size }
     requires few { size ≤ place + 1 }
     requires end { place + 1 ≤ longest_disk }
-    ensures at_rest { K.honest disk.old → (entries : List (List ℕ)) → IsTorn K.reads K.may_leave disk.old entries place size
-        → OnOk result (IsAtRest K.reads K.may_leave disk.new entries) }
-    ensures any_moment { K.honest disk.old → (entries : List (List ℕ)) → IsTorn K.reads K.may_leave disk.old entries place size
+    ensures at_rest { K.honest disk.old → (entries : List (List ℕ)) → IsTorn K.Disk disk.old entries place size
+        → OnOk result (IsAtRest K.Disk disk.new entries) }
+    ensures any_moment { K.honest disk.old → (entries : List (List ℕ)) → IsTorn K.Disk disk.old entries place size
         → LeavesOnly K.moment K.left_since disk.old disk.new (HasEntries entries) }
     ensures honest { AsHonest K.honest disk.old disk.new }
     ensures cause { HasCause (K.faults disk.old) (K.faults disk.new) result }
 {
-    match has_end(disk, place, size) {
-        Ok(true) => Ok(()),
-        Ok(false) => match disk.write_at(place, &[0]) {
-            Ok(()) => disk.sync(),
-            Err(Failed) => Err(Failed),
-        },
-        Err(Failed) => Err(Failed),
+    if has_end(disk, place, size)? {
+        return Ok(());
     }
+    disk.write_at(place, &[0])?;
+    disk.sync()
 }
 
 /// Whether the rest is the one byte 0.
 pub(crate) fn has_end<K: Disk>(disk: &mut K, place: u64, size: u64) -> Result<bool, Failed>
-    requires torn { K.honest disk.old → (entries : List (List ℕ)) × IsTorn K.reads K.may_leave disk.old entries place size }
+    requires torn { K.honest disk.old → (entries : List (List ℕ)) × IsTorn K.Disk disk.old entries place size }
     requires few { size ≤ place + 1 }
-    ensures at_rest { K.honest disk.old → (entries : List (List ℕ)) → IsTorn K.reads K.may_leave disk.old entries place size
-        → IfOk result (λ is. is ≡ true → IsAtRest K.reads K.may_leave disk.new entries) }
-    ensures read { K.honest disk.old → WasRead K.reads K.may_leave K.moment K.left_since disk.old disk.new }
+    ensures at_rest { K.honest disk.old → (entries : List (List ℕ)) → IsTorn K.Disk disk.old entries place size
+        → IfOk result (λ is. is ≡ true → IsAtRest K.Disk disk.new entries) }
+    ensures read { K.honest disk.old → WasRead K.Disk disk.old disk.new }
     ensures honest { AsHonest K.honest disk.old disk.new }
     ensures cause { HasCause (K.faults disk.old) (K.faults disk.new) result }
 {
@@ -86,8 +79,6 @@ pub(crate) fn has_end<K: Disk>(disk: &mut K, place: u64, size: u64) -> Result<bo
         return Ok(false);
     }
     let mut last = [0; 1];
-    match disk.read_at(place, &mut last) {
-        Ok(()) => Ok(last[0] == 0),
-        Err(Failed) => Err(Failed),
-    }
+    disk.read_at(place, &mut last)?;
+    Ok(last[0] == 0)
 }

@@ -54,11 +54,11 @@ pub fn open_on<M: Machine, K: Disk>(
 ) -> Result<(Journaled<M, K>, u64), OpenEnd<K>>
     requires opening { M.stands machine (M.opening machine) }
     requires most { max_trail ≤ longest_trail }
-    ensures opened { IfOk result (λ opened. (entries : List (List ℕ)) × (IsOpen M.plain M.stands M.opening K.honest K.reads K.may_leave opened.0 entries []
+    ensures opened { IfOk result (λ opened. (entries : List (List ℕ)) × (IsOpen M.Machine K.Disk opened.0 entries []
         × (opened.1 ≡ length entries) × (K.honest disk → HasEntries entries (K.reads disk)))) }
     ensures images { K.honest disk → (entries : List (List ℕ)) → HasEntries entries (K.reads disk)
-        → OpenImages K.reads K.may_leave K.moment K.left_since disk result (HasEntries entries) }
-    ensures failed { OpenFault K.faults disk result }
+        → OpenImages K.Disk disk result (HasEntries entries) }
+    ensures failed { OpenFault K.Disk disk result }
     ensures honest { AsHonest K.honest disk (disk_of result) }
     ensures later { K.faults disk ≤ K.faults (disk_of result) }
     ensures opening { IfOk result (λ opened. M.opening opened.0.machine ≡ M.opening machine) }
@@ -104,9 +104,9 @@ fn recover<M: Machine, K: Disk>(
     requires opening { M.stands machine.old (M.opening machine.old) }
     requires room { longest_frame ≤ length body.old }
     requires durable { K.honest disk.old → Only (K.reads disk.old) (K.may_leave disk.old) }
-    ensures replayed { IfOk result (λ found. Replayed M.plain M.stands M.opening K.honest K.reads machine.new disk.old found) }
+    ensures replayed { IfOk result (λ found. Replayed M.Machine K.Disk machine.new disk.old found) }
     ensures at_rest { K.honest disk.old → (entries : List (List ℕ)) → HasEntries entries (K.reads disk.old)
-        → OnOk result (IsAtRest K.reads K.may_leave disk.new entries) }
+        → OnOk result (IsAtRest K.Disk disk.new entries) }
     ensures any_moment { K.honest disk.old → (entries : List (List ℕ)) → HasEntries entries (K.reads disk.old)
         → LeavesOnly K.moment K.left_since disk.old disk.new (HasEntries entries) }
     ensures opening { M.opening machine.new ≡ M.opening machine.old }
@@ -114,11 +114,9 @@ fn recover<M: Machine, K: Disk>(
     ensures later { K.faults disk.old ≤ K.faults disk.new }
     ensures failed { IsErrOf result DiskFailed → Rose (K.faults disk.old) (K.faults disk.new) }
 {
-    match replay(machine, disk, body, out) {
-        Ok(found) => match mend(disk, found.place, found.size) {
-            Ok(()) => Ok(found),
-            Err(Failed) => Err(ReplayEnd::DiskFailed),
-        },
-        Err(end) => Err(end),
+    let found = replay(machine, disk, body, out)?;
+    match mend(disk, found.place, found.size) {
+        Ok(()) => Ok(found),
+        Err(Failed) => Err(ReplayEnd::DiskFailed),
     }
 }

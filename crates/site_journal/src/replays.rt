@@ -39,9 +39,9 @@ pub(crate) fn replay<M: Machine, K: Disk>(
 ) -> Result<Found, ReplayEnd>
     requires opening { M.stands machine.old (M.opening machine.old) }
     requires room { longest_frame ≤ length body.old }
-    ensures replayed { IfOk result (λ found. Replayed M.plain M.stands M.opening K.honest K.reads machine.new disk.old found) }
+    ensures replayed { IfOk result (λ found. Replayed M.Machine K.Disk machine.new disk.old found) }
     ensures opening { M.opening machine.new ≡ M.opening machine.old }
-    ensures read { K.honest disk.old → WasRead K.reads K.may_leave K.moment K.left_since disk.old disk.new }
+    ensures read { K.honest disk.old → WasRead K.Disk disk.old disk.new }
     ensures honest { AsHonest K.honest disk.old disk.new }
     ensures later { K.faults disk.old ≤ K.faults disk.new }
     ensures failed { IsErrOf result DiskFailed → Rose (K.faults disk.old) (K.faults disk.new) }
@@ -88,7 +88,7 @@ pub(crate) fn next_entry<K: Disk>(
     ensures fits { IfOk result (λ next. IfSome next (λ count. (2 ≤ count) × (count ≤ longest_frame) × (place + 5 + count < size))) }
     ensures next { K.honest disk.old → IfOk result (λ next. IsNextEntry (drop place (K.reads disk.old)) body.new next) }
     ensures room { length body.new ≡ length body.old }
-    ensures read { K.honest disk.old → WasRead K.reads K.may_leave K.moment K.left_since disk.old disk.new }
+    ensures read { K.honest disk.old → WasRead K.Disk disk.old disk.new }
     ensures honest { AsHonest K.honest disk.old disk.new }
     ensures cause { HasCause (K.faults disk.old) (K.faults disk.new) result }
 {
@@ -96,15 +96,9 @@ pub(crate) fn next_entry<K: Disk>(
         return Ok(None);
     }
     let mut mark = [0; 1];
-    match disk.read_at(place, &mut mark) {
-        Ok(()) => {}
-        Err(Failed) => return Err(Failed),
-    }
+    disk.read_at(place, &mut mark)?;
     let mut head = [0; 4];
-    match disk.read_at(place + 1, &mut head) {
-        Ok(()) => {}
-        Err(Failed) => return Err(Failed),
-    }
+    disk.read_at(place + 1, &mut head)?;
     let count = length_of(&head) as usize;
     if mark[0] != 1 {
         return Ok(None);
@@ -118,10 +112,8 @@ pub(crate) fn next_entry<K: Disk>(
     if size - place - 5 <= count as u64 {
         return Ok(None);
     }
-    match disk.read_at(place + 5, &mut body[..count]) {
-        Ok(()) => Ok(Some(count)),
-        Err(Failed) => Err(Failed),
-    }
+    disk.read_at(place + 5, &mut body[..count])?;
+    Ok(Some(count))
 }
 
 /// The number that a length word spells.

@@ -1,11 +1,9 @@
 -- Lemmas on what was answered and written, and on how a run ends.
+mod FormLaws
 mod Turns
 mod Serving
 mod Ends
 mod Replies
 mod Takings
 mod Prompts
-mod LineServes
-mod LineEnds
-mod LineTakings
-mod LineLasts
+mod Lasts

@@ -6,11 +6,11 @@ use Rattle.tardis_base.specs.Plain.{PlainMachine}
 use Rattle.tardis_io.specs.Told.{WhileTold}
 use Rattle.tardis_io.specs.Moments.{Moment, with_take}
 use Rattle.tardis_io.proofs.Told.{weaker}
-use Rattle.frame_cut.specs.Frames.{IsPartial}
+use Rattle.site_run.specs.Forms.{Form}
 use Rattle.frame_cut.specs.Events.{event_of}
 use Rattle.site_run.specs.Responses.{Whole, AnsweredBy}
 use Rattle.site_run.specs.Machines.{MachineMay, Answered}
-use Rattle.site_run.specs.Prompt.{EachTake, UpToDate}
+use Rattle.site_run.specs.Prompt.{EachTake, AllSoFar, UpToDate}
 use Rattle.site_run.proofs.Takings.{Taking}
 use Rattle.site_run.proofs.Replies.{answered_events}
 
@@ -45,16 +45,16 @@ each_weaker (Some old) (Some new) P Q f e = (e.0, (e.1.0, all_weaker P Q e.0 f e
 each_weaker None (Some new) P Q f e = e
 each_weaker (Some old) None P Q f e = e
 
-module _ {S : Type 0} (may : S → List ℕ → List ℕ → S → Type 0) (from to : S → Type 0) (g h : Option (List ℕ)) where
+module _ (F : Form) {S : Type 0} (may : S → List ℕ → List ℕ → S → Type 0) (from to : S → Type 0) (g h : Option (List ℕ)) where
   -- whatever state was reached
   some_state : (s : S) (bodies : List (List ℕ)) → AnsweredBy may Whole to g h [] [] s bodies → AnsweredBy may Whole (λ _. Unit {0}) g h [] [] s bodies
   some_state s bodies a = record { answers = a.answers; state = a.state; each = a.each; stands = tt; given = a.given }
 
   -- between two pieces all is up to date
-  pub up_to_date : (most taken : ℕ) (held : List ℕ) (old left : Option (List ℕ)) → WhileTold old left (Taking may most from to g h taken held) → IsPartial held
-      → WhileTold old left (UpToDate from (λ s bodies. AnsweredBy may Whole (λ _. Unit {0}) g h [] [] s bodies))
+  pub up_to_date : (most taken : ℕ) (held : List ℕ) (old left : Option (List ℕ)) → WhileTold old left (Taking F may most from to g h taken held) → F.IsPart held
+      → WhileTold old left (AllSoFar F from (λ s bodies. AnsweredBy may Whole (λ _. Unit {0}) g h [] [] s bodies))
   up_to_date most taken held old left told partial =
-      weaker old left (Taking may most from to g h taken held) (UpToDate from (λ s bodies. AnsweredBy may Whole (λ _. Unit {0}) g h [] [] s bodies)) told
+      weaker old left (Taking F may most from to g h taken held) (AllSoFar F from (λ s bodies. AnsweredBy may Whole (λ _. Unit {0}) g h [] [] s bodies)) told
       (λ x y t. record { bodies = t.1.bodies; held = held; read = t.1.read; partial = partial; answered = λ s f. some_state s t.1.bodies (t.1.answered s f) })
 
 -- answers in turn are replies to events

@@ -111,3 +111,8 @@ pub written_err : {S E : Type 0} (may : S → List ℕ → List ℕ → S → Ty
     ((s : S) → from s → AnsweredBy may Whole to g g p q s bodies) → OnErr result ((s : S) → from s → AnsweredBy may (Front most) to g h p [] s bodies)
 written_err may from to g h p q most bodies (Ok u) few w a = tt
 written_err may from to g h p q most bodies (Err e) few w a = λ s f. answered_lost may to g h p q most s bodies few (a s f) w
+
+-- what holds after any error holds after this one
+pub on_err : {A E : Type 0} (r : Result A E) (P : Type 0) → P → OnErr r P
+on_err (Ok a) P p = tt
+on_err (Err e) P p = p

@@ -2,7 +2,7 @@
 use Rattle.std.specs.Prelude.{◌≡◌, ℕ, ◌≤◌, List, [], ◌∷◌, ◌++◌, length, Option}
 use Rattle.std.specs.List.{concat}
 use Rattle.tardis_io.specs.Told.{WhileTold}
-use Rattle.frame_cut.specs.Frames.{Cuts}
+use Rattle.site_run.specs.Forms.{Form}
 
 -- what was given before, what was given after, and the bytes that were to be given: all of them were
 abbrev pub Whole : List ℕ → List ℕ → List ℕ → Type 0
@@ -38,8 +38,8 @@ pub record AnsweredBy {S : Type 0} (may : S → List ℕ → List ℕ → S → 
   pub given : WhileTold old new (λ y z. shape (y ++ before) (z ++ after) (concat answers))
 
 -- bodies were cut from the front of the bytes and answered
-pub record Serves {S : Type 0} (may : S → List ℕ → List ℕ → S → Type 0) (shape : List ℕ → List ℕ → List ℕ → Type 0) (from to : S → Type 0)
+pub record Serves (F : Form) {S : Type 0} (may : S → List ℕ → List ℕ → S → Type 0) (shape : List ℕ → List ℕ → List ℕ → Type 0) (from to : S → Type 0)
     (old new : Option (List ℕ)) (before after bytes rest : List ℕ) : Type 0 where
   pub bodies : List (List ℕ)
-  pub read : Cuts bytes bodies rest
+  pub read : F.Cuts bytes bodies rest
   pub answered : (s : S) → from s → AnsweredBy may shape to old new before after s bodies

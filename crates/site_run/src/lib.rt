@@ -2,13 +2,11 @@
 #![tactic(auto)]
 
 mod answers;
+mod cutting;
 mod gathered;
-mod line_answers;
-mod line_runs;
 mod responders;
 mod runs;
 
 pub use gathered::Gathered;
-pub use line_runs::answer_lines;
 pub use responders::{MachineReplies, Responder, put_reply};
-pub use runs::{answer_frames, run_device, run_site};
+pub use runs::{answer_frames, answer_lines, run_device, run_site};

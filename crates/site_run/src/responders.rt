@@ -1,7 +1,7 @@
 //! What answers bodies, and what a loop may rely on of it.
 
 ghost use Rattle.std.specs.Prelude.{◌≡◌, ◌+◌, ◌≤◌, ◌++◌, ℕ, List, length};
-ghost use Rattle.tardis_base.specs.Sizes.{longest_frame};
+ghost use Rattle.tardis_base.specs.Sizes.{longest_frame, longest_framed};
 ghost use Rattle.frame_cut.specs.Frames.{frame};
 ghost use Rattle.site_run.specs.Responses.{Responded};
 ghost use Rattle.site_run.specs.Machines.{MachineMay};
@@ -9,7 +9,7 @@ ghost use Rattle.site_run.specs.Machines.{MachineMay};
 use crate::gathered::Gathered;
 use frame_cut::{event, put_frame};
 use std::alloc::Global;
-use tardis_base::{Machine, NoMemory, ReplyBuf};
+use tardis_base::{MAX_FRAMED, Machine, NO_MEMORY, NoMemory, ReplyBuf};
 
 /// A way to answer the bodies of frames, one after another, each by some bytes: over a subject that each body may
 /// change. The buffers that this takes are the responder's own.
@@ -40,9 +40,6 @@ pub trait Responder<T> {
         ensures opening { opening subject.new ≡ opening subject.old };
 }
 
-/// The reply that memory is wanting.
-const WANTING: [u8; 1] = [22];
-
 /// Answers each body by the frame of the machine's reply to the body's event. Where the machine finds no memory, it is
 /// the frame of the reply that says so.
 #[derive(Drop)]
@@ -66,15 +63,15 @@ impl<M: Machine> Responder<M> for MachineReplies {
 
     ghost opening = { M.opening };
 
-    ghost MOST = { 1048580 };
+    ghost MOST = { longest_framed };
 
-    const MOST: usize = 1_048_580;
+    const MOST: usize = MAX_FRAMED;
 
     fn respond(&mut self, subject: &mut M, body: &[u8], out: &mut Gathered) {
         let (actor, request) = event(body);
         match subject.act(actor, request, &mut self.reply) {
             Ok(()) => put_reply(self.reply.bytes(), out),
-            Err(NoMemory) => put_reply(&WANTING, out),
+            Err(NoMemory) => put_reply(&NO_MEMORY, out),
         }
     }
 }
@@ -82,7 +79,7 @@ impl<M: Machine> Responder<M> for MachineReplies {
 /// Puts the frame of a reply behind what was gathered.
 pub fn put_reply(reply: &[u8], out: &mut Gathered)
     requires reply { length reply.now ≤ longest_frame }
-    requires room { length out.old.bytes + 1048580 ≤ out.old.room }
+    requires room { length out.old.bytes + longest_framed ≤ out.old.room }
     ensures bytes { out.new.bytes ≡ out.old.bytes ++ frame reply.now }
     ensures room { out.new.room ≡ out.old.room }
 {

@@ -1,9 +1,10 @@
 -- A link that is had and put back, and counts that rise.
-use Rattle.std.proofs.Common.{◌≡◌, ℕ, ◌≤◌, [], ◌∷◌, ◌++◌, Option, Some, None, Ok, Err, inl, inr, refl, ap, sym, ◌∙◌, arith}
+use Rattle.std.proofs.Common.{◌≡◌, ℕ, ◌+◌, ◌≤◌, ◌<◌, List, [], ◌∷◌, ◌++◌, length, take, map, get_or, Option, Some, None, Ok, inl, inr, ap, sym, ◌∙◌, arith}
+use Rattle.std.proofs.Math.Seq.{take-suc}
+use Rattle.std.proofs.lemmas.List.{length-map, take_all, get_or-map}
 use Rattle.std.proofs.Math.Nat.{eq-or-lt_of_le}
 use Rattle.tardis_io.specs.Faults.{Rose}
 use Rattle.tardis_io.specs.Links.{ToldDial, HandsCalled, IsCalled, with_hung}
-use Rattle.tardis_io.specs.declared.faults.Failed.{Failed}
 use Rattle.site_sync.specs.Exchanges.{CallsBack}
 
 -- a count that rose has risen later too
@@ -16,20 +17,30 @@ rose_on a b c (inr top) le more =
     ]
 
 module _ {L : Type 0} where
-  pub is_called : (link : L) (o n : Option (ToldDial L)) → HandsCalled o n (Ok link) → IsCalled n
-  is_called link None None h = tt
-  is_called link (Some o) (Some n) h = omega (arith, h.2)
-  is_called link None (Some n) h = absurd h
-  is_called link (Some o) None h = absurd h
+  pub is_called : (address : List ℕ) (link : L) (o n : Option (ToldDial L)) → HandsCalled o n address (Ok link) → IsCalled n
+  is_called address link None None h = tt
+  is_called address link (Some o) (Some n) h = omega (arith, h.2)
+  is_called address link None (Some n) h = absurd h
+  is_called address link (Some o) None h = absurd h
 
-  pub calls_back : (link back : L) (o n : Option (ToldDial L)) → HandsCalled o n (Ok link) → CallsBack link back o (with_hung n back)
-  calls_back link back None None h = tt
-  calls_back link back (Some o) (Some n) h = (h.0, ap (λ l. l ++ back ∷ []) h.1, omega (arith, h.2))
-  calls_back link back None (Some n) h = absurd h
-  calls_back link back (Some o) None h = absurd h
+  pub calls_back : (address : List ℕ) (link back : L) (o n : Option (ToldDial L)) → HandsCalled o n address (Ok link) →
+      CallsBack address link back o (with_hung n back)
+  calls_back address link back None None h = tt
+  calls_back address link back (Some o) (Some n) h = (h.0, ap (λ l. l ++ back ∷ []) h.1, omega (arith, h.2), h.3)
+  calls_back address link back None (Some n) h = absurd h
+  calls_back address link back (Some o) None h = absurd h
 
-  pub not_called : (o n : Option (ToldDial L)) (e : Failed) → HandsCalled o n (Err e) → n ≡ o
-  not_called None None e h = refl
-  not_called (Some o) (Some n) e h = ap Some h
-  not_called None (Some n) e h = absurd h
-  not_called (Some o) None e h = absurd h
+-- the peers up to this place and the next, and all of them
+pub next_taken : {A B : Type 0} (f : A → B) (xs : List A) (place : ℕ) (other : A) → place < length xs → take (place + 1) (map f xs)
+    ≡ take place (map f xs) ++ f (get_or xs place other) ∷ []
+next_taken f xs place other within =
+    let next : place + 1 ≡ ℕ.suc place = omega arith in
+    let many : length (map f xs) ≡ length xs = length-map xs f in
+    ap (λ n. take n (map f xs)) next
+    ∙ (take-suc (map f xs) place (f other) (omega (arith, within, many))
+    ∙ ap (λ b. take place (map f xs) ++ b ∷ []) (get_or-map f xs place other (f other) within))
+
+pub all_taken : {A B : Type 0} (f : A → B) (xs : List A) (place : ℕ) → length xs ≤ place → take place (map f xs) ≡ map f xs
+all_taken f xs place past =
+    let many : length (map f xs) ≡ length xs = length-map xs f in
+    take_all place (map f xs) (omega (arith, past, many))

@@ -60,28 +60,31 @@ only_rose f g n (inr rose) some = rose
 
 module _ {M P L D : Type 0} (opening : M → P) (m : PlainMachine P) (z : Kept M) (left given : L → Option (List ℕ)) (take_faults faults : L → ℕ)
     (told : D → Option (ToldDial L)) (dial_faults : D → ℕ) where
-  one_counted : (p q : Known) (d e : D) (end : SyncEnd) (n : Rounds) → Syncs opening m z left given take_faults faults told dial_faults p q d e end
+  one_counted : (address : List ℕ) (p q : Known) (d e : D) (end : SyncEnd) (n : Rounds) →
+      Syncs opening m z left given take_faults faults told dial_faults address p q d e end
       → Counted (dial_faults d) (dial_faults e) n.dial (with_end end n).dial
-  one_counted p q d e end n s = (s.later, by_cause (dial_faults d) (dial_faults e) n.dial (with_end end n).dial end s.cause (end_dial end n))
+  one_counted address p q d e end n s = (s.later, by_cause (dial_faults d) (dial_faults e) n.dial (with_end end n).dial end s.cause (end_dial end n))
 
-  exchanges_counted : (p : Known) (d : D) (ends : List SyncEnd) (q : Known) (e : D) (n : Rounds) →
-      AreExchanges opening m z left given take_faults faults told dial_faults p d ends q e
+  exchanges_counted : (p : Known) (d : D) (peers : List (List ℕ)) (ends : List SyncEnd) (q : Known) (e : D) (n : Rounds) →
+      AreExchanges opening m z left given take_faults faults told dial_faults p d peers ends q e
       → Counted (dial_faults d) (dial_faults e) n.dial (with_ends ends n).dial
-  exchanges_counted p d [] q e n a = (omega (arith, ap dial_faults a.1), inl refl)
-  exchanges_counted p d (x ∷ xs) q e n a =
+  exchanges_counted p d [] [] q e n a = (omega (arith, ap dial_faults a.1), inl refl)
+  exchanges_counted p d (y ∷ ys) (x ∷ xs) q e n a =
       counted_then (dial_faults d) (dial_faults a.1) (dial_faults e) n.dial (with_end x n).dial (with_ends xs (with_end x n)).dial
-      (one_counted p a.0 d a.1 x n a.2) (exchanges_counted a.0 a.1 xs q e (with_end x n) a.3)
+      (one_counted y p a.0 d a.1 x n a.2) (exchanges_counted a.0 a.1 ys xs q e (with_end x n) a.3)
+  exchanges_counted p d [] (x ∷ xs) q e n a = absurd a
+  exchanges_counted p d (y ∷ ys) [] q e n a = absurd a
 
-  round_counted : (peers : ℕ) (tidy : Bool) (p : Known) (d : D) (before : Rounds) (q : Known) (e : D) (after : Rounds) →
+  round_counted : (peers : List (List ℕ)) (tidy : Bool) (p : Known) (d : D) (before : Rounds) (q : Known) (e : D) (after : Rounds) →
       IsRound opening m z left given take_faults faults told dial_faults peers tidy p d before q e after
       → Counted (dial_faults d) (dial_faults e) before.dial after.dial
   round_counted peers tidy p d before q e after r =
-      let calls = exchanges_counted p d r.calls.ends r.mid e before r.calls.exchanges in
+      let calls = exchanges_counted p d peers r.calls.ends r.mid e before r.calls.exchanges in
       let same : after.dial ≡ (with_ends r.calls.ends before).dial =
       ap (λ (n : Rounds). n.dial) r.tidies.numbers ∙ (steps_dial r.tidies.steps r.between ∙ ap (λ (n : Rounds). n.dial) r.calls.numbers) in
       (calls.0, same_number (dial_faults d) (dial_faults e) before.dial (with_ends r.calls.ends before).dial after.dial same calls.1)
 
-  rounds_counted : (rounds peers : ℕ) (tidy : Bool) (p : Known) (d : D) (n : Rounds) (q : Known) (e : D) →
+  rounds_counted : (rounds : ℕ) (peers : List (List ℕ)) (tidy : Bool) (p : Known) (d : D) (n : Rounds) (q : Known) (e : D) →
       AreRounds opening m z left given take_faults faults told dial_faults rounds peers tidy p d n q e
       → Counted (dial_faults d) (dial_faults e) 0 n.dial
   rounds_counted ℕ.zero peers tidy p d n q e r = (omega (arith, ap dial_faults r.1), inl (ap (λ (k : Rounds). k.dial) r.2))
@@ -90,12 +93,12 @@ module _ {M P L D : Type 0} (opening : M → P) (m : PlainMachine P) (z : Kept M
       (rounds_counted rounds peers tidy p d r.2 r.0 r.1 r.3) (round_counted peers tidy r.0 r.1 r.2 q e n r.4)
 
   -- rounds were made: the dial's count didn't fall, and where a dial is told to have failed it rose
-  pub rounds_later : (rounds peers : ℕ) (tidy : Bool) (p : Known) (d : D) (n : Rounds) (q : Known) (e : D) →
+  pub rounds_later : (rounds : ℕ) (peers : List (List ℕ)) (tidy : Bool) (p : Known) (d : D) (n : Rounds) (q : Known) (e : D) →
       AreRounds opening m z left given take_faults faults told dial_faults rounds peers tidy p d n q e
       → dial_faults d ≤ dial_faults e
   rounds_later rounds peers tidy p d n q e r = (rounds_counted rounds peers tidy p d n q e r).0
 
-  pub rounds_cause : (rounds peers : ℕ) (tidy : Bool) (p : Known) (d : D) (n : Rounds) (q : Known) (e : D) →
+  pub rounds_cause : (rounds : ℕ) (peers : List (List ℕ)) (tidy : Bool) (p : Known) (d : D) (n : Rounds) (q : Known) (e : D) →
       AreRounds opening m z left given take_faults faults told dial_faults rounds peers tidy p d n q e
       → 0 < n.dial → Rose (dial_faults d) (dial_faults e)
   rounds_cause rounds peers tidy p d n q e r some = only_rose (dial_faults d) (dial_faults e) n.dial (rounds_counted rounds peers tidy p d n q e r).1 some

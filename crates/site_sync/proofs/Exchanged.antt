@@ -24,7 +24,7 @@ use Rattle.tardis_io.proofs.Told.{weaker, same as same_told}
 use Rattle.site_sync.proofs.Exact.{stops_well, uses_well}
 use Rattle.site_sync.proofs.Items.{same_some}
 use Rattle.site_sync.proofs.Going.{goes_nowhere, unanswered, reply_behind}
-use Rattle.site_sync.proofs.Calls.{rose_on, calls_back, not_called}
+use Rattle.site_sync.proofs.Calls.{rose_on, calls_back}
 
 all_front : (xs ys : List Event) → AllByRecursion IsEntry (xs ++ ys) → AllByRecursion IsEntry xs
 all_front [] ys all = tt
@@ -174,8 +174,8 @@ module _ {M P : Type 0} (opening : M → P) (m : PlainMachine P) (z : Kept M) wh
 
     module _ {D : Type 0} (told : D → Option (ToldDial L)) (dial_faults : D → ℕ) where
       -- there was no memory for the buffers
-      pub syncs_none : (p : Known) (d : D) → Syncs opening m z left given take_faults faults told dial_faults p p d d NoMemory
-      syncs_none p d = record {
+      pub syncs_none : (address : List ℕ) (p : Known) (d : D) → Syncs opening m z left given take_faults faults told dial_faults address p p d d NoMemory
+      syncs_none address p d = record {
         goes_on = goes_nowhere p;
         link = inl (record { pass = refl; dial = inr (refl, refl) });
         later = omega arith;
@@ -183,28 +183,28 @@ module _ {M P : Type 0} (opening : M → P) (m : PlainMachine P) (z : Kept M) wh
             λ f. absurd (cc);
       }
 
-      pub syncs_fault : (p : Known) (d e : D) (failed : Failed) → HandsCalled (told d) (told e) (Err failed) → Rose (dial_faults d) (dial_faults e) →
-          dial_faults d ≤ dial_faults e
-          → Syncs opening m z left given take_faults faults told dial_faults p p d e DialFault
-      syncs_fault p d e failed h rose later = record {
+      pub syncs_fault : (address : List ℕ) (p : Known) (d e : D) (failed : Failed) → HandsCalled (told d) (told e) address (Err failed) →
+          Rose (dial_faults d) (dial_faults e) → dial_faults d ≤ dial_faults e
+          → Syncs opening m z left given take_faults faults told dial_faults address p p d e DialFault
+      syncs_fault address p d e failed h rose later = record {
         goes_on = goes_nowhere p;
-        link = inl (record { pass = refl; dial = inl (refl, rose, not_called (told d) (told e) failed h) });
+        link = inl (record { pass = refl; dial = inl (refl, (rose, (failed, h))) });
         later = later;
         cause = λ f. rose;
       }
 
-      pub syncs_link : (p q : Known) (d c e : D) (handed link back : L) (end : SyncEnd) → GoesOn p q →
+      pub syncs_link : (address : List ℕ) (p q : Known) (d c e : D) (handed link back : L) (end : SyncEnd) → GoesOn p q →
           Exchange opening m z left given take_faults faults p q handed link end
           → left back ≡ left link → given back ≡ given link → take_faults back ≡ take_faults link → faults link ≤ faults back
-          → HandsCalled (told d) (told c) (Ok handed) → told e ≡ with_hung (told c) back → dial_faults d ≤ dial_faults c → dial_faults e ≡ dial_faults c
-          → Syncs opening m z left given take_faults faults told dial_faults p q d e end
-      syncs_link p q d c e handed link back end goes x l g t f h hung later same = record {
+          → HandsCalled (told d) (told c) address (Ok handed) → told e ≡ with_hung (told c) back → dial_faults d ≤ dial_faults c → dial_faults e ≡ dial_faults c
+          → Syncs opening m z left given take_faults faults told dial_faults address p q d e end
+      syncs_link address p q d c e handed link back end goes x l g t f h hung later same = record {
         goes_on = goes;
         link = inr (record {
           handed = handed;
           back = back;
           exchange = exchange_finished p q handed link back end l g t f x;
-          dial = subst (λ o. CallsBack handed back (told d) o) (sym hung) (calls_back handed back (told d) (told c) h);
+          dial = subst (λ o. CallsBack address handed back (told d) o) (sym hung) (calls_back address handed back (told d) (told c) h);
         });
         later = omega (arith, later, same);
         cause = λ f. absurd (x.no_dial_fault f);

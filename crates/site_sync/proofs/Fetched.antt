@@ -1,10 +1,14 @@
 -- What is read of a link, piece by piece.
-use Rattle.std.proofs.Common.{◌≡◌, ℕ, List, [], ◌++◌, length, take, Result, Ok, Err, refl, ap, sym, ◌∙◌, subst, arith, append_assoc, append-nil}
+use Rattle.std.proofs.Common.{◌≡◌, ℕ, List, [], ◌++◌, length, take, Option, Some, None, Result, Ok, Err, IsTrue, refl, ap, sym, ◌∙◌, subst, arith, append_assoc, append-nil}
 use Rattle.std.proofs.lemmas.List.{take_all}
 use Rattle.tardis_base.specs.declared.records.Batch.{Batch}
+use Rattle.tardis_base.specs.declared.replies.Reply.{Reply}
 use Rattle.frame_cut.specs.Frames.{frame, IsBody, IsPartial, IsLong}
 use Rattle.frame_cut.proofs.Words.{long_more}
-use Rattle.site_sync.specs.Fetching.{Gave, Fetched, FrameFirst, IsAnswer}
+use Rattle.wire_talk.specs.ReplyReadings.{reply_of}
+use Rattle.wire_talk.specs.Memory.{reply_takes_no_memory}
+use Rattle.wire_talk.specs.Laws.{RepliesHaveOneSpelling}
+use Rattle.site_sync.specs.Fetching.{Gave, Fetched, FrameFirst, IsAnswer, TakesMemory}
 use Rattle.site_sync.specs.declared.ends.SyncEnd.{SyncEnd}
 use Rattle.site_sync.specs.declared.ends.SyncEnd.TheVariants.{Done, DialFault, ReadFault, WriteFault, Cut, LongFrame, BadReply, TrailFull, NoMemory}
 
@@ -20,7 +24,7 @@ pub fetched_frame : (body held rest first left : List ℕ) (r : Result Batch Syn
     first ≡ held ++ left → Fetched r first left
 fetched_frame body held rest first left (Ok batch) is whole a all = (body, frame_first body held rest first left is whole all, a)
 fetched_frame body held rest first left (Err BadReply) is whole a all = (body, frame_first body held rest first left is whole all, a)
-fetched_frame body held rest first left (Err NoMemory) is whole a all = (body, frame_first body held rest first left is whole all)
+fetched_frame body held rest first left (Err NoMemory) is whole a all = (body, frame_first body held rest first left is whole all, a)
 fetched_frame body held rest first left (Err (Done applied known early refused)) is whole a all = absurd a
 fetched_frame body held rest first left (Err DialFault) is whole a all = absurd a
 fetched_frame body held rest first left (Err ReadFault) is whole a all = absurd a
@@ -28,6 +32,12 @@ fetched_frame body held rest first left (Err WriteFault) is whole a all = absurd
 fetched_frame body held rest first left (Err Cut) is whole a all = absurd a
 fetched_frame body held rest first left (Err (LongFrame len)) is whole a all = absurd a
 fetched_frame body held rest first left (Err (TrailFull bytes)) is whole a all = absurd a
+
+-- bytes that are read as a reply, which isn't sure to be had
+pub takes_memory : RepliesHaveOneSpelling → (body : List ℕ) (read : Option Reply) → reply_of body ≡ read → (read ≡ None → ⊥)
+    → ((reply : Reply) → reply_of body ≡ Some reply → IsTrue (reply_takes_no_memory reply) → ⊥) → TakesMemory body
+takes_memory one body None is some unsure = absurd (some refl)
+takes_memory one body (Some reply) is some unsure = (reply, (one.some body reply).0 is, λ free. unsure reply is free)
 
 -- an answer is no fault of the link or the dial
 pub answer_end : (body : List ℕ) (r : Result Batch SyncEnd) → IsAnswer body r → (r ≡ Err ReadFault → ⊥) × (r ≡ Err WriteFault → ⊥) × (r ≡ Err DialFault → ⊥)

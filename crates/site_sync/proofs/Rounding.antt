@@ -1,5 +1,5 @@
 -- Rounds one behind another.
-use Rattle.std.proofs.Common.{◌≡◌, ◌≤◌, ℕ, ◌+◌, ◌*◌, List, [], ◌∷◌, ◌++◌, Bool, Option, refl, ap, sym, ◌∙◌, subst, arith, length-append}
+use Rattle.std.proofs.Common.{◌≡◌, ◌≤◌, ℕ, ◌+◌, ◌*◌, List, [], ◌∷◌, ◌++◌, Bool, Option, refl, ap, sym, ◌∙◌, subst, arith}
 use Rattle.tardis_base.specs.Plain.{PlainMachine}
 use Rattle.tardis_io.specs.Links.{ToldDial}
 use Rattle.trail_log.specs.Trail.{Kept}
@@ -44,63 +44,70 @@ with_ends_then (x ∷ xs) end n = with_ends_then xs end (with_end x n)
 
 module _ {M P L D : Type 0} (opening : M → P) (m : PlainMachine P) (z : Kept M) (left given : L → Option (List ℕ)) (take_faults faults : L → ℕ)
     (told : D → Option (ToldDial L)) (dial_faults : D → ℕ) where
-  exchanges_then : (p : Known) (d : D) (ends : List SyncEnd) (q : Known) (e : D) (end : SyncEnd) (t : Known) (f : D) →
-      AreExchanges opening m z left given take_faults faults told dial_faults p d ends q e
-      → Syncs opening m z left given take_faults faults told dial_faults q t e f end →
-      AreExchanges opening m z left given take_faults faults told dial_faults p d (ends ++ end ∷ []) t f
-  exchanges_then p d [] q e end t f a s = (
+  exchanges_then : (p : Known) (d : D) (peers : List (List ℕ)) (ends : List SyncEnd) (q : Known) (e : D) (address : List ℕ) (end : SyncEnd) (t : Known) (f : D) →
+      AreExchanges opening m z left given take_faults faults told dial_faults p d peers ends q e
+      → Syncs opening m z left given take_faults faults told dial_faults address q t e f end →
+      AreExchanges opening m z left given take_faults faults told dial_faults p d (peers ++ address ∷ []) (ends ++ end ∷ []) t f
+  exchanges_then p d [] [] q e address end t f a s = (
     t,
     f,
-    subst (λ x. Syncs opening m z left given take_faults faults told dial_faults p t x f end) a.1
-        (subst (λ k. Syncs opening m z left given take_faults faults told dial_faults k t e f end) a.0 s),
+    subst (λ x. Syncs opening m z left given take_faults faults told dial_faults address p t x f end) a.1
+        (subst (λ k. Syncs opening m z left given take_faults faults told dial_faults address k t e f end) a.0 s),
     (refl, refl),
   )
-  exchanges_then p d (x ∷ xs) q e end t f a s = (a.0, a.1, a.2, exchanges_then a.0 a.1 xs q e end t f a.3 s)
+  exchanges_then p d (y ∷ ys) (x ∷ xs) q e address end t f a s = (a.0, a.1, a.2, exchanges_then a.0 a.1 ys xs q e address end t f a.3 s)
+  exchanges_then p d [] (x ∷ xs) q e address end t f a s = absurd a
+  exchanges_then p d (y ∷ ys) [] q e address end t f a s = absurd a
 
   -- so many peers were called
-  pub record Calling (count : ℕ) (p : Known) (d : D) (before : Rounds) (q : Known) (e : D) (now : Rounds) : Type 0 where
+  pub record Calling (count : ℕ) (peers : List (List ℕ)) (p : Known) (d : D) (before : Rounds) (q : Known) (e : D) (now : Rounds) : Type 0 where
     pub goes_on : GoesOn p q
-    pub calls : Calls opening m z left given take_faults faults told dial_faults count p d before q e now
+    pub calls : Calls opening m z left given take_faults faults told dial_faults peers p d before q e now
     pub dial : now.dial ≤ before.dial + count
     pub memory : now.memory ≤ before.memory + count
 
-  pub calling_none : (p : Known) (d : D) (n : Rounds) → Calling 0 p d n p d n
+  pub calling_none : (p : Known) (d : D) (n : Rounds) → Calling 0 [] p d n p d n
   calling_none p d n = record {
     goes_on = goes_nowhere p;
-    calls = record { ends = []; exchanges = (refl, refl); one_each = refl; numbers = refl };
+    calls = record { ends = []; exchanges = (refl, refl); numbers = refl };
     dial =
         omega arith;
     memory = omega arith;
   }
 
-  pub calling_more : (count : ℕ) (p : Known) (d : D) (before : Rounds) (q : Known) (e : D) (now : Rounds) (end : SyncEnd) (t : Known) (f : D) (new : Rounds)
-      → Calling count p d before q e now → Syncs opening m z left given take_faults faults told dial_faults q t e f end → new ≡ with_end end now →
-      Calling (count + 1) p d before t f new
-  calling_more count p d before q e now end t f new c s is =
+  pub calling_more : (count : ℕ) (peers : List (List ℕ)) (p : Known) (d : D) (before : Rounds) (q : Known) (e : D) (now : Rounds) (address : List ℕ)
+      (end : SyncEnd) (t : Known) (f : D) (new : Rounds)
+      → Calling count peers p d before q e now → Syncs opening m z left given take_faults faults told dial_faults address q t e f end →
+      new ≡ with_end end now → Calling (count + 1) (peers ++ address ∷ []) p d before t f new
+  calling_more count peers p d before q e now address end t f new c s is =
       let most = end_most end now in
       record {
         goes_on = goes_both p q t c.goes_on s.goes_on;
         calls = record {
           ends = c.calls.ends ++ end ∷ [];
-          exchanges = exchanges_then p d c.calls.ends q e end t f c.calls.exchanges s;
-          one_each = omega (arith, length-append c.calls.ends (end ∷ []), c.calls.one_each);
+          exchanges = exchanges_then p d peers c.calls.ends q e address end t f c.calls.exchanges s;
           numbers = is ∙ (ap (with_end end) c.calls.numbers ∙ sym (with_ends_then c.calls.ends end before));
         };
         dial = omega (arith, ap (λ (n : Rounds). n.dial) is, most.dial, c.dial);
         memory = omega (arith, ap (λ (n : Rounds). n.memory) is, most.memory, c.memory);
       }
 
+  -- all of the peers were called
+  pub calling_all : (count : ℕ) (peers all : List (List ℕ)) (p : Known) (d : D) (before : Rounds) (q : Known) (e : D) (now : Rounds) → peers ≡ all →
+      Calling count peers p d before q e now → Calling count all p d before q e now
+  calling_all count peers all p d before q e now is c = subst (λ ps. Calling count ps p d before q e now) is c
+
   -- so many rounds were made
-  pub record Rounding (rounds peers : ℕ) (tidy : Bool) (p : Known) (d : D) (n : Rounds) (q : Known) (e : D) : Type 0 where
+  pub record Rounding (rounds : ℕ) (peers : List (List ℕ)) (tidy : Bool) (p : Known) (d : D) (n : Rounds) (q : Known) (e : D) : Type 0 where
     pub goes_on : GoesOn p q
     pub made : AreRounds opening m z left given take_faults faults told dial_faults rounds peers tidy p d n q e
     pub dial : n.dial ≤ 15 * rounds
     pub memory : n.memory ≤ 17 * rounds
 
-  pub rounding_none : (peers : ℕ) (tidy : Bool) (p : Known) (d : D) → Rounding 0 peers tidy p d (record { dial = 0; memory = 0 }) p d
+  pub rounding_none : (peers : List (List ℕ)) (tidy : Bool) (p : Known) (d : D) → Rounding 0 peers tidy p d (record { dial = 0; memory = 0 }) p d
   rounding_none peers tidy p d = record { goes_on = goes_nowhere p; made = (refl, refl, refl); dial = omega arith; memory = omega arith }
 
-  pub rounding_more : (rounds peers : ℕ) (tidy : Bool) (p : Known) (d : D) (n : Rounds) (q : Known) (e : D) (t : Known) (f : D) (new : Rounds)
+  pub rounding_more : (rounds : ℕ) (peers : List (List ℕ)) (tidy : Bool) (p : Known) (d : D) (n : Rounds) (q : Known) (e : D) (t : Known) (f : D) (new : Rounds)
       → Rounding rounds peers tidy p d n q e → GoesOn q t → IsRound opening m z left given take_faults faults told dial_faults peers tidy q e n t f new →
       new.dial ≤ n.dial + 15 → new.memory ≤ n.memory + 17
       → Rounding (rounds + 1) peers tidy p d new t f

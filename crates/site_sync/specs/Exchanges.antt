@@ -5,7 +5,8 @@ use Rattle.tardis_base.specs.declared.replies.SiteLine.{SiteLine}
 use Rattle.tardis_base.specs.Plain.{PlainMachine}
 use Rattle.tardis_io.specs.Told.{WhileTold}
 use Rattle.tardis_io.specs.Faults.{Rose}
-use Rattle.tardis_io.specs.Links.{ToldDial}
+use Rattle.tardis_io.specs.declared.faults.Failed.{Failed}
+use Rattle.tardis_io.specs.Links.{ToldDial, AsksFor, HandsCalled}
 use Rattle.tardis_base.specs.declared.replies.Reply.TheVariants.{Batch as BatchIs}
 use Rattle.frame_cut.specs.Frames.{frame, IsBody}
 use Rattle.wire_talk.specs.Spelled.{SpellsReply}
@@ -39,12 +40,13 @@ BatchIsTaken TakesRose GivesRose end first left =
     (body rest : List ℕ) (batch : Batch) → IsBody body → first ≡ frame body ++ rest → SpellsReply body (BatchIs batch) → (TakesRose → ⊥)
     → (GivesRose → ⊥) → EndsWell end
 
--- the first link that was left was had, and stands as it is now behind those that were put back
-abbrev pub CallsBack : {L : Type 0} → L → L → Option (ToldDial L) → Option (ToldDial L) → Type 0
-CallsBack handed back None None = Unit {0}
-CallsBack handed back (Some old) (Some new) = (old.left ≡ handed ∷ new.left) × (new.back ≡ old.back ++ back ∷ []) × (new.out ≡ old.out)
-CallsBack handed back None (Some new) = ⊥
-CallsBack handed back (Some old) None = ⊥
+-- the address was asked for, the first link that was left was had, and stands as it is now behind those that were put back
+abbrev pub CallsBack : {L : Type 0} → List ℕ → L → L → Option (ToldDial L) → Option (ToldDial L) → Type 0
+CallsBack address handed back None None = Unit {0}
+CallsBack address handed back (Some old) (Some new) = (old.left ≡ handed ∷ new.left) × (new.back ≡ old.back ++ back ∷ []) × (new.out ≡ old.out)
+    × AsksFor old.asked new.asked address
+CallsBack address handed back None (Some new) = ⊥
+CallsBack address handed back (Some old) None = ⊥
 
 module _ {M P : Type 0} (opening : M → P) (m : PlainMachine P) (z : Kept M) where
   -- what becomes of the answer that was fetched: its items are delivered, or there are none
@@ -84,21 +86,25 @@ module _ {M P : Type 0} (opening : M → P) (m : PlainMachine P) (z : Kept M) wh
       pub exact : WhileTold (left handed) (left back) (BatchIsTaken (Rose (take_faults handed) (take_faults back)) (Rose (faults handed) (faults back)) end)
 
     module _ {D : Type 0} (told : D → Option (ToldDial L)) (dial_faults : D → ℕ) where
+      -- the dial was asked for the address and failed
+      abbrev pub IsNotReached : List ℕ → D → D → Type 0
+      IsNotReached address d e = Rose (dial_faults d) (dial_faults e) × ((failed : Failed) × HandsCalled (told d) (told e) address (Err failed))
+
       -- no link was had: the dial failed, or it wasn't called because there was no memory
-      pub record NoLink (p q : Known) (d e : D) (end : SyncEnd) : Type 0 where
+      pub record NoLink (address : List ℕ) (p q : Known) (d e : D) (end : SyncEnd) : Type 0 where
         pub pass : q ≡ p
-        pub dial : ((end ≡ DialFault) × Rose (dial_faults d) (dial_faults e) × (told e ≡ told d)) ⊎ ((end ≡ NoMemory) × (e ≡ d))
+        pub dial : ((end ≡ DialFault) × IsNotReached address d e) ⊎ ((end ≡ NoMemory) × (e ≡ d))
 
       -- a link was had, and was put back
-      pub record OneLink (p q : Known) (d e : D) (end : SyncEnd) : Type 0 where
+      pub record OneLink (address : List ℕ) (p q : Known) (d e : D) (end : SyncEnd) : Type 0 where
         pub handed : L
         pub back : L
         pub exchange : Exchange p q handed back end
-        pub dial : CallsBack handed back (told d) (told e)
+        pub dial : CallsBack address handed back (told d) (told e)
 
-      -- one exchange, from the pass p and the dial d to q and e
-      pub record Syncs (p q : Known) (d e : D) (end : SyncEnd) : Type 0 where
+      -- one exchange with the peer at this address, from the pass p and the dial d to q and e
+      pub record Syncs (address : List ℕ) (p q : Known) (d e : D) (end : SyncEnd) : Type 0 where
         pub goes_on : GoesOn p q
-        pub link : NoLink p q d e end ⊎ OneLink p q d e end
+        pub link : NoLink address p q d e end ⊎ OneLink address p q d e end
         pub later : dial_faults d ≤ dial_faults e
         pub cause : end ≡ DialFault → Rose (dial_faults d) (dial_faults e)

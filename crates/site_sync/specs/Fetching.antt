@@ -1,9 +1,11 @@
 -- What a peer's link is given, and what is read from it.
-use Rattle.std.specs.Prelude.{◌≡◌, ℕ, List, [], ◌++◌, Result, Ok, Err}
+use Rattle.std.specs.Prelude.{◌≡◌, ℕ, List, [], ◌++◌, Result, Ok, Err, IsTrue}
 use Rattle.tardis_base.specs.declared.records.Batch.{Batch}
+use Rattle.tardis_base.specs.declared.replies.Reply.{Reply}
 use Rattle.tardis_base.specs.declared.replies.Reply.TheVariants.{Batch as BatchIs}
 use Rattle.frame_cut.specs.Frames.{frame, IsBody, IsPartial, IsLong}
 use Rattle.wire_talk.specs.Spelled.{SpellsReply}
+use Rattle.wire_talk.specs.Memory.{reply_takes_no_memory}
 use Rattle.site_sync.specs.declared.ends.SyncEnd.{SyncEnd}
 use Rattle.site_sync.specs.declared.ends.SyncEnd.TheVariants.{ReadFault, WriteFault, Cut, LongFrame, BadReply, NoMemory}
 
@@ -18,18 +20,22 @@ pub record FrameFirst (body first left : List ℕ) : Type 0 where
   pub behind : List ℕ
   pub whole : first ≡ frame body ++ (behind ++ left)
 
--- the body is a batch's, or no batch's, or there was no memory to tell
+-- the body is that of a reply that takes memory
+abbrev pub TakesMemory : List ℕ → Type 0
+TakesMemory body = (reply : Reply) × SpellsReply body reply × (IsTrue (reply_takes_no_memory reply) → ⊥)
+
+-- the body is a batch's, or no batch's, or that of a reply for which there was no memory
 abbrev pub IsAnswer : List ℕ → Result Batch SyncEnd → Type 0
 IsAnswer body (Ok batch) = SpellsReply body (BatchIs batch)
 IsAnswer body (Err BadReply) = (batch : Batch) → SpellsReply body (BatchIs batch) → ⊥
-IsAnswer body (Err NoMemory) = Unit {0}
+IsAnswer body (Err NoMemory) = TakesMemory body
 IsAnswer body (Err _) = ⊥
 
 -- What was read of a link, of which so much was left at first and is left now: the frame of a batch, or why there is none.
 abbrev pub Fetched : Result Batch SyncEnd → List ℕ → List ℕ → Type 0
 Fetched (Ok batch) first left = (body : List ℕ) × FrameFirst body first left × SpellsReply body (BatchIs batch)
 Fetched (Err BadReply) first left = (body : List ℕ) × FrameFirst body first left × ((batch : Batch) → SpellsReply body (BatchIs batch) → ⊥)
-Fetched (Err NoMemory) first left = (body : List ℕ) × FrameFirst body first left
+Fetched (Err NoMemory) first left = (body : List ℕ) × FrameFirst body first left × TakesMemory body
 Fetched (Err Cut) first left = IsPartial first × (left ≡ [])
 Fetched (Err (LongFrame len)) first left = IsLong first len
 Fetched (Err ReadFault) first left = (taken : List ℕ) × IsPartial taken × (first ≡ taken ++ left)

@@ -1,5 +1,5 @@
 -- Rounds of exchanges.
-use Rattle.std.specs.Prelude.{◌≡◌, ℕ, ◌+◌, List, [], ◌∷◌, length, Bool, Option, if◌then◌else◌}
+use Rattle.std.specs.Prelude.{◌≡◌, ℕ, ◌+◌, List, [], ◌∷◌, Bool, Option, if◌then◌else◌}
 use Rattle.tardis_base.specs.Plain.{Event, PlainMachine}
 use Rattle.tardis_io.specs.Links.{ToldDial}
 use Rattle.trail_log.specs.Trail.{Kept}
@@ -45,28 +45,29 @@ pub record Tidies {M P : Type 0} (opening : M → P) (m : PlainMachine P) (z : K
 
 module _ {M P L D : Type 0} (opening : M → P) (m : PlainMachine P) (z : Kept M) (left given : L → Option (List ℕ)) (take_faults faults : L → ℕ)
     (told : D → Option (ToldDial L)) (dial_faults : D → ℕ) where
-  -- exchanges one after another, which ended so
-  abbrev pub AreExchanges : Known → D → List SyncEnd → Known → D → Type 0
-  AreExchanges p d [] q e = (q ≡ p) × (e ≡ d)
-  AreExchanges p d (end ∷ ends) q e = (mid : Known) × (via : D) × Syncs opening m z left given take_faults faults told dial_faults p mid d via end
-      × AreExchanges mid via ends q e
+  -- exchanges one after another, one with each of the peers at these addresses, in order, which ended so
+  abbrev pub AreExchanges : Known → D → List (List ℕ) → List SyncEnd → Known → D → Type 0
+  AreExchanges p d [] [] q e = (q ≡ p) × (e ≡ d)
+  AreExchanges p d (address ∷ peers) (end ∷ ends) q e = (mid : Known) × (via : D)
+      × Syncs opening m z left given take_faults faults told dial_faults address p mid d via end × AreExchanges mid via peers ends q e
+  AreExchanges p d [] (end ∷ ends) q e = ⊥
+  AreExchanges p d (address ∷ peers) [] q e = ⊥
 
-  -- one exchange with each of so many peers, and what they add to the numbers
-  pub record Calls (peers : ℕ) (p : Known) (d : D) (before : Rounds) (q : Known) (e : D) (after : Rounds) : Type 0 where
+  -- one exchange with each of these peers, and what they add to the numbers
+  pub record Calls (peers : List (List ℕ)) (p : Known) (d : D) (before : Rounds) (q : Known) (e : D) (after : Rounds) : Type 0 where
     pub ends : List SyncEnd
-    pub exchanges : AreExchanges p d ends q e
-    pub one_each : length ends ≡ peers
+    pub exchanges : AreExchanges p d peers ends q e
     pub numbers : after ≡ with_ends ends before
 
-  -- a round: one exchange with each of so many peers, and then the upkeep
-  pub record IsRound (peers : ℕ) (tidy : Bool) (p : Known) (d : D) (before : Rounds) (q : Known) (e : D) (after : Rounds) : Type 0 where
+  -- a round: one exchange with each of these peers, and then the upkeep
+  pub record IsRound (peers : List (List ℕ)) (tidy : Bool) (p : Known) (d : D) (before : Rounds) (q : Known) (e : D) (after : Rounds) : Type 0 where
     pub mid : Known
     pub between : Rounds
     pub calls : Calls peers p d before mid e between
     pub tidies : Tidies opening m z mid (upkeep_if tidy) between q after
 
   -- so many rounds, one after another
-  abbrev pub AreRounds : ℕ → ℕ → Bool → Known → D → Rounds → Known → D → Type 0
+  abbrev pub AreRounds : ℕ → List (List ℕ) → Bool → Known → D → Rounds → Known → D → Type 0
   AreRounds ℕ.zero peers tidy p d n q e = (q ≡ p) × (e ≡ d) × (n ≡ record { dial = 0; memory = 0 })
   AreRounds (ℕ.suc rounds) peers tidy p d n q e = (mid : Known) × (via : D) × (before : Rounds)
       × AreRounds rounds peers tidy p d before mid via × IsRound peers tidy mid via before q e n

@@ -1,6 +1,7 @@
 //! Delivering the items of a batch.
 
 ghost use Rattle.std.specs.Prelude.{◌≡◌, ◌<◌, ◌≤◌, length, Some, slice_get, IsTrue};
+ghost use Rattle.tardis_base.specs.Sizes.{longest_request};
 ghost use Rattle.tardis_base.specs.declared.records.Item.{Item};
 ghost use Rattle.tardis_base.specs.Valid.{is_record};
 ghost use Rattle.wire_item.specs.Valid.{is_batch, is_consent};
@@ -77,7 +78,7 @@ fn put_delivery(batch: &Batch, place: usize, out: &mut ReplyBuf)
     requires valid { IsTrue (is_batch batch.now) }
     requires there { place < length (items batch.now) }
     ensures delivers { (item : Item) → slice_get (items batch.now) place ≡ Some item → out.new ≡ (delivery item).1 }
-    ensures fits { length out.new ≤ 1048574 }
+    ensures fits { length out.new ≤ longest_request }
 {
     let records = batch.records.len();
     if place < records {
@@ -91,7 +92,7 @@ fn put_delivery(batch: &Batch, place: usize, out: &mut ReplyBuf)
 fn put_record(rec: &Record, out: &mut ReplyBuf)
     requires { IsTrue (is_record rec.now) }
     ensures delivers { out.new ≡ (delivery (Item.State rec.now)).1 }
-    ensures fits { length out.new ≤ 1048574 }
+    ensures fits { length out.new ≤ longest_request }
 {
     spellings_have_their_lengths();
     out.clear();
@@ -104,7 +105,7 @@ fn put_record(rec: &Record, out: &mut ReplyBuf)
 fn put_consent(promise: &Consent, out: &mut ReplyBuf)
     requires { IsTrue (is_consent promise.now) }
     ensures delivers { out.new ≡ (delivery (Item.Promise promise.now)).1 }
-    ensures fits { length out.new ≤ 1048574 }
+    ensures fits { length out.new ≤ longest_request }
 {
     spellings_have_their_lengths();
     out.clear();

@@ -1,6 +1,7 @@
 //! An exchange with a peer.
 
 ghost use Rattle.std.specs.Prelude.{◌≡◌, [], length, IfOk};
+ghost use Rattle.tardis_base.specs.Sizes.{piece as most_taken};
 ghost use Rattle.dag_lock.specs.Named.{lock_id, start_of};
 ghost use Rattle.site_sync.specs.Asking.{TellsCounts};
 ghost use Rattle.site_sync.specs.Steps.{GoesOn};
@@ -8,13 +9,13 @@ ghost use Rattle.site_sync.specs.Exchanges.{Exchange, Syncs};
 
 use crate::deliveries::{NOBODY, deliver_all};
 use crate::ends::SyncEnd;
-use crate::fetches::{PIECE, fetch};
+use crate::fetches::fetch;
 use crate::pulls::put_pull;
 use dag_lock::{DagLock, Pass};
 use frame_cut::FrameCutter;
 use std::alloc::Global;
 use std::sync::Wait;
-use tardis_base::{Machine, NoMemory, ReplyBuf};
+use tardis_base::{Machine, NoMemory, PIECE, ReplyBuf};
 use tardis_io::{Dial, Duplex, Failed, Link};
 use trail_log::Acted;
 
@@ -36,7 +37,7 @@ pub fn sync_round<M: Machine, D: Dial, R: Wait>(
     requires lock { pass.lock ≡ lock_id lock.now }
     requires counts { TellsCounts M.plain (M.opening (start_of lock.now).machine) }
     ensures { Syncs M.opening M.plain (start_of lock.now) D.Link.left D.Link.given D.Link.take_faults D.Link.faults D.told D.faults
-        pass result.0 dial.old dial.new result.1 }
+        address.now pass result.0 dial.old dial.new result.1 }
 {
     let Ok(mut buffers) = Buffers::new(alloc) else {
         return (pass, SyncEnd::NoMemory);
@@ -63,7 +64,7 @@ struct Buffers {
 
 impl Buffers {
     fn new(alloc: Global) -> Result<Buffers, NoMemory>
-        ensures { IfOk result (λ b. (b.cutter ≡ []) × (length b.piece.items ≡ 65536)) }
+        ensures { IfOk result (λ b. (b.cutter ≡ []) × (length b.piece.items ≡ most_taken)) }
     {
         let Ok(piece) = vec![in alloc; 0; PIECE] else {
             return Err(NoMemory);
@@ -91,7 +92,7 @@ fn exchange<M: Machine, D: Duplex, R: Wait>(
 ) -> (Pass, SyncEnd)
     requires lock { pass.lock ≡ lock_id lock.now }
     requires counts { TellsCounts M.plain (M.opening (start_of lock.now).machine) }
-    requires fresh { (buffers.old.cutter ≡ []) × (length buffers.old.piece.items ≡ 65536) }
+    requires fresh { (buffers.old.cutter ≡ []) × (length buffers.old.piece.items ≡ most_taken) }
     ensures goes_on { GoesOn pass result.0 }
     ensures exchange { Exchange M.opening M.plain (start_of lock.now) D.left D.given D.take_faults D.faults pass result.0 device.old device.new result.1 }
 {

@@ -1,7 +1,7 @@
 //! What a peer answers.
 
 ghost use Rattle.std.specs.Prelude.{◌≡◌, ◌<◌, ◌≤◌, ℕ, List, [], length, Err, IfOk, IsTrue};
-ghost use Rattle.tardis_base.specs.Sizes.{longest_frame};
+ghost use Rattle.tardis_base.specs.Sizes.{piece as most_taken};
 ghost use Rattle.tardis_io.specs.Told.{WhileTold};
 ghost use Rattle.tardis_io.specs.Faults.{Rose};
 ghost use Rattle.wire_item.specs.Valid.{is_batch};
@@ -14,9 +14,6 @@ use tardis_base::{Batch, ReadFault, Reply};
 use tardis_io::{Duplex, Failed, WriteFault, write_all};
 use wire_talk::{read_reply, talk_has_one_spelling};
 
-/// How many bytes one take asks for.
-pub(crate) const PIECE: usize = 65_536;
-
 /// Gives a peer a request and reads the frame that it answers: the batch in it, or why there is none.
 pub(crate) fn fetch<D: Duplex>(
     alloc: Global,
@@ -26,7 +23,7 @@ pub(crate) fn fetch<D: Duplex>(
     piece: &mut [u8],
 ) -> Result<Batch, SyncEnd>
     requires fresh { cutter.old ≡ [] }
-    requires room { (0 < length piece.old) × (length piece.old ≤ 65536) }
+    requires room { (0 < length piece.old) × (length piece.old ≤ most_taken) }
     ensures valid { IfOk result (λ batch. IsTrue (is_batch batch)) }
     ensures gave { WhileTold (D.given device.old) (D.given device.new) (λ before after. Gave result before after request.now) }
     ensures fetched { WhileTold (D.left device.old) (D.left device.new) (Fetched result) }
@@ -50,7 +47,7 @@ fn read_batch<D: Duplex>(
     piece: &mut [u8],
 ) -> Result<Batch, SyncEnd>
     requires fresh { cutter.old ≡ [] }
-    requires room { (0 < length piece.old) × (length piece.old ≤ 65536) }
+    requires room { (0 < length piece.old) × (length piece.old ≤ most_taken) }
     ensures fetched { WhileTold (D.left device.old) (D.left device.new) (Fetched result) }
     ensures valid { IfOk result (λ batch. IsTrue (is_batch batch)) }
     ensures given { D.given device.new ≡ D.given device.old }

@@ -1,6 +1,7 @@
 //! Rounds of exchanges.
 
-ghost use Rattle.std.specs.Prelude.{◌≡◌, ◌+◌, ◌<◌, ◌≤◌, length, IfOk, OnErr};
+ghost use Rattle.std.specs.Prelude.{◌≡◌, ◌+◌, ◌<◌, ◌≤◌, length, map, IfOk, OnErr};
+ghost use Rattle.std.specs.String.{string_bytes};
 ghost use Rattle.tardis_io.specs.Faults.{Rose};
 ghost use Rattle.dag_lock.specs.Named.{lock_id, start_of};
 ghost use Rattle.site_sync.specs.Asking.{TellsCounts, upkeep};
@@ -40,7 +41,7 @@ pub fn run_rounds<M: Machine, D: Dial, R: Wait>(
     ensures goes_on { GoesOn pass result.0 }
     ensures rounds { IfOk result.1 (λ n. AreRounds M.opening M.plain (start_of lock.now) D.Link.left D.Link.given D.Link.take_faults D.Link.faults
         D.told D.faults
-        rounds (length peers.now) tidy pass dial.old n result.0 dial.new) }
+        rounds (map (λ p. string_bytes p) peers.now) tidy pass dial.old n result.0 dial.new) }
     ensures nothing { OnErr result.1 ((result.0 ≡ pass) × (dial.new ≡ dial.old)) }
     ensures later { D.faults dial.old ≤ D.faults dial.new }
     ensures cause { IfOk result.1 (λ n. 0 < n.dial → Rose (D.faults dial.old) (D.faults dial.new)) }
@@ -81,7 +82,7 @@ fn run_round<M: Machine, D: Dial, R: Wait>(
     requires room { (numbers.dial ≤ 15000000) × (numbers.memory ≤ 17000000) }
     ensures goes_on { GoesOn pass result.0 }
     ensures round { IsRound M.opening M.plain (start_of lock.now) D.Link.left D.Link.given D.Link.take_faults D.Link.faults D.told D.faults
-        (length peers.now) tidy pass dial.old numbers result.0 dial.new result.1 }
+        (map (λ p. string_bytes p) peers.now) tidy pass dial.old numbers result.0 dial.new result.1 }
     ensures most { (result.1.dial ≤ numbers.dial + 15) × (result.1.memory ≤ numbers.memory + 17) }
 {
     let (pass, numbers) = call_all(alloc, rt, lock, pass, dial, peers, numbers);
@@ -108,7 +109,7 @@ fn call_all<M: Machine, D: Dial, R: Wait>(
     requires room { (numbers.dial ≤ 15000000) × (numbers.memory ≤ 17000000) }
     ensures goes_on { GoesOn pass result.0 }
     ensures calls { Calls M.opening M.plain (start_of lock.now) D.Link.left D.Link.given D.Link.take_faults D.Link.faults D.told D.faults
-        (length peers.now) pass dial.old numbers result.0 dial.new result.1 }
+        (map (λ p. string_bytes p) peers.now) pass dial.old numbers result.0 dial.new result.1 }
     ensures most { (result.1.dial ≤ numbers.dial + 15) × (result.1.memory ≤ numbers.memory + 15) }
 {
     let mut pass = pass;

@@ -9,14 +9,21 @@ pub(crate) fn disk_of(rt: &impl Abort, alloc: Global, bytes: &[u8], failing: &[u
     MemoryDisk::new(alloc, bytes, 1_000, failing).expect(rt, "room")
 }
 
-/// A store of such a disk.
+/// The path at which a store's disk stands.
+pub(crate) const PATH: &str = "carts";
+
+/// A store of such a disk, at this path.
 pub(crate) fn store_of(
     rt: &impl Abort,
     alloc: Global,
     bytes: &[u8],
     failing: &[u64],
 ) -> MemoryStore {
-    MemoryStore::new(MemoryDisk::new(alloc, bytes, 1_000, failing).expect(rt, "room"))
+    let path = String::from_str(alloc, PATH).expect(rt, "room");
+    MemoryStore::new(
+        path,
+        MemoryDisk::new(alloc, bytes, 1_000, failing).expect(rt, "room"),
+    )
 }
 
 /// What a crash by this choice leaves of the disk.

@@ -3,7 +3,7 @@
 ghost use Rattle.std.specs.Prelude.{◌≤◌, IsTrue};
 ghost use Rattle.tardis_base.specs.Valid.{are_limits};
 
-use crate::disks::{crashed, disk_of, has_disk, holds, store_of};
+use crate::disks::{PATH, crashed, disk_of, has_disk, holds, store_of};
 use crate::journal_rows::{journal_of, replies_from, replies_to, requests_from};
 use crate::of_site_journal::{CRASHES, Opening, open};
 use crate::sites::{LIMITS, an_input, an_output, keys};
@@ -28,7 +28,7 @@ fn ran<R: RandomSource + Abort, S: Store, I: Source, O: Sink>(
     requires limits { IsTrue (are_limits limits) }
     requires sites { 1 ≤ limits.sites }
 {
-    durable(alloc, keys(rt), limits, 1, "any", store, source, sink)
+    durable(alloc, keys(rt), limits, 1, PATH, store, source, sink)
 }
 
 /// Whether a durable site with these limits, in a store of an empty disk, writes this output, and puts a disk back that

@@ -1,12 +1,14 @@
 use crate::sites::keys;
 use crate::talks::bytes_of;
-use command_words::{Help, Place, help_of};
+use command_words::Place;
 use hub::{End, MemoryPorts, Move, Seen};
 use std::alloc::Global;
 use std::hash::RandomState;
 use std::process::Abort;
+use std::random::RandomSource;
 use tardis_base::ByteList;
-use tardisd_main::{DaemonEnd, GateFault, help_text, plan_of, serve_place};
+use tardis_io::MemorySink;
+use tardisd_main::{DaemonEnd, Doors, GateFault, plan_of, serve_place, tardisd};
 
 /// The place of the site.
 const PLACE: Place = Place { sites: 3, site: 2 };
@@ -37,20 +39,88 @@ fn are_refused(words: &[String]) -> bool {
     }
 }
 
-/// Whether the words ask for the version.
-fn ask_version(words: &[String]) -> bool {
-    help_of(words) == Some(Help::Version)
-}
-
 #[test]
 fn words_are_a_plan_or_refused(rt: HostRuntime) {
     let words = words_of(&rt, rt.alloc(), "--site 2 --tidy --listen unix:s --sites 3");
     assert!(rt; are_planned(words.as_slice()));
     let words = words_of(&rt, rt.alloc(), "--sites 2");
     assert!(rt; are_refused(words.as_slice()));
-    let words = words_of(&rt, rt.alloc(), "--version");
-    assert!(rt; ask_version(words.as_slice()));
-    assert!(rt; help_text(Help::Version) == "tardisd 0.1.0\n");
+}
+
+/// Doors behind which nobody is, which know whether they were opened at `unix:s` for the place.
+#[derive(Drop)]
+struct NotingDoors {
+    alloc: Global,
+    is_opened: bool,
+    is_announced: bool,
+}
+
+impl Doors for NotingDoors {
+    type Ports = MemoryPorts;
+
+    ghost opens = { λ address opened. Unit {0} };
+
+    fn open(&mut self, address: &str) -> Result<MemoryPorts, GateFault> {
+        self.is_opened = address == "unix:s";
+        Ok(MemoryPorts::new(self.alloc, Vec::new(self.alloc)))
+    }
+
+    fn announce(&mut self, place: Place, address: &str) {
+        self.is_announced = self.is_opened && place == PLACE && address == "unix:s";
+    }
+}
+
+/// Whether these words end so, and write this.
+fn end_as(
+    rt: &(impl Abort + RandomSource),
+    alloc: Global,
+    line: &str,
+    doors: &mut NotingDoors,
+    end: DaemonEnd,
+    written: &[u8],
+) -> bool {
+    let words = words_of(rt, alloc, line);
+    let mut output = MemorySink::new(alloc, 100, 100, &[]).expect(rt, "room");
+    let ended = tardisd(alloc, keys(rt), words.as_slice(), doors, &mut output);
+    let is_right = ended == end && output.bytes() == written;
+    drop(output);
+    is_right
+}
+
+#[test]
+fn words_are_carried_out(rt: HostRuntime) {
+    let mut doors = NotingDoors {
+        alloc: rt.alloc(),
+        is_opened: false,
+        is_announced: false,
+    };
+    let told = b"tardisd 0.1.0\n";
+    assert!(rt;
+        end_as(
+            &rt,
+            rt.alloc(),
+            "--version",
+            &mut doors,
+            DaemonEnd::Told,
+            told
+        )
+    );
+    assert!(rt;
+        end_as(
+            &rt,
+            rt.alloc(),
+            "--sites 2",
+            &mut doors,
+            DaemonEnd::Usage,
+            b""
+        )
+    );
+    assert!(rt; !doors.is_opened);
+    let line = "--site 2 --tidy --listen unix:s --sites 3";
+    let lost = DaemonEnd::Gate(GateFault::Lost);
+    assert!(rt; end_as(&rt, rt.alloc(), line, &mut doors, lost, b""));
+    assert!(rt; doors.is_announced);
+    drop(doors);
 }
 
 /// Whether the end is told by the line, and is the number of the program's status.
@@ -119,5 +189,36 @@ fn a_site_is_served_at_its_place(rt: HostRuntime) {
     let mut ports = MemoryPorts::new(rt.alloc(), moves(&rt, rt.alloc()));
     assert!(rt; is_served(rt.alloc(), keys(&rt), &mut ports));
     assert_eq!(rt; count_told(&rt, rt.alloc(), &ports), 1);
+    drop(ports);
+}
+
+/// So many connections come.
+fn comers(rt: &impl Abort, alloc: Global, count: u16) -> Vec<Move> {
+    let mut moves = Vec::new(alloc);
+    for _ in 0..count {
+        moves.push(Move::Accept { comes: true }).expect(rt, "room");
+    }
+    moves
+}
+
+/// How many connections came in, and how many were turned away.
+fn come_and_go(calls: &[Seen]) -> (usize, usize) {
+    let came = calls
+        .iter()
+        .filter(|call| matches!(call, Seen::Accepted { came: true, .. }));
+    let declined = calls.iter().filter(|call| matches!(call, Seen::Declined));
+    (came.count(), declined.count())
+}
+
+/// The same of an edge.
+fn count_comers(rt: &impl Abort, ports: &MemoryPorts) -> (usize, usize) {
+    come_and_go(ports.seen().expect(rt, "memory"))
+}
+
+#[test]
+fn the_257th_connection_waits(rt: HostRuntime) {
+    let mut ports = MemoryPorts::new(rt.alloc(), comers(&rt, rt.alloc(), 257));
+    assert!(rt; is_served(rt.alloc(), keys(&rt), &mut ports));
+    assert!(rt; count_comers(&rt, &ports) == (256, 0));
     drop(ports);
 }

@@ -1,6 +1,8 @@
 //! A gate and a dial over sockets.
 
-ghost use Rattle.std.specs.Prelude.{◌≡◌, None};
+ghost use Rattle.std.specs.Prelude.{◌≡◌, None, IfOk, IsSome};
+ghost use Rattle.tardis_io.specs.Faults.{HasCause};
+ghost use Rattle.tardis_io.specs.Links.{HandsNext};
 
 use crate::doors::{Door, Stream, connect, open_door};
 use crate::links::SocketLink;
@@ -69,6 +71,8 @@ impl<R: Files + Net<Listener = TcpListener, Stream = TcpStream>> Gate for Socket
 
     ghost faults = { λ g. g.faults };
 
+    ghost is_bound = { λ g. IsSome g.door };
+
     fn bind(&mut self, address: &str) -> Result<(), Failed> {
         match open_door(self.rt, address) {
             Ok(door) => {
@@ -82,7 +86,13 @@ impl<R: Files + Net<Listener = TcpListener, Stream = TcpStream>> Gate for Socket
         }
     }
 
-    fn next(&mut self) -> Result<Option<SocketLink>, Failed> {
+    fn next(&mut self) -> Result<Option<SocketLink>, Failed>
+        requires bound { IsSome self.old.door }
+        ensures cause { HasCause self.old.faults self.new.faults result }
+        ensures told { HandsNext None None result }
+        ensures bound { IsSome self.new.door }
+        ensures some { IfOk result IsSome }
+    {
         for _ in 0..u64::MAX {
             match accepted(&self.door) {
                 Some(Ok(stream)) => return Ok(Some(SocketLink::new(stream))),

@@ -4,20 +4,17 @@ ghost use Rattle.std.specs.Prelude.{◌≡◌, ◌≤◌, ◌∷◌, [], None, l
 
 use crate::doors::Door;
 use crate::plugs::{Plug, Work};
-use hub::{Line, Ports, Ready};
+use hub::{Connection, Ports, Ready, SLOTS};
 use mio::{Events, Poll, Token};
 use std::alloc::Global;
 use std::io;
 use std::net::Net;
 
-/// The slots of a hub.
-const SLOTS: usize = 256;
+/// The name of the door among the events of the system. The connections have their slots' numbers.
+const DOOR: usize = SLOTS;
 
-/// The name of the door among the events of the system.
-const DOOR: usize = 256;
-
-/// So many events are taken at once.
-const MOST_EVENTS: usize = 257;
+/// So many events are taken at once: one for each connection, and one for the door.
+const MOST_EVENTS: usize = SLOTS + 1;
 
 /// The connections that came through a door. Each is offered in its turn what it is ready for: one read, then the write of
 /// its replies, and then the next has its turn. When the peer has sent all, the connection ends once its replies are
@@ -66,9 +63,9 @@ impl SocketPorts {
     }
 
     /// What is ready by what is known, if anything is.
-    fn offer(&mut self, lines: &[Option<Line>]) -> Option<Ready> {
+    fn offer(&mut self, connections: &[Option<Connection>]) -> Option<Ready> {
         if let Some(slot) = self.heard.take() {
-            if let Some(Work::Write) = self.work(lines, slot) {
+            if let Some(Work::Write) = self.work(connections, slot) {
                 return Some(Ready::Write(slot));
             }
         }
@@ -82,7 +79,7 @@ impl SocketPorts {
             }
             let slot = self.next;
             self.next = slot.saturating_add(1);
-            match self.work(lines, slot) {
+            match self.work(connections, slot) {
                 Some(Work::Read) => {
                     self.heard = Some(slot);
                     return Some(Ready::Read(slot));
@@ -96,9 +93,9 @@ impl SocketPorts {
     }
 
     /// What there is to do for the connection in the slot.
-    fn work(&self, lines: &[Option<Line>], slot: usize) -> Option<Work> {
-        match (self.plugs.get(slot), lines.get(slot)) {
-            (Some(Some(plug)), Some(Some(line))) => plug.work(line),
+    fn work(&self, connections: &[Option<Connection>], slot: usize) -> Option<Work> {
+        match (self.plugs.get(slot), connections.get(slot)) {
+            (Some(Some(plug)), Some(Some(connection))) => plug.work(connection),
             _ => None,
         }
     }
@@ -152,9 +149,9 @@ fn is_passing(error: &io::Error) -> bool {
 impl Ports for SocketPorts {
     ghost seen = { λ p. None };
 
-    fn ready(&mut self, lines: &[Option<Line>]) -> Ready {
+    fn ready(&mut self, connections: &[Option<Connection>]) -> Ready {
         for _ in 0..u64::MAX {
-            if let Some(offer) = self.offer(lines) {
+            if let Some(offer) = self.offer(connections) {
                 return offer;
             }
             match self.wait() {

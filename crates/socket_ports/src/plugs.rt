@@ -1,9 +1,9 @@
 //! A connection and what is known of it.
 
-ghost use Rattle.std.specs.Prelude.{◌≡◌, ◌≤◌, length};
+ghost use Rattle.std.specs.Prelude.{◌≡◌, ◌≤◌, [], Some, true, length};
 
 use crate::doors::Stream;
-use hub::Line;
+use hub::Connection;
 use mio::event::Event;
 use mio::{Interest, Registry, Token};
 use std::io;
@@ -68,29 +68,31 @@ impl Plug {
         }
     }
 
-    /// What there is to do, by what its line wants.
-    pub(crate) fn work(&self, line: &Line) -> Option<Work> {
-        if self.gone || line.is_over() {
+    /// What there is to do, by what the hub has of the connection.
+    pub(crate) fn work(&self, connection: &Connection) -> Option<Work>
+        ensures over { connection.now.long ≡ true → connection.now.waiting ≡ [] → result ≡ Some Work.Close }
+    {
+        if self.gone || connection.is_over() {
             Some(Work::Close)
-        } else if line.has_to_write() {
+        } else if connection.has_to_write() {
             if self.writable {
                 Some(Work::Write)
-            } else if self.may_read(line) {
+            } else if self.may_read(connection) {
                 Some(Work::Read)
             } else {
                 None
             }
         } else if self.ended {
             Some(Work::Close)
-        } else if self.may_read(line) {
+        } else if self.may_read(connection) {
             Some(Work::Read)
         } else {
             None
         }
     }
 
-    fn may_read(&self, line: &Line) -> bool {
-        self.readable && !self.ended && line.wants_read()
+    fn may_read(&self, connection: &Connection) -> bool {
+        self.readable && !self.ended && connection.wants_read()
     }
 
     /// Reads once. After a read that didn't fill the buffer nothing is left, unless the peer said that it sends no more:

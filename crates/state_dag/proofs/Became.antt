@@ -98,6 +98,7 @@ pub record Became (table : Table) (parents : List Slot) (x : StateId) (slot : Sl
       × (new.stand_ins ≡ old.stand_ins ++ only_if (is_slot_among old.slot parents) slot)
   pub parent : IsTrue (is_slot_among old.slot parents) → 1 ≤ length new.children
   pub other : is_slot_among old.slot parents ≡ false → new.children ≡ old.children
+  pub apart : is_slot_among old.slot parents ≡ false → new.stand_ins ≡ old.stand_ins
   pub slots : (test : Slot → Bool) → IsTrue (list_all test old.stand_ins) → IsTrue (test slot) → IsTrue (list_all test new.stand_ins)
 
 and-true : (b : Bool) → (b && true) ≡ b
@@ -117,6 +118,7 @@ module _ (table : Table) (parents : List Slot) (x : StateId) (slot : Slot) where
     child = λ distinct. (let child = h.child distinct in (child.children, child.stand_ins));
     parent = h.parent;
     other = h.other;
+    apart = h.apart;
     slots = h.slots;
   }
 

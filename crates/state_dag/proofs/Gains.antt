@@ -167,6 +167,7 @@ module _ (table : Table) (parents slots : List Slot) (gains : List Gain) (is : g
     child = h.child;
     parent = h.parent;
     other = h.other;
+    apart = h.apart;
     slots = h.slots;
   }
     where

@@ -1,9 +1,9 @@
 -- The memory of a table stays well-formed.
-use Rattle.std.proofs.Common.{◌≡◌, ℕ, ◌+◌, ◌-◌, ◌<◌, ◌≤◌, Bool, true, false, not, ◌&&◌, cond, eqb, leb, ltb, List, [], ◌∷◌, ◌++◌, length, map, filter, find}
-use Rattle.std.proofs.Common.{sum, take, get_or, set, Some, None, is_some, IsTrue, inl, inr, refl, sym, ap, ap₂, subst, ◌∙◌, arith}
+use Rattle.std.proofs.Common.{◌≡◌, ℕ, ◌+◌, ◌-◌, ◌<◌, ◌≤◌, Bool, true, false, not, ◌&&◌, ◌||◌, ◌⊎◌, cond, eqb, leb, ltb, List, [], ◌∷◌, ◌++◌, length, map, filter, find}
+use Rattle.std.proofs.Common.{sum, take, get_or, set, length-append, Some, None, is_some, IsTrue, inl, inr, refl, sym, ap, ap₂, subst, ◌∙◌, eqb-true, arith}
 use Rattle.std.specs.List.{list_all}
 use Rattle.std.specs.Option.{option_map_or}
-use Rattle.std.proofs.lemmas.Bool.{cases_eq, or_from, false_from_ne_true, and_parts, and_from, cases_Bool, cond-true, cond-false, ltb-true, ltb-false}
+use Rattle.std.proofs.lemmas.Bool.{both_ways, cases_eq, or_from, false_from_ne_true, and_parts, and_from, cases_Bool, cond-true, cond-false, ltb-true, ltb-false}
 use Rattle.std.proofs.lemmas.Bool.{leb-true, le-leb, lt-ltb}
 use Rattle.std.proofs.lemmas.List.{length-set, get_or-set_same, get_or-set_other}
 use Rattle.std.proofs.lemmas.Option.{none-some}
@@ -20,12 +20,12 @@ use Rattle.state_dag.specs.Table.{Entry, Table, entry_at, is_slot, arrive_in_ord
 use Rattle.state_dag.specs.Views.{entry_of, entries_from, entries_in, slot_of_id, is_counted, AllDiffer}
 use Rattle.state_dag.specs.Held.{kept_of, seen, IsHeld}
 use Rattle.state_dag.specs.Grown.{is_slot_among, grown_length, too_long}
-use Rattle.state_dag.specs.Nodes.{with_node, with_slot, AreDistinct}
+use Rattle.state_dag.specs.Nodes.{table_of, with_node, with_slot, AreDistinct}
 use Rattle.state_dag.proofs.Following.{Follow, LosesLeaf, childless_slots, leaves-follow, leaves-last}
 use Rattle.state_dag.proofs.LongPaths.{none-from_map}
 use Rattle.state_dag.proofs.SameEntries.{all-last, same-count, same-at, sum-set, all-set}
 use Rattle.state_dag.proofs.KeptEntries.{placed, first-read, entries-first, entries-next, found-none}
-use Rattle.state_dag.proofs.Memory.{kept-placed}
+use Rattle.state_dag.proofs.Memory.{kept-placed, found-all, entry-alike}
 use Rattle.state_dag.proofs.NextSlot.{IsNext}
 use Rattle.state_dag.proofs.Became.{Became, follow-all, follow-as, loses-leaf, slots-of_id, order-last, slot-of_id-last}
 use Rattle.state_dag.proofs.LastSlots.{slot-stays, last-found, slot-arrives}
@@ -49,7 +49,7 @@ entries-same ns ms same (s ∷ slots) all =
 
 module _ (a b : Inside) (held : IsHeld a) (limits : b.limits ≡ a.limits) (counts : b.counts ≡ a.counts) (known : b.known ≡ a.known)
     (leaves : b.leaves.items ≡ a.leaves.items) (order : b.order.items ≡ a.order.items) (kept : b.kept ≡ a.kept)
-    (same : entries_from 0 b.nodes.items ≡ entries_from 0 a.nodes.items) (slots : (x : StateId) → slot_of_state b.slots x ≡ slot_of_state a.slots x) where
+    (same : entries_from 0 b.nodes.items ≡ entries_from 0 a.nodes.items) (slots : (x : StateId) → slot_of_state b.slots x ≡ slot_of_state a.slots x) (since : b.since.items ≡ a.since.items) where
   pub seen-same : (seen b).entries ≡ (seen a).entries
   seen-same = ap (entries_in b.nodes.items) (ap₂ (λ (k : ℕ) (ss : List Slot). take k ss) kept order)
       ∙ entries-same b.nodes.items a.nodes.items same (kept_of a) (kept-placed a held)
@@ -94,6 +94,11 @@ module _ (a b : Inside) (held : IsHeld a) (limits : b.limits ≡ a.limits) (coun
         among_counted = subst (λ v. list_all (λ (e : Entry). is_counted v.items e.id) (seen b).entries ≡ true) (sym counts)
             (subst (λ es. list_all (λ (e : Entry). is_counted a.counts.items e.id) es ≡ true) (sym seen-same) held.among_counted);
         once = subst (λ (es : List Entry). AllDiffer (map (λ (e : Entry). e.id) es)) (sym seen-same) held.once;
+        times = (let times = held.times in let long = ap length since in omega arith);
+        since = subst (λ (ts : List ℕ). list_all (λ (e : Entry). list_all (λ (s : Slot). leb (get_or ts s.0 0) e.arrival) e.stand_ins) (seen b).entries
+            ≡ true) (sym since)
+            (subst (λ es. list_all (λ (e : Entry). list_all (λ (s : Slot). leb (get_or a.since.items s.0 0) e.arrival) e.stand_ins) es ≡ true)
+            (sym seen-same) held.since);
         indexed = λ x. slots x ∙ held.indexed x ∙ sym (ap (λ es. slot_of_id es x) seen-same);
       }
 
@@ -170,6 +175,15 @@ ids-last : (es : List Entry) (e : Entry) → map (λ f. f.id) (es ++ e ∷ []) �
 ids-last [] e = refl
 ids-last (f ∷ es) e = ap (λ is. f.id ∷ is) (ids-last es e)
 
+-- with one more node, or one in place of another, there are no more than this
+with-long : (ns : List Node) (k : ℕ) (n : Node) → (length (with_node ns k n) ≡ length ns) ⊎ ((length (with_node ns k n) ≡ length ns + 1) × (length ns ≤ k))
+with-long ns k n = elim (cases_Bool (ltb k (length ns))) [
+  | inl t ↦ inl (rw t (length-set ns k n))
+  | inr g ↦
+      let le = ltb-false k (length ns) g in
+      inr (rw g (length-append ns (n ∷ [])), le)
+]
+
 module _ (a b : Inside) (held : IsHeld a) (ns : List Node) (n : Node) (id : StateId) (slot : Slot) (parents : List Slot) (next : IsNext a slot ns n)
     (count : length ns ≡ length a.nodes.items)
     (nodes : b.nodes.items ≡ with_node ns slot.0 n) (order : b.order.items ≡ with_slot a.order.items a.kept slot) (kept : b.kept ≡ a.kept + 1) where
@@ -182,14 +196,36 @@ module _ (a b : Inside) (held : IsHeld a) (ns : List Node) (n : Node) (id : Stat
   pub slot-fresh : entry_at (seen a) slot ≡ None
   slot-fresh = found-none a.nodes.items (kept_of a) slot.0 (kept-placed a held) next.out
 
+  times-after : length a.nodes.items ≤ length a.since.items → length a.since.items ≤ length b.since.items → slot.0 < length b.since.items →
+      ((length (with_node ns slot.0 n) ≡ length ns) ⊎ ((length (with_node ns slot.0 n) ≡ length ns + 1) × (length ns ≤ slot.0))) →
+      length b.nodes.items ≤ length b.since.items
+  times-after times longer there (inl same) = (let size = ap length nodes in let as_long = count in omega arith)
+  times-after times longer there (inr more) = (
+      let size = ap length nodes in
+      let as_long = count in
+      let one = more.0 in
+      let two = more.1 in
+      omega arith
+      )
+
+  -- a slot that names a state isn't the new one
+  slot-apart : (s : Slot) → is_slot (seen a) s ≡ true → s.0 ≡ slot.0 → ⊥
+  slot-apart s named same =
+      let slot_of : ℕ → Slot = λ k. record { 0 = k } in
+      both_ways (is_slot (seen a) slot) (ap is_some slot-fresh) (subst (λ (q : Slot). is_slot (seen a) q ≡ true) (ap slot_of same) named)
+
   module _ (f : Follow (Became (seen a) parents id slot) (seen a).entries (entries_in ns (kept_of a))) where
     pub held-next : (i c : ℕ) → b.limits ≡ a.limits → b.known ≡ a.known + 1 → b.counts.items ≡ set a.counts.items i c →
         ((x : StateId) → slot_of_state b.slots x ≡ cond (same_id x id) (Some slot) (slot_of_state a.slots x)) →
         b.leaves.items ≡ filter (λ s. not (is_slot_among s parents)) a.leaves.items ++ slot ∷ [] → a.kept < a.limits.max_kept →
         n.id ≡ id → n.arrival ≡ a.known → n.children.items ≡ [] → n.stand_ins.items ≡ [] → are_ascending_pairs n.path.pairs ≡ true →
         too_long (seen a) parents ≡ None → length n.path.pairs ≤ a.limits.max_path → i < length a.counts.items → c ≡ get_or a.counts.items i 0 + 1 →
-        c < 4294967296 → i ≡ id.site - 1 → c ≡ id.sequence → IsHeld b
-    held-next i c limits known counts slots leaves room is arrival leaf stands ups short shorts inside fresh fits at_site is_last =
+        c < 4294967296 → i ≡ id.site - 1 → c ≡ id.sequence → (time : ℕ) → get_or b.since.items slot.0 0 ≡ time →
+        ((k : ℕ) → (k ≡ slot.0 → ⊥) → get_or b.since.items k 0 ≡ get_or a.since.items k 0) → length a.since.items ≤ length b.since.items →
+        slot.0 < length b.since.items →
+        list_all (λ (o : Entry). not (is_slot_among o.slot parents) || leb time o.arrival) (seen a).entries ≡ true → IsHeld b
+    held-next i c limits known counts slots leaves room is arrival leaf stands ups short shorts inside fresh fits at_site is_last time own_time others longer
+        there early =
         let es = (seen a).entries in
         let gs = entries_in ns (kept_of a) in
         let e = entry_of slot.0 n in
@@ -288,9 +324,68 @@ module _ (a b : Inside) (held : IsHeld a) (ns : List Node) (n : Node) (id : Stat
               (differ-last (map (λ (z : Entry). z.id) es) n.id held.once
               (subst (λ z. is_among z (map (λ (w : Entry). w.id) es) ≡ false) (sym is)
               (fresh-id a.counts.items id (let here = ap (λ (m : ℕ). get_or a.counts.items m 0) at_site in omega arith) es held.among_counted)))));
+          times = times-after held.times longer there (with-long ns slot.0 n);
+          since = subst (λ ls. list_all (λ (z : Entry). list_all (λ (s : Slot). leb (get_or b.since.items s.0 0) z.arrival) z.stand_ins) ls ≡ true)
+              (sym entries-after)
+              (all-last (λ (z : Entry). list_all (λ (s : Slot). leb (get_or b.since.items s.0 0) z.arrival) z.stand_ins) gs e
+              (follow-all R (λ (z : Entry). list_all (is_slot (seen a)) z.stand_ins &&
+              (list_all (λ (s : Slot). leb (get_or a.since.items s.0 0) z.arrival) z.stand_ins && (not (is_slot_among z.slot parents) || leb time z.arrival)))
+              (λ (z : Entry). list_all (λ (s : Slot). leb (get_or b.since.items s.0 0) z.arrival) z.stand_ins) (λ o m h t.
+              let lists = and_parts (list_all (is_slot (seen a)) o.stand_ins)
+              (list_all (λ (s : Slot). leb (get_or a.since.items s.0 0) o.arrival) o.stand_ins && (not (is_slot_among o.slot parents) || leb time o.arrival)) t in
+              let more = and_parts (list_all (λ (s : Slot). leb (get_or a.since.items s.0 0) o.arrival) o.stand_ins)
+              (not (is_slot_among o.slot parents) || leb time o.arrival) lists.1 in
+              let olds : list_all (λ (s : Slot). leb (get_or b.since.items s.0 0) m.arrival) o.stand_ins ≡ true =
+              all-two (is_slot (seen a)) (λ s. leb (get_or a.since.items s.0 0) o.arrival) (λ s. leb (get_or b.since.items s.0 0) m.arrival)
+              (λ s named less. ap₂ (λ x y. leb x y) (others s.0 (λ same. slot-apart s named same)) h.arrival_stays ∙ less) o.stand_ins lists.0 more.0 in
+              elim (cases_Bool (is_slot_among o.slot parents)) [
+                | inl among ↦
+                    h.slots (λ s. leb (get_or b.since.items s.0 0) m.arrival) olds
+                    (ap₂ (λ x y. leb x y) own_time h.arrival_stays ∙ subst (λ q. (not q || leb time o.arrival) ≡ true) among more.1)
+                | inr apart ↦ ap (list_all (λ (s : Slot). leb (get_or b.since.items s.0 0) m.arrival)) (h.apart apart) ∙ olds
+              ]) es gs f
+              (all-both (λ (z : Entry). list_all (is_slot (seen a)) z.stand_ins)
+              (λ (z : Entry). list_all (λ (s : Slot). leb (get_or a.since.items s.0 0) z.arrival) z.stand_ins
+              && (not (is_slot_among z.slot parents) || leb time z.arrival)) es held.stand_ins
+              (all-both (λ (z : Entry). list_all (λ (s : Slot). leb (get_or a.since.items s.0 0) z.arrival) z.stand_ins)
+              (λ (z : Entry). not (is_slot_among z.slot parents) || leb time z.arrival) es held.since early)))
+              (ap (list_all (λ (s : Slot). leb (get_or b.since.items s.0 0) n.arrival)) stands));
           indexed = λ x.
               slots x
               ∙ ap (λ o. cond (same_id x id) (Some slot) o) (held.indexed x ∙ sym (slots-of_id (seen a) parents id slot es gs f x))
               ∙ sym (ap (λ ls. slot_of_id ls x) entries-after ∙ slot-of_id-last gs e x
               ∙ ap (λ (z : StateId). cond (same_id x z) (Some slot) (slot_of_id gs x)) is);
         }
+
+-- ===== Times
+
+-- what is not below the number of each of some slots is not below that of any of them
+pub among-passes : (f : Slot → ℕ) (m : ℕ) (ps : List Slot) → ((i : ℕ) (d : Slot) → i < length ps → m ≤ f (get_or ps i d)) → (k : ℕ) →
+    is_slot_among (record { 0 = k }) ps ≡ true → m ≤ f (record { 0 = k })
+among-passes f m [] each k there = absurd (both_ways false refl there)
+among-passes f m (p ∷ ps) each k there = elim (cases_Bool (eqb p.0 k)) [
+  | inl t ↦
+      let named : ℕ → Slot = λ j. record { 0 = j } in
+      subst (λ (s : Slot). m ≤ f s) (ap named (eqb-true p.0 k t)) (each 0 p (omega arith))
+  | inr g ↦ among-passes f m ps (λ i d lt. each (ℕ.suc i) d (omega arith)) k (rw g at there)
+]
+
+all-by_place : (p : Entry → Bool) (es : List Entry) → ((i : ℕ) (d : Entry) → i < length es → p (get_or es i d) ≡ true) → list_all p es ≡ true
+all-by_place p [] each = refl
+all-by_place p (e ∷ es) each = and_from (p e) (list_all p es) (each 0 e (omega arith)) (all-by_place p es (λ i d lt. each (ℕ.suc i) d (omega arith)))
+
+-- the entries of the parents arrived no sooner than that
+pub early-entries : (a : Inside) → IsHeld a → (parents : List Slot) (time : ℕ) →
+    ((k : ℕ) → is_slot_among (record { 0 = k }) parents ≡ true → time ≤ arrival_at (table_of a.nodes.items) (record { 0 = k })) →
+    list_all (λ (o : Entry). not (is_slot_among o.slot parents) || leb time o.arrival) (seen a).entries ≡ true
+early-entries a held parents time early = all-by_place (λ (o : Entry). not (is_slot_among o.slot parents) || leb time o.arrival) (seen a).entries (λ i d lt.
+    let o = get_or (seen a).entries i d in
+    let found = found-all a held i d lt in
+    let alike = entry-alike a held o.slot (ap is_some found) in
+    let arrived : arrival_at (table_of a.nodes.items) o.slot ≡ o.arrival = ap (λ q. option_map_or (λ (e : Entry). e.arrival) q 0) (alike ∙ found) in
+    elim (cases_Bool (is_slot_among o.slot parents)) [
+      | inl t ↦
+          let le = early o.slot.0 t in
+          rw t (le-leb time o.arrival (omega arith))
+      | inr f ↦ rw f refl
+    ])

@@ -17,13 +17,13 @@ use Rattle.state_dag.specs.Table.{Entry, Table, entry_at, is_slot, arrive_in_ord
 use Rattle.state_dag.specs.Views.{entry_of, entries_in, slot_of_id, is_counted, AllDiffer}
 use Rattle.state_dag.specs.Held.{kept_of, seen, IsHeld}
 use Rattle.state_dag.specs.Grown.{is_slot_among}
-use Rattle.state_dag.specs.Nodes.{AreDistinct}
+use Rattle.state_dag.specs.Nodes.{table_of, AreDistinct}
 use Rattle.state_dag.specs.Shared.{common}
 use Rattle.state_dag.specs.Detached.{shared_slot, without_slot, passed_on, passing_on, forgetting, changed_at}
 use Rattle.state_dag.proofs.Following.{Follow, childless_slots}
 use Rattle.state_dag.proofs.Became.{follow-all, follow-in}
 use Rattle.state_dag.proofs.KeptEntries.{slots_of, placed, all-found, entries-first, found-in, found-none}
-use Rattle.state_dag.proofs.Memory.{kept-placed, kept-slots, entries-apart}
+use Rattle.state_dag.proofs.Memory.{kept-placed, kept-slots, entries-apart, entry-alike, take-read}
 use Rattle.state_dag.proofs.Known.{differ-filter}
 use Rattle.state_dag.proofs.LeftEntries.{Left, all-mid, before-mid, behind-mid, ids-mid, childless-mid, searched-mid, ids-left, childless-left, searched-left}
 use Rattle.state_dag.proofs.LeftTables.{common-passes, found-gone, gone-arrives, slot-other, arrives-other, order-new, heir-later, heir-other}
@@ -67,6 +67,58 @@ module _ (gone heir : Slot) (fork : Bool) (g : Entry) where
       either : (b : Bool) → length (cond b (without_pairs_of gone.0 o.path) o.path) ≤ length o.path
       either true = fewer gone.0 o.path
       either false = omega arith
+
+-- where no child of a state that arrived by then stands in a slot, that slot is none of them
+none-there : (since : List ℕ) (gone heir : Slot) (m : ℕ) → m < get_or since gone.0 0 → (ss : List Slot) → list_all (λ s. leb (get_or since s.0 0) m) ss ≡ true →
+    map (passed_on gone heir) ss ≡ ss
+none-there since gone heir m less [] all = refl
+none-there since gone heir m less (s ∷ ss) all =
+    let parts = and_parts (leb (get_or since s.0 0) m) (list_all (λ (t : Slot). leb (get_or since t.0 0) m) ss) all in
+    let le = leb-true (get_or since s.0 0) m parts.0 in
+    let other : eqb s.0 gone.0 ≡ false = ne_eqb s.0 gone.0 (λ e. let same = ap (λ (k : ℕ). get_or since k 0) e in omega arith) in
+    rw other (ap (λ ts. s ∷ ts) (none-there since gone heir m less ss parts.1))
+
+-- what holds of the first of some slots holds of each of them
+first-passes : (f : Slot → ℕ) (m : ℕ) (xs : List Slot) (n k : ℕ) → ((i : ℕ) (d : Slot) → i < n → f (get_or xs i d) < m) →
+    is_slot_among (record { 0 = k }) (take n xs) ≡ true → f (record { 0 = k }) < m
+first-passes f m xs ℕ.zero k each there = absurd (both_ways false refl there)
+first-passes f m [] (ℕ.suc n) k each there = absurd (both_ways false refl there)
+first-passes f m (x ∷ xs) (ℕ.suc n) k each there = elim (cases_Bool (eqb x.0 k)) [
+  | inl t ↦
+      let named : ℕ → Slot = λ j. record { 0 = j } in
+      subst (λ (s : Slot). f s < m) (ap named (eqb-true x.0 k t)) (each 0 x (omega arith))
+  | inr g ↦ first-passes f m xs n k (λ i d lt. each (ℕ.suc i) d (omega arith)) (rw g at there)
+]
+
+among-taken : (k : ℕ) (n : ℕ) (xs : List Slot) → is_slot_among (record { 0 = k }) (take n xs) ≡ true → is_slot_among (record { 0 = k }) xs ≡ true
+among-taken k ℕ.zero xs there = absurd (both_ways false refl there)
+among-taken k (ℕ.suc n) [] there = there
+among-taken k (ℕ.suc n) (x ∷ xs) there = elim (cases_Bool (eqb x.0 k)) [
+  | inl t ↦ rw t refl
+  | inr g ↦ rw g (among-taken k n xs (rw g at there))
+]
+
+module _ (a : Inside) (held : IsHeld a) where
+  -- nothing is passed on where the state arrived before the time of the slot
+  pub unchanged-before : (gone heir : Slot) (first place : ℕ) → first ≤ place →
+      ((i : ℕ) (d : Slot) → i < first → arrival_at (table_of a.nodes.items) (get_or (kept_of a) i d) < get_or a.since.items gone.0 0) →
+      (k : ℕ) (d : Node) → is_slot_among (record { 0 = k }) (take first (take place (kept_of a))) ≡ true →
+      passing_on gone heir (entry_of k (get_or a.nodes.items k d)) ≡ entry_of k (get_or a.nodes.items k d)
+  unchanged-before gone heir first place le each k d there =
+      let node = get_or a.nodes.items k d in
+      let ss = kept_of a in
+      let kept = among-taken k place ss (among-taken k first (take place ss) there) in
+      let found = found-in a.nodes.items d ss k (kept-placed a held) kept in
+      let slot : Slot = record { 0 = k } in
+      let alike = entry-alike a held slot (ap is_some found) in
+      let early = first-passes (arrival_at (table_of a.nodes.items)) (get_or a.since.items gone.0 0) (take place ss) first k
+      (λ i e lt. subst (λ (s : Slot). arrival_at (table_of a.nodes.items) s < get_or a.since.items gone.0 0) (sym (take-read place ss i e (omega arith)))
+      (each i e lt)) there in
+      let arrived : arrival_at (table_of a.nodes.items) slot ≡ node.arrival = ap (λ o. option_map_or (λ (e : Entry). e.arrival) o 0) (alike ∙ found) in
+      let after = all-found (λ (e : Entry). list_all (λ (s : Slot). leb (get_or a.since.items s.0 0) e.arrival) e.stand_ins) (seen a).entries k (entry_of k node)
+      found held.since in
+      ap (λ (qs : List Slot). record (entry_of k node) { stand_ins = qs })
+      (none-there a.since.items gone heir node.arrival (omega arith) node.stand_ins.items after)
 
 -- slots whose states arrived later are none that is passed on
 none-passed : (table : Table) (gone heir : Slot) (m : ℕ) → arrival_at table gone < m → (ss : List Slot) → list_all (λ s. ltb m (arrival_at table s)) ss
@@ -328,9 +380,24 @@ module _ (a b : Inside) (held : IsHeld a) (slot heir : Slot) (fork : Bool) (p : 
         | inr f ↦ rw f (ap (ltb m) (stays-arrival s f) ∙ less)
       ]
 
+      passes-since : get_or b.since.items heir.0 0 ≤ get_or a.since.items slot.0 0 → ((k : ℕ) → get_or b.since.items k 0 ≤ get_or a.since.items k 0) →
+          (m : ℕ) (s : Slot) → leb (get_or a.since.items s.0 0) m ≡ true → leb (get_or b.since.items (passed_on slot heir s).0 0) m ≡ true
+      passes-since heirs lower m s le = elim (cases_Bool (eqb s.0 slot.0)) [
+        | inl t ↦
+            let was = leb-true (get_or a.since.items s.0 0) m le in
+            let same = ap (λ (k : ℕ). get_or a.since.items k 0) (eqb-true s.0 slot.0 t) in
+            rw t (le-leb (get_or b.since.items heir.0 0) m (omega arith))
+        | inr f ↦
+            let was = leb-true (get_or a.since.items s.0 0) m le in
+            let now = lower s.0 in
+            rw f (le-leb (get_or b.since.items s.0 0) m (omega arith))
+      ]
+
       pub held-left : b.limits ≡ a.limits → b.counts ≡ a.counts → b.known ≡ a.known → b.leaves.items ≡ without_slot slot a.leaves.items →
-          ((x : StateId) → slot_of_state b.slots x ≡ cond (same_id x (get_or a.nodes.items slot.0 d).id) None (slot_of_state a.slots x)) → IsHeld b
-      held-left limits counts known leaves slots =
+          ((x : StateId) → slot_of_state b.slots x ≡ cond (same_id x (get_or a.nodes.items slot.0 d).id) None (slot_of_state a.slots x)) →
+          length b.since.items ≡ length a.since.items → get_or b.since.items heir.0 0 ≤ get_or a.since.items slot.0 0 →
+          ((k : ℕ) → get_or b.since.items k 0 ≤ get_or a.since.items k 0) → IsHeld b
+      held-left limits counts known leaves slots as_many heirs lower =
           let most = ap (λ (l : Limits). l.max_kept) limits in
           let total = w.count in
           let long = as-long in
@@ -379,6 +446,13 @@ module _ (a b : Inside) (held : IsHeld a) (slot heir : Slot) (fork : Bool) (p : 
                 ∙ t) held.among_counted);
             once = subst AllDiffer (sym (ids-left slot heir fork g (es ++ fs) (seen b).entries followed ∙ sym (ids-mid es g fs once)))
                 (differ-filter (λ z. not (same_id z g.id)) (map (λ (e : Entry). e.id) (es ++ g ∷ fs)) once);
+            times = (let times = held.times in let nodes = count in omega arith);
+            since = now-pass (λ e. list_all (λ s. leb (get_or a.since.items s.0 0) e.arrival) e.stand_ins)
+                (λ e. list_all (λ s. leb (get_or b.since.items s.0 0) e.arrival) e.stand_ins)
+                (λ o n h t.
+                ap₂ (λ (m : ℕ) (ss : List Slot). list_all (λ s. leb (get_or b.since.items s.0 0) m) ss) h.arrival_stays h.stand_ins
+                ∙ all-passed (λ s. leb (get_or a.since.items s.0 0) o.arrival) (λ s. leb (get_or b.since.items s.0 0) o.arrival) (passed_on slot heir)
+                (passes-since heirs lower o.arrival) o.stand_ins t) held.since;
             indexed = λ x.
                 slots x
                 ∙ ap (λ o. cond (same_id x g.id) None o) (held.indexed x ∙ ap (λ ls. slot_of_id ls x) was)

@@ -1,5 +1,5 @@
 -- What holds of the table's memory at all times.
-use Rattle.std.specs.Prelude.{◌≡◌, ◌+◌, ◌^◌, ◌≤◌, ◌<◌, List, length, map, filter, take, sum, IsTrue, nat_lt, nat_le}
+use Rattle.std.specs.Prelude.{◌≡◌, ◌+◌, ◌^◌, ◌≤◌, ◌<◌, List, length, map, filter, take, sum, IsTrue, nat_lt, nat_le, slice_index_or}
 use Rattle.std.specs.List.{list_all}
 use Rattle.tardis_base.specs.declared.ids.StateId.{StateId}
 use Rattle.tardis_base.specs.declared.ids.Slot.{Slot}
@@ -28,7 +28,8 @@ seen a = record {
 -- nodes, each the place of another node, and no more than states may be kept; the kept states stand in arrival order, and
 -- all have arrived; their paths ascend and are short; their children stand in slots of kept states that arrived later; the
 -- leaves are those without a child; there is a count of 32 bits for each site, and with the root as many have arrived as are
--- counted, all that are kept among them; no state is kept twice, and each state's slot is the last that has its id
+-- counted, all that are kept among them; no state is kept twice, and each state's slot is the last that has its id; there is a
+-- time for each node, and no child of a state that is kept and arrived before that of a slot stands there
 pub record IsHeld (a : Inside) : Type 0 where
   pub valid : IsTrue (are_limits a.limits)
   pub some : 0 < a.kept
@@ -50,4 +51,6 @@ pub record IsHeld (a : Inside) : Type 0 where
   pub counted : a.known ≡ sum a.counts.items + 1
   pub among_counted : IsTrue (list_all (λ e. is_counted a.counts.items e.id) (seen a).entries)
   pub once : AllDiffer (map (λ e. e.id) (seen a).entries)
+  pub times : length a.nodes.items ≤ length a.since.items
+  pub since : IsTrue (list_all (λ e. list_all (λ s. nat_le (slice_index_or a.since.items s.0 0) e.arrival) e.stand_ins) (seen a).entries)
   pub indexed : (x : StateId) → slot_of_state a.slots x ≡ slot_of_id (seen a).entries x

@@ -162,6 +162,7 @@ pub record HasGrown (gains : List Gain) (parents : List Slot) (x : StateId) (slo
   pub child : AreDistinct parents → HasChild x slot parents place old new
   pub parent : IsTrue (is_slot_among (record { 0 = place }) parents) → 1 ≤ length new.children.items
   pub other : is_slot_among (record { 0 = place }) parents ≡ false → new.children.items ≡ old.children.items
+  pub apart : is_slot_among (record { 0 = place }) parents ≡ false → new.stand_ins.items ≡ old.stand_ins.items
   pub slots : (test : Slot → Bool) → IsTrue (list_all test old.stand_ins.items) → IsTrue (test slot) → IsTrue (list_all test new.stand_ins.items)
 
 -- what became of the node at this place below a table that grew
@@ -175,4 +176,5 @@ pub record IsGrownNode (table : Table) (parents : List Slot) (x : StateId) (slot
   pub child : AreDistinct parents → HasChild x slot parents place old new
   pub parent : IsTrue (is_slot_among (record { 0 = place }) parents) → 1 ≤ length new.children.items
   pub other : is_slot_among (record { 0 = place }) parents ≡ false → new.children.items ≡ old.children.items
+  pub apart : is_slot_among (record { 0 = place }) parents ≡ false → new.stand_ins.items ≡ old.stand_ins.items
   pub slots : (test : Slot → Bool) → IsTrue (list_all test old.stand_ins.items) → IsTrue (test slot) → IsTrue (list_all test new.stand_ins.items)

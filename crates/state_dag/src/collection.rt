@@ -1,21 +1,35 @@
 //! What becomes of the nodes and slots as a kept state leaves the table. No call here can fail, and none takes memory.
 
-ghost use Rattle.std.specs.Prelude.{◌≡◌, ℕ, ◌+◌, ◌<◌, ◌++◌, true, [], ◌∷◌, length, map, take, drop, IsTrue, slice_index_or};
+ghost use Rattle.std.specs.List.Sorted.{IsNonDecreasingBy};
+ghost use Rattle.state_dag.specs.Table.{arrival_at};
+ghost use Rattle.state_dag.specs.Grown.{is_slot_among};
+ghost use Rattle.std.specs.Prelude.{◌≡◌, ℕ, ◌+◌, ◌<◌, ◌≤◌, ◌++◌, true, [], ◌∷◌, length, map, take, drop, IsTrue, slice_index_or};
 ghost use Rattle.tardis_base.specs.declared.ids.Slot.{Slot};
 ghost use Rattle.fork_path.specs.Pairs.{are_ascending_pairs};
 ghost use Rattle.state_dag.specs.declared.nodes.Node.{Node};
 ghost use Rattle.state_dag.specs.Views.{entry_of};
-ghost use Rattle.state_dag.specs.Nodes.{are_places};
+ghost use Rattle.state_dag.specs.Nodes.{table_of, are_places};
 ghost use Rattle.state_dag.specs.Detached.{passed_on, passing_on, forgetting, changed_at};
 
-use crate::nodes::Node;
+use crate::nodes::{Node, first_from};
 use tardis_base::Slot;
 
+/// The place of the first of the states before this place that arrived no sooner than so many others, or this place. The
+/// slots stand in arrival order, and it is a binary search.
+pub fn first_holder(nodes: &[Node], kept: &[Slot], place: usize, since: u64) -> usize
+    requires { IsNonDecreasingBy (arrival_at (table_of nodes.now)) kept.now }
+    ensures within { result ≤ place }
+    ensures before { (k : ℕ) (d : Slot) → k < result → arrival_at (table_of nodes.now) (slice_index_or kept.now k d) < since }
+{
+    first_from(nodes, kept, since).min(place)
+}
+
 /// Leaves to the heir, in the slots of the kept states in arrival order, what the one at this place had: its children stand
-/// where the heir does, and no path has its branches any more.
+/// where the heir does, and no path has its branches any more. None of its children is one of a state before the first place.
 pub fn hand_over(
     nodes: &mut Vec<Node>,
     kept: &[Slot],
+    first: usize,
     place: usize,
     gone: Slot,
     heir: Slot,
@@ -23,6 +37,9 @@ pub fn hand_over(
 )
     requires places { IsTrue (are_places nodes.old.items kept.now) }
     requires place { place < length kept.now }
+    requires first { first ≤ place }
+    requires none { (k : ℕ) (d : Node) → IsTrue (is_slot_among (record { 0 = k }) (take first (take place kept.now)))
+        → passing_on gone heir (entry_of k (slice_index_or nodes.old.items k d)) ≡ entry_of k (slice_index_or nodes.old.items k d) }
     ensures count { length nodes.new.items ≡ length nodes.old.items }
     ensures each { (k : ℕ) (d : Node) → k < length nodes.old.items
         → entry_of k (slice_index_or nodes.new.items k d) ≡ changed_at (forgetting gone is_fork) (drop (place + 1) kept.now)
@@ -30,7 +47,8 @@ pub fn hand_over(
     ensures ascending { (k : ℕ) (d : Node) → k < length nodes.old.items → IsTrue (are_ascending_pairs (slice_index_or nodes.old.items k d).path.pairs)
         → IsTrue (are_ascending_pairs (slice_index_or nodes.new.items k d).path.pairs) }
 {
-    pass_on(nodes, &kept[..place], gone, heir);
+    let before = &kept[..place];
+    pass_on(nodes, &before[first..], gone, heir);
     forget(nodes, &kept[place + 1..], gone, is_fork);
 }
 

@@ -34,9 +34,10 @@ mod nodes;
 mod rooms;
 mod slots;
 mod sums;
+mod times;
 
 use changes::{grow, put_node, set_count};
-use collection::{free_slot, hand_over};
+use collection::{first_holder, free_slot, hand_over};
 use growth::{check_path, new_node};
 use id_slots::IdSlots;
 use leads::gains;
@@ -47,6 +48,7 @@ use slots::{common_slot, drop_slot, drop_slots, first_slot, list_slot, next_slot
 use std::alloc::Global;
 use std::marker::Model;
 use tardis_base::{Above, AddFault, Limits, NoMemory, PathList, Slot, StateId};
+use times::{first_arrival, lower_time, put_time};
 
 /// The states of one site, by the slots in which the kept ones stand.
 ///
@@ -64,6 +66,8 @@ pub struct StateDag {
     kept: u32,
     leaves: Vec<Slot>,
     slots: IdSlots,
+    /// By slot: no child of a kept state that arrived before so many others stands there.
+    since: Vec<u64>,
 }
 
 impl Model for StateDag {
@@ -94,6 +98,8 @@ impl StateDag {
         leaves.push(Slot(0))?;
         let mut slots = IdSlots::new(alloc);
         slots.put(StateId::ROOT, Slot(0))?;
+        let mut since = Vec::new(alloc);
+        since.push(0)?;
         Ok(StateDag {
             limits: *limits,
             counts,
@@ -103,6 +109,7 @@ impl StateDag {
             kept: 1,
             leaves,
             slots,
+            since,
         })
     }
 
@@ -114,7 +121,7 @@ impl StateDag {
     ///
     /// The cost grows with the fork paths of the parents and the logarithm of the number of kept states. Where a parent gets
     /// its second child it grows with the number of the states that are kept from its first child on, and with their fork
-    /// paths too.
+    /// paths too; its third child and later ones cost as the first did.
     pub fn add(&mut self, id: StateId, parents: &[Slot]) -> Result<Slot, AddFault>
         requires slots { IsTrue (list_all (is_slot self.old) parents.now) }
         requires first { 1 ≤ id.site }
@@ -143,11 +150,14 @@ impl StateDag {
             &mut self.nodes,
             &mut self.order,
             &mut self.leaves,
+            &mut self.since,
             parents,
             &gains,
         )?;
         let slot = next_slot(&self.order, self.kept);
         self.slots.put(id, slot)?;
+        let since = first_arrival(&self.nodes, parents);
+        put_time(&mut self.since, slot, since);
         drop_slots(&self.nodes, &mut self.leaves, parents);
         grow(&mut self.nodes, parents, &gains, id, slot);
         put_node(&mut self.nodes, slot, node);
@@ -166,8 +176,9 @@ impl StateDag {
     /// stand-in is, and a fork's branches are in no path any more. Records stay: the state is still a parent of its children
     /// and a child of its parents.
     ///
-    /// It takes no memory. The cost grows with the number of slots, with the children of the states that are kept before
-    /// this one, and for a fork with the paths of those kept behind it.
+    /// It takes no memory. The cost grows with the number of slots behind this one, with the number of the states that are kept
+    /// before this one from the first on whose child stands there, and with their children; and for a fork with the paths of
+    /// those kept behind it.
     pub fn detach(&mut self, slot: Slot) -> Slot
         requires { IsSome (shared_slot self.old slot) }
         ensures stand_in { shared_slot self.old slot ≡ Some result }
@@ -192,12 +203,15 @@ impl StateDag {
         let place = self.place(slot);
         let node = self.node(slot);
         let id = node.id;
+        let since = self.since[slot.0 as usize];
         let heir = first_slot(node.stand_ins.as_slice());
         let is_fork = node.children.len() > 1;
         drop_slot(&self.nodes, &mut self.leaves, slot);
         self.slots.remove(id);
         let kept = &self.order[..self.kept as usize];
-        hand_over(&mut self.nodes, kept, place, slot, heir, is_fork);
+        let first = first_holder(&self.nodes, kept, place, since);
+        hand_over(&mut self.nodes, kept, first, place, slot, heir, is_fork);
+        lower_time(&mut self.since, heir, since);
         free_slot(&mut self.order, place);
         self.kept -= 1;
         heir
@@ -231,20 +245,6 @@ impl StateDag {
         ensures none { result ≡ None → (rs : List Record) (ks : List StateId) → Stands self.now rs ks → is_kept rs ks id ≡ false }
     {
         self.slots.get(id)
-    }
-
-    /// Whether a state is kept at the slot. The cost grows with the logarithm of the number of kept states.
-    pub fn has_slot(&self, slot: Slot) -> bool
-        ensures { result ≡ is_slot self.now slot }
-    {
-        match node_at(&self.nodes, slot) {
-            Some(node) => {
-                let kept = self.kept_slots();
-                let place = first_from(&self.nodes, kept, node.arrival);
-                place < kept.len() && kept[place] == slot
-            },
-            None => false,
-        }
     }
 
     /// The place of the state at the slot among the kept ones: how many of these arrived before it. The cost grows with the

@@ -9,14 +9,16 @@ use crate::leads::Gain;
 use crate::nodes::Node;
 use crate::slots::make_slot_room;
 use crate::sums::in_u32;
+use crate::times::make_time_room;
 use tardis_base::{NoMemory, Slot};
 
-/// Makes room for one more state below these parents: for its node and what others get, and for its slot among all and among
-/// the leaves.
+/// Makes room for one more state below these parents: for its node, its time and what others get, and for its slot among all
+/// and among the leaves.
 pub fn make_state_room(
     nodes: &mut Vec<Node>,
     order: &mut Vec<Slot>,
     leaves: &mut Vec<Slot>,
+    since: &mut Vec<u64>,
     parents: &[Slot],
     gains: &[Gain],
 ) -> Result<(), NoMemory>
@@ -26,14 +28,17 @@ pub fn make_state_room(
     ensures same { entries_from 0 nodes.new.items ≡ entries_from 0 nodes.old.items }
     ensures order { order.new.items ≡ order.old.items }
     ensures leaves { leaves.new.items ≡ leaves.old.items }
+    ensures since { since.new.items ≡ since.old.items }
     ensures paths { OnOk result (HasPathRoom nodes.new.items gains.now) }
     ensures children { OnOk result (HasChildRoom nodes.new.items parents.now) }
     ensures node { OnOk result (vec_len nodes.new < vec_capacity nodes.new) }
     ensures slot { OnOk result (vec_len order.new < vec_capacity order.new) }
     ensures leaf { OnOk result (vec_len leaves.new < vec_capacity leaves.new) }
+    ensures time { OnOk result (vec_len since.new < vec_capacity since.new) }
 {
     make_room(nodes, parents, gains)?;
     make_slot_room(order)?;
+    make_time_room(since)?;
     make_slot_room(leaves)
 }
 

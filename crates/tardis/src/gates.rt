@@ -28,6 +28,8 @@ impl<R: Eprint, G: Gate> Gate for TellingGate<'_, R, G> {
 
     ghost faults = { λ g. G.faults g.gate };
 
+    ghost is_bound = { λ g. G.is_bound g.gate };
+
     fn bind(&mut self, address: &str) -> Result<(), Failed> {
         self.gate.bind(address)?;
         // where standard error is closed, nobody waits for the line

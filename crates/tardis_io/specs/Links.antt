@@ -31,11 +31,20 @@ pub record ToldGate (L : Type 0) : Type 0 where
   pub back : List (ℕ × L)
   pub out : ℕ
 
--- what a dial tells: the links that are left, those that were put back, and how many were handed out and not put back
+-- what a dial tells: the links that are left, those that were put back, how many were handed out and not put back, and the
+-- addresses that it was asked for, oldest first, where it tells these
 pub record ToldDial (L : Type 0) : Type 0 where
   pub left : List L
   pub back : List L
   pub out : ℕ
+  pub asked : Option (List (List ℕ))
+
+-- One address more was asked for, where they are told. A dial may stop telling them, and then tells none again.
+abbrev pub AsksFor : Option (List (List ℕ)) → Option (List (List ℕ)) → List ℕ → Type 0
+AsksFor None None address = Unit {0}
+AsksFor (Some old) None address = Unit {0}
+AsksFor None (Some new) address = ⊥
+AsksFor (Some old) (Some new) address = new ≡ old ++ address ∷ []
 
 module _ {L : Type 0} where
   -- the first link that was left is handed out, and none only where none was left
@@ -60,16 +69,17 @@ module _ {L : Type 0} where
   with_back None session link = None
   with_back (Some t) session link = Some (record { left = t.left; back = t.back ++ ((session, link) ∷ []); out = t.out - 1 })
 
-  -- the first link that was left is handed out
-  abbrev pub CallsOne : ToldDial L → ToldDial L → Result L Failed → Type 0
-  CallsOne old new (Ok link) = (old.left ≡ link ∷ new.left) × (new.back ≡ old.back) × (new.out ≡ old.out + 1)
-  CallsOne old new (Err e) = new ≡ old
+  -- the address was asked for, and the first link that was left is handed out, or none
+  abbrev pub CallsOne : ToldDial L → ToldDial L → List ℕ → Result L Failed → Type 0
+  CallsOne old new address (Ok link) = (old.left ≡ link ∷ new.left) × (new.back ≡ old.back) × (new.out ≡ old.out + 1)
+      × AsksFor old.asked new.asked address
+  CallsOne old new address (Err e) = (new.left ≡ old.left) × (new.back ≡ old.back) × (new.out ≡ old.out) × AsksFor old.asked new.asked address
 
-  abbrev pub HandsCalled : Option (ToldDial L) → Option (ToldDial L) → Result L Failed → Type 0
-  HandsCalled None None result = Unit {0}
-  HandsCalled (Some old) (Some new) result = CallsOne old new result
-  HandsCalled None (Some new) result = ⊥
-  HandsCalled (Some old) None result = ⊥
+  abbrev pub HandsCalled : Option (ToldDial L) → Option (ToldDial L) → List ℕ → Result L Failed → Type 0
+  HandsCalled None None address result = Unit {0}
+  HandsCalled (Some old) (Some new) address result = CallsOne old new address result
+  HandsCalled None (Some new) address result = ⊥
+  HandsCalled (Some old) None address result = ⊥
 
   abbrev pub IsCalled : Option (ToldDial L) → Type 0
   IsCalled None = Unit {0}
@@ -78,12 +88,18 @@ module _ {L : Type 0} where
   -- one more was put back
   abbrev pub with_hung : Option (ToldDial L) → L → Option (ToldDial L)
   with_hung None link = None
-  with_hung (Some t) link = Some (record { left = t.left; back = t.back ++ (link ∷ []); out = t.out - 1 })
+  with_hung (Some t) link = Some (record { left = t.left; back = t.back ++ (link ∷ []); out = t.out - 1; asked = t.asked })
 
--- what contracts see of a gate in memory: what it tells, and its plan
+-- what contracts see of a gate in memory: what it tells, its plan, and whether it listens
 pub record KeptGate (L : Type 0) : Type 0 where
   pub links : ToldGate L
   pub plan : Plan
+  pub bound : Bool
+
+-- the addresses that a dial in memory was asked for, unless memory for one was wanting
+abbrev pub told_addresses : Bool → List (List ℕ) → Option (List (List ℕ))
+told_addresses true addresses = None
+told_addresses false addresses = Some addresses
 
 -- what contracts see of a dial in memory
 pub record KeptDial (L : Type 0) : Type 0 where

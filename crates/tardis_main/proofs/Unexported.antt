@@ -1,6 +1,8 @@
 -- How an export and an import end that had no memory: they read nothing and gave nothing.
-use Rattle.std.proofs.Common.{◌≡◌, ℕ, ◌<◌, List, [], length, Option, refl, sym, subst, arith}
+use Rattle.std.proofs.Common.{◌≡◌, ℕ, ◌<◌, List, [], length, refl, sym, subst, arith}
 use Rattle.tardis_io.proofs.Told.{same}
+use Rattle.tardis_io.specs.declared.streams.Source.{Ghosts as ASource}
+use Rattle.tardis_io.specs.declared.streams.Sink.{Ghosts as ASink}
 use Rattle.tardis_io.specs.declared.statuses.Status.TheVariants.{NoMemory}
 use Rattle.tardis_base.specs.declared.ids.StateId.{StateId}
 use Rattle.frame_cut.specs.Frames.{IsCut}
@@ -12,10 +14,9 @@ use Rattle.branch_export.specs.Imported.{Imported, ImportsAs}
 use Rattle.export_run.specs.Exporting.{ExportOutcome, ExportEndsAs}
 use Rattle.tardis_main.specs.Program.{ExportEnds, ImportEnds}
 
-module _ {I O : Type 0} (left : I → Option (List ℕ)) (reads : I → ℕ) (given : O → Option (List ℕ)) (writes : O → ℕ) (input : I) (output : O)
-    (words : List (List ℕ)) where
-  unexported : (site : Site) (state : StateId) (first : List ℕ) → IsSound site → ExportOutcome NoMemory state (λ s. s ≡ site) IsSound (given output)
-      (given output) first first
+module _ {I O : Type 0} (i : ASource I) (o : ASink O) (input : I) (output : O) (words : List (List ℕ)) where
+  unexported : (site : Site) (state : StateId) (first : List ℕ) → IsSound site → ExportOutcome NoMemory state (λ s. s ≡ site) IsSound (o.given output)
+      (o.given output) first first
   unexported site state first sound = record {
     bodies = [];
     held = [];
@@ -26,22 +27,22 @@ module _ {I O : Type 0} (left : I → Option (List ℕ)) (reads : I → ℕ) (gi
     whole = λ all rest cut. tt;
   }
 
-  pub no_export : (site : Site) (state : StateId) → IsSound site → ExportEnds left reads given writes input input output output words NoMemory site state
+  pub no_export : (site : Site) (state : StateId) → IsSound site → ExportEnds i o input input output output words NoMemory site state
   no_export site state sound = record {
-    outcome = same (left input) (ExportOutcome NoMemory state (λ s. s ≡ site) IsSound (given output) (given output)) (λ x. unexported site state x sound);
-    exact = same (left input)
+    outcome = same (i.left input) (ExportOutcome NoMemory state (λ s. s ≡ site) IsSound (o.given output) (o.given output)) (λ x. unexported site state x sound);
+    exact = same (i.left input)
         (λ first now. (all : List (List ℕ)) (rest : List ℕ) → IsCut first all rest → length first < most_taken →
-        UnlessFaulty left reads writes input input output output (ExportEndsAs state rest NoMemory))
+        UnlessFaulty i.left i.faults o.faults input input output output (ExportEndsAs state rest NoMemory))
         (λ x all rest cut short r w. tt);
     end = tt;
     nothing = λ e. refl;
   }
 
-  pub no_import : ImportEnds left reads given writes input input output output words NoMemory
+  pub no_import : ImportEnds i o input input output output words NoMemory
   no_import = record {
-    outcome = same (left input) (Imported NoMemory (given output) (given output)) (λ x. record { taken = []; read = refl; ends = refl });
-    exact = same (left input) (λ first now. length first < most_taken →
-        UnlessFaulty left reads writes input input output output (ImportsAs first NoMemory)) (λ x short r w. tt);
+    outcome = same (i.left input) (Imported NoMemory (o.given output) (o.given output)) (λ x. record { taken = []; read = refl; ends = refl });
+    exact = same (i.left input) (λ first now. length first < most_taken →
+        UnlessFaulty i.left i.faults o.faults input input output output (ImportsAs first NoMemory)) (λ x short r w. tt);
     end = tt;
     nothing = λ e. refl;
   }

@@ -54,19 +54,17 @@ pub fn tardis<I: Source, O: Sink, G: Gate, D: Dial + Send, S: Store, R: Threads 
     ensures usage { result ≡ Status.Usage → AreUnknown (map (λ w. string_bytes w) words.now) }
     ensures unknown { AreUnknown (map (λ w. string_bytes w) words.now) → (result ≡ Status.Usage)
         × (input.new ≡ input.old) × (output.new ≡ output.old) × (gate.new ≡ gate.old) × (dial.new ≡ dial.old) × (store.new ≡ store.old) }
-    ensures run { Runs I.left I.faults O.given O.faults input.old input.new output.old output.new (map (λ w. string_bytes w) words.now) result }
-    ensures shell { Shells I.left I.faults O.given O.faults input.old input.new output.old output.new (map (λ w. string_bytes w) words.now) result }
-    ensures audit { Audits I.left I.faults O.given O.faults input.old input.new output.old output.new (map (λ w. string_bytes w) words.now) result }
-    ensures world { Worlds I.left I.faults O.given O.faults input.old input.new output.old output.new (map (λ w. string_bytes w) words.now) result }
-    ensures auto { Autos I.left I.faults O.given O.faults input.old input.new output.old output.new (map (λ w. string_bytes w) words.now) result }
-    ensures export { Exports I.left I.faults O.given O.faults input.old input.new output.old output.new (map (λ w. string_bytes w) words.now) result }
-    ensures import { Imports I.left I.faults O.given O.faults input.old input.new output.old output.new (map (λ w. string_bytes w) words.now) result }
-    ensures load { Loads I.left I.faults O.given O.faults input.old input.new output.old output.new (map (λ w. string_bytes w) words.now) result }
-    ensures serve { Serves G.Link.left G.Link.given G.Link.take_faults G.Link.faults G.told G.faults
-        D.Link.left D.Link.given D.Link.take_faults D.Link.faults D.told D.faults O.given O.faults gate.old gate.new dial.old dial.new output.old output.new
+    ensures run { Runs I.Source O.Sink input.old input.new output.old output.new (map (λ w. string_bytes w) words.now) result }
+    ensures shell { Shells I.Source O.Sink input.old input.new output.old output.new (map (λ w. string_bytes w) words.now) result }
+    ensures audit { Audits I.Source O.Sink input.old input.new output.old output.new (map (λ w. string_bytes w) words.now) result }
+    ensures world { Worlds I.Source O.Sink input.old input.new output.old output.new (map (λ w. string_bytes w) words.now) result }
+    ensures auto { Autos I.Source O.Sink input.old input.new output.old output.new (map (λ w. string_bytes w) words.now) result }
+    ensures export { Exports I.Source O.Sink input.old input.new output.old output.new (map (λ w. string_bytes w) words.now) result }
+    ensures import { Imports I.Source O.Sink input.old input.new output.old output.new (map (λ w. string_bytes w) words.now) result }
+    ensures load { Loads I.Source O.Sink input.old input.new output.old output.new (map (λ w. string_bytes w) words.now) result }
+    ensures serve { Serves G.Gate G.Link.Duplex.own G.Link.Sink D.Dial D.Link.Duplex.own D.Link.Sink O.Sink gate.old gate.new dial.old dial.new output.old output.new
         (map (λ w. string_bytes w) words.now) result }
-    ensures durable { Durables I.left I.faults O.given O.faults S.Disk.honest S.Disk.reads S.Disk.may_leave S.Disk.moment S.Disk.left_since S.honest S.told
-        S.faults store.old store.new input.old input.new output.old output.new (map (λ w. string_bytes w) words.now) result }
+    ensures durable { Durables I.Source O.Sink S.Store S.Disk.Disk store.old store.new input.old input.new output.old output.new (map (λ w. string_bytes w) words.now) result }
     ensures unread { (plan : Serving) → AreServe (map (λ w. string_bytes w) words.now) plan → input.new ≡ input.old }
     ensures unbound { ((plan : Serving) → AreServe (map (λ w. string_bytes w) words.now) plan → ⊥) → (gate.new ≡ gate.old) × (dial.new ≡ dial.old) }
     ensures unstored { ((place : Place) (path : List ℕ) → AreDurable (map (λ w. string_bytes w) words.now) place path → ⊥) → store.new ≡ store.old }

@@ -1,3 +1,4 @@
 -- What a server does.
 pub mod Ends
 pub mod Sites
+pub mod Runs

@@ -4,11 +4,15 @@
 #![tactic(auto)]
 
 mod asks;
+mod doors;
 mod endings;
 mod helps;
+mod programs;
 mod sites;
 
 pub use asks::plan_of;
+pub use doors::Doors;
 pub use endings::{DaemonEnd, GateFault};
 pub use helps::{USAGE, VERSION, help_text};
+pub use programs::{carry_out, tardisd};
 pub use sites::serve_place;

@@ -1,12 +1,13 @@
 -- Writing words from bytes: what is left of the bytes, and the line so far.
 use Rattle.std.specs.Prelude.{◌≡◌, ℕ, ◌+◌, ◌==◌, Bool, false, List, ◌∷◌, ◌++◌, length, Option, Some, None, flat_map, nat_le, option_and_then}
+use Rattle.text_words.specs.declared.line_bufs.TheConstants.{MAX_LINE}
 use Rattle.std.specs.Bool.{then_some}
 use Rattle.wire_item.specs.Fronts.{Front}
 use Rattle.text_words.specs.Words.{Word}
 
 -- the most bytes of a line: four for each byte of the longest spelling, and 64 more
 abbrev pub longest_line : ℕ
-longest_line = 4194368
+longest_line = MAX_LINE
 
 -- what is left and the line; None once something other than the spelling was met, or the line was too long
 abbrev pub Putting : Type 0

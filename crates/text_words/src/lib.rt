@@ -7,7 +7,7 @@ mod word_bytes;
 mod word_laws;
 mod words;
 
-pub use line_bufs::LineBuf;
+pub use line_bufs::{LineBuf, MAX_LINE};
 pub use unread::Unread;
 pub use word_bytes::{read_bytes, read_hex};
 pub use word_laws::words_are_read;

@@ -5,10 +5,10 @@ ghost use Rattle.text_words.specs.Puts.{longest_line};
 
 use std::alloc::Global;
 use std::marker::Model;
-use tardis_base::NoMemory;
+use tardis_base::{MAX_FRAME, NoMemory};
 
 /// The most bytes of a line: four for each byte of the longest spelling, and 64 more.
-const ROOM: usize = 4_194_368;
+pub const MAX_LINE: usize = 4 * MAX_FRAME + 64;
 
 /// The bytes of one line, in room that was taken once.
 #[derive(Drop)]
@@ -32,7 +32,7 @@ impl LineBuf {
     pub fn new(alloc: Global) -> Result<LineBuf, NoMemory>
         ensures { IfOk result (λ b. b ≡ []) }
     {
-        match Vec::with_capacity(alloc, ROOM) {
+        match Vec::with_capacity(alloc, MAX_LINE) {
             Ok(bytes) => Ok(LineBuf { bytes }),
             Err(_) => Err(NoMemory),
         }
@@ -58,7 +58,7 @@ impl LineBuf {
         ensures fits { result ≡ nat_le (length self.old + length text.now) longest_line }
         ensures line { self.new ≡ (if result then self.old ++ text.now else self.old) }
     {
-        if text.len() > ROOM - self.bytes.len() {
+        if text.len() > MAX_LINE - self.bytes.len() {
             return false;
         }
         let _ = self.bytes.extend_from_slice(text);

@@ -2,6 +2,7 @@
 use Rattle.std.proofs.Common.{◌≡◌, ℕ, ◌+◌, ◌-◌, ◌<◌, List, [], ◌∷◌, ◌++◌, length, get_or, set, take, drop, refl, sym, ap, ◌∙◌, subst, arith, append_assoc}
 use Rattle.std.proofs.Common.{append-nil, add-one}
 use Rattle.std.specs.List.{concat}
+use Rattle.tardis_base.specs.Sizes.{longest_framed}
 use Rattle.trail_log.specs.Frames.{room_behind}
 
 -- a new chunk adds no bytes, and has all its room
@@ -9,7 +10,7 @@ pub concat_new : (chunks : List (List ℕ)) → concat (chunks ++ [] ∷ []) ≡
 concat_new [] = refl
 concat_new (c ∷ cs) = ap (λ t. c ++ t) (concat_new cs)
 
-pub room_new : (chunks : List (List ℕ)) → room_behind (chunks ++ [] ∷ []) ≡ 1048580
+pub room_new : (chunks : List (List ℕ)) → room_behind (chunks ++ [] ∷ []) ≡ longest_framed
 room_new [] = refl
 room_new (c ∷ []) = refl
 room_new (c ∷ d ∷ cs) = room_new (d ∷ cs)
@@ -19,9 +20,9 @@ some_chunk [] room = room
 some_chunk (c ∷ cs) room = omega arith
 
 -- the room is that of the last chunk
-pub room_last : (chunks : List (List ℕ)) (k : ℕ) (x : List ℕ) → length chunks ≡ ℕ.suc k → x ≡ get_or chunks k x → room_behind chunks ≡ 1048580 - length x
+pub room_last : (chunks : List (List ℕ)) (k : ℕ) (x : List ℕ) → length chunks ≡ ℕ.suc k → x ≡ get_or chunks k x → room_behind chunks ≡ longest_framed - length x
 room_last [] k x long is = absurd (omega arith)
-room_last (c ∷ []) ℕ.zero x long is = ap (λ y. 1048580 - length y) (sym is)
+room_last (c ∷ []) ℕ.zero x long is = ap (λ y. longest_framed - length y) (sym is)
 room_last (c ∷ []) (ℕ.suc k) x long is = absurd (omega arith)
 room_last (c ∷ b ∷ cs) ℕ.zero x long is = absurd (omega arith)
 room_last (c ∷ b ∷ cs) (ℕ.suc k) x long is = room_last (b ∷ cs) k x (omega arith) is
@@ -36,7 +37,7 @@ concat_last (c ∷ b ∷ cs) ℕ.zero x more long is = absurd (omega arith)
 concat_last (c ∷ b ∷ cs) (ℕ.suc k) x more long is = ap (λ t. c ++ t) (concat_last (b ∷ cs) k x more (omega arith) is)
     ∙ sym (append_assoc c (concat (b ∷ cs)) more)
 
-pub room_set : (chunks : List (List ℕ)) (k : ℕ) (x : List ℕ) → length chunks ≡ ℕ.suc k → room_behind (set chunks k x) ≡ 1048580 - length x
+pub room_set : (chunks : List (List ℕ)) (k : ℕ) (x : List ℕ) → length chunks ≡ ℕ.suc k → room_behind (set chunks k x) ≡ longest_framed - length x
 room_set [] k x long = absurd (omega arith)
 room_set (c ∷ []) ℕ.zero x long = refl
 room_set (c ∷ []) (ℕ.suc k) x long = absurd (omega arith)

@@ -2,6 +2,7 @@
 use Rattle.std.specs.Prelude.{◌≡◌, ℕ, ◌+◌, ◌-◌, ◌<◌, ◌≤◌, List, [], ◌∷◌, ◌++◌, length, take, drop, map}
 use Rattle.std.specs.Int.{w16, to_be_bytes}
 use Rattle.std.specs.List.{AllByRecursion}
+use Rattle.tardis_base.specs.Sizes.{longest_framed, longest_request}
 use Rattle.tardis_base.specs.Plain.{Event}
 use Rattle.frame_cut.specs.Frames.{frames, word, IsCut}
 use Rattle.frame_cut.specs.Events.{event_of}
@@ -20,7 +21,7 @@ IsRead bytes trail = (bodies : List (List ℕ)) × (IsCut bytes bodies [] × (ma
 
 -- an entry whose frame may be written
 abbrev pub IsEntry : Event → Type 0
-IsEntry e = (e.0 < 65536) × (length e.1 ≤ 1048574)
+IsEntry e = (e.0 < 65536) × (length e.1 ≤ longest_request)
 
 -- the entries whose frames stand in the bytes, and at most so many of them
 unfoldable pub entries_within : ℕ → List ℕ → List Event
@@ -41,5 +42,5 @@ pub record IsTrail (bytes : List ℕ) : Type 0 where
 -- how many bytes the last of the chunks has room for
 abbrev pub room_behind : List (List ℕ) → ℕ
 room_behind [] = 0
-room_behind (chunk ∷ []) = 1048580 - length chunk
+room_behind (chunk ∷ []) = longest_framed - length chunk
 room_behind (chunk ∷ next ∷ chunks) = room_behind (next ∷ chunks)

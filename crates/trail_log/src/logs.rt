@@ -1,6 +1,7 @@
 //! The entries of a trail, kept as the frames that they are written as.
 
 ghost use Rattle.std.specs.Prelude.{◌≡◌, ◌+◌, ◌-◌, ◌≤◌, [], ◌∷◌, ◌++◌, length, OnOk};
+ghost use Rattle.tardis_base.specs.Sizes.{longest_framed, longest_request};
 ghost use Rattle.tardis_io.specs.Told.{WhileTold, GivesAll};
 ghost use Rattle.tardis_io.specs.Faults.{HasCause};
 ghost use Rattle.std.specs.List.{AllByRecursion};
@@ -44,10 +45,12 @@ impl EntryLog {
         }
     }
 
-    /// Makes room for the frame of an entry that has so many bytes. With no memory the entries and the room stay.
+    /// Makes room for the frame of an entry that has so many bytes. Where there is room nothing changes; else a chunk is
+    /// taken. With no memory the entries and the room stay.
     pub(crate) fn reserve(&mut self, count: usize) -> Result<(), NoMemory>
-        requires { count ≤ 1048580 }
+        requires { count ≤ longest_framed }
         ensures same { self.new.trail ≡ self.old.trail }
+        ensures kept { count ≤ self.old.room → self.new ≡ self.old }
         ensures room { OnOk result (count ≤ self.new.room) }
     {
         if count <= self.spare {
@@ -66,7 +69,7 @@ impl EntryLog {
     /// Puts an entry behind the others, by one copy. It takes no memory.
     pub(crate) fn push(&mut self, actor: u16, request: &[u8])
         requires room { length request.now + 6 ≤ self.old.room }
-        requires fits { length request.now ≤ 1048574 }
+        requires fits { length request.now ≤ longest_request }
         ensures { self.new.trail ≡ self.old.trail ++ (actor, request.now) ∷ [] }
     {
         let last = self.chunks.len() - 1;

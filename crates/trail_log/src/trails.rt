@@ -1,6 +1,7 @@
 //! A machine that remembers what it was asked.
 
 ghost use Rattle.std.specs.Prelude.{◌≡◌, ◌≢◌, ℕ, ◌+◌, ◌≤◌, [], Some, length};
+ghost use Rattle.tardis_base.specs.Sizes.{longest_request};
 ghost use Rattle.tardis_base.specs.Plain.{state_after, reply_at};
 ghost use Rattle.tardis_io.specs.Told.{WhileTold, GivesAll};
 ghost use Rattle.tardis_io.specs.Faults.{HasCause};
@@ -60,7 +61,7 @@ impl<M: Machine> Trailed<M> {
     /// Its memory is taken before the machine acts. Where it ends otherwise than by `Acted::Done` nothing is changed and
     /// `out` is empty.
     pub fn act(&mut self, actor: u16, request: &[u8], out: &mut ReplyBuf) -> Acted
-        requires { length request.now ≤ 1048574 }
+        requires { length request.now ≤ longest_request }
         ensures trail { self.new.trail ≡ trail_with result self.old.trail (actor, request.now) }
         ensures reply { result ≡ Done → reply_at M.plain (M.opening self.old.machine) self.new.trail (length self.old.trail) ≡ Some out.new }
         ensures full { IsFullAt result (bytes_of self.old.trail) (length request.now + 6) self.old.max_trail }

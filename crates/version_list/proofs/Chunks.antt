@@ -1,13 +1,13 @@
 -- Chunks of keys by slot.
 use Rattle.std.proofs.Common.{◌≡◌, ℕ, ◌+◌, ◌≤◌, ◌<◌, ◌==◌, Bool, true, false, cond, ◌||◌, not, List, [], ◌∷◌, ◌++◌, length, take, drop, Option, Some, is_some}
-use Rattle.std.proofs.Common.{refl, sym, ap, subst, inl, inr, arith}
-use Rattle.std.specs.List.{list_any}
+use Rattle.std.proofs.Common.{refl, sym, ap, subst, ◌∙◌, inl, inr, arith}
+use Rattle.std.specs.List.{list_all, list_any}
 use Rattle.std.specs.Map.{lookup, set_value}
-use Rattle.std.proofs.lemmas.Bool.{cases_Bool, false_from_ne_true, both_ways, eqb-true, eq-eqb, or_parts}
+use Rattle.std.proofs.lemmas.Bool.{cases_Bool, false_from_ne_true, both_ways, eqb-true, eq-eqb, or_parts, and_parts, and_from}
 use Rattle.indexmap.specs.IndexMap.{insert_entry}
 use Rattle.tardis_base.specs.declared.ids.Slot.{Slot}
 use Rattle.tardis_base.specs.Keys.{is_key_among}
-use Rattle.version_list.specs.Notes.{Chunks, same_slot, is_key_in, is_noted_in, chunks_in}
+use Rattle.version_list.specs.Notes.{Chunks, same_slot, is_key_in, is_noted_in, chunks_in, are_full, are_all_full, chunks_of}
 
 same-from : (a b : Slot) → same_slot a b ≡ true → a ≡ b
 same-from a b e = ap (λ n. let s : Slot = record { 0 = n } in s) (eqb-true a.0 b.0 e)
@@ -107,3 +107,60 @@ in-first k (x ∷ xs) = ap (λ b. b || is_key_in k xs) (sym (or-none (is_key_amo
 pub one-fewer : {X : Type 0} (xs : List X) → 0 < length xs → length (drop 1 xs) + 1 ≡ length xs
 one-fewer [] some = absurd (omega arith)
 one-fewer (x ∷ xs) some = omega arith
+
+-- ===== No chunk without keys
+
+-- the keys of one chunk, or of none
+pub in-one : (k : List ℕ) (ks : List (List ℕ)) → is_key_in k (chunks_of ks) ≡ is_key_among k ks
+in-one k [] = refl
+in-one k (x ∷ ks) = or-none (is_key_among k (x ∷ ks))
+
+pub full-of : (ks : List (List ℕ)) → are_full (chunks_of ks) ≡ true
+full-of [] = refl
+full-of (k ∷ ks) =
+    let n = length (k ∷ ks) in
+    and_from (not (n == 0)) true (ap not (false_from_ne_true (n == 0) (λ t. let e = eqb-true n 0 t in omega (arith, e)))) refl
+
+pub full-both : (xs ys : Chunks) → are_full xs ≡ true → are_full ys ≡ true → are_full (xs ++ ys) ≡ true
+full-both [] ys all also = also
+full-both (x ∷ xs) ys all also =
+    let parts = and_parts (not (length x == 0)) (are_full xs) all in
+    and_from (not (length x == 0)) (are_full (xs ++ ys)) parts.0 (full-both xs ys parts.1 also)
+
+-- where one of at most one chunk has a key, each has
+pub full-one : (xs : Chunks) → length xs ≤ 1 → list_any (λ c. not (length c == 0)) xs ≡ true → are_full xs ≡ true
+full-one [] few some = refl
+full-one (x ∷ []) few some = and_from (not (length x == 0)) true (sym (or-none (not (length x == 0))) ∙ some) refl
+full-one (x ∷ y ∷ xs) few some = absurd (omega arith)
+
+pub full-found : (slot : Slot) (es : List (Slot × Chunks)) (old : Chunks) → lookup (same_slot slot) es ≡ Some old → are_all_full es ≡ true → are_full old ≡ true
+full-found slot [] old e all = absurd (let bad : ⊥ = cc in bad)
+full-found slot (f ∷ es) old e all =
+    let parts = and_parts (are_full f.1) (are_all_full es) all in
+    elim (cases_Bool (same_slot slot f.0)) [
+      | inl t ↦
+          let here : Some f.1 ≡ Some old = rw t at e in
+          let same : f.1 ≡ old = cc in
+          subst (λ cs. are_full cs ≡ true) same parts.0
+      | inr n ↦ full-found slot es old (rw n at e) parts.1
+    ]
+
+pub full-set : (slot : Slot) (w : Chunks) (es : List (Slot × Chunks)) → are_full w ≡ true → are_all_full es ≡ true →
+    are_all_full (set_value (same_slot slot) es w) ≡ true
+full-set slot w [] own all = refl
+full-set slot w (f ∷ es) own all =
+    let parts = and_parts (are_full f.1) (are_all_full es) all in
+    elim (cases_Bool (same_slot slot f.0)) [
+      | inl t ↦ rw t (and_from (are_full w) (are_all_full es) own parts.1)
+      | inr n ↦ rw n (and_from (are_full f.1) (are_all_full (set_value (same_slot slot) es w)) parts.0 (full-set slot w es own parts.1))
+    ]
+
+pub full-inserted : (eq : Slot → Slot → Bool) (es : List (Slot × Chunks)) (slot : Slot) (w : Chunks) → are_full w ≡ true → are_all_full es ≡ true →
+    are_all_full (insert_entry eq es slot w) ≡ true
+full-inserted eq [] slot w own all = and_from (are_full w) true own refl
+full-inserted eq (f ∷ es) slot w own all =
+    let parts = and_parts (are_full f.1) (are_all_full es) all in
+    elim (cases_Bool (eq slot f.0)) [
+      | inl t ↦ rw t (and_from (are_full w) (are_all_full es) own parts.1)
+      | inr n ↦ rw n (and_from (are_full f.1) (are_all_full (insert_entry eq es slot w)) parts.0 (full-inserted eq es slot w own parts.1))
+    ]

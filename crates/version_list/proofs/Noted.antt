@@ -13,6 +13,8 @@ use Rattle.tardis_base.proofs.WriteSets.{has_key-write_of}
 use Rattle.version_list.specs.declared.histories.Version.{Version}
 use Rattle.version_list.specs.Lists.{Lists, versions_in, version_by, have_come_before, AllBefore}
 use Rattle.version_list.specs.Versions.{Chunks, same_slot, is_key_in, has_version_at, AreNoted}
+use Rattle.version_list.specs.Notes.{chunks_of}
+use Rattle.version_list.proofs.Chunks.{in-one}
 
 pub any-push : {X : Type 0} (p : X → Bool) (xs ys : List X) → list_any p (xs ++ ys) ≡ (list_any p xs || list_any p ys)
 any-push p [] ys = refl
@@ -73,22 +75,22 @@ module _ (arrival : Slot → ℕ) (old new : Lists) (es fs : List (Slot × Chunk
       → ((k : List ℕ) → versions_in new k ≡ versions_in old k ++ version_by slot writer (write_of k ws))
       → ((k : List ℕ) → is_key_among k keys ≡ has_key k ws)
       → AllBefore arrival slot old
-      → ((q : Slot) → lookup (same_slot q) fs ≡ cond (same_slot slot q) (Some (keys ∷ [])) (lookup (same_slot q) es))
+      → ((q : Slot) → lookup (same_slot q) fs ≡ cond (same_slot slot q) (Some (chunks_of keys)) (lookup (same_slot q) es))
       → AreNoted new fs
   noted-added noted added written before inserted = λ q k.
       let all = any-push (λ (v : Version). same_slot v.slot q) (versions_in old k) (version_by slot writer (write_of k ws)) in
       let now = ap (λ vs. has_version_at q vs) (added k) ∙ all in
       elim (cases_Bool (same_slot slot q)) [
         | inl t ↦
-            let fresh = ap (λ o. option_map_or (λ (cs : Chunks). cs) o []) (inserted q ∙ ap (λ b. cond b (Some (keys ∷ [])) (lookup (same_slot q) es)) t) in
+            let fresh = ap (λ o. option_map_or (λ (cs : Chunks). cs) o []) (inserted q ∙ ap (λ b. cond b (Some (chunks_of keys)) (lookup (same_slot q) es)) t) in
             let none = subst (λ s. has_version_at s (versions_in old k) ≡ false) (slots-from_same slot q t)
             (none-at_new arrival slot (versions_in old k) (before k)) in
             let own = subst (λ s. has_version_at s (version_by slot writer (write_of k ws)) ≡ is_some (write_of k ws)) (slots-from_same slot q t)
             (at-own slot writer (write_of k ws)) in
-            ap (is_key_in k) fresh ∙ or-false (is_key_among k keys) ∙ written k ∙ has_key-write_of k ws ∙ sym own
+            ap (is_key_in k) fresh ∙ in-one k keys ∙ written k ∙ has_key-write_of k ws ∙ sym own
             ∙ ap (λ b. b || has_version_at q (version_by slot writer (write_of k ws))) (sym none) ∙ sym now
         | inr f ↦
-            let stays = ap (λ o. option_map_or (λ (cs : Chunks). cs) o []) (inserted q ∙ ap (λ b. cond b (Some (keys ∷ [])) (lookup (same_slot q) es)) f) in
+            let stays = ap (λ o. option_map_or (λ (cs : Chunks). cs) o []) (inserted q ∙ ap (λ b. cond b (Some (chunks_of keys)) (lookup (same_slot q) es)) f) in
             let none = at-other slot q writer (write_of k ws) f in
             ap (is_key_in k) stays ∙ noted q k ∙ sym (or-false (has_version_at q (versions_in old k)))
             ∙ ap (λ b. has_version_at q (versions_in old k) || b) (sym none) ∙ sym now

@@ -1,6 +1,6 @@
 -- The keys noted for each state, in chunks.
-use Rattle.std.specs.Prelude.{ℕ, Bool, ◌==◌, ◌+◌, List, [], ◌∷◌, is_some, length}
-use Rattle.std.specs.List.{list_any}
+use Rattle.std.specs.Prelude.{ℕ, Bool, ◌==◌, ◌+◌, not, List, [], ◌∷◌, is_some, length}
+use Rattle.std.specs.List.{list_all, list_any}
 use Rattle.std.specs.Map.{lookup}
 use Rattle.std.specs.Option.{option_map_or}
 use Rattle.tardis_base.specs.declared.ids.Slot.{Slot}
@@ -36,3 +36,16 @@ is_noted_in slot es = is_some (lookup (same_slot slot) es)
 abbrev pub chunks_in : List (Slot × Chunks) → ℕ
 chunks_in [] = 0
 chunks_in (e ∷ es) = length e.1 + chunks_in es
+
+-- each of the chunks has a key
+abbrev pub are_full : Chunks → Bool
+are_full chunks = list_all (λ c. not (length c == 0)) chunks
+
+-- so it is with the chunks at all slots
+abbrev pub are_all_full : List (Slot × Chunks) → Bool
+are_all_full es = list_all (λ e. are_full e.1) es
+
+-- the keys in one chunk, or in none where there is no key
+abbrev pub chunks_of : List (List ℕ) → Chunks
+chunks_of [] = []
+chunks_of (k ∷ ks) = (k ∷ ks) ∷ []

@@ -10,7 +10,7 @@ ghost use Rattle.version_list.specs.Lists.{no_lists, keys_in, listed_in, version
 ghost use Rattle.version_list.specs.Lists.{are_in_order, AllInOrder, AllBefore};
 ghost use Rattle.version_list.specs.Reads.{latest_version};
 ghost use Rattle.version_list.specs.Versions.{has_version_at};
-ghost use Rattle.version_list.specs.Notes.{is_key_in};
+ghost use Rattle.version_list.specs.Notes.{is_key_in, are_full};
 ghost use Rattle.version_list.specs.Promoted.{promoted, promoted_if, moves};
 
 use crate::notes::{KeyChunks, keep, take_first};
@@ -310,6 +310,7 @@ impl KeyLists {
             ≡ promoted_if (is_key_in k chunks) (A.arrival_of dag.now) from to (versions_in self.old k) }
         ensures kept { (k : List ℕ) → is_key_in k result ≡ (is_key_in k chunks && moves from to (versions_in self.old k)) }
         ensures count { length result ≤ length chunks }
+        ensures full { IsTrue (are_full result) }
         ensures keys { keys_in self.new ≡ keys_in self.old }
         ensures order { AllInOrder (A.is_kept dag.now) (A.arrival_of dag.now) self.new }
     {

@@ -4,7 +4,7 @@ ghost use Rattle.std.specs.Prelude.{◌≡◌, ◌==◌, ℕ, List, ◌+◌, ◌
 ghost use Rattle.std.specs.List.{list_any};
 ghost use Rattle.std.specs.Map.{lookup};
 ghost use Rattle.tardis_base.specs.declared.ids.Slot.{Slot};
-ghost use Rattle.version_list.specs.Notes.{same_slot, is_key_in, chunks_for, chunks_in, is_noted_in};
+ghost use Rattle.version_list.specs.Notes.{same_slot, is_key_in, chunks_for, chunks_in, is_noted_in, are_full, chunks_of};
 
 use indexmap::IndexMap;
 use std::alloc::Global;
@@ -13,7 +13,7 @@ use std::marker::Model;
 use std::mem;
 use tardis_base::{KeyList, NoMemory, Slot};
 
-/// Keys, as each state brought its own. A key stands in one chunk.
+/// Keys, as each state brought its own. A key stands in one chunk, and no chunk is without keys.
 pub type KeyChunks = LinkedList<KeyList>;
 
 /// The most chunks that are made, so that no two numbers of them have a sum that doesn't fit.
@@ -33,15 +33,15 @@ pub(crate) struct Notes {
 }
 
 impl Model for Notes {
-    ghost use Rattle.std.specs.Prelude.{◌≡◌, ◌+◌, ◌≤◌, ◌^◌, length, []};
+    ghost use Rattle.std.specs.Prelude.{◌≡◌, ◌+◌, ◌≤◌, ◌^◌, length, [], IsTrue};
     ghost use Rattle.indexmap.specs.IndexMap.{spare};
-    ghost use Rattle.version_list.specs.Notes.{Noted, chunks_in};
+    ghost use Rattle.version_list.specs.Notes.{Noted, chunks_in, are_all_full};
 
     ghost Value = { Noted };
 
     ghost view = { λ s. record { by_slot = s.chunks.entries; states = spare s.chunks; chunks = length s.next; made = s.made } };
 
-    ghost invariant = { λ s. (s.none ≡ []) × (length s.next ≤ 1) × (chunks_in s.chunks.entries + length s.next ≤ s.made) × (s.made ≤ 4611686018427387904) };
+    ghost invariant = { λ s. (s.none ≡ []) × (length s.next ≤ 1) × (chunks_in s.chunks.entries + length s.next ≤ s.made) × (s.made ≤ 4611686018427387904) × IsTrue (are_all_full s.chunks.entries) };
 }
 
 impl Notes {
@@ -75,16 +75,16 @@ impl Notes {
         Ok(())
     }
 
-    /// Notes these keys for the state of this slot, and no others. It takes no memory.
+    /// Notes these keys for the state of this slot, and no others: in one chunk, or in none where there is no key. It takes no
+    /// memory.
     pub(crate) fn put(&mut self, slot: Slot, keys: KeyList)
         requires states { 0 < self.old.states }
         requires chunk { 0 < self.old.chunks }
-        ensures { (q : Slot) → lookup (same_slot q) self.new.by_slot ≡ cond (same_slot slot q) (Some (keys ∷ [])) (lookup (same_slot q) self.old.by_slot) }
+        ensures { (q : Slot) → lookup (same_slot q) self.new.by_slot ≡ cond (same_slot slot q) (Some (chunks_of keys)) (lookup (same_slot q) self.old.by_slot) }
     {
         let alloc = *self.next.allocator();
-        let mut chunk = mem::replace(&mut self.next, LinkedList::new(alloc));
-        set_first(&mut chunk, keys);
-        match self.chunks.insert(slot, chunk) {
+        let chunk = mem::replace(&mut self.next, LinkedList::new(alloc));
+        match self.chunks.insert(slot, filled(chunk, keys)) {
             Ok(_) => {},
             Err(_) => unreachable!(),
         }
@@ -107,6 +107,7 @@ impl Notes {
         ensures others { (q : Slot) → (q ≡ slot → ⊥) → chunks_for q self.new.by_slot ≡ chunks_for q self.old.by_slot }
         ensures noted { (q : Slot) → is_noted_in q self.new.by_slot ≡ is_noted_in q self.old.by_slot }
         ensures count { chunks_in self.new.by_slot + length result + self.new.chunks ≤ self.new.made }
+        ensures full { IsTrue (are_full result) }
     {
         match self.chunks.get_mut(&slot) {
             Some(chunks) => {
@@ -121,6 +122,7 @@ impl Notes {
     pub(crate) fn give(&mut self, slot: Slot, mut chunks: KeyChunks)
         requires noted { IsTrue (is_noted_in slot self.old.by_slot) }
         requires count { chunks_in self.old.by_slot + length chunks + self.old.chunks ≤ self.old.made }
+        requires full { IsTrue (are_full chunks) }
         ensures given { chunks_for slot self.new.by_slot ≡ chunks_for slot self.old.by_slot ++ chunks }
         ensures others { (q : Slot) → (q ≡ slot → ⊥) → chunks_for q self.new.by_slot ≡ chunks_for q self.old.by_slot }
         ensures noted { (q : Slot) → is_noted_in q self.new.by_slot ≡ is_noted_in q self.old.by_slot }
@@ -133,6 +135,18 @@ impl Notes {
             None => unreachable!(),
         }
     }
+}
+
+/// The chunk with these keys, or no chunk where there is no key. It takes no memory.
+fn filled(mut chunk: KeyChunks, keys: KeyList) -> KeyChunks
+    requires one { length chunk ≡ 1 }
+    ensures { result ≡ chunks_of keys }
+{
+    if keys.is_empty() {
+        return LinkedList::new(*chunk.allocator());
+    }
+    set_first(&mut chunk, keys);
+    chunk
 }
 
 /// Puts these keys into the first of the chunks.
@@ -160,7 +174,9 @@ pub(crate) fn take_first(chunks: &mut KeyChunks) -> KeyChunks
 
 /// Puts the chunk behind the others, unless it has no keys. It takes no memory, and constant time.
 pub(crate) fn keep(chunks: &mut KeyChunks, mut first: KeyChunks)
-    requires { length chunks.old + length first < 2 ^ 63 }
+    requires fits { length chunks.old + length first < 2 ^ 63 }
+    requires one { length first ≤ 1 }
+    ensures full { IsTrue (are_full chunks.old) → IsTrue (are_full chunks.new) }
     ensures keys { (k : List ℕ) → is_key_in k chunks.new ≡ (is_key_in k chunks.old || is_key_in k first) }
     ensures count { length chunks.new ≤ length chunks.old + length first }
 {

@@ -17,6 +17,11 @@ use Rattle.tardis_base.specs.declared.replies.Reply.TheVariants.{Known, Early, C
 use Rattle.wire_item.specs.Fronts.{Front, nothing_but, made, only_if, both, times, counted, by_code, whole}
 use Rattle.wire_item.specs.Readings.{u8_front, u16_front, u32_front, u64_front, id_front, key_front, value_front, parents_front, batch_front}
 use Rattle.wire_talk.specs.Valid.{is_constraint, are_first_ids, are_first_keys, are_site_lines}
+use Rattle.wire_talk.specs.declared.reply_codes.TheConstants.{OPENED, BEGUN, MERGING, VALUE, DELETED, ABSENT, DONE, COMMITTED, ENDED, STATES, KEYS}
+use Rattle.wire_talk.specs.declared.reply_codes.TheConstants.{RAISED, TIDIED, STAT, SHOWN, BATCH, APPLIED, KNOWN, EARLY, CLOSED, REFUSED, NO_MEMORY}
+use Rattle.wire_talk.specs.declared.refusal_codes.TheConstants.{MALFORMED, NOT_OPEN, ALREADY_OPEN, SESSIONS_FULL, TXN_OPEN, NO_TXN, WRONG_MODE, TOO_MANY, UNKNOWN, BELOW, COMPARABLE}
+use Rattle.wire_talk.specs.declared.refusal_codes.TheConstants.{NOT_READ, CONFLICT_KEY, OPEN_CONFLICT, BRANCHES, CEILING_BACK, FLOOR_BACK, HELD, COLLECTED, FULL, PATH_FULL, SEQ_END}
+use Rattle.wire_talk.specs.declared.refusal_codes.TheConstants.{BAD_SITE, CLOSED_PARENT, OWN_ITEM, TRAIL_FULL, UNSUPPORTED, NO_SUCH_ITEM, BAG_FULL}
 
 abbrev pub excess_rows : List (ℕ × Front Excess)
 excess_rows = (1, nothing_but WrittenKeys) ∷ (2, nothing_but ReadKeys) ∷ (3, nothing_but MergedStates) ∷ []
@@ -27,35 +32,35 @@ excess_front = by_code excess_rows
 -- each refusal's front beside its code
 abbrev pub refusal_rows : List (ℕ × Front Refusal)
 refusal_rows =
-    (1, nothing_but Malformed) ∷
-    (2, nothing_but NotOpen) ∷
-    (3, nothing_but AlreadyOpen) ∷
-    (4, made SessionsFull u16_front) ∷
-    (5, nothing_but TxnOpen) ∷
-    (6, nothing_but NoTxn) ∷
-    (7, nothing_but WrongMode) ∷
-    (8, made (λ p. TooMany p.0 p.1) (both excess_front u32_front)) ∷
-    (9, made Unknown id_front) ∷
-    (10, made (λ p. Below p.0 p.1) (both id_front id_front)) ∷
-    (11, made (λ p. Comparable p.0 p.1) (both id_front id_front)) ∷
-    (12, made NotRead id_front) ∷
-    (13, made ConflictKey key_front) ∷
-    (14, made OpenConflict key_front) ∷
-    (15, made (λ p. Branches p.0.0 p.0.1 p.1) (both (both (only_if is_constraint u8_front) id_front) u32_front)) ∷
-    (16, made CeilingBack id_front) ∷
-    (17, made FloorBack id_front) ∷
-    (18, made (λ p. Held p.0 p.1) (both u16_front id_front)) ∷
-    (19, made Collected id_front) ∷
-    (20, made Full u32_front) ∷
-    (21, made (λ p. PathFull p.0 p.1) (both id_front u32_front)) ∷
-    (22, nothing_but SeqEnd) ∷
-    (23, made BadSite u16_front) ∷
-    (24, made ClosedParent id_front) ∷
-    (25, made (λ p. OwnItem p.0 p.1) (both u16_front u32_front)) ∷
-    (26, made TrailFull u64_front) ∷
-    (27, made Unsupported u8_front) ∷
-    (28, made NoSuchItem u32_front) ∷
-    (29, made BagFull u32_front) ∷ []
+    (MALFORMED, nothing_but Malformed) ∷
+    (NOT_OPEN, nothing_but NotOpen) ∷
+    (ALREADY_OPEN, nothing_but AlreadyOpen) ∷
+    (SESSIONS_FULL, made SessionsFull u16_front) ∷
+    (TXN_OPEN, nothing_but TxnOpen) ∷
+    (NO_TXN, nothing_but NoTxn) ∷
+    (WRONG_MODE, nothing_but WrongMode) ∷
+    (TOO_MANY, made (λ p. TooMany p.0 p.1) (both excess_front u32_front)) ∷
+    (UNKNOWN, made Unknown id_front) ∷
+    (BELOW, made (λ p. Below p.0 p.1) (both id_front id_front)) ∷
+    (COMPARABLE, made (λ p. Comparable p.0 p.1) (both id_front id_front)) ∷
+    (NOT_READ, made NotRead id_front) ∷
+    (CONFLICT_KEY, made ConflictKey key_front) ∷
+    (OPEN_CONFLICT, made OpenConflict key_front) ∷
+    (BRANCHES, made (λ p. Branches p.0.0 p.0.1 p.1) (both (both (only_if is_constraint u8_front) id_front) u32_front)) ∷
+    (CEILING_BACK, made CeilingBack id_front) ∷
+    (FLOOR_BACK, made FloorBack id_front) ∷
+    (HELD, made (λ p. Held p.0 p.1) (both u16_front id_front)) ∷
+    (COLLECTED, made Collected id_front) ∷
+    (FULL, made Full u32_front) ∷
+    (PATH_FULL, made (λ p. PathFull p.0 p.1) (both id_front u32_front)) ∷
+    (SEQ_END, nothing_but SeqEnd) ∷
+    (BAD_SITE, made BadSite u16_front) ∷
+    (CLOSED_PARENT, made ClosedParent id_front) ∷
+    (OWN_ITEM, made (λ p. OwnItem p.0 p.1) (both u16_front u32_front)) ∷
+    (TRAIL_FULL, made TrailFull u64_front) ∷
+    (UNSUPPORTED, made Unsupported u8_front) ∷
+    (NO_SUCH_ITEM, made NoSuchItem u32_front) ∷
+    (BAG_FULL, made BagFull u32_front) ∷ []
 
 abbrev pub refusal_front : Front Refusal
 refusal_front = by_code refusal_rows
@@ -81,28 +86,28 @@ path_front = counted u32_front (times (both id_front u32_front))
 -- each reply's front beside its code
 abbrev pub reply_rows : List (ℕ × Front Reply)
 reply_rows =
-    (1, made Opened id_front) ∷
-    (2, made Begun id_front) ∷
-    (3, made Merging parents_front) ∷
-    (4, made (λ p. Value p.0 p.1) (both id_front value_front)) ∷
-    (5, made Deleted id_front) ∷
-    (6, nothing_but Absent) ∷
-    (7, nothing_but Done) ∷
-    (8, made (λ p. Committed p.0 p.1) (both id_front parents_front)) ∷
-    (9, made Ended id_front) ∷
-    (10, made (λ p. States p.0 p.1) first_ids_front) ∷
-    (11, made (λ p. Keys p.0 p.1) first_keys_front) ∷
-    (12, made (λ p. Raised p.0 p.1) (both id_front u32_front)) ∷
-    (13, made Tidied u32_front) ∷
-    (14, made (λ p. Statistics p.0.0.0.0 p.0.0.0.1 p.0.0.1 p.0.1 p.1) (both (both (both (both u64_front u32_front) u32_front) u16_front) site_lines_front)) ∷
-    (15, made (λ p. Shown p.0.0 p.0.1 p.1) (both (both u64_front children_front) path_front)) ∷
-    (16, made Batch batch_front) ∷
-    (17, nothing_but Applied) ∷
-    (18, nothing_but Known) ∷
-    (19, made Early u32_front) ∷
-    (20, nothing_but Closed) ∷
-    (21, made Refused refusal_front) ∷
-    (22, nothing_but NoMemory) ∷ []
+    (OPENED, made Opened id_front) ∷
+    (BEGUN, made Begun id_front) ∷
+    (MERGING, made Merging parents_front) ∷
+    (VALUE, made (λ p. Value p.0 p.1) (both id_front value_front)) ∷
+    (DELETED, made Deleted id_front) ∷
+    (ABSENT, nothing_but Absent) ∷
+    (DONE, nothing_but Done) ∷
+    (COMMITTED, made (λ p. Committed p.0 p.1) (both id_front parents_front)) ∷
+    (ENDED, made Ended id_front) ∷
+    (STATES, made (λ p. States p.0 p.1) first_ids_front) ∷
+    (KEYS, made (λ p. Keys p.0 p.1) first_keys_front) ∷
+    (RAISED, made (λ p. Raised p.0 p.1) (both id_front u32_front)) ∷
+    (TIDIED, made Tidied u32_front) ∷
+    (STAT, made (λ p. Statistics p.0.0.0.0 p.0.0.0.1 p.0.0.1 p.0.1 p.1) (both (both (both (both u64_front u32_front) u32_front) u16_front) site_lines_front)) ∷
+    (SHOWN, made (λ p. Shown p.0.0 p.0.1 p.1) (both (both u64_front children_front) path_front)) ∷
+    (BATCH, made Batch batch_front) ∷
+    (APPLIED, nothing_but Applied) ∷
+    (KNOWN, nothing_but Known) ∷
+    (EARLY, made Early u32_front) ∷
+    (CLOSED, nothing_but Closed) ∷
+    (REFUSED, made Refused refusal_front) ∷
+    (NO_MEMORY, nothing_but NoMemory) ∷ []
 
 abbrev pub reply_front : Front Reply
 reply_front = by_code reply_rows

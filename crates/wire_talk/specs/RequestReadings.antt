@@ -12,6 +12,8 @@ use Rattle.tardis_base.specs.declared.requests.Request.TheVariants.{Show, Leaves
 use Rattle.wire_item.specs.Fronts.{Front, nothing_but, bytes_front, made, only_if, both, times, counted, by_code, whole}
 use Rattle.wire_item.specs.Readings.{u8_front, u16_front, u32_front, id_front, key_front, value_front, item_front}
 use Rattle.wire_talk.specs.Valid.{is_commit, is_after, are_counts}
+use Rattle.wire_talk.specs.declared.request_codes.TheConstants.{OPEN, BEGIN, GET, PUT, DELETE, COMMIT, ABORT, BEGIN_MERGE, FORK_POINTS, CONFLICTS, GET_FOR}
+use Rattle.wire_talk.specs.declared.request_codes.TheConstants.{CEILING, RAISE, RAISE_AUTO, TIDY, STAT, SHOW, LEAVES, PULL, DELIVER, CLOSE, SETTLE}
 
 abbrev pub flag_rows : List (ℕ × Front Bool)
 flag_rows = (0, nothing_but false) ∷ (1, nothing_but true) ∷ []
@@ -45,28 +47,28 @@ commit_front = only_if (λ p. is_commit (record { 0 = p.0 }) p.1) (both u8_front
 -- each request's front beside its code
 abbrev pub request_rows : List (ℕ × Front Request)
 request_rows =
-    (1, made Open flag_front) ∷
-    (2, made BeginAt begin_front) ∷
-    (3, made Get key_front) ∷
-    (4, made (λ p. Put p.0 p.1) (both key_front value_front)) ∷
-    (5, made Delete key_front) ∷
-    (6, made (λ p. Commit (record { 0 = p.0 }) p.1) commit_front) ∷
-    (7, nothing_but Abort) ∷
-    (8, made BeginMerge merge_of_front) ∷
-    (9, nothing_but ForkPoints) ∷
-    (10, made Conflicts after_front) ∷
-    (11, made (λ p. GetFor p.0 p.1) (both key_front id_front)) ∷
-    (12, made Ceiling id_front) ∷
-    (13, made Raise id_front) ∷
-    (14, nothing_but RaiseAuto) ∷
-    (15, made Tidy u16_front) ∷
-    (16, nothing_but Stat) ∷
-    (17, made Show id_front) ∷
-    (18, nothing_but Leaves) ∷
-    (19, made Pull counts_front) ∷
-    (20, made Deliver item_front) ∷
-    (21, nothing_but Close) ∷
-    (22, nothing_but Settle) ∷ []
+    (OPEN, made Open flag_front) ∷
+    (BEGIN, made BeginAt begin_front) ∷
+    (GET, made Get key_front) ∷
+    (PUT, made (λ p. Put p.0 p.1) (both key_front value_front)) ∷
+    (DELETE, made Delete key_front) ∷
+    (COMMIT, made (λ p. Commit (record { 0 = p.0 }) p.1) commit_front) ∷
+    (ABORT, nothing_but Abort) ∷
+    (BEGIN_MERGE, made BeginMerge merge_of_front) ∷
+    (FORK_POINTS, nothing_but ForkPoints) ∷
+    (CONFLICTS, made Conflicts after_front) ∷
+    (GET_FOR, made (λ p. GetFor p.0 p.1) (both key_front id_front)) ∷
+    (CEILING, made Ceiling id_front) ∷
+    (RAISE, made Raise id_front) ∷
+    (RAISE_AUTO, nothing_but RaiseAuto) ∷
+    (TIDY, made Tidy u16_front) ∷
+    (STAT, nothing_but Stat) ∷
+    (SHOW, made Show id_front) ∷
+    (LEAVES, nothing_but Leaves) ∷
+    (PULL, made Pull counts_front) ∷
+    (DELIVER, made Deliver item_front) ∷
+    (CLOSE, nothing_but Close) ∷
+    (SETTLE, nothing_but Settle) ∷ []
 
 abbrev pub request_front : Front Request
 request_front = by_code request_rows

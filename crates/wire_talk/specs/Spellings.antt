@@ -24,6 +24,13 @@ use Rattle.tardis_base.specs.declared.replies.Reply.TheVariants.{States, Keys, R
 use Rattle.tardis_base.specs.declared.replies.Reply.TheVariants.{Known, Early, Closed, Refused, NoMemory}
 use Rattle.wire_item.specs.Spellings.{u8_spelling, u16_spelling, u32_spelling, u64_spelling, id_spelling, key_spelling, value_spelling}
 use Rattle.wire_item.specs.Spellings.{parents_spelling, item_spelling, batch_spelling}
+use Rattle.wire_talk.specs.declared.request_codes.TheConstants.{OPEN, BEGIN, GET, PUT, DELETE, COMMIT, ABORT, BEGIN_MERGE, FORK_POINTS, CONFLICTS, GET_FOR}
+use Rattle.wire_talk.specs.declared.request_codes.TheConstants.{CEILING, RAISE, RAISE_AUTO, TIDY, STAT, SHOW, LEAVES, PULL, DELIVER, CLOSE, SETTLE}
+use Rattle.wire_talk.specs.declared.reply_codes.TheConstants.{OPENED, BEGUN, MERGING, VALUE, DELETED, ABSENT, DONE, COMMITTED, ENDED, STATES, KEYS}
+use Rattle.wire_talk.specs.declared.reply_codes.TheConstants.{RAISED, TIDIED, STAT as STATISTICS, SHOWN, BATCH, APPLIED, KNOWN, EARLY, CLOSED, REFUSED, NO_MEMORY}
+use Rattle.wire_talk.specs.declared.refusal_codes.TheConstants.{MALFORMED, NOT_OPEN, ALREADY_OPEN, SESSIONS_FULL, TXN_OPEN, NO_TXN, WRONG_MODE, TOO_MANY, UNKNOWN, BELOW, COMPARABLE}
+use Rattle.wire_talk.specs.declared.refusal_codes.TheConstants.{NOT_READ, CONFLICT_KEY, OPEN_CONFLICT, BRANCHES, CEILING_BACK, FLOOR_BACK, HELD, COLLECTED, FULL, PATH_FULL, SEQ_END}
+use Rattle.wire_talk.specs.declared.refusal_codes.TheConstants.{BAD_SITE, CLOSED_PARENT, OWN_ITEM, TRAIL_FULL, UNSUPPORTED, NO_SUCH_ITEM, BAG_FULL}
 
 -- 1 for yes, 0 for no
 abbrev pub flag_spelling : Bool → List ℕ
@@ -50,28 +57,28 @@ abbrev pub counts_spelling : List ℕ → List ℕ
 counts_spelling counts = u8_spelling (length counts) ++ flat_map u32_spelling counts
 
 abbrev pub request_spelling : Request → List ℕ
-request_spelling (Open follow) = 1 ∷ flag_spelling follow
-request_spelling (BeginAt begin) = 2 ∷ begin_spelling begin
-request_spelling (Get key) = 3 ∷ key_spelling key
-request_spelling (Put key value) = 4 ∷ (key_spelling key ++ value_spelling value)
-request_spelling (Delete key) = 5 ∷ key_spelling key
-request_spelling (Commit flags k) = 6 ∷ (u8_spelling flags.0 ++ u16_spelling k)
-request_spelling Abort = 7 ∷ []
-request_spelling (BeginMerge of) = 8 ∷ merge_of_spelling of
-request_spelling ForkPoints = 9 ∷ []
-request_spelling (Conflicts after) = 10 ∷ after_spelling after
-request_spelling (GetFor key state) = 11 ∷ (key_spelling key ++ id_spelling state)
-request_spelling (Ceiling state) = 12 ∷ id_spelling state
-request_spelling (Raise state) = 13 ∷ id_spelling state
-request_spelling RaiseAuto = 14 ∷ []
-request_spelling (Tidy n) = 15 ∷ u16_spelling n
-request_spelling Stat = 16 ∷ []
-request_spelling (Show state) = 17 ∷ id_spelling state
-request_spelling Leaves = 18 ∷ []
-request_spelling (Pull counts) = 19 ∷ counts_spelling counts
-request_spelling (Deliver item) = 20 ∷ item_spelling item
-request_spelling Close = 21 ∷ []
-request_spelling Settle = 22 ∷ []
+request_spelling (Open follow) = OPEN ∷ flag_spelling follow
+request_spelling (BeginAt begin) = BEGIN ∷ begin_spelling begin
+request_spelling (Get key) = GET ∷ key_spelling key
+request_spelling (Put key value) = PUT ∷ (key_spelling key ++ value_spelling value)
+request_spelling (Delete key) = DELETE ∷ key_spelling key
+request_spelling (Commit flags k) = COMMIT ∷ (u8_spelling flags.0 ++ u16_spelling k)
+request_spelling Abort = ABORT ∷ []
+request_spelling (BeginMerge of) = BEGIN_MERGE ∷ merge_of_spelling of
+request_spelling ForkPoints = FORK_POINTS ∷ []
+request_spelling (Conflicts after) = CONFLICTS ∷ after_spelling after
+request_spelling (GetFor key state) = GET_FOR ∷ (key_spelling key ++ id_spelling state)
+request_spelling (Ceiling state) = CEILING ∷ id_spelling state
+request_spelling (Raise state) = RAISE ∷ id_spelling state
+request_spelling RaiseAuto = RAISE_AUTO ∷ []
+request_spelling (Tidy n) = TIDY ∷ u16_spelling n
+request_spelling Stat = STAT ∷ []
+request_spelling (Show state) = SHOW ∷ id_spelling state
+request_spelling Leaves = LEAVES ∷ []
+request_spelling (Pull counts) = PULL ∷ counts_spelling counts
+request_spelling (Deliver item) = DELIVER ∷ item_spelling item
+request_spelling Close = CLOSE ∷ []
+request_spelling Settle = SETTLE ∷ []
 
 -- what there would be too many of
 abbrev pub excess_code : Excess → ℕ
@@ -83,35 +90,35 @@ abbrev pub excess_spelling : Excess → List ℕ
 excess_spelling what = u8_spelling (excess_code what)
 
 abbrev pub refusal_spelling : Refusal → List ℕ
-refusal_spelling Malformed = 1 ∷ []
-refusal_spelling NotOpen = 2 ∷ []
-refusal_spelling AlreadyOpen = 3 ∷ []
-refusal_spelling (SessionsFull n) = 4 ∷ u16_spelling n
-refusal_spelling TxnOpen = 5 ∷ []
-refusal_spelling NoTxn = 6 ∷ []
-refusal_spelling WrongMode = 7 ∷ []
-refusal_spelling (TooMany what n) = 8 ∷ (excess_spelling what ++ u32_spelling n)
-refusal_spelling (Unknown state) = 9 ∷ id_spelling state
-refusal_spelling (Below state ceiling) = 10 ∷ (id_spelling state ++ id_spelling ceiling)
-refusal_spelling (Comparable a b) = 11 ∷ (id_spelling a ++ id_spelling b)
-refusal_spelling (NotRead state) = 12 ∷ id_spelling state
-refusal_spelling (ConflictKey key) = 13 ∷ key_spelling key
-refusal_spelling (OpenConflict key) = 14 ∷ key_spelling key
-refusal_spelling (Branches constraint state children) = 15 ∷ (u8_spelling constraint ++ id_spelling state ++ u32_spelling children)
-refusal_spelling (CeilingBack ceiling) = 16 ∷ id_spelling ceiling
-refusal_spelling (FloorBack floor) = 17 ∷ id_spelling floor
-refusal_spelling (Held session ceiling) = 18 ∷ (u16_spelling session ++ id_spelling ceiling)
-refusal_spelling (Collected state) = 19 ∷ id_spelling state
-refusal_spelling (Full kept) = 20 ∷ u32_spelling kept
-refusal_spelling (PathFull state pairs) = 21 ∷ (id_spelling state ++ u32_spelling pairs)
-refusal_spelling SeqEnd = 22 ∷ []
-refusal_spelling (BadSite site) = 23 ∷ u16_spelling site
-refusal_spelling (ClosedParent state) = 24 ∷ id_spelling state
-refusal_spelling (OwnItem site number) = 25 ∷ (u16_spelling site ++ u32_spelling number)
-refusal_spelling (TrailFull bytes) = 26 ∷ u64_spelling bytes
-refusal_spelling (Unsupported op) = 27 ∷ u8_spelling op
-refusal_spelling (NoSuchItem batches) = 28 ∷ u32_spelling batches
-refusal_spelling (BagFull batches) = 29 ∷ u32_spelling batches
+refusal_spelling Malformed = MALFORMED ∷ []
+refusal_spelling NotOpen = NOT_OPEN ∷ []
+refusal_spelling AlreadyOpen = ALREADY_OPEN ∷ []
+refusal_spelling (SessionsFull n) = SESSIONS_FULL ∷ u16_spelling n
+refusal_spelling TxnOpen = TXN_OPEN ∷ []
+refusal_spelling NoTxn = NO_TXN ∷ []
+refusal_spelling WrongMode = WRONG_MODE ∷ []
+refusal_spelling (TooMany what n) = TOO_MANY ∷ (excess_spelling what ++ u32_spelling n)
+refusal_spelling (Unknown state) = UNKNOWN ∷ id_spelling state
+refusal_spelling (Below state ceiling) = BELOW ∷ (id_spelling state ++ id_spelling ceiling)
+refusal_spelling (Comparable a b) = COMPARABLE ∷ (id_spelling a ++ id_spelling b)
+refusal_spelling (NotRead state) = NOT_READ ∷ id_spelling state
+refusal_spelling (ConflictKey key) = CONFLICT_KEY ∷ key_spelling key
+refusal_spelling (OpenConflict key) = OPEN_CONFLICT ∷ key_spelling key
+refusal_spelling (Branches constraint state children) = BRANCHES ∷ (u8_spelling constraint ++ id_spelling state ++ u32_spelling children)
+refusal_spelling (CeilingBack ceiling) = CEILING_BACK ∷ id_spelling ceiling
+refusal_spelling (FloorBack floor) = FLOOR_BACK ∷ id_spelling floor
+refusal_spelling (Held session ceiling) = HELD ∷ (u16_spelling session ++ id_spelling ceiling)
+refusal_spelling (Collected state) = COLLECTED ∷ id_spelling state
+refusal_spelling (Full kept) = FULL ∷ u32_spelling kept
+refusal_spelling (PathFull state pairs) = PATH_FULL ∷ (id_spelling state ++ u32_spelling pairs)
+refusal_spelling SeqEnd = SEQ_END ∷ []
+refusal_spelling (BadSite site) = BAD_SITE ∷ u16_spelling site
+refusal_spelling (ClosedParent state) = CLOSED_PARENT ∷ id_spelling state
+refusal_spelling (OwnItem site number) = OWN_ITEM ∷ (u16_spelling site ++ u32_spelling number)
+refusal_spelling (TrailFull bytes) = TRAIL_FULL ∷ u64_spelling bytes
+refusal_spelling (Unsupported op) = UNSUPPORTED ∷ u8_spelling op
+refusal_spelling (NoSuchItem batches) = NO_SUCH_ITEM ∷ u32_spelling batches
+refusal_spelling (BagFull batches) = BAG_FULL ∷ u32_spelling batches
 
 -- a u32 for how many there are, a u16 for the number of those that follow, and these
 abbrev pub first_ids_spelling : ℕ → List StateId → List ℕ
@@ -142,26 +149,26 @@ abbrev pub path_spelling : List (StateId × ℕ) → List ℕ
 path_spelling path = u32_spelling (length path) ++ flat_map pair_spelling path
 
 abbrev pub reply_spelling : Reply → List ℕ
-reply_spelling (Opened ceiling) = 1 ∷ id_spelling ceiling
-reply_spelling (Begun state) = 2 ∷ id_spelling state
-reply_spelling (Merging states) = 3 ∷ parents_spelling states
-reply_spelling (Value writer value) = 4 ∷ (id_spelling writer ++ value_spelling value)
-reply_spelling (Deleted writer) = 5 ∷ id_spelling writer
-reply_spelling Absent = 6 ∷ []
-reply_spelling Done = 7 ∷ []
-reply_spelling (Committed id parents) = 8 ∷ (id_spelling id ++ parents_spelling parents)
-reply_spelling (Ended state) = 9 ∷ id_spelling state
-reply_spelling (States total first) = 10 ∷ first_ids_spelling total first
-reply_spelling (Keys total first) = 11 ∷ first_keys_spelling total first
-reply_spelling (Raised floor number) = 12 ∷ (id_spelling floor ++ u32_spelling number)
-reply_spelling (Tidied collected) = 13 ∷ u32_spelling collected
+reply_spelling (Opened ceiling) = OPENED ∷ id_spelling ceiling
+reply_spelling (Begun state) = BEGUN ∷ id_spelling state
+reply_spelling (Merging states) = MERGING ∷ parents_spelling states
+reply_spelling (Value writer value) = VALUE ∷ (id_spelling writer ++ value_spelling value)
+reply_spelling (Deleted writer) = DELETED ∷ id_spelling writer
+reply_spelling Absent = ABSENT ∷ []
+reply_spelling Done = DONE ∷ []
+reply_spelling (Committed id parents) = COMMITTED ∷ (id_spelling id ++ parents_spelling parents)
+reply_spelling (Ended state) = ENDED ∷ id_spelling state
+reply_spelling (States total first) = STATES ∷ first_ids_spelling total first
+reply_spelling (Keys total first) = KEYS ∷ first_keys_spelling total first
+reply_spelling (Raised floor number) = RAISED ∷ (id_spelling floor ++ u32_spelling number)
+reply_spelling (Tidied collected) = TIDIED ∷ u32_spelling collected
 reply_spelling (Statistics known kept leaves sessions sites) =
-    14 ∷ (u64_spelling known ++ u32_spelling kept ++ u32_spelling leaves ++ u16_spelling sessions ++ site_lines_spelling sites)
-reply_spelling (Shown arrival children path) = 15 ∷ (u64_spelling arrival ++ children_spelling children ++ path_spelling path)
-reply_spelling (Batch batch) = 16 ∷ batch_spelling batch
-reply_spelling Applied = 17 ∷ []
-reply_spelling Known = 18 ∷ []
-reply_spelling (Early have) = 19 ∷ u32_spelling have
-reply_spelling Closed = 20 ∷ []
-reply_spelling (Refused refusal) = 21 ∷ refusal_spelling refusal
-reply_spelling NoMemory = 22 ∷ []
+    STATISTICS ∷ (u64_spelling known ++ u32_spelling kept ++ u32_spelling leaves ++ u16_spelling sessions ++ site_lines_spelling sites)
+reply_spelling (Shown arrival children path) = SHOWN ∷ (u64_spelling arrival ++ children_spelling children ++ path_spelling path)
+reply_spelling (Batch batch) = BATCH ∷ batch_spelling batch
+reply_spelling Applied = APPLIED ∷ []
+reply_spelling Known = KNOWN ∷ []
+reply_spelling (Early have) = EARLY ∷ u32_spelling have
+reply_spelling Closed = CLOSED ∷ []
+reply_spelling (Refused refusal) = REFUSED ∷ refusal_spelling refusal
+reply_spelling NoMemory = NO_MEMORY ∷ []

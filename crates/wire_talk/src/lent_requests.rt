@@ -18,6 +18,7 @@ ghost use Rattle.wire_talk.specs.Spelled.{SpellsRequest};
 ghost use Rattle.wire_talk.specs.Valid.{is_commit};
 
 use crate::refusal_readers::{new_key, new_value};
+use crate::request_codes;
 use std::alloc::Global;
 use tardis_base::{Begin, EndFlags, NoMemory, Request};
 use wire_item::Reader;
@@ -49,11 +50,11 @@ pub fn lent_fields<'a>(code: u8, reader: &mut Reader<'a>) -> Option<LentRequest<
     ensures { Takes (only_if is_lendable (front_of_code code request_rows)) reader.old (option_map request_lent result) reader.new }
 {
     match code {
-        2 => read_begin(reader),
-        3 => read_get(reader),
-        4 => read_put(reader),
-        5 => read_delete(reader),
-        6 => read_commit(reader),
+        request_codes::BEGIN => read_begin(reader),
+        request_codes::GET => read_get(reader),
+        request_codes::PUT => read_put(reader),
+        request_codes::DELETE => read_delete(reader),
+        request_codes::COMMIT => read_commit(reader),
         _ => None,
     }
 }

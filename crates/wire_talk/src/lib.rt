@@ -4,11 +4,14 @@
 mod field_writers;
 mod lent_requests;
 mod list_readers;
+pub mod refusal_codes;
 mod refusal_readers;
 mod refusal_writers;
+pub mod reply_codes;
 mod reply_field_readers;
 mod reply_readers;
 mod reply_writers;
+pub mod request_codes;
 mod request_field_readers;
 mod request_readers;
 mod request_writers;

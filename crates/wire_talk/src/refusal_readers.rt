@@ -10,7 +10,9 @@ ghost use Rattle.wire_item.specs.Takings.{Makes, Takes};
 ghost use Rattle.wire_talk.specs.Memory.{refusal_takes_no_memory};
 ghost use Rattle.wire_talk.specs.ReplyReadings.{excess_front, refusal_front, refusal_rows};
 ghost use Rattle.wire_talk.specs.Valid.{is_constraint};
+ghost use Rattle.wire_talk.specs.declared.refusal_codes.TheConstants.{BAD_SITE, BAG_FULL, BELOW, BRANCHES, CEILING_BACK, CLOSED_PARENT, COLLECTED, COMPARABLE, CONFLICT_KEY, FLOOR_BACK, FULL, HELD, NOT_READ, NO_SUCH_ITEM, OPEN_CONFLICT, OWN_ITEM, PATH_FULL, SESSIONS_FULL, TOO_MANY, TRAIL_FULL, UNKNOWN, UNSUPPORTED};
 
+use crate::refusal_codes;
 use std::alloc::Global;
 use tardis_base::{Excess, Key, NoMemory, Refusal, StateId, Value};
 use wire_item::Reader;
@@ -23,105 +25,111 @@ pub(crate) fn refusal(reader: &mut Reader<'_>, alloc: Global) -> Option<Result<R
 {
     let code = reader.u8()?;
     match code {
-        13 => Some(conflict_key(owned_key(reader, alloc)?)),
-        14 => Some(open_conflict(owned_key(reader, alloc)?)),
+        refusal_codes::CONFLICT_KEY => Some(conflict_key(owned_key(reader, alloc)?)),
+        refusal_codes::OPEN_CONFLICT => Some(open_conflict(owned_key(reader, alloc)?)),
         _ => sure(plain_refusal(reader, code)),
     }
 }
 
 /// The refusal of a code with no key. It takes no memory.
 fn plain_refusal(reader: &mut Reader<'_>, code: u8) -> Option<Refusal>
-    requires no_conflict { code ≡ 13 → ⊥ }
-    requires no_open_conflict { code ≡ 14 → ⊥ }
+    requires no_conflict { code ≡ CONFLICT_KEY → ⊥ }
+    requires no_open_conflict { code ≡ OPEN_CONFLICT → ⊥ }
     ensures { Takes (front_of_code code refusal_rows) reader.old result reader.new }
 {
     match code {
-        1 => Some(Refusal::Malformed),
-        2 => Some(Refusal::NotOpen),
-        3 => Some(Refusal::AlreadyOpen),
-        5 => Some(Refusal::TxnOpen),
-        6 => Some(Refusal::NoTxn),
-        7 => Some(Refusal::WrongMode),
-        22 => Some(Refusal::SeqEnd),
-        4 | 23 => read_with_u16(reader, code),
-        20 | 28 | 29 => read_with_u32(reader, code),
-        9 | 12 | 16 | 17 | 19 | 24 => read_with_id(reader, code),
-        10 | 11 => read_with_two_ids(reader, code),
-        8 => read_too_many(reader),
-        15 => read_branches(reader),
-        18 => read_held(reader),
-        21 => read_path_full(reader),
-        25 => read_own_item(reader),
-        26 => read_trail_full(reader),
-        27 => read_unsupported(reader),
+        refusal_codes::MALFORMED => Some(Refusal::Malformed),
+        refusal_codes::NOT_OPEN => Some(Refusal::NotOpen),
+        refusal_codes::ALREADY_OPEN => Some(Refusal::AlreadyOpen),
+        refusal_codes::TXN_OPEN => Some(Refusal::TxnOpen),
+        refusal_codes::NO_TXN => Some(Refusal::NoTxn),
+        refusal_codes::WRONG_MODE => Some(Refusal::WrongMode),
+        refusal_codes::SEQ_END => Some(Refusal::SeqEnd),
+        refusal_codes::SESSIONS_FULL | refusal_codes::BAD_SITE => read_with_u16(reader, code),
+        refusal_codes::FULL | refusal_codes::NO_SUCH_ITEM | refusal_codes::BAG_FULL =>
+            read_with_u32(reader, code),
+        refusal_codes::UNKNOWN
+        | refusal_codes::NOT_READ
+        | refusal_codes::CEILING_BACK
+        | refusal_codes::FLOOR_BACK
+        | refusal_codes::COLLECTED
+        | refusal_codes::CLOSED_PARENT => read_with_id(reader, code),
+        refusal_codes::BELOW | refusal_codes::COMPARABLE => read_with_two_ids(reader, code),
+        refusal_codes::TOO_MANY => read_too_many(reader),
+        refusal_codes::BRANCHES => read_branches(reader),
+        refusal_codes::HELD => read_held(reader),
+        refusal_codes::PATH_FULL => read_path_full(reader),
+        refusal_codes::OWN_ITEM => read_own_item(reader),
+        refusal_codes::TRAIL_FULL => read_trail_full(reader),
+        refusal_codes::UNSUPPORTED => read_unsupported(reader),
         _ => None,
     }
 }
 
 /// The refusal of a code with one number of 16 bits behind it.
 fn read_with_u16(reader: &mut Reader<'_>, code: u8) -> Option<Refusal>
-    requires { (code ≡ 4) ⊎ (code ≡ 23) }
+    requires { (code ≡ SESSIONS_FULL) ⊎ (code ≡ BAD_SITE) }
     ensures { Takes (front_of_code code refusal_rows) reader.old result reader.new }
 {
     let number = reader.u16()?;
     match code {
-        4 => Some(Refusal::SessionsFull { n: number }),
-        23 => Some(Refusal::BadSite { site: number }),
+        refusal_codes::SESSIONS_FULL => Some(Refusal::SessionsFull { n: number }),
+        refusal_codes::BAD_SITE => Some(Refusal::BadSite { site: number }),
         _ => None,
     }
 }
 
 /// The refusal of a code with one number of 32 bits behind it.
 fn read_with_u32(reader: &mut Reader<'_>, code: u8) -> Option<Refusal>
-    requires { (code ≡ 20) ⊎ ((code ≡ 28) ⊎ (code ≡ 29)) }
+    requires { (code ≡ FULL) ⊎ ((code ≡ NO_SUCH_ITEM) ⊎ (code ≡ BAG_FULL)) }
     ensures { Takes (front_of_code code refusal_rows) reader.old result reader.new }
 {
     let number = reader.u32()?;
     match code {
-        20 => Some(Refusal::Full { kept: number }),
-        28 => Some(Refusal::NoSuchItem { batches: number }),
-        29 => Some(Refusal::BagFull { batches: number }),
+        refusal_codes::FULL => Some(Refusal::Full { kept: number }),
+        refusal_codes::NO_SUCH_ITEM => Some(Refusal::NoSuchItem { batches: number }),
+        refusal_codes::BAG_FULL => Some(Refusal::BagFull { batches: number }),
         _ => None,
     }
 }
 
 /// The refusal of a code with one id behind it.
 fn read_with_id(reader: &mut Reader<'_>, code: u8) -> Option<Refusal>
-    requires { (code ≡ 9) ⊎ ((code ≡ 12) ⊎ ((code ≡ 16) ⊎ ((code ≡ 17) ⊎ ((code ≡ 19) ⊎ (code ≡ 24))))) }
+    requires { (code ≡ UNKNOWN) ⊎ ((code ≡ NOT_READ) ⊎ ((code ≡ CEILING_BACK) ⊎ ((code ≡ FLOOR_BACK) ⊎ ((code ≡ COLLECTED) ⊎ (code ≡ CLOSED_PARENT))))) }
     ensures { Takes (front_of_code code refusal_rows) reader.old result reader.new }
 {
     let id = reader.id()?;
     match code {
-        9 => Some(Refusal::Unknown { state: id }),
-        12 => Some(Refusal::NotRead { state: id }),
-        16 => Some(Refusal::CeilingBack { ceiling: id }),
-        17 => Some(Refusal::FloorBack { floor: id }),
-        19 => Some(Refusal::Collected { state: id }),
-        24 => Some(Refusal::ClosedParent { state: id }),
+        refusal_codes::UNKNOWN => Some(Refusal::Unknown { state: id }),
+        refusal_codes::NOT_READ => Some(Refusal::NotRead { state: id }),
+        refusal_codes::CEILING_BACK => Some(Refusal::CeilingBack { ceiling: id }),
+        refusal_codes::FLOOR_BACK => Some(Refusal::FloorBack { floor: id }),
+        refusal_codes::COLLECTED => Some(Refusal::Collected { state: id }),
+        refusal_codes::CLOSED_PARENT => Some(Refusal::ClosedParent { state: id }),
         _ => None,
     }
 }
 
 /// The refusal of a code with two ids behind it.
 fn read_with_two_ids(reader: &mut Reader<'_>, code: u8) -> Option<Refusal>
-    requires { (code ≡ 10) ⊎ (code ≡ 11) }
+    requires { (code ≡ BELOW) ⊎ (code ≡ COMPARABLE) }
     ensures { Takes (front_of_code code refusal_rows) reader.old result reader.new }
 {
     let a = reader.id()?;
     let b = reader.id()?;
     match code {
-        10 => Some(Refusal::Below {
+        refusal_codes::BELOW => Some(Refusal::Below {
             state: a,
             ceiling: b,
         }),
-        11 => Some(Refusal::Comparable { a, b }),
+        refusal_codes::COMPARABLE => Some(Refusal::Comparable { a, b }),
         _ => None,
     }
 }
 
 /// What stands behind the code of too much of something.
 fn read_too_many(reader: &mut Reader<'_>) -> Option<Refusal>
-    ensures { Takes (front_of_code 8 refusal_rows) reader.old result reader.new }
+    ensures { Takes (front_of_code TOO_MANY refusal_rows) reader.old result reader.new }
 {
     let what = excess(reader)?;
     let n = reader.u32()?;
@@ -130,7 +138,7 @@ fn read_too_many(reader: &mut Reader<'_>) -> Option<Refusal>
 
 /// What stands behind the code of a commit that would branch.
 fn read_branches(reader: &mut Reader<'_>) -> Option<Refusal>
-    ensures { Takes (front_of_code 15 refusal_rows) reader.old result reader.new }
+    ensures { Takes (front_of_code BRANCHES refusal_rows) reader.old result reader.new }
 {
     let constraint = constraint(reader)?;
     let state = reader.id()?;
@@ -144,7 +152,7 @@ fn read_branches(reader: &mut Reader<'_>) -> Option<Refusal>
 
 /// What stands behind the code of a state that a session holds.
 fn read_held(reader: &mut Reader<'_>) -> Option<Refusal>
-    ensures { Takes (front_of_code 18 refusal_rows) reader.old result reader.new }
+    ensures { Takes (front_of_code HELD refusal_rows) reader.old result reader.new }
 {
     let session = reader.u16()?;
     let ceiling = reader.id()?;
@@ -153,7 +161,7 @@ fn read_held(reader: &mut Reader<'_>) -> Option<Refusal>
 
 /// What stands behind the code of a full path.
 fn read_path_full(reader: &mut Reader<'_>) -> Option<Refusal>
-    ensures { Takes (front_of_code 21 refusal_rows) reader.old result reader.new }
+    ensures { Takes (front_of_code PATH_FULL refusal_rows) reader.old result reader.new }
 {
     let pair = id_and_u32(reader)?;
     Some(Refusal::PathFull {
@@ -164,7 +172,7 @@ fn read_path_full(reader: &mut Reader<'_>) -> Option<Refusal>
 
 /// What stands behind the code of an item of the site's own.
 fn read_own_item(reader: &mut Reader<'_>) -> Option<Refusal>
-    ensures { Takes (front_of_code 25 refusal_rows) reader.old result reader.new }
+    ensures { Takes (front_of_code OWN_ITEM refusal_rows) reader.old result reader.new }
 {
     let site = reader.u16()?;
     let number = reader.u32()?;
@@ -173,7 +181,7 @@ fn read_own_item(reader: &mut Reader<'_>) -> Option<Refusal>
 
 /// What stands behind the code of a full trail.
 fn read_trail_full(reader: &mut Reader<'_>) -> Option<Refusal>
-    ensures { Takes (front_of_code 26 refusal_rows) reader.old result reader.new }
+    ensures { Takes (front_of_code TRAIL_FULL refusal_rows) reader.old result reader.new }
 {
     let bytes = reader.u64()?;
     Some(Refusal::TrailFull { bytes })
@@ -181,7 +189,7 @@ fn read_trail_full(reader: &mut Reader<'_>) -> Option<Refusal>
 
 /// What stands behind the code of an unsupported operation.
 fn read_unsupported(reader: &mut Reader<'_>) -> Option<Refusal>
-    ensures { Takes (front_of_code 27 refusal_rows) reader.old result reader.new }
+    ensures { Takes (front_of_code UNSUPPORTED refusal_rows) reader.old result reader.new }
 {
     let op = reader.u8()?;
     Some(Refusal::Unsupported { op })

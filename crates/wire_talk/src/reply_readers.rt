@@ -10,8 +10,10 @@ ghost use Rattle.wire_item.specs.Takings.{Makes, Takes};
 ghost use Rattle.wire_talk.specs.Memory.{reply_takes_no_memory};
 ghost use Rattle.wire_talk.specs.ReplyReadings.{reply_front, reply_of, reply_rows};
 ghost use Rattle.wire_talk.specs.Spelled.{SpellsReply};
+ghost use Rattle.wire_talk.specs.declared.reply_codes.TheConstants.{BEGUN, DELETED, EARLY, ENDED, OPENED, RAISED, TIDIED};
 
 use crate::refusal_readers::{id_and_u32, sure};
+use crate::reply_codes;
 use crate::reply_field_readers::{
     read_batch, read_committed, read_keys, read_merging, read_refused, read_shown, read_states,
     read_statistics, read_value,
@@ -38,86 +40,87 @@ fn reply(alloc: Global, reader: &mut Reader) -> Option<Result<Reply, NoMemory>>
         → IsTrue (reply_takes_no_memory r) → result ≡ Some (Err e) → ⊥ }
 {
     let code = reader.u8()?;
-    if code < 12 {
+    if code < reply_codes::RAISED {
         low_reply(alloc, code, reader)
     } else {
         high_reply(alloc, code, reader)
     }
 }
 
-/// The reply of a code below 12.
+/// The reply of a code below that of a raised floor.
 fn low_reply(alloc: Global, code: u8, reader: &mut Reader) -> Option<Result<Reply, NoMemory>>
-    requires { code < 12 }
+    requires { code < RAISED }
     ensures read { Makes (front_of_code code reply_rows) reader.old result reader.new }
     ensures sure { (r : Reply) (rest : List ℕ) (e : NoMemory) → front_of_code code reply_rows reader.old ≡ Some (r, rest)
         → IsTrue (reply_takes_no_memory r) → result ≡ Some (Err e) → ⊥ }
 {
     match code {
-        1 | 2 | 5 | 9 => sure(read_with_id(code, reader)),
-        3 => read_merging(alloc, reader),
-        4 => read_value(alloc, reader),
-        6 => Some(Ok(Reply::Absent)),
-        7 => Some(Ok(Reply::Done)),
-        8 => read_committed(alloc, reader),
-        10 => read_states(alloc, reader),
-        11 => read_keys(alloc, reader),
+        reply_codes::OPENED | reply_codes::BEGUN | reply_codes::DELETED | reply_codes::ENDED =>
+            sure(read_with_id(code, reader)),
+        reply_codes::MERGING => read_merging(alloc, reader),
+        reply_codes::VALUE => read_value(alloc, reader),
+        reply_codes::ABSENT => Some(Ok(Reply::Absent)),
+        reply_codes::DONE => Some(Ok(Reply::Done)),
+        reply_codes::COMMITTED => read_committed(alloc, reader),
+        reply_codes::STATES => read_states(alloc, reader),
+        reply_codes::KEYS => read_keys(alloc, reader),
         _ => None,
     }
 }
 
-/// The reply of a code from 12 on.
+/// The reply of a code from that of a raised floor on.
 fn high_reply(alloc: Global, code: u8, reader: &mut Reader) -> Option<Result<Reply, NoMemory>>
-    requires { 12 ≤ code }
+    requires { RAISED ≤ code }
     ensures read { Makes (front_of_code code reply_rows) reader.old result reader.new }
     ensures sure { (r : Reply) (rest : List ℕ) (e : NoMemory) → front_of_code code reply_rows reader.old ≡ Some (r, rest)
         → IsTrue (reply_takes_no_memory r) → result ≡ Some (Err e) → ⊥ }
 {
     match code {
-        12 => sure(read_raised(reader)),
-        13 | 19 => sure(read_with_count(code, reader)),
-        14 => sure(read_statistics(reader)),
-        15 => read_shown(alloc, reader),
-        16 => read_batch(alloc, reader),
-        17 => Some(Ok(Reply::Applied)),
-        18 => Some(Ok(Reply::Known)),
-        20 => Some(Ok(Reply::Closed)),
-        21 => read_refused(alloc, reader),
-        22 => Some(Ok(Reply::NoMemory)),
+        reply_codes::RAISED => sure(read_raised(reader)),
+        reply_codes::TIDIED | reply_codes::EARLY => sure(read_with_count(code, reader)),
+        reply_codes::STAT => sure(read_statistics(reader)),
+        reply_codes::SHOWN => read_shown(alloc, reader),
+        reply_codes::BATCH => read_batch(alloc, reader),
+        reply_codes::APPLIED => Some(Ok(Reply::Applied)),
+        reply_codes::KNOWN => Some(Ok(Reply::Known)),
+        reply_codes::CLOSED => Some(Ok(Reply::Closed)),
+        reply_codes::REFUSED => read_refused(alloc, reader),
+        reply_codes::NO_MEMORY => Some(Ok(Reply::NoMemory)),
         _ => None,
     }
 }
 
 /// The reply of a code with one id behind it.
 fn read_with_id(code: u8, reader: &mut Reader) -> Option<Reply>
-    requires { (code ≡ 1) ⊎ ((code ≡ 2) ⊎ ((code ≡ 5) ⊎ (code ≡ 9))) }
+    requires { (code ≡ OPENED) ⊎ ((code ≡ BEGUN) ⊎ ((code ≡ DELETED) ⊎ (code ≡ ENDED))) }
     ensures { Takes (front_of_code code reply_rows) reader.old result reader.new }
 {
     let id = reader.id()?;
     match code {
-        1 => Some(Reply::Opened { ceiling: id }),
-        2 => Some(Reply::Begun { state: id }),
-        5 => Some(Reply::Deleted { writer: id }),
-        9 => Some(Reply::Ended { state: id }),
+        reply_codes::OPENED => Some(Reply::Opened { ceiling: id }),
+        reply_codes::BEGUN => Some(Reply::Begun { state: id }),
+        reply_codes::DELETED => Some(Reply::Deleted { writer: id }),
+        reply_codes::ENDED => Some(Reply::Ended { state: id }),
         _ => None,
     }
 }
 
 /// The reply of a code with one count behind it.
 fn read_with_count(code: u8, reader: &mut Reader) -> Option<Reply>
-    requires { (code ≡ 13) ⊎ (code ≡ 19) }
+    requires { (code ≡ TIDIED) ⊎ (code ≡ EARLY) }
     ensures { Takes (front_of_code code reply_rows) reader.old result reader.new }
 {
     let count = reader.u32()?;
     match code {
-        13 => Some(Reply::Tidied { collected: count }),
-        19 => Some(Reply::Early { have: count }),
+        reply_codes::TIDIED => Some(Reply::Tidied { collected: count }),
+        reply_codes::EARLY => Some(Reply::Early { have: count }),
         _ => None,
     }
 }
 
 /// What stands behind the code of a raised floor.
 fn read_raised(reader: &mut Reader) -> Option<Reply>
-    ensures { Takes (front_of_code 12 reply_rows) reader.old result reader.new }
+    ensures { Takes (front_of_code RAISED reply_rows) reader.old result reader.new }
 {
     let pair = id_and_u32(reader)?;
     Some(Reply::Raised {

@@ -8,9 +8,11 @@ ghost use Rattle.tardis_base.specs.Valid.{are_parents};
 ghost use Rattle.wire_talk.specs.Spellings.{children_spelling, first_ids_spelling, first_keys_spelling, pair_spelling, path_spelling};
 ghost use Rattle.wire_talk.specs.Spellings.{reply_spelling, site_line_spelling, site_lines_spelling};
 ghost use Rattle.wire_talk.specs.Valid.{are_children, are_first_ids, are_first_keys, is_path, is_refusal, is_reply};
+ghost use Rattle.wire_talk.specs.declared.reply_codes.TheConstants.{BATCH, KEYS, MERGING, SHOWN, STAT, STATES};
 
 use crate::field_writers::{write_code_with_id, write_code_with_id_and_u32, write_code_with_u32};
 use crate::refusal_writers::write_refusal;
+use crate::reply_codes;
 use tardis_base::{
     Batch, KeyList, PathList, Refusal, Reply, ReplyBuf, SiteLine, SiteLines, StateId, StateList,
     Value,
@@ -22,10 +24,10 @@ use wire_item::{
 
 fn write_merging(states: &StateList, out: &mut ReplyBuf)
     requires valid { IsTrue (are_parents states.now) }
-    requires fits { length out.old + length (3 ∷ parents_spelling states.now) ≤ longest_frame }
-    ensures { out.new ≡ out.old ++ 3 ∷ parents_spelling states.now }
+    requires fits { length out.old + length (MERGING ∷ parents_spelling states.now) ≤ longest_frame }
+    ensures { out.new ≡ out.old ++ MERGING ∷ parents_spelling states.now }
 {
-    out.push_byte(3);
+    out.push_byte(reply_codes::MERGING);
     write_parents(states, out);
 }
 
@@ -35,7 +37,7 @@ pub fn write_value_reply(writer: StateId, value: &Value, out: &mut ReplyBuf)
     requires { length out.old + length (reply_spelling (Reply.Value writer value.now)) ≤ longest_frame }
     ensures { out.new ≡ out.old ++ reply_spelling (Reply.Value writer value.now) }
 {
-    write_code_with_id(4, writer, out);
+    write_code_with_id(reply_codes::VALUE, writer, out);
     write_value(value, out);
 }
 
@@ -44,7 +46,7 @@ pub fn write_begun(state: StateId, out: &mut ReplyBuf)
     requires { length out.old + 7 ≤ longest_frame }
     ensures { out.new ≡ out.old ++ reply_spelling (Reply.Begun state) }
 {
-    write_code_with_id(2, state, out);
+    write_code_with_id(reply_codes::BEGUN, state, out);
 }
 
 /// Writes the reply that the value which is read was deleted, behind the bytes that are there.
@@ -52,7 +54,7 @@ pub fn write_deleted(writer: StateId, out: &mut ReplyBuf)
     requires { length out.old + 7 ≤ longest_frame }
     ensures { out.new ≡ out.old ++ reply_spelling (Reply.Deleted writer) }
 {
-    write_code_with_id(5, writer, out);
+    write_code_with_id(reply_codes::DELETED, writer, out);
 }
 
 /// Writes the reply that there is no value to read, behind the bytes that are there.
@@ -60,7 +62,7 @@ pub fn write_absent(out: &mut ReplyBuf)
     requires { length out.old + 1 ≤ longest_frame }
     ensures { out.new ≡ out.old ++ reply_spelling Reply.Absent }
 {
-    out.push_byte(6);
+    out.push_byte(reply_codes::ABSENT);
 }
 
 /// Writes the reply that the request is done, behind the bytes that are there.
@@ -68,7 +70,7 @@ pub fn write_done(out: &mut ReplyBuf)
     requires { length out.old + 1 ≤ longest_frame }
     ensures { out.new ≡ out.old ++ reply_spelling Reply.Done }
 {
-    out.push_byte(7);
+    out.push_byte(reply_codes::DONE);
 }
 
 /// Writes the reply that a state was made by a commit, behind the bytes that are there, from parents that are only lent.
@@ -77,7 +79,7 @@ pub fn write_committed(id: StateId, parents: &StateList, out: &mut ReplyBuf)
     requires fits { length out.old + length (reply_spelling (Reply.Committed id parents.now)) ≤ longest_frame }
     ensures { out.new ≡ out.old ++ reply_spelling (Reply.Committed id parents.now) }
 {
-    write_code_with_id(8, id, out);
+    write_code_with_id(reply_codes::COMMITTED, id, out);
     write_parents(parents, out);
 }
 
@@ -86,7 +88,7 @@ pub fn write_ended(state: StateId, out: &mut ReplyBuf)
     requires { length out.old + 7 ≤ longest_frame }
     ensures { out.new ≡ out.old ++ reply_spelling (Reply.Ended state) }
 {
-    write_code_with_id(9, state, out);
+    write_code_with_id(reply_codes::ENDED, state, out);
 }
 
 fn write_code_with_counts(code: u8, total: u32, count: u16, out: &mut ReplyBuf)
@@ -99,10 +101,10 @@ fn write_code_with_counts(code: u8, total: u32, count: u16, out: &mut ReplyBuf)
 
 fn write_states(total: u32, first: &StateList, out: &mut ReplyBuf)
     requires valid { IsTrue (are_first_ids total first.now) }
-    requires fits { length out.old + length (10 ∷ first_ids_spelling total first.now) ≤ longest_frame }
-    ensures { out.new ≡ out.old ++ 10 ∷ first_ids_spelling total first.now }
+    requires fits { length out.old + length (STATES ∷ first_ids_spelling total first.now) ≤ longest_frame }
+    ensures { out.new ≡ out.old ++ STATES ∷ first_ids_spelling total first.now }
 {
-    write_code_with_counts(10, total, first.len() as u16, out);
+    write_code_with_counts(reply_codes::STATES, total, first.len() as u16, out);
     write_ids(first.as_slice(), out);
 }
 
@@ -117,18 +119,18 @@ fn write_each_key(keys: &KeyList, out: &mut ReplyBuf)
 
 fn write_keys(total: u32, first: &KeyList, out: &mut ReplyBuf)
     requires valid { IsTrue (are_first_keys total first.now) }
-    requires fits { length out.old + length (11 ∷ first_keys_spelling total first.now) ≤ longest_frame }
-    ensures { out.new ≡ out.old ++ 11 ∷ first_keys_spelling total first.now }
+    requires fits { length out.old + length (KEYS ∷ first_keys_spelling total first.now) ≤ longest_frame }
+    ensures { out.new ≡ out.old ++ KEYS ∷ first_keys_spelling total first.now }
 {
-    write_code_with_counts(11, total, first.len() as u16, out);
+    write_code_with_counts(reply_codes::KEYS, total, first.len() as u16, out);
     write_each_key(first, out);
 }
 
 fn write_sizes(known: u64, kept: u32, leaves: u32, sessions: u16, out: &mut ReplyBuf)
     requires { length out.old + 19 ≤ longest_frame }
-    ensures { out.new ≡ out.old ++ 14 ∷ (u64_spelling known ++ u32_spelling kept ++ u32_spelling leaves ++ u16_spelling sessions) }
+    ensures { out.new ≡ out.old ++ STAT ∷ (u64_spelling known ++ u32_spelling kept ++ u32_spelling leaves ++ u16_spelling sessions) }
 {
-    out.push_byte(14);
+    out.push_byte(reply_codes::STAT);
     write_u64(known, out);
     write_u32(kept, out);
     write_u32(leaves, out);
@@ -198,17 +200,17 @@ fn write_path(path: &PathList, out: &mut ReplyBuf)
 
 fn write_arrival(arrival: u64, out: &mut ReplyBuf)
     requires { length out.old + 9 ≤ longest_frame }
-    ensures { out.new ≡ out.old ++ 15 ∷ u64_spelling arrival }
+    ensures { out.new ≡ out.old ++ SHOWN ∷ u64_spelling arrival }
 {
-    out.push_byte(15);
+    out.push_byte(reply_codes::SHOWN);
     write_u64(arrival, out);
 }
 
 fn write_shown(arrival: u64, children: &StateList, path: &PathList, out: &mut ReplyBuf)
     requires children { IsTrue (are_children children.now) }
     requires path { IsTrue (is_path path.now) }
-    requires fits { length out.old + length (15 ∷ (u64_spelling arrival ++ children_spelling children.now ++ path_spelling path.now)) ≤ longest_frame }
-    ensures { out.new ≡ out.old ++ 15 ∷ (u64_spelling arrival ++ children_spelling children.now ++ path_spelling path.now) }
+    requires fits { length out.old + length (SHOWN ∷ (u64_spelling arrival ++ children_spelling children.now ++ path_spelling path.now)) ≤ longest_frame }
+    ensures { out.new ≡ out.old ++ SHOWN ∷ (u64_spelling arrival ++ children_spelling children.now ++ path_spelling path.now) }
 {
     write_arrival(arrival, out);
     write_children(children, out);
@@ -217,10 +219,10 @@ fn write_shown(arrival: u64, children: &StateList, path: &PathList, out: &mut Re
 
 fn write_batch_reply(batch: &Batch, out: &mut ReplyBuf)
     requires valid { IsTrue (is_batch batch.now) }
-    requires fits { length out.old + length (16 ∷ batch_spelling batch.now) ≤ longest_frame }
-    ensures { out.new ≡ out.old ++ 16 ∷ batch_spelling batch.now }
+    requires fits { length out.old + length (BATCH ∷ batch_spelling batch.now) ≤ longest_frame }
+    ensures { out.new ≡ out.old ++ BATCH ∷ batch_spelling batch.now }
 {
-    out.push_byte(16);
+    out.push_byte(reply_codes::BATCH);
     write_batch(batch, out);
 }
 
@@ -230,7 +232,7 @@ pub fn write_refused(refusal: &Refusal, out: &mut ReplyBuf)
     requires fits { length out.old + length (reply_spelling (Reply.Refused refusal.now)) ≤ longest_frame }
     ensures { out.new ≡ out.old ++ reply_spelling (Reply.Refused refusal.now) }
 {
-    out.push_byte(21);
+    out.push_byte(reply_codes::REFUSED);
     write_refusal(refusal, out);
 }
 
@@ -256,7 +258,7 @@ pub fn write_reply(reply: &Reply, out: &mut ReplyBuf)
     ensures { out.new ≡ out.old ++ reply_spelling reply.now }
 {
     match reply {
-        Reply::Opened { ceiling } => write_code_with_id(1, *ceiling, out),
+        Reply::Opened { ceiling } => write_code_with_id(reply_codes::OPENED, *ceiling, out),
         Reply::Begun { state } => write_begun(*state, out),
         Reply::Merging { states } => write_merging(states, out),
         Reply::Value { writer, value } => write_value_reply(*writer, value, out),
@@ -267,8 +269,13 @@ pub fn write_reply(reply: &Reply, out: &mut ReplyBuf)
         Reply::Ended { state } => write_ended(*state, out),
         Reply::States { total, first } => write_states(*total, first, out),
         Reply::Keys { total, first } => write_keys(*total, first, out),
-        Reply::Raised { floor, number } => write_code_with_id_and_u32(12, *floor, *number, out),
-        Reply::Tidied { collected } => write_code_with_u32(13, *collected, out),
+        Reply::Raised { floor, number } => write_code_with_id_and_u32(
+            reply_codes::RAISED,
+            *floor,
+            *number,
+            out,
+        ),
+        Reply::Tidied { collected } => write_code_with_u32(reply_codes::TIDIED, *collected, out),
         Reply::Stat {
             known,
             kept,
@@ -282,11 +289,11 @@ pub fn write_reply(reply: &Reply, out: &mut ReplyBuf)
             path,
         } => write_shown(*arrival, children, path, out),
         Reply::Batch { batch } => write_batch_reply(batch, out),
-        Reply::Applied => out.push_byte(17),
-        Reply::Known => out.push_byte(18),
-        Reply::Early { have } => write_code_with_u32(19, *have, out),
-        Reply::Closed => out.push_byte(20),
+        Reply::Applied => out.push_byte(reply_codes::APPLIED),
+        Reply::Known => out.push_byte(reply_codes::KNOWN),
+        Reply::Early { have } => write_code_with_u32(reply_codes::EARLY, *have, out),
+        Reply::Closed => out.push_byte(reply_codes::CLOSED),
         Reply::Refused { refusal } => write_refused(refusal, out),
-        Reply::NoMemory => out.push_byte(22),
+        Reply::NoMemory => out.push_byte(reply_codes::NO_MEMORY),
     }
 }

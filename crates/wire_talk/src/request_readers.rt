@@ -12,9 +12,11 @@ ghost use Rattle.wire_talk.specs.Codes.{code_of};
 ghost use Rattle.wire_talk.specs.Memory.{takes_no_memory};
 ghost use Rattle.wire_talk.specs.RequestReadings.{request_front, request_of, request_rows};
 ghost use Rattle.wire_talk.specs.Spelled.{SpellsRequest};
+ghost use Rattle.wire_talk.specs.declared.request_codes.TheConstants.{BEGIN, CEILING, COMMIT, RAISE, SHOW};
 
 use crate::lent_requests::{lent_fields, owned};
 use crate::refusal_readers::sure;
+use crate::request_codes;
 use crate::request_field_readers::{
     read_begin_merge, read_conflicts, read_deliver, read_get_for, read_open, read_pull,
 };
@@ -47,30 +49,32 @@ fn fields(alloc: Global, code: u8, reader: &mut Reader) -> Option<Result<Request
     ensures sure { (q : Request) (e : NoMemory) → code_of q ≡ code → IsTrue (takes_no_memory q) → result ≡ Some (Err e) → ⊥ }
 {
     match code {
-        1 => sure(read_open(reader)),
-        2..=6 => read_owned(alloc, code, reader),
-        7 => Some(Ok(Request::Abort)),
-        8 => read_begin_merge(alloc, reader),
-        9 => Some(Ok(Request::ForkPoints)),
-        10 => read_conflicts(alloc, reader),
-        11 => read_get_for(alloc, reader),
-        12 | 13 | 17 => sure(read_with_id(code, reader)),
-        14 => Some(Ok(Request::RaiseAuto)),
-        15 => sure(read_tidy(reader)),
-        16 => Some(Ok(Request::Stat)),
-        18 => Some(Ok(Request::Leaves)),
-        19 => read_pull(alloc, reader),
-        20 => read_deliver(alloc, reader),
-        21 => Some(Ok(Request::Close)),
-        22 => Some(Ok(Request::Settle)),
+        request_codes::OPEN => sure(read_open(reader)),
+        request_codes::BEGIN..=request_codes::COMMIT => read_owned(alloc, code, reader),
+        request_codes::ABORT => Some(Ok(Request::Abort)),
+        request_codes::BEGIN_MERGE => read_begin_merge(alloc, reader),
+        request_codes::FORK_POINTS => Some(Ok(Request::ForkPoints)),
+        request_codes::CONFLICTS => read_conflicts(alloc, reader),
+        request_codes::GET_FOR => read_get_for(alloc, reader),
+        request_codes::CEILING | request_codes::RAISE | request_codes::SHOW => sure(read_with_id(
+            code, reader,
+        )),
+        request_codes::RAISE_AUTO => Some(Ok(Request::RaiseAuto)),
+        request_codes::TIDY => sure(read_tidy(reader)),
+        request_codes::STAT => Some(Ok(Request::Stat)),
+        request_codes::LEAVES => Some(Ok(Request::Leaves)),
+        request_codes::PULL => read_pull(alloc, reader),
+        request_codes::DELIVER => read_deliver(alloc, reader),
+        request_codes::CLOSE => Some(Ok(Request::Close)),
+        request_codes::SETTLE => Some(Ok(Request::Settle)),
         _ => None,
     }
 }
 
 /// What stands behind the code of a request that could be lent, with a key and a value of its own.
 fn read_owned(alloc: Global, code: u8, reader: &mut Reader) -> Option<Result<Request, NoMemory>>
-    requires from { 2 ≤ code }
-    requires to { code ≤ 6 }
+    requires from { BEGIN ≤ code }
+    requires to { code ≤ COMMIT }
     ensures read { Makes (front_of_code code request_rows) reader.old result reader.new }
     ensures sure { (q : Request) (e : NoMemory) → code_of q ≡ code → IsTrue (takes_no_memory q) → result ≡ Some (Err e) → ⊥ }
 {
@@ -88,14 +92,14 @@ fn read_tidy(reader: &mut Reader) -> Option<Request>
 
 /// What stands behind the code of a request about one state.
 fn read_with_id(code: u8, reader: &mut Reader) -> Option<Request>
-    requires { (code ≡ 12) ⊎ ((code ≡ 13) ⊎ (code ≡ 17)) }
+    requires { (code ≡ CEILING) ⊎ ((code ≡ RAISE) ⊎ (code ≡ SHOW)) }
     ensures { Takes (front_of_code code request_rows) reader.old result reader.new }
 {
     let state = reader.id()?;
     match code {
-        12 => Some(Request::Ceiling { state }),
-        13 => Some(Request::Raise { state }),
-        17 => Some(Request::Show { state }),
+        request_codes::CEILING => Some(Request::Ceiling { state }),
+        request_codes::RAISE => Some(Request::Raise { state }),
+        request_codes::SHOW => Some(Request::Show { state }),
         _ => None,
     }
 }

@@ -2,7 +2,7 @@ use Rattle.std.proofs.Common.{◌≡◌, ◌∙◌, Some, map, ap, sym, subst, a
 use Rattle.std.proofs.lemmas.List.{length-map}
 use Rattle.std.specs.String.{string_bytes}
 use Rattle.site_run.specs.Endings.{IsRunEnd}
-use Rattle.site_run.specs.LineEndings.{IsLineEnd}
+use Rattle.site_run.specs.Endings.{IsLineEnd}
 use Rattle.load_run.specs.Ends.{IsLoadEnd}
 use Rattle.branch_export.specs.Imported.{IsImportEnd}
 use Rattle.export_run.specs.Exporting.{ExportOutcome, IsExportEnd}
@@ -63,7 +63,7 @@ returns-in-Ok-Export-clause-export g c = λ place state are.
     let read = c.in-Ok-Export.ensures.form ∙ ap (λ command. Some (form_of command)) c.in-Ok-Export.field-0-is in
     let same : ◌≡◌ {A = Place × StateId} (c.in-Ok-Export.place, c.in-Ok-Export.state) (place, state) =
     export_same c.in-Ok-Export.place place c.in-Ok-Export.state state (sym read ∙ are) in
-    subst (λ (p : Place × StateId). ExportEnds g.I.Source.left g.I.Source.faults g.O.Sink.given g.O.Sink.faults c.args.input.now c.export.new.input
+    subst (λ (p : Place × StateId). ExportEnds g.I.Source g.O.Sink c.args.input.now c.export.new.input
     c.args.output.now c.export.new.output
     (map (λ w. string_bytes w) c.args.words.now) c.export.result (site_at p.0) p.1) same
     (record {
@@ -176,6 +176,4 @@ returns-in-Err-NoMemory-clause-auto g c = λ place rules are.
 
 pub returns-in-Err-NoMemory-clause-durable : goal.returns-in-Err-NoMemory-clause-durable
 returns-in-Err-NoMemory-clause-durable g c = λ place path are.
-    no_durable g.S.Disk.Disk.honest g.S.Disk.Disk.reads g.S.Disk.Disk.may_leave g.S.Disk.Disk.moment g.S.Disk.Disk.left_since g.S.Disk.Disk.faults
-    g.S.Store.honest g.S.Store.told g.S.Store.faults g.I.Source.left g.I.Source.faults g.O.Sink.given g.O.Sink.faults
-    c.args.store.now c.args.input.now c.args.output.now (site_at place) (program_limits place.sites).max_trail
+    no_durable g.S.Store g.S.Disk.Disk g.I.Source g.O.Sink path c.args.store.now c.args.input.now c.args.output.now (site_at place) (program_limits place.sites).max_trail

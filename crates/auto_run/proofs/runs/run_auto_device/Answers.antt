@@ -3,13 +3,15 @@ use Rattle.tardis_io.proofs.Told.{weaker, same}
 use Rattle.tardis_io.specs.declared.statuses.Status.TheVariants.{NoMemory}
 use Rattle.site_run.specs.Responses.{AnsweredBy}
 use Rattle.site_run.specs.Endings.{shape_within}
-use Rattle.site_run.specs.LineEndings.{LineOutcome}
+use Rattle.site_run.specs.Endings.{LineOutcome}
 use Rattle.shell_run.specs.Answers.{over_lines}
 use Rattle.plain_site.specs.Step.{site_machine}
 use Rattle.session_core.specs.Machine.{SiteStands}
 use Rattle.auto_run.specs.Ruled.{RuledStands, RuledMay}
-use Rattle.auto_run.specs.Outcomes.{AutoOutcome}
+use Rattle.auto_run.specs.Outcomes.{AutoOutcome, AutoIsPrompt}
 use Rattle.auto_run.proofs.AutoRuns.{of_site, no_run}
+use Rattle.auto_run.proofs.AutoPrompts.{auto_prompt, no_take}
+use Rattle.tardis_io.specs.Told.{WhileTold}
 use Rattle.auto_run.proofs.runs.run_auto_device.Goals as goal
 
 pub returns-in-Ok-clause-outcome : goal.returns-in-Ok-clause-outcome
@@ -33,3 +35,13 @@ returns-in-Err-clause-outcome g c =
     same (g.D.Duplex.left c.args.device.now) (AutoOutcome (over_lines site_machine) site.rules NoMemory (SiteStands site.core) (SiteStands site.core) given
     given)
     (λ x. no_run (over_lines site_machine) site.rules (SiteStands site.core) (SiteStands site.core) given x (λ s f. f))
+
+pub returns-in-Ok-clause-prompt : goal.returns-in-Ok-clause-prompt
+returns-in-Ok-clause-prompt g c =
+    auto_prompt c.args.site.now.core c.args.site.now.rules (g.D.Sink.given c.args.device.now) (g.D.Duplex.left c.args.device.now)
+    (g.D.Duplex.takes c.args.device.now) (g.D.Duplex.takes c.answer_lines.new.device) c.answer_lines.ensures.prompt
+
+pub returns-in-Err-clause-prompt : goal.returns-in-Err-clause-prompt
+returns-in-Err-clause-prompt g c =
+    no_take (g.D.Duplex.takes c.args.device.now) (λ moment. WhileTold (g.D.Duplex.left c.args.device.now) moment.left
+    (AutoIsPrompt (over_lines site_machine) c.args.site.now.rules (SiteStands c.args.site.now.core) (g.D.Sink.given c.args.device.now) moment.given))

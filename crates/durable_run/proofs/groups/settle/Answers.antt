@@ -7,7 +7,7 @@ pub returns-in-Ok-write_to-clause-grouped : goal.returns-in-Ok-write_to-clause-g
 returns-in-Ok-write_to-clause-grouped g c = λ at bodies group.
     let M = g.M.Machine in
     let K = g.K.Disk in
-    settled M.plain M.stands M.opening K.honest K.reads K.may_leave K.moment K.left_since at c.args.journal c.in-Ok.journal
+    settled M K at c.args.journal c.in-Ok.journal
     (g.O.Sink.given c.args.output.now) (g.O.Sink.given c.write_to.new.output) c.args.gathered.now.bytes c.write_to.new.self.bytes bodies
     c.in-Ok.ensures.committed c.in-Ok.ensures.any_moment c.in-Ok.ensures.honest c.in-Ok.ensures.opening c.in-Ok.ensures.most c.in-Ok-write_to.ensures.bytes
     c.write_to.ensures.none group
@@ -16,7 +16,7 @@ pub returns-in-Err-write_to-clause-stopped : goal.returns-in-Err-write_to-clause
 returns-in-Err-write_to-clause-stopped g c = λ at bodies group.
     let M = g.M.Machine in
     let K = g.K.Disk in
-    unwritten M.plain M.stands M.opening K.honest K.reads K.may_leave K.moment K.left_since at c.args.journal c.in-Ok.journal c.close.result.1
+    unwritten M K at c.args.journal c.in-Ok.journal c.close.result.1
     (g.O.Sink.given c.args.output.now) (g.O.Sink.given c.write_to.new.output) c.args.gathered.now.bytes bodies
     c.in-Ok.ensures.committed c.in-Ok.ensures.any_moment c.in-Ok.ensures.honest c.close.ensures.disk c.in-Err-write_to.ensures.bytes
     (omega (arith, c.in-Err-write_to.ensures.within, c.requires.room)) group
@@ -25,7 +25,7 @@ pub returns-in-Err-clause-stopped : goal.returns-in-Err-clause-stopped
 returns-in-Err-clause-stopped g c = λ at bodies group.
     let M = g.M.Machine in
     let K = g.K.Disk in
-    broken M.plain M.stands M.opening K.honest K.reads K.may_leave K.moment K.left_since at c.args.journal c.in-Err.disk (g.O.Sink.given c.args.output.now)
+    broken M K at c.args.journal c.in-Err.disk (g.O.Sink.given c.args.output.now)
     c.args.gathered.now.bytes bodies
     (g.met.K.Disk.counts_now c.in-Err.disk) c.in-Err.ensures.any_moment group
 
@@ -36,7 +36,7 @@ pub returns-in-Err-write_to-clause-fault : goal.returns-in-Err-write_to-clause-f
 returns-in-Err-write_to-clause-fault g c =
     let K = g.K.Disk in
     record {
-      went = subst (λ k. Went K.honest K.faults c.args.journal.disk k) (sym c.close.ensures.disk)
+      went = subst (λ k. Went K c.args.journal.disk k) (sym c.close.ensures.disk)
           (record { later = c.in-Ok.ensures.later; as_honest = c.in-Ok.ensures.honest });
       rose = c.in-Err-write_to.ensures.cause.failed;
     }

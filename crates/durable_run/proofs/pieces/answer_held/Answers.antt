@@ -25,15 +25,16 @@ loop-body-preserved g c =
     subst (λ r. Leaves c.loop-body.cutter r c.next.follows.lender-at-none) c.in-Frame.is c.next.follows.holds-at-none in
     record {
       grouped = λ at bodies group.
-          more_body (Grouping M.plain M.stands M.opening K.honest K.reads K.may_leave K.moment K.left_since at c.loop-body.journal
+          more_body (Grouping M K at c.loop-body.journal
           (g.O.Sink.given c.loop-body.output) c.loop-body.gathered.bytes)
-          (Grouping M.plain M.stands M.opening K.honest K.reads K.may_leave K.moment K.left_since at c.in-Ok.answered
+          (Grouping M K at c.in-Ok.answered
           (g.O.Sink.given c.answer_frame.new.output) c.answer_frame.new.gathered.bytes)
           c.args.cutter.now c.loop-body.cutter c.next.follows.lender-at-none c.in-Frame.body.now bodies c.in-Frame.ensures.cut.0
           (subst (λ r. c.loop-body.cutter ≡ frame c.in-Frame.body.now ++ r) (sym left) c.in-Frame.ensures.cut.1)
           (c.loop-body.invariant.grouped at bodies group) (c.in-Ok.ensures.grouped at);
       room = ◌∙◌ {a = c.answer_frame.new.gathered.room} c.in-Ok.ensures.room c.loop-body.invariant.room;
-      went = went_then K.honest K.faults c.args.journal.disk c.loop-body.journal.disk c.in-Ok.answered.disk c.loop-body.invariant.went c.in-Ok.ensures.went;
+      went = went_then K c.args.journal.disk c.loop-body.journal.disk c.in-Ok.answered.disk c.loop-body.invariant.went c.in-Ok.ensures.went;
+      kept = ◌∙◌ {a = g.O.Sink.kept c.answer_frame.new.output} c.in-Ok.ensures.kept c.loop-body.invariant.kept;
       write_later = omega (arith, c.in-Ok.ensures.write_later, c.loop-body.invariant.write_later);
     }
 
@@ -45,7 +46,7 @@ returns-in-Err-clause-stopped g c = λ at bodies group.
 pub returns-in-Err-clause-fault : goal.returns-in-Err-clause-fault
 returns-in-Err-clause-fault g c =
     let K = g.K.Disk in
-    stopped_later K.honest K.faults g.O.Sink.faults c.args.journal.disk c.loop-body.journal.disk c.args.output.now c.loop-body.output
+    stopped_later K g.O.Sink c.args.journal.disk c.loop-body.journal.disk c.args.output.now c.loop-body.output
     c.answer_frame.new.output c.in-Err.stop c.loop-body.invariant.went c.loop-body.invariant.write_later c.in-Err.ensures.fault
 
 pub returns-in-NeedMore-clause-grouped : goal.returns-in-NeedMore-clause-grouped
@@ -85,3 +86,12 @@ returns-in-Long-clause-went g c = c.loop-body.invariant.went
 
 pub returns-in-Long-clause-write_later : goal.returns-in-Long-clause-write_later
 returns-in-Long-clause-write_later g c = c.loop-body.invariant.write_later
+
+pub returns-in-Err-clause-kept : goal.returns-in-Err-clause-kept
+returns-in-Err-clause-kept g c = ◌∙◌ {a = g.O.Sink.kept c.answer_frame.new.output} c.in-Err.ensures.kept c.loop-body.invariant.kept
+
+pub returns-in-NeedMore-clause-kept : goal.returns-in-NeedMore-clause-kept
+returns-in-NeedMore-clause-kept g c = c.loop-body.invariant.kept
+
+pub returns-in-Long-clause-kept : goal.returns-in-Long-clause-kept
+returns-in-Long-clause-kept g c = c.loop-body.invariant.kept

@@ -1,124 +1,37 @@
-use Rattle.std.proofs.Common.{inl, inr}
-use Rattle.tardis_io.specs.Faults.{Rose}
-use Rattle.durable_run.specs.Groups.{Start}
-use Rattle.durable_run.proofs.Running.{begun, exact_end, exact_memory, exact_fault, unopened_fault, unopened_memory, ended_fault, ended_memory, ended_later}
-use Rattle.durable_run.proofs.Running.{rose_of}
+use Rattle.std.proofs.Common.{◌≡◌, ⊎_elim, inl, inr, ap, subst, rules}
+use Rattle.durable_run.specs.Turns.{Ended}
+use Rattle.durable_run.proofs.Running.{apart_unopened, apart_ran}
 use Rattle.durable_run.proofs.runs.run_durable.Goals as goal
-
-pub answer_input-requires-clause-group : goal.answer_input-requires-clause-group
-answer_input-requires-clause-group g c =
-    let M = g.M.Machine in
-    let K = g.K.Disk in
-    let o = c.in-Ok-open_on.ensures.opened in
-    let at : Start M.Plain g.row.K.Denot = record {
-      entries = o.0;
-      state = M.opening c.args.machine;
-      disk = c.args.disk;
-      given =
-          g.O.Sink.given c.args.output.now;
-      most = c.args.max_trail;
-    } in
-    let group = begun M.plain M.stands M.opening K.honest K.reads K.may_leave K.moment K.left_since o.0 (M.opening c.args.machine) c.args.disk
-    (g.O.Sink.given c.args.output.now) c.args.max_trail c.in-Ok-open_on.journal o.1.0 c.in-Ok-open_on.ensures.opening c.in-Ok-open_on.ensures.limit
-    c.in-Ok-open_on.ensures.honest o.1.2 c.in-Ok-open_on.ensures.images in
-    (at, group)
-
-pub returns-in-Ok-open_on-clause-outcome : goal.returns-in-Ok-open_on-clause-outcome
-returns-in-Ok-open_on-clause-outcome g c =
-    let M = g.M.Machine in
-    let K = g.K.Disk in
-    let o = c.in-Ok-open_on.ensures.opened in
-    let at : Start M.Plain g.row.K.Denot = record {
-      entries = o.0;
-      state = M.opening c.args.machine;
-      disk = c.args.disk;
-      given =
-          g.O.Sink.given c.args.output.now;
-      most = c.args.max_trail;
-    } in
-    let group = begun M.plain M.stands M.opening K.honest K.reads K.may_leave K.moment K.left_since o.0 (M.opening c.args.machine) c.args.disk
-    (g.O.Sink.given c.args.output.now) c.args.max_trail c.in-Ok-open_on.journal o.1.0 c.in-Ok-open_on.ensures.opening c.in-Ok-open_on.ensures.limit
-    c.in-Ok-open_on.ensures.honest o.1.2 c.in-Ok-open_on.ensures.images in
-    inr (record { entries = o.0; found = o.1.2; outcome = c.answer_input.ensures.outcome at group })
-
-pub returns-in-Ok-open_on-clause-exact : goal.returns-in-Ok-open_on-clause-exact
-returns-in-Ok-open_on-clause-exact g c =
-    let M = g.M.Machine in
-    let K = g.K.Disk in
-    let o = c.in-Ok-open_on.ensures.opened in
-    let at : Start M.Plain g.row.K.Denot = record {
-      entries = o.0;
-      state = M.opening c.args.machine;
-      disk = c.args.disk;
-      given =
-          g.O.Sink.given c.args.output.now;
-      most = c.args.max_trail;
-    } in
-    let group = begun M.plain M.stands M.opening K.honest K.reads K.may_leave K.moment K.left_since o.0 (M.opening c.args.machine) c.args.disk
-    (g.O.Sink.given c.args.output.now) c.args.max_trail c.in-Ok-open_on.journal o.1.0 c.in-Ok-open_on.ensures.opening c.in-Ok-open_on.ensures.limit
-    c.in-Ok-open_on.ensures.honest o.1.2 c.in-Ok-open_on.ensures.images in
-    let e = ended_later M.plain M.stands M.opening K.honest K.reads K.may_leave K.moment K.left_since K.faults g.I.Source.faults g.O.Sink.faults
-    c.args.disk c.in-Ok-open_on.journal.disk c.answer_input.result.1 c.args.input.now c.answer_input.new.input c.args.output.now
-    c.answer_input.new.output c.answer_input.result.0 c.in-Ok-open_on.ensures.later c.in-Ok-open_on.ensures.honest c.answer_input.ensures.ended in
-    exact_end M.plain M.stands M.opening K.honest K.reads K.may_leave K.moment K.left_since at (g.I.Source.left c.args.input.now)
-    (g.I.Source.left c.answer_input.new.input) c.answer_input.result.0 c.answer_input.result.1 (g.O.Sink.given c.answer_input.new.output)
-    (Rose (K.faults c.args.disk) (K.faults c.answer_input.result.1))
-    (Rose (g.I.Source.faults c.args.input.now) (g.I.Source.faults c.answer_input.new.input))
-    (Rose (g.O.Sink.faults c.args.output.now) (g.O.Sink.faults c.answer_input.new.output))
-    e.disk_rose e.read_rose e.write_rose (c.answer_input.ensures.outcome at group)
-
-pub returns-in-Ok-open_on-clause-ended : goal.returns-in-Ok-open_on-clause-ended
-returns-in-Ok-open_on-clause-ended g c =
-    let M = g.M.Machine in
-    let K = g.K.Disk in
-    ended_later M.plain M.stands M.opening K.honest K.reads K.may_leave K.moment K.left_since K.faults g.I.Source.faults g.O.Sink.faults c.args.disk
-    c.in-Ok-open_on.journal.disk c.answer_input.result.1 c.args.input.now c.answer_input.new.input c.args.output.now c.answer_input.new.output
-    c.answer_input.result.0 c.in-Ok-open_on.ensures.later c.in-Ok-open_on.ensures.honest c.answer_input.ensures.ended
-
-pub returns-in-Err-DiskFault-clause-outcome : goal.returns-in-Err-DiskFault-clause-outcome
-returns-in-Err-DiskFault-clause-outcome g c =
-    let M = g.M.Machine in
-    let K = g.K.Disk in
-    inl (unopened_fault M.plain M.stands M.opening K.honest K.reads K.may_leave K.moment K.left_since g.I.Source.left g.O.Sink.given c.args.disk
-    c.in-Err-DiskFault.disk c.in-Err-DiskFault.field-0 c.args.input.now c.args.output.now c.in-Err-DiskFault.field-0-is c.in-Err-DiskFault.ensures.images)
-
-pub returns-in-Err-DiskFault-clause-exact : goal.returns-in-Err-DiskFault-clause-exact
-returns-in-Err-DiskFault-clause-exact g c =
-    let M = g.M.Machine in
-    let K = g.K.Disk in
-    exact_fault (g.I.Source.left c.args.input.now) (Rose (K.faults c.args.disk) (K.faults c.in-Err-DiskFault.disk))
-    (Rose (g.I.Source.faults c.args.input.now) (g.I.Source.faults c.args.input.now))
-    (Rose (g.O.Sink.faults c.args.output.now) (g.O.Sink.faults c.args.output.now))
-    (rose_of M.plain M.stands M.opening K.honest K.reads K.may_leave K.moment K.left_since K.faults c.args.disk c.in-Err-DiskFault.disk
-    c.in-Err-DiskFault.field-0 c.in-Err-DiskFault.field-0-is c.in-Err-DiskFault.ensures.failed)
-
-pub returns-in-Err-DiskFault-clause-ended : goal.returns-in-Err-DiskFault-clause-ended
-returns-in-Err-DiskFault-clause-ended g c =
-    let M = g.M.Machine in
-    let K = g.K.Disk in
-    ended_fault M.plain M.stands M.opening K.honest K.reads K.may_leave K.moment K.left_since K.faults g.I.Source.faults g.O.Sink.faults c.args.disk
-    c.in-Err-DiskFault.disk c.in-Err-DiskFault.field-0 c.args.input.now c.args.output.now c.in-Err-DiskFault.field-0-is
-    c.in-Err-DiskFault.ensures.failed c.in-Err-DiskFault.ensures.later c.in-Err-DiskFault.ensures.honest
 
 pub returns-clause-outcome : goal.returns-clause-outcome
 returns-clause-outcome g c =
     let M = g.M.Machine in
     let K = g.K.Disk in
-    inl (unopened_memory M.plain M.stands M.opening K.honest K.reads K.may_leave K.moment K.left_since g.I.Source.left g.O.Sink.given c.args.disk
-    c.in-Err-NoMemory.disk c.in-Err-NoMemory.field-0 c.args.input.now c.args.output.now c.in-Err-NoMemory.field-0-is c.in-Err-NoMemory.ensures.images)
-
-pub returns-clause-exact : goal.returns-clause-exact
-returns-clause-exact g c =
-    let M = g.M.Machine in
-    let K = g.K.Disk in
-    exact_memory (g.I.Source.left c.args.input.now) (Rose (K.faults c.args.disk) (K.faults c.in-Err-NoMemory.disk))
-    (Rose (g.I.Source.faults c.args.input.now) (g.I.Source.faults c.args.input.now))
-    (Rose (g.O.Sink.faults c.args.output.now) (g.O.Sink.faults c.args.output.now))
+    let d = c.run_durable_device.new.device in
+    let r = c.run_durable_device.result in
+    let input : d.input.now ≡ c.input-1.given.0 = search rules in
+    let output : d.output.now ≡ c.output-1.given.0 = search rules in
+    ⊎_elim
+    (λ n. inl (apart_unopened M.plain K g.I.Source g.O.Sink r.0 c.args.disk r.1 c.args.input.now d.input.now c.input-1.given.0 c.args.output.now d.output.now
+    c.output-1.given.0 (record {
+      end = n.end;
+      unread = ap (λ p. p.input.now) n.unread;
+      unwritten = ap (λ p. p.output.now) n.unwritten;
+      any_moment = n.any_moment;
+    }) input output))
+    (λ n. inr (apart_ran M.plain K g.I.Source g.O.Sink (M.opening c.args.machine) c.args.max_trail r.0 c.args.disk r.1 c.args.input.now d.input.now
+    c.input-1.given.0 c.args.output.now d.output.now c.output-1.given.0
+    (record { entries = n.ran.entries; found = n.ran.found; outcome = n.ran.outcome }) input output))
+    c.run_durable_device.ensures.outcome
 
 pub returns-clause-ended : goal.returns-clause-ended
 returns-clause-ended g c =
-    let M = g.M.Machine in
     let K = g.K.Disk in
-    ended_memory M.plain M.stands M.opening K.honest K.reads K.may_leave K.moment K.left_since K.faults g.I.Source.faults g.O.Sink.faults c.args.disk
-    c.in-Err-NoMemory.disk c.in-Err-NoMemory.field-0 c.args.input.now c.args.output.now c.in-Err-NoMemory.field-0-is c.in-Err-NoMemory.ensures.later
-    c.in-Err-NoMemory.ensures.honest
+    let d = c.run_durable_device.new.device in
+    let r = c.run_durable_device.result in
+    let input : d.input.now ≡ c.input-1.given.0 = search rules in
+    let output : d.output.now ≡ c.output-1.given.0 = search rules in
+    let e = c.run_durable_device.ensures.ended in
+    subst (λ i. Ended K g.I.Source g.O.Sink c.args.disk r.1 c.args.input.now i c.args.output.now c.output-1.given.0 r.0) input
+    (subst (λ o. Ended K g.I.Source g.O.Sink c.args.disk r.1 c.args.input.now d.input.now c.args.output.now o r.0) output
+    (record { end = e.end; went = e.went; disk_rose = e.disk_rose; read_rose = e.read_rose; write_rose = e.write_rose }))

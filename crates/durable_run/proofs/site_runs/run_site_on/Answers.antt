@@ -1,6 +1,5 @@
 use Rattle.std.proofs.Common.{◌⊎◌, inl, subst}
 use Rattle.plain_site.specs.Step.{site_machine}
-use Rattle.session_core.specs.Machine.{SiteStands, opened_with}
 use Rattle.durable_run.specs.Ends.{RanOn, NotOpened}
 use Rattle.tardis_io.specs.Faults.{Rose}
 use Rattle.durable_run.proofs.Running.{no_buffers, ended_none, exact_memory}
@@ -9,22 +8,22 @@ use Rattle.durable_run.proofs.site_runs.run_site_on.Goals as goal
 pub returns-in-Ok-clause-outcome : goal.returns-in-Ok-clause-outcome
 returns-in-Ok-clause-outcome g c =
     let K = g.K.Disk in
-    subst (λ s. NotOpened site_machine K.honest K.reads K.may_leave K.moment K.left_since g.I.Source.left g.O.Sink.given c.run_durable.result.0 c.args.disk
+    subst (λ s. NotOpened site_machine K g.I.Source g.O.Sink c.run_durable.result.0 c.args.disk
     c.run_durable.result.1 c.args.input.now c.run_durable.new.input c.args.output.now c.run_durable.new.output
-    ⊎ RanOn site_machine K.honest K.reads K.may_leave K.moment K.left_since g.I.Source.left g.O.Sink.given s c.args.limits.max_trail c.run_durable.result.0
+    ⊎ RanOn site_machine K g.I.Source g.O.Sink s c.args.limits.max_trail c.run_durable.result.0
     c.args.disk c.run_durable.result.1 c.args.input.now c.run_durable.new.input c.args.output.now c.run_durable.new.output)
     c.in-Ok.ensures.opened c.run_durable.ensures.outcome
 
 pub returns-in-Err-clause-outcome : goal.returns-in-Err-clause-outcome
 returns-in-Err-clause-outcome g c =
     let K = g.K.Disk in
-    inl (no_buffers site_machine SiteStands opened_with K.honest K.reads K.may_leave K.moment K.left_since g.I.Source.left g.O.Sink.given c.args.disk
+    inl (no_buffers site_machine K g.I.Source g.O.Sink c.args.disk
     c.args.input.now c.args.output.now)
 
 pub returns-in-Err-clause-ended : goal.returns-in-Err-clause-ended
 returns-in-Err-clause-ended g c =
     let K = g.K.Disk in
-    ended_none site_machine SiteStands opened_with K.honest K.reads K.may_leave K.moment K.left_since K.faults g.I.Source.faults g.O.Sink.faults
+    ended_none K g.I.Source g.O.Sink
     c.args.disk c.args.input.now c.args.output.now
 
 pub returns-in-Err-clause-exact : goal.returns-in-Err-clause-exact

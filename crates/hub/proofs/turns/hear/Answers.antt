@@ -5,25 +5,25 @@ use Rattle.hub.proofs.turns.hear.Goals as goal
 
 pub returns-then-wants_read-clause-turned : goal.returns-then-wants_read-clause-turned
 returns-then-wants_read-clause-turned g c =
-    received g.M.Machine.plain (g.M.Machine.stands c.args.machine.now) (g.M.Machine.stands c.receive.new.machine) c.args.lines.now c.put_line.new.lines
-    c.args.slot (length c.args.piece.now) (take c.read-count.result c.read-count.new.buf)
-    c.in-Some.line c.receive.new.self c.args.tally.now c.receive.new.tally (g.P.Ports.seen c.args.ports.now) (g.P.Ports.seen c.read-count.new.self)
-    (sym c.take_line.ensures.was ∙ c.in-Some.is) c.put_line.ensures.there (λ n other. c.put_line.ensures.others n other ∙ c.take_line.ensures.others n other)
+    received g.M.Machine.plain (g.M.Machine.stands c.args.machine.now) (g.M.Machine.stands c.receive.new.machine) c.args.connections.now c.put_connection.new.connections
+    c.args.slot (length c.args.buf.now) (take c.read-count.result c.read-count.new.buf)
+    c.in-Some.connection c.receive.new.self c.args.tally.now c.receive.new.tally (g.P.Ports.seen c.args.ports.now) (g.P.Ports.seen c.read-count.new.self)
+    (sym c.take_connection.ensures.was ∙ c.in-Some.is) c.put_connection.ensures.there (λ n other. c.put_connection.ensures.others n other ∙ c.take_connection.ensures.others n other)
     (c.wants_read.ensures.yes c.if-wants_read.true).1 c.requires.room c.receive.ensures.served c.receive.ensures.stopped c.read-count.ensures.told
 
 pub returns-else-wants_read-clause-turned : goal.returns-else-wants_read-clause-turned
 returns-else-wants_read-clause-turned g c =
-    rested g.M.Machine.plain (g.M.Machine.stands c.args.machine.now) (g.M.Machine.stands c.args.machine.now) c.args.lines.now
-    c.put_line-else-wants_read.new.lines (Read c.args.slot) c.args.tally.now (g.P.Ports.seen c.args.ports.now) (g.P.Ports.seen c.args.ports.now)
-    (λ s f. f) (all_stay c.args.slot c.args.lines.now c.put_line-else-wants_read.new.lines (λ n other. c.put_line-else-wants_read.ensures.others n other
-    ∙ c.take_line.ensures.others n other) ((sym c.take_line.ensures.was ∙ c.in-Some.is) ∙ sym c.put_line-else-wants_read.ensures.there)) refl
-    (λ turns fits. shut_rests c.args.lines.now turns c.args.slot c.in-Some.line fits (sym c.take_line.ensures.was ∙ c.in-Some.is)
+    rested g.M.Machine.plain (g.M.Machine.stands c.args.machine.now) (g.M.Machine.stands c.args.machine.now) c.args.connections.now
+    c.put_connection-else-wants_read.new.connections (Read c.args.slot) c.args.tally.now (g.P.Ports.seen c.args.ports.now) (g.P.Ports.seen c.args.ports.now)
+    (λ s f. f) (all_stay c.args.slot c.args.connections.now c.put_connection-else-wants_read.new.connections (λ n other. c.put_connection-else-wants_read.ensures.others n other
+    ∙ c.take_connection.ensures.others n other) ((sym c.take_connection.ensures.was ∙ c.in-Some.is) ∙ sym c.put_connection-else-wants_read.ensures.there)) refl
+    (λ turns fits. shut_rests c.args.connections.now turns c.args.slot c.in-Some.connection fits (sym c.take_connection.ensures.was ∙ c.in-Some.is)
     (c.wants_read.ensures.no c.if-wants_read.false))
 
 pub returns-in-None-clause-turned : goal.returns-in-None-clause-turned
 returns-in-None-clause-turned g c =
-    rested g.M.Machine.plain (g.M.Machine.stands c.args.machine.now) (g.M.Machine.stands c.args.machine.now) c.args.lines.now c.take_line.new.lines
+    rested g.M.Machine.plain (g.M.Machine.stands c.args.machine.now) (g.M.Machine.stands c.args.machine.now) c.args.connections.now c.take_connection.new.connections
     (Read c.args.slot) c.args.tally.now (g.P.Ports.seen c.args.ports.now) (g.P.Ports.seen c.args.ports.now)
-    (λ s f. f) (all_stay c.args.slot c.args.lines.now c.take_line.new.lines c.take_line.ensures.others
-    ((sym c.take_line.ensures.was ∙ c.in-None.is) ∙ sym c.take_line.ensures.free)) refl
-    (λ turns fits. no_read c.args.lines.now turns c.args.slot fits (sym c.take_line.ensures.was ∙ c.in-None.is))
+    (λ s f. f) (all_stay c.args.slot c.args.connections.now c.take_connection.new.connections c.take_connection.ensures.others
+    ((sym c.take_connection.ensures.was ∙ c.in-None.is) ∙ sym c.take_connection.ensures.free)) refl
+    (λ turns fits. no_read c.args.connections.now turns c.args.slot fits (sym c.take_connection.ensures.was ∙ c.in-None.is))

@@ -7,28 +7,28 @@ use Rattle.hub.proofs.turns.tell.Goals as goal
 
 pub returns-then-has_to_write-clause-turned : goal.returns-then-has_to_write-clause-turned
 returns-then-has_to_write-clause-turned g c =
-    sent g.M.Machine.plain (g.M.Machine.stands c.args.machine.now) (g.M.Machine.stands c.sent.new.machine) c.args.lines.now c.put_line.new.lines
-    c.args.slot (length c.in-Some.line.waiting) c.write-count.result
-    c.in-Some.line c.sent.new.self c.args.tally.now c.sent.new.tally (g.P.Ports.seen c.args.ports.now) (g.P.Ports.seen c.write-count.new.self)
-    (sym c.take_line.ensures.was ∙ c.in-Some.is) c.put_line.ensures.there (λ n other. c.put_line.ensures.others n other ∙ c.take_line.ensures.others n other)
+    sent g.M.Machine.plain (g.M.Machine.stands c.args.machine.now) (g.M.Machine.stands c.sent.new.machine) c.args.connections.now c.put_connection.new.connections
+    c.args.slot (length c.in-Some.connection.waiting) c.write-count.result
+    c.in-Some.connection c.sent.new.self c.args.tally.now c.sent.new.tally (g.P.Ports.seen c.args.ports.now) (g.P.Ports.seen c.write-count.new.self)
+    (sym c.take_connection.ensures.was ∙ c.in-Some.is) c.put_connection.ensures.there (λ n other. c.put_connection.ensures.others n other ∙ c.take_connection.ensures.others n other)
     refl c.sent.ensures.served c.sent.ensures.stopped
     (subst (λ b. Tells (g.P.Ports.seen c.args.ports.now) (g.P.Ports.seen c.write-count.new.self)
     (WroteTo c.args.slot (length b) (take c.write-count.result b) ∷ [])) c.to_write.ensures c.write-count.ensures.told)
 
 pub returns-else-has_to_write-clause-turned : goal.returns-else-has_to_write-clause-turned
 returns-else-has_to_write-clause-turned g c =
-    rested g.M.Machine.plain (g.M.Machine.stands c.args.machine.now) (g.M.Machine.stands c.args.machine.now) c.args.lines.now
-    c.put_line-else-has_to_write.new.lines (Write c.args.slot) c.args.tally.now (g.P.Ports.seen c.args.ports.now) (g.P.Ports.seen c.args.ports.now)
-    (λ s f. f) (all_stay c.args.slot c.args.lines.now c.put_line-else-has_to_write.new.lines
-    (λ n other. c.put_line-else-has_to_write.ensures.others n other ∙ c.take_line.ensures.others n other)
-    ((sym c.take_line.ensures.was ∙ c.in-Some.is) ∙ sym c.put_line-else-has_to_write.ensures.there)) refl
-    (λ turns fits. empty_rests c.args.lines.now turns c.args.slot c.in-Some.line fits (sym c.take_line.ensures.was ∙ c.in-Some.is)
+    rested g.M.Machine.plain (g.M.Machine.stands c.args.machine.now) (g.M.Machine.stands c.args.machine.now) c.args.connections.now
+    c.put_connection-else-has_to_write.new.connections (Write c.args.slot) c.args.tally.now (g.P.Ports.seen c.args.ports.now) (g.P.Ports.seen c.args.ports.now)
+    (λ s f. f) (all_stay c.args.slot c.args.connections.now c.put_connection-else-has_to_write.new.connections
+    (λ n other. c.put_connection-else-has_to_write.ensures.others n other ∙ c.take_connection.ensures.others n other)
+    ((sym c.take_connection.ensures.was ∙ c.in-Some.is) ∙ sym c.put_connection-else-has_to_write.ensures.there)) refl
+    (λ turns fits. empty_rests c.args.connections.now turns c.args.slot c.in-Some.connection fits (sym c.take_connection.ensures.was ∙ c.in-Some.is)
     (c.has_to_write.ensures.no c.if-has_to_write.false))
 
 pub returns-in-None-clause-turned : goal.returns-in-None-clause-turned
 returns-in-None-clause-turned g c =
-    rested g.M.Machine.plain (g.M.Machine.stands c.args.machine.now) (g.M.Machine.stands c.args.machine.now) c.args.lines.now c.take_line.new.lines
+    rested g.M.Machine.plain (g.M.Machine.stands c.args.machine.now) (g.M.Machine.stands c.args.machine.now) c.args.connections.now c.take_connection.new.connections
     (Write c.args.slot) c.args.tally.now (g.P.Ports.seen c.args.ports.now) (g.P.Ports.seen c.args.ports.now)
-    (λ s f. f) (all_stay c.args.slot c.args.lines.now c.take_line.new.lines c.take_line.ensures.others
-    ((sym c.take_line.ensures.was ∙ c.in-None.is) ∙ sym c.take_line.ensures.free)) refl
-    (λ turns fits. no_write c.args.lines.now turns c.args.slot fits (sym c.take_line.ensures.was ∙ c.in-None.is))
+    (λ s f. f) (all_stay c.args.slot c.args.connections.now c.take_connection.new.connections c.take_connection.ensures.others
+    ((sym c.take_connection.ensures.was ∙ c.in-None.is) ∙ sym c.take_connection.ensures.free)) refl
+    (λ turns fits. no_write c.args.connections.now turns c.args.slot fits (sym c.take_connection.ensures.was ∙ c.in-None.is))

@@ -1,64 +1,44 @@
-use Rattle.std.proofs.Common.{inl, inr, ◌≡◌, ◌+◌, ◌++◌, ◌∙◌, [], ◌∷◌, length, drop, subst, sym, arith}
-use Rattle.frame_cut.specs.Frames.{frame}
-use Rattle.frame_cut.specs.Cuts.{Leaves}
-use Rattle.site_run.specs.Responses.{Whole, Front, AnsweredBy}
-use Rattle.site_run.proofs.Turns.{whole_then, front_then}
-use Rattle.site_run.proofs.Serving.{serves_body, fewer}
+use Rattle.std.proofs.Common.{◌≡◌, ◌+◌, ◌∙◌, ℕ, List, [], ◌∷◌, length, subst, arith}
+use Rattle.site_run.specs.Nexts.{Leaves}
+use Rattle.site_run.specs.Responses.{Whole, Front, AnsweredBy, Serves}
+use Rattle.site_run.proofs.Turns.{whole_then, front_then, on_err}
+use Rattle.site_run.proofs.Serving.{serves_body}
 use Rattle.site_run.proofs.answers.answer_held.Goals as goal
-
-pub loop-body-smaller : goal.loop-body-smaller
-loop-body-smaller g c =
-    let left : c.next.follows.lender-at-none ≡ drop (4 + length c.in-Frame.body.now) c.loop-body.cutter =
-    subst (λ r. Leaves c.loop-body.cutter r c.next.follows.lender-at-none) c.in-Frame.is c.next.follows.holds-at-none in
-    fewer c.loop-body.cutter c.next.follows.lender-at-none c.in-Frame.body.now left c.in-Frame.ensures.cut.1
 
 pub loop-body-preserved : goal.loop-body-preserved
 loop-body-preserved g c =
-    let left : c.next.follows.lender-at-none ≡ drop (4 + length c.in-Frame.body.now) c.loop-body.cutter =
-    subst (λ r. Leaves c.loop-body.cutter r c.next.follows.lender-at-none) c.in-Frame.is c.next.follows.holds-at-none in
+    let left = subst (λ r. Leaves g.C.Cutter.form (g.C.Cutter.held c.loop-body.cutter) r (g.C.Cutter.held c.next.follows.lender-at-none)) c.in-Body.is
+    c.next.follows.holds-at-none in
     record {
-      served = serves_body g.R.Responder.may Whole whole_then (g.R.Responder.stands c.args.subject.now) (g.R.Responder.stands c.loop-body.subject)
-          (g.R.Responder.stands c.answer_body.new.subject)
+      served = serves_body g.C.Cutter.form c.requires.laws g.R.Responder.may Whole whole_then (g.R.Responder.stands c.args.subject.now)
+          (g.R.Responder.stands c.loop-body.subject) (g.R.Responder.stands c.answer_body.new.subject)
           (g.O.Sink.given c.args.output.now) (g.O.Sink.given c.loop-body.output) (g.O.Sink.given c.answer_body.new.output)
-          c.args.gathered.now.bytes c.loop-body.gathered.bytes c.answer_body.new.gathered.bytes c.args.cutter.now c.loop-body.cutter
-          c.next.follows.lender-at-none c.in-Frame.body.now
-          c.loop-body.invariant.served c.in-Frame.ensures.cut.0
-          (subst (λ r. c.loop-body.cutter ≡ frame c.in-Frame.body.now ++ r) (sym left) c.in-Frame.ensures.cut.1) c.in-Ok.ensures.answered;
-      fits = c.in-Ok.ensures.fits;
-      room = c.in-Ok.ensures.room ∙ c.loop-body.invariant.room;
-      later = omega (arith, c.in-Ok.ensures.cause.later, c.loop-body.invariant.later);
-      kept = c.in-Ok.ensures.kept ∙ c.loop-body.invariant.kept;
-      opening = c.in-Ok.ensures.opening ∙ c.loop-body.invariant.opening;
+          c.args.gathered.now.bytes c.loop-body.gathered.bytes c.answer_body.new.gathered.bytes (g.C.Cutter.held c.args.cutter.now)
+          (g.C.Cutter.held c.loop-body.cutter) (g.C.Cutter.held c.next.follows.lender-at-none) c.in-Body.body.now
+          c.loop-body.invariant.served left.0 c.in_ok-answer_body-in-Body.ensures.answered;
+      fits = c.in_ok-answer_body-in-Body.ensures.fits;
+      room = c.answer_body.ensures.room ∙ c.loop-body.invariant.room;
+      later = omega (arith, c.answer_body.ensures.cause.later, c.loop-body.invariant.later);
+      kept = c.answer_body.ensures.kept ∙ c.loop-body.invariant.kept;
+      opening = c.answer_body.ensures.opening ∙ c.loop-body.invariant.opening;
     }
 
-pub returns-in-Err-clause-broken : goal.returns-in-Err-clause-broken
-returns-in-Err-clause-broken g c = (
-  drop (4 + length c.in-Frame.body.now) c.loop-body.cutter,
-  serves_body g.R.Responder.may (Front c.args.gathered.now.room) (front_then c.args.gathered.now.room) (g.R.Responder.stands c.args.subject.now)
-      (g.R.Responder.stands c.loop-body.subject) (g.R.Responder.stands c.answer_body.new.subject)
-      (g.O.Sink.given c.args.output.now) (g.O.Sink.given c.loop-body.output) (g.O.Sink.given c.answer_body.new.output)
-      c.args.gathered.now.bytes c.loop-body.gathered.bytes [] c.args.cutter.now c.loop-body.cutter
-      (drop (4 + length c.in-Frame.body.now) c.loop-body.cutter) c.in-Frame.body.now
-      c.loop-body.invariant.served c.in-Frame.ensures.cut.0 c.in-Frame.ensures.cut.1
-      (λ s f. subst (λ r. AnsweredBy g.R.Responder.may (Front r) (g.R.Responder.stands c.answer_body.new.subject) (g.O.Sink.given c.loop-body.output)
-      (g.O.Sink.given c.answer_body.new.output) c.loop-body.gathered.bytes [] s (c.in-Frame.body.now ∷ [])) c.loop-body.invariant.room
-      (c.in-Err.ensures.broken s f)),
-)
-
-pub returns-in-Err-clause-room : goal.returns-in-Err-clause-room
-returns-in-Err-clause-room g c = c.in-Err.ensures.room ∙ c.loop-body.invariant.room
-
-pub returns-in-Err-clause-kept : goal.returns-in-Err-clause-kept
-returns-in-Err-clause-kept g c = c.in-Err.ensures.kept ∙ c.loop-body.invariant.kept
-
-pub returns-in-Err-clause-opening : goal.returns-in-Err-clause-opening
-returns-in-Err-clause-opening g c = c.in-Err.ensures.opening ∙ c.loop-body.invariant.opening
-
-pub returns-in-Err-clause-cause : goal.returns-in-Err-clause-cause
-returns-in-Err-clause-cause g c = record {
-  later = omega (arith, c.in-Err.ensures.cause.later, c.loop-body.invariant.later);
-  failed = elim c.in-Err.ensures.cause.failed [
-    | inl t ↦ inl (omega (arith, t, c.loop-body.invariant.later))
-    | inr e ↦ inr e
-  ];
-}
+pub returns-in_err-answer_body-in-Body-clause-broken : goal.returns-in_err-answer_body-in-Body-clause-broken
+returns-in_err-answer_body-in-Body-clause-broken g c =
+    let left = subst (λ r. Leaves g.C.Cutter.form (g.C.Cutter.held c.loop-body.cutter) r (g.C.Cutter.held c.next.follows.lender-at-none)) c.in-Body.is
+    c.next.follows.holds-at-none in
+    on_err c.from_residual.result ((x : List ℕ) × Serves g.C.Cutter.form g.R.Responder.may (Front c.args.gathered.now.room)
+    (g.R.Responder.stands c.args.subject.now) (g.R.Responder.stands c.answer_body.new.subject) (g.O.Sink.given c.args.output.now)
+    (g.O.Sink.given c.answer_body.new.output) c.args.gathered.now.bytes [] (g.C.Cutter.held c.args.cutter.now) x) (
+      g.C.Cutter.held c.next.follows.lender-at-none,
+      serves_body g.C.Cutter.form c.requires.laws g.R.Responder.may (Front c.args.gathered.now.room) (front_then c.args.gathered.now.room)
+          (g.R.Responder.stands c.args.subject.now)
+          (g.R.Responder.stands c.loop-body.subject) (g.R.Responder.stands c.answer_body.new.subject)
+          (g.O.Sink.given c.args.output.now) (g.O.Sink.given c.loop-body.output) (g.O.Sink.given c.answer_body.new.output)
+          c.args.gathered.now.bytes c.loop-body.gathered.bytes [] (g.C.Cutter.held c.args.cutter.now) (g.C.Cutter.held c.loop-body.cutter)
+          (g.C.Cutter.held c.next.follows.lender-at-none) c.in-Body.body.now
+          c.loop-body.invariant.served left.0
+          (λ s f. subst (λ r. AnsweredBy g.R.Responder.may (Front r) (g.R.Responder.stands c.answer_body.new.subject) (g.O.Sink.given c.loop-body.output)
+          (g.O.Sink.given c.answer_body.new.output) c.loop-body.gathered.bytes [] s (c.in-Body.body.now ∷ [])) c.loop-body.invariant.room
+          (c.in_err-answer_body-in-Body.ensures.broken s f)),
+    )

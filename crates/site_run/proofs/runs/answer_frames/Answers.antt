@@ -1,42 +1,24 @@
-use Rattle.std.proofs.Common.{◌+◌, ◌<◌, ℕ, List, [], length}
-use Rattle.tardis_io.specs.Told.{WhileTold}
-use Rattle.tardis_io.specs.Faults.{Rose}
-use Rattle.tardis_io.proofs.Told.{same, weaker}
-use Rattle.tardis_io.specs.declared.statuses.Status.TheVariants.{NoMemory}
-use Rattle.frame_cut.specs.Frames.{IsCut}
-use Rattle.site_run.specs.Responses.{Whole, AnsweredBy}
-use Rattle.site_run.specs.Prompt.{UpToDate}
-use Rattle.site_run.specs.Endings.{EndsAs, shape_within, most_taken}
-use Rattle.site_run.proofs.Ends.{ends_as}
-use Rattle.site_run.proofs.Takings.{Done, done_none}
-use Rattle.site_run.proofs.Prompts.{each_none}
+use Rattle.std.proofs.Common.{◌+◌, ℕ, List, []}
+use Rattle.tardis_io.proofs.Told.{weaker}
+use Rattle.site_run.specs.Forms.{frame_form}
+use Rattle.site_run.specs.Responses.{AnsweredBy}
+use Rattle.site_run.specs.Endings.{RunOutcome, Outcome, shape_within}
+use Rattle.site_run.proofs.FormLaws.{frames_are_lawful}
+use Rattle.site_run.proofs.Ends.{frame_outcome, frame_end}
 use Rattle.site_run.proofs.runs.answer_frames.Goals as goal
 
-pub returns-in-Ok-clause-exact : goal.returns-in-Ok-clause-exact
-returns-in-Ok-clause-exact g c =
-    weaker (g.D.Duplex.left c.args.device.now) (g.D.Duplex.left c.answer_input.new.device)
-    (Done g.R.Responder.may (1048576 + g.R.Responder.MOST) (g.R.Responder.stands c.args.subject.now) (g.R.Responder.stands c.answer_input.new.subject)
-    (g.D.Sink.given c.args.device.now) (g.D.Sink.given c.answer_input.new.device) c.answer_input.result)
-    (λ first left. (all : List (List ℕ)) (rest : List ℕ) → IsCut first all rest → length first < most_taken
-    → (Rose (g.D.Duplex.take_faults c.args.device.now) (g.D.Duplex.take_faults c.answer_input.new.device) → ⊥) →
-    (Rose (g.D.Sink.faults c.args.device.now) (g.D.Sink.faults c.answer_input.new.device) → ⊥)
-    → EndsAs rest c.answer_input.result)
-    c.answer_input.ensures.outcome
-    (λ x y o. λ all rest d few no_read no_write.
-    ends_as c.answer_input.result (g.R.Responder.stands c.args.subject.now)
-    (λ s bodies. AnsweredBy g.R.Responder.may (shape_within (1048576 + g.R.Responder.MOST) c.answer_input.result)
-    (g.R.Responder.stands c.answer_input.new.subject) (g.D.Sink.given c.args.device.now) (g.D.Sink.given c.answer_input.new.device) [] [] s bodies)
-    x y o (λ e. no_read (c.answer_input.ensures.read e)) (λ e. no_write (c.answer_input.ensures.write e)) all rest d few)
+pub answer_bodies-requires : goal.answer_bodies-requires
+answer_bodies-requires g c = frames_are_lawful
 
-pub returns-in-Err-clause-outcome : goal.returns-in-Err-clause-outcome
-returns-in-Err-clause-outcome g c =
-    same (g.D.Duplex.left c.args.device.now)
-    (Done g.R.Responder.may (1048576 + g.R.Responder.MOST) (g.R.Responder.stands c.args.subject.now) (g.R.Responder.stands c.args.subject.now)
-    (g.D.Sink.given c.args.device.now) (g.D.Sink.given c.args.device.now) NoMemory)
-    (λ x. done_none g.R.Responder.may (1048576 + g.R.Responder.MOST) (g.R.Responder.stands c.args.subject.now) (g.D.Sink.given c.args.device.now) x)
+pub returns-clause-outcome : goal.returns-clause-outcome
+returns-clause-outcome g c =
+    let P : g.R.Responder.State → List (List ℕ) → Type 0 = λ s bodies. AnsweredBy g.R.Responder.may (shape_within (1048576 + g.R.Responder.MOST) c.answer_bodies.result) (g.R.Responder.stands c.answer_bodies.new.subject)
+    (g.D.Sink.given c.args.device.now) (g.D.Sink.given c.answer_bodies.new.device) [] [] s bodies in
+    weaker (g.D.Duplex.left c.args.device.now) (g.D.Duplex.left c.answer_bodies.new.device)
+    (λ first left. RunOutcome frame_form c.answer_bodies.result (g.R.Responder.stands c.args.subject.now) P first left)
+    (λ first left. Outcome c.answer_bodies.result (g.R.Responder.stands c.args.subject.now) P first left)
+    c.answer_bodies.ensures.outcome
+    (λ x y o. frame_outcome c.answer_bodies.result (g.R.Responder.stands c.args.subject.now) P x y o)
 
-pub returns-in-Err-clause-prompt : goal.returns-in-Err-clause-prompt
-returns-in-Err-clause-prompt g c = each_none (g.D.Duplex.takes c.args.device.now)
-    (λ moment. WhileTold (g.D.Duplex.left c.args.device.now) moment.left
-    (UpToDate (g.R.Responder.stands c.args.subject.now) (λ s bodies. AnsweredBy g.R.Responder.may Whole (λ _. Unit {0})
-    (g.D.Sink.given c.args.device.now) moment.given [] [] s bodies)))
+pub returns-clause-status : goal.returns-clause-status
+returns-clause-status g c = frame_end c.answer_bodies.result c.answer_bodies.ensures.status

@@ -8,14 +8,14 @@ use Rattle.site_run.specs.Endings.{Outcome, shape_of}
 use Rattle.site_run.proofs.Replies.{machine_outcome}
 use Rattle.site_run.specs.Responses.{Whole}
 use Rattle.site_run.specs.Prompt.{UpToDate}
-use Rattle.site_run.proofs.Takings.{Done, done_none}
+use Rattle.site_run.proofs.Takings.{FramesDone, frames_done_none}
 use Rattle.site_run.proofs.Prompts.{each_none, machine_prompt}
 use Rattle.site_run.proofs.runs.run_device.Goals as goal
 
 pub returns-in-Ok-clause-outcome : goal.returns-in-Ok-clause-outcome
 returns-in-Ok-clause-outcome g c =
     weaker (g.D.Duplex.left c.args.device.now) (g.D.Duplex.left c.answer_frames.new.device)
-    (Done (MachineMay g.M.Machine.plain) 2097156 (g.M.Machine.stands c.args.machine.now) (g.M.Machine.stands c.answer_frames.new.subject)
+    (FramesDone (MachineMay g.M.Machine.plain) 2097156 (g.M.Machine.stands c.args.machine.now) (g.M.Machine.stands c.answer_frames.new.subject)
     (g.D.Sink.given c.args.device.now) (g.D.Sink.given c.answer_frames.new.device) c.answer_frames.result)
     (λ first left. Outcome c.answer_frames.result (g.M.Machine.stands c.args.machine.now)
     (λ s bodies. Answered g.M.Machine.plain (shape_of c.answer_frames.result) (g.M.Machine.stands c.answer_frames.new.subject)
@@ -32,7 +32,7 @@ returns-in-Err-clause-outcome g c =
     (g.D.Sink.given c.args.device.now) s (map event_of bodies)) first left)
     (λ x. machine_outcome g.M.Machine.plain NoMemory (g.M.Machine.stands c.args.machine.now) (g.M.Machine.stands c.args.machine.now)
     (g.D.Sink.given c.args.device.now) (g.D.Sink.given c.args.device.now) x x
-    (done_none (MachineMay g.M.Machine.plain) 2097156 (g.M.Machine.stands c.args.machine.now) (g.D.Sink.given c.args.device.now) x))
+    (frames_done_none (MachineMay g.M.Machine.plain) 2097156 (g.M.Machine.stands c.args.machine.now) (g.D.Sink.given c.args.device.now) x))
 
 pub returns-in-Ok-clause-prompt : goal.returns-in-Ok-clause-prompt
 returns-in-Ok-clause-prompt g c =

@@ -1,4 +1,4 @@
-use Rattle.std.proofs.Common.{◌≡◌, ◌∙◌, ◌+◌, ◌-◌, ◌++◌, ◌∷◌, [], not, ◌<◌, ℕ, true, List, ltb, length, filter, take, get_or, unwrap_or, slice_get, slice_set}
+use Rattle.std.proofs.Common.{◌≡◌, ◌∙◌, ◌+◌, ◌-◌, ◌++◌, ◌∷◌, [], not, ◌<◌, ◌≤◌, ℕ, true, List, ltb, length, filter, take, get_or, unwrap_or, slice_get, slice_set}
 use Rattle.std.proofs.Common.{Option, None, Result, Ok, Err, OnErr, IsTrue, refl, sym, ap, subst, arith}
 use Rattle.std.specs.List.{list_all}
 use Rattle.std.proofs.lemmas.Bool.{ne_eqb}
@@ -16,7 +16,7 @@ use Rattle.state_dag.specs.Views.{entry_of, entries_in}
 use Rattle.state_dag.specs.Stands.{Stands}
 use Rattle.state_dag.specs.Answers.{MayBeAdded, AddedTo, IsNewSlot, KeepsSlots}
 use Rattle.state_dag.specs.Grown.{is_slot_among, refusal_of, IsNewEntry, IsGrown}
-use Rattle.state_dag.specs.Nodes.{path_refusal, slot_after_all, with_slot}
+use Rattle.state_dag.specs.Nodes.{table_of, path_refusal, slot_after_all, with_slot}
 use Rattle.state_dag.specs.Held.{kept_of, seen}
 use Rattle.state_dag.proofs.NewIds.{uncounted-none}
 use Rattle.state_dag.proofs.Following.{Follow}
@@ -29,7 +29,7 @@ use Rattle.state_dag.proofs.SameEntries.{same-count, sum-within}
 use Rattle.state_dag.proofs.NextSlot.{IsNext, next-slot}
 use Rattle.state_dag.proofs.LastSlots.{slots-kept, slot-was, last-named, kept-stays, last-arrives, arrives-last}
 use Rattle.state_dag.proofs.GrownTables.{distinct-from_differ, refused-alike, table-grown}
-use Rattle.state_dag.proofs.HeldNext.{view-same, held-stays, entries-after, slot-fresh, held-next}
+use Rattle.state_dag.proofs.HeldNext.{early-entries, among-passes, view-same, held-stays, entries-after, slot-fresh, held-next}
 use Rattle.state_dag.proofs.AddSteps.{parents-placed, short-kept, gains-seen, none-seen, long-seen, entry-seen, gains-at_places, few-gains, all-grown}
 use Rattle.state_dag.proofs.AddSteps.{leaves-in_order, fault-answered}
 use Rattle.state_dag.proofs.Known.{limits-parts}
@@ -118,7 +118,7 @@ make_state_room-requires-clause-few c = few-gains c.self.inside c.self.invariant
 
 pub drop_slots-requires : goal.drop_slots-requires
 drop_slots-requires c = leaves-in_order c.self.inside c.self.invariant c.args.self.now c.self.view_is c.args.parents.now c.requires.slots
-    c.make_state_room.new.nodes.items c.deref-6.result.now c.make_state_room.new.leaves.items c.deref-6.ensures.value c.make_state_room.ensures.same
+    c.make_state_room.new.nodes.items c.deref-7.result.now c.make_state_room.new.leaves.items c.deref-7.ensures.value c.make_state_room.ensures.same
     c.make_state_room.ensures.leaves
 
 pub grow-requires-clause-places : goal.grow-requires-clause-places
@@ -129,7 +129,7 @@ grow-requires-clause-places c =
 
 pub grow-requires-clause-gains : goal.grow-requires-clause-gains
 grow-requires-clause-gains c = gains-at_places c.self.inside c.self.invariant c.args.self.now c.self.view_is c.args.parents.now c.requires.slots
-    c.deref-7.result.now (c.deref-7.ensures.value ∙ gains-seen c.self.inside c.self.invariant c.args.self.now c.self.view_is c.args.parents.now
+    c.deref-8.result.now (c.deref-8.ensures.value ∙ gains-seen c.self.inside c.self.invariant c.args.self.now c.self.view_is c.args.parents.now
     c.requires.slots c.deref-3.result.now (take c.self.inside.kept c.deref-2.result.now) c.deref-3.ensures.value
     (ap (take c.self.inside.kept) c.deref-2.ensures.value) c.in_ok-gains.gains.items c.in_ok-gains.ensures.gains) c.make_state_room.new.nodes.items
     (same-count c.make_state_room.new.nodes.items c.self.inside.nodes.items c.make_state_room.ensures.same)
@@ -147,9 +147,10 @@ invariant_of-self c =
       kept = a.kept;
       leaves = c.make_state_room.new.leaves;
       slots = a.slots;
+      since = c.make_state_room.new.since;
     } in
     held-stays a b c.self.invariant refl refl refl c.make_state_room.ensures.leaves c.make_state_room.ensures.order refl c.make_state_room.ensures.same
-    (λ x. refl)
+    (λ x. refl) c.make_state_room.ensures.since
 
 pub put-requires : goal.put-requires
 put-requires c = λ x of_site from.
@@ -173,9 +174,10 @@ invariant_of-self-in_err-put c =
       kept = a.kept;
       leaves = c.make_state_room.new.leaves;
       slots = c.put.new.self;
+      since = c.make_state_room.new.since;
     } in
     held-stays a b c.self.invariant refl refl refl c.make_state_room.ensures.leaves c.make_state_room.ensures.order refl c.make_state_room.ensures.same
-    c.in_err-put.ensures.same
+    c.in_err-put.ensures.same c.make_state_room.ensures.since
 
 pub overflow_add-self : goal.overflow_add-self
 overflow_add-self c =
@@ -210,9 +212,10 @@ returns-in_err-make_state_room-clause-same c =
       kept = a.kept;
       leaves = c.make_state_room.new.leaves;
       slots = a.slots;
+      since = c.make_state_room.new.since;
     } in
     let stays : seen b ≡ old = view-same a b c.self.invariant refl refl refl c.make_state_room.ensures.leaves c.make_state_room.ensures.order refl
-    c.make_state_room.ensures.same (λ x. refl) old c.self.view_is in
+    c.make_state_room.ensures.same (λ x. refl) c.make_state_room.ensures.since old c.self.view_is in
     on_err c.from_residual-in_err-make_state_room.result (seen b ≡ old) stays
 
 pub returns-in_err-make_state_room-clause-keeps : goal.returns-in_err-make_state_room-clause-keeps
@@ -229,9 +232,10 @@ returns-in_err-make_state_room-clause-keeps c =
       kept = a.kept;
       leaves = c.make_state_room.new.leaves;
       slots = a.slots;
+      since = c.make_state_room.new.since;
     } in
     let stays : seen b ≡ old = view-same a b c.self.invariant refl refl refl c.make_state_room.ensures.leaves c.make_state_room.ensures.order refl
-    c.make_state_room.ensures.same (λ x. refl) old c.self.view_is in
+    c.make_state_room.ensures.same (λ x. refl) c.make_state_room.ensures.since old c.self.view_is in
     subst (λ (t : Table). KeepsSlots old t) (sym stays) (λ s x h. h)
 
 pub returns-in_err-make_state_room-clause-kept : goal.returns-in_err-make_state_room-clause-kept
@@ -248,9 +252,10 @@ returns-in_err-make_state_room-clause-kept c =
       kept = a.kept;
       leaves = c.make_state_room.new.leaves;
       slots = a.slots;
+      since = c.make_state_room.new.since;
     } in
     let stays : seen b ≡ old = view-same a b c.self.invariant refl refl refl c.make_state_room.ensures.leaves c.make_state_room.ensures.order refl
-    c.make_state_room.ensures.same (λ x. refl) old c.self.view_is in
+    c.make_state_room.ensures.same (λ x. refl) c.make_state_room.ensures.since old c.self.view_is in
     subst (λ (t : Table). (s : Slot) → IsTrue (is_kept_at old s) → IsTrue (is_kept_at t s) × (arrival_at t s ≡ arrival_at old s)) (sym stays) (λ s h. (h, refl))
 
 pub returns-in_err-make_state_room-clause-added : goal.returns-in_err-make_state_room-clause-added
@@ -267,9 +272,10 @@ returns-in_err-make_state_room-clause-added c = λ rs ks r stands is may.
       kept = a.kept;
       leaves = c.make_state_room.new.leaves;
       slots = a.slots;
+      since = c.make_state_room.new.since;
     } in
     let stays : seen b ≡ old = view-same a b c.self.invariant refl refl refl c.make_state_room.ensures.leaves c.make_state_room.ensures.order refl
-    c.make_state_room.ensures.same (λ x. refl) old c.self.view_is in
+    c.make_state_room.ensures.same (λ x. refl) c.make_state_room.ensures.since old c.self.view_is in
     let p = err_from_is_err_and c.from_residual-in_err-make_state_room.result c.from_residual-in_err-make_state_room.ensures.1 in
     let wrong : AddFault → Result Slot AddFault = λ f. Err f in
     subst (λ (z : Result Slot AddFault). AddedTo old (seen b) rs ks r z) (sym (p.1 ∙ ap wrong p.2)) stays
@@ -288,9 +294,10 @@ returns-in_err-put-clause-same c =
       kept = a.kept;
       leaves = c.make_state_room.new.leaves;
       slots = c.put.new.self;
+      since = c.make_state_room.new.since;
     } in
     let stays : seen b ≡ old = view-same a b c.self.invariant refl refl refl c.make_state_room.ensures.leaves c.make_state_room.ensures.order refl
-    c.make_state_room.ensures.same c.in_err-put.ensures.same old c.self.view_is in
+    c.make_state_room.ensures.same c.in_err-put.ensures.same c.make_state_room.ensures.since old c.self.view_is in
     on_err c.from_residual-in_err-put.result (seen b ≡ old) stays
 
 pub returns-in_err-put-clause-keeps : goal.returns-in_err-put-clause-keeps
@@ -307,9 +314,10 @@ returns-in_err-put-clause-keeps c =
       kept = a.kept;
       leaves = c.make_state_room.new.leaves;
       slots = c.put.new.self;
+      since = c.make_state_room.new.since;
     } in
     let stays : seen b ≡ old = view-same a b c.self.invariant refl refl refl c.make_state_room.ensures.leaves c.make_state_room.ensures.order refl
-    c.make_state_room.ensures.same c.in_err-put.ensures.same old c.self.view_is in
+    c.make_state_room.ensures.same c.in_err-put.ensures.same c.make_state_room.ensures.since old c.self.view_is in
     subst (λ (t : Table). KeepsSlots old t) (sym stays) (λ s x h. h)
 
 pub returns-in_err-put-clause-kept : goal.returns-in_err-put-clause-kept
@@ -326,9 +334,10 @@ returns-in_err-put-clause-kept c =
       kept = a.kept;
       leaves = c.make_state_room.new.leaves;
       slots = c.put.new.self;
+      since = c.make_state_room.new.since;
     } in
     let stays : seen b ≡ old = view-same a b c.self.invariant refl refl refl c.make_state_room.ensures.leaves c.make_state_room.ensures.order refl
-    c.make_state_room.ensures.same c.in_err-put.ensures.same old c.self.view_is in
+    c.make_state_room.ensures.same c.in_err-put.ensures.same c.make_state_room.ensures.since old c.self.view_is in
     subst (λ (t : Table). (s : Slot) → IsTrue (is_kept_at old s) → IsTrue (is_kept_at t s) × (arrival_at t s ≡ arrival_at old s)) (sym stays) (λ s h. (h, refl))
 
 pub returns-in_err-put-clause-added : goal.returns-in_err-put-clause-added
@@ -345,9 +354,10 @@ returns-in_err-put-clause-added c = λ rs ks r stands is may.
       kept = a.kept;
       leaves = c.make_state_room.new.leaves;
       slots = c.put.new.self;
+      since = c.make_state_room.new.since;
     } in
     let stays : seen b ≡ old = view-same a b c.self.invariant refl refl refl c.make_state_room.ensures.leaves c.make_state_room.ensures.order refl
-    c.make_state_room.ensures.same c.in_err-put.ensures.same old c.self.view_is in
+    c.make_state_room.ensures.same c.in_err-put.ensures.same c.make_state_room.ensures.since old c.self.view_is in
     let p = err_from_is_err_and c.from_residual-in_err-put.result c.from_residual-in_err-put.ensures.1 in
     let wrong : AddFault → Result Slot AddFault = λ f. Err f in
     subst (λ (z : Result Slot AddFault). AddedTo old (seen b) rs ks r z) (sym (p.1 ∙ ap wrong p.2)) stays
@@ -368,8 +378,8 @@ is-next c =
 follows : (c : goal.After-drop-gains-2) → Follow (Became (seen c.self.inside) c.args.parents.now c.args.id c.next_slot-slot.result)
     (seen c.self.inside).entries (entries_in c.grow.new.nodes.items (kept_of c.self.inside))
 follows c =
-    all-grown c.self.inside c.self.invariant c.args.self.now c.self.view_is c.args.parents.now c.requires.slots c.deref-7.result.now
-    (c.deref-7.ensures.value ∙ gains-seen c.self.inside c.self.invariant c.args.self.now c.self.view_is c.args.parents.now c.requires.slots
+    all-grown c.self.inside c.self.invariant c.args.self.now c.self.view_is c.args.parents.now c.requires.slots c.deref-8.result.now
+    (c.deref-8.ensures.value ∙ gains-seen c.self.inside c.self.invariant c.args.self.now c.self.view_is c.args.parents.now c.requires.slots
     c.deref-3.result.now (take c.self.inside.kept c.deref-2.result.now) c.deref-3.ensures.value
     (ap (take c.self.inside.kept) c.deref-2.ensures.value) c.in_ok-gains.gains.items c.in_ok-gains.ensures.gains) c.make_state_room.new.nodes.items
     c.grow.new.nodes.items c.in_ok-node.node c.args.id c.next_slot-slot.result c.make_state_room.ensures.same c.grow.ensures.count c.grow.ensures.each
@@ -388,6 +398,7 @@ inside-next c = record {
   kept = c.self.inside.kept + 1;
   leaves = c.push_reserved.new.self;
   slots = c.put.new.self;
+  since = c.put_time.new.since;
 }
 
 listed : (c : goal.After-drop-gains-2) → c.list_slot.new.order.items ≡ with_slot c.self.inside.order.items c.self.inside.kept c.next_slot-slot.result
@@ -423,6 +434,29 @@ put_node-requires-clause-slot c =
     let inside = next.within in
     omega arith
 
+pub put_time-requires-clause-slot : goal.put_time-requires-clause-slot
+put_time-requires-clause-slot c =
+    let a = c.self.inside in
+    let within = c.self.invariant.within in
+    let has_room = c.if-self.false in
+    let next = next-slot a c.self.invariant c.next_slot-slot.result
+    (c.next_slot-slot.ensures ∙ ap (λ (ss : List Slot). slot_after_all ss a.kept) (c.deref-5.ensures.value ∙ c.make_state_room.ensures.order))
+    a.nodes.items c.in_ok-node.node (omega arith) (omega arith) in
+    let inside = next.within in
+    let times = c.self.invariant.times in
+    let same = ap length c.make_state_room.ensures.since in
+    omega arith
+
+-- each parent arrived no sooner than the new slot's time
+early-nodes : (c : goal.After-drop-gains-2) → (k : ℕ) → is_slot_among (record { 0 = k }) c.args.parents.now ≡ true →
+    c.first_arrival-since.result ≤ arrival_at (table_of c.self.inside.nodes.items) (record { 0 = k })
+early-nodes c k there =
+    let same : table_of c.deref-6.result.now ≡ table_of c.self.inside.nodes.items =
+    ap table_of c.deref-6.ensures.value ∙ ap (λ es. record (table_of c.self.inside.nodes.items) { entries = es }) c.make_state_room.ensures.same in
+    among-passes (arrival_at (table_of c.self.inside.nodes.items)) c.first_arrival-since.result c.args.parents.now
+    (subst (λ (t : Table). (i : ℕ) (d : Slot) → i < length c.args.parents.now → c.first_arrival-since.result ≤ arrival_at t (get_or c.args.parents.now i d))
+    same c.first_arrival-since.ensures) k there
+
 pub invariant_of-self-2 : goal.invariant_of-self-2
 invariant_of-self-2 c =
     let a = c.self.inside in
@@ -448,6 +482,9 @@ invariant_of-self-2 c =
     c.in_ok-gains.ensures.long)) c.in_ok-check_path.ensures (let first = c.requires.first in let last = c.requires.last in omega arith)
     (c.requires.next ∙ ap (λ (m : ℕ). m + 1) (unwrap_or-slice_get c.args.self.now.counts i 0
     ∙ ap (λ (t : Table). get_or t.counts i 0) (sym c.self.view_is))) c.set_count.ensures.fits refl refl
+    c.first_arrival-since.result c.put_time.ensures.own (λ k ne. c.put_time.ensures.others k ne ∙ ap (λ ts. get_or ts k 0) c.make_state_room.ensures.since)
+    (let more = c.put_time.ensures.longer in let same = ap length c.make_state_room.ensures.since in omega arith) c.put_time.ensures.there
+    (early-entries a c.self.invariant c.args.parents.now c.first_arrival-since.result (early-nodes c))
 
 pub returns-clause-slot : goal.returns-clause-slot
 returns-clause-slot c = subst (λ (t : Table). IsNewSlot t (seen (inside-next c)) c.args.id c.next_slot-slot.result) c.self.view_is

@@ -1,4 +1,4 @@
-use Rattle.std.proofs.Common.{◌≡◌, ◌∙◌, ◌+◌, ◌-◌, ◌++◌, ◌∷◌, [], ◌<◌, ℕ, Bool, true, eqb, ltb, List, length, take, drop, get_or, Option, Some, None, cond}
+use Rattle.std.proofs.Common.{◌≡◌, ◌∙◌, ◌+◌, ◌-◌, ◌++◌, ◌∷◌, [], ◌<◌, ◌≤◌, ℕ, Bool, true, eqb, ltb, List, length, take, drop, get_or, Option, Some, None, cond}
 use Rattle.std.proofs.Common.{is_some, refl, sym, ap, subst, arith}
 use Rattle.std.specs.List.{list_all}
 use Rattle.std.specs.Option.{option_and_then}
@@ -10,22 +10,80 @@ use Rattle.tardis_base.specs.declared.ids.StateId.{StateId}
 use Rattle.tardis_base.specs.declared.ids.Slot.{Slot}
 use Rattle.state_dag.specs.declared.StateDag.TheInside.{Inside}
 use Rattle.state_dag.specs.declared.nodes.Node.{Node}
-use Rattle.state_dag.specs.Table.{Entry, Table, entry_at, is_slot}
+use Rattle.state_dag.specs.Table.{Entry, Table, entry_at, is_slot, arrival_at}
+use Rattle.state_dag.specs.Grown.{is_slot_among}
+use Rattle.state_dag.specs.Nodes.{table_of}
 use Rattle.state_dag.specs.Views.{entry_of, entries_in}
-use Rattle.state_dag.specs.Held.{kept_of, seen}
+use Rattle.state_dag.specs.Held.{kept_of, seen, IsHeld}
 use Rattle.state_dag.specs.Shared.{common}
 use Rattle.state_dag.specs.Detached.{shared_slot, passing_on, forgetting, changed_at}
-use Rattle.state_dag.proofs.Memory.{kept-placed, kept-long, kept-slots, entries-long, entries-apart, entry-kept, take-read}
+use Rattle.state_dag.proofs.Memory.{kept-placed, kept-long, kept-slots, entries-long, entries-apart, entry-kept, slot-place, take-read}
+use Rattle.state_dag.proofs.Calls.{slots-ascend}
 use Rattle.state_dag.proofs.AddSteps.{leaves-in_order}
 use Rattle.state_dag.proofs.LeftTables.{HasLeft, left-detached, left-above, left-shared, left-gone, left-names, left-others, left-kept, left-arrives}
-use Rattle.state_dag.proofs.LeftTables.{left-stays, left-slots, heir-first, slot-read}
+use Rattle.state_dag.proofs.LeftTables.{left-stays, left-slots, heir-first, slot-read, common-passes}
 use Rattle.state_dag.proofs.LeftSlots.{Parted, parted}
-use Rattle.state_dag.proofs.LeftMemory.{was, followed, heir-kept, held-left}
+use Rattle.state_dag.proofs.LeftMemory.{was, followed, heir-kept, held-left, unchanged-before}
 use Rattle.state_dag.proofs.StateDag.detach.Goals as goal
 
 pub drop_slot-requires : goal.drop_slot-requires
 drop_slot-requires c = leaves-in_order c.self.inside c.self.invariant c.args.self.now c.self.view_is [] refl c.self.inside.nodes.items c.deref.result.now
     c.self.inside.leaves.items c.deref.ensures.value refl refl
+
+slot-timed : (a : Inside) → IsHeld a → (table : Table) → seen a ≡ table → (slot : Slot) → is_slot table slot ≡ true → slot.0 < length a.since.items
+slot-timed a held table view slot there =
+    let placed = slot-place a held slot (subst (λ (t : Table). is_slot t slot ≡ true) (sym view) there) in
+    let times = held.times in
+    omega arith
+
+same-default : (xs : List ℕ) (k d e : ℕ) → k < length xs → get_or xs k d ≡ get_or xs k e
+same-default [] k d e lt = absurd (omega arith)
+same-default (x ∷ xs) ℕ.zero d e lt = refl
+same-default (x ∷ xs) (ℕ.suc k) d e lt = same-default xs k d e (omega arith)
+
+pub index-since-requires : goal.index-since-requires
+index-since-requires c =
+    let lt = slot-timed c.self.inside c.self.invariant c.args.self.now c.self.view_is c.args.slot (ap is_some c.node-node.ensures.entry) in
+    omega (arith, c.self.inside.since.ok.0)
+
+pub first_holder-first-requires : goal.first_holder-first-requires
+first_holder-first-requires c = slots-ascend c.self.inside c.self.invariant c.deref-3.result.now (take c.self.inside.kept c.deref-2.result.now)
+    c.deref-3.ensures.value (ap (take c.self.inside.kept) c.deref-2.ensures.value)
+
+pub hand_over-requires-clause-none : goal.hand_over-requires-clause-none
+hand_over-requires-clause-none c = λ k d there.
+    let a = c.self.inside in
+    let lt = slot-timed a c.self.invariant c.args.self.now c.self.view_is c.args.slot (ap is_some c.node-node.ensures.entry) in
+    let time : c.index-since.result.now ≡ get_or a.since.items c.args.slot.0 0 = c.index-since.ensures
+    ∙ same-default a.since.items c.args.slot.0 c.index-since.result.now 0 lt in
+    let kept = ap (take a.kept) c.deref-2.ensures.value in
+    unchanged-before a c.self.invariant c.args.slot c.first_slot-heir.result c.first_holder-first.result c.place-place.result
+    c.first_holder-first.ensures.within
+    (subst (λ (m : ℕ). (i : ℕ) (e : Slot) → i < c.first_holder-first.result → arrival_at (table_of a.nodes.items) (get_or (kept_of a) i e) < m) time
+    (subst (λ (ss : List Slot). (i : ℕ) (e : Slot) → i < c.first_holder-first.result → arrival_at (table_of a.nodes.items) (get_or ss i e)
+    < c.index-since.result.now) kept
+    (subst (λ (ns : List Node). (i : ℕ) (e : Slot) → i < c.first_holder-first.result → arrival_at (table_of ns)
+    (get_or (take a.kept c.deref-2.result.now) i e) < c.index-since.result.now) c.deref-3.ensures.value c.first_holder-first.ensures.before)))
+    k d (subst (λ (ss : List Slot). is_slot_among (record { 0 = k }) (take c.first_holder-first.result (take c.place-place.result ss)) ≡ true) kept there)
+
+pub lower_time-requires : goal.lower_time-requires
+lower_time-requires c =
+    let test : Slot → Slot → Bool = λ a b. eqb a.0 b.0 in
+    let read = ap (option_and_then (λ (e : Entry). common test e.stand_ins)) c.node-node.ensures.entry in
+    let heir = c.first_slot-heir.result in
+    let first = c.first_slot-heir.ensures ∙ ap (λ (ss : List Slot). get_or ss 0 heir) c.as_slice.ensures in
+    let shared = heir-first c.node-node.result.now.stand_ins.items heir first (sym (ap is_some read) ∙ c.requires) in
+    slot-timed c.self.inside c.self.invariant c.args.self.now c.self.view_is heir
+    (common-passes (is_slot c.args.self.now) c.node-node.result.now.stand_ins.items heir shared c.node-node.ensures.stand_ins)
+
+lowered : (c : goal.After-self-1) → get_or c.lower_time.new.since.items c.first_slot-heir.result.0 0 ≤ get_or c.self.inside.since.items c.args.slot.0 0
+lowered c =
+    let a = c.self.inside in
+    let lt = slot-timed a c.self.invariant c.args.self.now c.self.view_is c.args.slot (ap is_some c.node-node.ensures.entry) in
+    let time : c.index-since.result.now ≡ get_or a.since.items c.args.slot.0 0 = c.index-since.ensures
+    ∙ same-default a.since.items c.args.slot.0 c.index-since.result.now 0 lt in
+    let own = c.lower_time.ensures.own in
+    omega arith
 
 pub hand_over-requires-clause-places : goal.hand_over-requires-clause-places
 hand_over-requires-clause-places c =
@@ -63,6 +121,7 @@ inside-left c = record {
   kept = c.self.inside.kept - 1;
   leaves = c.drop_slot.new.slots;
   slots = c.remove.new.self;
+  since = c.lower_time.new.since;
 }
 
 place-within : (c : goal.After-self-1) → c.place-place.result < c.self.inside.kept
@@ -179,6 +238,7 @@ invariant_of-self c =
     refl refl refl c.drop_slot.ensures.items
     (subst (λ (z : StateId). (x : StateId) → slot_of_state c.remove.new.self x ≡ cond (same_id x z) None (slot_of_state a.slots x))
     (ap (λ (e : Entry). e.id) (node-read c)) c.remove.ensures)
+    c.lower_time.ensures.count (lowered c) c.lower_time.ensures.lower
 
 pub returns-clause-detached : goal.returns-clause-detached
 returns-clause-detached c = left-detached c.args.self.now (seen (inside-left c)) c.args.slot c.first_slot-heir.result (has-left-now c)

@@ -99,6 +99,11 @@ invariant_of-result c =
           (and_from (is_counted c.in_ok-counts.counts.items n.id) true
           (subst (λ z. is_counted c.in_ok-counts.counts.items z ≡ true) (sym r.id) (le-leb 0 (get_or c.in_ok-counts.counts.items 0 0) (omega arith))) refl);
       once = subst (λ (es : List Entry). AllDiffer (map (λ (e : Entry). e.id) es)) (sym view) (refl, tt);
+      times = (let one_time = ap length (c.in_ok-push-4.ensures.items ∙ ap (λ ts. ts ++ 0 ∷ []) c.new-since.ensures.items) in omega arith);
+      since = subst (λ (es : List Entry). list_all (λ (e : Entry). list_all (λ (s : Slot). leb (get_or c.push-4.new.self.items s.0 0) e.arrival) e.stand_ins) es
+          ≡ true) (sym view)
+          (and_from (list_all (λ (s : Slot). leb (get_or c.push-4.new.self.items s.0 0) n.arrival) n.stand_ins.items) true
+          (ap (list_all (λ (s : Slot). leb (get_or c.push-4.new.self.items s.0 0) n.arrival)) r.stand_ins) refl);
       indexed = λ x.
           c.in_ok-put.ensures.put x
           ∙ ap (λ sites. cond (same_id x root) (Some (record { 0 = 0 })) (slot_of_state sites x)) c.new-slots.ensures

@@ -38,6 +38,7 @@ returns-clause-each c = λ k d lt.
           };
       parent = λ there. c.add_children.ensures.parent k d (omega arith) there;
       other = λ apart. ap (λ (n : Node). n.children.items) (c.add_children.ensures.other k d apart) ∙ ap (λ (n : Node). n.children.items) gained.rest;
+      apart = λ apart. ap (λ (n : Node). n.stand_ins.items) (c.add_children.ensures.other k d apart) ∙ ap (λ (n : Node). n.stand_ins.items) gained.rest;
       slots = λ test all own.
           c.add_children.ensures.slots test k d (omega arith)
           (subst (λ (ss : List Slot). IsTrue (list_all test ss)) (sym (ap (λ (n : Node). n.stand_ins.items) gained.rest)) all) own;

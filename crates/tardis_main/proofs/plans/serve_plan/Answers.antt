@@ -1,5 +1,4 @@
-use Rattle.std.proofs.Common.{◌≡◌, ◌∙◌, length, map, ap, sym, subst}
-use Rattle.std.proofs.lemmas.List.{length-map}
+use Rattle.std.proofs.Common.{◌≡◌, map, ap, subst}
 use Rattle.std.specs.String.{string_bytes}
 use Rattle.tardis_base.specs.declared.records.Limits.{Limits}
 use Rattle.plain_site.specs.Site.{opening}
@@ -9,14 +8,14 @@ use Rattle.tardis_main.proofs.plans.serve_plan.Goals as goal
 pub returns-clause-ends : goal.returns-clause-ends
 returns-clause-ends g c =
     let plan = c.args.plan.now in
-    let same : length c.as_slice-peers.result.now ≡ length (map (λ w. string_bytes w) plan.peers.items) = ap length c.as_slice-peers.ensures.value
-    ∙ sym (length-map plan.peers.items (λ w. string_bytes w)) in
+    let same : map (λ w. string_bytes w) c.as_slice-peers.result.now ≡ map (λ w. string_bytes w) plan.peers.items = ap (map (λ w. string_bytes w))
+    c.as_slice-peers.ensures.value in
     subst (λ (l : Limits). ServerEnds g.G.Link.Duplex.left g.G.Link.Sink.given g.G.Link.Duplex.take_faults g.G.Link.Sink.faults g.G.Gate.told g.G.Gate.faults
     g.D.Link.Duplex.left g.D.Link.Sink.given g.D.Link.Duplex.take_faults g.D.Link.Sink.faults g.D.Dial.told g.D.Dial.faults g.O.Sink.given g.O.Sink.faults
     c.args.gate.now c.serve.new.gate c.args.dial.now c.serve.new.dial c.args.output.now c.serve.new.output
     (opening l plan.place.site) l.max_trail (record {
       links = plan.links;
-      peers = length (map (λ w. string_bytes w) plan.peers.items);
+      peers = map (λ w. string_bytes w) plan.peers.items;
       rounds =
           plan.rounds;
       tidy = plan.tidy;

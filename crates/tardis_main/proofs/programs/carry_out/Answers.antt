@@ -57,20 +57,18 @@ returns-in-Err-clause-auto g c = λ place rules are.
 pub returns-in-Err-clause-export : goal.returns-in-Err-clause-export
 returns-in-Err-clause-export g c = λ place state are.
     let is : IsPlace place = c.commands_are_at_a_site.ensures.export (map (λ w. string_bytes w) (drop 1 (into_iter_items c.args.args))) place state are in
-    no_export g.I.Source.left g.I.Source.faults g.O.Sink.given g.O.Sink.faults c.args.input.now c.args.output.now
+    no_export g.I.Source g.O.Sink c.args.input.now c.args.output.now
     (map (λ w. string_bytes w) (drop 1 (into_iter_items c.args.args)))
     (site_at place) state (opens (program_limits place.sites) place.site (limits_hold place.sites is.some is.most) is.first is.last)
 
 pub returns-in-Err-clause-import : goal.returns-in-Err-clause-import
 returns-in-Err-clause-import g c = λ are.
-    no_import g.I.Source.left g.I.Source.faults g.O.Sink.given g.O.Sink.faults c.args.input.now c.args.output.now
+    no_import g.I.Source g.O.Sink c.args.input.now c.args.output.now
     (map (λ w. string_bytes w) (drop 1 (into_iter_items c.args.args)))
 
 pub returns-in-Err-clause-durable : goal.returns-in-Err-clause-durable
 returns-in-Err-clause-durable g c = λ place path are.
-    no_durable g.S.Disk.Disk.honest g.S.Disk.Disk.reads g.S.Disk.Disk.may_leave g.S.Disk.Disk.moment g.S.Disk.Disk.left_since g.S.Disk.Disk.faults
-    g.S.Store.honest g.S.Store.told g.S.Store.faults g.I.Source.left g.I.Source.faults g.O.Sink.given g.O.Sink.faults
-    c.args.store.now c.args.input.now c.args.output.now (site_at place) (program_limits place.sites).max_trail
+    no_durable g.S.Store g.S.Disk.Disk g.I.Source g.O.Sink path c.args.store.now c.args.input.now c.args.output.now (site_at place) (program_limits place.sites).max_trail
 
 pub returns-in-Err-clause-world : goal.returns-in-Err-clause-world
 returns-in-Err-clause-world g c = λ sites are.
@@ -93,51 +91,49 @@ returns-in-Err-clause-serve g c = λ plan are.
 pub returns-in-Ok-clause-run : goal.returns-in-Ok-clause-run
 returns-in-Ok-clause-run g c =
     let words : c.as_slice.result.now ≡ drop 1 (into_iter_items c.args.args) = c.as_slice.ensures.value ∙ c.in-Ok.ensures in
-    subst (λ ws. Runs g.I.Source.left g.I.Source.faults g.O.Sink.given g.O.Sink.faults c.args.input.now c.command.new.input c.args.output.now
+    subst (λ ws. Runs g.I.Source g.O.Sink c.args.input.now c.command.new.input c.args.output.now
     c.command.new.output (map (λ w. string_bytes w) ws) c.command.result)
     words c.command.ensures.run
 
 pub returns-in-Ok-clause-shell : goal.returns-in-Ok-clause-shell
 returns-in-Ok-clause-shell g c =
     let words : c.as_slice.result.now ≡ drop 1 (into_iter_items c.args.args) = c.as_slice.ensures.value ∙ c.in-Ok.ensures in
-    subst (λ ws. Shells g.I.Source.left g.I.Source.faults g.O.Sink.given g.O.Sink.faults c.args.input.now c.command.new.input c.args.output.now
+    subst (λ ws. Shells g.I.Source g.O.Sink c.args.input.now c.command.new.input c.args.output.now
     c.command.new.output (map (λ w. string_bytes w) ws) c.command.result)
     words c.command.ensures.shell
 
 pub returns-in-Ok-clause-audit : goal.returns-in-Ok-clause-audit
 returns-in-Ok-clause-audit g c =
     let words : c.as_slice.result.now ≡ drop 1 (into_iter_items c.args.args) = c.as_slice.ensures.value ∙ c.in-Ok.ensures in
-    subst (λ ws. Audits g.I.Source.left g.I.Source.faults g.O.Sink.given g.O.Sink.faults c.args.input.now c.command.new.input c.args.output.now
+    subst (λ ws. Audits g.I.Source g.O.Sink c.args.input.now c.command.new.input c.args.output.now
     c.command.new.output (map (λ w. string_bytes w) ws) c.command.result)
     words c.command.ensures.audit
 
 pub returns-in-Ok-clause-auto : goal.returns-in-Ok-clause-auto
 returns-in-Ok-clause-auto g c =
     let words : c.as_slice.result.now ≡ drop 1 (into_iter_items c.args.args) = c.as_slice.ensures.value ∙ c.in-Ok.ensures in
-    subst (λ ws. Autos g.I.Source.left g.I.Source.faults g.O.Sink.given g.O.Sink.faults c.args.input.now c.command.new.input c.args.output.now
+    subst (λ ws. Autos g.I.Source g.O.Sink c.args.input.now c.command.new.input c.args.output.now
     c.command.new.output (map (λ w. string_bytes w) ws) c.command.result)
     words c.command.ensures.auto
 
 pub returns-in-Ok-clause-export : goal.returns-in-Ok-clause-export
 returns-in-Ok-clause-export g c =
     let words : c.as_slice.result.now ≡ drop 1 (into_iter_items c.args.args) = c.as_slice.ensures.value ∙ c.in-Ok.ensures in
-    subst (λ ws. Exports g.I.Source.left g.I.Source.faults g.O.Sink.given g.O.Sink.faults c.args.input.now c.command.new.input c.args.output.now
+    subst (λ ws. Exports g.I.Source g.O.Sink c.args.input.now c.command.new.input c.args.output.now
     c.command.new.output (map (λ w. string_bytes w) ws) c.command.result)
     words c.command.ensures.export
 
 pub returns-in-Ok-clause-import : goal.returns-in-Ok-clause-import
 returns-in-Ok-clause-import g c =
     let words : c.as_slice.result.now ≡ drop 1 (into_iter_items c.args.args) = c.as_slice.ensures.value ∙ c.in-Ok.ensures in
-    subst (λ ws. Imports g.I.Source.left g.I.Source.faults g.O.Sink.given g.O.Sink.faults c.args.input.now c.command.new.input c.args.output.now
+    subst (λ ws. Imports g.I.Source g.O.Sink c.args.input.now c.command.new.input c.args.output.now
     c.command.new.output (map (λ w. string_bytes w) ws) c.command.result)
     words c.command.ensures.import
 
 pub returns-in-Ok-clause-durable : goal.returns-in-Ok-clause-durable
 returns-in-Ok-clause-durable g c =
     let words : c.as_slice.result.now ≡ drop 1 (into_iter_items c.args.args) = c.as_slice.ensures.value ∙ c.in-Ok.ensures in
-    subst (λ ws. Durables g.I.Source.left g.I.Source.faults g.O.Sink.given g.O.Sink.faults g.S.Disk.Disk.honest g.S.Disk.Disk.reads g.S.Disk.Disk.may_leave
-    g.S.Disk.Disk.moment g.S.Disk.Disk.left_since
-    g.S.Store.honest g.S.Store.told g.S.Store.faults c.args.store.now c.command.new.store c.args.input.now c.command.new.input c.args.output.now
+    subst (λ ws. Durables g.I.Source g.O.Sink g.S.Store g.S.Disk.Disk c.args.store.now c.command.new.store c.args.input.now c.command.new.input c.args.output.now
     c.command.new.output (map (λ w. string_bytes w) ws) c.command.result)
     words c.command.ensures.durable
 
@@ -149,14 +145,14 @@ returns-in-Ok-clause-unstored g c = λ others.
 pub returns-in-Ok-clause-world : goal.returns-in-Ok-clause-world
 returns-in-Ok-clause-world g c =
     let words : c.as_slice.result.now ≡ drop 1 (into_iter_items c.args.args) = c.as_slice.ensures.value ∙ c.in-Ok.ensures in
-    subst (λ ws. Worlds g.I.Source.left g.I.Source.faults g.O.Sink.given g.O.Sink.faults c.args.input.now c.command.new.input c.args.output.now
+    subst (λ ws. Worlds g.I.Source g.O.Sink c.args.input.now c.command.new.input c.args.output.now
     c.command.new.output (map (λ w. string_bytes w) ws) c.command.result)
     words c.command.ensures.world
 
 pub returns-in-Ok-clause-load : goal.returns-in-Ok-clause-load
 returns-in-Ok-clause-load g c =
     let words : c.as_slice.result.now ≡ drop 1 (into_iter_items c.args.args) = c.as_slice.ensures.value ∙ c.in-Ok.ensures in
-    subst (λ ws. Loads g.I.Source.left g.I.Source.faults g.O.Sink.given g.O.Sink.faults c.args.input.now c.command.new.input c.args.output.now
+    subst (λ ws. Loads g.I.Source g.O.Sink c.args.input.now c.command.new.input c.args.output.now
     c.command.new.output (map (λ w. string_bytes w) ws) c.command.result)
     words c.command.ensures.load
 

@@ -18,7 +18,7 @@ returns-in-Ok-clause-staged g c = λ entries staged o.
     let all = length_all entries staged c.args.self.now.place c.args.self.now.staged o.at o.text in
     let room : c.args.self.now.place + length c.args.self.now.staged + (length c.args.request.now + 7) ≤ c.args.self.now.max_trail =
     omega (arith, c.len.ensures.count) in (
-      staged_more M.plain M.stands M.opening K.honest K.reads K.may_leave c.args.self.now
+      staged_more M K c.args.self.now
           (record {
             machine = c.act.new.self;
             disk = c.args.self.now.disk;
@@ -29,7 +29,7 @@ returns-in-Ok-clause-staged g c = λ entries staged o.
           })
           entries staged e o (omega arith) c.requires.fits c.in-Ok.ensures.step c.in-Ok.ensures.opening refl refl refl c.push_entry.ensures room
           c.requires.room,
-      c.in-Ok.ensures.reply (state_of M.plain M.stands M.opening K.honest K.reads K.may_leave c.args.self.now entries staged) o.stood,
+      c.in-Ok.ensures.reply (state_of M K c.args.self.now entries staged) o.stood,
       omega (arith, all, room),
     )
 
@@ -40,7 +40,7 @@ returns-in-Err-clause-staged g c = λ entries staged o.
     let all = length_all entries staged c.args.self.now.place c.args.self.now.staged o.at o.text in
     let room : c.args.self.now.place + length c.args.self.now.staged + (length c.args.request.now + 7) ≤ c.args.self.now.max_trail =
     omega (arith, c.len.ensures.count) in (
-      staged_same M.plain M.stands M.opening K.honest K.reads K.may_leave c.args.self.now
+      staged_same M K c.args.self.now
           (record {
             machine = c.act.new.self;
             disk = c.args.self.now.disk;

@@ -3,6 +3,7 @@ use Rattle.std.specs.List.{concat}
 use Rattle.tardis_base.specs.Plain.{Event}
 use Rattle.frame_cut.specs.Frames.{frame}
 use Rattle.frame_cut.proofs.Words.{length-frame}
+use Rattle.tardis_base.specs.Sizes.{longest_framed}
 use Rattle.trail_log.specs.Frames.{entries_of, body_of, IsTrail, IsEntry, room_behind}
 use Rattle.trail_log.proofs.ChunkRows.{some_chunk, room_last, concat_last, room_set}
 use Rattle.trail_log.proofs.Entries.{length-body, entry_more, trail_more}
@@ -13,7 +14,7 @@ last_is : (chunks : List (List ℕ)) (spare more n : ℕ) → more + 6 ≤ spare
 last_is chunks spare more n room within is = let some = some_chunk chunks (omega arith) in omega arith
 
 fits_last : (chunks : List (List ℕ)) (x : List ℕ) (spare more n : ℕ) → more + 6 ≤ spare → spare ≤ room_behind chunks → n ≡ length chunks →
-    x ≡ get_or chunks (n - 1) x → length x + (more + 6) ≤ 1048580
+    x ≡ get_or chunks (n - 1) x → length x + (more + 6) ≤ longest_framed
 fits_last chunks x spare more n room within is at =
     let here = room_last chunks (n - 1) x (last_is chunks spare more n room within is) at in omega arith
 

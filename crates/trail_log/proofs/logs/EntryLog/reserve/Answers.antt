@@ -1,12 +1,13 @@
 use Rattle.std.proofs.Common.{◌≡◌, ◌++◌, ◌∷◌, [], List, ℕ, sym, ap, ◌∙◌, subst, arith}
 use Rattle.std.specs.List.{concat}
+use Rattle.tardis_base.specs.Sizes.{longest_framed}
 use Rattle.trail_log.specs.Frames.{entries_of, IsTrail, room_behind}
 use Rattle.trail_log.proofs.ChunkRows.{concat_new, room_new}
 use Rattle.trail_log.proofs.logs.EntryLog.reserve.Goals as goal
 use Rattle.trail_log.proofs.logs.EntryLog.reserve.Goals.{in-Ok, in-Err}
 
 -- the chunks and an empty one
-with_new : (chunks next : List (List ℕ)) (x : List ℕ) → x ≡ [] → next ≡ chunks ++ x ∷ [] → (concat next ≡ concat chunks) × (room_behind next ≡ 1048580)
+with_new : (chunks next : List (List ℕ)) (x : List ℕ) → x ≡ [] → next ≡ chunks ++ x ∷ [] → (concat next ≡ concat chunks) × (room_behind next ≡ longest_framed)
 with_new chunks next x none is =
     let is' : next ≡ chunks ++ [] ∷ [] = is ∙ ap (λ y. chunks ++ y ∷ []) none in
     (ap concat is' ∙ concat_new chunks, ap room_behind is' ∙ room_new chunks)

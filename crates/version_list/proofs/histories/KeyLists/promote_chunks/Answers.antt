@@ -36,6 +36,7 @@ loop-preserved g c =
           ∙ c.loop.invariant.kept k;
       left = omega (arith, fewer, c.loop.invariant.left);
       count = omega (arith, fewer, one, c.keep.ensures.count, c.loop.invariant.count);
+      full = c.keep.ensures.full c.loop.invariant.full;
       keys = c.promote_first.ensures.keys ∙ c.loop.invariant.keys;
       order = c.promote_first.ensures.order;
     }

@@ -1,0 +1,46 @@
+-- What the words of the server come to.
+use Rattle.std.specs.Prelude.{◌≡◌, ℕ, ◌++◌, ◌≤◌, ◌⊎◌, List, length, Option, Some, None, Result, Ok, Err}
+use Rattle.command_words.specs.Settings.{settings}
+use Rattle.command_words.specs.Daemons.{Daemon, daemon}
+use Rattle.command_words.specs.Helps.{AskUsage, AskVersion}
+use Rattle.hub.specs.declared.ports.Seen.{Seen}
+use Rattle.hub.specs.declared.serves.End.{End}
+use Rattle.hub.specs.declared.serves.End.TheVariants.{Stopped, Spent as AllTurns}
+use Rattle.tardisd_main.specs.declared.endings.GateFault.{GateFault}
+use Rattle.tardisd_main.specs.declared.endings.GateFault.TheVariants.{Lost}
+use Rattle.tardisd_main.specs.declared.endings.DaemonEnd.{DaemonEnd}
+use Rattle.tardisd_main.specs.declared.endings.DaemonEnd.TheVariants.{Told, Usage, WriteFailed, NoMemory, Gate, Spent}
+use Rattle.tardisd_main.specs.Sites.{ServesPlace}
+
+-- the words ask for nothing that the server does
+abbrev pub AreNone : List (List ℕ) → Type 0
+AreNone words = (daemon (settings words) ≡ None) × (AskUsage words → ⊥) × (AskVersion words → ⊥)
+
+-- All of the text was written; or a front of it, where writing failed; or nothing, where there was no memory for the words.
+abbrev pub Tells : List ℕ → DaemonEnd → List ℕ → List ℕ → Type 0
+Tells text Told before after = after ≡ before ++ text
+Tells text WriteFailed before after = (lost : List ℕ) × ((after ++ lost ≡ before ++ text) × (length lost ≤ length text))
+Tells text NoMemory before after = after ≡ before
+Tells text _ before after = ⊥
+
+-- how a server ends whose connections ended so
+abbrev pub end_of : End → DaemonEnd
+end_of Stopped = Gate Lost
+end_of AllTurns = Spent
+
+-- what becomes of an edge that was asked to open: over it the site at the place is served, or there was no memory for that
+abbrev pub EndsAs : {P : Type 0} → (P → Option (List Seen)) → Result P GateFault → Daemon → DaemonEnd → Type 0
+EndsAs {P} seen (Ok ports) asked end =
+    (end ≡ NoMemory) ⊎ ((left : P) × (why : End) × ServesPlace asked.place asked.tidy why (seen ports) (seen left) × (end ≡ end_of why))
+EndsAs seen (Err fault) asked end = end ≡ Gate fault
+
+module _ {D P : Type 0} (opens : List ℕ → Result P GateFault → Type 0) (seen : P → Option (List Seen)) where
+  -- The edge was asked to open at the address that was asked for, and this became of it. Where there was no memory for the
+  -- words it wasn't asked.
+  abbrev pub ServesAs : D → D → Daemon → DaemonEnd → Type 0
+  ServesAs old new asked end =
+      ((end ≡ NoMemory) × (new ≡ old)) ⊎ ((opened : Result P GateFault) × opens asked.listen opened × EndsAs seen opened asked end)
+
+  -- words of a server: the site at their place is served at their address, and nothing is written
+  abbrev pub Serves : {O : Type 0} → D → D → O → O → List (List ℕ) → DaemonEnd → Type 0
+  Serves old new before after words end = (asked : Daemon) → daemon (settings words) ≡ Some asked → ServesAs old new asked end × (after ≡ before)
