@@ -1,19 +1,19 @@
 -- What a crash leaves of a log of groups.
-use Rattle.std.proofs.Common.{◌≡◌, ℕ, ◌+◌, ◌-◌, ◌≤◌, ◌⊎◌, List, [], ◌∷◌, ◌++◌, length, drop, refl, sym, ap, ◌∙◌, subst, inl, inr, arith, append_assoc, append-nil}
+use Rattle.std.proofs.Common.{◌≡◌, ℕ, ◌+◌, ◌-◌, ◌⊎◌, List, [], ◌∷◌, ◌++◌, length, drop, refl, sym, ap, ◌∙◌, subst, inl, inr, arith, append_assoc, append-nil}
 use Rattle.std.specs.List.{AllByRecursion}
 use Rattle.std.proofs.Math.Seq.{drop-append_seam}
 use Rattle.std.proofs.lemmas.List.{drop-drop, append_cancel_left}
 use Rattle.std.proofs.lemmas.Grind.{flat_map-append}
-use Rattle.log_text.specs.Texts.{IsItem, entry, log_text, IsZeros, Mixed, Reads}
+use Rattle.log_text.specs.Texts.{IsItem, entry, log_text, IsZeros, Mixed}
 use Rattle.log_text.specs.Laws.{TextIsRead, EveryReading, AllOrNone, TornEndIsLast, MendKeepsItems}
 use Rattle.log_groups.specs.declared.fronts.LogFront.{LogFront}
 use Rattle.log_groups.specs.declared.groups.Ending.{Ending}
-use Rattle.log_groups.specs.declared.groups.Ending.TheVariants.{Whole, Torn, Damaged}
+use Rattle.log_groups.specs.declared.groups.Ending.TheVariants.{Torn, Damaged}
 use Rattle.log_groups.specs.Items.{IsFront, front_item, IsBody, group, groups, log_items}
-use Rattle.log_groups.specs.Logs.{longest_entry, IsTorn, Ends, Holds}
+use Rattle.log_groups.specs.Logs.{longest_entry, IsTorn, Holds}
 use Rattle.log_groups.proofs.Parts.{group_fits, groups_last, entry_short}
 use Rattle.log_groups.proofs.Ends.{zeros_dropped, torn_ends, zeros_behind_text, mended_few, mended_last, last_from_each}
-use Rattle.log_groups.proofs.Readings.{items_fit, log_is_read}
+use Rattle.log_groups.proofs.Readings.{items_fit}
 
 -- behind a longest entry there are zeros, whatever was read of the image
 few_left : (item old zeros image front rest : List ℕ) → IsItem item → IsZeros old → IsZeros zeros → Mixed old (entry item ++ zeros) image → image ≡ front ++ rest

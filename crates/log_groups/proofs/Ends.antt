@@ -1,13 +1,12 @@
 -- How a log ends.
-use Rattle.std.proofs.Common.{◌≡◌, ℕ, ◌+◌, ◌≤◌, ◌⊎◌, Bool, true, false, if◌then◌else◌, nat_eq, List, [], ◌∷◌, ◌++◌, length, drop, refl, sym, ap, ◌∙◌, subst, inl, inr, arith, append_assoc}
+use Rattle.std.proofs.Common.{◌≡◌, ℕ, ◌⊎◌, Bool, true, false, if◌then◌else◌, nat_eq, List, [], ◌∷◌, ◌++◌, length, drop, refl, sym, ap, ◌∙◌, subst, inl, inr, arith}
 use Rattle.std.specs.Bool.{Decides}
-use Rattle.std.specs.List.{AllByRecursion}
 use Rattle.std.proofs.lemmas.Bool.{cases_Bool, eqb-true, true≢false}
-use Rattle.log_text.specs.Texts.{entry, log_text, IsZeros, Mixed, HasNoEntry}
+use Rattle.log_text.specs.Texts.{IsZeros, Mixed, HasNoEntry}
 use Rattle.log_text.specs.Laws.{TextIsRead}
 use Rattle.log_groups.specs.declared.groups.Ending.{Ending}
 use Rattle.log_groups.specs.declared.groups.Ending.TheVariants.{Whole, Torn, Damaged}
-use Rattle.log_groups.specs.Items.{IsBody, group}
+use Rattle.log_groups.specs.Items.{group}
 use Rattle.log_groups.specs.Logs.{longest_entry, behind_end, IsTorn, HasNoGroup, Ends}
 use Rattle.log_groups.proofs.Parts.{group_fits}
 

@@ -1,6 +1,6 @@
 -- The items of a log are told apart.
-use Rattle.std.proofs.Common.{◌≡◌, ℕ, ◌+◌, ◌*◌, ◌-◌, ◌≤◌, ◌<◌, ◌^◌, ◌⊎◌, Bool, true, false, if◌then◌else◌, nat_eq, List, [], ◌∷◌, ◌++◌, length, take, drop, get_or, refl, sym, ap, ◌∙◌, subst, inl, inr, arith, append_assoc, slice_index}
-use Rattle.std.specs.Int.{w16, w32, w64, to_be_bytes, from_be_bytes}
+use Rattle.std.proofs.Common.{◌≡◌, ℕ, ◌+◌, ◌*◌, ◌-◌, ◌≤◌, ◌⊎◌, Bool, true, false, if◌then◌else◌, nat_eq, List, [], ◌∷◌, ◌++◌, length, take, drop, get_or, refl, sym, ap, ◌∙◌, subst, inl, inr, arith, append_assoc, slice_index}
+use Rattle.std.specs.Int.{w32, w64, to_be_bytes}
 use Rattle.std.specs.List.{AllByRecursion}
 use Rattle.std.proofs.Math.Seq.{drop-append_seam, take-append_seam}
 use Rattle.std.proofs.lemmas.List.{length-append, drop-drop, take-append-drop, length-take-le, append_cancel_left}
@@ -9,7 +9,6 @@ use Rattle.std.proofs.lemmas.Slice.Eq.{bytes_eq-Decides}
 use Rattle.std.specs.Str.{bytes_eq}
 use Rattle.std.proofs.lemmas.Nat.{from_be_bytes-to_be_bytes_2, from_be_bytes-to_be_bytes_4}
 use Rattle.sha2.specs.Sha256.{sha256, digest_bytes, final_hash, initial_hash_256}
-use Rattle.tardis_base.specs.Sizes.{longest_frame}
 use Rattle.log_text.specs.Texts.{IsItem, is_mark, spelled, coded, entry, log_text, Reads}
 use Rattle.log_text.specs.Laws.{OneReading, EveryReading}
 use Rattle.log_groups.specs.declared.fronts.LogFront.{LogFront}

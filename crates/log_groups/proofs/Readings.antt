@@ -1,15 +1,15 @@
 -- Bytes hold one log.
-use Rattle.std.proofs.Common.{◌≡◌, ℕ, ◌+◌, ◌≤◌, ◌⊎◌, List, [], ◌∷◌, ◌++◌, length, drop, get_or, refl, sym, ap, ◌∙◌, subst, inl, inr, arith, append_assoc}
+use Rattle.std.proofs.Common.{◌≡◌, ℕ, ◌+◌, List, [], ◌∷◌, ◌++◌, length, drop, refl, sym, ap, ◌∙◌, subst, inl, inr, arith}
 use Rattle.std.specs.List.{AllByRecursion}
 use Rattle.std.proofs.lemmas.List.{length-drop}
-use Rattle.log_text.specs.Texts.{IsItem, entry, log_text, IsZeros, HasNoEntry, Reads}
-use Rattle.log_text.specs.Laws.{TextIsRead, OneReading, EveryReading}
+use Rattle.log_text.specs.Texts.{IsItem, entry, log_text, HasNoEntry, Reads}
+use Rattle.log_text.specs.Laws.{TextIsRead, EveryReading}
 use Rattle.log_groups.specs.declared.fronts.LogFront.{LogFront}
 use Rattle.log_groups.specs.declared.groups.Ending.{Ending}
 use Rattle.log_groups.specs.declared.groups.Ending.TheVariants.{Whole, Torn, Damaged}
 use Rattle.log_groups.specs.Items.{IsFront, front_item, IsBody, group, groups, log_items}
-use Rattle.log_groups.specs.Logs.{IsTorn, HasNoGroup, Ends, Holds}
-use Rattle.log_groups.proofs.Parts.{group_body, group_fits, groups_fit, same_front, front_fits, SameEntry, same_entry, text_goes_on, same_or_not}
+use Rattle.log_groups.specs.Logs.{Ends, Holds}
+use Rattle.log_groups.proofs.Parts.{group_body, group_fits, groups_fit, same_front, front_fits, SameEntry, text_goes_on, same_or_not}
 use Rattle.log_groups.proofs.Ends.{zeros_have_none, no_group, one_end, none_ends}
 
 -- the groups from a number on, and how they end

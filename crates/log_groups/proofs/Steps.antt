@@ -1,9 +1,8 @@
 -- What is read of a log, step by step.
-use Rattle.std.proofs.Common.{◌≡◌, ℕ, ◌≤◌, ◌⊎◌, Result, List, ◌++◌, length, take, drop, refl, sym, ap, ◌∙◌, subst, inl, inr, arith, Some}
+use Rattle.std.proofs.Common.{◌≡◌, ℕ, Result, List, drop, sym, ap, ◌∙◌, subst, inr, Some}
 use Rattle.std.specs.Prelude.{IfOk}
 use Rattle.std.proofs.lemmas.Result.{IfOk-weaker}
 use Rattle.tardis_base.specs.declared.faults.NoMemory.{NoMemory}
-use Rattle.log_text.specs.Texts.{IsItem, entry}
 use Rattle.log_text.specs.Fronts.{IsNext}
 use Rattle.log_groups.specs.declared.fronts.LogFront.{LogFront}
 use Rattle.log_groups.specs.declared.groups.Ending.TheVariants.{Damaged}

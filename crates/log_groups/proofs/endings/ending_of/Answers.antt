@@ -1,5 +1,3 @@
-use Rattle.std.proofs.Common.{◌≡◌, true, false, sym, ap, ◌∙◌, subst}
-use Rattle.log_text.specs.Texts.{IsZeros}
 use Rattle.log_groups.proofs.Ends.{no_next, not_last, not_few}
 use Rattle.log_groups.proofs.endings.ending_of.Goals as goal
 

@@ -1,4 +1,4 @@
-use Rattle.std.proofs.Common.{rules, length, subst, sym, ◌∙◌}
+use Rattle.std.proofs.Common.{rules, subst, sym, ◌∙◌}
 use Rattle.log_text.specs.Texts.{IsItem}
 use Rattle.log_groups.proofs.Parts.{front_fits}
 use Rattle.log_groups.proofs.fronts.put_front.Goals as goal

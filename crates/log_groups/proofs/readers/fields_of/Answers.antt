@@ -1,4 +1,3 @@
-use Rattle.std.proofs.Common.{◌≡◌}
 use Rattle.log_groups.specs.Fields.{front_of}
 use Rattle.log_groups.proofs.readers.fields_of.Goals as goal
 

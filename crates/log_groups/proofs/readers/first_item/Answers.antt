@@ -1,4 +1,4 @@
-use Rattle.std.proofs.Common.{rules, ◌≡◌, ℕ, ◌≤◌, length, true, false, sym, ap, ◌∙◌, arith}
+use Rattle.std.proofs.Common.{rules, length, sym, ap, ◌∙◌, arith}
 use Rattle.std.proofs.lemmas.Bool.{true≢false}
 use Rattle.std.proofs.lemmas.Slice.Eq.{bytes_eq-Decides}
 use Rattle.log_groups.proofs.Parts.{front_length}

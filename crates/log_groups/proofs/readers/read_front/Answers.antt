@@ -1,5 +1,4 @@
 use Rattle.std.proofs.Common.{subst}
-use Rattle.log_groups.specs.Steps.{IsFirst}
 use Rattle.log_text.specs.Fronts.{IsNext}
 use Rattle.std.proofs.Common.{Some, sym}
 use Rattle.log_groups.proofs.Steps.{first_of}

@@ -1,4 +1,4 @@
-use Rattle.std.proofs.Common.{◌≡◌, true, false, Some, drop, sym, ap, ◌∙◌, subst}
+use Rattle.std.proofs.Common.{drop, sym, ap, ◌∙◌, subst}
 use Rattle.std.proofs.lemmas.Bool.{true≢false}
 use Rattle.log_text.specs.Fronts.{IsNext}
 use Rattle.log_groups.specs.Items.{group}
