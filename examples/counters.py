@@ -4,19 +4,29 @@ It prints:
 
     1.1 has 10 visits
     6 clients wrote, each on a branch of its own: 6 leaves
-    merged as 1.8, which settled cart/1, visits/home
+    $ python -m tardis merge ADDRESS --rules visits/=count,cart/=set
+    1.8 joins 1.2, 1.3, 1.4, 1.5, 1.6, 1.7: cart/1, visits/home
     visits/home is 16, cart/1 is item0,item1,item2,item3,item4,item5,tea
-    rules that don't speak of a key refuse it: the key b'price' can't be resolved
+    $ python -m tardis merge ADDRESS --rules visits/=count,cart/=set
+    tardis: the key b'price' can't be resolved: its rule is `refuse`, or no rule speaks of it; give --rules PREFIX=RULE,..
 """
 
+import subprocess
 import sys
 
 import tardis
 
 SITES = 1
 
-# as --rules visits/=count,cart/=set of `python -m tardis merge` and of `tardis auto`
-RULES = tardis.by_prefix({"visits/": tardis.counter, "cart/": tardis.union_of(",")})
+# a client may merge by the same rules: by_prefix({"visits/": counter, "cart/": union_of(",")})
+RULES = "visits/=count,cart/=set"
+
+
+def merge(address):
+    """Joins all leaves by the rules, as a person does it by the command."""
+    print(f"$ python -m tardis merge ADDRESS --rules {RULES}")
+    told = subprocess.run([sys.executable, "-m", "tardis", "merge", address, "--rules", RULES], stdout=subprocess.PIPE, stderr=subprocess.STDOUT)
+    print(told.stdout.decode(), end="")
 
 
 def main(address):
@@ -36,19 +46,16 @@ def main(address):
     for client in clients:
         client.commit()
     print(f"{len(clients)} clients wrote, each on a branch of its own: {first.leaves().total} leaves")
-    merged = first.merge(RULES)
-    keys = ", ".join(key.decode() for key in merged.keys)
-    print(f"merged as {merged.id}, which settled {keys}")
-    values = {key.decode(): value.decode() for key, value in first.items(merged.id).items}
+    merge(address)
+    joined = first.leaves().first[0]
+    values = {key.decode(): value.decode() for key, value in first.items(joined).items}
     print(f"visits/home is {values['visits/home']}, cart/1 is {values['cart/1']}")
-    for number, client in enumerate(clients[:2]):
-        client.begin(merged.id)
+    # no rule speaks of prices, and so nobody chooses one
+    for client in clients[:2]:
+        client.begin(joined)
     for number, client in enumerate(clients[:2]):
         client.put("price", str(number)), client.commit()
-    try:
-        first.merge(RULES)
-    except tardis.Unresolved as refusal:
-        print("rules that don't speak of a key refuse it: " + str(refusal).split(":")[0])
+    merge(address)
     for client in clients:
         client.disconnect()
 

@@ -4,11 +4,14 @@ setuptools is. It is the backend that `pyproject.toml` names (PEP 517, and PEP 6
 import base64
 import hashlib
 import os
+import re
 import tarfile
 import zipfile
 
 HERE = os.path.dirname(os.path.dirname(os.path.abspath(__file__)))
-NAME, VERSION, PACKAGE = "kumovasil", "0.2.0", "tardis"
+NAME, PACKAGE = "kumovasil", "tardis"
+with open(os.path.join(HERE, PACKAGE, "__init__.py"), encoding="utf-8") as _file:
+    VERSION = re.search('^__version__ = "(.*)"$', _file.read(), re.MULTILINE).group(1)
 INFO = "%s-%s.dist-info" % (NAME, VERSION)
 WHEEL = "Wheel-Version: 1.0\nGenerator: packing\nRoot-Is-Purelib: true\nTag: py3-none-any\n"
 METADATA = "\n".join([

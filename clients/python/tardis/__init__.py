@@ -35,11 +35,12 @@ __version__ = "0.2.0"
 
 __all__ = [
     "Absent", "AlreadyOpen", "Answer", "Applied", "BadSite", "BagFull", "Base", "Batch", "Begun", "Below", "Branches", "Bytes",
-    "CeilingBack", "Closed", "ClosedParent", "Collected", "Committed", "Comparable", "Comparison", "Conflict", "ConflictKey", "Consent", "Deleted", "Difference",
-    "Disconnected", "Done", "Early", "Ended", "FloorBack", "Full", "Held", "History", "Items", "Keys", "Known", "Malformed", "MergeStep",
-    "Merged", "Merging", "NoBranch", "NoMemory", "NoSuchItem", "NoTxn", "NotOpen", "NotRead", "OpenConflict", "Opened", "OwnItem",
-    "PathFull", "Pipeline", "ProtocolError", "ROOT", "Raised", "Read", "Record", "Refused", "Reply", "Resolve", "SeqEnd", "SessionsFull",
-    "Shown", "Sides", "Site", "SiteLine", "Stat", "State", "StateId", "States", "Tidied", "TooMany", "TrailFull", "Transaction", "TxnOpen",
-    "UNKNOWN", "Unknown", "Unresolved", "Unsupported", "Value", "Write", "WrongMode", "by_prefix", "connect", "counter", "last_writer",
-    "merge_text", "three_way_text", "union_of", "union_of_lines",
+    "CeilingBack", "Closed", "ClosedParent", "Collected", "Committed", "Comparable", "Comparison", "Conflict", "ConflictKey",
+    "Consent", "Deleted", "Difference", "Disconnected", "Done", "Early", "Ended", "FloorBack", "Full", "Held", "History",
+    "Items", "Keys", "Known", "Malformed", "MergeStep", "Merged", "Merging", "NoBranch", "NoMemory", "NoSuchItem", "NoTxn",
+    "NotOpen", "NotRead", "OpenConflict", "Opened", "OwnItem", "PathFull", "Pipeline", "ProtocolError", "ROOT", "Raised",
+    "Read", "Record", "Refused", "Reply", "Resolve", "SeqEnd", "SessionsFull", "Shown", "Sides", "Site", "SiteLine", "Stat",
+    "State", "StateId", "States", "Tidied", "TooMany", "TrailFull", "Transaction", "TxnOpen", "UNKNOWN", "Unknown",
+    "Unresolved", "Unsupported", "Value", "Write", "WrongMode", "by_prefix", "connect", "counter", "last_writer", "merge_text",
+    "three_way_text", "union_of", "union_of_lines",
 ]

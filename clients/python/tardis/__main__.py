@@ -12,7 +12,7 @@ from .blocking import Site, Transaction, connect
 from .histories import State
 from .ids import StateId
 from .merging import Merged
-from .pictures import as_dot, as_json, as_svg, as_text, json_bytes, word, wrote
+from .pictures import as_dot, as_json, as_svg, as_text, json_bytes, word, writes_data, wrote
 from .refusals import NoMemory, ProtocolError, Refused, Unresolved
 from .replies import Deleted, Value
 from .resolvers import Base, Resolve, Sides, Unknown, by_prefix, counter, last_writer, three_way_text, union_of, union_of_lines
@@ -59,7 +59,8 @@ def write_file(path: str, text: str) -> None:
 def stat(site: Site, words: Words) -> None:
     told = site.stat()
     lines = [f"known {told.known}, kept {told.kept}, leaves {told.leaves}, open sessions {told.sessions}"]
-    lines += [f"site {site}: {line.count} states, floor {line.floor} (raised {line.number} times)" for site, line in enumerate(told.sites, 1)]
+    lines += [f"site {number}: {line.count} states, floor {line.floor} (raised {line.number} times)"
+              for number, line in enumerate(told.sites, 1)]
     say(words, lines, {
         "known": told.known, "kept": told.kept, "leaves": told.leaves, "sessions": told.sessions,
         "sites": [{"site": number, "states": line.count, "floor": str(line.floor), "raised": line.number}
@@ -81,11 +82,11 @@ def show(site: Site, words: Words) -> None:
              "children: " + (", ".join(map(str, shown.children)) or "none, it is a leaf")]
     if state.writes is None:
         lines.append("what it wrote isn't told any more")
-    lines += [f"{word(write.key)} = {word(write.value)}" if write.value is not None else f"{word(write.key)} deleted" for write in state.writes or ()]
+    lines += [word(write.key) + (" deleted" if write.value is None else f" = {word(write.value)}") for write in state.writes or ()]
     say(words, lines, {
         "id": str(id), "arrival": shown.arrival, "parents": [str(parent) for parent in state.parents],
         "children": [str(child) for child in shown.children], "path": [[str(fork), branch] for fork, branch in shown.path],
-        "writes": None if state.writes is None else [{"key": json_bytes(write.key), "value": json_bytes(write.value)} for write in state.writes]})
+        "writes": writes_data(state)})
 
 
 def get(site: Site, words: Words) -> None:
@@ -96,8 +97,7 @@ def get(site: Site, words: Words) -> None:
     writer = read.writer if isinstance(read, (Value, Deleted)) else None
     value = read.value if isinstance(read, Value) else None
     if words.json:
-        print(json.dumps({"at": str(begun), "key": words.key, "value": json_bytes(value), "writer": None if writer is None else str(writer)},
-                         ensure_ascii=False))
+        say(words, [], {"at": str(begun), "key": words.key, "value": json_bytes(value), "writer": None if writer is None else str(writer)})
     elif value is not None:
         sys.stdout.buffer.write(value + (b"" if value.endswith(b"\n") else b"\n"))
     else:
@@ -128,7 +128,8 @@ def change(site: Site, words: Words, write: Callable[[Transaction], None]) -> No
         write(txn)
     beside = ", ".join(map(str, txn.beside))
     lines = [f"committed {txn.committed} below {', '.join(map(str, txn.parents))}"]
-    lines += [f"a fork: {beside} stands beside it" if len(txn.beside) == 1 else f"a fork: {beside} stand beside it"] if txn.forked else []
+    if txn.forked:
+        lines.append(f"a fork: {beside} {'stands' if len(txn.beside) == 1 else 'stand'} beside it")
     say(words, lines, {"committed": str(txn.committed), "parents": [str(parent) for parent in txn.parents], "forked": txn.forked,
                        "beside": [str(leaf) for leaf in txn.beside]})
 
@@ -162,7 +163,8 @@ def refuse(key: bytes, base: Base, sides: Sides) -> Optional[bytes]:
 
 def ask_person(key: bytes, base: Base, sides: Sides) -> Optional[bytes]:
     """Shows the sides, and lets the person choose one, or write another value."""
-    print(f"\n{word(key)}, where they parted: " + ("not known" if isinstance(base, Unknown) else "no value" if base is None else word(base)))
+    stood = "not known" if isinstance(base, Unknown) else "no value" if base is None else word(base)
+    print(f"\n{word(key)}, where they parted: {stood}")
     choices = list(sides.items())
     for place, (side, value) in enumerate(choices, 1):
         print(f"  {place}: {'no value' if value is None else word(value)}   (at {side})")
@@ -205,9 +207,7 @@ def watch(site: Site, words: Words) -> None:
     for state in site.watch(words.every):
         parents = ", ".join(map(str, state.parents))
         say(words, [f"{state.id}" + (f" below {parents}" if parents else "") + f"  {wrote(state)}".rstrip()], {
-            "id": str(state.id), "parents": [str(parent) for parent in state.parents],
-            "writes": None if state.writes is None else [
-                {"key": json_bytes(write.key), "value": json_bytes(write.value)} for write in state.writes]})
+            "id": str(state.id), "parents": [str(parent) for parent in state.parents], "writes": writes_data(state)})
         sys.stdout.flush()
 
 
@@ -219,7 +219,8 @@ def web(site: Site, words: Words) -> None:
 # the words
 
 def parser() -> argparse.ArgumentParser:
-    top = argparse.ArgumentParser(prog="python -m tardis", description="Looks into a running site, and changes it. An ADDRESS is unix:PATH or HOST:PORT.")
+    top = argparse.ArgumentParser(
+        prog="python -m tardis", description="Looks into a running site, and changes it. An ADDRESS is unix:PATH or HOST:PORT.")
     top.add_argument("--version", action="version", version=f"kumovasil {__version__}")
     commands = top.add_subparsers(dest="command", metavar="COMMAND", required=True)
 

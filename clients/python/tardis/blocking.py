@@ -415,8 +415,11 @@ class Site:
         return not self._core.conversation.is_over
 
     def disconnect(self) -> None:
-        """Ends the connection; the site closes the session."""
+        """Ends the connection; the site closes the session. Another thread that waits for a reply is told so."""
         self._core.conversation.end("disconnect() was called")
+        # a thread that waits wakes by this, and not by close
+        with contextlib.suppress(OSError):
+            self._stream.shutdown(socket.SHUT_RDWR)
         self._stream.close()
 
     def __enter__(self) -> "Site":

@@ -227,7 +227,8 @@ class Core:
         """The states that are kept, and what is shown of those that are closed: only these may be collected."""
         records = self.records
         kept: Dict[StateId, Optional[Shown]] = {id: None for id in records.open}
-        unsure = [ROOT, *records.open_floors, *records.records, *(parent for id in records.open for parent in records.records[id].parents)]
+        parents = [parent for id in records.open for parent in records.records[id].parents]
+        unsure = [ROOT, *records.open_floors, *records.records, *parents]
         asked = {id: True for id in unsure if id not in kept and id not in records.gone}
         kept.update((yield from self._show_some(list(asked))))
         rest = self._never_told(stat, asked)

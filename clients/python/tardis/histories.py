@@ -48,7 +48,8 @@ class Ancestry:
     take some 20 MB."""
 
     def __init__(self, records: Dict[StateId, Record]) -> None:
-        missing = {parent: True for record in records.values() for parent in record.parents if parent not in records and parent != ROOT}
+        parents = [parent for record in records.values() for parent in record.parents]
+        missing = {parent: True for parent in parents if parent not in records and parent != ROOT}
         self.ids: List[StateId] = [ROOT, *missing, *records]
         self.above: Dict[StateId, int] = {id: 1 << place for place, id in enumerate(self.ids[:len(missing) + 1])}
         #: the states of which no record is known, so that nobody can tell what they or those above them wrote
@@ -212,7 +213,8 @@ class Records:
 class History:
     """All kept states of a site at one moment."""
 
-    def __init__(self, states: Sequence[State], leaves: Sequence[StateId], stat: Stat, ceiling: Optional[StateId], records: Records) -> None:
+    def __init__(self, states: Sequence[State], leaves: Sequence[StateId], stat: Stat, ceiling: Optional[StateId],
+                 records: Records) -> None:
         #: the kept states, in order of arrival
         self.states: Tuple[State, ...] = tuple(states)
         #: the ends of all branches, as far as the site lists them (256)

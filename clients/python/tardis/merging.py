@@ -213,7 +213,8 @@ class _Merger:
         told: Dict[bytes, Sides] = {}
         for place, key in enumerate(keys):
             here = dict(zip(sides, reads[place * len(sides):]))
-            told[key] = Sides({side: _value_of(read) for side, read in here.items()}, {side: _writer_of(read) for side, read in here.items()})
+            values = {side: _value_of(read) for side, read in here.items()}
+            told[key] = Sides(values, {side: _writer_of(read) for side, read in here.items()})
         return told
 
     def _commit(self, written: Sequence[Request[None]], keys: Sequence[bytes] = (),

@@ -39,6 +39,13 @@ def json_bytes(data: Optional[bytes]) -> Any:
         return {"hex": data.hex()}
 
 
+def writes_data(state: State) -> Any:
+    """What a state wrote, for JSON; null where that isn't told any more."""
+    if state.writes is None:
+        return None
+    return [{"key": json_bytes(write.key), "value": json_bytes(write.value)} for write in state.writes]
+
+
 def shortened(text: str, most: int = MOST_CHARACTERS) -> str:
     return text if len(text) <= most else text[:most - 2] + ".."
 
@@ -135,7 +142,8 @@ def _fan_out(lanes: List[Optional[StateId]], here: int, parents: Sequence[StateI
         yield _line(lanes, here, fresh, signs, signs.falls_between, signs.falls)
 
 
-def _line(lanes: Sequence[Optional[StateId]], here: int, others: Set[int], signs: _Signs, middle: str, last: str, node: str = "") -> str:
+def _line(lanes: Sequence[Optional[StateId]], here: int, others: Set[int], signs: _Signs, middle: str, last: str,
+          node: str = "") -> str:
     """A line of the drawing: the lanes that are taken, and from `here` a stroke to the others."""
     end = max(others, default=here)
     drawn = ""
@@ -166,7 +174,8 @@ def as_svg(history: History) -> str:
     width = LEFT + LANE * layout.width + 20 + max([90] + [int(7.2 * len(text)) for text in texts])
     height = 2 * TOP + ROW * max(0, len(layout.states) - 1)
     parts = [f'<svg xmlns="http://www.w3.org/2000/svg" width="{width}" height="{height}" viewBox="0 0 {width} {height}" '
-             'font-family="ui-monospace, Menlo, Consolas, monospace" font-size="12">', f'<rect width="{width}" height="{height}" fill="#ffffff"/>']
+             'font-family="ui-monospace, Menlo, Consolas, monospace" font-size="12">',
+             f'<rect width="{width}" height="{height}" fill="#ffffff"/>']
     for edge in layout.edges:
         parts.append(f'<path d="{_way(edge.child_row, edge.child_lane, edge.lane, edge.parent_row, edge.parent_lane)}" fill="none" '
                      f'stroke="{_colour(edge.lane)}" stroke-width="2"/>')
@@ -175,7 +184,8 @@ def as_svg(history: History) -> str:
         is_leaf = "leaf" in said.get(state.id, ())
         fill = _colour(layout.lanes[row]) if is_leaf or len(state.parents) > 1 else "#ffffff"
         parts.append(f'<circle cx="{x}" cy="{y}" r="6" fill="{fill}" stroke="{_colour(layout.lanes[row])}" stroke-width="2"/>')
-        parts.append(f'<text x="{LEFT + LANE * layout.width}" y="{y + 4}" fill="#222222" xml:space="preserve">{escape(texts[row])}</text>')
+        beside = LEFT + LANE * layout.width
+        parts.append(f'<text x="{beside}" y="{y + 4}" fill="#222222" xml:space="preserve">{escape(texts[row])}</text>')
     return "\n".join([*parts, "</svg>"]) + "\n"
 
 
@@ -223,9 +233,7 @@ def as_json(history: History) -> Dict[str, Any]:
     return {
         "states": [{
             "id": str(state.id), "parents": [str(parent) for parent in state.parents],
-            "writes": None if state.writes is None else [
-                {"key": json_bytes(write.key), "value": json_bytes(write.value)} for write in state.writes],
-        } for state in history],
+            "writes": writes_data(state)} for state in history],
         "leaves": [str(leaf) for leaf in history.leaves],
         "floors": {str(site): str(floor) for site, floor in history.floors.items()},
         "ceiling": None if history.ceiling is None else str(history.ceiling),

@@ -21,6 +21,8 @@ PATIENCE = 30.0
 PAGE = os.path.join(os.path.dirname(os.path.abspath(__file__)), "page.html")
 #: a body of a request to this server is no longer
 LONGEST_BODY = 1 << 20
+#: nothing is loaded from elsewhere, and no other page holds this one in a frame
+POLICY = "default-src 'self'; style-src 'unsafe-inline'; script-src 'unsafe-inline'; frame-ancestors 'none'"
 
 
 class Looker:
@@ -30,12 +32,14 @@ class Looker:
         self.address = address
         self._lock = threading.RLock()
         self._site: Optional[Site] = None
+        self._connections = 0
         self._seen: Tuple[Any, Dict[str, Any]] = (None, {})
 
     def ask(self, what: Callable[[Site], Any]) -> Any:
         with self._lock:
             if self._site is None or not self._site.is_connected:
                 self._site = connect(self.address, PATIENCE)
+                self._connections += 1
             return what(self._site)
 
     def within_a_session(self, what: Callable[[Site], Any]) -> Any:
@@ -56,7 +60,8 @@ class Looker:
         """The drawing of the history, unless it is the one that the page has."""
         def look(site: Site) -> Dict[str, Any]:
             stat = site.stat()
-            version = f"{stat.known}.{stat.kept}.{'.'.join(str(line.floor) for line in stat.sites)}"
+            # a site that was started anew may have as many states as before, and others
+            version = f"{self._connections}.{stat.known}.{stat.kept}.{'.'.join(str(line.floor) for line in stat.sites)}"
             changed = {"version": version, "sessions": stat.sessions}
             if have == version:
                 return changed
@@ -157,7 +162,8 @@ class Handler(http.server.BaseHTTPRequestHandler):
             self.send(403, b"this page is for 127.0.0.1 alone", "text/plain")
         elif parts.path == "/":
             with open(PAGE, "rb") as file:
-                self.send(200, file.read().replace(b"{{ADDRESS}}", json.dumps(looker.address).encode()), "text/html; charset=utf-8")
+                address = json.dumps(looker.address).replace("<", "\\u003c")
+                self.send(200, file.read().replace(b"{{ADDRESS}}", address.encode()), "text/html; charset=utf-8")
         elif parts.path in calls:
             self.call(calls[parts.path])
         else:
@@ -196,7 +202,7 @@ class Handler(http.server.BaseHTTPRequestHandler):
         self.send_header("Content-Type", kind)
         self.send_header("Content-Length", str(len(body)))
         self.send_header("Cache-Control", "no-store")
-        self.send_header("Content-Security-Policy", "default-src 'self'; style-src 'unsafe-inline'; script-src 'unsafe-inline'; frame-ancestors 'none'")
+        self.send_header("Content-Security-Policy", POLICY)
         self.end_headers()
         self.wfile.write(body)
 

@@ -143,6 +143,31 @@ class BrokenOff(unittest.TestCase):
             site.get("a")
         self.is_over(site)
 
+    def test_a_thread_that_waits_is_told_of_the_end(self):
+        asked, told = threading.Event(), []
+
+        def script(link):
+            link.recv(1000)
+            asked.set()
+            link.recv(1000)
+
+        site = self.against(script, timeout=None)
+
+        def wait():
+            try:
+                site.get("a")
+            except tardis.Disconnected as fault:
+                told.append(str(fault))
+
+        waiting = threading.Thread(target=wait)
+        waiting.start()
+        asked.wait(5)
+        time.sleep(0.05)
+        site.disconnect()
+        waiting.join(5)
+        self.assertEqual(len(told), 1)
+        self.is_over(site)
+
     def test_what_no_site_sends(self):
         def frame(body):
             return struct.pack(">I", len(body)) + body

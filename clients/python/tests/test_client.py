@@ -298,11 +298,20 @@ class Calls(OverServers):
         self.assertEqual(one.diff(left, right), (
             tardis.Difference(b"a/1", b"one", b"other"), tardis.Difference(b"a/2", b"y", None)))
         self.assertRaises(tardis.Unknown, one.items, "1.9")
-        watch = one.watch(every=0.01)
-        timer = threading.Timer(0.1, lambda: (other.begin(), other.put("late", "1"), other.commit()))
-        timer.start()
-        self.assertEqual(next(watch), tardis.State(StateId(1, 4), (right,), (tardis.Write(b"late", b"1"),)))
-        timer.join()
+        # it tells what comes from its first look on, so there is news until it has told some
+        seen = threading.Event()
+
+        def write():
+            while not seen.wait(0.05):
+                with other.transaction(at="any") as txn:
+                    txn.put("late", "1")
+
+        writing = threading.Thread(target=write)
+        writing.start()
+        state = next(one.watch(every=0.01))
+        seen.set()
+        writing.join()
+        self.assertEqual((state.writes, len(state.parents)), ((tardis.Write(b"late", b"1"),), 1))
 
     def test_a_hundred_thousand_puts_in_one_pipeline(self):
         self.serve()
@@ -445,10 +454,11 @@ class Calls(OverServers):
                         return state
 
                 watching = asyncio.ensure_future(first())
-                await asyncio.sleep(0.05)
-                async with other.transaction(at="any") as txn:
-                    await txn.put("late", "1")
-                self.assertEqual((await watching).id, txn.committed)
+                while not watching.done():
+                    async with other.transaction(at="any") as txn:
+                        await txn.put("late", "1")
+                    await asyncio.sleep(0.05)
+                self.assertEqual((await watching).keys, (b"late",))
                 self.assertEqual(len(await one.history()), (await one.stat()).kept)
                 with self.assertRaises(tardis.NoTxn):
                     await one.commit()

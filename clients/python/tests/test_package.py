@@ -26,10 +26,12 @@ class Package(unittest.TestCase):
         told = run(python, "-m", "pip", "install", "--no-index", "--no-cache-dir", "--disable-pip-version-check", CLIENT, cwd=folder)
         self.assertEqual(told.returncode, 0, told.stdout.decode())
         told = run(python, "-c", "import tardis, tardis.aio; print(tardis.__file__, tardis.__version__)", cwd=folder)
-        self.assertIn(folder, told.stdout.decode())
+        where, version = told.stdout.decode().split()
+        self.assertIn(folder, where)
         self.assertEqual(run(os.path.join(folder, "venv", "bin", "kumovasil"), "--help", cwd=folder).returncode, 0)
-        packed = os.path.dirname(told.stdout.decode().split()[0])
-        self.assertTrue({"py.typed", "page.html"} <= set(os.listdir(packed)))
+        self.assertTrue({"py.typed", "page.html"} <= set(os.listdir(os.path.dirname(where))))
+        listed = run(python, "-m", "pip", "list", "--disable-pip-version-check", cwd=folder).stdout.decode().split("\n")
+        self.assertIn(["kumovasil", version], [line.split() for line in listed])
 
     def test_types(self):
         if shutil.which("mypy") is None:

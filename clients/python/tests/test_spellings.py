@@ -99,17 +99,26 @@ class Spellings(unittest.TestCase):
                 self.assertEqual(request_of(words.split(" ")).body.hex(), body, line)
         self.assertGreater(count, 25)
 
-    def test_requests_are_spelled_as_the_frames_of_readme(self):
-        """The frames of a session, each with what it says in the session of lines."""
-        rows = [cells(line) for line in lines("docs/FORMATS.md") if re.match(r"\| `0000", line)]
-        asked = ["open", "begin any", "put x 1", "commit ser", "begin any", "get x"]
-        told = [tardis.Opened(tardis.ROOT), tardis.Begun(tardis.ROOT), tardis.Done(), tardis.Committed(StateId(1, 1), (tardis.ROOT,)),
-                tardis.Begun(StateId(1, 1)), tardis.Value(StateId(1, 1), b"1")]
-        self.assertEqual(len(rows), len(asked))
-        for row, words, reply in zip(rows, asked, told):
-            body = b"\x00\x01" + request_of(words.split()).body
-            self.assertEqual(unhexed(row[0]), requests.frame(body))
-            self.assertEqual(read_reply(unhexed(row[2])[4:]), reply)
+    def test_the_frames_of_the_sessions(self):
+        """The frames of the two sessions of FORMATS: each request as its words are spelled, and each reply as it is read."""
+        text = lines("docs/FORMATS.md")
+        for title, asked, last in [
+                ("## A session", ["open", "begin any", "put x 1", "commit ser", "begin any", "get x"], tardis.Value(StateId(1, 1), b"1")),
+                ("## A cart that forks, and is merged", [
+                    "open", "open", "begin any", "put cart tea", "commit ser", "begin any", "begin any", "get cart", "get cart",
+                    "put cart tea,milk", "put cart tea,jam", "commit ser", "commit ser", "merge leaves", "forks", "conflicts", "commit -",
+                    "getfor cart 1.2", "getfor cart 1.3", "put cart tea,milk,jam", "commit -", "begin any", "get cart"],
+                 tardis.Value(StateId(1, 4), b"tea,milk,jam"))]:
+            rest = text[text.index(title) + 1:]
+            rest = rest[:next(place for place, line in enumerate(rest) if line.startswith("## "))]
+            rows = [cells(line) for line in rest if re.match(r"\| `0000", line)]
+            self.assertEqual(len(rows), len(asked))
+            for row, words in zip(rows, asked):
+                frame, told = unhexed(row[0]), unhexed(row[2])
+                # behind the length stands the actor, which a connection leaves out
+                self.assertEqual((len(frame) - 4, frame[6:]), (int.from_bytes(frame[:4], "big"), request_of(words.split()).body), row)
+                reply = read_reply(told[4:])
+            self.assertEqual(reply, last)
 
     def test_each_request_of_formats_is_spelled(self):
         """Every code of the table of requests, as some call spells it."""

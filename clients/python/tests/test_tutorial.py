@@ -14,6 +14,7 @@ import shutil
 import subprocess
 import sys
 import tempfile
+import textwrap
 import time
 import unittest
 
@@ -121,6 +122,30 @@ class Tutorial(unittest.TestCase):
             if "--svg" in step.source[0]:
                 with open(os.path.join(runner.folder, "history.svg"), encoding="utf-8") as drawn, open(PICTURE, encoding="utf-8") as kept:
                     self.assertEqual(drawn.read(), kept.read())
+
+
+class Clients(unittest.TestCase):
+    def test_the_first_program_of_the_page(self):
+        """The program that `docs/CLIENTS.md` begins with, its resolver, and the drawing that it shows."""
+        if not is_built(TARDISD):
+            raise unittest.SkipTest("tardisd isn't built")
+        with open(os.path.join(TOP, "docs", "CLIENTS.md"), encoding="utf-8") as file:
+            blocks = [textwrap.dedent(block) for block in re.findall(r"(?:^(?:    .*)?\n)+", file.read(), re.MULTILINE) if block.strip()]
+        program, = [block for block in blocks if block.strip().startswith("import tardis")]
+        resolver, = [block for block in blocks if block.strip().startswith("def words(")]
+        drawing, = [block for block in blocks if block.strip().startswith("●")]
+        runner = Runner()
+        self.addCleanup(runner.close)
+        os.mkdir(runner.folder)
+        runner.command("./tardisd --listen unix:/tmp/tutorial/carts &")
+        told = io.StringIO()
+        with contextlib.redirect_stdout(told):
+            exec(program.replace("/tmp/carts", runner.folder + "/carts"), runner.console.locals)
+        self.assertEqual(told.getvalue().split("\n")[-2], "b'jam,milk,tea'")
+        self.assertEqual(runner.command("PYTHONPATH=clients/python python3 -m tardis graph unix:/tmp/tutorial/carts").strip(), drawing.strip())
+        exec(resolver, runner.console.locals)
+        words = runner.console.locals["words"]
+        self.assertEqual((words(b"k", None, {1: b"a b", 2: None}), words(b"k", None, {1: None, 2: None})), (b"a b", None))
 
 
 def write():
