@@ -9,7 +9,8 @@ fn entries_are_read_back(rt: HostRuntime) {
     for item in items {
         put_entry(&mut log, item).expect(&rt, "room");
     }
-    assert!(rt; log.as_slice() == b"\xf7abc\xf7\xf5\xf6\x01\xf6\x02\xf6\x03\xf8\xf7z\xf7");
+    let text: &[u8] = b"\xf7abc\xf7\xf5\xf6\x01\xf6\x02\xf6\x03\xf8\xf7z\xf7";
+    assert!(rt; log.as_slice() == text);
     let mut rest = log.as_slice();
     let mut item = Vec::new(rt.alloc());
     for wanted in items {
