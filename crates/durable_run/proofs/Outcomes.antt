@@ -47,7 +47,7 @@ answers_all Cut first bodies held left c e all rest d =
     let behind : held ++ left ≡ held = ap (λ z. held ++ z) e.2 ∙ append-nil held in
     let both = all_of first bodies all (held ++ left) rest c (subst IsEnd (sym behind) (inl e.1)) d in
     let is : rest ≡ held = sym both.1 ∙ behind in
-    (both.0, (λ z. e.0 (sym is ∙ z)), subst IsPartial (sym is) e.1)
+    (both.0, ((λ z. e.0 (sym is ∙ z)), subst IsPartial (sym is) e.1))
 answers_all (LongFrame len) first bodies held left c e all rest d =
     let long : IsLong (held ++ left) len = long_more held left len e.0 in
     let both = all_of first bodies all (held ++ left) rest c (inr (len, long)) d in
@@ -82,7 +82,7 @@ pub ends_as : {S : Type 0} (status : Status) (from : S → Type 0) (P : S → Li
     Outcome (as_in_midst status) from P first left → (status ≡ ReadFault → ⊥) → (status ≡ WriteFault → ⊥) → (status ≡ DiskFault → ⊥)
     → (all : List (List ℕ)) (rest : List ℕ) → IsCut first all rest → length first < most_taken → EndsAs rest status
 ends_as Ok from P first left o r w k all rest d few = (o.whole all rest d).1
-ends_as Cut from P first left o r w k all rest d few = let e = o.whole all rest d in (e.1, e.2)
+ends_as Cut from P first left o r w k all rest d few = (o.whole all rest d).1
 ends_as (LongFrame len) from P first left o r w k all rest d few = (o.whole all rest d).1
 ends_as NoMemory from P first left o r w k all rest d few = tt
 ends_as ReadFault from P first left o r w k all rest d few = absurd (r refl)
