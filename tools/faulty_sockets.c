@@ -1,6 +1,6 @@
 /* Laid before a program's calls of the system, lets its sockets take and bring connections badly. With SHORT_WRITES in the
    environment each write of more bytes than one to a socket takes half of them. With REFUSED_ACCEPT=N the N-th connection
-   that is to be accepted, counted from 1, is refused. `test_faulty_sockets.py` builds and uses it. */
+   that is to be accepted, counted from 1, is refused. `test_faults.py` builds and uses it. */
 
 #define _GNU_SOURCE
 #include <dlfcn.h>

@@ -26,6 +26,8 @@ STAT = b"\x10"
 FUTEX = {"x86_64": "202", "aarch64": "98"}.get(os.uname().machine)
 # So many sessions ask at once, each so many requests.
 BUSY, REQUESTS = 8, 30_000
+# So long is the frame of a reply to Stat: one site, its length word with it.
+REPLY = 38
 
 
 def built(folder):
@@ -76,7 +78,7 @@ def keep_busy(address, faults):
             sender = threading.Thread(target=link.sendall, args=(asks,), daemon=True)
             sender.start()
             count, more = 0, b"."
-            while more and count < 4 * REQUESTS:
+            while more and count < REPLY * REQUESTS:
                 more = link.recv(1 << 16)
                 count += len(more)
             sender.join(PATIENCE)
