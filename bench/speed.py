@@ -4,8 +4,9 @@
 usage: bench/speed.py PROGRAM [SHAPE ..]
 
 Each shape is a file of request frames (docs/FORMATS.md), read from a file, its replies given to /dev/null. The least
-of three runs counts. A line tells the shape, its requests, the seconds above an empty run, requests a second, and the
-memory that was held at most. Where a shape has a part that is asked for, as a merge at the end of a long history, that
+of three runs counts, and of up to ten where they are short. A line tells the shape, its requests, the seconds above an empty
+run, by the clock and of a processor, which others disturb less, requests a second by the clock, and the memory that was held
+at most. Where a shape has a part that is asked for, as a merge at the end of a long history, that
 part is what the run costs above the same history without it.
 """
 
@@ -255,21 +256,23 @@ SHAPES = {
 }
 
 
-def least_of_three(program, path):
-    """The least time of three runs, and the memory that was held at most."""
-    times, memory = [], 0
-    for _ in range(3):
+def least(program, path):
+    """The least times, by the clock and of a processor, and the memory that was held at most, of three runs, and of up to ten
+    while all together take less than a second."""
+    clock, processor, memory = [], [], 0
+    while len(clock) < 3 or (len(clock) < 10 and sum(clock) < 1):
         with open(path, "rb") as requests, open(os.devnull, "wb") as replies:
             start = time.perf_counter()
             child = subprocess.Popen([program, "run"], stdin=requests, stdout=replies)
             _, status, usage = os.wait4(child.pid, 0)
-            times.append(time.perf_counter() - start)
+            clock.append(time.perf_counter() - start)
+            processor.append(usage.ru_utime + usage.ru_stime)
             memory = max(memory, usage.ru_maxrss)
         if status != 0:
             sys.exit("%s ended with status %d" % (program, status >> 8))
-        if times[-1] > 10:
+        if clock[-1] > 10:
             break
-    return min(times), memory
+    return min(clock), min(processor), memory
 
 
 def measured(program, folder, frames):
@@ -279,7 +282,7 @@ def measured(program, folder, frames):
         for one in frames:
             requests.write(one)
             count += 1
-    return (count, *least_of_three(program, path))
+    return (count, *least(program, path))
 
 
 def main():
@@ -287,21 +290,21 @@ def main():
         sys.exit(__doc__)
     program, wanted = sys.argv[1], sys.argv[2:]
     with tempfile.TemporaryDirectory() as folder:
-        _, empty, _ = measured(program, folder, [])
-        print("an empty run: %.4f s" % empty)
+        _, empty, idle, _ = measured(program, folder, [])
+        print("an empty run: %.4f s, %.4f s of a processor" % (empty, idle))
         for name, parts in SHAPES.items():
             if wanted and not any(name.startswith(word) for word in wanted):
                 continue
-            count, seconds, memory = measured(program, folder, parts[0])
+            count, seconds, processor, memory = measured(program, folder, parts[0])
+            told = "%.1f MB" % (memory / 1024)
+            base, without, fewer = empty, idle, 0
             if len(parts) == 2:
-                fewer, base, least = measured(program, folder, parts[1])
-                print(
-                    "%-32s %8d requests more %9.4f s more %10.0f a second %7.1f MB (%.1f MB without)"
-                    % (name, count - fewer, seconds - base, (count - fewer) / max(seconds - base, 1e-9), memory / 1024, least / 1024)
-                )
-            else:
-                net = max(seconds - empty, 1e-9)
-                print("%-32s %8d requests      %9.4f s      %10.0f a second %7.1f MB" % (name, count, net, count / net, memory / 1024))
+                fewer, base, without, held = measured(program, folder, parts[1])
+                told += " (%.1f MB without)" % (held / 1024)
+            net = seconds - base
+            print(
+                "%-32s %8d requests%s %9.4f s %9.4f s of a processor %10.0f a second   %s"
+                % (name, count - fewer, " more" if fewer else "     ", net, processor - without, (count - fewer) / max(net, 1e-9), told), flush=True)
 
 
 if __name__ == "__main__":
