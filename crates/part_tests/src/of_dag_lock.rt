@@ -237,3 +237,36 @@ fn a_trail_fills_up_while_two_actors_ask(rt: HostRuntime) {
     assert_eq!(rt; both_counted(&rt, rt.alloc(), &trail), 50);
     drop(trail);
 }
+
+/// Asks for both by actor 1, under a lock of a trail of ten bytes at most: how each was answered, and the trail.
+fn ask_both<R: Wait + Abort>(
+    rt: &R,
+    alloc: Global,
+    first: &[u8],
+    second: &[u8],
+) -> (Acted, Acted, Trailed<Counter>) {
+    let (lock, pass) = locked(rt, alloc, 10, 1);
+    let mut out = ReplyBuf::new(alloc).expect(rt, "room");
+    let (pass, one) = ask(rt, &lock, pass, 1, first, &mut out);
+    let (pass, other) = ask(rt, &lock, pass, 1, second, &mut out);
+    drop(out);
+    (one, other, closed(lock, pass))
+}
+
+/// Whether this is written of the trail.
+fn is_written(rt: &impl Abort, alloc: Global, trail: &Trailed<Counter>, entries: &[u8]) -> bool {
+    let bytes = written(rt, alloc, trail);
+    let is_so = bytes.as_slice() == entries;
+    drop(bytes);
+    is_so
+}
+
+/// A session opens, and has no room to begin.
+#[test]
+fn a_trail_of_ten_bytes_has_room_for_one_request(rt: HostRuntime) {
+    let (one, other, trail) = ask_both(&rt, rt.alloc(), b"\x01\0", b"\x02\0");
+    assert!(rt; one == Acted::Done);
+    assert!(rt; other == Acted::TrailFull { bytes: 8 });
+    assert!(rt; is_written(&rt, rt.alloc(), &trail, b"\0\0\0\x04\0\x01\x01\0"));
+    drop(trail);
+}

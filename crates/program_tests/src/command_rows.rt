@@ -71,6 +71,20 @@ refused malformed
 states 2 1.1 1.2
 ";
 
+/// Lines at site 1 of 2: its counts, two spaces in a row, an empty value, and a value that isn't spelled as it should be.
+pub const ODD_LINES: &[u8] = b"0 stat
+1  open
+1 put k #
+1 put k #31
+";
+
+/// The lines that answer them.
+pub const ODD_ANSWERS: &[u8] = b"stat known 1 kept 1 leaves 1 sessions 0 sites 2 0:0.0:0 0:0.0:0
+refused malformed
+refused notopen
+refused malformed
+";
+
 /// Two clients fork a set, and one has the leaves merged.
 pub const AUTO: &[u8] = b"1 open
 2 open

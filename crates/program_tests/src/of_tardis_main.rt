@@ -1,6 +1,6 @@
 use crate::command_rows::{
-    AUTO, CARRIED_OUT, CUT, EMPTY_EXPORT, EXPORT, FORK, FORKED, LOADED, LONG, MERGED, OPENED,
-    REPLIES, REPLIES_OF_2, SCRIPT, SESSION, TOLD, WORLD, WORLD_REPLIES,
+    AUTO, CARRIED_OUT, CUT, EMPTY_EXPORT, EXPORT, FORK, FORKED, LOADED, LONG, MERGED, ODD_ANSWERS,
+    ODD_LINES, OPENED, REPLIES, REPLIES_OF_2, SCRIPT, SESSION, TOLD, WORLD, WORLD_REPLIES,
 };
 use crate::programs::{comes_to, run_failing, run_line};
 use std::alloc::Global;
@@ -24,13 +24,14 @@ const GONE: Status = Status::NoState {
     },
 };
 
-const ROWS: [Row; 18] = [
+const ROWS: [Row; 19] = [
     ("run", SESSION, Status::Ok, REPLIES),
     ("run", b"", Status::Ok, b""),
     ("run --site 2 --sites 3", SESSION, Status::Ok, REPLIES_OF_2),
     ("run", CUT, Status::Cut, OPENED),
     ("run", LONG, LONG_FRAME, OPENED),
     ("shell", FORK, Status::Ok, FORKED),
+    ("shell --sites 2", ODD_LINES, Status::Ok, ODD_ANSWERS),
     ("audit", SESSION, Status::Ok, TOLD),
     ("auto --rules cart=set", AUTO, Status::Ok, MERGED),
     ("export --at 1.1", SESSION, Status::Ok, EXPORT),
@@ -127,31 +128,105 @@ fn the_help_tells_each_command(rt: HostRuntime) {
     check_help(&rt, USAGE, &COMMANDS);
 }
 
-/// Whether these are a front of the session's replies.
-fn is_front(written: &[u8]) -> bool {
-    REPLIES.starts_with(written)
-}
-
-/// Whether `run` over the session ends so, having written a front of its replies, where these calls fail.
-fn cuts_replies<R: RandomSource + Abort + Threads + Wait + Sync>(
+/// Whether `run` over the input, in pieces of so many bytes, ends so, having written this, where these calls fail.
+fn runs_to<R: RandomSource + Abort + Threads + Wait + Sync>(
     rt: &R,
     alloc: Global,
+    input: &[u8],
+    piece: u32,
     takes: &[u64],
     gives: &[u64],
     status: Status,
+    output: &[u8],
 ) -> bool {
-    let ran = run_failing(rt, alloc, "run", SESSION, takes, gives);
-    let is_right = ran.status == status && is_front(ran.written.as_slice());
-    drop(ran);
-    is_right
+    let ran = run_failing(rt, alloc, "run", input, piece, takes, gives);
+    comes_to(ran, status, output)
+}
+
+/// An input that comes byte by byte, the takes and gives that fail, how the run ends, and what it writes.
+type Bytewise = (
+    &'static [u8],
+    &'static [u64],
+    &'static [u64],
+    Status,
+    &'static [u8],
+);
+
+const BYTEWISE: [Bytewise; 5] = [
+    (SESSION, &[], &[], Status::Ok, REPLIES),
+    (CUT, &[], &[], Status::Cut, OPENED),
+    (LONG, &[], &[], LONG_FRAME, OPENED),
+    (SESSION, &[3], &[], Status::ReadFault, b""),
+    (SESSION, &[], &[2], Status::WriteFault, b"\0"),
+];
+
+#[test]
+fn bytes_may_come_one_by_one(rt: HostRuntime) {
+    for (input, takes, gives, status, output) in BYTEWISE {
+        assert!(rt; runs_to(&rt, rt.alloc(), input, 1, takes, gives, status, output));
+    }
+}
+
+/// The first so many bytes of the session's replies.
+fn front(length: usize) -> &'static [u8] {
+    &REPLIES[..length.min(REPLIES.len())]
+}
+
+/// Of the replies to the session, how many bytes are written before each take: those to all frames in 0, 9, 18 and so on of
+/// its 55 bytes.
+const BEFORE_TAKES: [usize; 8] = [0, 11, 22, 22, 27, 45, 56, 70];
+
+/// How many bytes are written before each give: those of whole replies, and 9 of one that has more.
+const BEFORE_GIVES: [usize; 11] = [0, 9, 11, 20, 22, 27, 36, 45, 54, 56, 65];
+
+/// Whether the session's replies are cut to so many bytes where this take fails.
+fn take_cuts<R: RandomSource + Abort + Threads + Wait + Sync>(
+    rt: &R,
+    alloc: Global,
+    take: u64,
+    written: usize,
+) -> bool {
+    let output = front(written);
+    runs_to(
+        rt,
+        alloc,
+        SESSION,
+        9,
+        &[take],
+        &[],
+        Status::ReadFault,
+        output,
+    )
+}
+
+/// Whether they are where this give fails.
+fn give_cuts<R: RandomSource + Abort + Threads + Wait + Sync>(
+    rt: &R,
+    alloc: Global,
+    give: u64,
+    written: usize,
+) -> bool {
+    let output = front(written);
+    runs_to(
+        rt,
+        alloc,
+        SESSION,
+        9,
+        &[],
+        &[give],
+        Status::WriteFault,
+        output,
+    )
 }
 
 #[test]
 fn a_call_that_fails_cuts_the_replies(rt: HostRuntime) {
-    for call in 1..=7 {
-        let read = cuts_replies(&rt, rt.alloc(), &[call], &[], Status::ReadFault);
-        assert!(rt; read, "take {call}");
-        let wrote = cuts_replies(&rt, rt.alloc(), &[], &[call], Status::WriteFault);
-        assert!(rt; wrote, "give {call}");
+    for (place, written) in BEFORE_TAKES.iter().enumerate() {
+        let take = (place as u64).saturating_add(1);
+        assert!(rt; take_cuts(&rt, rt.alloc(), take, *written), "take {take}");
+    }
+    for (place, written) in BEFORE_GIVES.iter().enumerate() {
+        let give = (place as u64).saturating_add(1);
+        assert!(rt; give_cuts(&rt, rt.alloc(), give, *written), "give {give}");
     }
 }

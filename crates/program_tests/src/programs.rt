@@ -103,26 +103,28 @@ fn status_of<R: RandomSource + Abort + Threads + Wait + Sync>(
     status
 }
 
-/// What it comes to over this input, in pieces of 9 bytes, where these takes of the input and these gives of the output fail.
+/// What it comes to over this input, where a take or a give moves at most so many bytes, and these takes of the input and
+/// gives of the output fail.
 pub(crate) fn run_failing<R: RandomSource + Abort + Threads + Wait + Sync>(
     rt: &R,
     alloc: Global,
     line: &str,
     input: &[u8],
+    piece: u32,
     takes: &[u64],
     gives: &[u64],
 ) -> Ran {
-    let mut streams = streams_over(rt, alloc, input, 9, takes, gives);
+    let mut streams = streams_over(rt, alloc, input, piece, takes, gives);
     let status = status_of(rt, alloc, line, &mut streams);
     ended(rt, alloc, status, streams)
 }
 
-/// The same where no call fails.
+/// The same in pieces of 9 bytes, where no call fails.
 pub(crate) fn run_line<R: RandomSource + Abort + Threads + Wait + Sync>(
     rt: &R,
     alloc: Global,
     line: &str,
     input: &[u8],
 ) -> Ran {
-    run_failing(rt, alloc, line, input, &[], &[])
+    run_failing(rt, alloc, line, input, 9, &[], &[])
 }
