@@ -17,6 +17,10 @@ mod floor_rows;
 #[cfg(test)]
 mod journal_rows;
 #[cfg(test)]
+mod lines;
+#[cfg(test)]
+mod locks;
+#[cfg(test)]
 mod merge_rows;
 #[cfg(test)]
 mod of_auto_run;
@@ -37,7 +41,13 @@ mod of_load_run;
 #[cfg(test)]
 mod of_merges;
 #[cfg(test)]
+mod of_session_serve;
+#[cfg(test)]
+mod of_site_commands;
+#[cfg(test)]
 mod of_site_journal;
+#[cfg(test)]
+mod of_site_sync;
 #[cfg(test)]
 mod of_steps;
 #[cfg(test)]

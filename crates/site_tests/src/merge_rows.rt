@@ -22,19 +22,19 @@ pub const WIDE_SECOND: &str = "\
 
 /// A merge that has written nothing.
 pub const WIDE_OPEN: &str = "\
-1 06000000 150e020000 commit => refused openconflict #0000";
+1 06000000 150e020000 commit - => refused openconflict #0000";
 
 /// The first states are joined, and the second state of one branch is taken in.
 pub const STEP_ONE: &str = "\
-1 06000000                     0800010000000502000100000001000100000002 commit => committed 1.5 from 1.1 1.2
+1 06000000                     0800010000000502000100000001000100000002 commit - => committed 1.5 from 1.1 1.2
 1 0802000100000003000100000005 0302000100000003000100000005             merge 1.3 1.5 => merging 1.3 1.5
 1 0a00                         0b000000000000                           conflicts => keys 0
-1 06000000                     0800010000000602000100000003000100000005 commit => committed 1.6 from 1.3 1.5
+1 06000000                     0800010000000602000100000003000100000005 commit - => committed 1.6 from 1.3 1.5
 1 0802000100000006000100000004 0302000100000004000100000006             merge 1.6 1.4 => merging 1.4 1.6";
 
 /// The second state of the other branch is taken in.
 pub const STEP_TWO: &str = "\
-1 06000000 0800010000000702000100000004000100000006 commit => committed 1.7 from 1.4 1.6
+1 06000000 0800010000000702000100000004000100000006 commit - => committed 1.7 from 1.4 1.6
 0 12       0a000000010001000100000007               leaves => states 1 1.7";
 
 /// The cart of the README: two devices change it at once, and a merge joins both changes.
@@ -55,11 +55,11 @@ pub const CART: &str = "\
 1 0800                                     0302000100000002000100000003               merge leaves => merging 1.2 1.3
 1 09                                       0a000000010001000100000001                 forks => states 1 1.1
 1 0a00                                     0b0000000100010463617274                   conflicts => keys 1 cart
-1 06000000                                 150e0463617274                             commit => refused openconflict cart
+1 06000000                                 150e0463617274                             commit - => refused openconflict cart
 1 0b0463617274000100000002                 0400010000000200087465612c6d696c6b         getfor cart 1.2 => value 1.2 tea,milk
 1 0b0463617274000100000003                 0400010000000300077465612c6a616d           getfor cart 1.3 => value 1.3 tea,jam
 1 040463617274000c7465612c6d696c6b2c6a616d 07                                         put cart tea,milk,jam => done
-1 06000000                                 0800010000000402000100000002000100000003   commit => committed 1.4 from 1.2 1.3
+1 06000000                                 0800010000000402000100000002000100000003   commit - => committed 1.4 from 1.2 1.3
 2 0200                                     02000100000004                             begin any => begun 1.4
 2 030463617274                             04000100000004000c7465612c6d696c6b2c6a616d get cart => value 1.4 tea,milk,jam";
 
@@ -84,7 +84,7 @@ pub const JOINED: &str = "\
 1 09                 0a000000010001000000000000               forks => states 1 0.0
 1 0a00               0b0000000100010178                       conflicts => keys 1 x
 1 0a0178             0b000000000000                           conflicts x => keys 0
-1 06000000           150e0178                                 commit => refused openconflict x
+1 06000000           150e0178                                 commit - => refused openconflict x
 1 06010000           1507                                     commit ser => refused wrongmode
 1 030178             150d0178                                 get x => refused conflictkey x
 1 030179             04000100000002000135                     get y => value 1.2 5
@@ -96,7 +96,7 @@ pub const JOINED: &str = "\
 1 030178             04000000000000000133                     get x => value 0.0 3
 1 0a00               0b0000000100010178                       conflicts => keys 1 x
 1 0b0178000100000001 04000100000001000131                     getfor x 1.1 => value 1.1 1
-1 06000000           0800010000000302000100000001000100000002 commit => committed 1.3 from 1.1 1.2
+1 06000000           0800010000000302000100000001000100000002 commit - => committed 1.3 from 1.1 1.2
 1 0200               02000100000003                           begin any => begun 1.3
 1 030178             04000100000003000133                     get x => value 1.3 3
 1 030179             04000100000002000135                     get y => value 1.2 5
@@ -112,7 +112,7 @@ pub const APART: &str = "\
 1 0802000100000003000100000003 150b000100000003000100000003 merge 1.3 1.3 => refused comparable 1.3 1.3
 1 0802000100000001000500000001 1509000500000001             merge 1.1 5.1 => refused unknown 5.1
 1 0802000100000002000100000001 0302000100000001000100000002 merge 1.2 1.1 => merging 1.1 1.2
-1 050178                       07                           delete x => done
+1 050178                       07                           del x => done
 1 030178                       05000000000000               get x => deleted 0.0
 1 07                           07                           abort => done
 3 0800                         1502                         merge leaves => refused notopen
@@ -131,8 +131,8 @@ pub const MERGED_TWICE: &str = "\
 2 0802000100000002000100000001 0302000100000001000100000002             merge 1.2 1.1 => merging 1.1 1.2
 1 040178000133                 07                                       put x 3 => done
 2 040178000134                 07                                       put x 4 => done
-1 06000000                     0800010000000302000100000001000100000002 commit => committed 1.3 from 1.1 1.2
-2 06000000                     0800010000000402000100000001000100000002 commit => committed 1.4 from 1.1 1.2
+1 06000000                     0800010000000302000100000001000100000002 commit - => committed 1.3 from 1.1 1.2
+2 06000000                     0800010000000402000100000001000100000002 commit - => committed 1.4 from 1.1 1.2
 1 0800                         0302000100000003000100000004             merge leaves => merging 1.3 1.4
 1 09                           0a000000020002000100000001000100000002   forks => states 2 1.1 1.2
 1 0a00                         0b0000000100010178                       conflicts => keys 1 x
@@ -157,7 +157,7 @@ pub const PAST_MERGES: &str = "\
 2 030178           06                                       get x => absent
 2 04017a000131     07                                       put z 1 => done
 1 0800             0302000100000001000100000002             merge leaves => merging 1.1 1.2
-1 06000000         0800010000000302000100000001000100000002 commit => committed 1.3 from 1.1 1.2
+1 06000000         0800010000000302000100000001000100000002 commit - => committed 1.3 from 1.1 1.2
 2 06010000         0800010000000401000100000001             commit ser => committed 1.4 from 1.1
 2 0203000100000001 02000100000001                           begin at 1.1 => begun 1.1
 2 030162           06                                       get b => absent
@@ -168,7 +168,7 @@ pub const PAST_MERGES: &str = "\
 pub const ONE_STATE: &str = "\
 1 0800               0302000100000001000100000002             merge leaves => merging 1.1 1.2
 1 040178000133       07                                       put x 3 => done
-1 06000000           0800010000000302000100000001000100000002 commit => committed 1.3 from 1.1 1.2
+1 06000000           0800010000000302000100000001000100000002 commit - => committed 1.3 from 1.1 1.2
 1 0800               0301000100000003                         merge leaves => merging 1.3
 1 09                 0a000000010001000100000003               forks => states 1 1.3
 1 0a00               0b000000000000                           conflicts => keys 0
@@ -176,11 +176,11 @@ pub const ONE_STATE: &str = "\
 1 0b0179000100000002 150c000100000002                         getfor y 1.2 => refused notread 1.2
 1 030178             04000100000003000133                     get x => value 1.3 3
 1 06010000           1507                                     commit ser => refused wrongmode
-1 06000000           0800010000000401000100000003             commit => committed 1.4 from 1.3
+1 06000000           0800010000000401000100000003             commit - => committed 1.4 from 1.3
 1 0801000100000003   0301000100000003                         merge 1.3 => merging 1.3
 1 040178000134       07                                       put x 4 => done
 1 0b0178000100000003 04000100000003000133                     getfor x 1.3 => value 1.3 3
-1 06000000           0800010000000501000100000003             commit => committed 1.5 from 1.3
+1 06000000           0800010000000501000100000003             commit - => committed 1.5 from 1.3
 0 12                 0a000000020002000100000004000100000005   leaves => states 2 1.4 1.5";
 
 /// Nine branches are too many for one merge, and eight aren't.
@@ -238,5 +238,5 @@ pub const NINE_LEAVES: &str = "\
 1 0a00         0b0000000100010178                     conflicts => keys 1 x
 1 040178000132 07                                     put x 2 => done
 1 06000000     0800010000000a0800010000000100010000000200010000000300010000000400010000000500010000000600010000000700010000\
-    0008 commit => committed 1.10 from 1.1 1.2 1.3 1.4 1.5 1.6 1.7 1.8
+    0008 commit - => committed 1.10 from 1.1 1.2 1.3 1.4 1.5 1.6 1.7 1.8
 0 12           0a00000002000200010000000900010000000a leaves => states 2 1.9 1.10";

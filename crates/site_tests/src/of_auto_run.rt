@@ -4,8 +4,8 @@ use crate::auto_rows::{
     BOTH_BEGIN, BOTH_COMMIT, BOTH_GO_ON, FORK, LETTERS, MERGED, MERGED_TWICE, MORE_ARE_WIDE,
     MOST_ARE_MERGED, NO_AUTO_LINES, SHOP, SHOPPING,
 };
+use crate::lines::Lines;
 use crate::sites::{LIMITS, an_input, an_output, keys};
-use crate::talks::put;
 use auto_run::auto;
 use rule_list::{RuleList, read_rules};
 use std::alloc::Global;
@@ -13,56 +13,28 @@ use std::hash::RandomState;
 use std::process::Abort;
 use tardis_io::{MemorySink, MemorySource, Status};
 
-/// Lines that are asked, and those that are to answer them.
-#[derive(Drop)]
-struct Talk {
-    asked: Vec<u8>,
-    told: Vec<u8>,
+/// The lines of these tables.
+fn lines_of(rt: &impl Abort, alloc: Global, tables: &[&str]) -> Lines {
+    let mut lines = Lines::new(alloc);
+    for table in tables {
+        lines.note_all(rt, table);
+    }
+    lines
 }
 
-impl Talk {
-    /// The lines of these tables.
-    fn of(rt: &impl Abort, alloc: Global, tables: &[&str]) -> Talk {
-        let mut talk = Talk {
-            asked: Vec::new(alloc),
-            told: Vec::new(alloc),
-        };
-        for table in tables {
-            talk.note_all(rt, table);
-        }
-        talk
-    }
-
-    /// Puts the lines of a table behind the others.
-    fn note_all(&mut self, rt: &impl Abort, table: &str) {
-        for row in table.lines() {
-            let (line, answer) = row.split_once(" => ").expect(rt, "an arrow");
-            self.note(rt, line.as_bytes(), answer.as_bytes());
-        }
-    }
-
-    /// Puts a line behind the others, and the one that is to answer it.
-    fn note(&mut self, rt: &impl Abort, line: &[u8], answer: &[u8]) {
-        put(rt, &mut self.asked, line);
-        put(rt, &mut self.asked, b"\n");
-        put(rt, &mut self.told, answer);
-        put(rt, &mut self.told, b"\n");
-    }
-
-    /// Puts the lines behind the others in which both actors write each key of one byte from the first to the last.
-    fn write_both(&mut self, rt: &impl Abort, first: u8, last: u8) {
-        for key in first..=last {
-            self.note(
-                rt,
-                &[b'1', b' ', b'p', b'u', b't', b' ', key, b' ', b'1'],
-                b"done",
-            );
-            self.note(
-                rt,
-                &[b'2', b' ', b'p', b'u', b't', b' ', key, b' ', b'2'],
-                b"done",
-            );
-        }
+/// Puts the lines behind the others in which both actors write each key of one byte from the first to the last.
+fn write_both(rt: &impl Abort, lines: &mut Lines, first: u8, last: u8) {
+    for key in first..=last {
+        lines.note(
+            rt,
+            &[b'1', b' ', b'p', b'u', b't', b' ', key, b' ', b'1'],
+            b"done",
+        );
+        lines.note(
+            rt,
+            &[b'2', b' ', b'p', b'u', b't', b' ', key, b' ', b'2'],
+            b"done",
+        );
     }
 }
 
@@ -86,12 +58,12 @@ fn ends(
 }
 
 /// Whether the command with these rules answers the lines so.
-fn answers(rt: &impl Abort, alloc: Global, keys: RandomState, rules: &str, talk: &Talk) -> bool {
+fn answers(rt: &impl Abort, alloc: Global, keys: RandomState, rules: &str, lines: &Lines) -> bool {
     let rules = rules_of(rt, alloc, rules);
-    let mut source = an_input(rt, alloc, talk.asked.as_slice(), 4_096, &[]);
+    let mut source = an_input(rt, alloc, lines.asked.as_slice(), 4_096, &[]);
     let mut sink = an_output(rt, alloc, 8_192, 65_536);
     let ended = ends(alloc, keys, rules, &mut source, &mut sink);
-    ended == Status::Ok && sink.bytes() == talk.told.as_slice()
+    ended == Status::Ok && sink.bytes() == lines.told.as_slice()
 }
 
 /// Whether it answers those of these tables so.
@@ -102,8 +74,8 @@ fn are_answered(
     rules: &str,
     tables: &[&str],
 ) -> bool {
-    let talk = Talk::of(rt, alloc, tables);
-    answers(rt, alloc, keys, rules, &talk)
+    let lines = lines_of(rt, alloc, tables);
+    answers(rt, alloc, keys, rules, &lines)
 }
 
 /// Rules, and the tables of lines that are asked one after the other.
@@ -122,36 +94,36 @@ fn two_leaves_are_merged_by_rules(rt: HostRuntime) {
 }
 
 /// Two branches that wrote the same 64 keys.
-fn wide(rt: &impl Abort, alloc: Global) -> Talk {
-    let mut talk = Talk::of(rt, alloc, &[BOTH_BEGIN]);
-    talk.write_both(rt, b'0', b'o');
-    talk.note_all(rt, BOTH_COMMIT);
-    talk
+fn wide(rt: &impl Abort, alloc: Global) -> Lines {
+    let mut lines = lines_of(rt, alloc, &[BOTH_BEGIN]);
+    write_both(rt, &mut lines, b'0', b'o');
+    lines.note_all(rt, BOTH_COMMIT);
+    lines
 }
 
 /// They are merged.
-fn merged(rt: &impl Abort, alloc: Global) -> Talk {
-    let mut talk = wide(rt, alloc);
-    talk.note_all(rt, MOST_ARE_MERGED);
-    talk
+fn merged(rt: &impl Abort, alloc: Global) -> Lines {
+    let mut lines = wide(rt, alloc);
+    lines.note_all(rt, MOST_ARE_MERGED);
+    lines
 }
 
 /// They write one key more, and aren't merged.
-fn wider(rt: &impl Abort, alloc: Global) -> Talk {
-    let mut talk = wide(rt, alloc);
-    talk.note_all(rt, BOTH_GO_ON);
-    talk.write_both(rt, b'p', b'p');
-    talk.note_all(rt, MORE_ARE_WIDE);
-    talk
+fn wider(rt: &impl Abort, alloc: Global) -> Lines {
+    let mut lines = wide(rt, alloc);
+    lines.note_all(rt, BOTH_GO_ON);
+    write_both(rt, &mut lines, b'p', b'p');
+    lines.note_all(rt, MORE_ARE_WIDE);
+    lines
 }
 
 #[test]
 fn at_most_64_keys_are_merged(rt: HostRuntime) {
     let keys = keys(&rt);
-    let talk = merged(&rt, rt.alloc());
-    assert!(rt; answers(&rt, rt.alloc(), keys, "=last", &talk));
-    drop(talk);
-    let talk = wider(&rt, rt.alloc());
-    assert!(rt; answers(&rt, rt.alloc(), keys, "=last", &talk));
-    drop(talk);
+    let lines = merged(&rt, rt.alloc());
+    assert!(rt; answers(&rt, rt.alloc(), keys, "=last", &lines));
+    drop(lines);
+    let lines = wider(&rt, rt.alloc());
+    assert!(rt; answers(&rt, rt.alloc(), keys, "=last", &lines));
+    drop(lines);
 }

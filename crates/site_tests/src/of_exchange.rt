@@ -10,9 +10,9 @@ use std::alloc::Global;
 use std::process::Abort;
 use tardis_base::Limits;
 
-const TWO_SITES: Limits = Limits { sites: 2, ..LIMITS };
+pub(crate) const TWO_SITES: Limits = Limits { sites: 2, ..LIMITS };
 
-const TWO_STATES: Limits = Limits {
+pub(crate) const TWO_STATES: Limits = Limits {
     sites: 2,
     max_kept: 2,
     ..LIMITS

@@ -14,12 +14,12 @@ pub(crate) const THREE_STATES: Limits = Limits {
     ..LIMITS
 };
 
-const ONE_SESSION: Limits = Limits {
+pub(crate) const ONE_SESSION: Limits = Limits {
     max_sessions: 1,
     ..LIMITS
 };
 
-const ONE_PAIR: Limits = Limits {
+pub(crate) const ONE_PAIR: Limits = Limits {
     max_path: 1,
     ..LIMITS
 };

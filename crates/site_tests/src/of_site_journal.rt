@@ -2,7 +2,7 @@
 
 ghost use Rattle.std.specs.Prelude.{◌≡◌, ◌+◌, ◌%◌, [], ◌∷◌, ℕ, false};
 
-use crate::disks::{disk_of, holds};
+use crate::disks::{crashed, disk_of, holds};
 use disk_forms::MemoryDisk;
 use disk_store::Disk;
 use site_journal::{OpenEnd, open_on};
@@ -116,3 +116,51 @@ pub(crate) const CRASHES: [u64; 20] = [
     205_891_132_094_649,
     12_157_665_459_056_928_801,
 ];
+
+/// A journal of one entry, and what a crash left of another behind it.
+const TORN: &[u8] = b"\x01\0\0\0\x04\0\x01\x01\0\x07\x05";
+
+/// Opens the torn journal over a disk whose listed call fails.
+fn open_torn(rt: &impl Abort, alloc: Global, failing: u64) -> (Opening, MemoryDisk) {
+    open(alloc, disk_of(rt, alloc, TORN, &[failing]))
+}
+
+/// Whether a crash by this choice, once it was opened so, leaves the entry.
+fn leaves_one(rt: &impl Abort, alloc: Global, failing: u64, choice: u64) -> bool {
+    let (_, disk) = open_torn(rt, alloc, failing);
+    let (opening, disk) = open(alloc, crashed(rt, disk, choice));
+    let is_one = holds(&disk, ONE);
+    drop(disk);
+    opening == Opening::Entries(1) && is_one
+}
+
+/// Whether many crashes do.
+fn crashes_leave_one(rt: &impl Abort, alloc: Global, failing: u64) -> bool {
+    for choice in CRASHES {
+        if !leaves_one(rt, alloc, failing, choice) {
+            return false;
+        }
+    }
+    true
+}
+
+/// Whether it is opened, and its disk then holds the entry and no more. Else the disk had a fault.
+fn opens_as_one(rt: &impl Abort, alloc: Global, failing: u64) -> bool {
+    let (opening, disk) = open_torn(rt, alloc, failing);
+    let is_one = holds(&disk, ONE);
+    drop(disk);
+    assert!(rt; opening == Opening::Fault || is_one);
+    opening == Opening::Entries(1)
+}
+
+/// Has each call of the disk fail in turn, until none fails.
+#[test]
+fn a_crash_in_opening_leaves_the_entry_whichever_call_failed(rt: HostRuntime) {
+    for failing in 1..100u64 {
+        assert!(rt; crashes_leave_one(&rt, rt.alloc(), failing));
+        if opens_as_one(&rt, rt.alloc(), failing) {
+            return;
+        }
+    }
+    panic!(rt; "a call fails each time")
+}

@@ -88,14 +88,21 @@ fn sites_share_a_cart(rt: HostRuntime) {
 /// A pull of a site that has no news.
 const PULL: &[u8] = b"\x01\0\x01\0\0\x13\x02\0\0\0\0\0\0\0\0";
 
-/// 1,024 batches come, and one more is refused; an Abort is answered still, and there is no item that may be carried.
+/// The statistics of a site of two, and those of a fresh one: one state is known, kept and a leaf, and no session is open.
+const STAT: &[u8] = b"\x01\0\x01\0\0\x10";
+
+const FRESH: &[u8] = b"\x0e\0\0\0\0\0\0\0\x01\0\0\0\x01\0\0\0\x01\0\0\x02\
+\0\0\0\0\0\0\0\0\0\0\0\0\0\0\0\0\0\0\0\0\0\0\0\0\0\0\0\0";
+
+/// 1,024 batches come, and one more is refused; Stat is answered as before, and there is no item that may be carried.
 fn full_bag(rt: &impl Abort, alloc: Global) -> Talk {
     let mut talk = Talk::new(alloc);
+    talk.ask(rt, STAT, FRESH);
     for _ in 0..1_024 {
         talk.ask(rt, PULL, b"\x10\0\0\0");
     }
     talk.ask(rt, PULL, b"\x15\x1d\0\0\x04\0");
-    talk.ask(rt, b"\x01\0\x01\0\0\x07", b"\x15\x02");
+    talk.ask(rt, STAT, FRESH);
     talk.ask(rt, b"\x02\0\x02\0\0\0\0\0\0\0\0", b"\x15\x1c\0\0\x04\0");
     talk
 }

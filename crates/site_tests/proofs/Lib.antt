@@ -1,0 +1,2 @@
+-- A site that opens.
+mod Opened
