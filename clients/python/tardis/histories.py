@@ -1,6 +1,6 @@
 """A site's history as objects: the states that are kept, what each wrote, and what can be worked out from that."""
 
-from typing import Container, Dict, Iterable, Iterator, List, NamedTuple, Optional, Sequence, Set, Tuple
+from typing import Container, Dict, Iterable, Iterator, List, Mapping, NamedTuple, Optional, Sequence, Set, Tuple, Union
 
 from .ids import ROOT, Bytes, StateId, prefix_bytes
 from .replies import Absent, Batch, Deleted, Read, Record, Stat, Value, Write
@@ -40,6 +40,19 @@ class Items(NamedTuple):
     @property
     def keys(self) -> Tuple[bytes, ...]:
         return tuple(key for key, _ in self.items)
+
+
+def at_or_above(states: Iterable[StateId], known: Mapping[StateId, Union[Record, State]]) -> Set[StateId]:
+    """These states and those above them, as far as their parents are known."""
+    found: Set[StateId] = set()
+    left = list(states)
+    while left:
+        id = left.pop()
+        if id not in found:
+            found.add(id)
+            state = known.get(id)
+            left.extend(state.parents if state is not None else ())
+    return found
 
 
 class Ancestry:
@@ -146,16 +159,7 @@ class Records:
 
     def above(self, *states: StateId) -> Set[StateId]:
         """The states at or above some of these, as far as they are known."""
-        found: Set[StateId] = set()
-        left = list(states)
-        while left:
-            id = left.pop()
-            if id not in found:
-                found.add(id)
-                record = self.records.get(id)
-                if record is not None:
-                    left.extend(record.parents)
-        return found
+        return at_or_above(states, self.records)
 
     def in_order(self, states: Iterable[StateId]) -> List[StateId]:
         """Those of these states whose records are known, in order of arrival; the root stands first."""
@@ -257,15 +261,7 @@ class History:
 
     def above(self, *states: StateId) -> Set[StateId]:
         """The kept states at or above some of these."""
-        found: Set[StateId] = set()
-        left = list(states)
-        while left:
-            id = left.pop()
-            if id not in found:
-                found.add(id)
-                state = self._by_id.get(id)
-                left.extend(state.parents if state is not None else ())
-        return found
+        return at_or_above(states, self._by_id)
 
     def is_above(self, one: StateId, other: StateId) -> bool:
         """Whether the one is the other, or an ancestor of it."""
