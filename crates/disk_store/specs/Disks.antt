@@ -1,5 +1,5 @@
 -- The model of a disk: what a read gives, and the images that a crash may leave.
-use Rattle.std.specs.Prelude.{◌≡◌, ◌⊎◌, ℕ, ◌+◌, ◌≤◌, List, ◌++◌, length, take, drop, max, min}
+use Rattle.std.specs.Prelude.{◌≡◌, ◌⊎◌, ℕ, ◌+◌, ◌-◌, ◌<◌, ◌≤◌, List, ◌++◌, length, take, drop, slice_index, max, min}
 
 -- the longest that a disk may be: 2^63 bytes
 abbrev pub longest_disk : ℕ
@@ -16,6 +16,15 @@ pub record Torn (place count : ℕ) (old new : List ℕ) : Type 0 where
   pub after : drop (place + count) new ≡ drop (place + count) old
   pub no_shorter : length old ≤ length new
   pub no_longer : length new ≤ max (length old) (place + count)
+
+-- What a write of these bytes at a place may make of an image while it isn't synced, where it is made bytewise: of each byte in
+-- its range the old one or the new one, the same elsewhere, and a length between the old one and the end of the range. A byte past
+-- the old end counts as 0.
+pub record Bytewise (place : ℕ) (bytes old new : List ℕ) : Type 0 where
+  pub each : (n : ℕ) → n < length new
+      → (slice_index new n ≡ slice_index old n) ⊎ ((place ≤ n) × (n < place + length bytes) × (slice_index new n ≡ slice_index bytes (n - place)))
+  pub no_shorter : length old ≤ length new
+  pub no_longer : length new ≤ max (length old) (place + length bytes)
 
 -- what a cut to a length may make of an image while it isn't synced: a front of it, of some length between
 pub record Shortened (len : ℕ) (old new : List ℕ) : Type 0 where

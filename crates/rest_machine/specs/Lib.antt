@@ -1,0 +1,2 @@
+-- What lasts of a machine's requests.
+pub mod Rests
