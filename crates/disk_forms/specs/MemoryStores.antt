@@ -1,5 +1,5 @@
 -- A store of one disk in memory.
-use Rattle.std.specs.Prelude.{◌≡◌, ℕ, List, Bool, true, false, Option, Some, None}
+use Rattle.std.specs.Prelude.{◌≡◌, ℕ, List, Bool, false, Option, Some, None}
 use Rattle.disk_store.specs.Stores.{ToldStore}
 use Rattle.disk_forms.specs.declared.memory_disks.MemoryDisk.{MemoryDisk}
 use Rattle.disk_forms.specs.declared.memory_stores.Held.{Held}
