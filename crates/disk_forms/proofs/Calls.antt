@@ -4,11 +4,11 @@ use Rattle.std.proofs.Common.{length-append, append-nil}
 use Rattle.std.proofs.lemmas.Bool.{cases_lt}
 use Rattle.std.proofs.lemmas.List.{take-append-le, drop-append-le, take_all, length-drop}
 use Rattle.disk_forms.specs.declared.histories.Kept.{Kept}
-use Rattle.disk_forms.specs.declared.histories.Kept.TheVariants.{Looked, Wrote, Tore, CutTo, MayCut, Synced}
-use Rattle.disk_store.specs.Disks.{with_bytes, Torn, Shortened, Follows, NoMore, Only, Elapses}
+use Rattle.disk_forms.specs.declared.histories.Kept.TheVariants.{Looked, Wrote, Tore, WroteBytewise, ToreBytewise, CutTo, MayCut, Synced}
+use Rattle.disk_store.specs.Disks.{with_bytes, Torn, Bytewise, Shortened, Follows, NoMore, Only, Elapses}
 use Rattle.disk_forms.specs.Memory.{Call, Known, Recorded, fresh, after, known_after, known_of, with_call, IsImage, LeftSince, used, used_of, with_written}
-use Rattle.disk_forms.specs.Memory.{Notes, IsQuiet}
-use Rattle.disk_forms.specs.MemoryLaws.{steps_last, torn_same, shortened_same, reads_is}
+use Rattle.disk_forms.specs.Memory.{Notes, NotesBytes, IsQuiet, IsWrite, with_zeros}
+use Rattle.disk_forms.specs.MemoryLaws.{steps_last, torn_same, bytewise_same, shortened_same, reads_is, zeros_none}
 
 -- a call that failed was recorded, or the record is as it was
 abbrev pub MayNote : Kept → Recorded → Recorded → Type 0
@@ -89,6 +89,8 @@ pub quiet_used : (kept : Kept) → IsQuiet kept → used kept ≡ 0
 quiet_used Looked quiet = refl
 quiet_used (Wrote place count) quiet = absurd quiet
 quiet_used (Tore place count) quiet = refl
+quiet_used (WroteBytewise place count) quiet = absurd quiet
+quiet_used (ToreBytewise place count) quiet = absurd quiet
 quiet_used (CutTo len) quiet = absurd quiet
 quiet_used (MayCut len) quiet = refl
 quiet_used Synced quiet = refl
@@ -97,9 +99,34 @@ pub quiet_reads : (s : Known) (kept : Kept) (bytes : List ℕ) → IsQuiet kept 
 quiet_reads s Looked bytes quiet = refl
 quiet_reads s (Wrote place count) bytes quiet = absurd quiet
 quiet_reads s (Tore place count) bytes quiet = refl
+quiet_reads s (WroteBytewise place count) bytes quiet = absurd quiet
+quiet_reads s (ToreBytewise place count) bytes quiet = absurd quiet
 quiet_reads s (CutTo len) bytes quiet = absurd quiet
 quiet_reads s (MayCut len) bytes quiet = refl
 quiet_reads s Synced bytes quiet = refl
+
+-- a write that was well has its bytes, and puts them over what a read gave
+pub write_used : (kept : Kept) (place count : ℕ) → IsWrite kept place count → used kept ≡ count
+write_used Looked place count is = absurd is
+write_used (Wrote at n) place count is = is.1
+write_used (Tore at n) place count is = absurd is
+write_used (WroteBytewise at n) place count is = is.1
+write_used (ToreBytewise at n) place count is = absurd is
+write_used (CutTo len) place count is = absurd is
+write_used (MayCut len) place count is = absurd is
+write_used Synced place count is = absurd is
+
+pub write_reads : (s : Known) (kept : Kept) (place : ℕ) (bytes : List ℕ) → IsWrite kept place (length bytes) → place ≤ length s.reads →
+    with_bytes s.reads place bytes ≡ (after s (kept, bytes)).reads
+write_reads s Looked place bytes is within = absurd is
+write_reads s (Wrote at n) place bytes is within = ap (λ p. with_bytes s.reads p bytes) (sym is.0)
+write_reads s (Tore at n) place bytes is within = absurd is
+write_reads s (WroteBytewise at n) place bytes is within =
+    ap (λ z. with_bytes z place bytes) (sym (zeros_none s.reads place within)) ∙ ap (λ p. with_bytes (with_zeros s.reads p) p bytes) (sym is.0)
+write_reads s (ToreBytewise at n) place bytes is within = absurd is
+write_reads s (CutTo len) place bytes is within = absurd is
+write_reads s (MayCut len) place bytes is within = absurd is
+write_reads s Synced place bytes is within = absurd is
 
 -- the same of a call that wrote nothing
 pub with_none : (calls : List Kept) (kept : Kept) (written : List ℕ) → used_of calls ≡ length written → used kept ≡ 0 →
@@ -172,6 +199,47 @@ synced old new is = λ image left. subst (λ k. IsImage k image) (known_is old n
 
 pub synced_crash : (old new : Recorded) → new ≡ with_call old Synced [] → NoMore (IsImage (known_of old)) (IsImage (known_of new))
 synced_crash old new is = λ image left. subst (IsImage (known_of old)) (sym (synced old new is image left)) (reads_is (fresh old.first) old.calls refl)
+
+-- a bytewise write
+pub wrote_bytewise_reads : (old new : Recorded) (place n : ℕ) (bytes : List ℕ) → place ≤ length (known_of old).reads →
+    new ≡ with_call old (WroteBytewise place n) bytes → (known_of new).reads ≡ with_bytes (known_of old).reads place bytes
+wrote_bytewise_reads old new place n bytes within is = ap (λ s. s.reads) (known_is old new (WroteBytewise place n) bytes is)
+    ∙ ap (λ z. with_bytes z place bytes) (zeros_none (known_of old).reads place within)
+
+pub wrote_bytewise_crash : (old new : Recorded) (place n : ℕ) (bytes : List ℕ) → new ≡ with_call old (WroteBytewise place n) bytes →
+    Follows (Bytewise place bytes) (IsImage (known_of old)) (IsImage (known_of new))
+wrote_bytewise_crash old new place n bytes is = λ image left.
+    let s = known_of old in
+    let last =
+    steps_last s.base s.pending (WroteBytewise place n, bytes) image (subst (λ k. IsImage k image) (known_is old new (WroteBytewise place n) bytes is) left) in
+    (last.0, last.1.0, last.1.1)
+
+-- one that failed was recorded with its bytes, or without, or the record is as it was
+abbrev pub MayNoteBytes : Kept → List ℕ → Recorded → Recorded → Type 0
+MayNoteBytes kept bytes old new = (new ≡ with_call old kept bytes) ⊎ MayNote Looked old new
+
+pub may_note_bytes : (kept : Kept) (bytes : List ℕ) (old new : Recorded) → NotesBytes kept bytes old new → MayNoteBytes kept bytes old new
+may_note_bytes kept bytes old new notes = elim (cases_lt (length old.calls) old.room) [
+  | inl below ↦ elim (cases_lt old.room (old.written + length bytes)) [
+    | inl over ↦ inr (may_note Looked old new (notes.without (inr over)))
+    | inr fits ↦ inl (notes.noted (below, omega (arith, fits)))
+  ]
+  | inr full ↦ inr (may_note Looked old new (notes.without (inl (omega (arith, full)))))
+]
+
+pub elapses_noted_bytes : (old new : Recorded) (kept : Kept) (bytes : List ℕ) → MayNoteBytes kept bytes old new →
+    Elapses (length old.calls) (length new.calls) (Since old) (Since new) (IsImage (known_of new))
+elapses_noted_bytes old new kept bytes (inl is) = elapses_more old new kept bytes is
+elapses_noted_bytes old new kept bytes (inr is) = elapses_noted old new Looked is
+
+pub tore_bytewise_crash : (old new : Recorded) (place n : ℕ) (bytes : List ℕ) → MayNoteBytes (ToreBytewise place n) bytes old new →
+    Follows (Bytewise place bytes) (IsImage (known_of old)) (IsImage (known_of new))
+tore_bytewise_crash old new place n bytes (inl is) = λ image left.
+    let s = known_of old in
+    let last =
+    steps_last s.base s.pending (ToreBytewise place n, bytes) image (subst (λ k. IsImage k image) (known_is old new (ToreBytewise place n) bytes is) left) in
+    (last.0, last.1.0, last.1.1)
+tore_bytewise_crash old new place n bytes (inr is) = λ image left. (image, looked_crash old new is image left, bytewise_same place bytes image)
 
 pub view_call : (first : List ℕ) (calls more : List Call) (n m room : ℕ) (kept : Kept) (bytes : List ℕ) → more ≡ calls ++ (kept, bytes) ∷ [] →
     m ≡ n + length bytes

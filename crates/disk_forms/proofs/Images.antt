@@ -3,10 +3,10 @@ use Rattle.std.proofs.Common.{◌≡◌, inl, inr, ℕ, ◌+◌, ◌≤◌, List
 use Rattle.std.proofs.Common.{length-drop}
 use Rattle.std.proofs.lemmas.List.{drop-drop}
 use Rattle.disk_forms.specs.declared.histories.Kept.{Kept}
-use Rattle.disk_forms.specs.declared.histories.Kept.TheVariants.{Looked, Wrote, Tore, CutTo, MayCut, Synced}
+use Rattle.disk_forms.specs.declared.histories.Kept.TheVariants.{Looked, Wrote, Tore, WroteBytewise, ToreBytewise, CutTo, MayCut, Synced}
 use Rattle.std.specs.Prelude.{Result, Ok, Err, IfOk, OnOk}
 use Rattle.disk_forms.specs.Memory.{Call, Known, Recorded, fresh, after, known_after, known_of, Steps, IsImage, used, used_of, with_written}
-use Rattle.disk_forms.specs.MemoryLaws.{steps_push, torn_same, shortened_same, reads_is}
+use Rattle.disk_forms.specs.MemoryLaws.{steps_push, torn_same, bytewise_same, shortened_same, reads_is}
 use Rattle.disk_forms.specs.Crashes.{IsSettled, HasNoSync, read_after, read_after_all, IsSince}
 use Rattle.disk_forms.proofs.Calls.{known_more}
 
@@ -30,6 +30,8 @@ reads_one : (s : Known) (call : Call) → read_after s.reads call ≡ (after s c
 reads_one s (Looked, bytes) = refl
 reads_one s (Wrote place count, bytes) = refl
 reads_one s (Tore place count, bytes) = refl
+reads_one s (WroteBytewise place count, bytes) = refl
+reads_one s (ToreBytewise place count, bytes) = refl
 reads_one s (CutTo len, bytes) = refl
 reads_one s (MayCut len, bytes) = refl
 reads_one s (Synced, bytes) = refl
@@ -57,6 +59,8 @@ base_stays s [] written none = refl
 base_stays s (Looked ∷ calls) written none = base_stays s calls (drop 0 written) none
 base_stays s (Wrote place count ∷ calls) written none = base_stays (after s (Wrote place count, take count written)) calls (drop count written) none
 base_stays s (Tore place count ∷ calls) written none = base_stays (after s (Tore place count, take 0 written)) calls (drop 0 written) none
+base_stays s (WroteBytewise place count ∷ calls) written none = base_stays (after s (WroteBytewise place count, take count written)) calls (drop count written) none
+base_stays s (ToreBytewise place count ∷ calls) written none = base_stays (after s (ToreBytewise place count, take count written)) calls (drop count written) none
 base_stays s (CutTo len ∷ calls) written none = base_stays (after s (CutTo len, take 0 written)) calls (drop 0 written) none
 base_stays s (MayCut len ∷ calls) written none = base_stays (after s (MayCut len, take 0 written)) calls (drop 0 written) none
 base_stays s (Synced ∷ calls) written none = absurd (none)
@@ -73,6 +77,12 @@ image_on s (Wrote place count ∷ calls) written old image none is steps =
 image_on s (Tore place count ∷ calls) written old image none is steps =
     let call : Call = (Tore place count, take 0 written) in
     image_on (after s call) calls (drop 0 written) steps.0 image none (steps_push s.base s.pending call old steps.0 is steps.1.0) steps.1.1
+image_on s (WroteBytewise place count ∷ calls) written old image none is steps =
+    let call : Call = (WroteBytewise place count, take count written) in
+    image_on (after s call) calls (drop count written) steps.0 image none (steps_push s.base s.pending call old steps.0 is steps.1.0) steps.1.1
+image_on s (ToreBytewise place count ∷ calls) written old image none is steps =
+    let call : Call = (ToreBytewise place count, take count written) in
+    image_on (after s call) calls (drop count written) steps.0 image none (steps_push s.base s.pending call old steps.0 is steps.1.0) steps.1.1
 image_on s (CutTo len ∷ calls) written old image none is steps =
     let call : Call = (CutTo len, take 0 written) in
     image_on (after s call) calls (drop 0 written) steps.0 image none (steps_push s.base s.pending call old steps.0 is steps.1.0) steps.1.1
@@ -86,6 +96,10 @@ base_after : (s : Known) (call : Call) → IsImage s s.base → IsImage (after s
 base_after s (Looked, bytes) is = is
 base_after s (Wrote place count, bytes) is = steps_push s.base s.pending (Wrote place count, bytes) s.base s.base is (torn_same place (length bytes) s.base)
 base_after s (Tore place count, bytes) is = steps_push s.base s.pending (Tore place count, bytes) s.base s.base is (torn_same place count s.base)
+base_after s (WroteBytewise place count, bytes) is = steps_push s.base s.pending (WroteBytewise place count, bytes) s.base s.base is
+    (bytewise_same place bytes s.base)
+base_after s (ToreBytewise place count, bytes) is = steps_push s.base s.pending (ToreBytewise place count, bytes) s.base s.base is
+    (bytewise_same place bytes s.base)
 base_after s (CutTo len, bytes) is = steps_push s.base s.pending (CutTo len, bytes) s.base s.base is (shortened_same len s.base)
 base_after s (MayCut len, bytes) is = steps_push s.base s.pending (MayCut len, bytes) s.base s.base is (shortened_same len s.base)
 base_after s (Synced, bytes) is = refl

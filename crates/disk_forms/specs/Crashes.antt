@@ -1,7 +1,7 @@
 -- What a crash may leave of a disk in memory: the calls since the last good sync, and what each may have done.
 use Rattle.std.specs.Prelude.{◌≡◌, ◌⊎◌, ℕ, ◌≤◌, List, [], ◌∷◌, ◌++◌}
 use Rattle.disk_forms.specs.declared.histories.Kept.{Kept}
-use Rattle.disk_forms.specs.declared.histories.Kept.TheVariants.{Looked, Wrote, Tore, CutTo, MayCut, Synced}
+use Rattle.disk_forms.specs.declared.histories.Kept.TheVariants.{Looked, Wrote, Tore, WroteBytewise, ToreBytewise, CutTo, MayCut, Synced}
 use Rattle.disk_forms.specs.Memory.{Call, Known, Recorded, fresh, after, Steps, IsImage}
 
 -- nothing was done yet, or a sync was done last
@@ -14,6 +14,8 @@ HasNoSync [] = Unit {0}
 HasNoSync (Looked ∷ calls) = HasNoSync calls
 HasNoSync (Wrote place count ∷ calls) = HasNoSync calls
 HasNoSync (Tore place count ∷ calls) = HasNoSync calls
+HasNoSync (WroteBytewise place count ∷ calls) = HasNoSync calls
+HasNoSync (ToreBytewise place count ∷ calls) = HasNoSync calls
 HasNoSync (CutTo len ∷ calls) = HasNoSync calls
 HasNoSync (MayCut len ∷ calls) = HasNoSync calls
 HasNoSync (Synced ∷ calls) = ⊥

@@ -1,12 +1,12 @@
 -- A disk in memory: the record of its calls, and what it knows by it.
-use Rattle.std.specs.Prelude.{◌≡◌, ◌⊎◌, ℕ, ◌+◌, ◌<◌, ◌≤◌, List, [], ◌∷◌, ◌++◌, length, take, drop, true, false, Result, Ok, Err}
+use Rattle.std.specs.Prelude.{◌≡◌, ◌⊎◌, ℕ, ◌+◌, ◌<◌, ◌≤◌, List, [], ◌∷◌, ◌++◌, length, take, drop, replicate, ◌-◌, true, false, Result, Ok, Err}
 use Rattle.tardis_io.specs.declared.faults.Failed.{Failed}
 use Rattle.tardis_io.specs.Memory.{Plan, fails_next, after_call, after_fault}
 use Rattle.disk_forms.specs.declared.histories.Kept.{Kept}
-use Rattle.disk_forms.specs.declared.histories.Kept.TheVariants.{Looked, Wrote, Tore, CutTo, MayCut, Synced}
-use Rattle.disk_store.specs.Disks.{with_bytes, Torn, Shortened}
+use Rattle.disk_forms.specs.declared.histories.Kept.TheVariants.{Looked, Wrote, Tore, WroteBytewise, ToreBytewise, CutTo, MayCut, Synced}
+use Rattle.disk_store.specs.Disks.{with_bytes, Torn, Bytewise, Shortened}
 
--- a call, and the bytes that it wrote
+-- a call, and the bytes that are kept of it
 abbrev pub Call : Type 0
 Call = Kept × List ℕ
 
@@ -20,11 +20,21 @@ pub record Known : Type 0 where
 abbrev pub fresh : List ℕ → Known
 fresh bytes = record { reads = bytes; base = bytes; pending = [] }
 
+-- the bytes, with zeros behind them up to a place
+abbrev pub with_zeros : List ℕ → ℕ → List ℕ
+with_zeros bytes place = bytes ++ replicate (place - length bytes) 0
+
 -- the same after one more call
 abbrev pub after : Known → Call → Known
 after s (Looked, bytes) = s
 after s (Wrote place count, bytes) = record { reads = with_bytes s.reads place bytes; base = s.base; pending = s.pending ++ (Wrote place count, bytes) ∷ [] }
 after s (Tore place count, bytes) = record { reads = s.reads; base = s.base; pending = s.pending ++ (Tore place count, bytes) ∷ [] }
+after s (WroteBytewise place count, bytes) = record {
+  reads = with_bytes (with_zeros s.reads place) place bytes;
+  base = s.base;
+  pending = s.pending ++ (WroteBytewise place count, bytes) ∷ [];
+}
+after s (ToreBytewise place count, bytes) = record { reads = s.reads; base = s.base; pending = s.pending ++ (ToreBytewise place count, bytes) ∷ [] }
 after s (CutTo len, bytes) = record { reads = take len s.reads; base = s.base; pending = s.pending ++ (CutTo len, bytes) ∷ [] }
 after s (MayCut len, bytes) = record { reads = s.reads; base = s.base; pending = s.pending ++ (MayCut len, bytes) ∷ [] }
 after s (Synced, bytes) = fresh s.reads
@@ -37,6 +47,8 @@ known_after s (call ∷ calls) = known_after (after s call) calls
 abbrev pub IsStep : Call → List ℕ → List ℕ → Type 0
 IsStep (Wrote place count, bytes) = Torn place (length bytes)
 IsStep (Tore place count, bytes) = Torn place count
+IsStep (WroteBytewise place count, bytes) = Bytewise place bytes
+IsStep (ToreBytewise place count, bytes) = Bytewise place bytes
 IsStep (CutTo len, bytes) = Shortened len
 IsStep (MayCut len, bytes) = Shortened len
 IsStep (_, bytes) = λ old new. new ≡ old
@@ -56,21 +68,23 @@ LeftSince ℕ.zero s (call ∷ calls) image = IsImage s image ⊎ LeftSince ℕ.
 LeftSince (ℕ.suc t) s [] image = ⊥
 LeftSince (ℕ.suc t) s (call ∷ calls) image = LeftSince t (after s call) calls image
 
--- how many bytes a call wrote
+-- how many bytes of a call are kept: those that it wrote, and those that it may have written in part
 abbrev pub used : Kept → ℕ
 used (Wrote place count) = count
+used (WroteBytewise place count) = count
+used (ToreBytewise place count) = count
 used _ = 0
 
 abbrev pub used_of : List Kept → ℕ
 used_of [] = 0
 used_of (kept ∷ calls) = used kept + used_of calls
 
--- each call with the bytes that it wrote, from the front of all that were written
+-- each call with its bytes, from the front of all that are kept
 abbrev pub with_written : List Kept → List ℕ → List Call
 with_written [] written = []
 with_written (kept ∷ calls) written = (kept, take (used kept) written) ∷ with_written calls (drop (used kept) written)
 
--- the bytes at first, the calls since, and how many calls, and written bytes, there is room for
+-- the bytes at first, the calls since, how many bytes of them are kept, and how many calls, and kept bytes, there is room for
 pub record Recorded : Type 0 where
   pub first : List ℕ
   pub calls : List Call
@@ -84,9 +98,17 @@ known_of r = known_after (fresh r.first) r.calls
 abbrev pub with_call : Recorded → Kept → List ℕ → Recorded
 with_call r kept bytes = record { first = r.first; calls = r.calls ++ (kept, bytes) ∷ []; written = r.written + length bytes; room = r.room }
 
--- a call that changes nothing of what a read gives
+-- a write of so many bytes at a place that was well
+abbrev pub IsWrite : Kept → ℕ → ℕ → Type 0
+IsWrite (Wrote at n) place count = (at ≡ place) × (n ≡ count)
+IsWrite (WroteBytewise at n) place count = (at ≡ place) × (n ≡ count)
+IsWrite _ place count = ⊥
+
+-- a call that changes nothing of what a read gives, and of which no bytes are kept
 abbrev pub IsQuiet : Kept → Type 0
 IsQuiet (Wrote place count) = ⊥
+IsQuiet (WroteBytewise place count) = ⊥
+IsQuiet (ToreBytewise place count) = ⊥
 IsQuiet (CutTo len) = ⊥
 IsQuiet _ = Unit {0}
 
@@ -108,7 +130,13 @@ pub record Notes (kept : Kept) (old new : Recorded) : Type 0 where
   pub noted : length old.calls < old.room → new ≡ with_call old kept []
   pub full : old.room ≤ length old.calls → new ≡ old
 
--- a call that was well is recorded as this, with the bytes that it wrote, and one that failed as that
-abbrev pub Records : {T : Type 0} → Kept → List ℕ → Kept → Recorded → Recorded → Result T Failed → Type 0
-Records done bytes failed old new (Ok answer) = new ≡ with_call old done bytes
-Records done bytes failed old new (Err e) = Notes failed old new
+-- A call that failed, and may have written some of these bytes, is recorded with them where there is room for both. Where there is
+-- none for the bytes it wrote nothing, and is recorded as one that changed nothing.
+pub record NotesBytes (kept : Kept) (bytes : List ℕ) (old new : Recorded) : Type 0 where
+  pub noted : HasRoom old (length bytes) → new ≡ with_call old kept bytes
+  pub without : IsFull old (length bytes) → Notes Looked old new
+
+-- a call that was well is recorded as this, with the bytes that it wrote, and one that failed as is said
+abbrev pub Records : {T : Type 0} → Kept → List ℕ → (Recorded → Recorded → Type 0) → Recorded → Recorded → Result T Failed → Type 0
+Records done bytes WhereFailed old new (Ok answer) = new ≡ with_call old done bytes
+Records done bytes WhereFailed old new (Err e) = WhereFailed old new

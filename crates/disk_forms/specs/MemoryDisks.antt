@@ -4,7 +4,7 @@ use Rattle.tardis_io.specs.declared.faults.Failed.{Failed}
 use Rattle.disk_store.specs.Disks.{Elapses}
 use Rattle.disk_forms.specs.declared.histories.Kept.{Kept}
 use Rattle.disk_forms.specs.declared.memory_disks.MemoryDisk.{MemoryDisk}
-use Rattle.disk_forms.specs.Memory.{known_of, fresh, IsImage, LeftSince, PlanAnswers, Records}
+use Rattle.disk_forms.specs.Memory.{Recorded, known_of, fresh, IsImage, LeftSince, PlanAnswers, Records}
 
 -- what a read gives
 abbrev pub reads : MemoryDisk → List ℕ
@@ -26,8 +26,8 @@ left_since d t image = LeftSince t (fresh d.history.first) d.history.calls image
 abbrev pub GoesOn : MemoryDisk → MemoryDisk → Type 0
 GoesOn old new = Elapses (moment old) (moment new) (left_since old) (left_since new) (may_leave new)
 
--- What a call does that is recorded as done, with the bytes that it writes, or as failed: it fails exactly where it is listed
--- or finds no room.
-pub record Calls {T : Type 0} (done : Kept) (bytes : List ℕ) (failed : Kept) (old new : MemoryDisk) (result : Result T Failed) : Type 0 where
+-- What a call does that is recorded as done, with the bytes that it writes, and where it failed as is said: it fails exactly where
+-- it is listed or finds no room.
+pub record Calls {T : Type 0} (done : Kept) (bytes : List ℕ) (WhereFailed : Recorded → Recorded → Type 0) (old new : MemoryDisk) (result : Result T Failed) : Type 0 where
   pub answer : PlanAnswers old.history (length bytes) old.plan new.plan result
-  pub recorded : Records done bytes failed old.history new.history result
+  pub recorded : Records done bytes WhereFailed old.history new.history result

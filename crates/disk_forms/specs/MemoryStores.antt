@@ -1,18 +1,19 @@
 -- A store of one disk in memory.
-use Rattle.std.specs.Prelude.{◌≡◌, ℕ, List, Option, Some, None}
+use Rattle.std.specs.Prelude.{◌≡◌, ℕ, List, Bool, false, Option, Some, None}
 use Rattle.disk_store.specs.Stores.{ToldStore}
 use Rattle.disk_forms.specs.declared.memory_disks.MemoryDisk.{MemoryDisk}
 use Rattle.disk_forms.specs.declared.memory_stores.Held.{Held}
 use Rattle.disk_forms.specs.declared.memory_stores.Held.TheVariants.{Within, Out, Back}
 
--- what contracts see of it: what it tells, and its count of faults
+-- what contracts see of it: what it tells, its count of faults, and whether its disk was asked for last while it was out
 pub record KeptStore : Type 0 where
   pub told : ToldStore MemoryDisk
   pub faults : ℕ
+  pub locked : Bool
 
 -- a store whose disk is there, at this path, and wasn't asked for anything
 abbrev pub store_of : List ℕ → MemoryDisk → KeptStore
-store_of path disk = record { told = record { at = path; within = Some disk; back = None; out = 0; elsewhere = 0 }; faults = 0 }
+store_of path disk = record { told = record { at = path; within = Some disk; back = None; out = 0; elsewhere = 0 }; faults = 0; locked = false }
 
 -- where the disk is
 abbrev pub told_of : List ℕ → Held → ℕ → ToldStore MemoryDisk
@@ -25,6 +26,12 @@ abbrev pub IsHeld : Held → Type 0
 IsHeld (Within disk) = disk.plan.faults ≡ 0
 IsHeld Out = Unit {0}
 IsHeld (Back disk) = Unit {0}
+
+-- the last call found the disk held only where it is out
+abbrev pub IsLock : Held → Bool → Type 0
+IsLock Out locked = Unit {0}
+IsLock (Within disk) locked = locked ≡ false
+IsLock (Back disk) locked = locked ≡ false
 
 -- the disk that a store has
 abbrev pub disk_of : ToldStore MemoryDisk → Option MemoryDisk

@@ -6,6 +6,7 @@ ghost use Rattle.disk_forms.specs.Memory.{IsStep, Steps, used_of, with_written};
 ghost use Rattle.disk_forms.specs.Crashes.{IsSettled, HasNoSync, read_after, read_after_all, IsPart};
 
 use crate::histories::{Kept, overwrite};
+use crate::mixes::{blend, fill_to};
 use tardis_base::NoMemory;
 
 /// Numbers that are taken off a number as its digits, the lowest first, each to a base of its own. Of 0 all are 0.
@@ -29,7 +30,7 @@ impl Digits {
     }
 
     /// The next digit, from 0 to `most`.
-    fn up_to(&mut self, most: usize) -> usize
+    pub(crate) fn up_to(&mut self, most: usize) -> usize
         ensures { result ≤ most }
     {
         let Some(base) = (most as u64).checked_add(1) else {
@@ -123,8 +124,19 @@ fn redo_one(image: &mut Vec<u8>, kept: Kept, bytes: &[u8]) -> Result<(), NoMemor
             };
             overwrite(image, place as usize, bytes);
         }
+        Kept::WroteBytewise { place, count: _ } => {
+            fill_to(image, place as usize)?;
+            let Ok(()) = image.reserve(bytes.len()) else {
+                return Err(NoMemory);
+            };
+            overwrite(image, place as usize, bytes);
+        }
         Kept::CutTo { len } => image.truncate(len as usize),
-        Kept::Looked | Kept::Tore { .. } | Kept::MayCut { .. } | Kept::Synced => {}
+        Kept::Looked
+        | Kept::Tore { .. }
+        | Kept::ToreBytewise { .. }
+        | Kept::MayCut { .. }
+        | Kept::Synced => {}
     }
     Ok(())
 }
@@ -165,6 +177,8 @@ fn tear_one(
             let byte = digits.byte();
             spoil(image, place as usize, junk, byte)
         }
+        Kept::WroteBytewise { place, count: _ } => blend(image, place as usize, bytes, digits),
+        Kept::ToreBytewise { place, count: _ } => blend(image, place as usize, bytes, digits),
         Kept::CutTo { len } => {
             let least = image.len().min(len as usize);
             let more = digits.up_to(image.len() - least);

@@ -2,9 +2,9 @@
 //! nothing.
 
 ghost use Rattle.std.specs.Prelude.{◌≡◌, ◌≤◌, []};
-ghost use Rattle.tardis_io.specs.Faults.{Rose};
+ghost use Rattle.tardis_io.specs.Faults.{Rose, HasCause};
 
-use disk_store::Disk;
+use disk_store::{BytewiseDisk, Disk};
 use std::os::unix::fs::FileExt;
 use std::{fs, io};
 use tardis_io::Failed;
@@ -41,6 +41,16 @@ impl FileDisk {
         ensures { result ≡ self.now.faults }
     {
         self.faults
+    }
+
+    /// Writes bytes from a place on.
+    fn write(&mut self, place: u64, bytes: &[u8]) -> Result<(), Failed>
+        ensures { HasCause self.old.faults self.new.faults result }
+    {
+        match write_all(&self.file, place, bytes) {
+            Ok(()) => Ok(()),
+            Err(_) => Err(self.fail()),
+        }
     }
 
     fn fail(&mut self) -> Failed
@@ -83,10 +93,7 @@ impl Disk for FileDisk {
     }
 
     fn write_at(&mut self, place: u64, bytes: &[u8]) -> Result<(), Failed> {
-        match write_all(&self.file, place, bytes) {
-            Ok(()) => Ok(()),
-            Err(_) => Err(self.fail()),
-        }
+        self.write(place, bytes)
     }
 
     fn cut(&mut self, len: u64) -> Result<(), Failed> {
@@ -117,6 +124,12 @@ impl Disk for FileDisk {
     ghost counts_now = { λ d t image le is. tt };
 
     ghost only_now = { λ d image left. tt };
+}
+
+impl BytewiseDisk for FileDisk {
+    fn write_bytewise(&mut self, place: u64, bytes: &[u8]) -> Result<(), Failed> {
+        self.write(place, bytes)
+    }
 }
 
 /// Fills a buffer from a place on.

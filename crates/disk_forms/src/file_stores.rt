@@ -1,12 +1,12 @@
 //! The store of the system's files. No contract can say what a file keeps, so it isn't told to be honest, and tells
 //! nothing.
 
-ghost use Rattle.std.specs.Prelude.{◌≡◌, None, IfOk};
+ghost use Rattle.std.specs.Prelude.{◌≡◌, false, None, IfOk};
 ghost use Rattle.tardis_io.specs.Faults.{Rose};
 
 use crate::file_disks::FileDisk;
 use disk_store::Store;
-use std::fs::{self, Files, OpenOptions};
+use std::fs::{self, Files, OpenOptions, TryLockError};
 use std::io;
 use std::os::fd::AsRawFd;
 use std::path::Path;
@@ -19,13 +19,19 @@ use tardis_io::Failed;
 pub struct FileStore<R> {
     files: R,
     faults: u64,
+    is_locked: bool,
 }
 
 impl<R: Files<File = fs::File>> FileStore<R> {
     pub fn new(files: R) -> FileStore<R>
-        ensures { result.faults ≡ 0 }
+        ensures faults { result.faults ≡ 0 }
+        ensures locked { result.is_locked ≡ false }
     {
-        FileStore { files, faults: 0 }
+        FileStore {
+            files,
+            faults: 0,
+            is_locked: false,
+        }
     }
 }
 
@@ -38,25 +44,33 @@ impl<R: Files<File = fs::File>> Store for FileStore<R> {
 
     ghost faults = { λ s. s.faults };
 
+    ghost locked = { λ s. s.is_locked };
+
     fn open_file(&mut self, path: &str) -> Result<FileDisk, Failed> {
+        self.is_locked = false;
         match open_locked(&self.files, path) {
-            Ok(file) => Ok(FileDisk::new(file)),
-            Err(_) => {
-                self.faults = self.faults.saturating_add(1);
-                Err(Failed)
-            }
+            Ok(Some(file)) => return Ok(FileDisk::new(file)),
+            Ok(None) => self.is_locked = true,
+            Err(_) => {}
         }
+        self.faults = self.faults.saturating_add(1);
+        Err(Failed)
     }
 
     fn put_back(&mut self, disk: FileDisk) {
+        self.is_locked = false;
         if disk.faults() > 0 {
             self.faults = self.faults.saturating_add(1);
         }
     }
+
+    fn is_locked(&self) -> bool {
+        self.is_locked
+    }
 }
 
-/// The file at a path, made where there is none, locked, and with a name that stays.
-fn open_locked<R: Files<File = fs::File>>(files: &R, path: &str) -> io::Result<fs::File> {
+/// The file at a path, made where there is none, locked, and with a name that stays; none where somebody else holds it.
+fn open_locked<R: Files<File = fs::File>>(files: &R, path: &str) -> io::Result<Option<fs::File>> {
     let mut file = OpenOptions::new()
         .read(true)
         .write(true)
@@ -71,10 +85,11 @@ fn open_locked<R: Files<File = fs::File>>(files: &R, path: &str) -> io::Result<f
     }
     match file.try_lock() {
         Ok(()) => {}
+        Err(TryLockError::WouldBlock) => return Ok(None),
         Err(error) => return Err(error.into()),
     }
     sync_folder(files, path)?;
-    Ok(file)
+    Ok(Some(file))
 }
 
 /// Syncs the folder of a path.

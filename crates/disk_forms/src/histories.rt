@@ -2,9 +2,9 @@
 
 ghost use Rattle.std.specs.Prelude.{◌≡◌, ◌+◌, ◌<◌, ◌≤◌, true, false, [], ◌∷◌, ◌++◌, length, take, drop, vec_capacity, IfOk, OnOk};
 ghost use Rattle.disk_store.specs.Disks.{with_bytes, Torn, Shortened};
-ghost use Rattle.disk_forms.specs.Memory.{known_of, with_call, with_written, used, used_of, IsQuiet, IsImage, HasRoom, IsFull};
+ghost use Rattle.disk_forms.specs.Memory.{known_of, with_call, with_written, used, used_of, IsWrite, IsQuiet, IsImage, HasRoom, IsFull};
 ghost use Rattle.disk_forms.specs.Crashes.{unused, IsSince};
-ghost use Rattle.disk_forms.specs.declared.histories.Kept.TheVariants.{Wrote, CutTo};
+ghost use Rattle.disk_forms.specs.declared.histories.Kept.TheVariants.{ToreBytewise, CutTo};
 
 use crate::crashes::{Digits, count_to_sync, redo, tear};
 use std::alloc::Global;
@@ -19,6 +19,10 @@ pub enum Kept {
     Wrote { place: u64, count: usize },
     /// A write of so many bytes failed.
     Tore { place: u64, count: usize },
+    /// A bytewise write.
+    WroteBytewise { place: u64, count: usize },
+    /// A bytewise write of so many bytes failed. They are kept: of each of them a crash may leave it or the old one.
+    ToreBytewise { place: u64, count: usize },
     CutTo { len: u64 },
     /// A cut failed.
     MayCut { len: u64 },
@@ -192,16 +196,28 @@ impl History {
         push_call(&mut self.calls, kept);
     }
 
-    /// Writes bytes.
-    pub(crate) fn write(&mut self, place: u64, bytes: &[u8])
+    /// Writes bytes, and records it as this.
+    pub(crate) fn write(&mut self, kept: Kept, place: u64, bytes: &[u8])
+        requires kept { IsWrite kept place (length bytes.now) }
+        requires begin { place ≤ length (known_of self.old).reads }
         requires room { length self.old.calls < self.old.room }
         requires bytes { self.old.written + length bytes.now ≤ self.old.room }
-        ensures { self.new ≡ with_call self.old (Wrote place (length bytes.now)) bytes.now }
+        ensures { self.new ≡ with_call self.old kept bytes.now }
     {
         overwrite(&mut self.bytes, place as usize, bytes);
         push_bytes(&mut self.written, bytes);
+        push_call(&mut self.calls, kept);
+    }
+
+    /// Records a bytewise write that failed, with its bytes.
+    pub(crate) fn keep(&mut self, place: u64, bytes: &[u8])
+        requires room { length self.old.calls < self.old.room }
+        requires bytes { self.old.written + length bytes.now ≤ self.old.room }
+        ensures { self.new ≡ with_call self.old (ToreBytewise place (length bytes.now)) bytes.now }
+    {
+        push_bytes(&mut self.written, bytes);
         let count = bytes.len();
-        push_call(&mut self.calls, Kept::Wrote { place, count });
+        push_call(&mut self.calls, Kept::ToreBytewise { place, count });
     }
 
     /// Cuts the bytes behind a length off.
@@ -215,12 +231,14 @@ impl History {
 }
 
 impl Kept {
-    /// How many bytes the call wrote.
+    /// How many bytes of the call are kept.
     pub(crate) fn used(self) -> usize
         ensures { result ≡ used self }
     {
         match self {
-            Kept::Wrote { place: _, count } => count,
+            Kept::Wrote { place: _, count }
+            | Kept::WroteBytewise { place: _, count }
+            | Kept::ToreBytewise { place: _, count } => count,
             Kept::Looked
             | Kept::Tore { .. }
             | Kept::CutTo { .. }

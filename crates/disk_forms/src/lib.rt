@@ -7,6 +7,7 @@ mod file_stores;
 mod histories;
 mod memory_disks;
 mod memory_stores;
+mod mixes;
 mod plans;
 
 pub use file_disks::FileDisk;

@@ -3,16 +3,16 @@
 ghost use Rattle.std.specs.Prelude.{◌≡◌, ◌+◌, ◌≤◌, [], length, take, drop, IfOk, OnOk};
 ghost use Rattle.tardis_io.specs.Faults.{HasCause};
 ghost use Rattle.tardis_io.specs.Memory.{fresh_plan};
-ghost use Rattle.disk_store.specs.Disks.{longest_disk, with_bytes, Torn, Shortened, Follows, NoMore, Only};
-ghost use Rattle.disk_forms.specs.declared.histories.Kept.TheVariants.{Looked, Wrote, Tore, CutTo, MayCut, Synced};
-ghost use Rattle.disk_forms.specs.Memory.{fresh, known_of, IsImage, IsQuiet, Notes, PlanAnswers};
+ghost use Rattle.disk_store.specs.Disks.{longest_disk, with_bytes, Torn, Bytewise, Shortened, Follows, NoMore, Only};
+ghost use Rattle.disk_forms.specs.declared.histories.Kept.TheVariants.{Looked, Wrote, Tore, WroteBytewise, ToreBytewise, CutTo, MayCut, Synced};
+ghost use Rattle.disk_forms.specs.Memory.{fresh, known_of, IsImage, IsQuiet, Notes, NotesBytes, PlanAnswers};
 ghost use Rattle.disk_forms.specs.Crashes.{unused};
 ghost use Rattle.disk_forms.specs.MemoryLaws.{reads_is, counts_now, only_now};
 ghost use Rattle.std.proofs.Common.{refl};
 
 use crate::histories::{History, Kept};
 use crate::plans::DiskPlan;
-use disk_store::Disk;
+use disk_store::{BytewiseDisk, Disk};
 use std::alloc::Global;
 use tardis_base::NoMemory;
 use tardis_io::Failed;
@@ -27,7 +27,8 @@ pub struct MemoryDisk {
 impl MemoryDisk {
     /// A disk that holds these bytes, all of them synced, with room for `room` written bytes and for the record of
     /// `room` calls. A call fails exactly where it is listed, counted from 1, where its bytes and those that were
-    /// written before are more than `room`, and where there were `room` calls before it.
+    /// written before are more than `room`, and where there were `room` calls before it. The bytes of a bytewise write
+    /// that failed count as written, where there was room for them.
     pub fn new(
         alloc: Global,
         bytes: &[u8],
@@ -51,9 +52,9 @@ impl MemoryDisk {
 
     /// A disk that holds what a crash now leaves, by the choice: 0 is what a read gives, and 1 what the last good sync
     /// left. From 2 on each call since that sync is there in part, or not at all: small numbers go through what may
-    /// become of the first of them, the fronts of a write or a cut first, then such with bytes that nobody wrote, and
-    /// large numbers tear the later calls too. All of it is synced, the room is the same and empty, and no call is
-    /// listed to fail.
+    /// become of the first of them, the fronts of a write or a cut first, then such with bytes that nobody wrote, or of a
+    /// bytewise write all bytes but one and other mixes of old bytes and new ones, and large numbers tear the later
+    /// calls too. All of it is synced, the room is the same and empty, and no call is listed to fail.
     ///
     /// Where there is no memory for it, the disk is dropped.
     pub fn crash(self, choice: u64) -> Result<MemoryDisk, NoMemory>
@@ -102,6 +103,17 @@ fn note_fault(history: &mut History, kept: Kept)
     }
 }
 
+/// Records a bytewise write that failed, with its bytes where there is room for them.
+fn note_torn(history: &mut History, place: u64, bytes: &[u8])
+    ensures { NotesBytes (ToreBytewise place (length bytes.now)) bytes.now history.old history.new }
+{
+    if history.has_room(bytes.len()) {
+        history.keep(place, bytes);
+    } else {
+        note_fault(history, Kept::Looked);
+    }
+}
+
 impl Disk for MemoryDisk {
     ghost use Rattle.disk_forms.specs.MemoryDisks.{reads, may_leave, moment, left_since, GoesOn, Calls};
 
@@ -124,7 +136,7 @@ impl Disk for MemoryDisk {
         ensures crash { NoMore (may_leave self.old) (may_leave self.new) }
         ensures time { GoesOn self.old self.new }
         ensures cause { HasCause self.old.plan.faults self.new.plan.faults result }
-        ensures exact { Calls Looked [] Looked self.old self.new result }
+        ensures exact { Calls Looked [] (Notes Looked) self.old self.new result }
     {
         match start(&mut self.plan, &self.history, 0) {
             Ok(()) => {
@@ -145,7 +157,7 @@ impl Disk for MemoryDisk {
         ensures crash { NoMore (may_leave self.old) (may_leave self.new) }
         ensures time { GoesOn self.old self.new }
         ensures cause { HasCause self.old.plan.faults self.new.plan.faults result }
-        ensures exact { Calls Looked [] Looked self.old self.new result }
+        ensures exact { Calls Looked [] (Notes Looked) self.old self.new result }
     {
         match start(&mut self.plan, &self.history, 0) {
             Ok(()) => {
@@ -167,15 +179,16 @@ impl Disk for MemoryDisk {
         ensures crash { Follows (Torn place (length bytes.now)) (may_leave self.old) (may_leave self.new) }
         ensures time { GoesOn self.old self.new }
         ensures cause { HasCause self.old.plan.faults self.new.plan.faults result }
-        ensures exact { Calls (Wrote place (length bytes.now)) bytes.now (Tore place (length bytes.now)) self.old self.new result }
+        ensures exact { Calls (Wrote place (length bytes.now)) bytes.now (Notes (Tore place (length bytes.now))) self.old self.new result }
     {
-        match start(&mut self.plan, &self.history, bytes.len()) {
+        let count = bytes.len();
+        match start(&mut self.plan, &self.history, count) {
             Ok(()) => {
-                self.history.write(place, bytes);
+                self.history
+                    .write(Kept::Wrote { place, count }, place, bytes);
                 Ok(())
             }
             Err(Failed) => {
-                let count = bytes.len();
                 note_fault(&mut self.history, Kept::Tore { place, count });
                 Err(Failed)
             }
@@ -188,7 +201,7 @@ impl Disk for MemoryDisk {
         ensures crash { Follows (Shortened len) (may_leave self.old) (may_leave self.new) }
         ensures time { GoesOn self.old self.new }
         ensures cause { HasCause self.old.plan.faults self.new.plan.faults result }
-        ensures exact { Calls (CutTo len) [] (MayCut len) self.old self.new result }
+        ensures exact { Calls (CutTo len) [] (Notes (MayCut len)) self.old self.new result }
     {
         match start(&mut self.plan, &self.history, 0) {
             Ok(()) => {
@@ -208,7 +221,7 @@ impl Disk for MemoryDisk {
         ensures crash { NoMore (may_leave self.old) (may_leave self.new) }
         ensures time { GoesOn self.old self.new }
         ensures cause { HasCause self.old.plan.faults self.new.plan.faults result }
-        ensures exact { Calls Synced [] Looked self.old self.new result }
+        ensures exact { Calls Synced [] (Notes Looked) self.old self.new result }
     {
         match start(&mut self.plan, &self.history, 0) {
             Ok(()) => {
@@ -227,4 +240,31 @@ impl Disk for MemoryDisk {
     ghost counts_now = { λ d t image le is. counts_now t (fresh d.history.first) d.history.calls image le is };
 
     ghost only_now = { λ d image left. only_now (fresh d.history.first) d.history.calls image left };
+}
+
+impl BytewiseDisk for MemoryDisk {
+    ghost use Rattle.disk_forms.specs.MemoryDisks.{reads, may_leave, GoesOn, Calls};
+
+    fn write_bytewise(&mut self, place: u64, bytes: &[u8]) -> Result<(), Failed>
+        requires begin { place ≤ length (reads self.old) }
+        requires end { place + length bytes.now ≤ longest_disk }
+        ensures written { OnOk result (reads self.new ≡ with_bytes (reads self.old) place bytes.now) }
+        ensures crash { Follows (Bytewise place bytes.now) (may_leave self.old) (may_leave self.new) }
+        ensures time { GoesOn self.old self.new }
+        ensures cause { HasCause self.old.plan.faults self.new.plan.faults result }
+        ensures exact { Calls (WroteBytewise place (length bytes.now)) bytes.now (NotesBytes (ToreBytewise place (length bytes.now)) bytes.now) self.old self.new result }
+    {
+        let count = bytes.len();
+        match start(&mut self.plan, &self.history, count) {
+            Ok(()) => {
+                let kept = Kept::WroteBytewise { place, count };
+                self.history.write(kept, place, bytes);
+                Ok(())
+            }
+            Err(Failed) => {
+                note_torn(&mut self.history, place, bytes);
+                Err(Failed)
+            }
+        }
+    }
 }

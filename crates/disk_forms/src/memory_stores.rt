@@ -1,9 +1,9 @@
 //! A store of one disk in memory.
 
-ghost use Rattle.std.specs.Prelude.{◌≡◌, ◌↔◌, Some, None, IfOk, is_none, true};
+ghost use Rattle.std.specs.Prelude.{◌≡◌, ◌↔◌, Some, None, IfOk, is_none, true, false};
 ghost use Rattle.std.specs.String.{string_bytes};
 ghost use Rattle.tardis_io.specs.Faults.{HasCause};
-ghost use Rattle.disk_store.specs.Stores.{Opens, IsOut, with_back, count_after};
+ghost use Rattle.disk_store.specs.Stores.{Opens, FindsHeld, IsOut, with_back, count_after};
 ghost use Rattle.disk_forms.specs.MemoryStores.{disk_of, store_of};
 
 use crate::memory_disks::MemoryDisk;
@@ -31,17 +31,18 @@ pub struct MemoryStore {
     held: Held,
     elsewhere: u64,
     faults: u64,
+    is_locked: bool,
 }
 
 impl Model for MemoryStore {
     ghost use Rattle.std.specs.String.{string_bytes};
-    ghost use Rattle.disk_forms.specs.MemoryStores.{KeptStore, told_of, IsHeld};
+    ghost use Rattle.disk_forms.specs.MemoryStores.{KeptStore, told_of, IsHeld, IsLock};
 
     ghost Value = { KeptStore };
 
-    ghost view = { λ s. record { told = told_of (string_bytes s.path) s.held s.elsewhere; faults = s.faults } };
+    ghost view = { λ s. record { told = told_of (string_bytes s.path) s.held s.elsewhere; faults = s.faults; locked = s.is_locked } };
 
-    ghost invariant = { λ s. IsHeld s.held };
+    ghost invariant = { λ s. IsHeld s.held × IsLock s.held s.is_locked };
 }
 
 impl MemoryStore {
@@ -55,6 +56,7 @@ impl MemoryStore {
             held: Held::Within(disk),
             elsewhere: 0,
             faults: 0,
+            is_locked: false,
         }
     }
 
@@ -81,7 +83,10 @@ impl Store for MemoryStore {
 
     ghost faults = { λ s. s.faults };
 
+    ghost locked = { λ s. s.locked };
+
     fn open_file(&mut self, path: &str) -> Result<MemoryDisk, Failed> {
+        self.is_locked = false;
         if path != self.path.as_str() {
             self.elsewhere = self.elsewhere.saturating_add(1);
             self.faults = self.faults.saturating_add(1);
@@ -89,8 +94,13 @@ impl Store for MemoryStore {
         }
         match mem::replace(&mut self.held, Held::Out) {
             Held::Within(disk) => Ok(disk),
-            held => {
-                self.held = held;
+            Held::Out => {
+                self.is_locked = true;
+                self.faults = self.faults.saturating_add(1);
+                Err(Failed)
+            }
+            Held::Back(disk) => {
+                self.held = Held::Back(disk);
                 self.faults = self.faults.saturating_add(1);
                 Err(Failed)
             }
@@ -102,5 +112,10 @@ impl Store for MemoryStore {
             self.faults = self.faults.saturating_add(1);
         }
         self.held = Held::Back(disk);
+        self.is_locked = false;
+    }
+
+    fn is_locked(&self) -> bool {
+        self.is_locked
     }
 }

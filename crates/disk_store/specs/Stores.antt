@@ -1,5 +1,5 @@
 -- What a store tells of its disk.
-use Rattle.std.specs.Prelude.{◌≡◌, ℕ, List, Option, Some, None, Result, Ok, Err, bytes_eq, if◌then◌else◌}
+use Rattle.std.specs.Prelude.{◌≡◌, ◌↔◌, ℕ, List, Bool, true, false, Option, Some, None, Result, Ok, Err, bytes_eq, if◌then◌else◌}
 use Rattle.tardis_io.specs.declared.faults.Failed.{Failed}
 use Rattle.tardis_io.specs.Faults.{raised}
 
@@ -42,6 +42,13 @@ module _ {D : Type 0} where
   abbrev pub Opens : List ℕ → Option (ToldStore D) → Option (ToldStore D) → Result D Failed → Type 0
   Opens path old new (Ok disk) = Hands path old new disk
   Opens path old new (Err e) = Refuses path old new
+
+  -- Whether a call found its disk held by somebody else: one that opened it didn't; and where the store tells its disk, one
+  -- that failed did exactly where it asked for that disk while it was out.
+  abbrev pub FindsHeld : List ℕ → Option (ToldStore D) → Bool → Result D Failed → Type 0
+  FindsHeld path old held (Ok disk) = held ≡ false
+  FindsHeld path None held (Err e) = Unit {0}
+  FindsHeld path (Some t) held (Err e) = held ≡ true ↔ ((path ≡ t.at) × (t.out ≡ 1))
 
   -- where it is told, the disk is out
   abbrev pub IsOut : Option (ToldStore D) → Type 0

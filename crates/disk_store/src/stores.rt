@@ -1,8 +1,8 @@
 //! Where disks come from.
 
-ghost use Rattle.std.specs.Prelude.{◌≡◌, ◌≤◌, ℕ, Option, IfOk};
+ghost use Rattle.std.specs.Prelude.{◌≡◌, ◌≤◌, ℕ, Bool, true, false, Option, IfOk};
 ghost use Rattle.tardis_io.specs.Faults.{HasCause};
-ghost use Rattle.disk_store.specs.Stores.{ToldStore, Opens, IsOut, with_back, count_after};
+ghost use Rattle.disk_store.specs.Stores.{ToldStore, Opens, FindsHeld, IsOut, with_back, count_after};
 
 use crate::disks::Disk;
 use tardis_io::Failed;
@@ -21,12 +21,16 @@ pub trait Store {
     // how many faults were counted
     ghost faults: { Self → ℕ };
 
+    // whether the last call found its disk held by somebody else
+    ghost locked: { Self → Bool };
+
     /// The disk at a path, which is made where there is none.
     fn open_file(&mut self, path: &str) -> Result<Self::Disk, Failed>
         ensures fresh { IfOk result (λ disk. Self.Disk.faults disk ≡ 0) }
         ensures honest { honest self.old → IfOk result (λ disk. Self.Disk.honest disk) }
         ensures still { honest self.old → honest self.new }
         ensures told { Opens path.now (told self.old) (told self.new) result }
+        ensures locked { FindsHeld path.now (told self.old) (locked self.new) result }
         ensures cause { HasCause (faults self.old) (faults self.new) result };
 
     /// Takes back a disk that this store opened, as it is, and counts a fault exactly where the disk counted one. It
@@ -34,7 +38,16 @@ pub trait Store {
     fn put_back(&mut self, disk: Self::Disk)
         requires { IsOut (told self.old) }
         ensures told { told self.new ≡ with_back (told self.old) disk }
+        ensures locked { locked self.new ≡ false }
         ensures still { honest self.old → honest self.new }
         ensures faults { faults self.new ≡ count_after (Self.Disk.faults disk) (faults self.old) }
         ensures later { faults self.old ≤ faults self.new };
+
+    /// Whether the last call of the two above was an `open_file` that was refused because somebody else holds the file: as
+    /// a disk in this process or another. Whoever holds it may let it go, so the same call may be well later. Each other
+    /// refusal (no such folder, no regular file, an error of the system) answers false, and so does a store of which
+    /// nothing was asked yet.
+    fn is_locked(&self) -> bool
+        ensures answer { result ≡ locked self.now }
+        ensures out { result ≡ true → IsOut (told self.now) };
 }

@@ -19,6 +19,16 @@ returns-in-Tore c =
     (λ t. torn_wider c.in-Tore.place c.up_to-junk.result c.in-Tore.count c.args.image.now.items c.spoil.new.image.items c.up_to-junk.ensures t)
     c.spoil.ensures)
 
+pub returns-in-WroteBytewise : goal.returns-in-WroteBytewise
+returns-in-WroteBytewise c =
+    subst (λ k. OnOk c.blend.result (IsStep (k, c.args.bytes.now) c.args.image.now.items c.blend.new.image.items)) (sym c.in-WroteBytewise.is)
+    c.blend.ensures
+
+pub returns-in-ToreBytewise : goal.returns-in-ToreBytewise
+returns-in-ToreBytewise c =
+    subst (λ k. OnOk c.blend-in-ToreBytewise.result (IsStep (k, c.args.bytes.now) c.args.image.now.items c.blend-in-ToreBytewise.new.image.items))
+    (sym c.in-ToreBytewise.is) c.blend-in-ToreBytewise.ensures
+
 pub returns-in-CutTo : goal.returns-in-CutTo
 returns-in-CutTo c =
     let old = c.args.image.now.items in

@@ -1,9 +1,8 @@
-use Rattle.std.proofs.Common.{◌<◌, [], ◌∷◌, ◌∙◌, ap, length, sym, subst, refl, List, arith, length-append}
+use Rattle.std.proofs.Common.{◌<◌, ◌≤◌, [], ◌∷◌, ◌∙◌, ap, length, sym, subst, List, arith, length-append}
 use Rattle.disk_store.specs.Disks.{with_bytes}
-use Rattle.disk_forms.specs.Memory.{Call, Recorded, with_written, with_call, used_of}
+use Rattle.disk_forms.specs.Memory.{Call, Recorded, fresh, known_after, known_of, with_written, with_call, used_of}
 use Rattle.disk_forms.specs.MemoryLaws.{length_written}
-use Rattle.disk_forms.specs.declared.histories.Kept.TheVariants.{Wrote}
-use Rattle.disk_forms.proofs.Calls.{with_more, reads_more, used_more, length_with, view_call}
+use Rattle.disk_forms.proofs.Calls.{with_more, write_used, write_reads, reads_more, used_more, length_with, view_call}
 use Rattle.disk_forms.proofs.histories.History.write.Goals as goal
 
 pub push_call-requires : goal.push_call-requires
@@ -17,17 +16,22 @@ pub invariant_of-self : goal.invariant_of-self
 invariant_of-self c =
     let old : List Call = with_written c.self.inside.calls.items c.self.inside.written.items in
     let room : length old < c.self.inside.room = subst (λ (r : Recorded). length r.calls < r.room) (sym c.self.view_is) c.requires.room in
+    let begin : c.args.place ≤ length (known_after (fresh c.self.inside.first.items) old).reads =
+    subst (λ (r : Recorded). c.args.place ≤ length (known_of r).reads) (sym c.self.view_is) c.requires.begin in
     let inv = c.self.invariant in
     let is = (λ i. with_written (c.push_call.ensures.items i) (c.push_bytes.ensures.items i))
-    ∙ with_more c.self.inside.calls.items (Wrote c.args.place (length c.args.bytes.now)) c.self.inside.written.items c.args.bytes.now inv.1 refl in
+    ∙ with_more c.self.inside.calls.items c.args.kept c.self.inside.written.items c.args.bytes.now inv.1
+    (write_used c.args.kept c.args.place (length c.args.bytes.now) c.requires.kept) in
     let n = length_with c.self.inside.calls.items c.self.inside.written.items in (
       reads_more c.self.inside.first.items old (with_written c.push_call.new.calls.items c.push_bytes.new.written.items)
-          (Wrote c.args.place (length c.args.bytes.now), c.args.bytes.now) c.overwrite.new.buf.items is
-          (c.overwrite.ensures.bytes ∙ ap (λ z. with_bytes z c.args.place c.args.bytes.now) inv.0),
+          (c.args.kept, c.args.bytes.now) c.overwrite.new.buf.items is
+          (c.overwrite.ensures.bytes ∙ (ap (λ z. with_bytes z c.args.place c.args.bytes.now) inv.0
+          ∙ write_reads (known_after (fresh c.self.inside.first.items) old) c.args.kept c.args.place c.args.bytes.now c.requires.kept begin)),
       omega (
         arith,
         ap used_of c.push_call.ensures.items,
-        used_more c.self.inside.calls.items (Wrote c.args.place (length c.args.bytes.now)),
+        used_more c.self.inside.calls.items c.args.kept,
+        write_used c.args.kept c.args.place (length c.args.bytes.now) c.requires.kept,
         inv.1,
         ap length c.push_bytes.ensures.items,
         length-append c.self.inside.written.items c.args.bytes.now,
@@ -55,7 +59,7 @@ invariant_of-self c =
       omega (
         arith,
         ap length c.push_call.ensures.items,
-        length-append c.self.inside.calls.items ((Wrote c.args.place (length c.args.bytes.now)) ∷ []),
+        length-append c.self.inside.calls.items (c.args.kept ∷ []),
         room,
         n,
       ),
@@ -66,8 +70,9 @@ returns c =
     let old : List Call = with_written c.self.inside.calls.items c.self.inside.written.items in
     let inv = c.self.invariant in
     let is = (λ i. with_written (c.push_call.ensures.items i) (c.push_bytes.ensures.items i))
-    ∙ with_more c.self.inside.calls.items (Wrote c.args.place (length c.args.bytes.now)) c.self.inside.written.items c.args.bytes.now inv.1 refl in
+    ∙ with_more c.self.inside.calls.items c.args.kept c.self.inside.written.items c.args.bytes.now inv.1
+    (write_used c.args.kept c.args.place (length c.args.bytes.now) c.requires.kept) in
     view_call c.self.inside.first.items old (with_written c.push_call.new.calls.items c.push_bytes.new.written.items) (length c.self.inside.written.items)
-    (length c.push_bytes.new.written.items) c.self.inside.room (Wrote c.args.place (length c.args.bytes.now)) c.args.bytes.now is
+    (length c.push_bytes.new.written.items) c.self.inside.room c.args.kept c.args.bytes.now is
     (omega (arith, ap length c.push_bytes.ensures.items, length-append c.self.inside.written.items c.args.bytes.now))
-    ∙ ap (λ (r : Recorded). with_call r (Wrote c.args.place (length c.args.bytes.now)) c.args.bytes.now) c.self.view_is
+    ∙ ap (λ (r : Recorded). with_call r c.args.kept c.args.bytes.now) c.self.view_is
