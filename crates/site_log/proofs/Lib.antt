@@ -1,0 +1,6 @@
+-- Lemmas on logs.
+pub mod Mixing
+pub mod Appending
+pub mod Growing
+pub mod Marks
+pub mod Standing

@@ -1,0 +1,43 @@
+-- A log's file while it is open.
+use Rattle.std.specs.Prelude.{◌≡◌, ◌⊎◌, ℕ, Bool, List, [], ◌∷◌, ◌++◌, length}
+use Rattle.std.specs.List.{AllByRecursion}
+use Rattle.disk_store.specs.Disks.{Only}
+use Rattle.disk_store.specs.declared.disks.Disk.{Ghosts as ADisk}
+use Rattle.log_text.specs.Texts.{log_text, IsZeros}
+use Rattle.log_groups.specs.declared.fronts.LogFront.{LogFront}
+use Rattle.log_groups.specs.Items.{IsFront, IsBody, log_items}
+use Rattle.site_log.specs.Images.{HoldsBodies}
+
+-- the text of a log of this front and these bodies
+abbrev pub text_of : LogFront → List (List ℕ) → List ℕ
+text_of front bodies = log_text (log_items front bodies)
+
+-- the disk reads the log's text, which ends at a place, and zeros up to the file's end; nothing is pending
+pub record IsAtRest {K : Type 0} (k : ADisk K) (disk : K) (front : LogFront) (bodies : List (List ℕ)) (place room : ℕ) : Type 0 where
+  pub zeros : List ℕ
+  pub text : k.reads disk ≡ text_of front bodies ++ zeros
+  pub clean : IsZeros zeros
+  pub is_front : IsFront front
+  pub each : AllByRecursion IsBody bodies
+  pub durable : Only (k.reads disk) (k.may_leave disk)
+  pub at : place ≡ length (text_of front bodies)
+  pub long : room ≡ length (k.reads disk)
+
+-- the bodies so far, or these and one more
+abbrev pub HoldsOneMore : LogFront → List (List ℕ) → List ℕ → List ℕ → Type 0
+HoldsOneMore front bodies body image = HoldsBodies front bodies image ⊎ HoldsBodies front (bodies ++ body ∷ []) image
+
+-- a file's disk; what its log says first; the number of the next group, and its place; how many bytes the file has; and whether a
+-- call failed, after which the disk is left as it is
+pub record OpenFile (K : Type 0) : Type 0 where
+  pub disk : K
+  pub front : LogFront
+  pub number : ℕ
+  pub place : ℕ
+  pub room : ℕ
+  pub failed : Bool
+
+-- the file has a log of these bodies
+pub record IsFile {K : Type 0} (k : ADisk K) (file : OpenFile K) (bodies : List (List ℕ)) : Type 0 where
+  pub rest : IsAtRest k file.disk file.front bodies file.place file.room
+  pub number : file.number ≡ length bodies

@@ -1,0 +1,6 @@
+-- A machine that starts again, with the log of what lasted of its requests.
+pub mod Sizes
+pub mod Kept
+pub mod Images
+pub mod Files
+pub mod Stood

@@ -1,0 +1,111 @@
+//! A log's file while it is open.
+
+ghost use Rattle.std.specs.Prelude.{◌≡◌, ◌+◌, ◌<◌, ◌≤◌, ◌++◌, [], ◌∷◌, ℕ, List, length, true, false, OnOk, OnErr};
+ghost use Rattle.disk_store.specs.Disks.{LeavesOnly, AsHonest};
+ghost use Rattle.log_text.specs.Texts.{entry};
+ghost use Rattle.log_groups.specs.Items.{IsBody, group};
+ghost use Rattle.site_log.specs.Sizes.{last_place, longest_text};
+ghost use Rattle.site_log.specs.Files.{HoldsOneMore, IsFile};
+
+use crate::appends::{MAX_PLACE, MAX_TEXT, put};
+use disk_store::{BytewiseDisk, Disk};
+use log_groups::{LogFront, put_group};
+use std::marker::Model;
+use tardis_base::NoMemory;
+use tardis_io::Failed;
+
+/// A disk, and where the log on it ends. Once a call failed, the disk is left as it is.
+#[derive(Drop)]
+pub struct LogFile<K: BytewiseDisk> {
+    disk: K,
+    front: LogFront,
+    number: u64,
+    place: u64,
+    room: u64,
+    failed: bool,
+}
+
+impl<K: BytewiseDisk> Model for LogFile<K> {
+    ghost use Rattle.std.specs.Prelude.{◌≡◌, ◌≤◌, false, length};
+    ghost use Rattle.site_log.specs.Files.{OpenFile};
+
+    ghost Value = { OpenFile K };
+
+    ghost view = { λ f. record { disk = f.disk; front = f.front; number = f.number; place = f.place; room = f.room; failed = f.failed } };
+
+    ghost invariant = { λ f. f.failed ≡ false → K.honest f.disk → f.room ≡ length (K.reads f.disk) };
+}
+
+impl<K: BytewiseDisk> LogFile<K> {
+    pub(crate) fn has_failed(&self) -> bool
+        ensures { result ≡ self.now.failed }
+    {
+        self.failed
+    }
+
+    /// Puts a group of this body behind the log. Its text is spelled in `text`. So a crash leaves the bodies so far, or these and
+    /// this one.
+    pub(crate) fn put_body(&mut self, body: &[u8], text: &mut Vec<u8>) -> Result<(), Failed>
+        requires body { IsBody body.now }
+        requires open { self.old.failed ≡ false }
+        ensures put { K.honest self.old.disk → (bodies : List (List ℕ)) → IsFile K.Disk self.old bodies → OnOk result (IsFile K.Disk self.new (bodies ++ body.now ∷ [])) }
+        ensures any_moment { K.honest self.old.disk → (bodies : List (List ℕ)) → IsFile K.Disk self.old bodies
+            → LeavesOnly K.moment K.left_since self.old.disk self.new.disk (HoldsOneMore self.old.front bodies body.now) }
+        ensures done { OnOk result (self.new.failed ≡ false) }
+        ensures failed { OnErr result (self.new.failed ≡ true) }
+        ensures front { self.new.front ≡ self.old.front }
+        ensures honest { AsHonest K.honest self.old.disk self.new.disk }
+        ensures later { K.faults self.old.disk ≤ K.faults self.new.disk }
+    {
+        match self.spell(body, text) {
+            Ok(()) => {}
+            Err(Failed) => {
+                self.failed = true;
+                return Err(Failed);
+            }
+        }
+        match put(&mut self.disk, self.place, self.room, text.as_slice()) {
+            Ok(room) => {
+                self.room = room;
+                self.place += text.len() as u64;
+                self.number += 1;
+                Ok(())
+            }
+            Err(Failed) => {
+                self.failed = true;
+                Err(Failed)
+            }
+        }
+    }
+
+    /// Spells the next group's entry, where there is memory, and the log isn't too long.
+    fn spell(&self, body: &[u8], text: &mut Vec<u8>) -> Result<(), Failed>
+        requires { IsBody body.now }
+        ensures text { OnOk result (text.new.items ≡ entry (group self.now.front.life self.now.number body.now)) }
+        ensures short { OnOk result (length text.new.items ≤ longest_text) }
+        ensures place { OnOk result (self.now.place ≤ last_place) }
+        ensures number { OnOk result (self.now.number < 18446744073709551615) }
+    {
+        if MAX_PLACE < self.place {
+            return Err(Failed);
+        }
+        if self.number == u64::MAX {
+            return Err(Failed);
+        }
+        text.clear();
+        match put_group(text, &self.front.life, self.number, body) {
+            Ok(()) => {}
+            Err(NoMemory) => return Err(Failed),
+        }
+        if MAX_TEXT < text.len() {
+            return Err(Failed);
+        }
+        Ok(())
+    }
+
+    pub(crate) fn into_disk(self) -> K
+        ensures { result ≡ self.disk }
+    {
+        self.disk
+    }
+}

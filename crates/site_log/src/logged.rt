@@ -1,0 +1,160 @@
+//! A machine with the log of what lasted of its requests.
+
+ghost use Rattle.std.specs.Prelude.{◌≡◌, ◌+◌, ◌<◌, ◌≤◌, ◌++◌, [], ◌∷◌, ℕ, List, length, true, false, refl, IsOk, OnOk, OnErr};
+ghost use Rattle.rest_machine.specs.Rests.{most_lasting};
+ghost use Rattle.disk_store.specs.Disks.{AsHonest};
+ghost use Rattle.log_groups.specs.Items.{longest_body};
+ghost use Rattle.site_log.specs.Kept.{Kept, IsSettled, with_settle, logged};
+ghost use Rattle.site_log.specs.Images.{Mark};
+ghost use Rattle.site_log.specs.Stood.{Stands, faults_of};
+
+use crate::bodies::Body;
+use crate::files::LogFile;
+use disk_store::{BytewiseDisk, Disk};
+use log_groups::group_laws;
+use rest_machine::{Resting, Settling};
+use tardis_base::{NoMemory, ReplyBuf};
+use tardis_io::Failed;
+
+/// A machine with the log of what lasted of its requests, on a disk. What lasted since the last group was put there waits for the
+/// next.
+///
+/// Once it couldn't be settled it never is again: the machine goes on answering, and the disk is left as it is.
+#[derive(Drop)]
+pub struct Logged<M: Resting, K: BytewiseDisk> {
+    pub(crate) machine: M,
+    pub(crate) file: LogFile<K>,
+    pub(crate) waiting: Body,
+    pub(crate) text: Vec<u8>,
+    pub(crate) owed: bool,
+}
+
+impl<M: Resting, K: BytewiseDisk> Logged<M, K> {
+    /// Answers a request of an actor into `out`, and keeps what lasts of it for the next group. Where another's might find no
+    /// room behind what waits, this is put on the disk first; where that fails, a later `settle_now` fails.
+    pub fn answer(&mut self, actor: u16, request: &[u8], out: &mut ReplyBuf) -> Result<(), NoMemory>
+        ensures reply { OnOk result ((kept : Kept M.Plain) (marks : List Mark) → Stands M.Resting K.Disk self.old kept marks
+            → out.new ≡ M.plain.reply kept.state (actor, request.now)) }
+        ensures step { OnOk result ((kept : Kept M.Plain) (marks : List Mark) → Stands M.Resting K.Disk self.old kept marks
+            → Stands M.Resting K.Disk self.new ((logged M.Resting).step kept (actor, request.now)) marks) }
+        ensures same { OnErr result ((kept : Kept M.Plain) (marks : List Mark) → Stands M.Resting K.Disk self.old kept marks
+            → Stands M.Resting K.Disk self.new kept marks) }
+        ensures empty { OnErr result (out.new ≡ []) }
+        ensures sure { M.plain.is_sure (actor, request.now) ≡ true → IsOk result }
+        ensures opening { M.opening self.new.machine ≡ M.opening self.old.machine }
+    {
+        self.make_way();
+        let before = self.waiting.len();
+        match self.waiting.act(&mut self.machine, actor, request, out) {
+            Ok(()) => {
+                if self.waiting.len() == before {
+                    return Ok(());
+                }
+                self.owed = true;
+                Ok(())
+            }
+            Err(NoMemory) => Err(NoMemory),
+        }
+    }
+
+    /// Whether something may have to be settled. After a failure there always is.
+    pub fn may_owe(&self) -> bool
+        ensures { result ≡ false → (kept : Kept M.Plain) (marks : List Mark) → Stands M.Resting K.Disk self.now kept marks → IsSettled kept }
+    {
+        if self.file.has_failed() {
+            return true;
+        }
+        self.owed
+    }
+
+    /// Puts what waits on the disk, as one group: after a crash all of it is there, or none. From the moment at which this
+    /// answers `Ok`, all that lasted so far is in every image.
+    pub fn settle_now(&mut self) -> Result<(), Failed>
+        ensures settled { OnOk result ((kept : Kept M.Plain) (marks : List Mark) → Stands M.Resting K.Disk self.old kept marks
+            → Stands M.Resting K.Disk self.new (with_settle kept) (record { moment = K.moment self.new.file.disk; count = length kept.things } ∷ marks)) }
+        ensures same { OnErr result ((kept : Kept M.Plain) (marks : List Mark) → Stands M.Resting K.Disk self.old kept marks
+            → Stands M.Resting K.Disk self.new kept marks) }
+        ensures ended { OnErr result (self.new.file.failed ≡ true) }
+        ensures later { K.faults self.old.file.disk ≤ K.faults self.new.file.disk }
+        ensures opening { M.opening self.new.machine ≡ M.opening self.old.machine }
+    {
+        group_laws(); // for the proof alone
+        match self.flush() {
+            Ok(()) => {
+                self.owed = false;
+                Ok(())
+            }
+            Err(Failed) => Err(Failed),
+        }
+    }
+
+    /// Makes room for what lasts of one request.
+    fn make_way(&mut self)
+        ensures room { length self.new.waiting + most_lasting ≤ longest_body }
+        ensures stands { (kept : Kept M.Plain) (marks : List Mark) → Stands M.Resting K.Disk self.old kept marks → Stands M.Resting K.Disk self.new kept marks }
+        ensures opening { M.opening self.new.machine ≡ M.opening self.old.machine }
+    {
+        if self.waiting.has_room() {
+            return;
+        }
+        let _ = self.flush();
+    }
+
+    /// Puts what waits on the disk, or forgets it, where that fails.
+    fn flush(&mut self) -> Result<(), Failed>
+        ensures emptied { self.new.waiting ≡ [] }
+        ensures done { OnOk result (self.new.file.failed ≡ false) }
+        ensures failed { OnErr result (self.new.file.failed ≡ true) }
+        ensures stands { (kept : Kept M.Plain) (marks : List Mark) → Stands M.Resting K.Disk self.old kept marks → Stands M.Resting K.Disk self.new kept marks }
+        ensures later { K.faults self.old.file.disk ≤ K.faults self.new.file.disk }
+        ensures machine { self.new.machine ≡ self.old.machine }
+    {
+        if self.file.has_failed() {
+            self.waiting.clear();
+            return Err(Failed);
+        }
+        if self.waiting.len() == 0 {
+            return Ok(());
+        }
+        let put = self.file.put_body(self.waiting.bytes(), &mut self.text);
+        self.waiting.clear();
+        put
+    }
+
+    /// The disk. What waits isn't put there.
+    pub fn close(self) -> K
+        ensures { result ≡ self.file.disk }
+    {
+        self.file.into_disk()
+    }
+}
+
+impl<M: Resting, K: BytewiseDisk> Settling for Logged<M, K> {
+    ghost Plain = { Kept M.Plain };
+
+    ghost plain = { logged M.Resting };
+
+    ghost stands = { λ l kept. (marks : List Mark) × Stands M.Resting K.Disk l kept marks };
+
+    ghost opening = { λ l. record { state = M.opening l.machine; things = []; settles = [] } };
+
+    ghost is_settled = { λ kept. IsSettled kept };
+
+    ghost settled = { λ kept. with_settle kept };
+
+    ghost faults = { λ l. faults_of K.Disk l.file };
+
+    fn act(&mut self, actor: u16, request: &[u8], out: &mut ReplyBuf) -> Result<(), NoMemory> {
+        self.answer(actor, request, out)
+    }
+
+    fn owes(&self) -> bool {
+        self.may_owe()
+    }
+
+    fn settle(&mut self) -> Result<(), Failed> {
+        self.settle_now()
+    }
+
+    ghost settles = { λ kept. (kept.settles, refl) };
+}
