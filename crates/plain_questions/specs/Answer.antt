@@ -55,6 +55,11 @@ page_of_keys ks = TheKeys (number_of ks) (take most_named ks)
 abbrev pub entry_length : Entry → ℕ
 entry_length e = (1 + length e.key) + (2 + length e.value)
 
+-- the bytes of several
+abbrev pub entries_length : List Entry → ℕ
+entries_length [] = 0
+entries_length (e ∷ es) = entry_length e + entries_length es
+
 -- the first entries, as many as have so many bytes
 abbrev pub fitting : ℕ → List Entry → List Entry
 fitting room [] = []

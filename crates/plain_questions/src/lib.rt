@@ -8,6 +8,7 @@ pub mod answer_codes;
 pub mod question_codes;
 mod questions;
 pub mod rows;
+pub mod spelling_laws;
 
 pub use questions::{
     Answered, Denial, Entry, EntryList, FORMAT_VERSION, ForkRead, ForkReadList, Question,

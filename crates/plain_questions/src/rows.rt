@@ -5,6 +5,7 @@ ghost use Rattle.plain_questions.specs.RowsOfReads.{TwoForkPointsAreRead, NineFo
 ghost use Rattle.plain_questions.specs.RowsOfPages.{KeysAreListed, EntriesAreListed, PagesHave256Keys, PagesHave65536Bytes};
 ghost use Rattle.plain_questions.specs.RowsOfSites.{LaggingSessionHoldsTheFloor, ClosedSessionHoldsNothing, BranchesHoldTheFloor};
 ghost use Rattle.plain_questions.specs.RowsOfSites.{SitesAreTold, SixteenSitesAreTold};
+ghost use Rattle.plain_questions.specs.RowsOfBytes.{AnswersBytes, OtherBytesAreMalformed};
 
 /// What is read at a state, and where states parted.
 pub fn reads_are_told()
@@ -32,4 +33,10 @@ pub fn sites_are_told()
     ensures branches { BranchesHoldTheFloor }
     ensures sites { SitesAreTold }
     ensures sixteen { SixteenSitesAreTold }
+{}
+
+/// Questions and what is told, in bytes.
+pub fn bytes_are_told()
+    ensures told { AnswersBytes }
+    ensures malformed { OtherBytesAreMalformed }
 {}
