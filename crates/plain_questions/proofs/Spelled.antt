@@ -1,5 +1,5 @@
 -- Questions and answers are read as they are spelled.
-use Rattle.std.proofs.Common.{◌≡◌, ℕ, ◌*◌, ◌<◌, ◌≤◌, min, false, inl, inr, Bool, true, ◌==◌, ◌&&◌, ◌||◌, IsTrue, List, [], ◌∷◌, ◌++◌, length, map, nat_le, nat_lt, Option, Some, None, refl, arith, leb-true, lt-ltb, eqb-true}
+use Rattle.std.proofs.Common.{◌≡◌, ℕ, ◌*◌, ◌<◌, ◌≤◌, min, false, Bool, true, ◌&&◌, IsTrue, List, [], ◌∷◌, ◌++◌, length, map, nat_le, nat_lt, Option, Some, None, refl, arith, leb-true, lt-ltb, eqb-true}
 use Rattle.std.proofs.lemmas.Bool.{and_parts, and_from}
 use Rattle.std.specs.List.{list_all}
 use Rattle.tardis_base.specs.declared.ids.StateId.{StateId}
@@ -7,9 +7,9 @@ use Rattle.tardis_base.specs.declared.records.Write.{Write}
 use Rattle.tardis_base.specs.declared.records.Limits.{Limits}
 use Rattle.tardis_base.specs.Ids.{are_ascending}
 use Rattle.tardis_base.specs.Keys.{are_ascending_keys}
-use Rattle.tardis_base.specs.Valid.{is_u16, is_u32, is_u64, is_within, are_bytes, is_id, is_key, is_value, is_write, are_limits}
+use Rattle.tardis_base.specs.Valid.{is_u16, is_u32, is_u64, is_within, are_bytes, is_id, is_key, is_write, are_limits}
 use Rattle.tardis_base.proofs.TestParts.{first, second}
-use Rattle.wire_item.specs.Spellings.{u8_spelling, u16_spelling, u32_spelling, u64_spelling, id_spelling, write_spelling, parents_spelling}
+use Rattle.wire_item.specs.Spellings.{u16_spelling, u32_spelling, u64_spelling, id_spelling, parents_spelling}
 use Rattle.wire_item.specs.Valid.{is_u8, are_ascending_numbers}
 use Rattle.wire_item.specs.Fronts.{only_if, both, by_code}
 use Rattle.wire_item.specs.Readings.{u16_front, u32_front, u64_front, id_front, write_front}
@@ -18,7 +18,7 @@ use Rattle.wire_item.proofs.Ways.{made-back}
 use Rattle.wire_item.proofs.Numbers.{reads-u8, reads-u16, reads-u32, reads-u64}
 use Rattle.wire_item.proofs.Things.{fits, reads-id, reads-key, reads-value, reads-write}
 use Rattle.wire_item.proofs.Laws.{one_spelling}
-use Rattle.wire_talk.specs.Spellings.{after_spelling, flag_spelling, children_spelling}
+use Rattle.wire_talk.specs.Spellings.{after_spelling, children_spelling}
 use Rattle.wire_talk.specs.ReplyReadings.{children_front}
 use Rattle.wire_talk.specs.Valid.{is_after, is_first_of, are_children}
 use Rattle.wire_talk.proofs.Requests.{reads-flag, reads-after}

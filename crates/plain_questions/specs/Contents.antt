@@ -1,5 +1,5 @@
 -- What a state has: its keys with their values.
-use Rattle.std.specs.Prelude.{ℕ, Bool, ◌&&◌, List, Option, Some, None, bytes_eq, take, length, filter, filter_map, is_some, option_map}
+use Rattle.std.specs.Prelude.{ℕ, Bool, ◌&&◌, List, Option, bytes_eq, take, length, filter, filter_map, is_some, option_map}
 use Rattle.std.specs.Option.{option_and_then}
 use Rattle.tardis_base.specs.declared.ids.StateId.{StateId}
 use Rattle.tardis_base.specs.declared.records.Record.{Record}

@@ -5,6 +5,9 @@ pub mod Spellings
 pub mod Valid
 pub mod Readings
 pub mod Laws
+pub mod PageLaws
+pub mod ReadLaws
+pub mod WrongAnswers
 pub mod RowWords
 pub mod RowsOfReads
 pub mod RowsOfPages

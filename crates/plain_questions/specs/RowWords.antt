@@ -1,5 +1,5 @@
 -- Words for worked rows: questions, each beside what it is answered.
-use Rattle.std.specs.Prelude.{◌≡◌, ℕ, List, [], ◌∷◌, map, codes, Option, Some, None}
+use Rattle.std.specs.Prelude.{◌≡◌, ℕ, List, map, codes, Some, None}
 use Prim.Native.String.{String}
 use Rattle.tardis_base.specs.declared.ids.StateId.{StateId}
 use Rattle.tardis_base.specs.declared.records.Write.TheVariants.{Put, Delete}

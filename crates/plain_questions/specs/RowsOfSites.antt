@@ -1,11 +1,11 @@
 -- Worked rows: sessions, and the whole site.
-use Rattle.std.specs.Prelude.{ℕ, true, false, ◌+◌, List, [], ◌∷◌, ◌++◌, map, flat_map, codes, Some, None}
+use Rattle.std.specs.Prelude.{true, false, List, [], ◌∷◌, ◌++◌, map, flat_map, codes, Some, None}
 use Rattle.std.specs.List.{range_with_len}
 use Rattle.tardis_base.specs.declared.records.Item.TheVariants.{State}
 use Rattle.tardis_base.specs.declared.records.Write.TheVariants.{Put}
 use Rattle.tardis_base.specs.declared.requests.Request.TheVariants.{Ceiling, Close, Deliver}
 use Rattle.tardis_base.specs.declared.replies.Reply.TheVariants.{Opened, Begun, Merging, Done, Closed, Committed, Applied}
-use Rattle.plain_site.specs.Site.{Site, opening}
+use Rattle.plain_site.specs.Site.{opening}
 use Rattle.plain_site.specs.RowWords.{Line, Talk, site_after, program_limits, lone_site, ◌·◌, ◌asks◌=>◌, opens, opens_following, begin_any, put, none, commit, merge}
 use Rattle.plain_questions.specs.declared.questions.Question.TheVariants.{Record as RecordOf, Sessions, Site as TheSite}
 use Rattle.plain_questions.specs.declared.questions.Answered.TheVariants.{Record as TheRecord, Sessions as TheSessions, Site as OfSite, ForkReads, Read, Refused}

@@ -7,6 +7,7 @@
 pub mod answer_codes;
 pub mod question_codes;
 mod questions;
+pub mod reading_laws;
 pub mod rows;
 pub mod spelling_laws;
 
