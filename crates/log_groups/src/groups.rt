@@ -1,6 +1,6 @@
 //! Groups, and how a log ends behind them.
 
-ghost use Rattle.std.specs.Prelude.{◌≡◌, ◌++◌, if◌then◌else◌, is_ok, length, take, OnErr, OnOk};
+ghost use Rattle.std.specs.Prelude.{◌≡◌, ◌+◌, ◌*◌, ◌≤◌, ◌++◌, if◌then◌else◌, is_ok, length, take, vec_len, vec_capacity, OnErr, OnOk, IsOk};
 ghost use Rattle.std.specs.Int.{w64, to_be_bytes};
 ghost use Rattle.sha2.specs.Sha256.{sha256};
 ghost use Rattle.log_text.specs.Texts.{IsItem, coded, entry};
@@ -27,7 +27,8 @@ pub enum Ending {
     Damaged,
 }
 
-/// Appends the entry of the group of this number, or nothing. The body is read twice: for its digest, and to be put.
+/// Appends the entry of the group of this number, or nothing. The body is read twice: for its digest, and to be put. The entry has
+/// at most twice the item's bytes and one: where there is room for so many, no memory is taken.
 #[tactic(auto, unfolding(crate::specs::Items::group, crate::specs::Items::check))]
 pub fn put_group(
     log: &mut Vec<u8>,
@@ -37,6 +38,9 @@ pub fn put_group(
 ) -> Result<(), NoMemory>
     requires { IsBody body.now }
     ensures items { log.new.items ≡ (if is_ok result then log.old.items ++ entry (group life.now number body.now) else log.old.items) }
+    ensures succeeds { vec_len log.old + (2 * (16 + length body.now) + 1) ≤ vec_capacity log.old → IsOk result }
+    ensures long { OnOk result (vec_len log.new ≤ vec_len log.old + (2 * (16 + length body.now) + 1)) }
+    ensures room { vec_capacity log.old ≤ vec_capacity log.new }
 {
     let before = log.len();
     match put_parts(log, life, &number.to_be_bytes(), body) {
@@ -58,6 +62,9 @@ fn put_parts(
     requires { IsBody body.now }
     ensures all { OnOk result (log.new.items ≡ log.old.items ++ entry (number.now ++ take 8 (sha256 (life.now ++ number.now ++ body.now)) ++ body.now)) }
     ensures front { OnErr result (take (length log.old.items) log.new.items ≡ log.old.items) }
+    ensures succeeds { vec_len log.old + (2 * (16 + length body.now) + 1) ≤ vec_capacity log.old → IsOk result }
+    ensures long { OnOk result (vec_len log.new ≤ vec_len log.old + (2 * (16 + length body.now) + 1)) }
+    ensures room { vec_capacity log.old ≤ vec_capacity log.new }
 {
     put_part(log, number)?;
     let digest = digest_of(life, number, body);
@@ -79,6 +86,9 @@ pub(crate) fn digest_of(life: &[u8; 16], number: &[u8; 8], body: &[u8]) -> [u8; 
 fn put_part(log: &mut Vec<u8>, part: &[u8]) -> Result<(), NoMemory>
     requires { IsItem part.now }
     ensures items { log.new.items ≡ (if is_ok result then log.old.items ++ coded part.now else log.old.items) }
+    ensures succeeds { vec_len log.old + (2 * length part.now + 1) ≤ vec_capacity log.old → IsOk result }
+    ensures long { vec_len log.new ≤ vec_len log.old + 2 * length part.now }
+    ensures room { vec_capacity log.old ≤ vec_capacity log.new }
 {
     match put_entry(log, part) {
         Ok(()) => {

@@ -13,6 +13,8 @@ pub fn put_entry(log: &mut Vec<u8>, item: &[u8]) -> Result<(), NoMemory>
     requires { IsItem item.now }
     ensures items { log.new.items ≡ (if is_ok result then log.old.items ++ entry item.now else log.old.items) }
     ensures succeeds { vec_len log.old + (2 * length item.now + 1) ≤ vec_capacity log.old → IsOk result }
+    ensures long { vec_len log.new ≤ vec_len log.old + (2 * length item.now + 1) }
+    ensures room { vec_capacity log.old ≤ vec_capacity log.new }
 {
     match log.reserve(2 * item.len() + 1) {
         Ok(()) => {}

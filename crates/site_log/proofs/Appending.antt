@@ -1,18 +1,18 @@
 -- What a crash leaves while a group is put behind a log.
-use Rattle.std.proofs.Common.{◌≡◌, ◌⊎◌, inl, inr, ⊎_elim, ℕ, ◌+◌, ◌<◌, ◌≤◌, List, [], ◌∷◌, ◌++◌, length, drop, Result, Ok, Err, OnOk, OnErr, refl, sym, ap, ◌∙◌, subst, arith, length-append, length-drop, append_assoc}
+use Rattle.std.proofs.Common.{◌≡◌, ◌⊎◌, inl, inr, ⊎_elim, ℕ, ◌+◌, ◌≤◌, List, [], ◌∷◌, ◌++◌, length, drop, Result, Ok, Err, OnOk, OnErr, sym, ap, ◌∙◌, subst, arith, length-append, length-drop, append_assoc}
 use Rattle.std.specs.List.{AllByRecursion}
 use Rattle.disk_store.specs.Disks.{with_bytes, Bytewise, Follows, NoMore, Only, Elapses, LeavesOnly}
 use Rattle.disk_store.specs.declared.disks.Disk.{Ghosts as ADisk}
-use Rattle.log_text.specs.Texts.{entry, log_text, IsZeros, Mixed}
+use Rattle.log_text.specs.Texts.{entry, IsZeros, Mixed}
 use Rattle.log_groups.specs.declared.fronts.LogFront.{LogFront}
 use Rattle.log_groups.specs.declared.groups.Ending.{Ending}
 use Rattle.log_groups.specs.declared.groups.Ending.TheVariants.{Whole, Damaged}
-use Rattle.log_groups.specs.Items.{IsFront, IsBody, group, log_items}
+use Rattle.log_groups.specs.Items.{IsFront, IsBody, group}
 use Rattle.log_groups.specs.Logs.{Holds}
 use Rattle.log_groups.specs.Laws.{WrittenIsHeld, LogGrows, CrashIsTorn}
 use Rattle.site_log.specs.Images.{HoldsBodies}
 use Rattle.site_log.specs.Files.{text_of, IsAtRest, HoldsOneMore}
-use Rattle.site_log.proofs.Mixing.{zeros_behind, whole, is_mixed, only_zeros, written_within}
+use Rattle.site_log.proofs.Mixing.{zeros_behind, whole, is_mixed, written_within}
 
 -- a fact of a good answer by another
 pub on_ok : {T E : Type 0} (r : Result T E) (P Q : Type 0) → OnOk r P → (P → Q) → OnOk r Q
@@ -140,6 +140,16 @@ module _ {K : Type 0} (k : ADisk K) (written : WrittenIsHeld) (grows : LogGrows)
         each = all_more IsBody bodies body r.each fits;
         durable = subst (λ z. Only z (k.may_leave new)) (sym same) only;
         at = omega (arith, r.at, length-append T text, ap length grown);
-        long = omega (arith, r.long, ap length r.text, length-append T r.zeros, ap length same, ap length at_mid, length-append T (text ++ rest),
-            length-append text rest, length-drop (length text) r.zeros, within);
+        long = omega (
+          arith,
+          r.long,
+          ap length r.text,
+          length-append T r.zeros,
+          ap length same,
+          ap length at_mid,
+          length-append T (text ++ rest),
+          length-append text rest,
+          length-drop (length text) r.zeros,
+          within,
+        );
       }

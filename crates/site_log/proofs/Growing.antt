@@ -12,14 +12,26 @@ use Rattle.site_log.proofs.Appending.{held, started, goes_on, rest_images}
 
 pub size_at_end : (old zeros : List ℕ) (place : ℕ) → place ≡ length old → length (with_bytes old place zeros) ≡ place + length zeros
 size_at_end old zeros place at =
-    omega (arith, length-append (take place old ++ zeros) (drop (place + length zeros) old), length-append (take place old) zeros, length-take place old,
-    length-drop (place + length zeros) old, at)
+    omega (
+      arith,
+      length-append (take place old ++ zeros) (drop (place + length zeros) old),
+      length-append (take place old) zeros,
+      length-take place old,
+      length-drop (place + length zeros) old,
+      at,
+    )
 
 -- the size after a write in room that is there
 pub size_within : (old bytes : List ℕ) (place : ℕ) → place + length bytes ≤ length old → length (with_bytes old place bytes) ≡ length old
 size_within old bytes place short =
-    omega (arith, length-append (take place old ++ bytes) (drop (place + length bytes) old), length-append (take place old) bytes, length-take place old,
-    length-drop (place + length bytes) old, short)
+    omega (
+      arith,
+      length-append (take place old ++ bytes) (drop (place + length bytes) old),
+      length-append (take place old) bytes,
+      length-take place old,
+      length-drop (place + length bytes) old,
+      short,
+    )
 
 -- since old, the disk got more zeros behind the log's text, and none is synced yet
 pub record Growing {K : Type 0} (k : ADisk K) (old disk : K) (front : LogFront) (bodies : List (List ℕ)) (size : ℕ) : Type 0 where

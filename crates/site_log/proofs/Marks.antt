@@ -1,5 +1,5 @@
 -- What was settled stays in every image.
-use Rattle.std.proofs.Common.{◌≡◌, ◌⊎◌, inl, inr, ⊎_elim, ℕ, ◌+◌, ◌≤◌, List, [], ◌∷◌, ◌++◌, length, take, drop, refl, sym, ap, ◌∙◌, subst, arith, length-append, append_assoc, append-nil, take-append-drop}
+use Rattle.std.proofs.Common.{◌≡◌, inl, inr, ⊎_elim, ℕ, ◌≤◌, List, [], ◌∷◌, ◌++◌, length, take, drop, refl, sym, ap, ◌∙◌, subst, arith, length-append, append_assoc, append-nil, take-append-drop}
 use Rattle.std.proofs.lemmas.List.{take_all, drop_all, take-append-le, drop-append-le}
 use Rattle.std.specs.List.{AllByRecursion}
 use Rattle.disk_store.specs.Disks.{LeavesOnly}
@@ -7,7 +7,7 @@ use Rattle.disk_store.specs.declared.disks.Disk.{Ghosts as ADisk}
 use Rattle.log_groups.specs.declared.fronts.LogFront.{LogFront}
 use Rattle.log_groups.specs.Laws.{WrittenIsHeld}
 use Rattle.site_log.specs.Kept.{with_thing}
-use Rattle.site_log.specs.Images.{joined, HoldsBodies, HoldsThings, HoldsLeast, Mark, IsKeptSince, IsSafe}
+use Rattle.site_log.specs.Images.{joined, HoldsThings, HoldsLeast, Mark, IsKeptSince, IsSafe}
 use Rattle.site_log.specs.Files.{OpenFile, HoldsOneMore, IsFile}
 use Rattle.site_log.specs.Stood.{IsOpen}
 use Rattle.site_log.proofs.Appending.{rest_images}
@@ -175,4 +175,16 @@ kept_now k written file things marks only o = record {
       same = all_are_there k file things marks o;
     };
   };
+}
+
+-- the log was read or made, and nothing waits
+pub open_start : {K : Type 0} (k : ADisk K) (file : OpenFile K) (bodies : List (List ℕ)) → IsFile k file bodies → IsOpen k file [] bodies []
+open_start k file bodies is = record {
+  bodies = bodies;
+  is_file = is;
+  count = length bodies;
+  most = omega arith;
+  enough = tt;
+  there = ap joined (sym (take_all (length bodies) bodies (omega arith)));
+  waits = ap joined (sym (drop_all (length bodies) bodies (omega arith)));
 }

@@ -1,8 +1,7 @@
 -- From a bytewise write to what is mixed of old and new bytes.
-use Rattle.std.proofs.Common.{◌≡◌, ◌⊎◌, inl, inr, ⊎_elim, ℕ, ◌+◌, ◌-◌, ◌<◌, ◌≤◌, List, [], ◌∷◌, ◌++◌, length, take, drop, get_or, replicate, refl, sym, ap, ◌∙◌, subst, arith}
+use Rattle.std.proofs.Common.{◌≡◌, ◌⊎◌, inl, inr, ⊎_elim, ℕ, ◌+◌, ◌-◌, ◌<◌, ◌≤◌, List, [], ◌∷◌, ◌++◌, length, take, drop, get_or, replicate, refl, sym, ap, ◌∙◌, arith}
 use Rattle.std.proofs.Common.{length-append, length-drop, take-append-drop, get_or-drop, get_or-append-add, get_or-take, ext_get_or, length-take-le, append_assoc, append-nil}
-use Rattle.std.proofs.lemmas.List.{length-replicate, get_or-replicate, get_or_append_left, get_or_past, take_at, drop_at, drop_all, take_all}
-use Rattle.std.specs.List.{AllByRecursion}
+use Rattle.std.proofs.lemmas.List.{length-replicate, get_or-replicate, get_or_append_left, take_at, drop_all, take_all}
 use Rattle.disk_store.specs.Disks.{with_bytes, Bytewise}
 use Rattle.log_text.specs.Texts.{IsZeros, Mixed}
 

@@ -6,11 +6,11 @@ use Rattle.disk_store.specs.Disks.{LeavesOnly}
 use Rattle.disk_store.specs.declared.disks.Disk.{Ghosts as ADisk}
 use Rattle.log_groups.specs.Laws.{WrittenIsHeld}
 use Rattle.site_log.specs.declared.logged.Logged.{Logged}
-use Rattle.site_log.specs.Kept.{Kept, with_thing, with_settle, logged}
+use Rattle.site_log.specs.Kept.{Kept, with_thing, with_settle, starts, logged}
 use Rattle.site_log.specs.Images.{Mark, IsSafe}
-use Rattle.site_log.specs.Files.{OpenFile, HoldsOneMore, IsFile}
+use Rattle.site_log.specs.Files.{HoldsOneMore, IsFile}
 use Rattle.site_log.specs.Stood.{IsOpen, Stands}
-use Rattle.site_log.proofs.Marks.{safe_with, open_with, safe_put, open_put, open_settled, kept_now}
+use Rattle.site_log.proofs.Marks.{safe_with, open_with, safe_put, open_put, open_settled, open_start, kept_now}
 
 -- what a good answer says, where the flag of a failure is down
 pub where_ok : {T E : Type 0} (r : Result T E) (A : Type 0) (failed : Bool) → OnOk r A → OnErr r (failed ≡ true) → failed ≡ false → A
@@ -68,7 +68,7 @@ module _ {M K : Type 0} (m : AResting M) (k : ADisk K) (l new : Logged M K) (kep
   pub stands_put : m.stands new.machine kept.state → (body : List ℕ) → body ≡ l.waiting → l.file.failed ≡ false → new.file.front ≡ l.file.front
       → (k.honest new.file.disk → k.honest l.file.disk)
       → (k.honest l.file.disk → (bodies : List (List ℕ)) → IsFile k l.file bodies
-          → LeavesOnly k.moment k.left_since l.file.disk new.file.disk (HoldsOneMore l.file.front bodies body))
+      → LeavesOnly k.moment k.left_since l.file.disk new.file.disk (HoldsOneMore l.file.front bodies body))
       → (new.file.failed ≡ false → k.honest l.file.disk → (bodies : List (List ℕ)) → IsFile k l.file bodies → IsFile k new.file (bodies ++ body ∷ []))
       → new.waiting ≡ [] → new.owed ≡ l.owed → Stands m k new kept marks
   stands_put stood body is sound front honest leaves put waits owed = record {
@@ -111,3 +111,17 @@ module _ {M K : Type 0} (m : AResting M) (k : ADisk K) (l new : Logged M K) (kep
             (subst (λ f. IsOpen k f [] kept.things (record { moment = k.moment f.disk; count = length kept.things } ∷ marks)) (sym file)
             (open_settled k l.file kept.things marks (k.moment l.file.disk) (open_now h0)));
       }
+
+-- at opening
+pub stands_start : {M K : Type 0} (m : AResting M) (k : ADisk K) (l : Logged M K) (s : m.Plain) (bodies : List (List ℕ)) → WrittenIsHeld
+    → ((image : List ℕ) → k.left_since l.file.disk (k.moment l.file.disk) image → k.may_leave l.file.disk image) → m.stands l.machine s
+    → (k.honest l.file.disk → IsFile k l.file bodies) → l.waiting ≡ []
+    → Stands m k l (starts s bodies) (record { moment = k.moment l.file.disk; count = length bodies } ∷ [])
+stands_start m k l s bodies written only stood is none = record {
+  stood = stood;
+  counts = refl;
+  owed = λ no. ([], refl);
+  safe = λ h. (kept_now k written l.file bodies [] only (open_start k l.file bodies (is h)), tt);
+  runs = λ now h. subst (λ w. IsOpen k l.file w bodies (record { moment = k.moment l.file.disk; count = length bodies } ∷ [])) (sym none)
+      (open_settled k l.file bodies [] (k.moment l.file.disk) (open_start k l.file bodies (is h)));
+}

@@ -1,12 +1,14 @@
 -- A log's file while it is open.
-use Rattle.std.specs.Prelude.{◌≡◌, ◌⊎◌, ℕ, Bool, List, [], ◌∷◌, ◌++◌, length}
+use Rattle.std.specs.Prelude.{◌≡◌, ◌⊎◌, ℕ, ◌<◌, Bool, true, List, [], ◌∷◌, ◌++◌, length}
 use Rattle.std.specs.List.{AllByRecursion}
+use Rattle.tardis_io.specs.Faults.{Rose}
 use Rattle.disk_store.specs.Disks.{Only}
 use Rattle.disk_store.specs.declared.disks.Disk.{Ghosts as ADisk}
 use Rattle.log_text.specs.Texts.{log_text, IsZeros}
 use Rattle.log_groups.specs.declared.fronts.LogFront.{LogFront}
 use Rattle.log_groups.specs.Items.{IsFront, IsBody, log_items}
 use Rattle.site_log.specs.Images.{HoldsBodies}
+use Rattle.site_log.specs.Sizes.{last_place}
 
 -- the text of a log of this front and these bodies
 abbrev pub text_of : LogFront → List (List ℕ) → List ℕ
@@ -41,3 +43,9 @@ pub record OpenFile (K : Type 0) : Type 0 where
 pub record IsFile {K : Type 0} (k : ADisk K) (file : OpenFile K) (bodies : List (List ℕ)) : Type 0 where
   pub rest : IsAtRest k file.disk file.front bodies file.place file.room
   pub number : file.number ≡ length bodies
+
+-- why putting a group may fail: it failed before; the disk counted a fault; or the log is too long: the next group would begin behind
+-- the last place, or has no number
+abbrev pub MayFail : {K : Type 0} → ADisk K → OpenFile K → OpenFile K → Type 0
+MayFail k old new =
+    (old.failed ≡ true) ⊎ (Rose (k.faults old.disk) (k.faults new.disk) ⊎ ((last_place < old.place) ⊎ (old.number ≡ 18446744073709551615)))

@@ -1,5 +1,5 @@
 -- What a machine with its log stands for.
-use Rattle.std.specs.Prelude.{◌≡◌, ℕ, ◌+◌, ◌≤◌, Bool, true, false, List, length, map, take, drop, if◌then◌else◌}
+use Rattle.std.specs.Prelude.{◌≡◌, ℕ, ◌+◌, ◌≤◌, false, List, length, map, take, drop, if◌then◌else◌}
 use Rattle.std.specs.List.{AllByRecursion}
 use Rattle.rest_machine.specs.declared.resting.Resting.{Ghosts as AResting}
 use Rattle.disk_store.specs.declared.disks.Disk.{Ghosts as ADisk}

@@ -1,17 +1,17 @@
 //! A log's file while it is open.
 
-ghost use Rattle.std.specs.Prelude.{◌≡◌, ◌+◌, ◌<◌, ◌≤◌, ◌++◌, [], ◌∷◌, ℕ, List, length, true, false, OnOk, OnErr};
+ghost use Rattle.std.specs.Prelude.{◌≡◌, ◌⊎◌, ◌+◌, ◌<◌, ◌≤◌, ◌++◌, [], ◌∷◌, ℕ, List, length, true, false, OnOk, OnErr};
 ghost use Rattle.disk_store.specs.Disks.{LeavesOnly, AsHonest};
 ghost use Rattle.log_text.specs.Texts.{entry};
 ghost use Rattle.log_groups.specs.Items.{IsBody, group};
-ghost use Rattle.site_log.specs.Sizes.{last_place, longest_text};
-ghost use Rattle.site_log.specs.Files.{HoldsOneMore, IsFile};
+ghost use Rattle.site_log.specs.Sizes.{last_place};
+ghost use Rattle.site_log.specs.Files.{HoldsOneMore, IsFile, MayFail};
 
-use crate::appends::{MAX_PLACE, MAX_TEXT, put};
+use crate::appends::{MAX_PLACE, put};
+use crate::texts::EntryText;
 use disk_store::{BytewiseDisk, Disk};
-use log_groups::{LogFront, put_group};
+use log_groups::LogFront;
 use std::marker::Model;
-use tardis_base::NoMemory;
 use tardis_io::Failed;
 
 /// A disk, and where the log on it ends. Once a call failed, the disk is left as it is.
@@ -37,6 +37,21 @@ impl<K: BytewiseDisk> Model for LogFile<K> {
 }
 
 impl<K: BytewiseDisk> LogFile<K> {
+    /// The file of a log that ends at a place.
+    pub(crate) fn new(disk: K, front: LogFront, number: u64, place: u64, room: u64) -> LogFile<K>
+        requires { K.honest disk → room ≡ length (K.reads disk) }
+        ensures { result ≡ record { disk = disk; front = front; number = number; place = place; room = room; failed = false } }
+    {
+        LogFile {
+            disk,
+            front,
+            number,
+            place,
+            room,
+            failed: false,
+        }
+    }
+
     pub(crate) fn has_failed(&self) -> bool
         ensures { result ≡ self.now.failed }
     {
@@ -45,7 +60,7 @@ impl<K: BytewiseDisk> LogFile<K> {
 
     /// Puts a group of this body behind the log. Its text is spelled in `text`. So a crash leaves the bodies so far, or these and
     /// this one.
-    pub(crate) fn put_body(&mut self, body: &[u8], text: &mut Vec<u8>) -> Result<(), Failed>
+    pub(crate) fn put_body(&mut self, body: &[u8], text: &mut EntryText) -> Result<(), Failed>
         requires body { IsBody body.now }
         requires open { self.old.failed ≡ false }
         ensures put { K.honest self.old.disk → (bodies : List (List ℕ)) → IsFile K.Disk self.old bodies → OnOk result (IsFile K.Disk self.new (bodies ++ body.now ∷ [])) }
@@ -53,6 +68,7 @@ impl<K: BytewiseDisk> LogFile<K> {
             → LeavesOnly K.moment K.left_since self.old.disk self.new.disk (HoldsOneMore self.old.front bodies body.now) }
         ensures done { OnOk result (self.new.failed ≡ false) }
         ensures failed { OnErr result (self.new.failed ≡ true) }
+        ensures cause { OnErr result (MayFail K.Disk self.old self.new) }
         ensures front { self.new.front ≡ self.old.front }
         ensures honest { AsHonest K.honest self.old.disk self.new.disk }
         ensures later { K.faults self.old.disk ≤ K.faults self.new.disk }
@@ -64,10 +80,10 @@ impl<K: BytewiseDisk> LogFile<K> {
                 return Err(Failed);
             }
         }
-        match put(&mut self.disk, self.place, self.room, text.as_slice()) {
+        match put(&mut self.disk, self.place, self.room, text.bytes()) {
             Ok(room) => {
                 self.room = room;
-                self.place += text.len() as u64;
+                self.place += text.bytes().len() as u64;
                 self.number += 1;
                 Ok(())
             }
@@ -78,13 +94,13 @@ impl<K: BytewiseDisk> LogFile<K> {
         }
     }
 
-    /// Spells the next group's entry, where there is memory, and the log isn't too long.
-    fn spell(&self, body: &[u8], text: &mut Vec<u8>) -> Result<(), Failed>
+    /// Spells the next group's entry, where the log isn't too long.
+    fn spell(&self, body: &[u8], text: &mut EntryText) -> Result<(), Failed>
         requires { IsBody body.now }
-        ensures text { OnOk result (text.new.items ≡ entry (group self.now.front.life self.now.number body.now)) }
-        ensures short { OnOk result (length text.new.items ≤ longest_text) }
+        ensures text { OnOk result (text.new ≡ entry (group self.now.front.life self.now.number body.now)) }
         ensures place { OnOk result (self.now.place ≤ last_place) }
         ensures number { OnOk result (self.now.number < 18446744073709551615) }
+        ensures cause { OnErr result ((last_place < self.now.place) ⊎ (self.now.number ≡ 18446744073709551615)) }
     {
         if MAX_PLACE < self.place {
             return Err(Failed);
@@ -92,14 +108,7 @@ impl<K: BytewiseDisk> LogFile<K> {
         if self.number == u64::MAX {
             return Err(Failed);
         }
-        text.clear();
-        match put_group(text, &self.front.life, self.number, body) {
-            Ok(()) => {}
-            Err(NoMemory) => return Err(Failed),
-        }
-        if MAX_TEXT < text.len() {
-            return Err(Failed);
-        }
+        text.spell(&self.front.life, self.number, body);
         Ok(())
     }
 

@@ -6,5 +6,8 @@ mod appends;
 mod bodies;
 mod files;
 mod logged;
+mod resumes;
+mod texts;
 
 pub use logged::Logged;
+pub use resumes::{LogEnd, resume};

@@ -6,10 +6,12 @@ ghost use Rattle.disk_store.specs.Disks.{AsHonest};
 ghost use Rattle.log_groups.specs.Items.{longest_body};
 ghost use Rattle.site_log.specs.Kept.{Kept, IsSettled, with_settle, logged};
 ghost use Rattle.site_log.specs.Images.{Mark};
+ghost use Rattle.site_log.specs.Files.{MayFail};
 ghost use Rattle.site_log.specs.Stood.{Stands, faults_of};
 
 use crate::bodies::Body;
 use crate::files::LogFile;
+use crate::texts::EntryText;
 use disk_store::{BytewiseDisk, Disk};
 use log_groups::group_laws;
 use rest_machine::{Resting, Settling};
@@ -25,7 +27,7 @@ pub struct Logged<M: Resting, K: BytewiseDisk> {
     pub(crate) machine: M,
     pub(crate) file: LogFile<K>,
     pub(crate) waiting: Body,
-    pub(crate) text: Vec<u8>,
+    pub(crate) text: EntryText,
     pub(crate) owed: bool,
 }
 
@@ -41,6 +43,8 @@ impl<M: Resting, K: BytewiseDisk> Logged<M, K> {
             → Stands M.Resting K.Disk self.new kept marks) }
         ensures empty { OnErr result (out.new ≡ []) }
         ensures sure { M.plain.is_sure (actor, request.now) ≡ true → IsOk result }
+        ensures failed { self.new.file.failed ≡ true → MayFail K.Disk self.old.file self.new.file }
+        ensures still { self.old.file.failed ≡ true → self.new.file ≡ self.old.file }
         ensures opening { M.opening self.new.machine ≡ M.opening self.old.machine }
     {
         self.make_way();
@@ -75,6 +79,8 @@ impl<M: Resting, K: BytewiseDisk> Logged<M, K> {
         ensures same { OnErr result ((kept : Kept M.Plain) (marks : List Mark) → Stands M.Resting K.Disk self.old kept marks
             → Stands M.Resting K.Disk self.new kept marks) }
         ensures ended { OnErr result (self.new.file.failed ≡ true) }
+        ensures still { self.old.file.failed ≡ true → self.new.file ≡ self.old.file }
+        ensures cause { OnErr result (MayFail K.Disk self.old.file self.new.file) }
         ensures later { K.faults self.old.file.disk ≤ K.faults self.new.file.disk }
         ensures opening { M.opening self.new.machine ≡ M.opening self.old.machine }
     {
@@ -91,6 +97,8 @@ impl<M: Resting, K: BytewiseDisk> Logged<M, K> {
     /// Makes room for what lasts of one request.
     fn make_way(&mut self)
         ensures room { length self.new.waiting + most_lasting ≤ longest_body }
+        ensures failed { self.new.file.failed ≡ true → MayFail K.Disk self.old.file self.new.file }
+        ensures still { self.old.file.failed ≡ true → self.new.file ≡ self.old.file }
         ensures stands { (kept : Kept M.Plain) (marks : List Mark) → Stands M.Resting K.Disk self.old kept marks → Stands M.Resting K.Disk self.new kept marks }
         ensures opening { M.opening self.new.machine ≡ M.opening self.old.machine }
     {
@@ -105,6 +113,8 @@ impl<M: Resting, K: BytewiseDisk> Logged<M, K> {
         ensures emptied { self.new.waiting ≡ [] }
         ensures done { OnOk result (self.new.file.failed ≡ false) }
         ensures failed { OnErr result (self.new.file.failed ≡ true) }
+        ensures still { self.old.file.failed ≡ true → self.new.file ≡ self.old.file }
+        ensures cause { OnErr result (MayFail K.Disk self.old.file self.new.file) }
         ensures stands { (kept : Kept M.Plain) (marks : List Mark) → Stands M.Resting K.Disk self.old kept marks → Stands M.Resting K.Disk self.new kept marks }
         ensures later { K.faults self.old.file.disk ≤ K.faults self.new.file.disk }
         ensures machine { self.new.machine ≡ self.old.machine }

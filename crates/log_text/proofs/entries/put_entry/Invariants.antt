@@ -6,4 +6,6 @@ abbrev pub invariant-loop-byte : goal.invariant-loop-byte
 invariant-loop-byte l = record {
   items : l.log.items ≡ l.fn.log.items ++ coded (take l.byte-index l.item);
   room : l.log.len + (2 * (length l.item - l.byte-index) + 1) ≤ l.log.cap;
+  long : l.log.len ≤ l.fn.log.len + 2 * l.byte-index;
+  cap : l.fn.log.cap ≤ l.log.cap;
 }

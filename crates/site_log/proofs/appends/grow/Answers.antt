@@ -1,5 +1,4 @@
-use Rattle.std.proofs.Common.{◌≡◌, ◌+◌, ◌≤◌, length, sym, ap, ◌∙◌, arith}
-use Rattle.disk_store.specs.Disks.{LeavesOnly}
+use Rattle.std.proofs.Common.{◌+◌, length, sym, ap, arith}
 use Rattle.site_log.proofs.Growing.{grow_step, grow_sync, zeros_leave, size_at_end}
 use Rattle.site_log.proofs.appends.grow.Goals as goal
 

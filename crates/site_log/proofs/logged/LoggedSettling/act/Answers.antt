@@ -24,7 +24,7 @@ returns-clause-step g c =
     on_ok c.answer.result
     ((kept : Kept M.Plain) (marks : List Mark) → Stands M K c.args.self.now kept marks → Stands M K c.answer.new.self ((logged M).step kept e) marks)
     ((kept : Kept M.Plain) → ((marks : List Mark) × Stands M K c.args.self.now kept marks)
-        → (marks : List Mark) × Stands M K c.answer.new.self ((logged M).step kept e) marks)
+    → (marks : List Mark) × Stands M K c.answer.new.self ((logged M).step kept e) marks)
     c.answer.ensures.step (λ f kept s. (s.0, f kept s.0 s.1))
 
 pub returns-clause-same : goal.returns-clause-same
@@ -34,5 +34,5 @@ returns-clause-same g c =
     on_err c.answer.result
     ((kept : Kept M.Plain) (marks : List Mark) → Stands M K c.args.self.now kept marks → Stands M K c.answer.new.self kept marks)
     ((kept : Kept M.Plain) → ((marks : List Mark) × Stands M K c.args.self.now kept marks)
-        → (marks : List Mark) × Stands M K c.answer.new.self kept marks)
+    → (marks : List Mark) × Stands M K c.answer.new.self kept marks)
     c.answer.ensures.same (λ f kept s. (s.0, f kept s.0 s.1))

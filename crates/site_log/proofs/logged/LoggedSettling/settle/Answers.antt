@@ -11,10 +11,10 @@ returns-clause-settled g c =
     let K = g.K.Disk in
     on_ok c.settle_now.result
     ((kept : Kept M.Plain) (marks : List Mark) → Stands M K c.args.self.now kept marks
-        → Stands M K c.settle_now.new.self (with_settle kept)
-            (record { moment = K.moment c.settle_now.new.self.file.disk; count = length kept.things } ∷ marks))
+    → Stands M K c.settle_now.new.self (with_settle kept)
+    (record { moment = K.moment c.settle_now.new.self.file.disk; count = length kept.things } ∷ marks))
     ((kept : Kept M.Plain) → ((marks : List Mark) × Stands M K c.args.self.now kept marks)
-        → (marks : List Mark) × Stands M K c.settle_now.new.self (with_settle kept) marks)
+    → (marks : List Mark) × Stands M K c.settle_now.new.self (with_settle kept) marks)
     c.settle_now.ensures.settled
     (λ f kept s. (record { moment = K.moment c.settle_now.new.self.file.disk; count = length kept.things } ∷ s.0, f kept s.0 s.1))
 
@@ -25,5 +25,5 @@ returns-clause-same g c =
     on_err c.settle_now.result
     ((kept : Kept M.Plain) (marks : List Mark) → Stands M K c.args.self.now kept marks → Stands M K c.settle_now.new.self kept marks)
     ((kept : Kept M.Plain) → ((marks : List Mark) × Stands M K c.args.self.now kept marks)
-        → (marks : List Mark) × Stands M K c.settle_now.new.self kept marks)
+    → (marks : List Mark) × Stands M K c.settle_now.new.self kept marks)
     c.settle_now.ensures.same (λ f kept s. (s.0, f kept s.0 s.1))

@@ -1,0 +1,31 @@
+use Rattle.std.proofs.Common.{[], ◌∷◌, false, length, sym, subst}
+use Rattle.site_log.specs.Kept.{starts}
+use Rattle.site_log.specs.Stood.{Stands}
+use Rattle.site_log.proofs.Standing.{stands_start}
+use Rattle.site_log.proofs.resumes.resume.Goals as goal
+
+pub returns-clause-stands : goal.returns-clause-stands
+returns-clause-stands g c = λ s bodies stood count rest.
+    let M = g.M.Resting in
+    let K = g.K.Disk in
+    subst
+    (λ f. Stands M K
+    (record { machine = c.args.machine; file = f; waiting = c.in-Ok.waiting; text = c.in-Ok-new.text; owed = false })
+    (starts s bodies) (record { moment = K.moment c.args.disk; count = length bodies } ∷ []))
+    (sym c.new-3.ensures)
+    (stands_start M K
+    (record {
+      machine = c.args.machine;
+      file = record {
+        disk = c.args.disk;
+        front = c.args.end.front;
+        number = c.args.end.number;
+        place = c.args.end.place;
+        room = c.args.end.room;
+        failed = false;
+      };
+      waiting = c.in-Ok.waiting;
+      text = c.in-Ok-new.text;
+      owed = false;
+    })
+    s bodies c.group_laws.ensures.written (g.met.K.Disk.only_now c.args.disk) stood (λ h. record { rest = rest h; number = count }) c.in-Ok.ensures)

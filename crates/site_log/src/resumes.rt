@@ -1,0 +1,58 @@
+//! Going on with a log that was read.
+
+ghost use Rattle.std.specs.Prelude.{◌≡◌, [], ◌∷◌, ℕ, List, length, IfOk, IfErr};
+ghost use Rattle.site_log.specs.Kept.{starts};
+ghost use Rattle.site_log.specs.Images.{Mark};
+ghost use Rattle.site_log.specs.Files.{IsAtRest};
+ghost use Rattle.site_log.specs.Stood.{Stands};
+
+use crate::bodies::Body;
+use crate::files::LogFile;
+use crate::logged::Logged;
+use crate::texts::EntryText;
+use disk_store::{BytewiseDisk, Disk};
+use log_groups::{LogFront, group_laws};
+use rest_machine::Resting;
+use std::alloc::Global;
+
+/// What a log says first, and where it ends: the number and the place of the next group, and how many bytes the file has.
+#[derive(Clone, Copy)]
+pub struct LogEnd {
+    pub front: LogFront,
+    pub number: u64,
+    pub place: u64,
+    pub room: u64,
+}
+
+/// Goes on with the log on a disk, behind its groups, with a machine that took their bodies back. The file has zeros behind the
+/// last group, and no write is pending. All memory that is ever needed is taken now: about 3 MiB; where there is none, the disk is
+/// handed back.
+pub fn resume<M: Resting, K: BytewiseDisk>(
+    alloc: Global,
+    machine: M,
+    disk: K,
+    end: LogEnd,
+) -> Result<Logged<M, K>, K>
+    requires size { K.honest disk → end.room ≡ length (K.reads disk) }
+    ensures stands { IfOk result (λ l. (s : M.Plain) (bodies : List (List ℕ)) → M.stands machine s → end.number ≡ length bodies
+        → (K.honest disk → IsAtRest K.Disk disk end.front bodies end.place end.room)
+        → Stands M.Resting K.Disk l (starts s bodies) (record { moment = K.moment disk; count = length bodies } ∷ [])) }
+    ensures disk { IfOk result (λ l. l.file.disk ≡ disk) }
+    ensures handed_back { IfErr result (λ back. back ≡ disk) }
+    ensures opening { IfOk result (λ l. M.opening l.machine ≡ M.opening machine) }
+{
+    group_laws(); // for the proof alone
+    let Ok(waiting) = Body::new(alloc) else {
+        return Err(disk);
+    };
+    let Ok(text) = EntryText::new(alloc) else {
+        return Err(disk);
+    };
+    Ok(Logged {
+        machine,
+        file: LogFile::new(disk, end.front, end.number, end.place, end.room),
+        waiting,
+        text,
+        owed: false,
+    })
+}
