@@ -140,7 +140,8 @@ class Spellings(unittest.TestCase):
 
     def test_each_reply_of_formats_is_read(self):
         rows = [cells(line) for line in lines("docs/FORMATS.md")]
-        rows = rows[rows.index(["## Replies"]):]
+        rows = rows[rows.index(["## Replies"]) + 1:]
+        rows = rows[:next(place for place, row in enumerate(rows) if row[0].startswith("## "))]  # what is told to questions stands behind
         codes = {int(row[0]): re.match(r"\w+", row[1]).group() for row in rows if len(row) == 3 and row[0].isdigit()}
         for code, name in codes.items():
             if code == 22:

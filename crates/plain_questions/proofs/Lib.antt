@@ -7,4 +7,6 @@ pub mod Once
 pub mod Collecting
 pub mod Transactions
 pub mod Bases
+pub mod Grown
+pub mod Staying
 pub mod Wrong

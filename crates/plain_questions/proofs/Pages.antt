@@ -48,14 +48,14 @@ first-passes q (x ∷ xs) rest k e = elim (cases_Bool (q x)) [
 ]
 
 -- ascending keys stand behind the first of them
-all-behind : (j : List ℕ) (js : List (List ℕ)) → IsTrue (are_ascending_keys (j ∷ js)) → IsTrue (list_all (is_key_before j) js)
+pub all-behind : (j : List ℕ) (js : List (List ℕ)) → IsTrue (are_ascending_keys (j ∷ js)) → IsTrue (list_all (is_key_before j) js)
 all-behind j [] h = refl
 all-behind j (l ∷ ls) h =
     let parts = and_parts (is_key_before j l) (are_ascending_keys (l ∷ ls)) h in
     and_from (is_key_before j l) (list_all (is_key_before j) ls) parts.0
     (all-implies (is_key_before l) (is_key_before j) (λ m t. before-trans j l m parts.0 t) ls (all-behind l ls parts.1))
 
-later-ascend : (j : List ℕ) (js : List (List ℕ)) → IsTrue (are_ascending_keys (j ∷ js)) → IsTrue (are_ascending_keys js)
+pub later-ascend : (j : List ℕ) (js : List (List ℕ)) → IsTrue (are_ascending_keys (j ∷ js)) → IsTrue (are_ascending_keys js)
 later-ascend j [] h = refl
 later-ascend j (l ∷ ls) h = (and_parts (is_key_before j l) (are_ascending_keys (l ∷ ls)) h).1
 

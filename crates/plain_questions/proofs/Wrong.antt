@@ -11,14 +11,14 @@ use Rattle.wire_talk.specs.Valid.{is_request}
 use Rattle.plain_site.specs.Site.{Site, MergeTxn}
 use Rattle.plain_site.specs.Step.{step}
 use Rattle.plain_site.specs.Sound.{IsSound}
-use Rattle.plain_site.specs.RowWords.{Line, lone_site, program_limits, site_after, ◌·◌}
+use Rattle.plain_site.specs.RowWords.{Line, lone_site, program_limits, site_after, ◌·◌, none, commit}
 use Rattle.plain_site.proofs.SoundOpening.{opening-is-sound}
 use Rattle.plain_site.proofs.SoundRequests.{request-keeps-sound}
 use Rattle.plain_questions.specs.declared.questions.Question.TheVariants.{At}
 use Rattle.plain_questions.specs.declared.questions.Answered.{Answered}
 use Rattle.plain_questions.specs.declared.questions.Answered.TheVariants.{Read}
 use Rattle.plain_questions.specs.PageLaws.{IsBrokenBy, PagesTellTheKeys}
-use Rattle.plain_questions.specs.ReadLaws.{AtIsReadThere, CollectingChangesNoRead, BaseIsReadAtForkPoints, MergesFindTheirBase}
+use Rattle.plain_questions.specs.ReadLaws.{AtIsReadThere, CollectingChangesNoRead, RequestsChangeNoRead, BaseIsReadAtForkPoints, MergesFindTheirBase}
 use Rattle.plain_questions.specs.WrongAnswers.{begins_at_key, lists_deleted, reads_last_arrived, reads_kept_alone, reads_a_side, names_sides, one_write}
 use Rattle.plain_questions.specs.WrongAnswers.{written_once, closed, merging}
 use Rattle.plain_questions.specs.RowsOfReads.{parted}
@@ -72,6 +72,18 @@ pub kept-alone-breaks : IsBrokenBy CollectingChangesNoRead reads_kept_alone
 kept-alone-breaks law =
     let same : Read None ≡ Read (Some (1 · 2, Put (codes "5"))) = law (site_after lone_site closed) 0 2 (At (1 · 3) (codes "y")) refl refl in
     absurd (cc)
+
+-- before it commits
+abbrev writing : List Line
+writing = Rattle.std.specs.Prelude.take 3 written_once
+
+nothing-differs : Read (Some (1 · 1, Put (codes "1"))) ≡ Read None → ⊥
+nothing-differs same = absurd (cc)
+
+pub newest-reads-break-stay : IsBrokenBy RequestsChangeNoRead reads_last_arrived
+newest-reads-break-stay law =
+    nothing-differs
+    (law (site_after lone_site writing) 1 (commit none) (At (0 · 0) (codes "x")) (lines-keep-sound lone_site writing refl lone-is-sound) refl refl refl refl refl)
 
 -- ===== Bases
 

@@ -3,9 +3,12 @@ use Rattle.std.specs.Prelude.{◌≡◌, ℕ, ◌≤◌, Bool, true, false, List
 use Rattle.std.specs.List.{list_all}
 use Rattle.tardis_base.specs.declared.ids.StateId.{StateId}
 use Rattle.tardis_base.specs.declared.requests.Begin.TheVariants.{At as BeginAt}
+use Rattle.tardis_base.specs.declared.requests.Request.{Request}
 use Rattle.tardis_base.specs.declared.requests.Request.TheVariants.{Begin, Get, Tidy, ForkPoints as AsksForkPoints}
 use Rattle.tardis_base.specs.declared.replies.Reply.{Reply}
 use Rattle.tardis_base.specs.declared.replies.Reply.TheVariants.{States}
+use Rattle.tardis_base.specs.Valid.{is_u16}
+use Rattle.wire_talk.specs.Valid.{is_request}
 use Rattle.plain_dag.specs.States.{is_known}
 use Rattle.plain_dag.specs.Begin.{is_admitted}
 use Rattle.plain_dag.specs.Forks.{fork_points, is_fork_point}
@@ -62,6 +65,22 @@ abbrev pub CollectingChangesNoRead : Answering → Type 0
 CollectingChangesNoRead answering = (site : Site) (n count : ℕ) (q : Question) → IsTrue (asks_reads q) →
     let after = (step site n (Tidy count)).0 in
     IsTrue (list_all (is_kept after.dag after.collected) (states_asked q)) → answering after q ≡ answering site q
+
+-- ===== Requests
+
+-- the question asks what is read at one state
+abbrev pub asks_one_state : Question → Bool
+asks_one_state (At x k) = true
+asks_one_state (Keys x prefix after) = true
+asks_one_state (Scan x prefix after) = true
+asks_one_state _ = false
+
+-- whatever is asked of a site: what is read at a state that was kept and still is, is told as before
+abbrev pub RequestsChangeNoRead : Answering → Type 0
+RequestsChangeNoRead answering = (site : Site) (n : ℕ) (q : Request) (asked : Question) → IsSound site → IsTrue (is_u16 n) → IsTrue (is_request q) →
+    IsTrue (asks_one_state asked) → IsTrue (list_all (is_kept site.dag site.collected) (states_asked asked)) →
+    let after = (step site n q).0 in
+    IsTrue (list_all (is_kept after.dag after.collected) (states_asked asked)) → answering after asked ≡ answering site asked
 
 -- ===== Bases
 

@@ -3,7 +3,7 @@
 ghost use Rattle.plain_questions.specs.Answer.{answer};
 ghost use Rattle.plain_questions.specs.PageLaws.{IsBrokenBy, KeysAreToldOnce, PagesTellTheKeys};
 ghost use Rattle.plain_questions.specs.ReadLaws.{AtIsReadThere, BaseIsReadAtForkPoints, CollectingChangesNoRead, ForkPointsAreKept};
-ghost use Rattle.plain_questions.specs.ReadLaws.{MergesFindTheirBase};
+ghost use Rattle.plain_questions.specs.ReadLaws.{MergesFindTheirBase, RequestsChangeNoRead};
 ghost use Rattle.plain_questions.specs.WrongAnswers.{begins_at_key, lists_deleted, names_sides, reads_a_side, reads_kept_alone, reads_last_arrived};
 
 /// Pages that are asked for one behind another, of keys or with values, tell just the keys that have a value at the state, in
@@ -16,11 +16,14 @@ pub fn pages_tell_the_keys()
 {}
 
 /// At a state at which an open session may begin, At tells what its transaction would be answered; and as long as a state is
-/// kept, what is read there is told as before, whatever else is collected.
+/// kept, what is read there is told as before, whatever is asked of the site, and whatever else is collected. So pages that are
+/// told one by one while others commit are pages of one site.
 pub fn at_is_read_there()
     ensures there { AtIsReadThere answer }
     ensures collecting { CollectingChangesNoRead answer }
+    ensures requests { RequestsChangeNoRead answer }
     ensures last_arrived_breaks { IsBrokenBy AtIsReadThere reads_last_arrived }
+    ensures last_arrived_breaks_stay { IsBrokenBy RequestsChangeNoRead reads_last_arrived }
     ensures kept_alone_breaks { IsBrokenBy CollectingChangesNoRead reads_kept_alone }
 {}
 
