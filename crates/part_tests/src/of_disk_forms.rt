@@ -44,7 +44,7 @@ fn a_crash_leaves_fronts_and_torn_bytes(rt: HostRuntime) {
 fn pending_bytewise(rt: &impl Abort, alloc: Global, failing: &[u64]) -> MemoryDisk {
     let mut disk = MemoryDisk::new(alloc, b"abc", 100, failing).expect(rt, "room");
     let written = disk.write_bytewise(2, b"xyz");
-    assert!(rt; written.is_err() == (disk.bytes() == b"abc"));
+    assert!(rt; written.is_err() == (disk.bytes() == b"abc".as_slice()));
     disk
 }
 
